@@ -1,0 +1,3 @@
+pub mod Types
+pub mod Alignments
+pub mod SigTypes

@@ -1,0 +1,46 @@
+//! Types of values.
+#![tactic(auto)]
+
+use std::alloc::{Allocator, Global};
+
+/// A type, as a signature spells it. D-Bus Specification, "Type System".
+///
+/// Not every value of it spells a signature: a struct needs a field, and a dict entry stands only as an
+/// array's element, with a basic key.
+#[derive(Debug, Drop)]
+pub enum SigType<A: Allocator = Global> {
+    /// `y`, one byte.
+    Byte,
+    /// `b`, a boolean in four bytes.
+    Bool,
+    /// `n`, a signed number of two bytes.
+    I16,
+    /// `q`, a number of two bytes.
+    U16,
+    /// `i`, a signed number of four bytes.
+    I32,
+    /// `u`, a number of four bytes.
+    U32,
+    /// `x`, a signed number of eight bytes.
+    I64,
+    /// `t`, a number of eight bytes.
+    U64,
+    /// `d`, the eight bytes of a double.
+    Double,
+    /// `s`, a text.
+    Str,
+    /// `o`, an object path.
+    Path,
+    /// `g`, a signature.
+    Sig,
+    /// `h`, the index of a file descriptor.
+    Fd,
+    /// `v`, a value with its own type.
+    Variant,
+    /// `a` and the element's type.
+    Array(Box<SigType<A>, A>),
+    /// `(`, the fields' types and `)`.
+    Struct(Vec<SigType<A>, A>),
+    /// `{`, the key's type, the value's type and `}`.
+    Entry(Box<SigType<A>, A>, Box<SigType<A>, A>),
+}

@@ -1,0 +1,25 @@
+//! The kinds of text that the wire format has.
+#![tactic(auto)]
+
+/// A kind of text: which byte strings may stand where it is wanted.
+///
+/// D-Bus Specification, "Basic types", "Valid Object Paths" and "Valid Names".
+#[derive(Clone, Copy, PartialEq, Eq, Debug)]
+pub enum TextKind {
+    /// UTF-8 without U+0000: the text of a STRING.
+    Text,
+    /// An object path.
+    Path,
+    /// An interface name, of at most 255 bytes.
+    Interface,
+    /// A member name, of at most 255 bytes.
+    Member,
+    /// An error name, of at most 255 bytes.
+    ErrorName,
+    /// A bus name, unique or well-known, of at most 255 bytes.
+    BusName,
+    /// A signature: zero or more complete types, of at most 255 bytes.
+    Signature,
+    /// A signature of exactly one complete type, of at most 255 bytes.
+    Single,
+}
