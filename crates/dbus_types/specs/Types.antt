@@ -1,6 +1,6 @@
 -- Types as trees, the text of each, and which of them are complete.
 -- D-Bus Specification, "Type System" ("Basic types", "Container types", "Summary of types").
-use Rattle.std.specs.Prelude.{ℕ, ◌+◌, ◌<◌, ◌≤◌, List, [], ◌∷◌, ◌++◌, length, Bool, true, false, IsTrue}
+use Rattle.std.specs.Prelude.{ℕ, ◌+◌, ◌<◌, List, [], ◌∷◌, ◌++◌, length, Bool, true, false, IsTrue}
 
 -- the types whose values are one number
 pub data NumberCode : Type 0 where

@@ -1,6 +1,8 @@
 //! The kinds of text that the wire format has.
 #![tactic(auto)]
 
+ghost use Rattle.std.specs.Prelude.{◌≡◌};
+
 /// A kind of text: which byte strings may stand where it is wanted.
 ///
 /// D-Bus Specification, "Basic types", "Valid Object Paths" and "Valid Names".
@@ -22,4 +24,15 @@ pub enum TextKind {
     Signature,
     /// A signature of exactly one complete type, of at most 255 bytes.
     Single,
+}
+
+impl TextKind {
+    ghost use Rattle.dbus_types.specs.Kinds.{is_limited};
+
+    /// Whether a text of the kind may have at most 255 bytes.
+    pub const fn is_limited(self) -> bool
+        ensures { result ≡ is_limited self }
+    {
+        !matches!(self, TextKind::Text | TextKind::Path)
+    }
 }

@@ -1,0 +1,49 @@
+// What bytes come from.
+ghost use Rattle.std.specs.Prelude.{◌≡◌, ◌≤◌, ℕ, List, length, IfOk, Option, Some};
+ghost use Rattle.std.specs.Io.KnownBytes.{ReadConsumes};
+ghost use Rattle.std.specs.Borrow.{GName};
+ghost use Rattle.dbus_stream.specs.Device.{one_more, ReadCounts};
+
+use crate::device_fault::DeviceFault;
+
+/// A device that bytes are read from, as a file, a socket or a list in memory.
+///
+/// What memory a device takes is its own matter: where it finds none, its call failed.
+pub trait Source {
+    /// The bytes that are left, where the device tells them.
+    ghost left: { Self → Option (List ℕ) };
+
+    /// How often a call failed, modulo 2^64. A device failed in a call where this changed.
+    ghost failures: { Self → ℕ };
+
+    /// How often it was called, modulo 2^64.
+    ghost calls: { Self → ℕ };
+
+    /// Which reference it is, where it is one. No call changes it.
+    ghost reference: { Self → Option GName };
+
+    /// Fills a front of the buffer with the next bytes, and answers how many these are. 0 bytes are the end, or the
+    /// buffer has no room.
+    ///
+    /// `DeviceFault`: the device failed. No byte is lost, and the call may be made again.
+    fn read(&mut self, buffer: &mut [u8]) -> Result<usize, DeviceFault>
+        ensures bound { IfOk result (λ n. n ≤ length buffer.new) }
+        ensures bytes { ReadConsumes (left self.old) (left self.new) result buffer.new }
+        ensures failed { ReadCounts (failures self.old) (failures self.new) result }
+        ensures called { calls self.new ≡ one_more (calls self.old) }
+        ensures same_reference { reference self.new ≡ reference self.old };
+}
+
+impl<R: Source> Source for &mut R {
+    ghost left = { λ r. R.left r.now };
+
+    ghost failures = { λ r. R.failures r.now };
+
+    ghost calls = { λ r. R.calls r.now };
+
+    ghost reference = { λ r. Some r.ghost_name };
+
+    fn read(&mut self, buffer: &mut [u8]) -> Result<usize, DeviceFault> {
+        Source::read(&mut **self, buffer)
+    }
+}

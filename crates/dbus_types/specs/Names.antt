@@ -1,0 +1,46 @@
+-- Object paths, member names, interface names, error names and bus names, their limits on length aside.
+-- D-Bus Specification, "Valid Object Paths" and "Valid Names".
+use Rattle.std.specs.Prelude.{◌≡◌, ℕ, Bool, ◌||◌, ◌⊎◌, List, [], ◌∷◌, ◌++◌, IsTrue, ◌==◌}
+use Rattle.std.specs.List.{AllByRecursion}
+use Rattle.std.specs.Char.{is_ascii_alphabetic, is_ascii_alphanumeric}
+
+-- `[A-Za-z0-9_]`, `[A-Za-z_]`, `[A-Za-z0-9_-]` and `[A-Za-z_-]`: 95 is `_` and 45 is `-`
+abbrev pub is_word : ℕ → Bool
+is_word b = is_ascii_alphanumeric b || b == 95
+
+abbrev pub is_word_start : ℕ → Bool
+is_word_start b = is_ascii_alphabetic b || b == 95
+
+abbrev pub is_dashed : ℕ → Bool
+is_dashed b = is_word b || b == 45
+
+abbrev pub is_dashed_start : ℕ → Bool
+is_dashed_start b = is_word_start b || b == 45
+
+-- an element: a byte that may begin one, and then bytes that may go on
+abbrev pub IsElement : (ℕ → Bool) → (ℕ → Bool) → List ℕ → Type 0
+IsElement start more [] = ⊥
+IsElement start more (b ∷ bs) = IsTrue (start b) × AllByRecursion (λ c. IsTrue (more c)) bs
+
+-- elements, each behind a separator
+abbrev pub each_behind : ℕ → List (List ℕ) → List ℕ
+each_behind separator [] = []
+each_behind separator (e ∷ es) = separator ∷ (e ++ each_behind separator es)
+
+-- `/`, or one or more times `/` and an element
+abbrev pub IsPath : List ℕ → Type 0
+IsPath w = (w ≡ 47 ∷ []) ⊎ ((e : List ℕ) × (es : List (List ℕ)) × AllByRecursion (IsElement is_word is_word) (e ∷ es) × (w ≡ each_behind 47 (e ∷ es)))
+
+-- two or more elements joined by `.`
+abbrev pub IsJoined : (ℕ → Bool) → (ℕ → Bool) → List ℕ → Type 0
+IsJoined start more w = (e : List ℕ) × (f : List ℕ) × (es : List (List ℕ)) × AllByRecursion (IsElement start more) (e ∷ f ∷ es) × (w ≡ e ++ each_behind 46 (f ∷ es))
+
+abbrev pub IsMember : List ℕ → Type 0
+IsMember w = IsElement is_word_start is_word w
+
+abbrev pub IsInterface : List ℕ → Type 0
+IsInterface w = IsJoined is_word_start is_word w
+
+-- `:` and two or more elements that may begin with a digit; or two or more that may not
+abbrev pub IsBusName : List ℕ → Type 0
+IsBusName w = ((v : List ℕ) × IsJoined is_dashed is_dashed v × (w ≡ 58 ∷ v)) ⊎ IsJoined is_dashed_start is_dashed w

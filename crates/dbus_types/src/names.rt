@@ -1,0 +1,166 @@
+//! The scan of object paths and names.
+#![tactic(auto)]
+
+ghost use Rattle.std.specs.Prelude.{◌≡◌};
+ghost use Rattle.dbus_types.specs.Names.{is_word, is_dashed_start};
+ghost use Rattle.dbus_types.specs.NameScans.{begins, goes_on, separator, name_next, name_end};
+
+/// Which bytes an element may have.
+#[derive(Clone, Copy, PartialEq, Eq, Debug)]
+pub enum Letters {
+    /// `[A-Za-z0-9_]`: elements of an object path, between `/`.
+    Word,
+    /// The same, but no digit first: elements of an interface or member name, between `.`.
+    Name,
+    /// `[A-Za-z0-9_-]`: elements of a unique bus name, between `.`.
+    Unique,
+    /// The same, but no digit first: elements of a well-known bus name, between `.`.
+    WellKnown,
+}
+
+/// How many elements may follow the one under way.
+#[derive(Clone, Copy, PartialEq, Eq, Debug)]
+pub enum Tail {
+    /// None.
+    Alone,
+    /// One or more.
+    Needed,
+    /// Any number.
+    Free,
+}
+
+/// Where in a name the scan stands.
+#[derive(Clone, Copy, PartialEq, Eq, Debug)]
+pub enum Place {
+    /// Before an object path.
+    PathStart,
+    /// Behind the first `/` of an object path.
+    Root,
+    /// Before a bus name.
+    BusStart,
+    /// Before the first byte of an element.
+    First,
+    /// Within an element, or behind it.
+    More,
+}
+
+/// What is wanted of a name from here on.
+#[derive(Clone, Copy, PartialEq, Eq, Debug)]
+pub struct NameScan {
+    pub place: Place,
+    pub letters: Letters,
+    pub tail: Tail,
+}
+
+/// `[A-Za-z0-9_]`
+fn is_word(b: u8) -> bool
+    ensures { result ≡ is_word b }
+{
+    b.is_ascii_alphanumeric() || b == b'_'
+}
+
+/// `[A-Za-z_-]`
+fn is_dashed_start(b: u8) -> bool
+    ensures { result ≡ is_dashed_start b }
+{
+    b.is_ascii_alphabetic() || b == b'_' || b == b'-'
+}
+
+impl Letters {
+    /// Whether an element may begin with the byte.
+    fn begins(self, b: u8) -> bool
+        ensures { result ≡ begins self b }
+    {
+        match self {
+            Letters::Word => is_word(b),
+            Letters::Name => b.is_ascii_alphabetic() || b == b'_',
+            Letters::Unique => is_word(b) || b == b'-',
+            Letters::WellKnown => is_dashed_start(b),
+        }
+    }
+
+    /// Whether an element may go on with the byte.
+    fn goes_on(self, b: u8) -> bool
+        ensures { result ≡ goes_on self b }
+    {
+        match self {
+            Letters::Word | Letters::Name => is_word(b),
+            Letters::Unique | Letters::WellKnown => is_word(b) || b == b'-',
+        }
+    }
+
+    /// The byte between elements.
+    fn separator(self) -> u8
+        ensures { result ≡ separator self }
+    {
+        match self {
+            Letters::Word => b'/',
+            _ => b'.',
+        }
+    }
+}
+
+impl NameScan {
+    /// What is wanted after one byte more, if it may stand here.
+    pub fn next(self, b: u8) -> Option<NameScan>
+        ensures { result ≡ name_next self b }
+    {
+        match self.place {
+            Place::PathStart => (b == b'/').then_some(NameScan {
+                place: Place::Root,
+                letters: Letters::Word,
+                tail: Tail::Free,
+            }),
+            Place::Root => is_word(b).then_some(NameScan {
+                place: Place::More,
+                letters: Letters::Word,
+                tail: Tail::Free,
+            }),
+            Place::BusStart => {
+                if b == b':' {
+                    return Some(NameScan {
+                        place: Place::First,
+                        letters: Letters::Unique,
+                        tail: Tail::Needed,
+                    });
+                }
+                is_dashed_start(b).then_some(NameScan {
+                    place: Place::More,
+                    letters: Letters::WellKnown,
+                    tail: Tail::Needed,
+                })
+            }
+            Place::First => self.letters.begins(b).then_some(NameScan {
+                place: Place::More,
+                ..self
+            }),
+            Place::More => {
+                if self.letters.goes_on(b) {
+                    return Some(self);
+                }
+                if b != self.letters.separator() {
+                    return None;
+                }
+                match self.tail {
+                    Tail::Alone => None,
+                    Tail::Needed | Tail::Free => Some(NameScan {
+                        place: Place::First,
+                        tail: Tail::Free,
+                        ..self
+                    }),
+                }
+            }
+        }
+    }
+
+    /// Whether the name may end here.
+    pub fn end(self) -> bool
+        ensures { result ≡ name_end self }
+    {
+        match self.place {
+            Place::Root => true,
+            Place::More => self.tail != Tail::Needed,
+            _ => false,
+        }
+    }
+}

@@ -1,0 +1,69 @@
+//! The scan of UTF-8 without U+0000.
+#![tactic(auto)]
+
+ghost use Rattle.std.specs.Prelude.{◌≡◌, Option};
+ghost use Rattle.dbus_types.specs.Utf8Scans.{lead, text_next, text_end};
+
+/// Where in a character the scan stands.
+#[derive(Clone, Copy, PartialEq, Eq, Debug)]
+pub enum Utf8Place {
+    /// Between characters.
+    Free,
+    /// Before the last byte of a character.
+    Last,
+    /// Before the last two bytes.
+    LastTwo,
+    /// Before the last three bytes.
+    LastThree,
+    /// Behind the byte `e0`: two bytes that spell no character below U+0800 are to come.
+    AfterE0,
+    /// Behind the byte `ed`: two bytes that spell no surrogate are to come.
+    AfterEd,
+    /// Behind the byte `f0`: three bytes that spell no character below U+10000 are to come.
+    AfterF0,
+    /// Behind the byte `f4`: three bytes that spell no character above U+10FFFF are to come.
+    AfterF4,
+}
+
+/// The place behind the first byte of a character.
+fn lead(b: u8) -> Option<Utf8Place>
+    ensures { result ≡ lead b }
+{
+    match b {
+        0x01..=0x7f => Some(Utf8Place::Free),
+        0xc2..=0xdf => Some(Utf8Place::Last),
+        0xe0 => Some(Utf8Place::AfterE0),
+        0xe1..=0xec => Some(Utf8Place::LastTwo),
+        0xed => Some(Utf8Place::AfterEd),
+        0xee..=0xef => Some(Utf8Place::LastTwo),
+        0xf0 => Some(Utf8Place::AfterF0),
+        0xf1..=0xf3 => Some(Utf8Place::LastThree),
+        0xf4 => Some(Utf8Place::AfterF4),
+        _ => None,
+    }
+}
+
+impl Utf8Place {
+    /// What is wanted after one byte more, if it may stand here.
+    pub fn next(self, b: u8) -> Option<Utf8Place>
+        ensures { result ≡ text_next self b }
+    {
+        match self {
+            Utf8Place::Free => lead(b),
+            Utf8Place::Last => matches!(b, 0x80..=0xbf).then_some(Utf8Place::Free),
+            Utf8Place::LastTwo => matches!(b, 0x80..=0xbf).then_some(Utf8Place::Last),
+            Utf8Place::LastThree => matches!(b, 0x80..=0xbf).then_some(Utf8Place::LastTwo),
+            Utf8Place::AfterE0 => matches!(b, 0xa0..=0xbf).then_some(Utf8Place::Last),
+            Utf8Place::AfterEd => matches!(b, 0x80..=0x9f).then_some(Utf8Place::Last),
+            Utf8Place::AfterF0 => matches!(b, 0x90..=0xbf).then_some(Utf8Place::LastTwo),
+            Utf8Place::AfterF4 => matches!(b, 0x80..=0x8f).then_some(Utf8Place::LastTwo),
+        }
+    }
+
+    /// Whether the text may end here.
+    pub fn end(self) -> bool
+        ensures { result ≡ text_end self }
+    {
+        self == Utf8Place::Free
+    }
+}
