@@ -30,7 +30,7 @@ number_is_code n = basic_is_code (number_code n) (number_is_basic n)
 pub text_is_code : (t : TextCode) → is_type_code (text_code t) ≡ true
 text_is_code t = basic_is_code (text_code t) (text_is_basic t)
 
-either : (x y : Bool) → (x || y) ≡ true → (x ≡ true) ⊎ (y ≡ true)
+pub either : (x y : Bool) → (x || y) ≡ true → (x ≡ true) ⊎ (y ≡ true)
 either true y e = inl refl
 either false y e = inr e
 

@@ -6,3 +6,8 @@ mod SignatureSteps
 mod FrameBounds
 mod ScanSteps
 mod Breaks
+mod Runs
+pub mod TypeTexts
+mod AsciiNames
+mod TextUtf8
+pub mod KindFacts

@@ -13,3 +13,4 @@ pub mod SigViews
 pub mod Kinds
 pub mod Scans
 pub mod Verdicts
+pub mod ComputedKinds

@@ -1,0 +1,4 @@
+pub mod Fields
+pub mod MessageParts
+pub mod Whole
+pub mod MessageOutcomes

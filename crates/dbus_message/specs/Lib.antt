@@ -1,0 +1,4 @@
+pub mod Messages
+pub mod MessageItems
+pub mod MessageReading
+pub mod MessageLaws

@@ -1,0 +1,138 @@
+-- Messages as trees, their one spelling in either byte order, and which are valid: the message relation.
+-- D-Bus Specification, "Message Format" and "Header Fields".
+use Rattle.std.specs.Prelude.{◌≡◌, ℕ, suc, ◌+◌, ◌^◌, ◌<◌, ◌≤◌, List, [], ◌∷◌, ◌++◌, length, map, Bool, true, false, ◌||◌, ◌&&◌, nat_eq, nat_lt, if◌then◌else◌, Option, Some, None}
+use Rattle.dbus_types.specs.Types.{BYTE, UINT32, STRING, OBJECT_PATH, SIGNATURE, TypeTree, NumberType, TextType, VariantType, StructType, NoTypes, MoreTypes, sigs}
+use Rattle.dbus_value.specs.WantedTexts.{WantedText, IsWanted, Of}
+use Rattle.dbus_value.specs.declared.order.Order.{Order}
+use Rattle.dbus_value.specs.declared.order.Order.TheVariants.{Little, Big}
+use Rattle.dbus_value.specs.Spelling.{num, gap_to, pad, value_trees, ValueTrees, NoValues, MoreValues, ValueTree, NumberValue, TextValue, VariantValue, ArrayValue, StructValue, EntryValue, types_of, type_of, spelling, spellings, IsWellFormed, AreWellFormed, IsWithinLimits, AreWithinLimits}
+use Rattle.dbus_value.specs.declared.fault.Reason.{Reason}
+use Rattle.dbus_value.specs.declared.fault.Reason.TheVariants as reasons
+use Rattle.dbus_types.specs.declared.text_kind.TextKind.TheVariants as kinds
+
+pub record FieldTree : Type 0 where
+  pub code : ℕ
+  pub value : ValueTree
+
+pub record MessageTree : Type 0 where
+  pub kind : ℕ
+  pub flags : ℕ
+  pub serial : ℕ
+  pub fields : List FieldTree
+  pub body : ValueTrees
+
+-- ---- the spelling
+
+abbrev pub order_byte : Order → ℕ
+order_byte Little = 108
+order_byte Big = 66
+
+abbrev pub field_type : TypeTree
+field_type = StructType (MoreTypes (NumberType BYTE) (MoreTypes VariantType NoTypes))
+
+abbrev pub field_struct : FieldTree → ValueTree
+field_struct f = StructValue (MoreValues (NumberValue BYTE f.code) (MoreValues (VariantValue f.value) NoValues))
+
+-- the fields as a value
+abbrev pub field_array : List FieldTree → ValueTree
+field_array fs = ArrayValue field_type (value_trees (map field_struct fs))
+
+-- where the fields end
+abbrev pub fields_end : Order → List FieldTree → ℕ
+fields_end order fs = 12 + length (spelling order 12 (field_array fs))
+
+abbrev pub body_start : Order → List FieldTree → ℕ
+body_start order fs = fields_end order fs + gap_to 8 (fields_end order fs)
+
+abbrev pub body_bytes : Order → MessageTree → List ℕ
+body_bytes order m = spellings order (body_start order m.fields) m.body
+
+abbrev pub message_bytes : Order → MessageTree → List ℕ
+message_bytes order m =
+    order_byte order ∷ (num order 1 m.kind ++ (num order 1 m.flags ++ (num order 1 1
+    ++ (num order 4 (length (body_bytes order m)) ++ (num order 4 m.serial ++ (spelling order 12 (field_array m.fields)
+    ++ (pad 8 (fields_end order m.fields) ++ body_bytes order m)))))))
+
+-- ---- fields
+
+-- what a code asks of its value
+pub data Want : Type 0 where
+  Anything : Want
+  OfType : TypeTree → Want
+  Name : WantedText → Want
+  Serial : Want
+
+abbrev pub want : ℕ → Want
+want code =
+    if nat_eq code 1 then OfType (TextType OBJECT_PATH) else if nat_eq code 2 then Name (Of kinds.Interface)
+    else if nat_eq code 3 then Name (Of kinds.Member) else if nat_eq code 4 then Name (Of kinds.ErrorName)
+    else if nat_eq code 5 then Serial else if nat_eq code 6 then Name (Of kinds.BusName)
+    else if nat_eq code 7 then Name (Of kinds.BusName) else if nat_eq code 8 then OfType (TextType SIGNATURE)
+    else if nat_eq code 9 then OfType (NumberType UINT32) else Anything
+
+abbrev pub Suits : Want → ValueTree → Type 0
+Suits Anything v = Unit {0}
+Suits (OfType t) v = type_of v ≡ t
+Suits (Name k) v = (t : List ℕ) × (v ≡ TextValue STRING t) × IsWanted k t × (length t < 256)
+Suits Serial v = (n : ℕ) × (v ≡ NumberValue UINT32 n) × (0 < n)
+
+-- whether a code stands among fields
+abbrev pub has_code : ℕ → List FieldTree → Bool
+has_code c [] = false
+has_code c (f ∷ fs) = nat_eq f.code c || has_code c fs
+
+abbrev pub is_known : ℕ → Bool
+is_known c = nat_lt 0 c && nat_lt c 10
+
+-- a field behind others
+pub record IsField (before : List FieldTree) (f : FieldTree) : Type 0 where
+  pub not_zero : 0 < f.code
+  pub not_again : is_known f.code && has_code f.code before ≡ false
+  pub suits : Suits (want f.code) f.value
+
+-- before are those in front, the last first
+abbrev pub AreFields : List FieldTree → List FieldTree → Type 0
+AreFields before [] = Unit {0}
+AreFields before (f ∷ fs) = IsField before f × AreFields (f ∷ before) fs
+
+-- the lowest of these codes that is missing
+abbrev pub lacks : List ℕ → List FieldTree → Option Reason
+lacks [] fs = None
+lacks (c ∷ cs) fs = if has_code c fs then lacks cs fs else Some (reasons.FieldMissing c)
+
+abbrev pub required : ℕ → List ℕ
+required kind =
+    if nat_eq kind 1 then 1 ∷ 3 ∷ [] else if nat_eq kind 2 then 5 ∷ []
+    else if nat_eq kind 3 then 4 ∷ 5 ∷ [] else if nat_eq kind 4 then 1 ∷ 2 ∷ 3 ∷ [] else []
+
+-- the text of the first SIGNATURE field, or nothing
+abbrev pub text_in : ValueTree → List ℕ
+text_in (TextValue k t) = t
+text_in (NumberValue k n) = []
+text_in (VariantValue x) = []
+text_in (ArrayValue t xs) = []
+text_in (StructValue xs) = []
+text_in (EntryValue k v) = []
+
+abbrev pub body_signature : List FieldTree → List ℕ
+body_signature [] = []
+body_signature (f ∷ fs) = if nat_eq f.code 8 then text_in f.value else body_signature fs
+
+unfoldable pub message_limit : ℕ
+message_limit = 134_217_728
+
+-- inner is the room within a field's variant, three containers deep
+pub record IsMessage (order : Order) (inner : ℕ) (m : MessageTree) : Type 0 where
+  pub kind : 0 < m.kind
+  pub kind_fits : m.kind < 256
+  pub flags : m.flags < 256
+  pub serial : 0 < m.serial
+  pub serial_fits : m.serial < 256 ^ 4
+  pub fields : AreFields [] m.fields
+  pub formed_fields : IsWellFormed (suc (suc (suc inner))) (field_array m.fields)
+  pub within_fields : IsWithinLimits order 12 (field_array m.fields)
+  pub required_codes : lacks (required m.kind) m.fields ≡ None
+  pub signature : sigs (types_of m.body) ≡ body_signature m.fields
+  pub formed_body : AreWellFormed (suc (suc (suc inner))) m.body
+  pub within_body : AreWithinLimits order (body_start order m.fields) m.body
+  pub limit : length (message_bytes order m) ≤ message_limit

@@ -1,0 +1,2 @@
+//! Messages of the D-Bus wire format.
+#![tactic(auto)]

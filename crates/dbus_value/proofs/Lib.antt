@@ -1,0 +1,9 @@
+pub mod KindLaws
+pub mod Numbers
+pub mod Agreement
+pub mod OwnItems
+pub mod Contents
+pub mod Composition
+pub mod ValueItemLaws
+pub mod ValueOutcomes
+pub mod Frames

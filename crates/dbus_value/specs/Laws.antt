@@ -1,0 +1,55 @@
+-- The laws over the definitions of values. What makes each of them true is in proofs/.
+-- D-Bus Specification, "Marshaling (Wire Format)".
+use Rattle.std.specs.Prelude.{◌≡◌, ℕ, ◌≤◌, ◌↔◌, List, ◌++◌, Bool}
+use Rattle.dbus_types.specs.Types.{TypeTree, TypeTrees, IsShaped, AreShaped}
+use Rattle.dbus_value.specs.WantedTexts.{Of}
+use Rattle.dbus_value.specs.declared.order.Order.{Order}
+use Rattle.dbus_value.specs.Spelling.{ValueTree, ValueTrees, IsBytes, spelling, type_of, IsWellFormed, IsWithinLimits, Spelled}
+use Rattle.dbus_value.specs.declared.fault.Fault.{Fault}
+use Rattle.dbus_value.specs.ValueItems.{value}
+use Rattle.dbus_value.specs.Reading.{Done, Faulty}
+use Rattle.dbus_value.specs.Reading as reading
+use Rattle.dbus_value.specs.Outcomes.{IsDone, IsRefused, Outcomes}
+
+-- what has a spelling at a place
+pub record Spells (order : Order) (room o : ℕ) (v : ValueTree) : Type 0 where
+  pub formed : IsWellFormed room v
+  pub within : IsWithinLimits order o v
+  pub complete : (b : Bool) × IsShaped b (type_of v)
+
+-- Of two values of one type neither's spelling begins the other's, and one spelling has one value.
+abbrev pub OneValue : Type 0
+OneValue = (order : Order) (room o : ℕ) (v w : ValueTree) (x y : List ℕ) → Spells order room o v → Spells order room o w → type_of v ≡ type_of w
+    → spelling order o v ++ x ≡ spelling order o w ++ y → (v ≡ w) × (x ≡ y)
+
+-- Every list of bytes is one of Done, Refused and Partial.
+abbrev pub OneOutcome : Type 0
+OneOutcome = (order : Order) (room end : ℕ) (ts : TypeTrees) (o : ℕ) (s : List ℕ) → AreShaped ts → o ≤ end → IsBytes s → Outcomes order room end ts o s
+
+-- No more than one.
+abbrev pub NotBoth : Type 0
+NotBoth = (order : Order) (room end : ℕ) (ts : TypeTrees) (o : ℕ) (s : List ℕ) (vs : ValueTrees) (q : ℕ) (r : List ℕ) (f : Fault) → AreShaped ts
+    → IsDone order room end ts o s vs q r → IsRefused order room end ts o s f → ⊥
+
+-- One place and reason.
+abbrev pub OneFault : Type 0
+OneFault = (order : Order) (room end : ℕ) (ts : TypeTrees) (o : ℕ) (s : List ℕ) (f g : Fault) → AreShaped ts
+    → IsRefused order room end ts o s f → IsRefused order room end ts o s g → f ≡ g
+
+-- Whatever bytes follow.
+abbrev pub RefusedForGood : Type 0
+RefusedForGood = (order : Order) (room end : ℕ) (ts : TypeTrees) (o : ℕ) (s c : List ℕ) (f : Fault) → AreShaped ts
+    → IsRefused order room end ts o s f → IsRefused order room end ts o (s ++ c) f
+
+abbrev pub DoneForGood : Type 0
+DoneForGood = (order : Order) (room end : ℕ) (ts : TypeTrees) (o : ℕ) (s c : List ℕ) (vs : ValueTrees) (q : ℕ) (r : List ℕ)
+    → IsDone order room end ts o s vs q r → IsDone order room end ts o (s ++ c) vs q (r ++ c)
+
+-- Reading answers what the relations say, both ways.
+abbrev pub ReadsSpelled : Type 0
+ReadsSpelled = (order : Order) (room end : ℕ) (b : Bool) (t : TypeTree) (o : ℕ) (s : List ℕ) (v : ValueTree) (q : ℕ) (r : List ℕ) → IsShaped b t → IsBytes s
+    → (reading.value order room end t o s ≡ Done v q r) ↔ Spelled order room end t o s v q r
+
+abbrev pub ReadsFaults : Type 0
+ReadsFaults = (order : Order) (room end : ℕ) (b : Bool) (t : TypeTree) (o : ℕ) (s : List ℕ) (f : Fault) → IsShaped b t → IsBytes s
+    → (reading.value order room end t o s ≡ Faulty f) ↔ (value order room end t).Refused o s f

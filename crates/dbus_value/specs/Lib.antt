@@ -1,0 +1,9 @@
+pub mod WantedTexts
+pub mod Spelling
+pub mod Items
+pub mod ValueItems
+pub mod Outcomes
+pub mod Laws
+pub mod Reading
+pub mod ValueViews
+pub mod Gets

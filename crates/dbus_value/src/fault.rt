@@ -1,0 +1,79 @@
+//! Why bytes are refused, and where.
+#![tactic(auto)]
+
+/// Why bytes are refused: the one row of the fault table that they meet (docs/WIRE-FORMAT.md).
+#[derive(Clone, Copy, PartialEq, Eq, Debug)]
+pub enum Reason {
+    /// The first byte is neither `l` nor `B`.
+    ByteOrder,
+    /// The message type is 0.
+    Kind,
+    /// The protocol version is not 1.
+    Version,
+    /// The serial, or a REPLY_SERIAL, is 0.
+    ZeroSerial,
+    /// An array's length is over 67,108,864 bytes.
+    ArrayTooLong,
+    /// The header, its padding and the body have more than 134,217,728 bytes.
+    MessageTooLong,
+    /// A padding byte is not 0.
+    Padding,
+    /// Something ends past the innermost end: of an array, of the header fields or of the body.
+    Overrun,
+    /// A BOOLEAN is neither 0 nor 1.
+    Bool,
+    /// A STRING is not UTF-8 without U+0000.
+    Text,
+    /// The byte behind a text is not 0.
+    Nul,
+    /// An OBJECT_PATH is no object path.
+    Path,
+    /// A SIGNATURE is no signature, or a variant's is not of one complete type.
+    Signature,
+    /// The INTERFACE field is no interface name.
+    Interface,
+    /// The MEMBER field is no member name.
+    Member,
+    /// The ERROR_NAME field is no error name.
+    ErrorName,
+    /// The DESTINATION or SENDER field is no bus name.
+    BusName,
+    /// The name in a header field has more than 255 bytes.
+    NameTooLong,
+    /// A header field's code is 0.
+    FieldCode,
+    /// A known header field stands twice.
+    FieldTwice,
+    /// A known header field has another type than its own.
+    FieldType,
+    /// The message type requires a header field of this code, and it is not there.
+    FieldMissing(u8),
+    /// Bytes are left behind the body's last value, or behind the message.
+    Trailing,
+    /// A container is opened while 64 are open.
+    TooDeep,
+    /// The input ends within a message.
+    Truncated,
+    /// The index of a file descriptor is not below their count.
+    FdIndex,
+    /// Something that is not read yet.
+    NotYet,
+}
+
+/// Why bytes are refused, and where.
+#[derive(Clone, Copy, PartialEq, Eq, Debug)]
+pub struct Fault {
+    /// The place, in bytes from the message's first byte; that of the first byte not yet given, where no byte is needed.
+    pub at: u64,
+    /// The reason.
+    pub reason: Reason,
+}
+
+/// Why a call gave nothing.
+#[derive(Clone, Copy, PartialEq, Eq, Debug)]
+pub enum Refusal {
+    /// A growth of memory was refused.
+    Memory,
+    /// The bytes are refused.
+    Format(Fault),
+}

@@ -1,0 +1,14 @@
+//! What getting a value answers.
+#![tactic(auto)]
+
+use crate::value::Value;
+use std::alloc::{Allocator, Global};
+
+/// What bytes gave that are not refused.
+#[derive(Debug, Drop)]
+pub enum Got<A: Allocator = Global> {
+    /// The value, and the place behind it.
+    Done(Value<A>, usize),
+    /// Neither a value nor a fault: more bytes are wanted.
+    Partial,
+}

@@ -1,0 +1,36 @@
+//! Laws over the definitions: what a function here ensures is a fact about the marshalling relation, and it does nothing
+//! when it runs. D-Bus Specification, "Marshaling (Wire Format)".
+#![tactic(auto)]
+
+ghost use Rattle.dbus_value.specs.Laws.{OneValue, OneOutcome, NotBoth, OneFault, RefusedForGood, DoneForGood};
+
+/// At one order, depth and offset a value has one spelling, and of two values of one type neither's spelling begins the
+/// other's.
+pub fn one_value()
+    ensures { OneValue }
+{}
+
+/// Wherever some types are wanted, every list of bytes spells values of them, or shows a fault, or is partial.
+pub fn one_outcome()
+    ensures { OneOutcome }
+{}
+
+/// No bytes both spell the values that are wanted and show a fault.
+pub fn not_both()
+    ensures { NotBoth }
+{}
+
+/// A refusal has one place and one reason.
+pub fn one_fault()
+    ensures { OneFault }
+{}
+
+/// What is refused stays refused, whatever bytes follow.
+pub fn refused_for_good()
+    ensures { RefusedForGood }
+{}
+
+/// What is spelled stays spelled, whatever bytes follow.
+pub fn done_for_good()
+    ensures { DoneForGood }
+{}

@@ -1,0 +1,46 @@
+//! Values.
+#![tactic(auto)]
+
+use dbus_types::SigType;
+use std::alloc::{Allocator, Global};
+
+/// A value. D-Bus Specification, "Type System".
+#[derive(Debug, Drop)]
+pub enum Value<A: Allocator = Global> {
+    /// BYTE.
+    Byte(u8),
+    /// BOOLEAN.
+    Bool(bool),
+    /// INT16.
+    I16(i16),
+    /// UINT16.
+    U16(u16),
+    /// INT32.
+    I32(i32),
+    /// UINT32.
+    U32(u32),
+    /// INT64.
+    I64(i64),
+    /// UINT64.
+    U64(u64),
+    /// DOUBLE, as its 64 bits.
+    Double(u64),
+    /// STRING.
+    Str(String<A>),
+    /// OBJECT_PATH.
+    Path(String<A>),
+    /// SIGNATURE.
+    Sig(String<A>),
+    /// UNIX_FD, as the index of a descriptor.
+    Fd(u32),
+    /// An array of BYTE.
+    Bytes(Vec<u8, A>),
+    /// An array of another type than BYTE: the element's type, and the elements.
+    Array(SigType<A>, Vec<Value<A>, A>),
+    /// A struct's fields.
+    Struct(Vec<Value<A>, A>),
+    /// A dict entry's key and value.
+    Entry(Box<Value<A>, A>, Box<Value<A>, A>),
+    /// A value that carries its type.
+    Variant(Box<Value<A>, A>),
+}

@@ -1,0 +1,3 @@
+mod Fields
+mod Plans
+mod Steps
