@@ -7,3 +7,4 @@ pub mod Composition
 pub mod ValueItemLaws
 pub mod ValueOutcomes
 pub mod Frames
+pub mod WorkedExamples
