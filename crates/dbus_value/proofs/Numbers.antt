@@ -6,6 +6,7 @@ use Rattle.dbus_value.specs.Spelling.{IsBytes, low_first, num, gap_to}
 use Rattle.dbus_value.specs.declared.order.Order.{Order}
 use Rattle.dbus_value.specs.declared.order.Order.TheVariants.{Little, Big}
 use Rattle.dbus_value.specs.Reading.{place_sum, number_of}
+use Rattle.dbus_value.specs.Laws.{LeastPadding, NumberIsPlaceSum}
 
 pub IsBytes-append : (s t : List ℕ) → IsBytes s → IsBytes t → IsBytes (s ++ t)
 IsBytes-append [] t hs ht = ht
@@ -82,18 +83,9 @@ number_of-below Big bs w e h =
 
 -- ---- the gap to a boundary is the least that reaches one
 
--- a is the width of a number
-abbrev ReachesLeast : ℕ → ℕ → Type 0
-ReachesLeast a o = ((o + gap_to a o) % a ≡ 0) × ((k : ℕ) → (o + k) % a ≡ 0 → gap_to a o ≤ k)
-
-pub least_2 : (o : ℕ) → ReachesLeast 2 o
+pub least_padding : LeastPadding
 unfolding gap_to
-least_2 o = (omega arith, λ k h. omega arith)
+least_padding o = ((omega arith, λ k h. omega arith), (omega arith, λ k h. omega arith), (omega arith, λ k h. omega arith), (omega arith, λ k h. omega arith))
 
-pub least_4 : (o : ℕ) → ReachesLeast 4 o
-unfolding gap_to
-least_4 o = (omega arith, λ k h. omega arith)
-
-pub least_8 : (o : ℕ) → ReachesLeast 8 o
-unfolding gap_to
-least_8 o = (omega arith, λ k h. omega arith)
+pub number_is_place_sum : NumberIsPlaceSum
+number_is_place_sum order w n h = (length-num order w n, number_of-num order w n h)

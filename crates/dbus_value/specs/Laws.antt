@@ -1,10 +1,10 @@
 -- The laws over the definitions of values. What makes each of them true is in proofs/.
 -- D-Bus Specification, "Marshaling (Wire Format)".
-use Rattle.std.specs.Prelude.{◌≡◌, ℕ, ◌≤◌, ◌↔◌, List, ◌++◌, Bool}
+use Rattle.std.specs.Prelude.{◌≡◌, ℕ, ◌+◌, ◌%◌, ◌^◌, ◌<◌, ◌≤◌, ◌↔◌, List, ◌++◌, length, Bool}
 use Rattle.dbus_types.specs.Types.{TypeTree, TypeTrees, IsShaped, AreShaped}
 use Rattle.dbus_value.specs.WantedTexts.{Of}
 use Rattle.dbus_value.specs.declared.order.Order.{Order}
-use Rattle.dbus_value.specs.Spelling.{ValueTree, ValueTrees, IsBytes, spelling, type_of, IsWellFormed, IsWithinLimits, Spelled}
+use Rattle.dbus_value.specs.Spelling.{gap_to, num, ValueTree, ValueTrees, IsBytes, spelling, type_of, IsWellFormed, IsWithinLimits, Spelled}
 use Rattle.dbus_value.specs.declared.fault.Fault.{Fault}
 use Rattle.dbus_value.specs.ValueItems.{value}
 use Rattle.dbus_value.specs.Reading.{Done, Faulty}
@@ -53,3 +53,15 @@ ReadsSpelled = (order : Order) (room end : ℕ) (b : Bool) (t : TypeTree) (o : �
 abbrev pub ReadsFaults : Type 0
 ReadsFaults = (order : Order) (room end : ℕ) (b : Bool) (t : TypeTree) (o : ℕ) (s : List ℕ) (f : Fault) → IsShaped b t → IsBytes s
     → (reading.value order room end t o s ≡ Faulty f) ↔ (value order room end t).Refused o s f
+
+-- k is the least number of bytes from o to a multiple of a
+abbrev pub IsLeastGap : ℕ → ℕ → ℕ → Type 0
+IsLeastGap a o k = ((o + k) % a ≡ 0) × ((j : ℕ) → (o + j) % a ≡ 0 → k ≤ j)
+
+-- Padding is the least that reaches a boundary.
+abbrev pub LeastPadding : Type 0
+LeastPadding = (o : ℕ) → IsLeastGap 1 o (gap_to 1 o) × IsLeastGap 2 o (gap_to 2 o) × IsLeastGap 4 o (gap_to 4 o) × IsLeastGap 8 o (gap_to 8 o)
+
+-- A number in w bytes is the sum of its places, the lowest place first in little order and last in big.
+abbrev pub NumberIsPlaceSum : Type 0
+NumberIsPlaceSum = (order : Order) (w n : ℕ) → n < 256 ^ w → (length (num order w n) ≡ w) × (reading.number_of order (num order w n) ≡ n)

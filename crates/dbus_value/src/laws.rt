@@ -2,7 +2,7 @@
 //! when it runs. D-Bus Specification, "Marshaling (Wire Format)".
 #![tactic(auto)]
 
-ghost use Rattle.dbus_value.specs.Laws.{OneValue, OneOutcome, NotBoth, OneFault, RefusedForGood, DoneForGood};
+ghost use Rattle.dbus_value.specs.Laws.{OneValue, OneOutcome, NotBoth, OneFault, RefusedForGood, DoneForGood, LeastPadding, NumberIsPlaceSum};
 
 /// At one order, depth and offset a value has one spelling, and of two values of one type neither's spelling begins the
 /// other's.
@@ -33,4 +33,14 @@ pub fn refused_for_good()
 /// What is spelled stays spelled, whatever bytes follow.
 pub fn done_for_good()
     ensures { DoneForGood }
+{}
+
+/// Padding is the least number of bytes that reaches a boundary of 1, 2, 4 or 8 bytes.
+pub fn least_padding()
+    ensures { LeastPadding }
+{}
+
+/// A number in so many bytes is the sum of its places, in either order.
+pub fn number_is_place_sum()
+    ensures { NumberIsPlaceSum }
 {}
