@@ -11,3 +11,9 @@ pub mod TypeTexts
 mod AsciiNames
 mod TextUtf8
 pub mod KindFacts
+pub mod TypeViews
+mod Fronts
+mod Parsing
+mod Spelling
+mod Shapes
+mod Copies

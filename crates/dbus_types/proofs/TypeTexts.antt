@@ -71,7 +71,7 @@ pub sig_positive : (t : TypeTree) → 0 < length (sig t)
 sig_positive t = let w = begins t in rw w.2 (omega arith)
 
 mutual
-  parse_sig : (t : TypeTree) (turns : ℕ) (r : List ℕ) → length (sig t) ≤ turns → parse turns (sig t ++ r) ≡ Some (t, r)
+  pub parse_sig : (t : TypeTree) (turns : ℕ) (r : List ℕ) → length (sig t) ≤ turns → parse turns (sig t ++ r) ≡ Some (t, r)
   parse_sig (NumberType k) zero r h = absurd (omega arith)
   parse_sig (NumberType k) (suc turns) r h = parse_alone turns (number_code k) r (NumberType k) (opening_number k)
   parse_sig (TextType k) zero r h = absurd (omega arith)
@@ -91,7 +91,7 @@ mutual
       (parse_sig k turns (sig v ++ 125 ∷ r) (omega (arith, length-append (sig k) (sig v ++ 125 ∷ []), length-append (sig v) (125 ∷ []))))
       (parse_sig v turns (125 ∷ r) (omega (arith, length-append (sig k) (sig v ++ 125 ∷ []), length-append (sig v) (125 ∷ [])))))
 
-  parses_sig : (ts : TypeTrees) (turns : ℕ) (r : List ℕ) → length (sigs ts) + 1 ≤ turns → parses turns (sigs ts ++ 41 ∷ r) ≡ Some (ts, r)
+  pub parses_sig : (ts : TypeTrees) (turns : ℕ) (r : List ℕ) → length (sigs ts) + 1 ≤ turns → parses turns (sigs ts ++ 41 ∷ r) ≡ Some (ts, r)
   parses_sig NoTypes zero r h = absurd (omega arith)
   parses_sig NoTypes (suc turns) r h = parses_none turns r
   parses_sig (MoreTypes t ts) zero r h = absurd (omega arith)

@@ -14,3 +14,6 @@ pub mod Kinds
 pub mod Scans
 pub mod Verdicts
 pub mod ComputedKinds
+pub mod TypeReads
+pub mod Parses
+pub mod Laws

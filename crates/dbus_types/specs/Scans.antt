@@ -1,4 +1,5 @@
 -- What a scan has read so far.
+-- D-Bus Specification, "Basic types", "Valid Object Paths", "Valid Names" and "Valid Signatures".
 use Rattle.std.specs.Prelude.{◌≡◌, ℕ, Bool, true, false, List, ◌∷◌, length, min}
 use Rattle.dbus_types.specs.declared.scan.TextScan.{TextScan}
 use Rattle.dbus_types.specs.declared.scan.ScanState.{ScanState}

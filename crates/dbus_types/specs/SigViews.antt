@@ -1,4 +1,5 @@
 -- What a signature's scan shows.
+-- D-Bus Specification, "Type System" ("Valid Signatures").
 use Rattle.std.specs.Prelude.{◌≡◌, Bool, true, false, Option, Some, None, []}
 use Rattle.dbus_types.specs.declared.signature.SigScan.{SigScan}
 use Rattle.dbus_types.specs.declared.signature.SigPlace.TheVariants.{After, One}

@@ -55,8 +55,8 @@ fn break_of(kind: TextKind, text: &[u8]) -> Option<usize>
     ensures { IsBreakOf kind text.now result }
 {
     let mut scan = TextScan::new(kind);
-    for (i, b) in text.iter().enumerate() {
-        if !scan.step(*b) {
+    for (i, byte) in text.iter().enumerate() {
+        if !scan.step(*byte) {
             return Some(i);
         }
     }

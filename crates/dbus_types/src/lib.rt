@@ -2,10 +2,17 @@
 #![tactic(auto)]
 
 mod check;
+mod copy;
+mod laws;
 mod names;
+mod parse;
 mod scan;
+mod shape;
 mod sig_type;
 mod signature;
+mod spell;
+#[cfg(test)]
+mod tests;
 mod text_kind;
 mod utf8;
 
@@ -13,6 +20,14 @@ pub use check::{
     NameFault, SigFault, check_bus_name, check_error_name, check_interface, check_member,
     check_path, check_signature, check_single, first_break, is_unique,
 };
+pub use copy::copy_type;
+pub use laws::{
+    breaks_are_computed, kinds_are_computed, names_are_texts, no_type_begins_another,
+    signatures_spell_types, singles_spell_types, texts_are_utf8,
+};
+pub use parse::{parse_signature, parse_single};
 pub use scan::TextScan;
+pub use shape::{alignment, type_ok};
 pub use sig_type::SigType;
+pub use spell::signature_text;
 pub use text_kind::TextKind;

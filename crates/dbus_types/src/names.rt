@@ -53,39 +53,39 @@ pub struct NameScan {
 }
 
 /// `[A-Za-z0-9_]`
-fn is_word(b: u8) -> bool
-    ensures { result ≡ is_word b }
+fn is_word(byte: u8) -> bool
+    ensures { result ≡ is_word byte }
 {
-    b.is_ascii_alphanumeric() || b == b'_'
+    byte.is_ascii_alphanumeric() || byte == b'_'
 }
 
 /// `[A-Za-z_-]`
-fn is_dashed_start(b: u8) -> bool
-    ensures { result ≡ is_dashed_start b }
+fn is_dashed_start(byte: u8) -> bool
+    ensures { result ≡ is_dashed_start byte }
 {
-    b.is_ascii_alphabetic() || b == b'_' || b == b'-'
+    byte.is_ascii_alphabetic() || byte == b'_' || byte == b'-'
 }
 
 impl Letters {
     /// Whether an element may begin with the byte.
-    fn begins(self, b: u8) -> bool
-        ensures { result ≡ begins self b }
+    fn begins(self, byte: u8) -> bool
+        ensures { result ≡ begins self byte }
     {
         match self {
-            Letters::Word => is_word(b),
-            Letters::Name => b.is_ascii_alphabetic() || b == b'_',
-            Letters::Unique => is_word(b) || b == b'-',
-            Letters::WellKnown => is_dashed_start(b),
+            Letters::Word => is_word(byte),
+            Letters::Name => byte.is_ascii_alphabetic() || byte == b'_',
+            Letters::Unique => is_word(byte) || byte == b'-',
+            Letters::WellKnown => is_dashed_start(byte),
         }
     }
 
     /// Whether an element may go on with the byte.
-    fn goes_on(self, b: u8) -> bool
-        ensures { result ≡ goes_on self b }
+    fn goes_on(self, byte: u8) -> bool
+        ensures { result ≡ goes_on self byte }
     {
         match self {
-            Letters::Word | Letters::Name => is_word(b),
-            Letters::Unique | Letters::WellKnown => is_word(b) || b == b'-',
+            Letters::Word | Letters::Name => is_word(byte),
+            Letters::Unique | Letters::WellKnown => is_word(byte) || byte == b'-',
         }
     }
 
@@ -102,43 +102,43 @@ impl Letters {
 
 impl NameScan {
     /// What is wanted after one byte more, if it may stand here.
-    pub fn next(self, b: u8) -> Option<NameScan>
-        ensures { result ≡ name_next self b }
+    pub fn next(self, byte: u8) -> Option<NameScan>
+        ensures { result ≡ name_next self byte }
     {
         match self.place {
-            Place::PathStart => (b == b'/').then_some(NameScan {
+            Place::PathStart => (byte == b'/').then_some(NameScan {
                 place: Place::Root,
                 letters: Letters::Word,
                 tail: Tail::Free,
             }),
-            Place::Root => is_word(b).then_some(NameScan {
+            Place::Root => is_word(byte).then_some(NameScan {
                 place: Place::More,
                 letters: Letters::Word,
                 tail: Tail::Free,
             }),
             Place::BusStart => {
-                if b == b':' {
+                if byte == b':' {
                     return Some(NameScan {
                         place: Place::First,
                         letters: Letters::Unique,
                         tail: Tail::Needed,
                     });
                 }
-                is_dashed_start(b).then_some(NameScan {
+                is_dashed_start(byte).then_some(NameScan {
                     place: Place::More,
                     letters: Letters::WellKnown,
                     tail: Tail::Needed,
                 })
             }
-            Place::First => self.letters.begins(b).then_some(NameScan {
+            Place::First => self.letters.begins(byte).then_some(NameScan {
                 place: Place::More,
                 ..self
             }),
             Place::More => {
-                if self.letters.goes_on(b) {
+                if self.letters.goes_on(byte) {
                     return Some(self);
                 }
-                if b != self.letters.separator() {
+                if byte != self.letters.separator() {
                     return None;
                 }
                 match self.tail {

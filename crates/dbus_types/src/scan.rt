@@ -10,7 +10,7 @@ use crate::text_kind::TextKind;
 use crate::utf8::Utf8Place;
 
 /// What is wanted of a text from here on.
-#[derive(Drop)]
+#[derive(Debug, Drop)]
 pub enum ScanState {
     InText(Utf8Place),
     InName(NameScan),
@@ -46,25 +46,25 @@ impl ScanState {
     }
 
     /// Takes one byte more, if it may stand here; else changes nothing.
-    fn step(&mut self, b: u8) -> bool
-        ensures { Steps self.old b result self.new }
+    fn step(&mut self, byte: u8) -> bool
+        ensures { Steps self.old byte result self.new }
     {
         match self {
-            ScanState::InText(place) => match place.next(b) {
+            ScanState::InText(place) => match place.next(byte) {
                 Some(next) => {
                     *place = next;
                     true
                 }
                 None => false,
             },
-            ScanState::InName(name) => match name.next(b) {
+            ScanState::InName(name) => match name.next(byte) {
                 Some(next) => {
                     *name = next;
                     true
                 }
                 None => false,
             },
-            ScanState::InSignature(signature) => signature.step(b),
+            ScanState::InSignature(signature) => signature.step(byte),
         }
     }
 
@@ -94,7 +94,7 @@ const fn name_scan(place: Place, letters: Letters, tail: Tail) -> NameScan
 ///
 /// It holds no byte of the text. D-Bus Specification, "Basic types", "Valid Object Paths", "Valid
 /// Names" and "Valid Signatures".
-#[derive(Drop)]
+#[derive(Debug, Drop)]
 pub struct TextScan {
     kind: TextKind,
     state: ScanState,
@@ -122,13 +122,13 @@ impl TextScan {
     ///
     /// The limit of 255 bytes that some kinds have is left to [`TextScan::end`]. On `false` the scan
     /// is unchanged.
-    pub fn step(&mut self, b: u8) -> bool
+    pub fn step(&mut self, byte: u8) -> bool
         ensures kind { kind_of self.new ≡ kind_of self.old }
-        ensures prefix { (w : List ℕ) → Stands self.old w → (IsTrue result ↔ IsPrefixOf (kind_of self.old) (w ++ b ∷ [])) }
-        ensures stands { (w : List ℕ) → Stands self.old w → IsTrue result → Stands self.new (w ++ b ∷ []) }
+        ensures prefix { (w : List ℕ) → Stands self.old w → (IsTrue result ↔ IsPrefixOf (kind_of self.old) (w ++ byte ∷ [])) }
+        ensures stands { (w : List ℕ) → Stands self.old w → IsTrue result → Stands self.new (w ++ byte ∷ []) }
         ensures unchanged { IsFalse result → self.new ≡ self.old }
     {
-        if !self.state.step(b) {
+        if !self.state.step(byte) {
             return false;
         }
         if self.length < 256 {

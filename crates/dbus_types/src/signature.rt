@@ -32,24 +32,24 @@ pub struct Frame {
 }
 
 /// Whether the byte spells a basic type.
-pub fn is_basic_code(b: u8) -> bool
-    ensures { result ≡ is_basic_code b }
+pub fn is_basic_code(byte: u8) -> bool
+    ensures { result ≡ is_basic_code byte }
 {
     matches!(
-        b,
+        byte,
         b'y' | b'b' | b'n' | b'q' | b'i' | b'u' | b'x' | b't' | b'd' | b'h' | b's' | b'o' | b'g'
     )
 }
 
 /// Whether the byte alone spells a complete type.
-pub fn is_type_code(b: u8) -> bool
-    ensures { result ≡ is_type_code b }
+pub fn is_type_code(byte: u8) -> bool
+    ensures { result ≡ is_type_code byte }
 {
-    is_basic_code(b) || b == b'v'
+    is_basic_code(byte) || byte == b'v'
 }
 
 /// What is wanted of a signature from here on.
-#[derive(Drop)]
+#[derive(Debug, Drop)]
 pub struct SigScan {
     /// Whether exactly one complete type is wanted.
     pub single: bool,
@@ -85,20 +85,20 @@ impl SigScan {
     }
 
     /// A complete type begins, with so many arrays and structs open around it.
-    fn begin(&mut self, inside: bool, arrays: u8, structs: u8, b: u8) -> bool
+    fn begin(&mut self, inside: bool, arrays: u8, structs: u8, byte: u8) -> bool
         requires arrays_in { arrays ≤ 32 }
         requires structs_in { structs ≤ 32 }
         requires room { length self.old.frames.items ≤ arrays + structs }
         requires spare { IsTrue inside → length self.old.frames.items < arrays + structs }
-        ensures { Follows self.old result self.new (begin self.old.single inside arrays structs self.old.frames.items b) }
+        ensures { Follows self.old result self.new (begin self.old.single inside arrays structs self.old.frames.items byte) }
     {
-        if is_type_code(b) {
+        if is_type_code(byte) {
             self.place = SigPlace::After;
             self.arrays = arrays;
             self.structs = structs;
             return true;
         }
-        match b {
+        match byte {
             b'a' => {
                 if arrays == 32 {
                     return false;
@@ -141,8 +141,8 @@ impl SigScan {
     }
 
     /// Takes one byte more, if it may stand here; else changes nothing.
-    pub fn step(&mut self, b: u8) -> bool
-        ensures { Follows self.old result self.new (sig_next (sig_view self.old) b) }
+    pub fn step(&mut self, byte: u8) -> bool
+        ensures { Follows self.old result self.new (sig_next (sig_view self.old) byte) }
     {
         match self.place {
             SigPlace::After => match self.frames.as_slice().last().copied() {
@@ -150,27 +150,27 @@ impl SigScan {
                     if self.single {
                         return false;
                     }
-                    self.begin(false, 0, 0, b)
+                    self.begin(false, 0, 0, byte)
                 }
                 Some(frame) => {
                     if frame.entry {
-                        if b != b'}' {
+                        if byte != b'}' {
                             return false;
                         }
                         let _ = self.frames.pop();
                         return true;
                     }
-                    if b == b')' {
+                    if byte == b')' {
                         let _ = self.frames.pop();
                         return true;
                     }
-                    self.begin(false, frame.arrays, frame.structs, b)
+                    self.begin(false, frame.arrays, frame.structs, byte)
                 }
             },
-            SigPlace::One => self.begin(false, self.arrays, self.structs, b),
-            SigPlace::Element => self.begin(true, self.arrays, self.structs, b),
+            SigPlace::One => self.begin(false, self.arrays, self.structs, byte),
+            SigPlace::Element => self.begin(true, self.arrays, self.structs, byte),
             SigPlace::Key => {
-                if !is_basic_code(b) {
+                if !is_basic_code(byte) {
                     return false;
                 }
                 self.place = SigPlace::One;

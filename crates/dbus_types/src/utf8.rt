@@ -26,10 +26,10 @@ pub enum Utf8Place {
 }
 
 /// The place behind the first byte of a character.
-fn lead(b: u8) -> Option<Utf8Place>
-    ensures { result ≡ lead b }
+fn lead(byte: u8) -> Option<Utf8Place>
+    ensures { result ≡ lead byte }
 {
-    match b {
+    match byte {
         0x01..=0x7f => Some(Utf8Place::Free),
         0xc2..=0xdf => Some(Utf8Place::Last),
         0xe0 => Some(Utf8Place::AfterE0),
@@ -45,18 +45,18 @@ fn lead(b: u8) -> Option<Utf8Place>
 
 impl Utf8Place {
     /// What is wanted after one byte more, if it may stand here.
-    pub fn next(self, b: u8) -> Option<Utf8Place>
-        ensures { result ≡ text_next self b }
+    pub fn next(self, byte: u8) -> Option<Utf8Place>
+        ensures { result ≡ text_next self byte }
     {
         match self {
-            Utf8Place::Free => lead(b),
-            Utf8Place::Last => matches!(b, 0x80..=0xbf).then_some(Utf8Place::Free),
-            Utf8Place::LastTwo => matches!(b, 0x80..=0xbf).then_some(Utf8Place::Last),
-            Utf8Place::LastThree => matches!(b, 0x80..=0xbf).then_some(Utf8Place::LastTwo),
-            Utf8Place::AfterE0 => matches!(b, 0xa0..=0xbf).then_some(Utf8Place::Last),
-            Utf8Place::AfterEd => matches!(b, 0x80..=0x9f).then_some(Utf8Place::Last),
-            Utf8Place::AfterF0 => matches!(b, 0x90..=0xbf).then_some(Utf8Place::LastTwo),
-            Utf8Place::AfterF4 => matches!(b, 0x80..=0x8f).then_some(Utf8Place::LastTwo),
+            Utf8Place::Free => lead(byte),
+            Utf8Place::Last => matches!(byte, 0x80..=0xbf).then_some(Utf8Place::Free),
+            Utf8Place::LastTwo => matches!(byte, 0x80..=0xbf).then_some(Utf8Place::Last),
+            Utf8Place::LastThree => matches!(byte, 0x80..=0xbf).then_some(Utf8Place::LastTwo),
+            Utf8Place::AfterE0 => matches!(byte, 0xa0..=0xbf).then_some(Utf8Place::Last),
+            Utf8Place::AfterEd => matches!(byte, 0x80..=0x9f).then_some(Utf8Place::Last),
+            Utf8Place::AfterF0 => matches!(byte, 0x90..=0xbf).then_some(Utf8Place::LastTwo),
+            Utf8Place::AfterF4 => matches!(byte, 0x80..=0x8f).then_some(Utf8Place::LastTwo),
         }
     }
 

@@ -9,10 +9,10 @@ invariant_of-self-clause-bounded c =
     let x = c.args.self.now in
     subst (λ fs. AreBounded 0 fs) (sym c.pop.ensures.rest) (AreBounded-take 0 (length x.frames.items - 1) x.frames.items x.bounded)
 
-pub invariant_of-self-then-b-eq41-clause-bounded : goal.invariant_of-self-then-b-eq41-clause-bounded
-invariant_of-self-then-b-eq41-clause-bounded c =
+pub invariant_of-self-then-byte-eq41-clause-bounded : goal.invariant_of-self-then-byte-eq41-clause-bounded
+invariant_of-self-then-byte-eq41-clause-bounded c =
     let x = c.args.self.now in
-    subst (λ fs. AreBounded 0 fs) (sym c.pop-then-b-eq41.ensures.rest) (AreBounded-take 0 (length x.frames.items - 1) x.frames.items x.bounded)
+    subst (λ fs. AreBounded 0 fs) (sym c.pop-then-byte-eq41.ensures.rest) (AreBounded-take 0 (length x.frames.items - 1) x.frames.items x.bounded)
 
 pub begin-requires-in-Some-clause-arrays_in : goal.begin-requires-in-Some-clause-arrays_in
 begin-requires-in-Some-clause-arrays_in c =

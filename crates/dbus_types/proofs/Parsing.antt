@@ -1,0 +1,147 @@
+-- The parser's steps.
+use Rattle.std.proofs.Common.{◌≡◌, ℕ, ◌-◌, ◌<◌, ◌≤◌, false, List, [], ◌∷◌, ◌++◌, refl, sym, ap, ◌∙◌, subst, arith, append_assoc, append-nil, length, length-append, get_or, take, drop, Vec, Box}
+use Rattle.std.proofs.lemmas.List.{take_all}
+use Rattle.dbus_types.specs.declared.sig_type.SigType as ty
+use Rattle.dbus_types.specs.declared.sig_type.SigType.{SigType}
+use Rattle.dbus_types.specs.Types.{TypeTrees, ArrayType, StructType, EntryType, NoTypes, MoreTypes, sig, sigs, IsComplete, AreComplete, IsSingleType, AreSignatureTypes}
+use Rattle.dbus_types.specs.Signatures.{IsSignature, IsSingle}
+use Rattle.dbus_types.specs.SigTypes.{type_tree, type_trees_of}
+use Rattle.dbus_types.specs.TypeReads.{StartsType, StartsFields, ReadsType, ReadsFields}
+use Rattle.dbus_types.proofs.TypeTexts.{sig_positive}
+use Rattle.dbus_types.proofs.TypeViews.{type_tree-Array, type_tree-Struct, type_tree-Entry}
+use Rattle.dbus_types.proofs.Fronts.{text_same, StartsPair, not_empty, entry_spelled}
+
+pub first_of_list : (w : List ℕ) → 0 < length w → (b : ℕ) × (c : List ℕ) × (w ≡ b ∷ c)
+first_of_list [] h = absurd (omega arith)
+first_of_list (b ∷ c) h = (b, c, refl)
+
+-- the first byte of types up to `)`
+first_go : (w : List ℕ) (ts : TypeTrees) (r : List ℕ) → w ≡ sigs ts ++ 41 ∷ r → 0 < length w
+first_go w ts r e =
+    let l = ap length e ∙ length-append (sigs ts) (41 ∷ r) in
+    omega arith
+
+pub first_byte : (w : List ℕ) → StartsFields w → (b : ℕ) × (c : List ℕ) × (w ≡ b ∷ c)
+first_byte w h = first_of_list w (first_go w h.trees h.rest h.spelled)
+
+pub first_is : (w : List ℕ) (b : ℕ) (c : List ℕ) → w ≡ b ∷ c → b ≡ get_or w 0 0
+first_is w b c e = sym (ap (λ v. get_or v 0 0) e)
+
+pub not_empty_at : (w : List ℕ) → length w ≡ 0 → StartsType w → ⊥
+not_empty_at [] e h = not_empty h
+not_empty_at (b ∷ w) e h = omega arith
+
+pub left_of_end : (s : List ℕ) → (rest : List ℕ) × (s ≡ 125 ∷ rest) → 1 ≤ length s
+left_of_end s z = let l = ap length z.1 in omega arith
+
+-- types up to `)`
+fields_go : (w : List ℕ) (b : ℕ) (c : List ℕ) (ts : TypeTrees) (r : List ℕ) → w ≡ b ∷ c → (b ≡ 41 → ⊥) → w ≡ sigs ts ++ 41 ∷ r → StartsType w
+fields_go w b c NoTypes r e n q = let z : b ∷ c ≡ 41 ∷ r = sym e ∙ q in absurd (n cc)
+fields_go w b c (MoreTypes t ts) r e n q = record { tree = t; rest = sigs ts ++ 41 ∷ r; spelled = q ∙ append_assoc (sig t) (sigs ts) (41 ∷ r) }
+
+pub fields_type : (w : List ℕ) (b : ℕ) (c : List ℕ) → w ≡ b ∷ c → (b ≡ 41 → ⊥) → StartsFields w → StartsType w
+fields_type w b c e n h = fields_go w b c h.trees h.rest e n h.spelled
+
+-- a signature that is not empty begins with a complete type
+sig_go : (w : List ℕ) (b : ℕ) (c : List ℕ) (ts : TypeTrees) → w ≡ b ∷ c → w ≡ sigs ts → StartsType w
+sig_go w b c NoTypes e q = let z : b ∷ c ≡ [] = sym e ∙ q in cc
+sig_go w b c (MoreTypes t ts) e q = record { tree = t; rest = sigs ts; spelled = q }
+
+pub sig_starts : (w : List ℕ) → 0 < length w → IsSignature w → StartsType w
+sig_starts w l h =
+    let f = first_of_list w l in
+    sig_go w f.0 f.1 h.0 f.2 h.2
+
+-- a single signature
+pub single_starts_type : (w : List ℕ) → IsSingle w → StartsType w
+single_starts_type w h = record { tree = h.0; rest = []; spelled = h.2 ∙ sym (append-nil (sig h.0)) }
+
+module _ {A : Type 0} where
+  pub reads_shorter : (w : List ℕ) (t : SigType A) (r : List ℕ) → ReadsType w t r → length r < length w
+  reads_shorter w t r h =
+      let e = ap length h.spelled ∙ length-append (sig (type_tree t)) r in
+      omega (arith, sig_positive (type_tree t))
+
+  -- a key and a value
+  pub pair_value : (w : List ℕ) (k : SigType A) (r : List ℕ) → StartsPair w → ReadsType w k r → StartsType r
+  pair_value w k r p h =
+      let q = text_same p.key (type_tree k) (sig p.value ++ 125 ∷ p.rest) r (sym p.spelled ∙ h.spelled) in
+      record { tree = p.value; rest = 125 ∷ p.rest; spelled = sym q.1 }
+
+  pub pair_end : (w : List ℕ) (k : SigType A) (r : List ℕ) (v : SigType A) (s : List ℕ) → StartsPair w → ReadsType w k r → ReadsType r v s → (rest : List ℕ) × (s ≡ 125 ∷ rest)
+  pair_end w k r v s p h i =
+      let q = text_same p.key (type_tree k) (sig p.value ++ 125 ∷ p.rest) r (sym p.spelled ∙ h.spelled) in
+      let z = text_same p.value (type_tree v) (125 ∷ p.rest) s (q.1 ∙ i.spelled) in
+      (p.rest, sym z.1)
+
+  -- types up to `)`
+  more_go : (w : List ℕ) (t : SigType A) (more : List ℕ) (b : ℕ) (c : List ℕ) (ts : TypeTrees) (r : List ℕ) → w ≡ b ∷ c → (b ≡ 41 → ⊥) → w ≡ sigs ts ++ 41 ∷ r → ReadsType w t more → StartsFields more
+  more_go w t more b c NoTypes r e n q h = let z : b ∷ c ≡ 41 ∷ r = sym e ∙ q in absurd (n cc)
+  more_go w t more b c (MoreTypes u ts) r e n q h =
+      let z = text_same u (type_tree t) (sigs ts ++ 41 ∷ r) more (sym (append_assoc (sig u) (sigs ts) (41 ∷ r)) ∙ sym q ∙ h.spelled) in
+      record { trees = ts; rest = r; spelled = sym z.1 }
+
+  pub fields_more : (w : List ℕ) (t : SigType A) (more : List ℕ) (b : ℕ) (c : List ℕ) → w ≡ b ∷ c → (b ≡ 41 → ⊥) → StartsFields w → ReadsType w t more → StartsFields more
+  fields_more w t more b c e n h i = more_go w t more b c h.trees h.rest e n h.spelled i
+
+  pub texts_push : (ts : List (SigType A)) (t : SigType A) → sigs (type_trees_of (ts ++ t ∷ [])) ≡ sigs (type_trees_of ts) ++ sig (type_tree t)
+  texts_push [] t = append-nil (sig (type_tree t))
+  texts_push (u ∷ ts) t = ap (λ v. sig (type_tree u) ++ v) (texts_push ts t) ∙ sym (append_assoc (sig (type_tree u)) (sigs (type_trees_of ts)) (sig (type_tree t)))
+
+  pub spelled_push : (ts : List (SigType A)) (t : SigType A) (us : List (SigType A)) (w more : List ℕ) → us ≡ ts ++ t ∷ [] → w ≡ sig (type_tree t) ++ more → sigs (type_trees_of ts) ++ w ≡ sigs (type_trees_of us) ++ more
+  spelled_push ts t us w more e q =
+      ap (λ v. sigs (type_trees_of ts) ++ v) q ∙ sym (append_assoc (sigs (type_trees_of ts)) (sig (type_tree t)) more) ∙ ap (λ v. v ++ more) (sym (texts_push ts t)) ∙ ap (λ v. sigs (type_trees_of v) ++ more) (sym e)
+
+  -- a value made from boxes or a vector
+  pub reads_array : (w c : List ℕ) (b : ℕ) (p : Box (SigType A) A) (x : SigType A) (r : List ℕ) → w ≡ b ∷ c → b ≡ 97 → p.value ≡ x → ReadsType c x r → ReadsType w (ty.Array p) r
+  reads_array w c b p x r e n same h =
+      let whole : w ≡ sig (ArrayType (type_tree p.value)) ++ r = e ∙ ap (λ y. y ∷ c) n ∙ ap (λ y. 97 ∷ y) (h.spelled ∙ ap (λ y. sig (type_tree y) ++ r) (sym same)) in
+      record { spelled = subst (λ t. w ≡ sig t ++ r) (sym (type_tree-Array p)) whole }
+
+  pub reads_struct : (w c : List ℕ) (b : ℕ) (v : Vec (SigType A) A) (r : List ℕ) → w ≡ b ∷ c → b ≡ 40 → ReadsFields c v.items r → ReadsType w (ty.Struct v) r
+  reads_struct w c b v r e n h =
+      let tail : c ≡ (sigs (type_trees_of v.items) ++ 41 ∷ []) ++ r = h.spelled ∙ sym (append_assoc (sigs (type_trees_of v.items)) (41 ∷ []) r) in
+      let whole : w ≡ sig (StructType (type_trees_of v.items)) ++ r = e ∙ ap (λ x. x ∷ c) n ∙ ap (λ x. 40 ∷ x) tail in
+      record { spelled = subst (λ t. w ≡ sig t ++ r) (sym (type_tree-Struct v)) whole }
+
+  pub reads_entry : (w c : List ℕ) (b : ℕ) (k v : Box (SigType A) A) (x y : SigType A) (r s : List ℕ) → w ≡ b ∷ c → b ≡ 123 → k.value ≡ x → v.value ≡ y → ReadsType c x r → ReadsType r y s → (rest : List ℕ) × (s ≡ 125 ∷ rest) → ReadsType w (ty.Entry k v) (take (length s - 1) (drop 1 s))
+  reads_entry w c b k v x y r s e n ek ev hx hy z =
+      let end : take (length s - 1) (drop 1 s) ≡ z.0 = ap (λ q. take (length q - 1) (drop 1 q)) z.1 ∙ take_all (length (125 ∷ z.0) - 1) z.0 (omega arith) in
+      let tail : c ≡ (sig (type_tree x) ++ (sig (type_tree y) ++ 125 ∷ [])) ++ z.0 =
+      hx.spelled ∙ ap (λ q. sig (type_tree x) ++ q) (hy.spelled ∙ ap (λ q. sig (type_tree y) ++ q) z.1) ∙ sym (entry_spelled (sig (type_tree x)) (sig (type_tree y)) z.0) in
+      let whole : w ≡ sig (EntryType (type_tree x) (type_tree y)) ++ z.0 = e ∙ ap (λ q. q ∷ c) n ∙ ap (λ q. 123 ∷ q) tail in
+      let boxed : w ≡ sig (EntryType (type_tree k.value) (type_tree v.value)) ++ z.0 =
+      whole ∙ ap (λ t. sig (EntryType (type_tree t) (type_tree y)) ++ z.0) (sym ek) ∙ ap (λ t. sig (EntryType (type_tree k.value) (type_tree t)) ++ z.0) (sym ev) in
+      let made : ReadsType w (ty.Entry k v) z.0 = record { spelled = subst (λ t. w ≡ sig t ++ z.0) (sym (type_tree-Entry k v)) boxed } in
+      subst (λ q. ReadsType w (ty.Entry k v) q) (sym end) made
+
+  -- one complete type of a signature
+  step_go : (w : List ℕ) (t : SigType A) (more : List ℕ) (b : ℕ) (c : List ℕ) (ts : TypeTrees) → AreComplete ts 0 0 → w ≡ b ∷ c → w ≡ sigs ts → ReadsType w t more → IsComplete (type_tree t) false 0 0 × IsSignature more
+  step_go w t more b c NoTypes h e q r = let z : b ∷ c ≡ [] = sym e ∙ q in cc
+  step_go w t more b c (MoreTypes u ts) h e q r =
+      let z = text_same u (type_tree t) (sigs ts) more (sym q ∙ r.spelled) in
+      (subst (λ x. IsComplete x false 0 0) z.0 h.0, (ts, h.1, sym z.1))
+
+  pub sig_step : (w : List ℕ) (t : SigType A) (more : List ℕ) → 0 < length w → IsSignature w → ReadsType w t more → IsComplete (type_tree t) false 0 0 × IsSignature more
+  sig_step w t more l h r =
+      let f = first_of_list w l in
+      step_go w t more f.0 f.1 h.0 h.1 f.2 h.2 r
+
+  pub complete_push : (ts : List (SigType A)) (t : SigType A) → AreComplete (type_trees_of ts) 0 0 → IsComplete (type_tree t) false 0 0 → AreComplete (type_trees_of (ts ++ t ∷ [])) 0 0
+  complete_push [] t h k = (k, tt)
+  complete_push (u ∷ ts) t h k = (h.0, complete_push ts t h.1 k)
+
+  -- what the parsers answer
+  pub signature_whole : (w : List ℕ) (ts : List (SigType A)) (r : List ℕ) → length w ≤ 255 → length r ≡ 0 → AreComplete (type_trees_of ts) 0 0 → w ≡ sigs (type_trees_of ts) ++ r → AreSignatureTypes (type_trees_of ts) × (sigs (type_trees_of ts) ≡ w)
+  signature_whole w ts [] l n h e =
+      let same : sigs (type_trees_of ts) ≡ w = sym (e ∙ append-nil (sigs (type_trees_of ts))) in
+      let short : length (sigs (type_trees_of ts)) < 256 = omega (arith, ap length same) in
+      ((h, short), same)
+  signature_whole w ts (b ∷ r) l n h e = absurd (omega arith)
+
+  pub single_whole : (w : List ℕ) (t : SigType A) (more : List ℕ) → length w ≤ 255 → IsSingle w → ReadsType w t more → IsSingleType (type_tree t) × (sig (type_tree t) ≡ w)
+  single_whole w t more l h r =
+      let z = text_same h.0 (type_tree t) [] more (append-nil (sig h.0) ∙ sym h.2 ∙ r.spelled) in
+      let same : sig (type_tree t) ≡ w = sym (h.2 ∙ ap sig z.0) in
+      let short : length (sig (type_tree t)) < 256 = omega (arith, ap length same) in
+      ((subst (λ x. IsComplete x false 0 0) z.0 h.1, short), same)

@@ -1,0 +1,16 @@
+use Rattle.std.proofs.Common.{◌≡◌, ◌++◌, length}
+use Rattle.dbus_types.specs.Types.{sigs, AreComplete}
+use Rattle.dbus_types.specs.Signatures.{IsSignature}
+use Rattle.dbus_types.specs.SigTypes.{type_trees_of}
+use Rattle.dbus_types.proofs.parse.parse_signature.Given as goal
+
+abbrev pub invariant-loop-rest : goal.invariant-loop-rest
+invariant-loop-rest g l =
+    record {
+      left : IsSignature l.rest;
+      complete : AreComplete (type_trees_of l.types.items) 0 0;
+      spelled : l.text ≡ sigs (type_trees_of l.types.items) ++ l.rest;
+    }
+
+abbrev pub decreases-loop-rest : goal.decreases-loop-rest
+decreases-loop-rest g l = length l.rest

@@ -1,0 +1,125 @@
+//! The types that a signature spells.
+#![tactic(auto)]
+
+ghost use Rattle.std.specs.Prelude.{◌≡◌, ℕ, ◌++◌, ◌∷◌, [], length, IfOk, MatchOption, true, false};
+ghost use Rattle.dbus_types.specs.Types.{sig};
+ghost use Rattle.dbus_types.specs.SigTypes.{type_tree};
+ghost use Rattle.dbus_types.specs.SignatureScans.{is_type_code};
+ghost use Rattle.dbus_types.specs.TypeReads.{StartsType, StartsFields, ReadsType, ReadsFields};
+ghost use Rattle.dbus_types.specs.Parses.{IsParse, IsSingleParse};
+
+use crate::check::{SigFault, check_signature, check_single};
+use crate::sig_type::SigType;
+use std::alloc::{AllocError, Allocator};
+
+/// The type that one byte spells.
+fn plain_type<A: Allocator>(byte: u8) -> Option<SigType<A>>
+    ensures { MatchOption result (is_type_code byte ≡ false) (λ ty. sig (type_tree ty) ≡ byte ∷ []) }
+{
+    match byte {
+        b'y' => Some(SigType::Byte),
+        b'b' => Some(SigType::Bool),
+        b'n' => Some(SigType::I16),
+        b'q' => Some(SigType::U16),
+        b'i' => Some(SigType::I32),
+        b'u' => Some(SigType::U32),
+        b'x' => Some(SigType::I64),
+        b't' => Some(SigType::U64),
+        b'd' => Some(SigType::Double),
+        b's' => Some(SigType::Str),
+        b'o' => Some(SigType::Path),
+        b'g' => Some(SigType::Sig),
+        b'h' => Some(SigType::Fd),
+        b'v' => Some(SigType::Variant),
+        _ => None,
+    }
+}
+
+/// The type at the front, and what follows it.
+#[cycle(parse)]
+fn parse_type<A: Allocator + Copy>(
+    alloc: A,
+    bytes: &[u8],
+) -> Result<(SigType<A>, &[u8]), AllocError>
+    requires { StartsType bytes.now }
+    ensures { IfOk result (λ r. ReadsType bytes.now r.0 r.1.now) }
+{
+    let (byte, rest) = match bytes.split_first() {
+        Some((byte, rest)) => (*byte, rest),
+        None => unreachable!(),
+    };
+    match byte {
+        b'a' => {
+            let (element, rest) = parse_type(alloc, rest)?;
+            let element = Box::new(alloc, element)?;
+            Ok((SigType::Array(element), rest))
+        }
+        b'(' => {
+            let (fields, rest) = parse_fields(alloc, rest)?;
+            Ok((SigType::Struct(fields), rest))
+        }
+        b'{' => {
+            let (key, rest) = parse_type(alloc, rest)?;
+            let (value, rest) = parse_type(alloc, rest)?;
+            let key = Box::new(alloc, key)?;
+            let value = Box::new(alloc, value)?;
+            Ok((SigType::Entry(key, value), &rest[1..]))
+        }
+        _ => match plain_type(byte) {
+            Some(ty) => Ok((ty, rest)),
+            None => unreachable!(),
+        },
+    }
+}
+
+/// The types up to `)`, and what follows it.
+#[cycle(parse)]
+fn parse_fields<A: Allocator + Copy>(
+    alloc: A,
+    bytes: &[u8],
+) -> Result<(Vec<SigType<A>, A>, &[u8]), AllocError>
+    requires { StartsFields bytes.now }
+    ensures { IfOk result (λ r. ReadsFields bytes.now r.0.items r.1.now) }
+{
+    let mut types = Vec::new(alloc);
+    let mut rest = bytes;
+    while rest[0] != b')' {
+        let (ty, more) = parse_type(alloc, rest)?;
+        types.push(ty)?;
+        rest = more;
+    }
+    Ok((types, &rest[1..]))
+}
+
+/// The types that a signature spells, one for each complete type in it.
+///
+/// Else `TooLong` over 255 bytes, else `Bad` at its break; `Memory` where a growth was refused.
+/// D-Bus Specification, "Valid Signatures".
+pub fn parse_signature<A: Allocator + Copy>(
+    alloc: A,
+    text: &[u8],
+) -> Result<Vec<SigType<A>, A>, SigFault>
+    ensures { IsParse text.now result }
+{
+    check_signature(text)?;
+    let mut types = Vec::new(alloc);
+    let mut rest = text;
+    while !rest.is_empty() {
+        let (ty, more) = parse_type(alloc, rest)?;
+        types.push(ty)?;
+        rest = more;
+    }
+    Ok(types)
+}
+
+/// The type that a signature of exactly one complete type spells.
+///
+/// Else `TooLong` over 255 bytes, else `Bad` at its break, which behind one complete type is its end;
+/// `Memory` where a growth was refused. D-Bus Specification, "Valid Signatures".
+pub fn parse_single<A: Allocator + Copy>(alloc: A, text: &[u8]) -> Result<SigType<A>, SigFault>
+    ensures { IsSingleParse text.now result }
+{
+    check_single(text)?;
+    let (ty, _) = parse_type(alloc, text)?;
+    Ok(ty)
+}
