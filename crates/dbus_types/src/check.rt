@@ -5,7 +5,7 @@ ghost use Rattle.std.specs.Prelude.{◌≡◌, ◌↔◌, ℕ, List, ◌∷◌, 
 ghost use Rattle.dbus_types.specs.declared.text_kind.TextKind.TheVariants.{Path, Interface, Member, ErrorName, BusName, Signature, Single};
 ghost use Rattle.dbus_types.specs.declared.check.SigFault.TheVariants.{Memory};
 ghost use Rattle.dbus_types.specs.Kinds.{IsBreak};
-ghost use Rattle.dbus_types.specs.Verdicts.{IsBreakOf, IsVerdict, IsPathVerdict, IsSigVerdict};
+ghost use Rattle.dbus_types.specs.Verdicts.{IsBreakOf, IsTextBreak, IsVerdict, IsPathVerdict, IsSigVerdict};
 
 use crate::scan::TextScan;
 use crate::text_kind::TextKind;
@@ -75,6 +75,17 @@ pub fn first_break(kind: TextKind, text: &[u8]) -> usize
     match break_of(kind, text) {
         None => text.len(),
         Some(at) => at,
+    }
+}
+
+/// Where a text breaks that is not of the kind: at the length of its longest front with which some text of
+/// the kind begins, limits on length lifted. `None` where the text is of the kind.
+pub fn text_break(kind: TextKind, text: &[u8]) -> Option<usize>
+    ensures { IsTextBreak kind text.now result }
+{
+    match break_of(kind, text) {
+        None if kind.is_limited() && text.len() > LONGEST => Some(text.len()),
+        found => found,
     }
 }
 

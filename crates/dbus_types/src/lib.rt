@@ -18,7 +18,7 @@ mod utf8;
 
 pub use check::{
     NameFault, SigFault, check_bus_name, check_error_name, check_interface, check_member,
-    check_path, check_signature, check_single, first_break, is_unique,
+    check_path, check_signature, check_single, first_break, is_unique, text_break,
 };
 pub use copy::copy_type;
 pub use laws::{

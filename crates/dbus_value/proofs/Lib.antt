@@ -8,3 +8,11 @@ pub mod ValueItemLaws
 pub mod ValueOutcomes
 pub mod Frames
 pub mod WorkedExamples
+pub mod ReadSteps
+pub mod ByteNumbers
+pub mod TextSteps
+pub mod NumberSteps
+pub mod StringSteps
+pub mod ArraySteps
+pub mod ValueRows
+pub mod ValueSteps

@@ -7,3 +7,5 @@ pub mod Laws
 pub mod Reading
 pub mod ValueViews
 pub mod Gets
+pub mod Gives
+pub mod ValueReaders
