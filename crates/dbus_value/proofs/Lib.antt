@@ -16,3 +16,13 @@ pub mod StringSteps
 pub mod ArraySteps
 pub mod ValueRows
 pub mod ValueSteps
+pub mod TypeRows
+pub mod Joining
+pub mod Sizing
+pub mod Signing
+pub mod Measuring
+pub mod NumberBytes
+pub mod Written
+pub mod Patching
+pub mod Spells
+pub mod SizeLaws

@@ -9,3 +9,7 @@ pub mod ValueViews
 pub mod Gets
 pub mod Gives
 pub mod ValueReaders
+pub mod Sizes
+pub mod ShortSignatures
+pub mod Appending
+pub mod SizeLimits

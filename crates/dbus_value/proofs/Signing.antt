@@ -1,0 +1,32 @@
+-- Short signatures, level by level and along a list.
+use Rattle.std.proofs.Common.{◌≡◌, ℕ, ◌+◌, ◌<◌, List, ◌∷◌, length, get_or, drop, Vec, Box, String, sym, subst}
+use Rattle.std.specs.Prelude.{string_bytes}
+use Rattle.std.proofs.lemmas.List.{drop_more}
+use Rattle.dbus_types.specs.Types.{sig}
+use Rattle.dbus_types.specs.declared.sig_type.SigType.{SigType}
+use Rattle.dbus_value.specs.Spelling.{type_of}
+use Rattle.dbus_value.specs.ShortSignatures.{HasShortSignatures, HaveShortSignatures}
+use Rattle.dbus_value.specs.ValueViews.{value_tree, value_trees_of}
+use Rattle.dbus_value.specs.declared.value.Value.{Value, Sig, Array, Struct, Entry, Variant}
+use Rattle.dbus_value.proofs.ValueRows.{tree-Sig, tree-Array, tree-Struct, tree-Entry, tree-Variant}
+
+pub short-Sig : {A : Type 0} (s : String A) → HasShortSignatures (value_tree {A = A} (Sig s)) → length (string_bytes s) < 256
+short-Sig s h = subst HasShortSignatures (tree-Sig s) h
+
+pub short-Array : {A : Type 0} (t : SigType A) (vs : Vec (Value A) A) → HasShortSignatures (value_tree {A = A} (Array t vs)) → HaveShortSignatures (value_trees_of vs.items)
+short-Array t vs h = subst HasShortSignatures (tree-Array t vs) h
+
+pub short-Struct : {A : Type 0} (vs : Vec (Value A) A) → HasShortSignatures (value_tree {A = A} (Struct vs)) → HaveShortSignatures (value_trees_of vs.items)
+short-Struct vs h = subst HasShortSignatures (tree-Struct vs) h
+
+pub short-Entry : {A : Type 0} (k v : Box (Value A) A) → HasShortSignatures (value_tree {A = A} (Entry k v)) → HasShortSignatures (value_tree k.value) × HasShortSignatures (value_tree v.value)
+short-Entry k v h = subst HasShortSignatures (tree-Entry k v) h
+
+pub short-Variant : {A : Type 0} (v : Box (Value A) A) → HasShortSignatures (value_tree {A = A} (Variant v)) → (length (sig (type_of (value_tree v.value))) < 256) × HasShortSignatures (value_tree v.value)
+short-Variant v h = subst HasShortSignatures (tree-Variant v) h
+
+pub short_more : {A : Type 0} (vs : List (Value A)) (i : ℕ) (v : Value A) → i < length vs → v ≡ get_or vs i v → HaveShortSignatures (value_trees_of (drop i vs)) →
+    HasShortSignatures (value_tree v) × HaveShortSignatures (value_trees_of (drop (i + 1) vs))
+short_more {A} vs i v lt e h =
+    let here : HaveShortSignatures (value_trees_of (get_or vs i v ∷ drop (i + 1) vs)) = subst (λ (l : List (Value A)). HaveShortSignatures (value_trees_of l)) (drop_more vs i v lt) h in
+    (subst (λ (x : Value A). HasShortSignatures (value_tree x)) (sym e) here.0, here.1)

@@ -1,0 +1,6 @@
+use Rattle.std.proofs.Common.{◌≡◌, map, take}
+use Rattle.dbus_value.specs.ValueViews.{value_tree}
+use Rattle.dbus_value.proofs.copying.+copy.Given as goal
+
+abbrev pub invariant-copy_all-loop-value : goal.invariant-copy_all-loop-value
+invariant-copy_all-loop-value g l = map value_tree l.copies.items ≡ map value_tree (take l.value-index l.values)
