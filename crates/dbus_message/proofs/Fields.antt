@@ -7,9 +7,10 @@ use Rattle.dbus_types.proofs.KindFacts.{shaped_of}
 use Rattle.dbus_value.specs.WantedTexts.{WantedText, IsWanted, IsName}
 use Rattle.dbus_types.specs.ComputedKinds.{type_spelled}
 use Rattle.dbus_value.specs.declared.order.Order.{Order}
-use Rattle.dbus_value.specs.Spelling.{num, gap_to, pad, ended_text, spelling, Spelled, ValueTree, NoValues, MoreValues, NumberValue, TextValue, VariantValue, StructValue, type_of}
+use Rattle.dbus_value.specs.Bytes.{num, gap_to, pad}
+use Rattle.dbus_value.specs.Spelling.{ended_text, spelling, Spelled}
+use Rattle.dbus_value.specs.Values.{ValueTree, NoValues, MoreValues, NumberValue, TextValue, VariantValue, StructValue, type_of}
 use Rattle.dbus_value.specs.Items.{Item}
-use Rattle.dbus_value.specs.declared.fault.Fault.{Fault}
 use Rattle.dbus_value.specs.declared.fault.Reason.{Reason}
 use Rattle.dbus_value.specs.Items as items
 use Rattle.dbus_value.specs.ValueItems.{text_row, value}

@@ -4,7 +4,9 @@ use Rattle.std.proofs.lemmas.List.{length-append, length-replicate}
 use Rattle.dbus_types.specs.Types.{sig}
 use Rattle.dbus_value.specs.declared.order.Order.{Order}
 use Rattle.dbus_value.specs.declared.order.Order.TheVariants.{Little, Big}
-use Rattle.dbus_value.specs.Spelling.{IsBytes, gap_to, spelling, spellings, contents_start, ended_text, ValueTree, ValueTrees, NoValues, MoreValues, NumberValue, TextValue, VariantValue, ArrayValue, StructValue, EntryValue, type_of}
+use Rattle.dbus_value.specs.Bytes.{IsBytes, gap_to}
+use Rattle.dbus_value.specs.Spelling.{spelling, spellings, contents_start, ended_text}
+use Rattle.dbus_value.specs.Values.{ValueTree, ValueTrees, NoValues, MoreValues, NumberValue, TextValue, VariantValue, ArrayValue, StructValue, EntryValue, type_of}
 use Rattle.dbus_value.specs.declared.fault.Fault.{Fault}
 use Rattle.dbus_message.specs.Messages.{MessageTree, message_bytes, field_array, fields_end, body_start, body_bytes}
 use Rattle.dbus_message.specs.MessageItems.{message_items}
@@ -18,13 +20,13 @@ use Rattle.dbus_message.proofs.Whole.{message_passed, message_length}
 
 -- ---- both orders take as many bytes
 
-same_ended : (w : ℕ) (t : List ℕ) → length (ended_text Little w t) ≡ length (ended_text Big w t)
+pub same_ended : (w : ℕ) (t : List ℕ) → length (ended_text Little w t) ≡ length (ended_text Big w t)
 same_ended w t = simp (length-append, length-num)
 
 mutual
   unfolding spelling
 
-  same_length : (v : ValueTree) (o : ℕ) → length (spelling Little o v) ≡ length (spelling Big o v)
+  pub same_length : (v : ValueTree) (o : ℕ) → length (spelling Little o v) ≡ length (spelling Big o v)
   same_length (NumberValue k n) o = simp (length-append, length-num)
   same_length (TextValue k t) o = simp (length-append, length-num)
   same_length (VariantValue x) o =
@@ -42,7 +44,7 @@ mutual
       let ih : length (spelling Little (o + gap_to 8 o + length (spelling Little (o + gap_to 8 o) k)) x) ≡ length (spelling Big (o + gap_to 8 o + length (spelling Big (o + gap_to 8 o) k)) x) = rw e (same_length x (o + gap_to 8 o + length (spelling Big (o + gap_to 8 o) k))) in
       simp (length-append, length-replicate) (omega (arith, e, ih))
 
-  same_lengths : (vs : ValueTrees) (o : ℕ) → length (spellings Little o vs) ≡ length (spellings Big o vs)
+  pub same_lengths : (vs : ValueTrees) (o : ℕ) → length (spellings Little o vs) ≡ length (spellings Big o vs)
   same_lengths NoValues o = refl
   same_lengths (MoreValues v vs) o =
       let e = same_length v o in

@@ -6,7 +6,9 @@ use Rattle.dbus_value.specs.WantedTexts.{WantedText, IsWanted}
 use Rattle.dbus_types.specs.ComputedKinds.{types_spelled}
 use Rattle.dbus_value.specs.declared.order.Order.{Order}
 use Rattle.dbus_value.specs.declared.order.Order.TheVariants.{Little, Big}
-use Rattle.dbus_value.specs.Spelling.{gap_to, array_limit, IsWellFormed, ValueTree, NumberValue, TextValue, VariantValue, ArrayValue, StructValue, EntryValue, type_of}
+use Rattle.dbus_value.specs.Bytes.{gap_to}
+use Rattle.dbus_value.specs.Spelling.{array_limit}
+use Rattle.dbus_value.specs.Values.{IsWellFormed, ValueTree, NumberValue, TextValue, VariantValue, ArrayValue, StructValue, EntryValue, type_of}
 use Rattle.dbus_value.specs.Items.{Item, Sequence, fault, judge}
 use Rattle.dbus_value.specs.declared.fault.Fault.{Fault}
 use Rattle.dbus_value.specs.declared.fault.Reason.{Reason}

@@ -4,7 +4,9 @@ use Rattle.std.proofs.lemmas.List.{length-append, length-replicate}
 use Rattle.dbus_types.specs.Types.{TypeTrees, sigs, AreShaped}
 use Rattle.dbus_types.specs.ComputedKinds.{types_spelled}
 use Rattle.dbus_value.specs.declared.order.Order.{Order}
-use Rattle.dbus_value.specs.Spelling.{num, gap_to, pad, spelling, spellings, SpelledAll, array_limit, AllOf, IsWithinLimits, AreWithinLimits, value_trees, ValueTrees, types_of}
+use Rattle.dbus_value.specs.Bytes.{num, gap_to, pad}
+use Rattle.dbus_value.specs.Spelling.{spelling, spellings, SpelledAll, array_limit, IsWithinLimits, AreWithinLimits}
+use Rattle.dbus_value.specs.Values.{AllOf, value_trees, ValueTrees, types_of}
 use Rattle.dbus_value.specs.Items.{Sequence}
 use Rattle.dbus_value.specs.ValueItems.{value}
 use Rattle.dbus_message.specs.Messages.{FieldTree, MessageTree, AreFields, field_type, field_struct, field_array, fields_end, body_start, body_bytes, message_bytes, order_byte, lacks, required, body_signature, message_limit, IsMessage}

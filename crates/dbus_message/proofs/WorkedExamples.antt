@@ -8,7 +8,8 @@ use Rattle.dbus_value.specs.declared.order.Order.{Order}
 use Rattle.dbus_value.specs.declared.order.Order.TheVariants.{Little, Big}
 use Rattle.dbus_value.specs.declared.fault.Fault.{Fault}
 use Rattle.dbus_value.specs.declared.fault.Reason.TheVariants as reasons
-use Rattle.dbus_value.specs.Spelling.{gap_to, array_limit}
+use Rattle.dbus_value.specs.Bytes.{gap_to}
+use Rattle.dbus_value.specs.Spelling.{array_limit}
 use Rattle.dbus_value.specs.Items.{fault}
 use Rattle.dbus_value.specs.Reading.{Outcome, Done, Faulty, Partial, padding, number, number_of, text, ends, value}
 use Rattle.dbus_message.specs.Messages.{MessageTree, message_limit}

@@ -2,3 +2,14 @@ pub mod Messages
 pub mod MessageItems
 pub mod MessageReading
 pub mod MessageLaws
+pub mod PartsViews
+pub mod ValidMessages
+pub mod MessageViews
+pub mod MessageOutcomes
+pub mod Decodes
+pub mod OutcomeLaws
+pub mod Lookups
+pub mod FixedBytes
+pub mod HeaderReading
+pub mod SingleTypes
+pub mod MissingFields

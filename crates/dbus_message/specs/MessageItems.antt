@@ -4,7 +4,9 @@ use Rattle.std.specs.Prelude.{◌≡◌, ℕ, suc, ◌+◌, List, ◌∷◌, fal
 use Rattle.dbus_types.specs.Types.{UINT32, STRING, TypeTree, NumberType, TextType, TypeTrees, sig, sigs, AreShaped}
 use Rattle.dbus_value.specs.WantedTexts.{WantedText, Of, Only}
 use Rattle.dbus_value.specs.declared.order.Order.{Order}
-use Rattle.dbus_value.specs.Spelling.{gap_to, ValueTree, ValueTrees, NumberValue, TextValue, Spelled, array_limit}
+use Rattle.dbus_value.specs.Bytes.{gap_to}
+use Rattle.dbus_value.specs.Values.{ValueTree, ValueTrees, NumberValue, TextValue}
+use Rattle.dbus_value.specs.Spelling.{Spelled, array_limit}
 use Rattle.dbus_value.specs.Items.{Item, ◌>>=◌, ◌>>◌, pure, judge, bounded, ends, padding, number, text, nul, signature, contents, fault}
 use Rattle.dbus_value.specs.declared.fault.Reason.{Reason}
 use Rattle.dbus_value.specs.ValueItems.{text_row, value, fields}

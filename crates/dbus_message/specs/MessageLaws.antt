@@ -4,7 +4,7 @@
 use Rattle.std.specs.Prelude.{◌≡◌, ℕ, ◌↔◌, ◌⊎◌, List, ◌++◌, length}
 use Rattle.dbus_value.specs.declared.order.Order.{Order}
 use Rattle.dbus_value.specs.declared.order.Order.TheVariants.{Little, Big}
-use Rattle.dbus_value.specs.Spelling.{IsBytes}
+use Rattle.dbus_value.specs.Bytes.{IsBytes}
 use Rattle.dbus_value.specs.declared.fault.Fault.{Fault}
 use Rattle.dbus_message.specs.Messages.{MessageTree, message_bytes, IsMessage}
 use Rattle.dbus_message.specs.MessageItems.{message_items}

@@ -6,7 +6,7 @@ use Rattle.dbus_types.specs.Types.{UINT32, STRING, TypeTree, TypeTrees}
 use Rattle.dbus_types.specs.ComputedKinds.{types_spelled}
 use Rattle.dbus_value.specs.declared.order.Order.{Order}
 use Rattle.dbus_value.specs.declared.order.Order.TheVariants.{Little, Big}
-use Rattle.dbus_value.specs.Spelling.{ValueTree, ValueTrees, NumberValue, TextValue}
+use Rattle.dbus_value.specs.Values.{ValueTree, ValueTrees, NumberValue, TextValue}
 use Rattle.dbus_value.specs.Items.{fault}
 use Rattle.dbus_value.specs.ValueItems.{text_row}
 use Rattle.dbus_value.specs.Reading.{Reader, Outcome, Done, Faulty, Partial, ◌>>=◌, ◌>>◌, pure, judge, bounded, ends, padding, number, text, nul, signature, contents, value, fields}

@@ -1,2 +1,31 @@
-//! Messages of the D-Bus wire format.
+//! Messages of the D-Bus wire format: their parts, decoding and encoding.
 #![tactic(auto)]
+
+mod answer;
+mod build_fault;
+mod decoding;
+mod encoding;
+mod field_value;
+mod fixed_header;
+#[cfg(test)]
+mod growth_tests;
+mod header_field;
+mod known_fields;
+pub mod laws;
+mod lookups;
+mod message;
+mod parts;
+mod read_body;
+mod read_fields;
+mod refuse;
+#[cfg(test)]
+mod tests;
+
+pub use answer::Answer;
+pub use build_fault::BuildFault;
+pub use decoding::decode;
+pub use encoding::encode;
+pub use header_field::HeaderField;
+pub use lookups::{arg, field};
+pub use message::Message;
+pub use parts::Parts;

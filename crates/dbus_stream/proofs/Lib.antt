@@ -1,1 +1,8 @@
+pub mod Lists
 pub mod WriteSteps
+pub mod NextSteps
+pub mod CutLaws
+pub mod WholeLaws
+pub mod StatedLaws
+pub mod Inside
+pub mod KeptLaws

@@ -1,3 +1,13 @@
+pub mod Lasting
 pub mod Device
 pub mod From
 pub mod Write
+pub mod Cut
+pub mod Stated
+pub mod Reader
+pub mod Next
+pub mod Steps
+pub mod StreamLaws
+pub mod CutterState
+pub mod Cutting
+pub mod Decoded

@@ -2,6 +2,8 @@
 use Rattle.std.specs.Prelude.{◌≡◌, ◌≤◌, ℕ, List, length, take, Option, Result, Ok, Err}
 use Rattle.std.specs.Io.KnownBytes.{Appends}
 use Rattle.dbus_stream.specs.Device.{one_more}
+use Rattle.dbus_stream.specs.declared.write_fault.WriteFault.{WriteFault}
+use Rattle.dbus_stream.specs.declared.write_fault.WriteFault.TheVariants.{Memory, Device}
 use Rattle.dbus_stream.specs.declared.writing.WrittenOnly.{WrittenOnly}
 
 -- all the bytes were written, and no call failed
@@ -18,3 +20,9 @@ pub record Stopped {W : Type 0} (held : W → Option (List ℕ)) (failures : W �
 abbrev pub WritesAll : {W : Type 0} → (W → Option (List ℕ)) → (W → ℕ) → W → List ℕ → W → Result (Unit {0}) WrittenOnly → Type 0
 WritesAll held failures old bytes new (Ok x) = Wrote held failures old bytes new
 WritesAll held failures old bytes new (Err n) = Stopped held failures old bytes n.0 new
+
+-- nothing is written for want of memory
+abbrev pub WritesMessage : {W : Type 0} → (W → Option (List ℕ)) → (W → ℕ) → W → List ℕ → W → Result (Unit {0}) WriteFault → Type 0
+WritesMessage held failures old bytes new (Ok x) = Wrote held failures old bytes new
+WritesMessage held failures old bytes new (Err Memory) = new ≡ old
+WritesMessage held failures old bytes new (Err (Device n)) = Stopped held failures old bytes n new

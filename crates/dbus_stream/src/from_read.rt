@@ -1,4 +1,4 @@
-// A reader of std's as a source.
+//! A reader of std's as a source.
 ghost use Rattle.std.specs.Prelude.{◌≡◌, None};
 
 use crate::device_fault::DeviceFault;

@@ -1,4 +1,4 @@
-// A writer of std's as a sink.
+//! A writer of std's as a sink.
 ghost use Rattle.std.specs.Prelude.{◌≡◌, None};
 
 use crate::device_fault::DeviceFault;

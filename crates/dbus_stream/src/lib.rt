@@ -1,16 +1,29 @@
 //! Devices that bytes come from and go to, and streams of D-Bus messages over them.
 #![tactic(auto)]
 
+mod cutter;
+mod decoded;
 mod device_fault;
 mod from_read;
 mod from_write;
+pub mod laws;
+mod looking;
+mod message_reader;
+mod read_fault;
 mod sink;
 mod source;
+mod stream_fault;
+mod write_fault;
 mod writing;
 
+pub use cutter::Cutter;
 pub use device_fault::DeviceFault;
 pub use from_read::FromRead;
 pub use from_write::FromWrite;
+pub use message_reader::MessageReader;
+pub use read_fault::ReadFault;
 pub use sink::Sink;
 pub use source::Source;
-pub use writing::{WrittenOnly, write_all};
+pub use stream_fault::StreamFault;
+pub use write_fault::WriteFault;
+pub use writing::{WrittenOnly, write_all, write_message};

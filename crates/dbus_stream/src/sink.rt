@@ -1,4 +1,4 @@
-// What bytes go to.
+//! What bytes go to.
 ghost use Rattle.std.specs.Prelude.{◌≡◌, ◌≤◌, ℕ, List, length, IfOk, Option, Some};
 ghost use Rattle.std.specs.Io.KnownBytes.{WriteAppends};
 ghost use Rattle.std.specs.Borrow.{GName};

@@ -1,8 +1,14 @@
-// All of some bytes to a sink.
+//! Bytes and messages to a sink.
 ghost use Rattle.std.specs.Prelude.{◌≡◌};
-ghost use Rattle.dbus_stream.specs.Write.{WritesAll};
+ghost use Rattle.dbus_message.specs.Messages.{message_bytes};
+ghost use Rattle.dbus_message.specs.MessageViews.{message_tree};
+ghost use Rattle.dbus_stream.specs.Write.{WritesAll, WritesMessage};
 
 use crate::sink::Sink;
+use crate::write_fault::WriteFault;
+use dbus_message::{Message, encode};
+use dbus_value::Order;
+use std::alloc::Allocator;
 
 /// Only this many of the first bytes were written.
 #[derive(Clone, Copy, Debug, PartialEq, Eq)]
@@ -28,4 +34,26 @@ pub fn write_all<W: Sink>(sink: &mut W, bytes: &[u8]) -> Result<(), WrittenOnly>
         }
     }
     Ok(())
+}
+
+/// Writes the bytes that spell the message in this order.
+///
+/// `Memory`: a growth was refused, and nothing was written. `Device`: a call failed or took none, and the bytes before
+/// it went out. Then the sink is not called again.
+pub fn write_message<A: Allocator + Copy, W: Sink>(
+    alloc: A,
+    sink: &mut W,
+    order: Order,
+    message: &Message<A>,
+) -> Result<(), WriteFault>
+    ensures writes { WritesMessage W.held W.failures sink.old (message_bytes order (message_tree message.now)) sink.new result }
+    ensures same_reference { W.reference sink.new ≡ W.reference sink.old }
+{
+    let Ok(bytes) = encode(alloc, message, order) else {
+        return Err(WriteFault::Memory);
+    };
+    match write_all(sink, bytes.as_slice()) {
+        Ok(()) => Ok(()),
+        Err(WrittenOnly(written)) => Err(WriteFault::Device { written }),
+    }
 }

@@ -1,12 +1,9 @@
 -- The longest front of a text with which some text of a set begins.
-use Rattle.std.proofs.Common.{◌≡◌, ℕ, ◌+◌, ◌<◌, ◌≤◌, List, [], ◌∷◌, ◌++◌, length, get_or, take, drop, refl, sym, ap, ◌∙◌, subst, arith, append_assoc, append-nil, take-append-drop}
+use Rattle.std.proofs.Common.{◌≡◌, ℕ, ◌+◌, ◌<◌, ◌≤◌, Option, Some, None, List, [], ◌∷◌, ◌++◌, length, get_or, take, drop, refl, sym, ap, ◌∙◌, subst, arith, append_assoc, append-nil, take-append-drop}
 use Rattle.std.proofs.lemmas.List.{take_more, take_all, take-take}
-use Rattle.dbus_types.specs.declared.text_kind.TextKind.{TextKind}
-use Rattle.dbus_types.specs.declared.scan.TextScan.{TextScan}
-use Rattle.dbus_types.proofs.Quotients.{quotient_prefix}
-use Rattle.dbus_types.specs.Prefixes.{IsPrefixIn, IsBreakIn, IsQuotient}
-use Rattle.dbus_types.specs.Kinds.{IsOfKind, IsPrefixOf, IsBreak}
-use Rattle.dbus_types.specs.Scans.{Stands, kind_of, state_rest}
+use Rattle.dbus_types.proofs.Quotients.{quotient_prefix, quotient_dead, quotient_push, quotient_ended, quotient_ends}
+use Rattle.dbus_types.proofs.Runs.{break_along}
+use Rattle.dbus_types.specs.Prefixes.{IsPrefixIn, IsBreakIn, IsBreakFrom, IsQuotient, Moves}
 
 pub prefix_closed : (L : List ℕ → Type 0) (w v : List ℕ) → IsPrefixIn L (w ++ v) → IsPrefixIn L w
 prefix_closed L w v h = (v ++ h.0, subst L (append_assoc w v h.0) h.1)
@@ -32,20 +29,28 @@ pub break_at_end : (L : List ℕ → Type 0) (w : List ℕ) → IsPrefixIn L w �
 break_at_end L w p n =
     (n, record { within = omega arith; front = subst (λ v. IsPrefixIn L v) (sym (take_all (length w) w (omega arith))) p; longest = λ m h k q. absurd (omega arith) })
 
--- a scan that stands at a front refuses the next byte, or takes it
-pub scan_refuses : (x : TextScan) (k : TextKind) (w : List ℕ) (i : ℕ) → kind_of x ≡ k → Stands x (take i w) → i < length w → (IsPrefixOf (kind_of x) (take i w ++ get_or w i 0 ∷ []) → ⊥) → (IsOfKind k w → ⊥) × IsBreak k w i
-scan_refuses x k w i e s l n =
-    subst (λ m. (IsOfKind m w → ⊥) × IsBreak m w i) e (break_within (IsOfKind x.kind) w i (get_or w i 0) l refl (quotient_prefix (IsOfKind x.kind) (take i w) (state_rest x.state) s.quotient) n)
+-- a scan that stands at a front, where R may follow, refuses the next byte
+pub front_refuses : (L : List ℕ → Type 0) (w : List ℕ) (R : List ℕ → Type 0) (i : ℕ) → IsQuotient L (take i w) R → i < length w → ((c : List ℕ) → R (get_or w i 0 ∷ c) → ⊥) → (L w → ⊥) × IsBreakIn L w i
+front_refuses L w R i q l n = break_within L w i (get_or w i 0) l refl (quotient_prefix L (take i w) R q) (quotient_dead L (take i w) R (get_or w i 0) q n)
 
-pub scan_takes : (x : TextScan) (w : List ℕ) (i : ℕ) → i < length w → Stands x (take i w ++ get_or w i 0 ∷ []) → Stands x (take (i + 1) w)
-scan_takes x w i l s = subst (λ v. Stands x v) (sym (take_more w i 0 l)) s
+-- or takes it
+pub front_takes : (L : List ℕ → Type 0) (w : List ℕ) (R R' : List ℕ → Type 0) (i : ℕ) → IsQuotient L (take i w) R → i < length w → Moves R (get_or w i 0) R' → IsQuotient L (take (i + 1) w) R'
+front_takes L w R R' i q l m = subst (λ v. IsQuotient L v R') (sym (take_more w i 0 l)) (quotient_push L (take i w) R (get_or w i 0) R' q m)
 
 -- a scan that stands at the whole text, which may not end there
-pub scan_stops : (x : TextScan) (k : TextKind) (w : List ℕ) (i : ℕ) → kind_of x ≡ k → Stands x (take i w) → length w ≤ i → (IsOfKind (kind_of x) (take i w) → ⊥) → (IsOfKind k w → ⊥) × IsBreak k w (length w)
-scan_stops x k w i e s l n =
-    let whole : take i w ≡ w = take_all i w l in
-    let q = subst (λ v. IsQuotient (IsOfKind x.kind) v (state_rest x.state)) whole s.quotient in
-    subst (λ m. (IsOfKind m w → ⊥) × IsBreak m w (length w)) e (break_at_end (IsOfKind x.kind) w (quotient_prefix (IsOfKind x.kind) w (state_rest x.state) q) (subst (λ v. IsOfKind x.kind v → ⊥) whole n))
+pub front_stops : (L : List ℕ → Type 0) (w : List ℕ) (R : List ℕ → Type 0) (i : ℕ) → IsQuotient L (take i w) R → length w ≤ i → (R [] → ⊥) → (L w → ⊥) × IsBreakIn L w (length w)
+front_stops L w R i q l n =
+    let p = subst (λ v. IsQuotient L v R) (take_all i w l) q in
+    break_at_end L w (quotient_prefix L w R p) (λ h. n (quotient_ended L w R p h))
+
+-- or may
+pub front_ends : (L : List ℕ → Type 0) (w : List ℕ) (R : List ℕ → Type 0) (i : ℕ) → IsQuotient L (take i w) R → length w ≤ i → R [] → L w
+front_ends L w R i q l h = quotient_ends L w R (subst (λ v. IsQuotient L v R) (take_all i w l) q) h
+
+-- what begins a text of the set breaks as the text does
+pub break_from : (L R : List ℕ → Type 0) (w : List ℕ) (o : Option ℕ) → IsQuotient L [] R → IsBreakFrom R w o → IsBreakFrom L w o
+break_from L R w None q h = q.from w h
+break_from L R w (Some at) q h = (λ l. h.0 (q.to w l), break_along R L w at q.from q.to h.1)
 
 -- a text of the kind breaks at its end
 pub break_of_whole : (L : List ℕ → Type 0) (w : List ℕ) → L w → IsBreakIn L w (length w)

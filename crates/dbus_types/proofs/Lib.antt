@@ -1,5 +1,6 @@
 mod Codes
 mod Quotients
+mod PlainBlocks
 mod NameSteps
 mod Utf8Steps
 mod SignatureSteps

@@ -263,3 +263,13 @@ pub interface_some : (c : List ℕ) × IsInterface c
 interface_some =
     let w = elements_some Name Needed in
     (w.0, elements_interface w.0 w.1)
+
+name_some_at : (p : Place) (l : Letters) (t : Tail) → (c : List ℕ) × name_rest_at p l t c
+name_some_at PathStart l t = path_some
+name_some_at Root l t = ([], inl refl)
+name_some_at BusStart l t = bus_some
+name_some_at First l t = elements_some l t
+name_some_at More l t = goes_on_some l t
+
+pub name_some : (s : NameScan) → (c : List ℕ) × name_rest s c
+name_some s = name_some_at s.place s.letters s.tail

@@ -26,10 +26,10 @@ use Rattle.dbus_types.specs.Kinds.{IsOfKind}
 use Rattle.dbus_types.specs.Scans.{state_rest, Steps}
 
 -- a step that the automaton has, and one that it has not
-step_some : {S : Type 0} (Rest : S → List ℕ → Type 0) (R : List ℕ → Type 0) (b : ℕ) (o : Option S) (t : S) → IsStepFrom Rest R b o → Some t ≡ o → Moves R b (Rest t)
+pub step_some : {S : Type 0} (Rest : S → List ℕ → Type 0) (R : List ℕ → Type 0) (b : ℕ) (o : Option S) (t : S) → IsStepFrom Rest R b o → Some t ≡ o → Moves R b (Rest t)
 step_some Rest R b o t h e = subst (λ x. IsStepFrom Rest R b x) (sym e) h
 
-step_none : {S : Type 0} (Rest : S → List ℕ → Type 0) (R : List ℕ → Type 0) (b : ℕ) (o : Option S) → IsStepFrom Rest R b o → None ≡ o → (c : List ℕ) → R (b ∷ c) → ⊥
+pub step_none : {S : Type 0} (Rest : S → List ℕ → Type 0) (R : List ℕ → Type 0) (b : ℕ) (o : Option S) → IsStepFrom Rest R b o → None ≡ o → (c : List ℕ) → R (b ∷ c) → ⊥
 step_none Rest R b o h e = subst (λ x. IsStepFrom Rest R b x) (sym e) h
 
 pub text_goes : (x : ScanState) (p q : Utf8Place) (b : ℕ) → x ≡ InText p → Some q ≡ text_next p b → Steps x b true (InText q)
@@ -91,3 +91,10 @@ signature_starts s e = subst (λ v. IsQuotient IsSignature [] (sig_rest v)) (sym
 
 pub single_starts : (s : SigScan) → sig_view s ≡ sig_start true → IsQuotient IsSingle [] (state_rest (InSignature s))
 single_starts s e = subst (λ v. IsQuotient IsSingle [] (sig_rest v)) (sym e) (quotient_from IsSingle (sig_rest (sig_start true)) (λ c h. (single_start c).0 h) (λ c h. (single_start c).1 h) single_some)
+
+-- a signature's scan takes a byte, or refuses it
+pub signature_takes : (s t : SigScan) (b : ℕ) (moved : Bool) → Follows s moved t (sig_next (sig_view s) b) → moved ≡ true → Moves (sig_rest (sig_view s)) b (sig_rest (sig_view t))
+signature_takes s t b moved f e = subst (λ m. Steps (InSignature s) b m (InSignature t)) e (signature_at s t b moved (sig_next (sig_view s) b) (sig_moves (sig_view s) b) f)
+
+pub signature_refuses : (s t : SigScan) (b : ℕ) (moved : Bool) → Follows s moved t (sig_next (sig_view s) b) → moved ≡ false → (c : List ℕ) → sig_rest (sig_view s) (b ∷ c) → ⊥
+signature_refuses s t b moved f e = (subst (λ m. Steps (InSignature s) b m (InSignature t)) e (signature_at s t b moved (sig_next (sig_view s) b) (sig_moves (sig_view s) b) f)).0

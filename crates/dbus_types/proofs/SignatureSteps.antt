@@ -10,7 +10,7 @@ use Rattle.dbus_types.specs.declared.signature.SigPlace.TheVariants.{After, One,
 use Rattle.dbus_types.specs.Prefixes.{IsStepFrom, IsStep, Moves}
 use Rattle.dbus_types.proofs.Codes.{number_is_basic, text_is_basic, number_is_code, text_is_code, basic_type, code_type}
 use Rattle.dbus_types.specs.Types.{TypeTree, NumberType, TextType, VariantType, BYTE, number_code, text_code, TypeTrees, ArrayType, StructType, EntryType, NoTypes, MoreTypes, sig, sigs, IsComplete, AreComplete}
-use Rattle.dbus_types.specs.SignatureScans.{is_basic_code, is_type_code, OneThen, MoreThen, CloseThen, KeyThen, behind_at, behind, behind_all, AtTop, SigState, after, sig_rest, sig_state, frame, begin, innermost, others, in_frame_at, past, sig_next_at, sig_next, no_frames, sig_end_at}
+use Rattle.dbus_types.specs.SignatureScans.{is_basic_code, is_type_code, OneThen, MoreThen, CloseThen, KeyThen, behind_at, behind, behind_all, AtTop, SigState, after, sig_rest_at, sig_rest, sig_state, frame, begin, innermost, others, in_frame_at, past, sig_next_at, sig_next, no_frames, sig_end_at}
 use Rattle.dbus_types.specs.Signatures.{IsSignature, IsSingle}
 
 -- how a struct's text joins with what follows
@@ -417,3 +417,12 @@ signature_some = ([], (NoTypes, tt, refl))
 
 pub single_some : (c : List ℕ) × IsSingle c
 single_some = (121 ∷ [], (NumberType BYTE, tt, refl))
+
+sig_some_at : (p : SigPlace) (a s : ℕ) (single : Bool) (fs : List Frame) → (c : List ℕ) × sig_rest_at p a s (after single fs) c
+sig_some_at After a s single fs = after_some single fs
+sig_some_at One a s single fs = one_some false a s (after single fs) (after_some single fs)
+sig_some_at Element a s single fs = one_some true a s (after single fs) (after_some single fs)
+sig_some_at Key a s single fs = key_some a s (after single fs) (after_some single fs)
+
+pub sig_some : (s : SigState) → (c : List ℕ) × sig_rest s c
+sig_some s = sig_some_at s.place s.arrays s.structs s.single s.frames

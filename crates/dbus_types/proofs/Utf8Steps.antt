@@ -47,7 +47,7 @@ in_range low high b e =
     let p = and_parts (leb low b) (leb b high) e in
     (leb-true low b p.0, leb-true b high p.1)
 
-in_range_is : (low high b : ℕ) → low ≤ b → b ≤ high → is_in_range low high b ≡ true
+pub in_range_is : (low high b : ℕ) → low ≤ b → b ≤ high → is_in_range low high b ≡ true
 in_range_is low high b l h = and_from (leb low b) (leb b high) (le-leb low b l) (le-leb b high h)
 
 out_above : (low high b : ℕ) → high < b → is_in_range low high b ≡ false
@@ -282,7 +282,7 @@ back AfterF4 b c h t = back_three 128 143 b c (omega arith) (omega arith) (λ i 
 nil_text : IsText []
 nil_text = ([], tt, refl)
 
-rest_some : (p : Utf8Place) → (c : List ℕ) × text_rest p c
+pub rest_some : (p : Utf8Place) → (c : List ℕ) × text_rest p c
 rest_some Free = ([], nil_text)
 rest_some Last = (128 ∷ [], ((omega arith, omega arith), nil_text))
 rest_some LastTwo = (128 ∷ 128 ∷ [], ((omega arith, omega arith), ((omega arith, omega arith), nil_text)))

@@ -7,11 +7,11 @@ use Rattle.dbus_types.specs.declared.check.NameFault.TheVariants as names
 use Rattle.dbus_types.specs.declared.check.SigFault.{SigFault}
 use Rattle.dbus_types.specs.declared.check.SigFault.TheVariants as signatures
 use Rattle.dbus_types.specs.Kinds.{IsOfKind, IsKind, IsBreak}
+use Rattle.dbus_types.specs.Prefixes.{IsBreakFrom}
 
 -- the text is of the kind, its length aside; or it is not, and breaks there
 abbrev pub IsBreakOf : TextKind → List ℕ → Option ℕ → Type 0
-IsBreakOf kind w None = IsOfKind kind w
-IsBreakOf kind w (Some at) = (IsOfKind kind w → ⊥) × IsBreak kind w at
+IsBreakOf kind w at = IsBreakFrom (IsOfKind kind) w at
 
 -- the text is of the kind; or it is not, and breaks there
 abbrev pub IsTextBreak : TextKind → List ℕ → Option ℕ → Type 0

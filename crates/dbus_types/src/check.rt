@@ -7,7 +7,7 @@ ghost use Rattle.dbus_types.specs.declared.check.SigFault.TheVariants.{Memory};
 ghost use Rattle.dbus_types.specs.Kinds.{IsBreak};
 ghost use Rattle.dbus_types.specs.Verdicts.{IsBreakOf, IsTextBreak, IsVerdict, IsPathVerdict, IsSigVerdict};
 
-use crate::scan::TextScan;
+use crate::scan::ScanState;
 use crate::text_kind::TextKind;
 use std::alloc::{AllocError, AllocFailed};
 
@@ -54,17 +54,7 @@ const LONGEST: usize = 255;
 fn break_of(kind: TextKind, text: &[u8]) -> Option<usize>
     ensures { IsBreakOf kind text.now result }
 {
-    let mut scan = TextScan::new(kind);
-    for (i, byte) in text.iter().enumerate() {
-        if !scan.step(*byte) {
-            return Some(i);
-        }
-    }
-    if scan.may_end() {
-        None
-    } else {
-        Some(text.len())
-    }
+    ScanState::of_kind(kind).break_of(text)
 }
 
 /// The length of the text's longest front with which some text of the kind begins, limits on length

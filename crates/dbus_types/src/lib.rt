@@ -1,6 +1,7 @@
 //! Types, signatures and names of the D-Bus wire format.
 #![tactic(auto)]
 
+mod ascii;
 mod check;
 mod copy;
 mod laws;

@@ -3,7 +3,7 @@
 
 ghost use Rattle.std.specs.Prelude.{◌≡◌};
 ghost use Rattle.dbus_types.specs.Names.{is_word, is_dashed_start};
-ghost use Rattle.dbus_types.specs.NameScans.{begins, goes_on, separator, name_next, name_end};
+ghost use Rattle.dbus_types.specs.NameScans.{begins, goes_on, separator, name_next, name_end, name_rest};
 
 /// Which bytes an element may have.
 #[derive(Clone, Copy, PartialEq, Eq, Debug)]
@@ -101,6 +101,8 @@ impl Letters {
 }
 
 impl NameScan {
+    ghost use Rattle.dbus_types.specs.Prefixes.{IsBreakFrom};
+
     /// What is wanted after one byte more, if it may stand here.
     pub fn next(self, byte: u8) -> Option<NameScan>
         ensures { result ≡ name_next self byte }
@@ -162,5 +164,19 @@ impl NameScan {
             Place::More => self.tail != Tail::Needed,
             _ => false,
         }
+    }
+
+    /// Where a name breaks that goes on from here, or `None` where it may go on so and end.
+    pub fn break_of(self, text: &[u8]) -> Option<usize>
+        ensures { IsBreakFrom (name_rest self) text.now result }
+    {
+        let mut scan = self;
+        for (i, byte) in text.iter().enumerate() {
+            match scan.next(*byte) {
+                Some(next) => scan = next,
+                None => return Some(i),
+            }
+        }
+        if scan.end() { None } else { Some(text.len()) }
     }
 }

@@ -19,11 +19,11 @@ pub enum ScanState {
 
 impl ScanState {
     ghost use Rattle.dbus_types.specs.Kinds.{IsOfKind};
-    ghost use Rattle.dbus_types.specs.Prefixes.{IsQuotient};
+    ghost use Rattle.dbus_types.specs.Prefixes.{IsQuotient, IsBreakFrom};
     ghost use Rattle.dbus_types.specs.Scans.{Steps, state_rest};
 
     /// The state before any byte of a text of the kind.
-    fn of_kind(kind: TextKind) -> Self
+    pub fn of_kind(kind: TextKind) -> Self
         ensures { IsQuotient (IsOfKind kind) [] (state_rest result) }
     {
         match kind {
@@ -76,6 +76,17 @@ impl ScanState {
             ScanState::InText(place) => place.end(),
             ScanState::InName(name) => name.end(),
             ScanState::InSignature(signature) => signature.end(),
+        }
+    }
+
+    /// Where a text breaks that goes on from here, or `None` where it may go on so and end.
+    pub fn break_of(self, text: &[u8]) -> Option<usize>
+        ensures { IsBreakFrom (state_rest self) text.now result }
+    {
+        match self {
+            ScanState::InText(place) => place.break_of(text),
+            ScanState::InName(name) => name.break_of(text),
+            ScanState::InSignature(signature) => signature.break_of(text),
         }
     }
 }
@@ -148,7 +159,7 @@ impl TextScan {
     }
 
     /// Whether the text so far is one of the kind, its limit of 255 bytes aside.
-    pub(crate) fn may_end(&self) -> bool
+    fn may_end(&self) -> bool
         ensures { (w : List ℕ) → Stands self.now w → (IsTrue result ↔ IsOfKind (kind_of self.now) w) }
     {
         self.state.end()

@@ -64,7 +64,8 @@ pub struct SigScan {
 }
 
 impl SigScan {
-    ghost use Rattle.dbus_types.specs.SignatureScans.{begin, sig_next, sig_end};
+    ghost use Rattle.dbus_types.specs.SignatureScans.{begin, sig_next, sig_end, sig_rest};
+    ghost use Rattle.dbus_types.specs.Prefixes.{IsBreakFrom};
     ghost use Rattle.dbus_types.specs.SigViews.{sig_view, sig_start, Follows};
 
     /// A scan that has read nothing.
@@ -184,5 +185,18 @@ impl SigScan {
         ensures { result ≡ sig_end (sig_view self.now) }
     {
         self.place == SigPlace::After && self.frames.is_empty()
+    }
+
+    /// Where a signature breaks that goes on from here, or `None` where it may go on so and end.
+    pub fn break_of(self, text: &[u8]) -> Option<usize>
+        ensures { IsBreakFrom (sig_rest (sig_view self)) text.now result }
+    {
+        let mut scan = self;
+        for (i, byte) in text.iter().enumerate() {
+            if !scan.step(*byte) {
+                return Some(i);
+            }
+        }
+        if scan.end() { None } else { Some(text.len()) }
     }
 }

@@ -28,6 +28,17 @@ fn texts_break_within_a_character(rt: HostRuntime) {
 }
 
 #[test]
+fn long_texts_break_behind_their_ascii(rt: HostRuntime) {
+    let mut text = [b'a'; 130];
+    assert_eq!(rt; first_break(TextKind::Text, &text), 130);
+    text[100] = 0;
+    assert_eq!(rt; first_break(TextKind::Text, &text), 100);
+    text[70] = 0xff;
+    assert_eq!(rt; first_break(TextKind::Text, &text), 70);
+    assert_eq!(rt; first_break(TextKind::Text, b"gr\xc3\xb6\xc3\x9fer"), 8);
+}
+
+#[test]
 fn a_scan_counts_to_its_limit(rt: HostRuntime) {
     assert!(rt; scan_takes(TextKind::Member, &[b'a'; 255]));
     assert!(rt; !scan_takes(TextKind::Member, &[b'a'; 256]));

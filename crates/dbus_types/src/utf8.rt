@@ -1,8 +1,12 @@
 //! The scan of UTF-8 without U+0000.
 #![tactic(auto)]
 
-ghost use Rattle.std.specs.Prelude.{◌≡◌, Option};
-ghost use Rattle.dbus_types.specs.Utf8Scans.{lead, text_next, text_end};
+ghost use Rattle.std.specs.Prelude.{◌≡◌, ◌↔◌, Option, IsTrue};
+ghost use Rattle.dbus_types.specs.Utf8.{IsText};
+ghost use Rattle.dbus_types.specs.Utf8Scans.{lead, text_next, text_end, text_rest};
+
+use crate::ascii::plain_blocks;
+use std::str;
 
 /// Where in a character the scan stands.
 #[derive(Clone, Copy, PartialEq, Eq, Debug)]
@@ -43,7 +47,20 @@ fn lead(byte: u8) -> Option<Utf8Place>
     }
 }
 
+/// Whether the text is UTF-8 without U+0000. Most texts are ASCII, which takes one pass.
+fn is_text(text: &[u8]) -> bool
+    ensures { IsTrue result ↔ IsText text.now }
+{
+    let rest = &text[plain_blocks(text)..];
+    match str::from_utf8(rest) {
+        Ok(_) => !rest.contains(&0),
+        Err(_) => false,
+    }
+}
+
 impl Utf8Place {
+    ghost use Rattle.dbus_types.specs.Prefixes.{IsBreakFrom};
+
     /// What is wanted after one byte more, if it may stand here.
     pub fn next(self, byte: u8) -> Option<Utf8Place>
         ensures { result ≡ text_next self byte }
@@ -65,5 +82,22 @@ impl Utf8Place {
         ensures { result ≡ text_end self }
     {
         self == Utf8Place::Free
+    }
+
+    /// Where a text breaks that goes on from here, or `None` where it may go on so and end.
+    pub fn break_of(self, text: &[u8]) -> Option<usize>
+        ensures { IsBreakFrom (text_rest self) text.now result }
+    {
+        if self == Utf8Place::Free && is_text(text) {
+            return None;
+        }
+        let mut place = self;
+        for (i, byte) in text.iter().enumerate() {
+            match place.next(*byte) {
+                Some(next) => place = next,
+                None => return Some(i),
+            }
+        }
+        if place.end() { None } else { Some(text.len()) }
     }
 }

@@ -1,9 +1,8 @@
 -- An item and a reader agree.
 use Rattle.std.proofs.Common.{◌≡◌, ℕ, ◌⊎◌, ◌↔◌, List, ◌++◌, refl, sym, ap, ◌∙◌, inl, inr, append_assoc}
-use Rattle.dbus_value.specs.Spelling.{IsBytes}
+use Rattle.dbus_value.specs.Bytes.{IsBytes}
 use Rattle.dbus_value.specs.Items.{Item, fault}
 use Rattle.dbus_value.specs.declared.fault.Fault.{Fault}
-use Rattle.dbus_value.specs.declared.fault.Reason.{Reason}
 use Rattle.dbus_value.specs.Items as items
 use Rattle.dbus_value.specs.Reading.{Reader, Outcome, Done, Faulty, Partial, after}
 use Rattle.dbus_value.specs.Reading as reading

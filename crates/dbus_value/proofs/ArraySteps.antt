@@ -10,7 +10,8 @@ use Rattle.dbus_value.specs.declared.fault.Reason.{Reason}
 use Rattle.dbus_value.specs.declared.fault.Reason.TheVariants as reasons
 use Rattle.dbus_value.specs.declared.stop.Stop.{Stop}
 use Rattle.dbus_value.specs.Items.{fault}
-use Rattle.dbus_value.specs.Spelling.{ValueTree, NumberValue, array_limit}
+use Rattle.dbus_value.specs.Values.{ValueTree, NumberValue}
+use Rattle.dbus_value.specs.Spelling.{array_limit}
 use Rattle.dbus_value.specs.ValueItems.{array_row}
 use Rattle.dbus_value.specs.Reading.{Done, Faulty, Partial, padding, number, number_of, up_to, contents, value}
 use Rattle.dbus_value.specs.ValueReaders.{number_value, array_frame}

@@ -1,7 +1,7 @@
 -- The contents of an array.
 use Rattle.std.proofs.Common.{◌≡◌, ℕ, zero, suc, ◌+◌, ◌<◌, ◌≤◌, List, [], ◌∷◌, ◌++◌, true, false, ltb, eqb, refl, sym, ap, ◌∙◌, arith, inl, inr, append_assoc}
 use Rattle.std.proofs.lemmas.Bool.{ltb-true, lt-ltb, le-ltb, eqb-true, eq-eqb}
-use Rattle.dbus_value.specs.Spelling.{IsBytes}
+use Rattle.dbus_value.specs.Bytes.{IsBytes}
 use Rattle.dbus_value.specs.Items.{Item, Sequence, StopsIn}
 use Rattle.dbus_value.specs.declared.fault.Fault.{Fault}
 use Rattle.dbus_value.specs.Items as items

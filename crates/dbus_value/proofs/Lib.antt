@@ -7,15 +7,15 @@ pub mod Composition
 pub mod ValueItemLaws
 pub mod ValueOutcomes
 pub mod Frames
-pub mod WorkedExamples
 pub mod ReadSteps
 pub mod ByteNumbers
 pub mod TextSteps
+pub mod WorkedExamples
+pub mod ValueRows
 pub mod NumberSteps
 pub mod StringSteps
-pub mod ArraySteps
-pub mod ValueRows
 pub mod ValueSteps
+pub mod ArraySteps
 pub mod TypeRows
 pub mod Joining
 pub mod Sizing
@@ -26,3 +26,4 @@ pub mod Written
 pub mod Patching
 pub mod Spells
 pub mod SizeLaws
+pub mod ShortLaws

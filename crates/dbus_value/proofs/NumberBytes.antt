@@ -3,7 +3,7 @@ use Rattle.std.proofs.Common.{◌≡◌, ℕ, zero, suc, ◌+◌, ◌*◌, ◌/�
 use Rattle.std.specs.Int.{w16, w32, w64, byte_at, bytes_low_first, to_le_bytes, to_be_bytes}
 use Rattle.std.proofs.Math.Nat.{pow-succ', div-div-eq-div-mul}
 use Rattle.dbus_value.specs.declared.order.Order.TheVariants.{Little, Big}
-use Rattle.dbus_value.specs.Spelling.{low_first, num}
+use Rattle.dbus_value.specs.Bytes.{low_first, num}
 
 byte_is : (i n : ℕ) → byte_at i n ≡ n / 256 ^ i % 256
 byte_is zero n = omega arith

@@ -7,7 +7,8 @@ use Rattle.dbus_value.specs.declared.fault.Reason.TheVariants as reasons
 use Rattle.dbus_value.specs.declared.stop.Stop.{Stop}
 use Rattle.dbus_value.specs.declared.value.Value.{Bool as BoolOf}
 use Rattle.dbus_value.specs.Items.{fault}
-use Rattle.dbus_value.specs.Spelling.{NumberValue, gap_to}
+use Rattle.dbus_value.specs.Values.{NumberValue}
+use Rattle.dbus_value.specs.Bytes.{gap_to}
 use Rattle.dbus_value.specs.ValueItems.{number_row}
 use Rattle.dbus_value.specs.Reading.{Done, Faulty, padding, number}
 use Rattle.dbus_value.specs.ValueReaders.{number_value}

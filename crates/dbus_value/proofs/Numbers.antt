@@ -1,8 +1,8 @@
 -- Bytes and the numbers that they spell.
-use Rattle.std.proofs.Common.{◌≤◌, ◌≡◌, ℕ, zero, suc, ◌+◌, ◌*◌, ◌/◌, ◌%◌, ◌^◌, ◌<◌, List, [], ◌∷◌, ◌++◌, length, reverse, refl, sym, ap, subst, ◌∙◌, arith}
+use Rattle.std.proofs.Common.{◌≡◌, ℕ, zero, suc, ◌+◌, ◌*◌, ◌/◌, ◌%◌, ◌^◌, ◌<◌, List, [], ◌∷◌, ◌++◌, length, reverse, refl, sym, ap, subst, ◌∙◌, arith}
 use Rattle.std.proofs.lemmas.List.{reverse-append, reverse-reverse, length-reverse}
 use Rattle.std.proofs.Math.Nat.{pow-succ'}
-use Rattle.dbus_value.specs.Spelling.{IsBytes, low_first, num, gap_to}
+use Rattle.dbus_value.specs.Bytes.{IsBytes, low_first, num, gap_to}
 use Rattle.dbus_value.specs.declared.order.Order.{Order}
 use Rattle.dbus_value.specs.declared.order.Order.TheVariants.{Little, Big}
 use Rattle.dbus_value.specs.Reading.{place_sum, number_of}

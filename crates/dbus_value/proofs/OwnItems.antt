@@ -5,7 +5,7 @@ use Rattle.std.proofs.lemmas.List.{take_at, drop_at, take-append-drop, length-ap
 use Rattle.dbus_types.specs.Types.{TypeTree, sig, IsSingleType}
 use Rattle.dbus_value.specs.WantedTexts.{WantedText, IsWanted, is_kind, break_at, Of}
 use Rattle.dbus_types.specs.ComputedKinds.{type_spelled}
-use Rattle.dbus_value.specs.Spelling.{IsBytes, num, gap_to, pad}
+use Rattle.dbus_value.specs.Bytes.{IsBytes, num, gap_to, pad}
 use Rattle.dbus_value.specs.declared.order.Order.{Order}
 use Rattle.dbus_value.specs.Items.{Item, fault, PaddingFault, padding_overruns, not_zero, NumberFault, number_overruns, number_refused, TextFault, text_reason}
 use Rattle.dbus_value.specs.declared.fault.Fault.{Fault}

@@ -4,7 +4,9 @@ use Rattle.std.proofs.lemmas.List.{length-append, length-replicate, set-append_r
 use Rattle.dbus_types.specs.Types.{TypeTree, NumberType, TextType, VariantType, ArrayType, StructType, EntryType, BYTE, BOOLEAN, INT16, UINT16, INT32, UINT32, INT64, UINT64, DOUBLE, UNIX_FD, STRING, OBJECT_PATH, SIGNATURE}
 use Rattle.dbus_types.specs.Alignments.{alignment_of}
 use Rattle.dbus_value.specs.declared.order.Order.{Order}
-use Rattle.dbus_value.specs.Spelling.{ValueTrees, ArrayValue, gap_to, pad, num, contents_start, spelling, spellings}
+use Rattle.dbus_value.specs.Values.{ValueTrees, ArrayValue}
+use Rattle.dbus_value.specs.Bytes.{gap_to, pad, num}
+use Rattle.dbus_value.specs.Spelling.{contents_start, spelling, spellings}
 use Rattle.dbus_value.specs.Appending.{with_padding, with_value, with_values}
 use Rattle.dbus_value.proofs.Numbers.{length-num}
 use Rattle.dbus_value.proofs.Written.{length_padding, length_values, value_is, padding_is}

@@ -7,7 +7,7 @@ use Rattle.dbus_value.specs.declared.order.Order.{Order}
 use Rattle.dbus_value.specs.declared.order.Order.TheVariants.{Little, Big}
 use Rattle.dbus_value.specs.declared.fault.Reason.{Reason}
 use Rattle.dbus_value.specs.declared.fault.Reason.TheVariants as reasons
-use Rattle.dbus_value.specs.Spelling.{gap_to}
+use Rattle.dbus_value.specs.Bytes.{gap_to}
 use Rattle.dbus_value.specs.Items.{fault}
 use Rattle.dbus_value.specs.Reading.{Reader, Outcome, Done, Faulty, Partial, after, zeros, padding, number, number_of, judged, nul}
 use Rattle.dbus_value.specs.declared.stop.Stop.{Stop}

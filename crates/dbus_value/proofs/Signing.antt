@@ -4,7 +4,7 @@ use Rattle.std.specs.Prelude.{string_bytes}
 use Rattle.std.proofs.lemmas.List.{drop_more}
 use Rattle.dbus_types.specs.Types.{sig}
 use Rattle.dbus_types.specs.declared.sig_type.SigType.{SigType}
-use Rattle.dbus_value.specs.Spelling.{type_of}
+use Rattle.dbus_value.specs.Values.{type_of}
 use Rattle.dbus_value.specs.ShortSignatures.{HasShortSignatures, HaveShortSignatures}
 use Rattle.dbus_value.specs.ValueViews.{value_tree, value_trees_of}
 use Rattle.dbus_value.specs.declared.value.Value.{Value, Sig, Array, Struct, Entry, Variant}

@@ -10,7 +10,8 @@ use Rattle.dbus_types.specs.Types.{sig, BYTE}
 use Rattle.dbus_types.specs.Alignments.{alignment_of}
 use Rattle.dbus_types.specs.SigTypes.{type_tree}
 use Rattle.dbus_types.specs.declared.sig_type.SigType.{SigType}
-use Rattle.dbus_value.specs.Spelling.{ValueTree, NumberValue, type_of, gap_to}
+use Rattle.dbus_value.specs.Values.{ValueTree, NumberValue, type_of}
+use Rattle.dbus_value.specs.Bytes.{gap_to}
 use Rattle.dbus_value.specs.Sizes.{Sizing, and_then, item, padding, contents, narrowed, sized, sizes, ◌⊳◌, message_limit}
 use Rattle.dbus_value.specs.ValueViews.{value_tree, value_trees_of, byte_values}
 use Rattle.dbus_value.specs.declared.value.Value.{Value, Byte, Bool as BoolOf, I16, U16, I32, U32, I64, U64, Double, Str, Path, Sig, Fd, Bytes, Array, Struct, Entry, Variant}

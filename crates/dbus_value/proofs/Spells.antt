@@ -8,7 +8,9 @@ use Rattle.dbus_types.specs.Alignments.{alignment_of}
 use Rattle.dbus_types.specs.SigTypes.{type_tree}
 use Rattle.dbus_types.specs.declared.sig_type.SigType.{SigType}
 use Rattle.dbus_value.specs.declared.order.Order.{Order}
-use Rattle.dbus_value.specs.Spelling.{ValueTree, NumberValue, TextValue, ArrayValue, type_of, pad, gap_to, num, spelling, spellings}
+use Rattle.dbus_value.specs.Values.{ValueTree, NumberValue, TextValue, ArrayValue, type_of}
+use Rattle.dbus_value.specs.Bytes.{pad, gap_to, num}
+use Rattle.dbus_value.specs.Spelling.{spelling, spellings}
 use Rattle.dbus_value.specs.Appending.{with_padding, with_value, with_values}
 use Rattle.dbus_value.specs.ValueViews.{value_tree, value_trees_of, byte_values}
 use Rattle.dbus_value.specs.declared.value.Value.{Value, Byte, Bool as BoolOf, I16, U16, I32, U32, I64, U64, Double, Str, Path, Sig, Fd, Bytes, Array, Struct, Entry, Variant}

@@ -9,7 +9,7 @@ use Rattle.dbus_types.proofs.KindFacts.{kind_is, is_kind_of, path_is_text, text_
 use Rattle.dbus_value.specs.WantedTexts.{Of}
 use Rattle.dbus_value.specs.declared.order.Order.{Order}
 use Rattle.dbus_value.specs.declared.stop.Stop.{Stop}
-use Rattle.dbus_value.specs.Spelling.{ValueTree, TextValue}
+use Rattle.dbus_value.specs.Values.{ValueTree, TextValue}
 use Rattle.dbus_value.specs.ValueViews.{value_tree}
 use Rattle.dbus_value.specs.declared.value.Value.{Sig}
 use Rattle.dbus_value.specs.ValueItems.{text_row}

@@ -4,11 +4,12 @@ use Rattle.std.proofs.lemmas.List.{length-append}
 use Rattle.dbus_types.specs.Types.{NumberCode, BYTE, BOOLEAN, INT16, UINT16, INT32, UINT32, INT64, UINT64, DOUBLE, UNIX_FD, TextCode, TypeTree, NumberType, TextType, VariantType, ArrayType, StructType, EntryType, TypeTrees, NoTypes, MoreTypes, IsShaped, AreShaped, IsBasic}
 use Rattle.dbus_types.specs.Alignments.{width, length_width, alignment_of}
 use Rattle.dbus_types.proofs.KindFacts.{shaped_of}
-use Rattle.dbus_value.specs.WantedTexts.{WantedText, kind_of, Of}
+use Rattle.dbus_value.specs.WantedTexts.{kind_of, Of}
 use Rattle.dbus_value.specs.declared.order.Order.{Order}
-use Rattle.dbus_value.specs.Spelling.{gap_to, spelling, Spelled, ValueTree, value_trees, NoValues, MoreValues, NumberValue, TextValue, VariantValue, ArrayValue, StructValue, EntryValue, type_of}
+use Rattle.dbus_value.specs.Bytes.{gap_to}
+use Rattle.dbus_value.specs.Spelling.{spelling, Spelled}
+use Rattle.dbus_value.specs.Values.{ValueTree, value_trees, NoValues, MoreValues, NumberValue, TextValue, VariantValue, ArrayValue, StructValue, EntryValue, type_of}
 use Rattle.dbus_value.specs.Items.{Item}
-use Rattle.dbus_value.specs.declared.fault.Fault.{Fault}
 use Rattle.dbus_value.specs.Items as items
 use Rattle.dbus_value.specs.ValueItems.{number_row, text_row, array_row}
 use Rattle.dbus_value.specs.ValueItems as faults

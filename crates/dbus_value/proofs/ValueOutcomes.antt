@@ -2,7 +2,9 @@
 use Rattle.std.proofs.Common.{◌≡◌, ℕ, ◌+◌, ◌≤◌, List, ◌++◌, length, refl, ap, subst, ◌∙◌, arith, inl, inr, append_assoc}
 use Rattle.dbus_types.specs.Types.{TypeTree, TypeTrees, IsShaped, AreShaped}
 use Rattle.dbus_value.specs.declared.order.Order.{Order}
-use Rattle.dbus_value.specs.Spelling.{IsBytes, spelling, Spelled, ValueTrees, type_of}
+use Rattle.dbus_value.specs.Bytes.{IsBytes}
+use Rattle.dbus_value.specs.Spelling.{spelling, Spelled}
+use Rattle.dbus_value.specs.Values.{ValueTrees, type_of}
 use Rattle.dbus_value.specs.Items.{Item}
 use Rattle.dbus_value.specs.declared.fault.Fault.{Fault}
 use Rattle.dbus_value.specs.ValueItems as faults

@@ -10,7 +10,9 @@ use Rattle.dbus_value.specs.declared.order.Order.{Order}
 use Rattle.dbus_value.specs.declared.fault.Reason.TheVariants as reasons
 use Rattle.dbus_value.specs.declared.stop.Stop.{Stop}
 use Rattle.dbus_value.specs.Items.{fault}
-use Rattle.dbus_value.specs.Spelling.{IsBytes, ValueTree, ValueTrees, NoValues, MoreValues, ArrayValue, StructValue, value_trees, spelling, Spelled}
+use Rattle.dbus_value.specs.Bytes.{IsBytes}
+use Rattle.dbus_value.specs.Values.{ValueTree, ValueTrees, NoValues, MoreValues, ArrayValue, StructValue, value_trees}
+use Rattle.dbus_value.specs.Spelling.{spelling, Spelled}
 use Rattle.dbus_value.specs.Reading.{Reader, Outcome, Done, Faulty, Partial, after, pure, up_to, contents, fields, padding, number, opened, value}
 use Rattle.dbus_value.specs.Reading as reading
 use Rattle.dbus_types.specs.Alignments.{alignment_of}

@@ -1,12 +1,14 @@
 -- Worked examples of values: their spellings by the definitions, and the outcome of some bytes by the plain reader beside them.
 -- D-Bus Specification, "Marshaling (Wire Format)".
 use Rattle.std.proofs.Common.{◌≡◌, ℕ, List, [], ◌∷◌, refl}
-use Rattle.dbus_types.specs.Types.{NumberType, EntryType, TypeTree, BYTE, UINT16, INT64, UINT64, ArrayType}
+use Rattle.dbus_types.specs.Types.{NumberType, EntryType, BYTE, UINT16, INT64, UINT64, ArrayType}
 use Rattle.dbus_value.specs.declared.order.Order.TheVariants.{Little, Big}
 use Rattle.dbus_value.specs.declared.fault.Reason.TheVariants as reasons
-use Rattle.dbus_value.specs.Spelling.{ValueTree, NoValues, MoreValues, NumberValue, VariantValue, ArrayValue, StructValue, EntryValue, gap_to, num, low_first, spelling, spellings, array_limit}
+use Rattle.dbus_value.specs.Values.{ValueTree, NoValues, MoreValues, NumberValue, VariantValue, ArrayValue, StructValue, EntryValue}
+use Rattle.dbus_value.specs.Bytes.{gap_to, num, low_first}
+use Rattle.dbus_value.specs.Spelling.{spelling, spellings, array_limit}
 use Rattle.dbus_value.specs.Items.{fault}
-use Rattle.dbus_value.specs.Reading.{Outcome, Done, Faulty, Partial, padding, number, number_of, text, ends, value}
+use Rattle.dbus_value.specs.Reading.{Outcome, Done, Faulty, Partial, padding, number, number_of, value}
 
 abbrev five : ValueTree
 five = ArrayValue (NumberType UINT64) (MoreValues (NumberValue UINT64 5) NoValues)

@@ -5,7 +5,9 @@ use Rattle.dbus_types.specs.Types.{NumberCode, TextCode, STRING, OBJECT_PATH, SI
 use Rattle.dbus_types.specs.Alignments.{width, length_width, alignment_of}
 use Rattle.dbus_value.specs.declared.order.Order.{Order}
 use Rattle.dbus_value.specs.declared.order.Order.TheVariants.{Little, Big}
-use Rattle.dbus_value.specs.Spelling.{ValueTree, ValueTrees, NumberValue, TextValue, VariantValue, ArrayValue, StructValue, EntryValue, NoValues, MoreValues, type_of, gap_to, pad, num, low_first, ended_text, contents_start, spelling, spellings}
+use Rattle.dbus_value.specs.Values.{ValueTree, ValueTrees, NumberValue, TextValue, VariantValue, ArrayValue, StructValue, EntryValue, NoValues, MoreValues, type_of}
+use Rattle.dbus_value.specs.Bytes.{gap_to, pad, num, low_first}
+use Rattle.dbus_value.specs.Spelling.{ended_text, contents_start, spelling, spellings}
 use Rattle.dbus_value.specs.Appending.{with_padding, with_value, with_values}
 use Rattle.dbus_value.proofs.Numbers.{length-num}
 

@@ -2,7 +2,9 @@
 -- D-Bus Specification, "Marshaling (Wire Format)".
 use Rattle.std.specs.Prelude.{ℕ, List, ◌++◌, length}
 use Rattle.dbus_value.specs.declared.order.Order.{Order}
-use Rattle.dbus_value.specs.Spelling.{ValueTree, ValueTrees, pad, spelling, spellings}
+use Rattle.dbus_value.specs.Values.{ValueTree, ValueTrees}
+use Rattle.dbus_value.specs.Bytes.{pad}
+use Rattle.dbus_value.specs.Spelling.{spelling, spellings}
 
 -- up to the next multiple of a
 unfoldable pub with_padding : ℕ → List ℕ → List ℕ

@@ -1,6 +1,6 @@
 -- What getting a value from bytes answers.
 -- D-Bus Specification, "Marshaling (Wire Format)".
-use Rattle.std.specs.Prelude.{ℕ, ◌-◌, List, drop, Result, Ok, Err}
+use Rattle.std.specs.Prelude.{ℕ, List, drop, Result, Ok, Err}
 use Rattle.dbus_types.specs.Types.{TypeTree}
 use Rattle.dbus_value.specs.declared.order.Order.{Order}
 use Rattle.dbus_value.specs.declared.fault.Fault.{Fault}
@@ -8,7 +8,8 @@ use Rattle.dbus_value.specs.declared.fault.Refusal.{Refusal}
 use Rattle.dbus_value.specs.declared.fault.Refusal.TheVariants.{Memory, Format}
 use Rattle.dbus_value.specs.declared.got.Got.{Got}
 use Rattle.dbus_value.specs.declared.got.Got.TheVariants.{Done, Partial}
-use Rattle.dbus_value.specs.Spelling.{ValueTree, Spelled}
+use Rattle.dbus_value.specs.Values.{ValueTree}
+use Rattle.dbus_value.specs.Spelling.{Spelled}
 use Rattle.dbus_value.specs.ValueItems.{value}
 use Rattle.dbus_value.specs.ValueViews.{value_tree}
 

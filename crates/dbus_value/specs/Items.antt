@@ -1,11 +1,11 @@
 -- The items that a message is read as: how each is passed, and which faults it shows. Every row of the fault table that speaks of
 -- one item alone stands here; a row says which bytes are there, as the front of all that are.
 -- D-Bus Specification, "Marshaling (Wire Format)"; docs/WIRE-FORMAT.md, "Faults".
-use Rattle.std.specs.Prelude.{◌≡◌, ℕ, suc, ◌+◌, ◌<◌, ◌≤◌, ◌^◌, ◌⊎◌, List, [], ◌∷◌, ◌++◌, length, replicate, true, false, Option, Some, None}
+use Rattle.std.specs.Prelude.{◌≡◌, ℕ, suc, ◌+◌, ◌<◌, ◌≤◌, ◌^◌, ◌⊎◌, List, [], ◌∷◌, ◌++◌, length, replicate, Option, Some, None}
 use Rattle.dbus_types.specs.Types.{TypeTree, sig, IsSingleType}
 use Rattle.dbus_value.specs.WantedTexts.{WantedText, IsWanted, IsBreakOf, Of, Only}
 use Rattle.dbus_value.specs.declared.order.Order.{Order}
-use Rattle.dbus_value.specs.Spelling.{num, gap_to, pad}
+use Rattle.dbus_value.specs.Bytes.{num, gap_to, pad}
 use Rattle.dbus_value.specs.declared.fault.Fault.{Fault}
 use Rattle.dbus_value.specs.declared.fault.Reason.{Reason}
 use Rattle.dbus_value.specs.declared.fault.Reason.TheVariants as reasons

@@ -2,9 +2,10 @@
 -- D-Bus Specification, "Marshaling (Wire Format)".
 use Rattle.std.specs.Prelude.{◌≡◌, ℕ, ◌+◌, ◌%◌, ◌^◌, ◌<◌, ◌≤◌, ◌↔◌, List, ◌++◌, length, Bool}
 use Rattle.dbus_types.specs.Types.{TypeTree, TypeTrees, IsShaped, AreShaped}
-use Rattle.dbus_value.specs.WantedTexts.{Of}
 use Rattle.dbus_value.specs.declared.order.Order.{Order}
-use Rattle.dbus_value.specs.Spelling.{gap_to, num, ValueTree, ValueTrees, IsBytes, spelling, type_of, IsWellFormed, IsWithinLimits, Spelled}
+use Rattle.dbus_value.specs.Bytes.{gap_to, num, IsBytes}
+use Rattle.dbus_value.specs.Values.{ValueTree, ValueTrees, type_of, IsWellFormed}
+use Rattle.dbus_value.specs.Spelling.{spelling, IsWithinLimits, Spelled}
 use Rattle.dbus_value.specs.declared.fault.Fault.{Fault}
 use Rattle.dbus_value.specs.ValueItems.{value}
 use Rattle.dbus_value.specs.Reading.{Done, Faulty}

@@ -1,4 +1,6 @@
 pub mod WantedTexts
+pub mod Bytes
+pub mod Values
 pub mod Spelling
 pub mod Items
 pub mod ValueItems

@@ -3,7 +3,8 @@
 use Rattle.std.specs.Prelude.{◌≡◌, ℕ, ◌≤◌, ◌⊎◌, List}
 use Rattle.dbus_types.specs.Types.{TypeTrees}
 use Rattle.dbus_value.specs.declared.order.Order.{Order}
-use Rattle.dbus_value.specs.Spelling.{ValueTrees, types_of, SpelledAll}
+use Rattle.dbus_value.specs.Values.{ValueTrees, types_of}
+use Rattle.dbus_value.specs.Spelling.{SpelledAll}
 use Rattle.dbus_value.specs.declared.fault.Fault.{Fault}
 use Rattle.dbus_value.specs.ValueItems.{value, fields}
 

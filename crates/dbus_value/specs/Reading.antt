@@ -8,7 +8,8 @@ use Rattle.dbus_value.specs.WantedTexts.{WantedText, kind_of, is_kind, break_at,
 use Rattle.dbus_types.specs.ComputedKinds.{type_spelled}
 use Rattle.dbus_value.specs.declared.order.Order.{Order}
 use Rattle.dbus_value.specs.declared.order.Order.TheVariants.{Little, Big}
-use Rattle.dbus_value.specs.Spelling.{gap_to, value_trees, ValueTrees, NoValues, MoreValues, ValueTree, NumberValue, TextValue, VariantValue, ArrayValue, StructValue, EntryValue}
+use Rattle.dbus_value.specs.Bytes.{gap_to}
+use Rattle.dbus_value.specs.Values.{value_trees, ValueTrees, NoValues, MoreValues, ValueTree, NumberValue, TextValue, VariantValue, ArrayValue, StructValue, EntryValue}
 use Rattle.dbus_value.specs.declared.fault.Reason.{Reason}
 use Rattle.dbus_value.specs.declared.fault.Fault.{Fault}
 use Rattle.dbus_value.specs.Items.{fault, text_reason}

@@ -4,7 +4,9 @@ use Rattle.std.specs.Prelude.{◌≡◌, ℕ, ◌+◌, ◌<◌, ◌≤◌, ◌�
 use Rattle.dbus_value.specs.declared.order.Order.{Order}
 use Rattle.dbus_value.specs.declared.value_fault.ValueFault.{ValueFault}
 use Rattle.dbus_value.specs.declared.value_fault.ValueFault.TheVariants.{Memory, TooDeep, Mixed, Name, ArrayTooLong, TooLong}
-use Rattle.dbus_value.specs.Spelling.{ValueTree, spelling, IsWithinLimits}
+use Rattle.dbus_value.specs.Values.{ValueTree, IsWellFormed}
+use Rattle.dbus_value.specs.Spelling.{spelling, IsWithinLimits}
+use Rattle.dbus_value.specs.ShortSignatures.{HasShortSignatures}
 use Rattle.dbus_value.specs.Sizes.{sized, message_limit}
 
 -- no further than the open arrays and the message may go
@@ -34,3 +36,7 @@ SizeEnds = (order : Order) (v : ValueTree) (o e : ℕ) → o ≤ message_limit
 abbrev pub SizeStops : Type 0
 SizeStops = (order : Order) (v : ValueTree) (o : ℕ) (f : ValueFault) → o ≤ message_limit
     → sized v None o ≡ Err f → Stops None f (o + length (spelling order o v)) (IsWithinLimits order o v)
+
+-- Each signature in a well-formed value has at most 255 bytes.
+abbrev pub FormedIsShort : Type 0
+FormedIsShort = (room : ℕ) (v : ValueTree) → IsWellFormed room v → HasShortSignatures v

@@ -6,7 +6,9 @@ use Rattle.dbus_types.specs.Types.{sig}
 use Rattle.dbus_types.specs.Alignments.{width, length_width, alignment_of}
 use Rattle.dbus_value.specs.declared.value_fault.ValueFault.{ValueFault}
 use Rattle.dbus_value.specs.declared.value_fault.ValueFault.TheVariants.{ArrayTooLong, TooLong}
-use Rattle.dbus_value.specs.Spelling.{ValueTree, ValueTrees, NoValues, MoreValues, NumberValue, TextValue, VariantValue, ArrayValue, StructValue, EntryValue, type_of, gap_to, array_limit}
+use Rattle.dbus_value.specs.Values.{ValueTree, ValueTrees, NoValues, MoreValues, NumberValue, TextValue, VariantValue, ArrayValue, StructValue, EntryValue, type_of}
+use Rattle.dbus_value.specs.Bytes.{gap_to}
+use Rattle.dbus_value.specs.Spelling.{array_limit}
 
 -- the limit of a message
 unfoldable pub message_limit : ℕ

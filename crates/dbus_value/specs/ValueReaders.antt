@@ -6,7 +6,7 @@ use Rattle.dbus_types.specs.Alignments.{width, length_width, alignment_of}
 use Rattle.dbus_types.specs.declared.text_kind.TextKind.TheVariants.{Single}
 use Rattle.dbus_value.specs.WantedTexts.{kind_of, Of}
 use Rattle.dbus_value.specs.declared.order.Order.{Order}
-use Rattle.dbus_value.specs.Spelling.{value_trees, ValueTree, NumberValue, TextValue, VariantValue, ArrayValue, StructValue, EntryValue}
+use Rattle.dbus_value.specs.Values.{value_trees, ValueTree, NumberValue, TextValue, VariantValue, ArrayValue, StructValue, EntryValue}
 use Rattle.dbus_value.specs.ValueItems.{number_row, text_row, array_row}
 use Rattle.dbus_value.specs.Reading.{Reader, ◌>>=◌, ◌>>◌, pure, padding, number, text, nul, signature, contents, fields, opened, value}
 

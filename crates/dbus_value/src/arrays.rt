@@ -5,7 +5,7 @@ ghost use Rattle.std.specs.Prelude.{◌≡◌, ℕ, ◌+◌, ◌≤◌, length, 
 ghost use Rattle.dbus_types.specs.Types.{NumberType, BYTE};
 ghost use Rattle.dbus_types.specs.SigTypes.{type_tree};
 ghost use Rattle.dbus_value.specs.declared.order.Order.{Order};
-ghost use Rattle.dbus_value.specs.Spelling.{NumberValue};
+ghost use Rattle.dbus_value.specs.Values.{NumberValue};
 ghost use Rattle.dbus_value.specs.Reading.{contents, value};
 ghost use Rattle.dbus_value.specs.ValueReaders.{array_frame};
 ghost use Rattle.dbus_value.specs.Gives.{Gives};

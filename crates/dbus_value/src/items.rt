@@ -1,12 +1,14 @@
-//! Items of a message, one by one.
+//! Items of a message, one by one: what getting a value and decoding a message are made of.
+//! D-Bus Specification, "Marshaling (Wire Format)".
 //!
-//! `bytes` begin at the message's first byte, and a place counts from there. An item that begins at `at` is to end
-//! at or before `end`. What is read comes with the place behind it.
+//! `bytes` begin at the message's first byte, and a place counts from there. An item begins at `at` and is to end at
+//! or before `end`. What is read comes with the place behind it. Each call answers `Refused` with the first fault that
+//! the bytes of the item show, and `Partial` where they end within it and show none.
 #![tactic(auto)]
 
 ghost use Rattle.std.specs.Prelude.{◌≡◌, ℕ, ◌+◌, ◌<◌, ◌≤◌, ◌^◌, length, take, drop, true, IfOk};
 ghost use Rattle.dbus_value.specs.declared.order.Order.{Order};
-ghost use Rattle.dbus_value.specs.Spelling.{gap_to};
+ghost use Rattle.dbus_value.specs.Bytes.{gap_to};
 ghost use Rattle.dbus_value.specs.ValueItems.{text_row};
 ghost use Rattle.dbus_value.specs.Reading.{padding, number, nul};
 ghost use Rattle.dbus_value.specs.Gives.{Gives, no_row};
@@ -115,7 +117,7 @@ pub fn read_u64(bytes: &[u8], at: usize, end: usize, order: Order) -> Result<(u6
 
 /// The zero behind a text. Gives the place behind it.
 ///
-/// `Nul` where the byte is not 0. D-Bus Specification, "Marshaling (Wire Format)".
+/// `Nul` at `at` where the byte is not 0. D-Bus Specification, "Marshaling (Wire Format)".
 pub fn read_nul(bytes: &[u8], at: usize) -> Result<usize, Stop>
     requires inside { at ≤ length bytes.now }
     ensures gives { Gives (λ q. (tt, q)) bytes.now result (nul at (drop at bytes.now)) }

@@ -7,7 +7,8 @@ ghost use Rattle.dbus_types.specs.Types.{NumberType, BYTE};
 ghost use Rattle.dbus_value.specs.Appending.{with_value, with_values};
 ghost use Rattle.dbus_value.specs.ShortSignatures.{HasShortSignatures, HaveShortSignatures};
 ghost use Rattle.dbus_value.specs.Sizes.{message_limit, sized};
-ghost use Rattle.dbus_value.specs.Spelling.{ArrayValue, spelling};
+ghost use Rattle.dbus_value.specs.Values.{ArrayValue};
+ghost use Rattle.dbus_value.specs.Spelling.{spelling};
 ghost use Rattle.dbus_value.specs.ValueViews.{value_tree, value_trees_of, byte_values};
 
 use crate::order::Order;
@@ -29,7 +30,11 @@ use std::alloc::Allocator;
 /// refused exactly where `size_after` refuses it at this offset, and with that fault; else only by `Memory`, where a
 /// growth was refused. A refusal leaves the vector's bytes as they were.
 #[tactic(auto, using(crate::proofs::SizeLaws::put_needs))]
-pub fn put<A: Allocator>(out: &mut Vec<u8, A>, order: Order, value: &Value<A>) -> Result<(), ValueFault>
+pub fn put<A: Allocator>(
+    out: &mut Vec<u8, A>,
+    order: Order,
+    value: &Value<A>,
+) -> Result<(), ValueFault>
     requires start { length out.old.items ≤ message_limit }
     requires signed { HasShortSignatures (value_tree value.now) }
     ensures written { OnOk result (out.new.items ≡ out.old.items ++ spelling order (length out.old.items) (value_tree value.now)) }
@@ -111,7 +116,12 @@ fn write_values<A: Allocator>(out: &mut Vec<u8, A>, order: Order, values: &[Valu
 
 /// Appends an array, whose length is known once its items are written.
 #[cycle(write)]
-fn write_array<A: Allocator>(out: &mut Vec<u8, A>, order: Order, items: &[Value<A>], element: &SigType<A>)
+fn write_array<A: Allocator>(
+    out: &mut Vec<u8, A>,
+    order: Order,
+    items: &[Value<A>],
+    element: &SigType<A>,
+)
     requires space { length (with_value order (ArrayValue (type_tree element.now) (value_trees_of items.now)) out.old.items) ≤ vec_capacity out.old }
     requires fits { length (with_value order (ArrayValue (type_tree element.now) (value_trees_of items.now)) out.old.items) < 2 ^ 32 }
     requires signed { HaveShortSignatures (value_trees_of items.now) }

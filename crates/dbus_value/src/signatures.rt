@@ -4,7 +4,8 @@
 ghost use Rattle.std.specs.Prelude.{◌≡◌, ◌<◌, ◌+◌, ◌≤◌, ◌++◌, ◌∷◌, [], length, vec_capacity};
 ghost use Rattle.dbus_types.specs.Types.{sig, sigs};
 ghost use Rattle.dbus_types.specs.SigTypes.{type_tree, type_trees_of};
-ghost use Rattle.dbus_value.specs.Spelling.{num, type_of, types_of};
+ghost use Rattle.dbus_value.specs.Bytes.{num};
+ghost use Rattle.dbus_value.specs.Values.{type_of, types_of};
 ghost use Rattle.dbus_value.specs.ValueViews.{value_tree, value_trees_of};
 
 use crate::order::Order;

@@ -55,7 +55,7 @@ fn item(bound: Option<u64>, len: usize, offset: u64) -> Result<u64, ValueFault>
 }
 
 /// The padding up to the next multiple of `alignment`, where there is any.
-#[tactic(auto, unfolding(crate::specs::Sizes::padding, crate::specs::Spelling::gap_to))]
+#[tactic(auto, unfolding(crate::specs::Sizes::padding, crate::specs::Bytes::gap_to))]
 fn padding(bound: Option<u64>, alignment: u8, offset: u64) -> Result<u64, ValueFault>
     requires start { offset ≤ message_limit }
     requires bounded { IfSome bound (λ b. b < 2 ^ 28) }
@@ -134,7 +134,11 @@ fn narrowed(bound: Option<u64>, offset: u64) -> Option<u64>
 }
 
 #[cycle(size)]
-fn size_value<A: Allocator>(value: &Value<A>, bound: Option<u64>, offset: u64) -> Result<u64, ValueFault>
+fn size_value<A: Allocator>(
+    value: &Value<A>,
+    bound: Option<u64>,
+    offset: u64,
+) -> Result<u64, ValueFault>
     requires start { offset ≤ message_limit }
     requires bounded { IfSome bound (λ b. b < 2 ^ 28) }
     requires signed { HasShortSignatures (value_tree value.now) }
@@ -174,7 +178,11 @@ fn size_value<A: Allocator>(value: &Value<A>, bound: Option<u64>, offset: u64) -
 }
 
 #[cycle(size)]
-fn size_values<A: Allocator>(values: &[Value<A>], bound: Option<u64>, offset: u64) -> Result<u64, ValueFault>
+fn size_values<A: Allocator>(
+    values: &[Value<A>],
+    bound: Option<u64>,
+    offset: u64,
+) -> Result<u64, ValueFault>
     requires start { offset ≤ message_limit }
     requires bounded { IfSome bound (λ b. b < 2 ^ 28) }
     requires signed { HaveShortSignatures (value_trees_of values.now) }

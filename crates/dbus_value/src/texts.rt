@@ -1,6 +1,8 @@
-//! Texts and signatures, one by one.
+//! Texts and signatures, one by one. D-Bus Specification, "Marshaling (Wire Format)".
 //!
-//! `bytes` begin at the message's first byte, and a place counts from there.
+//! `bytes` begin at the message's first byte, and a place counts from there. A text's length is read already. Each call
+//! answers `Refused` with the fault as soon as the bytes that are there show it, and `Partial` where they end within
+//! the text and show none.
 #![tactic(auto)]
 
 ghost use Rattle.std.specs.Prelude.{◌≡◌, ℕ, ◌+◌, ◌<◌, ◌≤◌, length, take, drop, IfOk};
@@ -55,8 +57,8 @@ fn alike(a: &[u8], b: &[u8]) -> usize
 
 /// A text of n bytes of a kind. Gives the place behind it.
 ///
-/// Else the kind's fault at the text's break, as soon as the bytes that are there show it. D-Bus Specification,
-/// "Basic types", "Valid Object Paths", "Valid Names" and "Valid Signatures".
+/// Else the kind's fault, as `text_reason` names it, at the text's break. D-Bus Specification, "Basic types", "Valid
+/// Object Paths", "Valid Names" and "Valid Signatures".
 pub fn read_text(bytes: &[u8], at: usize, n: usize, kind: TextKind) -> Result<usize, Stop>
     requires inside { at ≤ length bytes.now }
     ensures gives { Gives (λ q. (take n (drop at bytes.now), q)) bytes.now result (text (Of kind) n at (drop at bytes.now)) }
@@ -74,7 +76,8 @@ pub fn read_text(bytes: &[u8], at: usize, n: usize, kind: TextKind) -> Result<us
 
 /// The one signature that is wanted, where n bytes are given for it. Gives the place behind it.
 ///
-/// Else `FieldType` at the first byte that is another. D-Bus Specification, "Header Fields".
+/// Else `FieldType` at the first byte that is another, or at the text's end where more is wanted. D-Bus
+/// Specification, "Header Fields".
 pub fn read_only(bytes: &[u8], at: usize, n: usize, wanted: &[u8]) -> Result<usize, Stop>
     requires inside { at ≤ length bytes.now }
     ensures gives { Gives (λ q. (wanted.now, q)) bytes.now result (text (Only wanted.now) n at (drop at bytes.now)) }
@@ -96,7 +99,7 @@ pub fn read_only(bytes: &[u8], at: usize, n: usize, wanted: &[u8]) -> Result<usi
 
 /// The signature of one complete type, of n bytes: its type, and the place behind it.
 ///
-/// `Signature` at its break where it is another text. D-Bus Specification, "Valid Signatures".
+/// Else `Signature` at the text's break; `Memory` where a growth was refused. D-Bus Specification, "Valid Signatures".
 pub fn read_signature<A: Allocator + Copy>(
     alloc: A,
     bytes: &[u8],

@@ -3,7 +3,7 @@
 
 ghost use Rattle.std.specs.Prelude.{◌≡◌, map, IfOk};
 ghost use Rattle.dbus_types.specs.SigTypes.{type_tree};
-ghost use Rattle.dbus_value.specs.Spelling.{type_of as tree_type};
+ghost use Rattle.dbus_value.specs.Values.{type_of as tree_type};
 ghost use Rattle.dbus_value.specs.ValueViews.{value_tree};
 
 use crate::value::Value;

@@ -7,7 +7,8 @@
 ghost use Rattle.std.specs.Prelude.{◌≡◌, ◌+◌, ◌<◌, ◌≤◌, ◌^◌, ◌∷◌, [], ◌++◌, length, vec_capacity, take, drop};
 ghost use Rattle.dbus_types.specs.Types.{STRING, SIGNATURE};
 ghost use Rattle.dbus_value.specs.Appending.{with_padding, with_value};
-ghost use Rattle.dbus_value.specs.Spelling.{num, TextValue};
+ghost use Rattle.dbus_value.specs.Bytes.{num};
+ghost use Rattle.dbus_value.specs.Values.{TextValue};
 
 use crate::order::Order;
 use std::alloc::Allocator;
@@ -31,7 +32,7 @@ pub fn write_byte<A: Allocator>(out: &mut Vec<u8, A>, byte: u8)
 }
 
 /// Appends zeros up to the next multiple of `alignment`.
-#[tactic(auto, using(crate::proofs::Written::lengths), unfolding(crate::specs::Appending::with_padding, crate::specs::Spelling::gap_to))]
+#[tactic(auto, using(crate::proofs::Written::lengths), unfolding(crate::specs::Appending::with_padding, crate::specs::Bytes::gap_to))]
 pub fn write_padding<A: Allocator>(out: &mut Vec<u8, A>, alignment: u8)
     requires positive { 0 < alignment }
     requires space { length (with_padding alignment out.old.items) ≤ vec_capacity out.old }

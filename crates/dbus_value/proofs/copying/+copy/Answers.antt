@@ -2,7 +2,7 @@ use Rattle.std.proofs.Common.{◌≡◌, List, ◌++◌, ◌∷◌, [], map, tak
 use Rattle.std.proofs.lemmas.List.{map_push, map_more}
 use Rattle.dbus_types.specs.Types.{TypeTree}
 use Rattle.dbus_types.specs.SigTypes.{type_tree}
-use Rattle.dbus_value.specs.Spelling.{ValueTree, ArrayValue, StructValue, value_trees}
+use Rattle.dbus_value.specs.Values.{ValueTree, ArrayValue, StructValue, value_trees}
 use Rattle.dbus_value.specs.ValueViews.{value_tree}
 use Rattle.dbus_value.proofs.ValueRows.{tree-Array, tree-Struct}
 use Rattle.dbus_value.proofs.copying.+copy.Goals as goal

@@ -4,7 +4,9 @@ use Rattle.dbus_types.specs.Types.{sig, STRING}
 use Rattle.dbus_types.specs.Alignments.{alignment_of}
 use Rattle.dbus_types.specs.SigTypes.{type_tree}
 use Rattle.dbus_value.specs.Appending.{with_padding, with_value, with_values}
-use Rattle.dbus_value.specs.Spelling.{num, type_of, spelling, spellings}
+use Rattle.dbus_value.specs.Bytes.{num}
+use Rattle.dbus_value.specs.Values.{type_of}
+use Rattle.dbus_value.specs.Spelling.{spelling, spellings}
 use Rattle.dbus_value.specs.ValueViews.{value_tree, value_trees_of}
 use Rattle.dbus_value.specs.declared.value.Value.{the_lemmas}
 use Rattle.dbus_value.proofs.Joining.{length_join}
@@ -234,9 +236,10 @@ write_values-write_value-requires g t c κs within =
     let parts = short_more xs i x c.loop-value-test.true c.value-item.is c.loop-value.invariant.2 in
     let more = writes_more order xs i x here c.loop-value-test.true c.value-item.is in
     let whole = ap length (sym more ∙ c.loop-value.invariant.0) in
-    let grows = length_values order (value_trees_of (drop (i + 1) xs)) (with_value order (value_tree x) here) in
-    (rw (← c.decreases) (below_most_of_three _ xs i x c.loop-value-test.true c.value-item.is),
-    (within, (omega (arith, whole, grows, c.requires.space, c.loop-value.invariant.1), (omega (arith, whole, grows, c.requires.fits), parts.0))))
+    let grows = length_values order (value_trees_of (drop (i + 1) xs)) (with_value order (value_tree x) here) in (
+      rw (← c.decreases) (below_most_of_three _ xs i x c.loop-value-test.true c.value-item.is),
+      (within, (omega (arith, whole, grows, c.requires.space, c.loop-value.invariant.1), (omega (arith, whole, grows, c.requires.fits), parts.0))),
+    )
 
 pub write_values-loop-value-preserved : goal.write_values-loop-value-preserved
 write_values-loop-value-preserved g t c =
@@ -245,9 +248,11 @@ write_values-loop-value-preserved g t c =
     let i = c.loop-value.value-index in
     let x = c.value-item.result in
     let parts = short_more xs i x c.loop-value-test.true c.value-item.is c.loop-value.invariant.2 in
-    let more = writes_more order xs i x c.loop-value.out.items c.loop-value-test.true c.value-item.is in
-    (ap (with_values order (value_trees_of (drop (i + 1) xs))) c.write_value.ensures.written ∙ sym more ∙ c.loop-value.invariant.0,
-    omega (arith, c.loop-value.invariant.1, c.write_value.ensures.room), parts.1)
+    let more = writes_more order xs i x c.loop-value.out.items c.loop-value-test.true c.value-item.is in (
+      ap (with_values order (value_trees_of (drop (i + 1) xs))) c.write_value.ensures.written ∙ sym more ∙ c.loop-value.invariant.0,
+      omega (arith, c.loop-value.invariant.1, c.write_value.ensures.room),
+      parts.1,
+    )
 
 pub write_values-returns-clause-written : goal.write_values-returns-clause-written
 write_values-returns-clause-written g t c =

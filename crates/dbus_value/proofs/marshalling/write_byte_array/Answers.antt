@@ -1,6 +1,6 @@
 use Rattle.std.proofs.Common.{◌≡◌, ◌+◌, ◌++◌, length, vec_capacity, sym, ap, ◌∙◌, arith}
 use Rattle.dbus_value.specs.Appending.{with_padding}
-use Rattle.dbus_value.specs.Spelling.{num}
+use Rattle.dbus_value.specs.Bytes.{num}
 use Rattle.dbus_value.proofs.Joining.{length_join}
 use Rattle.dbus_value.proofs.Numbers.{length-num}
 use Rattle.dbus_value.proofs.Spells.{written_bytes, length_bytes}

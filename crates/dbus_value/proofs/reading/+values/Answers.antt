@@ -4,7 +4,7 @@ use Rattle.std.proofs.lemmas.List.{map_push, length_push}
 use Rattle.dbus_types.specs.Types.{BYTE, BOOLEAN, INT16, UINT16, INT32, UINT32, INT64, UINT64, DOUBLE, UNIX_FD, STRING, OBJECT_PATH, SIGNATURE, sig, TypeTree, NumberType}
 use Rattle.dbus_types.specs.SigTypes.{type_tree, type_trees_of}
 use Rattle.dbus_types.proofs.TypeViews as types
-use Rattle.dbus_value.specs.Spelling.{ArrayValue}
+use Rattle.dbus_value.specs.Values.{ArrayValue}
 use Rattle.dbus_value.specs.ValueViews.{value_tree, value_trees_of, byte_values}
 use Rattle.dbus_value.specs.Reading.{value, fields, Done}
 use Rattle.dbus_value.proofs.ValueRows.{tree-Bytes, tree-Array, tree-Struct}

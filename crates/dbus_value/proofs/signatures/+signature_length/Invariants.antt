@@ -1,6 +1,6 @@
 use Rattle.std.proofs.Common.{◌≡◌, ◌+◌, drop, length}
 use Rattle.dbus_types.specs.Types.{sigs}
-use Rattle.dbus_value.specs.Spelling.{types_of}
+use Rattle.dbus_value.specs.Values.{types_of}
 use Rattle.dbus_value.specs.ValueViews.{value_trees_of}
 use Rattle.dbus_value.proofs.signatures.+signature_length.Given as goal
 

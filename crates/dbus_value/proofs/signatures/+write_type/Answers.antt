@@ -61,6 +61,8 @@ write_types-loop-ty-preserved g t c =
     let ts = c.args.types.now in
     let i = c.loop-ty.ty-index in
     let x = c.ty-item.result in
-    let more = sigs_more ts i x c.loop-ty-test.true c.ty-item.is in
-    (step_joined c.loop-ty.out.items (sig (type_tree x)) (sigs (type_trees_of (drop i ts))) (sigs (type_trees_of (drop (i + 1) ts))) (c.args.out.now.items ++ sigs (type_trees_of ts)) c.write_type.new.out.items
-    c.loop-ty.invariant.0 more c.write_type.ensures.written, omega (arith, c.loop-ty.invariant.1, c.write_type.ensures.room))
+    let more = sigs_more ts i x c.loop-ty-test.true c.ty-item.is in (
+      step_joined c.loop-ty.out.items (sig (type_tree x)) (sigs (type_trees_of (drop i ts))) (sigs (type_trees_of (drop (i + 1) ts))) (c.args.out.now.items ++ sigs (type_trees_of ts)) c.write_type.new.out.items
+          c.loop-ty.invariant.0 more c.write_type.ensures.written,
+      omega (arith, c.loop-ty.invariant.1, c.write_type.ensures.room),
+    )

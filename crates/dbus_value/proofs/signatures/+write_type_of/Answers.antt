@@ -1,7 +1,7 @@
 use Rattle.std.proofs.Common.{◌≡◌, ◌+◌, ◌++◌, ◌∷◌, [], drop, vec_capacity, arith}
 use Rattle.dbus_types.specs.Types.{sig, sigs}
 use Rattle.dbus_types.specs.SigTypes.{type_tree}
-use Rattle.dbus_value.specs.Spelling.{type_of, types_of}
+use Rattle.dbus_value.specs.Values.{type_of, types_of}
 use Rattle.dbus_value.specs.ValueViews.{value_tree, value_trees_of}
 use Rattle.dbus_value.specs.declared.value.Value.{the_lemmas}
 use Rattle.dbus_value.proofs.Joining.{length_join, join_assoc, join_around, join_two, first_fits, step_joined}
@@ -63,9 +63,11 @@ write_types_of-loop-value-preserved g t c =
     let ts = c.args.values.now in
     let i = c.loop-value.value-index in
     let x = c.value-item.result in
-    let more = types_more ts i x c.loop-value-test.true c.value-item.is in
-    (step_joined c.loop-value.out.items (sig (type_of (value_tree x))) (sigs (types_of (value_trees_of (drop i ts)))) (sigs (types_of (value_trees_of (drop (i + 1) ts)))) (c.args.out.now.items ++ sigs (types_of (value_trees_of ts))) c.write_type_of.new.out.items
-    c.loop-value.invariant.0 more c.write_type_of.ensures.written, omega (arith, c.loop-value.invariant.1, c.write_type_of.ensures.room))
+    let more = types_more ts i x c.loop-value-test.true c.value-item.is in (
+      step_joined c.loop-value.out.items (sig (type_of (value_tree x))) (sigs (types_of (value_trees_of (drop i ts)))) (sigs (types_of (value_trees_of (drop (i + 1) ts)))) (c.args.out.now.items ++ sigs (types_of (value_trees_of ts))) c.write_type_of.new.out.items
+          c.loop-value.invariant.0 more c.write_type_of.ensures.written,
+      omega (arith, c.loop-value.invariant.1, c.write_type_of.ensures.room),
+    )
 
 pub write_type_of-write_types_of-requires : goal.write_type_of-write_types_of-requires
 write_type_of-write_types_of-requires g t c κs within =

@@ -1,6 +1,6 @@
 use Rattle.std.proofs.Common.{◌≡◌, ◌≤◌, ◌+◌, ◌++◌, drop, length, vec_capacity}
 use Rattle.dbus_types.specs.Types.{sigs}
-use Rattle.dbus_value.specs.Spelling.{types_of}
+use Rattle.dbus_value.specs.Values.{types_of}
 use Rattle.dbus_value.specs.ValueViews.{value_trees_of}
 use Rattle.dbus_value.proofs.signatures.+write_type_of.Given as goal
 

@@ -1,7 +1,7 @@
 use Rattle.std.proofs.Common.{take_all, ◌≡◌, ◌++◌, ◌∷◌, [], map, take, sym, ap, ◌∙◌, rules}
 use Rattle.std.proofs.lemmas.List.{map_push, map_more}
 use Rattle.dbus_types.specs.SigTypes.{type_tree}
-use Rattle.dbus_value.specs.Spelling.{StructValue, type_of as tree_type}
+use Rattle.dbus_value.specs.Values.{StructValue, type_of as tree_type}
 use Rattle.dbus_value.specs.ValueViews.{value_tree, value_trees_of}
 use Rattle.dbus_value.proofs.ValueRows.{tree-Struct}
 use Rattle.dbus_value.proofs.TypeRows.{type_tree-Struct, struct_type}

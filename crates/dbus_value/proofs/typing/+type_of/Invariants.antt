@@ -1,6 +1,6 @@
 use Rattle.std.proofs.Common.{◌≡◌, map, take}
 use Rattle.dbus_types.specs.SigTypes.{type_tree}
-use Rattle.dbus_value.specs.Spelling.{type_of as tree_type}
+use Rattle.dbus_value.specs.Values.{type_of as tree_type}
 use Rattle.dbus_value.specs.ValueViews.{value_tree}
 use Rattle.dbus_value.proofs.typing.+type_of.Given as goal
 

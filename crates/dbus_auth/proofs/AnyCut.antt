@@ -1,0 +1,228 @@
+-- However the bytes are cut, a server's end sends the same lines and comes to the same status.
+use Rattle.std.proofs.Common.{◌≡◌, ◌≢◌, inl, inr, ℕ, suc, ◌+◌, ◌-◌, ◌==◌, Bool, true, false, cond, List, [], ◌∷◌, ◌++◌, length, take, drop, refl, sym, ◌∙◌, ap, arith, append_assoc, length-append, take-append-drop}
+use Rattle.std.proofs.lemmas.List.{append-nil, take-append-le, drop_at}
+use Rattle.dbus_auth.specs.Lines.{server_line, ended, client_meaning}
+use Rattle.dbus_auth.specs.Cut.{Cut, Ends, Bad, More, cut}
+use Rattle.dbus_auth.specs.Machines.{ServerMachine, ServerAction, server_step}
+use Rattle.dbus_auth.specs.Ends.{ServerEndState, EndOutcome, server_sends, server_status, server_cuts, server_first, server_talks, server_takes_at, server_takes, server_closes}
+use Rattle.dbus_auth.specs.AnyPeer.{ServerRun, line_sent, run_server, IsFinished, LooksAlike}
+use Rattle.dbus_auth.specs.World.{server_at_first}
+use Rattle.dbus_auth.specs.declared.end_step.Status.{Status}
+use Rattle.dbus_auth.specs.declared.end_step.Status.TheVariants as status
+use Rattle.dbus_auth.proofs.Cuts.{StaysSettled, IsAbove, cut_follows}
+use Rattle.dbus_auth.proofs.Sides.{cut_nil}
+
+-- ---- byte by byte
+
+record Seen : Type 0 where
+  said : List (List ℕ)
+  status : Status
+
+abbrev tells : List ℕ → Seen → Seen
+tells send x = record { said = line_sent send ++ x.said; status = x.status }
+
+abbrev ends_as : Status → Seen
+ends_as st = record { said = []; status = st }
+
+-- after the machine's step; rest is what comes of the bytes behind the line
+abbrev after_turn : ServerAction → Seen → Seen
+after_turn (ServerAction.Sends line) rest = tells (ended (server_line line)) rest
+after_turn ServerAction.Begins rest = ends_as status.Begun
+after_turn ServerAction.Disconnects rest = ends_as status.Closed
+
+abbrev answered : ServerMachine → List ℕ → (ServerMachine → Seen) → Seen
+answered s line rest = after_turn (server_step s (client_meaning line)).action (rest (record s { state = (server_step s (client_meaning line)).next }))
+
+abbrev picks : ServerMachine → List ℕ → Cut → (ServerMachine → List ℕ → Seen) → Seen
+picks s k More rest = rest s k
+picks s k (Bad f) rest = ends_as status.Closed
+picks s k (Ends n) rest = answered s (take (n - 2) k) (λ t. rest t [])
+
+-- what comes of the bytes behind those that are kept
+goes : ServerMachine → List ℕ → List ℕ → Seen
+goes s kept [] = ends_as status.Talking
+goes s kept (b ∷ bs) = picks s (kept ++ b ∷ []) (cut (kept ++ b ∷ [])) (λ t k. goes t k bs)
+
+-- ---- a piece at once
+
+abbrev at_once : ServerMachine → List ℕ → List ℕ → List ℕ → Cut → Seen
+at_once s kept p r More = goes s (kept ++ p) r
+at_once s kept p r (Bad f) = ends_as status.Closed
+at_once s kept p r (Ends n) = answered s (take (n - 2) (kept ++ p)) (λ t. goes t [] (drop (n - length kept) (p ++ r)))
+
+-- the first byte of a piece, and the others
+module _ (s : ServerMachine) (kept : List ℕ) (b : ℕ) (p r : List ℕ) where
+  one_more : List ℕ
+  one_more = kept ++ b ∷ []
+
+  shift : (c : Cut) → IsAbove c (length (kept ++ b ∷ [])) → at_once s (kept ++ b ∷ []) p r c ≡ at_once s kept (b ∷ p) r c
+  shift More h = ap (λ (x : List ℕ). goes s x r) (append_assoc kept (b ∷ []) p)
+  shift (Bad f) h = refl
+  shift (Ends n) h =
+      let e : n - length kept ≡ suc (n - length (kept ++ b ∷ [])) = omega (arith, length-append kept (b ∷ []), h) in
+      ap (λ (x : List ℕ). answered s (take (n - 2) x) (λ t. goes t [] (drop (n - length (kept ++ b ∷ [])) (p ++ r)))) (append_assoc kept (b ∷ []) p)
+      ∙ ap (λ (m : ℕ). answered s (take (n - 2) (kept ++ b ∷ p)) (λ t. goes t [] (drop m (b ∷ (p ++ r))))) (sym e)
+
+  first_byte : (c : Cut) → StaysSettled c (cut (kept ++ b ∷ p)) (length (kept ++ b ∷ [])) → IsAbove c (length kept)
+      → (c ≡ More → goes s (kept ++ b ∷ []) (p ++ r) ≡ at_once s (kept ++ b ∷ []) p r (cut (kept ++ b ∷ p)))
+      → picks s (kept ++ b ∷ []) c (λ t k. goes t k (p ++ r)) ≡ at_once s kept (b ∷ p) r (cut (kept ++ b ∷ p))
+  first_byte More h above others = others refl ∙ shift (cut (kept ++ b ∷ p)) h
+  first_byte (Bad f) h above others = rw h refl
+  first_byte (Ends n) h above others =
+      let size = length-append kept (b ∷ []) in
+      let one : n - length kept ≡ 1 = omega (arith, size, above, h.1) in
+      let same : take (n - 2) (kept ++ b ∷ p) ≡ take (n - 2) (kept ++ b ∷ []) =
+      ap (take (n - 2)) (sym (append_assoc kept (b ∷ []) p)) ∙ take-append-le (n - 2) (kept ++ b ∷ []) p (omega (arith, size, h.1)) in
+      rw h.0 (ap (λ (x : List ℕ). answered s x (λ t. goes t [] (p ++ r))) (sym same)
+      ∙ ap (λ (m : ℕ). answered s (take (n - 2) (kept ++ b ∷ p)) (λ t. goes t [] (drop m (b ∷ (p ++ r))))) (sym one))
+
+piecewise : (p : List ℕ) (s : ServerMachine) (kept r : List ℕ) → cut kept ≡ More → goes s kept (p ++ r) ≡ at_once s kept p r (cut (kept ++ p))
+unfolding goes
+piecewise [] s kept r wants = rw (append-nil kept, wants) (ap (λ (x : List ℕ). goes s x r) (sym (append-nil kept)))
+piecewise (b ∷ p) s kept r wants =
+    let k = kept ++ b ∷ [] in
+    let e = append_assoc kept (b ∷ []) p in
+    first_byte s kept b p r (cut k)
+    (rw e at (cut_follows k p))
+    (rw wants at (cut_follows kept (b ∷ [])))
+    (λ m. rw e at (piecewise p s k r m))
+
+goes_nil : (s : ServerMachine) (kept : List ℕ) → goes s kept [] ≡ ends_as status.Talking
+unfolding goes
+goes_nil s kept = refl
+
+-- ---- an end and the bytes to come
+
+abbrev seen_first : ServerEndState → List ℕ → Seen
+seen_first e [] = ends_as status.Talking
+seen_first e (b ∷ bs) = cond (b == 0) (goes e.server e.kept bs) (ends_as status.Closed)
+
+abbrev seen_talking : ServerEndState → List ℕ → Bool → Seen
+seen_talking e bytes true = goes e.server e.kept bytes
+seen_talking e bytes false = seen_first e bytes
+
+abbrev seen_at : ServerEndState → List ℕ → Status → Seen
+seen_at e bytes status.Talking = seen_talking e bytes e.zero_taken
+seen_at e bytes status.Begun = ends_as status.Begun
+seen_at e bytes status.Closed = ends_as status.Closed
+
+abbrev seen : ServerEndState → List ℕ → Seen
+seen e bytes = seen_at e bytes e.status
+
+-- it is a right account of a piece of these bytes
+abbrev Accounts : Seen → EndOutcome ServerEndState → List ℕ → Type 0
+Accounts x outcome bytes = x ≡ tells outcome.send (seen outcome.after (drop outcome.taken bytes))
+
+step_seen : (action : ServerAction) (next : ServerMachine) (rest : List ℕ) →
+    after_turn action (goes next [] rest) ≡ tells (server_sends action) (seen (record { server = next; zero_taken = true; kept = []; status = server_status action }) rest)
+step_seen (ServerAction.Sends line) next rest = refl
+step_seen ServerAction.Begins next rest = refl
+step_seen ServerAction.Disconnects next rest = refl
+
+cuts_seen : (e : ServerEndState) (skipped : ℕ) (p r bytes : List ℕ) (c : Cut) → e.status ≡ status.Talking → ((t : ℕ) → drop (skipped + t) bytes ≡ drop t (p ++ r))
+    → Accounts (at_once e.server e.kept p r c) (server_cuts e skipped p c) bytes
+cuts_seen e skipped p r bytes More talking d =
+    let rest : drop (skipped + length p) bytes ≡ r = d (length p) ∙ drop_at p r (length p) refl in
+    rw (talking, rest) refl
+cuts_seen e skipped p r bytes (Bad f) talking d = refl
+cuts_seen e skipped p r bytes (Ends n) talking d =
+    let line = take (n - 2) (e.kept ++ p) in
+    let step = server_step e.server (client_meaning line) in
+    rw (d (n - length e.kept)) (step_seen step.action (record e.server { state = step.next }) (drop (n - length e.kept) (p ++ r)))
+
+first_seen : (e : ServerEndState) (p r : List ℕ) → cut e.kept ≡ More → e.status ≡ status.Talking → e.zero_taken ≡ false → Accounts (seen_first e (p ++ r)) (server_first e p) (p ++ r)
+first_seen e [] r sound talking z = rw (talking, z) refl
+first_seen e (b ∷ p) r sound talking z = by_zero (b == 0)
+  where
+    by_zero : (t : Bool) → Accounts (cond t (goes e.server e.kept (p ++ r)) (ends_as status.Closed)) (cond t (server_cuts e 1 p (cut (e.kept ++ p))) (server_closes e)) (b ∷ (p ++ r))
+    by_zero true =
+        piecewise p e.server e.kept r sound
+        ∙ cuts_seen e 1 p r (b ∷ (p ++ r)) (cut (e.kept ++ p)) talking (λ t. let e : 1 + t ≡ suc t = omega arith in ap (λ (n : ℕ). drop n (b ∷ (p ++ r))) e)
+    by_zero false = refl
+
+talks_seen : (e : ServerEndState) (p r : List ℕ) (z : Bool) → cut e.kept ≡ More → e.status ≡ status.Talking → e.zero_taken ≡ z → Accounts (seen_talking e (p ++ r) z) (server_talks e p z) (p ++ r)
+talks_seen e p r true sound talking z =
+    piecewise p e.server e.kept r sound ∙ cuts_seen e 0 p r (p ++ r) (cut (e.kept ++ p)) talking (λ t. let e : 0 + t ≡ t = omega arith in ap (λ (n : ℕ). drop n (p ++ r)) e)
+talks_seen e p r false sound talking z = first_seen e p r sound talking z
+
+takes_seen_at : (e : ServerEndState) (p r : List ℕ) (st : Status) → cut e.kept ≡ More → e.status ≡ st → Accounts (seen_at e (p ++ r) st) (server_takes_at e p st) (p ++ r)
+takes_seen_at e p r status.Talking sound is = talks_seen e p r e.zero_taken sound is refl
+takes_seen_at e p r status.Begun sound is = rw is refl
+takes_seen_at e p r status.Closed sound is = rw is refl
+
+takes_seen : (e : ServerEndState) (p r : List ℕ) → cut e.kept ≡ More → Accounts (seen e (p ++ r)) (server_takes e p) (p ++ r)
+unfolding server_takes
+takes_seen e p r sound = takes_seen_at e p r e.status sound refl
+
+-- ---- what is kept asks for more
+
+cuts_sound : (e : ServerEndState) (skipped : ℕ) (p : List ℕ) (c : Cut) → cut e.kept ≡ More → cut (e.kept ++ p) ≡ c → cut (server_cuts e skipped p c).after.kept ≡ More
+cuts_sound e skipped p More sound is = is
+cuts_sound e skipped p (Bad f) sound is = sound
+cuts_sound e skipped p (Ends n) sound is = cut_nil
+
+first_sound : (e : ServerEndState) (p : List ℕ) → cut e.kept ≡ More → cut (server_first e p).after.kept ≡ More
+first_sound e [] sound = sound
+first_sound e (b ∷ p) sound = by_zero (b == 0)
+  where
+    by_zero : (t : Bool) → cut (cond t (server_cuts e 1 p (cut (e.kept ++ p))) (server_closes e)).after.kept ≡ More
+    by_zero true = cuts_sound e 1 p (cut (e.kept ++ p)) sound refl
+    by_zero false = sound
+
+talks_sound : (e : ServerEndState) (p : List ℕ) (z : Bool) → cut e.kept ≡ More → cut (server_talks e p z).after.kept ≡ More
+talks_sound e p true sound = cuts_sound e 0 p (cut (e.kept ++ p)) sound refl
+talks_sound e p false sound = first_sound e p sound
+
+takes_sound_at : (e : ServerEndState) (p : List ℕ) (st : Status) → cut e.kept ≡ More → cut (server_takes_at e p st).after.kept ≡ More
+takes_sound_at e p status.Talking sound = talks_sound e p e.zero_taken sound
+takes_sound_at e p status.Begun sound = sound
+takes_sound_at e p status.Closed sound = sound
+
+pub takes_sound : (e : ServerEndState) (p : List ℕ) → cut e.kept ≡ More → cut (server_takes e p).after.kept ≡ More
+unfolding server_takes
+takes_sound e p sound = takes_sound_at e p e.status sound
+
+-- ---- all pieces
+
+abbrev behind : List (List ℕ) → Seen → Seen
+behind said x = record { said = said ++ x.said; status = x.status }
+
+run_seen : (ns : List ℕ) (e : ServerEndState) (bytes : List ℕ) → cut e.kept ≡ More → seen e bytes ≡ behind (run_server e bytes ns).said (seen (run_server e bytes ns).after (run_server e bytes ns).left)
+run_seen [] e bytes sound = refl
+run_seen (n ∷ ns) e bytes sound =
+    let outcome = server_takes e (take n bytes) in
+    let rest = run_server outcome.after (drop outcome.taken bytes) ns in
+    let last = seen rest.after rest.left in
+    ap (seen e) (sym (take-append-drop n bytes)) ∙ takes_seen e (take n bytes) (drop n bytes) sound
+    ∙ ap (λ (x : List ℕ). tells outcome.send (seen outcome.after (drop outcome.taken x))) (take-append-drop n bytes)
+    ∙ ap (tells outcome.send) (run_seen ns outcome.after (drop outcome.taken bytes) (takes_sound e (take n bytes) sound))
+    ∙ ap (λ (x : List (List ℕ)). record { said = x; status = last.status }) (sym (append_assoc (line_sent outcome.send) rest.said last.said))
+
+none_left : (e : ServerEndState) (z : Bool) → seen_talking e [] z ≡ ends_as status.Talking
+none_left e true = goes_nil e.server e.kept
+none_left e false = refl
+
+seen_nil : (e : ServerEndState) (st : Status) → seen_at e [] st ≡ ends_as st
+seen_nil e status.Talking = none_left e e.zero_taken
+seen_nil e status.Begun = refl
+seen_nil e status.Closed = refl
+
+seen_shut : (e : ServerEndState) (bytes : List ℕ) (st : Status) → st ≢ status.Talking → seen_at e bytes st ≡ ends_as st
+seen_shut e bytes status.Talking h = absurd (h refl)
+seen_shut e bytes status.Begun h = refl
+seen_shut e bytes status.Closed h = refl
+
+finished : (h : ServerRun) → IsFinished h → seen h.after h.left ≡ ends_as h.after.status
+finished h (inl nil) = ap (seen h.after) nil ∙ seen_nil h.after h.after.status
+finished h (inr shut) = seen_shut h.after h.left h.after.status shut
+
+run_outcome : (e : ServerEndState) (bytes ns : List ℕ) → cut e.kept ≡ More → IsFinished (run_server e bytes ns) → seen e bytes ≡ record { said = (run_server e bytes ns).said; status = (run_server e bytes ns).after.status }
+run_outcome e bytes ns sound fin =
+    let h = run_server e bytes ns in
+    run_seen ns e bytes sound ∙ ap (behind h.said) (finished h fin) ∙ ap (λ (x : List (List ℕ)). record { said = x; status = h.after.status }) (append-nil h.said)
+
+pub same_outcome : (s : ServerMachine) (bytes ns ms : List ℕ) → IsFinished (run_server (server_at_first s) bytes ns) → IsFinished (run_server (server_at_first s) bytes ms)
+    → LooksAlike (run_server (server_at_first s) bytes ns) (run_server (server_at_first s) bytes ms)
+same_outcome s bytes ns ms f g =
+    let e = sym (run_outcome (server_at_first s) bytes ns cut_nil f) ∙ run_outcome (server_at_first s) bytes ms cut_nil g in
+    record { said = ap (λ (x : Seen). x.said) e; status = ap (λ (x : Seen). x.status) e }

@@ -1,0 +1,167 @@
+-- A server that has begun sent OK as its last line other than ERROR, whoever its peer is.
+use Rattle.std.proofs.Common.{◌≡◌, ℕ, ◌+◌, ◌-◌, ◌==◌, Bool, true, false, cond, List, [], ◌∷◌, ◌++◌, length, take, drop, refl, sym, ◌∙◌, ap, subst, append_assoc}
+use Rattle.std.proofs.lemmas.List.{append-nil}
+use Rattle.dbus_auth.specs.World.{server_at_first}
+use Rattle.std.specs.Prelude.{codes}
+use Rattle.std.specs.List.{AllByRecursion}
+use Rattle.dbus_auth.specs.ClientCommands.{ClientCommand}
+use Rattle.dbus_auth.specs.ClientCommands as client
+use Rattle.dbus_auth.specs.ServerCommands as server
+use Rattle.dbus_auth.specs.Lines.{server_line, ended, client_meaning}
+use Rattle.dbus_auth.specs.Cut.{Cut, Ends, Bad, More, cut}
+use Rattle.dbus_auth.specs.Machines.{ServerMachine, ServerStep, ServerAction, server_step, server_step_at, rejects, accepts, replies, complains, mechanisms}
+use Rattle.dbus_auth.specs.Ends.{ServerEndState, server_answers, server_cuts, server_first, server_talks, server_takes_at, server_takes, server_closes}
+use Rattle.dbus_auth.specs.AnyPeer.{line_sent, run_server, LastIsOk}
+use Rattle.dbus_auth.specs.declared.end_step.Status.{Status}
+use Rattle.dbus_auth.specs.declared.end_step.Status.TheVariants as status
+use Rattle.dbus_auth.specs.declared.states.ServerState.{ServerState}
+use Rattle.dbus_auth.specs.declared.states.ServerState.TheVariants as at
+
+-- past OK, so that BEGIN begins or began
+abbrev IsPastOk : ServerState → Type 0
+IsPastOk at.WaitingForAuth = ⊥
+IsPastOk at.WaitingForData = ⊥
+IsPastOk at.WaitingForBegin = Unit {0}
+IsPastOk at.Begun = Unit {0}
+IsPastOk at.Closed = ⊥
+
+-- the kinds of turns
+data Kind (s : ServerMachine) (state : ServerState) (step : ServerStep) : Type 0 where
+  gives_ok : step ≡ accepts s → Kind s state step
+  gives_error : step ≡ complains state → Kind s state step
+  goes_back : (line : _) (next : ServerState) → step ≡ replies line next → (IsPastOk next → ⊥) → Kind s state step
+  begins : step ≡ record { action = ServerAction.Begins; next = at.Begun } → IsPastOk state → Kind s state step
+  gives_up : (next : ServerState) → step ≡ record { action = ServerAction.Disconnects; next = next } → (IsPastOk next → IsPastOk state) → Kind s state step
+
+is_reject : (s : ServerMachine) (state : ServerState) → Kind s state (rejects s)
+is_reject s state = goes_back (server.Rejected (mechanisms s)) at.WaitingForAuth refl (λ x. x)
+
+choose : (s : ServerMachine) (state : ServerState) (b : Bool) (x y : ServerStep) → Kind s state x → Kind s state y → Kind s state (cond b x y)
+choose s state true x y h k = h
+choose s state false x y h k = k
+
+kind_at : (s : ServerMachine) (state : ServerState) (line : ClientCommand) → Kind s state (server_step_at s state line)
+kind_at s at.WaitingForAuth (client.AuthBy mech response) =
+    choose s at.WaitingForAuth _ _ _ (goes_back (server.DataOf []) at.WaitingForData refl (λ x. x))
+    (choose s at.WaitingForAuth _ _ _ (gives_ok refl) (choose s at.WaitingForAuth _ _ _ (gives_ok refl) (is_reject s at.WaitingForAuth)))
+kind_at s at.WaitingForAuth client.Auth = is_reject s at.WaitingForAuth
+kind_at s at.WaitingForAuth (client.Error text) = is_reject s at.WaitingForAuth
+kind_at s at.WaitingForAuth client.Begin = gives_up at.Closed refl (λ x. x)
+kind_at s at.WaitingForAuth _ = gives_error refl
+kind_at s at.WaitingForData (client.DataOf bytes) = choose s at.WaitingForData _ _ _ (gives_ok refl) (is_reject s at.WaitingForData)
+kind_at s at.WaitingForData client.Cancel = is_reject s at.WaitingForData
+kind_at s at.WaitingForData (client.Error text) = is_reject s at.WaitingForData
+kind_at s at.WaitingForData client.Begin = gives_up at.Closed refl (λ x. x)
+kind_at s at.WaitingForData _ = gives_error refl
+kind_at s at.WaitingForBegin client.Begin = begins refl tt
+kind_at s at.WaitingForBegin client.Cancel = is_reject s at.WaitingForBegin
+kind_at s at.WaitingForBegin (client.Error text) = is_reject s at.WaitingForBegin
+kind_at s at.WaitingForBegin _ = gives_error refl
+kind_at s at.Begun line = gives_up at.Begun refl (λ x. x)
+kind_at s at.Closed line = gives_up at.Closed refl (λ x. x)
+
+record Good (guid : List ℕ) (e : ServerEndState) (said : List (List ℕ)) : Type 0 where
+  guid_is : e.server.guid ≡ guid
+  past_ok : IsPastOk e.server.state → LastIsOk guid said
+  begun : e.status ≡ status.Begun → e.server.state ≡ at.Begun
+
+LastIsOk-same : (guid : List ℕ) (said send : List (List ℕ)) → send ≡ [] → LastIsOk guid said → LastIsOk guid (said ++ send)
+LastIsOk-same guid said send nil h = record { front = h.front; errors = h.errors; is = ap (λ (x : List (List ℕ)). said ++ x) nil ∙ append-nil said ∙ h.is; only_errors = h.only_errors }
+
+errors_more : (errors : List (List ℕ)) → AllByRecursion (λ line. line ≡ ended (codes "ERROR")) errors → AllByRecursion (λ line. line ≡ ended (codes "ERROR")) (errors ++ ended (codes "ERROR") ∷ [])
+errors_more [] h = (refl, tt)
+errors_more (x ∷ xs) h = (h.0, errors_more xs h.1)
+
+LastIsOk-error : (guid : List ℕ) (said : List (List ℕ)) → LastIsOk guid said → LastIsOk guid (said ++ ended (codes "ERROR") ∷ [])
+LastIsOk-error guid said h = record {
+  front = h.front;
+  errors = h.errors ++ ended (codes "ERROR") ∷ [];
+  is = ap (λ (x : List (List ℕ)). x ++ ended (codes "ERROR") ∷ []) h.is ∙ append_assoc h.front (ended (server_line (server.Accepted guid)) ∷ h.errors) (ended (codes "ERROR") ∷ []);
+  only_errors = errors_more h.errors h.only_errors;
+}
+
+no_begun : {A : Type 0} → status.Talking ≡ status.Begun → A
+no_begun h = absurd (let x : status.Talking ≡ status.Begun = h in cc)
+
+closed_no_begun : {A : Type 0} → status.Closed ≡ status.Begun → A
+closed_no_begun h = absurd (let x : status.Closed ≡ status.Begun = h in cc)
+
+answer_keeps : (guid : List ℕ) (e : ServerEndState) (said : List (List ℕ)) (taken : ℕ) (step : ServerStep) → Good guid e said → Kind e.server e.server.state step
+    → Good guid (server_answers e taken step).after (said ++ line_sent (server_answers e taken step).send)
+answer_keeps guid e said taken step g (gives_ok is) = rw is (record {
+  guid_is = g.guid_is;
+  past_ok = λ _. record { front = said; errors = []; is = ap (λ (x : List ℕ). said ++ ended (server_line (server.Accepted x)) ∷ []) g.guid_is; only_errors = tt };
+  begun = no_begun;
+})
+answer_keeps guid e said taken step g (gives_error is) = rw is (record {
+  guid_is = g.guid_is;
+  past_ok = λ h. LastIsOk-error guid said (g.past_ok h);
+  begun = no_begun;
+})
+answer_keeps guid e said taken step g (goes_back line next is not_past) = rw is (record {
+  guid_is = g.guid_is;
+  past_ok = λ h. absurd (not_past h);
+  begun = no_begun;
+})
+answer_keeps guid e said taken step g (begins is past) = rw is (record {
+  guid_is = g.guid_is;
+  past_ok = λ _. LastIsOk-same guid said [] refl (g.past_ok past);
+  begun = λ _. refl;
+})
+answer_keeps guid e said taken step g (gives_up next is back) = rw is (record {
+  guid_is = g.guid_is;
+  past_ok = λ h. LastIsOk-same guid said [] refl (g.past_ok (back h));
+  begun = closed_no_begun;
+})
+
+-- the machine and Begun are as they were, and nothing is sent
+quiet_keeps : (guid : List ℕ) (e after : ServerEndState) (said : List (List ℕ)) → Good guid e said → after.server ≡ e.server → (after.status ≡ status.Begun → e.status ≡ status.Begun) → Good guid after (said ++ [])
+quiet_keeps guid e after said g is same = record {
+  guid_is = ap (λ (x : ServerMachine). x.guid) is ∙ g.guid_is;
+  past_ok = λ h. LastIsOk-same guid said [] refl (g.past_ok (subst (λ (x : ServerMachine). IsPastOk x.state) is h));
+  begun = λ h. ap (λ (x : ServerMachine). x.state) is ∙ g.begun (same h);
+}
+
+step_kind : (s : ServerMachine) (line : ClientCommand) → Kind s s.state (server_step s line)
+unfolding server_step
+step_kind s line = kind_at s s.state line
+
+cuts_keep : (guid : List ℕ) (e : ServerEndState) (said : List (List ℕ)) (skipped : ℕ) (bs : List ℕ) (c : Cut) → Good guid e said
+    → Good guid (server_cuts e skipped bs c).after (said ++ line_sent (server_cuts e skipped bs c).send)
+cuts_keep guid e said skipped bs (Ends size) g =
+    answer_keeps guid e said (skipped + (size - length e.kept)) (server_step e.server (client_meaning (take (size - 2) (e.kept ++ bs)))) g (step_kind e.server (client_meaning (take (size - 2) (e.kept ++ bs))))
+cuts_keep guid e said skipped bs (Bad f) g = quiet_keeps guid e (record e { status = status.Closed }) said g refl closed_no_begun
+cuts_keep guid e said skipped bs More g = quiet_keeps guid e (record e { zero_taken = true; kept = e.kept ++ bs }) said g refl (λ h. h)
+
+first_keeps : (guid : List ℕ) (e : ServerEndState) (said : List (List ℕ)) (bs : List ℕ) → Good guid e said → Good guid (server_first e bs).after (said ++ line_sent (server_first e bs).send)
+first_keeps guid e said [] g = quiet_keeps guid e e said g refl (λ h. h)
+first_keeps guid e said (b ∷ bs) g = by_zero (b == 0)
+  where
+    by_zero : (t : Bool) → Good guid (cond t (server_cuts e 1 bs (cut (e.kept ++ bs))) (server_closes e)).after (said ++ line_sent (cond t (server_cuts e 1 bs (cut (e.kept ++ bs))) (server_closes e)).send)
+    by_zero true = cuts_keep guid e said 1 bs (cut (e.kept ++ bs)) g
+    by_zero false = quiet_keeps guid e (record e { status = status.Closed }) said g refl closed_no_begun
+
+talks_keep : (guid : List ℕ) (e : ServerEndState) (said : List (List ℕ)) (p : List ℕ) (z : Bool) → Good guid e said → Good guid (server_talks e p z).after (said ++ line_sent (server_talks e p z).send)
+talks_keep guid e said p true g = cuts_keep guid e said 0 p (cut (e.kept ++ p)) g
+talks_keep guid e said p false g = first_keeps guid e said p g
+
+takes_keep_at : (guid : List ℕ) (e : ServerEndState) (said : List (List ℕ)) (p : List ℕ) (st : Status) → Good guid e said → Good guid (server_takes_at e p st).after (said ++ line_sent (server_takes_at e p st).send)
+takes_keep_at guid e said p status.Talking g = talks_keep guid e said p e.zero_taken g
+takes_keep_at guid e said p status.Begun g = quiet_keeps guid e e said g refl (λ h. h)
+takes_keep_at guid e said p status.Closed g = quiet_keeps guid e e said g refl (λ h. h)
+
+takes_keep : (guid : List ℕ) (e : ServerEndState) (said : List (List ℕ)) (p : List ℕ) → Good guid e said → Good guid (server_takes e p).after (said ++ line_sent (server_takes e p).send)
+unfolding server_takes
+takes_keep guid e said p g = takes_keep_at guid e said p e.status g
+
+run_keeps : (guid : List ℕ) (ns : List ℕ) (e : ServerEndState) (bytes : List ℕ) (said : List (List ℕ)) → Good guid e said → Good guid (run_server e bytes ns).after (said ++ (run_server e bytes ns).said)
+run_keeps guid [] e bytes said g = quiet_keeps guid e e said g refl (λ h. h)
+run_keeps guid (n ∷ ns) e bytes said g =
+    let outcome = server_takes e (take n bytes) in
+    let rest = run_server outcome.after (drop outcome.taken bytes) ns in
+    rw (← append_assoc said (line_sent outcome.send) rest.said) (run_keeps guid ns outcome.after (drop outcome.taken bytes) (said ++ line_sent outcome.send) (takes_keep guid e said (take n bytes) g))
+
+pub last_ok : (s : ServerMachine) (bytes ns : List ℕ) → (run_server (server_at_first s) bytes ns).after.status ≡ status.Begun → LastIsOk s.guid (run_server (server_at_first s) bytes ns).said
+last_ok s bytes ns h =
+    let g = run_keeps s.guid ns (server_at_first s) bytes [] (record { guid_is = refl; past_ok = absurd; begun = no_begun }) in
+    g.past_ok (subst IsPastOk (sym (g.begun h)) tt)

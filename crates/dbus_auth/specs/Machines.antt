@@ -1,0 +1,188 @@
+-- The two state machines as tables: for each state and each command the one row, with what is sent and the next
+-- state. D-Bus Specification, "Authentication Protocol", "Authentication state diagrams".
+use Rattle.std.specs.Prelude.{ℕ, ◌&&◌, ◌||◌, Bool, true, false, List, [], ◌∷◌, ◌++◌, Option, Some, None, codes, bytes_eq, decimal, if◌then◌else◌, ◌<◌, ◌^◌, length, IfSome, ◌≡◌}
+use Rattle.hex.specs.Hex.{IsBytes}
+use Rattle.dbus_auth.specs.ClientCommands.{ClientCommand}
+use Rattle.dbus_auth.specs.ClientCommands as client
+use Rattle.dbus_auth.specs.ServerCommands.{ServerCommand}
+use Rattle.dbus_auth.specs.ServerCommands as server
+use Rattle.dbus_auth.specs.declared.states.ServerState.{ServerState}
+use Rattle.dbus_auth.specs.declared.states.ServerState.TheVariants as at
+use Rattle.dbus_auth.specs.declared.states.ClientState.{ClientState}
+use Rattle.dbus_auth.specs.declared.states.ClientState.TheVariants as now
+
+-- ---- the server
+
+pub record ServerMachine : Type 0 where
+  pub guid : List ℕ
+  -- the user that the transport tells
+  pub user : Option ℕ
+  pub anonymous : Bool
+  pub state : ServerState
+
+pub data ServerAction : Type 0 where
+  Sends : (line : ServerCommand) → ServerAction
+  Begins : ServerAction
+  Disconnects : ServerAction
+
+pub record ServerStep : Type 0 where
+  pub action : ServerAction
+  pub next : ServerState
+
+-- the decimal text of the user, without leading zeros
+abbrev pub is_user : Option ℕ → List ℕ → Bool
+is_user None response = false
+is_user (Some n) response = bytes_eq response (decimal n)
+
+abbrev pub offers_external : Option ℕ → Bool
+offers_external None = false
+offers_external (Some n) = true
+
+abbrev pub is_empty : List ℕ → Bool
+is_empty [] = true
+is_empty (b ∷ bs) = false
+
+abbrev pub external_words : Option ℕ → List (List ℕ)
+external_words None = []
+external_words (Some n) = codes "EXTERNAL" ∷ []
+
+-- the mechanisms that the server offers
+abbrev pub mechanisms : ServerMachine → List (List ℕ)
+mechanisms s = external_words s.user ++ (if s.anonymous then codes "ANONYMOUS" ∷ [] else [])
+
+abbrev pub replies : ServerCommand → ServerState → ServerStep
+replies line next = record { action = Sends line; next = next }
+
+abbrev pub rejects : ServerMachine → ServerStep
+rejects s = replies (server.Rejected (mechanisms s)) at.WaitingForAuth
+
+abbrev pub accepts : ServerMachine → ServerStep
+accepts s = replies (server.Accepted s.guid) at.WaitingForBegin
+
+abbrev pub disconnects : ServerStep
+disconnects = record { action = Disconnects; next = at.Closed }
+
+abbrev pub complains : ServerState → ServerStep
+complains state = replies (server.Error []) state
+
+-- an empty EXTERNAL is asked for its identity by DATA
+abbrev pub by_mechanism : ServerMachine → List ℕ → List ℕ → ServerStep
+by_mechanism s mech response =
+    if bytes_eq mech (codes "EXTERNAL") && offers_external s.user && is_empty response then replies (server.DataOf []) at.WaitingForData
+    else if bytes_eq mech (codes "EXTERNAL") && is_user s.user response then accepts s
+    else if bytes_eq mech (codes "ANONYMOUS") && s.anonymous then accepts s
+    else rejects s
+
+-- the rows of each state, of which the first that fits holds
+abbrev pub waiting_for_auth : ServerMachine → ClientCommand → ServerStep
+waiting_for_auth s (client.AuthBy mech response) = by_mechanism s mech response
+waiting_for_auth s client.Auth = rejects s
+waiting_for_auth s (client.Error text) = rejects s
+waiting_for_auth s client.Begin = disconnects
+waiting_for_auth s _ = complains at.WaitingForAuth
+
+-- no identity means the user that the transport tells
+abbrev pub waiting_for_data : ServerMachine → ClientCommand → ServerStep
+waiting_for_data s (client.DataOf bytes) = if is_empty bytes || is_user s.user bytes then accepts s else rejects s
+waiting_for_data s client.Cancel = rejects s
+waiting_for_data s (client.Error text) = rejects s
+waiting_for_data s client.Begin = disconnects
+waiting_for_data s _ = complains at.WaitingForData
+
+abbrev pub waiting_for_begin : ServerMachine → ClientCommand → ServerStep
+waiting_for_begin s client.Begin = record { action = Begins; next = at.Begun }
+waiting_for_begin s client.Cancel = rejects s
+waiting_for_begin s (client.Error text) = rejects s
+waiting_for_begin s _ = complains at.WaitingForBegin
+
+-- the table; past the last state nothing is received
+abbrev pub server_step_at : ServerMachine → ServerState → ClientCommand → ServerStep
+server_step_at s at.WaitingForAuth line = waiting_for_auth s line
+server_step_at s at.WaitingForData line = waiting_for_data s line
+server_step_at s at.WaitingForBegin line = waiting_for_begin s line
+server_step_at s at.Begun line = record { action = Disconnects; next = at.Begun }
+server_step_at s at.Closed line = record { action = Disconnects; next = at.Closed }
+
+unfoldable pub server_step : ServerMachine → ClientCommand → ServerStep
+server_step s line = server_step_at s s.state line
+
+-- ---- the client
+
+pub data ClientMechanism : Type 0 where
+  External : (user : Option ℕ) → ClientMechanism
+  Anonymous : (trace : List ℕ) → ClientMechanism
+
+pub record ClientMachine : Type 0 where
+  pub state : ClientState
+  -- the mechanisms that were not tried yet
+  pub left : List ClientMechanism
+  pub guid : Option (List ℕ)
+
+pub data ClientAction : Type 0 where
+  Sends : (line : ClientCommand) → ClientAction
+  Begins : ClientAction
+  Disconnects : ClientAction
+
+pub record ClientStep : Type 0 where
+  pub action : ClientAction
+  pub next : ClientMachine
+
+abbrev pub auth_line : ClientMechanism → ClientCommand
+auth_line (External None) = client.AuthBy (codes "EXTERNAL") []
+auth_line (External (Some n)) = client.AuthBy (codes "EXTERNAL") (decimal n)
+auth_line (Anonymous trace) = client.AuthBy (codes "ANONYMOUS") trace
+
+abbrev pub waits_in : ClientMechanism → ClientState
+waits_in (External None) = now.WaitingForData
+waits_in (External (Some n)) = now.WaitingForOk
+waits_in (Anonymous trace) = now.WaitingForOk
+
+-- AUTH of the next mechanism, or the end
+abbrev pub next_of : List ClientMechanism → ClientStep
+next_of [] = record { action = ClientAction.Disconnects; next = record { state = now.Closed; left = []; guid = None } }
+next_of (m ∷ ms) = record { action = ClientAction.Sends (auth_line m); next = record { state = waits_in m; left = ms; guid = None } }
+
+abbrev pub asks : ClientCommand → ClientState → List ClientMechanism → ClientStep
+asks line state left = record { action = ClientAction.Sends line; next = record { state = state; left = left; guid = None } }
+
+abbrev pub begins : List ℕ → List ClientMechanism → ClientStep
+begins guid left = record { action = ClientAction.Begins; next = record { state = now.Begun; left = left; guid = Some guid } }
+
+abbrev pub closes : List ClientMechanism → ClientStep
+closes left = record { action = ClientAction.Disconnects; next = record { state = now.Closed; left = left; guid = None } }
+
+abbrev pub client_waiting_for_data : List ClientMechanism → ServerCommand → ClientStep
+client_waiting_for_data left (server.DataOf bytes) = asks (client.DataOf []) now.WaitingForOk left
+client_waiting_for_data left (server.Accepted guid) = begins guid left
+client_waiting_for_data left (server.Rejected words) = next_of left
+client_waiting_for_data left (server.Error text) = asks client.Cancel now.WaitingForReject left
+client_waiting_for_data left _ = asks (client.Error []) now.WaitingForData left
+
+abbrev pub client_waiting_for_ok : List ClientMechanism → ServerCommand → ClientStep
+client_waiting_for_ok left (server.Accepted guid) = begins guid left
+client_waiting_for_ok left (server.Rejected words) = next_of left
+client_waiting_for_ok left (server.DataOf bytes) = asks client.Cancel now.WaitingForReject left
+client_waiting_for_ok left (server.Error text) = asks client.Cancel now.WaitingForReject left
+client_waiting_for_ok left _ = asks (client.Error []) now.WaitingForOk left
+
+abbrev pub client_waiting_for_reject : List ClientMechanism → ServerCommand → ClientStep
+client_waiting_for_reject left (server.Rejected words) = next_of left
+client_waiting_for_reject left _ = closes left
+
+abbrev pub client_step_at : ClientMachine → ClientState → ServerCommand → ClientStep
+client_step_at c now.WaitingForData line = client_waiting_for_data c.left line
+client_step_at c now.WaitingForOk line = client_waiting_for_ok c.left line
+client_step_at c now.WaitingForReject line = client_waiting_for_reject c.left line
+client_step_at c now.Fresh line = record { action = ClientAction.Disconnects; next = c }
+client_step_at c now.Begun line = record { action = ClientAction.Disconnects; next = c }
+client_step_at c now.Closed line = record { action = ClientAction.Disconnects; next = c }
+
+unfoldable pub client_step : ClientMachine → ServerCommand → ClientStep
+client_step c line = client_step_at c c.state line
+
+-- ---- what a server is made of
+
+pub record IsServer (s : ServerMachine) : Type 0 where
+  pub guid : length s.guid ≡ 16
+  pub bytes : IsBytes s.guid
+  pub user : IfSome s.user (λ n. n < 2 ^ 32)

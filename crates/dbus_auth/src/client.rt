@@ -1,0 +1,338 @@
+//! The client's state machine.
+//! D-Bus Specification, "Authentication Protocol", "Authentication state diagrams", "Client states".
+
+ghost use Rattle.std.specs.Prelude.{◌≡◌, true, false, IfOk, IfErr, OnErr, map, is_ok, option_map, length, drop, nat_le, None};
+ghost use Rattle.std.specs.List.{list_all, AllByRecursion};
+ghost use Rattle.hex.specs.Hex.{IsBytes};
+ghost use Rattle.dbus_auth.specs.Mechanisms.{IsMechanism};
+ghost use Rattle.dbus_auth.specs.Machines.{client_step, next_of, auth_line, client_waiting_for_data, client_waiting_for_ok, client_waiting_for_reject};
+ghost use Rattle.dbus_auth.specs.LineViews.{client_command, server_command};
+ghost use Rattle.dbus_auth.specs.ClientViews.{client_mechanism, is_short, client_machine, fresh_client, client_action, left_of, shown_turn, shown_client, stage_after, guid_of, state_of, IsListening};
+ghost use Rattle.dbus_auth.specs.declared.states.ClientState.TheVariants as now;
+
+use crate::lines::{ClientLine, Guid, ServerLine};
+use crate::states::ClientState;
+use std::alloc::{AllocError, Allocator, Global};
+
+/// A way in which a client says who it is.
+#[derive(Debug, Drop)]
+pub enum Mechanism<A: Allocator = Global> {
+    /// EXTERNAL, as the user with this number, or as the user that the transport tells.
+    External(Option<u32>),
+    /// ANONYMOUS, with a trace of at most 255 bytes.
+    Anonymous(Vec<u8, A>),
+}
+
+/// What a client does.
+#[derive(Debug, Drop)]
+pub enum ClientAct<A: Allocator = Global> {
+    /// It sends this line.
+    Send(ClientLine<A>),
+    /// It sends BEGIN. The handshake succeeded, and messages begin.
+    Begin,
+    /// The handshake failed. Nothing is sent, and the connection is to be closed.
+    Disconnect,
+}
+
+/// Where the client stands, with the server's GUID once it has begun.
+#[derive(Clone, Copy, Debug, Drop)]
+pub enum ClientStage {
+    Fresh,
+    WaitingForData,
+    WaitingForOk,
+    WaitingForReject,
+    Begun(Guid),
+    Closed,
+}
+
+/// What a client is about to do: its act, and where it stands then.
+#[derive(Drop)]
+pub struct ClientTurn<A: Allocator> {
+    pub act: ClientAct<A>,
+    pub stage: ClientStage,
+    /// How many mechanisms were tried then.
+    pub tried: usize,
+}
+
+/// The client's state machine.
+///
+/// "Next" is: it asks for its next mechanism by AUTH, and without one left it is closed. EXTERNAL as a
+/// user sends the user in decimal and waits for OK; EXTERNAL without one sends no response and waits for
+/// DATA; ANONYMOUS sends its trace and waits for OK. The words of REJECTED are not looked at.
+///
+/// | state | line | it does |
+/// | --- | --- | --- |
+/// | waiting for DATA | DATA | sends DATA without bytes, waits for OK |
+/// | | OK | sends BEGIN, has begun with the server's GUID |
+/// | | REJECTED | next |
+/// | | ERROR | sends CANCEL, waits for REJECTED |
+/// | | anything else | sends ERROR, stays |
+/// | waiting for OK | OK | sends BEGIN, has begun with the server's GUID |
+/// | | REJECTED | next |
+/// | | DATA; ERROR | sends CANCEL, waits for REJECTED |
+/// | | anything else | sends ERROR, stays |
+/// | waiting for REJECTED | REJECTED | next |
+/// | | anything else | is closed |
+///
+/// D-Bus Specification, "Client states". The answer to DATA is a choice of this profile.
+#[derive(Drop)]
+pub struct Client<A: Allocator = Global> {
+    stage: ClientStage,
+    mechanisms: Vec<Mechanism<A>, A>,
+    tried: usize,
+}
+
+impl<A: Allocator + Copy> Client<A> {
+    /// A client that has not started. It tries the mechanisms in their order.
+    ///
+    /// They are handed back where a trace has over 255 bytes.
+    pub fn new(mechanisms: Vec<Mechanism<A>, A>) -> Result<Self, Vec<Mechanism<A>, A>>
+        ensures made { IfOk result (λ c. client_machine c ≡ fresh_client mechanisms.items) }
+        // its mechanisms are those of the laws
+        ensures client { IfOk result (λ c. AllByRecursion IsMechanism (client_machine c).left) }
+        ensures back { IfErr result (λ m. m ≡ mechanisms) }
+        ensures which { is_ok result ≡ list_all is_short mechanisms.items }
+    {
+        if !all_short(&mechanisms) {
+            return Err(mechanisms);
+        }
+        Ok(Client {
+            stage: ClientStage::Fresh,
+            mechanisms,
+            tried: 0,
+        })
+    }
+
+    /// The server's GUID, once the client has begun.
+    pub fn guid(&self) -> Option<Guid>
+        ensures { option_map (λ g. g.0) result ≡ (client_machine self.now).guid }
+    {
+        match self.stage {
+            ClientStage::Begun(guid) => Some(guid),
+            _ => None,
+        }
+    }
+
+    /// Where the client stands.
+    pub fn state(&self) -> ClientState
+        ensures { result ≡ (client_machine self.now).state }
+    {
+        match self.stage {
+            ClientStage::Fresh => ClientState::Fresh,
+            ClientStage::WaitingForData => ClientState::WaitingForData,
+            ClientStage::WaitingForOk => ClientState::WaitingForOk,
+            ClientStage::WaitingForReject => ClientState::WaitingForReject,
+            ClientStage::Begun(_) => ClientState::Begun,
+            ClientStage::Closed => ClientState::Closed,
+        }
+    }
+
+    /// The line that asks for the first mechanism, or `Disconnect` where there is none. The client
+    /// must not have started.
+    ///
+    /// Answers `AllocError` where memory ran out, and the client is unchanged then.
+    pub fn start(&mut self, alloc: A) -> Result<ClientAct<A>, AllocError>
+        requires { (client_machine self.old).state ≡ now.Fresh }
+        ensures row { IfOk result (λ act. shown_client act self.new ≡ next_of (client_machine self.old).left) }
+        ensures err { OnErr result (client_machine self.new ≡ client_machine self.old) }
+    {
+        let turn = self.next_mechanism(alloc)?;
+        let ClientTurn { act, stage, tried } = turn;
+        self.go_to(stage, tried);
+        Ok(act)
+    }
+
+    /// What the client does on a line, as the one row of its table says, and the state behind it.
+    /// The state has to be one of the waiting ones.
+    ///
+    /// Answers `AllocError` where memory ran out. The line is lost then, and the client unchanged.
+    pub fn receive(&mut self, alloc: A, line: ServerLine<A>) -> Result<ClientAct<A>, AllocError>
+        requires { IsListening (client_machine self.old).state }
+        ensures row { IfOk result (λ act. shown_client act self.new ≡ client_step (client_machine self.old) (server_command line)) }
+        ensures err { OnErr result (client_machine self.new ≡ client_machine self.old) }
+    {
+        let turn = self.step(alloc, &line)?;
+        let ClientTurn { act, stage, tried } = turn;
+        self.go_to(stage, tried);
+        Ok(act)
+    }
+
+    pub(crate) fn go_to(&mut self, stage: ClientStage, tried: usize)
+        ensures machine { client_machine self.new ≡ record { state = state_of stage; left = left_of self.old.mechanisms.items tried; guid = guid_of stage } }
+        ensures same { self.new.mechanisms ≡ self.old.mechanisms }
+    {
+        self.stage = stage;
+        self.tried = tried;
+    }
+
+    /// The next mechanism, or the end.
+    pub(crate) fn next_mechanism(&self, alloc: A) -> Result<ClientTurn<A>, AllocError>
+        ensures { IfOk result (λ turn. shown_turn turn self.now.mechanisms.items ≡ next_of (client_machine self.now).left) }
+    {
+        if self.tried >= self.mechanisms.len() {
+            return Ok(self.stays_with(ClientAct::Disconnect, ClientStage::Closed));
+        }
+        let mechanism = &self.mechanisms[self.tried];
+        Ok(ClientTurn {
+            act: ClientAct::Send(auth_line_of(alloc, mechanism)?),
+            stage: stage_of(mechanism),
+            tried: self.tried + 1,
+        })
+    }
+
+    /// The row of the table, and no change yet.
+    #[tactic(auto, unfolding(crate::specs::Machines::client_step))]
+    pub(crate) fn step(&self, alloc: A, line: &ServerLine<A>) -> Result<ClientTurn<A>, AllocError>
+        ensures { IfOk result (λ turn. shown_turn turn self.now.mechanisms.items ≡ client_step (client_machine self.now) (server_command line.now)) }
+    {
+        match self.stage {
+            ClientStage::WaitingForData => self.on_data(alloc, line),
+            ClientStage::WaitingForOk => self.on_ok(alloc, line),
+            ClientStage::WaitingForReject => self.on_reject(alloc, line),
+            ClientStage::Fresh | ClientStage::Begun(_) | ClientStage::Closed => {
+                Ok(self.stays_with(ClientAct::Disconnect, self.stage))
+            }
+        }
+    }
+
+    /// An act that tries no further mechanism.
+    fn stays_with(&self, act: ClientAct<A>, stage: ClientStage) -> ClientTurn<A>
+        ensures act { result.act ≡ act }
+        ensures stage { result.stage ≡ stage }
+        ensures tried { result.tried ≡ self.now.tried }
+    {
+        ClientTurn {
+            act,
+            stage,
+            tried: self.tried,
+        }
+    }
+
+    fn on_data(&self, alloc: A, line: &ServerLine<A>) -> Result<ClientTurn<A>, AllocError>
+        ensures { IfOk result (λ turn. shown_turn turn self.now.mechanisms.items ≡ client_waiting_for_data (client_machine self.now).left (server_command line.now)) }
+    {
+        match line {
+            ServerLine::DataOf(_) => {
+                let data = ClientLine::DataOf(Vec::new(alloc));
+                Ok(self.stays_with(ClientAct::Send(data), ClientStage::WaitingForOk))
+            }
+            ServerLine::Accepted(guid) => {
+                Ok(self.stays_with(ClientAct::Begin, ClientStage::Begun(*guid)))
+            }
+            ServerLine::Rejected(_) => self.next_mechanism(alloc),
+            ServerLine::Error(_) => Ok(self.stays_with(
+                ClientAct::Send(ClientLine::Cancel),
+                ClientStage::WaitingForReject,
+            )),
+            ServerLine::Agree | ServerLine::Other => {
+                let error = ClientLine::Error(Vec::new(alloc));
+                Ok(self.stays_with(ClientAct::Send(error), ClientStage::WaitingForData))
+            }
+        }
+    }
+
+    fn on_ok(&self, alloc: A, line: &ServerLine<A>) -> Result<ClientTurn<A>, AllocError>
+        ensures { IfOk result (λ turn. shown_turn turn self.now.mechanisms.items ≡ client_waiting_for_ok (client_machine self.now).left (server_command line.now)) }
+    {
+        match line {
+            ServerLine::Accepted(guid) => {
+                Ok(self.stays_with(ClientAct::Begin, ClientStage::Begun(*guid)))
+            }
+            ServerLine::Rejected(_) => self.next_mechanism(alloc),
+            ServerLine::DataOf(_) | ServerLine::Error(_) => Ok(self.stays_with(
+                ClientAct::Send(ClientLine::Cancel),
+                ClientStage::WaitingForReject,
+            )),
+            ServerLine::Agree | ServerLine::Other => {
+                let error = ClientLine::Error(Vec::new(alloc));
+                Ok(self.stays_with(ClientAct::Send(error), ClientStage::WaitingForOk))
+            }
+        }
+    }
+
+    fn on_reject(&self, alloc: A, line: &ServerLine<A>) -> Result<ClientTurn<A>, AllocError>
+        ensures { IfOk result (λ turn. shown_turn turn self.now.mechanisms.items ≡ client_waiting_for_reject (client_machine self.now).left (server_command line.now)) }
+    {
+        match line {
+            ServerLine::Rejected(_) => self.next_mechanism(alloc),
+            ServerLine::Accepted(_)
+            | ServerLine::DataOf(_)
+            | ServerLine::Error(_)
+            | ServerLine::Agree
+            | ServerLine::Other => {
+                Ok(self.stays_with(ClientAct::Disconnect, ClientStage::Closed))
+            }
+        }
+    }
+}
+
+/// The line that asks for a mechanism.
+fn auth_line_of<A: Allocator + Copy>(
+    alloc: A,
+    mechanism: &Mechanism<A>,
+) -> Result<ClientLine<A>, AllocError>
+    ensures { IfOk result (λ line. client_command line ≡ auth_line (client_mechanism mechanism.now)) }
+{
+    match mechanism {
+        Mechanism::External(None) => Ok(ClientLine::AuthBy {
+            mech: Vec::from_slice(alloc, b"EXTERNAL")?,
+            response: Vec::new(alloc),
+        }),
+        Mechanism::External(Some(n)) => {
+            let text = format!(in alloc; "{n}")?;
+            Ok(ClientLine::AuthBy {
+                mech: Vec::from_slice(alloc, b"EXTERNAL")?,
+                response: Vec::from_slice(alloc, text.as_bytes())?,
+            })
+        }
+        Mechanism::Anonymous(trace) => Ok(ClientLine::AuthBy {
+            mech: Vec::from_slice(alloc, b"ANONYMOUS")?,
+            response: Vec::from_slice(alloc, trace)?,
+        }),
+    }
+}
+
+/// Where a client waits for the answer to a mechanism.
+fn stage_of<A: Allocator>(mechanism: &Mechanism<A>) -> ClientStage
+    ensures { result ≡ stage_after (client_mechanism mechanism.now) }
+{
+    match mechanism {
+        Mechanism::External(None) => ClientStage::WaitingForData,
+        Mechanism::External(Some(_)) => ClientStage::WaitingForOk,
+        Mechanism::Anonymous(_) => ClientStage::WaitingForOk,
+    }
+}
+
+/// Whether a client takes the mechanism.
+fn is_trace_short<A: Allocator>(mechanism: &Mechanism<A>) -> bool
+    ensures short { result ≡ is_short mechanism.now }
+    ensures fits { result ≡ true → IsMechanism (client_mechanism mechanism.now) }
+{
+    match mechanism {
+        Mechanism::External(None) => true,
+        Mechanism::External(Some(user)) => {
+            let _user = *user;
+            true
+        }
+        Mechanism::Anonymous(trace) => is_short_text(trace),
+    }
+}
+
+fn is_short_text(trace: &[u8]) -> bool
+    ensures short { result ≡ nat_le (length trace.now) 255 }
+    ensures bytes { IsBytes trace.now }
+{
+    trace.len() <= 255
+}
+
+fn all_short<A: Allocator>(mechanisms: &[Mechanism<A>]) -> bool
+    ensures short { result ≡ list_all is_short mechanisms.now }
+    ensures fits { result ≡ true → AllByRecursion IsMechanism (map client_mechanism mechanisms.now) }
+{
+    for mechanism in mechanisms {
+        if !is_trace_short(mechanism) {
+            return false;
+        }
+    }
+    true
+}

@@ -1,0 +1,25 @@
+//! What the calls of an end answer.
+
+use std::alloc::{Allocator, Global};
+
+/// Where an end of a connection stands.
+#[derive(Clone, Copy, PartialEq, Eq, Debug, Drop)]
+pub enum Status {
+    /// The handshake goes on.
+    Talking,
+    /// The handshake succeeded: the bytes that are not taken are messages.
+    Begun,
+    /// The handshake failed: the connection is to be closed.
+    Closed,
+}
+
+/// What one call of an end did with its piece of bytes.
+#[derive(Debug, Drop)]
+pub struct EndStep<A: Allocator = Global> {
+    /// How many bytes of the piece were taken. The others are to be handed in again.
+    pub taken: usize,
+    /// The bytes that are to be sent to the peer, which may be none.
+    pub send: Vec<u8, A>,
+    /// Where the end stands now.
+    pub status: Status,
+}

@@ -1,0 +1,54 @@
+//! The D-Bus authentication handshake: its lines, the state machines of both sides, and the two
+//! ends that run them over bytes as they come.
+//!
+//! Before the first message, client and server say who the client is, in lines of ASCII ended by
+//! CR LF. [`read_client`], [`read_server`], [`client_text`] and [`server_text`] are the lines, and
+//! [`LineCutter`] cuts them out of bytes that come in pieces. [`Server`] and [`Client`] are the
+//! state machines, which know no bytes. [`ServerEnd`] and [`ClientEnd`] are a machine over bytes:
+//! what a connection's owner holds until messages begin. They take nothing behind the end of the
+//! handshake, so what they leave is the first message.
+//!
+//! # What a caller owes
+//!
+//! **The user that is handed to [`Server::new`] has to be the one that the transport tells**, as
+//! `SO_PEERCRED` does of a Unix socket, and not the one that the caller would like to see. `AUTH
+//! EXTERNAL` with an empty identity means "the user that you see", and the server lets it in. So a
+//! server made with a user that it did not learn from the transport lets anybody in as that user. A
+//! server whose transport tells no user is made with `None`, and then offers no EXTERNAL.
+//!
+//! # This profile
+//!
+//! EXTERNAL and ANONYMOUS are the mechanisms. NEGOTIATE_UNIX_FD is answered by ERROR, since no
+//! descriptors are passed. A line has at most 16,384 bytes with its CR LF.
+//!
+//! All is from the D-Bus Specification, section "Authentication Protocol".
+#![tactic(auto)]
+
+mod client;
+mod client_end;
+mod cutter;
+mod end_step;
+pub mod laws;
+mod lines;
+mod reading;
+#[cfg(test)]
+mod refusals;
+mod scanning;
+mod server;
+mod server_end;
+mod states;
+#[cfg(test)]
+mod tests;
+mod words;
+mod writing;
+
+pub use client::{Client, ClientAct, Mechanism};
+pub use client_end::ClientEnd;
+pub use cutter::{LineCutter, LineFault};
+pub use end_step::{EndStep, Status};
+pub use lines::{ClientLine, Guid, ServerLine};
+pub use reading::{read_client, read_server};
+pub use server::{Server, ServerAct};
+pub use server_end::ServerEnd;
+pub use states::{ClientState, ServerState};
+pub use writing::{TextFault, client_text, server_text};

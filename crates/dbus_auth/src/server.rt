@@ -1,0 +1,296 @@
+//! The server's state machine.
+//! D-Bus Specification, "Authentication Protocol", "Authentication state diagrams", "Server states".
+
+ghost use Rattle.std.specs.Prelude.{◌≡◌, ◌++◌, ◌∷◌, [], ℕ, List, IfOk, OnOk, OnErr, map, codes, bytes_eq, ◌&&◌, if◌then◌else◌};
+ghost use Rattle.dbus_auth.specs.declared.states.ServerState.TheVariants as at;
+ghost use Rattle.dbus_auth.specs.Machines.{ServerMachine, IsServer, server_step, is_user, rejects, accepts, complains, is_empty, offers_external, server_step_at, waiting_for_auth, waiting_for_data, waiting_for_begin, by_mechanism};
+ghost use Rattle.dbus_auth.specs.LineViews.{client_command, server_command};
+ghost use Rattle.dbus_auth.specs.ServerViews.{server_machine, server_action, shown_step, IsWaiting};
+
+use crate::lines::{ClientLine, Guid, ServerLine};
+use crate::states::ServerState;
+use std::alloc::{AllocError, Allocator, Global};
+
+/// What a server does on a line.
+#[derive(Debug, Drop)]
+pub enum ServerAct<A: Allocator = Global> {
+    /// It sends this line.
+    Send(ServerLine<A>),
+    /// The handshake succeeded, and messages begin. Nothing is sent.
+    Begin,
+    /// The handshake failed. Nothing is sent, and the connection is to be closed.
+    Disconnect,
+}
+
+/// The server's state machine.
+///
+/// It offers EXTERNAL where it has a user, and ANONYMOUS where that is allowed, in this order; the
+/// lines of REJECTED list them. Its lines of ERROR have no text.
+///
+/// | state | line | it sends | next state |
+/// | --- | --- | --- | --- |
+/// | waiting for AUTH | AUTH EXTERNAL, offered, no response | DATA | waiting for DATA |
+/// | | AUTH EXTERNAL, offered, the user in decimal | OK | waiting for BEGIN |
+/// | | AUTH ANONYMOUS, offered | OK | waiting for BEGIN |
+/// | | any other AUTH; ERROR | REJECTED | the same |
+/// | | BEGIN | nothing | closed |
+/// | | anything else | ERROR | the same |
+/// | waiting for DATA | DATA, empty or the user in decimal | OK | waiting for BEGIN |
+/// | | any other DATA; CANCEL; ERROR | REJECTED | waiting for AUTH |
+/// | | BEGIN | nothing | closed |
+/// | | anything else | ERROR | the same |
+/// | waiting for BEGIN | BEGIN | nothing | begun |
+/// | | CANCEL; ERROR | REJECTED | waiting for AUTH |
+/// | | anything else | ERROR | the same |
+///
+/// D-Bus Specification, "Server states". That EXTERNAL without a response is asked for DATA, and that
+/// NEGOTIATE_UNIX_FD is answered by ERROR, are choices of this profile.
+#[derive(Drop)]
+pub struct Server {
+    guid: Guid,
+    user: Option<u32>,
+    anonymous: bool,
+    state: ServerState,
+}
+
+impl Server {
+    /// A server in its first state.
+    ///
+    /// `user` is the client's user **as the transport tells it** (`SO_PEERCRED` of a Unix socket):
+    /// EXTERNAL is offered where there is one, and lets in who names it in decimal or names nobody.
+    /// `anonymous` says whether ANONYMOUS is offered, which lets in everybody.
+    pub fn new(guid: Guid, user: Option<u32>, anonymous: bool) -> Self
+        ensures machine { server_machine result ≡ record { guid = guid.0; user = user; anonymous = anonymous; state = at.WaitingForAuth } }
+        // it is a server of the laws
+        ensures server { IsServer (server_machine result) }
+    {
+        Server {
+            guid,
+            user,
+            anonymous,
+            state: ServerState::WaitingForAuth,
+        }
+    }
+
+    /// Where the server stands.
+    pub fn state(&self) -> ServerState
+        ensures { result ≡ (server_machine self.now).state }
+    {
+        self.state
+    }
+
+    /// What the server does on a line, as the one row of its table says, and the state behind it.
+    /// The state has to be one of the waiting ones.
+    ///
+    /// Answers `AllocError` where memory ran out. The line is lost then, and the server unchanged.
+    pub fn receive<A: Allocator + Copy>(
+        &mut self,
+        alloc: A,
+        line: ClientLine<A>,
+    ) -> Result<ServerAct<A>, AllocError>
+        requires { IsWaiting (server_machine self.old).state }
+        ensures action { IfOk result (λ act. server_action act ≡ (server_step (server_machine self.old) (client_command line)).action) }
+        ensures next { OnOk result (server_machine self.new ≡ record (server_machine self.old) { state = (server_step (server_machine self.old) (client_command line)).next }) }
+        ensures err { OnErr result (server_machine self.new ≡ server_machine self.old) }
+    {
+        let (act, next) = self.step(alloc, &line)?;
+        self.go_to(next);
+        Ok(act)
+    }
+
+    /// The row of the table, and no change yet.
+    #[tactic(auto, unfolding(crate::specs::Machines::server_step))]
+    pub(crate) fn step<A: Allocator + Copy>(
+        &self,
+        alloc: A,
+        line: &ClientLine<A>,
+    ) -> Result<(ServerAct<A>, ServerState), AllocError>
+        ensures { IfOk result (λ t. shown_step t.0 t.1 ≡ server_step (server_machine self.now) (client_command line.now)) }
+    {
+        match self.state() {
+            ServerState::WaitingForAuth => self.on_auth(alloc, line),
+            ServerState::WaitingForData => self.on_data(alloc, line),
+            ServerState::WaitingForBegin => self.on_begin(alloc, line),
+            ServerState::Begun => Ok((ServerAct::Disconnect, ServerState::Begun)),
+            ServerState::Closed => Ok((ServerAct::Disconnect, ServerState::Closed)),
+        }
+    }
+
+    pub(crate) fn go_to(&mut self, state: ServerState)
+        ensures { server_machine self.new ≡ record (server_machine self.old) { state = state } }
+    {
+        self.state = state;
+    }
+
+    fn on_auth<A: Allocator + Copy>(
+        &self,
+        alloc: A,
+        line: &ClientLine<A>,
+    ) -> Result<(ServerAct<A>, ServerState), AllocError>
+        ensures { IfOk result (λ t. shown_step t.0 t.1 ≡ waiting_for_auth (server_machine self.now) (client_command line.now)) }
+    {
+        match line {
+            ClientLine::AuthBy { mech, response } => self.by_mechanism(alloc, mech, response),
+            ClientLine::Auth | ClientLine::Error(_) => self.reject(alloc),
+            ClientLine::Begin => Ok((ServerAct::Disconnect, ServerState::Closed)),
+            ClientLine::Cancel
+            | ClientLine::DataOf(_)
+            | ClientLine::Negotiate
+            | ClientLine::Other => Ok(complaint(alloc, ServerState::WaitingForAuth)),
+        }
+    }
+
+    fn on_data<A: Allocator + Copy>(
+        &self,
+        alloc: A,
+        line: &ClientLine<A>,
+    ) -> Result<(ServerAct<A>, ServerState), AllocError>
+        ensures { IfOk result (λ t. shown_step t.0 t.1 ≡ waiting_for_data (server_machine self.now) (client_command line.now)) }
+    {
+        match line {
+            ClientLine::DataOf(bytes) => {
+                if bytes.is_empty() || is_user_text(alloc, self.user, bytes)? {
+                    Ok(self.accept())
+                } else {
+                    self.reject(alloc)
+                }
+            }
+            ClientLine::Cancel | ClientLine::Error(_) => self.reject(alloc),
+            ClientLine::Begin => Ok((ServerAct::Disconnect, ServerState::Closed)),
+            ClientLine::Auth
+            | ClientLine::AuthBy { .. }
+            | ClientLine::Negotiate
+            | ClientLine::Other => Ok(complaint(alloc, ServerState::WaitingForData)),
+        }
+    }
+
+    fn on_begin<A: Allocator + Copy>(
+        &self,
+        alloc: A,
+        line: &ClientLine<A>,
+    ) -> Result<(ServerAct<A>, ServerState), AllocError>
+        ensures { IfOk result (λ t. shown_step t.0 t.1 ≡ waiting_for_begin (server_machine self.now) (client_command line.now)) }
+    {
+        match line {
+            ClientLine::Begin => Ok((ServerAct::Begin, ServerState::Begun)),
+            ClientLine::Cancel | ClientLine::Error(_) => self.reject(alloc),
+            ClientLine::Auth
+            | ClientLine::AuthBy { .. }
+            | ClientLine::DataOf(_)
+            | ClientLine::Negotiate
+            | ClientLine::Other => Ok(complaint(alloc, ServerState::WaitingForBegin)),
+        }
+    }
+
+    fn by_mechanism<A: Allocator + Copy>(
+        &self,
+        alloc: A,
+        mech: &[u8],
+        response: &[u8],
+    ) -> Result<(ServerAct<A>, ServerState), AllocError>
+        ensures { IfOk result (λ t. shown_step t.0 t.1 ≡ by_mechanism (server_machine self.now) mech.now response.now) }
+    {
+        let wants_data = self.wants_data(mech, response);
+        let knows_user = self.knows_user(alloc, mech, response)?;
+        if wants_data {
+            let nothing = ServerLine::DataOf(Vec::new(alloc));
+            Ok((ServerAct::Send(nothing), ServerState::WaitingForData))
+        } else if knows_user {
+            Ok(self.accept())
+        } else if self.lets_in(mech) {
+            Ok(self.accept())
+        } else {
+            self.reject(alloc)
+        }
+    }
+
+    fn wants_data(&self, mech: &[u8], response: &[u8]) -> bool
+        ensures { result ≡ (bytes_eq mech.now (codes "EXTERNAL") && offers_external self.now.user && is_empty response.now) }
+    {
+        mech == b"EXTERNAL".as_slice() && self.user.is_some() && response.is_empty()
+    }
+
+    fn knows_user<A: Allocator + Copy>(
+        &self,
+        alloc: A,
+        mech: &[u8],
+        response: &[u8],
+    ) -> Result<bool, AllocError>
+        ensures { IfOk result (λ b. b ≡ (bytes_eq mech.now (codes "EXTERNAL") && is_user self.now.user response.now)) }
+    {
+        if mech == b"EXTERNAL".as_slice() {
+            is_user_text(alloc, self.user, response)
+        } else {
+            Ok(false)
+        }
+    }
+
+    fn lets_in(&self, mech: &[u8]) -> bool
+        ensures { result ≡ (bytes_eq mech.now (codes "ANONYMOUS") && self.now.anonymous) }
+    {
+        mech == b"ANONYMOUS".as_slice() && self.anonymous
+    }
+
+    fn accept<A: Allocator>(&self) -> (ServerAct<A>, ServerState)
+        ensures { shown_step result.0 result.1 ≡ accepts (server_machine self.now) }
+    {
+        (
+            ServerAct::Send(ServerLine::Accepted(self.guid)),
+            ServerState::WaitingForBegin,
+        )
+    }
+
+    fn reject<A: Allocator + Copy>(
+        &self,
+        alloc: A,
+    ) -> Result<(ServerAct<A>, ServerState), AllocError>
+        ensures { IfOk result (λ t. shown_step t.0 t.1 ≡ rejects (server_machine self.now)) }
+    {
+        let words = offered(alloc, self.user.is_some(), self.anonymous)?;
+        Ok((
+            ServerAct::Send(ServerLine::Rejected(words)),
+            ServerState::WaitingForAuth,
+        ))
+    }
+}
+
+fn complaint<A: Allocator>(alloc: A, state: ServerState) -> (ServerAct<A>, ServerState)
+    ensures { shown_step result.0 result.1 ≡ complains state }
+{
+    (ServerAct::Send(ServerLine::Error(Vec::new(alloc))), state)
+}
+
+/// Whether the response is the decimal text of the user.
+fn is_user_text<A: Allocator + Copy>(
+    alloc: A,
+    user: Option<u32>,
+    response: &[u8],
+) -> Result<bool, AllocError>
+    ensures { IfOk result (λ b. b ≡ is_user user response.now) }
+{
+    match user {
+        None => Ok(false),
+        Some(n) => {
+            let text = format!(in alloc; "{n}")?;
+            Ok(response == text.as_bytes())
+        }
+    }
+}
+
+/// The words of a REJECTED line.
+fn offered<A: Allocator + Copy>(
+    alloc: A,
+    external: bool,
+    anonymous: bool,
+) -> Result<Vec<Vec<u8, A>, A>, AllocError>
+    ensures { IfOk result (λ ws. map (λ w. w.items) ws.items ≡ (if external then codes "EXTERNAL" ∷ [] else []) ++ (if anonymous then codes "ANONYMOUS" ∷ [] else [])) }
+{
+    let mut words = Vec::new(alloc);
+    if external {
+        words.push(Vec::from_slice(alloc, b"EXTERNAL")?)?;
+    }
+    if anonymous {
+        words.push(Vec::from_slice(alloc, b"ANONYMOUS")?)?;
+    }
+    Ok(words)
+}

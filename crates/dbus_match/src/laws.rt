@@ -1,0 +1,24 @@
+//! The laws of rule texts. Each function does nothing: its contract is the law.
+#![tactic(auto)]
+
+ghost use Rattle.dbus_match.specs.Laws.{CanonicalSpells, NotBoth, OneFault, OneRule};
+
+/// A text spells at most one rule.
+pub fn one_rule()
+    ensures { OneRule }
+{}
+
+/// The canonical text of a rule spells that rule.
+pub fn canonical_spells()
+    ensures { CanonicalSpells }
+{}
+
+/// A text has at most one fault, at one place.
+pub fn one_fault()
+    ensures { OneFault }
+{}
+
+/// No text spells a rule and has a fault.
+pub fn not_both()
+    ensures { NotBoth }
+{}

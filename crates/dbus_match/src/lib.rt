@@ -1,0 +1,29 @@
+//! Match rules of D-Bus: their texts, and when a rule matches a message.
+#![tactic(auto)]
+
+mod compare;
+mod condition;
+mod conditions;
+mod fault;
+mod key;
+mod key_name;
+pub mod laws;
+mod matching;
+mod owner;
+mod pair;
+mod parse;
+mod rule;
+#[cfg(test)]
+mod tests;
+mod texts;
+mod to_text;
+mod value;
+mod value_kinds;
+mod within;
+
+pub use fault::{RuleFault, RuleReason};
+pub use matching::matches;
+pub use owner::Owner;
+pub use parse::parse_rule;
+pub use rule::Rule;
+pub use to_text::rule_text;

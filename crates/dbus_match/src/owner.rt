@@ -1,0 +1,14 @@
+//! Owners of names.
+#![tactic(auto)]
+
+use std::alloc::{Allocator, Global};
+
+/// A well-known bus name, and the unique name of the connection that owns it.
+/// D-Bus Specification, "Bus names".
+#[derive(Debug, Drop)]
+pub struct Owner<A: Allocator = Global> {
+    /// The well-known name.
+    pub name: String<A>,
+    /// The unique name of its owner.
+    pub unique: String<A>,
+}

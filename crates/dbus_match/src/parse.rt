@@ -1,0 +1,48 @@
+//! The reading of a rule's text.
+#![tactic(auto)]
+
+ghost use Rattle.std.specs.Prelude.{◌≡◌, ◌==◌, ℕ, List, position};
+ghost use Rattle.dbus_match.specs.declared.fault.RuleReason.{RuleReason as Reason};
+ghost use Rattle.dbus_match.specs.Rules.{Pair, SpellsRule};
+ghost use Rattle.dbus_match.specs.Faults.{IsFault};
+ghost use Rattle.dbus_match.specs.RuleViews.{IsRuleReading, IsThisFault, IsThisRule};
+
+use crate::conditions::read_conditions;
+use crate::fault::{RuleFault, RuleReason};
+use crate::rule::Rule;
+use std::alloc::Allocator;
+
+/// The place of the first U+0000.
+fn first_nul(text: &[u8]) -> Option<usize>
+    ensures { result ≡ position (λ b. b == 0) text.now }
+{
+    text.iter().position(|b| *b == 0)
+}
+
+fn read_rule<A: Allocator + Copy>(alloc: A, text: &str) -> Result<Rule<A>, RuleFault>
+    ensures { IsRuleReading text.now result }
+{
+    if let Some(at) = first_nul(text.as_bytes()) {
+        return Err(RuleFault::Bad {
+            at,
+            reason: RuleReason::Nul,
+        });
+    }
+    let conditions = read_conditions(alloc, text)?;
+    Ok(Rule { conditions })
+}
+
+/// The rule that the text spells. D-Bus Specification, "Match Rules".
+///
+/// Else `Bad` with the text's one fault, in the order and at the place that `RuleReason` says; `Memory`
+/// comes only where a growth was refused.
+///
+/// This differs from the specification in these points: each key stands at most once; spaces stand only
+/// before a key and behind the last comma; `destination` takes any bus name, and `arg0namespace` any text.
+pub fn parse_rule<A: Allocator + Copy>(alloc: A, text: &str) -> Result<Rule<A>, RuleFault>
+    ensures reading { IsRuleReading text.now result }
+    ensures spelled { (pairs : List Pair) → SpellsRule text.now pairs → IsThisRule pairs result }
+    ensures faulty { (reason : Reason) (at : ℕ) → IsFault text.now reason at → IsThisFault reason at result }
+{
+    read_rule(alloc, text)
+}

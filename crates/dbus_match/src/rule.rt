@@ -1,0 +1,19 @@
+//! Match rules.
+#![tactic(auto)]
+
+ghost use Rattle.dbus_match.specs.Rules.{IsRule};
+ghost use Rattle.dbus_match.specs.Conditions.{condition_pairs};
+
+use crate::condition::Condition;
+use std::alloc::{Allocator, Global};
+
+/// A match rule: keys with their values, of which each key stands at most once, and `path` and
+/// `path_namespace` not both. D-Bus Specification, "Match Rules".
+///
+/// `parse_rule` makes one of its text, and `rule_text` gives its canonical text.
+#[derive(Debug, Drop)]
+pub struct Rule<A: Allocator = Global> {
+    /// In canonical order.
+    pub(crate) conditions: Vec<Condition<A>, A>,
+    ghost is_rule: { ∥ IsRule (condition_pairs conditions.items) ∥₁ },
+}

@@ -1,0 +1,86 @@
+-- A message that is valid and within the limits in one byte order is so in the other.
+use Rattle.std.proofs.Common.{◌≡◌, ℕ, ◌+◌, ◌≤◌, List, length, refl, sym, ap, subst}
+use Rattle.dbus_types.specs.Types.{sig}
+use Rattle.dbus_value.specs.declared.order.Order.{Order}
+use Rattle.dbus_value.specs.declared.order.Order.TheVariants.{Little, Big}
+use Rattle.dbus_value.specs.Bytes.{gap_to}
+use Rattle.dbus_value.specs.Spelling.{spelling, spellings, contents_start, ended_text, array_limit, IsWithinLimits, AreWithinLimits}
+use Rattle.dbus_value.specs.Values.{ValueTree, ValueTrees, NoValues, MoreValues, NumberValue, TextValue, VariantValue, ArrayValue, StructValue, EntryValue, type_of}
+use Rattle.dbus_message.specs.Messages.{FieldTree, MessageTree, message_bytes, field_array, fields_end, body_start, message_limit, IsMessage}
+use Rattle.dbus_message.specs.ValidMessages.{room_in_field, IsValidMessage}
+use Rattle.dbus_message.proofs.MessageOutcomes.{same_ended, same_length, same_lengths, same_message_length}
+
+pub any_ended : (order other : Order) (w : ℕ) (t : List ℕ) → length (ended_text order w t) ≡ length (ended_text other w t)
+any_ended Little Little w t = refl
+any_ended Little Big w t = same_ended w t
+any_ended Big Little w t = sym (same_ended w t)
+any_ended Big Big w t = refl
+
+pub any_length : (order other : Order) (o : ℕ) (v : ValueTree) → length (spelling order o v) ≡ length (spelling other o v)
+any_length Little Little o v = refl
+any_length Little Big o v = same_length v o
+any_length Big Little o v = sym (same_length v o)
+any_length Big Big o v = refl
+
+pub any_lengths : (order other : Order) (o : ℕ) (vs : ValueTrees) → length (spellings order o vs) ≡ length (spellings other o vs)
+any_lengths Little Little o vs = refl
+any_lengths Little Big o vs = same_lengths vs o
+any_lengths Big Little o vs = sym (same_lengths vs o)
+any_lengths Big Big o vs = refl
+
+pub any_message_length : (order other : Order) (m : MessageTree) → length (message_bytes order m) ≡ length (message_bytes other m)
+any_message_length Little Little m = refl
+any_message_length Little Big m = same_message_length m
+any_message_length Big Little m = sym (same_message_length m)
+any_message_length Big Big m = refl
+
+mutual
+  pub any_within : (order other : Order) (o : ℕ) (v : ValueTree) → IsWithinLimits order o v → IsWithinLimits other o v
+  any_within order other o (NumberValue k n) h = tt
+  any_within order other o (TextValue k t) h = tt
+  any_within order other o (VariantValue x) h =
+      any_within order other (o + length (ended_text other 1 (sig (type_of x)))) x
+      (subst (λ (n : ℕ). IsWithinLimits order (o + n) x) (any_ended order other 1 (sig (type_of x))) h)
+  any_within order other o (ArrayValue t xs) h =
+      (subst (λ (n : ℕ). n ≤ array_limit) (any_lengths order other (contents_start t o) xs) h.0, any_within_all order other (contents_start t o) xs h.1)
+  any_within order other o (StructValue xs) h = any_within_all order other (o + gap_to 8 o) xs h
+  any_within order other o (EntryValue k x) h = (
+    any_within order other (o + gap_to 8 o) k h.0,
+    any_within order other (o + gap_to 8 o + length (spelling other (o + gap_to 8 o) k)) x
+        (subst (λ (n : ℕ). IsWithinLimits order (o + gap_to 8 o + n) x) (any_length order other (o + gap_to 8 o) k) h.1),
+  )
+
+  pub any_within_all : (order other : Order) (o : ℕ) (vs : ValueTrees) → AreWithinLimits order o vs → AreWithinLimits other o vs
+  any_within_all order other o NoValues h = tt
+  any_within_all order other o (MoreValues x xs) h = (
+    any_within order other o x h.0,
+    any_within_all order other (o + length (spelling other o x)) xs
+        (subst (λ (n : ℕ). AreWithinLimits order (o + n) xs) (any_length order other o x) h.1),
+  )
+
+pub any_fields_end : (order other : Order) (fs : List FieldTree) → fields_end order fs ≡ fields_end other fs
+any_fields_end order other fs = ap (λ (n : ℕ). 12 + n) (any_length order other 12 (field_array fs))
+
+pub any_body_start : (order other : Order) (fs : List FieldTree) → body_start order fs ≡ body_start other fs
+any_body_start order other fs = ap (λ (n : ℕ). n + gap_to 8 n) (any_fields_end order other fs)
+
+pub any_order : (order other : Order) (inner : ℕ) (m : MessageTree) → IsMessage order inner m → IsMessage other inner m
+any_order order other inner m h = record {
+  kind = h.kind;
+  kind_fits = h.kind_fits;
+  flags = h.flags;
+  serial = h.serial;
+  serial_fits = h.serial_fits;
+  fields = h.fields;
+  formed_fields = h.formed_fields;
+  within_fields = any_within order other 12 (field_array m.fields) h.within_fields;
+  required_codes = h.required_codes;
+  signature = h.signature;
+  formed_body = h.formed_body;
+  within_body = any_within_all order other (body_start other m.fields) m.body
+      (subst (λ (n : ℕ). AreWithinLimits order n m.body) (any_body_start order other m.fields) h.within_body);
+  limit = subst (λ (n : ℕ). n ≤ message_limit) (any_message_length order other m) h.limit;
+}
+
+pub valid_from : (order : Order) (m : MessageTree) → IsMessage order room_in_field m → IsValidMessage m
+valid_from order m h other = any_order order other room_in_field m h

@@ -1,0 +1,11 @@
+use Rattle.std.proofs.Common.{◌≡◌, ap, ◌∙◌}
+use Rattle.dbus_value.specs.ValueViews.{value_trees_of}
+use Rattle.dbus_message.specs.Messages.{MessageTree}
+use Rattle.dbus_message.specs.MessageViews.{message_tree}
+use Rattle.dbus_message.proofs.BodyValues.{value_found}
+use Rattle.dbus_message.proofs.lookups.arg.Goals as goal
+
+pub returns : goal.returns
+returns g c =
+    let body : value_trees_of c.deref.result.now ≡ (message_tree c.args.message.now).body = ap value_trees_of c.deref.ensures.value ∙ ap (λ (m : MessageTree). m.body) c.parts.ensures.same in
+    rw (← body) (value_found c.deref.result.now c.args.n _ c.get.result c.get.ensures.lookup.1 c.get.ensures.lookup.3)

@@ -1,0 +1,14 @@
+use Rattle.std.proofs.Common.{◌≡◌, ◌≤◌, length, drop, map}
+use Rattle.dbus_types.specs.SigTypes.{type_trees_of}
+use Rattle.dbus_value.specs.Reading.{fields, value}
+use Rattle.dbus_value.specs.ValueViews.{value_tree}
+use Rattle.dbus_message.proofs.BodyLoop.{with_values}
+use Rattle.dbus_message.proofs.read_body.read_body.Given as goal
+
+abbrev pub invariant-loop-wanted : goal.invariant-loop-wanted
+invariant-loop-wanted g l = record {
+  at_most : l.place ≤ l.end;
+  inside : l.place ≤ length l.bytes;
+  so_far : with_values (map value_tree l.values.items) (fields (value l.order 64 l.end) (type_trees_of (drop l.wanted-index l.types)) l.place (drop l.place l.bytes))
+      ≡ fields (value l.order 64 l.end) (type_trees_of l.types) l.at (drop l.at l.bytes);
+}

@@ -1,0 +1,18 @@
+use Rattle.std.proofs.Common.{◌-◌, ◌≡◌, ◌+◌, ◌≤◌, length, drop, reverse}
+use Rattle.dbus_value.specs.Reading.{up_to}
+use Rattle.dbus_message.specs.HeaderReading.{field_read, fields_read}
+use Rattle.dbus_message.specs.PartsViews.{field_trees}
+use Rattle.dbus_message.proofs.FieldLoop.{with_front}
+use Rattle.dbus_message.proofs.read_fields.read_fields.Given as goal
+
+abbrev pub invariant-loop-place : goal.invariant-loop-place
+invariant-loop-place g l = record {
+  in_range : l.place ≤ l.end;
+  inside : l.place ≤ length l.bytes;
+  taken : length l.fields.items + l.at ≤ l.place;
+  so_far : with_front (field_trees l.fields.items) (up_to (l.n - length l.fields.items) l.end (field_read l.order l.end) (reverse (field_trees l.fields.items)) l.place (drop l.place l.bytes))
+      ≡ fields_read l.order l.n l.at (drop l.at l.bytes);
+}
+
+abbrev pub decreases-loop-place : goal.decreases-loop-place
+decreases-loop-place g l = l.end - l.place

@@ -1,0 +1,97 @@
+//! Decoding a message.
+#![tactic(auto)]
+
+ghost use Rattle.std.specs.Prelude.{◌≡◌, ℕ, List, drop, IfOk};
+ghost use Rattle.dbus_types.specs.ComputedKinds.{types_spelled};
+ghost use Rattle.dbus_types.specs.SigTypes.{type_trees_of};
+ghost use Rattle.dbus_value.specs.Gives.{Gives};
+ghost use Rattle.dbus_value.specs.Reading.{judge};
+ghost use Rattle.dbus_message.specs.Decodes.{Decodes};
+ghost use Rattle.dbus_message.specs.HeaderReading.{message_read};
+ghost use Rattle.dbus_message.specs.Messages.{lacks, required, body_signature};
+ghost use Rattle.dbus_message.specs.PartsViews.{parts_tree, field_trees};
+ghost use Rattle.dbus_message.specs.SingleTypes.{AreSingleTypes};
+
+use crate::answer::Answer;
+use crate::fixed_header::read_fixed_header;
+use crate::header_field::HeaderField;
+use crate::known_fields::{body_signature, missing_field};
+use crate::message::Message;
+use crate::parts::Parts;
+use crate::read_body::read_body;
+use crate::read_fields::read_fields;
+use crate::refuse::refuse;
+use dbus_types::{SigType, parse_signature};
+use dbus_value::items::read_padding;
+use dbus_value::{Order, Reason, Refusal, Stop};
+use std::alloc::{AllocError, Allocator};
+
+/// That no required field is missing, at the place behind the fields: `FieldMissing` with the lowest code that is. D-Bus
+/// Specification, "Header Fields".
+fn check_required<A: Allocator>(kind: u8, fields: &[HeaderField<A>], at: usize) -> Result<(), Stop>
+    ensures { (bytes : List ℕ) → Gives (λ _. (tt, at)) bytes result (judge (lacks (required kind) (field_trees fields.now)) at (drop at bytes)) }
+{
+    match missing_field(kind, fields) {
+        Some(code) => refuse(at, Reason::FieldMissing(code)),
+        None => Ok(()),
+    }
+}
+
+/// The types that the SIGNATURE field spells, which was read as a signature: so only memory may be refused.
+fn body_types<A: Allocator + Copy>(
+    alloc: A,
+    fields: &[HeaderField<A>],
+) -> Result<Vec<SigType<A>, A>, AllocError>
+    ensures spelled { IfOk result (λ types. type_trees_of types.items ≡ types_spelled (body_signature (field_trees fields.now))) }
+    ensures complete { IfOk result (λ types. AreSingleTypes (type_trees_of types.items)) }
+{
+    match parse_signature(alloc, body_signature(fields)) {
+        Ok(types) => Ok(types),
+        Err(_) => Err(AllocError),
+    }
+}
+
+/// The message that the bytes begin with, its order and the place behind it.
+#[tactic(auto, unfolding(crate::specs::HeaderReading::message_read))]
+fn read_message<A: Allocator + Copy>(
+    alloc: A,
+    bytes: &[u8],
+) -> Result<(Order, Parts<A>, usize), Stop>
+    ensures { Gives (λ x. ((x.0, parts_tree x.1), x.2)) bytes.now result (message_read 0 bytes.now) }
+{
+    let header = read_fixed_header(bytes)?;
+    let (fields, at) = read_fields(alloc, bytes, 16, header.fields as usize, header.order)?;
+    check_required(header.kind, &fields, at)?;
+    let at = read_padding(bytes, at, at + 8, 8)?;
+    let types = body_types(alloc, &fields)?;
+    let end = at + header.body as usize;
+    let (body, used) = read_body(alloc, bytes, at, end, header.order, &types)?;
+    let parts = Parts {
+        kind: header.kind,
+        flags: header.flags,
+        serial: header.serial,
+        fields,
+        body,
+    };
+    Ok((header.order, parts, used))
+}
+
+/// Decodes the message that the bytes begin with. D-Bus Specification, "Message Protocol".
+///
+/// `Whole` where they do: `used` is how many bytes it has, and those behind it are not looked at. `Partial` where they
+/// neither do nor are refused: more bytes are wanted. `Format` where the next item of the message is at fault, with the
+/// fault's place, as soon as the bytes that are there show it. `Memory` only where a growth was refused.
+pub fn decode<A: Allocator + Copy>(alloc: A, bytes: &[u8]) -> Result<Answer<A>, Refusal>
+    ensures { Decodes bytes.now result }
+{
+    match read_message(alloc, bytes) {
+        Ok((order, parts, used)) => Ok(Answer::Whole {
+            order,
+            message: Message::of_valid(parts, used),
+            used,
+        }),
+        Err(Stop::Partial) => Ok(Answer::Partial),
+        Err(Stop::Memory) => Err(Refusal::Memory),
+        Err(Stop::Refused(fault)) => Err(Refusal::Format(fault)),
+    }
+}

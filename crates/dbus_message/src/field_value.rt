@@ -1,0 +1,215 @@
+//! Reading the value of a header field: the signature in its variant, then a value of that type.
+#![tactic(auto)]
+
+ghost use Rattle.std.specs.Prelude.{◌≡◌, ◌+◌, ◌-◌, ◌≤◌, ◌<◌, length, take, drop, string_bytes, IsUtf8, IfOk};
+ghost use Rattle.dbus_types.specs.ComputedKinds.{type_spelled};
+ghost use Rattle.dbus_types.specs.SigTypes.{type_tree};
+ghost use Rattle.dbus_types.specs.Types.{IsSingleType, sig};
+ghost use Rattle.dbus_types.specs.declared.text_kind.TextKind.TheVariants.{Single};
+ghost use Rattle.dbus_value.specs.declared.order.Order.{Order};
+ghost use Rattle.dbus_value.specs.Gives.{Gives};
+ghost use Rattle.dbus_value.specs.Reading.{number, value};
+ghost use Rattle.dbus_value.specs.ValueViews.{value_tree};
+ghost use Rattle.dbus_value.specs.WantedTexts.{IsName, Of, Only};
+ghost use Rattle.dbus_message.specs.HeaderReading.{wanted_signature, wanted_value};
+ghost use Rattle.dbus_message.specs.MessageItems.{name_row};
+ghost use Rattle.dbus_message.specs.Messages.{Name, OfType, Anything, Serial, want};
+
+use crate::fixed_header::read_serial;
+use crate::refuse::refuse;
+use dbus_types::{SigType, TextKind};
+use dbus_value::items::{read_length, read_nul, read_padding, read_short_length, read_u32};
+use dbus_value::texts::{read_only, read_signature, read_text};
+use dbus_value::{Got, Order, Reason, Refusal, Stop, Value, get};
+use std::alloc::{AllocError, Allocator};
+
+/// The most bytes that a name in a header field has.
+const NAME_LIMIT: u32 = 255;
+
+/// How many containers are open around a field's value: the field array, the field and its variant.
+const FIELD_DEPTH: u8 = 3;
+
+/// A value of the type that is wanted, with so many containers open around it, and the place behind it.
+pub fn read_value<A: Allocator + Copy>(
+    alloc: A,
+    bytes: &[u8],
+    at: usize,
+    end: usize,
+    order: Order,
+    wanted: &SigType<A>,
+    depth: u8,
+) -> Result<(Value<A>, usize), Stop>
+    requires at_most { at ≤ end }
+    requires inside { at ≤ length bytes.now }
+    requires shallow { depth ≤ 64 }
+    requires complete { IsSingleType (type_tree wanted.now) }
+    ensures gives { Gives (λ x. (value_tree x.0, x.1)) bytes.now result (value order (64 - depth) end (type_tree wanted.now) at (drop at bytes.now)) }
+    ensures moves { IfOk result (λ x. (at < x.1) × (x.1 ≤ end) × (x.1 ≤ length bytes.now)) }
+{
+    match get(alloc, bytes, at, end, order, wanted, depth) {
+        Ok(Got::Done(value, next)) => Ok((value, next)),
+        Ok(Got::Partial) => Err(Stop::Partial),
+        Err(Refusal::Memory) => Err(Stop::Memory),
+        Err(Refusal::Format(fault)) => Err(Stop::Refused(fault)),
+    }
+}
+
+/// The one signature that a known field has, in its variant. Gives the place behind it.
+#[tactic(auto, unfolding(crate::specs::HeaderReading::wanted_signature))]
+fn read_wanted(bytes: &[u8], at: usize, end: usize, wanted: &[u8]) -> Result<usize, Stop>
+    requires at_most { at ≤ end }
+    requires inside { at ≤ length bytes.now }
+    ensures gives { (order : Order) → Gives (λ q. (type_spelled wanted.now, q)) bytes.now result (wanted_signature order end (Only wanted.now) at (drop at bytes.now)) }
+    ensures moves { IfOk result (λ q. (at < q) × (q ≤ end) × (q ≤ length bytes.now)) }
+{
+    let (n, at) = read_short_length(bytes, at, end)?;
+    let behind = read_only(bytes, at, n, wanted)?;
+    read_nul(bytes, behind)
+}
+
+/// The length of a name: `NameTooLong` where it is over 255, else `Overrun` where the name and the zero behind it end past
+/// the end.
+fn read_name_length(
+    bytes: &[u8],
+    at: usize,
+    end: usize,
+    order: Order,
+) -> Result<(usize, usize), Stop>
+    requires at_most { at ≤ end }
+    requires inside { at ≤ length bytes.now }
+    ensures gives { Gives (λ x. x) bytes.now result (number order 4 end (name_row end) at (drop at bytes.now)) }
+    ensures moves { IfOk result (λ x. (x.1 ≡ at + 4) × (x.1 + x.0 < end) × (x.1 ≤ length bytes.now)) }
+{
+    let (n, behind) = read_u32(bytes, at, end, order)?;
+    if n > NAME_LIMIT {
+        return refuse(at, Reason::NameTooLong);
+    }
+    let n = n as usize;
+    if end - behind <= n {
+        return refuse(at, Reason::Overrun);
+    }
+    Ok((n, behind))
+}
+
+/// A string of bytes that are UTF-8.
+fn copy_text<A: Allocator>(alloc: A, text: &[u8]) -> Result<String<A>, AllocError>
+    requires { IsUtf8 text.now }
+    ensures { IfOk result (λ s. string_bytes s ≡ text.now) }
+{
+    String::from_str(alloc, str::from_utf8(text).unwrap())
+}
+
+/// A field that holds a name: a STRING that is a text of the kind.
+#[tactic(auto, unfolding(crate::specs::HeaderReading::wanted_value))]
+fn read_name<A: Allocator + Copy>(
+    alloc: A,
+    bytes: &[u8],
+    at: usize,
+    end: usize,
+    order: Order,
+    kind: TextKind,
+) -> Result<(Value<A>, usize), Stop>
+    requires at_most { at ≤ end }
+    requires inside { at ≤ length bytes.now }
+    requires name { IsName (Of kind) }
+    ensures gives { Gives (λ x. (value_tree x.0, x.1)) bytes.now result (wanted_value order end (Name (Of kind)) at (drop at bytes.now)) }
+    ensures moves { IfOk result (λ x. (at < x.1) × (x.1 ≤ end) × (x.1 ≤ length bytes.now)) }
+{
+    let at = read_wanted(bytes, at, end, b"s")?;
+    let at = read_padding(bytes, at, end, 4)?;
+    let (n, at) = read_name_length(bytes, at, end, order)?;
+    let behind = read_text(bytes, at, n, kind)?;
+    let next = read_nul(bytes, behind)?;
+    let name = copy_text(alloc, &bytes[at..behind])?;
+    Ok((Value::Str(name), next))
+}
+
+/// A REPLY_SERIAL field.
+#[tactic(auto, unfolding(crate::specs::HeaderReading::wanted_value))]
+fn read_reply_serial<A: Allocator + Copy>(
+    bytes: &[u8],
+    at: usize,
+    end: usize,
+    order: Order,
+) -> Result<(Value<A>, usize), Stop>
+    requires at_most { at ≤ end }
+    requires inside { at ≤ length bytes.now }
+    ensures gives { Gives (λ x. (value_tree x.0, x.1)) bytes.now result (wanted_value order end Serial at (drop at bytes.now)) }
+    ensures moves { IfOk result (λ x. (at < x.1) × (x.1 ≤ end) × (x.1 ≤ length bytes.now)) }
+{
+    let at = read_wanted(bytes, at, end, b"u")?;
+    let at = read_padding(bytes, at, end, 4)?;
+    let (serial, next) = read_serial(bytes, at, end, order)?;
+    Ok((Value::U32(serial), next))
+}
+
+/// A known field that holds any value of its type, whose text is `wanted`.
+#[tactic(auto, unfolding(crate::specs::HeaderReading::wanted_value))]
+fn read_typed<A: Allocator + Copy>(
+    alloc: A,
+    bytes: &[u8],
+    at: usize,
+    end: usize,
+    order: Order,
+    wanted: &[u8],
+    held: &SigType<A>,
+) -> Result<(Value<A>, usize), Stop>
+    requires at_most { at ≤ end }
+    requires inside { at ≤ length bytes.now }
+    requires complete { IsSingleType (type_tree held.now) }
+    requires spelled { wanted.now ≡ sig (type_tree held.now) }
+    ensures gives { Gives (λ x. (value_tree x.0, x.1)) bytes.now result (wanted_value order end (OfType (type_tree held.now)) at (drop at bytes.now)) }
+    ensures moves { IfOk result (λ x. (at < x.1) × (x.1 ≤ end) × (x.1 ≤ length bytes.now)) }
+{
+    let at = read_wanted(bytes, at, end, wanted)?;
+    read_value(alloc, bytes, at, end, order, held, FIELD_DEPTH)
+}
+
+/// A field of an unknown code: any value.
+#[tactic(auto, unfolding(crate::specs::HeaderReading::wanted_value, crate::specs::HeaderReading::wanted_signature))]
+fn read_anything<A: Allocator + Copy>(
+    alloc: A,
+    bytes: &[u8],
+    at: usize,
+    end: usize,
+    order: Order,
+) -> Result<(Value<A>, usize), Stop>
+    requires at_most { at ≤ end }
+    requires inside { at ≤ length bytes.now }
+    ensures gives { Gives (λ x. (value_tree x.0, x.1)) bytes.now result (wanted_value order end Anything at (drop at bytes.now)) }
+    ensures moves { IfOk result (λ x. (at < x.1) × (x.1 ≤ end) × (x.1 ≤ length bytes.now)) }
+{
+    let (n, at) = read_short_length(bytes, at, end)?;
+    let (held, behind) = read_signature(alloc, bytes, at, n)?;
+    let at = read_nul(bytes, behind)?;
+    read_value(alloc, bytes, at, end, order, &held, FIELD_DEPTH)
+}
+
+/// The value of a field, as its code asks for it: of its own type and kind where the code is known. D-Bus Specification,
+/// "Header Fields".
+pub fn read_field_value<A: Allocator + Copy>(
+    alloc: A,
+    bytes: &[u8],
+    at: usize,
+    end: usize,
+    order: Order,
+    code: u8,
+) -> Result<(Value<A>, usize), Stop>
+    requires at_most { at ≤ end }
+    requires inside { at ≤ length bytes.now }
+    requires some { 0 < code }
+    ensures gives { Gives (λ x. (value_tree x.0, x.1)) bytes.now result (wanted_value order end (want code) at (drop at bytes.now)) }
+    ensures moves { IfOk result (λ x. (at < x.1) × (x.1 ≤ end) × (x.1 ≤ length bytes.now)) }
+{
+    match code {
+        1 => read_typed(alloc, bytes, at, end, order, b"o", &SigType::Path),
+        2 => read_name(alloc, bytes, at, end, order, TextKind::Interface),
+        3 => read_name(alloc, bytes, at, end, order, TextKind::Member),
+        4 => read_name(alloc, bytes, at, end, order, TextKind::ErrorName),
+        5 => read_reply_serial(bytes, at, end, order),
+        6 | 7 => read_name(alloc, bytes, at, end, order, TextKind::BusName),
+        8 => read_typed(alloc, bytes, at, end, order, b"g", &SigType::Sig),
+        9 => read_typed(alloc, bytes, at, end, order, b"u", &SigType::U32),
+        _ => read_anything(alloc, bytes, at, end, order),
+    }
+}

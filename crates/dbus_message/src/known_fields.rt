@@ -1,0 +1,75 @@
+//! What a message's fields are looked up for.
+#![tactic(auto)]
+
+ghost use Rattle.std.specs.Prelude.{◌≡◌};
+ghost use Rattle.dbus_value.specs.ValueViews.{value_tree};
+ghost use Rattle.dbus_message.specs.MissingFields.{IsMissing};
+ghost use Rattle.dbus_message.specs.Messages.{has_code, lacks, required, text_in, body_signature};
+ghost use Rattle.dbus_message.specs.PartsViews.{field_trees};
+
+use crate::header_field::HeaderField;
+use dbus_value::Value;
+use std::alloc::Allocator;
+
+/// The code of the SIGNATURE field.
+const SIGNATURE: u8 = 8;
+
+/// Whether a field of the code is there.
+#[tactic(auto, using(crate::proofs::FieldLists::has_here, crate::proofs::FieldLists::has_no_more))]
+pub fn has_field<A: Allocator>(fields: &[HeaderField<A>], code: u8) -> bool
+    ensures { result ≡ has_code code (field_trees fields.now) }
+{
+    for field in fields {
+        if field.code == code {
+            return true;
+        }
+    }
+    false
+}
+
+/// The codes of the fields that a message of the type has. D-Bus Specification, "Header Fields".
+fn required(kind: u8) -> &'static [u8]
+    ensures { result.now ≡ required kind }
+{
+    match kind {
+        1 => &[1, 3],
+        2 => &[5],
+        3 => &[4, 5],
+        4 => &[1, 2, 3],
+        _ => &[],
+    }
+}
+
+/// The lowest code that the message type requires and that is missing.
+pub fn missing_field<A: Allocator>(kind: u8, fields: &[HeaderField<A>]) -> Option<u8>
+    ensures { IsMissing (lacks (required kind) (field_trees fields.now)) result }
+{
+    for code in required(kind) {
+        if !has_field(fields, *code) {
+            return Some(*code);
+        }
+    }
+    None
+}
+
+/// The text that a value is, or nothing.
+fn text_in<A: Allocator>(value: &Value<A>) -> &[u8]
+    ensures { result.now ≡ text_in (value_tree value.now) }
+{
+    match value {
+        Value::Str(text) | Value::Path(text) | Value::Sig(text) => text.as_bytes(),
+        _ => &[],
+    }
+}
+
+/// The signature of the body: the text of the first SIGNATURE field, or nothing.
+pub fn body_signature<A: Allocator>(fields: &[HeaderField<A>]) -> &[u8]
+    ensures { result.now ≡ body_signature (field_trees fields.now) }
+{
+    for field in fields {
+        if field.code == SIGNATURE {
+            return text_in(&field.value);
+        }
+    }
+    &[]
+}

@@ -1,0 +1,30 @@
+//! Looking up a message's fields and values.
+#![tactic(auto)]
+
+ghost use Rattle.std.specs.Prelude.{◌≡◌, Some, None, MatchOption};
+ghost use Rattle.dbus_value.specs.ValueViews.{value_tree};
+ghost use Rattle.dbus_message.specs.Lookups.{field_value, body_value};
+ghost use Rattle.dbus_message.specs.MessageViews.{message_tree};
+
+use crate::message::Message;
+use dbus_value::Value;
+use std::alloc::Allocator;
+
+/// The value of the message's first field of the code. D-Bus Specification, "Header Fields".
+pub fn field<A: Allocator>(message: &Message<A>, code: u8) -> Option<&Value<A>>
+    ensures { MatchOption result (field_value code (message_tree message.now).fields ≡ None) (λ v. field_value code (message_tree message.now).fields ≡ Some (value_tree v.now)) }
+{
+    for field in &message.parts().fields {
+        if field.code == code {
+            return Some(&field.value);
+        }
+    }
+    None
+}
+
+/// The body's value of the number, counted from 0. D-Bus Specification, "Message Format".
+pub fn arg<A: Allocator>(message: &Message<A>, n: usize) -> Option<&Value<A>>
+    ensures { MatchOption result (body_value n (message_tree message.now).body ≡ None) (λ v. body_value n (message_tree message.now).body ≡ Some (value_tree v.now)) }
+{
+    message.parts().body.get(n)
+}

@@ -1,0 +1,60 @@
+//! Messages.
+#![tactic(auto)]
+
+ghost use Rattle.std.specs.Prelude.{◌≡◌, length};
+ghost use Rattle.dbus_value.specs.declared.order.Order.TheVariants.{Little};
+ghost use Rattle.dbus_message.specs.Messages.{message_bytes};
+ghost use Rattle.dbus_message.specs.PartsViews.{parts_tree};
+ghost use Rattle.dbus_message.specs.ValidMessages.{IsValidMessage};
+
+use crate::parts::Parts;
+use std::alloc::{Allocator, Global};
+
+/// A valid message within the limits: it has a spelling in both byte orders, of one length.
+/// D-Bus Specification, "Message Format".
+#[derive(Debug, Drop)]
+pub struct Message<A: Allocator = Global> {
+    parts: Parts<A>,
+    /// How many bytes it is spelled by.
+    size: usize,
+    ghost valid: { ∥ IsValidMessage (parts_tree parts) ∥₁ },
+    ghost sized: { size ≡ length (message_bytes Little (parts_tree parts)) },
+}
+
+impl<A: Allocator> Message<A> {
+    ghost use Rattle.std.specs.Prelude.{◌≤◌};
+    ghost use Rattle.dbus_value.specs.declared.order.Order.{Order};
+    ghost use Rattle.dbus_message.specs.MessageViews.{message_tree};
+
+    /// The message of these parts, which are valid and are spelled by so many bytes.
+    pub(crate) fn of_valid(parts: Parts<A>, size: usize) -> Self
+        requires valid { IsValidMessage (parts_tree parts) }
+        requires sized { size ≡ length (message_bytes Little (parts_tree parts)) }
+        ensures { message_tree result ≡ parts_tree parts }
+    {
+        Message { parts, size }
+    }
+
+    /// How many bytes it is spelled by, in either order.
+    pub(crate) fn size(&self) -> usize
+        ensures exact { (order : Order) → result ≡ length (message_bytes order (message_tree self.now)) }
+        ensures within { result ≤ 134_217_728 }
+    {
+        self.size
+    }
+
+    /// What it is made of.
+    pub fn parts(&self) -> &Parts<A>
+        ensures same { parts_tree result.now ≡ message_tree self.now }
+        ensures valid { ∥ IsValidMessage (parts_tree result.now) ∥₁ }
+    {
+        &self.parts
+    }
+
+    /// What it was made of.
+    pub fn into_parts(self) -> Parts<A>
+        ensures { parts_tree result ≡ message_tree self }
+    {
+        self.parts
+    }
+}

@@ -1,0 +1,44 @@
+//! Reading the values of a body.
+#![tactic(auto)]
+
+ghost use Rattle.std.specs.Prelude.{◌≡◌, ◌+◌, ◌≤◌, ◌<◌, ◌^◌, length, drop, IfOk};
+ghost use Rattle.dbus_types.specs.SigTypes.{type_trees_of};
+ghost use Rattle.dbus_value.specs.declared.order.Order.{Order};
+ghost use Rattle.dbus_value.specs.Gives.{Gives};
+ghost use Rattle.dbus_value.specs.ValueViews.{value_trees_of};
+ghost use Rattle.dbus_message.specs.HeaderReading.{body_read};
+ghost use Rattle.dbus_message.specs.SingleTypes.{AreSingleTypes};
+
+use crate::field_value::read_value;
+use crate::refuse::refuse;
+use dbus_types::SigType;
+use dbus_value::{Order, Reason, Stop, Value};
+use std::alloc::Allocator;
+
+/// A value for each of the types, up to the body's end, and the place behind them: `Trailing` where the end is not reached.
+/// D-Bus Specification, "Message Format".
+pub fn read_body<A: Allocator + Copy>(
+    alloc: A,
+    bytes: &[u8],
+    at: usize,
+    end: usize,
+    order: Order,
+    types: &[SigType<A>],
+) -> Result<(Vec<Value<A>, A>, usize), Stop>
+    requires at_most { at ≤ end }
+    requires inside { at ≤ length bytes.now }
+    requires complete { AreSingleTypes (type_trees_of types.now) }
+    ensures { Gives (λ x. (value_trees_of x.0.items, x.1)) bytes.now result (body_read order (type_trees_of types.now) end at (drop at bytes.now)) }
+{
+    let mut values = Vec::new(alloc);
+    let mut place = at;
+    for wanted in types {
+        let (value, next) = read_value(alloc, bytes, place, end, order, wanted, 0)?;
+        values.push(value)?;
+        place = next;
+    }
+    if place < end {
+        return refuse(place, Reason::Trailing);
+    }
+    Ok((values, place))
+}

@@ -1,0 +1,88 @@
+//! Reading the header's fields.
+#![tactic(auto)]
+
+ghost use Rattle.std.specs.Prelude.{◌≡◌, ◌+◌, ◌≤◌, ◌<◌, ◌^◌, length, drop, reverse, List, IfOk};
+ghost use Rattle.dbus_value.specs.declared.order.Order.{Order};
+ghost use Rattle.dbus_value.specs.Gives.{Gives};
+ghost use Rattle.dbus_value.specs.Reading.{number};
+ghost use Rattle.dbus_message.specs.HeaderReading.{field_read, fields_read};
+ghost use Rattle.dbus_message.specs.MessageItems.{code_row};
+ghost use Rattle.dbus_message.specs.PartsViews.{field_tree, field_trees};
+
+use crate::field_value::read_field_value;
+use crate::header_field::HeaderField;
+use crate::known_fields::has_field;
+use crate::refuse::refuse;
+use dbus_value::items::{read_byte, read_padding};
+use dbus_value::{Order, Reason, Stop};
+use std::alloc::Allocator;
+
+/// The lowest code of the unknown fields.
+const UNKNOWN: u8 = 10;
+
+/// The code of a field behind others: `FieldCode` where it is 0, `FieldTwice` where it is known and stands among them.
+fn read_code<A: Allocator>(
+    bytes: &[u8],
+    at: usize,
+    end: usize,
+    before: &[HeaderField<A>],
+) -> Result<(u8, usize), Stop>
+    requires at_most { at ≤ end }
+    requires inside { at ≤ length bytes.now }
+    ensures gives { (order : Order) → Gives (λ x. x) bytes.now result (number order 1 end (code_row (reverse (field_trees before.now))) at (drop at bytes.now)) }
+    ensures moves { IfOk result (λ x. (x.1 ≡ at + 1) × (x.1 ≤ end) × (x.1 ≤ length bytes.now) × (0 < x.0)) }
+{
+    let (code, next) = read_byte(bytes, at, end)?;
+    if code == 0 {
+        return refuse(at, Reason::FieldCode);
+    }
+    if code < UNKNOWN && has_field(before, code) {
+        return refuse(at, Reason::FieldTwice);
+    }
+    Ok((code, next))
+}
+
+/// A field behind others, and the place behind it. D-Bus Specification, "Header Fields".
+#[tactic(auto, unfolding(crate::specs::HeaderReading::field_read))]
+fn read_field<A: Allocator + Copy>(
+    alloc: A,
+    bytes: &[u8],
+    at: usize,
+    end: usize,
+    order: Order,
+    before: &[HeaderField<A>],
+) -> Result<(HeaderField<A>, usize), Stop>
+    requires at_most { at ≤ end }
+    requires inside { at ≤ length bytes.now }
+    ensures gives { Gives (λ x. (field_tree x.0, x.1)) bytes.now result (field_read order end (reverse (field_trees before.now)) at (drop at bytes.now)) }
+    ensures moves { IfOk result (λ x. (at < x.1) × (x.1 ≤ end) × (x.1 ≤ length bytes.now)) }
+{
+    let at = read_padding(bytes, at, end, 8)?;
+    let (code, at) = read_code(bytes, at, end, before)?;
+    let (value, next) = read_field_value(alloc, bytes, at, end, order, code)?;
+    Ok((HeaderField { code, value }, next))
+}
+
+/// The fields whose array has so many bytes, and the place behind them.
+pub fn read_fields<A: Allocator + Copy>(
+    alloc: A,
+    bytes: &[u8],
+    at: usize,
+    n: usize,
+    order: Order,
+) -> Result<(Vec<HeaderField<A>, A>, usize), Stop>
+    requires near { at + n < 2 ^ 62 }
+    requires inside { at ≤ length bytes.now }
+    ensures gives { Gives (λ x. (field_trees x.0.items, x.1)) bytes.now result (fields_read order n at (drop at bytes.now)) }
+    ensures moves { IfOk result (λ x. (x.1 ≡ at + n) × (x.1 ≤ length bytes.now)) }
+{
+    let end = at + n;
+    let mut fields = Vec::new(alloc);
+    let mut place = at;
+    while place < end {
+        let (field, next) = read_field(alloc, bytes, place, end, order, &fields)?;
+        fields.push(field)?;
+        place = next;
+    }
+    Ok((fields, place))
+}

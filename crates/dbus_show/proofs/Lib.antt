@@ -1,0 +1,10 @@
+pub mod EscapedText
+pub mod HexDigits
+pub mod Appending
+pub mod ItemTexts
+pub mod TypeCases
+pub mod SignedNumbers
+pub mod OtherCases
+pub mod TextsInARow
+pub mod LineFeeds
+pub mod FieldTexts

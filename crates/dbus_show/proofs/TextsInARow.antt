@@ -1,0 +1,22 @@
+-- The texts of fields and of body lines in a row.
+use Rattle.std.proofs.Common.{◌≡◌, List, [], ◌∷◌, ◌++◌, sym, ap, ◌∙◌, append-nil, append_assoc}
+use Rattle.std.specs.List.{flat_map}
+use Rattle.std.proofs.lemmas.List.Concat.{flat_map-append}
+use Rattle.dbus_value.specs.ValueViews.{value_tree, value_trees_of}
+use Rattle.dbus_value.specs.declared.value.Value.{Value}
+use Rattle.dbus_message.specs.PartsViews.{field_tree, field_trees}
+use Rattle.dbus_message.specs.declared.header_field.HeaderField.{HeaderField}
+use Rattle.dbus_show.specs.ShownValues.{value_text, value_texts}
+use Rattle.dbus_show.specs.ShownMessages.{field_text, body_line}
+use Rattle.dbus_show.proofs.ItemTexts.{texts_push}
+
+module _ {A : Type 0} where
+  pub fields_push : (fs : List (HeaderField A)) (f : HeaderField A) → flat_map field_text (field_trees (fs ++ f ∷ [])) ≡ flat_map field_text (field_trees fs) ++ field_text (field_tree f)
+  fields_push [] f = append-nil (field_text (field_tree f))
+  fields_push (e ∷ fs) f = ap (λ s. field_text (field_tree e) ++ s) (fields_push fs f) ∙ sym (append_assoc (field_text (field_tree e)) (flat_map field_text (field_trees fs)) (field_text (field_tree f)))
+
+  pub lines_push : (vs : List (Value A)) (v : Value A) → flat_map body_line (value_texts (value_trees_of (vs ++ v ∷ []))) ≡ flat_map body_line (value_texts (value_trees_of vs)) ++ body_line (value_text (value_tree v))
+  lines_push vs v =
+      let texts = value_texts (value_trees_of vs) in
+      let text = value_text (value_tree v) in
+      ap (flat_map body_line) (texts_push vs v) ∙ flat_map-append body_line texts (text ∷ []) ∙ ap (λ s. flat_map body_line texts ++ s) (append-nil (body_line text))

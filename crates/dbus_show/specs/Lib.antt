@@ -1,0 +1,3 @@
+pub mod ShownValues
+pub mod ShownMessages
+pub mod Laws

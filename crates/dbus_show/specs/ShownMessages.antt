@@ -1,0 +1,50 @@
+-- The text of a message: a line for its header, and behind two spaces a line for each value of its body.
+-- The names are those of the D-Bus Specification, "Message Format" and "Header Fields", in lower case.
+use Rattle.std.specs.Prelude.{ℕ, List, [], ◌∷◌, ◌++◌, codes, decimal, nat_eq, if◌then◌else◌}
+use Rattle.std.specs.List.{concat, flat_map}
+use Rattle.hex.specs.Hex.{encode_lower}
+use Rattle.dbus_types.specs.Types.{UINT32}
+use Rattle.dbus_value.specs.declared.order.Order.{Order}
+use Rattle.dbus_value.specs.Values.{ValueTree, NumberValue, TextValue}
+use Rattle.dbus_message.specs.Messages.{FieldTree, MessageTree, order_byte, is_known}
+use Rattle.dbus_show.specs.ShownValues.{value_text, value_texts}
+
+-- a message type's name, or `kind` and its number where it has none
+abbrev pub kind_text : ℕ → List ℕ
+kind_text kind =
+    if nat_eq kind 1 then codes "method_call" else if nat_eq kind 2 then codes "method_return"
+    else if nat_eq kind 3 then codes "error" else if nat_eq kind 4 then codes "signal"
+    else codes "kind" ++ decimal kind
+
+-- a field's name, or `field` and its code where it has none
+abbrev pub field_name : ℕ → List ℕ
+field_name code =
+    if nat_eq code 1 then codes "path" else if nat_eq code 2 then codes "interface"
+    else if nat_eq code 3 then codes "member" else if nat_eq code 4 then codes "error_name"
+    else if nat_eq code 5 then codes "reply_serial" else if nat_eq code 6 then codes "destination"
+    else if nat_eq code 7 then codes "sender" else if nat_eq code 8 then codes "signature"
+    else if nat_eq code 9 then codes "unix_fds" else codes "field" ++ decimal code
+
+-- A known field's value, which is a text or a UINT32, stands alone. A value of another type, which no known field of a
+-- message has, is shown as any value is.
+abbrev pub bare : ValueTree → List ℕ
+bare (TextValue k t) = t
+bare (NumberValue UINT32 n) = decimal n
+bare v = value_text v
+
+abbrev pub field_value : FieldTree → List ℕ
+field_value f = if is_known f.code then bare f.value else value_text f.value
+
+abbrev pub field_text : FieldTree → List ℕ
+field_text f = codes " " ++ (field_name f.code ++ (codes "=" ++ field_value f))
+
+abbrev pub header_line : Order → MessageTree → ℕ → List ℕ
+header_line order m number = concat
+    (codes "#" ∷ decimal number ∷ codes " " ∷ (order_byte order ∷ []) ∷ codes " " ∷ kind_text m.kind ∷ codes " serial=" ∷ decimal m.serial
+    ∷ codes " flags=" ∷ encode_lower (m.flags ∷ []) ∷ flat_map field_text m.fields ∷ codes "\n" ∷ [])
+
+abbrev pub body_line : List ℕ → List ℕ
+body_line text = concat (codes "  " ∷ text ∷ codes "\n" ∷ [])
+
+abbrev pub message_text : Order → MessageTree → ℕ → List ℕ
+message_text order m number = header_line order m number ++ flat_map body_line (value_texts m.body)

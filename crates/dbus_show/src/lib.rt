@@ -1,0 +1,15 @@
+//! Messages of the D-Bus wire format as text for a reader.
+#![tactic(auto)]
+
+mod escapes;
+mod fields;
+mod hexadecimal;
+pub mod laws;
+mod numbers;
+mod show;
+#[cfg(test)]
+mod tests;
+mod type_text;
+mod values;
+
+pub use show::show_message;

@@ -1,0 +1,14 @@
+-- How far a decoding went.
+use Rattle.std.proofs.Common.{ℕ, List, Ok, Err, Result, length}
+use Rattle.dbus_value.specs.declared.fault.Refusal.{Refusal}
+use Rattle.dbus_message.specs.declared.answer.Answer.{Answer}
+use Rattle.dbus_message.specs.declared.answer.Answer.TheVariants.{Whole, Partial}
+use Rattle.dbus_message.specs.Decodes.{Decodes}
+use Rattle.dbus_message.specs.MessageViews.{message_tree}
+use Rattle.dbus_message.proofs.OutcomeLaws.{whole_inside}
+use Rattle.dbus_stream.specs.Decoded.{IsInside}
+
+pub inside_of : {A : Type 0} (b : List ℕ) (result : Result (Answer A) Refusal) → Decodes b result → IsInside (length b) result
+inside_of b (Ok (Whole order message used)) d = whole_inside b order (message_tree message) used d
+inside_of b (Ok Partial) d = tt
+inside_of b (Err refusal) d = tt

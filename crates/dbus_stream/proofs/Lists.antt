@@ -1,0 +1,38 @@
+-- Lists of bytes that are kept in parts.
+use Rattle.std.proofs.Common.{◌≡◌, ◌+◌, ◌-◌, ◌≤◌, ℕ, List, [], ◌++◌, take, drop, arith, sym, ap, ◌∙◌, append_assoc, take-append-drop}
+use Rattle.std.specs.List.{slice_range}
+use Rattle.std.proofs.lemmas.List.{drop-take, drop-drop, take-take}
+
+-- what is left of a part, where some of it was taken
+pub left_of : (buffer : List ℕ) (start end taken : ℕ) → start + taken ≤ end
+    → drop taken (slice_range buffer start end) ≡ slice_range buffer (start + taken) end
+left_of buffer start end taken within =
+    let split : end - start ≡ taken + (end - (start + taken)) = omega arith in
+    ap (λ k. drop taken (take k (drop start buffer))) split
+    ∙ (drop-take taken (end - (start + taken)) (drop start buffer)
+    ∙ ap (take (end - (start + taken))) (drop-drop taken start buffer))
+
+take_split : (a b : ℕ) (xs : List ℕ) → take a xs ++ take b (drop a xs) ≡ take (a + b) xs
+take_split a b xs =
+    let front : take a (take (a + b) xs) ≡ take a xs = take-take a (a + b) xs (omega arith) in
+    ap (λ l. l ++ take b (drop a xs)) (sym front) ∙ (ap (λ l. take a (take (a + b) xs) ++ l) (sym (drop-take a b xs)) ∙ take-append-drop a (take (a + b) xs))
+
+-- a part that is taken from the front of one list to the end of another
+pub gathered : (held buffer : List ℕ) (start end taken : ℕ) → start + taken ≤ end
+    → (held ++ slice_range buffer start (start + taken)) ++ slice_range buffer (start + taken) end ≡ held ++ slice_range buffer start end
+gathered held buffer start end taken within =
+    append_assoc held (slice_range buffer start (start + taken)) (slice_range buffer (start + taken) end) ∙ ap (λ l. held ++ l) joined
+  where
+    joined : slice_range buffer start (start + taken) ++ slice_range buffer (start + taken) end ≡ slice_range buffer start end
+    joined =
+        let front : (start + taken) - start ≡ taken = omega arith in
+        let all : taken + (end - (start + taken)) ≡ end - start = omega arith in
+        ap (λ k. take k (drop start buffer) ++ take (end - (start + taken)) (drop (start + taken) buffer)) front
+        ∙ (ap (λ l. take taken (drop start buffer) ++ take (end - (start + taken)) l) (sym (drop-drop taken start buffer))
+        ∙ (take_split taken (end - (start + taken)) (drop start buffer) ∙ ap (λ k. take k (drop start buffer)) all))
+
+-- a part that ends where it begins
+pub no_part : (buffer : List ℕ) (start end : ℕ) → start ≡ end → slice_range buffer start end ≡ []
+no_part buffer start end same =
+    let none : end - start ≡ 0 = omega (arith, same) in
+    ap (λ k. take k (drop start buffer)) none

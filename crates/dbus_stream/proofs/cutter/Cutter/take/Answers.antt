@@ -1,0 +1,41 @@
+use Rattle.std.proofs.Common.{◌≡◌, ◌+◌, ◌-◌, ◌<◌, ◌≤◌, ℕ, List, ◌++◌, None, length, arith, rules, subst, sym, ap, ◌∙◌}
+use Rattle.dbus_value.specs.declared.order.Order.{Order}
+use Rattle.dbus_message.specs.Messages.{MessageTree}
+use Rattle.dbus_message.specs.MessageOutcomes.{IsWhole, IsPartial}
+use Rattle.dbus_message.specs.MessageViews.{message_tree}
+use Rattle.dbus_stream.specs.CutterState.{CutterState}
+use Rattle.dbus_message.proofs.OutcomeLaws.{nothing_partial}
+use Rattle.dbus_stream.proofs.WholeLaws.{whole_past}
+use Rattle.dbus_stream.proofs.cutter.Cutter.take.Goals as goal
+use Rattle.dbus_stream.proofs.cutter.Cutter.take.Goals.{In-Ok-Whole}
+
+-- what is taken of the piece ends where the message ends
+ends_at : (held piece all : List ℕ) (order : Order) (m : MessageTree) (n before : ℕ) → all ≡ held ++ piece → before ≡ length held → IsPartial held → IsWhole all order m n
+    → IsWhole (held ++ piece) order m (length held + (n - before)) × (before ≤ n)
+ends_at held piece all order m n before joined count part_of w =
+    let whole = subst (λ l. IsWhole l order m n) joined w in
+    let past : length held < n = whole_past held piece order m n part_of whole in
+    let same : n ≡ length held + (n - before) = omega arith in
+    (subst (λ k. IsWhole (held ++ piece) order m k) same whole, omega arith)
+
+-- the message that was decoded
+taken : (g : _) (c : In-Ok-Whole g) → IsWhole (c.args.self.now.held ++ c.args.piece.now) c.in-Ok-Whole.order (message_tree c.in-Ok-Whole.message) (length c.args.self.now.held + (c.in-Ok-Whole.used - c.len-before.result))
+    × (c.len-before.result ≤ c.in-Ok-Whole.used)
+taken g c =
+    let held_is : c.self.inside.held.items ≡ c.args.self.now.held = ap (λ (s : CutterState). s.held) c.self.view_is in
+    let joined : c.as_slice.result.now ≡ c.args.self.now.held ++ c.args.piece.now = search rules in
+    let count : c.len-before.result ≡ length c.args.self.now.held = search rules in
+    let held_part : IsPartial c.args.self.now.held = subst (λ l. IsPartial l) held_is c.self.invariant in
+    let whole : IsWhole c.as_slice.result.now c.in-Ok-Whole.order (message_tree c.in-Ok-Whole.message) c.in-Ok-Whole.used = rw c.in-Ok-Whole.field-0-is at c.in-Ok-Whole.ensures.decodes in
+    ends_at c.args.self.now.held c.args.piece.now c.as_slice.result.now c.in-Ok-Whole.order (message_tree c.in-Ok-Whole.message) c.in-Ok-Whole.used c.len-before.result joined count held_part whole
+
+pub invariant_of-self-in-Ok-Whole : goal.invariant_of-self-in-Ok-Whole
+invariant_of-self-in-Ok-Whole g c = subst (λ l. IsPartial l) (sym c.clear.ensures.items) nothing_partial
+
+pub overflow_sub-result : goal.overflow_sub-result
+overflow_sub-result g c = (taken g (goal.at.overflow_sub-result g c).In-Ok-Whole).1
+
+pub returns-in-Ok-Whole-clause-answer : goal.returns-in-Ok-Whole-clause-answer
+returns-in-Ok-Whole-clause-answer g c h =
+    let fault_is : c.self.inside.fault ≡ None = ap (λ (s : CutterState). s.fault) c.self.view_is ∙ h in
+    ((taken g (goal.at.returns-in-Ok-Whole-clause-answer g c).In-Ok-Whole).0, search rules)

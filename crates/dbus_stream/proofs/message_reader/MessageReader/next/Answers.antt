@@ -1,0 +1,70 @@
+use Rattle.std.proofs.Common.{◌≡◌, ◌≤◌, None, Some, Ok, Err, refl, ap, arith, sym, ◌∙◌}
+use Rattle.std.specs.Prelude.{Option}
+use Rattle.dbus_value.specs.declared.order.Order.{Order}
+use Rattle.dbus_message.specs.declared.message.Message.{Message}
+use Rattle.dbus_stream.specs.Stated.{BeginsWithNone}
+use Rattle.dbus_stream.specs.Reader.{kept, source_of, stopped_of}
+use Rattle.dbus_stream.specs.Steps.{TakesKept}
+use Rattle.dbus_stream.proofs.NextSteps.{HasRead, lasts, starts, begins, holds_all, given, finished, gave_up, failed_read, filled}
+use Rattle.dbus_stream.proofs.message_reader.MessageReader.next.Goals as goal
+use Rattle.dbus_stream.proofs.message_reader.MessageReader.next.Goals.{In-Ok-None}
+
+pub returns-in-Some-clause-read : goal.returns-in-Some-clause-read
+returns-in-Some-clause-read g c = (
+  starts g.R.Source.left g.R.Source.calls g.R.Source.failures c.args.self.now,
+  λ unstopped. let none : Some c.in-Some.fault ≡ None = sym c.in-Some.is ∙ unstopped in cc,
+)
+
+pub returns-in-Some-clause-failed : goal.returns-in-Some-clause-failed
+returns-in-Some-clause-failed g c =
+    lasts (Option (Order × Message g.row.A.Denot)) (g.R.Source.failures (source_of c.args.self.now)) (stopped_of c.args.self.now) c.in-Some.fault c.in-Some.is c.args.self.now.lasting
+
+pub reading-init : goal.reading-init
+reading-init g c = (begins g.R.Source.left g.R.Source.calls g.R.Source.failures c.args.self.now c.in_default.is, refl)
+
+pub returns-in-Ok-Some-clause-read : goal.returns-in-Ok-Some-clause-read
+returns-in-Ok-Some-clause-read g c =
+    let takes : TakesKept c.reading.self c.take_kept.new.self (Ok (Some c.in-Ok-Some.given)) = rw c.in-Ok-Some.field-0-is at c.in-Ok-Some.ensures.takes in
+    given g.R.Source.left g.R.Source.calls g.R.Source.failures c.args.self.now c.reading.self c.take_kept.new.self (Ok (Some c.in-Ok-Some.given))
+    c.reading.invariant.0 (λ e. cc) takes c.take_kept.ensures.unread
+
+pub returns-in-Err-clause-read : goal.returns-in-Err-clause-read
+returns-in-Err-clause-read g c =
+    given g.R.Source.left g.R.Source.calls g.R.Source.failures c.args.self.now c.reading.self c.take_kept.new.self (Err c.in-Err.fault)
+    c.reading.invariant.0 (λ e. cc) c.in-Err.ensures.takes c.take_kept.ensures.unread
+
+-- all of what is kept is held
+held : (g : _) (c : In-Ok-None g) → HasRead g.R.Source.left g.R.Source.calls g.R.Source.failures c.args.self.now c.take_kept.new.self
+    × BeginsWithNone (kept c.take_kept.new.self)
+held g c =
+    let takes : TakesKept c.reading.self c.take_kept.new.self (Ok None) = rw c.in-Ok-None.field-0-is at c.in-Ok-None.ensures.takes in
+    (holds_all g.R.Source.left g.R.Source.calls g.R.Source.failures c.args.self.now c.reading.self c.take_kept.new.self c.reading.invariant.0 takes.0 c.take_kept.ensures.unread, takes.2)
+
+pub returns-then-self-clause-read : goal.returns-then-self-clause-read
+returns-then-self-clause-read g c =
+    finished g.R.Source.left g.R.Source.calls g.R.Source.failures c.args.self.now c.take_kept.new.self c.finish.new.self c.finish.result
+    (held g (goal.at.returns-then-self-clause-read g c).In-Ok-None).0 c.if-self.true c.finish.ensures.finishes c.finish.ensures.unread
+
+pub returns-then-self-2-clause-read : goal.returns-then-self-2-clause-read
+returns-then-self-2-clause-read g c =
+    let r = c.take_kept.new.self in
+    let few : r.reads ≤ r.limit = r.few_reads in
+    let all : r.reads ≡ r.limit = omega arith in
+    gave_up g.R.Source.left g.R.Source.calls g.R.Source.failures c.args.self.now r c.give_up.new.self c.give_up.result
+    (held g (goal.at.returns-then-self-2-clause-read g c).In-Ok-None).0 all c.give_up.ensures.gives_up c.give_up.ensures.unread
+
+pub returns-in-Err-fill-clause-read : goal.returns-in-Err-fill-clause-read
+returns-in-Err-fill-clause-read g c =
+    let fill = c.in-Err-fill.ensures in
+    let h = held g (goal.at.returns-in-Err-fill-clause-read g c).In-Ok-None in
+    failed_read g.R.Source.left g.R.Source.calls g.R.Source.failures c.args.self.now c.take_kept.new.self c.fill.new.self
+    h.0 h.1 c.if-self.false fill.fills fill.reads fill.called fill.limit fill.done fill.stopped
+
+pub reading-preserved : goal.reading-preserved
+reading-preserved g c =
+    let fill = c.in-Ok.ensures in
+    let h = held g (goal.at.reading-preserved g c).In-Ok-None in (
+      filled g.R.Source.left g.R.Source.calls g.R.Source.failures c.args.self.now c.take_kept.new.self c.fill.new.self fill.fills.0
+          h.0 h.1 c.if-self.false fill.fills.1 fill.failed fill.reads fill.called fill.limit fill.done fill.stopped,
+      fill.same_reference ∙ (ap g.R.Source.reference c.take_kept.ensures.unread.source ∙ c.reading.invariant.1),
+    )

@@ -1,0 +1,50 @@
+-- How a stream of bytes is cut into messages, which follow one another with nothing between (D-Bus Specification,
+-- "Message Protocol").
+use Rattle.std.specs.Prelude.{◌≡◌, ◌≢◌, ℕ, ◌+◌, List, [], ◌∷◌, length, drop, Option, None, Some}
+use Rattle.dbus_value.specs.declared.order.Order.{Order}
+use Rattle.dbus_value.specs.declared.fault.Fault.{Fault}
+use Rattle.dbus_value.specs.declared.fault.Reason.TheVariants.{Truncated}
+use Rattle.dbus_message.specs.Messages.{MessageTree}
+use Rattle.dbus_message.specs.MessageOutcomes.{IsWhole, IsRefused, IsPartial}
+
+-- a message of a stream, with its byte order and how many bytes it has
+pub record Item : Type 0 where
+  pub order : Order
+  pub message : MessageTree
+  pub size : ℕ
+
+-- the bytes are these messages, one behind the other, and then the rest
+abbrev pub BeginWith : List ℕ → List Item → List ℕ → Type 0
+BeginWith bytes [] rest = bytes ≡ rest
+BeginWith bytes (item ∷ items) rest = IsWhole bytes item.order item.message item.size × BeginWith (drop item.size bytes) items rest
+
+-- why no further message comes
+pub data Outcome : Type 0 where
+  Ended : Outcome
+  Unfinished : Outcome
+  Refused : Fault → Outcome
+
+abbrev pub IsOutcome : List ℕ → Outcome → Type 0
+IsOutcome rest Ended = rest ≡ []
+IsOutcome rest Unfinished = (rest ≢ []) × IsPartial rest
+IsOutcome rest (Refused fault) = IsRefused rest fault
+
+-- the bytes are these messages and then the rest, behind which no further message comes
+pub record IsCut (bytes : List ℕ) (items : List Item) (rest : List ℕ) (outcome : Outcome) : Type 0 where
+  pub messages : BeginWith bytes items rest
+  pub outcome_is : IsOutcome rest outcome
+
+-- the fault of an input that ends within a message, behind these bytes of it
+abbrev pub truncated : List ℕ → Fault
+truncated rest = record { at = length rest; reason = Truncated }
+
+-- the fault of an input that ends behind these bytes
+abbrev pub fault_at_end : List ℕ → Outcome → Option Fault
+fault_at_end rest Ended = None
+fault_at_end rest Unfinished = Some (truncated rest)
+fault_at_end rest (Refused fault) = Some fault
+
+-- how many bytes the messages have
+abbrev pub sizes : List Item → ℕ
+sizes [] = 0
+sizes (item ∷ items) = item.size + sizes items

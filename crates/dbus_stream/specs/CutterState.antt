@@ -1,0 +1,9 @@
+-- What a cutter holds.
+use Rattle.std.specs.Prelude.{ℕ, List, Option}
+use Rattle.dbus_value.specs.declared.fault.Fault.{Fault}
+
+pub record CutterState : Type 0 where
+  -- the bytes of the message under way
+  pub held : List ℕ
+  -- the fault that it stays with
+  pub fault : Option Fault

@@ -1,0 +1,21 @@
+-- What a cutter makes of a piece, where it met no fault before.
+use Rattle.std.specs.Prelude.{◌≡◌, ℕ, ◌+◌, List, [], ◌++◌, length, Option, None, Some, Result, Ok, Err}
+use Rattle.dbus_value.specs.declared.order.Order.{Order}
+use Rattle.dbus_message.specs.declared.message.Message.{Message}
+use Rattle.dbus_message.specs.MessageViews.{message_tree}
+use Rattle.dbus_message.specs.MessageOutcomes.{IsWhole, IsRefused, IsPartial}
+use Rattle.dbus_stream.specs.CutterState.{CutterState}
+use Rattle.dbus_stream.specs.declared.stream_fault.StreamFault.{StreamFault}
+use Rattle.dbus_stream.specs.declared.stream_fault.StreamFault.TheVariants.{Memory, Format}
+
+abbrev pub TakeAnswers : {A : Type 0} → CutterState → List ℕ → CutterState → Result (ℕ × Option (Order × Message A)) StreamFault → Type 0
+-- the message ends in the piece
+TakeAnswers old piece new (Ok (n, Some given)) = IsWhole (old.held ++ piece) given.0 (message_tree given.1) (length old.held + n)
+    × (new ≡ record { held = []; fault = None })
+-- the piece is taken whole
+TakeAnswers old piece new (Ok (n, None)) = IsPartial (old.held ++ piece) × (n ≡ length piece)
+    × (new ≡ record { held = old.held ++ piece; fault = None })
+-- nothing is taken
+TakeAnswers old piece new (Err Memory) = new ≡ old
+TakeAnswers old piece new (Err (Format fault)) = IsRefused (old.held ++ piece) fault
+    × (new ≡ record { held = old.held; fault = Some fault })

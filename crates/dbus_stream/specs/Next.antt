@@ -1,0 +1,70 @@
+-- What a reader of messages answers, where it was not stopped before. w is what was kept and then what was read.
+use Rattle.std.specs.Prelude.{◌≡◌, ◌≢◌, ◌⊎◌, ℕ, ◌+◌, ◌^◌, ◌%◌, ◌<◌, List, [], ◌++◌, true, false, drop, Option, None, Some, Result, Ok, Err}
+use Rattle.std.specs.Io.KnownBytes.{Consumes, IsAtEnd}
+use Rattle.dbus_value.specs.declared.order.Order.{Order}
+use Rattle.dbus_value.specs.declared.fault.Fault.{Fault}
+use Rattle.dbus_message.specs.declared.message.Message.{Message}
+use Rattle.dbus_message.specs.MessageViews.{message_tree}
+use Rattle.dbus_message.specs.MessageOutcomes.{IsWhole, IsRefused, IsPartial}
+use Rattle.dbus_stream.specs.declared.message_reader.MessageReader.{MessageReader}
+use Rattle.dbus_stream.specs.declared.read_fault.ReadFault.{ReadFault}
+use Rattle.dbus_stream.specs.declared.read_fault.ReadFault.TheVariants.{Memory, Format, Device, TooManyReads}
+use Rattle.dbus_stream.specs.Cut.{truncated}
+use Rattle.dbus_stream.specs.Stated.{BeginsWithNone}
+use Rattle.dbus_stream.specs.Reader.{kept, source_of, done_of, reads_of, limit_of, is_ended, stopped_of}
+
+-- a count, modulo 2^64, rises by k
+abbrev pub RisesBy : ℕ → ℕ → ℕ → Type 0
+RisesBy k old new = new % 2 ^ 64 ≡ (old + k) % 2 ^ 64
+
+-- what a call read, and that it counted it
+pub record Reads {R A : Type 0} (left : R → Option (List ℕ)) (calls : R → ℕ) (old new : MessageReader R A) : Type 0 where
+  pub bytes : List ℕ
+  pub count : ℕ
+  pub consumed : Consumes (left (source_of old)) (left (source_of new)) bytes
+  -- the last read gave these, and was made where no whole message was kept
+  pub last : List ℕ
+  pub before : List ℕ
+  pub joined : bytes ≡ before ++ last
+  pub needed : 0 < count → BeginsWithNone (kept old ++ before)
+  pub reads : reads_of new ≡ reads_of old + count
+  pub called : RisesBy count (calls (source_of old)) (calls (source_of new))
+  pub limit : limit_of new ≡ limit_of old
+  -- behind the end there is nothing to read
+  pub settled : is_ended old ≡ true → (bytes ≡ []) × (count ≡ 0) × (is_ended new ≡ true) × (source_of new ≡ source_of old)
+  -- where it ended, the device has nothing left
+  pub at_end : is_ended old ≡ false → is_ended new ≡ true → IsAtEnd (left (source_of new))
+
+-- all of w is kept, and nothing is given
+pub record KeepsAll {R A : Type 0} (w : List ℕ) (old new : MessageReader R A) : Type 0 where
+  pub kept : kept new ≡ w
+  pub done : done_of new ≡ done_of old
+
+-- the message that w begins with is given, and what follows it is kept
+pub record GivesMessage {R A : Type 0} (w : List ℕ) (given : Order × Message A) (old new : MessageReader R A) : Type 0 where
+  pub size : ℕ
+  pub whole : IsWhole w given.0 (message_tree given.1) size
+  pub kept : kept new ≡ drop size w
+  pub done : done_of new ≡ done_of old + size
+  pub unstopped : stopped_of new ≡ None
+
+-- the fault of bytes behind which nothing comes
+abbrev pub IsCutShort : List ℕ → Fault → Type 0
+IsCutShort w fault = (w ≢ []) × IsPartial w × (fault ≡ truncated w)
+
+abbrev pub NextAnswers : {R A : Type 0} → List ℕ → MessageReader R A → MessageReader R A → Result (Option (Order × Message A)) ReadFault → Type 0
+NextAnswers w old new (Ok (Some given)) = GivesMessage w given old new
+NextAnswers w old new (Ok None) = (w ≡ []) × (is_ended new ≡ true) × KeepsAll w old new × (stopped_of new ≡ None)
+NextAnswers w old new (Err Memory) = KeepsAll w old new × (stopped_of new ≡ None)
+NextAnswers w old new (Err (Format fault)) = KeepsAll w old new × (stopped_of new ≡ Some (Format fault))
+    × (IsRefused w fault ⊎ (IsCutShort w fault × (is_ended new ≡ true)))
+NextAnswers w old new (Err Device) = KeepsAll w old new × (stopped_of new ≡ None) × BeginsWithNone w
+NextAnswers w old new (Err TooManyReads) = KeepsAll w old new × (stopped_of new ≡ Some TooManyReads) × IsPartial w × (reads_of new ≡ limit_of new)
+
+-- the device failed once where the answer is Device, and else not
+abbrev pub DeviceCounts : {T : Type 0} → ℕ → ℕ → Result T ReadFault → Type 0
+DeviceCounts old new (Ok x) = new ≡ old
+DeviceCounts old new (Err Device) = (new ≡ (old + 1) % 2 ^ 64) × (new ≢ old)
+DeviceCounts old new (Err Memory) = new ≡ old
+DeviceCounts old new (Err (Format fault)) = new ≡ old
+DeviceCounts old new (Err TooManyReads) = new ≡ old

@@ -1,0 +1,331 @@
+//! Messages from a source.
+ghost use Rattle.std.specs.Prelude.{◌≡◌, ◌≤◌, ◌<◌, ◌+◌, ◌*◌, ◌-◌, ◌^◌, ℕ, [], ◌++◌, length, false, true, None, Some, Ok, Err, drop};
+ghost use Rattle.dbus_stream.specs.Lasting.{is_lasting};
+ghost use Rattle.dbus_stream.specs.Stated.{NoneEndsBefore};
+
+use crate::decoded::decoded;
+use crate::device_fault::DeviceFault;
+use crate::looking::next_look;
+use crate::read_fault::ReadFault;
+use crate::source::Source;
+use dbus_message::{Answer, Message};
+use dbus_value::{Fault, Order, Reason, Refusal};
+use std::alloc::{AllocError, Allocator, Global};
+
+// How many reads a reader makes in its life.
+const MOST_READS: u64 = 1 << 32;
+
+/// Reads messages from a source, one after another, by a buffer of 4,096 bytes inside it.
+///
+/// It keeps the bytes that it read and did not give in a message yet: at most those of one message and one buffer. It
+/// makes at most 2^32 reads in its life.
+#[derive(Drop)]
+pub struct MessageReader<R, A: Allocator = Global> {
+    alloc: A,
+    source: R,
+    // The bytes of the message under way that came by earlier reads.
+    held: Vec<u8, A>,
+    // How many bytes are held when they are decoded again.
+    wanted: usize,
+    // What the last read gave, and which of it is left.
+    buffer: [u8; 4096],
+    start: usize,
+    end: usize,
+    done: u64,
+    reads: u64,
+    limit: u64,
+    ended: bool,
+    stopped: Option<ReadFault>,
+    ghost in_order: { start ≤ end },
+    ghost in_buffer: { end ≤ 4096 },
+    ghost few_reads: { reads ≤ limit },
+    ghost low_limit: { limit ≤ 2 ^ 32 },
+    ghost lasting: { is_lasting stopped ≡ true },
+    ghost patient: { NoneEndsBefore held.items wanted },
+    ghost counted: { done + length held.items + (end - start) ≤ 4096 * reads },
+}
+
+impl<R: Source, A: Allocator + Copy> MessageReader<R, A> {
+    ghost use Rattle.dbus_value.specs.declared.fault.Fault.{Fault};
+    ghost use Rattle.dbus_stream.specs.declared.read_fault.ReadFault.{ReadFault};
+    ghost use Rattle.dbus_stream.specs.Reader.{kept, source_of, done_of, reads_of, limit_of, is_ended, stopped_of};
+    ghost use Rattle.dbus_stream.specs.Next.{NextAnswers, DeviceCounts, Reads};
+    ghost use Rattle.dbus_stream.specs.Steps.{TakesKept, Looks, Decodes, Gathers, ReadsNothing, IsDrained, IsUnlooked, Fills, Finishes, GivesUp};
+    ghost use Rattle.dbus_stream.specs.Device.{ReadCounts, one_more};
+
+    /// A reader of what the source gives, which read nothing yet. What it keeps is allocated by `alloc`.
+    pub fn new(alloc: A, source: R) -> Self
+        ensures source { source_of result ≡ source }
+        ensures kept { kept result ≡ [] }
+        ensures done { done_of result ≡ 0 }
+        ensures reads { reads_of result ≡ 0 }
+        ensures limit { limit_of result ≡ 2 ^ 32 }
+        ensures ended { is_ended result ≡ false }
+        ensures stopped { stopped_of result ≡ None }
+    {
+        MessageReader {
+            alloc,
+            source,
+            held: Vec::new(alloc),
+            wanted: 0,
+            buffer: [0; 4096],
+            start: 0,
+            end: 0,
+            done: 0,
+            reads: 0,
+            limit: MOST_READS,
+            ended: false,
+            stopped: None,
+        }
+    }
+
+    /// Gives the source back. Bytes that are kept are lost.
+    pub fn into_source(self) -> R
+        ensures { result ≡ source_of self }
+    {
+        self.source
+    }
+
+    /// How many bytes all the messages have that it gave.
+    pub fn done(&self) -> u64
+        ensures { result ≡ done_of self.now }
+    {
+        self.done
+    }
+
+    /// The next message with its byte order, or None at the end of the input. Bytes behind the message are kept. After
+    /// the end each call answers the same, without reading. A read is made only where no whole message is kept, so a
+    /// message is given at the read that ends it.
+    ///
+    /// `Format`: the bytes begin with no message; or the input ended within one, and then the reason is `Truncated`, at
+    /// their number. `TooManyReads`: 2^32 reads were made, and no whole message is kept. Both stay for good. `Device`: a
+    /// read failed in this call. `Memory`: a growth was refused. After these two all that was read is kept, and the call
+    /// may be made again.
+    pub fn next(&mut self) -> Result<Option<(Order, Message<A>)>, ReadFault>
+        // Of what was kept and then read it gives what that begins with.
+        ensures read { (r : Reads R.left R.calls self.old self.new)
+            × (stopped_of self.old ≡ None → NextAnswers (kept self.old ++ r.bytes) self.old self.new result) }
+        ensures failed { DeviceCounts (R.failures (source_of self.old)) (R.failures (source_of self.new)) result }
+        ensures same_reference { R.reference (source_of self.new) ≡ R.reference (source_of self.old) }
+        ensures few { done_of self.new ≤ 2 ^ 44 }
+        // A fault of the bytes stays for good, and so does the number of reads.
+        ensures stays { (f : ReadFault) → stopped_of self.old ≡ Some f → (result ≡ Err f) × (self.new ≡ self.old) }
+    {
+        if let Some(fault) = self.stopped {
+            return Err(fault);
+        }
+        'reading: loop {
+            match self.take_kept() {
+                Ok(Some(given)) => return Ok(Some(given)),
+                Ok(None) => {}
+                Err(fault) => return Err(fault),
+            }
+            if self.ended {
+                return self.finish();
+            }
+            if self.reads >= self.limit {
+                return self.give_up();
+            }
+            match self.fill() {
+                Ok(()) => {}
+                Err(DeviceFault) => return Err(ReadFault::Device),
+            }
+        }
+    }
+
+    // What the end of the input comes to.
+    fn finish(&mut self) -> Result<Option<(Order, Message<A>)>, ReadFault>
+        requires drained { IsDrained self.old }
+        requires open { stopped_of self.old ≡ None }
+        ensures finishes { Finishes self.old self.new result }
+        ensures unread { ReadsNothing self.old self.new }
+    {
+        if self.held.is_empty() {
+            return Ok(None);
+        }
+        match self.decode_held() {
+            Ok(None) => {}
+            Ok(Some(given)) => return Ok(Some(given)),
+            Err(fault) => return Err(fault),
+        }
+        let fault = ReadFault::Format(Fault {
+            at: self.held.len() as u64,
+            reason: Reason::Truncated,
+        });
+        self.stopped = Some(fault);
+        Err(fault)
+    }
+
+    // What it comes to that no more reads may be made.
+    fn give_up(&mut self) -> Result<Option<(Order, Message<A>)>, ReadFault>
+        requires drained { IsDrained self.old }
+        requires open { stopped_of self.old ≡ None }
+        ensures gives_up { GivesUp self.old self.new result }
+        ensures unread { ReadsNothing self.old self.new }
+    {
+        match self.decode_held() {
+            Ok(None) => {}
+            Ok(Some(given)) => return Ok(Some(given)),
+            Err(fault) => return Err(fault),
+        }
+        self.stopped = Some(ReadFault::TooManyReads);
+        Err(ReadFault::TooManyReads)
+    }
+
+    // A message out of what is kept. Where there is none yet, all of that is held.
+    fn take_kept(&mut self) -> Result<Option<(Order, Message<A>)>, ReadFault>
+        requires { stopped_of self.old ≡ None }
+        ensures takes { TakesKept self.old self.new result }
+        ensures unread { ReadsNothing self.old self.new }
+    {
+        if self.held.is_empty() {
+            return self.take_fresh();
+        }
+        'gathering: loop {
+            match self.look() {
+                Ok(None) => {}
+                Ok(Some(given)) => return Ok(Some(given)),
+                Err(fault) => return Err(fault),
+            }
+            if self.start == self.end {
+                return Ok(None);
+            }
+            match self.gather() {
+                Ok(()) => {}
+                Err(_) => return Err(ReadFault::Memory),
+            }
+        }
+    }
+
+    // A message out of the buffer, where nothing is held. Where there is none yet, its rest is held.
+    fn take_fresh(&mut self) -> Result<Option<(Order, Message<A>)>, ReadFault>
+        requires open { stopped_of self.old ≡ None }
+        requires nothing { self.old.held.items ≡ [] }
+        ensures takes { TakesKept self.old self.new result }
+        ensures unread { ReadsNothing self.old self.new }
+    {
+        let buffer: &[u8] = &self.buffer;
+        let fresh = &buffer[self.start..self.end];
+        match decoded(self.alloc, fresh) {
+            Ok(
+                Answer::Whole {
+                    order,
+                    message,
+                    used,
+                },
+            ) => {
+                self.start += used;
+                self.done += used as u64;
+                Ok(Some((order, message)))
+            }
+            Ok(Answer::Partial) => {
+                if self.held.extend_from_slice(fresh).is_err() {
+                    return Err(ReadFault::Memory);
+                }
+                self.wanted = next_look(fresh);
+                self.start = self.end;
+                Ok(None)
+            }
+            Err(Refusal::Memory) => Err(ReadFault::Memory),
+            Err(Refusal::Format(fault)) => {
+                self.stopped = Some(ReadFault::Format(fault));
+                Err(ReadFault::Format(fault))
+            }
+        }
+    }
+
+    // A message out of what is held, where enough is.
+    fn look(&mut self) -> Result<Option<(Order, Message<A>)>, ReadFault>
+        requires { stopped_of self.old ≡ None }
+        ensures looks { Looks self.old self.new result }
+        ensures unread { ReadsNothing self.old self.new }
+    {
+        if self.held.len() < self.wanted {
+            return Ok(None);
+        }
+        self.decode_held()
+    }
+
+    // A message out of what is held.
+    fn decode_held(&mut self) -> Result<Option<(Order, Message<A>)>, ReadFault>
+        requires { stopped_of self.old ≡ None }
+        ensures decodes { Decodes self.old self.new result }
+        ensures unread { ReadsNothing self.old self.new }
+    {
+        match decoded(self.alloc, self.held.as_slice()) {
+            Ok(
+                Answer::Whole {
+                    order,
+                    message,
+                    used,
+                },
+            ) => {
+                drop_front(&mut self.held, used);
+                self.wanted = 0;
+                self.done += used as u64;
+                Ok(Some((order, message)))
+            }
+            Ok(Answer::Partial) => {
+                self.wanted = next_look(self.held.as_slice());
+                Ok(None)
+            }
+            Err(Refusal::Memory) => Err(ReadFault::Memory),
+            Err(Refusal::Format(fault)) => {
+                self.stopped = Some(ReadFault::Format(fault));
+                Err(ReadFault::Format(fault))
+            }
+        }
+    }
+
+    // Holds more of the buffer, up to what is wanted.
+    fn gather(&mut self) -> Result<(), AllocError>
+        requires open { stopped_of self.old ≡ None }
+        requires unlooked { IsUnlooked self.old }
+        requires more { self.old.start < self.old.end }
+        ensures gathers { Gathers self.old self.new result }
+        ensures unread { ReadsNothing self.old self.new }
+    {
+        let count = (self.wanted - self.held.len()).min(self.end - self.start);
+        let buffer: &[u8] = &self.buffer;
+        self.held
+            .extend_from_slice(&buffer[self.start..self.start + count])?;
+        self.start += count;
+        Ok(())
+    }
+
+    // One more read, into the buffer, which has nothing left.
+    fn fill(&mut self) -> Result<(), DeviceFault>
+        requires drained { IsDrained self.old }
+        requires more { reads_of self.old < limit_of self.old }
+        ensures fills { Fills R.left self.old self.new result }
+        ensures failed { ReadCounts (R.failures (source_of self.old)) (R.failures (source_of self.new)) result }
+        ensures reads { reads_of self.new ≡ reads_of self.old + 1 }
+        ensures called { R.calls (source_of self.new) ≡ one_more (R.calls (source_of self.old)) }
+        ensures same_reference { R.reference (source_of self.new) ≡ R.reference (source_of self.old) }
+        ensures limit { limit_of self.new ≡ limit_of self.old }
+        ensures done { done_of self.new ≡ done_of self.old }
+        ensures stopped { stopped_of self.new ≡ stopped_of self.old }
+    {
+        self.reads += 1;
+        self.start = 0;
+        self.end = 0;
+        let count = self.source.read(&mut self.buffer)?;
+        self.end = count;
+        self.ended = count == 0;
+        Ok(())
+    }
+}
+
+// Takes the first bytes away.
+fn drop_front<A: Allocator>(bytes: &mut Vec<u8, A>, count: usize)
+    requires { count ≤ length bytes.old.items }
+    ensures { bytes.new.items ≡ drop count bytes.old.items }
+{
+    let left = bytes.len() - count;
+    if left == 0 {
+        bytes.clear();
+        return;
+    }
+    bytes.as_mut_slice().rotate_left(count);
+    bytes.truncate(left);
+}

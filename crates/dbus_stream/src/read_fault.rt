@@ -1,0 +1,21 @@
+//! Why a reader of messages gives no message.
+use dbus_value::Fault;
+use thiserror::Error;
+
+/// Why a reader of messages gives no message.
+#[derive(Clone, Copy, Debug, PartialEq, Eq, Error)]
+pub enum ReadFault {
+    /// A growth was refused. The bytes that were read are kept, and the call may be made again.
+    #[error("out of memory")]
+    Memory,
+    /// The bytes that are kept begin with no message, or end within one. Its place counts from the first of them. It
+    /// stays for good.
+    #[error("the bytes are no message")]
+    Format(Fault),
+    /// The device failed in this call. The bytes that were read are kept, and the call may be made again.
+    #[error("the device failed")]
+    Device,
+    /// The reader made as many reads as it may in its life, and keeps no whole message. It stays for good.
+    #[error("too many reads")]
+    TooManyReads,
+}

@@ -1,0 +1,16 @@
+//! Why a message is not written.
+use thiserror::Error;
+
+/// Why a message is not written.
+#[derive(Clone, Copy, Debug, PartialEq, Eq, Error)]
+pub enum WriteFault {
+    /// A growth was refused. Nothing was written.
+    #[error("out of memory")]
+    Memory,
+    /// A write failed, or took none of its bytes. The first `written` bytes of the message went out.
+    #[error("the device failed after {written} bytes")]
+    Device {
+        /// How many bytes of the message went out.
+        written: usize,
+    },
+}

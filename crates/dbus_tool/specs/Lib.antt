@@ -1,0 +1,9 @@
+pub mod Lines
+pub mod Output
+pub mod Counting
+pub mod Checking
+pub mod Running
+pub mod CommandLine
+pub mod Named
+pub mod Told
+pub mod Words

@@ -1,0 +1,54 @@
+//! The program over the words of its command line.
+ghost use Rattle.std.specs.Prelude.{map, string_bytes};
+ghost use Rattle.dbus_tool.specs.Words.{RunsWords, ShowsHelp, ShowsUsage};
+
+use crate::command_line::{UsageFault, command_of};
+use crate::ending::{Cause, ExitStatus};
+use crate::failing::give_up;
+use crate::running::run;
+use dbus_stream::{Sink, Source, WrittenOnly, write_all};
+use std::alloc::Global;
+
+/// Does what `run` does for the command that the words name, of which the first is the program's name. Where the words
+/// ask for help, its text goes to the first writer. Where they name no command, a text that says how goes to the second.
+///
+/// `Done`, `Refused`, `Failed`: as `run` says. `Done` also where help was written. `Usage`: the words name no command,
+/// and that was told. `Failed` also where such a text was not written, of help with `write failed` on the second writer;
+/// and where a growth was refused, with `out of memory` there.
+pub fn run_words<R: Source, W: Sink, E: Sink>(
+    alloc: Global,
+    words: &[String],
+    reader: &mut R,
+    first: &mut W,
+    second: &mut E,
+) -> ExitStatus
+    ensures { RunsWords R.left R.calls R.failures W.held W.failures E.held E.failures (map string_bytes words.now)
+        reader.old reader.new first.old first.new second.old second.new result }
+{
+    match command_of(alloc, words) {
+        Ok(command) => run(alloc, command, reader, first, second),
+        Err(UsageFault::Memory) => give_up(Cause::Memory, second),
+        Err(UsageFault::Help(text)) => show_help(text.as_str(), first, second),
+        Err(UsageFault::Usage(text)) => show_usage(text.as_str(), second),
+    }
+}
+
+// Writes the text of help.
+fn show_help<W: Sink, E: Sink>(text: &str, first: &mut W, second: &mut E) -> ExitStatus
+    ensures { ShowsHelp W.held W.failures E.held E.failures text.now first.old first.new second.old second.new result }
+{
+    match write_all(first, text.as_bytes()) {
+        Ok(()) => ExitStatus::Done,
+        Err(WrittenOnly(_)) => give_up(Cause::WriteFailed, second),
+    }
+}
+
+// Writes the text of a fault of usage.
+fn show_usage<E: Sink>(text: &str, second: &mut E) -> ExitStatus
+    ensures { ShowsUsage E.held E.failures text.now second.old second.new result }
+{
+    match write_all(second, text.as_bytes()) {
+        Ok(()) => ExitStatus::Usage,
+        Err(WrittenOnly(_)) => ExitStatus::Failed,
+    }
+}

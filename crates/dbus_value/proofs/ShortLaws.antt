@@ -1,0 +1,23 @@
+-- The signatures of a well-formed value are short.
+use Rattle.std.proofs.Common.{ℕ, zero, suc}
+use Rattle.dbus_types.specs.Types.{STRING, OBJECT_PATH, SIGNATURE}
+use Rattle.dbus_value.specs.ShortSignatures.{HasShortSignatures, HaveShortSignatures}
+use Rattle.dbus_value.specs.Values.{ValueTree, ValueTrees, NumberValue, TextValue, VariantValue, ArrayValue, StructValue, EntryValue, NoValues, MoreValues, IsWellFormed, AreWellFormed}
+
+mutual
+  pub formed_short : (room : ℕ) (v : ValueTree) → IsWellFormed room v → HasShortSignatures v
+  formed_short room (NumberValue k n) h = tt
+  formed_short room (TextValue STRING t) h = tt
+  formed_short room (TextValue OBJECT_PATH t) h = tt
+  formed_short room (TextValue SIGNATURE t) h = h.1
+  formed_short zero (VariantValue x) h = absurd h
+  formed_short (suc room) (VariantValue x) h = (h.0.1, formed_short room x h.1)
+  formed_short zero (ArrayValue t xs) h = absurd h
+  formed_short (suc room) (ArrayValue t xs) h = all_short room xs h.1
+  formed_short zero (StructValue xs) h = absurd h
+  formed_short (suc room) (StructValue xs) h = all_short room xs h
+  formed_short room (EntryValue k v) h = (formed_short room k h.0, formed_short room v h.1)
+
+  pub all_short : (room : ℕ) (vs : ValueTrees) → AreWellFormed room vs → HaveShortSignatures vs
+  all_short room NoValues h = tt
+  all_short room (MoreValues x xs) h = (formed_short room x h.0, all_short room xs h.1)

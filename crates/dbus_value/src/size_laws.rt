@@ -1,0 +1,21 @@
+//! Laws over the sizes of values: what a function here ensures is a fact about the definitions, and it does nothing when
+//! it runs. D-Bus Specification, "Marshaling (Wire Format)".
+#![tactic(auto)]
+
+ghost use Rattle.dbus_value.specs.SizeLimits.{SizeEnds, SizeStops, FormedIsShort};
+
+/// A size is given exactly where every array keeps its limit and the value ends within the message's, and it is where the
+/// value's spelling ends, in either byte order.
+pub fn size_ends()
+    ensures { SizeEnds }
+{}
+
+/// An array is too long only where one passes its limit, and a value only where it ends past the message's.
+pub fn size_stops()
+    ensures { SizeStops }
+{}
+
+/// Each signature in a well-formed value has at most 255 bytes.
+pub fn formed_is_short()
+    ensures { FormedIsShort }
+{}

@@ -1,0 +1,44 @@
+//! `dbus-wire`: reads D-Bus messages from standard input, one behind the other, and does with them what its command
+//! line says. `dbus-wire check` tells whether the input is messages, and how many.
+#![tactic(auto)]
+
+use dbus_stream::{FromRead, FromWrite, Sink, write_all};
+use dbus_tool::{ExitStatus, run_words};
+use std::io::ErrorKind;
+use std::process::ExitCode;
+use std::{env, io};
+
+// The words of the command line, of which the first is the program's name.
+fn words_of(rt: &HostRuntime) -> io::Result<Vec<String>> {
+    Ok(env::args(rt)?.collect(rt.alloc())?)
+}
+
+// Says why the words of the command line are not there.
+fn tell_no_words<E: Sink>(error: &io::Error, second: &mut E) -> ExitStatus {
+    let (line, status) = if error.kind() == ErrorKind::OutOfMemory {
+        ("out of memory\n", ExitStatus::Failed)
+    } else {
+        ("error: an argument is not UTF-8\n", ExitStatus::Usage)
+    };
+    match write_all(second, line.as_bytes()) {
+        Ok(()) => status,
+        Err(_) => ExitStatus::Failed,
+    }
+}
+
+fn main(rt: HostRuntime) -> ExitCode {
+    let mut reader = FromRead::new(rt.stdin());
+    let mut first = FromWrite::new(rt.stdout());
+    let mut second = FromWrite::new(rt.stderr());
+    let status = match words_of(&rt) {
+        Ok(words) => run_words(
+            rt.alloc(),
+            words.as_slice(),
+            &mut reader,
+            &mut first,
+            &mut second,
+        ),
+        Err(error) => tell_no_words(&error, &mut second),
+    };
+    ExitCode::from(status.code())
+}

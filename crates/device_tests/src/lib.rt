@@ -1,0 +1,11 @@
+//! Devices that fail, and tests of readers and commands over them.
+#![tactic(auto)]
+
+mod narrow;
+mod one_byte;
+
+pub use narrow::Narrow;
+pub use one_byte::OneByte;
+
+#[cfg(test)]
+mod tests;
