@@ -9,6 +9,7 @@ use Rattle.dbus_match.specs.declared.key.Key.TheVariants.{Path, PathNamespace}
 use Rattle.dbus_match.specs.Keys.{key_text, IsKey, rank, IsValueOf}
 use Rattle.dbus_match.specs.Values.{Piece, pieces_text, pieces_value, ArePieces}
 
+-- a key and its value
 pub record Pair : Type 0 where
   pub key : Key
   pub value : List ℕ
@@ -22,10 +23,12 @@ abbrev pub IsAscending : List Pair → Type 0
 IsAscending [] = Unit {0}
 IsAscending (p ∷ ps) = IsAbove p ps × IsAscending ps
 
+-- the pair is one of the list
 abbrev pub IsIn : Pair → List Pair → Type 0
 IsIn p [] = ⊥
 IsIn p (q ∷ qs) = (p ≡ q) ⊎ IsIn p qs
 
+-- some pair of the list has the key
 abbrev pub HasKey : Key → List Pair → Type 0
 HasKey k [] = ⊥
 HasKey k (q ∷ qs) = (k ≡ q.key) ⊎ HasKey k qs
@@ -36,6 +39,7 @@ pub record IsPair (p : Pair) : Type 0 where
   pub value : IsValueOf p.key p.value
   pub no_nul : AllByRecursion (λ b. b ≢ 0) p.value
 
+-- pairs in canonical order, path and path_namespace not both
 pub record IsRule (r : List Pair) : Type 0 where
   pub ordered : IsAscending r
   pub pairs : AllByRecursion IsPair r
@@ -97,6 +101,7 @@ abbrev pub AreApart : List Pair → Type 0
 AreApart [] = Unit {0}
 AreApart (p ∷ ps) = (HasKey p.key ps → ⊥) × AreApart ps
 
+-- the text w, without U+0000, spells the rule r: it gives r's pairs in some order, each key once
 pub record SpellsRule (w : List ℕ) (r : List Pair) : Type 0 where
   pub no_nul : AllByRecursion (λ b. b ≢ 0) w
   pub rule : IsRule r
@@ -105,7 +110,7 @@ pub record SpellsRule (w : List ℕ) (r : List Pair) : Type 0 where
   pub apart : AreApart pairs
   pub same : (p : Pair) → IsIn p pairs ↔ IsIn p r
 
--- The canonical text.
+-- the canonical text: each value in apostrophes, an apostrophe in it as `'\''`, and the pairs joined by commas
 abbrev pub quote_escaped : List ℕ → List ℕ
 quote_escaped [] = []
 quote_escaped (b ∷ c) = if b == 39 then 39 ∷ 92 ∷ 39 ∷ 39 ∷ quote_escaped c else b ∷ quote_escaped c

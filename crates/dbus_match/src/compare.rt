@@ -4,12 +4,14 @@
 ghost use Rattle.std.specs.Prelude.{◌↔◌, IsTrue};
 ghost use Rattle.dbus_match.specs.Matching.{BeginsWith, EndsInSlash, PathsMeet};
 
+/// Whether the text begins with the value.
 pub(crate) fn begins_with(text: &[u8], value: &[u8]) -> bool
     ensures { IsTrue result ↔ BeginsWith text.now value.now }
 {
     text.starts_with(value)
 }
 
+/// Whether the last byte is `/`.
 pub(crate) fn ends_in_slash(text: &[u8]) -> bool
     ensures { IsTrue result ↔ EndsInSlash text.now }
 {

@@ -41,6 +41,7 @@ fn is_type(kind: u8, name: &str) -> bool
     }
 }
 
+/// Whether the owner has the name and the unique name.
 fn owns<A: Allocator>(owner: &Owner<A>, name: &str, unique: &str) -> bool
     ensures { IsTrue result ↔ ((string_bytes owner.now.name ≡ name.now) × (string_bytes owner.now.unique ≡ unique.now)) }
 {
@@ -59,6 +60,7 @@ fn is_owned<A: Allocator>(owners: &[Owner<A>], name: &str, unique: &str) -> bool
     false
 }
 
+/// Whether the message's field of the code is there and is the value.
 fn field_is<A: Allocator>(message: &Message<A>, code: u8, value: &str) -> bool
     ensures { IsTrue result ↔ HasField code (message_tree message.now) (λ w. value.now ≡ w) }
 {
@@ -68,6 +70,7 @@ fn field_is<A: Allocator>(message: &Message<A>, code: u8, value: &str) -> bool
     }
 }
 
+/// Whether the message's SENDER is the value, or the unique name of an owner of the value.
 fn sender_is<A: Allocator>(message: &Message<A>, value: &str, owners: &[Owner<A>]) -> bool
     ensures { IsTrue result ↔ HasField 7 (message_tree message.now) (λ w. (value.now ≡ w) ⊎ IsOwned (ownerships owners.now) value.now w) }
 {
@@ -77,6 +80,7 @@ fn sender_is<A: Allocator>(message: &Message<A>, value: &str, owners: &[Owner<A>
     }
 }
 
+/// Whether the message's PATH is there and in the namespace.
 fn path_is_in<A: Allocator>(message: &Message<A>, namespace: &str) -> bool
     ensures { IsTrue result ↔ HasField 1 (message_tree message.now) (λ w. IsInNamespace namespace.now w) }
 {
@@ -86,6 +90,7 @@ fn path_is_in<A: Allocator>(message: &Message<A>, namespace: &str) -> bool
     }
 }
 
+/// Whether argument `n` is a STRING and the value.
 fn arg_is<A: Allocator>(message: &Message<A>, n: u8, value: &str) -> bool
     ensures { IsTrue result ↔ IsThere (string_of (body_value n (message_tree message.now).body)) (λ w. value.now ≡ w) }
 {
@@ -95,6 +100,8 @@ fn arg_is<A: Allocator>(message: &Message<A>, n: u8, value: &str) -> bool
     }
 }
 
+/// Whether argument `n` is a STRING or an OBJECT_PATH that is the value, or one of the two ends in `/` and
+/// begins the other.
 fn arg_path_meets<A: Allocator>(message: &Message<A>, n: u8, value: &str) -> bool
     ensures { IsTrue result ↔ IsThere (string_or_path_of (body_value n (message_tree message.now).body)) (λ w. PathsMeet value.now w) }
 {
@@ -104,6 +111,7 @@ fn arg_path_meets<A: Allocator>(message: &Message<A>, n: u8, value: &str) -> boo
     }
 }
 
+/// Whether argument 0 is a STRING that is the namespace, or begins with it and `.`.
 fn arg_is_in<A: Allocator>(message: &Message<A>, namespace: &str) -> bool
     ensures { IsTrue result ↔ IsThere (string_of (body_value 0 (message_tree message.now).body)) (λ w. IsWithin 46 namespace.now w) }
 {

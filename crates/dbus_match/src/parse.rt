@@ -19,6 +19,7 @@ fn first_nul(text: &[u8]) -> Option<usize>
     text.iter().position(|b| *b == 0)
 }
 
+/// The rule or the fault of the text.
 fn read_rule<A: Allocator + Copy>(alloc: A, text: &str) -> Result<Rule<A>, RuleFault>
     ensures { IsRuleReading text.now result }
 {

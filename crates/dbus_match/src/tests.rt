@@ -70,7 +70,14 @@ fn bad_values(rt: HostRuntime) {
     refused(&rt, "type='signal' ", RuleReason::BadValue, 5);
     refused(&rt, "type= 'signal'", RuleReason::BadValue, 5);
     refused(&rt, "sender=''", RuleReason::BadValue, 7);
+    refused(&rt, "sender=a", RuleReason::BadValue, 7);
     refused(&rt, "interface='a'", RuleReason::BadValue, 10);
+    refused(&rt, "interface=", RuleReason::BadValue, 10);
+    refused(&rt, "member=", RuleReason::BadValue, 7);
+    refused(&rt, "path=a", RuleReason::BadValue, 5);
+    refused(&rt, "path_namespace=", RuleReason::BadValue, 15);
+    refused(&rt, "destination=", RuleReason::BadValue, 12);
+    refused(&rt, "eavesdrop=", RuleReason::BadValue, 10);
     refused(&rt, "member='a.b'", RuleReason::BadValue, 7);
     refused(&rt, "path=''", RuleReason::BadValue, 5);
     refused(&rt, "path_namespace='/a/'", RuleReason::BadValue, 15);
@@ -90,6 +97,8 @@ fn other_faults(rt: HostRuntime) {
     refused(&rt, "a'b,c'=x", RuleReason::NoEquals, 3);
     refused(&rt, "arg64='x'", RuleReason::KeyName, 0);
     refused(&rt, "arg01='x'", RuleReason::KeyName, 0);
+    refused(&rt, "arg64path='x'", RuleReason::KeyName, 0);
+    refused(&rt, "arg1namespace='x'", RuleReason::KeyName, 0);
     refused(&rt, "type ='signal'", RuleReason::KeyName, 0);
     refused(&rt, "arg0=x,  foo='", RuleReason::KeyName, 9);
     refused(&rt, "type='signal',type='error'", RuleReason::KeyTwice, 14);

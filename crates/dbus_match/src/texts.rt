@@ -11,6 +11,7 @@ use dbus_message::{Message, arg, field};
 use dbus_value::Value;
 use std::alloc::Allocator;
 
+/// The text of a STRING, an OBJECT_PATH or a SIGNATURE.
 fn value_text<A: Allocator>(value: &Value<A>) -> Option<&str>
     ensures { MatchOption result (text_of (Some (value_tree value.now)) ≡ None) (λ s. text_of (Some (value_tree value.now)) ≡ Some s.now) }
 {
@@ -22,6 +23,7 @@ fn value_text<A: Allocator>(value: &Value<A>) -> Option<&str>
     }
 }
 
+/// The text of a STRING.
 fn value_string<A: Allocator>(value: &Value<A>) -> Option<&str>
     ensures { MatchOption result (string_of (Some (value_tree value.now)) ≡ None) (λ s. string_of (Some (value_tree value.now)) ≡ Some s.now) }
 {
@@ -31,6 +33,7 @@ fn value_string<A: Allocator>(value: &Value<A>) -> Option<&str>
     }
 }
 
+/// The text of a STRING or an OBJECT_PATH.
 fn value_string_or_path<A: Allocator>(value: &Value<A>) -> Option<&str>
     ensures { MatchOption result (string_or_path_of (Some (value_tree value.now)) ≡ None) (λ s. string_or_path_of (Some (value_tree value.now)) ≡ Some s.now) }
 {

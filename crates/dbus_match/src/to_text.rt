@@ -37,6 +37,7 @@ fn push_condition<A: Allocator>(
     text.push_str("'")
 }
 
+/// The conditions' texts, joined by commas.
 fn canonical_text<A: Allocator + Copy>(
     alloc: A,
     conditions: &[Condition<A>],

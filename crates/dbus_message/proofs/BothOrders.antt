@@ -6,7 +6,8 @@ use Rattle.dbus_value.specs.declared.order.Order.TheVariants.{Little, Big}
 use Rattle.dbus_value.specs.Bytes.{gap_to}
 use Rattle.dbus_value.specs.Spelling.{spelling, spellings, contents_start, ended_text, array_limit, IsWithinLimits, AreWithinLimits}
 use Rattle.dbus_value.specs.Values.{ValueTree, ValueTrees, NoValues, MoreValues, NumberValue, TextValue, VariantValue, ArrayValue, StructValue, EntryValue, type_of}
-use Rattle.dbus_message.specs.Messages.{FieldTree, MessageTree, message_bytes, field_array, fields_end, body_start, message_limit, IsMessage}
+use Rattle.dbus_message.specs.Messages.{FieldTree, MessageTree, message_bytes, field_array, fields_end, body_start, IsMessage}
+use Rattle.dbus_value.specs.Sizes.{message_limit}
 use Rattle.dbus_message.specs.ValidMessages.{room_in_field, IsValidMessage}
 use Rattle.dbus_message.proofs.MessageOutcomes.{same_ended, same_length, same_lengths, same_message_length}
 

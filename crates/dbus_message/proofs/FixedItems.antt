@@ -12,7 +12,7 @@ use Rattle.dbus_value.specs.Spelling.{array_limit}
 use Rattle.dbus_value.specs.Reading.{Outcome, Done, Faulty, Partial}
 use Rattle.dbus_value.specs.declared.stop.Stop.{Stop}
 use Rattle.dbus_value.specs.Gives.{Stops, Gives}
-use Rattle.dbus_message.specs.Messages.{message_limit}
+use Rattle.dbus_value.specs.Sizes.{message_limit}
 use Rattle.dbus_message.specs.MessageItems.{not_zero_row, version_row, fields_row}
 use Rattle.dbus_message.specs.MessageReading.{byte_order}
 

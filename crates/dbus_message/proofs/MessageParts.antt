@@ -17,7 +17,8 @@ use Rattle.dbus_value.specs.ValueItems.{value}
 use Rattle.dbus_value.specs.ValueItems as faults
 use Rattle.dbus_value.specs.Reading.{Reader, Outcome, Done, Faulty, Partial}
 use Rattle.dbus_value.specs.Reading as reading
-use Rattle.dbus_message.specs.Messages.{FieldTree, Suits, want, order_byte, lacks, required, text_in, body_signature, message_limit}
+use Rattle.dbus_message.specs.Messages.{FieldTree, Suits, want, order_byte, lacks, required, text_in, body_signature}
+use Rattle.dbus_value.specs.Sizes.{message_limit}
 use Rattle.dbus_message.specs.MessageItems.{no_row, not_zero_row, version_row, fields_row, field, byte_order, types_of_text, body_items, message_items}
 use Rattle.dbus_message.specs.MessageReading as reads
 use Rattle.dbus_value.proofs.KindLaws.{signature_text, spelled_sigs}

@@ -9,7 +9,8 @@ use Rattle.dbus_value.specs.Spelling.{spelling, spellings, SpelledAll, array_lim
 use Rattle.dbus_value.specs.Values.{AllOf, value_trees, ValueTrees, types_of}
 use Rattle.dbus_value.specs.Items.{Sequence}
 use Rattle.dbus_value.specs.ValueItems.{value}
-use Rattle.dbus_message.specs.Messages.{FieldTree, MessageTree, AreFields, field_type, field_struct, field_array, fields_end, body_start, body_bytes, message_bytes, order_byte, lacks, required, body_signature, message_limit, IsMessage}
+use Rattle.dbus_message.specs.Messages.{FieldTree, MessageTree, AreFields, field_type, field_struct, field_array, fields_end, body_start, body_bytes, message_bytes, order_byte, lacks, required, body_signature, IsMessage}
+use Rattle.dbus_value.specs.Sizes.{message_limit}
 use Rattle.dbus_message.specs.MessageItems.{field, message_items}
 use Rattle.dbus_value.proofs.Numbers.{length-num}
 use Rattle.dbus_value.proofs.KindLaws.{spelled_sigs}

@@ -12,7 +12,8 @@ use Rattle.dbus_value.specs.Bytes.{gap_to}
 use Rattle.dbus_value.specs.Spelling.{array_limit}
 use Rattle.dbus_value.specs.Items.{fault}
 use Rattle.dbus_value.specs.Reading.{Outcome, Done, Faulty, Partial, padding, number, number_of, text, ends, value}
-use Rattle.dbus_message.specs.Messages.{MessageTree, message_limit}
+use Rattle.dbus_message.specs.Messages.{MessageTree}
+use Rattle.dbus_value.specs.Sizes.{message_limit}
 use Rattle.dbus_message.specs.MessageReading.{message, byte_order}
 
 data Answer : Type 0 where

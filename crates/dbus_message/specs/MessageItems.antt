@@ -10,7 +10,8 @@ use Rattle.dbus_value.specs.Spelling.{Spelled, array_limit}
 use Rattle.dbus_value.specs.Items.{Item, ◌>>=◌, ◌>>◌, pure, judge, bounded, ends, padding, number, text, nul, signature, contents, fault}
 use Rattle.dbus_value.specs.declared.fault.Reason.{Reason}
 use Rattle.dbus_value.specs.ValueItems.{text_row, value, fields}
-use Rattle.dbus_message.specs.Messages.{FieldTree, MessageTree, order_byte, field_type, field_struct, Want, Anything, OfType, Name, Serial, want, is_known, has_code, IsField, lacks, required, body_signature, message_limit}
+use Rattle.dbus_message.specs.Messages.{FieldTree, MessageTree, order_byte, field_type, field_struct, Want, Anything, OfType, Name, Serial, want, is_known, has_code, IsField, lacks, required, body_signature}
+use Rattle.dbus_value.specs.Sizes.{message_limit}
 use Rattle.dbus_value.specs.declared.fault.Reason.TheVariants as reasons
 use Rattle.dbus_types.specs.declared.text_kind.TextKind.TheVariants as kinds
 

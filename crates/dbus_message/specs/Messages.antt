@@ -2,6 +2,7 @@
 -- D-Bus Specification, "Message Format" and "Header Fields".
 use Rattle.std.specs.Prelude.{◌≡◌, ℕ, suc, ◌+◌, ◌^◌, ◌<◌, ◌≤◌, List, [], ◌∷◌, ◌++◌, length, map, Bool, false, ◌||◌, ◌&&◌, nat_eq, nat_lt, if◌then◌else◌, Option, Some, None}
 use Rattle.dbus_types.specs.Types.{BYTE, UINT32, STRING, OBJECT_PATH, SIGNATURE, TypeTree, NumberType, TextType, VariantType, StructType, NoTypes, MoreTypes, sigs}
+use Rattle.dbus_value.specs.Sizes.{message_limit}
 use Rattle.dbus_value.specs.WantedTexts.{WantedText, IsWanted, Of}
 use Rattle.dbus_value.specs.declared.order.Order.{Order}
 use Rattle.dbus_value.specs.declared.order.Order.TheVariants.{Little, Big}
@@ -119,9 +120,6 @@ text_in (EntryValue k v) = []
 abbrev pub body_signature : List FieldTree → List ℕ
 body_signature [] = []
 body_signature (f ∷ fs) = if nat_eq f.code 8 then text_in f.value else body_signature fs
-
-unfoldable pub message_limit : ℕ
-message_limit = 134_217_728
 
 -- inner is the room within a field's variant, three containers deep
 pub record IsMessage (order : Order) (inner : ℕ) (m : MessageTree) : Type 0 where

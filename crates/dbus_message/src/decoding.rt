@@ -20,10 +20,9 @@ use crate::message::Message;
 use crate::parts::Parts;
 use crate::read_body::read_body;
 use crate::read_fields::read_fields;
-use crate::refuse::refuse;
 use dbus_types::{SigType, parse_signature};
 use dbus_value::items::read_padding;
-use dbus_value::{Order, Reason, Refusal, Stop};
+use dbus_value::{Order, Reason, Refusal, Stop, refuse};
 use std::alloc::{AllocError, Allocator};
 
 /// That no required field is missing, at the place behind the fields: `FieldMissing` with the lowest code that is. D-Bus

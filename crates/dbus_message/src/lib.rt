@@ -17,7 +17,6 @@ mod message;
 mod parts;
 mod read_body;
 mod read_fields;
-mod refuse;
 #[cfg(test)]
 mod tests;
 

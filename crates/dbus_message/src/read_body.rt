@@ -10,9 +10,8 @@ ghost use Rattle.dbus_message.specs.HeaderReading.{body_read};
 ghost use Rattle.dbus_message.specs.SingleTypes.{AreSingleTypes};
 
 use crate::field_value::read_value;
-use crate::refuse::refuse;
 use dbus_types::SigType;
-use dbus_value::{Order, Reason, Stop, Value};
+use dbus_value::{Order, Reason, Stop, Value, refuse};
 use std::alloc::Allocator;
 
 /// A value for each of the types, up to the body's end, and the place behind them: `Trailing` where the end is not reached.

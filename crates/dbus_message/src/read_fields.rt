@@ -12,9 +12,8 @@ ghost use Rattle.dbus_message.specs.PartsViews.{field_tree, field_trees};
 use crate::field_value::read_field_value;
 use crate::header_field::HeaderField;
 use crate::known_fields::has_field;
-use crate::refuse::refuse;
 use dbus_value::items::{read_byte, read_padding};
-use dbus_value::{Order, Reason, Stop};
+use dbus_value::{Order, Reason, Stop, refuse};
 use std::alloc::Allocator;
 
 /// The lowest code of the unknown fields.

@@ -8,7 +8,8 @@ use Rattle.dbus_value.specs.Spelling.{spelling, spellings}
 use Rattle.dbus_value.specs.Values.{value_trees}
 use Rattle.dbus_value.specs.Reading.{number_of}
 use Rattle.dbus_value.proofs.Numbers.{length-num, number_of-num}
-use Rattle.dbus_message.specs.Messages.{FieldTree, MessageTree, field_struct, field_array, fields_end, body_bytes, order_byte, message_limit}
+use Rattle.dbus_message.specs.Messages.{FieldTree, MessageTree, field_struct, field_array, fields_end, body_bytes, order_byte}
+use Rattle.dbus_value.specs.Sizes.{message_limit}
 use Rattle.dbus_message.specs.MessageLaws.{IsWhole}
 use Rattle.dbus_message.specs.MessageOutcomes as outcomes
 use Rattle.dbus_message.proofs.Whole.{message_length}

@@ -34,7 +34,7 @@ pub use order::Order;
 pub use reading::get;
 pub use signatures::{write_type_of, write_variant_signature};
 pub use sizes::size_after;
-pub use stop::Stop;
+pub use stop::{Stop, refuse};
 pub use typing::type_of;
 pub use value::Value;
 pub use value_fault::ValueFault;
