@@ -27,3 +27,7 @@ pub mod Patching
 pub mod Spells
 pub mod SizeLaws
 pub mod ShortLaws
+pub mod Deciding
+pub mod Fitting
+pub mod Formed
+pub mod SameTypes

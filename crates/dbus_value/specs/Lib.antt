@@ -15,3 +15,5 @@ pub mod Sizes
 pub mod ShortSignatures
 pub mod Appending
 pub mod SizeLimits
+pub mod Forming
+pub mod Checks

@@ -54,9 +54,10 @@ pub enum Reason {
     TooDeep,
     /// The input ends within a message.
     Truncated,
-    /// The index of a file descriptor is not below their count.
+    /// The index of a file descriptor is not below their count. It is answered nowhere yet: indexes are not looked up.
     FdIndex,
-    /// Something that is not read yet.
+    /// Something that is not read yet. It is answered nowhere: all that the wire format has is read. The case is kept so that
+    /// the reasons keep their order.
     NotYet,
 }
 

@@ -2,6 +2,10 @@
 #![tactic(auto)]
 
 mod arrays;
+pub mod check_laws;
+#[cfg(test)]
+mod check_tests;
+mod checking;
 mod copying;
 mod fault;
 mod got;
@@ -15,6 +19,7 @@ mod put_tests;
 mod reading;
 #[cfg(test)]
 mod reading_tests;
+mod same_types;
 mod signatures;
 pub mod size_laws;
 mod sizes;
@@ -22,10 +27,12 @@ mod stop;
 mod text_values;
 pub mod texts;
 mod typing;
+mod uniformity;
 mod value;
 mod value_fault;
 pub mod writing;
 
+pub use checking::check_value;
 pub use copying::copy;
 pub use fault::{Fault, Reason, Refusal};
 pub use got::Got;
