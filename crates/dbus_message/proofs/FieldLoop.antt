@@ -39,7 +39,7 @@ module _ {A : Type 0} (part : List A → Reader A) (end : ℕ) where
 
 -- ---- codes
 
-or_comm : (a b : Bool) → (a || b) ≡ (b || a)
+pub or_comm : (a b : Bool) → (a || b) ≡ (b || a)
 or_comm true true = refl
 or_comm true false = refl
 or_comm false true = refl
@@ -49,11 +49,11 @@ or_assoc : (a b c : Bool) → ((a || b) || c) ≡ (a || (b || c))
 or_assoc true b c = refl
 or_assoc false b c = refl
 
-has_append : (c : ℕ) (xs ys : List FieldTree) → has_code c (xs ++ ys) ≡ (has_code c xs || has_code c ys)
+pub has_append : (c : ℕ) (xs ys : List FieldTree) → has_code c (xs ++ ys) ≡ (has_code c xs || has_code c ys)
 has_append c [] ys = refl
 has_append c (x ∷ xs) ys = ap (λ (b : Bool). eqb x.code c || b) (has_append c xs ys) ∙ sym (or_assoc (eqb x.code c) (has_code c xs) (has_code c ys))
 
-or_false : (b : Bool) → (b || false) ≡ b
+pub or_false : (b : Bool) → (b || false) ≡ b
 or_false true = refl
 or_false false = refl
 

@@ -17,3 +17,7 @@ pub mod BodyValues
 pub mod FieldWriting
 pub mod Encoded
 pub mod WorkedExamples
+pub mod FaultyFields
+pub mod FaultyBody
+pub mod PartSizes
+pub mod Built

@@ -13,3 +13,5 @@ pub mod FixedBytes
 pub mod HeaderReading
 pub mod SingleTypes
 pub mod MissingFields
+pub mod BuildFaults
+pub mod MessageSizes

@@ -53,7 +53,7 @@ pub fn missing_field<A: Allocator>(kind: u8, fields: &[HeaderField<A>]) -> Optio
 }
 
 /// The text that a value is, or nothing.
-fn text_in<A: Allocator>(value: &Value<A>) -> &[u8]
+pub(crate) fn text_in<A: Allocator>(value: &Value<A>) -> &[u8]
     ensures { result.now ≡ text_in (value_tree value.now) }
 {
     match value {

@@ -3,8 +3,13 @@
 
 mod answer;
 mod build_fault;
+mod building;
+#[cfg(test)]
+mod building_tests;
 mod decoding;
 mod encoding;
+mod faulty_body;
+mod faulty_fields;
 mod field_value;
 mod fixed_header;
 #[cfg(test)]
@@ -14,6 +19,7 @@ mod known_fields;
 pub mod laws;
 mod lookups;
 mod message;
+mod message_size;
 mod parts;
 mod read_body;
 mod read_fields;

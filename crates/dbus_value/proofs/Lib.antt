@@ -31,3 +31,4 @@ pub mod Deciding
 pub mod Fitting
 pub mod Formed
 pub mod SameTypes
+pub mod TypeParts

@@ -1,6 +1,11 @@
 -- The signatures of a well-formed value are short.
-use Rattle.std.proofs.Common.{ℕ, zero, suc}
+use Rattle.std.proofs.Common.{◌≡◌, ℕ, zero, suc, ◌∷◌, [], Vec}
 use Rattle.dbus_types.specs.Types.{STRING, OBJECT_PATH, SIGNATURE}
+use Rattle.dbus_types.specs.declared.sig_type.SigType.{SigType}
+use Rattle.dbus_value.specs.declared.value.Value as values
+use Rattle.dbus_value.specs.declared.value.Value.{Value}
+use Rattle.dbus_value.specs.ValueViews.{value_tree}
+use Rattle.dbus_value.proofs.ValueRows.{tree-Array, tree-U64}
 use Rattle.dbus_value.specs.ShortSignatures.{HasShortSignatures, HaveShortSignatures}
 use Rattle.dbus_value.specs.Values.{ValueTree, ValueTrees, NumberValue, TextValue, VariantValue, ArrayValue, StructValue, EntryValue, NoValues, MoreValues, IsWellFormed, AreWellFormed}
 
@@ -21,3 +26,10 @@ mutual
   pub all_short : (room : ℕ) (vs : ValueTrees) → AreWellFormed room vs → HaveShortSignatures vs
   all_short room NoValues h = tt
   all_short room (MoreValues x xs) h = (formed_short room x h.0, all_short room xs h.1)
+
+-- an array of one item
+pub short_array : {A : Type 0} (t : SigType A) (vs : Vec (Value A) A) (x : Value A) → vs.items ≡ x ∷ [] → HasShortSignatures (value_tree x) → HasShortSignatures (value_tree (values.Array t vs))
+short_array t vs x e h = rw (tree-Array t vs, e) (h, tt)
+
+pub short_U64 : (A : Type 0) (n : ℕ) → HasShortSignatures (value_tree {A = A} (values.U64 n))
+short_U64 A n = rw (tree-U64 A n) tt

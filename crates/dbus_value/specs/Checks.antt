@@ -62,7 +62,7 @@ keep_bytes vs = list_all (λ b. b) (map keeps_bytes vs)
 
 -- Every part has a type that fits its place. The type of a part that is within no variant is a part of the whole's type, so
 -- that the whole's type and those of variants' values speak for all: of the limits, of structs that are empty, and of dict
--- entries and their keys.
+-- entries and their keys. The law `WholesSpeakForParts` says so part by part.
 pub record IsTyped {A : Type 0} (v : Value A) : Type 0 where
   pub single : IsSingleType (type_of (value_tree v))
   pub uniform : IsUniform (value_tree v)

@@ -1,7 +1,7 @@
 -- When a value is well formed, by its parts: how deep it nests, whether its types fit together, its texts, and its numbers.
 -- D-Bus Specification, "Type System", "Valid Signatures", "Message Protocol" for the limit on nesting.
 use Rattle.std.specs.Prelude.{ℕ, zero, suc, ◌^◌, ◌<◌, length, ◌↔◌}
-use Rattle.dbus_types.specs.Types.{IsSingleType}
+use Rattle.dbus_types.specs.Types.{TypeTree, NumberType, TextType, VariantType, ArrayType, StructType, EntryType, IsBasic, IsSingleType}
 use Rattle.dbus_types.specs.Alignments.{length_width}
 use Rattle.dbus_value.specs.WantedTexts.{IsWanted, kind_of}
 use Rattle.dbus_value.specs.Values.{ValueTree, ValueTrees, NumberValue, TextValue, VariantValue, ArrayValue, StructValue, EntryValue, NoValues, MoreValues, type_of, AllOf, IsNumber, IsWellFormed}
@@ -68,3 +68,34 @@ abbrev mutual
 -- a value is well formed exactly where it is so in its parts
 abbrev pub FormedByParts : Type 0
 FormedByParts = (room : ℕ) (v : ValueTree) → IsWellFormed room v ↔ (NestsWithin room v × IsUniform v × IsNamed v × IsRanged v)
+
+-- The same, part by part: each part, but for a dict entry in an array, has a type that a signature spells; such an entry's
+-- key is basic.
+abbrev pub IsItemType : TypeTree → Type 0
+IsItemType (NumberType n) = Unit {0}
+IsItemType (TextType t) = Unit {0}
+IsItemType VariantType = Unit {0}
+IsItemType (ArrayType t) = IsSingleType (ArrayType t)
+IsItemType (StructType ts) = IsSingleType (StructType ts)
+IsItemType (EntryType k v) = IsBasic k
+
+abbrev mutual
+  pub HasTypedParts : ValueTree → Type 0
+  HasTypedParts (NumberValue k n) = Unit {0}
+  HasTypedParts (TextValue k t) = Unit {0}
+  HasTypedParts (VariantValue x) = IsSingleType (type_of x) × HasTypedParts x
+  HasTypedParts (ArrayValue t xs) = AllOf t xs × AreTypedItems xs
+  HasTypedParts (StructValue xs) = AreTypedParts xs
+  HasTypedParts (EntryValue k v) = IsSingleType (type_of k) × HasTypedParts k × IsSingleType (type_of v) × HasTypedParts v
+
+  pub AreTypedParts : ValueTrees → Type 0
+  AreTypedParts NoValues = Unit {0}
+  AreTypedParts (MoreValues x xs) = IsSingleType (type_of x) × HasTypedParts x × AreTypedParts xs
+
+  pub AreTypedItems : ValueTrees → Type 0
+  AreTypedItems NoValues = Unit {0}
+  AreTypedItems (MoreValues x xs) = IsItemType (type_of x) × HasTypedParts x × AreTypedItems xs
+
+-- the type of a whole and those of variants' values speak for each part
+abbrev pub WholesSpeakForParts : Type 0
+WholesSpeakForParts = (v : ValueTree) → IsSingleType (type_of v) → IsUniform v ↔ HasTypedParts v
