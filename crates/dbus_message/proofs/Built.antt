@@ -13,7 +13,6 @@ use Rattle.dbus_message.specs.declared.build_fault.BuildFault.{BuildFault}
 use Rattle.dbus_message.specs.declared.build_fault.BuildFault.TheVariants as faults
 use Rattle.dbus_message.proofs.FaultyFields.{not_both}
 use Rattle.dbus_message.specs.Messages.{FieldTree, MessageTree, field_struct, field_type, field_array, fields_end, body_start, message_bytes, has_code, is_known, want, Suits, AreFields}
-use Rattle.dbus_value.specs.Sizes.{message_limit}
 use Rattle.dbus_message.specs.MessageSizes.{IsEnd, IsShortField, AreShortFields, IsInRange, AreInRange, FitTheirWidths}
 use Rattle.dbus_message.specs.ValidMessages.{room_in_field, IsValidMessage}
 use Rattle.dbus_message.proofs.BothOrders.{valid_from}
@@ -22,7 +21,7 @@ use Rattle.dbus_message.proofs.Whole.{message_length}
 use Rattle.dbus_message.proofs.FieldLoop.{has_append, or_comm, or_false}
 use Rattle.dbus_value.proofs.Numbers.{length-num}
 use Rattle.dbus_value.proofs.SizeLaws.{message_limit_is}
-use Rattle.dbus_value.specs.Sizes.{message_limit as sizes_limit}
+use Rattle.dbus_value.specs.Sizes.{message_limit}
 
 -- ---- one field
 
@@ -204,10 +203,6 @@ array_limit_is : array_limit ≡ 67_108_864
 unfolding array_limit
 array_limit_is = refl
 
-limit_is : message_limit ≡ 134_217_728
-unfolding message_limit
-limit_is = refl
-
 abbrev pub contents_of : MessageTree → ℕ
 contents_of m = length (spellings Little 16 (value_trees (map field_struct m.fields)))
 
@@ -220,7 +215,7 @@ fields_long m e at h = breaks_arrays m (omega (arith, array_limit_is, at.0, h))
 pub fields_short : (m : MessageTree) (e : ℕ) → SignaturePasses m → ArePlain m → AreInRange m.fields → IsEnd (16 + contents_of m) (Some e) → e ≤ 67_108_880 → KeepsArrays m
 fields_short m e p plain r at h = keeps_arrays m (all_plain m p plain r) plain.1 (omega (arith, array_limit_is, at.0, h))
 
-pub small_start : (e g : ℕ) → e ≤ 67_108_880 → g < 8 → e + g ≤ sizes_limit
+pub small_start : (e g : ℕ) → e ≤ 67_108_880 → g < 8 → e + g ≤ message_limit
 small_start e g h k = omega (arith, message_limit_is, h, k)
 
 whole_is : (m : MessageTree) (e g : ℕ) → IsEnd (16 + contents_of m) (Some e) → g ≡ gap_to 8 e → length (message_bytes Little m) ≡ e + g + length (spellings Little (e + g) m.body)
@@ -230,10 +225,10 @@ whole_is m e g at gap =
     message_length Little 0 m ∙ ap (λ (n : ℕ). n + length (spellings Little n m.body)) s
 
 pub message_fits : (m : MessageTree) (e g n : ℕ) → IsEnd (16 + contents_of m) (Some e) → g ≡ gap_to 8 e → IsEnd (e + g + length (spellings Little (e + g) m.body)) (Some n) → (n ≡ length (message_bytes Little m)) × (message_limit < length (message_bytes Little m) → ⊥)
-message_fits m e g n at gap end = (end.0 ∙ sym (whole_is m e g at gap), λ h. absurd (omega (arith, limit_is, message_limit_is, end.0, end.1, whole_is m e g at gap, h)))
+message_fits m e g n at gap end = (end.0 ∙ sym (whole_is m e g at gap), λ h. absurd (omega (arith, message_limit_is, end.0, end.1, whole_is m e g at gap, h)))
 
 pub message_past : (m : MessageTree) (e g : ℕ) → IsEnd (16 + contents_of m) (Some e) → g ≡ gap_to 8 e → IsEnd (e + g + length (spellings Little (e + g) m.body)) None → message_limit < length (message_bytes Little m)
-message_past m e g at gap end = omega (arith, limit_is, message_limit_is, end, whole_is m e g at gap)
+message_past m e g at gap end = omega (arith, message_limit_is, end, whole_is m e g at gap)
 
 -- ---- what is at fault is not without fault
 

@@ -10,8 +10,8 @@ use Rattle.dbus_value.specs.declared.fault.Reason.TheVariants as reasons
 use Rattle.dbus_value.specs.WantedTexts.{IsWanted, kind_of}
 use Rattle.dbus_value.specs.Values.{ValueTree, ValueTrees, NoValues, MoreValues, NumberValue, TextValue, VariantValue, ArrayValue, StructValue, EntryValue, IsNumber, type_of, types_of}
 use Rattle.dbus_value.specs.Spelling.{IsWithinLimits, AreWithinLimits}
-use Rattle.dbus_message.specs.Messages.{FieldTree, MessageTree, field_array, body_start, message_bytes, has_code, is_known, lacks, required, text_in, body_signature}
 use Rattle.dbus_value.specs.Sizes.{message_limit}
+use Rattle.dbus_message.specs.Messages.{FieldTree, MessageTree, field_array, body_start, message_bytes, has_code, is_known, lacks, required, text_in, body_signature}
 use Rattle.dbus_message.specs.PartsViews.{parts_tree}
 use Rattle.dbus_message.specs.MessageViews.{message_tree}
 use Rattle.dbus_message.specs.declared.parts.Parts.{Parts}
