@@ -2,7 +2,6 @@ pub mod EscapedText
 pub mod HexDigits
 pub mod Appending
 pub mod ItemTexts
-pub mod TypeCases
 pub mod SignedNumbers
 pub mod OtherCases
 pub mod TextsInARow

@@ -9,7 +9,6 @@ mod numbers;
 mod show;
 #[cfg(test)]
 mod tests;
-mod type_text;
 mod values;
 
-pub use show::show_message;
+pub use show::{show_into, show_message};

@@ -82,6 +82,19 @@ fn write_body<A: Allocator + Copy>(
     Ok(())
 }
 
+/// Appends the text of a message with these parts.
+fn write_parts<A: Allocator + Copy>(
+    out: &mut String<A>,
+    order: Order,
+    parts: &Parts<A>,
+    number: u64,
+) -> Result<(), AllocError>
+    ensures { OnOk result (string_bytes out.new ≡ string_bytes out.old ++ message_text order (parts_tree parts.now) number) }
+{
+    write_header(out, order, parts, number)?;
+    write_body(out, &parts.body)
+}
+
 /// The text of a message with these parts.
 pub(crate) fn show_parts<A: Allocator + Copy>(
     alloc: A,
@@ -92,8 +105,7 @@ pub(crate) fn show_parts<A: Allocator + Copy>(
     ensures { IfOk result (λ text. string_bytes text ≡ message_text order (parts_tree parts.now) number) }
 {
     let mut text = String::new(alloc);
-    write_header(&mut text, order, parts, number)?;
-    write_body(&mut text, &parts.body)?;
+    write_parts(&mut text, order, parts, number)?;
     Ok(text)
 }
 
@@ -114,4 +126,19 @@ pub fn show_message<A: Allocator + Copy>(
     ensures { IfOk result (λ text. string_bytes text ≡ message_text order (message_tree message.now) number) }
 {
     show_parts(alloc, order, message.parts(), number)
+}
+
+/// Shows a message as [`show_message`] does, in a string in place of what that holds.
+///
+/// `AllocError` comes only where a growth was refused: then the string holds some of the text.
+pub fn show_into<A: Allocator + Copy>(
+    out: &mut String<A>,
+    order: Order,
+    message: &Message<A>,
+    number: u64,
+) -> Result<(), AllocError>
+    ensures { OnOk result (string_bytes out.new ≡ message_text order (message_tree message.now) number) }
+{
+    out.clear();
+    write_parts(out, order, message.parts(), number)
 }

@@ -12,8 +12,7 @@ ghost use Rattle.dbus_show.specs.ShownValues.{value_text, value_texts, joined, q
 use crate::escapes::write_quoted;
 use crate::hexadecimal::write_hex;
 use crate::numbers::{write_double, write_i16, write_i32, write_i64};
-use crate::type_text::write_type;
-use dbus_types::SigType;
+use dbus_types::{SigType, push_type};
 use dbus_value::Value;
 use std::alloc::{AllocError, Allocator};
 
@@ -67,7 +66,7 @@ fn write_array<A: Allocator + Copy>(
     ensures { OnOk result (string_bytes out.new ≡ string_bytes out.old ++ value_text (ArrayValue (type_tree element.now) (value_trees_of items.now))) }
 {
     out.push('a')?;
-    write_type(out, element)?;
+    push_type(out, element)?;
     out.push(':')?;
     if is_byte(element) {
         return write_byte_items(out, items);

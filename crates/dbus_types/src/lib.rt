@@ -30,5 +30,5 @@ pub use parse::{parse_signature, parse_single};
 pub use scan::TextScan;
 pub use shape::{alignment, type_ok};
 pub use sig_type::SigType;
-pub use spell::signature_text;
+pub use spell::{push_type, signature_text};
 pub use text_kind::TextKind;

@@ -17,9 +17,15 @@ fn push_code<A: Allocator + Copy>(out: &mut String<A>, code: char) -> Result<(),
     out.push(code)
 }
 
-/// Appends the text of a type.
+/// Appends the text of a type, one code for each basic type. D-Bus Specification, "Type System".
+///
+/// `AllocError` comes only where a growth was refused: then a front of the text may stand behind what was there. Types that
+/// spell no signature have a text too.
 #[cycle(spell)]
-fn push_type<A: Allocator + Copy>(out: &mut String<A>, ty: &SigType<A>) -> Result<(), AllocError>
+pub fn push_type<A: Allocator + Copy>(
+    out: &mut String<A>,
+    ty: &SigType<A>,
+) -> Result<(), AllocError>
     ensures { OnOk result (string_bytes out.new ≡ string_bytes out.old ++ sig (type_tree ty.now)) }
 {
     match ty {

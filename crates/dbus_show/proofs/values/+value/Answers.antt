@@ -72,7 +72,7 @@ pub write_array-returns : goal.write_array-returns
 write_array-returns g t c =
     let b0 = string_bytes c.args.out.now in
     let b1 = string_bytes c.push.new.self in
-    let b2 = string_bytes c.write_type.new.out in
+    let b2 = string_bytes c.push_type.new.out in
     let b3 = string_bytes c.push-2.new.self in
     let b4 = string_bytes c.push-3.new.self in
     let b5 = string_bytes c.write_items.new.out in
@@ -86,7 +86,7 @@ write_array-returns g t c =
     let whole : value_text (ArrayValue (type_tree c.args.element.now) vs) ≡ 97 ∷ (t ++ (58 ∷ 91 ∷ (items ++ 93 ∷ []))) = rw other refl in
     last_push c.push-4.result b5 (string_bytes c.push-4.new.self) 93 (b0 ++ value_text (ArrayValue (type_tree c.args.element.now) vs)) (lit< tt) c.push-4.ensures.bytes
     (behind_two b3 b4 b5 (91 ∷ []) items (93 ∷ []) e4 c.in_ok-write_items.ensures
-    ∙ behind_three b0 b1 b2 b3 (97 ∷ []) t (58 ∷ []) (91 ∷ (items ++ 93 ∷ [])) e1 c.in_ok-write_type.ensures e3 ∙ ap (λ s. b0 ++ s) (sym whole))
+    ∙ behind_three b0 b1 b2 b3 (97 ∷ []) t (58 ∷ []) (91 ∷ (items ++ 93 ∷ [])) e1 c.in_ok-push_type.ensures e3 ∙ ap (λ s. b0 ++ s) (sym whole))
 
 pub write_items-loop-item-preserved : goal.write_items-loop-item-preserved
 write_items-loop-item-preserved g t c =
