@@ -1,11 +1,12 @@
 -- What is decided of the types of a value's parts, level by level and along a list.
-use Rattle.std.proofs.Common.{◌≡◌, ℕ, zero, suc, ◌+◌, ◌<◌, Bool, ◌&&◌, not, List, [], ◌∷◌, length, get_or, drop, Vec, refl, sym, subst, arith, rules, ◌↔◌, IsTrue, Result, Ok, Err, IfOk}
+use Rattle.std.proofs.Common.{◌≡◌, ℕ, zero, suc, ◌+◌, ◌<◌, Bool, false, ◌&&◌, not, List, [], ◌∷◌, ◌++◌, length, get_or, drop, Vec, refl, sym, subst, arith, rules, ◌↔◌, IsTrue, Result, Ok, Err, IfOk}
 use Rattle.std.proofs.lemmas.Bool.{and_parts, and_from}
 use Rattle.std.proofs.lemmas.List.{drop_more}
 use Rattle.dbus_types.specs.Types.{TypeTree, NumberType, BYTE}
 use Rattle.dbus_types.specs.SigTypes.{type_tree}
-use Rattle.dbus_types.specs.declared.sig_type.SigType.{SigType}
-use Rattle.dbus_value.specs.Checks.{is_byte, keeps_bytes, keep_bytes}
+use Rattle.dbus_types.specs.declared.sig_type.SigType.{SigType, the_lemmas as type_lemmas}
+use Rattle.dbus_types.specs.declared.sig_type.SigType.TheVariants as types
+use Rattle.dbus_value.specs.PackedBytes.{is_byte, keeps_bytes, keep_bytes}
 use Rattle.dbus_value.specs.Forming.{IsUniform, AreUniform}
 use Rattle.dbus_value.specs.Values.{AllOf, type_of}
 use Rattle.dbus_value.specs.ValueViews.{value_tree, value_trees_of, byte_values}
@@ -49,6 +50,10 @@ beside (Err e) P Q q h = tt
 pub keeps-Array : {A : Type 0} (t : SigType A) (vs : Vec (Value A) A) → keeps_bytes {A = A} (Array t vs) ≡ (not (is_byte (type_tree t)) && keep_bytes vs.items)
 keeps-Array t vs = search (rules, the_lemmas)
 
+pub other_than_byte : {A : Type 0} (t : SigType A) → (t ≡ types.Byte → ⊥) → is_byte (type_tree t) ≡ false
+other_than_byte types.Byte h = absurd (h refl)
+other_than_byte t h = search (rules, type_lemmas)
+
 pub keeps-Struct : {A : Type 0} (vs : Vec (Value A) A) → keeps_bytes {A = A} (Struct vs) ≡ keep_bytes vs.items
 keeps-Struct vs = search (rules, the_lemmas)
 
@@ -59,3 +64,10 @@ unpacked_at (v ∷ vs) (suc i) d l n h = unpacked_at vs i d (omega arith) n (and
 
 pub packed_more : {A : Type 0} (vs : List (Value A)) (i : ℕ) (d : Value A) → i < length vs → IsTrue (keeps_bytes (get_or vs i d)) → IsTrue (keep_bytes (drop (i + 1) vs)) → IsTrue (keep_bytes (drop i vs))
 packed_more vs i d l h k = subst (λ us. IsTrue (keep_bytes us)) (sym (drop_more vs i d l)) (and_from _ _ h k)
+
+pub keep_push : {A : Type 0} (vs : List (Value A)) (v : Value A) (us : List (Value A)) → us ≡ vs ++ v ∷ [] → IsTrue (keep_bytes vs) → IsTrue (keeps_bytes v) → IsTrue (keep_bytes us)
+keep_push vs v us is h k = subst (λ ws. IsTrue (keep_bytes ws)) (sym is) (each vs v h k)
+  where
+    each : {A : Type 0} (vs : List (Value A)) (v : Value A) → IsTrue (keep_bytes vs) → IsTrue (keeps_bytes v) → IsTrue (keep_bytes (vs ++ v ∷ []))
+    each [] v h k = and_from _ _ k refl
+    each (u ∷ us) v h k = let w = and_parts _ _ h in and_from _ _ w.0 (each us v w.1 k)

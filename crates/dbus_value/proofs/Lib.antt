@@ -27,8 +27,14 @@ pub mod Patching
 pub mod Spells
 pub mod SizeLaws
 pub mod ShortLaws
+pub mod Lengths
+pub mod Periods
+pub mod Capping
+pub mod MeasureSteps
 pub mod Deciding
 pub mod Fitting
+pub mod Copied
 pub mod Formed
 pub mod SameTypes
 pub mod TypeParts
+pub mod RangeSteps

@@ -15,5 +15,8 @@ pub mod Sizes
 pub mod ShortSignatures
 pub mod Appending
 pub mod SizeLimits
+pub mod Measures
 pub mod Forming
+pub mod PackedBytes
 pub mod Checks
+pub mod Ranges

@@ -58,8 +58,9 @@ pub fn nests_within<A: Allocator>(value: &Value<A>, room: u8) -> bool
     }
 }
 
+/// Whether no more than `room` arrays, structs and variants are open at once in any of the values.
 #[cycle(nests)]
-fn nest_within<A: Allocator>(values: &[Value<A>], room: u8) -> bool
+pub fn nest_within<A: Allocator>(values: &[Value<A>], room: u8) -> bool
     ensures { IsTrue result ↔ NestWithin room (value_trees_of values.now) }
 {
     for value in values {

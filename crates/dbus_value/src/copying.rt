@@ -2,6 +2,7 @@
 #![tactic(auto)]
 
 ghost use Rattle.std.specs.Prelude.{◌≡◌, map, IfOk};
+ghost use Rattle.dbus_value.specs.PackedBytes.{keeps_bytes};
 ghost use Rattle.dbus_value.specs.ValueViews.{value_tree};
 
 use crate::value::Value;
@@ -9,10 +10,13 @@ use dbus_types::copy_type;
 use std::alloc::{AllocError, Allocator};
 use std::string::String;
 
-/// An equal value. The one error is that a growth of memory was refused.
+/// An equal value, in which an array of BYTE is `Bytes` or an `Array` as it was.
+///
+/// The one error is that a growth of memory was refused.
 #[cycle(copy)]
 pub fn copy<A: Allocator + Copy>(alloc: A, value: &Value<A>) -> Result<Value<A>, AllocError>
-    ensures { IfOk result (λ c. value_tree c ≡ value_tree value.now) }
+    ensures equal { IfOk result (λ c. value_tree c ≡ value_tree value.now) }
+    ensures packed { IfOk result (λ c. keeps_bytes c ≡ keeps_bytes value.now) }
 {
     match value {
         Value::Byte(n) => Ok(Value::Byte(*n)),
@@ -51,7 +55,8 @@ fn copy_all<A: Allocator + Copy>(
     alloc: A,
     values: &[Value<A>],
 ) -> Result<Vec<Value<A>, A>, AllocError>
-    ensures { IfOk result (λ c. map value_tree c.items ≡ map value_tree values.now) }
+    ensures equal { IfOk result (λ c. map value_tree c.items ≡ map value_tree values.now) }
+    ensures packed { IfOk result (λ c. map keeps_bytes c.items ≡ map keeps_bytes values.now) }
 {
     let mut copies = Vec::with_capacity(alloc, values.len())?;
     for value in values {

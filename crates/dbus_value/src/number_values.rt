@@ -1,9 +1,10 @@
 //! Values that are one number.
 #![tactic(auto, using(crate::proofs::NumberSteps::numbers), unfolding(crate::specs::ValueReaders::number_value))]
 
-ghost use Rattle.std.specs.Prelude.{◌≤◌, length, drop};
+ghost use Rattle.std.specs.Prelude.{◌≤◌, length, drop, IsTrue, IfOk};
 ghost use Rattle.dbus_types.specs.Types.{BYTE, BOOLEAN, INT16, UINT16, INT32, UINT32, INT64, UINT64, DOUBLE, UNIX_FD};
 ghost use Rattle.dbus_value.specs.declared.order.Order.{Order};
+ghost use Rattle.dbus_value.specs.PackedBytes.{keeps_bytes};
 ghost use Rattle.dbus_value.specs.ValueReaders.{number_value};
 ghost use Rattle.dbus_value.specs.ValueViews.{value_tree};
 ghost use Rattle.dbus_value.specs.Gives.{Gives};
@@ -23,7 +24,8 @@ pub fn get_byte<A: Allocator>(
 ) -> Result<(Value<A>, usize), Stop>
     requires at_most { at ≤ end }
     requires inside { at ≤ length bytes.now }
-    ensures { (order : Order) → Gives (λ x. (value_tree x.0, x.1)) bytes.now result (number_value order end BYTE at (drop at bytes.now)) }
+    ensures gives { (order : Order) → Gives (λ x. (value_tree x.0, x.1)) bytes.now result (number_value order end BYTE at (drop at bytes.now)) }
+    ensures packed { IfOk result (λ x. IsTrue (keeps_bytes x.0)) }
 {
     let (n, next) = read_byte(bytes, at, end)?;
     Ok((Value::Byte(n), next))
@@ -38,7 +40,8 @@ pub fn get_bool<A: Allocator>(
 ) -> Result<(Value<A>, usize), Stop>
     requires at_most { at ≤ end }
     requires inside { at ≤ length bytes.now }
-    ensures { Gives (λ x. (value_tree x.0, x.1)) bytes.now result (number_value order end BOOLEAN at (drop at bytes.now)) }
+    ensures gives { Gives (λ x. (value_tree x.0, x.1)) bytes.now result (number_value order end BOOLEAN at (drop at bytes.now)) }
+    ensures packed { IfOk result (λ x. IsTrue (keeps_bytes x.0)) }
 {
     let at = read_padding(bytes, at, end, 4)?;
     let (n, next) = read_u32(bytes, at, end, order)?;
@@ -57,7 +60,8 @@ pub fn get_i16<A: Allocator>(
 ) -> Result<(Value<A>, usize), Stop>
     requires at_most { at ≤ end }
     requires inside { at ≤ length bytes.now }
-    ensures { Gives (λ x. (value_tree x.0, x.1)) bytes.now result (number_value order end INT16 at (drop at bytes.now)) }
+    ensures gives { Gives (λ x. (value_tree x.0, x.1)) bytes.now result (number_value order end INT16 at (drop at bytes.now)) }
+    ensures packed { IfOk result (λ x. IsTrue (keeps_bytes x.0)) }
 {
     let at = read_padding(bytes, at, end, 2)?;
     let (n, next) = read_u16(bytes, at, end, order)?;
@@ -73,7 +77,8 @@ pub fn get_u16<A: Allocator>(
 ) -> Result<(Value<A>, usize), Stop>
     requires at_most { at ≤ end }
     requires inside { at ≤ length bytes.now }
-    ensures { Gives (λ x. (value_tree x.0, x.1)) bytes.now result (number_value order end UINT16 at (drop at bytes.now)) }
+    ensures gives { Gives (λ x. (value_tree x.0, x.1)) bytes.now result (number_value order end UINT16 at (drop at bytes.now)) }
+    ensures packed { IfOk result (λ x. IsTrue (keeps_bytes x.0)) }
 {
     let at = read_padding(bytes, at, end, 2)?;
     let (n, next) = read_u16(bytes, at, end, order)?;
@@ -89,7 +94,8 @@ pub fn get_i32<A: Allocator>(
 ) -> Result<(Value<A>, usize), Stop>
     requires at_most { at ≤ end }
     requires inside { at ≤ length bytes.now }
-    ensures { Gives (λ x. (value_tree x.0, x.1)) bytes.now result (number_value order end INT32 at (drop at bytes.now)) }
+    ensures gives { Gives (λ x. (value_tree x.0, x.1)) bytes.now result (number_value order end INT32 at (drop at bytes.now)) }
+    ensures packed { IfOk result (λ x. IsTrue (keeps_bytes x.0)) }
 {
     let at = read_padding(bytes, at, end, 4)?;
     let (n, next) = read_u32(bytes, at, end, order)?;
@@ -105,7 +111,8 @@ pub fn get_u32<A: Allocator>(
 ) -> Result<(Value<A>, usize), Stop>
     requires at_most { at ≤ end }
     requires inside { at ≤ length bytes.now }
-    ensures { Gives (λ x. (value_tree x.0, x.1)) bytes.now result (number_value order end UINT32 at (drop at bytes.now)) }
+    ensures gives { Gives (λ x. (value_tree x.0, x.1)) bytes.now result (number_value order end UINT32 at (drop at bytes.now)) }
+    ensures packed { IfOk result (λ x. IsTrue (keeps_bytes x.0)) }
 {
     let at = read_padding(bytes, at, end, 4)?;
     let (n, next) = read_u32(bytes, at, end, order)?;
@@ -121,7 +128,8 @@ pub fn get_i64<A: Allocator>(
 ) -> Result<(Value<A>, usize), Stop>
     requires at_most { at ≤ end }
     requires inside { at ≤ length bytes.now }
-    ensures { Gives (λ x. (value_tree x.0, x.1)) bytes.now result (number_value order end INT64 at (drop at bytes.now)) }
+    ensures gives { Gives (λ x. (value_tree x.0, x.1)) bytes.now result (number_value order end INT64 at (drop at bytes.now)) }
+    ensures packed { IfOk result (λ x. IsTrue (keeps_bytes x.0)) }
 {
     let at = read_padding(bytes, at, end, 8)?;
     let (n, next) = read_u64(bytes, at, end, order)?;
@@ -137,7 +145,8 @@ pub fn get_u64<A: Allocator>(
 ) -> Result<(Value<A>, usize), Stop>
     requires at_most { at ≤ end }
     requires inside { at ≤ length bytes.now }
-    ensures { Gives (λ x. (value_tree x.0, x.1)) bytes.now result (number_value order end UINT64 at (drop at bytes.now)) }
+    ensures gives { Gives (λ x. (value_tree x.0, x.1)) bytes.now result (number_value order end UINT64 at (drop at bytes.now)) }
+    ensures packed { IfOk result (λ x. IsTrue (keeps_bytes x.0)) }
 {
     let at = read_padding(bytes, at, end, 8)?;
     let (n, next) = read_u64(bytes, at, end, order)?;
@@ -153,7 +162,8 @@ pub fn get_double<A: Allocator>(
 ) -> Result<(Value<A>, usize), Stop>
     requires at_most { at ≤ end }
     requires inside { at ≤ length bytes.now }
-    ensures { Gives (λ x. (value_tree x.0, x.1)) bytes.now result (number_value order end DOUBLE at (drop at bytes.now)) }
+    ensures gives { Gives (λ x. (value_tree x.0, x.1)) bytes.now result (number_value order end DOUBLE at (drop at bytes.now)) }
+    ensures packed { IfOk result (λ x. IsTrue (keeps_bytes x.0)) }
 {
     let at = read_padding(bytes, at, end, 8)?;
     let (n, next) = read_u64(bytes, at, end, order)?;
@@ -169,7 +179,8 @@ pub fn get_fd<A: Allocator>(
 ) -> Result<(Value<A>, usize), Stop>
     requires at_most { at ≤ end }
     requires inside { at ≤ length bytes.now }
-    ensures { Gives (λ x. (value_tree x.0, x.1)) bytes.now result (number_value order end UNIX_FD at (drop at bytes.now)) }
+    ensures gives { Gives (λ x. (value_tree x.0, x.1)) bytes.now result (number_value order end UNIX_FD at (drop at bytes.now)) }
+    ensures packed { IfOk result (λ x. IsTrue (keeps_bytes x.0)) }
 {
     let at = read_padding(bytes, at, end, 4)?;
     let (n, next) = read_u32(bytes, at, end, order)?;

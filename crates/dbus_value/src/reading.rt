@@ -1,10 +1,11 @@
 //! Reading a value of any type.
 #![tactic(auto)]
 
-ghost use Rattle.std.specs.Prelude.{◌≡◌, ℕ, ◌+◌, ◌-◌, ◌≤◌, ◌<◌, ◌^◌, length, drop, map, true, false, IfOk};
+ghost use Rattle.std.specs.Prelude.{◌≡◌, ℕ, ◌+◌, ◌-◌, ◌≤◌, ◌<◌, ◌^◌, length, drop, map, true, false, IsTrue, IfOk};
 ghost use Rattle.dbus_types.specs.Types.{IsShaped, AreShaped, IsSingleType};
 ghost use Rattle.dbus_types.specs.SigTypes.{type_tree, type_trees_of};
 ghost use Rattle.dbus_value.specs.ValueViews.{value_tree, value_trees_of};
+ghost use Rattle.dbus_value.specs.PackedBytes.{keeps_bytes, keep_bytes, KeepsBytes};
 ghost use Rattle.dbus_value.specs.Reading.{contents, fields, value};
 ghost use Rattle.dbus_value.specs.ValueReaders.{held_value, variant_value, open_array, array_value, open_struct, struct_value, entry_value};
 ghost use Rattle.dbus_value.specs.Gives.{Gives};
@@ -32,7 +33,8 @@ const DEEPEST: u8 = 64;
 ///
 /// `bytes` begin at the message's first byte, from which padding counts; the value begins at `at` and ends at or
 /// before `end`, and `depth` containers are open around it. `Partial` comes where the bytes end within the value and
-/// show no fault. A refusal is `Format` with the first fault of the bytes, or `Memory` where a growth was refused.
+/// show no fault. A refusal is `Format` with the first fault of the bytes, or `Memory` where a growth was refused. An
+/// array of BYTE comes as `Bytes`, also within the value.
 /// D-Bus Specification, "Marshaling (Wire Format)".
 pub fn get<A: Allocator + Copy>(
     alloc: A,
@@ -47,7 +49,8 @@ pub fn get<A: Allocator + Copy>(
     requires inside { at ≤ length bytes.now }
     requires open { depth ≤ 64 }
     requires single { IsSingleType (type_tree wanted.now) }
-    ensures { Gets order (64 - depth) end (type_tree wanted.now) at bytes.now result }
+    ensures gets { Gets order (64 - depth) end (type_tree wanted.now) at bytes.now result }
+    ensures packed { IfOk result KeepsBytes }
 {
     match read_value(alloc, bytes, at, end, order, wanted, DEEPEST - depth) {
         Ok((value, next)) => Ok(Got::Done(value, next)),
@@ -71,7 +74,8 @@ fn read_value<A: Allocator + Copy>(
     requires at_most { at ≤ end }
     requires inside { at ≤ length bytes.now }
     requires shaped { IsShaped true (type_tree wanted.now) }
-    ensures { Gives (λ x. (value_tree x.0, x.1)) bytes.now result (value order room end (type_tree wanted.now) at (drop at bytes.now)) }
+    ensures gives { Gives (λ x. (value_tree x.0, x.1)) bytes.now result (value order room end (type_tree wanted.now) at (drop at bytes.now)) }
+    ensures packed { IfOk result (λ x. IsTrue (keeps_bytes x.0)) }
 {
     match wanted {
         SigType::Byte => get_byte(bytes, at, end),
@@ -106,7 +110,8 @@ fn read_variant<A: Allocator + Copy>(
 ) -> Result<(Value<A>, usize), Stop>
     requires at_most { at ≤ end }
     requires inside { at ≤ length bytes.now }
-    ensures { Gives (λ x. (value_tree x.0, x.1)) bytes.now result (variant_value order room end at (drop at bytes.now)) }
+    ensures gives { Gives (λ x. (value_tree x.0, x.1)) bytes.now result (variant_value order room end at (drop at bytes.now)) }
+    ensures packed { IfOk result (λ x. IsTrue (keeps_bytes x.0)) }
 {
     if room == 0 {
         return refuse(at, Reason::TooDeep);
@@ -127,7 +132,8 @@ fn read_held<A: Allocator + Copy>(
 ) -> Result<(Value<A>, usize), Stop>
     requires at_most { at ≤ end }
     requires inside { at ≤ length bytes.now }
-    ensures { Gives (λ x. (value_tree x.0, x.1)) bytes.now result (held_value order room end at (drop at bytes.now)) }
+    ensures gives { Gives (λ x. (value_tree x.0, x.1)) bytes.now result (held_value order room end at (drop at bytes.now)) }
+    ensures packed { IfOk result (λ x. IsTrue (keeps_bytes x.0)) }
 {
     let (n, start) = read_short_length(bytes, at, end)?;
     let (held, behind) = read_signature(alloc, bytes, start, n)?;
@@ -150,7 +156,8 @@ fn read_array<A: Allocator + Copy>(
     requires at_most { at ≤ end }
     requires inside { at ≤ length bytes.now }
     requires shaped { IsShaped true (type_tree item.now) }
-    ensures { Gives (λ x. (value_tree x.0, x.1)) bytes.now result (array_value order room end (type_tree item.now) at (drop at bytes.now)) }
+    ensures gives { Gives (λ x. (value_tree x.0, x.1)) bytes.now result (array_value order room end (type_tree item.now) at (drop at bytes.now)) }
+    ensures packed { IfOk result (λ x. IsTrue (keeps_bytes x.0)) }
 {
     let start = read_padding(bytes, at, end, 4)?;
     if room == 0 {
@@ -173,7 +180,8 @@ fn read_open_array<A: Allocator + Copy>(
     requires at_most { at ≤ end }
     requires inside { at ≤ length bytes.now }
     requires shaped { IsShaped true (type_tree item.now) }
-    ensures { Gives (λ x. (value_tree x.0, x.1)) bytes.now result (open_array order room end (type_tree item.now) at (drop at bytes.now)) }
+    ensures gives { Gives (λ x. (value_tree x.0, x.1)) bytes.now result (open_array order room end (type_tree item.now) at (drop at bytes.now)) }
+    ensures packed { IfOk result (λ x. IsTrue (keeps_bytes x.0)) }
 {
     let (n, first) = read_frame(bytes, at, end, order, item)?;
     if let SigType::Byte = item {
@@ -198,7 +206,8 @@ fn read_items<A: Allocator + Copy>(
     requires fits { at + n < 2 ^ 64 }
     requires inside { at ≤ length bytes.now }
     requires shaped { IsShaped true (type_tree item.now) }
-    ensures { Gives (λ x. (map value_tree x.items, at + n)) bytes.now result (contents n (λ end before. value order room end (type_tree item.now)) at (drop at bytes.now)) }
+    ensures gives { Gives (λ x. (map value_tree x.items, at + n)) bytes.now result (contents n (λ end before. value order room end (type_tree item.now)) at (drop at bytes.now)) }
+    ensures packed { IfOk result (λ x. IsTrue (keep_bytes x.items)) }
 {
     let end = at + n;
     let mut values = Vec::new(alloc);
@@ -225,7 +234,8 @@ fn read_struct<A: Allocator + Copy>(
     requires at_most { at ≤ end }
     requires inside { at ≤ length bytes.now }
     requires shaped { AreShaped (type_trees_of types.now) }
-    ensures { Gives (λ x. (value_tree x.0, x.1)) bytes.now result (struct_value order room end (type_trees_of types.now) at (drop at bytes.now)) }
+    ensures gives { Gives (λ x. (value_tree x.0, x.1)) bytes.now result (struct_value order room end (type_trees_of types.now) at (drop at bytes.now)) }
+    ensures packed { IfOk result (λ x. IsTrue (keeps_bytes x.0)) }
 {
     let first = read_padding(bytes, at, end, 8)?;
     if room == 0 {
@@ -249,7 +259,8 @@ fn read_fields<A: Allocator + Copy>(
     requires at_most { at ≤ end }
     requires inside { at ≤ length bytes.now }
     requires shaped { AreShaped (type_trees_of types.now) }
-    ensures { Gives (λ x. (value_trees_of x.0.items, x.1)) bytes.now result (fields (value order room end) (type_trees_of types.now) at (drop at bytes.now)) }
+    ensures gives { Gives (λ x. (value_trees_of x.0.items, x.1)) bytes.now result (fields (value order room end) (type_trees_of types.now) at (drop at bytes.now)) }
+    ensures packed { IfOk result (λ x. IsTrue (keep_bytes x.0.items)) }
 {
     let mut values = Vec::new(alloc);
     let mut place = at;
@@ -278,7 +289,8 @@ fn read_entry<A: Allocator + Copy>(
     requires inside { at ≤ length bytes.now }
     requires key_shaped { IsShaped true (type_tree key.now) }
     requires value_shaped { IsShaped true (type_tree value.now) }
-    ensures { Gives (λ x. (value_tree x.0, x.1)) bytes.now result (entry_value order room end (type_tree key.now) (type_tree value.now) at (drop at bytes.now)) }
+    ensures gives { Gives (λ x. (value_tree x.0, x.1)) bytes.now result (entry_value order room end (type_tree key.now) (type_tree value.now) at (drop at bytes.now)) }
+    ensures packed { IfOk result (λ x. IsTrue (keeps_bytes x.0)) }
 {
     let start = read_padding(bytes, at, end, 8)?;
     let (k, behind) = read_value(alloc, bytes, start, end, order, key, room)?;

@@ -1,9 +1,10 @@
 //! Values that are one text.
 #![tactic(auto, using(crate::proofs::StringSteps::strings), unfolding(crate::specs::ValueReaders::text_value))]
 
-ghost use Rattle.std.specs.Prelude.{◌≡◌, ◌≤◌, length, drop, string_bytes, IsUtf8, IfOk};
+ghost use Rattle.std.specs.Prelude.{◌≡◌, ◌≤◌, length, drop, string_bytes, IsUtf8, IsTrue, IfOk};
 ghost use Rattle.dbus_types.specs.Types.{STRING, OBJECT_PATH, SIGNATURE};
 ghost use Rattle.dbus_value.specs.declared.order.Order.{Order};
+ghost use Rattle.dbus_value.specs.PackedBytes.{keeps_bytes};
 ghost use Rattle.dbus_value.specs.ValueReaders.{text_value};
 ghost use Rattle.dbus_value.specs.ValueViews.{value_tree};
 ghost use Rattle.dbus_value.specs.Gives.{Gives};
@@ -34,7 +35,8 @@ pub fn get_str<A: Allocator>(
 ) -> Result<(Value<A>, usize), Stop>
     requires at_most { at ≤ end }
     requires inside { at ≤ length bytes.now }
-    ensures { Gives (λ x. (value_tree x.0, x.1)) bytes.now result (text_value order end STRING at (drop at bytes.now)) }
+    ensures gives { Gives (λ x. (value_tree x.0, x.1)) bytes.now result (text_value order end STRING at (drop at bytes.now)) }
+    ensures packed { IfOk result (λ x. IsTrue (keeps_bytes x.0)) }
 {
     let at = read_padding(bytes, at, end, 4)?;
     let (n, start) = read_length(bytes, at, end, order)?;
@@ -53,7 +55,8 @@ pub fn get_path<A: Allocator>(
 ) -> Result<(Value<A>, usize), Stop>
     requires at_most { at ≤ end }
     requires inside { at ≤ length bytes.now }
-    ensures { Gives (λ x. (value_tree x.0, x.1)) bytes.now result (text_value order end OBJECT_PATH at (drop at bytes.now)) }
+    ensures gives { Gives (λ x. (value_tree x.0, x.1)) bytes.now result (text_value order end OBJECT_PATH at (drop at bytes.now)) }
+    ensures packed { IfOk result (λ x. IsTrue (keeps_bytes x.0)) }
 {
     let at = read_padding(bytes, at, end, 4)?;
     let (n, start) = read_length(bytes, at, end, order)?;
@@ -71,7 +74,8 @@ pub fn get_sig<A: Allocator>(
 ) -> Result<(Value<A>, usize), Stop>
     requires at_most { at ≤ end }
     requires inside { at ≤ length bytes.now }
-    ensures { (order : Order) → Gives (λ x. (value_tree x.0, x.1)) bytes.now result (text_value order end SIGNATURE at (drop at bytes.now)) }
+    ensures gives { (order : Order) → Gives (λ x. (value_tree x.0, x.1)) bytes.now result (text_value order end SIGNATURE at (drop at bytes.now)) }
+    ensures packed { IfOk result (λ x. IsTrue (keeps_bytes x.0)) }
 {
     let (n, start) = read_short_length(bytes, at, end)?;
     let behind = read_text(bytes, start, n, TextKind::Signature)?;

@@ -6,7 +6,8 @@ ghost use Rattle.dbus_types.specs.Types.{IsSingleType};
 ghost use Rattle.dbus_types.specs.SigTypes.{type_tree};
 ghost use Rattle.dbus_value.specs.Values.{AllOf, type_of as tree_type};
 ghost use Rattle.dbus_value.specs.Forming.{IsUniform, AreUniform};
-ghost use Rattle.dbus_value.specs.Checks.{IsTyped, is_byte as is_byte_type, keeps_bytes, keep_bytes};
+ghost use Rattle.dbus_value.specs.Checks.{IsTyped};
+ghost use Rattle.dbus_value.specs.PackedBytes.{is_byte as is_byte_type, keeps_bytes, keep_bytes};
 ghost use Rattle.dbus_value.specs.ValueViews.{value_tree, value_trees_of};
 
 use crate::same_types::same_type;

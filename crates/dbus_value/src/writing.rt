@@ -52,8 +52,8 @@ pub fn write_16<A: Allocator>(out: &mut Vec<u8, A>, order: Order, n: u16)
     ensures room { vec_capacity out.old ≤ vec_capacity out.new }
 {
     match order {
-        Order::Little => write_bytes(out, &n.to_le_bytes()),
-        Order::Big => write_bytes(out, &n.to_be_bytes()),
+        Order::Little => write_bytes(out, &u16::to_le_bytes(n)),
+        Order::Big => write_bytes(out, &u16::to_be_bytes(n)),
     }
 }
 
@@ -65,8 +65,8 @@ pub fn write_32<A: Allocator>(out: &mut Vec<u8, A>, order: Order, n: u32)
     ensures room { vec_capacity out.old ≤ vec_capacity out.new }
 {
     match order {
-        Order::Little => write_bytes(out, &n.to_le_bytes()),
-        Order::Big => write_bytes(out, &n.to_be_bytes()),
+        Order::Little => write_bytes(out, &u32::to_le_bytes(n)),
+        Order::Big => write_bytes(out, &u32::to_be_bytes(n)),
     }
 }
 
@@ -78,8 +78,8 @@ pub fn write_64<A: Allocator>(out: &mut Vec<u8, A>, order: Order, n: u64)
     ensures room { vec_capacity out.old ≤ vec_capacity out.new }
 {
     match order {
-        Order::Little => write_bytes(out, &n.to_le_bytes()),
-        Order::Big => write_bytes(out, &n.to_be_bytes()),
+        Order::Little => write_bytes(out, &u64::to_le_bytes(n)),
+        Order::Big => write_bytes(out, &u64::to_be_bytes(n)),
     }
 }
 

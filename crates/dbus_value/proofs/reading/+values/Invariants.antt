@@ -1,6 +1,7 @@
-use Rattle.std.proofs.Common.{◌≡◌, ◌+◌, ◌-◌, ◌*◌, ◌≤◌, [], length, drop, map}
+use Rattle.std.proofs.Common.{◌≡◌, ◌+◌, ◌-◌, ◌*◌, ◌≤◌, [], length, drop, map, IsTrue}
 use Rattle.dbus_types.specs.Types.{sig, sigs}
 use Rattle.dbus_types.specs.SigTypes.{type_tree, type_trees_of}
+use Rattle.dbus_value.specs.PackedBytes.{keep_bytes}
 use Rattle.dbus_value.specs.ValueViews.{value_tree}
 use Rattle.dbus_value.specs.Reading.{value, contents, fields, up_to}
 use Rattle.dbus_value.proofs.ValueSteps.{with_front, with_fields}
@@ -39,6 +40,7 @@ abbrev pub invariant-read_fields-loop-wanted : goal.invariant-read_fields-loop-w
 invariant-read_fields-loop-wanted g l = record {
   at_most : l.place ≤ l.end;
   inside : l.place ≤ length l.bytes;
+  packed : IsTrue (keep_bytes l.values.items);
   so_far : with_fields (map value_tree l.values.items) (fields (value l.order l.room l.end) (type_trees_of (drop l.wanted-index l.types)) l.place (drop l.place l.bytes))
       ≡ fields (value l.order l.room l.end) (type_trees_of l.types) l.fn.at (drop l.fn.at l.bytes);
 }
@@ -48,6 +50,7 @@ invariant-read_items-loop-place g l = record {
   at_most : l.place ≤ l.end;
   inside : l.place ≤ length l.bytes;
   taken : length l.values.items + l.at ≤ l.place;
+  packed : IsTrue (keep_bytes l.values.items);
   so_far : with_front (map value_tree l.values.items) (up_to (l.n - length l.values.items) l.end (λ before. value l.order l.room l.end (type_tree l.item)) [] l.place (drop l.place l.bytes))
       ≡ contents l.n (λ end before. value l.order l.room end (type_tree l.item)) l.at (drop l.at l.bytes);
 }

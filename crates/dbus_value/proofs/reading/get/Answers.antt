@@ -7,11 +7,11 @@ use Rattle.dbus_value.proofs.reading.get.Goals as goal
 pub read_value-requires-clause-shaped : goal.read_value-requires-clause-shaped
 read_value-requires-clause-shaped g c = single_shaped (type_tree c.args.wanted.now) c.requires.single
 
-pub returns-in-Ok : goal.returns-in-Ok
-returns-in-Ok g c = gets_done c.args.order (64 - c.args.depth) c.args.end (type_tree c.args.wanted.now) c.args.at c.args.bytes.now (single_shaped (type_tree c.args.wanted.now) c.requires.single) (bytes_at c.args.bytes.now c.args.at (λ i. omega (arith, c.type_inv.bytes i))) (value_tree c.in-Ok.value) c.in-Ok.next c.in-Ok.ensures
+pub returns-in-Ok-clause-gets : goal.returns-in-Ok-clause-gets
+returns-in-Ok-clause-gets g c = gets_done c.args.order (64 - c.args.depth) c.args.end (type_tree c.args.wanted.now) c.args.at c.args.bytes.now (single_shaped (type_tree c.args.wanted.now) c.requires.single) (bytes_at c.args.bytes.now c.args.at (λ i. omega (arith, c.type_inv.bytes i))) (value_tree c.in-Ok.value) c.in-Ok.next c.in-Ok.ensures.gives
 
-pub returns-in-Err-Partial : goal.returns-in-Err-Partial
-returns-in-Err-Partial g c = gets_partial c.args.order (64 - c.args.depth) c.args.end (type_tree c.args.wanted.now) c.args.at c.args.bytes.now (single_shaped (type_tree c.args.wanted.now) c.requires.single) (bytes_at c.args.bytes.now c.args.at (λ i. omega (arith, c.type_inv.bytes i))) (rw c.in-Err-Partial.field-0-is at c.in-Err-Partial.ensures)
+pub returns-in-Err-Partial-clause-gets : goal.returns-in-Err-Partial-clause-gets
+returns-in-Err-Partial-clause-gets g c = gets_partial c.args.order (64 - c.args.depth) c.args.end (type_tree c.args.wanted.now) c.args.at c.args.bytes.now (single_shaped (type_tree c.args.wanted.now) c.requires.single) (bytes_at c.args.bytes.now c.args.at (λ i. omega (arith, c.type_inv.bytes i))) (rw c.in-Err-Partial.field-0-is at c.in-Err-Partial.ensures.gives)
 
-pub returns-in-Err-Refused : goal.returns-in-Err-Refused
-returns-in-Err-Refused g c = gets_refused c.args.order (64 - c.args.depth) c.args.end (type_tree c.args.wanted.now) c.args.at c.args.bytes.now (single_shaped (type_tree c.args.wanted.now) c.requires.single) (bytes_at c.args.bytes.now c.args.at (λ i. omega (arith, c.type_inv.bytes i))) c.in-Err-Refused.fault (rw c.in-Err-Refused.field-0-is at c.in-Err-Refused.ensures)
+pub returns-in-Err-Refused-clause-gets : goal.returns-in-Err-Refused-clause-gets
+returns-in-Err-Refused-clause-gets g c = gets_refused c.args.order (64 - c.args.depth) c.args.end (type_tree c.args.wanted.now) c.args.at c.args.bytes.now (single_shaped (type_tree c.args.wanted.now) c.requires.single) (bytes_at c.args.bytes.now c.args.at (λ i. omega (arith, c.type_inv.bytes i))) c.in-Err-Refused.fault (rw c.in-Err-Refused.field-0-is at c.in-Err-Refused.ensures.gives)

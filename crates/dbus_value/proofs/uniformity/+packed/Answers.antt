@@ -1,7 +1,7 @@
 use Rattle.std.proofs.Common.{◌≡◌, ◌&&◌, not, refl, sym, ap, subst, ◌∙◌, IsTrue, arith}
 use Rattle.std.proofs.lemmas.Bool.{false≢true, and_parts, and_from}
 use Rattle.dbus_types.specs.SigTypes.{type_tree}
-use Rattle.dbus_value.specs.Checks.{is_byte, keeps_bytes, keep_bytes}
+use Rattle.dbus_value.specs.PackedBytes.{is_byte, keeps_bytes, keep_bytes}
 use Rattle.dbus_value.specs.declared.value.Value.{the_lemmas}
 use Rattle.dbus_value.proofs.Fitting.{keeps-Array, keeps-Struct, unpacked_at, packed_more}
 use Rattle.dbus_value.proofs.uniformity.+packed.Goals as goal

@@ -1,5 +1,5 @@
 use Rattle.std.proofs.Common.{drop, IsTrue}
-use Rattle.dbus_value.specs.Checks.{keep_bytes}
+use Rattle.dbus_value.specs.PackedBytes.{keep_bytes}
 use Rattle.dbus_value.proofs.uniformity.+packed.Given as goal
 
 abbrev pub invariant-have_packed_bytes-loop-value : goal.invariant-have_packed_bytes-loop-value

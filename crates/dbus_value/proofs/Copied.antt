@@ -1,0 +1,38 @@
+-- What a copy of a value has in common with it, level by level.
+use Rattle.std.proofs.Common.{◌≡◌, ℕ, ◌+◌, ◌<◌, Bool, ◌&&◌, not, List, [], ◌∷◌, ◌++◌, length, get_or, take, map, Vec, sym, ap, ◌∙◌}
+use Rattle.std.specs.List.{list_all}
+use Rattle.std.proofs.lemmas.List.{map_push, map_more}
+use Rattle.dbus_types.specs.Types.{TypeTree}
+use Rattle.dbus_types.specs.SigTypes.{type_tree}
+use Rattle.dbus_types.specs.declared.sig_type.SigType.{SigType}
+use Rattle.dbus_value.specs.PackedBytes.{is_byte, keeps_bytes}
+use Rattle.dbus_value.specs.Values.{ValueTree, ArrayValue, StructValue, value_trees}
+use Rattle.dbus_value.specs.ValueViews.{value_tree}
+use Rattle.dbus_value.specs.declared.value.Value.{Value, Array, Struct}
+use Rattle.dbus_value.proofs.Fitting.{keeps-Array, keeps-Struct}
+use Rattle.dbus_value.proofs.ValueRows.{tree-Array, tree-Struct}
+
+same_arrays : (t u : TypeTree) (xs ys : List ValueTree) → t ≡ u → xs ≡ ys → ArrayValue t (value_trees xs) ≡ ArrayValue u (value_trees ys)
+same_arrays t u xs ys e f = cc
+
+same_keeping : (t u : TypeTree) (xs ys : List Bool) → t ≡ u → xs ≡ ys → (not (is_byte t) && list_all (λ b. b) xs) ≡ (not (is_byte u) && list_all (λ b. b) ys)
+same_keeping t u xs ys e f = cc
+
+module _ {A : Type 0} (vs ws : Vec (Value A) A) where
+  pub array_equal : (t u : SigType A) → type_tree t ≡ type_tree u → map value_tree vs.items ≡ map value_tree ws.items → value_tree {A = A} (Array t vs) ≡ value_tree {A = A} (Array u ws)
+  array_equal t u e f = tree-Array t vs ∙ same_arrays _ _ _ _ e f ∙ sym (tree-Array u ws)
+
+  pub array_packed : (t u : SigType A) → type_tree t ≡ type_tree u → map keeps_bytes vs.items ≡ map keeps_bytes ws.items → keeps_bytes {A = A} (Array t vs) ≡ keeps_bytes {A = A} (Array u ws)
+  array_packed t u e f = keeps-Array t vs ∙ same_keeping _ _ _ _ e f ∙ sym (keeps-Array u ws)
+
+  pub struct_equal : map value_tree vs.items ≡ map value_tree ws.items → value_tree {A = A} (Struct vs) ≡ value_tree {A = A} (Struct ws)
+  struct_equal f = tree-Struct vs ∙ ap (λ l. StructValue (value_trees l)) f ∙ sym (tree-Struct ws)
+
+  pub struct_packed : map keeps_bytes vs.items ≡ map keeps_bytes ws.items → keeps_bytes {A = A} (Struct vs) ≡ keeps_bytes {A = A} (Struct ws)
+  struct_packed f = keeps-Struct vs ∙ ap (list_all (λ b. b)) f ∙ sym (keeps-Struct ws)
+
+-- one more is copied
+pub more_copied : {A B : Type 0} (f : A → B) (xs us : List A) (i : ℕ) (x made : A) (all : List A) → i < length xs → all ≡ us ++ made ∷ [] →
+    map f us ≡ map f (take i xs) → f made ≡ f (get_or xs i x) → map f all ≡ map f (take (i + 1) xs)
+more_copied f xs us i x made all l is so_far here =
+    ap (map f) is ∙ map_push f us made ∙ ap (λ ys. ys ++ f made ∷ []) so_far ∙ ap (λ y. map f (take i xs) ++ y ∷ []) here ∙ sym (map_more f xs i x l)
