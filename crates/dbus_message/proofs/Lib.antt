@@ -20,4 +20,8 @@ pub mod WorkedExamples
 pub mod FaultyFields
 pub mod FaultyBody
 pub mod PartSizes
+pub mod Nesting
+pub mod PartRanges
+pub mod JudgedFields
+pub mod PartEnds
 pub mod Built

@@ -7,13 +7,17 @@ use Rattle.dbus_types.specs.declared.text_kind.TextKind.TheVariants as kinds
 use Rattle.dbus_types.specs.Kinds.{IsKind}
 use Rattle.dbus_value.specs.declared.order.Order.TheVariants.{Little}
 use Rattle.dbus_value.specs.declared.fault.Reason.TheVariants as reasons
-use Rattle.dbus_value.specs.WantedTexts.{IsWanted, kind_of}
-use Rattle.dbus_value.specs.Values.{ValueTree, ValueTrees, NoValues, MoreValues, NumberValue, TextValue, VariantValue, ArrayValue, StructValue, EntryValue, IsNumber, type_of, types_of}
+use Rattle.dbus_value.specs.Checks.{IsTyped}
+use Rattle.dbus_value.specs.Forming.{NestsWithin, NestWithin, IsNamed}
+use Rattle.dbus_value.specs.Values.{NumberValue, type_of, types_of}
+use Rattle.dbus_value.specs.ValueViews.{value_tree}
+use Rattle.dbus_value.specs.declared.value.Value.{Value}
 use Rattle.dbus_value.specs.Spelling.{IsWithinLimits, AreWithinLimits}
 use Rattle.dbus_value.specs.Sizes.{message_limit}
 use Rattle.dbus_message.specs.Messages.{FieldTree, MessageTree, field_array, body_start, message_bytes, has_code, is_known, lacks, required, text_in, body_signature}
 use Rattle.dbus_message.specs.PartsViews.{parts_tree}
 use Rattle.dbus_message.specs.MessageViews.{message_tree}
+use Rattle.dbus_message.specs.declared.header_field.HeaderField.{HeaderField}
 use Rattle.dbus_message.specs.declared.parts.Parts.{Parts}
 use Rattle.dbus_message.specs.declared.message.Message.{Message}
 use Rattle.dbus_message.specs.declared.build_fault.BuildFault.{BuildFault}
@@ -58,24 +62,32 @@ IsOf None t = Unit {0}
 IsOf (Some kind) t = IsKind kind t
 
 -- the text of a known field is of its kind
-abbrev pub IsNamed : FieldTree → Type 0
-IsNamed f = IsOf (own_kind f.code) (text_in f.value)
+abbrev pub HasOwnKind : FieldTree → Type 0
+HasOwnKind f = IsOf (own_kind f.code) (text_in f.value)
 
--- ---- the body
+-- ---- values
 
--- a number in its range, or a text of its kind, whatever its length; what holds other values is not judged here
-abbrev pub IsSound : ValueTree → Type 0
-IsSound (NumberValue k n) = IsNumber k n
-IsSound (TextValue k t) = IsWanted (kind_of k) t
-IsSound (VariantValue x) = Unit {0}
-IsSound (ArrayValue t xs) = Unit {0}
-IsSound (StructValue xs) = Unit {0}
-IsSound (EntryValue k v) = Unit {0}
+-- no more than 64 arrays, structs and variants are open at once, those of the header among them
+abbrev pub IsShallow : MessageTree → Type 0
+IsShallow m = NestsWithin 64 (field_array m.fields) × NestWithin 64 m.body
+
+-- its types fit together and its texts are of their kinds
+abbrev pub IsSound : {A : Type 0} → Value A → Type 0
+IsSound v = IsTyped v × IsNamed (value_tree v)
+
+-- an unknown field's value is sound
+abbrev pub HoldsSound : {A : Type 0} → HeaderField A → Type 0
+HoldsSound f = is_known f.code ≡ false → IsSound f.value
+
+-- r is the code of the first unknown field whose value is not sound, or nothing where all are
+abbrev pub IsFirstUnsoundField : {A : Type 0} → List (HeaderField A) → Option ℕ → Type 0
+IsFirstUnsoundField [] r = r ≡ None
+IsFirstUnsoundField (f ∷ fs) r = ((HoldsSound f → ⊥) × (r ≡ Some f.code)) ⊎ (HoldsSound f × IsFirstUnsoundField fs r)
 
 -- r is the number of the first value that is not sound, or nothing where all are; n is the number of the first value
-abbrev pub IsFirstUnsound : ℕ → ValueTrees → Option ℕ → Type 0
-IsFirstUnsound n NoValues r = r ≡ None
-IsFirstUnsound n (MoreValues x xs) r = ((IsSound x → ⊥) × (r ≡ Some n)) ⊎ (IsSound x × IsFirstUnsound (n + 1) xs r)
+abbrev pub IsFirstUnsound : {A : Type 0} → ℕ → List (Value A) → Option ℕ → Type 0
+IsFirstUnsound n [] r = r ≡ None
+IsFirstUnsound n (v ∷ vs) r = ((IsSound v → ⊥) × (r ≡ Some n)) ⊎ (IsSound v × IsFirstUnsound (n + 1) vs r)
 
 -- ---- none of the cases holds, from the first up to one
 
@@ -97,63 +109,65 @@ TypesPass m = NoneIsTwice m × IsFirstWithout HasOwnType m.fields None
 abbrev pub NoneIsMissing : MessageTree → Type 0
 NoneIsMissing m = TypesPass m × (lacks (required m.kind) m.fields ≡ None)
 
+abbrev pub DepthPasses : MessageTree → Type 0
+DepthPasses m = NoneIsMissing m × IsShallow m
+
 abbrev pub NamesPass : MessageTree → Type 0
-NamesPass m = NoneIsMissing m × IsFirstWithout IsNamed m.fields None
+NamesPass m = DepthPasses m × IsFirstWithout HasOwnKind m.fields None
 
-abbrev pub ValuesPass : MessageTree → Type 0
-ValuesPass m = NamesPass m × IsFirstUnsound 0 m.body None
+-- That an array of bytes is not an `Array` is no matter of trees, so that from here on the parts are spoken of.
+abbrev pub FieldValuesPass : {A : Type 0} → Parts A → Type 0
+FieldValuesPass p = NamesPass (parts_tree p) × IsFirstUnsoundField p.fields.items None
 
-abbrev pub SignaturePasses : MessageTree → Type 0
-SignaturePasses m = ValuesPass m × (sigs (types_of m.body) ≡ body_signature m.fields)
+abbrev pub ValuesPass : {A : Type 0} → Parts A → Type 0
+ValuesPass p = FieldValuesPass p × IsFirstUnsound 0 p.body.items None
+
+abbrev pub HasOwnSignature : MessageTree → Type 0
+HasOwnSignature m = sigs (types_of m.body) ≡ body_signature m.fields
+
+abbrev pub SignaturePasses : {A : Type 0} → Parts A → Type 0
+SignaturePasses p = ValuesPass p × HasOwnSignature (parts_tree p)
 
 -- Both orders spell arrays and messages in as many bytes.
 abbrev pub KeepsArrays : MessageTree → Type 0
 KeepsArrays m = IsWithinLimits Little 12 (field_array m.fields) × AreWithinLimits Little (body_start Little m.fields) m.body
 
-abbrev pub ArraysPass : MessageTree → Type 0
-ArraysPass m = SignaturePasses m × KeepsArrays m
+abbrev pub ArraysPass : {A : Type 0} → Parts A → Type 0
+ArraysPass p = SignaturePasses p × KeepsArrays (parts_tree p)
+
+abbrev pub IsLong : MessageTree → Type 0
+IsLong m = message_limit < length (message_bytes Little m)
 
 -- no case holds
-abbrev pub NoFault : MessageTree → Type 0
-NoFault m = ArraysPass m × (message_limit < length (message_bytes Little m) → ⊥)
+abbrev pub NoFault : {A : Type 0} → Parts A → Type 0
+NoFault p = ArraysPass p × (IsLong (parts_tree p) → ⊥)
 
--- The case holds, and none before it does. No container stands in a body of numbers and texts, nor in a known field, so
--- that none is too deep there, and with no unknown field none has a value that is not well formed.
-abbrev pub IsFirstFault : MessageTree → BuildFault → Type 0
-IsFirstFault m faults.Memory = ⊥
-IsFirstFault m faults.Kind = m.kind ≡ 0
-IsFirstFault m faults.ZeroSerial = KindPasses m × ((m.serial ≡ 0) ⊎ ((c : ℕ) × IsFirstWithout IsNonzero m.fields (Some c)))
-IsFirstFault m faults.FieldCode = SerialsPass m × (has_code 0 m.fields ≡ true)
-IsFirstFault m (faults.FieldTwice c) = CodesPass m × (twice [] m.fields ≡ Some c)
-IsFirstFault m (faults.FieldType c) = NoneIsTwice m × IsFirstWithout HasOwnType m.fields (Some c)
-IsFirstFault m (faults.FieldMissing c) = TypesPass m × (lacks (required m.kind) m.fields ≡ Some (reasons.FieldMissing c))
-IsFirstFault m faults.TooDeep = ⊥
-IsFirstFault m (faults.Name c) = NoneIsMissing m × IsFirstWithout IsNamed m.fields (Some c)
-IsFirstFault m (faults.FieldValue c) = ⊥
-IsFirstFault m (faults.Value n) = NamesPass m × IsFirstUnsound 0 m.body (Some n)
-IsFirstFault m faults.SignatureDiffers = ValuesPass m × (sigs (types_of m.body) ≡ body_signature m.fields → ⊥)
-IsFirstFault m faults.ArrayTooLong = SignaturePasses m × (KeepsArrays m → ⊥)
-IsFirstFault m faults.MessageTooLong = ArraysPass m × (message_limit < length (message_bytes Little m))
+-- The case holds, and none before it does. Memory is answered only where a growth was refused, which says nothing of the
+-- parts.
+abbrev pub IsFirstFault : {A : Type 0} → Parts A → BuildFault → Type 0
+IsFirstFault p faults.Memory = Unit {0}
+IsFirstFault p faults.Kind = p.kind ≡ 0
+IsFirstFault p faults.ZeroSerial = let m = parts_tree p in KindPasses m × ((m.serial ≡ 0) ⊎ ((c : ℕ) × IsFirstWithout IsNonzero m.fields (Some c)))
+IsFirstFault p faults.FieldCode = let m = parts_tree p in SerialsPass m × (has_code 0 m.fields ≡ true)
+IsFirstFault p (faults.FieldTwice c) = let m = parts_tree p in CodesPass m × (twice [] m.fields ≡ Some c)
+IsFirstFault p (faults.FieldType c) = let m = parts_tree p in NoneIsTwice m × IsFirstWithout HasOwnType m.fields (Some c)
+IsFirstFault p (faults.FieldMissing c) = let m = parts_tree p in TypesPass m × (lacks (required m.kind) m.fields ≡ Some (reasons.FieldMissing c))
+IsFirstFault p faults.TooDeep = let m = parts_tree p in NoneIsMissing m × (IsShallow m → ⊥)
+IsFirstFault p (faults.Name c) = let m = parts_tree p in DepthPasses m × IsFirstWithout HasOwnKind m.fields (Some c)
+IsFirstFault p (faults.FieldValue c) = NamesPass (parts_tree p) × IsFirstUnsoundField p.fields.items (Some c)
+IsFirstFault p (faults.Value n) = FieldValuesPass p × IsFirstUnsound 0 p.body.items (Some n)
+IsFirstFault p faults.SignatureDiffers = ValuesPass p × (HasOwnSignature (parts_tree p) → ⊥)
+IsFirstFault p faults.ArrayTooLong = SignaturePasses p × (KeepsArrays (parts_tree p) → ⊥)
+IsFirstFault p faults.MessageTooLong = ArraysPass p × IsLong (parts_tree p)
 
 -- ---- what is built
 
--- each field is a REPLY_SERIAL, a SIGNATURE or of code 0
-abbrev pub ArePlainFields : List FieldTree → Type 0
-ArePlainFields [] = Unit {0}
-ArePlainFields (f ∷ fs) = ((f.code ≡ 0) ⊎ ((f.code ≡ 5) ⊎ (f.code ≡ 8))) × ArePlainFields fs
-
--- an UINT32 or a STRING
-abbrev pub IsPlainValue : ValueTree → Type 0
-IsPlainValue x = (type_of x ≡ NumberType UINT32) ⊎ (type_of x ≡ TextType STRING)
-
-abbrev pub ArePlainValues : ValueTrees → Type 0
-ArePlainValues NoValues = Unit {0}
-ArePlainValues (MoreValues x xs) = IsPlainValue x × ArePlainValues xs
-
-abbrev pub ArePlain : MessageTree → Type 0
-ArePlain m = ArePlainFields m.fields × ArePlainValues m.body
-
 -- a message of these parts where no case holds, else the parts and the first case that does
-abbrev pub IsBuilt : {A : Type 0} → MessageTree → Result (Message A) (Parts A × BuildFault) → Type 0
-IsBuilt m (Ok message) = (message_tree message ≡ m) × NoFault m
-IsBuilt m (Err refused) = (parts_tree refused.0 ≡ m) × IsFirstFault m refused.1
+abbrev pub IsBuilt : {A : Type 0} → Parts A → Result (Message A) (Parts A × BuildFault) → Type 0
+IsBuilt p (Ok message) = (message_tree message ≡ parts_tree p) × NoFault p
+IsBuilt p (Err refused) = (refused.0 ≡ p) × IsFirstFault p refused.1
+
+-- where no case holds, nothing is refused but for want of memory
+abbrev pub IsAccepted : {A : Type 0} → Parts A → Result (Message A) (Parts A × BuildFault) → Type 0
+IsAccepted p (Ok message) = Unit {0}
+IsAccepted p (Err refused) = NoFault p → refused.1 ≡ faults.Memory

@@ -1,47 +1,35 @@
--- Where the parts of a message end, for fields and values that are numbers and texts.
--- D-Bus Specification, "Marshaling (Wire Format)" and "Message Protocol" for the limit.
-use Rattle.std.specs.Prelude.{◌≡◌, ℕ, ◌^◌, ◌<◌, ◌≤◌, List, [], ◌∷◌, Option, Some, None}
-use Rattle.dbus_types.specs.Types.{BYTE, BOOLEAN, INT16, UINT16, INT32, UINT32, INT64, UINT64, DOUBLE, UNIX_FD, IsBasic}
-use Rattle.dbus_value.specs.Sizes.{message_limit}
-use Rattle.dbus_value.specs.ShortSignatures.{HasShortSignatures}
-use Rattle.dbus_value.specs.Values.{ValueTree, NumberValue, TextValue, VariantValue, ArrayValue, StructValue, EntryValue, type_of}
-use Rattle.dbus_message.specs.Messages.{FieldTree, MessageTree}
+-- Where the fields of a header end, and the numbers that parts hold.
+-- D-Bus Specification, "Marshaling (Wire Format)" and "Message Format".
+use Rattle.std.specs.Prelude.{◌≡◌, ℕ, ◌+◌, ◌^◌, ◌<◌, ◌≤◌, List, [], ◌∷◌, length, map, Option, Some, None}
+use Rattle.dbus_value.specs.declared.order.Order.TheVariants.{Little}
+use Rattle.dbus_value.specs.Ranges.{HoldsNumbers, HoldNumbers}
+use Rattle.dbus_value.specs.Spelling.{spelling, spellings, array_limit, IsWithinLimits, AreWithinLimits}
+use Rattle.dbus_value.specs.Values.{value_trees}
+use Rattle.dbus_message.specs.Messages.{FieldTree, MessageTree, field_struct}
 
--- an end, or nothing where it is past the message's limit
-abbrev pub IsEnd : ℕ → Option ℕ → Type 0
-IsEnd n None = message_limit < n
-IsEnd n (Some e) = (e ≡ n) × (e ≤ message_limit)
+-- The end n, where what stands before it keeps the limits on arrays and it is not past the end of the longest field array;
+-- else nothing. Both orders spell fields in as many bytes.
+abbrev pub IsEnd : Type 0 → ℕ → Option ℕ → Type 0
+IsEnd kept n None = kept → 16 + array_limit < n
+IsEnd kept n (Some e) = kept × (e ≡ n) × (n ≤ 16 + array_limit)
 
--- a field whose value is a number or a text, with a short signature
-abbrev pub IsShortField : FieldTree → Type 0
-IsShortField f = (f.code < 256) × IsBasic (type_of f.value) × HasShortSignatures f.value
+abbrev pub IsFieldEnd : FieldTree → ℕ → Option ℕ → Type 0
+IsFieldEnd f at end = IsEnd (IsWithinLimits Little at (field_struct f)) (at + length (spelling Little at (field_struct f))) end
 
-abbrev pub AreShortFields : List FieldTree → Type 0
-AreShortFields [] = Unit {0}
-AreShortFields (f ∷ fs) = IsShortField f × AreShortFields fs
+abbrev pub AreFieldEnds : List FieldTree → ℕ → Option ℕ → Type 0
+AreFieldEnds fs at end =
+    let structs = value_trees (map field_struct fs) in
+    IsEnd (AreWithinLimits Little at structs) (at + length (spellings Little at structs)) end
 
--- an UINT32 is in its range
-abbrev pub IsInRange : ValueTree → Type 0
-IsInRange (NumberValue BYTE n) = Unit {0}
-IsInRange (NumberValue BOOLEAN n) = Unit {0}
-IsInRange (NumberValue INT16 n) = Unit {0}
-IsInRange (NumberValue UINT16 n) = Unit {0}
-IsInRange (NumberValue INT32 n) = Unit {0}
-IsInRange (NumberValue UINT32 n) = n < 256 ^ 4
-IsInRange (NumberValue INT64 n) = Unit {0}
-IsInRange (NumberValue UINT64 n) = Unit {0}
-IsInRange (NumberValue DOUBLE n) = Unit {0}
-IsInRange (NumberValue UNIX_FD n) = Unit {0}
-IsInRange (TextValue k t) = Unit {0}
-IsInRange (VariantValue x) = Unit {0}
-IsInRange (ArrayValue t xs) = Unit {0}
-IsInRange (StructValue xs) = Unit {0}
-IsInRange (EntryValue k v) = Unit {0}
+-- a code is one byte, and a field's value holds numbers of their types
+abbrev pub HoldFieldNumbers : List FieldTree → Type 0
+HoldFieldNumbers [] = Unit {0}
+HoldFieldNumbers (f ∷ fs) = ((f.code < 256) × HoldsNumbers f.value) × HoldFieldNumbers fs
 
-abbrev pub AreInRange : List FieldTree → Type 0
-AreInRange [] = Unit {0}
-AreInRange (f ∷ fs) = IsInRange f.value × AreInRange fs
-
--- the numbers of the header's fixed part fit into theirs
-abbrev pub FitTheirWidths : MessageTree → Type 0
-FitTheirWidths m = (m.kind < 256) × (m.flags < 256) × (m.serial < 256 ^ 4)
+-- every number is in the range of its type, as no parts break
+pub record HoldTheirNumbers (m : MessageTree) : Type 0 where
+  pub kind : m.kind < 256
+  pub flags : m.flags < 256
+  pub serial : m.serial < 256 ^ 4
+  pub fields : HoldFieldNumbers m.fields
+  pub body : HoldNumbers m.body

@@ -1,6 +1,11 @@
 //! Why parts make no message.
 #![tactic(auto)]
 
+ghost use Rattle.std.specs.Prelude.{◌≡◌};
+ghost use Rattle.dbus_message.specs.declared.build_fault.BuildFault.TheVariants.{Memory};
+
+use std::alloc::AllocError;
+
 /// Why parts make no message: the first case of this list, in its order, that holds. `Memory` stands outside the order
 /// and comes only where a growth was refused.
 ///
@@ -35,4 +40,12 @@ pub enum BuildFault {
     ArrayTooLong,
     /// The message is over 134,217,728 bytes.
     MessageTooLong,
+}
+
+impl From<AllocError> for BuildFault {
+    ghost from_gives = { λ e f. f ≡ Memory };
+
+    fn from(_error: AllocError) -> BuildFault {
+        BuildFault::Memory
+    }
 }

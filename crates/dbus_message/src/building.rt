@@ -1,29 +1,32 @@
 //! Making a message of its parts.
 #![tactic(auto)]
 
-ghost use Rattle.std.specs.Prelude.{◌≡◌, ◌<◌, ◌^◌, ◌↔◌, length, IsOk, MatchResult};
+ghost use Rattle.std.specs.Prelude.{◌≡◌, length, MatchResult};
 ghost use Rattle.dbus_value.specs.declared.order.Order.TheVariants.{Little};
-ghost use Rattle.dbus_message.specs.BuildFaults.{ArePlain, IsBuilt, IsFirstFault, NoFault, NoneIsMissing, SignaturePasses};
+ghost use Rattle.dbus_message.specs.BuildFaults.{IsAccepted, IsBuilt, IsFirstFault, NoFault, NoneIsMissing, SignaturePasses};
 ghost use Rattle.dbus_message.specs.Messages.{message_bytes};
-ghost use Rattle.dbus_message.specs.MessageSizes.{AreInRange, FitTheirWidths};
 ghost use Rattle.dbus_message.specs.PartsViews.{parts_tree};
 ghost use Rattle.dbus_message.specs.ValidMessages.{IsValidMessage};
 
 use crate::build_fault::BuildFault;
+use crate::depth::is_shallow;
 use crate::faulty_body::{first_unsound, has_types};
-use crate::faulty_fields::{first_misnamed, first_mistyped, first_twice, first_zero_reply};
+use crate::faulty_fields::{
+    first_misnamed, first_mistyped, first_twice, first_unsound_field, first_zero_reply,
+};
 use crate::known_fields::{body_signature, has_field, missing_field};
 use crate::message::Message;
-use crate::message_size::{fields_end, gap, values_end};
+use crate::message_size::{fields_end, gap, read_parts};
 use crate::parts::Parts;
+use dbus_value::measure_all;
 use std::alloc::Allocator;
 
-/// The bytes of the longest array. D-Bus Specification, "Container types".
-const ARRAY_LIMIT: u64 = 1 << 26;
+/// The bytes of the longest message. D-Bus Specification, "Message Protocol".
+const MESSAGE_LIMIT: u64 = 1 << 27;
 
 /// Judges the type, the serial, and which fields there are.
 fn check_header<A: Allocator>(parts: &Parts<A>) -> Result<(), BuildFault>
-    ensures { MatchResult result (λ _. NoneIsMissing (parts_tree parts.now)) (λ f. IsFirstFault (parts_tree parts.now) f) }
+    ensures { MatchResult result (λ _. NoneIsMissing (parts_tree parts.now)) (λ f. IsFirstFault parts.now f) }
 {
     if parts.kind == 0 {
         return Err(BuildFault::Kind);
@@ -53,21 +56,27 @@ fn check_header<A: Allocator>(parts: &Parts<A>) -> Result<(), BuildFault>
     Ok(())
 }
 
-/// Judges the texts of the fields, and the body.
-fn check_contents<A: Allocator>(parts: &Parts<A>) -> Result<(), BuildFault>
+/// Judges how deep the values nest, the texts of the fields, the values, and their types.
+fn check_contents<A: Allocator + Copy>(alloc: A, parts: &Parts<A>) -> Result<(), BuildFault>
     requires header { NoneIsMissing (parts_tree parts.now) }
-    requires plain { ArePlain (parts_tree parts.now) }
-    ensures { MatchResult result (λ _. SignaturePasses (parts_tree parts.now) × AreInRange (parts_tree parts.now).fields) (λ f. IsFirstFault (parts_tree parts.now) f) }
+    ensures { MatchResult result (λ _. SignaturePasses parts.now) (λ f. IsFirstFault parts.now f) }
 {
+    if !is_shallow(parts) {
+        return Err(BuildFault::TooDeep);
+    }
     match first_misnamed(&parts.fields) {
         Some(code) => return Err(BuildFault::Name(code)),
         None => {}
     }
-    match first_unsound(&parts.body) {
+    match first_unsound_field(alloc, &parts.fields)? {
+        Some(code) => return Err(BuildFault::FieldValue(code)),
+        None => {}
+    }
+    match first_unsound(alloc, &parts.body)? {
         Some(n) => return Err(BuildFault::Value(n)),
         None => {}
     }
-    if !has_types(&parts.body, body_signature(&parts.fields)) {
+    if !has_types(alloc, &parts.body, body_signature(&parts.fields))? {
         return Err(BuildFault::SignatureDiffers);
     }
     Ok(())
@@ -75,43 +84,39 @@ fn check_contents<A: Allocator>(parts: &Parts<A>) -> Result<(), BuildFault>
 
 /// How many bytes the parts are spelled by, within the limits.
 fn measure<A: Allocator>(parts: &Parts<A>) -> Result<usize, BuildFault>
-    requires passed { SignaturePasses (parts_tree parts.now) }
-    requires plain { ArePlain (parts_tree parts.now) }
-    requires ranges { AreInRange (parts_tree parts.now).fields }
-    requires fits { FitTheirWidths (parts_tree parts.now) }
-    ensures { MatchResult result (λ n. IsValidMessage (parts_tree parts.now) × (n ≡ length (message_bytes Little (parts_tree parts.now))) × NoFault (parts_tree parts.now)) (λ f. IsFirstFault (parts_tree parts.now) f) }
+    requires passed { SignaturePasses parts.now }
+    ensures { MatchResult result (λ n. IsValidMessage (parts_tree parts.now) × (n ≡ length (message_bytes Little (parts_tree parts.now))) × NoFault parts.now) (λ f. IsFirstFault parts.now f) }
 {
+    read_parts(parts);
     let fields = match fields_end(&parts.fields) {
         Some(end) => end,
         None => return Err(BuildFault::ArrayTooLong),
     };
-    if fields > 16 + ARRAY_LIMIT {
-        return Err(BuildFault::ArrayTooLong);
-    }
-    match values_end(&parts.body, fields + gap(fields)) {
-        Some(end) => Ok(end as usize),
-        None => Err(BuildFault::MessageTooLong),
+    match measure_all(&parts.body, fields + gap(fields)) {
+        None => Err(BuildFault::ArrayTooLong),
+        Some(end) => {
+            if end > MESSAGE_LIMIT {
+                return Err(BuildFault::MessageTooLong);
+            }
+            Ok(end as usize)
+        }
     }
 }
 
-impl<A: Allocator> Message<A> {
-    /// The message of these parts, which is `Ok` exactly where no case of [`BuildFault`] holds.
+impl<A: Allocator + Copy> Message<A> {
+    /// The message of these parts, which is `Ok` exactly where no case of [`BuildFault`] holds of them and memory was
+    /// there.
     ///
-    /// Only some parts are taken as yet, and the caller sees to it: each field is a REPLY_SERIAL, a SIGNATURE or of code 0,
-    /// and each value of the body is a `U32` or a `Str`. The message type may be any.
-    ///
-    /// The error hands the parts back, with the first case that holds of them. It is never `Memory`, since none is taken,
-    /// nor `TooDeep` or `FieldValue`, since no such parts are taken.
+    /// The error hands the parts back, with the first case that holds of them, or `Memory` where a growth was refused.
     /// D-Bus Specification, "Message Format", "Header Fields".
-    pub fn new(parts: Parts<A>) -> Result<Message<A>, (Parts<A>, BuildFault)>
-        requires plain { ArePlain (parts_tree parts) }
-        ensures built { IsBuilt (parts_tree parts) result }
-        ensures accepted { IsOk result ↔ NoFault (parts_tree parts) }
+    pub fn new(alloc: A, parts: Parts<A>) -> Result<Message<A>, (Parts<A>, BuildFault)>
+        ensures built { IsBuilt parts result }
+        ensures accepted { IsAccepted parts result }
     {
         if let Err(fault) = check_header(&parts) {
             return Err((parts, fault));
         }
-        if let Err(fault) = check_contents(&parts) {
+        if let Err(fault) = check_contents(alloc, &parts) {
             return Err((parts, fault));
         }
         match measure(&parts) {

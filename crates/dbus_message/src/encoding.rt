@@ -1,7 +1,7 @@
 //! Encoding a message.
 #![tactic(auto, using(crate::proofs::FieldWriting::lengths))]
 
-ghost use Rattle.std.specs.Prelude.{◌≡◌, ◌<◌, ◌≤◌, ◌^◌, ◌+◌, [], length, vec_capacity, map, IfOk};
+ghost use Rattle.std.specs.Prelude.{◌≡◌, ◌<◌, ◌≤◌, ◌^◌, ◌+◌, [], length, vec_capacity, map, IfOk, OnOk, OnErr};
 ghost use Rattle.dbus_value.specs.Appending.{with_value, with_values};
 ghost use Rattle.dbus_value.specs.ShortSignatures.{HasShortSignatures, HaveShortSignatures};
 ghost use Rattle.dbus_value.specs.Values.{value_trees};
@@ -78,6 +78,25 @@ fn write_body<A: Allocator>(out: &mut Vec<u8, A>, order: Order, values: &[Value<
     }
 }
 
+/// Appends a whole message where nothing stands yet.
+fn write_whole<A: Allocator>(out: &mut Vec<u8, A>, message: &Message<A>, order: Order)
+    requires empty { out.old.items ≡ [] }
+    requires space { length (message_bytes order (message_tree message.now)) ≤ vec_capacity out.old }
+    requires within { length (message_bytes order (message_tree message.now)) ≤ 134_217_728 }
+    ensures { out.new.items ≡ message_bytes order (message_tree message.now) }
+{
+    let parts = message.parts();
+    write_fixed(out, order, parts.kind, parts.flags, parts.serial);
+    write_fields(out, order, &parts.fields);
+    let fields = (out.len() - 16) as u32;
+    overwrite_32(out, 12, order, fields);
+    write_padding(out, 8);
+    let start = out.len();
+    write_body(out, order, &parts.body);
+    let body = (out.len() - start) as u32;
+    overwrite_32(out, 4, order, body);
+}
+
 /// Encodes a message in a byte order. D-Bus Specification, "Message Format".
 ///
 /// Memory is taken once, for the whole message; the error is that it was refused.
@@ -88,16 +107,28 @@ pub fn encode<A: Allocator + Copy>(
 ) -> Result<Vec<u8, A>, AllocError>
     ensures { IfOk result (λ bytes. bytes.items ≡ message_bytes order (message_tree message.now)) }
 {
-    let parts = message.parts();
     let mut out = Vec::with_capacity(alloc, message.size())?;
-    write_fixed(&mut out, order, parts.kind, parts.flags, parts.serial);
-    write_fields(&mut out, order, &parts.fields);
-    let fields = (out.len() - 16) as u32;
-    overwrite_32(&mut out, 12, order, fields);
-    write_padding(&mut out, 8);
-    let start = out.len();
-    write_body(&mut out, order, &parts.body);
-    let body = (out.len() - start) as u32;
-    overwrite_32(&mut out, 4, order, body);
+    write_whole(&mut out, message, order);
     Ok(out)
+}
+
+/// Encodes a message as [`encode`] does, into a vector in place of what that holds.
+///
+/// Memory is taken where the vector has too little, and at most once; the error is that it was refused, and then the
+/// vector holds what it held.
+pub fn encode_into<A: Allocator>(
+    out: &mut Vec<u8, A>,
+    message: &Message<A>,
+    order: Order,
+) -> Result<(), AllocError>
+    ensures written { OnOk result (out.new.items ≡ message_bytes order (message_tree message.now)) }
+    ensures unchanged { OnErr result (out.new.items ≡ out.old.items) }
+{
+    let size = message.size();
+    if out.capacity() < size {
+        out.reserve(size - out.len())?;
+    }
+    out.clear();
+    write_whole(out, message, order);
+    Ok(())
 }

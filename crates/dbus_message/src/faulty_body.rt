@@ -1,72 +1,57 @@
 //! The first value of a body that is at fault, and the body's types.
 #![tactic(auto)]
 
-ghost use Rattle.std.specs.Prelude.{◌≡◌, ◌↔◌, [], ◌∷◌, IsTrue};
-ghost use Rattle.dbus_types.specs.Types.{sig, sigs};
-ghost use Rattle.dbus_value.specs.Values.{type_of, types_of};
-ghost use Rattle.dbus_value.specs.ValueViews.{value_tree, value_trees_of};
-ghost use Rattle.dbus_message.specs.BuildFaults.{IsPlainValue, ArePlainValues, IsSound, IsFirstUnsound};
+ghost use Rattle.std.specs.Prelude.{◌≡◌, ◌↔◌, None, IsTrue, IfOk};
+ghost use Rattle.dbus_types.specs.Types.{sigs};
+ghost use Rattle.dbus_value.specs.Values.{types_of};
+ghost use Rattle.dbus_value.specs.ValueViews.{value_trees_of};
+ghost use Rattle.dbus_message.specs.BuildFaults.{IsSound, IsFirstUnsound};
 
-use dbus_types::{TextKind, text_break};
-use dbus_value::Value;
-use std::alloc::Allocator;
+use dbus_value::{Value, is_named, is_typed, signature_length, write_type_of};
+use std::alloc::{AllocError, Allocator};
 
-/// Whether a number or a text is sound, whatever its length.
-fn is_sound<A: Allocator>(value: &Value<A>) -> bool
-    requires plain { IsPlainValue (value_tree value.now) }
-    ensures { IsTrue result ↔ IsSound (value_tree value.now) }
+/// Whether a value's types fit together and its texts are of their kinds, however deep it nests.
+pub fn is_sound<A: Allocator + Copy>(alloc: A, value: &Value<A>) -> Result<bool, AllocError>
+    ensures { IfOk result (λ answer. IsTrue answer ↔ IsSound value.now) }
 {
-    match value {
-        Value::Str(text) => text_break(TextKind::Text, text.as_bytes()).is_none(),
-        Value::U32(number) => {
-            let _number = *number;
-            true
-        }
-        // No other value comes here.
-        Value::Byte(_) | Value::Bool(_) | Value::I16(_) | Value::U16(_) | Value::I32(_) => false,
-        Value::I64(_) | Value::U64(_) | Value::Double(_) | Value::Fd(_) => false,
-        Value::Path(_) | Value::Sig(_) | Value::Bytes(_) | Value::Array(..) => false,
-        Value::Struct(_) | Value::Entry(..) | Value::Variant(_) => false,
+    if !is_typed(alloc, value)? {
+        return Ok(false);
     }
+    Ok(is_named(value))
 }
 
-/// The number of the first value that is not sound.
-pub fn first_unsound<A: Allocator>(values: &[Value<A>]) -> Option<usize>
-    requires plain { ArePlainValues (value_trees_of values.now) }
-    ensures { IsFirstUnsound 0 (value_trees_of values.now) result }
+/// The number of the first value that is not sound. The error is that a growth of memory was refused.
+pub fn first_unsound<A: Allocator + Copy>(
+    alloc: A,
+    values: &[Value<A>],
+) -> Result<Option<usize>, AllocError>
+    ensures { IfOk result (λ number. IsFirstUnsound 0 values.now number) }
 {
     for (i, value) in values.iter().enumerate() {
-        if !is_sound(value) {
-            return Some(i);
+        if !is_sound(alloc, value)? {
+            return Ok(Some(i));
         }
     }
-    None
+    Ok(None)
 }
 
-/// The letter that is the type of a number or a text.
-fn type_letter<A: Allocator>(value: &Value<A>) -> u8
-    requires plain { IsPlainValue (value_tree value.now) }
-    ensures { sig (type_of (value_tree value.now)) ≡ result ∷ [] }
+/// Whether the values, each of them sound, are of the types that the signature spells.
+///
+/// Memory is taken once, for as many bytes as the signature has; the error is that it was refused.
+pub fn has_types<A: Allocator + Copy>(
+    alloc: A,
+    values: &[Value<A>],
+    signature: &[u8],
+) -> Result<bool, AllocError>
+    requires sound { IsFirstUnsound 0 values.now None }
+    ensures { IfOk result (λ answer. IsTrue answer ↔ (sigs (types_of (value_trees_of values.now)) ≡ signature.now)) }
 {
-    if matches!(value, Value::U32(_)) {
-        b'u'
-    } else {
-        b's'
-    }
-}
-
-/// Whether the values are of the types that the signature spells.
-pub fn has_types<A: Allocator>(values: &[Value<A>], signature: &[u8]) -> bool
-    requires plain { ArePlainValues (value_trees_of values.now) }
-    ensures { IsTrue result ↔ (sigs (types_of (value_trees_of values.now)) ≡ signature.now) }
-{
-    if values.len() != signature.len() {
-        return false;
-    }
-    for (i, value) in values.iter().enumerate() {
-        if type_letter(value) != signature[i] {
-            return false;
+    let mut spelled = Vec::with_capacity(alloc, signature.len())?;
+    for value in values {
+        if signature.len() - spelled.len() < signature_length(value) {
+            return Ok(false);
         }
+        write_type_of(&mut spelled, value);
     }
-    true
+    Ok(spelled.as_slice() == signature)
 }

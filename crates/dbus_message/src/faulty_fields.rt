@@ -1,18 +1,17 @@
 //! The first field of a header that is at fault.
 #![tactic(auto)]
 
-ghost use Rattle.std.specs.Prelude.{◌≡◌, ◌↔◌, ◌&&◌, [], IsTrue, MatchOption};
-ghost use Rattle.dbus_value.specs.ValueViews.{value_tree};
-ghost use Rattle.dbus_message.specs.BuildFaults.{IsFirstWithout, IsNonzero, HasOwnType, IsNamed, own_kind, twice};
-ghost use Rattle.dbus_message.specs.MessageSizes.{IsInRange, AreInRange};
+ghost use Rattle.std.specs.Prelude.{◌≡◌, ◌↔◌, ◌&&◌, [], IsTrue, IfOk};
+ghost use Rattle.dbus_message.specs.BuildFaults.{IsFirstWithout, IsFirstUnsoundField, IsNonzero, HasOwnType, HasOwnKind, HoldsSound, own_kind, twice};
 ghost use Rattle.dbus_message.specs.Messages.{has_code, is_known, text_in};
 ghost use Rattle.dbus_message.specs.PartsViews.{field_tree, field_trees};
 
+use crate::faulty_body::is_sound;
 use crate::header_field::HeaderField;
 use crate::known_fields::{has_field, text_in};
 use dbus_types::{TextKind, text_break};
 use dbus_value::Value;
-use std::alloc::Allocator;
+use std::alloc::{AllocError, Allocator};
 
 /// Whether a field is no REPLY_SERIAL of 0.
 fn is_nonzero<A: Allocator>(field: &HeaderField<A>) -> bool
@@ -50,8 +49,8 @@ fn own_kind(code: u8) -> Option<TextKind>
 }
 
 /// Whether the text of a field is of its kind, where it is known.
-fn is_named<A: Allocator>(field: &HeaderField<A>) -> bool
-    ensures { IsTrue result ↔ IsNamed (field_tree field.now) }
+fn has_own_kind<A: Allocator>(field: &HeaderField<A>) -> bool
+    ensures { IsTrue result ↔ HasOwnKind (field_tree field.now) }
 {
     match own_kind(field.code) {
         None => true,
@@ -105,30 +104,39 @@ pub fn first_mistyped<A: Allocator>(fields: &[HeaderField<A>]) -> Option<u8>
     None
 }
 
-/// The number that a value is, or 0.
-fn number_in<A: Allocator>(value: &Value<A>) -> u32
-    ensures { IsInRange (value_tree value.now) }
-{
-    match value {
-        Value::U32(number) => *number,
-        Value::Byte(_) | Value::Bool(_) | Value::I16(_) | Value::U16(_) | Value::I32(_) => 0,
-        Value::I64(_) | Value::U64(_) | Value::Double(_) | Value::Fd(_) => 0,
-        Value::Str(_) | Value::Path(_) | Value::Sig(_) | Value::Bytes(_) | Value::Array(..) => 0,
-        Value::Struct(_) | Value::Entry(..) | Value::Variant(_) => 0,
-    }
-}
-
 /// The code of the first known field whose text is not of its kind.
 pub fn first_misnamed<A: Allocator>(fields: &[HeaderField<A>]) -> Option<u8>
-    ensures first { IsFirstWithout IsNamed (field_trees fields.now) result }
-    ensures ranges { MatchOption result (AreInRange (field_trees fields.now)) (λ _. Unit {0}) }
+    ensures { IsFirstWithout HasOwnKind (field_trees fields.now) result }
 {
     for field in fields {
-        // What is read is in its range, which the well-formedness of the field asks.
-        let _number = number_in(&field.value);
-        if !is_named(field) {
+        if !has_own_kind(field) {
             return Some(field.code);
         }
     }
     None
+}
+
+/// Whether the value of a field is sound, where the field is unknown.
+fn holds_sound<A: Allocator + Copy>(alloc: A, field: &HeaderField<A>) -> Result<bool, AllocError>
+    ensures { IfOk result (λ answer. IsTrue answer ↔ HoldsSound field.now) }
+{
+    if 0 < field.code && field.code < 10 {
+        return Ok(true);
+    }
+    is_sound(alloc, &field.value)
+}
+
+/// The code of the first unknown field whose value is not sound. The error is that a growth of memory was refused.
+pub fn first_unsound_field<A: Allocator + Copy>(
+    alloc: A,
+    fields: &[HeaderField<A>],
+) -> Result<Option<u8>, AllocError>
+    ensures { IfOk result (λ code. IsFirstUnsoundField fields.now code) }
+{
+    for field in fields {
+        if !holds_sound(alloc, field)? {
+            return Ok(Some(field.code));
+        }
+    }
+    Ok(None)
 }

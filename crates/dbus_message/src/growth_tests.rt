@@ -1,8 +1,9 @@
 //! Each growth of decoding and encoding refused in turn.
 
 use super::*;
-use dbus_value::{Order, Refusal};
+use dbus_value::{Order, Refusal, Value};
 use refusing_alloc::Refusing;
+use std::alloc::{AllocError, Allocator};
 use std::test::*;
 
 // A signal with a text and a variant of an array in its body.
@@ -56,5 +57,71 @@ fn encode_with_its_growth_refused(rt: HostRuntime) -> Result<(), Fail> {
     let bytes = encode(&heap, &message, Order::Little)?;
     assert_eq!(rt; bytes.as_slice(), SIGNAL.as_slice());
     assert_eq!(rt; heap.growths(), 2);
+    Ok(())
+}
+
+// A field of an unknown code and two values, whose types have to be made out.
+fn parts_of<A: Allocator + Copy>(alloc: A) -> Result<Parts<A>, AllocError> {
+    let mut numbers = Vec::new(alloc);
+    numbers.push(Value::U32(1))?;
+    let mut fields = Vec::new(alloc);
+    fields.push(HeaderField {
+        code: 10,
+        value: Value::Struct(numbers),
+    })?;
+    fields.push(HeaderField {
+        code: 8,
+        value: Value::Sig(String::from_str(alloc, "ayv")?),
+    })?;
+    let mut body = Vec::new(alloc);
+    body.push(Value::Bytes(Vec::new(alloc)))?;
+    body.push(Value::Variant(Box::new(alloc, Value::Byte(1))?))?;
+    Ok(Parts {
+        kind: 5,
+        flags: 0,
+        serial: 1,
+        fields,
+        body,
+    })
+}
+
+// The same call made again, with the parts that came back, gives the message.
+fn is_built_again<A: Allocator + Copy>(
+    alloc: A,
+    built: Result<Message<A>, (Parts<A>, BuildFault)>,
+) -> bool {
+    match built {
+        Ok(message) => {
+            drop(message);
+            true
+        }
+        Err((parts, _)) => Message::new(alloc, parts).is_ok(),
+    }
+}
+
+// Where a growth is refused the answer is want of memory, and the parts come back.
+#[test]
+fn new_with_each_growth_refused(rt: HostRuntime) -> Result<(), Fail> {
+    let mut met = 0;
+    for n in 1..100 {
+        let heap = Refusing::none(rt.alloc());
+        let parts = parts_of(&heap)?;
+        heap.refuse_nth(n);
+        let built = Message::new(&heap, parts);
+        let refused = heap.refusals() == 1;
+        assert_eq!(rt;
+            matches!(built, Err((_, BuildFault::Memory))),
+            refused,
+            "at {n}"
+        );
+        assert_eq!(rt; built.is_ok(), !refused, "at {n}");
+        assert!(rt; is_built_again(&heap, built), "at {n}");
+        assert_eq!(rt; heap.blocks(), 0, "at {n}");
+        if !refused {
+            met = heap.growths();
+            break;
+        }
+    }
+    assert!(rt; met > 2, "{met}");
     Ok(())
 }

@@ -7,6 +7,7 @@ mod building;
 #[cfg(test)]
 mod building_tests;
 mod decoding;
+mod depth;
 mod encoding;
 mod faulty_body;
 mod faulty_fields;
@@ -29,7 +30,7 @@ mod tests;
 pub use answer::Answer;
 pub use build_fault::BuildFault;
 pub use decoding::decode;
-pub use encoding::encode;
+pub use encoding::{encode, encode_into};
 pub use header_field::HeaderField;
 pub use lookups::{arg, field};
 pub use message::Message;

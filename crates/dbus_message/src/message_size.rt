@@ -1,24 +1,21 @@
 //! How many bytes parts are spelled by.
 #![tactic(auto)]
 
-ghost use Rattle.std.specs.Prelude.{◌≡◌, ◌+◌, ◌<◌, ◌≤◌, length, map};
+ghost use Rattle.std.specs.Prelude.{◌≡◌, ◌≤◌, ◌<◌, map};
 ghost use Rattle.dbus_value.specs.Bytes.{gap_to};
-ghost use Rattle.dbus_value.specs.Sizes.{message_limit};
-ghost use Rattle.dbus_value.specs.Spelling.{spelling, spellings};
+ghost use Rattle.dbus_value.specs.ShortSignatures.{HasShortSignatures, HaveShortSignatures};
 ghost use Rattle.dbus_value.specs.Values.{value_trees};
-ghost use Rattle.dbus_value.specs.ValueViews.{value_trees_of};
-ghost use Rattle.dbus_value.specs.declared.order.Order.TheVariants.{Little};
-ghost use Rattle.dbus_message.specs.BuildFaults.{ArePlainValues};
 ghost use Rattle.dbus_message.specs.Messages.{field_struct};
-ghost use Rattle.dbus_message.specs.MessageSizes.{IsEnd, IsShortField, AreShortFields};
-ghost use Rattle.dbus_message.specs.PartsViews.{field_tree, field_trees};
+ghost use Rattle.dbus_message.specs.MessageSizes.{IsFieldEnd, AreFieldEnds, HoldTheirNumbers};
+ghost use Rattle.dbus_message.specs.PartsViews.{field_tree, field_trees, parts_tree};
 
 use crate::header_field::HeaderField;
-use dbus_value::{Value, size_after};
+use crate::parts::Parts;
+use dbus_value::{measure_coded, read_all_numbers, read_numbers};
 use std::alloc::Allocator;
 
-/// The bytes of the longest message. D-Bus Specification, "Message Protocol".
-const MESSAGE_LIMIT: u64 = 1 << 27;
+/// Where the longest field array ends. D-Bus Specification, "Marshaling (Wire Format)", for the longest array.
+const FIELDS_LIMIT: u64 = 16 + (1 << 26);
 
 /// How far it is from `at` to the next multiple of 8.
 #[tactic(auto, unfolding(dbus_value::specs::Bytes::gap_to))]
@@ -29,29 +26,27 @@ pub fn gap(at: u64) -> u64
     (8 - at % 8) % 8
 }
 
-/// Where a field ends that begins at `at`, or nothing where that is past the limit of messages.
-#[tactic(auto, unfolding(dbus_value::specs::Sizes::message_limit))]
+/// Where a field ends that begins at `at`, or nothing where an array in it is too long, or the field array with it.
 fn field_end<A: Allocator>(field: &HeaderField<A>, at: u64) -> Option<u64>
-    requires start { at ≤ message_limit }
-    requires short { IsShortField (field_tree field.now) }
-    ensures { IsEnd (at + length (spelling Little at (field_struct (field_tree field.now)))) result }
+    requires start { at ≤ 67_108_880 }
+    requires signed { HasShortSignatures (field_struct (field_tree field.now)) }
+    ensures { IsFieldEnd (field_tree field.now) at result }
 {
-    // The field's code, the length of its type's text, the one letter of that, and the zero byte behind it.
-    let start = at + gap(at) + 4;
-    if start > MESSAGE_LIMIT {
-        return None;
-    }
-    match size_after(&field.value, start) {
-        Ok(end) => Some(end),
-        Err(_) => None,
+    match measure_coded(&field.value, at) {
+        None => None,
+        Some(end) => {
+            if end > FIELDS_LIMIT {
+                return None;
+            }
+            Some(end)
+        }
     }
 }
 
-/// Where the fields end, the first of which begins at 16, or nothing where that is past the limit of messages.
-#[tactic(auto, unfolding(dbus_value::specs::Sizes::message_limit))]
+/// Where the fields end, the first of which begins at 16, or nothing where the field array or an array in it is too long.
 pub fn fields_end<A: Allocator>(fields: &[HeaderField<A>]) -> Option<u64>
-    requires short { AreShortFields (field_trees fields.now) }
-    ensures { IsEnd (16 + length (spellings Little 16 (value_trees (map field_struct (field_trees fields.now))))) result }
+    requires signed { HaveShortSignatures (value_trees (map field_struct (field_trees fields.now))) }
+    ensures { AreFieldEnds (field_trees fields.now) 16 result }
 {
     let mut at = 16;
     for field in fields {
@@ -63,18 +58,14 @@ pub fn fields_end<A: Allocator>(fields: &[HeaderField<A>]) -> Option<u64>
     Some(at)
 }
 
-/// Where values end, the first of which begins at `start`, or nothing where that is past the limit of messages.
-pub fn values_end<A: Allocator>(values: &[Value<A>], start: u64) -> Option<u64>
-    requires start { start ≤ message_limit }
-    requires plain { ArePlainValues (value_trees_of values.now) }
-    ensures { IsEnd (start + length (spellings Little start (value_trees_of values.now))) result }
+/// Reads each number of the parts, which shows that it is in the range of its type.
+pub fn read_parts<A: Allocator>(parts: &Parts<A>)
+    ensures { HoldTheirNumbers (parts_tree parts.now) }
 {
-    let mut at = start;
-    for value in values {
-        match size_after(value, at) {
-            Ok(end) => at = end,
-            Err(_) => return None,
-        }
+    for field in &parts.fields {
+        let _code = field.code;
+        read_numbers(&field.value);
     }
-    Some(at)
+    read_all_numbers(&parts.body);
+    let (_kind, _flags, _serial) = (parts.kind, parts.flags, parts.serial);
 }

@@ -1,14 +1,38 @@
-use Rattle.dbus_message.proofs.FaultyFields.{not_both}
+use Rattle.std.proofs.Common.{refl}
+use Rattle.std.proofs.lemmas.Bool.{false≢true}
 use Rattle.dbus_message.proofs.building.check_contents.Goals as goal
 
 pub returns-in-Some : goal.returns-in-Some
-returns-in-Some g c = (c.requires.header, rw c.deref.ensures.value at c.in-Some.ensures.first)
+returns-in-Some g c = ((c.requires.header, c.if-not-is_shallow.ensures.0 refl), rw c.deref.ensures.value at c.in-Some.ensures)
 
-pub returns-in-Some-first_unsound : goal.returns-in-Some-first_unsound
-returns-in-Some-first_unsound g c = ((c.requires.header, rw c.deref.ensures.value at c.in-None.ensures.first), rw c.deref-2.ensures.value at c.in-Some-first_unsound.ensures)
+pub returns-in-Some-2 : goal.returns-in-Some-2
+returns-in-Some-2 g c = (
+  ((c.requires.header, c.if-not-is_shallow.ensures.0 refl), rw c.deref.ensures.value at c.in-None.ensures),
+  rw (c.in-Some-2.is, c.deref-2.ensures.value) at c.in_ok-code.ensures,
+)
 
-pub returns-then-not-has_types : goal.returns-then-not-has_types
-returns-then-not-has_types g c = (((c.requires.header, rw c.deref.ensures.value at c.in-None.ensures.first), rw c.deref-2.ensures.value at c.in-None-first_unsound.ensures), λ e. not_both _ c.if-not-has_types.true (c.has_types.ensures.1 (rw (c.deref-3.ensures.value, c.body_signature.ensures, c.deref-4.ensures.value) e)))
+pub returns-in-Some-3 : goal.returns-in-Some-3
+returns-in-Some-3 g c = (
+  (((c.requires.header, c.if-not-is_shallow.ensures.0 refl), rw c.deref.ensures.value at c.in-None.ensures), rw (c.in-None-2.is, c.deref-2.ensures.value) at c.in_ok-code.ensures),
+  rw (c.in-Some-3.is, c.deref-3.ensures.value) at c.in_ok-n.ensures,
+)
+
+pub returns-then-not-branch : goal.returns-then-not-branch
+returns-then-not-branch g c =
+    let types = rw (c.if-not-branch.true, c.deref-4.ensures.value, c.body_signature.ensures, c.deref-5.ensures.value) at c.in_ok-has_types.ensures in (
+      (
+        (((c.requires.header, c.if-not-is_shallow.ensures.0 refl), rw c.deref.ensures.value at c.in-None.ensures), rw (c.in-None-2.is, c.deref-2.ensures.value) at c.in_ok-code.ensures),
+        rw (c.in-None-3.is, c.deref-3.ensures.value) at c.in_ok-n.ensures,
+      ),
+      λ e. false≢true (types.1 e),
+    )
 
 pub returns : goal.returns
-returns g c = ((((c.requires.header, rw c.deref.ensures.value at c.in-None.ensures.first), rw c.deref-2.ensures.value at c.in-None-first_unsound.ensures), rw (c.deref-3.ensures.value, c.body_signature.ensures, c.deref-4.ensures.value) at (c.has_types.ensures.0 c.if-not-has_types.false)), rw c.deref.ensures.value at c.in-None.ensures.ranges)
+returns g c =
+    let types = rw (c.if-not-branch.false, c.deref-4.ensures.value, c.body_signature.ensures, c.deref-5.ensures.value) at c.in_ok-has_types.ensures in (
+      (
+        (((c.requires.header, c.if-not-is_shallow.ensures.0 refl), rw c.deref.ensures.value at c.in-None.ensures), rw (c.in-None-2.is, c.deref-2.ensures.value) at c.in_ok-code.ensures),
+        rw (c.in-None-3.is, c.deref-3.ensures.value) at c.in_ok-n.ensures,
+      ),
+      types.0 refl,
+    )

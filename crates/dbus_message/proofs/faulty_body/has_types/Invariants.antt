@@ -1,12 +1,14 @@
-use Rattle.std.proofs.Common.{◌≡◌, ◌↔◌, drop}
+use Rattle.std.proofs.Common.{◌≡◌, ◌++◌, ◌≤◌, None, drop, length, vec_capacity}
 use Rattle.dbus_types.specs.Types.{sigs}
 use Rattle.dbus_value.specs.Values.{types_of}
 use Rattle.dbus_value.specs.ValueViews.{value_trees_of}
-use Rattle.dbus_message.specs.BuildFaults.{ArePlainValues}
+use Rattle.dbus_message.specs.BuildFaults.{IsFirstUnsound}
 use Rattle.dbus_message.proofs.faulty_body.has_types.Given as goal
 
-abbrev pub invariant-loop-i : goal.invariant-loop-i
-invariant-loop-i g l = record {
-  plain : ArePlainValues (value_trees_of (drop l.i l.values));
-  rest : (sigs (types_of (value_trees_of (drop l.i l.values))) ≡ drop l.i l.signature) ↔ (sigs (types_of (value_trees_of l.values)) ≡ l.signature);
+abbrev pub invariant-loop-value : goal.invariant-loop-value
+invariant-loop-value g l = record {
+  sound : IsFirstUnsound l.value-index (drop l.value-index l.values) None;
+  on : l.spelled.items ++ sigs (types_of (value_trees_of (drop l.value-index l.values))) ≡ sigs (types_of (value_trees_of l.values));
+  fits : length l.spelled.items ≤ length l.signature;
+  room : length l.signature ≤ vec_capacity l.spelled;
 }

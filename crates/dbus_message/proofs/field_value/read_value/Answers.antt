@@ -7,19 +7,19 @@ use Rattle.dbus_message.proofs.field_value.read_value.Goals as goal
 pub returns-in-Ok-Done-clause-gives : goal.returns-in-Ok-Done-clause-gives
 returns-in-Ok-Done-clause-gives g c =
     done_read c.args.order (64 - c.args.depth) c.args.end (type_tree c.args.wanted.now) c.args.at c.args.bytes.now c.requires.complete (bytes_at c.args.bytes.now c.args.at (λ i. omega (arith, c.type_inv.bytes i)))
-    (value_tree c.in-Ok-Done.value) c.in-Ok-Done.next (rw c.in-Ok-Done.field-0-is at c.in-Ok-Done.ensures)
+    (value_tree c.in-Ok-Done.value) c.in-Ok-Done.next (rw c.in-Ok-Done.field-0-is at c.in-Ok-Done.ensures.gets)
 
 pub returns-in-Ok-Done-clause-moves : goal.returns-in-Ok-Done-clause-moves
 returns-in-Ok-Done-clause-moves g c =
     done_moves c.args.order (64 - c.args.depth) c.args.end (type_tree c.args.wanted.now) c.args.at c.args.bytes.now c.requires.complete (bytes_at c.args.bytes.now c.args.at (λ i. omega (arith, c.type_inv.bytes i)))
-    (value_tree c.in-Ok-Done.value) c.in-Ok-Done.next c.requires.inside (rw c.in-Ok-Done.field-0-is at c.in-Ok-Done.ensures)
+    (value_tree c.in-Ok-Done.value) c.in-Ok-Done.next c.requires.inside (rw c.in-Ok-Done.field-0-is at c.in-Ok-Done.ensures.gets)
 
 pub returns-in-Ok-Partial-clause-gives : goal.returns-in-Ok-Partial-clause-gives
 returns-in-Ok-Partial-clause-gives g c =
     partial_read c.args.order (64 - c.args.depth) c.args.end (type_tree c.args.wanted.now) c.args.at c.args.bytes.now c.requires.complete (bytes_at c.args.bytes.now c.args.at (λ i. omega (arith, c.type_inv.bytes i)))
-    (rw c.in-Ok-Partial.field-0-is at c.in-Ok-Partial.ensures)
+    (rw c.in-Ok-Partial.field-0-is at c.in-Ok-Partial.ensures.gets)
 
 pub returns-in-Err-Format-clause-gives : goal.returns-in-Err-Format-clause-gives
 returns-in-Err-Format-clause-gives g c =
     faulty_read c.args.order (64 - c.args.depth) c.args.end (type_tree c.args.wanted.now) c.args.at c.args.bytes.now c.requires.complete (bytes_at c.args.bytes.now c.args.at (λ i. omega (arith, c.type_inv.bytes i)))
-    c.in-Err-Format.fault (rw c.in-Err-Format.field-0-is at c.in-Err-Format.ensures)
+    c.in-Err-Format.fault (rw c.in-Err-Format.field-0-is at c.in-Err-Format.ensures.gets)

@@ -1,22 +1,21 @@
-use Rattle.std.proofs.Common.{◌+◌, drop}
-use Rattle.dbus_message.proofs.FieldWriting.{structs}
-use Rattle.dbus_message.proofs.PartSizes.{short_from, structs_from, no_structs_from, ends_step, past_step, ends_last}
+use Rattle.std.proofs.Common.{None, Some}
+use Rattle.dbus_message.specs.PartsViews.{field_tree}
+use Rattle.dbus_message.proofs.FieldWriting.{fields_short}
+use Rattle.dbus_message.proofs.PartEnds.{ends_past, ends_on, ends_last, end_near}
 use Rattle.dbus_message.proofs.message_size.fields_end.Goals as goal
 
-pub field_end-requires-clause-short : goal.field_end-requires-clause-short
-field_end-requires-clause-short g c = (short_from c.args.fields.now c.loop-field.field-index c.field-item.result c.loop-field-test.true c.field-item.is c.loop-field.invariant.short).0
+pub field_end-requires-clause-signed : goal.field_end-requires-clause-signed
+field_end-requires-clause-signed g c = (fields_short c.args.fields.now c.loop-field.field-index c.field-item.result c.loop-field-test.true c.field-item.is c.loop-field.invariant.signed).0
 
 pub returns-in-None : goal.returns-in-None
-returns-in-None g c = past_step c.loop-field.at _ (structs (drop c.loop-field.field-index c.args.fields.now)) _ (structs (drop (c.loop-field.field-index + 1) c.args.fields.now))
-    (structs_from c.args.fields.now c.loop-field.field-index c.field-item.result c.loop-field-test.true c.field-item.is) c.loop-field.invariant.ends c.in-None.ensures
+returns-in-None g c = c.loop-field.invariant.so_far None (ends_past c.args.fields.now c.loop-field.field-index c.loop-field.at c.field-item.result c.loop-field-test.true c.field-item.is c.in-None.ensures)
 
 pub loop-field-preserved : goal.loop-field-preserved
 loop-field-preserved g c = record {
-  within = c.in-Some.ensures.1;
-  short = (short_from c.args.fields.now c.loop-field.field-index c.field-item.result c.loop-field-test.true c.field-item.is c.loop-field.invariant.short).1;
-  ends = ends_step c.loop-field.at c.in-Some.end _ (structs (drop c.loop-field.field-index c.args.fields.now)) _ (structs (drop (c.loop-field.field-index + 1) c.args.fields.now))
-      (structs_from c.args.fields.now c.loop-field.field-index c.field-item.result c.loop-field-test.true c.field-item.is) c.loop-field.invariant.ends c.in-Some.ensures;
+  near = end_near (field_tree c.field-item.result) c.loop-field.at c.in-Some.end c.in-Some.ensures;
+  signed = (fields_short c.args.fields.now c.loop-field.field-index c.field-item.result c.loop-field-test.true c.field-item.is c.loop-field.invariant.signed).1;
+  so_far = λ r w. c.loop-field.invariant.so_far r (ends_on c.args.fields.now c.loop-field.field-index c.loop-field.at c.field-item.result c.in-Some.end r c.loop-field-test.true c.field-item.is c.in-Some.ensures w);
 }
 
 pub returns : goal.returns
-returns g c = (ends_last c.loop-field.at _ (structs (drop c.loop-field.field-index c.args.fields.now)) (no_structs_from c.args.fields.now c.loop-field.field-index c.loop-field-test.false) c.loop-field.invariant.ends, c.loop-field.invariant.within)
+returns g c = c.loop-field.invariant.so_far (Some c.loop-field.at) (ends_last c.args.fields.now c.loop-field.field-index c.loop-field.at c.loop-field.invariant.near c.loop-field-test.false)

@@ -1,15 +1,13 @@
-use Rattle.std.proofs.Common.{◌≡◌, ◌+◌, ◌≤◌, length, drop}
-use Rattle.dbus_value.specs.declared.order.Order.TheVariants.{Little}
-use Rattle.dbus_value.specs.Sizes.{message_limit}
-use Rattle.dbus_value.specs.Spelling.{spellings}
-use Rattle.dbus_message.specs.MessageSizes.{AreShortFields}
+use Rattle.std.proofs.Common.{◌≤◌, ℕ, Option, drop}
+use Rattle.dbus_value.specs.ShortSignatures.{HaveShortSignatures}
+use Rattle.dbus_message.specs.MessageSizes.{AreFieldEnds}
 use Rattle.dbus_message.specs.PartsViews.{field_trees}
 use Rattle.dbus_message.proofs.FieldWriting.{structs}
 use Rattle.dbus_message.proofs.message_size.fields_end.Given as goal
 
 abbrev pub invariant-loop-field : goal.invariant-loop-field
 invariant-loop-field g l = record {
-  within : l.at ≤ message_limit;
-  short : AreShortFields (field_trees (drop l.field-index l.fields));
-  ends : l.at + length (spellings Little l.at (structs (drop l.field-index l.fields))) ≡ 16 + length (spellings Little 16 (structs l.fields));
+  near : l.at ≤ 67_108_880;
+  signed : HaveShortSignatures (structs (drop l.field-index l.fields));
+  so_far : (r : Option ℕ) → AreFieldEnds (field_trees (drop l.field-index l.fields)) l.at r → AreFieldEnds (field_trees l.fields) 16 r;
 }

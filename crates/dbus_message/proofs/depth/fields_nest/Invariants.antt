@@ -1,0 +1,7 @@
+use Rattle.std.proofs.Common.{◌↔◌, drop}
+use Rattle.dbus_value.specs.Forming.{NestWithin}
+use Rattle.dbus_message.proofs.FieldWriting.{structs}
+use Rattle.dbus_message.proofs.depth.fields_nest.Given as goal
+
+abbrev pub invariant-loop-field : goal.invariant-loop-field
+invariant-loop-field g l = NestWithin 63 (structs (drop l.field-index l.fields)) ↔ NestWithin 63 (structs l.fields)
