@@ -6,3 +6,5 @@ pub mod WholeLaws
 pub mod StatedLaws
 pub mod Inside
 pub mod KeptLaws
+pub mod RunLaws
+pub mod HeadlineLaws

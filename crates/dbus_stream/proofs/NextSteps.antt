@@ -13,8 +13,8 @@ use Rattle.dbus_stream.specs.Device.{one_more}
 use Rattle.dbus_stream.specs.Stated.{BeginsWithNone}
 use Rattle.dbus_stream.specs.Reader.{kept, source_of, done_of, reads_of, limit_of, is_ended, stopped_of}
 use Rattle.dbus_stream.specs.Lasting.{is_lasting}
-use Rattle.dbus_stream.specs.Next.{NextAnswers, DeviceCounts, Reads, RisesBy, KeepsAll, GivesMessage, IsCutShort}
-use Rattle.dbus_stream.specs.Steps.{TakesKept, ReadsNothing, KeepsOn, Finishes, GivesUp, FillsBy, FillsNone}
+use Rattle.dbus_stream.specs.Next.{NextAnswers, KeptAnswers, DeviceCounts, Reads, RisesBy, KeepsAll, GivesMessage, IsCutShort, ReadsNothing}
+use Rattle.dbus_stream.specs.Steps.{TakesKept, KeepsOn, Finishes, GivesUp, FillsBy, FillsNone}
 
 -- a count that rose by k rises once more
 pub RisesBy-more : (k a b c : ℕ) → RisesBy k a b → c ≡ one_more b → RisesBy (k + 1) a c
@@ -217,3 +217,38 @@ module _ {R A : Type 0} (left : R → Option (List ℕ)) (calls failures : R →
     unstopped = stopped ∙ h.unstopped;
     failed = failed ∙ h.failed;
   }
+
+module _ {R A : Type 0} where
+  -- what comes of the bytes that are kept is the answer
+  pub answers_kept : (old new : MessageReader R A) (res : Result (Option (Order × Message A)) ReadFault) → TakesKept old new res → KeptAnswers old new res
+  answers_kept old new (Ok (Some given)) t = t
+  answers_kept old new (Ok None) t = (t.0.keeps, t.0.unstopped, subst (λ l. BeginsWithNone l) t.0.keeps.kept t.2)
+  answers_kept old new (Err Memory) t = (t.keeps, t.unstopped)
+  answers_kept old new (Err (Format fault)) t = (t.0.keeps, t.0.stopped, t.1)
+  answers_kept old new (Err Device) t = absurd t
+  answers_kept old new (Err TooManyReads) t = absurd t
+
+  -- no device failed
+  pub kept_counts : (failures : R → ℕ) (old new : MessageReader R A) (res : Result (Option (Order × Message A)) ReadFault) → KeptAnswers old new res
+      → ReadsNothing old new → DeviceCounts (failures (source_of old)) (failures (source_of new)) res
+  kept_counts failures old new (Ok x) k n = ap failures n.source
+  kept_counts failures old new (Err Memory) k n = ap failures n.source
+  kept_counts failures old new (Err (Format fault)) k n = ap failures n.source
+  kept_counts failures old new (Err Device) k n = absurd k
+  kept_counts failures old new (Err TooManyReads) k n = absurd k
+
+module _ {R A : Type 0} (left : R → Option (List ℕ)) (calls failures : R → ℕ) where
+  -- an answer other than None is one that `next` gives where it reads nothing
+  answers_as_next : (w : List ℕ) (old new : MessageReader R A) (res : Result (Option (Order × Message A)) ReadFault) → kept old ≡ w → (res ≡ Ok None → ⊥)
+      → KeptAnswers old new res → NextAnswers w old new res
+  answers_as_next w old new (Ok (Some given)) e some k = subst (λ l. GivesMessage l given old new) e k
+  answers_as_next w old new (Ok None) e some k = absurd (some refl)
+  answers_as_next w old new (Err Memory) e some k = (subst (λ l. KeepsAll l old new) e k.0, k.1)
+  answers_as_next w old new (Err (Format fault)) e some k = (subst (λ l. KeepsAll l old new) e k.0, k.1, inl (subst (λ l. IsRefused l fault) e k.2))
+  answers_as_next w old new (Err Device) e some k = absurd k
+  answers_as_next w old new (Err TooManyReads) e some k = absurd k
+
+  pub kept_as_next : (old new : MessageReader R A) (res : Result (Option (Order × Message A)) ReadFault) → (res ≡ Ok None → ⊥) → KeptAnswers old new res
+      → ReadsNothing old new → (r : Reads left calls old new) × NextAnswers (kept old ++ r.bytes) old new res
+  kept_as_next old new res some k n =
+      (unread left calls failures old old new (starts left calls failures old) n, answers_as_next (kept old ++ []) old new res (sym (append-nil (kept old))) some k)

@@ -1,5 +1,5 @@
 -- What a cutter holds.
-use Rattle.std.specs.Prelude.{ℕ, List, Option}
+use Rattle.std.specs.Prelude.{ℕ, List, [], Option, None}
 use Rattle.dbus_value.specs.declared.fault.Fault.{Fault}
 
 pub record CutterState : Type 0 where
@@ -7,3 +7,7 @@ pub record CutterState : Type 0 where
   pub held : List ℕ
   -- the fault that it stays with
   pub fault : Option Fault
+
+-- a cutter that was handed nothing yet
+abbrev pub fresh : CutterState
+fresh = record { held = []; fault = None }

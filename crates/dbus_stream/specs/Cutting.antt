@@ -1,6 +1,7 @@
--- What a cutter makes of a piece, where it met no fault before.
+-- What a cutter makes of a piece.
 use Rattle.std.specs.Prelude.{◌≡◌, ℕ, ◌+◌, List, [], ◌++◌, length, Option, None, Some, Result, Ok, Err}
 use Rattle.dbus_value.specs.declared.order.Order.{Order}
+use Rattle.dbus_value.specs.declared.fault.Fault.{Fault}
 use Rattle.dbus_message.specs.declared.message.Message.{Message}
 use Rattle.dbus_message.specs.MessageViews.{message_tree}
 use Rattle.dbus_message.specs.MessageOutcomes.{IsWhole, IsRefused, IsPartial}
@@ -8,7 +9,12 @@ use Rattle.dbus_stream.specs.CutterState.{CutterState}
 use Rattle.dbus_stream.specs.declared.stream_fault.StreamFault.{StreamFault}
 use Rattle.dbus_stream.specs.declared.stream_fault.StreamFault.TheVariants.{Memory, Format}
 
-abbrev pub TakeAnswers : {A : Type 0} → CutterState → List ℕ → CutterState → Result (ℕ × Option (Order × Message A)) StreamFault → Type 0
+-- how many bytes of the piece were taken, and a message
+abbrev pub TakeAnswer : Type 0 → Type 0
+TakeAnswer A = Result (ℕ × Option (Order × Message A)) StreamFault
+
+-- where it met no fault before
+abbrev pub TakeAnswers : {A : Type 0} → CutterState → List ℕ → CutterState → TakeAnswer A → Type 0
 -- the message ends in the piece
 TakeAnswers old piece new (Ok (n, Some given)) = IsWhole (old.held ++ piece) given.0 (message_tree given.1) (length old.held + n)
     × (new ≡ record { held = []; fault = None })
@@ -19,3 +25,8 @@ TakeAnswers old piece new (Ok (n, None)) = IsPartial (old.held ++ piece) × (n �
 TakeAnswers old piece new (Err Memory) = new ≡ old
 TakeAnswers old piece new (Err (Format fault)) = IsRefused (old.held ++ piece) fault
     × (new ≡ record { held = old.held; fault = Some fault })
+
+-- one call, which answers for good a fault that was met
+pub record Takes {A : Type 0} (old : CutterState) (piece : List ℕ) (new : CutterState) (answer : TakeAnswer A) : Type 0 where
+  pub answers : old.fault ≡ None → TakeAnswers old piece new answer
+  pub stays : (f : Fault) → old.fault ≡ Some f → (answer ≡ Err (Format f)) × (new ≡ old)

@@ -11,3 +11,5 @@ pub mod StreamLaws
 pub mod CutterState
 pub mod Cutting
 pub mod Decoded
+pub mod Runs
+pub mod Headline

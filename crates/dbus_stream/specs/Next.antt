@@ -35,6 +35,13 @@ pub record Reads {R A : Type 0} (left : R → Option (List ℕ)) (calls : R → 
   -- where it ended, the device has nothing left
   pub at_end : is_ended old ≡ false → is_ended new ≡ true → IsAtEnd (left (source_of new))
 
+-- nothing was read
+pub record ReadsNothing {R A : Type 0} (old new : MessageReader R A) : Type 0 where
+  pub source : source_of new ≡ source_of old
+  pub reads : reads_of new ≡ reads_of old
+  pub limit : limit_of new ≡ limit_of old
+  pub ended : is_ended new ≡ is_ended old
+
 -- all of w is kept, and nothing is given
 pub record KeepsAll {R A : Type 0} (w : List ℕ) (old new : MessageReader R A) : Type 0 where
   pub kept : kept new ≡ w
@@ -60,6 +67,15 @@ NextAnswers w old new (Err (Format fault)) = KeepsAll w old new × (stopped_of n
     × (IsRefused w fault ⊎ (IsCutShort w fault × (is_ended new ≡ true)))
 NextAnswers w old new (Err Device) = KeepsAll w old new × (stopped_of new ≡ None) × BeginsWithNone w
 NextAnswers w old new (Err TooManyReads) = KeepsAll w old new × (stopped_of new ≡ Some TooManyReads) × IsPartial w × (reads_of new ≡ limit_of new)
+
+-- what it answers out of what is kept alone
+abbrev pub KeptAnswers : {R A : Type 0} → MessageReader R A → MessageReader R A → Result (Option (Order × Message A)) ReadFault → Type 0
+KeptAnswers old new (Ok (Some given)) = GivesMessage (kept old) given old new
+KeptAnswers old new (Ok None) = KeepsAll (kept old) old new × (stopped_of new ≡ None) × BeginsWithNone (kept old)
+KeptAnswers old new (Err Memory) = KeepsAll (kept old) old new × (stopped_of new ≡ None)
+KeptAnswers old new (Err (Format fault)) = KeepsAll (kept old) old new × (stopped_of new ≡ Some (Format fault)) × IsRefused (kept old) fault
+KeptAnswers old new (Err Device) = ⊥
+KeptAnswers old new (Err TooManyReads) = ⊥
 
 -- the device failed once where the answer is Device, and else not
 abbrev pub DeviceCounts : {T : Type 0} → ℕ → ℕ → Result T ReadFault → Type 0

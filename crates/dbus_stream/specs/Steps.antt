@@ -9,16 +9,9 @@ use Rattle.dbus_stream.specs.declared.message_reader.MessageReader.{MessageReade
 use Rattle.dbus_stream.specs.declared.read_fault.ReadFault.{ReadFault}
 use Rattle.dbus_stream.specs.declared.read_fault.ReadFault.TheVariants.{Memory, Format, Device, TooManyReads}
 use Rattle.dbus_stream.specs.declared.device_fault.DeviceFault.{DeviceFault}
-use Rattle.dbus_stream.specs.Reader.{kept, source_of, reads_of, limit_of, is_ended, stopped_of}
+use Rattle.dbus_stream.specs.Reader.{kept, source_of, is_ended, stopped_of}
 use Rattle.dbus_stream.specs.Stated.{BeginsWithNone}
 use Rattle.dbus_stream.specs.Next.{KeepsAll, GivesMessage, IsCutShort}
-
--- nothing was read
-pub record ReadsNothing {R A : Type 0} (old new : MessageReader R A) : Type 0 where
-  pub source : source_of new ≡ source_of old
-  pub reads : reads_of new ≡ reads_of old
-  pub limit : limit_of new ≡ limit_of old
-  pub ended : is_ended new ≡ is_ended old
 
 -- the buffer has nothing left
 abbrev pub IsDrained : {R A : Type 0} → MessageReader R A → Type 0

@@ -1,9 +1,10 @@
 //! Messages out of bytes that come in pieces.
-ghost use Rattle.std.specs.Prelude.{◌≡◌, ◌≤◌, [], length, None, Some, Ok, Err, IfOk};
+ghost use Rattle.std.specs.Prelude.{◌≡◌, ◌<◌, ◌≤◌, [], length, None, Some, Ok, Err, IfOk};
 ghost use Rattle.dbus_value.specs.declared.fault.Fault.{Fault};
 ghost use Rattle.dbus_message.specs.MessageOutcomes.{IsPartial};
 ghost use Rattle.dbus_stream.specs.Cut.{truncated};
-ghost use Rattle.dbus_stream.specs.Cutting.{TakeAnswers};
+ghost use Rattle.dbus_stream.specs.CutterState.{fresh};
+ghost use Rattle.dbus_stream.specs.Cutting.{Takes};
 
 use crate::decoded::decoded;
 use crate::stream_fault::StreamFault;
@@ -35,7 +36,7 @@ impl<A: Allocator> Model for Cutter<A> {
 impl<A: Allocator + Copy> Cutter<A> {
     /// A cutter that holds nothing yet. What it keeps is allocated by `alloc`.
     pub fn new(alloc: A) -> Self
-        ensures { result ≡ record { held = []; fault = None } }
+        ensures { result ≡ fresh }
     {
         Cutter {
             alloc,
@@ -54,10 +55,9 @@ impl<A: Allocator + Copy> Cutter<A> {
         piece: &[u8],
     ) -> Result<(usize, Option<(Order, Message<A>)>), StreamFault>
         ensures within { IfOk result (λ r. r.0 ≤ length piece.now) }
-        ensures answer { self.old.fault ≡ None → TakeAnswers self.old piece.now self.new result }
-        // A fault stays for good.
-        ensures stays { (f : Fault) → self.old.fault ≡ Some f
-            → (result ≡ Err (StreamFault.Format f)) × (self.new ≡ self.old) }
+        ensures takes { Takes self.old piece.now self.new result }
+        // Of a piece with bytes, it takes at least one.
+        ensures moves { IfOk result (λ r. 0 < length piece.now → 0 < r.0) }
     {
         if let Some(fault) = self.fault {
             return Err(StreamFault::Format(fault));

@@ -1,5 +1,20 @@
 //! Laws of streams. Each function's contract is one, and it does nothing at run time.
 ghost use Rattle.dbus_stream.specs.StreamLaws.{OneCut, FrontOfCut, EachCut};
+ghost use Rattle.dbus_stream.specs.Headline.{Headline};
+
+use std::alloc::Allocator;
+
+/// Bytes are accepted exactly where they begin with a message that the marshalling relation spells within the limits;
+/// that message comes out, encoding it in its order gives those bytes back, and in either order decoding an encoding
+/// gives the message; however the input is cut, the same messages come and no byte past each is taken; a refusal carries
+/// the fault table's one place and reason.
+///
+/// It speaks of `decode` by `Decodes`, of `encode` by the bytes that it gives, and of a cutter by `Feeds`: any pieces are
+/// handed to `Cutter::take` one after another, and what a call leaves of one is handed in again. Each of them may answer
+/// want of memory, which takes nothing.
+pub fn headline<A: Allocator>()
+    ensures { Headline A }
+{}
 
 /// A stream of bytes is cut into messages, a rest and an outcome in one way.
 pub fn one_cut()

@@ -49,8 +49,8 @@ impl<R: Source, A: Allocator + Copy> MessageReader<R, A> {
     ghost use Rattle.dbus_value.specs.declared.fault.Fault.{Fault};
     ghost use Rattle.dbus_stream.specs.declared.read_fault.ReadFault.{ReadFault};
     ghost use Rattle.dbus_stream.specs.Reader.{kept, source_of, done_of, reads_of, limit_of, is_ended, stopped_of};
-    ghost use Rattle.dbus_stream.specs.Next.{NextAnswers, DeviceCounts, Reads};
-    ghost use Rattle.dbus_stream.specs.Steps.{TakesKept, Looks, Decodes, Gathers, ReadsNothing, IsDrained, IsUnlooked, Fills, Finishes, GivesUp};
+    ghost use Rattle.dbus_stream.specs.Next.{NextAnswers, KeptAnswers, DeviceCounts, Reads, ReadsNothing};
+    ghost use Rattle.dbus_stream.specs.Steps.{TakesKept, Looks, Decodes, Gathers, IsDrained, IsUnlooked, Fills, Finishes, GivesUp};
     ghost use Rattle.dbus_stream.specs.Device.{ReadCounts, one_more};
 
     /// A reader of what the source gives, which read nothing yet. What it keeps is allocated by `alloc`.
@@ -131,6 +131,26 @@ impl<R: Source, A: Allocator + Copy> MessageReader<R, A> {
                 Err(DeviceFault) => return Err(ReadFault::Device),
             }
         }
+    }
+
+    /// The next message with its byte order out of what was read already: no read is made. Bytes behind the message are
+    /// kept. None where what is kept begins with no whole message; then `next` goes on from there and reads more.
+    ///
+    /// `Format`: the bytes begin with no message. It stays for good, and so does a fault that `next` answers for good.
+    /// `Memory`: a growth was refused. Then all that was read is kept, and the call may be made again.
+    pub fn next_kept(&mut self) -> Result<Option<(Order, Message<A>)>, ReadFault>
+        // It gives what the bytes that are kept begin with.
+        ensures kept { stopped_of self.old ≡ None → KeptAnswers self.old self.new result }
+        ensures unread { ReadsNothing self.old self.new }
+        ensures failed { DeviceCounts (R.failures (source_of self.old)) (R.failures (source_of self.new)) result }
+        ensures few { done_of self.new ≤ 2 ^ 44 }
+        // A fault of the bytes stays for good, and so does the number of reads.
+        ensures stays { (f : ReadFault) → stopped_of self.old ≡ Some f → (result ≡ Err f) × (self.new ≡ self.old) }
+    {
+        if let Some(fault) = self.stopped {
+            return Err(fault);
+        }
+        self.take_kept()
     }
 
     // What the end of the input comes to.

@@ -8,4 +8,8 @@ pub use narrow::Narrow;
 pub use one_byte::OneByte;
 
 #[cfg(test)]
+mod stream_tests;
+#[cfg(test)]
 mod tests;
+#[cfg(test)]
+mod word_tests;

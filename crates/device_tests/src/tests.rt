@@ -129,25 +129,6 @@ fn devices_that_fail(rt: HostRuntime) {
 }
 
 #[test]
-fn each_read_fails_once(rt: HostRuntime) {
-    for k in 1..26u64 {
-        let mut reader = MessageReader::new(rt.alloc(), OneByte::new(RETURN.as_slice(), k));
-        if k < 25 {
-            assert!(rt; matches!(reader.next(), Err(ReadFault::Device)), "at {k}");
-        }
-        assert!(rt;
-            matches!(reader.next(), Ok(Some((Order::Little, _)))),
-            "at {k}"
-        );
-        if k == 25 {
-            assert!(rt; matches!(reader.next(), Err(ReadFault::Device)), "at {k}");
-        }
-        assert!(rt; matches!(reader.next(), Ok(None)), "at {k}");
-        assert_eq!(rt; reader.done(), 24);
-    }
-}
-
-#[test]
 fn ends_within_a_message(rt: HostRuntime) {
     let mut reader = MessageReader::new(rt.alloc(), OneByte::new(&RETURN[..23], 0));
     let fault = Fault {

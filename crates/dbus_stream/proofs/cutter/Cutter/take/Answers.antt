@@ -1,4 +1,4 @@
-use Rattle.std.proofs.Common.{◌≡◌, ◌+◌, ◌-◌, ◌<◌, ◌≤◌, ℕ, List, ◌++◌, None, length, arith, rules, subst, sym, ap, ◌∙◌}
+use Rattle.std.proofs.Common.{◌≡◌, ◌+◌, ◌-◌, ◌<◌, ℕ, List, ◌++◌, None, length, arith, rules, subst, sym, ap, ◌∙◌}
 use Rattle.dbus_value.specs.declared.order.Order.{Order}
 use Rattle.dbus_message.specs.Messages.{MessageTree}
 use Rattle.dbus_message.specs.MessageOutcomes.{IsWhole, IsPartial}
@@ -11,7 +11,7 @@ use Rattle.dbus_stream.proofs.cutter.Cutter.take.Goals.{In-Ok-Whole}
 
 -- what is taken of the piece ends where the message ends
 ends_at : (held piece all : List ℕ) (order : Order) (m : MessageTree) (n before : ℕ) → all ≡ held ++ piece → before ≡ length held → IsPartial held → IsWhole all order m n
-    → IsWhole (held ++ piece) order m (length held + (n - before)) × (before ≤ n)
+    → IsWhole (held ++ piece) order m (length held + (n - before)) × (before < n)
 ends_at held piece all order m n before joined count part_of w =
     let whole = subst (λ l. IsWhole l order m n) joined w in
     let past : length held < n = whole_past held piece order m n part_of whole in
@@ -20,7 +20,7 @@ ends_at held piece all order m n before joined count part_of w =
 
 -- the message that was decoded
 taken : (g : _) (c : In-Ok-Whole g) → IsWhole (c.args.self.now.held ++ c.args.piece.now) c.in-Ok-Whole.order (message_tree c.in-Ok-Whole.message) (length c.args.self.now.held + (c.in-Ok-Whole.used - c.len-before.result))
-    × (c.len-before.result ≤ c.in-Ok-Whole.used)
+    × (c.len-before.result < c.in-Ok-Whole.used)
 taken g c =
     let held_is : c.self.inside.held.items ≡ c.args.self.now.held = ap (λ (s : CutterState). s.held) c.self.view_is in
     let joined : c.as_slice.result.now ≡ c.args.self.now.held ++ c.args.piece.now = search rules in
@@ -33,9 +33,15 @@ pub invariant_of-self-in-Ok-Whole : goal.invariant_of-self-in-Ok-Whole
 invariant_of-self-in-Ok-Whole g c = subst (λ l. IsPartial l) (sym c.clear.ensures.items) nothing_partial
 
 pub overflow_sub-result : goal.overflow_sub-result
-overflow_sub-result g c = (taken g (goal.at.overflow_sub-result g c).In-Ok-Whole).1
+overflow_sub-result g c = let past = (taken g (goal.at.overflow_sub-result g c).In-Ok-Whole).1 in omega (arith, past)
 
-pub returns-in-Ok-Whole-clause-answer : goal.returns-in-Ok-Whole-clause-answer
-returns-in-Ok-Whole-clause-answer g c h =
-    let fault_is : c.self.inside.fault ≡ None = ap (λ (s : CutterState). s.fault) c.self.view_is ∙ h in
-    ((taken g (goal.at.returns-in-Ok-Whole-clause-answer g c).In-Ok-Whole).0, search rules)
+pub returns-in-Ok-Whole-clause-moves : goal.returns-in-Ok-Whole-clause-moves
+returns-in-Ok-Whole-clause-moves g c some = let past = (taken g (goal.at.returns-in-Ok-Whole-clause-moves g c).In-Ok-Whole).1 in omega (arith, past)
+
+pub returns-in-Ok-Whole-clause-takes : goal.returns-in-Ok-Whole-clause-takes
+returns-in-Ok-Whole-clause-takes g c = record {
+  answers = λ h.
+      let fault_is : c.self.inside.fault ≡ None = ap (λ (s : CutterState). s.fault) c.self.view_is ∙ h in
+      ((taken g (goal.at.returns-in-Ok-Whole-clause-takes g c).In-Ok-Whole).0, search rules);
+  stays = search rules;
+}

@@ -1,5 +1,6 @@
 use Rattle.std.proofs.Common.{◌-◌}
-use Rattle.dbus_stream.specs.Steps.{KeepsOn, ReadsNothing}
+use Rattle.dbus_stream.specs.Next.{ReadsNothing}
+use Rattle.dbus_stream.specs.Steps.{KeepsOn}
 use Rattle.dbus_stream.proofs.message_reader.MessageReader.take_kept.Given as goal
 
 abbrev pub invariant-gathering : goal.invariant-gathering
