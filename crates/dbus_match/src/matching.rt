@@ -71,7 +71,11 @@ fn field_is<A: Allocator>(message: &Message<A>, code: u8, value: &str) -> bool
 }
 
 /// Whether the message's SENDER is the value, or the unique name of an owner of the value.
-fn sender_is<A: Allocator>(message: &Message<A>, value: &str, owners: &[Owner<A>]) -> bool
+fn sender_is<A: Allocator, B: Allocator>(
+    message: &Message<A>,
+    value: &str,
+    owners: &[Owner<B>],
+) -> bool
     ensures { IsTrue result ↔ HasField 7 (message_tree message.now) (λ w. (value.now ≡ w) ⊎ IsOwned (ownerships owners.now) value.now w) }
 {
     match field_text(message, SENDER) {
@@ -122,7 +126,11 @@ fn arg_is_in<A: Allocator>(message: &Message<A>, namespace: &str) -> bool
 }
 
 /// Whether the condition holds of the message.
-fn holds<A: Allocator>(condition: &Condition<A>, message: &Message<A>, owners: &[Owner<A>]) -> bool
+fn holds<A: Allocator, B: Allocator>(
+    condition: &Condition<B>,
+    message: &Message<A>,
+    owners: &[Owner<B>],
+) -> bool
     ensures { IsTrue result ↔ HoldsAt condition.now.key (string_bytes condition.now.value) (message_tree message.now) (ownerships owners.now) }
 {
     let value = condition.value.as_str();
@@ -146,7 +154,11 @@ fn holds<A: Allocator>(condition: &Condition<A>, message: &Message<A>, owners: &
 /// `sender` holds where the message's SENDER is the value, or where an owner of `owners` pairs the value
 /// with that SENDER; the specification asks the bus for the owner. `destination` is compared with
 /// DESTINATION as it stands, and `eavesdrop` always holds.
-pub fn matches<A: Allocator>(rule: &Rule<A>, message: &Message<A>, owners: &[Owner<A>]) -> bool
+pub fn matches<A: Allocator, B: Allocator>(
+    rule: &Rule<B>,
+    message: &Message<A>,
+    owners: &[Owner<B>],
+) -> bool
     ensures { IsTrue result ↔ Matches (rule_pairs rule.now) (message_tree message.now) (ownerships owners.now) }
 {
     for condition in &rule.conditions {

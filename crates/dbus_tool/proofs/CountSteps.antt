@@ -8,16 +8,14 @@ use Rattle.dbus_message.specs.declared.message.Message.{Message}
 use Rattle.dbus_message.specs.MessageViews.{message_tree}
 use Rattle.dbus_message.specs.MessageOutcomes.{IsRefused, IsPartial}
 use Rattle.dbus_message.proofs.OutcomeLaws.{whole_inside}
-use Rattle.dbus_stream.specs.Device.{one_more}
 use Rattle.dbus_stream.specs.Cut.{Item, BeginWith, Ended, Unfinished, Refused, truncated, sizes}
-use Rattle.dbus_stream.specs.Next.{RisesBy, Reads, NextAnswers, GivesMessage, KeepsAll, DeviceCounts}
+use Rattle.dbus_stream.specs.Next.{RisesBy, Reads, NextAnswers, GivesMessage, KeepsAll}
 use Rattle.dbus_stream.specs.Reader.{kept, source_of, done_of, reads_of, limit_of, is_ended, stopped_of}
 use Rattle.dbus_stream.specs.declared.message_reader.MessageReader.{MessageReader}
-use Rattle.dbus_stream.specs.declared.read_fault.ReadFault.{ReadFault}
 use Rattle.dbus_stream.specs.declared.read_fault.ReadFault.TheVariants as read
 use Rattle.dbus_stream.proofs.CutLaws.{BeginWith-last, BeginWith-more}
 use Rattle.dbus_stream.proofs.NextSteps.{both_ways}
-use Rattle.dbus_tool.specs.Counting.{IsFresh, CountsAll, CountsNot, CountsMessages, IsReadCause, ended_by}
+use Rattle.dbus_tool.specs.Counting.{IsFresh, CountsAll}
 
 RisesBy-both : (j k total a b c : ℕ) → RisesBy j a b → RisesBy k b c → total ≡ j + k → RisesBy total a c
 RisesBy-both j k total a b c p q e = omega (arith, p, q, e)
@@ -71,19 +69,19 @@ module _ {R A : Type 0} (left : R → Option (List ℕ)) (calls failures : R →
   )
 
   -- what was read once more
-  record MoreRead (old mid new : MessageReader R A) (bytes : List ℕ) (items : List Item) (more : List ℕ) : Type 0 where
-    consumed : Consumes (left (source_of old)) (left (source_of new)) (bytes ++ more)
-    messages : BeginWith (bytes ++ more) items (kept mid ++ more)
-    called : RisesBy (reads_of new) (calls (source_of old)) (calls (source_of new))
-    limit : limit_of new ≡ 2 ^ 32
-    at_end : is_ended new ≡ true → IsAtEnd (left (source_of new))
+  pub record MoreRead (old mid new : MessageReader R A) (bytes : List ℕ) (items : List Item) (more : List ℕ) : Type 0 where
+    pub consumed : Consumes (left (source_of old)) (left (source_of new)) (bytes ++ more)
+    pub messages : BeginWith (bytes ++ more) items (kept mid ++ more)
+    pub called : RisesBy (reads_of new) (calls (source_of old)) (calls (source_of new))
+    pub limit : limit_of new ≡ 2 ^ 32
+    pub at_end : is_ended new ≡ true → IsAtEnd (left (source_of new))
 
   still_at_end : (mid new : MessageReader R A) (b : Bool) → is_ended mid ≡ b → (is_ended mid ≡ true → IsAtEnd (left (source_of mid))) → Reads left calls mid new
       → is_ended new ≡ true → IsAtEnd (left (source_of new))
   still_at_end mid new true e before r t = subst (λ s. IsAtEnd (left s)) (sym (r.settled e).3) (before e)
   still_at_end mid new false e before r t = r.at_end e t
 
-  more_read : (old mid new : MessageReader R A) (h : HasCounted old mid) (r : Reads left calls mid new) → MoreRead old mid new h.bytes h.items r.bytes
+  pub more_read : (old mid new : MessageReader R A) (h : HasCounted old mid) (r : Reads left calls mid new) → MoreRead old mid new h.bytes h.items r.bytes
   more_read old mid new h r = record {
     consumed = Consumes-trans _ _ _ _ _ h.consumed r.consumed;
     messages = BeginWith-more h.bytes h.items (kept mid) r.bytes h.messages;
@@ -94,8 +92,9 @@ module _ {R A : Type 0} (left : R → Option (List ℕ)) (calls failures : R →
 
   -- one more message was given
   pub counts_more : (old mid new : MessageReader R A) (given : Order × Message A) (count : ℕ) (h : HasCounted old mid) (r : Reads left calls mid new)
-      → GivesMessage (kept mid ++ r.bytes) given mid new → failures (source_of new) ≡ failures (source_of mid) → count ≡ length h.items
+      → (gives : GivesMessage (kept mid ++ r.bytes) given mid new) → failures (source_of new) ≡ failures (source_of mid) → count ≡ length h.items
       → (next : HasCounted old new) × (count + 1 ≡ length next.items)
+      × (next.items ≡ h.items ++ (record { order = given.0; message = message_tree given.1; size = gives.size }) ∷ [])
   counts_more old mid new given count h r gives same c =
       let m = more_read old mid new h r in
       let item : Item = record { order = given.0; message = message_tree given.1; size = gives.size } in (
@@ -113,6 +112,7 @@ module _ {R A : Type 0} (left : R → Option (List ℕ)) (calls failures : R →
           failed = same ∙ h.failed;
         },
         ap (λ k. k + 1) c ∙ sym (length-last h.items item),
+        refl,
       )
 
   kept_behind : (old mid new : MessageReader R A) (bytes : List ℕ) (items : List Item) (more : List ℕ) → MoreRead old mid new bytes items more → KeepsAll (kept mid ++ more) mid new
@@ -121,74 +121,68 @@ module _ {R A : Type 0} (left : R → Option (List ℕ)) (calls failures : R →
 
   pub counts_ended : (old mid new : MessageReader R A) (count : ℕ) (h : HasCounted old mid) (r : Reads left calls mid new) → count ≡ length h.items
       → NextAnswers {A = A} (kept mid ++ r.bytes) mid new (Ok None)
-      → CountsAll left calls failures (record { count = count; size = done_of new; fault = None }) (source_of old) (source_of new)
+      → (all : CountsAll left (record { count = count; size = done_of new; fault = None }) (source_of old) (source_of new)) × (all.items ≡ h.items)
   counts_ended old mid new count h r c answer =
-      let m = more_read old mid new h r in
-      record {
-        bytes = h.bytes ++ r.bytes;
-        items = h.items;
-        rest = kept new;
-        outcome = Ended;
-        consumed = m.consumed;
-        cut = record { messages = kept_behind old mid new h.bytes h.items r.bytes m answer.2; outcome_is = answer.2.kept ∙ answer.0 };
-        count_is = c;
-        size_is = answer.2.done ∙ h.done;
-        fault_is = refl;
-        at_end = λ _. m.at_end answer.1;
-      }
+      let m = more_read old mid new h r in (
+        record {
+          bytes = h.bytes ++ r.bytes;
+          items = h.items;
+          rest = kept new;
+          outcome = Ended;
+          consumed = m.consumed;
+          cut = record { messages = kept_behind old mid new h.bytes h.items r.bytes m answer.2; outcome_is = answer.2.kept ∙ answer.0 };
+          count_is = c;
+          size_is = answer.2.done ∙ h.done;
+          fault_is = refl;
+          at_end = λ _. m.at_end answer.1;
+        },
+        refl,
+      )
 
-  counts_refused : (old mid new : MessageReader R A) (count : ℕ) (fault : Fault) (h : HasCounted old mid) (r : Reads left calls mid new) → count ≡ length h.items
+  pub counts_refused : (old mid new : MessageReader R A) (count : ℕ) (fault : Fault) (h : HasCounted old mid) (r : Reads left calls mid new) → count ≡ length h.items
       → NextAnswers {A = A} (kept mid ++ r.bytes) mid new (Err (read.Format fault))
-      → CountsAll left calls failures (record { count = count; size = done_of new; fault = Some fault }) (source_of old) (source_of new)
+      → (all : CountsAll left (record { count = count; size = done_of new; fault = Some fault }) (source_of old) (source_of new)) × (all.items ≡ h.items)
   counts_refused old mid new count fault h r c answer =
       let m = more_read old mid new h r in
       let k = answer.0 in
       elim answer.2 [
-        | inl refused ↦ record {
-          bytes = h.bytes ++ r.bytes;
-          items = h.items;
-          rest = kept new;
-          outcome = Refused fault;
-          consumed = m.consumed;
-          cut = record { messages = kept_behind old mid new h.bytes h.items r.bytes m k; outcome_is = subst (λ l. IsRefused l fault) (sym k.kept) refused };
-          count_is = c;
-          size_is = k.done ∙ h.done;
-          fault_is = refl;
-          at_end = λ none. absurd (none fault refl);
-        }
-        | inr short ↦ record {
-          bytes = h.bytes ++ r.bytes;
-          items = h.items;
-          rest = kept new;
-          outcome = Unfinished;
-          consumed = m.consumed;
-          cut = record {
-            messages = kept_behind old mid new h.bytes h.items r.bytes m k;
-            outcome_is = (λ e. short.0.0 (sym k.kept ∙ e), subst IsPartial (sym k.kept) short.0.1);
-          };
-          count_is = c;
-          size_is = k.done ∙ h.done;
-          fault_is = ap Some (short.0.2 ∙ ap truncated (sym k.kept));
-          at_end = λ _. m.at_end short.1;
-        }
+        | inl refused ↦ (
+          record {
+            bytes = h.bytes ++ r.bytes;
+            items = h.items;
+            rest = kept new;
+            outcome = Refused fault;
+            consumed = m.consumed;
+            cut = record { messages = kept_behind old mid new h.bytes h.items r.bytes m k; outcome_is = subst (λ l. IsRefused l fault) (sym k.kept) refused };
+            count_is = c;
+            size_is = k.done ∙ h.done;
+            fault_is = refl;
+            at_end = λ none. absurd (none fault refl);
+          },
+          refl,
+        )
+        | inr short ↦ (
+          record {
+            bytes = h.bytes ++ r.bytes;
+            items = h.items;
+            rest = kept new;
+            outcome = Unfinished;
+            consumed = m.consumed;
+            cut = record {
+              messages = kept_behind old mid new h.bytes h.items r.bytes m k;
+              outcome_is = (λ e. short.0.0 (sym k.kept ∙ e), subst IsPartial (sym k.kept) short.0.1);
+            };
+            count_is = c;
+            size_is = k.done ∙ h.done;
+            fault_is = ap Some (short.0.2 ∙ ap truncated (sym k.kept));
+            at_end = λ _. m.at_end short.1;
+          },
+          refl,
+        )
       ]
 
-  counts_not : (old mid new : MessageReader R A) (cause : _) (h : HasCounted old mid) (r : Reads left calls mid new)
-      → IsReadCause left calls failures (source_of old) (source_of new) cause → CountsNot left calls failures cause (source_of old) (source_of new)
-  counts_not old mid new cause h r caused = record { bytes = h.bytes ++ r.bytes; consumed = (more_read old mid new h r).consumed; caused = caused }
-
-  called_all : (old mid new : MessageReader R A) (h : HasCounted old mid) (r : Reads left calls mid new) → reads_of new ≡ limit_of new
+  pub called_all : (old mid new : MessageReader R A) (h : HasCounted old mid) (r : Reads left calls mid new) → reads_of new ≡ limit_of new
       → RisesBy (2 ^ 32) (calls (source_of old)) (calls (source_of new))
   called_all old mid new h r e =
       let m = more_read old mid new h r in
       subst (λ k. RisesBy k (calls (source_of old)) (calls (source_of new))) (e ∙ m.limit) m.called
-
-  -- the reader has a fault
-  pub counts_stopped : (old mid new : MessageReader R A) (count : ℕ) (fault : ReadFault) (h : HasCounted old mid) (r : Reads left calls mid new) → count ≡ length h.items
-      → NextAnswers {A = A} (kept mid ++ r.bytes) mid new (Err fault)
-      → DeviceCounts {T = Option (Order × Message A)} (failures (source_of mid)) (failures (source_of new)) (Err fault)
-      → CountsMessages left calls failures (source_of old) (source_of new) (ended_by count (done_of new) fault)
-  counts_stopped old mid new count (read.Format fault) h r c answer counts = counts_refused old mid new count fault h r c answer
-  counts_stopped old mid new count read.Memory h r c answer counts = counts_not old mid new _ h r tt
-  counts_stopped old mid new count read.Device h r c answer counts = counts_not old mid new _ h r (counts.0 ∙ ap one_more h.failed)
-  counts_stopped old mid new count read.TooManyReads h r c answer counts = counts_not old mid new _ h r (called_all old mid new h r answer.3)

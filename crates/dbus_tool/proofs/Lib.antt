@@ -1,3 +1,8 @@
+pub mod OutputSteps
+pub mod GatherSteps
 pub mod CountSteps
+pub mod GivenSteps
+pub mod HandSteps
+pub mod ThroughSteps
 pub mod CheckSteps
-pub mod Tells
+pub mod RunSteps

@@ -1,14 +1,14 @@
--- What `check` writes of what it reads.
-use Rattle.std.specs.Prelude.{◌≡◌, ℕ, ◌^◌, List, Option, Result, Ok, Err}
+-- What a command writes of what it reads, and why it gives up.
+use Rattle.std.specs.Prelude.{◌≡◌, ◌⊎◌, ℕ, ◌^◌, List, Option, Result, Ok, Err}
 use Rattle.std.specs.Io.KnownBytes.{Appends, Consumes, IsAtEnd}
 use Rattle.dbus_value.specs.declared.fault.Fault.{Fault}
 use Rattle.dbus_stream.specs.Device.{one_more}
 use Rattle.dbus_stream.specs.Next.{RisesBy}
 use Rattle.dbus_stream.specs.Write.{Wrote}
-use Rattle.dbus_stream.specs.Cut.{Item, IsCut, Outcome, Refused, fault_at_end}
-use Rattle.dbus_tool.specs.Output.{first_output, status_of, IsFrontOf}
-use Rattle.dbus_tool.specs.declared.command.Command.{Command}
-use Rattle.dbus_tool.specs.declared.command.Command.TheVariants.{Check}
+use Rattle.dbus_stream.specs.Cut.{Item, BeginWith, IsCut, Outcome, Refused, fault_at_end, sizes}
+use Rattle.dbus_stream.specs.Stated.{BeginsWithNone}
+use Rattle.dbus_command.specs.declared.command.Command.{Command}
+use Rattle.dbus_tool.specs.Output.{IsOutputOfAll, IsFirstOutput, second_output, status_of, IsFrontOf}
 use Rattle.dbus_tool.specs.declared.ending.ExitStatus.{ExitStatus}
 use Rattle.dbus_tool.specs.declared.ending.Cause.{Cause}
 use Rattle.dbus_tool.specs.declared.ending.Cause.TheVariants.{Memory, ReadFailed, WriteFailed, TooManyReads}
@@ -29,42 +29,57 @@ module _ {W : Type 0} (held : W → Option (List ℕ)) (failures : W → ℕ) wh
     pub front : IsFrontOf written line
     pub caused : IsWriteCause old new cause
 
-  abbrev pub WritesCount : List ℕ → W → W → Result (Unit {0}) Cause → Type 0
-  WritesCount line old new (Ok x) = Wrote held failures old line new
-  WritesCount line old new (Err cause) = WritesFront line cause old new
+  abbrev pub WritesLine : List ℕ → W → W → Result (Unit {0}) Cause → Type 0
+  WritesLine line old new (Ok x) = Wrote held failures old line new
+  WritesLine line old new (Err cause) = WritesFront line cause old new
 
-module _ {R W : Type 0} (left : R → Option (List ℕ)) (calls read_failures : R → ℕ) (held : W → Option (List ℕ)) (write_failures : W → ℕ) (command : Command) where
-  -- the first writer got what the command makes of what was read, and the status is that of its fault
-  pub record Answers (old new : R) (first_old first_new : W) (end : ExitStatus) : Type 0 where
+-- what the command makes of all messages that the bytes begin with was written
+pub record WritesMessages (command : Command) (bytes written : List ℕ) : Type 0 where
+  pub items : List Item
+  pub rest : List ℕ
+  pub messages : BeginWith bytes items rest
+  pub none : BeginsWithNone rest
+  pub output : IsOutputOfAll command 1 items written
+
+module _ {R W E : Type 0} (left : R → Option (List ℕ)) (calls read_failures : R → ℕ) (held : W → Option (List ℕ)) (write_failures : W → ℕ)
+    (second_held : E → Option (List ℕ)) (second_failures : E → ℕ) (command : Command) where
+  -- both writers got what the command makes of what was read, and the status is that of its fault
+  pub record Answers (old new : R) (first_old first_new : W) (second_old second_new : E) (end : ExitStatus) : Type 0 where
     pub bytes : List ℕ
     pub items : List Item
     pub rest : List ℕ
     pub outcome : Outcome
+    pub out : List ℕ
     pub consumed : Consumes (left old) (left new) bytes
     pub cut : IsCut bytes items rest outcome
     -- without a fault that bytes show, all was read
     pub at_end : ((f : Fault) → outcome ≡ Refused f → ⊥) → IsAtEnd (left new)
-    pub first : Appends (held first_old) (held first_new) (first_output command items (fault_at_end rest outcome))
+    pub output : IsFirstOutput command items (fault_at_end rest outcome) out
+    pub first : Appends (held first_old) (held first_new) out
+    pub second : Appends (second_held second_old) (second_held second_new) (second_output command (sizes items) (fault_at_end rest outcome))
     pub status_is : end ≡ status_of (fault_at_end rest outcome)
 
   -- why a command gives up
-  abbrev pub IsCause : R → R → W → W → Cause → Type 0
-  IsCause old new first_old first_new Memory = Unit {0}
-  IsCause old new first_old first_new ReadFailed = read_failures new ≡ one_more (read_failures old)
-  IsCause old new first_old first_new WriteFailed = write_failures first_new ≡ one_more (write_failures first_old)
-  IsCause old new first_old first_new TooManyReads = RisesBy (2 ^ 32) (calls old) (calls new)
+  abbrev pub IsCause : R → R → W → W → E → E → Cause → Type 0
+  IsCause r0 r1 w0 w1 e0 e1 Memory = Unit {0}
+  IsCause r0 r1 w0 w1 e0 e1 ReadFailed = read_failures r1 ≡ one_more (read_failures r0)
+  IsCause r0 r1 w0 w1 e0 e1 WriteFailed = (write_failures w1 ≡ one_more (write_failures w0)) ⊎ (second_failures e1 ≡ one_more (second_failures e0))
+  IsCause r0 r1 w0 w1 e0 e1 TooManyReads = RisesBy (2 ^ 32) (calls r0) (calls r1)
+
+  -- where reading was given up, and no write failed, all messages that were read were written
+  abbrev pub WritesBefore : Cause → List ℕ → List ℕ → W → W → Type 0
+  WritesBefore Memory bytes written w0 w1 = Unit {0}
+  WritesBefore ReadFailed bytes written w0 w1 = write_failures w1 ≡ write_failures w0 → WritesMessages command bytes written
+  WritesBefore WriteFailed bytes written w0 w1 = Unit {0}
+  WritesBefore TooManyReads bytes written w0 w1 = write_failures w1 ≡ write_failures w0 → WritesMessages command bytes written
 
   -- the first writer got a front of what the command makes of what was read
-  pub record Fails (cause : Cause) (old new : R) (first_old first_new : W) : Type 0 where
+  pub record Fails (cause : Cause) (old new : R) (first_old first_new : W) (second_old second_new : E) : Type 0 where
     pub bytes : List ℕ
     pub written : List ℕ
     pub consumed : Consumes (left old) (left new) bytes
     pub appended : Appends (held first_old) (held first_new) written
-    pub front : (items : List Item) (rest : List ℕ) (outcome : Outcome) → IsCut bytes items rest outcome
-        → IsFrontOf written (first_output command items (fault_at_end rest outcome))
-    pub caused : IsCause old new first_old first_new cause
-
-module _ {R W : Type 0} (left : R → Option (List ℕ)) (calls read_failures : R → ℕ) (held : W → Option (List ℕ)) (write_failures : W → ℕ) where
-  abbrev pub Checks : R → R → W → W → Result ExitStatus Cause → Type 0
-  Checks r0 r1 w0 w1 (Ok status) = Answers left calls read_failures held write_failures Check r0 r1 w0 w1 status
-  Checks r0 r1 w0 w1 (Err cause) = Fails left calls read_failures held write_failures Check cause r0 r1 w0 w1
+    pub front : (items : List Item) (rest : List ℕ) (outcome : Outcome) (out : List ℕ) → IsCut bytes items rest outcome
+        → IsFirstOutput command items (fault_at_end rest outcome) out → IsFrontOf written out
+    pub before : WritesBefore cause bytes written first_old first_new
+    pub caused : IsCause old new first_old first_new second_old second_new cause

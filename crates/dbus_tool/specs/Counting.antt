@@ -2,9 +2,7 @@
 use Rattle.std.specs.Prelude.{◌≡◌, ℕ, ◌^◌, List, [], false, length, Option, None, Some, Result, Ok, Err}
 use Rattle.std.specs.Io.KnownBytes.{Consumes, IsAtEnd}
 use Rattle.dbus_value.specs.declared.fault.Fault.{Fault}
-use Rattle.dbus_stream.specs.Device.{one_more}
 use Rattle.dbus_stream.specs.Cut.{Item, IsCut, Outcome, Refused, fault_at_end, sizes}
-use Rattle.dbus_stream.specs.Next.{RisesBy}
 use Rattle.dbus_stream.specs.Reader.{kept, done_of, reads_of, limit_of, is_ended, stopped_of}
 use Rattle.dbus_stream.specs.declared.message_reader.MessageReader.{MessageReader}
 use Rattle.dbus_stream.specs.declared.read_fault.ReadFault.{ReadFault}
@@ -12,6 +10,8 @@ use Rattle.dbus_stream.specs.declared.read_fault.ReadFault.TheVariants as read
 use Rattle.dbus_tool.specs.declared.ending.Cause.{Cause}
 use Rattle.dbus_tool.specs.declared.ending.Cause.TheVariants.{Memory, ReadFailed, WriteFailed, TooManyReads}
 use Rattle.dbus_tool.specs.declared.ending.Counted.{Counted}
+use Rattle.dbus_tool.specs.declared.ending.Stop.{Stop}
+use Rattle.dbus_tool.specs.declared.ending.Stop.TheVariants.{Reader, Writer}
 
 -- a reader that nothing was read by
 pub record IsFresh {R A : Type 0} (reader : MessageReader R A) : Type 0 where
@@ -29,33 +29,21 @@ ended_by count size read.Memory = Err Memory
 ended_by count size read.Device = Err ReadFailed
 ended_by count size read.TooManyReads = Err TooManyReads
 
-module _ {R : Type 0} (left : R → Option (List ℕ)) (calls failures : R → ℕ) where
-  -- all messages of what was read were counted, up to the end of the input or a fault
-  pub record CountsAll (counted : Counted) (old new : R) : Type 0 where
-    pub bytes : List ℕ
-    pub items : List Item
-    pub rest : List ℕ
-    pub outcome : Outcome
-    pub consumed : Consumes (left old) (left new) bytes
-    pub cut : IsCut bytes items rest outcome
-    pub count_is : counted.count ≡ length items
-    pub size_is : counted.size ≡ sizes items
-    pub fault_is : counted.fault ≡ fault_at_end rest outcome
-    -- without a fault that bytes show, all was read
-    pub at_end : ((f : Fault) → outcome ≡ Refused f → ⊥) → IsAtEnd (left new)
+-- what it comes to that there is no next message behind these
+abbrev pub stopped_by : ℕ → ℕ → Stop → Result Counted Cause
+stopped_by count size (Reader fault) = ended_by count size fault
+stopped_by count size Writer = Err WriteFailed
 
-  -- why messages are not counted
-  abbrev pub IsReadCause : R → R → Cause → Type 0
-  IsReadCause old new Memory = Unit {0}
-  IsReadCause old new ReadFailed = failures new ≡ one_more (failures old)
-  IsReadCause old new WriteFailed = ⊥
-  IsReadCause old new TooManyReads = RisesBy (2 ^ 32) (calls old) (calls new)
-
-  pub record CountsNot (cause : Cause) (old new : R) : Type 0 where
-    pub bytes : List ℕ
-    pub consumed : Consumes (left old) (left new) bytes
-    pub caused : IsReadCause old new cause
-
-  abbrev pub CountsMessages : R → R → Result Counted Cause → Type 0
-  CountsMessages old new (Ok counted) = CountsAll counted old new
-  CountsMessages old new (Err cause) = CountsNot cause old new
+-- all messages of what was read were counted, up to the end of the input or a fault
+pub record CountsAll {R : Type 0} (left : R → Option (List ℕ)) (counted : Counted) (old new : R) : Type 0 where
+  pub bytes : List ℕ
+  pub items : List Item
+  pub rest : List ℕ
+  pub outcome : Outcome
+  pub consumed : Consumes (left old) (left new) bytes
+  pub cut : IsCut bytes items rest outcome
+  pub count_is : counted.count ≡ length items
+  pub size_is : counted.size ≡ sizes items
+  pub fault_is : counted.fault ≡ fault_at_end rest outcome
+  -- without a fault that bytes show, all was read
+  pub at_end : ((f : Fault) → outcome ≡ Refused f → ⊥) → IsAtEnd (left new)

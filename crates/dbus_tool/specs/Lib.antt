@@ -1,9 +1,10 @@
 pub mod Lines
+pub mod RuleLines
 pub mod Output
+pub mod Gathering
 pub mod Counting
+pub mod Handing
 pub mod Checking
 pub mod Running
-pub mod CommandLine
-pub mod Named
-pub mod Told
+pub mod Closing
 pub mod Words

@@ -1,25 +1,69 @@
 -- What a command writes of the messages of its input and the fault behind them.
-use Rattle.std.specs.Prelude.{◌≡◌, ℕ, ◌+◌, List, [], ◌++◌, length, Option, None, Some}
+use Rattle.std.specs.Prelude.{◌≡◌, ℕ, ◌+◌, ◌⊎◌, List, [], ◌∷◌, ◌++◌, length, Option, None, Some}
 use Rattle.dbus_value.specs.declared.fault.Fault.{Fault}
+use Rattle.dbus_value.specs.declared.order.Order.{Order}
+use Rattle.dbus_message.specs.Messages.{MessageTree, message_bytes}
 use Rattle.dbus_stream.specs.Cut.{Item, sizes}
+use Rattle.dbus_show.specs.ShownMessages.{message_text}
+use Rattle.dbus_match.specs.Rules.{Pair}
+use Rattle.dbus_match.specs.RuleViews.{rule_pairs}
+use Rattle.dbus_match.specs.Matching.{Matches}
+use Rattle.dbus_command.specs.declared.command.Command.{Command}
+use Rattle.dbus_command.specs.declared.command.Command.TheVariants.{Show, Check, Swap, Filter}
 use Rattle.dbus_tool.specs.Lines.{ok_line, refused_line}
-use Rattle.dbus_tool.specs.declared.command.Command.{Command}
-use Rattle.dbus_tool.specs.declared.command.Command.TheVariants.{Check}
 use Rattle.dbus_tool.specs.declared.ending.ExitStatus.{ExitStatus}
 use Rattle.dbus_tool.specs.declared.ending.ExitStatus.TheVariants as status
+
+-- the first list is a front of the second
+abbrev pub IsFrontOf : List ℕ → List ℕ → Type 0
+IsFrontOf front all = (more : List ℕ) × (all ≡ front ++ more)
+
+-- a message that matches, with no owners, is written in its own order, and of another nothing
+abbrev pub IsFiltered : List Pair → Order → MessageTree → List ℕ → Type 0
+IsFiltered pairs order message out =
+    (Matches pairs message [] × (out ≡ message_bytes order message)) ⊎ ((Matches pairs message [] → ⊥) × (out ≡ []))
+
+-- what a command writes of one message, the n-th of its input
+abbrev pub IsOutputOf : Command → Order → MessageTree → ℕ → List ℕ → Type 0
+IsOutputOf Show order message n out = out ≡ message_text order message n
+IsOutputOf Check order message n out = out ≡ []
+IsOutputOf (Swap wanted) order message n out = out ≡ message_bytes wanted message
+IsOutputOf (Filter rule) order message n out = IsFiltered (rule_pairs rule) order message out
+
+-- what it writes of several, one behind the other, of which the first is the n-th
+abbrev pub IsOutputOfAll : Command → ℕ → List Item → List ℕ → Type 0
+IsOutputOfAll command n [] out = out ≡ []
+IsOutputOfAll command n (item ∷ items) out = (one : List ℕ) × (more : List ℕ) × (out ≡ one ++ more)
+    × IsOutputOf command item.order item.message n one × IsOutputOfAll command (n + 1) items more
 
 -- how many messages of how many bytes, or the fault, whose place counts from the start of the input
 abbrev pub check_line : ℕ → ℕ → Option Fault → List ℕ
 check_line count size None = ok_line count size
 check_line count size (Some fault) = refused_line (size + fault.at) fault.reason
 
--- what the first writer gets
-abbrev pub first_output : Command → List Item → Option Fault → List ℕ
-first_output Check items fault = check_line (length items) (sizes items) fault
+-- what is written behind so many messages of so many bytes: only `check` writes a line there
+abbrev pub last_line : Command → ℕ → ℕ → Option Fault → List ℕ
+last_line Show count size fault = []
+last_line Check count size fault = check_line count size fault
+last_line (Swap order) count size fault = []
+last_line (Filter rule) count size fault = []
 
--- what the second writer gets
-abbrev pub second_output : Command → List Item → Option Fault → List ℕ
-second_output Check items fault = []
+-- what the first writer gets
+pub record IsFirstOutput (command : Command) (items : List Item) (fault : Option Fault) (out : List ℕ) : Type 0 where
+  pub written : List ℕ
+  pub each : IsOutputOfAll command 1 items written
+  pub joined : out ≡ written ++ last_line command (length items) (sizes items) fault
+
+abbrev pub fault_line : ℕ → Option Fault → List ℕ
+fault_line size None = []
+fault_line size (Some fault) = refused_line (size + fault.at) fault.reason
+
+-- what the second writer gets: the fault, which `check` tells the first
+abbrev pub second_output : Command → ℕ → Option Fault → List ℕ
+second_output Show size fault = fault_line size fault
+second_output Check size fault = []
+second_output (Swap order) size fault = fault_line size fault
+second_output (Filter rule) size fault = fault_line size fault
 
 abbrev pub status_of : Option Fault → ExitStatus
 status_of None = status.Done
@@ -30,7 +74,3 @@ exit_code status.Done = 0
 exit_code status.Refused = 1
 exit_code status.Usage = 2
 exit_code status.Failed = 3
-
--- the first list is a front of the second
-abbrev pub IsFrontOf : List ℕ → List ℕ → Type 0
-IsFrontOf front all = (more : List ℕ) × (all ≡ front ++ more)

@@ -1,4 +1,5 @@
 //! How a command ends.
+use dbus_stream::ReadFault;
 use dbus_value::Fault;
 
 /// How a run ends. The program's exit code is its number.
@@ -38,6 +39,15 @@ pub(crate) enum Cause {
     ReadFailed,
     WriteFailed,
     TooManyReads,
+}
+
+/// Why there is no next message.
+#[derive(Clone, Copy, Debug, PartialEq, Eq)]
+pub(crate) enum Stop {
+    /// The reader has a fault.
+    Reader(ReadFault),
+    /// A write failed, or took none of its bytes.
+    Writer,
 }
 
 /// The messages of an input that was read to its end or to a fault.

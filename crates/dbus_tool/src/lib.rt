@@ -1,18 +1,20 @@
 //! The commands of the program `dbus-wire`, over any reader and writers.
 #![tactic(auto)]
 
-mod checking;
-mod command;
-mod command_line;
-mod counting;
+mod closing;
 mod ending;
 mod failing;
+mod gathering;
+mod handing;
 mod lines;
+mod output;
+mod rule_lines;
 mod running;
+#[cfg(test)]
+mod tests;
 mod words;
 
-pub use command::Command;
-pub use command_line::{UsageFault, command_of};
+pub use dbus_command::{Command, UsageFault, command_of};
 pub use ending::ExitStatus;
 pub use running::run;
 pub use words::run_words;

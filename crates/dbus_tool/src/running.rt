@@ -1,22 +1,29 @@
 //! A command, over any reader and two writers.
 ghost use Rattle.dbus_tool.specs.Running.{Runs};
 
-use crate::checking::check;
-use crate::command::Command;
+use crate::closing::{break_off, close};
 use crate::ending::ExitStatus;
-use crate::failing::give_up;
+use crate::gathering::Gathered;
+use crate::handing::hand_over;
+use dbus_command::Command;
 use dbus_stream::{Sink, Source};
 use std::alloc::Allocator;
 
 /// Does what the command says with all that the reader gives. Its output goes to the first writer.
 ///
-/// `Check` writes `ok N messages B bytes`, how many messages the input is and of how many bytes; or `refused at P: NAME`,
-/// where the bytes behind the messages are none or too few, with the place from the start of the input and the name of
-/// the reason. Where the run fails, it writes `read failed`, `write failed`, `too many reads` or `out of memory` on the
-/// second writer. Each line ends in LF. The run holds at most the bytes of one message and of one read.
+/// `Show` writes each message as text, numbered from 1. `Swap` writes each message in the order that it names. `Filter`
+/// writes each message that the rule matches, with no owners, in its own order. Where the bytes behind the messages are
+/// none or too few, each of these writes `refused at P: NAME` on the second writer, with the place from the start of the
+/// input and the name of the reason. `Check` writes that line on the first writer; or, where the input is messages alone,
+/// `ok N messages B bytes`, how many they are and of how many bytes.
 ///
-/// `Done`, `Refused`: all was written, and the status says which. `Failed`: a read failed, a write failed or took none
-/// of its bytes, 2^32 reads were made, or a growth was refused. It is never `Usage`.
+/// Where the run fails, it writes `read failed`, `write failed`, `too many reads` or `out of memory` on the second
+/// writer, the first of these that was met. Each line ends in LF. What is written is gathered up to 16,384 bytes, and
+/// goes out before each read and before the status is given. The run holds at most the bytes of one message and of one
+/// read, one message and its output, and what is gathered.
+///
+/// `Done`, `Refused`: all was written, and the status says which. `Failed`: a read failed, a write to either writer
+/// failed or took none of its bytes, 2^32 reads were made, or a growth was refused. It is never `Usage`.
 pub fn run<A: Allocator + Copy, R: Source, W: Sink, E: Sink>(
     alloc: A,
     command: Command,
@@ -26,11 +33,22 @@ pub fn run<A: Allocator + Copy, R: Source, W: Sink, E: Sink>(
 ) -> ExitStatus
     ensures { Runs R.left R.calls R.failures W.held W.failures E.held E.failures command reader.old reader.new first.old first.new second.old second.new result }
 {
-    let answer = match command {
-        Command::Check => check(alloc, reader, first),
-    };
-    match answer {
-        Ok(status) => status,
-        Err(cause) => give_up(cause, second),
+    run_command(alloc, &command, reader, first, second)
+}
+
+// The same, of a command that is lent.
+fn run_command<A: Allocator + Copy, R: Source, W: Sink, E: Sink>(
+    alloc: A,
+    command: &Command,
+    reader: &mut R,
+    first: &mut W,
+    second: &mut E,
+) -> ExitStatus
+    ensures { Runs R.left R.calls R.failures W.held W.failures E.held E.failures command.now reader.old reader.new first.old first.new second.old second.new result }
+{
+    let mut gathered = Gathered::new();
+    match hand_over(alloc, command, reader, &mut gathered, first) {
+        Ok(counted) => close(alloc, command, counted, &mut gathered, first, second),
+        Err(cause) => break_off(cause, &mut gathered, first, second),
     }
 }

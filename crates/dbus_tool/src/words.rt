@@ -1,16 +1,20 @@
 //! The program over the words of its command line.
 ghost use Rattle.std.specs.Prelude.{map, string_bytes};
-ghost use Rattle.dbus_tool.specs.Words.{RunsWords, ShowsHelp, ShowsUsage};
+ghost use Rattle.dbus_tool.specs.Words.{RefusesRule, RunsWords, ShowsHelp, ShowsUsage};
 
-use crate::command_line::{UsageFault, command_of};
 use crate::ending::{Cause, ExitStatus};
 use crate::failing::give_up;
+use crate::rule_lines::rule_line;
 use crate::running::run;
+use dbus_command::{UsageFault, command_of};
+use dbus_match::RuleFault;
 use dbus_stream::{Sink, Source, WrittenOnly, write_all};
 use std::alloc::Global;
 
 /// Does what `run` does for the command that the words name, of which the first is the program's name. Where the words
-/// ask for help, its text goes to the first writer. Where they name no command, a text that says how goes to the second.
+/// ask for help, its text goes to the first writer. Where they name no command, a text that says how goes to the second;
+/// and where they name `filter` with a text that spells no rule, `rule refused at P: NAME` and LF, the place in that text
+/// and the name of the reason.
 ///
 /// `Done`, `Refused`, `Failed`: as `run` says. `Done` also where help was written. `Usage`: the words name no command,
 /// and that was told. `Failed` also where such a text was not written, of help with `write failed` on the second writer;
@@ -30,6 +34,7 @@ pub fn run_words<R: Source, W: Sink, E: Sink>(
         Err(UsageFault::Memory) => give_up(Cause::Memory, second),
         Err(UsageFault::Help(text)) => show_help(text.as_str(), first, second),
         Err(UsageFault::Usage(text)) => show_usage(text.as_str(), second),
+        Err(UsageFault::Rule(fault)) => refuse_rule(alloc, fault, second),
     }
 }
 
@@ -50,5 +55,18 @@ fn show_usage<E: Sink>(text: &str, second: &mut E) -> ExitStatus
     match write_all(second, text.as_bytes()) {
         Ok(()) => ExitStatus::Usage,
         Err(WrittenOnly(_)) => ExitStatus::Failed,
+    }
+}
+
+// Writes the line of a rule's fault.
+fn refuse_rule<E: Sink>(alloc: Global, fault: RuleFault, second: &mut E) -> ExitStatus
+    ensures { RefusesRule E.held E.failures fault second.old second.new result }
+{
+    match fault {
+        RuleFault::Memory => give_up(Cause::Memory, second),
+        RuleFault::Bad { at, reason } => match rule_line(alloc, at, reason) {
+            Ok(line) => show_usage(line.as_str(), second),
+            Err(_) => give_up(Cause::Memory, second),
+        },
     }
 }

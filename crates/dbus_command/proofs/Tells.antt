@@ -1,0 +1,51 @@
+-- What clap's answer says of what is told.
+use Rattle.std.proofs.Common.{◌≡◌, List, [], true, refl, subst, sym, ◌∙◌, inl, inr, Ok, Err, Option, Result}
+use Rattle.clap.specs.Words.{Row, Text, subcommand_of}
+use Rattle.clap.specs.Kinds.{IsAmong, HasKind}
+use Rattle.clap.specs.Faults.{fault_of, is_simple_and_free}
+use Rattle.clap.specs.Simple.{is_simple}
+use Rattle.clap.specs.Values.{kind_of}
+use Rattle.clap.specs.declared.error.Error.{Error}
+use Rattle.clap.specs.declared.error.kind.ErrorKind.TheVariants.{DisplayHelp, OutOfMemory}
+use Rattle.clap.proofs.OnLiterals.{clap_on_literals}
+use Rattle.dbus_command.specs.CommandLine.{wire_app}
+use Rattle.dbus_command.specs.Told.{TellsFault, TellsKind, Tells, IsUsageOrMemory, NamesNothing}
+use Rattle.dbus_command.specs.Named.{HasRuleFault}
+use Rattle.dbus_command.specs.declared.command.Command.{Command}
+use Rattle.dbus_command.specs.declared.usage_fault.UsageFault.{UsageFault}
+use Rattle.dbus_command.specs.declared.usage_fault.UsageFault.TheVariants.{Memory, Help, Usage, Rule}
+
+pub wire_is_simple : is_simple wire_app ≡ true
+unfolding clap_on_literals
+wire_is_simple = refl
+
+pub wire_is_free : is_simple_and_free wire_app ≡ true
+unfolding clap_on_literals
+wire_is_free = refl
+
+-- a text that is told of words that name nothing
+pub nothing_told : (sub : Option (Text × List Row)) (told : UsageFault) → IsUsageOrMemory told → NamesNothing sub → Tells sub (Err told)
+nothing_told sub Memory is none = tt
+nothing_told sub (Help text) is none = absurd is
+nothing_told sub (Usage text) is none = none
+nothing_told sub (Rule fault) is none = absurd is
+
+pub told_of_matches : (words : List Text) (sub : Option (Text × List Row)) (answer : Result Command UsageFault) → fault_of wire_app words ≡ []
+    → subcommand_of wire_app words ≡ sub → Tells sub answer → TellsFault words answer
+told_of_matches words sub (Ok command) none same h = none
+told_of_matches words sub (Err Memory) none same h = tt
+told_of_matches words sub (Err (Help text)) none same h = absurd h
+told_of_matches words sub (Err (Usage text)) none same h = inr (none, subst NamesNothing (sym same) h)
+told_of_matches words sub (Err (Rule fault)) none same h = (none, subst (λ s. HasRuleFault s fault) (sym same) h)
+
+pub told_of_error : (words : List Text) (e : Error) (told : UsageFault) → HasKind (fault_of wire_app words) e → TellsKind (kind_of e) told → TellsFault words (Err told)
+told_of_error words e Memory k t = tt
+told_of_error words e (Help text) k t = elim k [
+  | inl memory ↦ let bad : DisplayHelp ≡ OutOfMemory = sym t ∙ memory in cc
+  | inr found ↦ subst (λ kind. IsAmong kind (fault_of wire_app words)) t found
+]
+told_of_error words e (Usage text) k t = elim k [
+  | inl memory ↦ absurd (t.1 memory)
+  | inr found ↦ inl (record { kind = kind_of e; found = found; no_help = t.0 })
+]
+told_of_error words e (Rule fault) k t = absurd t

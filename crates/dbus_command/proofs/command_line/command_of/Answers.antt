@@ -1,0 +1,23 @@
+use Rattle.std.proofs.Common.{rules, ◌≡◌, [], sym, ap, ◌∙◌, subst, map, string_bytes}
+use Rattle.clap.specs.Words.{App, subcommand_rows_of, subcommand_of}
+use Rattle.clap.specs.Kinds.{HasKind}
+use Rattle.clap.specs.Faults.{fault_of, is_simple_and_free}
+use Rattle.dbus_command.specs.CommandLine.{wire_app}
+use Rattle.dbus_command.proofs.Tells.{wire_is_free, told_of_matches, told_of_error}
+use Rattle.dbus_command.proofs.command_line.command_of.Goals as goal
+
+pub returns-in-Ok-try_get_matches_from-clause-faults : goal.returns-in-Ok-try_get_matches_from-clause-faults
+returns-in-Ok-try_get_matches_from-clause-faults c =
+    let free = ap is_simple_and_free c.in-Ok.ensures ∙ wire_is_free in
+    let none : fault_of wire_app (map string_bytes c.args.words.now) ≡ []
+    = ap (λ (a : App). fault_of a (map string_bytes c.args.words.now)) (sym c.in-Ok.ensures) ∙ c.in-Ok-try_get_matches_from.ensures.kinds free in
+    let same : subcommand_of wire_app (map string_bytes c.args.words.now) ≡ subcommand_rows_of c.in-Ok-try_get_matches_from.matches
+    = search rules in
+    told_of_matches (map string_bytes c.args.words.now) (subcommand_rows_of c.in-Ok-try_get_matches_from.matches) c.command_named.result none same c.command_named.ensures
+
+pub returns-in-Err-clause-faults : goal.returns-in-Err-clause-faults
+returns-in-Err-clause-faults c =
+    let words = map string_bytes c.args.words.now in
+    let free = ap is_simple_and_free c.in-Ok.ensures ∙ wire_is_free in
+    told_of_error words c.in-Err.error c.fault_told.result
+    (subst (λ (a : App). HasKind (fault_of a words) c.in-Err.error) c.in-Ok.ensures (c.in-Err.ensures.kinds free)) c.fault_told.ensures

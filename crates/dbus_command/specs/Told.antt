@@ -1,0 +1,54 @@
+-- What is told of words that name no command.
+use Rattle.std.specs.Prelude.{◌≡◌, ◌≢◌, ◌⊎◌, List, [], Option, Result, Ok, Err}
+use Rattle.clap.specs.Words.{Row, Text, subcommand_of}
+use Rattle.clap.specs.Kinds.{IsAmong}
+use Rattle.clap.specs.Faults.{fault_of}
+use Rattle.clap.specs.declared.error.kind.ErrorKind.{ErrorKind}
+use Rattle.clap.specs.declared.error.kind.ErrorKind.TheVariants.{DisplayHelp, OutOfMemory}
+use Rattle.dbus_match.specs.declared.fault.RuleFault.{RuleFault}
+use Rattle.dbus_command.specs.CommandLine.{wire_app}
+use Rattle.dbus_command.specs.Named.{Names, HasRuleFault}
+use Rattle.dbus_command.specs.declared.command.Command.{Command}
+use Rattle.dbus_command.specs.declared.usage_fault.UsageFault.{UsageFault}
+use Rattle.dbus_command.specs.declared.usage_fault.UsageFault.TheVariants.{Memory, Help, Usage, Rule}
+
+-- help is told where it was asked for, and a fault of usage where clap found one
+abbrev pub TellsKind : ErrorKind → UsageFault → Type 0
+TellsKind kind Memory = Unit {0}
+TellsKind kind (Help text) = kind ≡ DisplayHelp
+TellsKind kind (Usage text) = (kind ≢ DisplayHelp) × (kind ≢ OutOfMemory)
+TellsKind kind (Rule fault) = ⊥
+
+abbrev pub IsUsageOrMemory : UsageFault → Type 0
+IsUsageOrMemory Memory = Unit {0}
+IsUsageOrMemory (Help text) = ⊥
+IsUsageOrMemory (Usage text) = Unit {0}
+IsUsageOrMemory (Rule fault) = ⊥
+
+-- the subcommand and the words behind it name no command, and no rule's text that has a fault
+pub record NamesNothing (sub : Option (Text × List Row)) : Type 0 where
+  pub no_command : (command : Command) → Names sub command → ⊥
+  pub no_rule : (fault : RuleFault) → HasRuleFault sub fault → ⊥
+
+-- the command that the subcommand and the words behind it name; else the fault of the rule's text; else a fault of usage
+abbrev pub Tells : Option (Text × List Row) → Result Command UsageFault → Type 0
+Tells sub (Ok command) = Names sub command
+Tells sub (Err Memory) = Unit {0}
+Tells sub (Err (Help text)) = ⊥
+Tells sub (Err (Usage text)) = NamesNothing sub
+Tells sub (Err (Rule fault)) = HasRuleFault sub fault
+
+-- a kind of fault, other than a wish for help, that clap finds in the words
+pub record HasUsageFault (words : List Text) : Type 0 where
+  pub kind : ErrorKind
+  pub found : IsAmong kind (fault_of wire_app words)
+  pub no_help : kind ≢ DisplayHelp
+
+-- a command, and a rule's fault, come only from words in which clap finds no fault, help only from words that ask for it,
+-- and a fault of usage only from words that have one, or that have neither a command nor a rule's fault
+abbrev pub TellsFault : List Text → Result Command UsageFault → Type 0
+TellsFault words (Ok command) = fault_of wire_app words ≡ []
+TellsFault words (Err Memory) = Unit {0}
+TellsFault words (Err (Help text)) = IsAmong DisplayHelp (fault_of wire_app words)
+TellsFault words (Err (Usage text)) = HasUsageFault words ⊎ ((fault_of wire_app words ≡ []) × NamesNothing (subcommand_of wire_app words))
+TellsFault words (Err (Rule fault)) = (fault_of wire_app words ≡ []) × HasRuleFault (subcommand_of wire_app words) fault

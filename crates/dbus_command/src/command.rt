@@ -1,0 +1,16 @@
+//! The commands.
+use dbus_match::Rule;
+use dbus_value::Order;
+
+/// What the program does with the messages that it reads.
+#[derive(Debug, Drop)]
+pub enum Command {
+    /// Writes each message as text.
+    Show,
+    /// Tells whether the input is messages, and how many.
+    Check,
+    /// Writes each message in this byte order.
+    Swap(Order),
+    /// Writes the messages that match the rule, as they came.
+    Filter(Rule),
+}

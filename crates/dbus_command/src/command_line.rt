@@ -1,0 +1,134 @@
+//! The command that the words of a command line name.
+ghost use Rattle.std.specs.Prelude.{List, IfOk, Some, map, string_bytes, codes};
+ghost use Rattle.clap.specs.Words.{found_of, kind_of, rows_of, subcommand_rows_of};
+ghost use Rattle.dbus_command.specs.Named.{IsNamedBy, IsOrderOf};
+ghost use Rattle.dbus_command.specs.Told.{TellsKind, IsUsageOrMemory, Tells, TellsFault};
+
+use crate::command::Command;
+use crate::usage_fault::UsageFault;
+use crate::wire::wire;
+use clap::ArgMatches;
+use clap::error::ErrorKind;
+use dbus_match::{RuleFault, parse_rule};
+use dbus_value::Order;
+use std::alloc::Global;
+
+/// The command that the words name. The first of them is the program's name.
+///
+/// `Usage`: the words name no command of the program, or have what it does not take. `Rule`: they name `filter`, with a
+/// text that spells no rule. `Help`: they ask for help. `Memory`: a growth was refused.
+pub fn command_of(alloc: Global, words: &[String]) -> Result<Command, UsageFault>
+    // A command that is answered is the one that the words name.
+    ensures named { IfOk result (IsNamedBy (map string_bytes words.now)) }
+    // Help is told where the words ask for it, a fault of usage where they have one, and a rule's fault where its text has it.
+    ensures faults { TellsFault (map string_bytes words.now) result }
+{
+    let Ok(command) = wire(alloc) else {
+        return Err(UsageFault::Memory);
+    };
+    match command.try_get_matches_from(words) {
+        Ok(matches) => command_named(alloc, &matches),
+        Err(error) => Err(fault_told(alloc, &error)),
+    }
+}
+
+// The command that matches name.
+fn command_named(alloc: Global, matches: &ArgMatches) -> Result<Command, UsageFault>
+    ensures { Tells (subcommand_rows_of matches.now) result }
+{
+    let Some((name, inner)) = matches.subcommand() else {
+        return Err(usage(alloc, "error: no command\n"));
+    };
+    if name == "show" {
+        return Ok(Command::Show);
+    }
+    if name == "check" {
+        return Ok(Command::Check);
+    }
+    if name == "swap" {
+        return order_named(alloc, inner);
+    }
+    if name == "filter" {
+        return rule_named(alloc, inner);
+    }
+    Err(usage(alloc, "error: no such command\n"))
+}
+
+// The order that `swap` is given.
+fn order_named(alloc: Global, inner: &ArgMatches) -> Result<Command, UsageFault>
+    ensures { Tells (Some (codes "swap", rows_of (found_of inner.now))) result }
+{
+    let Some(word) = inner.get_str("to") else {
+        return Err(usage(alloc, "error: no order\n"));
+    };
+    match order_of(word) {
+        Some(order) => Ok(Command::Swap(order)),
+        None => Err(no_order(alloc, word)),
+    }
+}
+
+// The order that a word stands for.
+fn order_of(word: &str) -> Option<Order>
+    ensures { IsOrderOf word.now result }
+{
+    if word == "l" {
+        return Some(Order::Little);
+    }
+    if word == "B" {
+        return Some(Order::Big);
+    }
+    None
+}
+
+// The rule that `filter` is given.
+fn rule_named(alloc: Global, inner: &ArgMatches) -> Result<Command, UsageFault>
+    ensures { Tells (Some (codes "filter", rows_of (found_of inner.now))) result }
+{
+    let Some(text) = inner.get_str("rule") else {
+        return Err(usage(alloc, "error: no rule\n"));
+    };
+    match parse_rule(alloc, text) {
+        Ok(rule) => Ok(Command::Filter(rule)),
+        Err(RuleFault::Memory) => Err(UsageFault::Memory),
+        Err(RuleFault::Bad { at, reason }) => Err(UsageFault::Rule(RuleFault::Bad { at, reason })),
+    }
+}
+
+// A word that stands for no order, told as `clap` tells a value that it does not take.
+fn no_order(alloc: Global, word: &str) -> UsageFault
+    ensures { IsUsageOrMemory result }
+{
+    let told = format!(in alloc;
+        "error: invalid value '{word}' for '--to <ORDER>'\n  [possible values: l, B]\n\nFor more information, try '--help'.\n"
+    );
+    match told {
+        Ok(text) => UsageFault::Usage(text),
+        Err(_) => UsageFault::Memory,
+    }
+}
+
+// A fault of usage with this text.
+fn usage(alloc: Global, text: &str) -> UsageFault
+    ensures { IsUsageOrMemory result }
+{
+    match String::from_str(alloc, text) {
+        Ok(text) => UsageFault::Usage(text),
+        Err(_) => UsageFault::Memory,
+    }
+}
+
+// What is told of words that clap refuses: its own text.
+fn fault_told(alloc: Global, error: &clap::Error) -> UsageFault
+    ensures { TellsKind (kind_of error.now) result }
+{
+    if error.kind() == ErrorKind::OutOfMemory {
+        return UsageFault::Memory;
+    }
+    let Ok(text) = error.to_string(alloc) else {
+        return UsageFault::Memory;
+    };
+    if error.kind() == ErrorKind::DisplayHelp {
+        return UsageFault::Help(text);
+    }
+    UsageFault::Usage(text)
+}

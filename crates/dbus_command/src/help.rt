@@ -1,0 +1,98 @@
+//! The texts of help.
+
+// What stands behind the help of a command: what it reads, what it writes, how it ends, and an example.
+macro_rules! more {
+    ($output:literal, $example:literal) => {
+        concat!(
+            "Input:
+  Raw messages on standard input, one behind the other, as
+  `dbus-monitor --binary` writes them.
+
+Output:",
+            $output,
+            "
+
+Exit status:
+  0  the whole input is messages, or help was asked for
+  1  the input is refused: it has bytes that are no message, or ends within one
+  2  the words of the command line are wrong
+  3  a read or a write failed, too many reads were made, or memory was refused
+
+Example:",
+            $example
+        )
+    };
+}
+
+/// What the program does.
+pub(crate) const PROGRAM: &str =
+    "Reads D-Bus messages from standard input, and shows, checks, swaps or filters them";
+
+/// What stands behind the program's help.
+pub(crate) const PROGRAM_MORE: &str = more!(
+    "
+  What the command makes of the messages, on standard output. Of an input that
+  is refused, `refused at P: NAME` tells the place, in bytes from its start, and
+  the reason. check writes that line to standard output; the others write it to
+  standard error, and what they made of the messages before that place stays.",
+    "
+  dbus-monitor --session --binary > capture
+  dbus-wire check < capture"
+);
+
+/// What `show` does.
+pub(crate) const SHOW: &str = "Writes each message as text";
+
+/// What stands behind the help of `show`.
+pub(crate) const SHOW_MORE: &str = more!(
+    "
+  For each message a line on standard output with its number from 1, byte order,
+  type, serial, flags and header fields, and below it a line for each value of
+  its body. Of an input that is refused, `refused at P: NAME` on standard error.",
+    "
+  dbus-monitor --session --binary | dbus-wire show"
+);
+
+/// What `check` does.
+pub(crate) const CHECK: &str = "Tells whether the input is messages, and how many";
+
+/// What stands behind the help of `check`.
+pub(crate) const CHECK_MORE: &str = more!(
+    "
+  One line on standard output: `ok N messages B bytes`, or `refused at P: NAME`
+  with the place, in bytes from the start of the input, and the reason.",
+    "
+  dbus-wire check < capture"
+);
+
+/// What `swap` does.
+pub(crate) const SWAP: &str = "Writes each message in one byte order";
+
+/// What stands behind the help of `swap`.
+pub(crate) const SWAP_MORE: &str = more!(
+    "
+  The raw messages on standard output, each in the byte order that is named.
+  Of an input that is refused, `refused at P: NAME` on standard error.",
+    "
+  dbus-wire swap --to B < capture > big-endian"
+);
+
+/// What the order of `swap` is.
+pub(crate) const ORDER: &str = "The byte order: l is little-endian, B is big-endian";
+
+/// What `filter` does.
+pub(crate) const FILTER: &str = "Writes the messages that match a rule, as they came";
+
+/// What stands behind the help of `filter`.
+pub(crate) const FILTER_MORE: &str = more!(
+    "
+  The raw messages that match, on standard output, each as it came.
+  Of an input that is refused, `refused at P: NAME` on standard error. Of a rule
+  that is refused, `rule refused at P: NAME` there, with the place in the rule.",
+    "
+  dbus-wire filter \"type='signal',member='NameLost'\" < capture | dbus-wire show"
+);
+
+/// What the rule of `filter` is.
+pub(crate) const RULE: &str =
+    "A D-Bus match rule, as type='signal',path='/a'; '' matches each message";

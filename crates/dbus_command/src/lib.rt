@@ -1,0 +1,14 @@
+//! The command line of the program `dbus-wire`: which command its words name.
+#![tactic(auto)]
+
+mod command;
+mod command_line;
+mod help;
+#[cfg(test)]
+mod tests;
+mod usage_fault;
+mod wire;
+
+pub use command::Command;
+pub use command_line::command_of;
+pub use usage_fault::UsageFault;

@@ -1,0 +1,85 @@
+-- The next message, where nothing was read before it.
+use Rattle.std.proofs.Common.{ℕ, ◌+◌, List, [], ◌++◌, None, Some, Ok, Err, Option, Result, refl, ap, ◌∙◌, subst}
+use Rattle.std.specs.Io.KnownBytes.{Consumes}
+use Rattle.dbus_value.specs.declared.order.Order.{Order}
+use Rattle.dbus_message.specs.declared.message.Message.{Message}
+use Rattle.dbus_stream.specs.Stated.{BeginsWithNone}
+use Rattle.dbus_stream.specs.Next.{RisesBy, Reads, ReadsNothing, KeepsAll, NextAnswers, KeptAnswers, DeviceCounts}
+use Rattle.dbus_stream.specs.Reader.{kept, source_of}
+use Rattle.dbus_stream.specs.declared.message_reader.MessageReader.{MessageReader}
+use Rattle.dbus_stream.specs.declared.read_fault.ReadFault.{ReadFault}
+use Rattle.dbus_stream.specs.declared.read_fault.ReadFault.TheVariants as read
+use Rattle.dbus_stream.proofs.NextSteps.{kept_as_next, unread, starts}
+use Rattle.dbus_tool.specs.Gathering.{Breaks}
+use Rattle.dbus_tool.specs.Handing.{GivesNext}
+use Rattle.dbus_tool.specs.declared.ending.Stop.{Stop}
+use Rattle.dbus_tool.specs.declared.ending.Stop.TheVariants.{Reader, Writer}
+use Rattle.dbus_tool.proofs.GatherSteps.{passes_none}
+
+module _ {R A : Type 0} (left : R → Option (List ℕ)) (calls failures : R → ℕ) where
+  -- what is read behind a step that reads nothing and keeps all
+  abbrev reads_behind : (old mid new : MessageReader R A) → ReadsNothing old mid → KeepsAll (kept old) old mid → Reads left calls mid new → Reads left calls old new
+  reads_behind old mid new n k r = record {
+    bytes = r.bytes;
+    count = r.count;
+    consumed = subst (λ (s : R). Consumes (left s) (left (source_of new)) r.bytes) n.source r.consumed;
+    last = r.last;
+    before = r.before;
+    joined = r.joined;
+    needed = λ some. subst (λ l. BeginsWithNone (l ++ r.before)) k.kept (r.needed some);
+    reads = r.reads ∙ ap (λ x. x + r.count) n.reads;
+    called = subst (λ (s : R). RisesBy r.count (calls s) (calls (source_of new))) n.source r.called;
+    limit = r.limit ∙ n.limit;
+    settled = λ e. let s = r.settled (n.ended ∙ e) in (s.0, s.1, s.2, s.3 ∙ n.source);
+    at_end = λ e f. r.at_end (n.ended ∙ e) f;
+  }
+
+  keeps_behind : (w : List ℕ) (old mid new : MessageReader R A) → KeepsAll (kept old) old mid → KeepsAll w mid new → KeepsAll w old new
+  keeps_behind w old mid new k l = record { kept = l.kept; done = l.done ∙ k.done }
+
+  answers_behind : (w : List ℕ) (old mid new : MessageReader R A) (res : Result (Option (Order × Message A)) ReadFault) → KeepsAll (kept old) old mid
+      → NextAnswers w mid new res → NextAnswers w old new res
+  answers_behind w old mid new (Ok (Some given)) k a =
+      record { size = a.size; whole = a.whole; kept = a.kept; done = a.done ∙ ap (λ x. x + a.size) k.done; unstopped = a.unstopped }
+  answers_behind w old mid new (Ok None) k a = (a.0, a.1, keeps_behind w old mid new k a.2, a.3)
+  answers_behind w old mid new (Err read.Memory) k a = (keeps_behind w old mid new k a.0, a.1)
+  answers_behind w old mid new (Err (read.Format fault)) k a = (keeps_behind w old mid new k a.0, a.1, a.2)
+  answers_behind w old mid new (Err read.Device) k a = (keeps_behind w old mid new k a.0, a.1, a.2)
+  answers_behind w old mid new (Err read.TooManyReads) k a = (keeps_behind w old mid new k a.0, a.1, a.2, a.3)
+
+  both_behind : (old mid new : MessageReader R A) (res : Result (Option (Order × Message A)) ReadFault) → ReadsNothing old mid → KeepsAll (kept old) old mid
+      → (r : Reads left calls mid new) → NextAnswers (kept mid ++ r.bytes) mid new res → (s : Reads left calls old new) × NextAnswers (kept old ++ s.bytes) old new res
+  both_behind old mid new res n k r a = (
+    reads_behind old mid new n k r,
+    answers_behind (kept old ++ r.bytes) old mid new res k (subst (λ l. NextAnswers (l ++ r.bytes) mid new res) k.kept a),
+  )
+
+  module _ {W : Type 0} (held : W → Option (List ℕ)) (write_failures : W → ℕ) where
+    pub gives_behind : (old mid new : MessageReader R A) (g0 g1 : List ℕ) (w0 w1 : W) (res : Result (Option (Order × Message A)) Stop) → ReadsNothing old mid
+        → KeepsAll (kept old) old mid → GivesNext left calls failures held write_failures mid new g0 g1 w0 w1 res → GivesNext left calls failures held write_failures old new g0 g1 w0 w1 res
+    gives_behind old mid new g0 g1 w0 w1 (Ok given) n k g =
+        let both = both_behind old mid new (Ok given) n k g.0 g.1 in
+        (both.0, both.1, g.2 ∙ ap failures n.source, g.3)
+    gives_behind old mid new g0 g1 w0 w1 (Err (Reader fault)) n k g =
+        let both = both_behind old mid new (Err fault) n k g.0 g.1 in
+        (both.0, both.1, subst (λ (x : ℕ). DeviceCounts {T = Option (Order × Message A)} x (failures (source_of new)) (Err fault)) (ap failures n.source) g.2, g.3)
+    gives_behind old mid new g0 g1 w0 w1 (Err Writer) n k g = (reads_behind old mid new n k g.0, g.1)
+
+    -- a message that is kept
+    pub gives_kept : (old new : MessageReader R A) (given : Order × Message A) (g : List ℕ) (w : W) → KeptAnswers old new (Ok (Some given)) → ReadsNothing old new
+        → GivesNext left calls failures held write_failures old new g g w w (Ok (Some given))
+    gives_kept old new given g w k n =
+        let both = kept_as_next left calls failures old new (Ok (Some given)) (λ e. cc) k n in
+        (both.0, both.1, ap failures n.source, passes_none held write_failures g w)
+
+    pub gives_kept_fault : (old new : MessageReader R A) (fault : ReadFault) (g : List ℕ) (w : W) → KeptAnswers {A = A} old new (Err fault) → ReadsNothing old new
+        → DeviceCounts {T = Option (Order × Message A)} (failures (source_of old)) (failures (source_of new)) (Err fault)
+        → GivesNext left calls failures held write_failures old new g g w w (Err (Reader fault))
+    gives_kept_fault old new fault g w k n counts =
+        let both = kept_as_next left calls failures old new (Err fault) (λ e. cc) k n in
+        (both.0, both.1, counts, passes_none held write_failures g w)
+
+    -- what is gathered was not written, and nothing was read
+    pub gives_unwritten : (old : MessageReader R A) (g0 g1 : List ℕ) (w0 w1 : W) → Breaks held write_failures [] g0 w0 w1
+        → GivesNext left calls failures held write_failures old old g0 g1 w0 w1 (Err Writer)
+    gives_unwritten old g0 g1 w0 w1 b = (unread left calls failures old old old (starts left calls failures old) (record { source = refl; reads = refl; limit = refl; ended = refl }), b)

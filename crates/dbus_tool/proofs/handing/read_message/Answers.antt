@@ -1,0 +1,16 @@
+use Rattle.dbus_tool.proofs.GivenSteps.{gives_unwritten}
+use Rattle.dbus_tool.proofs.handing.read_message.Goals as goal
+
+pub returns-in-Ok-next-clause-gives : goal.returns-in-Ok-next-clause-gives
+returns-in-Ok-next-clause-gives g c =
+    let read = c.in-Ok-next.ensures.read in
+    (read.0, read.1 c.requires, c.in-Ok-next.ensures.failed, c.in-Ok.ensures.gathers)
+
+pub returns-in-Err-next-clause-gives : goal.returns-in-Err-next-clause-gives
+returns-in-Err-next-clause-gives g c =
+    let read = c.in-Err-next.ensures.read in
+    (read.0, read.1 c.requires, c.in-Err-next.ensures.failed, c.in-Ok.ensures.gathers)
+
+pub returns-in-Err-clause-gives : goal.returns-in-Err-clause-gives
+returns-in-Err-clause-gives g c =
+    gives_unwritten g.R.Source.left g.R.Source.calls g.R.Source.failures g.W.Sink.held g.W.Sink.failures c.args.messages.now c.args.gathered.now.items c.write_out.new.gathered.items c.args.first.now c.write_out.new.first c.in-Err.ensures.gathers

@@ -1,0 +1,80 @@
+-- What was read and written where messages are handed to a command. g0 and g1 are what is gathered before and after.
+use Rattle.std.specs.Prelude.{◌≡◌, ℕ, ◌^◌, List, [], ◌++◌, Option, Result, Ok, Err}
+use Rattle.std.specs.Io.KnownBytes.{Consumes}
+use Rattle.dbus_value.specs.declared.order.Order.{Order}
+use Rattle.dbus_message.specs.declared.message.Message.{Message}
+use Rattle.dbus_message.specs.Messages.{MessageTree}
+use Rattle.dbus_stream.specs.Device.{one_more}
+use Rattle.dbus_stream.specs.Cut.{Item, BeginWith}
+use Rattle.dbus_stream.specs.Next.{RisesBy, Reads, NextAnswers, DeviceCounts}
+use Rattle.dbus_stream.specs.Reader.{kept, source_of}
+use Rattle.dbus_stream.specs.Stated.{BeginsWithNone}
+use Rattle.dbus_stream.specs.declared.message_reader.MessageReader.{MessageReader}
+use Rattle.dbus_command.specs.declared.command.Command.{Command}
+use Rattle.dbus_match.specs.Rules.{Pair}
+use Rattle.dbus_tool.specs.Counting.{CountsAll}
+use Rattle.dbus_tool.specs.Output.{IsFiltered, IsOutputOf, IsOutputOfAll}
+use Rattle.dbus_tool.specs.Gathering.{Passes, Breaks, GathersOrNot, Leaves}
+use Rattle.dbus_tool.specs.declared.ending.Cause.{Cause}
+use Rattle.dbus_tool.specs.declared.ending.Cause.TheVariants.{Memory, ReadFailed, WriteFailed, TooManyReads}
+use Rattle.dbus_tool.specs.declared.ending.Counted.{Counted}
+use Rattle.dbus_tool.specs.declared.ending.Stop.{Stop}
+use Rattle.dbus_tool.specs.declared.ending.Stop.TheVariants.{Reader, Writer}
+
+module _ {W : Type 0} (held : W → Option (List ℕ)) (failures : W → ℕ) where
+  -- what a rule lets through of one message was written or gathered
+  abbrev pub Filters : List Pair → Order → MessageTree → List ℕ → List ℕ → W → W → Result (Unit {0}) Cause → Type 0
+  Filters pairs order message g0 g1 old new result =
+      (out : List ℕ) × IsFiltered pairs order message out × GathersOrNot held failures out g0 g1 old new result
+
+  -- what a command writes of one message, the n-th of its input, was written or gathered
+  abbrev pub HandsOne : Command → Order → MessageTree → ℕ → List ℕ → List ℕ → W → W → Result (Unit {0}) Cause → Type 0
+  HandsOne command order message n g0 g1 old new result =
+      (out : List ℕ) × IsOutputOf command order message n out × GathersOrNot held failures out g0 g1 old new result
+
+-- where reading was given up, no further message was read
+abbrev pub AreAll : Cause → List ℕ → Type 0
+AreAll Memory rest = Unit {0}
+AreAll ReadFailed rest = BeginsWithNone rest
+AreAll WriteFailed rest = Unit {0}
+AreAll TooManyReads rest = BeginsWithNone rest
+
+module _ {R W : Type 0} (left : R → Option (List ℕ)) (calls read_failures : R → ℕ) (held : W → Option (List ℕ)) (write_failures : W → ℕ) where
+  -- the next message of a reader, where what is gathered may have been written before
+  abbrev pub GivesNext : {A : Type 0} → MessageReader R A → MessageReader R A → List ℕ → List ℕ → W → W → Result (Option (Order × Message A)) Stop → Type 0
+  GivesNext old new g0 g1 w0 w1 (Ok given) = (r : Reads left calls old new) × NextAnswers (kept old ++ r.bytes) old new (Ok given)
+      × (read_failures (source_of new) ≡ read_failures (source_of old)) × Passes held write_failures [] g0 g1 w0 w1
+  GivesNext {A} old new g0 g1 w0 w1 (Err (Reader fault)) = (r : Reads left calls old new) × NextAnswers {A = A} (kept old ++ r.bytes) old new (Err fault)
+      × DeviceCounts {T = Option (Order × Message A)} (read_failures (source_of old)) (read_failures (source_of new)) (Err fault) × Passes held write_failures [] g0 g1 w0 w1
+  GivesNext old new g0 g1 w0 w1 (Err Writer) = Reads left calls old new × Breaks held write_failures [] g0 w0 w1
+
+  -- why no more messages are handed to a command, where no write failed
+  abbrev pub IsReadCause : R → R → Cause → Type 0
+  IsReadCause old new Memory = Unit {0}
+  IsReadCause old new ReadFailed = read_failures new ≡ one_more (read_failures old)
+  IsReadCause old new WriteFailed = Unit {0}
+  IsReadCause old new TooManyReads = RisesBy (2 ^ 32) (calls old) (calls new)
+
+  -- all messages of what was read were handed to the command, up to the end of the input or a fault
+  pub record HandsAll (command : Command) (counted : Counted) (old new : R) (g0 g1 : List ℕ) (w0 w1 : W) : Type 0 where
+    pub counts : CountsAll left counted old new
+    pub out : List ℕ
+    pub output : IsOutputOfAll command 1 counts.items out
+    pub passes : Passes held write_failures out g0 g1 w0 w1
+
+  -- some of the first messages of what was read were handed to the command
+  pub record HandsSome (command : Command) (cause : Cause) (old new : R) (g0 g1 : List ℕ) (w0 w1 : W) : Type 0 where
+    pub bytes : List ℕ
+    pub items : List Item
+    pub rest : List ℕ
+    pub out : List ℕ
+    pub consumed : Consumes (left old) (left new) bytes
+    pub messages : BeginWith bytes items rest
+    pub all : AreAll cause rest
+    pub output : IsOutputOfAll command 1 items out
+    pub leaves : Leaves held write_failures cause out g0 g1 w0 w1
+    pub caused : IsReadCause old new cause
+
+  abbrev pub Hands : Command → R → R → List ℕ → List ℕ → W → W → Result Counted Cause → Type 0
+  Hands command old new g0 g1 w0 w1 (Ok counted) = HandsAll command counted old new g0 g1 w0 w1
+  Hands command old new g0 g1 w0 w1 (Err cause) = HandsSome command cause old new g0 g1 w0 w1

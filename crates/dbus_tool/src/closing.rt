@@ -1,0 +1,152 @@
+//! What is written behind the messages of an input.
+ghost use Rattle.std.specs.Prelude.{◌≡◌, ◌++◌, IfOk, string_bytes};
+ghost use Rattle.dbus_tool.specs.Checking.{WritesLine};
+ghost use Rattle.dbus_tool.specs.Closing.{Closes, TellsSecond, WritesRest};
+ghost use Rattle.dbus_tool.specs.Output.{status_of, check_line, last_line, fault_line, second_output};
+ghost use Rattle.dbus_tool.specs.Running.{Told};
+
+use crate::ending::{Cause, Counted, ExitStatus};
+use crate::failing::give_up;
+use crate::gathering::{Gathered, Unwritten, write_behind, write_out};
+use crate::lines::{ok_line, refused_line};
+use dbus_command::Command;
+use dbus_stream::{Sink, WrittenOnly, write_all};
+use dbus_value::Fault;
+use std::alloc::{AllocError, Allocator};
+
+/// Writes what is gathered, the last line of the command and the fault, where it has these.
+pub(crate) fn close<A: Allocator + Copy, W: Sink, E: Sink>(
+    alloc: A,
+    command: &Command,
+    counted: Counted,
+    gathered: &mut Gathered,
+    first: &mut W,
+    second: &mut E,
+) -> ExitStatus
+    ensures { Closes W.held W.failures E.held E.failures command.now counted gathered.old.items first.old first.new second.old second.new result }
+{
+    match close_first(alloc, command, counted, gathered, first) {
+        Ok(()) => close_second(alloc, command, counted, second),
+        Err(cause) => give_up(cause, second),
+    }
+}
+
+// Writes what is gathered, and then the last line.
+fn close_first<A: Allocator + Copy, W: Sink>(
+    alloc: A,
+    command: &Command,
+    counted: Counted,
+    gathered: &mut Gathered,
+    first: &mut W,
+) -> Result<(), Cause>
+    ensures { WritesLine W.held W.failures (gathered.old.items ++ last_line command.now counted.count counted.size counted.fault) first.old first.new result }
+{
+    match last_line(alloc, command, counted) {
+        Ok(line) => match write_behind(line.as_bytes(), gathered, first) {
+            Ok(()) => Ok(()),
+            Err(Unwritten) => Err(Cause::WriteFailed),
+        },
+        Err(_) => Err(Cause::Memory),
+    }
+}
+
+// The last line on the first writer.
+fn last_line<A: Allocator + Copy>(
+    alloc: A,
+    command: &Command,
+    counted: Counted,
+) -> Result<String<A>, AllocError>
+    ensures { IfOk result (λ line. string_bytes line ≡ last_line command.now counted.count counted.size counted.fault) }
+{
+    match command {
+        Command::Show => Ok(String::new(alloc)),
+        Command::Check => check_line(alloc, counted),
+        Command::Swap(_) => Ok(String::new(alloc)),
+        Command::Filter(_) => Ok(String::new(alloc)),
+    }
+}
+
+// The line of what was counted.
+fn check_line<A: Allocator + Copy>(alloc: A, counted: Counted) -> Result<String<A>, AllocError>
+    ensures { IfOk result (λ line. string_bytes line ≡ check_line counted.count counted.size counted.fault) }
+{
+    match counted.fault {
+        None => ok_line(alloc, counted.count, counted.size),
+        Some(fault) => refused_line(alloc, counted.size, fault),
+    }
+}
+
+// Writes what the second writer gets.
+fn close_second<A: Allocator + Copy, E: Sink>(
+    alloc: A,
+    command: &Command,
+    counted: Counted,
+    second: &mut E,
+) -> ExitStatus
+    ensures { TellsSecond E.held E.failures (second_output command.now counted.size counted.fault) counted.fault second.old second.new result }
+{
+    match command {
+        Command::Show => tell_fault(alloc, counted, second),
+        Command::Check => status_of(counted.fault),
+        Command::Swap(_) => tell_fault(alloc, counted, second),
+        Command::Filter(_) => tell_fault(alloc, counted, second),
+    }
+}
+
+// Writes the line of the fault, where there is one.
+fn tell_fault<A: Allocator + Copy, E: Sink>(
+    alloc: A,
+    counted: Counted,
+    second: &mut E,
+) -> ExitStatus
+    ensures { TellsSecond E.held E.failures (fault_line counted.size counted.fault) counted.fault second.old second.new result }
+{
+    let Some(fault) = counted.fault else {
+        return ExitStatus::Done;
+    };
+    let Ok(line) = refused_line(alloc, counted.size, fault) else {
+        return give_up(Cause::Memory, second);
+    };
+    match write_all(second, line.as_bytes()) {
+        Ok(()) => ExitStatus::Refused,
+        Err(WrittenOnly(_)) => ExitStatus::Failed,
+    }
+}
+
+// How a run ends that read to the end of the input, or to a fault.
+fn status_of(fault: Option<Fault>) -> ExitStatus
+    ensures { result ≡ status_of fault }
+{
+    match fault {
+        None => ExitStatus::Done,
+        Some(_) => ExitStatus::Refused,
+    }
+}
+
+/// Writes what is gathered, unless a write failed before, and tells the second writer the cause. That is the first
+/// cause, also where this write fails as well.
+pub(crate) fn break_off<W: Sink, E: Sink>(
+    cause: Cause,
+    gathered: &mut Gathered,
+    first: &mut W,
+    second: &mut E,
+) -> ExitStatus
+    ensures failed { result ≡ ExitStatus.Failed }
+    ensures rest { WritesRest W.held W.failures cause gathered.old.items first.old first.new }
+    ensures told { Told E.held E.failures second.old second.new cause }
+{
+    write_rest(cause, gathered, first);
+    give_up(cause, second)
+}
+
+// Writes what is gathered, unless a write failed before.
+fn write_rest<W: Sink>(cause: Cause, gathered: &mut Gathered, first: &mut W)
+    ensures { WritesRest W.held W.failures cause gathered.old.items first.old first.new }
+{
+    match cause {
+        Cause::WriteFailed => {}
+        Cause::Memory | Cause::ReadFailed | Cause::TooManyReads => {
+            let _ = write_out(gathered, first);
+        }
+    }
+}

@@ -1,0 +1,62 @@
+//! Bytes that are gathered before they are written.
+ghost use Rattle.std.specs.Prelude.{◌≡◌, []};
+ghost use Rattle.dbus_tool.specs.Gathering.{Gathers};
+
+use arrayvec::ArrayVec;
+use dbus_stream::{Sink, WrittenOnly, write_all};
+
+/// What is gathered: up to 16,384 bytes, in the value itself.
+pub(crate) type Gathered = ArrayVec<u8, 16_384>;
+
+/// A write failed, or took none of its bytes.
+#[derive(Clone, Copy, Debug, PartialEq, Eq)]
+pub(crate) struct Unwritten;
+
+/// Gathers the bytes. Where there is no room for them, what is gathered is written, and they are behind it.
+pub(crate) fn gather<W: Sink>(
+    bytes: &[u8],
+    gathered: &mut Gathered,
+    first: &mut W,
+) -> Result<(), Unwritten>
+    ensures { Gathers W.held W.failures bytes.now gathered.old.items gathered.new.items first.old first.new result }
+{
+    match gathered.try_extend_from_slice(bytes) {
+        Ok(()) => Ok(()),
+        Err(_) => write_behind(bytes, gathered, first),
+    }
+}
+
+/// Writes what is gathered, and then these bytes.
+pub(crate) fn write_behind<W: Sink>(
+    bytes: &[u8],
+    gathered: &mut Gathered,
+    first: &mut W,
+) -> Result<(), Unwritten>
+    ensures gathers { Gathers W.held W.failures bytes.now gathered.old.items gathered.new.items first.old first.new result }
+    ensures emptied { gathered.new.items ≡ [] }
+{
+    match write_out(gathered, first) {
+        Ok(()) => match write_all(first, bytes) {
+            Ok(()) => Ok(()),
+            Err(WrittenOnly(_)) => Err(Unwritten),
+        },
+        Err(Unwritten) => Err(Unwritten),
+    }
+}
+
+/// Writes what is gathered.
+pub(crate) fn write_out<W: Sink>(gathered: &mut Gathered, first: &mut W) -> Result<(), Unwritten>
+    ensures gathers { Gathers W.held W.failures [] gathered.old.items gathered.new.items first.old first.new result }
+    ensures emptied { gathered.new.items ≡ [] }
+{
+    match write_all(first, gathered.as_slice()) {
+        Ok(()) => {
+            gathered.clear();
+            Ok(())
+        }
+        Err(WrittenOnly(_)) => {
+            gathered.clear();
+            Err(Unwritten)
+        }
+    }
+}

@@ -1,0 +1,142 @@
+//! The messages of a reader are handed to a command.
+ghost use Rattle.std.specs.Prelude.{◌≡◌, ◌≤◌, ◌^◌, ℕ, List, None, IfOk};
+ghost use Rattle.dbus_stream.specs.Reader.{source_of, done_of, stopped_of};
+ghost use Rattle.dbus_tool.specs.Counting.{IsFresh, ended_by, stopped_by};
+ghost use Rattle.dbus_tool.specs.Handing.{GivesNext, Hands};
+
+use crate::ending::{Cause, Counted, Stop};
+use crate::gathering::{Gathered, Unwritten, write_out};
+use crate::output::write_one;
+use dbus_command::Command;
+use dbus_message::Message;
+use dbus_stream::{MessageReader, ReadFault, Sink, Source};
+use dbus_value::Order;
+use std::alloc::Allocator;
+
+// The next message of the reader. Where it keeps none, what is gathered is written, and then more is read.
+fn next_message<R: Source, A: Allocator + Copy, W: Sink>(
+    messages: &mut MessageReader<R, A>,
+    gathered: &mut Gathered,
+    first: &mut W,
+) -> Result<Option<(Order, Message<A>)>, Stop>
+    requires { stopped_of messages.old ≡ None }
+    ensures gives { GivesNext R.left R.calls R.failures W.held W.failures messages.old messages.new gathered.old.items gathered.new.items first.old first.new result }
+    ensures few { IfOk result (λ _. done_of messages.new ≤ 2 ^ 44) }
+    ensures same_reference { R.reference (source_of messages.new) ≡ R.reference (source_of messages.old) }
+{
+    match messages.next_kept() {
+        Ok(Some(given)) => Ok(Some(given)),
+        Ok(None) => read_message(messages, gathered, first),
+        Err(fault) => Err(Stop::Reader(fault)),
+    }
+}
+
+// The next message of the reader, before which what is gathered is written.
+fn read_message<R: Source, A: Allocator + Copy, W: Sink>(
+    messages: &mut MessageReader<R, A>,
+    gathered: &mut Gathered,
+    first: &mut W,
+) -> Result<Option<(Order, Message<A>)>, Stop>
+    requires { stopped_of messages.old ≡ None }
+    ensures gives { GivesNext R.left R.calls R.failures W.held W.failures messages.old messages.new gathered.old.items gathered.new.items first.old first.new result }
+    ensures few { IfOk result (λ _. done_of messages.new ≤ 2 ^ 44) }
+    ensures same_reference { R.reference (source_of messages.new) ≡ R.reference (source_of messages.old) }
+{
+    match write_out(gathered, first) {
+        Ok(()) => match messages.next() {
+            Ok(given) => Ok(given),
+            Err(fault) => Err(Stop::Reader(fault)),
+        },
+        Err(Unwritten) => Err(Stop::Writer),
+    }
+}
+
+// Hands each message of the reader to the command, up to the end of the input or a fault.
+fn hand_all<R: Source, A: Allocator + Copy, W: Sink>(
+    alloc: A,
+    command: &Command,
+    messages: &mut MessageReader<R, A>,
+    gathered: &mut Gathered,
+    first: &mut W,
+) -> Result<Counted, Cause>
+    requires { IsFresh messages.old }
+    ensures hands { Hands R.left R.calls R.failures W.held W.failures command.now (source_of messages.old) (source_of messages.new) gathered.old.items gathered.new.items first.old first.new result }
+    ensures same_reference { R.reference (source_of messages.new) ≡ R.reference (source_of messages.old) }
+{
+    let mut count = 0u64;
+    'messages: loop {
+        match next_message(messages, gathered, first) {
+            Ok(Some(given)) => {
+                count += 1;
+                match write_one(alloc, command, given.0, &given.1, count, gathered, first) {
+                    Ok(()) => {}
+                    Err(cause) => return Err(cause),
+                }
+            }
+            Ok(None) => {
+                return Ok(Counted {
+                    count,
+                    size: messages.done(),
+                    fault: None,
+                });
+            }
+            Err(stop) => return stopped_by(count, messages.done(), stop),
+        }
+    }
+}
+
+// What it comes to that there is no next message behind these.
+fn stopped_by(count: u64, size: u64, stop: Stop) -> Result<Counted, Cause>
+    ensures { result ≡ stopped_by count size stop }
+{
+    match stop {
+        Stop::Reader(fault) => ended_by(count, size, fault),
+        Stop::Writer => Err(Cause::WriteFailed),
+    }
+}
+
+// What a fault of the reader behind these messages comes to.
+fn ended_by(count: u64, size: u64, fault: ReadFault) -> Result<Counted, Cause>
+    ensures { result ≡ ended_by count size fault }
+{
+    match fault {
+        ReadFault::Format(fault) => Ok(Counted {
+            count,
+            size,
+            fault: Some(fault),
+        }),
+        ReadFault::Memory => Err(Cause::Memory),
+        ReadFault::Device => Err(Cause::ReadFailed),
+        ReadFault::TooManyReads => Err(Cause::TooManyReads),
+    }
+}
+
+// Hands the messages of a source to the command, and hands the source back.
+fn hand_through<R: Source + Drop, A: Allocator + Copy, W: Sink>(
+    alloc: A,
+    command: &Command,
+    source: R,
+    gathered: &mut Gathered,
+    first: &mut W,
+) -> (Result<Counted, Cause>, R)
+    ensures hands { Hands R.left R.calls R.failures W.held W.failures command.now source result.1 gathered.old.items gathered.new.items first.old first.new result.0 }
+    ensures same_reference { R.reference result.1 ≡ R.reference source }
+{
+    let mut messages = MessageReader::new(alloc, source);
+    let counted = hand_all(alloc, command, &mut messages, gathered, first);
+    (counted, messages.into_source())
+}
+
+/// Hands the messages of a source to the command, up to its end or a fault.
+pub(crate) fn hand_over<R: Source, A: Allocator + Copy, W: Sink>(
+    alloc: A,
+    command: &Command,
+    source: &mut R,
+    gathered: &mut Gathered,
+    first: &mut W,
+) -> Result<Counted, Cause>
+    ensures { Hands R.left R.calls R.failures W.held W.failures command.now source.old source.new gathered.old.items gathered.new.items first.old first.new result }
+{
+    let (counted, _source) = hand_through(alloc, command, source, gathered, first);
+    counted
+}
