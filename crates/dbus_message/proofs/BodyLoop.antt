@@ -12,7 +12,7 @@ use Rattle.dbus_value.specs.Gives.{Stops}
 use Rattle.dbus_value.specs.Items.{fault}
 use Rattle.dbus_value.specs.Values.{ValueTree, ValueTrees, NoValues, MoreValues, value_trees}
 use Rattle.dbus_value.specs.Reading.{Reader, Outcome, Done, Faulty, Partial, after, pure, fields, value, ends}
-use Rattle.dbus_value.proofs.ReadSteps.{stops_after}
+use Rattle.dbus_unmarshal.proofs.ReadSteps.{stops_after}
 use Rattle.dbus_message.specs.HeaderReading.{body_read}
 use Rattle.dbus_message.specs.SingleTypes.{AreSingleTypes}
 use Rattle.dbus_message.specs.ValidMessages.{room_in_field}

@@ -13,7 +13,7 @@ use Rattle.dbus_value.specs.ValueViews.{value_trees_of}
 use Rattle.dbus_value.specs.declared.value.Value.{Value}
 use Rattle.dbus_value.proofs.Formed.{formed_of, all_formed_of}
 use Rattle.dbus_value.proofs.Numbers.{length-num}
-use Rattle.dbus_value.proofs.SizeLaws.{message_limit_is}
+use Rattle.dbus_marshal.proofs.SizeLaws.{message_limit_is}
 use Rattle.dbus_message.specs.BuildFaults.{IsFirstWithout, IsNonzero, HasOwnType, HasOwnKind, IsFirstUnsoundField, IsFirstUnsound, SignaturePasses, KeepsArrays, ArraysPass, IsLong, NoFault, IsFirstFault}
 use Rattle.dbus_message.specs.declared.build_fault.BuildFault.{BuildFault}
 use Rattle.dbus_message.specs.declared.build_fault.BuildFault.TheVariants as faults

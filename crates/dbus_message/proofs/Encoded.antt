@@ -10,7 +10,7 @@ use Rattle.dbus_value.specs.Values.{ValueTree, ValueTrees, NoValues, MoreValues,
 use Rattle.dbus_value.specs.Bytes.{num, pad, gap_to}
 use Rattle.dbus_value.specs.Spelling.{spelling, spellings}
 use Rattle.dbus_value.proofs.Numbers.{length-num}
-use Rattle.dbus_value.proofs.Written.{length_padding, length_values, num_1}
+use Rattle.dbus_marshal.proofs.Written.{length_padding, length_values, num_1}
 use Rattle.dbus_message.proofs.Whole.{message_length}
 use Rattle.dbus_message.specs.FixedBytes.{fixed_bytes}
 use Rattle.dbus_message.specs.Messages.{FieldTree, MessageTree, field_struct, field_array, fields_end, body_start, body_bytes, message_bytes, order_byte}

@@ -6,7 +6,7 @@ use Rattle.dbus_value.specs.declared.fault.Reason.TheVariants as reasons
 use Rattle.dbus_value.specs.Reading.{Reader, Outcome, Done, Faulty, Partial, after, pure, up_to, contents}
 use Rattle.dbus_value.specs.declared.stop.Stop.{Stop}
 use Rattle.dbus_value.specs.Gives.{Stops}
-use Rattle.dbus_value.proofs.ReadSteps.{stops_after}
+use Rattle.dbus_unmarshal.proofs.ReadSteps.{stops_after}
 use Rattle.dbus_message.specs.Messages.{FieldTree, has_code, is_known}
 use Rattle.dbus_message.specs.MessageItems.{code_row}
 

@@ -11,7 +11,7 @@ use Rattle.dbus_value.specs.declared.order.Order.{Order}
 use Rattle.dbus_value.specs.declared.fault.Reason.TheVariants as reasons
 use Rattle.dbus_value.specs.WantedTexts.{IsName, Of, Only}
 use Rattle.dbus_value.specs.Reading.{Done, value}
-use Rattle.dbus_value.proofs.KindLaws.{name_is_text, spelled_sig}
+use Rattle.dbus_unmarshal.proofs.KindLaws.{name_is_text, spelled_sig}
 use Rattle.dbus_message.specs.Messages.{OfType, Anything}
 use Rattle.dbus_message.specs.MessageItems.{name_row}
 use Rattle.dbus_message.specs.ValidMessages.{room_in_field}

@@ -10,7 +10,7 @@ use Rattle.dbus_value.specs.Bytes.{num}
 use Rattle.dbus_value.specs.ValueViews.{value_tree, value_trees_of}
 use Rattle.dbus_value.specs.declared.value.Value.{Value}
 use Rattle.dbus_value.proofs.Numbers.{length-num}
-use Rattle.dbus_value.proofs.Written.{length_padding, length_value, length_values, written_number, written_variant, written_struct, written_none, written_more, num_1, no_padding}
+use Rattle.dbus_marshal.proofs.Written.{length_padding, length_value, length_values, written_number, written_variant, written_struct, written_none, written_more, num_1, no_padding}
 use Rattle.dbus_message.specs.Messages.{FieldTree, field_struct}
 use Rattle.dbus_message.specs.PartsViews.{field_tree, field_trees}
 use Rattle.dbus_message.specs.declared.header_field.HeaderField.{HeaderField}

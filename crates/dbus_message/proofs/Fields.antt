@@ -19,11 +19,11 @@ use Rattle.dbus_message.specs.Messages.{FieldTree, Want, Anything, OfType, Name,
 use Rattle.dbus_message.specs.MessageItems.{name_row, not_zero_row, code_row, kind_wanted, value_wanted, field_items, field}
 use Rattle.dbus_message.specs.MessageReading as reads
 use Rattle.dbus_value.proofs.Numbers.{length-num}
-use Rattle.dbus_value.proofs.KindLaws.{spelled_sig, only_is, only_same, name_is_text, text_single}
-use Rattle.dbus_value.proofs.Agreement.{Agrees, Agrees-then, Agrees-before, Agrees-as}
-use Rattle.dbus_value.proofs.OwnItems.{chosen, IsOfSingles, Agrees-pure, Agrees-padding, Agrees-number, Agrees-text, Agrees-nul, Agrees-signature}
-use Rattle.dbus_value.proofs.Composition.{fits_row, number_to, number_from, text_to, text_from, variant_to, struct_to}
-use Rattle.dbus_value.proofs.ValueItemLaws.{Agrees-value, value_inside}
+use Rattle.dbus_unmarshal.proofs.KindLaws.{spelled_sig, only_is, only_same, name_is_text, text_single}
+use Rattle.dbus_unmarshal.proofs.Agreement.{Agrees, Agrees-then, Agrees-before, Agrees-as}
+use Rattle.dbus_unmarshal.proofs.OwnItems.{chosen, IsOfSingles, Agrees-pure, Agrees-padding, Agrees-number, Agrees-text, Agrees-nul, Agrees-signature}
+use Rattle.dbus_unmarshal.proofs.Composition.{fits_row, number_to, number_from, text_to, text_from, variant_to, struct_to}
+use Rattle.dbus_unmarshal.proofs.ValueItemLaws.{Agrees-value, value_inside}
 use Rattle.dbus_value.specs.declared.fault.Reason.TheVariants as reasons
 
 -- ---- what is wanted of a code

@@ -11,8 +11,8 @@ use Rattle.dbus_value.specs.Bytes.{IsBytes}
 use Rattle.dbus_value.specs.Spelling.{Spelled, spelling}
 use Rattle.dbus_value.specs.Values.{ValueTree}
 use Rattle.dbus_value.specs.ValueItems as faults
-use Rattle.dbus_value.proofs.ValueItemLaws.{positive}
-use Rattle.dbus_value.proofs.ValueOutcomes.{reads_spelled, reads_faults}
+use Rattle.dbus_unmarshal.proofs.ValueItemLaws.{positive}
+use Rattle.dbus_unmarshal.proofs.ValueOutcomes.{reads_spelled, reads_faults}
 
 pub bytes_from : (s : List ℕ) → ((i : ℕ) → get_or s i 0 < 256) → IsBytes s
 bytes_from [] h = tt

@@ -9,7 +9,7 @@ use Rattle.dbus_value.specs.Forming.{IsUniform, AreUniform, IsNamed, AreNamed}
 use Rattle.dbus_value.specs.Ranges.{HoldNumbers}
 use Rattle.dbus_value.specs.Values.{ValueTree, NumberValue, TextValue, VariantValue, ArrayValue, StructValue, EntryValue, type_of, value_trees, AllOf}
 use Rattle.dbus_value.specs.WantedTexts.{Of, IsName}
-use Rattle.dbus_value.proofs.KindLaws.{name_is_text}
+use Rattle.dbus_unmarshal.proofs.KindLaws.{name_is_text}
 use Rattle.dbus_message.specs.BuildFaults.{IsFirstWithout, IsNonzero, HasOwnType, HasOwnKind, IsOf, own_type, own_kind, twice, HoldsSound, IsFirstUnsoundField}
 use Rattle.dbus_message.specs.Messages.{FieldTree, Anything, OfType, Name, Serial, want, Suits, AreFields, field_struct, field_type, has_code, is_known, text_in}
 use Rattle.dbus_message.specs.MessageSizes.{HoldFieldNumbers}

@@ -14,7 +14,7 @@ use Rattle.dbus_value.specs.Reading.{Outcome, Done, Faulty, Partial}
 use Rattle.dbus_message.specs.MessageReading as reads
 use Rattle.dbus_message.specs.MessageLaws.{IsWhole, IsRefused, IsPartial, OneMessage, SameLength, MessageOutcome, MessageNotBoth, MessageOneFault, MessageRefusedForGood, MessageWholeForGood, ReadsMessages, ReadsMessageFaults}
 use Rattle.dbus_value.proofs.Numbers.{length-num}
-use Rattle.dbus_value.proofs.ValueOutcomes.{agreed_fault, agreed_either, agreed_value}
+use Rattle.dbus_unmarshal.proofs.ValueOutcomes.{agreed_fault, agreed_either, agreed_value}
 use Rattle.dbus_message.proofs.MessageParts.{Agrees-message_items}
 use Rattle.dbus_message.proofs.Whole.{message_passed, message_length}
 

@@ -21,11 +21,11 @@ use Rattle.dbus_message.specs.Messages.{FieldTree, Suits, want, order_byte, lack
 use Rattle.dbus_value.specs.Sizes.{message_limit}
 use Rattle.dbus_message.specs.MessageItems.{no_row, not_zero_row, version_row, fields_row, field, byte_order, types_of_text, body_items, message_items}
 use Rattle.dbus_message.specs.MessageReading as reads
-use Rattle.dbus_value.proofs.KindLaws.{signature_text, spelled_sigs}
-use Rattle.dbus_value.proofs.Agreement.{Agrees, Agrees-then, Agrees-before}
-use Rattle.dbus_value.proofs.OwnItems.{chosen, same_fault, Agrees-pure, Agrees-padding, Agrees-number, Agrees-judge, Agrees-bounded, Agrees-ends}
-use Rattle.dbus_value.proofs.Contents.{Agrees-contents}
-use Rattle.dbus_value.proofs.ValueItemLaws.{Agrees-value, value_inside, agrees_fields}
+use Rattle.dbus_unmarshal.proofs.KindLaws.{signature_text, spelled_sigs}
+use Rattle.dbus_unmarshal.proofs.Agreement.{Agrees, Agrees-then, Agrees-before}
+use Rattle.dbus_unmarshal.proofs.OwnItems.{chosen, same_fault, Agrees-pure, Agrees-padding, Agrees-number, Agrees-judge, Agrees-bounded, Agrees-ends}
+use Rattle.dbus_unmarshal.proofs.Contents.{Agrees-contents}
+use Rattle.dbus_unmarshal.proofs.ValueItemLaws.{Agrees-value, value_inside, agrees_fields}
 use Rattle.dbus_message.proofs.Fields.{Agrees-field, field_moves}
 use Rattle.dbus_value.specs.declared.fault.Reason.TheVariants as reasons
 

@@ -2,7 +2,7 @@
 use Rattle.std.proofs.Common.{◌≡◌, ℕ, ◌+◌, ◌<◌, ◌≤◌, List, ◌∷◌, length, get_or, drop, map, Option, Some, None, refl, sym, subst, ◌∙◌, arith}
 use Rattle.std.proofs.Math.Decide.{dec_lt}
 use Rattle.std.proofs.lemmas.List.{length-append}
-use Rattle.dbus_value.proofs.Capping.{capped-near, capped-tells}
+use Rattle.dbus_marshal.proofs.Capping.{capped-near, capped-tells}
 use Rattle.dbus_value.specs.declared.order.Order.TheVariants.{Little}
 use Rattle.dbus_value.specs.Measures.{capped, IsMeasured, AreMeasured}
 use Rattle.dbus_value.specs.Ranges.{HoldsNumbers}

@@ -13,9 +13,9 @@ use Rattle.dbus_message.specs.Messages.{FieldTree, MessageTree, AreFields, field
 use Rattle.dbus_value.specs.Sizes.{message_limit}
 use Rattle.dbus_message.specs.MessageItems.{field, message_items}
 use Rattle.dbus_value.proofs.Numbers.{length-num}
-use Rattle.dbus_value.proofs.KindLaws.{spelled_sigs}
-use Rattle.dbus_value.proofs.Composition.{all_none, all_more, all_parts, fields_to, fields_from}
-use Rattle.dbus_value.proofs.ValueItemLaws.{value_inside}
+use Rattle.dbus_unmarshal.proofs.KindLaws.{spelled_sigs}
+use Rattle.dbus_unmarshal.proofs.Composition.{all_none, all_more, all_parts, fields_to, fields_from}
+use Rattle.dbus_unmarshal.proofs.ValueItemLaws.{value_inside}
 use Rattle.dbus_message.proofs.Fields.{not_zero_fits, fits_not_zero}
 use Rattle.dbus_message.proofs.MessageParts.{judge_passed, passes_judge, version_fits, fields_row_fits, fits_fields_row, field_signature}
 use Rattle.dbus_value.specs.declared.fault.Reason.TheVariants as reasons

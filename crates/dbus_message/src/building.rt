@@ -18,7 +18,7 @@ use crate::known_fields::{body_signature, has_field, missing_field};
 use crate::message::Message;
 use crate::message_size::{fields_end, gap, read_parts};
 use crate::parts::Parts;
-use dbus_value::measure_all;
+use dbus_marshal::measure_all;
 use std::alloc::Allocator;
 
 /// The bytes of the longest message. D-Bus Specification, "Message Protocol".

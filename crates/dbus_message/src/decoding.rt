@@ -21,7 +21,7 @@ use crate::parts::Parts;
 use crate::read_body::read_body;
 use crate::read_fields::read_fields;
 use dbus_types::{SigType, parse_signature};
-use dbus_value::items::read_padding;
+use dbus_unmarshal::items::read_padding;
 use dbus_value::{Order, Reason, Refusal, Stop, refuse};
 use std::alloc::{AllocError, Allocator};
 

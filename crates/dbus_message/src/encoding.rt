@@ -13,8 +13,9 @@ ghost use Rattle.dbus_message.specs.PartsViews.{field_tree, field_trees};
 
 use crate::header_field::HeaderField;
 use crate::message::Message;
-use dbus_value::writing::{overwrite_32, write_32, write_byte, write_padding};
-use dbus_value::{Order, Value, write_value, write_variant_signature};
+use dbus_marshal::writing::{overwrite_32, write_32, write_byte, write_padding};
+use dbus_marshal::{write_value, write_variant_signature};
+use dbus_value::{Order, Value};
 use std::alloc::{AllocError, Allocator};
 
 /// The protocol version.

@@ -7,7 +7,8 @@ ghost use Rattle.dbus_value.specs.Values.{types_of};
 ghost use Rattle.dbus_value.specs.ValueViews.{value_trees_of};
 ghost use Rattle.dbus_message.specs.BuildFaults.{IsSound, IsFirstUnsound};
 
-use dbus_value::{Value, is_named, is_typed, signature_length, write_type_of};
+use dbus_marshal::{signature_length, write_type_of};
+use dbus_value::{Value, is_named, is_typed};
 use std::alloc::{AllocError, Allocator};
 
 /// Whether a value's types fit together and its texts are of their kinds, however deep it nests.

@@ -11,7 +11,7 @@ ghost use Rattle.dbus_message.specs.HeaderReading.{fixed_header};
 ghost use Rattle.dbus_message.specs.MessageItems.{not_zero_row, version_row, fields_row};
 ghost use Rattle.dbus_message.specs.MessageReading.{byte_order};
 
-use dbus_value::items::{read_byte, read_u32};
+use dbus_unmarshal::items::{read_byte, read_u32};
 use dbus_value::{Order, Reason, Stop, refuse};
 
 /// The limit of an array's contents, in bytes.

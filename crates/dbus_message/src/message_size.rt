@@ -11,7 +11,8 @@ ghost use Rattle.dbus_message.specs.PartsViews.{field_tree, field_trees, parts_t
 
 use crate::header_field::HeaderField;
 use crate::parts::Parts;
-use dbus_value::{measure_coded, read_all_numbers, read_numbers};
+use dbus_marshal::measure_coded;
+use dbus_value::{read_all_numbers, read_numbers};
 use std::alloc::Allocator;
 
 /// Where the longest field array ends. D-Bus Specification, "Marshaling (Wire Format)", for the longest array.

@@ -12,7 +12,7 @@ ghost use Rattle.dbus_message.specs.PartsViews.{field_tree, field_trees};
 use crate::field_value::read_field_value;
 use crate::header_field::HeaderField;
 use crate::known_fields::has_field;
-use dbus_value::items::{read_byte, read_padding};
+use dbus_unmarshal::items::{read_byte, read_padding};
 use dbus_value::{Order, Reason, Stop, refuse};
 use std::alloc::Allocator;
 

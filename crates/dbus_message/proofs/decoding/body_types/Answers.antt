@@ -1,7 +1,7 @@
 use Rattle.std.proofs.Common.{sym, ap, ◌∙◌}
 use Rattle.dbus_types.specs.ComputedKinds.{types_spelled}
 use Rattle.dbus_types.specs.SigTypes.{type_trees_of}
-use Rattle.dbus_value.proofs.KindLaws.{spelled_sigs}
+use Rattle.dbus_unmarshal.proofs.KindLaws.{spelled_sigs}
 use Rattle.dbus_message.proofs.BodyLoop.{each_single}
 use Rattle.dbus_message.proofs.decoding.body_types.Goals as goal
 

@@ -1,6 +1,6 @@
 use Rattle.std.proofs.Common.{drop, refl, reverse}
 use Rattle.dbus_value.specs.Reading.{number}
-use Rattle.dbus_value.proofs.ReadSteps.{stops_after}
+use Rattle.dbus_unmarshal.proofs.ReadSteps.{stops_after}
 use Rattle.dbus_message.specs.HeaderReading.{field_read, wanted_value}
 use Rattle.dbus_message.specs.MessageItems.{code_row}
 use Rattle.dbus_message.specs.Messages.{want}

@@ -1,0 +1,13 @@
+pub mod Joining
+pub mod Sizing
+pub mod Signing
+pub mod Measuring
+pub mod Written
+pub mod Patching
+pub mod Spells
+pub mod SizeLaws
+pub mod ShortLaws
+pub mod Lengths
+pub mod Periods
+pub mod Capping
+pub mod MeasureSteps

@@ -1,0 +1,25 @@
+use Rattle.std.proofs.Common.{◌≡◌, ◌≤◌, Ok, length, None, sym, ap, ◌∙◌, arith, rules}
+use Rattle.dbus_value.specs.Sizes.{sized, message_limit}
+use Rattle.dbus_value.specs.ValueViews.{value_tree}
+use Rattle.dbus_marshal.proofs.Written.{length_value}
+use Rattle.dbus_marshal.proofs.SizeLaws.{written_ends, message_limit_is}
+use Rattle.dbus_marshal.proofs.marshalling.put.Goals as goal
+
+pub overflow_sub-end : goal.overflow_sub-end
+overflow_sub-end g c =
+    let front = c.args.out.now.items in
+    let v = value_tree c.args.value.now in
+    let here : c.len-start.result ≡ length front = c.len-start.ensures ∙ c.args.out.now.ok.0 in
+    let sized_so : sized v None (length front) ≡ Ok c.in_ok-end.end = ap (sized v None) (sym here) ∙ sym c.in_ok-end.ensures.exact in
+    omega (arith, here, written_ends c.args.order v front c.in_ok-end.end c.requires.start sized_so, length_value c.args.order v front)
+
+pub write_value-requires-clause-fits : goal.write_value-requires-clause-fits
+write_value-requires-clause-fits g c =
+    let front = c.args.out.now.items in
+    let v = value_tree c.args.value.now in
+    let here : c.len-start.result ≡ length front = c.len-start.ensures ∙ c.args.out.now.ok.0 in
+    let sized_so : sized v None (length front) ≡ Ok c.in_ok-end.end = ap (sized v None) (sym here) ∙ sym c.in_ok-end.ensures.exact in
+    let same : c.reserve.new.self.items ≡ front = search rules in
+    let ends = written_ends c.args.order v front c.in_ok-end.end c.requires.start sized_so in
+    let limit : message_limit ≡ 134217728 = message_limit_is in
+    rw same (omega (arith, ends, limit, c.in_ok-end.ensures.within))

@@ -1,0 +1,10 @@
+use Rattle.std.proofs.Common.{ℕ, ◌<◌, Option, drop}
+use Rattle.dbus_value.specs.Measures.{AreMeasured}
+use Rattle.dbus_value.specs.ShortSignatures.{HaveShortSignatures}
+use Rattle.dbus_value.specs.ValueViews.{value_trees_of}
+use Rattle.dbus_marshal.proofs.measures.+size.Given as goal
+
+abbrev pub invariant-measure_values-loop-value : goal.invariant-measure_values-loop-value
+invariant-measure_values-loop-value g l =
+    ((r : Option ℕ) → AreMeasured (value_trees_of (drop l.value-index l.values)) l.end r → AreMeasured (value_trees_of l.values) l.at r) × (l.end < 134217744)
+    × HaveShortSignatures (value_trees_of (drop l.value-index l.values))

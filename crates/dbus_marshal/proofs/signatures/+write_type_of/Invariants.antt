@@ -1,0 +1,10 @@
+use Rattle.std.proofs.Common.{◌≡◌, ◌≤◌, ◌+◌, ◌++◌, drop, length, vec_capacity}
+use Rattle.dbus_types.specs.Types.{sigs}
+use Rattle.dbus_value.specs.Values.{types_of}
+use Rattle.dbus_value.specs.ValueViews.{value_trees_of}
+use Rattle.dbus_marshal.proofs.signatures.+write_type_of.Given as goal
+
+abbrev pub invariant-write_types_of-loop-value : goal.invariant-write_types_of-loop-value
+invariant-write_types_of-loop-value g l =
+    (l.out.items ++ sigs (types_of (value_trees_of (drop l.value-index l.values))) ≡ l.initial.out.items ++ sigs (types_of (value_trees_of l.values)))
+    × (vec_capacity l.initial.out ≤ vec_capacity l.out)

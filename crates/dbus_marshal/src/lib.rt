@@ -1,0 +1,19 @@
+//! Values of the D-Bus wire format written as bytes, and where they end.
+#![tactic(auto)]
+
+mod marshalling;
+pub mod measure_laws;
+#[cfg(test)]
+mod measure_tests;
+mod measures;
+#[cfg(test)]
+mod put_tests;
+mod signatures;
+pub mod size_laws;
+mod sizes;
+pub mod writing;
+
+pub use marshalling::{put, write_value};
+pub use measures::{measure, measure_all, measure_coded};
+pub use signatures::{signature_length, write_type_of, write_variant_signature};
+pub use sizes::size_after;

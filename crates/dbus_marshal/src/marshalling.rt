@@ -1,0 +1,149 @@
+//! Writing a value. D-Bus Specification, "Marshaling (Wire Format)".
+#![tactic(auto, using(crate::proofs::Written::lengths, crate::proofs::Spells::spells))]
+
+ghost use Rattle.std.specs.Prelude.{◌≡◌, ◌<◌, ◌≤◌, ◌^◌, ◌++◌, length, vec_capacity, None, OnOk, OnErr, IsOkUnless, MatchResult, if◌then◌else◌};
+ghost use Rattle.dbus_types.specs.SigTypes.{type_tree};
+ghost use Rattle.dbus_types.specs.Types.{NumberType, BYTE};
+ghost use Rattle.dbus_value.specs.Appending.{with_value, with_values};
+ghost use Rattle.dbus_value.specs.ShortSignatures.{HasShortSignatures, HaveShortSignatures};
+ghost use Rattle.dbus_value.specs.Sizes.{message_limit, sized};
+ghost use Rattle.dbus_value.specs.Values.{ArrayValue};
+ghost use Rattle.dbus_value.specs.Spelling.{spelling};
+ghost use Rattle.dbus_value.specs.ValueViews.{value_tree, value_trees_of, byte_values};
+
+use dbus_value::Order;
+use crate::signatures::write_variant_signature;
+use crate::sizes::size_after;
+use dbus_value::Value;
+use dbus_value::ValueFault;
+use crate::writing::{
+    overwrite_32, write_byte, write_bytes, write_number_16, write_number_32, write_number_64,
+    write_padding, write_signature, write_text,
+};
+use dbus_types::{SigType, alignment};
+use std::alloc::Allocator;
+
+/// Appends a value's spelling. The vector begins at the message's first byte, so its length is the value's offset, and
+/// is at most 134,217,728.
+///
+/// Of the value it asks only that each signature in it has at most 255 bytes, as is so where it is well formed. It is
+/// refused exactly where `size_after` refuses it at this offset, and with that fault; else only by `Memory`, where a
+/// growth was refused. A refusal leaves the vector's bytes as they were.
+#[tactic(auto, using(crate::proofs::SizeLaws::put_needs))]
+pub fn put<A: Allocator>(
+    out: &mut Vec<u8, A>,
+    order: Order,
+    value: &Value<A>,
+) -> Result<(), ValueFault>
+    requires start { length out.old.items ≤ message_limit }
+    requires signed { HasShortSignatures (value_tree value.now) }
+    ensures written { OnOk result (out.new.items ≡ out.old.items ++ spelling order (length out.old.items) (value_tree value.now)) }
+    ensures unchanged { OnErr result (out.new.items ≡ out.old.items) }
+    ensures refused { MatchResult (sized (value_tree value.now) None (length out.old.items))
+        (λ _. IsOkUnless result ValueFault.Memory)
+        (λ f. result ≡ Err f) }
+{
+    let start = out.len();
+    let end = size_after(value, start as u64)?;
+    out.reserve(end as usize - start)?;
+    write_value(out, order, value);
+    Ok(())
+}
+
+/// Appends a value's spelling to a vector that has room for it, so that it takes no memory and cannot fail.
+///
+/// The bytes then end below 4,294,967,296, as they do within a message's limit.
+#[cycle(write)]
+pub fn write_value<A: Allocator>(out: &mut Vec<u8, A>, order: Order, value: &Value<A>)
+    requires space { length (with_value order (value_tree value.now) out.old.items) ≤ vec_capacity out.old }
+    requires fits { length (with_value order (value_tree value.now) out.old.items) < 2 ^ 32 }
+    requires signed { HasShortSignatures (value_tree value.now) }
+    ensures written { out.new.items ≡ with_value order (value_tree value.now) out.old.items }
+    ensures room { vec_capacity out.old ≤ vec_capacity out.new }
+{
+    match value {
+        Value::Byte(n) => write_byte(out, *n),
+        Value::Bool(b) => write_number_32(out, order, bit(*b)),
+        Value::I16(n) => write_number_16(out, order, n.cast_unsigned()),
+        Value::U16(n) => write_number_16(out, order, *n),
+        Value::I32(n) => write_number_32(out, order, n.cast_unsigned()),
+        Value::U32(n) => write_number_32(out, order, *n),
+        Value::I64(n) => write_number_64(out, order, n.cast_unsigned()),
+        Value::U64(n) => write_number_64(out, order, *n),
+        Value::Double(bits) => write_number_64(out, order, *bits),
+        Value::Str(text) => write_text(out, order, text.as_bytes()),
+        Value::Path(text) => write_text(out, order, text.as_bytes()),
+        Value::Sig(text) => write_signature(out, order, text.as_bytes()),
+        Value::Fd(index) => write_number_32(out, order, *index),
+        Value::Bytes(bytes) => write_byte_array(out, order, bytes),
+        Value::Array(element, items) => write_array(out, order, items, element),
+        Value::Struct(fields) => {
+            write_padding(out, 8);
+            write_values(out, order, fields);
+        }
+        Value::Entry(key, value) => {
+            write_padding(out, 8);
+            write_value(out, order, key);
+            write_value(out, order, value);
+        }
+        Value::Variant(inner) => {
+            write_variant_signature(out, order, inner);
+            write_value(out, order, inner);
+        }
+    }
+}
+
+/// A BOOLEAN's number.
+fn bit(b: bool) -> u32
+    ensures { result ≡ if b then 1 else 0 }
+{
+    if b { 1 } else { 0 }
+}
+
+/// Appends values one behind the other.
+#[cycle(write)]
+fn write_values<A: Allocator>(out: &mut Vec<u8, A>, order: Order, values: &[Value<A>])
+    requires space { length (with_values order (value_trees_of values.now) out.old.items) ≤ vec_capacity out.old }
+    requires fits { length (with_values order (value_trees_of values.now) out.old.items) < 2 ^ 32 }
+    requires signed { HaveShortSignatures (value_trees_of values.now) }
+    ensures written { out.new.items ≡ with_values order (value_trees_of values.now) out.old.items }
+    ensures room { vec_capacity out.old ≤ vec_capacity out.new }
+{
+    for value in values {
+        write_value(out, order, value);
+    }
+}
+
+/// Appends an array, whose length is known once its items are written.
+#[cycle(write)]
+fn write_array<A: Allocator>(
+    out: &mut Vec<u8, A>,
+    order: Order,
+    items: &[Value<A>],
+    element: &SigType<A>,
+)
+    requires space { length (with_value order (ArrayValue (type_tree element.now) (value_trees_of items.now)) out.old.items) ≤ vec_capacity out.old }
+    requires fits { length (with_value order (ArrayValue (type_tree element.now) (value_trees_of items.now)) out.old.items) < 2 ^ 32 }
+    requires signed { HaveShortSignatures (value_trees_of items.now) }
+    ensures written { out.new.items ≡ with_value order (ArrayValue (type_tree element.now) (value_trees_of items.now)) out.old.items }
+    ensures room { vec_capacity out.old ≤ vec_capacity out.new }
+{
+    write_number_32(out, order, 0);
+    let at = out.len() - 4;
+    write_padding(out, alignment(element));
+    let start = out.len();
+    write_values(out, order, items);
+    let len = (out.len() - start) as u32;
+    overwrite_32(out, at, order, len);
+}
+
+/// Appends an array of bytes.
+fn write_byte_array<A: Allocator>(out: &mut Vec<u8, A>, order: Order, bytes: &[u8])
+    requires space { length (with_value order (ArrayValue (NumberType BYTE) (byte_values bytes.now)) out.old.items) ≤ vec_capacity out.old }
+    requires fits { length (with_value order (ArrayValue (NumberType BYTE) (byte_values bytes.now)) out.old.items) < 2 ^ 32 }
+    ensures written { out.new.items ≡ with_value order (ArrayValue (NumberType BYTE) (byte_values bytes.now)) out.old.items }
+    ensures room { vec_capacity out.old ≤ vec_capacity out.new }
+{
+    write_number_32(out, order, bytes.len() as u32);
+    write_bytes(out, bytes);
+}

@@ -1,0 +1,193 @@
+//! The signature of a type, and of a value's type: its length, and its bytes.
+#![tactic(auto)]
+
+ghost use Rattle.std.specs.Prelude.{◌≡◌, ◌<◌, ◌+◌, ◌≤◌, ◌++◌, ◌∷◌, [], length, vec_capacity};
+ghost use Rattle.dbus_types.specs.Types.{sig, sigs};
+ghost use Rattle.dbus_types.specs.SigTypes.{type_tree, type_trees_of};
+ghost use Rattle.dbus_value.specs.Bytes.{num};
+ghost use Rattle.dbus_value.specs.Values.{type_of, types_of};
+ghost use Rattle.dbus_value.specs.ValueViews.{value_tree, value_trees_of};
+
+use dbus_value::Order;
+use dbus_value::Value;
+use crate::writing::{write_byte, write_bytes};
+use dbus_types::SigType;
+use std::alloc::Allocator;
+
+/// The length of a type's signature.
+#[cycle(type_length)]
+#[tactic(auto, using(dbus_value::proofs::TypeRows::type_lengths))]
+pub fn type_length<A: Allocator>(ty: &SigType<A>) -> usize
+    requires { length (sig (type_tree ty.now)) < 256 }
+    ensures { result ≡ length (sig (type_tree ty.now)) }
+{
+    match ty {
+        SigType::Array(element) => 1 + type_length(element),
+        SigType::Struct(fields) => 2 + types_length(fields),
+        SigType::Entry(key, value) => 2 + type_length(key) + type_length(value),
+        _ => 1,
+    }
+}
+
+#[cycle(type_length)]
+#[tactic(auto, using(dbus_value::proofs::TypeRows::type_lengths))]
+fn types_length<A: Allocator>(types: &[SigType<A>]) -> usize
+    requires { length (sigs (type_trees_of types.now)) < 256 }
+    ensures { result ≡ length (sigs (type_trees_of types.now)) }
+{
+    let mut len = 0;
+    for ty in types {
+        len += type_length(ty);
+    }
+    len
+}
+
+/// The length of the signature of a value's type.
+#[cycle(signature_length)]
+#[tactic(auto, using(dbus_value::proofs::TypeRows::value_lengths))]
+pub fn signature_length<A: Allocator>(value: &Value<A>) -> usize
+    requires { length (sig (type_of (value_tree value.now))) < 256 }
+    ensures { result ≡ length (sig (type_of (value_tree value.now))) }
+{
+    match value {
+        Value::Bytes(_) => 2,
+        Value::Array(element, _) => 1 + type_length(element),
+        Value::Struct(fields) => 2 + signatures_length(fields),
+        Value::Entry(key, value) => 2 + signature_length(key) + signature_length(value),
+        _ => 1,
+    }
+}
+
+#[cycle(signature_length)]
+#[tactic(auto, using(dbus_value::proofs::TypeRows::value_lengths))]
+fn signatures_length<A: Allocator>(values: &[Value<A>]) -> usize
+    requires { length (sigs (types_of (value_trees_of values.now))) < 256 }
+    ensures { result ≡ length (sigs (types_of (value_trees_of values.now))) }
+{
+    let mut len = 0;
+    for value in values {
+        len += signature_length(value);
+    }
+    len
+}
+
+/// Appends a type's signature.
+#[cycle(write_type)]
+#[tactic(auto, using(dbus_value::proofs::TypeRows::basic_signatures, crate::proofs::Written::lengths))]
+pub fn write_type<A: Allocator>(out: &mut Vec<u8, A>, ty: &SigType<A>)
+    requires space { length out.old.items + length (sig (type_tree ty.now)) ≤ vec_capacity out.old }
+    ensures written { out.new.items ≡ out.old.items ++ sig (type_tree ty.now) }
+    ensures room { vec_capacity out.old ≤ vec_capacity out.new }
+{
+    match ty {
+        SigType::Byte => write_byte(out, b'y'),
+        SigType::Bool => write_byte(out, b'b'),
+        SigType::I16 => write_byte(out, b'n'),
+        SigType::U16 => write_byte(out, b'q'),
+        SigType::I32 => write_byte(out, b'i'),
+        SigType::U32 => write_byte(out, b'u'),
+        SigType::I64 => write_byte(out, b'x'),
+        SigType::U64 => write_byte(out, b't'),
+        SigType::Double => write_byte(out, b'd'),
+        SigType::Str => write_byte(out, b's'),
+        SigType::Path => write_byte(out, b'o'),
+        SigType::Sig => write_byte(out, b'g'),
+        SigType::Fd => write_byte(out, b'h'),
+        SigType::Variant => write_byte(out, b'v'),
+        SigType::Array(element) => {
+            write_byte(out, b'a');
+            write_type(out, element);
+        }
+        SigType::Struct(fields) => {
+            write_byte(out, b'(');
+            write_types(out, fields);
+            write_byte(out, b')');
+        }
+        SigType::Entry(key, value) => {
+            write_byte(out, b'{');
+            write_type(out, key);
+            write_type(out, value);
+            write_byte(out, b'}');
+        }
+    }
+}
+
+#[cycle(write_type)]
+#[tactic(auto, using(dbus_value::proofs::TypeRows::basic_signatures, crate::proofs::Written::lengths))]
+fn write_types<A: Allocator>(out: &mut Vec<u8, A>, types: &[SigType<A>])
+    requires space { length out.old.items + length (sigs (type_trees_of types.now)) ≤ vec_capacity out.old }
+    ensures written { out.new.items ≡ out.old.items ++ sigs (type_trees_of types.now) }
+    ensures room { vec_capacity out.old ≤ vec_capacity out.new }
+{
+    for ty in types {
+        write_type(out, ty);
+    }
+}
+
+/// Appends the signature of a value's type.
+#[cycle(write_type_of)]
+#[tactic(auto, using(dbus_value::proofs::TypeRows::basic_value_signatures, crate::proofs::Written::lengths))]
+pub fn write_type_of<A: Allocator>(out: &mut Vec<u8, A>, value: &Value<A>)
+    requires space { length out.old.items + length (sig (type_of (value_tree value.now))) ≤ vec_capacity out.old }
+    ensures written { out.new.items ≡ out.old.items ++ sig (type_of (value_tree value.now)) }
+    ensures room { vec_capacity out.old ≤ vec_capacity out.new }
+{
+    match value {
+        Value::Byte(_) => write_byte(out, b'y'),
+        Value::Bool(_) => write_byte(out, b'b'),
+        Value::I16(_) => write_byte(out, b'n'),
+        Value::U16(_) => write_byte(out, b'q'),
+        Value::I32(_) => write_byte(out, b'i'),
+        Value::U32(_) => write_byte(out, b'u'),
+        Value::I64(_) => write_byte(out, b'x'),
+        Value::U64(_) => write_byte(out, b't'),
+        Value::Double(_) => write_byte(out, b'd'),
+        Value::Str(_) => write_byte(out, b's'),
+        Value::Path(_) => write_byte(out, b'o'),
+        Value::Sig(_) => write_byte(out, b'g'),
+        Value::Fd(_) => write_byte(out, b'h'),
+        Value::Variant(_) => write_byte(out, b'v'),
+        Value::Bytes(_) => write_bytes(out, b"ay"),
+        Value::Array(element, _) => {
+            write_byte(out, b'a');
+            write_type(out, element);
+        }
+        Value::Struct(fields) => {
+            write_byte(out, b'(');
+            write_types_of(out, fields);
+            write_byte(out, b')');
+        }
+        Value::Entry(key, value) => {
+            write_byte(out, b'{');
+            write_type_of(out, key);
+            write_type_of(out, value);
+            write_byte(out, b'}');
+        }
+    }
+}
+
+#[cycle(write_type_of)]
+#[tactic(auto, using(dbus_value::proofs::TypeRows::basic_value_signatures, crate::proofs::Written::lengths))]
+fn write_types_of<A: Allocator>(out: &mut Vec<u8, A>, values: &[Value<A>])
+    requires space { length out.old.items + length (sigs (types_of (value_trees_of values.now))) ≤ vec_capacity out.old }
+    ensures written { out.new.items ≡ out.old.items ++ sigs (types_of (value_trees_of values.now)) }
+    ensures room { vec_capacity out.old ≤ vec_capacity out.new }
+{
+    for value in values {
+        write_type_of(out, value);
+    }
+}
+
+/// Appends the signature of a value's type as a variant has it: its length in one byte, itself and a zero byte.
+#[tactic(auto, using(crate::proofs::Written::texts))]
+pub fn write_variant_signature<A: Allocator>(out: &mut Vec<u8, A>, order: Order, value: &Value<A>)
+    requires space { length out.old.items + length (sig (type_of (value_tree value.now))) + 2 ≤ vec_capacity out.old }
+    requires fits { length (sig (type_of (value_tree value.now))) < 256 }
+    ensures written { out.new.items ≡ ((out.old.items ++ num order 1 (length (sig (type_of (value_tree value.now))))) ++ sig (type_of (value_tree value.now))) ++ 0 ∷ [] }
+    ensures room { vec_capacity out.old ≤ vec_capacity out.new }
+{
+    let _order = order;
+    write_byte(out, signature_length(value) as u8);
+    write_type_of(out, value);
+    write_byte(out, 0);
+}

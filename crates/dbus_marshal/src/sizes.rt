@@ -1,0 +1,197 @@
+//! Where a value ends, before it is written.
+#![tactic(auto, using(crate::proofs::Sizing::sizing))]
+
+ghost use Rattle.std.specs.Prelude.{◌≡◌, ◌≤◌, ◌<◌, ◌^◌, IfOk, IfSome, None};
+ghost use Rattle.dbus_value.specs.ShortSignatures.{HasShortSignatures, HaveShortSignatures};
+ghost use Rattle.dbus_value.specs.Sizes.{message_limit, item, padding, narrowed, sized, sizes, ◌⊳◌};
+ghost use Rattle.dbus_value.specs.ValueViews.{value_tree, value_trees_of, byte_values};
+
+use crate::signatures::signature_length;
+use dbus_value::Value;
+use dbus_value::ValueFault;
+use dbus_types::alignment;
+use std::alloc::Allocator;
+
+const MESSAGE_LIMIT: u64 = 1 << 27;
+
+const ARRAY_LIMIT: u64 = 1 << 26;
+
+/// The offset where a value ends that begins at `offset`, in both byte orders.
+/// D-Bus Specification, "Marshaling (Wire Format)".
+///
+/// `offset` counts from the message's first byte and is at most 134,217,728. Of the value it asks only that each
+/// signature in it has at most 255 bytes, as is so where it is well formed.
+///
+/// Refused is the first item, in order, whose end passes a bound: `ArrayTooLong` where that is the bound of an open
+/// array, 67,108,864 bytes from the start of its contents, else `TooLong`, where it is that of the message,
+/// 134,217,728. A padding, a number, a length, a text and the byte behind a text are an item each.
+pub fn size_after<A: Allocator>(value: &Value<A>, offset: u64) -> Result<u64, ValueFault>
+    requires start { offset ≤ message_limit }
+    requires signed { HasShortSignatures (value_tree value.now) }
+    ensures exact { result ≡ sized (value_tree value.now) None offset }
+    ensures within { IfOk result (λ e. e ≤ message_limit) }
+{
+    size_value(value, None, offset)
+}
+
+/// One item of `len` bytes. The contents of the open arrays have to end at `bound`.
+#[tactic(auto, unfolding(dbus_value::specs::Sizes::item, dbus_value::specs::Sizes::message_limit))]
+fn item(bound: Option<u64>, len: usize, offset: u64) -> Result<u64, ValueFault>
+    requires start { offset ≤ message_limit }
+    requires bounded { IfSome bound (λ b. b < 2 ^ 28) }
+    ensures exact { result ≡ item bound len offset }
+    ensures within { IfOk result (λ e. e ≤ message_limit) }
+{
+    let end = offset.saturating_add(len as u64);
+    if let Some(bound) = bound
+        && bound < end
+    {
+        return Err(ValueFault::ArrayTooLong);
+    }
+    if MESSAGE_LIMIT < end {
+        return Err(ValueFault::TooLong);
+    }
+    Ok(end)
+}
+
+/// The padding up to the next multiple of `alignment`, where there is any.
+#[tactic(auto, unfolding(dbus_value::specs::Sizes::padding, dbus_value::specs::Bytes::gap_to))]
+fn padding(bound: Option<u64>, alignment: u8, offset: u64) -> Result<u64, ValueFault>
+    requires start { offset ≤ message_limit }
+    requires bounded { IfSome bound (λ b. b < 2 ^ 28) }
+    requires positive { 0 < alignment }
+    ensures exact { result ≡ padding bound alignment offset }
+    ensures within { IfOk result (λ e. e ≤ message_limit) }
+{
+    let alignment = u64::from(alignment);
+    let count = (alignment - offset % alignment) % alignment;
+    if count == 0 {
+        return Ok(offset);
+    }
+    item(bound, count as usize, offset)
+}
+
+/// A number of `width` bytes, which is also its alignment.
+fn number(bound: Option<u64>, width: u8, offset: u64) -> Result<u64, ValueFault>
+    requires start { offset ≤ message_limit }
+    requires bounded { IfSome bound (λ b. b < 2 ^ 28) }
+    requires positive { 0 < width }
+    ensures exact { result ≡ (padding bound width ⊳ item bound width) offset }
+    ensures within { IfOk result (λ e. e ≤ message_limit) }
+{
+    let offset = padding(bound, width, offset)?;
+    item(bound, usize::from(width), offset)
+}
+
+/// A text of `len` bytes, whose length has `width` bytes, and the byte behind it.
+fn text(bound: Option<u64>, width: u8, len: usize, offset: u64) -> Result<u64, ValueFault>
+    requires start { offset ≤ message_limit }
+    requires bounded { IfSome bound (λ b. b < 2 ^ 28) }
+    requires positive { 0 < width }
+    ensures exact { result ≡ (padding bound width ⊳ item bound width ⊳ item bound len ⊳ item bound 1) offset }
+    ensures within { IfOk result (λ e. e ≤ message_limit) }
+{
+    let offset = number(bound, width, offset)?;
+    let offset = item(bound, len, offset)?;
+    item(bound, 1, offset)
+}
+
+/// Bytes, each an item.
+fn size_bytes(bytes: &[u8], bound: Option<u64>, offset: u64) -> Result<u64, ValueFault>
+    requires start { offset ≤ message_limit }
+    requires bounded { IfSome bound (λ b. b < 2 ^ 28) }
+    ensures exact { result ≡ sizes (byte_values bytes.now) bound offset }
+    ensures within { IfOk result (λ e. e ≤ message_limit) }
+{
+    if bytes.is_empty() {
+        return Ok(offset);
+    }
+    let end = offset.saturating_add(bytes.len() as u64);
+    // The lesser of the bounds is the one that the bytes come to first.
+    let array_end = bound.unwrap_or(u64::MAX);
+    if array_end <= MESSAGE_LIMIT && array_end < end {
+        Err(ValueFault::ArrayTooLong)
+    } else if MESSAGE_LIMIT < end {
+        Err(ValueFault::TooLong)
+    } else {
+        Ok(end)
+    }
+}
+
+/// The least bound within an array whose contents start at `offset`.
+#[tactic(auto, unfolding(dbus_value::specs::Sizes::narrowed, dbus_value::specs::Spelling::array_limit, dbus_value::specs::Sizes::message_limit))]
+fn narrowed(bound: Option<u64>, offset: u64) -> Option<u64>
+    requires start { offset ≤ message_limit }
+    requires bounded { IfSome bound (λ b. b < 2 ^ 28) }
+    ensures exact { result ≡ narrowed bound offset }
+    ensures within { IfSome result (λ b. b < 2 ^ 28) }
+{
+    let own = offset + ARRAY_LIMIT;
+    match bound {
+        None => Some(own),
+        Some(outer) => Some(outer.min(own)),
+    }
+}
+
+#[cycle(size)]
+fn size_value<A: Allocator>(
+    value: &Value<A>,
+    bound: Option<u64>,
+    offset: u64,
+) -> Result<u64, ValueFault>
+    requires start { offset ≤ message_limit }
+    requires bounded { IfSome bound (λ b. b < 2 ^ 28) }
+    requires signed { HasShortSignatures (value_tree value.now) }
+    ensures exact { result ≡ sized (value_tree value.now) bound offset }
+    ensures within { IfOk result (λ e. e ≤ message_limit) }
+{
+    match value {
+        Value::Byte(_) => number(bound, 1, offset),
+        Value::I16(_) | Value::U16(_) => number(bound, 2, offset),
+        Value::Bool(_) | Value::I32(_) | Value::U32(_) | Value::Fd(_) => number(bound, 4, offset),
+        Value::I64(_) | Value::U64(_) | Value::Double(_) => number(bound, 8, offset),
+        Value::Str(words) | Value::Path(words) => text(bound, 4, words.len(), offset),
+        Value::Sig(types) => text(bound, 1, types.len(), offset),
+        Value::Bytes(bytes) => {
+            let offset = number(bound, 4, offset)?;
+            size_bytes(bytes, narrowed(bound, offset), offset)
+        }
+        Value::Array(element, items) => {
+            let offset = number(bound, 4, offset)?;
+            let offset = padding(bound, alignment(element), offset)?;
+            size_values(items, narrowed(bound, offset), offset)
+        }
+        Value::Struct(fields) => {
+            let offset = padding(bound, 8, offset)?;
+            size_values(fields, bound, offset)
+        }
+        Value::Entry(key, value) => {
+            let offset = padding(bound, 8, offset)?;
+            let offset = size_value(key, bound, offset)?;
+            size_value(value, bound, offset)
+        }
+        Value::Variant(inner) => {
+            let offset = text(bound, 1, signature_length(inner), offset)?;
+            size_value(inner, bound, offset)
+        }
+    }
+}
+
+#[cycle(size)]
+fn size_values<A: Allocator>(
+    values: &[Value<A>],
+    bound: Option<u64>,
+    offset: u64,
+) -> Result<u64, ValueFault>
+    requires start { offset ≤ message_limit }
+    requires bounded { IfSome bound (λ b. b < 2 ^ 28) }
+    requires signed { HaveShortSignatures (value_trees_of values.now) }
+    ensures exact { result ≡ sizes (value_trees_of values.now) bound offset }
+    ensures within { IfOk result (λ e. e ≤ message_limit) }
+{
+    let mut at = offset;
+    for value in values {
+        at = size_value(value, bound, at)?;
+    }
+    Ok(at)
+}

@@ -1,0 +1,13 @@
+use Rattle.std.proofs.Common.{arith, refl}
+use Rattle.dbus_value.specs.Gives.{no_row}
+use Rattle.dbus_unmarshal.proofs.ReadSteps.{number_overrun, number_partial, number_done}
+use Rattle.dbus_unmarshal.proofs.items.read_u64.Goals as goal
+
+pub returns-then-end-at-lt8-clause-gives : goal.returns-then-end-at-lt8-clause-gives
+returns-then-end-at-lt8-clause-gives c = rw c.refuse.ensures (number_overrun c.args.order 8 c.args.end no_row c.args.at c.args.bytes.now (omega arith))
+
+pub returns-then-bytes-at-lt8-clause-gives : goal.returns-then-bytes-at-lt8-clause-gives
+returns-then-bytes-at-lt8-clause-gives c = number_partial c.args.order 8 c.args.end no_row c.args.at c.args.bytes.now (omega arith) (omega arith) (omega arith)
+
+pub returns-clause-gives : goal.returns-clause-gives
+returns-clause-gives c = number_done c.args.order 8 c.args.end no_row c.args.at c.args.bytes.now (omega arith) c.u64_at.result (omega arith) c.u64_at.ensures refl

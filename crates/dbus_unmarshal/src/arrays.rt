@@ -1,0 +1,65 @@
+//! What an array has besides its elements' own reading.
+#![tactic(auto)]
+
+ghost use Rattle.std.specs.Prelude.{◌≡◌, ℕ, ◌+◌, ◌≤◌, length, drop, map, IfOk};
+ghost use Rattle.dbus_types.specs.Types.{NumberType, BYTE};
+ghost use Rattle.dbus_types.specs.SigTypes.{type_tree};
+ghost use Rattle.dbus_value.specs.declared.order.Order.{Order};
+ghost use Rattle.dbus_value.specs.Values.{NumberValue};
+ghost use Rattle.dbus_value.specs.Reading.{contents, value};
+ghost use Rattle.dbus_value.specs.ValueReaders.{array_frame};
+ghost use Rattle.dbus_value.specs.Gives.{Gives};
+
+use dbus_value::Reason;
+use crate::items::{read_padding, read_u32};
+use dbus_value::Order;
+use dbus_value::{Stop, refuse};
+use dbus_types::{SigType, alignment};
+use std::alloc::Allocator;
+
+/// The most bytes that an array's elements may have. D-Bus Specification, "Marshaling (Wire Format)".
+const LONGEST_CONTENTS: usize = 67_108_864;
+
+/// The length of an array's elements in bytes, and the place of the first one, behind its padding.
+pub fn read_frame<A: Allocator>(
+    bytes: &[u8],
+    at: usize,
+    end: usize,
+    order: Order,
+    item: &SigType<A>,
+) -> Result<(usize, usize), Stop>
+    requires at_most { at ≤ end }
+    requires inside { at ≤ length bytes.now }
+    ensures gives { Gives (λ x. x) bytes.now result (array_frame order end (type_tree item.now) at (drop at bytes.now)) }
+    ensures moves { IfOk result (λ x. (at ≤ x.1) × (x.1 + x.0 ≤ end) × (x.1 ≤ length bytes.now)) }
+{
+    let (n, behind) = read_u32(bytes, at, end, order)?;
+    let n = n as usize;
+    if n > LONGEST_CONTENTS {
+        return refuse(at, Reason::ArrayTooLong);
+    }
+    let alignment = alignment(item) as usize;
+    let gap = (alignment - behind % alignment) % alignment;
+    if end - behind < gap + n {
+        return refuse(at, Reason::Overrun);
+    }
+    let first = read_padding(bytes, behind, end, alignment)?;
+    Ok((n, first))
+}
+
+/// The n bytes that are an array of BYTE's elements.
+pub fn read_bytes<A: Allocator>(
+    alloc: A,
+    bytes: &[u8],
+    at: usize,
+    n: usize,
+) -> Result<Vec<u8, A>, Stop>
+    requires inside { at ≤ length bytes.now }
+    ensures { (order : Order) (room : ℕ) → Gives (λ v. (map (NumberValue BYTE) v.items, at + n)) bytes.now result (contents n (λ end before. value order room end (NumberType BYTE)) at (drop at bytes.now)) }
+{
+    let rest = &bytes[at..];
+    if rest.len() < n {
+        return Err(Stop::Partial);
+    }
+    Ok(Vec::from_slice(alloc, &rest[..n])?)
+}

@@ -1,0 +1,84 @@
+//! Values that are one text.
+#![tactic(auto, using(crate::proofs::StringSteps::strings), unfolding(dbus_value::specs::ValueReaders::text_value))]
+
+ghost use Rattle.std.specs.Prelude.{◌≡◌, ◌≤◌, length, drop, string_bytes, IsUtf8, IsTrue, IfOk};
+ghost use Rattle.dbus_types.specs.Types.{STRING, OBJECT_PATH, SIGNATURE};
+ghost use Rattle.dbus_value.specs.declared.order.Order.{Order};
+ghost use Rattle.dbus_value.specs.PackedBytes.{keeps_bytes};
+ghost use Rattle.dbus_value.specs.ValueReaders.{text_value};
+ghost use Rattle.dbus_value.specs.ValueViews.{value_tree};
+ghost use Rattle.dbus_value.specs.Gives.{Gives};
+
+use crate::items::{read_length, read_nul, read_padding, read_short_length};
+use dbus_value::Order;
+use dbus_value::Stop;
+use crate::texts::read_text;
+use dbus_value::Value;
+use dbus_types::TextKind;
+use std::alloc::{AllocError, Allocator};
+
+/// A string of bytes that are UTF-8.
+fn string_of<A: Allocator>(alloc: A, bytes: &[u8]) -> Result<String<A>, AllocError>
+    requires { IsUtf8 bytes.now }
+    ensures { IfOk result (λ s. string_bytes s ≡ bytes.now) }
+{
+    String::from_str(alloc, str::from_utf8(bytes).unwrap())
+}
+
+/// A STRING.
+pub fn get_str<A: Allocator>(
+    alloc: A,
+    bytes: &[u8],
+    at: usize,
+    end: usize,
+    order: Order,
+) -> Result<(Value<A>, usize), Stop>
+    requires at_most { at ≤ end }
+    requires inside { at ≤ length bytes.now }
+    ensures gives { Gives (λ x. (value_tree x.0, x.1)) bytes.now result (text_value order end STRING at (drop at bytes.now)) }
+    ensures packed { IfOk result (λ x. IsTrue (keeps_bytes x.0)) }
+{
+    let at = read_padding(bytes, at, end, 4)?;
+    let (n, start) = read_length(bytes, at, end, order)?;
+    let behind = read_text(bytes, start, n, TextKind::Text)?;
+    let next = read_nul(bytes, behind)?;
+    Ok((Value::Str(string_of(alloc, &bytes[start..behind])?), next))
+}
+
+/// An OBJECT_PATH.
+pub fn get_path<A: Allocator>(
+    alloc: A,
+    bytes: &[u8],
+    at: usize,
+    end: usize,
+    order: Order,
+) -> Result<(Value<A>, usize), Stop>
+    requires at_most { at ≤ end }
+    requires inside { at ≤ length bytes.now }
+    ensures gives { Gives (λ x. (value_tree x.0, x.1)) bytes.now result (text_value order end OBJECT_PATH at (drop at bytes.now)) }
+    ensures packed { IfOk result (λ x. IsTrue (keeps_bytes x.0)) }
+{
+    let at = read_padding(bytes, at, end, 4)?;
+    let (n, start) = read_length(bytes, at, end, order)?;
+    let behind = read_text(bytes, start, n, TextKind::Path)?;
+    let next = read_nul(bytes, behind)?;
+    Ok((Value::Path(string_of(alloc, &bytes[start..behind])?), next))
+}
+
+/// A SIGNATURE.
+pub fn get_sig<A: Allocator>(
+    alloc: A,
+    bytes: &[u8],
+    at: usize,
+    end: usize,
+) -> Result<(Value<A>, usize), Stop>
+    requires at_most { at ≤ end }
+    requires inside { at ≤ length bytes.now }
+    ensures gives { (order : Order) → Gives (λ x. (value_tree x.0, x.1)) bytes.now result (text_value order end SIGNATURE at (drop at bytes.now)) }
+    ensures packed { IfOk result (λ x. IsTrue (keeps_bytes x.0)) }
+{
+    let (n, start) = read_short_length(bytes, at, end)?;
+    let behind = read_text(bytes, start, n, TextKind::Signature)?;
+    let next = read_nul(bytes, behind)?;
+    Ok((Value::Sig(string_of(alloc, &bytes[start..behind])?), next))
+}

@@ -1,0 +1,119 @@
+//! Texts and signatures, one by one. D-Bus Specification, "Marshaling (Wire Format)".
+//!
+//! `bytes` begin at the message's first byte, and a place counts from there. A text's length is read already. Each call
+//! answers `Refused` with the fault as soon as the bytes that are there show it, and `Partial` where they end within
+//! the text and show none.
+#![tactic(auto)]
+
+ghost use Rattle.std.specs.Prelude.{◌≡◌, ℕ, ◌+◌, ◌<◌, ◌≤◌, length, take, drop, IfOk};
+ghost use Rattle.dbus_types.specs.Kinds.{IsKind};
+ghost use Rattle.dbus_types.specs.Types.{IsSingleType, sig};
+ghost use Rattle.dbus_types.specs.SigTypes.{type_tree};
+ghost use Rattle.dbus_types.specs.declared.text_kind.TextKind.TheVariants.{Single};
+ghost use Rattle.dbus_value.specs.WantedTexts.{Of, Only, alike};
+ghost use Rattle.dbus_value.specs.Items.{text_reason};
+ghost use Rattle.dbus_value.specs.Reading.{text, signature};
+ghost use Rattle.dbus_value.specs.Gives.{Gives};
+
+use dbus_value::Reason;
+use dbus_value::{Stop, refuse};
+use dbus_types::{SigType, TextKind, parse_single, text_break};
+use std::alloc::Allocator;
+
+/// The reason of a text that is not of the kind that is wanted.
+pub fn text_reason(kind: TextKind) -> Reason
+    ensures { result ≡ text_reason (Of kind) }
+{
+    match kind {
+        TextKind::Text => Reason::Text,
+        TextKind::Path => Reason::Path,
+        TextKind::Interface => Reason::Interface,
+        TextKind::Member => Reason::Member,
+        TextKind::ErrorName => Reason::ErrorName,
+        TextKind::BusName => Reason::BusName,
+        TextKind::Signature | TextKind::Single => Reason::Signature,
+    }
+}
+
+/// The bytes at a place: n of them, or those that are there.
+fn given_at(bytes: &[u8], at: usize, n: usize) -> &[u8]
+    requires { at ≤ length bytes.now }
+    ensures { result.now ≡ take n (drop at bytes.now) }
+{
+    let rest = &bytes[at..];
+    if n < rest.len() { &rest[..n] } else { rest }
+}
+
+/// How many bytes two texts begin with alike.
+fn alike(a: &[u8], b: &[u8]) -> usize
+    ensures { result ≡ alike a.now b.now }
+{
+    let mut n = 0;
+    while n < a.len() && n < b.len() && a[n] == b[n] {
+        n += 1;
+    }
+    n
+}
+
+/// A text of n bytes of a kind. Gives the place behind it.
+///
+/// Else the kind's fault, as `text_reason` names it, at the text's break. D-Bus Specification, "Basic types", "Valid
+/// Object Paths", "Valid Names" and "Valid Signatures".
+pub fn read_text(bytes: &[u8], at: usize, n: usize, kind: TextKind) -> Result<usize, Stop>
+    requires inside { at ≤ length bytes.now }
+    ensures gives { Gives (λ q. (take n (drop at bytes.now), q)) bytes.now result (text (Of kind) n at (drop at bytes.now)) }
+    ensures moves { IfOk result (λ q. (q ≡ at + n) × (q ≤ length bytes.now) × IsKind kind (take n (drop at bytes.now))) }
+{
+    let given = given_at(bytes, at, n);
+    match text_break(kind, given) {
+        None if given.len() < n => Err(Stop::Partial),
+        None => Ok(at + n),
+        Some(i) if i < given.len() => refuse(at + i, text_reason(kind)),
+        Some(_) if given.len() < n => Err(Stop::Partial),
+        Some(i) => refuse(at + i, text_reason(kind)),
+    }
+}
+
+/// The one signature that is wanted, where n bytes are given for it. Gives the place behind it.
+///
+/// Else `FieldType` at the first byte that is another, or at the text's end where more is wanted. D-Bus
+/// Specification, "Header Fields".
+pub fn read_only(bytes: &[u8], at: usize, n: usize, wanted: &[u8]) -> Result<usize, Stop>
+    requires inside { at ≤ length bytes.now }
+    ensures gives { Gives (λ q. (wanted.now, q)) bytes.now result (text (Only wanted.now) n at (drop at bytes.now)) }
+    ensures moves { IfOk result (λ q. (q ≡ at + n) × (q ≤ length bytes.now)) }
+{
+    let given = given_at(bytes, at, n);
+    let same = alike(wanted, given);
+    if same < given.len() {
+        return refuse(at + same, Reason::FieldType);
+    }
+    if given.len() < n {
+        return Err(Stop::Partial);
+    }
+    if n < wanted.len() {
+        return refuse(at + same, Reason::FieldType);
+    }
+    Ok(at + n)
+}
+
+/// The signature of one complete type, of n bytes: its type, and the place behind it.
+///
+/// Else `Signature` at the text's break; `Memory` where a growth was refused. D-Bus Specification, "Valid Signatures".
+pub fn read_signature<A: Allocator + Copy>(
+    alloc: A,
+    bytes: &[u8],
+    at: usize,
+    n: usize,
+) -> Result<(SigType<A>, usize), Stop>
+    requires inside { at ≤ length bytes.now }
+    ensures gives { Gives (λ x. (type_tree x.0, x.1)) bytes.now result (signature (Of Single) n at (drop at bytes.now)) }
+    ensures moves { IfOk result (λ x. (x.1 ≡ at + n) × (x.1 ≤ length bytes.now) × (length (sig (type_tree x.0)) ≡ n) × IsSingleType (type_tree x.0)) }
+{
+    let behind = read_text(bytes, at, n, TextKind::Single)?;
+    match parse_single(alloc, &bytes[at..behind]) {
+        Ok(held) => Ok((held, behind)),
+        // The text is a signature, so no more than memory can be missing.
+        Err(_) => Err(Stop::Memory),
+    }
+}

@@ -1,9 +1,0 @@
-use Rattle.std.proofs.Common.{◌≡◌, ◌+◌, drop, length}
-use Rattle.dbus_types.specs.Types.{sigs}
-use Rattle.dbus_value.specs.Values.{types_of}
-use Rattle.dbus_value.specs.ValueViews.{value_trees_of}
-use Rattle.dbus_value.proofs.signatures.+signature_length.Given as goal
-
-abbrev pub invariant-signatures_length-loop-value : goal.invariant-signatures_length-loop-value
-invariant-signatures_length-loop-value g l =
-    l.len + length (sigs (types_of (value_trees_of (drop l.value-index l.values)))) ≡ length (sigs (types_of (value_trees_of l.values)))
