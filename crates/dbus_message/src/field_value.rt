@@ -17,9 +17,9 @@ ghost use Rattle.dbus_message.specs.Messages.{Name, OfType, Anything, Serial, wa
 
 use crate::fixed_header::read_serial;
 use dbus_types::{SigType, TextKind};
+use dbus_unmarshal::get;
 use dbus_unmarshal::items::{read_length, read_nul, read_padding, read_short_length, read_u32};
 use dbus_unmarshal::texts::{read_only, read_signature, read_text};
-use dbus_unmarshal::get;
 use dbus_value::{Got, Order, Reason, Refusal, Stop, Value, refuse};
 use std::alloc::{AllocError, Allocator};
 

@@ -9,6 +9,8 @@ mod building_tests;
 mod decoding;
 mod depth;
 mod encoding;
+#[cfg(test)]
+mod fault_tests;
 mod faulty_body;
 mod faulty_fields;
 mod field_value;

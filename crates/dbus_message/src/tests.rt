@@ -301,5 +301,9 @@ fn sixty_four_open_containers(rt: HostRuntime) -> Result<(), Fail> {
     }
     bytes.extend_from_slice(b"\x01y\x00\x07")?;
     is_refused(&rt, alloc, &bytes, 224, Reason::TooDeep);
+    let decided = bytes.get(..224).ok_or("what decides it")?;
+    is_refused(&rt, alloc, decided, 224, Reason::TooDeep);
+    let front = bytes.get(..223).ok_or("one byte less")?;
+    is_partial(&rt, alloc, front);
     Ok(())
 }
