@@ -4,6 +4,7 @@ pub mod Sorted
 pub mod Pieces
 pub mod KeyTexts
 pub mod Unique
+pub mod Decided
 pub mod Canonical
 pub mod Separators
 pub mod Inserts

@@ -1,10 +1,12 @@
--- The laws of rule texts: a text spells at most one rule, or has at most one fault, and never both; and the
--- canonical text of a rule spells it.
+-- The laws of rules: a text spells at most one rule, or has at most one fault, and never both; the canonical text of a
+-- rule spells it; and of each message it is decided whether a rule matches it.
 -- D-Bus Specification, "Match Rules".
-use Rattle.std.specs.Prelude.{◌≡◌, ℕ, List}
+use Rattle.std.specs.Prelude.{◌≡◌, ◌⊎◌, ℕ, List}
+use Rattle.dbus_message.specs.Messages.{MessageTree}
 use Rattle.dbus_match.specs.declared.fault.RuleReason.{RuleReason}
 use Rattle.dbus_match.specs.Rules.{Pair, IsRule, SpellsRule, canonical}
 use Rattle.dbus_match.specs.Faults.{IsFault}
+use Rattle.dbus_match.specs.Matching.{Matches, Ownership}
 
 -- a text spells at most one rule
 abbrev pub OneRule : Type 0
@@ -21,3 +23,7 @@ OneFault = (w : List ℕ) (r s : RuleReason) (m n : ℕ) → IsFault w r m → I
 -- no text spells a rule and has a fault
 abbrev pub NotBoth : Type 0
 NotBoth = (w : List ℕ) (r : List Pair) (reason : RuleReason) (at : ℕ) → SpellsRule w r → IsFault w reason at → ⊥
+
+-- a rule matches a message, or it does not
+abbrev pub Decided : Type 0
+Decided = (r : List Pair) (m : MessageTree) (os : List Ownership) → Matches r m os ⊎ (Matches r m os → ⊥)

@@ -1,7 +1,7 @@
-//! The laws of rule texts. Each function does nothing: its contract is the law.
+//! The laws of rules. Each function does nothing: its contract is the law.
 #![tactic(auto)]
 
-ghost use Rattle.dbus_match.specs.Laws.{CanonicalSpells, NotBoth, OneFault, OneRule};
+ghost use Rattle.dbus_match.specs.Laws.{CanonicalSpells, Decided, NotBoth, OneFault, OneRule};
 
 /// A text spells at most one rule.
 pub fn one_rule()
@@ -21,4 +21,9 @@ pub fn one_fault()
 /// No text spells a rule and has a fault.
 pub fn not_both()
     ensures { NotBoth }
+{}
+
+/// Of each message it is decided whether a rule matches it.
+pub fn decided()
+    ensures { Decided }
 {}
