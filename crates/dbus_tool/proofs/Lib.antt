@@ -1,4 +1,5 @@
 pub mod OutputSteps
+pub mod Outputs
 pub mod GatherSteps
 pub mod CountSteps
 pub mod GivenSteps

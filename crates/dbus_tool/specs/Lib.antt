@@ -1,6 +1,7 @@
 pub mod Lines
 pub mod RuleLines
 pub mod Output
+pub mod Laws
 pub mod Gathering
 pub mod Counting
 pub mod Handing

@@ -6,6 +6,7 @@ mod ending;
 mod failing;
 mod gathering;
 mod handing;
+pub mod laws;
 mod lines;
 mod output;
 mod rule_lines;

@@ -1,0 +1,69 @@
+-- Of all messages and the fault behind them a command has exactly one output.
+use Rattle.std.proofs.Common.{◌≡◌, ℕ, ◌+◌, inl, inr, List, [], ◌∷◌, ◌++◌, length, Option, refl, sym, ap, ◌∙◌}
+use Rattle.dbus_value.specs.declared.fault.Fault.{Fault}
+use Rattle.dbus_value.specs.declared.order.Order.{Order}
+use Rattle.dbus_message.specs.Messages.{MessageTree, message_bytes}
+use Rattle.dbus_stream.specs.Cut.{Item, sizes}
+use Rattle.dbus_show.specs.ShownMessages.{message_text}
+use Rattle.dbus_match.specs.Rules.{Pair}
+use Rattle.dbus_match.specs.RuleViews.{rule_pairs}
+use Rattle.dbus_match.proofs.Decided.{decided}
+use Rattle.dbus_command.specs.declared.command.Command.{Command}
+use Rattle.dbus_command.specs.declared.command.Command.TheVariants.{Show, Check, Swap, Filter}
+use Rattle.dbus_tool.specs.Output.{IsFiltered, IsOutputOf, IsOutputOfAll, IsFirstOutput, last_line}
+
+-- ---- there is one
+
+some_filtered : (pairs : List Pair) (order : Order) (message : MessageTree) → (out : List ℕ) × IsFiltered pairs order message out
+some_filtered pairs order message = elim (decided pairs message []) [
+  | inl h ↦ (message_bytes order message, inl (h, refl))
+  | inr n ↦ ([], inr (n, refl))
+]
+
+some_of_one : (command : Command) (order : Order) (message : MessageTree) (n : ℕ) → (out : List ℕ) × IsOutputOf command order message n out
+some_of_one Show order message n = (message_text order message n, refl)
+some_of_one Check order message n = ([], refl)
+some_of_one (Swap wanted) order message n = (message_bytes wanted message, refl)
+some_of_one (Filter rule) order message n = some_filtered (rule_pairs rule) order message
+
+some_of_all : (command : Command) (n : ℕ) (items : List Item) → (out : List ℕ) × IsOutputOfAll command n items out
+some_of_all command n [] = ([], refl)
+some_of_all command n (item ∷ items) =
+    let one = some_of_one command item.order item.message n in
+    let more = some_of_all command (n + 1) items in
+    (one.0 ++ more.0, (one.0, more.0, refl, one.1, more.1))
+
+pub some_output : (command : Command) (items : List Item) (fault : Option Fault) → (out : List ℕ) × IsFirstOutput command items fault out
+some_output command items fault =
+    let all = some_of_all command 1 items in
+    (all.0 ++ last_line command (length items) (sizes items) fault, record { written = all.0; each = all.1; joined = refl })
+
+-- ---- and no other
+
+one_filtered : (pairs : List Pair) (order : Order) (message : MessageTree) (x y : List ℕ)
+    → IsFiltered pairs order message x → IsFiltered pairs order message y → x ≡ y
+one_filtered pairs order message x y (inl h) (inl k) = h.1 ∙ sym k.1
+one_filtered pairs order message x y (inl h) (inr k) = absurd (k.0 h.0)
+one_filtered pairs order message x y (inr h) (inl k) = absurd (h.0 k.0)
+one_filtered pairs order message x y (inr h) (inr k) = h.1 ∙ sym k.1
+
+one_of_one : (command : Command) (order : Order) (message : MessageTree) (n : ℕ) (x y : List ℕ)
+    → IsOutputOf command order message n x → IsOutputOf command order message n y → x ≡ y
+one_of_one Show order message n x y h k = h ∙ sym k
+one_of_one Check order message n x y h k = h ∙ sym k
+one_of_one (Swap wanted) order message n x y h k = h ∙ sym k
+one_of_one (Filter rule) order message n x y h k = one_filtered (rule_pairs rule) order message x y h k
+
+one_of_all : (command : Command) (n : ℕ) (items : List Item) (x y : List ℕ)
+    → IsOutputOfAll command n items x → IsOutputOfAll command n items y → x ≡ y
+one_of_all command n [] x y h k = h ∙ sym k
+one_of_all command n (item ∷ items) x y h k =
+    let first : h.0 ≡ k.0 = one_of_one command item.order item.message n h.0 k.0 h.3 k.3 in
+    let more : h.1 ≡ k.1 = one_of_all command (n + 1) items h.1 k.1 h.4 k.4 in
+    let joined : h.0 ++ h.1 ≡ k.0 ++ k.1 = cc (first, more) in
+    h.2 ∙ joined ∙ sym k.2
+
+pub one_output : (command : Command) (items : List Item) (fault : Option Fault) (x y : List ℕ)
+    → IsFirstOutput command items fault x → IsFirstOutput command items fault y → x ≡ y
+one_output command items fault x y h k =
+    h.joined ∙ ap (λ a. a ++ last_line command (length items) (sizes items) fault) (one_of_all command 1 items h.written k.written h.each k.each) ∙ sym k.joined
