@@ -1,14 +1,14 @@
 -- What a copy of a value has in common with it, level by level.
-use Rattle.std.proofs.Common.{◌≡◌, ℕ, ◌+◌, ◌<◌, Bool, ◌&&◌, not, List, [], ◌∷◌, ◌++◌, length, get_or, take, map, Vec, sym, ap, ◌∙◌}
+use Rattle.std.proofs.Common.{◌≡◌, ℕ, ◌+◌, ◌<◌, Bool, false, ◌&&◌, not, List, [], ◌∷◌, ◌++◌, length, get_or, take, map, Vec, sym, ap, rules, ◌∙◌}
 use Rattle.std.specs.List.{list_all}
 use Rattle.std.proofs.lemmas.List.{map_push, map_more}
 use Rattle.dbus_types.specs.Types.{TypeTree}
 use Rattle.dbus_types.specs.SigTypes.{type_tree}
 use Rattle.dbus_types.specs.declared.sig_type.SigType.{SigType}
-use Rattle.dbus_value.specs.PackedBytes.{is_byte, keeps_bytes}
+use Rattle.dbus_value.specs.PackedBytes.{is_byte, keeps_bytes, packing, joined}
 use Rattle.dbus_value.specs.Values.{ValueTree, ArrayValue, StructValue, value_trees}
 use Rattle.dbus_value.specs.ValueViews.{value_tree}
-use Rattle.dbus_value.specs.declared.value.Value.{Value, Array, Struct}
+use Rattle.dbus_value.specs.declared.value.Value.{Value, Array, Struct, the_lemmas}
 use Rattle.dbus_value.proofs.Fitting.{keeps-Array, keeps-Struct}
 use Rattle.dbus_value.proofs.ValueRows.{tree-Array, tree-Struct}
 
@@ -17,6 +17,12 @@ same_arrays t u xs ys e f = cc
 
 same_keeping : (t u : TypeTree) (xs ys : List Bool) → t ≡ u → xs ≡ ys → (not (is_byte t) && list_all (λ b. b) xs) ≡ (not (is_byte u) && list_all (λ b. b) ys)
 same_keeping t u xs ys e f = cc
+
+packing-Array : {A : Type 0} (t : SigType A) (vs : Vec (Value A) A) → packing {A = A} (Array t vs) ≡ false ∷ joined (map packing vs.items)
+packing-Array t vs = search (rules, the_lemmas)
+
+packing-Struct : {A : Type 0} (vs : Vec (Value A) A) → packing {A = A} (Struct vs) ≡ joined (map packing vs.items)
+packing-Struct vs = search (rules, the_lemmas)
 
 module _ {A : Type 0} (vs ws : Vec (Value A) A) where
   pub array_equal : (t u : SigType A) → type_tree t ≡ type_tree u → map value_tree vs.items ≡ map value_tree ws.items → value_tree {A = A} (Array t vs) ≡ value_tree {A = A} (Array u ws)
@@ -30,6 +36,12 @@ module _ {A : Type 0} (vs ws : Vec (Value A) A) where
 
   pub struct_packed : map keeps_bytes vs.items ≡ map keeps_bytes ws.items → keeps_bytes {A = A} (Struct vs) ≡ keeps_bytes {A = A} (Struct ws)
   struct_packed f = keeps-Struct vs ∙ ap (list_all (λ b. b)) f ∙ sym (keeps-Struct ws)
+
+  pub array_same_bytes : (t u : SigType A) → map packing vs.items ≡ map packing ws.items → packing {A = A} (Array t vs) ≡ packing {A = A} (Array u ws)
+  array_same_bytes t u f = packing-Array t vs ∙ ap (λ l. false ∷ joined l) f ∙ sym (packing-Array u ws)
+
+  pub struct_same_bytes : map packing vs.items ≡ map packing ws.items → packing {A = A} (Struct vs) ≡ packing {A = A} (Struct ws)
+  struct_same_bytes f = packing-Struct vs ∙ ap joined f ∙ sym (packing-Struct ws)
 
 -- one more is copied
 pub more_copied : {A B : Type 0} (f : A → B) (xs us : List A) (i : ℕ) (x made : A) (all : List A) → i < length xs → all ≡ us ++ made ∷ [] →

@@ -2,7 +2,7 @@
 #![tactic(auto)]
 
 ghost use Rattle.std.specs.Prelude.{◌≡◌, map, IfOk};
-ghost use Rattle.dbus_value.specs.PackedBytes.{keeps_bytes};
+ghost use Rattle.dbus_value.specs.PackedBytes.{keeps_bytes, packing};
 ghost use Rattle.dbus_value.specs.ValueViews.{value_tree};
 
 use crate::value::Value;
@@ -10,13 +10,14 @@ use dbus_types::copy_type;
 use std::alloc::{AllocError, Allocator};
 use std::string::String;
 
-/// An equal value, in which an array of BYTE is `Bytes` or an `Array` as it was.
+/// An equal value, in which each array of BYTE is `Bytes` or an `Array` as it was.
 ///
 /// The one error is that a growth of memory was refused.
 #[cycle(copy)]
 pub fn copy<A: Allocator + Copy>(alloc: A, value: &Value<A>) -> Result<Value<A>, AllocError>
     ensures equal { IfOk result (λ c. value_tree c ≡ value_tree value.now) }
     ensures packed { IfOk result (λ c. keeps_bytes c ≡ keeps_bytes value.now) }
+    ensures same_bytes { IfOk result (λ c. packing c ≡ packing value.now) }
 {
     match value {
         Value::Byte(n) => Ok(Value::Byte(*n)),
@@ -57,6 +58,7 @@ fn copy_all<A: Allocator + Copy>(
 ) -> Result<Vec<Value<A>, A>, AllocError>
     ensures equal { IfOk result (λ c. map value_tree c.items ≡ map value_tree values.now) }
     ensures packed { IfOk result (λ c. map keeps_bytes c.items ≡ map keeps_bytes values.now) }
+    ensures same_bytes { IfOk result (λ c. map packing c.items ≡ map packing values.now) }
 {
     let mut copies = Vec::with_capacity(alloc, values.len())?;
     for value in values {

@@ -1,7 +1,7 @@
 use Rattle.std.proofs.Common.{◌≡◌, ◌++◌, ◌∷◌, [], rules}
-use Rattle.dbus_value.specs.PackedBytes.{keeps_bytes}
+use Rattle.dbus_value.specs.PackedBytes.{keeps_bytes, packing}
 use Rattle.dbus_value.specs.ValueViews.{value_tree}
-use Rattle.dbus_value.proofs.Copied.{array_equal, array_packed, struct_equal, struct_packed, more_copied}
+use Rattle.dbus_value.proofs.Copied.{array_equal, array_packed, array_same_bytes, struct_equal, struct_packed, struct_same_bytes, more_copied}
 use Rattle.dbus_value.proofs.copying.+copy.Goals as goal
 
 pub copy-returns-in_ok-copy_type-in-Array-clause-equal : goal.copy-returns-in_ok-copy_type-in-Array-clause-equal
@@ -12,6 +12,10 @@ pub copy-returns-in_ok-copy_type-in-Array-clause-packed : goal.copy-returns-in_o
 copy-returns-in_ok-copy_type-in-Array-clause-packed g t c =
     rw c.in-Array.is (array_packed c.in_ok-items-in-Array.items c.in-Array.items c.in_ok-copy_type-in-Array.field-0 c.in-Array.element c.in_ok-copy_type-in-Array.ensures (rw (← c.deref-in-Array.ensures.value) c.in_ok-items-in-Array.ensures.packed))
 
+pub copy-returns-in_ok-copy_type-in-Array-clause-same_bytes : goal.copy-returns-in_ok-copy_type-in-Array-clause-same_bytes
+copy-returns-in_ok-copy_type-in-Array-clause-same_bytes g t c =
+    rw c.in-Array.is (array_same_bytes c.in_ok-items-in-Array.items c.in-Array.items c.in_ok-copy_type-in-Array.field-0 c.in-Array.element (rw (← c.deref-in-Array.ensures.value) c.in_ok-items-in-Array.ensures.same_bytes))
+
 pub copy-returns-in_ok-copy_all-in-Struct-clause-equal : goal.copy-returns-in_ok-copy_all-in-Struct-clause-equal
 copy-returns-in_ok-copy_all-in-Struct-clause-equal g t c =
     rw c.in-Struct.is (struct_equal c.in_ok-copy_all-in-Struct.field-0 c.in-Struct.fields (rw (← c.deref-in-Struct.ensures.value) c.in_ok-copy_all-in-Struct.ensures.equal))
@@ -19,6 +23,10 @@ copy-returns-in_ok-copy_all-in-Struct-clause-equal g t c =
 pub copy-returns-in_ok-copy_all-in-Struct-clause-packed : goal.copy-returns-in_ok-copy_all-in-Struct-clause-packed
 copy-returns-in_ok-copy_all-in-Struct-clause-packed g t c =
     rw c.in-Struct.is (struct_packed c.in_ok-copy_all-in-Struct.field-0 c.in-Struct.fields (rw (← c.deref-in-Struct.ensures.value) c.in_ok-copy_all-in-Struct.ensures.packed))
+
+pub copy-returns-in_ok-copy_all-in-Struct-clause-same_bytes : goal.copy-returns-in_ok-copy_all-in-Struct-clause-same_bytes
+copy-returns-in_ok-copy_all-in-Struct-clause-same_bytes g t c =
+    rw c.in-Struct.is (struct_same_bytes c.in_ok-copy_all-in-Struct.field-0 c.in-Struct.fields (rw (← c.deref-in-Struct.ensures.value) c.in_ok-copy_all-in-Struct.ensures.same_bytes))
 
 pub copy_all-loop-value-preserved : goal.copy_all-loop-value-preserved
 copy_all-loop-value-preserved g t c =
@@ -31,4 +39,5 @@ copy_all-loop-value-preserved g t c =
     record {
       equal = more_copied value_tree xs us i x made _ c.loop-value-test.true pushed c.loop-value.invariant.equal (rw (← c.value-item.is) c.in_ok-copy.ensures.equal);
       packed = more_copied keeps_bytes xs us i x made _ c.loop-value-test.true pushed c.loop-value.invariant.packed (rw (← c.value-item.is) c.in_ok-copy.ensures.packed);
+      same_bytes = more_copied packing xs us i x made _ c.loop-value-test.true pushed c.loop-value.invariant.same_bytes (rw (← c.value-item.is) c.in_ok-copy.ensures.same_bytes);
     }
