@@ -1,13 +1,14 @@
 //! What an array has besides its elements' own reading.
 #![tactic(auto)]
 
-ghost use Rattle.std.specs.Prelude.{◌≡◌, ℕ, ◌+◌, ◌≤◌, length, drop, map, IfOk};
+ghost use Rattle.std.specs.Prelude.{◌≢◌, ◌≡◌, ℕ, ◌+◌, ◌≤◌, length, drop, map, IfOk, IfErr};
 ghost use Rattle.dbus_types.specs.Types.{NumberType, BYTE};
 ghost use Rattle.dbus_types.specs.SigTypes.{type_tree};
 ghost use Rattle.dbus_value.specs.declared.order.Order.{Order};
 ghost use Rattle.dbus_value.specs.Values.{NumberValue};
 ghost use Rattle.dbus_value.specs.Reading.{contents, value};
 ghost use Rattle.dbus_value.specs.ValueReaders.{array_frame};
+ghost use Rattle.dbus_value.specs.declared.stop.Stop.TheVariants.{Memory};
 ghost use Rattle.dbus_value.specs.Gives.{Gives};
 
 use dbus_value::Reason;
@@ -32,6 +33,7 @@ pub fn read_frame<A: Allocator>(
     requires inside { at ≤ length bytes.now }
     ensures gives { Gives (λ x. x) bytes.now result (array_frame order end (type_tree item.now) at (drop at bytes.now)) }
     ensures moves { IfOk result (λ x. (at ≤ x.1) × (x.1 + x.0 ≤ end) × (x.1 ≤ length bytes.now)) }
+    ensures no_memory { IfErr result (λ e. e ≢ Memory) }
 {
     let (n, behind) = read_u32(bytes, at, end, order)?;
     let n = n as usize;

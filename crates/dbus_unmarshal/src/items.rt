@@ -3,14 +3,15 @@
 //!
 //! `bytes` begin at the message's first byte, and a place counts from there. An item begins at `at` and is to end at
 //! or before `end`. What is read comes with the place behind it. Each call answers `Refused` with the first fault that
-//! the bytes of the item show, and `Partial` where they end within it and show none.
+//! the bytes of the item show, and `Partial` where they end within it and show none. None takes memory.
 #![tactic(auto)]
 
-ghost use Rattle.std.specs.Prelude.{◌≡◌, ℕ, ◌+◌, ◌<◌, ◌≤◌, ◌^◌, length, take, drop, true, IfOk};
+ghost use Rattle.std.specs.Prelude.{◌≢◌, ◌≡◌, ℕ, ◌+◌, ◌<◌, ◌≤◌, ◌^◌, length, take, drop, true, IfOk, IfErr};
 ghost use Rattle.dbus_value.specs.declared.order.Order.{Order};
 ghost use Rattle.dbus_value.specs.Bytes.{gap_to};
 ghost use Rattle.dbus_value.specs.ValueItems.{text_row};
 ghost use Rattle.dbus_value.specs.Reading.{padding, number, nul};
+ghost use Rattle.dbus_value.specs.declared.stop.Stop.TheVariants.{Memory};
 ghost use Rattle.dbus_value.specs.Gives.{Gives, no_row};
 
 use dbus_value::Reason;
@@ -27,6 +28,7 @@ pub fn read_padding(bytes: &[u8], at: usize, end: usize, alignment: usize) -> Re
     requires inside { at ≤ length bytes.now }
     ensures gives { Gives (λ q. (tt, q)) bytes.now result (padding alignment end at (drop at bytes.now)) }
     ensures moves { IfOk result (λ q. (q ≡ at + gap_to alignment at) × (q ≤ end) × (q ≤ length bytes.now)) }
+    ensures no_memory { IfErr result (λ e. e ≢ Memory) }
 {
     let gap = (alignment - at % alignment) % alignment;
     if end - at < gap {
@@ -51,6 +53,7 @@ pub fn read_byte(bytes: &[u8], at: usize, end: usize) -> Result<(u8, usize), Sto
     requires inside { at ≤ length bytes.now }
     ensures gives { (order : Order) → Gives (λ x. x) bytes.now result (number order 1 end no_row at (drop at bytes.now)) }
     ensures moves { IfOk result (λ x. (x.1 ≡ at + 1) × (x.1 ≤ end) × (x.1 ≤ length bytes.now)) }
+    ensures no_memory { IfErr result (λ e. e ≢ Memory) }
 {
     if end == at {
         return refuse(at, Reason::Overrun);
@@ -69,6 +72,7 @@ pub fn read_u16(bytes: &[u8], at: usize, end: usize, order: Order) -> Result<(u1
     requires inside { at ≤ length bytes.now }
     ensures gives { Gives (λ x. x) bytes.now result (number order 2 end no_row at (drop at bytes.now)) }
     ensures moves { IfOk result (λ x. (x.1 ≡ at + 2) × (x.1 ≤ end) × (x.1 ≤ length bytes.now)) }
+    ensures no_memory { IfErr result (λ e. e ≢ Memory) }
 {
     if end - at < 2 {
         return refuse(at, Reason::Overrun);
@@ -87,6 +91,7 @@ pub fn read_u32(bytes: &[u8], at: usize, end: usize, order: Order) -> Result<(u3
     requires inside { at ≤ length bytes.now }
     ensures gives { Gives (λ x. x) bytes.now result (number order 4 end no_row at (drop at bytes.now)) }
     ensures moves { IfOk result (λ x. (x.1 ≡ at + 4) × (x.1 ≤ end) × (x.1 ≤ length bytes.now)) }
+    ensures no_memory { IfErr result (λ e. e ≢ Memory) }
 {
     if end - at < 4 {
         return refuse(at, Reason::Overrun);
@@ -105,6 +110,7 @@ pub fn read_u64(bytes: &[u8], at: usize, end: usize, order: Order) -> Result<(u6
     requires inside { at ≤ length bytes.now }
     ensures gives { Gives (λ x. x) bytes.now result (number order 8 end no_row at (drop at bytes.now)) }
     ensures moves { IfOk result (λ x. (x.1 ≡ at + 8) × (x.1 ≤ end) × (x.1 ≤ length bytes.now)) }
+    ensures no_memory { IfErr result (λ e. e ≢ Memory) }
 {
     if end - at < 8 {
         return refuse(at, Reason::Overrun);
@@ -122,6 +128,7 @@ pub fn read_nul(bytes: &[u8], at: usize) -> Result<usize, Stop>
     requires inside { at ≤ length bytes.now }
     ensures gives { Gives (λ q. (tt, q)) bytes.now result (nul at (drop at bytes.now)) }
     ensures moves { IfOk result (λ q. (q ≡ at + 1) × (q ≤ length bytes.now)) }
+    ensures no_memory { IfErr result (λ e. e ≢ Memory) }
 {
     if at == bytes.len() {
         return Err(Stop::Partial);
@@ -145,6 +152,7 @@ pub fn read_length(
     requires inside { at ≤ length bytes.now }
     ensures gives { Gives (λ x. x) bytes.now result (number order 4 end (text_row end) at (drop at bytes.now)) }
     ensures moves { IfOk result (λ x. (x.1 ≡ at + 4) × (x.1 + x.0 < end) × (x.1 ≤ length bytes.now) × (x.0 < 2 ^ 32)) }
+    ensures no_memory { IfErr result (λ e. e ≢ Memory) }
 {
     let (n, behind) = read_u32(bytes, at, end, order)?;
     let n = n as usize;
@@ -162,6 +170,7 @@ pub fn read_short_length(bytes: &[u8], at: usize, end: usize) -> Result<(usize, 
     requires inside { at ≤ length bytes.now }
     ensures gives { (order : Order) → Gives (λ x. x) bytes.now result (number order 1 end (text_row end) at (drop at bytes.now)) }
     ensures moves { IfOk result (λ x. (x.1 ≡ at + 1) × (x.1 + x.0 < end) × (x.1 ≤ length bytes.now) × (x.0 < 256)) }
+    ensures no_memory { IfErr result (λ e. e ≢ Memory) }
 {
     let (n, behind) = read_byte(bytes, at, end)?;
     let n = n as usize;

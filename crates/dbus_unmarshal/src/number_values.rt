@@ -1,12 +1,13 @@
 //! Values that are one number.
 #![tactic(auto, using(crate::proofs::NumberSteps::numbers), unfolding(dbus_value::specs::ValueReaders::number_value))]
 
-ghost use Rattle.std.specs.Prelude.{◌≤◌, length, drop, IsTrue, IfOk};
+ghost use Rattle.std.specs.Prelude.{◌≢◌, ◌≤◌, length, drop, IsTrue, IfOk, IfErr};
 ghost use Rattle.dbus_types.specs.Types.{BYTE, BOOLEAN, INT16, UINT16, INT32, UINT32, INT64, UINT64, DOUBLE, UNIX_FD};
 ghost use Rattle.dbus_value.specs.declared.order.Order.{Order};
 ghost use Rattle.dbus_value.specs.PackedBytes.{keeps_bytes};
 ghost use Rattle.dbus_value.specs.ValueReaders.{number_value};
 ghost use Rattle.dbus_value.specs.ValueViews.{value_tree};
+ghost use Rattle.dbus_value.specs.declared.stop.Stop.TheVariants.{Memory};
 ghost use Rattle.dbus_value.specs.Gives.{Gives};
 
 use dbus_value::Reason;
@@ -26,6 +27,7 @@ pub fn get_byte<A: Allocator>(
     requires inside { at ≤ length bytes.now }
     ensures gives { (order : Order) → Gives (λ x. (value_tree x.0, x.1)) bytes.now result (number_value order end BYTE at (drop at bytes.now)) }
     ensures packed { IfOk result (λ x. IsTrue (keeps_bytes x.0)) }
+    ensures no_memory { IfErr result (λ e. e ≢ Memory) }
 {
     let (n, next) = read_byte(bytes, at, end)?;
     Ok((Value::Byte(n), next))
@@ -42,6 +44,7 @@ pub fn get_bool<A: Allocator>(
     requires inside { at ≤ length bytes.now }
     ensures gives { Gives (λ x. (value_tree x.0, x.1)) bytes.now result (number_value order end BOOLEAN at (drop at bytes.now)) }
     ensures packed { IfOk result (λ x. IsTrue (keeps_bytes x.0)) }
+    ensures no_memory { IfErr result (λ e. e ≢ Memory) }
 {
     let at = read_padding(bytes, at, end, 4)?;
     let (n, next) = read_u32(bytes, at, end, order)?;
@@ -62,6 +65,7 @@ pub fn get_i16<A: Allocator>(
     requires inside { at ≤ length bytes.now }
     ensures gives { Gives (λ x. (value_tree x.0, x.1)) bytes.now result (number_value order end INT16 at (drop at bytes.now)) }
     ensures packed { IfOk result (λ x. IsTrue (keeps_bytes x.0)) }
+    ensures no_memory { IfErr result (λ e. e ≢ Memory) }
 {
     let at = read_padding(bytes, at, end, 2)?;
     let (n, next) = read_u16(bytes, at, end, order)?;
@@ -79,6 +83,7 @@ pub fn get_u16<A: Allocator>(
     requires inside { at ≤ length bytes.now }
     ensures gives { Gives (λ x. (value_tree x.0, x.1)) bytes.now result (number_value order end UINT16 at (drop at bytes.now)) }
     ensures packed { IfOk result (λ x. IsTrue (keeps_bytes x.0)) }
+    ensures no_memory { IfErr result (λ e. e ≢ Memory) }
 {
     let at = read_padding(bytes, at, end, 2)?;
     let (n, next) = read_u16(bytes, at, end, order)?;
@@ -96,6 +101,7 @@ pub fn get_i32<A: Allocator>(
     requires inside { at ≤ length bytes.now }
     ensures gives { Gives (λ x. (value_tree x.0, x.1)) bytes.now result (number_value order end INT32 at (drop at bytes.now)) }
     ensures packed { IfOk result (λ x. IsTrue (keeps_bytes x.0)) }
+    ensures no_memory { IfErr result (λ e. e ≢ Memory) }
 {
     let at = read_padding(bytes, at, end, 4)?;
     let (n, next) = read_u32(bytes, at, end, order)?;
@@ -113,6 +119,7 @@ pub fn get_u32<A: Allocator>(
     requires inside { at ≤ length bytes.now }
     ensures gives { Gives (λ x. (value_tree x.0, x.1)) bytes.now result (number_value order end UINT32 at (drop at bytes.now)) }
     ensures packed { IfOk result (λ x. IsTrue (keeps_bytes x.0)) }
+    ensures no_memory { IfErr result (λ e. e ≢ Memory) }
 {
     let at = read_padding(bytes, at, end, 4)?;
     let (n, next) = read_u32(bytes, at, end, order)?;
@@ -130,6 +137,7 @@ pub fn get_i64<A: Allocator>(
     requires inside { at ≤ length bytes.now }
     ensures gives { Gives (λ x. (value_tree x.0, x.1)) bytes.now result (number_value order end INT64 at (drop at bytes.now)) }
     ensures packed { IfOk result (λ x. IsTrue (keeps_bytes x.0)) }
+    ensures no_memory { IfErr result (λ e. e ≢ Memory) }
 {
     let at = read_padding(bytes, at, end, 8)?;
     let (n, next) = read_u64(bytes, at, end, order)?;
@@ -147,6 +155,7 @@ pub fn get_u64<A: Allocator>(
     requires inside { at ≤ length bytes.now }
     ensures gives { Gives (λ x. (value_tree x.0, x.1)) bytes.now result (number_value order end UINT64 at (drop at bytes.now)) }
     ensures packed { IfOk result (λ x. IsTrue (keeps_bytes x.0)) }
+    ensures no_memory { IfErr result (λ e. e ≢ Memory) }
 {
     let at = read_padding(bytes, at, end, 8)?;
     let (n, next) = read_u64(bytes, at, end, order)?;
@@ -164,6 +173,7 @@ pub fn get_double<A: Allocator>(
     requires inside { at ≤ length bytes.now }
     ensures gives { Gives (λ x. (value_tree x.0, x.1)) bytes.now result (number_value order end DOUBLE at (drop at bytes.now)) }
     ensures packed { IfOk result (λ x. IsTrue (keeps_bytes x.0)) }
+    ensures no_memory { IfErr result (λ e. e ≢ Memory) }
 {
     let at = read_padding(bytes, at, end, 8)?;
     let (n, next) = read_u64(bytes, at, end, order)?;
@@ -181,6 +191,7 @@ pub fn get_fd<A: Allocator>(
     requires inside { at ≤ length bytes.now }
     ensures gives { Gives (λ x. (value_tree x.0, x.1)) bytes.now result (number_value order end UNIX_FD at (drop at bytes.now)) }
     ensures packed { IfOk result (λ x. IsTrue (keeps_bytes x.0)) }
+    ensures no_memory { IfErr result (λ e. e ≢ Memory) }
 {
     let at = read_padding(bytes, at, end, 4)?;
     let (n, next) = read_u32(bytes, at, end, order)?;

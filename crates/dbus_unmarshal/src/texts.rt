@@ -5,7 +5,7 @@
 //! the text and show none.
 #![tactic(auto)]
 
-ghost use Rattle.std.specs.Prelude.{◌≡◌, ℕ, ◌+◌, ◌<◌, ◌≤◌, length, take, drop, IfOk};
+ghost use Rattle.std.specs.Prelude.{◌≢◌, ◌≡◌, ℕ, ◌+◌, ◌<◌, ◌≤◌, length, take, drop, IfOk, IfErr};
 ghost use Rattle.dbus_types.specs.Kinds.{IsKind};
 ghost use Rattle.dbus_types.specs.Types.{IsSingleType, sig};
 ghost use Rattle.dbus_types.specs.SigTypes.{type_tree};
@@ -13,6 +13,7 @@ ghost use Rattle.dbus_types.specs.declared.text_kind.TextKind.TheVariants.{Singl
 ghost use Rattle.dbus_value.specs.WantedTexts.{Of, Only, alike};
 ghost use Rattle.dbus_value.specs.Items.{text_reason};
 ghost use Rattle.dbus_value.specs.Reading.{text, signature};
+ghost use Rattle.dbus_value.specs.declared.stop.Stop.TheVariants.{Memory};
 ghost use Rattle.dbus_value.specs.Gives.{Gives};
 
 use dbus_value::Reason;
@@ -63,6 +64,7 @@ pub fn read_text(bytes: &[u8], at: usize, n: usize, kind: TextKind) -> Result<us
     requires inside { at ≤ length bytes.now }
     ensures gives { Gives (λ q. (take n (drop at bytes.now), q)) bytes.now result (text (Of kind) n at (drop at bytes.now)) }
     ensures moves { IfOk result (λ q. (q ≡ at + n) × (q ≤ length bytes.now) × IsKind kind (take n (drop at bytes.now))) }
+    ensures no_memory { IfErr result (λ e. e ≢ Memory) }
 {
     let given = given_at(bytes, at, n);
     match text_break(kind, given) {
@@ -82,6 +84,7 @@ pub fn read_only(bytes: &[u8], at: usize, n: usize, wanted: &[u8]) -> Result<usi
     requires inside { at ≤ length bytes.now }
     ensures gives { Gives (λ q. (wanted.now, q)) bytes.now result (text (Only wanted.now) n at (drop at bytes.now)) }
     ensures moves { IfOk result (λ q. (q ≡ at + n) × (q ≤ length bytes.now)) }
+    ensures no_memory { IfErr result (λ e. e ≢ Memory) }
 {
     let given = given_at(bytes, at, n);
     let same = alike(wanted, given);
