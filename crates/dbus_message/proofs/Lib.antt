@@ -25,3 +25,4 @@ pub mod PartRanges
 pub mod JudgedFields
 pub mod PartEnds
 pub mod Built
+pub mod PackedFacts

@@ -15,3 +15,5 @@ pub mod SingleTypes
 pub mod MissingFields
 pub mod BuildFaults
 pub mod MessageSizes
+pub mod PackedParts
+pub mod PackedMessages

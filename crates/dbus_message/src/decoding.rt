@@ -9,6 +9,8 @@ ghost use Rattle.dbus_value.specs.Reading.{judge};
 ghost use Rattle.dbus_message.specs.Decodes.{Decodes};
 ghost use Rattle.dbus_message.specs.HeaderReading.{message_read};
 ghost use Rattle.dbus_message.specs.Messages.{lacks, required, body_signature};
+ghost use Rattle.dbus_message.specs.PackedMessages.{AnswerKeepsBytes};
+ghost use Rattle.dbus_message.specs.PackedParts.{PartsKeepBytes};
 ghost use Rattle.dbus_message.specs.PartsViews.{parts_tree, field_trees};
 ghost use Rattle.dbus_message.specs.SingleTypes.{AreSingleTypes};
 
@@ -56,7 +58,8 @@ fn read_message<A: Allocator + Copy>(
     alloc: A,
     bytes: &[u8],
 ) -> Result<(Order, Parts<A>, usize), Stop>
-    ensures { Gives (λ x. ((x.0, parts_tree x.1), x.2)) bytes.now result (message_read 0 bytes.now) }
+    ensures gives { Gives (λ x. ((x.0, parts_tree x.1), x.2)) bytes.now result (message_read 0 bytes.now) }
+    ensures packed { IfOk result (λ x. PartsKeepBytes x.1) }
 {
     let header = read_fixed_header(bytes)?;
     let (fields, at) = read_fields(alloc, bytes, 16, header.fields as usize, header.order)?;
@@ -79,9 +82,11 @@ fn read_message<A: Allocator + Copy>(
 ///
 /// `Whole` where they do: `used` is how many bytes it has, and those behind it are not looked at. `Partial` where they
 /// neither do nor are refused: more bytes are wanted. `Format` where the next item of the message is at fault, with the
-/// fault's place, as soon as the bytes that are there show it. `Memory` only where a growth was refused.
+/// fault's place, as soon as the bytes that are there show it. `Memory` only where a growth was refused. An array of BYTE
+/// comes as `Bytes`, in the values of fields and of the body, also within others.
 pub fn decode<A: Allocator + Copy>(alloc: A, bytes: &[u8]) -> Result<Answer<A>, Refusal>
-    ensures { Decodes bytes.now result }
+    ensures decodes { Decodes bytes.now result }
+    ensures packed { IfOk result AnswerKeepsBytes }
 {
     match read_message(alloc, bytes) {
         Ok((order, parts, used)) => Ok(Answer::Whole {

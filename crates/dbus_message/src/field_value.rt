@@ -1,13 +1,14 @@
 //! Reading the value of a header field: the signature in its variant, then a value of that type.
 #![tactic(auto)]
 
-ghost use Rattle.std.specs.Prelude.{◌≡◌, ◌+◌, ◌-◌, ◌≤◌, ◌<◌, length, take, drop, string_bytes, IsUtf8, IfOk};
+ghost use Rattle.std.specs.Prelude.{◌≡◌, ◌+◌, ◌-◌, ◌≤◌, ◌<◌, length, take, drop, string_bytes, IsUtf8, IsTrue, IfOk};
 ghost use Rattle.dbus_types.specs.ComputedKinds.{type_spelled};
 ghost use Rattle.dbus_types.specs.SigTypes.{type_tree};
 ghost use Rattle.dbus_types.specs.Types.{IsSingleType, sig};
 ghost use Rattle.dbus_types.specs.declared.text_kind.TextKind.TheVariants.{Single};
 ghost use Rattle.dbus_value.specs.declared.order.Order.{Order};
 ghost use Rattle.dbus_value.specs.Gives.{Gives};
+ghost use Rattle.dbus_value.specs.PackedBytes.{keeps_bytes};
 ghost use Rattle.dbus_value.specs.Reading.{number, value};
 ghost use Rattle.dbus_value.specs.ValueViews.{value_tree};
 ghost use Rattle.dbus_value.specs.WantedTexts.{IsName, Of, Only};
@@ -45,6 +46,7 @@ pub fn read_value<A: Allocator + Copy>(
     requires complete { IsSingleType (type_tree wanted.now) }
     ensures gives { Gives (λ x. (value_tree x.0, x.1)) bytes.now result (value order (64 - depth) end (type_tree wanted.now) at (drop at bytes.now)) }
     ensures moves { IfOk result (λ x. (at < x.1) × (x.1 ≤ end) × (x.1 ≤ length bytes.now)) }
+    ensures packed { IfOk result (λ x. IsTrue (keeps_bytes x.0)) }
 {
     match get(alloc, bytes, at, end, order, wanted, depth) {
         Ok(Got::Done(value, next)) => Ok((value, next)),
@@ -114,6 +116,7 @@ fn read_name<A: Allocator + Copy>(
     requires name { IsName (Of kind) }
     ensures gives { Gives (λ x. (value_tree x.0, x.1)) bytes.now result (wanted_value order end (Name (Of kind)) at (drop at bytes.now)) }
     ensures moves { IfOk result (λ x. (at < x.1) × (x.1 ≤ end) × (x.1 ≤ length bytes.now)) }
+    ensures packed { IfOk result (λ x. IsTrue (keeps_bytes x.0)) }
 {
     let at = read_wanted(bytes, at, end, b"s")?;
     let at = read_padding(bytes, at, end, 4)?;
@@ -136,6 +139,7 @@ fn read_reply_serial<A: Allocator + Copy>(
     requires inside { at ≤ length bytes.now }
     ensures gives { Gives (λ x. (value_tree x.0, x.1)) bytes.now result (wanted_value order end Serial at (drop at bytes.now)) }
     ensures moves { IfOk result (λ x. (at < x.1) × (x.1 ≤ end) × (x.1 ≤ length bytes.now)) }
+    ensures packed { IfOk result (λ x. IsTrue (keeps_bytes x.0)) }
 {
     let at = read_wanted(bytes, at, end, b"u")?;
     let at = read_padding(bytes, at, end, 4)?;
@@ -160,6 +164,7 @@ fn read_typed<A: Allocator + Copy>(
     requires spelled { wanted.now ≡ sig (type_tree held.now) }
     ensures gives { Gives (λ x. (value_tree x.0, x.1)) bytes.now result (wanted_value order end (OfType (type_tree held.now)) at (drop at bytes.now)) }
     ensures moves { IfOk result (λ x. (at < x.1) × (x.1 ≤ end) × (x.1 ≤ length bytes.now)) }
+    ensures packed { IfOk result (λ x. IsTrue (keeps_bytes x.0)) }
 {
     let at = read_wanted(bytes, at, end, wanted)?;
     read_value(alloc, bytes, at, end, order, held, FIELD_DEPTH)
@@ -178,6 +183,7 @@ fn read_anything<A: Allocator + Copy>(
     requires inside { at ≤ length bytes.now }
     ensures gives { Gives (λ x. (value_tree x.0, x.1)) bytes.now result (wanted_value order end Anything at (drop at bytes.now)) }
     ensures moves { IfOk result (λ x. (at < x.1) × (x.1 ≤ end) × (x.1 ≤ length bytes.now)) }
+    ensures packed { IfOk result (λ x. IsTrue (keeps_bytes x.0)) }
 {
     let (n, at) = read_short_length(bytes, at, end)?;
     let (held, behind) = read_signature(alloc, bytes, at, n)?;
@@ -200,6 +206,7 @@ pub fn read_field_value<A: Allocator + Copy>(
     requires some { 0 < code }
     ensures gives { Gives (λ x. (value_tree x.0, x.1)) bytes.now result (wanted_value order end (want code) at (drop at bytes.now)) }
     ensures moves { IfOk result (λ x. (at < x.1) × (x.1 ≤ end) × (x.1 ≤ length bytes.now)) }
+    ensures packed { IfOk result (λ x. IsTrue (keeps_bytes x.0)) }
 {
     match code {
         1 => read_typed(alloc, bytes, at, end, order, b"o", &SigType::Path),

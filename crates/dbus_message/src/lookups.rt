@@ -1,7 +1,8 @@
 //! Looking up a message's fields and values.
 #![tactic(auto)]
 
-ghost use Rattle.std.specs.Prelude.{◌≡◌, Some, None, MatchOption};
+ghost use Rattle.std.specs.Prelude.{◌≡◌, Some, None, IsTrue, IfSome, MatchOption};
+ghost use Rattle.dbus_value.specs.PackedBytes.{keeps_bytes};
 ghost use Rattle.dbus_value.specs.ValueViews.{value_tree};
 ghost use Rattle.dbus_message.specs.Lookups.{field_value, body_value};
 ghost use Rattle.dbus_message.specs.MessageViews.{message_tree};
@@ -10,9 +11,11 @@ use crate::message::Message;
 use dbus_value::Value;
 use std::alloc::Allocator;
 
-/// The value of the message's first field of the code. D-Bus Specification, "Header Fields".
+/// The value of the message's first field of the code. An array of BYTE in it is `Bytes`.
+/// D-Bus Specification, "Header Fields".
 pub fn field<A: Allocator>(message: &Message<A>, code: u8) -> Option<&Value<A>>
-    ensures { MatchOption result (field_value code (message_tree message.now).fields ≡ None) (λ v. field_value code (message_tree message.now).fields ≡ Some (value_tree v.now)) }
+    ensures first { MatchOption result (field_value code (message_tree message.now).fields ≡ None) (λ v. field_value code (message_tree message.now).fields ≡ Some (value_tree v.now)) }
+    ensures packed { IfSome result (λ v. IsTrue (keeps_bytes v.now)) }
 {
     for field in &message.parts().fields {
         if field.code == code {
@@ -22,9 +25,11 @@ pub fn field<A: Allocator>(message: &Message<A>, code: u8) -> Option<&Value<A>>
     None
 }
 
-/// The body's value of the number, counted from 0. D-Bus Specification, "Message Format".
+/// The body's value of the number, counted from 0. An array of BYTE in it is `Bytes`.
+/// D-Bus Specification, "Message Format".
 pub fn arg<A: Allocator>(message: &Message<A>, n: usize) -> Option<&Value<A>>
-    ensures { MatchOption result (body_value n (message_tree message.now).body ≡ None) (λ v. body_value n (message_tree message.now).body ≡ Some (value_tree v.now)) }
+    ensures numbered { MatchOption result (body_value n (message_tree message.now).body ≡ None) (λ v. body_value n (message_tree message.now).body ≡ Some (value_tree v.now)) }
+    ensures packed { IfSome result (λ v. IsTrue (keeps_bytes v.now)) }
 {
     message.parts().body.get(n)
 }

@@ -4,13 +4,15 @@
 ghost use Rattle.std.specs.Prelude.{◌≡◌, length};
 ghost use Rattle.dbus_value.specs.declared.order.Order.TheVariants.{Little};
 ghost use Rattle.dbus_message.specs.Messages.{message_bytes};
+ghost use Rattle.dbus_message.specs.PackedParts.{PartsKeepBytes};
 ghost use Rattle.dbus_message.specs.PartsViews.{parts_tree};
 ghost use Rattle.dbus_message.specs.ValidMessages.{IsValidMessage};
 
 use crate::parts::Parts;
 use std::alloc::{Allocator, Global};
 
-/// A valid message within the limits: it has a spelling in both byte orders, of one length.
+/// A valid message within the limits: it has a spelling in both byte orders, of one length. Its values have each array of
+/// BYTE as `Bytes`, so that what a message holds is told by its spelling.
 /// D-Bus Specification, "Message Format".
 #[derive(Debug, Drop)]
 pub struct Message<A: Allocator = Global> {
@@ -18,6 +20,7 @@ pub struct Message<A: Allocator = Global> {
     /// How many bytes it is spelled by.
     size: usize,
     ghost valid: { ∥ IsValidMessage (parts_tree parts) ∥₁ },
+    ghost packed: { PartsKeepBytes parts },
     ghost sized: { size ≡ length (message_bytes Little (parts_tree parts)) },
 }
 
@@ -29,6 +32,7 @@ impl<A: Allocator> Message<A> {
     /// The message of these parts, which are valid and are spelled by so many bytes.
     pub(crate) fn of_valid(parts: Parts<A>, size: usize) -> Self
         requires valid { IsValidMessage (parts_tree parts) }
+        requires packed { PartsKeepBytes parts }
         requires sized { size ≡ length (message_bytes Little (parts_tree parts)) }
         ensures { message_tree result ≡ parts_tree parts }
     {
@@ -43,17 +47,19 @@ impl<A: Allocator> Message<A> {
         self.size
     }
 
-    /// What it is made of.
+    /// What it is made of. An array of BYTE in it is `Bytes`.
     pub fn parts(&self) -> &Parts<A>
         ensures same { parts_tree result.now ≡ message_tree self.now }
         ensures valid { ∥ IsValidMessage (parts_tree result.now) ∥₁ }
+        ensures packed { PartsKeepBytes result.now }
     {
         &self.parts
     }
 
-    /// What it was made of.
+    /// What it was made of. An array of BYTE in it is `Bytes`.
     pub fn into_parts(self) -> Parts<A>
-        ensures { parts_tree result ≡ message_tree self }
+        ensures same { parts_tree result ≡ message_tree self }
+        ensures packed { PartsKeepBytes result }
     {
         self.parts
     }

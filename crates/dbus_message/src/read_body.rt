@@ -1,10 +1,11 @@
 //! Reading the values of a body.
 #![tactic(auto)]
 
-ghost use Rattle.std.specs.Prelude.{◌≡◌, ◌+◌, ◌≤◌, ◌<◌, ◌^◌, length, drop, IfOk};
+ghost use Rattle.std.specs.Prelude.{◌≡◌, ◌+◌, ◌≤◌, ◌<◌, ◌^◌, length, drop, IsTrue, IfOk};
 ghost use Rattle.dbus_types.specs.SigTypes.{type_trees_of};
 ghost use Rattle.dbus_value.specs.declared.order.Order.{Order};
 ghost use Rattle.dbus_value.specs.Gives.{Gives};
+ghost use Rattle.dbus_value.specs.PackedBytes.{keep_bytes};
 ghost use Rattle.dbus_value.specs.ValueViews.{value_trees_of};
 ghost use Rattle.dbus_message.specs.HeaderReading.{body_read};
 ghost use Rattle.dbus_message.specs.SingleTypes.{AreSingleTypes};
@@ -27,7 +28,8 @@ pub fn read_body<A: Allocator + Copy>(
     requires at_most { at ≤ end }
     requires inside { at ≤ length bytes.now }
     requires complete { AreSingleTypes (type_trees_of types.now) }
-    ensures { Gives (λ x. (value_trees_of x.0.items, x.1)) bytes.now result (body_read order (type_trees_of types.now) end at (drop at bytes.now)) }
+    ensures gives { Gives (λ x. (value_trees_of x.0.items, x.1)) bytes.now result (body_read order (type_trees_of types.now) end at (drop at bytes.now)) }
+    ensures packed { IfOk result (λ x. IsTrue (keep_bytes x.0.items)) }
 {
     let mut values = Vec::new(alloc);
     let mut place = at;

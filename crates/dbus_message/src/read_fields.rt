@@ -1,12 +1,14 @@
 //! Reading the header's fields.
 #![tactic(auto)]
 
-ghost use Rattle.std.specs.Prelude.{◌≡◌, ◌+◌, ◌≤◌, ◌<◌, ◌^◌, length, drop, reverse, List, IfOk};
+ghost use Rattle.std.specs.Prelude.{◌≡◌, ◌+◌, ◌≤◌, ◌<◌, ◌^◌, length, drop, reverse, List, IsTrue, IfOk};
 ghost use Rattle.dbus_value.specs.declared.order.Order.{Order};
 ghost use Rattle.dbus_value.specs.Gives.{Gives};
+ghost use Rattle.dbus_value.specs.PackedBytes.{keeps_bytes, keep_bytes};
 ghost use Rattle.dbus_value.specs.Reading.{number};
 ghost use Rattle.dbus_message.specs.HeaderReading.{field_read, fields_read};
 ghost use Rattle.dbus_message.specs.MessageItems.{code_row};
+ghost use Rattle.dbus_message.specs.PackedParts.{field_values};
 ghost use Rattle.dbus_message.specs.PartsViews.{field_tree, field_trees};
 
 use crate::field_value::read_field_value;
@@ -55,6 +57,7 @@ fn read_field<A: Allocator + Copy>(
     requires inside { at ≤ length bytes.now }
     ensures gives { Gives (λ x. (field_tree x.0, x.1)) bytes.now result (field_read order end (reverse (field_trees before.now)) at (drop at bytes.now)) }
     ensures moves { IfOk result (λ x. (at < x.1) × (x.1 ≤ end) × (x.1 ≤ length bytes.now)) }
+    ensures packed { IfOk result (λ x. IsTrue (keeps_bytes x.0.value)) }
 {
     let at = read_padding(bytes, at, end, 8)?;
     let (code, at) = read_code(bytes, at, end, before)?;
@@ -74,6 +77,7 @@ pub fn read_fields<A: Allocator + Copy>(
     requires inside { at ≤ length bytes.now }
     ensures gives { Gives (λ x. (field_trees x.0.items, x.1)) bytes.now result (fields_read order n at (drop at bytes.now)) }
     ensures moves { IfOk result (λ x. (x.1 ≡ at + n) × (x.1 ≤ length bytes.now)) }
+    ensures packed { IfOk result (λ x. IsTrue (keep_bytes (field_values x.0.items))) }
 {
     let end = at + n;
     let mut fields = Vec::new(alloc);

@@ -5,16 +5,16 @@ use Rattle.dbus_message.proofs.GetReads.{bytes_from}
 use Rattle.dbus_message.proofs.decoding.decode.Goals as goal
 
 pub of_valid-requires-clause-valid : goal.of_valid-requires-clause-valid
-of_valid-requires-clause-valid g c = valid_read c.args.bytes.now (bytes_from c.args.bytes.now (λ i. omega (arith, c.type_inv.bytes i))) c.in-Ok.order (parts_tree c.in-Ok.parts) c.in-Ok.used (drop c.in-Ok.used c.args.bytes.now) c.in-Ok.ensures
+of_valid-requires-clause-valid g c = valid_read c.args.bytes.now (bytes_from c.args.bytes.now (λ i. omega (arith, c.type_inv.bytes i))) c.in-Ok.order (parts_tree c.in-Ok.parts) c.in-Ok.used (drop c.in-Ok.used c.args.bytes.now) c.in-Ok.ensures.gives
 
 pub of_valid-requires-clause-sized : goal.of_valid-requires-clause-sized
-of_valid-requires-clause-sized g c = size_read c.args.bytes.now (bytes_from c.args.bytes.now (λ i. omega (arith, c.type_inv.bytes i))) c.in-Ok.order (parts_tree c.in-Ok.parts) c.in-Ok.used (drop c.in-Ok.used c.args.bytes.now) c.in-Ok.ensures
+of_valid-requires-clause-sized g c = size_read c.args.bytes.now (bytes_from c.args.bytes.now (λ i. omega (arith, c.type_inv.bytes i))) c.in-Ok.order (parts_tree c.in-Ok.parts) c.in-Ok.used (drop c.in-Ok.used c.args.bytes.now) c.in-Ok.ensures.gives
 
-pub returns-in-Ok : goal.returns-in-Ok
-returns-in-Ok g c = rw c.of_valid.ensures (whole_read c.args.bytes.now (bytes_from c.args.bytes.now (λ i. omega (arith, c.type_inv.bytes i))) c.in-Ok.order (parts_tree c.in-Ok.parts) c.in-Ok.used (drop c.in-Ok.used c.args.bytes.now) c.in-Ok.ensures)
+pub returns-in-Ok-clause-decodes : goal.returns-in-Ok-clause-decodes
+returns-in-Ok-clause-decodes g c = rw c.of_valid.ensures (whole_read c.args.bytes.now (bytes_from c.args.bytes.now (λ i. omega (arith, c.type_inv.bytes i))) c.in-Ok.order (parts_tree c.in-Ok.parts) c.in-Ok.used (drop c.in-Ok.used c.args.bytes.now) c.in-Ok.ensures.gives)
 
-pub returns-in-Err-Partial : goal.returns-in-Err-Partial
-returns-in-Err-Partial g c = partial_read c.args.bytes.now (bytes_from c.args.bytes.now (λ i. omega (arith, c.type_inv.bytes i))) (rw c.in-Err-Partial.field-0-is at c.in-Err-Partial.ensures)
+pub returns-in-Err-Partial-clause-decodes : goal.returns-in-Err-Partial-clause-decodes
+returns-in-Err-Partial-clause-decodes g c = partial_read c.args.bytes.now (bytes_from c.args.bytes.now (λ i. omega (arith, c.type_inv.bytes i))) (rw c.in-Err-Partial.field-0-is at c.in-Err-Partial.ensures.gives)
 
-pub returns-in-Err-Refused : goal.returns-in-Err-Refused
-returns-in-Err-Refused g c = refused_read c.args.bytes.now (bytes_from c.args.bytes.now (λ i. omega (arith, c.type_inv.bytes i))) c.in-Err-Refused.fault (rw c.in-Err-Refused.field-0-is at c.in-Err-Refused.ensures)
+pub returns-in-Err-Refused-clause-decodes : goal.returns-in-Err-Refused-clause-decodes
+returns-in-Err-Refused-clause-decodes g c = refused_read c.args.bytes.now (bytes_from c.args.bytes.now (λ i. omega (arith, c.type_inv.bytes i))) c.in-Err-Refused.fault (rw c.in-Err-Refused.field-0-is at c.in-Err-Refused.ensures.gives)

@@ -9,15 +9,15 @@ use Rattle.dbus_message.specs.PartsViews.{parts_tree, field_trees}
 use Rattle.dbus_message.proofs.FixedItems.{exits}
 use Rattle.dbus_message.proofs.decoding.read_message.Goals as goal
 
-pub returns-in_err-check_required : goal.returns-in_err-check_required
+pub returns-in_err-check_required-clause-gives : goal.returns-in_err-check_required-clause-gives
 unfolding message_read
-returns-in_err-check_required g c = exits (λ x. ((x.0, parts_tree x.1), x.2)) c.args.bytes.now c.from_residual-in_err-check_required.result _ _ c.from_residual-in_err-check_required.ensures.1
+returns-in_err-check_required-clause-gives g c = exits (λ x. ((x.0, parts_tree x.1), x.2)) c.args.bytes.now c.from_residual-in_err-check_required.result _ _ c.from_residual-in_err-check_required.ensures.1
     (rw (c.in_ok-header.ensures.gives, c.in_ok-fields.ensures.gives, ← c.deref.ensures.value)
     (stops_after _ (judge (lacks (required c.in_ok-header.header.kind) (field_trees c.deref.result.now)) c.in_ok-fields.at (drop c.in_ok-fields.at c.args.bytes.now)) _ (c.in_err-check_required.ensures c.args.bytes.now)))
 
-pub returns-in_err-at : goal.returns-in_err-at
+pub returns-in_err-at-clause-gives : goal.returns-in_err-at-clause-gives
 unfolding message_read
-returns-in_err-at g c =
+returns-in_err-at-clause-gives g c =
     let judged : judge (lacks (required c.in_ok-header.header.kind) (field_trees c.in_ok-fields.fields.items)) c.in_ok-fields.at (drop c.in_ok-fields.at c.args.bytes.now) ≡ Done tt c.in_ok-fields.at (drop c.in_ok-fields.at c.args.bytes.now) = rw (← c.deref.ensures.value) (c.in_ok-check_required.ensures c.args.bytes.now) in
     exits (λ x. ((x.0, parts_tree x.1), x.2)) c.args.bytes.now c.from_residual-in_err-at.result _ _ c.from_residual-in_err-at.ensures.1
     (rw (c.in_ok-header.ensures.gives, c.in_ok-fields.ensures.gives, judged)
@@ -26,18 +26,18 @@ returns-in_err-at g c =
 pub read_body-requires-clause-complete : goal.read_body-requires-clause-complete
 read_body-requires-clause-complete g c = rw c.deref-3.ensures.value c.in_ok-types.ensures.complete
 
-pub returns-in_err-body : goal.returns-in_err-body
+pub returns-in_err-body-clause-gives : goal.returns-in_err-body-clause-gives
 unfolding message_read
-returns-in_err-body g c =
+returns-in_err-body-clause-gives g c =
     let judged : judge (lacks (required c.in_ok-header.header.kind) (field_trees c.in_ok-fields.fields.items)) c.in_ok-fields.at (drop c.in_ok-fields.at c.args.bytes.now) ≡ Done tt c.in_ok-fields.at (drop c.in_ok-fields.at c.args.bytes.now) = rw (← c.deref.ensures.value) (c.in_ok-check_required.ensures c.args.bytes.now) in
     let types : type_trees_of c.deref-3.result.now ≡ types_spelled (body_signature (field_trees c.in_ok-fields.fields.items)) = rw (c.deref-3.ensures.value, c.in_ok-types.ensures.spelled, c.deref-2.ensures.value) refl in
     exits (λ x. ((x.0, parts_tree x.1), x.2)) c.args.bytes.now c.from_residual-in_err-body.result _ _ c.from_residual-in_err-body.ensures.1
     (rw (c.in_ok-header.ensures.gives, c.in_ok-fields.ensures.gives, judged, c.in_ok-at.ensures.gives, ← types)
-    (stops_after _ (body_read c.in_ok-header.header.order (type_trees_of c.deref-3.result.now) (c.in_ok-at.at + c.in_ok-header.header.body) c.in_ok-at.at (drop c.in_ok-at.at c.args.bytes.now)) _ c.in_err-body.ensures))
+    (stops_after _ (body_read c.in_ok-header.header.order (type_trees_of c.deref-3.result.now) (c.in_ok-at.at + c.in_ok-header.header.body) c.in_ok-at.at (drop c.in_ok-at.at c.args.bytes.now)) _ c.in_err-body.ensures.gives))
 
-pub returns : goal.returns
+pub returns-clause-gives : goal.returns-clause-gives
 unfolding message_read
-returns g c =
+returns-clause-gives g c =
     let judged : judge (lacks (required c.in_ok-header.header.kind) (field_trees c.in_ok-fields.fields.items)) c.in_ok-fields.at (drop c.in_ok-fields.at c.args.bytes.now) ≡ Done tt c.in_ok-fields.at (drop c.in_ok-fields.at c.args.bytes.now) = rw (← c.deref.ensures.value) (c.in_ok-check_required.ensures c.args.bytes.now) in
     let types : type_trees_of c.deref-3.result.now ≡ types_spelled (body_signature (field_trees c.in_ok-fields.fields.items)) = rw (c.deref-3.ensures.value, c.in_ok-types.ensures.spelled, c.deref-2.ensures.value) refl in
-    rw (c.in_ok-header.ensures.gives, c.in_ok-fields.ensures.gives, judged, c.in_ok-at.ensures.gives, ← types, c.in_ok-body.ensures) refl
+    rw (c.in_ok-header.ensures.gives, c.in_ok-fields.ensures.gives, judged, c.in_ok-at.ensures.gives, ← types, c.in_ok-body.ensures.gives) refl

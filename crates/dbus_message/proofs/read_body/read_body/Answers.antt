@@ -1,8 +1,9 @@
-use Rattle.std.proofs.Common.{◌≡◌, ◌+◌, drop, map, [], ◌∷◌, ◌++◌, arith, sym, ap, ◌∙◌}
+use Rattle.std.proofs.Common.{◌≡◌, ◌+◌, drop, map, [], ◌∷◌, ◌++◌, arith, refl, sym, ap, ◌∙◌}
 use Rattle.std.proofs.lemmas.List.{map_push}
 use Rattle.dbus_types.specs.SigTypes.{type_tree, type_trees_of}
 use Rattle.dbus_value.specs.Reading.{fields, value}
 use Rattle.dbus_value.specs.ValueViews.{value_tree, value_trees_of}
+use Rattle.dbus_value.proofs.Fitting.{keep_push}
 use Rattle.dbus_message.proofs.BodyLoop.{body_starts, body_goes_on, body_stops, body_done, body_stopped, body_trailing, body_whole, types_from, no_types_from, single_of}
 use Rattle.dbus_message.proofs.FixedItems.{exits}
 use Rattle.dbus_message.proofs.read_body.read_body.Goals as goal
@@ -14,11 +15,12 @@ pub loop-wanted-init : goal.loop-wanted-init
 loop-wanted-init g c = record {
   at_most = c.requires.at_most;
   inside = c.requires.inside;
+  packed = rw c.new-values.ensures.items refl;
   so_far = rw c.new-values.ensures.items (body_starts (fields (value c.args.order 64 c.args.end) (type_trees_of c.args.types.now) c.args.at (drop c.args.at c.args.bytes.now)));
 }
 
-pub returns-in_err-value : goal.returns-in_err-value
-returns-in_err-value g c = exits (λ x. (value_trees_of x.0.items, x.1)) c.args.bytes.now c.from_residual.result _ _ c.from_residual.ensures.1
+pub returns-in_err-value-clause-gives : goal.returns-in_err-value-clause-gives
+returns-in_err-value-clause-gives g c = exits (λ x. (value_trees_of x.0.items, x.1)) c.args.bytes.now c.from_residual.result _ _ c.from_residual.ensures.1
     (body_stopped c.args.order c.args.end (type_trees_of c.args.types.now) c.args.at (drop c.args.at c.args.bytes.now) _
     (rw (← c.loop-wanted.invariant.so_far)
     (body_stops (value c.args.order 64 c.args.end) (map value_tree c.loop-wanted.values.items) c.loop-wanted.place (drop c.loop-wanted.place c.args.bytes.now) (type_trees_of (drop c.loop-wanted.wanted-index c.args.types.now)) (type_tree c.wanted-item.result) (type_trees_of (drop (c.loop-wanted.wanted-index + 1) c.args.types.now)) _
@@ -32,15 +34,16 @@ loop-wanted-preserved g c =
     record {
       at_most = c.in_ok-value.ensures.moves.1;
       inside = c.in_ok-value.ensures.moves.2;
+      packed = keep_push c.loop-wanted.values.items c.in_ok-value.value _ c.in_ok-push.ensures.items c.loop-wanted.invariant.packed c.in_ok-value.ensures.packed;
       so_far = rw views (sym step ∙ c.loop-wanted.invariant.so_far);
     }
 
-pub returns-then-place-end : goal.returns-then-place-end
-returns-then-place-end g c =
+pub returns-then-place-end-clause-gives : goal.returns-then-place-end-clause-gives
+returns-then-place-end-clause-gives g c =
     let all = sym c.loop-wanted.invariant.so_far ∙ body_done (value c.args.order 64 c.args.end) (map value_tree c.loop-wanted.values.items) c.loop-wanted.place (drop c.loop-wanted.place c.args.bytes.now) (type_trees_of (drop c.loop-wanted.wanted-index c.args.types.now)) (no_types_from c.args.types.now c.loop-wanted.wanted-index c.loop-wanted-test.false) in
     rw c.refuse.ensures (body_trailing c.args.order c.args.end (type_trees_of c.args.types.now) c.args.at (drop c.args.at c.args.bytes.now) (value_trees_of c.loop-wanted.values.items) c.loop-wanted.place (drop c.loop-wanted.place c.args.bytes.now) all c.if-place-end.true)
 
-pub returns : goal.returns
-returns g c =
+pub returns-clause-gives : goal.returns-clause-gives
+returns-clause-gives g c =
     let all = sym c.loop-wanted.invariant.so_far ∙ body_done (value c.args.order 64 c.args.end) (map value_tree c.loop-wanted.values.items) c.loop-wanted.place (drop c.loop-wanted.place c.args.bytes.now) (type_trees_of (drop c.loop-wanted.wanted-index c.args.types.now)) (no_types_from c.args.types.now c.loop-wanted.wanted-index c.loop-wanted-test.false) in
     body_whole c.args.order c.args.end (type_trees_of c.args.types.now) c.args.at (drop c.args.at c.args.bytes.now) (value_trees_of c.loop-wanted.values.items) c.loop-wanted.place (drop c.loop-wanted.place c.args.bytes.now) all (omega (arith, c.if-place-end.false, c.loop-wanted.invariant.at_most))

@@ -1,5 +1,6 @@
-use Rattle.std.proofs.Common.{◌≡◌, ◌≤◌, length, drop, map}
+use Rattle.std.proofs.Common.{◌≡◌, ◌≤◌, length, drop, map, IsTrue}
 use Rattle.dbus_types.specs.SigTypes.{type_trees_of}
+use Rattle.dbus_value.specs.PackedBytes.{keep_bytes}
 use Rattle.dbus_value.specs.Reading.{fields, value}
 use Rattle.dbus_value.specs.ValueViews.{value_tree}
 use Rattle.dbus_message.proofs.BodyLoop.{with_values}
@@ -9,6 +10,7 @@ abbrev pub invariant-loop-wanted : goal.invariant-loop-wanted
 invariant-loop-wanted g l = record {
   at_most : l.place ≤ l.end;
   inside : l.place ≤ length l.bytes;
+  packed : IsTrue (keep_bytes l.values.items);
   so_far : with_values (map value_tree l.values.items) (fields (value l.order 64 l.end) (type_trees_of (drop l.wanted-index l.types)) l.place (drop l.place l.bytes))
       ≡ fields (value l.order 64 l.end) (type_trees_of l.types) l.at (drop l.at l.bytes);
 }

@@ -1,6 +1,8 @@
-use Rattle.std.proofs.Common.{◌-◌, ◌≡◌, ◌+◌, ◌≤◌, length, drop, reverse}
+use Rattle.std.proofs.Common.{◌-◌, ◌≡◌, ◌+◌, ◌≤◌, length, drop, reverse, IsTrue}
+use Rattle.dbus_value.specs.PackedBytes.{keep_bytes}
 use Rattle.dbus_value.specs.Reading.{up_to}
 use Rattle.dbus_message.specs.HeaderReading.{field_read, fields_read}
+use Rattle.dbus_message.specs.PackedParts.{field_values}
 use Rattle.dbus_message.specs.PartsViews.{field_trees}
 use Rattle.dbus_message.proofs.FieldLoop.{with_front}
 use Rattle.dbus_message.proofs.read_fields.read_fields.Given as goal
@@ -10,6 +12,7 @@ invariant-loop-place g l = record {
   in_range : l.place ≤ l.end;
   inside : l.place ≤ length l.bytes;
   taken : length l.fields.items + l.at ≤ l.place;
+  packed : IsTrue (keep_bytes (field_values l.fields.items));
   so_far : with_front (field_trees l.fields.items) (up_to (l.n - length l.fields.items) l.end (field_read l.order l.end) (reverse (field_trees l.fields.items)) l.place (drop l.place l.bytes))
       ≡ fields_read l.order l.n l.at (drop l.at l.bytes);
 }

@@ -1,4 +1,5 @@
 use Rattle.dbus_message.proofs.Built.{only_memory}
+use Rattle.dbus_message.proofs.PackedFacts.{parts_packed}
 use Rattle.dbus_message.proofs.message.Message.new.Goals as goal
 
 pub returns-in-Err-clause-accepted : goal.returns-in-Err-clause-accepted
@@ -9,3 +10,6 @@ returns-in-Err-check_contents-clause-accepted g c = only_memory c.args.parts c.i
 
 pub returns-in-Err-measure-clause-accepted : goal.returns-in-Err-measure-clause-accepted
 returns-in-Err-measure-clause-accepted g c = only_memory c.args.parts c.in-Err-measure.fault c.in-Err-measure.ensures
+
+pub of_valid-requires-clause-packed : goal.of_valid-requires-clause-packed
+of_valid-requires-clause-packed g c = parts_packed c.args.parts c.in-Ok.ensures.2

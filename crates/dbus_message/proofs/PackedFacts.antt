@@ -1,0 +1,65 @@
+-- Parts of which no case of fault holds have each array of bytes as `Bytes`.
+use Rattle.std.proofs.Common.{◌≡◌, ℕ, ◌+◌, Bool, true, false, if◌then◌else◌, List, [], ◌∷◌, None, IsTrue, refl, ap, rules, ◌∙◌}
+use Rattle.std.specs.Prelude.{nat_eq}
+use Rattle.std.proofs.lemmas.Bool.{and_from}
+use Rattle.dbus_types.specs.Types.{TypeTree, NumberType, TextType, VariantType, ArrayType, StructType, EntryType, UINT32, STRING, OBJECT_PATH, SIGNATURE}
+use Rattle.dbus_value.specs.PackedBytes.{keeps_bytes, keep_bytes}
+use Rattle.dbus_value.specs.Values.{type_of}
+use Rattle.dbus_value.specs.ValueViews.{value_tree}
+use Rattle.dbus_value.specs.declared.value.Value.{Value, the_lemmas}
+use Rattle.dbus_message.specs.BuildFaults.{IsFirstWithout, HasOwnType, HoldsSound, own_type, IsFirstUnsoundField, IsFirstUnsound, NoFault}
+use Rattle.dbus_message.specs.Messages.{is_known}
+use Rattle.dbus_message.specs.PackedParts.{field_values, PartsKeepBytes}
+use Rattle.dbus_message.specs.PartsViews.{field_tree, field_trees}
+use Rattle.dbus_message.specs.declared.header_field.HeaderField.{HeaderField}
+use Rattle.dbus_message.specs.declared.parts.Parts.{Parts}
+use Rattle.dbus_message.proofs.FaultyBody.{none_unsound}
+use Rattle.dbus_message.proofs.JudgedFields.{rest_without, rest_unsound}
+
+-- ---- values that hold no others
+
+abbrev pub is_basic : TypeTree → Bool
+is_basic (NumberType n) = true
+is_basic (TextType t) = true
+is_basic VariantType = false
+is_basic (ArrayType t) = false
+is_basic (StructType ts) = false
+is_basic (EntryType k v) = false
+
+basic_packed : {A : Type 0} (v : Value A) → is_basic (type_of (value_tree v)) ≡ true → IsTrue (keeps_bytes v)
+basic_packed v h = search (rules, the_lemmas)
+
+either_basic : (b : Bool) (t u : TypeTree) → is_basic t ≡ true → is_basic u ≡ true → is_basic (if b then t else u) ≡ true
+either_basic true t u h k = h
+either_basic false t u h k = k
+
+own_basic : (code : ℕ) → is_basic (own_type code) ≡ true
+own_basic code =
+    either_basic (nat_eq code 1) (TextType OBJECT_PATH) _ refl
+    (either_basic (nat_eq code 5) (NumberType UINT32) _ refl
+    (either_basic (nat_eq code 8) (TextType SIGNATURE) _ refl
+    (either_basic (nat_eq code 9) (NumberType UINT32) (TextType STRING) refl refl)))
+
+-- ---- fields
+
+field_packed : {A : Type 0} (f : HeaderField A) (known : Bool) → is_known f.code ≡ known → HasOwnType (field_tree f) → HoldsSound f → IsTrue (keeps_bytes f.value)
+field_packed f true is typed sound = basic_packed f.value (ap is_basic (typed is) ∙ own_basic f.code)
+field_packed f false is typed sound = (sound is).0.packed
+
+fields_packed : {A : Type 0} (fs : List (HeaderField A)) → IsFirstWithout HasOwnType (field_trees fs) None → IsFirstUnsoundField fs None → IsTrue (keep_bytes (field_values fs))
+fields_packed [] typed sound = refl
+fields_packed (f ∷ fs) typed sound =
+    let t = rest_without HasOwnType (field_tree f) (field_trees fs) typed in
+    let s = rest_unsound f fs sound in
+    and_from _ _ (field_packed f (is_known f.code) refl t.0 s.0) (fields_packed fs t.1 s.1)
+
+-- ---- the body
+
+body_packed : {A : Type 0} (n : ℕ) (vs : List (Value A)) → IsFirstUnsound n vs None → IsTrue (keep_bytes vs)
+body_packed n [] h = refl
+body_packed n (v ∷ vs) h = let w = none_unsound n v vs h in and_from _ _ w.0.0.packed (body_packed (n + 1) vs w.1)
+
+pub parts_packed : {A : Type 0} (p : Parts A) → NoFault p → PartsKeepBytes p
+parts_packed p h =
+    let s = h.0.0 in
+    (fields_packed p.fields.items s.0.0.0.0.0.0.1 s.0.0.1, body_packed 0 p.body.items s.0.1)
