@@ -60,6 +60,36 @@ fn encode_with_its_growth_refused(rt: HostRuntime) -> Result<(), Fail> {
     Ok(())
 }
 
+// Where the vector has too little room one growth is asked for. Where that is refused the vector holds what it held, and
+// the same call made again encodes. Where there is room no growth is asked for.
+#[test]
+fn encode_into_with_its_growth_refused(rt: HostRuntime) -> Result<(), Fail> {
+    let heap = Refusing::none(rt.alloc());
+    let Answer::Whole { message, .. } = decode(&heap, SIGNAL.as_slice())? else {
+        panic!(rt; "partial");
+    };
+    for held in [0usize, 1, 7, 95] {
+        let mut out = Vec::new(&heap);
+        out.extend_from_slice(&[0x2a; 95][..held])?;
+        heap.refuse_nth(1);
+        assert!(rt;
+            encode_into(&mut out, &message, Order::Little).is_err(),
+            "{held}"
+        );
+        assert_eq!(rt; heap.growths(), 1, "{held}");
+        assert_eq!(rt; out.as_slice(), &[0x2a; 95][..held], "{held}");
+        encode_into(&mut out, &message, Order::Little)?;
+        assert_eq!(rt; heap.growths(), 2, "{held}");
+        assert_eq!(rt; out.as_slice(), SIGNAL.as_slice(), "{held}");
+        heap.refuse_from_nth(1);
+        encode_into(&mut out, &message, Order::Little)?;
+        assert_eq!(rt; heap.growths(), 0, "{held}");
+        assert_eq!(rt; out.as_slice(), SIGNAL.as_slice(), "{held}");
+        heap.refuse_none();
+    }
+    Ok(())
+}
+
 // A field of an unknown code and two values, whose types have to be made out.
 fn parts_of<A: Allocator + Copy>(alloc: A) -> Result<Parts<A>, AllocError> {
     let mut numbers = Vec::new(alloc);

@@ -97,6 +97,39 @@ fn a_body_in_both_orders(rt: HostRuntime) -> Result<(), Fail> {
     Ok(())
 }
 
+// What the vector held is gone, be it longer or shorter than the message, and the bytes are those of `encode`.
+#[test]
+fn encode_into_takes_the_place_of_what_was_there(rt: HostRuntime) -> Result<(), Fail> {
+    let alloc = rt.alloc();
+    let Answer::Whole { message, .. } = decode(alloc, TEXTS)? else {
+        panic!(rt; "partial");
+    };
+    for held in [
+        0usize,
+        1,
+        TEXTS.len() - 1,
+        TEXTS.len(),
+        TEXTS.len() + 1,
+        200,
+    ] {
+        let mut out = Vec::new(alloc);
+        out.extend_from_slice(&[0x2a; 200][..held])?;
+        encode_into(&mut out, &message, Order::Big)?;
+        assert_eq!(rt; out.as_slice(), BIG_TEXTS, "{held}");
+        assert_eq!(rt;
+            out.as_slice(),
+            encode(alloc, &message, Order::Big)?.as_slice()
+        );
+        encode_into(&mut out, &message, Order::Little)?;
+        assert_eq!(rt; out.as_slice(), TEXTS, "{held}");
+        assert_eq!(rt;
+            out.as_slice(),
+            encode(alloc, &message, Order::Little)?.as_slice()
+        );
+    }
+    Ok(())
+}
+
 #[test]
 fn unknown_types_and_fields_are_kept(rt: HostRuntime) -> Result<(), Fail> {
     let alloc = rt.alloc();
