@@ -7,6 +7,7 @@ ghost use Rattle.dbus_tool.specs.Handing.{GivesNext, Hands};
 use crate::ending::{Cause, Counted, Stop};
 use crate::gathering::{Gathered, Unwritten, write_out};
 use crate::output::write_one;
+use crate::spare::Spare;
 use dbus_command::Command;
 use dbus_message::Message;
 use dbus_stream::{MessageReader, ReadFault, Sink, Source};
@@ -64,11 +65,12 @@ fn hand_all<R: Source, A: Allocator + Copy, W: Sink>(
     ensures same_reference { R.reference (source_of messages.new) ≡ R.reference (source_of messages.old) }
 {
     let mut count = 0u64;
+    let mut spare = Spare::new(alloc);
     'messages: loop {
         match next_message(messages, gathered, first) {
             Ok(Some(given)) => {
                 count += 1;
-                match write_one(alloc, command, given.0, &given.1, count, gathered, first) {
+                match write_one(command, given.0, &given.1, count, &mut spare, gathered, first) {
                     Ok(()) => {}
                     Err(cause) => return Err(cause),
                 }

@@ -11,6 +11,7 @@ mod lines;
 mod output;
 mod rule_lines;
 mod running;
+mod spare;
 #[cfg(test)]
 mod tests;
 mod words;

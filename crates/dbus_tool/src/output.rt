@@ -9,49 +9,50 @@ ghost use Rattle.dbus_tool.specs.Handing.{Filters, HandsOne};
 
 use crate::ending::Cause;
 use crate::gathering::{Gathered, Unwritten, gather};
+use crate::spare::Spare;
 use dbus_command::Command;
 use dbus_match::{Owner, Rule, matches};
-use dbus_message::{Message, encode};
-use dbus_show::show_message;
+use dbus_message::{Message, encode_into};
+use dbus_show::show_into;
 use dbus_stream::Sink;
 use dbus_value::Order;
 use std::alloc::Allocator;
 
 /// Writes or gathers what the command writes of a message, which has this number among all of the input.
 pub(crate) fn write_one<A: Allocator + Copy, W: Sink>(
-    alloc: A,
     command: &Command,
     order: Order,
     message: &Message<A>,
     number: u64,
+    spare: &mut Spare<A>,
     gathered: &mut Gathered,
     first: &mut W,
 ) -> Result<(), Cause>
     ensures { HandsOne W.held W.failures command.now order (message_tree message.now) number gathered.old.items gathered.new.items first.old first.new result }
 {
     match command {
-        Command::Show => show(alloc, order, message, number, gathered, first),
+        Command::Show => show(order, message, number, spare, gathered, first),
         Command::Check => Ok(()),
-        Command::Swap(wanted) => spell(alloc, *wanted, message, gathered, first),
-        Command::Filter(rule) => filter(alloc, rule, order, message, gathered, first),
+        Command::Swap(wanted) => spell(*wanted, message, spare, gathered, first),
+        Command::Filter(rule) => filter(rule, order, message, spare, gathered, first),
     }
 }
 
 // A message as text.
 fn show<A: Allocator + Copy, W: Sink>(
-    alloc: A,
     order: Order,
     message: &Message<A>,
     number: u64,
+    spare: &mut Spare<A>,
     gathered: &mut Gathered,
     first: &mut W,
 ) -> Result<(), Cause>
     ensures { GathersOrNot W.held W.failures (message_text order (message_tree message.now) number) gathered.old.items gathered.new.items first.old first.new result }
 {
-    let Ok(text) = show_message(alloc, order, message, number) else {
+    let Ok(()) = show_into(&mut spare.text, order, message, number) else {
         return Err(Cause::Memory);
     };
-    match gather(text.as_bytes(), gathered, first) {
+    match gather(spare.text.as_bytes(), gathered, first) {
         Ok(()) => Ok(()),
         Err(Unwritten) => Err(Cause::WriteFailed),
     }
@@ -59,18 +60,18 @@ fn show<A: Allocator + Copy, W: Sink>(
 
 // A message in this order.
 fn spell<A: Allocator + Copy, W: Sink>(
-    alloc: A,
     order: Order,
     message: &Message<A>,
+    spare: &mut Spare<A>,
     gathered: &mut Gathered,
     first: &mut W,
 ) -> Result<(), Cause>
     ensures { GathersOrNot W.held W.failures (message_bytes order (message_tree message.now)) gathered.old.items gathered.new.items first.old first.new result }
 {
-    let Ok(bytes) = encode(alloc, message, order) else {
+    let Ok(()) = encode_into(&mut spare.bytes, message, order) else {
         return Err(Cause::Memory);
     };
-    match gather(bytes.as_slice(), gathered, first) {
+    match gather(spare.bytes.as_slice(), gathered, first) {
         Ok(()) => Ok(()),
         Err(Unwritten) => Err(Cause::WriteFailed),
     }
@@ -78,10 +79,10 @@ fn spell<A: Allocator + Copy, W: Sink>(
 
 // A message that the rule matches, in its own order.
 fn filter<A: Allocator + Copy, W: Sink>(
-    alloc: A,
     rule: &Rule,
     order: Order,
     message: &Message<A>,
+    spare: &mut Spare<A>,
     gathered: &mut Gathered,
     first: &mut W,
 ) -> Result<(), Cause>
@@ -89,7 +90,7 @@ fn filter<A: Allocator + Copy, W: Sink>(
 {
     let owners: &[Owner] = &[];
     if matches(rule, message, owners) {
-        spell(alloc, order, message, gathered, first)
+        spell(order, message, spare, gathered, first)
     } else {
         Ok(())
     }

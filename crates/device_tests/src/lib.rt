@@ -8,6 +8,10 @@ pub use narrow::Narrow;
 pub use one_byte::OneByte;
 
 #[cfg(test)]
+mod growth_tests;
+#[cfg(test)]
+mod order_tests;
+#[cfg(test)]
 mod stream_tests;
 #[cfg(test)]
 mod tests;
