@@ -2,7 +2,6 @@
 use Rattle.std.proofs.Common.{◌≡◌, ℕ, zero, suc, ◌+◌, ◌-◌, ◌%◌, ◌<◌, ◌≤◌, ◌⊎◌, inl, inr, min, Bool, true, false, cond, ltb, eqb, List, [], ◌∷◌, ◌++◌, length, Option, None, Some, Result, Ok, Err, refl, sym, ap, subst, ◌∙◌, arith}
 use Rattle.std.specs.Prelude.{IfSome}
 use Rattle.std.proofs.lemmas.Bool.{ltb-true, ltb-false, eqb-true}
-use Rattle.std.proofs.lemmas.List.{length-append, length-replicate}
 use Rattle.dbus_types.specs.Types.{sig, TypeTree, NumberCode, TextCode}
 use Rattle.dbus_types.specs.Alignments.{width, length_width, alignment_of}
 use Rattle.dbus_value.specs.declared.order.Order.{Order}
@@ -14,7 +13,7 @@ use Rattle.dbus_value.specs.Bytes.{gap_to, pad, num}
 use Rattle.dbus_value.specs.Spelling.{ended_text, contents_start, spelling, spellings, array_limit, IsWithinLimits, AreWithinLimits}
 use Rattle.dbus_value.specs.Sizes.{Sizing, and_then, passes, item, padding, contents, narrowed, sized, sizes, ◌⊳◌, message_limit}
 use Rattle.dbus_value.specs.SizeLimits.{Inside, Past, Stops, SizeEnds, SizeStops}
-use Rattle.dbus_value.proofs.Numbers.{length-num}
+use Rattle.dbus_marshal.proofs.Lengths.{length-number, length-ended, length-text, length-variant, length-struct, length-entry, length-array, length-more, length-none}
 use Rattle.dbus_marshal.proofs.Written.{value_is, length_value}
 
 -- what takes long o bytes at o, and keeps its arrays' limits there where kept o says so
@@ -168,58 +167,6 @@ Measures-contents b z s k each = record {
 
 -- ---- values
 
-len_number : (order : Order) (o n : ℕ) (k : NumberCode) → length (spelling order o (NumberValue k n)) ≡ gap_to (width k) o + width k
-unfolding spelling
-len_number order o n k = omega (arith, length-append (pad (width k) o) (num order (width k) n), length-replicate {A = ℕ} (gap_to (width k) o) 0, length-num order (width k) n)
-
-len_ended : (order : Order) (w : ℕ) (t : List ℕ) → length (ended_text order w t) ≡ w + (length t + 1)
-len_ended order w t = omega (arith, length-append (num order w (length t)) (t ++ 0 ∷ []), length-append t (0 ∷ []), length-num order w (length t))
-
-len_text : (order : Order) (o : ℕ) (k : TextCode) (t : List ℕ) → length (spelling order o (TextValue k t)) ≡ gap_to (length_width k) o + (length_width k + (length t + 1))
-unfolding spelling
-len_text order o k t =
-    omega (arith, length-append (pad (length_width k) o) (ended_text order (length_width k) t), length-replicate {A = ℕ} (gap_to (length_width k) o) 0, len_ended order (length_width k) t)
-
-len_variant : (order : Order) (o : ℕ) (x : ValueTree) → length (spelling order o (VariantValue x)) ≡ length (ended_text order 1 (sig (type_of x))) + length (spelling order (o + length (ended_text order 1 (sig (type_of x)))) x)
-unfolding spelling
-len_variant order o x = length-append (ended_text order 1 (sig (type_of x))) (spelling order (o + length (ended_text order 1 (sig (type_of x)))) x)
-
-len_struct : (order : Order) (o : ℕ) (xs : ValueTrees) → length (spelling order o (StructValue xs)) ≡ gap_to 8 o + length (spellings order (o + gap_to 8 o) xs)
-unfolding spelling
-len_struct order o xs = omega (arith, length-append (pad 8 o) (spellings order (o + gap_to 8 o) xs), length-replicate {A = ℕ} (gap_to 8 o) 0)
-
-len_entry : (order : Order) (o : ℕ) (k v : ValueTree) →
-    length (spelling order o (EntryValue k v)) ≡ gap_to 8 o + (length (spelling order (o + gap_to 8 o) k) + length (spelling order (o + gap_to 8 o + length (spelling order (o + gap_to 8 o) k)) v))
-unfolding spelling
-len_entry order o k v =
-    let p = o + gap_to 8 o in
-    let key = spelling order p k in
-    omega (arith, length-append (pad 8 o) (key ++ spelling order (p + length key) v), length-append key (spelling order (p + length key) v), length-replicate {A = ℕ} (gap_to 8 o) 0)
-
-len_array : (order : Order) (o : ℕ) (t : TypeTree) (xs : ValueTrees) →
-    length (spelling order o (ArrayValue t xs)) ≡ gap_to 4 o + (4 + (gap_to (alignment_of t) (o + gap_to 4 o + 4) + length (spellings order (contents_start t o) xs)))
-unfolding spelling
-len_array order o t xs =
-    let p = o + gap_to 4 o + 4 in
-    let c = spellings order (contents_start t o) xs in
-    omega (
-      arith,
-      length-append (pad 4 o) (num order 4 (length c) ++ (pad (alignment_of t) p ++ c)),
-      length-append (num order 4 (length c)) (pad (alignment_of t) p ++ c),
-      length-append (pad (alignment_of t) p) c,
-      length-num order 4 (length c),
-      length-replicate {A = ℕ} (gap_to 4 o) 0,
-      length-replicate {A = ℕ} (gap_to (alignment_of t) p) 0,
-    )
-
-len_more : (order : Order) (o : ℕ) (x : ValueTree) (xs : ValueTrees) → length (spellings order o (MoreValues x xs)) ≡ length (spelling order o x) + length (spellings order (o + length (spelling order o x)) xs)
-unfolding spellings
-len_more order o x xs = length-append (spelling order o x) (spellings order (o + length (spelling order o x)) xs)
-
-len_none : (order : Order) (o : ℕ) → length (spellings order o NoValues) ≡ 0
-unfolding spellings
-len_none order o = refl
-
 abbrev Long : Order → ValueTree → ℕ → ℕ
 Long order v o = length (spelling order o v)
 
@@ -228,7 +175,7 @@ Longs order vs o = length (spellings order o vs)
 
 Measures-none : (order : Order) (b : Option ℕ) → Measures b (λ o. Ok o) (Longs order NoValues) (λ o. Unit {0})
 Measures-none order b = record {
-  ends = λ o e i h. let at = ok_at o e h in (omega (arith, at, len_none order o), tt, subst (Inside b) at i);
+  ends = λ o e i h. let at = ok_at o e h in (omega (arith, at, length-none order o), tt, subst (Inside b) at i);
   stops = λ o f i h. absurd cc;
 }
 
@@ -236,7 +183,7 @@ Measures-number : (order : Order) (k : NumberCode) (n : ℕ) (b : Option ℕ) �
 Measures-number order k n b =
     let w = width k in
     Measures-as b (padding b w ⊳ item b w) (λ o. gap_to w o + w) (Long order (NumberValue k n)) (λ o. Kept o × Kept o) (λ o. IsWithinLimits order o (NumberValue k n))
-    (λ o. sym (len_number order o n k)) (λ o h. tt) (λ o h. (tt, tt))
+    (λ o. sym (length-number order o n k)) (λ o h. tt) (λ o h. (tt, tt))
     (Measures-then b (padding b w) (item b w) (gap_to w) (λ o. w) Kept Kept (Measures-padding b w) (Measures-item b w))
 
 Measures-text : (order : Order) (k : TextCode) (t : List ℕ) (b : Option ℕ) → Measures b (sized (TextValue k t) b) (Long order (TextValue k t)) (λ o. IsWithinLimits order o (TextValue k t))
@@ -244,7 +191,7 @@ Measures-text order k t b =
     let w = length_width k in
     let n = length t in
     Measures-as b (padding b w ⊳ item b w ⊳ item b n ⊳ item b 1) (λ o. gap_to w o + (w + (n + 1))) (Long order (TextValue k t)) (λ o. Kept o × (Kept o × (Kept o × Kept o))) (λ o. IsWithinLimits order o (TextValue k t))
-    (λ o. sym (len_text order o k t)) (λ o h. tt) (λ o h. (tt, (tt, (tt, tt))))
+    (λ o. sym (length-text order o k t)) (λ o h. tt) (λ o h. (tt, (tt, (tt, tt))))
     (Measures-then b (padding b w) (item b w ⊳ item b n ⊳ item b 1) (gap_to w) (λ o. w + (n + 1)) Kept (λ o. Kept o × (Kept o × Kept o)) (Measures-padding b w)
     (Measures-then b (item b w) (item b n ⊳ item b 1) (λ o. w) (λ o. n + 1) Kept (λ o. Kept o × Kept o) (Measures-item b w)
     (Measures-then b (item b n) (item b 1) (λ o. n) (λ o. 1) Kept Kept (Measures-item b n) (Measures-item b 1))))
@@ -256,10 +203,10 @@ Measures-variant order x b inner =
     let l = Long order x in
     let k = λ (o : ℕ). IsWithinLimits order o x in
     let ended = ended_text order 1 (sig (type_of x)) in
-    let behind : (o : ℕ) → o + 1 + n + 1 ≡ o + length ended = λ o. omega (arith, len_ended order 1 (sig (type_of x))) in
+    let behind : (o : ℕ) → o + 1 + n + 1 ≡ o + length ended = λ o. omega (arith, length-ended order 1 (sig (type_of x))) in
     Measures-as b (item b 1 ⊳ item b n ⊳ item b 1 ⊳ sized x b) (λ o. 1 + (n + (1 + l (o + 1 + n + 1)))) (Long order (VariantValue x)) (λ o. Kept o × (Kept o × (Kept o × k (o + 1 + n + 1))))
     (λ o. IsWithinLimits order o (VariantValue x))
-    (λ o. let same : l (o + 1 + n + 1) ≡ l (o + length ended) = ap l (behind o) in omega (arith, same, len_variant order o x, len_ended order 1 (sig (type_of x))))
+    (λ o. let same : l (o + 1 + n + 1) ≡ l (o + length ended) = ap l (behind o) in omega (arith, same, length-variant order o x, length-ended order 1 (sig (type_of x))))
     (λ o h. subst k (behind o) h.1.1.1) (λ o h. (tt, (tt, (tt, subst k (sym (behind o)) h))))
     (Measures-then b (item b 1) (item b n ⊳ item b 1 ⊳ sized x b) (λ o. 1) (λ o. n + (1 + l (o + n + 1))) Kept (λ o. Kept o × (Kept o × k (o + n + 1))) (Measures-item b 1)
     (Measures-then b (item b n) (item b 1 ⊳ sized x b) (λ o. n) (λ o. 1 + l (o + 1)) Kept (λ o. Kept o × k (o + 1)) (Measures-item b n)
@@ -274,7 +221,7 @@ Measures-array order t xs b items =
     let inner = contents (sizes xs) b in
     Measures-as b (padding b 4 ⊳ item b 4 ⊳ padding b a ⊳ inner) (λ o. gap_to 4 o + (4 + (gap_to a (o + gap_to 4 o + 4) + l (contents_start t o)))) (Long order (ArrayValue t xs))
     (λ o. Kept o × (Kept o × (Kept o × k (contents_start t o)))) (λ o. IsWithinLimits order o (ArrayValue t xs))
-    (λ o. sym (len_array order o t xs)) (λ o h. h.1.1.1) (λ o h. (tt, (tt, (tt, h))))
+    (λ o. omega (arith, length-array order o t xs)) (λ o h. h.1.1.1) (λ o h. (tt, (tt, (tt, h))))
     (Measures-then b (padding b 4) (item b 4 ⊳ padding b a ⊳ inner) (gap_to 4) (λ o. 4 + (gap_to a (o + 4) + l (o + 4 + gap_to a (o + 4)))) Kept (λ o. Kept o × (Kept o × k (o + 4 + gap_to a (o + 4)))) (Measures-padding b 4)
     (Measures-then b (item b 4) (padding b a ⊳ inner) (λ o. 4) (λ o. gap_to a o + l (o + gap_to a o)) Kept (λ o. Kept o × k (o + gap_to a o)) (Measures-item b 4)
     (Measures-then b (padding b a) inner (gap_to a) l Kept k (Measures-padding b a) (Measures-contents b (sizes xs) l (λ o. AreWithinLimits order o xs) items))))
@@ -285,7 +232,7 @@ Measures-struct order xs b fields =
     let l = Longs order xs in
     let k = λ (o : ℕ). AreWithinLimits order o xs in
     Measures-as b (padding b 8 ⊳ sizes xs b) (λ o. gap_to 8 o + l (o + gap_to 8 o)) (Long order (StructValue xs)) (λ o. Kept o × k (o + gap_to 8 o)) (λ o. IsWithinLimits order o (StructValue xs))
-    (λ o. sym (len_struct order o xs)) (λ o h. h.1) (λ o h. (tt, h))
+    (λ o. sym (length-struct order o xs)) (λ o h. h.1) (λ o h. (tt, h))
     (Measures-then b (padding b 8) (sizes xs b) (gap_to 8) l Kept k (Measures-padding b 8) fields)
 
 Measures-entry : (order : Order) (x y : ValueTree) (b : Option ℕ) → Measures b (sized x b) (Long order x) (λ o. IsWithinLimits order o x) → Measures b (sized y b) (Long order y) (λ o. IsWithinLimits order o y) →
@@ -297,7 +244,7 @@ Measures-entry order x y b key held =
     let j = λ (o : ℕ). IsWithinLimits order o y in
     Measures-as b (padding b 8 ⊳ sized x b ⊳ sized y b) (λ o. gap_to 8 o + (l (o + gap_to 8 o) + m (o + gap_to 8 o + l (o + gap_to 8 o)))) (Long order (EntryValue x y))
     (λ o. Kept o × (k (o + gap_to 8 o) × j (o + gap_to 8 o + l (o + gap_to 8 o)))) (λ o. IsWithinLimits order o (EntryValue x y))
-    (λ o. sym (len_entry order o x y)) (λ o h. h.1) (λ o h. (tt, h))
+    (λ o. sym (length-entry order o x y)) (λ o h. h.1) (λ o h. (tt, h))
     (Measures-then b (padding b 8) (sized x b ⊳ sized y b) (gap_to 8) (λ o. l o + m (o + l o)) Kept (λ o. k o × j (o + l o)) (Measures-padding b 8)
     (Measures-then b (sized x b) (sized y b) l m k j key held))
 
@@ -309,7 +256,7 @@ Measures-more order x xs b first rest =
     let k = λ (o : ℕ). IsWithinLimits order o x in
     let j = λ (o : ℕ). AreWithinLimits order o xs in
     Measures-as b (sized x b ⊳ sizes xs b) (λ o. l o + m (o + l o)) (Longs order (MoreValues x xs)) (λ o. k o × j (o + l o)) (λ o. AreWithinLimits order o (MoreValues x xs))
-    (λ o. sym (len_more order o x xs)) (λ o h. h) (λ o h. h) (Measures-then b (sized x b) (sizes xs b) l m k j first rest)
+    (λ o. sym (length-more order o x xs)) (λ o h. h) (λ o h. h) (Measures-then b (sized x b) (sizes xs b) l m k j first rest)
 
 mutual
   measured : (order : Order) (v : ValueTree) (b : Option ℕ) → Measures b (sized v b) (Long order v) (λ o. IsWithinLimits order o v)
