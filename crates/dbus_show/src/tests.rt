@@ -1,7 +1,7 @@
 //! Worked examples.
 
 use crate::show::show_parts;
-use crate::show_message;
+use crate::{show_into, show_message};
 use dbus_message::{Answer, HeaderField, Parts, decode};
 use dbus_types::SigType;
 use dbus_value::{Order, Value};
@@ -66,6 +66,43 @@ fn refused_growths(rt: HostRuntime) -> Result<(), Fail> {
         assert_eq!(rt; heap.blocks(), before, "at {n}");
         if whole {
             met = heap.growths();
+            break;
+        }
+    }
+    assert!(rt; met > 0);
+    Ok(())
+}
+
+// Each growth refused in turn: the refusal is told, the string holds a front of the text, and once nothing is refused it
+// holds the text in place of what it held. The text again takes no memory.
+#[test]
+fn refused_growths_of_a_kept_string(rt: HostRuntime) -> Result<(), Fail> {
+    let mut met = 0;
+    for n in 1..100 {
+        let heap = Refusing::none(rt.alloc());
+        let Ok(Answer::Whole { order, message, .. }) = decode(&heap, SIGNAL) else {
+            return Err(Fail::new("no message"));
+        };
+        let before = heap.blocks();
+        let mut kept = String::from_str(&heap, "kept")?;
+        heap.refuse_nth(n);
+        let shown = show_into(&mut kept, order, &message, 1);
+        assert_eq!(rt; shown.is_err(), heap.refusals() == 1, "at {n}");
+        assert!(rt; SIGNAL_TEXT.starts_with(kept.as_str()), "at {n}");
+        assert_eq!(rt; kept.as_str() == SIGNAL_TEXT, shown.is_ok(), "at {n}");
+        if shown.is_ok() {
+            met = heap.growths();
+        }
+        heap.refuse_none();
+        show_into(&mut kept, order, &message, 1)?;
+        assert_eq!(rt; kept.as_str(), SIGNAL_TEXT, "at {n}");
+        heap.refuse_from_nth(1);
+        assert!(rt; show_into(&mut kept, order, &message, 1).is_ok(), "at {n}");
+        assert_eq!(rt; kept.as_str(), SIGNAL_TEXT, "at {n}");
+        assert_eq!(rt; heap.growths(), 0, "at {n}");
+        drop(kept);
+        assert_eq!(rt; heap.blocks(), before, "at {n}");
+        if met > 0 {
             break;
         }
     }
