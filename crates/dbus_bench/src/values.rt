@@ -7,8 +7,8 @@ ghost use Rattle.dbus_value.specs.ValueViews.{value_tree};
 
 use crate::samples::{byte_array, names, properties};
 use crate::timing::{Extent, Measure};
-use dbus_types::{SigType, parse_single};
 use dbus_marshal::put;
+use dbus_types::{SigType, parse_single};
 use dbus_unmarshal::get;
 use dbus_value::{Got, Order, Value};
 use std::io::{self, Error, ErrorKind};

@@ -1,6 +1,6 @@
 -- A length is written over once what it counts is there.
 use Rattle.std.proofs.Common.{◌≡◌, ℕ, ◌+◌, ◌-◌, ◌≤◌, ◌<◌, List, [], ◌∷◌, ◌++◌, length, get_or, set, take, drop, refl, sym, ap, ◌∙◌, arith, append_assoc}
-use Rattle.std.proofs.lemmas.List.{length-append, length-replicate, set-append_right, take-append-drop, length-take, drop-drop, length-drop, take_at, drop_at}
+use Rattle.std.proofs.lemmas.List.{length-append, set-append_right, take-append-drop, length-take, drop-drop, length-drop, take_at, drop_at}
 use Rattle.dbus_types.specs.Types.{TypeTree, NumberType, TextType, VariantType, ArrayType, StructType, EntryType, BYTE, BOOLEAN, INT16, UINT16, INT32, UINT32, INT64, UINT64, DOUBLE, UNIX_FD, STRING, OBJECT_PATH, SIGNATURE}
 use Rattle.dbus_types.specs.Alignments.{alignment_of}
 use Rattle.dbus_value.specs.declared.order.Order.{Order}
@@ -9,7 +9,7 @@ use Rattle.dbus_value.specs.Bytes.{gap_to, pad, num}
 use Rattle.dbus_value.specs.Spelling.{contents_start, spelling, spellings}
 use Rattle.dbus_value.specs.Appending.{with_padding, with_value, with_values}
 use Rattle.dbus_value.proofs.Numbers.{length-num}
-use Rattle.dbus_marshal.proofs.Written.{length_padding, length_values, value_is, padding_is}
+use Rattle.dbus_marshal.proofs.Written.{length_padding, length_values}
 
 set_in : (p q : List ℕ) (n k a : ℕ) → length p ≡ n → set (p ++ q) (n + k) a ≡ p ++ set q k a
 set_in p q n k a e =

@@ -1,6 +1,5 @@
 -- A size is where the spelling ends, in both orders, where the limits are kept, and is refused where one is not.
-use Rattle.std.proofs.Common.{◌≡◌, ℕ, zero, suc, ◌+◌, ◌-◌, ◌%◌, ◌<◌, ◌≤◌, ◌⊎◌, inl, inr, min, Bool, true, false, cond, ltb, eqb, List, [], ◌∷◌, ◌++◌, length, Option, None, Some, Result, Ok, Err, refl, sym, ap, subst, ◌∙◌, arith}
-use Rattle.std.specs.Prelude.{IfSome}
+use Rattle.std.proofs.Common.{◌≡◌, ℕ, ◌+◌, ◌≤◌, ◌⊎◌, inl, inr, Bool, true, false, cond, ltb, eqb, List, length, Option, None, Some, Result, Ok, Err, refl, sym, ap, subst, ◌∙◌, arith}
 use Rattle.std.proofs.lemmas.Bool.{ltb-true, ltb-false, eqb-true}
 use Rattle.dbus_types.specs.Types.{sig, TypeTree, NumberCode, TextCode}
 use Rattle.dbus_types.specs.Alignments.{width, length_width, alignment_of}
@@ -9,7 +8,7 @@ use Rattle.dbus_value.specs.declared.value_fault.ValueFault.{ValueFault}
 use Rattle.dbus_value.specs.declared.value_fault.ValueFault.TheVariants.{Memory, TooDeep, Mixed, Name, ArrayTooLong, TooLong}
 use Rattle.dbus_value.specs.Appending.{with_value}
 use Rattle.dbus_value.specs.Values.{ValueTree, ValueTrees, NumberValue, TextValue, VariantValue, ArrayValue, StructValue, EntryValue, NoValues, MoreValues, type_of}
-use Rattle.dbus_value.specs.Bytes.{gap_to, pad, num}
+use Rattle.dbus_value.specs.Bytes.{gap_to}
 use Rattle.dbus_value.specs.Spelling.{ended_text, contents_start, spelling, spellings, array_limit, IsWithinLimits, AreWithinLimits}
 use Rattle.dbus_value.specs.Sizes.{Sizing, and_then, passes, item, padding, contents, narrowed, sized, sizes, ◌⊳◌, message_limit}
 use Rattle.dbus_value.specs.SizeLimits.{Inside, Past, Stops, SizeEnds, SizeStops}

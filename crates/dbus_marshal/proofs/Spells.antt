@@ -1,10 +1,9 @@
 -- What is written of a value, level by level and along a list.
-use Rattle.std.proofs.Common.{◌≡◌, ℕ, ℤ, ◌+◌, ◌<◌, ◌≤◌, List, [], ◌∷◌, ◌++◌, zero, suc, replicate, length, get_or, drop, map, Vec, Box, String, cond, refl, sym, ap, ◌∙◌, arith, append_assoc}
+use Rattle.std.proofs.Common.{◌≡◌, ℕ, ℤ, ◌+◌, ◌<◌, ◌≤◌, List, [], ◌∷◌, ◌++◌, suc, replicate, length, get_or, drop, Vec, Box, String, cond, refl, sym, ap, ◌∙◌, arith, append_assoc}
 use Rattle.std.specs.Prelude.{Bool, string_bytes}
 use Rattle.std.specs.Int.{cast_unsigned, w16, w32, w64}
-use Rattle.std.proofs.lemmas.List.{at_drop_more, at_drop_all, append-nil, length-append}
-use Rattle.dbus_types.specs.Types.{NumberType, BYTE, BOOLEAN, INT16, UINT16, INT32, UINT32, INT64, UINT64, DOUBLE, UNIX_FD, STRING, OBJECT_PATH, SIGNATURE, sig}
-use Rattle.dbus_types.specs.Alignments.{alignment_of}
+use Rattle.std.proofs.lemmas.List.{at_drop_more, at_drop_all, length-append}
+use Rattle.dbus_types.specs.Types.{NumberType, BYTE, BOOLEAN, INT16, UINT16, INT32, UINT32, INT64, UINT64, DOUBLE, UNIX_FD, STRING, SIGNATURE, sig}
 use Rattle.dbus_types.specs.SigTypes.{type_tree}
 use Rattle.dbus_types.specs.declared.sig_type.SigType.{SigType}
 use Rattle.dbus_value.specs.declared.order.Order.{Order}
@@ -16,7 +15,7 @@ use Rattle.dbus_value.specs.ValueViews.{value_tree, value_trees_of, byte_values}
 use Rattle.dbus_value.specs.declared.value.Value.{Value, Byte, Bool as BoolOf, I16, U16, I32, U32, I64, U64, Double, Str, Path, Sig, Fd, Bytes, Array, Struct, Entry, Variant}
 use Rattle.dbus_value.proofs.ValueRows.{tree-Byte, tree-Bool, tree-I16, tree-U16, tree-I32, tree-U32, tree-I64, tree-U64, tree-Double, tree-Str, tree-Path, tree-Sig, tree-Fd, tree-Bytes, tree-Array, tree-Struct, tree-Entry, tree-Variant}
 use Rattle.dbus_value.proofs.Numbers.{length-num}
-use Rattle.dbus_marshal.proofs.Written.{written_number, written_path, written_variant, written_struct, written_entry, written_none, written_more, num_1, no_padding, no_gap, lengths}
+use Rattle.dbus_marshal.proofs.Written.{written_number, written_path, written_variant, written_struct, written_entry, written_none, written_more, num_1, no_padding, no_gap}
 
 abbrev writing : Order → List ℕ → ValueTree → List ℕ
 writing order front v = with_value order v front

@@ -11,16 +11,14 @@ ghost use Rattle.dbus_value.specs.Values.{ArrayValue};
 ghost use Rattle.dbus_value.specs.Spelling.{spelling};
 ghost use Rattle.dbus_value.specs.ValueViews.{value_tree, value_trees_of, byte_values};
 
-use dbus_value::Order;
 use crate::signatures::write_variant_signature;
 use crate::sizes::size_after;
-use dbus_value::Value;
-use dbus_value::ValueFault;
 use crate::writing::{
     overwrite_32, write_byte, write_bytes, write_number_16, write_number_32, write_number_64,
     write_padding, write_signature, write_text,
 };
 use dbus_types::{SigType, alignment};
+use dbus_value::{Order, Value, ValueFault};
 use std::alloc::Allocator;
 
 /// Appends a value's spelling. The vector begins at the message's first byte, so its length is the value's offset, and

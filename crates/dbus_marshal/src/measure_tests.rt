@@ -5,8 +5,8 @@ ghost use Rattle.dbus_value.specs.ShortSignatures.{HasShortSignatures};
 ghost use Rattle.dbus_value.specs.ValueViews.{value_tree};
 
 use super::*;
-use dbus_value::Value;
 use dbus_types::SigType;
+use dbus_value::Value;
 use std::alloc::{AllocError, Allocator, Global};
 use std::test::*;
 

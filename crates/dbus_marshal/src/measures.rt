@@ -9,8 +9,8 @@ ghost use Rattle.dbus_value.specs.Values.{VariantValue};
 ghost use Rattle.dbus_value.specs.ValueViews.{value_tree, value_trees_of};
 
 use crate::signatures::signature_length;
-use dbus_value::Value;
 use dbus_types::alignment;
+use dbus_value::Value;
 use std::alloc::Allocator;
 
 /// Offsets are exact below this, and known modulo 8 from here on: the limit of messages, and a step to a boundary beyond.

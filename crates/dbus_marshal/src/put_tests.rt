@@ -5,8 +5,8 @@ ghost use Rattle.dbus_value.specs.ShortSignatures.{HasShortSignatures};
 ghost use Rattle.dbus_value.specs.ValueViews.{value_tree};
 
 use super::*;
-use dbus_value::{Order, Value, ValueFault, copy, type_of};
 use dbus_types::SigType;
+use dbus_value::{Order, Value, ValueFault, copy, type_of};
 use refusing_alloc::Refusing;
 use std::alloc::{AllocError, Allocator};
 use std::test::*;

@@ -8,10 +8,9 @@ ghost use Rattle.dbus_value.specs.Bytes.{num};
 ghost use Rattle.dbus_value.specs.Values.{type_of, types_of};
 ghost use Rattle.dbus_value.specs.ValueViews.{value_tree, value_trees_of};
 
-use dbus_value::Order;
-use dbus_value::Value;
 use crate::writing::{write_byte, write_bytes};
 use dbus_types::SigType;
+use dbus_value::{Order, Value};
 use std::alloc::Allocator;
 
 /// The length of a type's signature.

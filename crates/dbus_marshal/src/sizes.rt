@@ -7,9 +7,8 @@ ghost use Rattle.dbus_value.specs.Sizes.{message_limit, item, padding, narrowed,
 ghost use Rattle.dbus_value.specs.ValueViews.{value_tree, value_trees_of, byte_values};
 
 use crate::signatures::signature_length;
-use dbus_value::Value;
-use dbus_value::ValueFault;
 use dbus_types::alignment;
+use dbus_value::{Value, ValueFault};
 use std::alloc::Allocator;
 
 const MESSAGE_LIMIT: u64 = 1 << 27;

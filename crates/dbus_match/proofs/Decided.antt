@@ -35,8 +35,9 @@ same [] [] = inl refl
 same [] (b ∷ w) = inr (λ h. absurd cc)
 same (a ∷ v) [] = inr (λ h. absurd cc)
 same (a ∷ v) (b ∷ w) = elim (cases_eq a b) [
-    | inl e ↦ same_head a b v w e (same v w)
-    | inr n ↦ inr (λ h. n (cc h))]
+  | inl e ↦ same_head a b v w e (same v w)
+  | inr n ↦ inr (λ h. n (cc h))
+]
 
 -- ---- one text begins another, or ends in a slash
 
@@ -44,10 +45,12 @@ begins : (w v : List ℕ) → Either (BeginsWith w v)
 begins w [] = inl (w, refl)
 begins [] (b ∷ v) = inr (λ h. absurd (cc (h.1)))
 begins (a ∷ w) (b ∷ v) = elim (cases_eq a b) [
-    | inl e ↦ elim (begins w v) [
-        | inl h ↦ inl (h.0, cc (e, h.1))
-        | inr n ↦ inr (λ h. n (h.0, cc (h.1)))]
-    | inr n ↦ inr (λ h. n (cc (h.1)))]
+  | inl e ↦ elim (begins w v) [
+    | inl h ↦ inl (h.0, cc (e, h.1))
+    | inr n ↦ inr (λ h. n (h.0, cc (h.1)))
+  ]
+  | inr n ↦ inr (λ h. n (cc (h.1)))
+]
 
 not_empty : (front : List ℕ) → [] ≡ front ++ 47 ∷ [] → ⊥
 not_empty [] e = absurd cc
@@ -64,19 +67,21 @@ ends_behind a b v (c ∷ front) e = (front, cc e)
 ends : (v : List ℕ) → Either (EndsInSlash v)
 ends [] = inr (λ h. not_empty h.0 h.1)
 ends (a ∷ []) = elim (cases_eq a 47) [
-    | inl e ↦ inl ([], cc e)
-    | inr n ↦ inr (λ h. n (last_is a h.0 h.1))]
+  | inl e ↦ inl ([], cc e)
+  | inr n ↦ inr (λ h. n (last_is a h.0 h.1))
+]
 ends (a ∷ b ∷ v) = elim (ends (b ∷ v)) [
-    | inl h ↦ inl (a ∷ h.0, cc (h.1))
-    | inr n ↦ inr (λ h. n (ends_behind a b v h.0 h.1))]
+  | inl h ↦ inl (a ∷ h.0, cc (h.1))
+  | inr n ↦ inr (λ h. n (ends_behind a b v h.0 h.1))
+]
 
 -- ---- what a key asks of a text
 
 paths_meet : (v w : List ℕ) → Either (PathsMeet v w)
 paths_meet v w = one_of (v ≡ w) ((EndsInSlash v × BeginsWith w v) ⊎ (EndsInSlash w × BeginsWith v w)) (same v w)
     (one_of (EndsInSlash v × BeginsWith w v) (EndsInSlash w × BeginsWith v w)
-        (both (EndsInSlash v) (BeginsWith w v) (ends v) (begins w v))
-        (both (EndsInSlash w) (BeginsWith v w) (ends w) (begins v w)))
+    (both (EndsInSlash v) (BeginsWith w v) (ends v) (begins w v))
+    (both (EndsInSlash w) (BeginsWith v w) (ends w) (begins v w)))
 
 within : (separator : ℕ) (v w : List ℕ) → Either (IsWithin separator v w)
 within separator v w = one_of (v ≡ w) (BeginsWith w (v ++ separator ∷ [])) (same v w) (begins w (v ++ separator ∷ []))
@@ -98,8 +103,9 @@ there (Some w) P each = each w
 is_some_text : (o : Option (List ℕ)) (v : List ℕ) → Either (o ≡ Some v)
 is_some_text None v = inr (λ h. absurd cc)
 is_some_text (Some w) v = elim (same w v) [
-    | inl h ↦ inl (cc h)
-    | inr n ↦ inr (λ h. n (cc h))]
+  | inl h ↦ inl (cc h)
+  | inr n ↦ inr (λ h. n (cc h))
+]
 
 in_field : (code : ℕ) (m : MessageTree) (P : List ℕ → Type 0) → ((w : List ℕ) → Either (P w)) → Either (HasField code m P)
 in_field code m P each = there (text_of (field_value code m.fields)) P each

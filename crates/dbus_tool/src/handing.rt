@@ -70,7 +70,9 @@ fn hand_all<R: Source, A: Allocator + Copy, W: Sink>(
         match next_message(messages, gathered, first) {
             Ok(Some(given)) => {
                 count += 1;
-                match write_one(command, given.0, &given.1, count, &mut spare, gathered, first) {
+                match write_one(
+                    command, given.0, &given.1, count, &mut spare, gathered, first,
+                ) {
                     Ok(()) => {}
                     Err(cause) => return Err(cause),
                 }

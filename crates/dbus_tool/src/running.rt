@@ -20,7 +20,7 @@ use std::alloc::Allocator;
 /// Where the run fails, it writes `read failed`, `write failed`, `too many reads` or `out of memory` on the second
 /// writer, the first of these that was met. Each line ends in LF. What is written is gathered up to 16,384 bytes, and
 /// goes out before each read and before the status is given. The run holds at most the bytes of one message and of one
-/// read, one message and its output, and what is gathered.
+/// read, one message, room for the longest output of a message so far, and what is gathered.
 ///
 /// `Done`, `Refused`: all was written, and the status says which. `Failed`: a read failed, a write to either writer
 /// failed or took none of its bytes, 2^32 reads were made, or a growth was refused. It is never `Usage`.

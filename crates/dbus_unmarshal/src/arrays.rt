@@ -11,11 +11,9 @@ ghost use Rattle.dbus_value.specs.ValueReaders.{array_frame};
 ghost use Rattle.dbus_value.specs.declared.stop.Stop.TheVariants.{Memory};
 ghost use Rattle.dbus_value.specs.Gives.{Gives};
 
-use dbus_value::Reason;
 use crate::items::{read_padding, read_u32};
-use dbus_value::Order;
-use dbus_value::{Stop, refuse};
 use dbus_types::{SigType, alignment};
+use dbus_value::{Order, Reason, Stop, refuse};
 use std::alloc::Allocator;
 
 /// The most bytes that an array's elements may have. D-Bus Specification, "Marshaling (Wire Format)".

@@ -2,8 +2,8 @@
 #![tactic(auto)]
 
 use super::*;
-use dbus_value::{Fault, Got, Order, Reason, Refusal};
 use dbus_types::parse_single;
+use dbus_value::{Fault, Got, Order, Reason, Refusal};
 use std::alloc::Allocator;
 use std::test::*;
 

@@ -14,9 +14,7 @@ ghost use Rattle.dbus_value.specs.Reading.{padding, number, nul};
 ghost use Rattle.dbus_value.specs.declared.stop.Stop.TheVariants.{Memory};
 ghost use Rattle.dbus_value.specs.Gives.{Gives, no_row};
 
-use dbus_value::Reason;
-use dbus_value::Order;
-use dbus_value::{Stop, refuse};
+use dbus_value::{Order, Reason, Stop, refuse};
 
 /// The zeros up to the next multiple of `alignment`. Gives the place behind them.
 ///

@@ -10,11 +10,8 @@ ghost use Rattle.dbus_value.specs.ValueViews.{value_tree};
 ghost use Rattle.dbus_value.specs.declared.stop.Stop.TheVariants.{Memory};
 ghost use Rattle.dbus_value.specs.Gives.{Gives};
 
-use dbus_value::Reason;
 use crate::items::{read_byte, read_padding, read_u16, read_u32, read_u64};
-use dbus_value::Order;
-use dbus_value::{Stop, refuse};
-use dbus_value::Value;
+use dbus_value::{Order, Reason, Stop, Value, refuse};
 use std::alloc::Allocator;
 
 /// A BYTE.

@@ -12,18 +12,14 @@ ghost use Rattle.dbus_value.specs.Gives.{Gives};
 ghost use Rattle.dbus_value.specs.Gets.{Gets};
 
 use crate::arrays::{read_bytes, read_frame};
-use dbus_value::{Reason, Refusal};
-use dbus_value::Got;
 use crate::items::{read_nul, read_padding, read_short_length};
 use crate::number_values::{
     get_bool, get_byte, get_double, get_fd, get_i16, get_i32, get_i64, get_u16, get_u32, get_u64,
 };
-use dbus_value::Order;
-use dbus_value::{Stop, refuse};
 use crate::text_values::{get_path, get_sig, get_str};
 use crate::texts::read_signature;
-use dbus_value::Value;
 use dbus_types::{SigType, copy_type};
+use dbus_value::{Got, Order, Reason, Refusal, Stop, Value, refuse};
 use std::alloc::Allocator;
 
 /// The most containers that may be open at once. D-Bus Specification, "Message Protocol".

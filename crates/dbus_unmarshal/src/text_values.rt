@@ -10,11 +10,9 @@ ghost use Rattle.dbus_value.specs.ValueViews.{value_tree};
 ghost use Rattle.dbus_value.specs.Gives.{Gives};
 
 use crate::items::{read_length, read_nul, read_padding, read_short_length};
-use dbus_value::Order;
-use dbus_value::Stop;
 use crate::texts::read_text;
-use dbus_value::Value;
 use dbus_types::TextKind;
+use dbus_value::{Order, Stop, Value};
 use std::alloc::{AllocError, Allocator};
 
 /// A string of bytes that are UTF-8.

@@ -16,9 +16,8 @@ ghost use Rattle.dbus_value.specs.Reading.{text, signature};
 ghost use Rattle.dbus_value.specs.declared.stop.Stop.TheVariants.{Memory};
 ghost use Rattle.dbus_value.specs.Gives.{Gives};
 
-use dbus_value::Reason;
-use dbus_value::{Stop, refuse};
 use dbus_types::{SigType, TextKind, parse_single, text_break};
+use dbus_value::{Reason, Stop, refuse};
 use std::alloc::Allocator;
 
 /// The reason of a text that is not of the kind that is wanted.

@@ -1,5 +1,5 @@
 -- The bytes of a number, as std has them.
-use Rattle.std.proofs.Common.{◌≡◌, ℕ, zero, suc, ◌+◌, ◌*◌, ◌/◌, ◌%◌, ◌^◌, List, [], ◌∷◌, length, reverse, refl, sym, ap, ◌∙◌, arith}
+use Rattle.std.proofs.Common.{◌≡◌, ℕ, zero, suc, ◌*◌, ◌/◌, ◌%◌, ◌^◌, reverse, refl, sym, ap, ◌∙◌, arith}
 use Rattle.std.specs.Int.{w16, w32, w64, byte_at, bytes_low_first, to_le_bytes, to_be_bytes}
 use Rattle.std.proofs.Math.Nat.{pow-succ', div-div-eq-div-mul}
 use Rattle.dbus_value.specs.declared.order.Order.TheVariants.{Little, Big}

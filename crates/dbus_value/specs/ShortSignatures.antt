@@ -3,7 +3,6 @@
 -- D-Bus Specification, "Valid Signatures".
 use Rattle.std.specs.Prelude.{ℕ, ◌<◌, length}
 use Rattle.dbus_types.specs.Types.{TextCode, STRING, OBJECT_PATH, SIGNATURE, sig}
-use Rattle.dbus_types.specs.Alignments.{length_width}
 use Rattle.dbus_value.specs.Values.{ValueTree, ValueTrees, NoValues, MoreValues, NumberValue, TextValue, VariantValue, ArrayValue, StructValue, EntryValue, type_of}
 
 -- a text's length fits into the number before it, where that is one byte

@@ -1,6 +1,6 @@
 -- What a size, or its refusal, says of a value's limits.
 -- D-Bus Specification, "Marshaling (Wire Format)" for the arrays' limit, "Message Protocol" for the message's.
-use Rattle.std.specs.Prelude.{◌≡◌, ℕ, ◌+◌, ◌<◌, ◌≤◌, ◌↔◌, length, Option, Some, None, Result, Ok, Err, IfSome}
+use Rattle.std.specs.Prelude.{◌≡◌, ℕ, ◌+◌, ◌<◌, ◌≤◌, ◌↔◌, length, Option, Some, None, Ok, Err, IfSome}
 use Rattle.dbus_value.specs.declared.order.Order.{Order}
 use Rattle.dbus_value.specs.declared.value_fault.ValueFault.{ValueFault}
 use Rattle.dbus_value.specs.declared.value_fault.ValueFault.TheVariants.{Memory, TooDeep, Mixed, Name, ArrayTooLong, TooLong}

@@ -6,7 +6,6 @@ use Rattle.dbus_types.specs.SigTypes.{type_tree}
 use Rattle.dbus_value.specs.Appending.{with_padding, with_value, with_values}
 use Rattle.dbus_value.specs.Bytes.{num}
 use Rattle.dbus_value.specs.Values.{type_of}
-use Rattle.dbus_value.specs.Spelling.{spelling, spellings}
 use Rattle.dbus_value.specs.ValueViews.{value_tree, value_trees_of}
 use Rattle.dbus_value.specs.declared.value.Value.{the_lemmas}
 use Rattle.dbus_marshal.proofs.Joining.{length_join}
@@ -15,7 +14,7 @@ use Rattle.dbus_marshal.proofs.Measuring.{below_most_of_three}
 use Rattle.dbus_marshal.proofs.Patching.{array_patched, length_array, array_grows, alignment_positive}
 use Rattle.dbus_marshal.proofs.Signing.{short-Array, short-Struct, short-Entry, short-Variant, short_more}
 use Rattle.dbus_marshal.proofs.Spells.{byte_fits, number_fits, writes-Byte, writes-Bool, writes-I16, writes-U16, writes-I32, writes-U32, writes-I64, writes-U64, writes-Double, writes-Fd, writes-Str, writes-Path, writes-Array, writes-Struct, writes-Entry, writes-Variant, writes_more, writes_end}
-use Rattle.dbus_marshal.proofs.Written.{length_padding, length_value, length_values, length_text}
+use Rattle.dbus_marshal.proofs.Written.{length_value, length_values, length_text}
 use Rattle.dbus_marshal.proofs.marshalling.+write.Goals as goal
 
 pub write_value-write_byte-requires : goal.write_value-write_byte-requires

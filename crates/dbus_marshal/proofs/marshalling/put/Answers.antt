@@ -1,4 +1,4 @@
-use Rattle.std.proofs.Common.{◌≡◌, ◌≤◌, Ok, length, None, sym, ap, ◌∙◌, arith, rules}
+use Rattle.std.proofs.Common.{◌≡◌, Ok, length, None, sym, ap, ◌∙◌, arith, rules}
 use Rattle.dbus_value.specs.Sizes.{sized, message_limit}
 use Rattle.dbus_value.specs.ValueViews.{value_tree}
 use Rattle.dbus_marshal.proofs.Written.{length_value}

@@ -1,4 +1,4 @@
-use Rattle.std.proofs.Common.{◌≡◌, ◌+◌, ◌++◌, length, vec_capacity, sym, ap, ◌∙◌, arith}
+use Rattle.std.proofs.Common.{◌++◌, length, sym, ap, ◌∙◌, arith}
 use Rattle.dbus_value.specs.Appending.{with_padding}
 use Rattle.dbus_value.specs.Bytes.{num}
 use Rattle.dbus_marshal.proofs.Joining.{length_join}

@@ -1,7 +1,6 @@
-use Rattle.std.proofs.Common.{◌≡◌, ◌+◌, ◌++◌, ◌∷◌, [], drop, vec_capacity, arith}
+use Rattle.std.proofs.Common.{◌+◌, ◌++◌, ◌∷◌, [], drop, vec_capacity, arith}
 use Rattle.dbus_types.specs.Types.{sig, sigs}
 use Rattle.dbus_types.specs.SigTypes.{type_tree, type_trees_of}
-use Rattle.dbus_types.specs.declared.sig_type.SigType.{the_lemmas}
 use Rattle.dbus_marshal.proofs.Joining.{length_join, join_assoc, join_around, join_two, first_fits, step_joined}
 use Rattle.dbus_marshal.proofs.Measuring.{below_most}
 use Rattle.dbus_value.proofs.TypeRows.{sig-Array, sig-Struct, sig-Entry, length-Struct, length-Entry, sigs_more}

@@ -1,4 +1,4 @@
-use Rattle.std.proofs.Common.{◌≡◌, ◌+◌, ◌++◌, ◌∷◌, [], drop, vec_capacity, arith}
+use Rattle.std.proofs.Common.{◌+◌, ◌++◌, ◌∷◌, [], drop, vec_capacity, arith}
 use Rattle.dbus_types.specs.Types.{sig, sigs}
 use Rattle.dbus_types.specs.SigTypes.{type_tree}
 use Rattle.dbus_value.specs.Values.{type_of, types_of}

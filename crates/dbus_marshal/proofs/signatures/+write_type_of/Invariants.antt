@@ -1,4 +1,4 @@
-use Rattle.std.proofs.Common.{◌≡◌, ◌≤◌, ◌+◌, ◌++◌, drop, length, vec_capacity}
+use Rattle.std.proofs.Common.{◌≡◌, ◌≤◌, ◌++◌, drop, vec_capacity}
 use Rattle.dbus_types.specs.Types.{sigs}
 use Rattle.dbus_value.specs.Values.{types_of}
 use Rattle.dbus_value.specs.ValueViews.{value_trees_of}

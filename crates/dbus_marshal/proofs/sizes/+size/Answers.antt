@@ -1,4 +1,4 @@
-use Rattle.std.proofs.Common.{◌≡◌, Ok, Err, sym, ap, ◌∙◌, arith, rules}
+use Rattle.std.proofs.Common.{Ok, Err, ◌∙◌, arith, rules}
 use Rattle.std.proofs.lemmas.Result.{err_from_is_err_and}
 use Rattle.dbus_value.specs.declared.value.Value.{the_lemmas}
 use Rattle.dbus_marshal.proofs.Measuring.{below_most}
