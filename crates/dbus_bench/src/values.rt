@@ -7,10 +7,8 @@ ghost use Rattle.dbus_value.specs.ValueViews.{value_tree};
 
 use crate::samples::{byte_array, names, properties};
 use crate::timing::{Extent, Measure};
-use dbus_marshal::put;
 use dbus_types::{SigType, parse_single};
-use dbus_unmarshal::get;
-use dbus_value::{Got, Order, Value};
+use dbus_value::{Got, Order, Value, get, put};
 use std::io::{self, Error, ErrorKind};
 
 fn out_of_memory() -> Error {
@@ -18,7 +16,7 @@ fn out_of_memory() -> Error {
 }
 
 // The value of a type that all of the bytes spell.
-#[tactic(auto, using(dbus_marshal::proofs::ShortLaws::formed_short))]
+#[tactic(auto, using(dbus_value::proofs::ShortLaws::formed_short))]
 fn value_in(rt: &HostRuntime, bytes: &[u8], wanted: &SigType) -> Option<Value>
     requires { IsSingleType (type_tree wanted.now) }
     ensures { IfSome result (λ v. HasShortSignatures (value_tree v)) }

@@ -1,7 +1,7 @@
 -- Subcommands and words behind them that name nothing.
 use Rattle.std.proofs.Common.{◌≡◌, ℕ, List, [], Option, Some, None, sym, ap, ◌∙◌, codes, slice_index, arith}
 use Rattle.clap.specs.Words.{Row, Text, first_of}
-use Rattle.dbus_value.specs.declared.order.Order.{Order}
+use Rattle.dbus_value_model.specs.declared.order.Order.{Order}
 use Rattle.dbus_match.specs.declared.fault.RuleFault.{RuleFault}
 use Rattle.dbus_match.specs.declared.fault.RuleFault.TheVariants.{Memory, Bad}
 use Rattle.dbus_command.specs.Named.{Names, HasRuleFault, order_word}

@@ -2,8 +2,8 @@
 use Rattle.std.proofs.Common.{◌≡◌, ℕ, ◌+◌, ◌%◌, ◌<◌, ◌≤◌, refl, sym, ap, ◌∙◌, arith}
 use Rattle.std.proofs.Math.Decide.{dec_lt}
 use Rattle.std.proofs.lemmas.Bool.{le-ltb, lt-ltb}
-use Rattle.dbus_value.specs.Measures.{capped, CappedTells}
-use Rattle.dbus_value.specs.Sizes.{message_limit}
+use Rattle.dbus_value_model.specs.Measures.{capped, CappedTells}
+use Rattle.dbus_value_model.specs.Sizes.{message_limit}
 
 pub capped-near : (o : ℕ) → o < 134217736 → capped o ≡ o
 unfolding capped

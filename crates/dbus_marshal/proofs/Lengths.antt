@@ -3,11 +3,11 @@ use Rattle.std.proofs.Common.{◌≡◌, ℕ, ◌+◌, List, [], ◌∷◌, ◌+
 use Rattle.std.proofs.lemmas.List.{length-append, length-replicate}
 use Rattle.dbus_types.specs.Types.{sig, TypeTree, NumberCode, TextCode}
 use Rattle.dbus_types.specs.Alignments.{width, length_width, alignment_of}
-use Rattle.dbus_value.specs.declared.order.Order.{Order}
-use Rattle.dbus_value.specs.Values.{ValueTree, ValueTrees, NumberValue, TextValue, VariantValue, ArrayValue, StructValue, EntryValue, NoValues, MoreValues, type_of}
-use Rattle.dbus_value.specs.Bytes.{gap_to, pad, num}
-use Rattle.dbus_value.specs.Spelling.{ended_text, contents_start, spelling, spellings}
-use Rattle.dbus_value.proofs.Numbers.{length-num}
+use Rattle.dbus_value_model.specs.declared.order.Order.{Order}
+use Rattle.dbus_value_model.specs.Values.{ValueTree, ValueTrees, NumberValue, TextValue, VariantValue, ArrayValue, StructValue, EntryValue, NoValues, MoreValues, type_of}
+use Rattle.dbus_value_model.specs.Bytes.{gap_to, pad, num}
+use Rattle.dbus_value_model.specs.Spelling.{ended_text, contents_start, spelling, spellings}
+use Rattle.dbus_value_model.proofs.Numbers.{length-num}
 
 pub length-number : (order : Order) (o n : ℕ) (k : NumberCode) → length (spelling order o (NumberValue k n)) ≡ gap_to (width k) o + width k
 unfolding spelling

@@ -3,12 +3,12 @@ use Rattle.std.proofs.Common.{◌≡◌, ℕ, ◌+◌, ◌-◌, ◌≤◌, ◌<�
 use Rattle.std.proofs.lemmas.List.{length-append, set-append_right, take-append-drop, length-take, drop-drop, length-drop, take_at, drop_at}
 use Rattle.dbus_types.specs.Types.{TypeTree, NumberType, TextType, VariantType, ArrayType, StructType, EntryType, BYTE, BOOLEAN, INT16, UINT16, INT32, UINT32, INT64, UINT64, DOUBLE, UNIX_FD, STRING, OBJECT_PATH, SIGNATURE}
 use Rattle.dbus_types.specs.Alignments.{alignment_of}
-use Rattle.dbus_value.specs.declared.order.Order.{Order}
-use Rattle.dbus_value.specs.Values.{ValueTrees, ArrayValue}
-use Rattle.dbus_value.specs.Bytes.{gap_to, pad, num}
-use Rattle.dbus_value.specs.Spelling.{contents_start, spelling, spellings}
-use Rattle.dbus_value.specs.Appending.{with_padding, with_value, with_values}
-use Rattle.dbus_value.proofs.Numbers.{length-num}
+use Rattle.dbus_value_model.specs.declared.order.Order.{Order}
+use Rattle.dbus_value_model.specs.Values.{ValueTrees, ArrayValue}
+use Rattle.dbus_value_model.specs.Bytes.{gap_to, pad, num}
+use Rattle.dbus_value_model.specs.Spelling.{contents_start, spelling, spellings}
+use Rattle.dbus_value_model.specs.Appending.{with_padding, with_value, with_values}
+use Rattle.dbus_value_model.proofs.Numbers.{length-num}
 use Rattle.dbus_marshal.proofs.Written.{length_padding, length_values}
 
 set_in : (p q : List ℕ) (n k a : ℕ) → length p ≡ n → set (p ++ q) (n + k) a ≡ p ++ set q k a

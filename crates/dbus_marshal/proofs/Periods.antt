@@ -2,11 +2,11 @@
 use Rattle.std.proofs.Common.{◌≡◌, ℕ, ◌+◌, ◌%◌, ◌≤◌, length, sym, subst, arith}
 use Rattle.dbus_types.specs.Types.{sig, TypeTree, NumberType, TextType, VariantType, ArrayType, StructType, EntryType, NumberCode, BYTE, BOOLEAN, INT16, UINT16, INT32, UINT32, INT64, UINT64, DOUBLE, UNIX_FD, TextCode, STRING, OBJECT_PATH, SIGNATURE}
 use Rattle.dbus_types.specs.Alignments.{width, length_width, alignment_of}
-use Rattle.dbus_value.specs.declared.order.Order.{Order}
-use Rattle.dbus_value.specs.Values.{ValueTree, ValueTrees, NumberValue, TextValue, VariantValue, ArrayValue, StructValue, EntryValue, NoValues, MoreValues, type_of}
-use Rattle.dbus_value.specs.Bytes.{gap_to}
-use Rattle.dbus_value.specs.Spelling.{ended_text, contents_start, spelling, spellings, array_limit, IsWithinLimits, AreWithinLimits}
-use Rattle.dbus_value.specs.Measures.{OffsetsRepeat}
+use Rattle.dbus_value_model.specs.declared.order.Order.{Order}
+use Rattle.dbus_value_model.specs.Values.{ValueTree, ValueTrees, NumberValue, TextValue, VariantValue, ArrayValue, StructValue, EntryValue, NoValues, MoreValues, type_of}
+use Rattle.dbus_value_model.specs.Bytes.{gap_to}
+use Rattle.dbus_value_model.specs.Spelling.{ended_text, contents_start, spelling, spellings, array_limit, IsWithinLimits, AreWithinLimits}
+use Rattle.dbus_value_model.specs.Measures.{OffsetsRepeat}
 use Rattle.dbus_marshal.proofs.Lengths.{length-number, length-text, length-variant, length-struct, length-entry, length-array, length-more, length-none}
 
 -- ---- paddings

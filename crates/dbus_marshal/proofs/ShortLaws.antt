@@ -2,12 +2,12 @@
 use Rattle.std.proofs.Common.{◌≡◌, ℕ, zero, suc, ◌∷◌, [], Vec}
 use Rattle.dbus_types.specs.Types.{STRING, OBJECT_PATH, SIGNATURE}
 use Rattle.dbus_types.specs.declared.sig_type.SigType.{SigType}
-use Rattle.dbus_value.specs.declared.value.Value as values
-use Rattle.dbus_value.specs.declared.value.Value.{Value}
-use Rattle.dbus_value.specs.ValueViews.{value_tree}
-use Rattle.dbus_value.proofs.ValueRows.{tree-Array, tree-U64}
-use Rattle.dbus_value.specs.ShortSignatures.{HasShortSignatures, HaveShortSignatures}
-use Rattle.dbus_value.specs.Values.{ValueTree, ValueTrees, NumberValue, TextValue, VariantValue, ArrayValue, StructValue, EntryValue, NoValues, MoreValues, IsWellFormed, AreWellFormed}
+use Rattle.dbus_value_model.specs.declared.value.Value as values
+use Rattle.dbus_value_model.specs.declared.value.Value.{Value}
+use Rattle.dbus_value_model.specs.ValueViews.{value_tree}
+use Rattle.dbus_value_model.proofs.ValueRows.{tree-Array, tree-U64}
+use Rattle.dbus_value_model.specs.ShortSignatures.{HasShortSignatures, HaveShortSignatures}
+use Rattle.dbus_value_model.specs.Values.{ValueTree, ValueTrees, NumberValue, TextValue, VariantValue, ArrayValue, StructValue, EntryValue, NoValues, MoreValues, IsWellFormed, AreWellFormed}
 
 mutual
   pub formed_short : (room : ℕ) (v : ValueTree) → IsWellFormed room v → HasShortSignatures v

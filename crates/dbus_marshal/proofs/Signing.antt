@@ -4,11 +4,11 @@ use Rattle.std.specs.Prelude.{string_bytes}
 use Rattle.std.proofs.lemmas.List.{drop_more}
 use Rattle.dbus_types.specs.Types.{sig}
 use Rattle.dbus_types.specs.declared.sig_type.SigType.{SigType}
-use Rattle.dbus_value.specs.Values.{type_of}
-use Rattle.dbus_value.specs.ShortSignatures.{HasShortSignatures, HaveShortSignatures}
-use Rattle.dbus_value.specs.ValueViews.{value_tree, value_trees_of}
-use Rattle.dbus_value.specs.declared.value.Value.{Value, Sig, Array, Struct, Entry, Variant}
-use Rattle.dbus_value.proofs.ValueRows.{tree-Sig, tree-Array, tree-Struct, tree-Entry, tree-Variant}
+use Rattle.dbus_value_model.specs.Values.{type_of}
+use Rattle.dbus_value_model.specs.ShortSignatures.{HasShortSignatures, HaveShortSignatures}
+use Rattle.dbus_value_model.specs.ValueViews.{value_tree, value_trees_of}
+use Rattle.dbus_value_model.specs.declared.value.Value.{Value, Sig, Array, Struct, Entry, Variant}
+use Rattle.dbus_value_model.proofs.ValueRows.{tree-Sig, tree-Array, tree-Struct, tree-Entry, tree-Variant}
 
 pub short-Sig : {A : Type 0} (s : String A) → HasShortSignatures (value_tree {A = A} (Sig s)) → length (string_bytes s) < 256
 short-Sig s h = subst HasShortSignatures (tree-Sig s) h

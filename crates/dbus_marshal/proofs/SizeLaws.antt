@@ -3,15 +3,15 @@ use Rattle.std.proofs.Common.{◌≡◌, ℕ, ◌+◌, ◌≤◌, ◌⊎◌, inl
 use Rattle.std.proofs.lemmas.Bool.{ltb-true, ltb-false, eqb-true}
 use Rattle.dbus_types.specs.Types.{sig, TypeTree, NumberCode, TextCode}
 use Rattle.dbus_types.specs.Alignments.{width, length_width, alignment_of}
-use Rattle.dbus_value.specs.declared.order.Order.{Order}
-use Rattle.dbus_value.specs.declared.value_fault.ValueFault.{ValueFault}
-use Rattle.dbus_value.specs.declared.value_fault.ValueFault.TheVariants.{Memory, TooDeep, Mixed, Name, ArrayTooLong, TooLong}
-use Rattle.dbus_value.specs.Appending.{with_value}
-use Rattle.dbus_value.specs.Values.{ValueTree, ValueTrees, NumberValue, TextValue, VariantValue, ArrayValue, StructValue, EntryValue, NoValues, MoreValues, type_of}
-use Rattle.dbus_value.specs.Bytes.{gap_to}
-use Rattle.dbus_value.specs.Spelling.{ended_text, contents_start, spelling, spellings, array_limit, IsWithinLimits, AreWithinLimits}
-use Rattle.dbus_value.specs.Sizes.{Sizing, and_then, passes, item, padding, contents, narrowed, sized, sizes, ◌⊳◌, message_limit}
-use Rattle.dbus_value.specs.SizeLimits.{Inside, Past, Stops, SizeEnds, SizeStops}
+use Rattle.dbus_value_model.specs.declared.order.Order.{Order}
+use Rattle.dbus_value_model.specs.declared.value_fault.ValueFault.{ValueFault}
+use Rattle.dbus_value_model.specs.declared.value_fault.ValueFault.TheVariants.{Memory, TooDeep, Mixed, Name, ArrayTooLong, TooLong}
+use Rattle.dbus_value_model.specs.Appending.{with_value}
+use Rattle.dbus_value_model.specs.Values.{ValueTree, ValueTrees, NumberValue, TextValue, VariantValue, ArrayValue, StructValue, EntryValue, NoValues, MoreValues, type_of}
+use Rattle.dbus_value_model.specs.Bytes.{gap_to}
+use Rattle.dbus_value_model.specs.Spelling.{ended_text, contents_start, spelling, spellings, array_limit, IsWithinLimits, AreWithinLimits}
+use Rattle.dbus_value_model.specs.Sizes.{Sizing, and_then, passes, item, padding, contents, narrowed, sized, sizes, ◌⊳◌, message_limit}
+use Rattle.dbus_value_model.specs.SizeLimits.{Inside, Past, Stops, SizeEnds, SizeStops}
 use Rattle.dbus_marshal.proofs.Lengths.{length-number, length-ended, length-text, length-variant, length-struct, length-entry, length-array, length-more, length-none}
 use Rattle.dbus_marshal.proofs.Written.{value_is, length_value}
 

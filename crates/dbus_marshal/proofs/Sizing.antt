@@ -10,14 +10,14 @@ use Rattle.dbus_types.specs.Types.{sig, BYTE}
 use Rattle.dbus_types.specs.Alignments.{alignment_of}
 use Rattle.dbus_types.specs.SigTypes.{type_tree}
 use Rattle.dbus_types.specs.declared.sig_type.SigType.{SigType}
-use Rattle.dbus_value.specs.Values.{ValueTree, NumberValue, type_of}
-use Rattle.dbus_value.specs.Bytes.{gap_to}
-use Rattle.dbus_value.specs.Sizes.{Sizing, and_then, item, padding, contents, narrowed, sized, sizes, ◌⊳◌, message_limit}
-use Rattle.dbus_value.specs.ValueViews.{value_tree, value_trees_of, byte_values}
-use Rattle.dbus_value.specs.declared.value.Value.{Value, Byte, Bool as BoolOf, I16, U16, I32, U32, I64, U64, Double, Str, Path, Sig, Fd, Bytes, Array, Struct, Entry, Variant}
-use Rattle.dbus_value.specs.declared.value_fault.ValueFault.{ValueFault}
-use Rattle.dbus_value.specs.declared.value_fault.ValueFault.TheVariants.{ArrayTooLong, TooLong}
-use Rattle.dbus_value.proofs.ValueRows.{tree-Byte, tree-Bool, tree-I16, tree-U16, tree-I32, tree-U32, tree-I64, tree-U64, tree-Double, tree-Str, tree-Path, tree-Sig, tree-Fd, tree-Bytes, tree-Array, tree-Struct, tree-Entry, tree-Variant}
+use Rattle.dbus_value_model.specs.Values.{ValueTree, NumberValue, type_of}
+use Rattle.dbus_value_model.specs.Bytes.{gap_to}
+use Rattle.dbus_value_model.specs.Sizes.{Sizing, and_then, item, padding, contents, narrowed, sized, sizes, ◌⊳◌, message_limit}
+use Rattle.dbus_value_model.specs.ValueViews.{value_tree, value_trees_of, byte_values}
+use Rattle.dbus_value_model.specs.declared.value.Value.{Value, Byte, Bool as BoolOf, I16, U16, I32, U32, I64, U64, Double, Str, Path, Sig, Fd, Bytes, Array, Struct, Entry, Variant}
+use Rattle.dbus_value_model.specs.declared.value_fault.ValueFault.{ValueFault}
+use Rattle.dbus_value_model.specs.declared.value_fault.ValueFault.TheVariants.{ArrayTooLong, TooLong}
+use Rattle.dbus_value_model.proofs.ValueRows.{tree-Byte, tree-Bool, tree-I16, tree-U16, tree-I32, tree-U32, tree-I64, tree-U64, tree-Double, tree-Str, tree-Path, tree-Sig, tree-Fd, tree-Bytes, tree-Array, tree-Struct, tree-Entry, tree-Variant}
 
 -- ---- joined
 

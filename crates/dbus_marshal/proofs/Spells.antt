@@ -6,15 +6,15 @@ use Rattle.std.proofs.lemmas.List.{at_drop_more, at_drop_all, length-append}
 use Rattle.dbus_types.specs.Types.{NumberType, BYTE, BOOLEAN, INT16, UINT16, INT32, UINT32, INT64, UINT64, DOUBLE, UNIX_FD, STRING, SIGNATURE, sig}
 use Rattle.dbus_types.specs.SigTypes.{type_tree}
 use Rattle.dbus_types.specs.declared.sig_type.SigType.{SigType}
-use Rattle.dbus_value.specs.declared.order.Order.{Order}
-use Rattle.dbus_value.specs.Values.{ValueTree, NumberValue, TextValue, ArrayValue, type_of}
-use Rattle.dbus_value.specs.Bytes.{pad, gap_to, num}
-use Rattle.dbus_value.specs.Spelling.{spelling, spellings}
-use Rattle.dbus_value.specs.Appending.{with_padding, with_value, with_values}
-use Rattle.dbus_value.specs.ValueViews.{value_tree, value_trees_of, byte_values}
-use Rattle.dbus_value.specs.declared.value.Value.{Value, Byte, Bool as BoolOf, I16, U16, I32, U32, I64, U64, Double, Str, Path, Sig, Fd, Bytes, Array, Struct, Entry, Variant}
-use Rattle.dbus_value.proofs.ValueRows.{tree-Byte, tree-Bool, tree-I16, tree-U16, tree-I32, tree-U32, tree-I64, tree-U64, tree-Double, tree-Str, tree-Path, tree-Sig, tree-Fd, tree-Bytes, tree-Array, tree-Struct, tree-Entry, tree-Variant}
-use Rattle.dbus_value.proofs.Numbers.{length-num}
+use Rattle.dbus_value_model.specs.declared.order.Order.{Order}
+use Rattle.dbus_value_model.specs.Values.{ValueTree, NumberValue, TextValue, ArrayValue, type_of}
+use Rattle.dbus_value_model.specs.Bytes.{pad, gap_to, num}
+use Rattle.dbus_value_model.specs.Spelling.{spelling, spellings}
+use Rattle.dbus_value_model.specs.Appending.{with_padding, with_value, with_values}
+use Rattle.dbus_value_model.specs.ValueViews.{value_tree, value_trees_of, byte_values}
+use Rattle.dbus_value_model.specs.declared.value.Value.{Value, Byte, Bool as BoolOf, I16, U16, I32, U32, I64, U64, Double, Str, Path, Sig, Fd, Bytes, Array, Struct, Entry, Variant}
+use Rattle.dbus_value_model.proofs.ValueRows.{tree-Byte, tree-Bool, tree-I16, tree-U16, tree-I32, tree-U32, tree-I64, tree-U64, tree-Double, tree-Str, tree-Path, tree-Sig, tree-Fd, tree-Bytes, tree-Array, tree-Struct, tree-Entry, tree-Variant}
+use Rattle.dbus_value_model.proofs.Numbers.{length-num}
 use Rattle.dbus_marshal.proofs.Written.{written_number, written_path, written_variant, written_struct, written_entry, written_none, written_more, num_1, no_padding, no_gap}
 
 abbrev writing : Order → List ℕ → ValueTree → List ℕ

@@ -3,13 +3,13 @@ use Rattle.std.proofs.Common.{◌≡◌, ℕ, zero, suc, ◌+◌, ◌-◌, ◌%�
 use Rattle.std.proofs.lemmas.List.{length-append, append-nil, length-replicate}
 use Rattle.dbus_types.specs.Types.{NumberCode, TextCode, STRING, OBJECT_PATH, sig}
 use Rattle.dbus_types.specs.Alignments.{width, length_width}
-use Rattle.dbus_value.specs.declared.order.Order.{Order}
-use Rattle.dbus_value.specs.declared.order.Order.TheVariants.{Little, Big}
-use Rattle.dbus_value.specs.Values.{ValueTree, ValueTrees, NumberValue, TextValue, VariantValue, StructValue, EntryValue, NoValues, MoreValues, type_of}
-use Rattle.dbus_value.specs.Bytes.{gap_to, pad, num, low_first}
-use Rattle.dbus_value.specs.Spelling.{ended_text, spelling, spellings}
-use Rattle.dbus_value.specs.Appending.{with_padding, with_value, with_values}
-use Rattle.dbus_value.proofs.Numbers.{length-num}
+use Rattle.dbus_value_model.specs.declared.order.Order.{Order}
+use Rattle.dbus_value_model.specs.declared.order.Order.TheVariants.{Little, Big}
+use Rattle.dbus_value_model.specs.Values.{ValueTree, ValueTrees, NumberValue, TextValue, VariantValue, StructValue, EntryValue, NoValues, MoreValues, type_of}
+use Rattle.dbus_value_model.specs.Bytes.{gap_to, pad, num, low_first}
+use Rattle.dbus_value_model.specs.Spelling.{ended_text, spelling, spellings}
+use Rattle.dbus_value_model.specs.Appending.{with_padding, with_value, with_values}
+use Rattle.dbus_value_model.proofs.Numbers.{length-num}
 
 -- ---- lengths
 

@@ -4,12 +4,12 @@
 ghost use Rattle.std.specs.Prelude.{◌≡◌, ◌<◌, ◌≤◌, ◌^◌, ◌++◌, length, vec_capacity, None, OnOk, OnErr, IsOkUnless, MatchResult, if◌then◌else◌};
 ghost use Rattle.dbus_types.specs.SigTypes.{type_tree};
 ghost use Rattle.dbus_types.specs.Types.{NumberType, BYTE};
-ghost use Rattle.dbus_value.specs.Appending.{with_value, with_values};
-ghost use Rattle.dbus_value.specs.ShortSignatures.{HasShortSignatures, HaveShortSignatures};
-ghost use Rattle.dbus_value.specs.Sizes.{message_limit, sized};
-ghost use Rattle.dbus_value.specs.Values.{ArrayValue};
-ghost use Rattle.dbus_value.specs.Spelling.{spelling};
-ghost use Rattle.dbus_value.specs.ValueViews.{value_tree, value_trees_of, byte_values};
+ghost use Rattle.dbus_value_model.specs.Appending.{with_value, with_values};
+ghost use Rattle.dbus_value_model.specs.ShortSignatures.{HasShortSignatures, HaveShortSignatures};
+ghost use Rattle.dbus_value_model.specs.Sizes.{message_limit, sized};
+ghost use Rattle.dbus_value_model.specs.Values.{ArrayValue};
+ghost use Rattle.dbus_value_model.specs.Spelling.{spelling};
+ghost use Rattle.dbus_value_model.specs.ValueViews.{value_tree, value_trees_of, byte_values};
 
 use crate::signatures::write_variant_signature;
 use crate::sizes::size_after;
@@ -18,7 +18,7 @@ use crate::writing::{
     write_padding, write_signature, write_text,
 };
 use dbus_types::{SigType, alignment};
-use dbus_value::{Order, Value, ValueFault};
+use dbus_value_model::{Order, Value, ValueFault};
 use std::alloc::Allocator;
 
 /// Appends a value's spelling. The vector begins at the message's first byte, so its length is the value's offset, and

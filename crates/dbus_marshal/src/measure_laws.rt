@@ -2,7 +2,7 @@
 //! it runs. D-Bus Specification, "Marshaling (Wire Format)".
 #![tactic(auto)]
 
-ghost use Rattle.dbus_value.specs.Measures.{CappedTells, OffsetsRepeat};
+ghost use Rattle.dbus_value_model.specs.Measures.{CappedTells, OffsetsRepeat};
 
 /// An offset is within the message's limit exactly where its capped one is, and both are one offset there.
 pub fn capped_tells()

@@ -1,17 +1,17 @@
 //! What a measure answers, against ends counted by hand, and beside a size where both answer.
 
 ghost use Rattle.std.specs.Prelude.{◌<◌, ◌^◌, IfOk};
-ghost use Rattle.dbus_value.specs.ShortSignatures.{HasShortSignatures};
-ghost use Rattle.dbus_value.specs.ValueViews.{value_tree};
+ghost use Rattle.dbus_value_model.specs.ShortSignatures.{HasShortSignatures};
+ghost use Rattle.dbus_value_model.specs.ValueViews.{value_tree};
 
 use super::*;
 use dbus_types::SigType;
-use dbus_value::Value;
+use dbus_value_model::Value;
 use std::alloc::{AllocError, Allocator, Global};
 use std::test::*;
 
 // The measure and the size are both `end`.
-#[tactic(auto, unfolding(dbus_value::specs::Sizes::message_limit))]
+#[tactic(auto, unfolding(dbus_value_model::specs::Sizes::message_limit))]
 fn ends_at<A: Allocator>(value: &Value<A>, at: u64, end: u64) -> bool
     requires start { at < 2 ^ 27 }
     requires signed { HasShortSignatures (value_tree value.now) }

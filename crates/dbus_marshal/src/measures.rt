@@ -2,15 +2,15 @@
 #![tactic(auto, using(crate::proofs::MeasureSteps::measuring))]
 
 ghost use Rattle.std.specs.Prelude.{◌≡◌, ℕ, ◌+◌, ◌<◌, ◌^◌, IfSome};
-ghost use Rattle.dbus_value.specs.Bytes.{gap_to};
-ghost use Rattle.dbus_value.specs.Measures.{capped, coded, IsMeasured, AreMeasured};
-ghost use Rattle.dbus_value.specs.ShortSignatures.{HasShortSignatures, HaveShortSignatures};
-ghost use Rattle.dbus_value.specs.Values.{VariantValue};
-ghost use Rattle.dbus_value.specs.ValueViews.{value_tree, value_trees_of};
+ghost use Rattle.dbus_value_model.specs.Bytes.{gap_to};
+ghost use Rattle.dbus_value_model.specs.Measures.{capped, coded, IsMeasured, AreMeasured};
+ghost use Rattle.dbus_value_model.specs.ShortSignatures.{HasShortSignatures, HaveShortSignatures};
+ghost use Rattle.dbus_value_model.specs.Values.{VariantValue};
+ghost use Rattle.dbus_value_model.specs.ValueViews.{value_tree, value_trees_of};
 
 use crate::signatures::signature_length;
 use dbus_types::alignment;
-use dbus_value::Value;
+use dbus_value_model::Value;
 use std::alloc::Allocator;
 
 /// Offsets are exact below this, and known modulo 8 from here on: the limit of messages, and a step to a boundary beyond.
@@ -57,7 +57,7 @@ pub fn measure_coded<A: Allocator>(value: &Value<A>, at: u64) -> Option<u64>
 }
 
 /// The offset that stands for `at`.
-#[tactic(auto, unfolding(dbus_value::specs::Measures::capped))]
+#[tactic(auto, unfolding(dbus_value_model::specs::Measures::capped))]
 fn cap(at: u64) -> u64
     ensures exact { result ≡ capped at }
     ensures within { result < 2 ^ 27 + 16 }
@@ -66,7 +66,7 @@ fn cap(at: u64) -> u64
 }
 
 /// The next multiple of `alignment`.
-#[tactic(auto, unfolding(dbus_value::specs::Bytes::gap_to))]
+#[tactic(auto, unfolding(dbus_value_model::specs::Bytes::gap_to))]
 fn boundary(alignment: u8, at: u64) -> u64
     requires start { at < 2 ^ 27 + 16 }
     requires positive { 0 < alignment }

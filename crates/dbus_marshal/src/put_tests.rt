@@ -1,12 +1,12 @@
 //! What is written, and where it ends, against bytes written out by hand.
 
 ghost use Rattle.std.specs.Prelude.{IfOk};
-ghost use Rattle.dbus_value.specs.ShortSignatures.{HasShortSignatures};
-ghost use Rattle.dbus_value.specs.ValueViews.{value_tree};
+ghost use Rattle.dbus_value_model.specs.ShortSignatures.{HasShortSignatures};
+ghost use Rattle.dbus_value_model.specs.ValueViews.{value_tree};
 
 use super::*;
 use dbus_types::SigType;
-use dbus_value::{Order, Value, ValueFault, copy, type_of};
+use dbus_value_model::{Order, Value, ValueFault, copy, type_of};
 use refusing_alloc::Refusing;
 use std::alloc::{AllocError, Allocator};
 use std::test::*;

@@ -4,18 +4,18 @@
 ghost use Rattle.std.specs.Prelude.{◌≡◌, ◌<◌, ◌+◌, ◌≤◌, ◌++◌, ◌∷◌, [], length, vec_capacity};
 ghost use Rattle.dbus_types.specs.Types.{sig, sigs};
 ghost use Rattle.dbus_types.specs.SigTypes.{type_tree, type_trees_of};
-ghost use Rattle.dbus_value.specs.Bytes.{num};
-ghost use Rattle.dbus_value.specs.Values.{type_of, types_of};
-ghost use Rattle.dbus_value.specs.ValueViews.{value_tree, value_trees_of};
+ghost use Rattle.dbus_value_model.specs.Bytes.{num};
+ghost use Rattle.dbus_value_model.specs.Values.{type_of, types_of};
+ghost use Rattle.dbus_value_model.specs.ValueViews.{value_tree, value_trees_of};
 
 use crate::writing::{write_byte, write_bytes};
 use dbus_types::SigType;
-use dbus_value::{Order, Value};
+use dbus_value_model::{Order, Value};
 use std::alloc::Allocator;
 
 /// The length of a type's signature.
 #[cycle(type_length)]
-#[tactic(auto, using(dbus_value::proofs::TypeRows::type_lengths))]
+#[tactic(auto, using(dbus_value_model::proofs::TypeRows::type_lengths))]
 pub fn type_length<A: Allocator>(ty: &SigType<A>) -> usize
     requires { length (sig (type_tree ty.now)) < 256 }
     ensures { result ≡ length (sig (type_tree ty.now)) }
@@ -29,7 +29,7 @@ pub fn type_length<A: Allocator>(ty: &SigType<A>) -> usize
 }
 
 #[cycle(type_length)]
-#[tactic(auto, using(dbus_value::proofs::TypeRows::type_lengths))]
+#[tactic(auto, using(dbus_value_model::proofs::TypeRows::type_lengths))]
 fn types_length<A: Allocator>(types: &[SigType<A>]) -> usize
     requires { length (sigs (type_trees_of types.now)) < 256 }
     ensures { result ≡ length (sigs (type_trees_of types.now)) }
@@ -43,7 +43,7 @@ fn types_length<A: Allocator>(types: &[SigType<A>]) -> usize
 
 /// The length of the signature of a value's type.
 #[cycle(signature_length)]
-#[tactic(auto, using(dbus_value::proofs::TypeRows::value_lengths))]
+#[tactic(auto, using(dbus_value_model::proofs::TypeRows::value_lengths))]
 pub fn signature_length<A: Allocator>(value: &Value<A>) -> usize
     requires { length (sig (type_of (value_tree value.now))) < 256 }
     ensures { result ≡ length (sig (type_of (value_tree value.now))) }
@@ -58,7 +58,7 @@ pub fn signature_length<A: Allocator>(value: &Value<A>) -> usize
 }
 
 #[cycle(signature_length)]
-#[tactic(auto, using(dbus_value::proofs::TypeRows::value_lengths))]
+#[tactic(auto, using(dbus_value_model::proofs::TypeRows::value_lengths))]
 fn signatures_length<A: Allocator>(values: &[Value<A>]) -> usize
     requires { length (sigs (types_of (value_trees_of values.now))) < 256 }
     ensures { result ≡ length (sigs (types_of (value_trees_of values.now))) }
@@ -72,7 +72,7 @@ fn signatures_length<A: Allocator>(values: &[Value<A>]) -> usize
 
 /// Appends a type's signature.
 #[cycle(write_type)]
-#[tactic(auto, using(dbus_value::proofs::TypeRows::basic_signatures, crate::proofs::Written::lengths))]
+#[tactic(auto, using(dbus_value_model::proofs::TypeRows::basic_signatures, crate::proofs::Written::lengths))]
 pub fn write_type<A: Allocator>(out: &mut Vec<u8, A>, ty: &SigType<A>)
     requires space { length out.old.items + length (sig (type_tree ty.now)) ≤ vec_capacity out.old }
     ensures written { out.new.items ≡ out.old.items ++ sig (type_tree ty.now) }
@@ -112,7 +112,7 @@ pub fn write_type<A: Allocator>(out: &mut Vec<u8, A>, ty: &SigType<A>)
 }
 
 #[cycle(write_type)]
-#[tactic(auto, using(dbus_value::proofs::TypeRows::basic_signatures, crate::proofs::Written::lengths))]
+#[tactic(auto, using(dbus_value_model::proofs::TypeRows::basic_signatures, crate::proofs::Written::lengths))]
 fn write_types<A: Allocator>(out: &mut Vec<u8, A>, types: &[SigType<A>])
     requires space { length out.old.items + length (sigs (type_trees_of types.now)) ≤ vec_capacity out.old }
     ensures written { out.new.items ≡ out.old.items ++ sigs (type_trees_of types.now) }
@@ -125,7 +125,7 @@ fn write_types<A: Allocator>(out: &mut Vec<u8, A>, types: &[SigType<A>])
 
 /// Appends the signature of a value's type.
 #[cycle(write_type_of)]
-#[tactic(auto, using(dbus_value::proofs::TypeRows::basic_value_signatures, crate::proofs::Written::lengths))]
+#[tactic(auto, using(dbus_value_model::proofs::TypeRows::basic_value_signatures, crate::proofs::Written::lengths))]
 pub fn write_type_of<A: Allocator>(out: &mut Vec<u8, A>, value: &Value<A>)
     requires space { length out.old.items + length (sig (type_of (value_tree value.now))) ≤ vec_capacity out.old }
     ensures written { out.new.items ≡ out.old.items ++ sig (type_of (value_tree value.now)) }
@@ -166,7 +166,7 @@ pub fn write_type_of<A: Allocator>(out: &mut Vec<u8, A>, value: &Value<A>)
 }
 
 #[cycle(write_type_of)]
-#[tactic(auto, using(dbus_value::proofs::TypeRows::basic_value_signatures, crate::proofs::Written::lengths))]
+#[tactic(auto, using(dbus_value_model::proofs::TypeRows::basic_value_signatures, crate::proofs::Written::lengths))]
 fn write_types_of<A: Allocator>(out: &mut Vec<u8, A>, values: &[Value<A>])
     requires space { length out.old.items + length (sigs (types_of (value_trees_of values.now))) ≤ vec_capacity out.old }
     ensures written { out.new.items ≡ out.old.items ++ sigs (types_of (value_trees_of values.now)) }

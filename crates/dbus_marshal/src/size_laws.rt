@@ -2,7 +2,7 @@
 //! it runs. D-Bus Specification, "Marshaling (Wire Format)".
 #![tactic(auto)]
 
-ghost use Rattle.dbus_value.specs.SizeLimits.{SizeEnds, SizeStops, FormedIsShort};
+ghost use Rattle.dbus_value_model.specs.SizeLimits.{SizeEnds, SizeStops, FormedIsShort};
 
 /// A size is given exactly where every array keeps its limit and the value ends within the message's, and it is where the
 /// value's spelling ends, in either byte order.

@@ -2,13 +2,13 @@
 #![tactic(auto, using(crate::proofs::Sizing::sizing))]
 
 ghost use Rattle.std.specs.Prelude.{◌≡◌, ◌≤◌, ◌<◌, ◌^◌, IfOk, IfSome, None};
-ghost use Rattle.dbus_value.specs.ShortSignatures.{HasShortSignatures, HaveShortSignatures};
-ghost use Rattle.dbus_value.specs.Sizes.{message_limit, item, padding, narrowed, sized, sizes, ◌⊳◌};
-ghost use Rattle.dbus_value.specs.ValueViews.{value_tree, value_trees_of, byte_values};
+ghost use Rattle.dbus_value_model.specs.ShortSignatures.{HasShortSignatures, HaveShortSignatures};
+ghost use Rattle.dbus_value_model.specs.Sizes.{message_limit, item, padding, narrowed, sized, sizes, ◌⊳◌};
+ghost use Rattle.dbus_value_model.specs.ValueViews.{value_tree, value_trees_of, byte_values};
 
 use crate::signatures::signature_length;
 use dbus_types::alignment;
-use dbus_value::{Value, ValueFault};
+use dbus_value_model::{Value, ValueFault};
 use std::alloc::Allocator;
 
 const MESSAGE_LIMIT: u64 = 1 << 27;
@@ -34,7 +34,7 @@ pub fn size_after<A: Allocator>(value: &Value<A>, offset: u64) -> Result<u64, Va
 }
 
 /// One item of `len` bytes. The contents of the open arrays have to end at `bound`.
-#[tactic(auto, unfolding(dbus_value::specs::Sizes::item, dbus_value::specs::Sizes::message_limit))]
+#[tactic(auto, unfolding(dbus_value_model::specs::Sizes::item, dbus_value_model::specs::Sizes::message_limit))]
 fn item(bound: Option<u64>, len: usize, offset: u64) -> Result<u64, ValueFault>
     requires start { offset ≤ message_limit }
     requires bounded { IfSome bound (λ b. b < 2 ^ 28) }
@@ -54,7 +54,7 @@ fn item(bound: Option<u64>, len: usize, offset: u64) -> Result<u64, ValueFault>
 }
 
 /// The padding up to the next multiple of `alignment`, where there is any.
-#[tactic(auto, unfolding(dbus_value::specs::Sizes::padding, dbus_value::specs::Bytes::gap_to))]
+#[tactic(auto, unfolding(dbus_value_model::specs::Sizes::padding, dbus_value_model::specs::Bytes::gap_to))]
 fn padding(bound: Option<u64>, alignment: u8, offset: u64) -> Result<u64, ValueFault>
     requires start { offset ≤ message_limit }
     requires bounded { IfSome bound (λ b. b < 2 ^ 28) }
@@ -118,7 +118,7 @@ fn size_bytes(bytes: &[u8], bound: Option<u64>, offset: u64) -> Result<u64, Valu
 }
 
 /// The least bound within an array whose contents start at `offset`.
-#[tactic(auto, unfolding(dbus_value::specs::Sizes::narrowed, dbus_value::specs::Spelling::array_limit, dbus_value::specs::Sizes::message_limit))]
+#[tactic(auto, unfolding(dbus_value_model::specs::Sizes::narrowed, dbus_value_model::specs::Spelling::array_limit, dbus_value_model::specs::Sizes::message_limit))]
 fn narrowed(bound: Option<u64>, offset: u64) -> Option<u64>
     requires start { offset ≤ message_limit }
     requires bounded { IfSome bound (λ b. b < 2 ^ 28) }

@@ -6,11 +6,11 @@
 
 ghost use Rattle.std.specs.Prelude.{◌≡◌, ◌+◌, ◌<◌, ◌≤◌, ◌^◌, ◌∷◌, [], ◌++◌, length, vec_capacity, take, drop};
 ghost use Rattle.dbus_types.specs.Types.{STRING, SIGNATURE};
-ghost use Rattle.dbus_value.specs.Appending.{with_padding, with_value};
-ghost use Rattle.dbus_value.specs.Bytes.{num};
-ghost use Rattle.dbus_value.specs.Values.{TextValue};
+ghost use Rattle.dbus_value_model.specs.Appending.{with_padding, with_value};
+ghost use Rattle.dbus_value_model.specs.Bytes.{num};
+ghost use Rattle.dbus_value_model.specs.Values.{TextValue};
 
-use dbus_value::Order;
+use dbus_value_model::Order;
 use std::alloc::Allocator;
 
 /// Appends these bytes.
@@ -32,7 +32,7 @@ pub fn write_byte<A: Allocator>(out: &mut Vec<u8, A>, byte: u8)
 }
 
 /// Appends zeros up to the next multiple of `alignment`.
-#[tactic(auto, using(crate::proofs::Written::lengths), unfolding(dbus_value::specs::Appending::with_padding, dbus_value::specs::Bytes::gap_to))]
+#[tactic(auto, using(crate::proofs::Written::lengths), unfolding(dbus_value_model::specs::Appending::with_padding, dbus_value_model::specs::Bytes::gap_to))]
 pub fn write_padding<A: Allocator>(out: &mut Vec<u8, A>, alignment: u8)
     requires positive { 0 < alignment }
     requires space { length (with_padding alignment out.old.items) ≤ vec_capacity out.old }
@@ -45,7 +45,7 @@ pub fn write_padding<A: Allocator>(out: &mut Vec<u8, A>, alignment: u8)
 }
 
 /// Appends the two bytes of a number, without padding.
-#[tactic(auto, using(crate::proofs::Written::lengths, dbus_value::proofs::NumberBytes::numbers))]
+#[tactic(auto, using(crate::proofs::Written::lengths, dbus_value_model::proofs::NumberBytes::numbers))]
 pub fn write_16<A: Allocator>(out: &mut Vec<u8, A>, order: Order, n: u16)
     requires space { length out.old.items + 2 ≤ vec_capacity out.old }
     ensures written { out.new.items ≡ out.old.items ++ num order 2 n }
@@ -58,7 +58,7 @@ pub fn write_16<A: Allocator>(out: &mut Vec<u8, A>, order: Order, n: u16)
 }
 
 /// Appends the four bytes of a number, without padding.
-#[tactic(auto, using(crate::proofs::Written::lengths, dbus_value::proofs::NumberBytes::numbers))]
+#[tactic(auto, using(crate::proofs::Written::lengths, dbus_value_model::proofs::NumberBytes::numbers))]
 pub fn write_32<A: Allocator>(out: &mut Vec<u8, A>, order: Order, n: u32)
     requires space { length out.old.items + 4 ≤ vec_capacity out.old }
     ensures written { out.new.items ≡ out.old.items ++ num order 4 n }
@@ -71,7 +71,7 @@ pub fn write_32<A: Allocator>(out: &mut Vec<u8, A>, order: Order, n: u32)
 }
 
 /// Appends the eight bytes of a number, without padding.
-#[tactic(auto, using(crate::proofs::Written::lengths, dbus_value::proofs::NumberBytes::numbers))]
+#[tactic(auto, using(crate::proofs::Written::lengths, dbus_value_model::proofs::NumberBytes::numbers))]
 pub fn write_64<A: Allocator>(out: &mut Vec<u8, A>, order: Order, n: u64)
     requires space { length out.old.items + 8 ≤ vec_capacity out.old }
     ensures written { out.new.items ≡ out.old.items ++ num order 8 n }
@@ -140,7 +140,7 @@ pub fn write_signature<A: Allocator>(out: &mut Vec<u8, A>, order: Order, text: &
 }
 
 /// Writes a number over the four bytes at `at`.
-#[tactic(auto, using(dbus_value::proofs::NumberBytes::numbers))]
+#[tactic(auto, using(dbus_value_model::proofs::NumberBytes::numbers))]
 pub fn overwrite_32<A: Allocator>(out: &mut Vec<u8, A>, at: usize, order: Order, n: u32)
     requires there { at + 4 ≤ length out.old.items }
     ensures written { out.new.items ≡ take at out.old.items ++ (num order 4 n ++ drop (at + 4) out.old.items) }

@@ -3,7 +3,7 @@
 use Rattle.std.specs.Prelude.{◌≡◌, ℕ, ◌⊎◌, Option, Some, None, List, [], ◌∷◌, ◌++◌, map, string_bytes, ◌==◌, if◌then◌else◌}
 use Rattle.std.specs.List.{AllByRecursion}
 use Rattle.dbus_types.specs.Types.{STRING, OBJECT_PATH}
-use Rattle.dbus_value.specs.Values.{ValueTree, TextValue}
+use Rattle.dbus_value_model.specs.Values.{ValueTree, TextValue}
 use Rattle.dbus_message.specs.Messages.{MessageTree}
 use Rattle.dbus_message.specs.Lookups.{field_value, body_value}
 use Rattle.dbus_match.specs.declared.key.Key.{Key}

@@ -2,7 +2,7 @@
 #![tactic(auto)]
 
 ghost use Rattle.std.specs.Prelude.{◌≡◌, ℕ, Some, None, MatchOption};
-ghost use Rattle.dbus_value.specs.ValueViews.{value_tree};
+ghost use Rattle.dbus_value_model.specs.ValueViews.{value_tree};
 ghost use Rattle.dbus_message.specs.Lookups.{body_value, field_value};
 ghost use Rattle.dbus_message.specs.MessageViews.{message_tree};
 ghost use Rattle.dbus_match.specs.Matching.{string_of, string_or_path_of, text_of};

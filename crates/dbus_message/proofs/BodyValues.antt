@@ -1,9 +1,9 @@
 -- Looking up a body's value by number.
 use Rattle.std.proofs.Common.{◌≡◌, ℕ, zero, suc, ◌<◌, ◌≤◌, List, [], ◌∷◌, length, get_or, Option, Some, None, IfSome, MatchOption, IsTrue, Bor, refl, subst, sym, ap, ◌∙◌, arith}
 use Rattle.std.proofs.lemmas.Bool.{and_parts}
-use Rattle.dbus_value.specs.PackedBytes.{keeps_bytes, keep_bytes}
-use Rattle.dbus_value.specs.ValueViews.{value_tree, value_trees_of}
-use Rattle.dbus_value.specs.declared.value.Value.{Value}
+use Rattle.dbus_value_model.specs.PackedBytes.{keeps_bytes, keep_bytes}
+use Rattle.dbus_value_model.specs.ValueViews.{value_tree, value_trees_of}
+use Rattle.dbus_value_model.specs.declared.value.Value.{Value}
 use Rattle.dbus_message.specs.Lookups.{body_value}
 
 module _ {A : Type 0} where

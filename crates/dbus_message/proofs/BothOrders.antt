@@ -1,13 +1,13 @@
 -- A message that is valid and within the limits in one byte order is so in the other.
 use Rattle.std.proofs.Common.{◌≡◌, ℕ, ◌+◌, ◌≤◌, List, length, refl, sym, ap, subst}
 use Rattle.dbus_types.specs.Types.{sig}
-use Rattle.dbus_value.specs.declared.order.Order.{Order}
-use Rattle.dbus_value.specs.declared.order.Order.TheVariants.{Little, Big}
-use Rattle.dbus_value.specs.Bytes.{gap_to}
-use Rattle.dbus_value.specs.Spelling.{spelling, spellings, contents_start, ended_text, array_limit, IsWithinLimits, AreWithinLimits}
-use Rattle.dbus_value.specs.Values.{ValueTree, ValueTrees, NoValues, MoreValues, NumberValue, TextValue, VariantValue, ArrayValue, StructValue, EntryValue, type_of}
+use Rattle.dbus_value_model.specs.declared.order.Order.{Order}
+use Rattle.dbus_value_model.specs.declared.order.Order.TheVariants.{Little, Big}
+use Rattle.dbus_value_model.specs.Bytes.{gap_to}
+use Rattle.dbus_value_model.specs.Spelling.{spelling, spellings, contents_start, ended_text, array_limit, IsWithinLimits, AreWithinLimits}
+use Rattle.dbus_value_model.specs.Values.{ValueTree, ValueTrees, NoValues, MoreValues, NumberValue, TextValue, VariantValue, ArrayValue, StructValue, EntryValue, type_of}
 use Rattle.dbus_message.specs.Messages.{FieldTree, MessageTree, message_bytes, field_array, fields_end, body_start, IsMessage}
-use Rattle.dbus_value.specs.Sizes.{message_limit}
+use Rattle.dbus_value_model.specs.Sizes.{message_limit}
 use Rattle.dbus_message.specs.ValidMessages.{room_in_field, IsValidMessage}
 use Rattle.dbus_message.proofs.MessageOutcomes.{same_ended, same_length, same_lengths, same_message_length}
 

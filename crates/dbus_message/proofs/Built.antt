@@ -1,18 +1,18 @@
 -- Parts of which no case of fault holds are valid, and no others are.
 use Rattle.std.proofs.Common.{◌≡◌, inl, inr, ℕ, suc, ◌+◌, ◌<◌, ◌≤◌, List, [], ◌∷◌, length, map, None, Some, refl, sym, ap, subst, ◌∙◌, arith}
 use Rattle.std.proofs.lemmas.List.{length-append}
-use Rattle.dbus_value.specs.declared.order.Order.TheVariants.{Little}
-use Rattle.dbus_value.specs.Bytes.{gap_to, num}
-use Rattle.dbus_value.specs.Forming.{AreUniform, AreNamed}
-use Rattle.dbus_value.specs.Measures.{AreMeasured}
-use Rattle.dbus_value.specs.ShortSignatures.{HaveShortSignatures}
-use Rattle.dbus_value.specs.Sizes.{message_limit}
-use Rattle.dbus_value.specs.Spelling.{spelling, spellings, array_limit, IsWithinLimits, AreWithinLimits}
-use Rattle.dbus_value.specs.Values.{value_trees, IsWellFormed, AreWellFormed}
-use Rattle.dbus_value.specs.ValueViews.{value_trees_of}
-use Rattle.dbus_value.specs.declared.value.Value.{Value}
-use Rattle.dbus_value.proofs.Formed.{formed_of, all_formed_of}
-use Rattle.dbus_value.proofs.Numbers.{length-num}
+use Rattle.dbus_value_model.specs.declared.order.Order.TheVariants.{Little}
+use Rattle.dbus_value_model.specs.Bytes.{gap_to, num}
+use Rattle.dbus_value_model.specs.Forming.{AreUniform, AreNamed}
+use Rattle.dbus_value_model.specs.Measures.{AreMeasured}
+use Rattle.dbus_value_model.specs.ShortSignatures.{HaveShortSignatures}
+use Rattle.dbus_value_model.specs.Sizes.{message_limit}
+use Rattle.dbus_value_model.specs.Spelling.{spelling, spellings, array_limit, IsWithinLimits, AreWithinLimits}
+use Rattle.dbus_value_model.specs.Values.{value_trees, IsWellFormed, AreWellFormed}
+use Rattle.dbus_value_model.specs.ValueViews.{value_trees_of}
+use Rattle.dbus_value_model.specs.declared.value.Value.{Value}
+use Rattle.dbus_value_model.proofs.Formed.{formed_of, all_formed_of}
+use Rattle.dbus_value_model.proofs.Numbers.{length-num}
 use Rattle.dbus_marshal.proofs.SizeLaws.{message_limit_is}
 use Rattle.dbus_message.specs.BuildFaults.{IsFirstWithout, IsNonzero, HasOwnType, HasOwnKind, IsFirstUnsoundField, IsFirstUnsound, SignaturePasses, KeepsArrays, ArraysPass, IsLong, NoFault, IsFirstFault}
 use Rattle.dbus_message.specs.declared.build_fault.BuildFault.{BuildFault}

@@ -3,13 +3,13 @@ use Rattle.std.proofs.Common.{◌≡◌, ℕ, zero, suc, ◌+◌, ◌-◌, ◌<�
 use Rattle.std.proofs.lemmas.List.{length-append, take_at, drop_at}
 use Rattle.std.specs.Coded.{×_prop, Unit-prop, le_prop}
 use Rattle.dbus_types.specs.Types.{STRING, OBJECT_PATH, SIGNATURE}
-use Rattle.dbus_value.specs.declared.order.Order.{Order}
-use Rattle.dbus_value.specs.Appending.{with_padding, with_values}
-use Rattle.dbus_value.specs.ShortSignatures.{HasShortSignatures, HaveShortSignatures}
-use Rattle.dbus_value.specs.Values.{ValueTree, ValueTrees, NoValues, MoreValues, NumberValue, TextValue, VariantValue, ArrayValue, StructValue, EntryValue, value_trees, IsWellFormed, AreWellFormed}
-use Rattle.dbus_value.specs.Bytes.{num, pad, gap_to}
-use Rattle.dbus_value.specs.Spelling.{spelling, spellings}
-use Rattle.dbus_value.proofs.Numbers.{length-num}
+use Rattle.dbus_value_model.specs.declared.order.Order.{Order}
+use Rattle.dbus_value_model.specs.Appending.{with_padding, with_values}
+use Rattle.dbus_value_model.specs.ShortSignatures.{HasShortSignatures, HaveShortSignatures}
+use Rattle.dbus_value_model.specs.Values.{ValueTree, ValueTrees, NoValues, MoreValues, NumberValue, TextValue, VariantValue, ArrayValue, StructValue, EntryValue, value_trees, IsWellFormed, AreWellFormed}
+use Rattle.dbus_value_model.specs.Bytes.{num, pad, gap_to}
+use Rattle.dbus_value_model.specs.Spelling.{spelling, spellings}
+use Rattle.dbus_value_model.proofs.Numbers.{length-num}
 use Rattle.dbus_marshal.proofs.Written.{length_padding, length_values, num_1}
 use Rattle.dbus_message.proofs.Whole.{message_length}
 use Rattle.dbus_message.specs.FixedBytes.{fixed_bytes}

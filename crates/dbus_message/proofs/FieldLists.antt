@@ -4,8 +4,8 @@ use Rattle.std.proofs.lemmas.Bool.{and_parts, eq-eqb, ne_eqb}
 use Rattle.std.proofs.lemmas.List.{drop_more, drop_all}
 use Rattle.dbus_message.specs.Lookups.{field_value}
 use Rattle.dbus_message.specs.Messages.{has_code, text_in, body_signature}
-use Rattle.dbus_value.specs.PackedBytes.{keeps_bytes, keep_bytes}
-use Rattle.dbus_value.specs.ValueViews.{value_tree}
+use Rattle.dbus_value_model.specs.PackedBytes.{keeps_bytes, keep_bytes}
+use Rattle.dbus_value_model.specs.ValueViews.{value_tree}
 use Rattle.dbus_message.specs.PackedParts.{field_values}
 use Rattle.dbus_message.specs.PartsViews.{field_tree, field_trees}
 use Rattle.dbus_message.specs.declared.header_field.HeaderField.{HeaderField}

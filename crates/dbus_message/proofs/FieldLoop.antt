@@ -2,10 +2,10 @@
 use Rattle.std.proofs.Common.{◌≡◌, ℕ, zero, suc, ◌+◌, ◌-◌, ◌<◌, ◌≤◌, List, [], ◌∷◌, ◌++◌, reverse, Bool, true, false, ◌||◌, ◌&&◌, cond, ltb, eqb, Some, None, refl, sym, ap, ◌∙◌, arith, append_assoc}
 use Rattle.std.proofs.lemmas.Bool.{lt-ltb, le-ltb, eq-eqb, ne_eqb}
 use Rattle.std.proofs.lemmas.List.{append-nil, reverse-append}
-use Rattle.dbus_value.specs.declared.fault.Reason.TheVariants as reasons
-use Rattle.dbus_value.specs.Reading.{Reader, Outcome, Done, Faulty, Partial, after, pure, up_to, contents}
-use Rattle.dbus_value.specs.declared.stop.Stop.{Stop}
-use Rattle.dbus_value.specs.Gives.{Stops}
+use Rattle.dbus_value_model.specs.declared.fault.Reason.TheVariants as reasons
+use Rattle.dbus_value_model.specs.Reading.{Reader, Outcome, Done, Faulty, Partial, after, pure, up_to, contents}
+use Rattle.dbus_value_model.specs.declared.stop.Stop.{Stop}
+use Rattle.dbus_value_model.specs.Gives.{Stops}
 use Rattle.dbus_unmarshal.proofs.ReadSteps.{stops_after}
 use Rattle.dbus_message.specs.Messages.{FieldTree, has_code, is_known}
 use Rattle.dbus_message.specs.MessageItems.{code_row}

@@ -7,10 +7,10 @@ use Rattle.dbus_types.specs.Types.{TypeTree, sig}
 use Rattle.dbus_types.specs.declared.text_kind.TextKind.{TextKind}
 use Rattle.dbus_types.specs.declared.text_kind.TextKind.TheVariants as kinds
 use Rattle.dbus_types.proofs.KindFacts.{text_utf8}
-use Rattle.dbus_value.specs.declared.order.Order.{Order}
-use Rattle.dbus_value.specs.declared.fault.Reason.TheVariants as reasons
-use Rattle.dbus_value.specs.WantedTexts.{IsName, Of, Only}
-use Rattle.dbus_value.specs.Reading.{Done, value}
+use Rattle.dbus_value_model.specs.declared.order.Order.{Order}
+use Rattle.dbus_value_model.specs.declared.fault.Reason.TheVariants as reasons
+use Rattle.dbus_value_model.specs.WantedTexts.{IsName, Of, Only}
+use Rattle.dbus_value_model.specs.Reading.{Done, value}
 use Rattle.dbus_unmarshal.proofs.KindLaws.{name_is_text, spelled_sig}
 use Rattle.dbus_message.specs.Messages.{OfType, Anything}
 use Rattle.dbus_message.specs.MessageItems.{name_row}

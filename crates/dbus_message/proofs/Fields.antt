@@ -4,27 +4,27 @@ use Rattle.std.proofs.lemmas.Bool.{ltb-false, le-ltb, eqb-false, ne_eqb}
 use Rattle.std.proofs.lemmas.List.{length-append, length-replicate}
 use Rattle.dbus_types.specs.Types.{BYTE, UINT32, STRING, TypeTree, NumberType, TextType, VariantType, NoTypes, MoreTypes, sig, IsSingleType}
 use Rattle.dbus_types.proofs.KindFacts.{shaped_of}
-use Rattle.dbus_value.specs.WantedTexts.{WantedText, IsWanted, IsName}
+use Rattle.dbus_value_model.specs.WantedTexts.{WantedText, IsWanted, IsName}
 use Rattle.dbus_types.specs.ComputedKinds.{type_spelled}
-use Rattle.dbus_value.specs.declared.order.Order.{Order}
-use Rattle.dbus_value.specs.Bytes.{num, gap_to, pad}
-use Rattle.dbus_value.specs.Spelling.{ended_text, spelling, Spelled}
-use Rattle.dbus_value.specs.Values.{ValueTree, NoValues, MoreValues, NumberValue, TextValue, VariantValue, StructValue, type_of}
-use Rattle.dbus_value.specs.Items.{Item}
-use Rattle.dbus_value.specs.declared.fault.Reason.{Reason}
-use Rattle.dbus_value.specs.Items as items
-use Rattle.dbus_value.specs.ValueItems.{text_row, value}
-use Rattle.dbus_value.specs.Reading as reading
+use Rattle.dbus_value_model.specs.declared.order.Order.{Order}
+use Rattle.dbus_value_model.specs.Bytes.{num, gap_to, pad}
+use Rattle.dbus_value_model.specs.Spelling.{ended_text, spelling, Spelled}
+use Rattle.dbus_value_model.specs.Values.{ValueTree, NoValues, MoreValues, NumberValue, TextValue, VariantValue, StructValue, type_of}
+use Rattle.dbus_value_model.specs.Items.{Item}
+use Rattle.dbus_value_model.specs.declared.fault.Reason.{Reason}
+use Rattle.dbus_value_model.specs.Items as items
+use Rattle.dbus_value_model.specs.ValueItems.{text_row, value}
+use Rattle.dbus_value_model.specs.Reading as reading
 use Rattle.dbus_message.specs.Messages.{FieldTree, Want, Anything, OfType, Name, Serial, want, Suits, IsField, field_type, field_struct, is_known, has_code}
 use Rattle.dbus_message.specs.MessageItems.{name_row, not_zero_row, code_row, kind_wanted, value_wanted, field_items, field}
 use Rattle.dbus_message.specs.MessageReading as reads
-use Rattle.dbus_value.proofs.Numbers.{length-num}
+use Rattle.dbus_value_model.proofs.Numbers.{length-num}
 use Rattle.dbus_unmarshal.proofs.KindLaws.{spelled_sig, only_is, only_same, name_is_text, text_single}
 use Rattle.dbus_unmarshal.proofs.Agreement.{Agrees, Agrees-then, Agrees-before, Agrees-as}
 use Rattle.dbus_unmarshal.proofs.OwnItems.{chosen, IsOfSingles, Agrees-pure, Agrees-padding, Agrees-number, Agrees-text, Agrees-nul, Agrees-signature}
 use Rattle.dbus_unmarshal.proofs.Composition.{fits_row, number_to, number_from, text_to, text_from, variant_to, struct_to}
 use Rattle.dbus_unmarshal.proofs.ValueItemLaws.{Agrees-value, value_inside}
-use Rattle.dbus_value.specs.declared.fault.Reason.TheVariants as reasons
+use Rattle.dbus_value_model.specs.declared.fault.Reason.TheVariants as reasons
 
 -- ---- what is wanted of a code
 

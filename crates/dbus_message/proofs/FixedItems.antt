@@ -3,16 +3,16 @@ use Rattle.std.proofs.Common.{◌≡◌, ℕ, ◌+◌, ◌-◌, ◌%◌, ◌<◌
 use Rattle.std.specs.Result.{IsErrAnd}
 use Rattle.std.proofs.lemmas.Result.{err_from_is_err_and}
 use Rattle.std.proofs.lemmas.Bool.{eq-eqb, ne_eqb, lt-ltb, le-ltb}
-use Rattle.dbus_value.specs.declared.order.Order.TheVariants.{Little, Big}
-use Rattle.dbus_value.specs.declared.fault.Reason.{Reason}
-use Rattle.dbus_value.specs.declared.fault.Reason.TheVariants as reasons
-use Rattle.dbus_value.specs.Items.{fault}
-use Rattle.dbus_value.specs.Bytes.{gap_to}
-use Rattle.dbus_value.specs.Spelling.{array_limit}
-use Rattle.dbus_value.specs.Reading.{Outcome, Done, Faulty, Partial}
-use Rattle.dbus_value.specs.declared.stop.Stop.{Stop}
-use Rattle.dbus_value.specs.Gives.{Stops, Gives}
-use Rattle.dbus_value.specs.Sizes.{message_limit}
+use Rattle.dbus_value_model.specs.declared.order.Order.TheVariants.{Little, Big}
+use Rattle.dbus_value_model.specs.declared.fault.Reason.{Reason}
+use Rattle.dbus_value_model.specs.declared.fault.Reason.TheVariants as reasons
+use Rattle.dbus_value_model.specs.Items.{fault}
+use Rattle.dbus_value_model.specs.Bytes.{gap_to}
+use Rattle.dbus_value_model.specs.Spelling.{array_limit}
+use Rattle.dbus_value_model.specs.Reading.{Outcome, Done, Faulty, Partial}
+use Rattle.dbus_value_model.specs.declared.stop.Stop.{Stop}
+use Rattle.dbus_value_model.specs.Gives.{Stops, Gives}
+use Rattle.dbus_value_model.specs.Sizes.{message_limit}
 use Rattle.dbus_message.specs.MessageItems.{not_zero_row, version_row, fields_row}
 use Rattle.dbus_message.specs.MessageReading.{byte_order}
 

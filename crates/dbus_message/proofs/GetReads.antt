@@ -3,14 +3,14 @@ use Rattle.std.proofs.Common.{◌≡◌, ℕ, suc, ◌+◌, ◌<◌, ◌≤◌, 
 use Rattle.std.proofs.lemmas.List.{get_or-drop, length-drop, length-append}
 use Rattle.dbus_types.specs.Types.{TypeTree, IsSingleType, IsShaped}
 use Rattle.dbus_types.proofs.KindFacts.{shaped_of}
-use Rattle.dbus_value.specs.declared.order.Order.{Order}
-use Rattle.dbus_value.specs.declared.fault.Fault.{Fault}
-use Rattle.dbus_value.specs.Gets.{IsValuePartial}
-use Rattle.dbus_value.specs.Reading.{Outcome, Done, Faulty, Partial, value}
-use Rattle.dbus_value.specs.Bytes.{IsBytes}
-use Rattle.dbus_value.specs.Spelling.{Spelled, spelling}
-use Rattle.dbus_value.specs.Values.{ValueTree}
-use Rattle.dbus_value.specs.ValueItems as faults
+use Rattle.dbus_value_model.specs.declared.order.Order.{Order}
+use Rattle.dbus_value_model.specs.declared.fault.Fault.{Fault}
+use Rattle.dbus_value_model.specs.Gets.{IsValuePartial}
+use Rattle.dbus_value_model.specs.Reading.{Outcome, Done, Faulty, Partial, value}
+use Rattle.dbus_value_model.specs.Bytes.{IsBytes}
+use Rattle.dbus_value_model.specs.Spelling.{Spelled, spelling}
+use Rattle.dbus_value_model.specs.Values.{ValueTree}
+use Rattle.dbus_value_model.specs.ValueItems as faults
 use Rattle.dbus_unmarshal.proofs.ValueItemLaws.{positive}
 use Rattle.dbus_unmarshal.proofs.ValueOutcomes.{reads_spelled, reads_faults}
 

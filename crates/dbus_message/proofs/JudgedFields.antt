@@ -5,10 +5,10 @@ use Rattle.dbus_types.specs.Types.{TextCode, UINT32, STRING, OBJECT_PATH, SIGNAT
 use Rattle.dbus_types.specs.Kinds.{IsKind}
 use Rattle.dbus_types.specs.declared.text_kind.TextKind.{TextKind}
 use Rattle.dbus_types.specs.declared.text_kind.TextKind.TheVariants as kinds
-use Rattle.dbus_value.specs.Forming.{IsUniform, AreUniform, IsNamed, AreNamed}
-use Rattle.dbus_value.specs.Ranges.{HoldNumbers}
-use Rattle.dbus_value.specs.Values.{ValueTree, NumberValue, TextValue, VariantValue, ArrayValue, StructValue, EntryValue, type_of, value_trees, AllOf}
-use Rattle.dbus_value.specs.WantedTexts.{Of, IsName}
+use Rattle.dbus_value_model.specs.Forming.{IsUniform, AreUniform, IsNamed, AreNamed}
+use Rattle.dbus_value_model.specs.Ranges.{HoldNumbers}
+use Rattle.dbus_value_model.specs.Values.{ValueTree, NumberValue, TextValue, VariantValue, ArrayValue, StructValue, EntryValue, type_of, value_trees, AllOf}
+use Rattle.dbus_value_model.specs.WantedTexts.{Of, IsName}
 use Rattle.dbus_unmarshal.proofs.KindLaws.{name_is_text}
 use Rattle.dbus_message.specs.BuildFaults.{IsFirstWithout, IsNonzero, HasOwnType, HasOwnKind, IsOf, own_type, own_kind, twice, HoldsSound, IsFirstUnsoundField}
 use Rattle.dbus_message.specs.Messages.{FieldTree, Anything, OfType, Name, Serial, want, Suits, AreFields, field_struct, field_type, has_code, is_known, text_in}

@@ -2,18 +2,18 @@
 use Rattle.std.proofs.Common.{◌≡◌, ℕ, ◌+◌, ◌⊎◌, List, ◌++◌, length, refl, sym, ap, ◌∙◌, arith, inl, inr, append_assoc}
 use Rattle.std.proofs.lemmas.List.{length-append, length-replicate}
 use Rattle.dbus_types.specs.Types.{sig}
-use Rattle.dbus_value.specs.declared.order.Order.{Order}
-use Rattle.dbus_value.specs.declared.order.Order.TheVariants.{Little, Big}
-use Rattle.dbus_value.specs.Bytes.{IsBytes, gap_to}
-use Rattle.dbus_value.specs.Spelling.{spelling, spellings, contents_start, ended_text}
-use Rattle.dbus_value.specs.Values.{ValueTree, ValueTrees, NoValues, MoreValues, NumberValue, TextValue, VariantValue, ArrayValue, StructValue, EntryValue, type_of}
-use Rattle.dbus_value.specs.declared.fault.Fault.{Fault}
+use Rattle.dbus_value_model.specs.declared.order.Order.{Order}
+use Rattle.dbus_value_model.specs.declared.order.Order.TheVariants.{Little, Big}
+use Rattle.dbus_value_model.specs.Bytes.{IsBytes, gap_to}
+use Rattle.dbus_value_model.specs.Spelling.{spelling, spellings, contents_start, ended_text}
+use Rattle.dbus_value_model.specs.Values.{ValueTree, ValueTrees, NoValues, MoreValues, NumberValue, TextValue, VariantValue, ArrayValue, StructValue, EntryValue, type_of}
+use Rattle.dbus_value_model.specs.declared.fault.Fault.{Fault}
 use Rattle.dbus_message.specs.Messages.{MessageTree, message_bytes, field_array, fields_end, body_start, body_bytes}
 use Rattle.dbus_message.specs.MessageItems.{message_items}
-use Rattle.dbus_value.specs.Reading.{Outcome, Done, Faulty, Partial}
+use Rattle.dbus_value_model.specs.Reading.{Outcome, Done, Faulty, Partial}
 use Rattle.dbus_message.specs.MessageReading as reads
 use Rattle.dbus_message.specs.MessageLaws.{IsWhole, IsRefused, IsPartial, OneMessage, SameLength, MessageOutcome, MessageNotBoth, MessageOneFault, MessageRefusedForGood, MessageWholeForGood, ReadsMessages, ReadsMessageFaults}
-use Rattle.dbus_value.proofs.Numbers.{length-num}
+use Rattle.dbus_value_model.proofs.Numbers.{length-num}
 use Rattle.dbus_unmarshal.proofs.ValueOutcomes.{agreed_fault, agreed_either, agreed_value}
 use Rattle.dbus_message.proofs.MessageParts.{Agrees-message_items}
 use Rattle.dbus_message.proofs.Whole.{message_passed, message_length}

@@ -2,23 +2,23 @@
 use Rattle.std.proofs.Common.{◌≡◌, ℕ, suc, ◌+◌, ◌≤◌, List, [], ◌∷◌, ◌++◌, Bool, true, false, cond, ltb, eqb, Option, Some, None, refl, sym, ap, subst, ◌∙◌, inl, inr}
 use Rattle.std.proofs.lemmas.Bool.{ltb-false, le-ltb, eqb-true}
 use Rattle.dbus_types.specs.Types.{BYTE, UINT32, STRING, OBJECT_PATH, SIGNATURE, TypeTree, NumberType, TextType, VariantType, ArrayType, StructType, EntryType, TypeTrees, NoTypes, MoreTypes, sig, sigs, IsSingleType, IsShaped, AreShaped}
-use Rattle.dbus_value.specs.WantedTexts.{WantedText, IsWanted}
+use Rattle.dbus_value_model.specs.WantedTexts.{WantedText, IsWanted}
 use Rattle.dbus_types.specs.ComputedKinds.{types_spelled}
-use Rattle.dbus_value.specs.declared.order.Order.{Order}
-use Rattle.dbus_value.specs.declared.order.Order.TheVariants.{Little, Big}
-use Rattle.dbus_value.specs.Bytes.{gap_to}
-use Rattle.dbus_value.specs.Spelling.{array_limit}
-use Rattle.dbus_value.specs.Values.{IsWellFormed, ValueTree, NumberValue, TextValue, VariantValue, ArrayValue, StructValue, EntryValue, type_of}
-use Rattle.dbus_value.specs.Items.{Item, Sequence, fault, judge}
-use Rattle.dbus_value.specs.declared.fault.Fault.{Fault}
-use Rattle.dbus_value.specs.declared.fault.Reason.{Reason}
-use Rattle.dbus_value.specs.Items as items
-use Rattle.dbus_value.specs.ValueItems.{value}
-use Rattle.dbus_value.specs.ValueItems as faults
-use Rattle.dbus_value.specs.Reading.{Reader, Outcome, Done, Faulty, Partial}
-use Rattle.dbus_value.specs.Reading as reading
+use Rattle.dbus_value_model.specs.declared.order.Order.{Order}
+use Rattle.dbus_value_model.specs.declared.order.Order.TheVariants.{Little, Big}
+use Rattle.dbus_value_model.specs.Bytes.{gap_to}
+use Rattle.dbus_value_model.specs.Spelling.{array_limit}
+use Rattle.dbus_value_model.specs.Values.{IsWellFormed, ValueTree, NumberValue, TextValue, VariantValue, ArrayValue, StructValue, EntryValue, type_of}
+use Rattle.dbus_value_model.specs.Items.{Item, Sequence, fault, judge}
+use Rattle.dbus_value_model.specs.declared.fault.Fault.{Fault}
+use Rattle.dbus_value_model.specs.declared.fault.Reason.{Reason}
+use Rattle.dbus_value_model.specs.Items as items
+use Rattle.dbus_value_model.specs.ValueItems.{value}
+use Rattle.dbus_value_model.specs.ValueItems as faults
+use Rattle.dbus_value_model.specs.Reading.{Reader, Outcome, Done, Faulty, Partial}
+use Rattle.dbus_value_model.specs.Reading as reading
 use Rattle.dbus_message.specs.Messages.{FieldTree, Suits, want, order_byte, lacks, required, text_in, body_signature}
-use Rattle.dbus_value.specs.Sizes.{message_limit}
+use Rattle.dbus_value_model.specs.Sizes.{message_limit}
 use Rattle.dbus_message.specs.MessageItems.{no_row, not_zero_row, version_row, fields_row, field, byte_order, types_of_text, body_items, message_items}
 use Rattle.dbus_message.specs.MessageReading as reads
 use Rattle.dbus_unmarshal.proofs.KindLaws.{signature_text, spelled_sigs}
@@ -27,7 +27,7 @@ use Rattle.dbus_unmarshal.proofs.OwnItems.{chosen, same_fault, Agrees-pure, Agre
 use Rattle.dbus_unmarshal.proofs.Contents.{Agrees-contents}
 use Rattle.dbus_unmarshal.proofs.ValueItemLaws.{Agrees-value, value_inside, agrees_fields}
 use Rattle.dbus_message.proofs.Fields.{Agrees-field, field_moves}
-use Rattle.dbus_value.specs.declared.fault.Reason.TheVariants as reasons
+use Rattle.dbus_value_model.specs.declared.fault.Reason.TheVariants as reasons
 
 -- ---- rows
 
@@ -117,7 +117,7 @@ signature_value : (inner : ℕ) (v : ValueTree) → type_of v ≡ TextType SIGNA
 signature_value inner (NumberValue k n) e h = absurd cc
 signature_value inner (TextValue k t) e h =
     let same : k ≡ SIGNATURE = cc in
-    signature_text t (subst (λ (u : Rattle.dbus_types.specs.Types.TextCode). IsWanted (Rattle.dbus_value.specs.WantedTexts.kind_of u) t) same h.0)
+    signature_text t (subst (λ (u : Rattle.dbus_types.specs.Types.TextCode). IsWanted (Rattle.dbus_value_model.specs.WantedTexts.kind_of u) t) same h.0)
 signature_value inner (VariantValue x) e h = absurd cc
 signature_value inner (ArrayValue t xs) e h = absurd cc
 signature_value inner (StructValue xs) e h = absurd cc

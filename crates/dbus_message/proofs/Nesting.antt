@@ -1,7 +1,7 @@
 -- How deep the fields of a header nest, one behind the other.
 use Rattle.std.proofs.Common.{◌≡◌, ℕ, ◌+◌, ◌<◌, List, length, get_or, drop, sym, subst}
-use Rattle.dbus_value.specs.Forming.{NestsWithin, NestWithin}
-use Rattle.dbus_value.specs.ValueViews.{value_tree}
+use Rattle.dbus_value_model.specs.Forming.{NestsWithin, NestWithin}
+use Rattle.dbus_value_model.specs.ValueViews.{value_tree}
 use Rattle.dbus_message.specs.declared.header_field.HeaderField.{HeaderField}
 use Rattle.dbus_message.proofs.FieldWriting.{structs}
 use Rattle.dbus_message.proofs.PartSizes.{structs_from}

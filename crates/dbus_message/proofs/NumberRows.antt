@@ -1,13 +1,13 @@
 -- A number's own row, looked at behind the number.
 use Rattle.std.proofs.Common.{◌≡◌, ℕ, ◌+◌, List, length, take, drop, Bool, true, false, cond, ltb, Option, Some, None, refl, ap, ◌∙◌}
-use Rattle.dbus_value.specs.declared.order.Order.{Order}
-use Rattle.dbus_value.specs.declared.fault.Reason.{Reason}
-use Rattle.dbus_value.specs.declared.fault.Reason.TheVariants as reasons
-use Rattle.dbus_value.specs.Items.{fault}
-use Rattle.dbus_value.specs.Reading.{Outcome, Done, Faulty, Partial, judged, number, number_of}
-use Rattle.dbus_value.specs.declared.stop.Stop.{Stop}
-use Rattle.dbus_value.specs.declared.stop.Stop.TheVariants as stops
-use Rattle.dbus_value.specs.Gives.{Stops}
+use Rattle.dbus_value_model.specs.declared.order.Order.{Order}
+use Rattle.dbus_value_model.specs.declared.fault.Reason.{Reason}
+use Rattle.dbus_value_model.specs.declared.fault.Reason.TheVariants as reasons
+use Rattle.dbus_value_model.specs.Items.{fault}
+use Rattle.dbus_value_model.specs.Reading.{Outcome, Done, Faulty, Partial, judged, number, number_of}
+use Rattle.dbus_value_model.specs.declared.stop.Stop.{Stop}
+use Rattle.dbus_value_model.specs.declared.stop.Stop.TheVariants as stops
+use Rattle.dbus_value_model.specs.Gives.{Stops}
 use Rattle.dbus_message.specs.MessageItems.{no_row}
 
 -- what `number` is, over plain variables

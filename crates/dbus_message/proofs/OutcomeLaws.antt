@@ -1,9 +1,9 @@
 -- The laws of the three outcomes at the limit of 64 open containers, and what readers of streams take from them.
 use Rattle.std.proofs.Common.{◌≡◌, ℕ, ◌<◌, ◌≤◌, List, [], ◌++◌, length, take, drop, refl, sym, ap, ◌∙◌, arith}
 use Rattle.std.proofs.lemmas.List.{length-append, take_at, drop_at}
-use Rattle.dbus_value.specs.declared.order.Order.{Order}
-use Rattle.dbus_value.specs.declared.fault.Fault.{Fault}
-use Rattle.dbus_value.specs.Reading.{Faulty, Partial}
+use Rattle.dbus_value_model.specs.declared.order.Order.{Order}
+use Rattle.dbus_value_model.specs.declared.fault.Fault.{Fault}
+use Rattle.dbus_value_model.specs.Reading.{Faulty, Partial}
 use Rattle.dbus_message.specs.Messages.{MessageTree, message_bytes}
 use Rattle.dbus_message.specs.MessageReading as reads
 use Rattle.dbus_message.specs.ValidMessages.{room_in_field, IsValidMessage}

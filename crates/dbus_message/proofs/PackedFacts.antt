@@ -3,10 +3,10 @@ use Rattle.std.proofs.Common.{◌≡◌, ℕ, ◌+◌, Bool, true, false, if◌t
 use Rattle.std.specs.Prelude.{nat_eq}
 use Rattle.std.proofs.lemmas.Bool.{and_from}
 use Rattle.dbus_types.specs.Types.{TypeTree, NumberType, TextType, VariantType, ArrayType, StructType, EntryType, UINT32, STRING, OBJECT_PATH, SIGNATURE}
-use Rattle.dbus_value.specs.PackedBytes.{keeps_bytes, keep_bytes}
-use Rattle.dbus_value.specs.Values.{type_of}
-use Rattle.dbus_value.specs.ValueViews.{value_tree}
-use Rattle.dbus_value.specs.declared.value.Value.{Value, the_lemmas}
+use Rattle.dbus_value_model.specs.PackedBytes.{keeps_bytes, keep_bytes}
+use Rattle.dbus_value_model.specs.Values.{type_of}
+use Rattle.dbus_value_model.specs.ValueViews.{value_tree}
+use Rattle.dbus_value_model.specs.declared.value.Value.{Value, the_lemmas}
 use Rattle.dbus_message.specs.BuildFaults.{IsFirstWithout, HasOwnType, HoldsSound, own_type, IsFirstUnsoundField, IsFirstUnsound, NoFault}
 use Rattle.dbus_message.specs.Messages.{is_known}
 use Rattle.dbus_message.specs.PackedParts.{field_values, PartsKeepBytes}

@@ -3,13 +3,13 @@ use Rattle.std.proofs.Common.{◌≡◌, ℕ, ◌+◌, ◌<◌, ◌≤◌, List,
 use Rattle.std.proofs.Math.Decide.{dec_lt}
 use Rattle.std.proofs.lemmas.List.{length-append}
 use Rattle.dbus_marshal.proofs.Capping.{capped-near, capped-tells}
-use Rattle.dbus_value.specs.declared.order.Order.TheVariants.{Little}
-use Rattle.dbus_value.specs.Measures.{capped, IsMeasured, AreMeasured}
-use Rattle.dbus_value.specs.Ranges.{HoldsNumbers}
-use Rattle.dbus_value.specs.Sizes.{message_limit}
-use Rattle.dbus_value.specs.Spelling.{spelling, spellings, array_limit, AreWithinLimits}
-use Rattle.dbus_value.specs.Values.{ValueTree, ValueTrees, NoValues, MoreValues, value_trees}
-use Rattle.dbus_value.specs.ValueViews.{value_tree}
+use Rattle.dbus_value_model.specs.declared.order.Order.TheVariants.{Little}
+use Rattle.dbus_value_model.specs.Measures.{capped, IsMeasured, AreMeasured}
+use Rattle.dbus_value_model.specs.Ranges.{HoldsNumbers}
+use Rattle.dbus_value_model.specs.Sizes.{message_limit}
+use Rattle.dbus_value_model.specs.Spelling.{spelling, spellings, array_limit, AreWithinLimits}
+use Rattle.dbus_value_model.specs.Values.{ValueTree, ValueTrees, NoValues, MoreValues, value_trees}
+use Rattle.dbus_value_model.specs.ValueViews.{value_tree}
 use Rattle.dbus_message.specs.Messages.{FieldTree, field_struct}
 use Rattle.dbus_message.specs.MessageSizes.{IsFieldEnd, AreFieldEnds, HoldFieldNumbers}
 use Rattle.dbus_message.specs.PartsViews.{field_tree, field_trees}

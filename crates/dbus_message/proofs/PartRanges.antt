@@ -3,13 +3,13 @@ use Rattle.std.proofs.Common.{ℕ, ◌+◌, ◌≤◌, List, [], ◌∷◌, ◌+
 use Rattle.std.proofs.lemmas.List.{length-append}
 use Rattle.dbus_types.specs.Types.{TypeTree, TextCode, STRING, OBJECT_PATH, SIGNATURE, sig}
 use Rattle.dbus_types.specs.Alignments.{length_width, alignment_of}
-use Rattle.dbus_value.specs.Bytes.{gap_to, num, pad}
-use Rattle.dbus_value.specs.declared.order.Order.TheVariants.{Little}
-use Rattle.dbus_value.specs.Forming.{IsUniform, AreUniform, IsNamed, AreNamed, IsRanged, AreRanged}
-use Rattle.dbus_value.specs.Ranges.{HoldsNumbers, HoldNumbers}
-use Rattle.dbus_value.specs.ShortSignatures.{HasShortSignatures, HaveShortSignatures}
-use Rattle.dbus_value.specs.Spelling.{spelling, spellings, contents_start, ended_text}
-use Rattle.dbus_value.specs.Values.{ValueTree, ValueTrees, NoValues, MoreValues, NumberValue, TextValue, VariantValue, ArrayValue, StructValue, EntryValue, type_of}
+use Rattle.dbus_value_model.specs.Bytes.{gap_to, num, pad}
+use Rattle.dbus_value_model.specs.declared.order.Order.TheVariants.{Little}
+use Rattle.dbus_value_model.specs.Forming.{IsUniform, AreUniform, IsNamed, AreNamed, IsRanged, AreRanged}
+use Rattle.dbus_value_model.specs.Ranges.{HoldsNumbers, HoldNumbers}
+use Rattle.dbus_value_model.specs.ShortSignatures.{HasShortSignatures, HaveShortSignatures}
+use Rattle.dbus_value_model.specs.Spelling.{spelling, spellings, contents_start, ended_text}
+use Rattle.dbus_value_model.specs.Values.{ValueTree, ValueTrees, NoValues, MoreValues, NumberValue, TextValue, VariantValue, ArrayValue, StructValue, EntryValue, type_of}
 
 behind : (a b : List ℕ) → length b ≤ length (a ++ b)
 behind a b = omega (arith, length-append a b)

@@ -1,6 +1,6 @@
 -- Where the parts of a message end.
 use Rattle.std.proofs.Common.{◌≡◌, ℕ, ◌+◌, ◌<◌, ◌≤◌, List, length, get_or, drop, map, ap}
-use Rattle.dbus_value.specs.Values.{NoValues, MoreValues, value_trees}
+use Rattle.dbus_value_model.specs.Values.{NoValues, MoreValues, value_trees}
 use Rattle.dbus_message.specs.Messages.{FieldTree, field_struct}
 use Rattle.dbus_message.specs.PartsViews.{field_tree}
 use Rattle.dbus_message.specs.declared.header_field.HeaderField.{HeaderField}

@@ -1,11 +1,11 @@
 -- A message read in parts is read as a whole.
 use Rattle.std.proofs.Common.{◌≡◌, ℕ, zero, suc, ◌+◌, List, [], ◌∷◌, Bool, true, false, cond, ltb, refl, ap, ◌∙◌}
 use Rattle.dbus_types.specs.Types.{TypeTree}
-use Rattle.dbus_value.specs.declared.order.Order.{Order}
-use Rattle.dbus_value.specs.declared.fault.Reason.TheVariants as reasons
-use Rattle.dbus_value.specs.Values.{ValueTree}
-use Rattle.dbus_value.specs.ValueItems.{text_row}
-use Rattle.dbus_value.specs.Reading.{Reader, Outcome, Done, Faulty, Partial, after, pure, padding, number, signature, nul, contents, up_to, stop}
+use Rattle.dbus_value_model.specs.declared.order.Order.{Order}
+use Rattle.dbus_value_model.specs.declared.fault.Reason.TheVariants as reasons
+use Rattle.dbus_value_model.specs.Values.{ValueTree}
+use Rattle.dbus_value_model.specs.ValueItems.{text_row}
+use Rattle.dbus_value_model.specs.Reading.{Reader, Outcome, Done, Faulty, Partial, after, pure, padding, number, signature, nul, contents, up_to, stop}
 use Rattle.dbus_message.specs.Messages.{FieldTree, want}
 use Rattle.dbus_message.specs.MessageItems.{no_row, not_zero_row, version_row, fields_row, code_row, kind_wanted}
 use Rattle.dbus_message.specs.MessageReading as reads

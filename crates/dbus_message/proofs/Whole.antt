@@ -3,22 +3,22 @@ use Rattle.std.proofs.Common.{◌≡◌, ℕ, suc, ◌+◌, ◌^◌, ◌<◌, �
 use Rattle.std.proofs.lemmas.List.{length-append, length-replicate}
 use Rattle.dbus_types.specs.Types.{TypeTrees, sigs, AreShaped}
 use Rattle.dbus_types.specs.ComputedKinds.{types_spelled}
-use Rattle.dbus_value.specs.declared.order.Order.{Order}
-use Rattle.dbus_value.specs.Bytes.{num, gap_to, pad}
-use Rattle.dbus_value.specs.Spelling.{spelling, spellings, SpelledAll, array_limit, IsWithinLimits, AreWithinLimits}
-use Rattle.dbus_value.specs.Values.{AllOf, value_trees, ValueTrees, types_of}
-use Rattle.dbus_value.specs.Items.{Sequence}
-use Rattle.dbus_value.specs.ValueItems.{value}
+use Rattle.dbus_value_model.specs.declared.order.Order.{Order}
+use Rattle.dbus_value_model.specs.Bytes.{num, gap_to, pad}
+use Rattle.dbus_value_model.specs.Spelling.{spelling, spellings, SpelledAll, array_limit, IsWithinLimits, AreWithinLimits}
+use Rattle.dbus_value_model.specs.Values.{AllOf, value_trees, ValueTrees, types_of}
+use Rattle.dbus_value_model.specs.Items.{Sequence}
+use Rattle.dbus_value_model.specs.ValueItems.{value}
 use Rattle.dbus_message.specs.Messages.{FieldTree, MessageTree, AreFields, field_type, field_struct, field_array, fields_end, body_start, body_bytes, message_bytes, order_byte, lacks, required, body_signature, IsMessage}
-use Rattle.dbus_value.specs.Sizes.{message_limit}
+use Rattle.dbus_value_model.specs.Sizes.{message_limit}
 use Rattle.dbus_message.specs.MessageItems.{field, message_items}
-use Rattle.dbus_value.proofs.Numbers.{length-num}
+use Rattle.dbus_value_model.proofs.Numbers.{length-num}
 use Rattle.dbus_unmarshal.proofs.KindLaws.{spelled_sigs}
 use Rattle.dbus_unmarshal.proofs.Composition.{all_none, all_more, all_parts, fields_to, fields_from}
 use Rattle.dbus_unmarshal.proofs.ValueItemLaws.{value_inside}
 use Rattle.dbus_message.proofs.Fields.{not_zero_fits, fits_not_zero}
 use Rattle.dbus_message.proofs.MessageParts.{judge_passed, passes_judge, version_fits, fields_row_fits, fits_fields_row, field_signature}
-use Rattle.dbus_value.specs.declared.fault.Reason.TheVariants as reasons
+use Rattle.dbus_value_model.specs.declared.fault.Reason.TheVariants as reasons
 
 -- ---- the field array
 

@@ -3,17 +3,17 @@
 use Rattle.std.proofs.Common.{◌≡◌, ℕ, List, [], ◌∷◌, refl}
 use Rattle.dbus_types.specs.ComputedKinds as computed
 use Rattle.dbus_types.specs.ComputedKinds.{type_spelled, types_spelled, parse, parses}
-use Rattle.dbus_value.specs.WantedTexts.{is_kind, break_at}
-use Rattle.dbus_value.specs.declared.order.Order.{Order}
-use Rattle.dbus_value.specs.declared.order.Order.TheVariants.{Little, Big}
-use Rattle.dbus_value.specs.declared.fault.Fault.{Fault}
-use Rattle.dbus_value.specs.declared.fault.Reason.TheVariants as reasons
-use Rattle.dbus_value.specs.Bytes.{gap_to}
-use Rattle.dbus_value.specs.Spelling.{array_limit}
-use Rattle.dbus_value.specs.Items.{fault}
-use Rattle.dbus_value.specs.Reading.{Outcome, Done, Faulty, Partial, padding, number, number_of, text, ends, value}
+use Rattle.dbus_value_model.specs.WantedTexts.{is_kind, break_at}
+use Rattle.dbus_value_model.specs.declared.order.Order.{Order}
+use Rattle.dbus_value_model.specs.declared.order.Order.TheVariants.{Little, Big}
+use Rattle.dbus_value_model.specs.declared.fault.Fault.{Fault}
+use Rattle.dbus_value_model.specs.declared.fault.Reason.TheVariants as reasons
+use Rattle.dbus_value_model.specs.Bytes.{gap_to}
+use Rattle.dbus_value_model.specs.Spelling.{array_limit}
+use Rattle.dbus_value_model.specs.Items.{fault}
+use Rattle.dbus_value_model.specs.Reading.{Outcome, Done, Faulty, Partial, padding, number, number_of, text, ends, value}
 use Rattle.dbus_message.specs.Messages.{MessageTree}
-use Rattle.dbus_value.specs.Sizes.{message_limit}
+use Rattle.dbus_value_model.specs.Sizes.{message_limit}
 use Rattle.dbus_message.specs.MessageReading.{message, byte_order}
 
 data Answer : Type 0 where

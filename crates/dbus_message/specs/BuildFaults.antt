@@ -5,15 +5,15 @@ use Rattle.dbus_types.specs.Types.{UINT32, STRING, OBJECT_PATH, SIGNATURE, TypeT
 use Rattle.dbus_types.specs.declared.text_kind.TextKind.{TextKind}
 use Rattle.dbus_types.specs.declared.text_kind.TextKind.TheVariants as kinds
 use Rattle.dbus_types.specs.Kinds.{IsKind}
-use Rattle.dbus_value.specs.declared.order.Order.TheVariants.{Little}
-use Rattle.dbus_value.specs.declared.fault.Reason.TheVariants as reasons
-use Rattle.dbus_value.specs.Checks.{IsTyped}
-use Rattle.dbus_value.specs.Forming.{NestsWithin, NestWithin, IsNamed}
-use Rattle.dbus_value.specs.Values.{NumberValue, type_of, types_of}
-use Rattle.dbus_value.specs.ValueViews.{value_tree}
-use Rattle.dbus_value.specs.declared.value.Value.{Value}
-use Rattle.dbus_value.specs.Spelling.{IsWithinLimits, AreWithinLimits}
-use Rattle.dbus_value.specs.Sizes.{message_limit}
+use Rattle.dbus_value_model.specs.declared.order.Order.TheVariants.{Little}
+use Rattle.dbus_value_model.specs.declared.fault.Reason.TheVariants as reasons
+use Rattle.dbus_value_model.specs.Checks.{IsTyped}
+use Rattle.dbus_value_model.specs.Forming.{NestsWithin, NestWithin, IsNamed}
+use Rattle.dbus_value_model.specs.Values.{NumberValue, type_of, types_of}
+use Rattle.dbus_value_model.specs.ValueViews.{value_tree}
+use Rattle.dbus_value_model.specs.declared.value.Value.{Value}
+use Rattle.dbus_value_model.specs.Spelling.{IsWithinLimits, AreWithinLimits}
+use Rattle.dbus_value_model.specs.Sizes.{message_limit}
 use Rattle.dbus_message.specs.Messages.{FieldTree, MessageTree, field_array, body_start, message_bytes, has_code, is_known, lacks, required, text_in, body_signature}
 use Rattle.dbus_message.specs.PartsViews.{parts_tree}
 use Rattle.dbus_message.specs.MessageViews.{message_tree}

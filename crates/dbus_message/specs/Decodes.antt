@@ -1,8 +1,8 @@
 -- What decoding answers.
 -- D-Bus Specification, "Message Protocol".
 use Rattle.std.specs.Prelude.{ℕ, List, Result, Ok, Err}
-use Rattle.dbus_value.specs.declared.fault.Refusal.{Refusal}
-use Rattle.dbus_value.specs.declared.fault.Refusal.TheVariants.{Memory, Format}
+use Rattle.dbus_value_model.specs.declared.fault.Refusal.{Refusal}
+use Rattle.dbus_value_model.specs.declared.fault.Refusal.TheVariants.{Memory, Format}
 use Rattle.dbus_message.specs.declared.answer.Answer.{Answer}
 use Rattle.dbus_message.specs.declared.answer.Answer.TheVariants.{Whole, Partial}
 use Rattle.dbus_message.specs.MessageOutcomes.{IsWhole, IsRefused, IsPartial}

@@ -3,12 +3,12 @@
 use Rattle.std.specs.Prelude.{ℕ, suc, List}
 use Rattle.dbus_types.specs.Types.{TypeTree, TypeTrees}
 use Rattle.dbus_types.specs.ComputedKinds.{types_spelled}
-use Rattle.dbus_value.specs.declared.order.Order.{Order}
-use Rattle.dbus_value.specs.declared.fault.Reason.TheVariants as reasons
-use Rattle.dbus_value.specs.Values.{ValueTree, ValueTrees}
-use Rattle.dbus_value.specs.ValueItems.{text_row}
-use Rattle.dbus_value.specs.WantedTexts.{WantedText}
-use Rattle.dbus_value.specs.Reading.{Reader, ◌>>=◌, ◌>>◌, pure, judge, bounded, padding, number, signature, nul, contents}
+use Rattle.dbus_value_model.specs.declared.order.Order.{Order}
+use Rattle.dbus_value_model.specs.declared.fault.Reason.TheVariants as reasons
+use Rattle.dbus_value_model.specs.Values.{ValueTree, ValueTrees}
+use Rattle.dbus_value_model.specs.ValueItems.{text_row}
+use Rattle.dbus_value_model.specs.WantedTexts.{WantedText}
+use Rattle.dbus_value_model.specs.Reading.{Reader, ◌>>=◌, ◌>>◌, pure, judge, bounded, padding, number, signature, nul, contents}
 use Rattle.dbus_message.specs.Messages.{FieldTree, MessageTree, Want, want, lacks, required, body_signature}
 use Rattle.dbus_message.specs.MessageItems.{no_row, not_zero_row, version_row, fields_row, code_row, kind_wanted}
 use Rattle.dbus_message.specs.MessageReading.{byte_order, value_wanted, body_items}

@@ -1,7 +1,7 @@
 -- The first field of a code, and the body's values by number.
 -- D-Bus Specification, "Header Fields" and "Message Format".
 use Rattle.std.specs.Prelude.{ℕ, zero, suc, List, [], ◌∷◌, nat_eq, if◌then◌else◌, Option, Some, None}
-use Rattle.dbus_value.specs.Values.{ValueTree, ValueTrees, NoValues, MoreValues}
+use Rattle.dbus_value_model.specs.Values.{ValueTree, ValueTrees, NoValues, MoreValues}
 use Rattle.dbus_message.specs.Messages.{FieldTree}
 
 abbrev pub field_value : ℕ → List FieldTree → Option ValueTree

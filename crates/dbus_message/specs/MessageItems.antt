@@ -2,17 +2,17 @@
 -- D-Bus Specification, "Message Format" and "Header Fields"; docs/WIRE-FORMAT.md, "Messages" and "Faults".
 use Rattle.std.specs.Prelude.{◌≡◌, ℕ, suc, ◌+◌, List, ◌∷◌, false, ◌&&◌, if◌then◌else◌, nat_lt, nat_eq, Option, Some, None}
 use Rattle.dbus_types.specs.Types.{UINT32, STRING, TypeTree, NumberType, TextType, TypeTrees, sig, sigs, AreShaped}
-use Rattle.dbus_value.specs.WantedTexts.{WantedText, Of, Only}
-use Rattle.dbus_value.specs.declared.order.Order.{Order}
-use Rattle.dbus_value.specs.Bytes.{gap_to}
-use Rattle.dbus_value.specs.Values.{ValueTree, ValueTrees, NumberValue, TextValue}
-use Rattle.dbus_value.specs.Spelling.{Spelled, array_limit}
-use Rattle.dbus_value.specs.Items.{Item, ◌>>=◌, ◌>>◌, pure, judge, bounded, ends, padding, number, text, nul, signature, contents, fault}
-use Rattle.dbus_value.specs.declared.fault.Reason.{Reason}
-use Rattle.dbus_value.specs.ValueItems.{text_row, value, fields}
+use Rattle.dbus_value_model.specs.WantedTexts.{WantedText, Of, Only}
+use Rattle.dbus_value_model.specs.declared.order.Order.{Order}
+use Rattle.dbus_value_model.specs.Bytes.{gap_to}
+use Rattle.dbus_value_model.specs.Values.{ValueTree, ValueTrees, NumberValue, TextValue}
+use Rattle.dbus_value_model.specs.Spelling.{Spelled, array_limit}
+use Rattle.dbus_value_model.specs.Items.{Item, ◌>>=◌, ◌>>◌, pure, judge, bounded, ends, padding, number, text, nul, signature, contents, fault}
+use Rattle.dbus_value_model.specs.declared.fault.Reason.{Reason}
+use Rattle.dbus_value_model.specs.ValueItems.{text_row, value, fields}
 use Rattle.dbus_message.specs.Messages.{FieldTree, MessageTree, order_byte, field_type, field_struct, Want, Anything, OfType, Name, Serial, want, is_known, has_code, IsField, lacks, required, body_signature}
-use Rattle.dbus_value.specs.Sizes.{message_limit}
-use Rattle.dbus_value.specs.declared.fault.Reason.TheVariants as reasons
+use Rattle.dbus_value_model.specs.Sizes.{message_limit}
+use Rattle.dbus_value_model.specs.declared.fault.Reason.TheVariants as reasons
 use Rattle.dbus_types.specs.declared.text_kind.TextKind.TheVariants as kinds
 
 abbrev pub no_row : ℕ → ℕ → Option Reason

@@ -2,13 +2,13 @@
 -- field's value: the limit on open containers, less the field array, the field's struct and its variant.
 -- D-Bus Specification, "Message Format".
 use Rattle.std.specs.Prelude.{◌≡◌, ℕ, ◌↔◌, ◌⊎◌, List, ◌++◌, length}
-use Rattle.dbus_value.specs.declared.order.Order.{Order}
-use Rattle.dbus_value.specs.declared.order.Order.TheVariants.{Little, Big}
-use Rattle.dbus_value.specs.Bytes.{IsBytes}
-use Rattle.dbus_value.specs.declared.fault.Fault.{Fault}
+use Rattle.dbus_value_model.specs.declared.order.Order.{Order}
+use Rattle.dbus_value_model.specs.declared.order.Order.TheVariants.{Little, Big}
+use Rattle.dbus_value_model.specs.Bytes.{IsBytes}
+use Rattle.dbus_value_model.specs.declared.fault.Fault.{Fault}
 use Rattle.dbus_message.specs.Messages.{MessageTree, message_bytes, IsMessage}
 use Rattle.dbus_message.specs.MessageItems.{message_items}
-use Rattle.dbus_value.specs.Reading.{Done, Faulty}
+use Rattle.dbus_value_model.specs.Reading.{Done, Faulty}
 use Rattle.dbus_message.specs.MessageReading as reads
 
 -- the bytes begin with a message of n bytes

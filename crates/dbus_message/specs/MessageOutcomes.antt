@@ -1,8 +1,8 @@
 -- The three outcomes of bytes, at the limit of 64 open containers: they begin with a message, or are refused, or neither.
 -- D-Bus Specification, "Message Protocol".
 use Rattle.std.specs.Prelude.{ℕ, List}
-use Rattle.dbus_value.specs.declared.order.Order.{Order}
-use Rattle.dbus_value.specs.declared.fault.Fault.{Fault}
+use Rattle.dbus_value_model.specs.declared.order.Order.{Order}
+use Rattle.dbus_value_model.specs.declared.fault.Fault.{Fault}
 use Rattle.dbus_message.specs.Messages.{MessageTree}
 use Rattle.dbus_message.specs.MessageLaws as within
 use Rattle.dbus_message.specs.ValidMessages.{room_in_field}

@@ -4,15 +4,15 @@
 use Rattle.std.specs.Prelude.{ℕ, suc, ◌+◌, List, [], ◌∷◌, if◌then◌else◌, nat_eq}
 use Rattle.dbus_types.specs.Types.{UINT32, STRING, TypeTree, TypeTrees}
 use Rattle.dbus_types.specs.ComputedKinds.{types_spelled}
-use Rattle.dbus_value.specs.declared.order.Order.{Order}
-use Rattle.dbus_value.specs.declared.order.Order.TheVariants.{Little, Big}
-use Rattle.dbus_value.specs.Values.{ValueTree, ValueTrees, NumberValue, TextValue}
-use Rattle.dbus_value.specs.Items.{fault}
-use Rattle.dbus_value.specs.ValueItems.{text_row}
-use Rattle.dbus_value.specs.Reading.{Reader, Outcome, Done, Faulty, Partial, ◌>>=◌, ◌>>◌, pure, judge, bounded, ends, padding, number, text, nul, signature, contents, value, fields}
+use Rattle.dbus_value_model.specs.declared.order.Order.{Order}
+use Rattle.dbus_value_model.specs.declared.order.Order.TheVariants.{Little, Big}
+use Rattle.dbus_value_model.specs.Values.{ValueTree, ValueTrees, NumberValue, TextValue}
+use Rattle.dbus_value_model.specs.Items.{fault}
+use Rattle.dbus_value_model.specs.ValueItems.{text_row}
+use Rattle.dbus_value_model.specs.Reading.{Reader, Outcome, Done, Faulty, Partial, ◌>>=◌, ◌>>◌, pure, judge, bounded, ends, padding, number, text, nul, signature, contents, value, fields}
 use Rattle.dbus_message.specs.Messages.{FieldTree, MessageTree, Want, Anything, OfType, Name, Serial, want, lacks, required, body_signature}
 use Rattle.dbus_message.specs.MessageItems.{no_row, not_zero_row, version_row, name_row, fields_row, code_row, kind_wanted}
-use Rattle.dbus_value.specs.declared.fault.Reason.TheVariants as reasons
+use Rattle.dbus_value_model.specs.declared.fault.Reason.TheVariants as reasons
 
 abbrev pub value_wanted : Order → ℕ → ℕ → Want → TypeTree → Reader ValueTree
 value_wanted order inner end Anything t = value order inner end t

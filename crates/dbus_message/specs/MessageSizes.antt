@@ -1,10 +1,10 @@
 -- Where the fields of a header end, and the numbers that parts hold.
 -- D-Bus Specification, "Marshaling (Wire Format)" and "Message Format".
 use Rattle.std.specs.Prelude.{◌≡◌, ℕ, ◌+◌, ◌^◌, ◌<◌, ◌≤◌, List, [], ◌∷◌, length, map, Option, Some, None}
-use Rattle.dbus_value.specs.declared.order.Order.TheVariants.{Little}
-use Rattle.dbus_value.specs.Ranges.{HoldsNumbers, HoldNumbers}
-use Rattle.dbus_value.specs.Spelling.{spelling, spellings, array_limit, IsWithinLimits, AreWithinLimits}
-use Rattle.dbus_value.specs.Values.{value_trees}
+use Rattle.dbus_value_model.specs.declared.order.Order.TheVariants.{Little}
+use Rattle.dbus_value_model.specs.Ranges.{HoldsNumbers, HoldNumbers}
+use Rattle.dbus_value_model.specs.Spelling.{spelling, spellings, array_limit, IsWithinLimits, AreWithinLimits}
+use Rattle.dbus_value_model.specs.Values.{value_trees}
 use Rattle.dbus_message.specs.Messages.{FieldTree, MessageTree, field_struct}
 
 -- The end n, where what stands before it keeps the limits on arrays and it is not past the end of the longest field array;

@@ -2,15 +2,15 @@
 -- D-Bus Specification, "Message Format" and "Header Fields".
 use Rattle.std.specs.Prelude.{◌≡◌, ℕ, suc, ◌+◌, ◌^◌, ◌<◌, ◌≤◌, List, [], ◌∷◌, ◌++◌, length, map, Bool, false, ◌||◌, ◌&&◌, nat_eq, nat_lt, if◌then◌else◌, Option, Some, None}
 use Rattle.dbus_types.specs.Types.{BYTE, UINT32, STRING, OBJECT_PATH, SIGNATURE, TypeTree, NumberType, TextType, VariantType, StructType, NoTypes, MoreTypes, sigs}
-use Rattle.dbus_value.specs.Sizes.{message_limit}
-use Rattle.dbus_value.specs.WantedTexts.{WantedText, IsWanted, Of}
-use Rattle.dbus_value.specs.declared.order.Order.{Order}
-use Rattle.dbus_value.specs.declared.order.Order.TheVariants.{Little, Big}
-use Rattle.dbus_value.specs.Bytes.{num, gap_to, pad}
-use Rattle.dbus_value.specs.Values.{value_trees, ValueTrees, NoValues, MoreValues, ValueTree, NumberValue, TextValue, VariantValue, ArrayValue, StructValue, EntryValue, types_of, type_of, IsWellFormed, AreWellFormed}
-use Rattle.dbus_value.specs.Spelling.{spelling, spellings, IsWithinLimits, AreWithinLimits}
-use Rattle.dbus_value.specs.declared.fault.Reason.{Reason}
-use Rattle.dbus_value.specs.declared.fault.Reason.TheVariants as reasons
+use Rattle.dbus_value_model.specs.Sizes.{message_limit}
+use Rattle.dbus_value_model.specs.WantedTexts.{WantedText, IsWanted, Of}
+use Rattle.dbus_value_model.specs.declared.order.Order.{Order}
+use Rattle.dbus_value_model.specs.declared.order.Order.TheVariants.{Little, Big}
+use Rattle.dbus_value_model.specs.Bytes.{num, gap_to, pad}
+use Rattle.dbus_value_model.specs.Values.{value_trees, ValueTrees, NoValues, MoreValues, ValueTree, NumberValue, TextValue, VariantValue, ArrayValue, StructValue, EntryValue, types_of, type_of, IsWellFormed, AreWellFormed}
+use Rattle.dbus_value_model.specs.Spelling.{spelling, spellings, IsWithinLimits, AreWithinLimits}
+use Rattle.dbus_value_model.specs.declared.fault.Reason.{Reason}
+use Rattle.dbus_value_model.specs.declared.fault.Reason.TheVariants as reasons
 use Rattle.dbus_types.specs.declared.text_kind.TextKind.TheVariants as kinds
 
 pub record FieldTree : Type 0 where

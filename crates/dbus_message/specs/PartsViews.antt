@@ -1,7 +1,7 @@
 -- The trees that a header field and a message's parts stand for.
 -- D-Bus Specification, "Message Format", "Header Fields".
 use Rattle.std.specs.Prelude.{List, map}
-use Rattle.dbus_value.specs.ValueViews.{value_tree, value_trees_of}
+use Rattle.dbus_value_model.specs.ValueViews.{value_tree, value_trees_of}
 use Rattle.dbus_message.specs.Messages.{FieldTree, MessageTree}
 use Rattle.dbus_message.specs.declared.header_field.HeaderField.{HeaderField}
 use Rattle.dbus_message.specs.declared.parts.Parts.{Parts}

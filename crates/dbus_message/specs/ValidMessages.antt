@@ -1,7 +1,7 @@
 -- The limit on open containers, and the messages that are valid within all limits.
 -- D-Bus Specification, "Message Format", "Valid Signatures" for the depth.
 use Rattle.std.specs.Prelude.{ℕ}
-use Rattle.dbus_value.specs.declared.order.Order.{Order}
+use Rattle.dbus_value_model.specs.declared.order.Order.{Order}
 use Rattle.dbus_message.specs.Messages.{MessageTree, IsMessage}
 
 -- How many containers may be opened within a field's value: 64, less the field array, the field's struct and its variant.

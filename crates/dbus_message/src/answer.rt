@@ -2,7 +2,7 @@
 #![tactic(auto)]
 
 use crate::message::Message;
-use dbus_value::Order;
+use dbus_value_model::Order;
 use std::alloc::{Allocator, Global};
 
 /// What bytes gave that are not refused.

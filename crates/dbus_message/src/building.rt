@@ -2,7 +2,7 @@
 #![tactic(auto)]
 
 ghost use Rattle.std.specs.Prelude.{◌≡◌, length, MatchResult};
-ghost use Rattle.dbus_value.specs.declared.order.Order.TheVariants.{Little};
+ghost use Rattle.dbus_value_model.specs.declared.order.Order.TheVariants.{Little};
 ghost use Rattle.dbus_message.specs.BuildFaults.{IsAccepted, IsBuilt, IsFirstFault, NoFault, NoneIsMissing, SignaturePasses};
 ghost use Rattle.dbus_message.specs.Messages.{message_bytes};
 ghost use Rattle.dbus_message.specs.PartsViews.{parts_tree};

@@ -2,7 +2,7 @@
 
 use super::*;
 use dbus_types::SigType;
-use dbus_value::{Order, Value};
+use dbus_value_model::{Order, Value};
 use std::alloc::{AllocError, Allocator, Global};
 use std::process::Abort;
 use std::test::*;

@@ -4,8 +4,8 @@
 ghost use Rattle.std.specs.Prelude.{◌≡◌, ℕ, List, drop, IfOk};
 ghost use Rattle.dbus_types.specs.ComputedKinds.{types_spelled};
 ghost use Rattle.dbus_types.specs.SigTypes.{type_trees_of};
-ghost use Rattle.dbus_value.specs.Gives.{Gives};
-ghost use Rattle.dbus_value.specs.Reading.{judge};
+ghost use Rattle.dbus_value_model.specs.Gives.{Gives};
+ghost use Rattle.dbus_value_model.specs.Reading.{judge};
 ghost use Rattle.dbus_message.specs.Decodes.{Decodes};
 ghost use Rattle.dbus_message.specs.HeaderReading.{message_read};
 ghost use Rattle.dbus_message.specs.Messages.{lacks, required, body_signature};
@@ -24,7 +24,7 @@ use crate::read_body::read_body;
 use crate::read_fields::read_fields;
 use dbus_types::{SigType, parse_signature};
 use dbus_unmarshal::items::read_padding;
-use dbus_value::{Order, Reason, Refusal, Stop, refuse};
+use dbus_value_model::{Order, Reason, Refusal, Stop, refuse};
 use std::alloc::{AllocError, Allocator};
 
 /// That no required field is missing, at the place behind the fields: `FieldMissing` with the lowest code that is. D-Bus

@@ -2,14 +2,14 @@
 #![tactic(auto)]
 
 ghost use Rattle.std.specs.Prelude.{◌↔◌, IsTrue};
-ghost use Rattle.dbus_value.specs.Forming.{NestsWithin};
+ghost use Rattle.dbus_value_model.specs.Forming.{NestsWithin};
 ghost use Rattle.dbus_message.specs.BuildFaults.{IsShallow};
 ghost use Rattle.dbus_message.specs.Messages.{field_array};
 ghost use Rattle.dbus_message.specs.PartsViews.{field_trees, parts_tree};
 
 use crate::header_field::HeaderField;
 use crate::parts::Parts;
-use dbus_value::{nest_within, nests_within};
+use dbus_value_model::{nest_within, nests_within};
 use std::alloc::Allocator;
 
 /// The most arrays, structs and variants that are open at once in a message. D-Bus Specification, "Message Protocol".

@@ -2,10 +2,10 @@
 #![tactic(auto, using(crate::proofs::FieldWriting::lengths))]
 
 ghost use Rattle.std.specs.Prelude.{◌≡◌, ◌<◌, ◌≤◌, ◌^◌, ◌+◌, [], length, vec_capacity, map, IfOk, OnOk, OnErr};
-ghost use Rattle.dbus_value.specs.Appending.{with_value, with_values};
-ghost use Rattle.dbus_value.specs.ShortSignatures.{HasShortSignatures, HaveShortSignatures};
-ghost use Rattle.dbus_value.specs.Values.{value_trees};
-ghost use Rattle.dbus_value.specs.ValueViews.{value_trees_of};
+ghost use Rattle.dbus_value_model.specs.Appending.{with_value, with_values};
+ghost use Rattle.dbus_value_model.specs.ShortSignatures.{HasShortSignatures, HaveShortSignatures};
+ghost use Rattle.dbus_value_model.specs.Values.{value_trees};
+ghost use Rattle.dbus_value_model.specs.ValueViews.{value_trees_of};
 ghost use Rattle.dbus_message.specs.FixedBytes.{fixed_bytes};
 ghost use Rattle.dbus_message.specs.Messages.{field_struct, message_bytes};
 ghost use Rattle.dbus_message.specs.MessageViews.{message_tree};
@@ -15,7 +15,7 @@ use crate::header_field::HeaderField;
 use crate::message::Message;
 use dbus_marshal::writing::{overwrite_32, write_32, write_byte, write_padding};
 use dbus_marshal::{write_value, write_variant_signature};
-use dbus_value::{Order, Value};
+use dbus_value_model::{Order, Value};
 use std::alloc::{AllocError, Allocator};
 
 /// The protocol version.

@@ -2,7 +2,7 @@
 #![tactic(auto)]
 
 use super::*;
-use dbus_value::{Fault, Order, Reason, Refusal};
+use dbus_value_model::{Fault, Order, Reason, Refusal};
 use std::alloc::{AllocError, Allocator};
 use std::process::Abort;
 use std::test::*;

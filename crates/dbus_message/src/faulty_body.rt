@@ -3,12 +3,12 @@
 
 ghost use Rattle.std.specs.Prelude.{◌≡◌, ◌↔◌, None, IsTrue, IfOk};
 ghost use Rattle.dbus_types.specs.Types.{sigs};
-ghost use Rattle.dbus_value.specs.Values.{types_of};
-ghost use Rattle.dbus_value.specs.ValueViews.{value_trees_of};
+ghost use Rattle.dbus_value_model.specs.Values.{types_of};
+ghost use Rattle.dbus_value_model.specs.ValueViews.{value_trees_of};
 ghost use Rattle.dbus_message.specs.BuildFaults.{IsSound, IsFirstUnsound};
 
 use dbus_marshal::{signature_length, write_type_of};
-use dbus_value::{Value, is_named, is_typed};
+use dbus_value_model::{Value, is_named, is_typed};
 use std::alloc::{AllocError, Allocator};
 
 /// Whether a value's types fit together and its texts are of their kinds, however deep it nests.

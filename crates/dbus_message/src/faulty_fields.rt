@@ -10,7 +10,7 @@ use crate::faulty_body::is_sound;
 use crate::header_field::HeaderField;
 use crate::known_fields::{has_field, text_in};
 use dbus_types::{TextKind, text_break};
-use dbus_value::Value;
+use dbus_value_model::Value;
 use std::alloc::{AllocError, Allocator};
 
 /// Whether a field is no REPLY_SERIAL of 0.

@@ -6,12 +6,12 @@ ghost use Rattle.dbus_types.specs.ComputedKinds.{type_spelled};
 ghost use Rattle.dbus_types.specs.SigTypes.{type_tree};
 ghost use Rattle.dbus_types.specs.Types.{IsSingleType, sig};
 ghost use Rattle.dbus_types.specs.declared.text_kind.TextKind.TheVariants.{Single};
-ghost use Rattle.dbus_value.specs.declared.order.Order.{Order};
-ghost use Rattle.dbus_value.specs.Gives.{Gives};
-ghost use Rattle.dbus_value.specs.PackedBytes.{keeps_bytes};
-ghost use Rattle.dbus_value.specs.Reading.{number, value};
-ghost use Rattle.dbus_value.specs.ValueViews.{value_tree};
-ghost use Rattle.dbus_value.specs.WantedTexts.{IsName, Of, Only};
+ghost use Rattle.dbus_value_model.specs.declared.order.Order.{Order};
+ghost use Rattle.dbus_value_model.specs.Gives.{Gives};
+ghost use Rattle.dbus_value_model.specs.PackedBytes.{keeps_bytes};
+ghost use Rattle.dbus_value_model.specs.Reading.{number, value};
+ghost use Rattle.dbus_value_model.specs.ValueViews.{value_tree};
+ghost use Rattle.dbus_value_model.specs.WantedTexts.{IsName, Of, Only};
 ghost use Rattle.dbus_message.specs.HeaderReading.{wanted_signature, wanted_value};
 ghost use Rattle.dbus_message.specs.MessageItems.{name_row};
 ghost use Rattle.dbus_message.specs.Messages.{Name, OfType, Anything, Serial, want};
@@ -21,7 +21,7 @@ use dbus_types::{SigType, TextKind};
 use dbus_unmarshal::get;
 use dbus_unmarshal::items::{read_length, read_nul, read_padding, read_short_length, read_u32};
 use dbus_unmarshal::texts::{read_only, read_signature, read_text};
-use dbus_value::{Got, Order, Reason, Refusal, Stop, Value, refuse};
+use dbus_value_model::{Got, Order, Reason, Refusal, Stop, Value, refuse};
 use std::alloc::{AllocError, Allocator};
 
 /// The most bytes that a name in a header field has.

@@ -2,17 +2,17 @@
 #![tactic(auto)]
 
 ghost use Rattle.std.specs.Prelude.{◌≡◌, ◌+◌, ◌≤◌, ◌<◌, length, drop, IfOk};
-ghost use Rattle.dbus_value.specs.declared.fault.Reason.TheVariants as reasons;
-ghost use Rattle.dbus_value.specs.declared.order.Order.{Order};
-ghost use Rattle.dbus_value.specs.Gives.{Gives};
-ghost use Rattle.dbus_value.specs.Reading.{number};
-ghost use Rattle.dbus_value.specs.Bytes.{gap_to};
+ghost use Rattle.dbus_value_model.specs.declared.fault.Reason.TheVariants as reasons;
+ghost use Rattle.dbus_value_model.specs.declared.order.Order.{Order};
+ghost use Rattle.dbus_value_model.specs.Gives.{Gives};
+ghost use Rattle.dbus_value_model.specs.Reading.{number};
+ghost use Rattle.dbus_value_model.specs.Bytes.{gap_to};
 ghost use Rattle.dbus_message.specs.HeaderReading.{fixed_header};
 ghost use Rattle.dbus_message.specs.MessageItems.{not_zero_row, version_row, fields_row};
 ghost use Rattle.dbus_message.specs.MessageReading.{byte_order};
 
 use dbus_unmarshal::items::{read_byte, read_u32};
-use dbus_value::{Order, Reason, Stop, refuse};
+use dbus_value_model::{Order, Reason, Stop, refuse};
 
 /// The limit of an array's contents, in bytes.
 const ARRAY_LIMIT: u32 = 67_108_864;

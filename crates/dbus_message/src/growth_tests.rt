@@ -1,7 +1,7 @@
 //! Each growth of decoding and encoding refused in turn.
 
 use super::*;
-use dbus_value::{Order, Refusal, Value};
+use dbus_value_model::{Order, Refusal, Value};
 use refusing_alloc::Refusing;
 use std::alloc::{AllocError, Allocator};
 use std::test::*;

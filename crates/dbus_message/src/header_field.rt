@@ -1,7 +1,7 @@
 //! Fields of a message's header.
 #![tactic(auto)]
 
-use dbus_value::Value;
+use dbus_value_model::Value;
 use std::alloc::{Allocator, Global};
 
 /// A field of a message's header. D-Bus Specification, "Header Fields".

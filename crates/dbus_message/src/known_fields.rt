@@ -2,13 +2,13 @@
 #![tactic(auto)]
 
 ghost use Rattle.std.specs.Prelude.{◌≡◌};
-ghost use Rattle.dbus_value.specs.ValueViews.{value_tree};
+ghost use Rattle.dbus_value_model.specs.ValueViews.{value_tree};
 ghost use Rattle.dbus_message.specs.MissingFields.{IsMissing};
 ghost use Rattle.dbus_message.specs.Messages.{has_code, lacks, required, text_in, body_signature};
 ghost use Rattle.dbus_message.specs.PartsViews.{field_trees};
 
 use crate::header_field::HeaderField;
-use dbus_value::Value;
+use dbus_value_model::Value;
 use std::alloc::Allocator;
 
 /// The code of the SIGNATURE field.

@@ -2,13 +2,13 @@
 #![tactic(auto)]
 
 ghost use Rattle.std.specs.Prelude.{◌≡◌, Some, None, IsTrue, IfSome, MatchOption};
-ghost use Rattle.dbus_value.specs.PackedBytes.{keeps_bytes};
-ghost use Rattle.dbus_value.specs.ValueViews.{value_tree};
+ghost use Rattle.dbus_value_model.specs.PackedBytes.{keeps_bytes};
+ghost use Rattle.dbus_value_model.specs.ValueViews.{value_tree};
 ghost use Rattle.dbus_message.specs.Lookups.{field_value, body_value};
 ghost use Rattle.dbus_message.specs.MessageViews.{message_tree};
 
 use crate::message::Message;
-use dbus_value::Value;
+use dbus_value_model::Value;
 use std::alloc::Allocator;
 
 /// The value of the message's first field of the code. An array of BYTE in it is `Bytes`.

@@ -2,7 +2,7 @@
 #![tactic(auto)]
 
 ghost use Rattle.std.specs.Prelude.{◌≡◌, length};
-ghost use Rattle.dbus_value.specs.declared.order.Order.TheVariants.{Little};
+ghost use Rattle.dbus_value_model.specs.declared.order.Order.TheVariants.{Little};
 ghost use Rattle.dbus_message.specs.Messages.{message_bytes};
 ghost use Rattle.dbus_message.specs.PackedParts.{PartsKeepBytes};
 ghost use Rattle.dbus_message.specs.PartsViews.{parts_tree};
@@ -26,7 +26,7 @@ pub struct Message<A: Allocator = Global> {
 
 impl<A: Allocator> Message<A> {
     ghost use Rattle.std.specs.Prelude.{◌≤◌};
-    ghost use Rattle.dbus_value.specs.declared.order.Order.{Order};
+    ghost use Rattle.dbus_value_model.specs.declared.order.Order.{Order};
     ghost use Rattle.dbus_message.specs.MessageViews.{message_tree};
 
     /// The message of these parts, which are valid and are spelled by so many bytes.

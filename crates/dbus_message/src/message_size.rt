@@ -2,9 +2,9 @@
 #![tactic(auto)]
 
 ghost use Rattle.std.specs.Prelude.{◌≡◌, ◌≤◌, ◌<◌, map};
-ghost use Rattle.dbus_value.specs.Bytes.{gap_to};
-ghost use Rattle.dbus_value.specs.ShortSignatures.{HasShortSignatures, HaveShortSignatures};
-ghost use Rattle.dbus_value.specs.Values.{value_trees};
+ghost use Rattle.dbus_value_model.specs.Bytes.{gap_to};
+ghost use Rattle.dbus_value_model.specs.ShortSignatures.{HasShortSignatures, HaveShortSignatures};
+ghost use Rattle.dbus_value_model.specs.Values.{value_trees};
 ghost use Rattle.dbus_message.specs.Messages.{field_struct};
 ghost use Rattle.dbus_message.specs.MessageSizes.{IsFieldEnd, AreFieldEnds, HoldTheirNumbers};
 ghost use Rattle.dbus_message.specs.PartsViews.{field_tree, field_trees, parts_tree};
@@ -12,14 +12,14 @@ ghost use Rattle.dbus_message.specs.PartsViews.{field_tree, field_trees, parts_t
 use crate::header_field::HeaderField;
 use crate::parts::Parts;
 use dbus_marshal::measure_coded;
-use dbus_value::{read_all_numbers, read_numbers};
+use dbus_value_model::{read_all_numbers, read_numbers};
 use std::alloc::Allocator;
 
 /// Where the longest field array ends. D-Bus Specification, "Marshaling (Wire Format)", for the longest array.
 const FIELDS_LIMIT: u64 = 16 + (1 << 26);
 
 /// How far it is from `at` to the next multiple of 8.
-#[tactic(auto, unfolding(dbus_value::specs::Bytes::gap_to))]
+#[tactic(auto, unfolding(dbus_value_model::specs::Bytes::gap_to))]
 pub fn gap(at: u64) -> u64
     ensures exact { result ≡ gap_to 8 at }
     ensures within { result < 8 }

@@ -2,7 +2,7 @@
 #![tactic(auto)]
 
 use crate::header_field::HeaderField;
-use dbus_value::Value;
+use dbus_value_model::Value;
 use std::alloc::{Allocator, Global};
 
 /// What a message is made of, valid or not. D-Bus Specification, "Message Format".

@@ -3,16 +3,16 @@
 
 ghost use Rattle.std.specs.Prelude.{◌≡◌, ◌+◌, ◌≤◌, ◌<◌, ◌^◌, length, drop, IsTrue, IfOk};
 ghost use Rattle.dbus_types.specs.SigTypes.{type_trees_of};
-ghost use Rattle.dbus_value.specs.declared.order.Order.{Order};
-ghost use Rattle.dbus_value.specs.Gives.{Gives};
-ghost use Rattle.dbus_value.specs.PackedBytes.{keep_bytes};
-ghost use Rattle.dbus_value.specs.ValueViews.{value_trees_of};
+ghost use Rattle.dbus_value_model.specs.declared.order.Order.{Order};
+ghost use Rattle.dbus_value_model.specs.Gives.{Gives};
+ghost use Rattle.dbus_value_model.specs.PackedBytes.{keep_bytes};
+ghost use Rattle.dbus_value_model.specs.ValueViews.{value_trees_of};
 ghost use Rattle.dbus_message.specs.HeaderReading.{body_read};
 ghost use Rattle.dbus_message.specs.SingleTypes.{AreSingleTypes};
 
 use crate::field_value::read_value;
 use dbus_types::SigType;
-use dbus_value::{Order, Reason, Stop, Value, refuse};
+use dbus_value_model::{Order, Reason, Stop, Value, refuse};
 use std::alloc::Allocator;
 
 /// A value for each of the types, up to the body's end, and the place behind them: `Trailing` where the end is not reached.

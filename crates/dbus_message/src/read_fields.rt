@@ -2,10 +2,10 @@
 #![tactic(auto)]
 
 ghost use Rattle.std.specs.Prelude.{◌≡◌, ◌+◌, ◌≤◌, ◌<◌, ◌^◌, length, drop, reverse, List, IsTrue, IfOk};
-ghost use Rattle.dbus_value.specs.declared.order.Order.{Order};
-ghost use Rattle.dbus_value.specs.Gives.{Gives};
-ghost use Rattle.dbus_value.specs.PackedBytes.{keeps_bytes, keep_bytes};
-ghost use Rattle.dbus_value.specs.Reading.{number};
+ghost use Rattle.dbus_value_model.specs.declared.order.Order.{Order};
+ghost use Rattle.dbus_value_model.specs.Gives.{Gives};
+ghost use Rattle.dbus_value_model.specs.PackedBytes.{keeps_bytes, keep_bytes};
+ghost use Rattle.dbus_value_model.specs.Reading.{number};
 ghost use Rattle.dbus_message.specs.HeaderReading.{field_read, fields_read};
 ghost use Rattle.dbus_message.specs.MessageItems.{code_row};
 ghost use Rattle.dbus_message.specs.PackedParts.{field_values};
@@ -15,7 +15,7 @@ use crate::field_value::read_field_value;
 use crate::header_field::HeaderField;
 use crate::known_fields::has_field;
 use dbus_unmarshal::items::{read_byte, read_padding};
-use dbus_value::{Order, Reason, Stop, refuse};
+use dbus_value_model::{Order, Reason, Stop, refuse};
 use std::alloc::Allocator;
 
 /// The lowest code of the unknown fields.

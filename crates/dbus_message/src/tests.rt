@@ -2,7 +2,7 @@
 #![tactic(auto)]
 
 use super::*;
-use dbus_value::{Fault, Order, Reason, Refusal, Value};
+use dbus_value_model::{Fault, Order, Reason, Refusal, Value};
 use std::alloc::Global;
 use std::process::Abort;
 use std::test::Fail;

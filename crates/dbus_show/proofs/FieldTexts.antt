@@ -9,10 +9,10 @@ use Rattle.dbus_types.specs.declared.text_kind.TextKind.TheVariants as kinds
 use Rattle.dbus_types.specs.Kinds.{IsKind}
 use Rattle.dbus_types.specs.Names.{is_word, is_word_start, is_dashed, is_dashed_start, IsElement, each_behind, IsPath, IsJoined, IsInterface}
 use Rattle.dbus_types.specs.Signatures.{IsSignature}
-use Rattle.dbus_value.specs.WantedTexts.{Of, IsWanted, kind_of}
-use Rattle.dbus_value.specs.declared.order.Order.{Order}
-use Rattle.dbus_value.specs.declared.order.Order.TheVariants.{Little, Big}
-use Rattle.dbus_value.specs.Values.{ValueTree, NumberValue, TextValue, value_trees, IsWellFormed, AreWellFormed}
+use Rattle.dbus_value_model.specs.WantedTexts.{Of, IsWanted, kind_of}
+use Rattle.dbus_value_model.specs.declared.order.Order.{Order}
+use Rattle.dbus_value_model.specs.declared.order.Order.TheVariants.{Little, Big}
+use Rattle.dbus_value_model.specs.Values.{ValueTree, NumberValue, TextValue, value_trees, IsWellFormed, AreWellFormed}
 use Rattle.dbus_message.specs.Messages.{FieldTree, MessageTree, order_byte, is_known, field_struct, Want, OfType, Name, Serial, want, Suits, AreFields}
 use Rattle.dbus_message.specs.ValidMessages.{room_in_field}
 use Rattle.dbus_show.specs.Laws.{line_feeds, OneForEachLine}

@@ -2,8 +2,8 @@
 use Rattle.std.proofs.Common.{◌≡◌, ℕ, List, [], ◌∷◌, ◌++◌, refl, sym, ap, ◌∙◌, append-nil, append_assoc, codes}
 use Rattle.std.specs.List.{flat_map}
 use Rattle.std.proofs.lemmas.List.Concat.{flat_map-append}
-use Rattle.dbus_value.specs.ValueViews.{value_tree, value_trees_of, byte_values}
-use Rattle.dbus_value.specs.declared.value.Value.{Value}
+use Rattle.dbus_value_model.specs.ValueViews.{value_tree, value_trees_of, byte_values}
+use Rattle.dbus_value_model.specs.declared.value.Value.{Value}
 use Rattle.dbus_show.specs.ShownValues.{value_text, value_texts, joined, byte_in, bytes_in}
 
 module _ {A : Type 0} where

@@ -1,8 +1,8 @@
 -- Which line feeds the text of a message has: those that end its lines, and none within a value.
 use Rattle.std.specs.Prelude.{◌≡◌, ◌==◌, ℕ, ◌+◌, List, length}
 use Rattle.std.specs.List.{count_by}
-use Rattle.dbus_value.specs.declared.order.Order.{Order}
-use Rattle.dbus_value.specs.Values.{ValueTree}
+use Rattle.dbus_value_model.specs.declared.order.Order.{Order}
+use Rattle.dbus_value_model.specs.Values.{ValueTree}
 use Rattle.dbus_message.specs.Messages.{MessageTree}
 use Rattle.dbus_message.specs.ValidMessages.{IsValidMessage}
 use Rattle.dbus_show.specs.ShownValues.{value_text, value_texts}

@@ -7,9 +7,9 @@ use Rattle.std.specs.Int.{cast_signed, w16, w32, w64}
 use Rattle.std.specs.List.{concat, flat_map, join_by}
 use Rattle.hex.specs.Hex.{encode_lower}
 use Rattle.dbus_types.specs.Types.{NumberCode, BYTE, BOOLEAN, INT16, UINT16, INT32, UINT32, INT64, UINT64, DOUBLE, UNIX_FD, TypeTree, NumberType, ArrayType, number_code, text_code, sig}
-use Rattle.dbus_value.specs.declared.order.Order.TheVariants.{Big}
-use Rattle.dbus_value.specs.Values.{ValueTree, ValueTrees, NumberValue, TextValue, VariantValue, ArrayValue, StructValue, EntryValue, NoValues, MoreValues}
-use Rattle.dbus_value.specs.Bytes.{num}
+use Rattle.dbus_value_model.specs.declared.order.Order.TheVariants.{Big}
+use Rattle.dbus_value_model.specs.Values.{ValueTree, ValueTrees, NumberValue, TextValue, VariantValue, ArrayValue, StructValue, EntryValue, NoValues, MoreValues}
+use Rattle.dbus_value_model.specs.Bytes.{num}
 
 -- A number in decimal, a signed one read back from its two's complement; a DOUBLE's eight bytes, the highest place first,
 -- two hexadecimal digits for each.

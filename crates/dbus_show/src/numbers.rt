@@ -4,7 +4,7 @@
 ghost use Rattle.std.specs.Prelude.{◌≡◌, ◌++◌, OnOk, string_bytes};
 ghost use Rattle.std.specs.Int.{cast_unsigned, w16, w32, w64};
 ghost use Rattle.dbus_types.specs.Types.{DOUBLE, INT16, INT32, INT64};
-ghost use Rattle.dbus_value.specs.Values.{NumberValue};
+ghost use Rattle.dbus_value_model.specs.Values.{NumberValue};
 ghost use Rattle.dbus_show.specs.ShownValues.{value_text};
 
 use crate::hexadecimal::write_hex;

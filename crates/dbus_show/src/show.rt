@@ -3,7 +3,7 @@
 
 ghost use Rattle.std.specs.Prelude.{◌≡◌, ◌++◌, ◌∷◌, [], OnOk, IfOk, string_bytes};
 ghost use Rattle.std.specs.List.{flat_map};
-ghost use Rattle.dbus_value.specs.ValueViews.{value_tree, value_trees_of};
+ghost use Rattle.dbus_value_model.specs.ValueViews.{value_tree, value_trees_of};
 ghost use Rattle.dbus_message.specs.Messages.{order_byte};
 ghost use Rattle.dbus_message.specs.PartsViews.{parts_tree};
 ghost use Rattle.dbus_message.specs.MessageViews.{message_tree};

@@ -5,8 +5,8 @@ ghost use Rattle.std.specs.Prelude.{◌≡◌, ◌++◌, ◌∷◌, ◌<◌, cod
 ghost use Rattle.hex.specs.Hex.{encode_lower};
 ghost use Rattle.dbus_types.specs.Types.{BYTE, NumberType};
 ghost use Rattle.dbus_types.specs.SigTypes.{type_tree};
-ghost use Rattle.dbus_value.specs.Values.{ArrayValue, StructValue};
-ghost use Rattle.dbus_value.specs.ValueViews.{value_tree, value_trees_of, byte_values};
+ghost use Rattle.dbus_value_model.specs.Values.{ArrayValue, StructValue};
+ghost use Rattle.dbus_value_model.specs.ValueViews.{value_tree, value_trees_of, byte_values};
 ghost use Rattle.dbus_show.specs.ShownValues.{value_text, value_texts, joined, quoted, byte_in, bytes_in, is_byte as is_byte_type};
 
 use crate::escapes::write_quoted;

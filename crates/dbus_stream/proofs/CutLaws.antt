@@ -1,8 +1,8 @@
 -- Laws of cuts: bytes are cut in one way, whatever they come in, and each list of bytes is cut.
 use Rattle.std.proofs.Common.{◌≡◌, ℕ, zero, suc, ◌<◌, ◌≤◌, List, [], ◌∷◌, ◌++◌, length, drop, refl, sym, ap, ◌∙◌, subst, arith, append-nil, length-drop, inl, inr}
 use Rattle.std.proofs.lemmas.List.{drop-append-le}
-use Rattle.dbus_value.specs.declared.fault.Fault.{Fault}
-use Rattle.dbus_value.specs.Bytes.{IsBytes}
+use Rattle.dbus_value_model.specs.declared.fault.Fault.{Fault}
+use Rattle.dbus_value_model.specs.Bytes.{IsBytes}
 use Rattle.dbus_message.specs.MessageOutcomes.{IsWhole, IsRefused, IsPartial}
 use Rattle.dbus_message.proofs.OutcomeLaws.{whole_for_good, one_whole, whole_inside, not_both, one_outcome, one_fault, nothing_partial, some_outcome}
 use Rattle.dbus_stream.specs.Cut.{Item, BeginWith, Outcome, Ended, Unfinished, Refused, IsOutcome, IsCut}

@@ -1,6 +1,6 @@
 -- How far a decoding went.
 use Rattle.std.proofs.Common.{ℕ, List, Ok, Err, Result, length}
-use Rattle.dbus_value.specs.declared.fault.Refusal.{Refusal}
+use Rattle.dbus_value_model.specs.declared.fault.Refusal.{Refusal}
 use Rattle.dbus_message.specs.declared.answer.Answer.{Answer}
 use Rattle.dbus_message.specs.declared.answer.Answer.TheVariants.{Whole, Partial}
 use Rattle.dbus_message.specs.Decodes.{Decodes}

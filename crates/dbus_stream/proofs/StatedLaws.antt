@@ -2,19 +2,19 @@
 use Rattle.std.proofs.Common.{◌≡◌, ℕ, ◌+◌, ◌<◌, ◌≤◌, List, [], ◌∷◌, ◌++◌, length, take, drop, get_or, map, refl, sym, ap, ◌∙◌, arith, append_assoc}
 use Rattle.std.proofs.lemmas.List.{length-append, length-drop, drop-append-le, take-append-le}
 use Rattle.std.proofs.Math.Seq.{take-append_seam, drop-append_seam}
-use Rattle.dbus_value.specs.declared.order.Order.{Order}
-use Rattle.dbus_value.specs.Bytes.{num, gap_to, pad}
-use Rattle.dbus_value.specs.Spelling.{spelling, spellings}
-use Rattle.dbus_value.specs.Values.{value_trees}
-use Rattle.dbus_value.specs.Reading.{number_of}
-use Rattle.dbus_value.proofs.Numbers.{length-num, number_of-num}
+use Rattle.dbus_value_model.specs.declared.order.Order.{Order}
+use Rattle.dbus_value_model.specs.Bytes.{num, gap_to, pad}
+use Rattle.dbus_value_model.specs.Spelling.{spelling, spellings}
+use Rattle.dbus_value_model.specs.Values.{value_trees}
+use Rattle.dbus_value_model.specs.Reading.{number_of}
+use Rattle.dbus_value_model.proofs.Numbers.{length-num, number_of-num}
 use Rattle.dbus_message.specs.Messages.{FieldTree, MessageTree, field_struct, field_array, fields_end, body_bytes, order_byte}
-use Rattle.dbus_value.specs.Sizes.{message_limit}
+use Rattle.dbus_value_model.specs.Sizes.{message_limit}
 use Rattle.dbus_message.specs.MessageLaws.{IsWhole}
 use Rattle.dbus_message.specs.MessageOutcomes as outcomes
 use Rattle.dbus_message.proofs.Whole.{message_length}
 use Rattle.dbus_message.specs.ValidMessages.{room_in_field}
-use Rattle.dbus_value.specs.declared.order.Order.TheVariants.{Little, Big}
+use Rattle.dbus_value_model.specs.declared.order.Order.TheVariants.{Little, Big}
 use Rattle.dbus_stream.specs.Stated.{stated_length, stated_order, NoneEndsBefore}
 use Rattle.dbus_stream.proofs.WholeLaws.{whole_past}
 

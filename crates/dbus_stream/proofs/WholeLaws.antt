@@ -1,7 +1,7 @@
 -- Where a whole message ends.
 use Rattle.std.proofs.Common.{◌≡◌, ℕ, ◌<◌, ◌≤◌, List, ◌++◌, length, take, drop, sym, ap, subst, ◌∙◌, arith, take-append-drop}
 use Rattle.std.proofs.lemmas.List.{take-append-le}
-use Rattle.dbus_value.specs.declared.order.Order.{Order}
+use Rattle.dbus_value_model.specs.declared.order.Order.{Order}
 use Rattle.dbus_message.specs.Messages.{MessageTree, message_bytes}
 use Rattle.dbus_message.specs.MessageOutcomes.{IsWhole, IsPartial}
 use Rattle.dbus_message.proofs.OutcomeLaws.{one_outcome, whole_bytes, whole_valid, valid_whole}

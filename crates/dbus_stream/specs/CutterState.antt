@@ -1,6 +1,6 @@
 -- What a cutter holds.
 use Rattle.std.specs.Prelude.{ℕ, List, [], Option, None}
-use Rattle.dbus_value.specs.declared.fault.Fault.{Fault}
+use Rattle.dbus_value_model.specs.declared.fault.Fault.{Fault}
 
 pub record CutterState : Type 0 where
   -- the bytes of the message under way

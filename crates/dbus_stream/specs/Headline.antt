@@ -3,10 +3,10 @@
 use Rattle.std.specs.Prelude.{◌≡◌, ◌≢◌, ◌↔◌, ℕ, List, [], ◌∷◌, ◌++◌, length, take, Some, Vec, Result, Ok, Err, IfOk}
 use Rattle.std.specs.List.{concat}
 use Rattle.std.specs.declared.alloc.AllocError.{AllocError}
-use Rattle.dbus_value.specs.declared.order.Order.{Order}
-use Rattle.dbus_value.specs.declared.fault.Fault.{Fault}
-use Rattle.dbus_value.specs.declared.fault.Refusal.{Refusal}
-use Rattle.dbus_value.specs.declared.fault.Refusal.TheVariants.{Memory, Format}
+use Rattle.dbus_value_model.specs.declared.order.Order.{Order}
+use Rattle.dbus_value_model.specs.declared.fault.Fault.{Fault}
+use Rattle.dbus_value_model.specs.declared.fault.Refusal.{Refusal}
+use Rattle.dbus_value_model.specs.declared.fault.Refusal.TheVariants.{Memory, Format}
 use Rattle.dbus_message.specs.declared.answer.Answer.{Answer}
 use Rattle.dbus_message.specs.declared.answer.Answer.TheVariants.{Whole, Partial}
 use Rattle.dbus_message.specs.declared.message.Message.{Message}

@@ -1,6 +1,6 @@
 -- Runs of a cutter: pieces that it is handed one after another, and what its calls answer.
 use Rattle.std.specs.Prelude.{◌≡◌, ◌⊎◌, ℕ, ◌+◌, List, [], ◌∷◌, ◌++◌, drop, Option, None, Some, Ok, Err}
-use Rattle.dbus_value.specs.declared.fault.Fault.{Fault}
+use Rattle.dbus_value_model.specs.declared.fault.Fault.{Fault}
 use Rattle.dbus_message.specs.MessageViews.{message_tree}
 use Rattle.dbus_stream.specs.Cut.{Item, BeginWith, Outcome, Ended, Unfinished, Refused, IsCut}
 use Rattle.dbus_stream.specs.CutterState.{CutterState}

@@ -1,9 +1,9 @@
 -- How long a message is by the lengths that its header states (D-Bus Specification, "Message Format").
 use Rattle.std.specs.Prelude.{ℕ, ◌+◌, ◌≤◌, List, ◌++◌, take, drop, nat_eq, if◌then◌else◌}
-use Rattle.dbus_value.specs.declared.order.Order.{Order}
-use Rattle.dbus_value.specs.declared.order.Order.TheVariants.{Little, Big}
-use Rattle.dbus_value.specs.Bytes.{gap_to}
-use Rattle.dbus_value.specs.Reading.{number_of}
+use Rattle.dbus_value_model.specs.declared.order.Order.{Order}
+use Rattle.dbus_value_model.specs.declared.order.Order.TheVariants.{Little, Big}
+use Rattle.dbus_value_model.specs.Bytes.{gap_to}
+use Rattle.dbus_value_model.specs.Reading.{number_of}
 use Rattle.dbus_message.specs.Messages.{MessageTree}
 use Rattle.dbus_message.specs.MessageOutcomes.{IsWhole}
 

@@ -1,6 +1,6 @@
 -- The laws of cuts of streams.
 use Rattle.std.specs.Prelude.{◌≡◌, ℕ, List, ◌++◌}
-use Rattle.dbus_value.specs.Bytes.{IsBytes}
+use Rattle.dbus_value_model.specs.Bytes.{IsBytes}
 use Rattle.dbus_stream.specs.Cut.{Item, Outcome, IsCut}
 
 -- bytes have at most one cut

@@ -1,6 +1,6 @@
 //! Messages out of bytes that come in pieces.
 ghost use Rattle.std.specs.Prelude.{◌≡◌, ◌<◌, ◌≤◌, [], length, None, Some, Ok, Err, IfOk};
-ghost use Rattle.dbus_value.specs.declared.fault.Fault.{Fault};
+ghost use Rattle.dbus_value_model.specs.declared.fault.Fault.{Fault};
 ghost use Rattle.dbus_message.specs.MessageOutcomes.{IsPartial};
 ghost use Rattle.dbus_stream.specs.Cut.{truncated};
 ghost use Rattle.dbus_stream.specs.CutterState.{fresh};

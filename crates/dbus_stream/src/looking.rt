@@ -1,6 +1,6 @@
 //! When a reader that keeps the front of a message decodes again.
 ghost use Rattle.std.specs.Prelude.{◌≡◌, ◌≤◌, ◌<◌, ◌+◌, ◌^◌, length, get_or};
-ghost use Rattle.dbus_value.specs.Bytes.{gap_to};
+ghost use Rattle.dbus_value_model.specs.Bytes.{gap_to};
 ghost use Rattle.dbus_message.specs.MessageOutcomes.{IsPartial};
 ghost use Rattle.dbus_stream.specs.Stated.{stated_length, NoneEndsBefore, stated_order};
 
@@ -58,7 +58,7 @@ fn stated_length(order: Order, header: &[u8]) -> u64
 }
 
 // How far it is to the next multiple of 8.
-#[tactic(auto, unfolding(dbus_value::specs::Bytes::gap_to))]
+#[tactic(auto, unfolding(dbus_value_model::specs::Bytes::gap_to))]
 fn padding_to_8(at: u64) -> u64
     ensures gap { result ≡ gap_to 8 at }
     ensures small { result < 8 }

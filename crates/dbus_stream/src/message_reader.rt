@@ -46,7 +46,7 @@ pub struct MessageReader<R, A: Allocator = Global> {
 }
 
 impl<R: Source, A: Allocator + Copy> MessageReader<R, A> {
-    ghost use Rattle.dbus_value.specs.declared.fault.Fault.{Fault};
+    ghost use Rattle.dbus_value_model.specs.declared.fault.Fault.{Fault};
     ghost use Rattle.dbus_stream.specs.declared.read_fault.ReadFault.{ReadFault};
     ghost use Rattle.dbus_stream.specs.Reader.{kept, source_of, done_of, reads_of, limit_of, is_ended, stopped_of};
     ghost use Rattle.dbus_stream.specs.Next.{NextAnswers, KeptAnswers, DeviceCounts, Reads, ReadsNothing};

@@ -2,8 +2,8 @@
 use Rattle.std.proofs.Common.{◌≡◌, ℕ, ◌+◌, ◌^◌, ◌≤◌, List, [], ◌∷◌, ◌++◌, Bool, true, false, None, Some, Ok, Err, Option, length, drop, sym, ap, ◌∙◌, subst, refl, arith, inl, inr}
 use Rattle.std.specs.Io.KnownBytes.{Consumes, IsAtEnd}
 use Rattle.std.proofs.KnownBytes.{Consumes-nil, Consumes-trans}
-use Rattle.dbus_value.specs.declared.order.Order.{Order}
-use Rattle.dbus_value.specs.declared.fault.Fault.{Fault}
+use Rattle.dbus_value_model.specs.declared.order.Order.{Order}
+use Rattle.dbus_value_model.specs.declared.fault.Fault.{Fault}
 use Rattle.dbus_message.specs.declared.message.Message.{Message}
 use Rattle.dbus_message.specs.MessageViews.{message_tree}
 use Rattle.dbus_message.specs.MessageOutcomes.{IsRefused, IsPartial}

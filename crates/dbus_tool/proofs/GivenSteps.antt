@@ -1,7 +1,7 @@
 -- The next message, where nothing was read before it.
 use Rattle.std.proofs.Common.{ℕ, ◌+◌, List, [], ◌++◌, None, Some, Ok, Err, Option, Result, refl, ap, ◌∙◌, subst}
 use Rattle.std.specs.Io.KnownBytes.{Consumes}
-use Rattle.dbus_value.specs.declared.order.Order.{Order}
+use Rattle.dbus_value_model.specs.declared.order.Order.{Order}
 use Rattle.dbus_message.specs.declared.message.Message.{Message}
 use Rattle.dbus_stream.specs.Stated.{BeginsWithNone}
 use Rattle.dbus_stream.specs.Next.{RisesBy, Reads, ReadsNothing, KeepsAll, NextAnswers, KeptAnswers, DeviceCounts}

@@ -1,7 +1,7 @@
 -- What is written behind the messages of an input. g0 is what is gathered before.
 use Rattle.std.specs.Prelude.{◌≡◌, ◌⊎◌, ℕ, List, ◌++◌, Option}
 use Rattle.std.specs.Io.KnownBytes.{Appends}
-use Rattle.dbus_value.specs.declared.fault.Fault.{Fault}
+use Rattle.dbus_value_model.specs.declared.fault.Fault.{Fault}
 use Rattle.dbus_command.specs.declared.command.Command.{Command}
 use Rattle.dbus_stream.specs.Write.{Wrote}
 use Rattle.dbus_tool.specs.Output.{last_line, second_output, status_of, IsFrontOf}

@@ -1,7 +1,7 @@
 -- What the messages of an input are counted as.
 use Rattle.std.specs.Prelude.{◌≡◌, ℕ, ◌^◌, List, [], false, length, Option, None, Some, Result, Ok, Err}
 use Rattle.std.specs.Io.KnownBytes.{Consumes, IsAtEnd}
-use Rattle.dbus_value.specs.declared.fault.Fault.{Fault}
+use Rattle.dbus_value_model.specs.declared.fault.Fault.{Fault}
 use Rattle.dbus_stream.specs.Cut.{Item, IsCut, Outcome, Refused, fault_at_end, sizes}
 use Rattle.dbus_stream.specs.Reader.{kept, done_of, reads_of, limit_of, is_ended, stopped_of}
 use Rattle.dbus_stream.specs.declared.message_reader.MessageReader.{MessageReader}

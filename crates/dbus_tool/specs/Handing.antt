@@ -1,7 +1,7 @@
 -- What was read and written where messages are handed to a command. g0 and g1 are what is gathered before and after.
 use Rattle.std.specs.Prelude.{◌≡◌, ℕ, ◌^◌, List, [], ◌++◌, Option, Result, Ok, Err}
 use Rattle.std.specs.Io.KnownBytes.{Consumes}
-use Rattle.dbus_value.specs.declared.order.Order.{Order}
+use Rattle.dbus_value_model.specs.declared.order.Order.{Order}
 use Rattle.dbus_message.specs.declared.message.Message.{Message}
 use Rattle.dbus_message.specs.Messages.{MessageTree}
 use Rattle.dbus_stream.specs.Device.{one_more}

@@ -1,12 +1,12 @@
 -- An item and a reader agree.
 use Rattle.std.proofs.Common.{◌≡◌, ℕ, ◌⊎◌, ◌↔◌, List, ◌++◌, refl, sym, ap, ◌∙◌, inl, inr, append_assoc}
-use Rattle.dbus_value.specs.Bytes.{IsBytes}
-use Rattle.dbus_value.specs.Items.{Item, fault}
-use Rattle.dbus_value.specs.declared.fault.Fault.{Fault}
-use Rattle.dbus_value.specs.Items as items
-use Rattle.dbus_value.specs.Reading.{Reader, Outcome, Done, Faulty, Partial, after}
-use Rattle.dbus_value.specs.Reading as reading
-use Rattle.dbus_value.proofs.Numbers.{IsBytes-rest}
+use Rattle.dbus_value_model.specs.Bytes.{IsBytes}
+use Rattle.dbus_value_model.specs.Items.{Item, fault}
+use Rattle.dbus_value_model.specs.declared.fault.Fault.{Fault}
+use Rattle.dbus_value_model.specs.Items as items
+use Rattle.dbus_value_model.specs.Reading.{Reader, Outcome, Done, Faulty, Partial, after}
+use Rattle.dbus_value_model.specs.Reading as reading
+use Rattle.dbus_value_model.proofs.Numbers.{IsBytes-rest}
 
 pub record Agrees {A : Type 0} (item : Item A) (run : Reader A) : Type 0 where
   -- what is read is passed, and what is passed is read

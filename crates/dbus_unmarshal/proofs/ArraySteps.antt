@@ -4,18 +4,18 @@ use Rattle.std.proofs.lemmas.Bool.{lt-ltb, le-ltb, eq-eqb}
 use Rattle.std.proofs.lemmas.List.{length-drop, take_all, drop-drop}
 use Rattle.dbus_types.specs.Types.{BYTE, TypeTree, NumberType}
 use Rattle.dbus_types.specs.Alignments.{alignment_of}
-use Rattle.dbus_value.specs.declared.order.Order.{Order}
-use Rattle.dbus_value.specs.declared.order.Order.TheVariants.{Little, Big}
-use Rattle.dbus_value.specs.declared.fault.Reason.{Reason}
-use Rattle.dbus_value.specs.declared.fault.Reason.TheVariants as reasons
-use Rattle.dbus_value.specs.declared.stop.Stop.{Stop}
-use Rattle.dbus_value.specs.Items.{fault}
-use Rattle.dbus_value.specs.Values.{ValueTree, NumberValue}
-use Rattle.dbus_value.specs.Spelling.{array_limit}
-use Rattle.dbus_value.specs.ValueItems.{array_row}
-use Rattle.dbus_value.specs.Reading.{Done, Faulty, Partial, padding, number, number_of, up_to, contents, value}
-use Rattle.dbus_value.specs.ValueReaders.{number_value, array_frame}
-use Rattle.dbus_value.specs.Gives.{Stops, no_row}
+use Rattle.dbus_value_model.specs.declared.order.Order.{Order}
+use Rattle.dbus_value_model.specs.declared.order.Order.TheVariants.{Little, Big}
+use Rattle.dbus_value_model.specs.declared.fault.Reason.{Reason}
+use Rattle.dbus_value_model.specs.declared.fault.Reason.TheVariants as reasons
+use Rattle.dbus_value_model.specs.declared.stop.Stop.{Stop}
+use Rattle.dbus_value_model.specs.Items.{fault}
+use Rattle.dbus_value_model.specs.Values.{ValueTree, NumberValue}
+use Rattle.dbus_value_model.specs.Spelling.{array_limit}
+use Rattle.dbus_value_model.specs.ValueItems.{array_row}
+use Rattle.dbus_value_model.specs.Reading.{Done, Faulty, Partial, padding, number, number_of, up_to, contents, value}
+use Rattle.dbus_value_model.specs.ValueReaders.{number_value, array_frame}
+use Rattle.dbus_value_model.specs.Gives.{Stops, no_row}
 use Rattle.dbus_unmarshal.proofs.ReadSteps.{stops_after, number_stops, number_passes, number_fails, gap_is}
 use Rattle.dbus_unmarshal.proofs.NumberSteps.{no_padding, byte_done}
 use Rattle.dbus_unmarshal.proofs.ValueSteps.{value_number}

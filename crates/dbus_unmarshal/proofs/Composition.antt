@@ -4,13 +4,13 @@ use Rattle.std.proofs.lemmas.Bool.{ltb-true, ltb-false, lt-ltb, le-ltb}
 use Rattle.std.proofs.lemmas.List.{length-append, length-replicate}
 use Rattle.dbus_types.specs.Types.{NumberCode, BYTE, BOOLEAN, INT16, UINT16, INT32, UINT32, INT64, UINT64, DOUBLE, UNIX_FD, TextCode, TypeTree, NumberType, TextType, VariantType, ArrayType, StructType, EntryType, TypeTrees, NoTypes, MoreTypes, sig, IsSingleType}
 use Rattle.dbus_types.specs.Alignments.{width, length_width, alignment_of}
-use Rattle.dbus_value.specs.declared.order.Order.{Order}
-use Rattle.dbus_value.specs.Bytes.{num, gap_to, pad}
-use Rattle.dbus_value.specs.Spelling.{contents_start, ended_text, spelling, spellings, array_limit, Spelled, SpelledAll}
-use Rattle.dbus_value.specs.Values.{IsNumber, AllOf, ValueTree, value_trees, ValueTrees, NoValues, MoreValues, NumberValue, TextValue, VariantValue, ArrayValue, StructValue, EntryValue, type_of, types_of}
-use Rattle.dbus_value.specs.Items.{Item, Sequence}
-use Rattle.dbus_value.specs.ValueItems.{number_row, text_row, array_row, items, fields}
-use Rattle.dbus_value.proofs.Numbers.{length-num}
+use Rattle.dbus_value_model.specs.declared.order.Order.{Order}
+use Rattle.dbus_value_model.specs.Bytes.{num, gap_to, pad}
+use Rattle.dbus_value_model.specs.Spelling.{contents_start, ended_text, spelling, spellings, array_limit, Spelled, SpelledAll}
+use Rattle.dbus_value_model.specs.Values.{IsNumber, AllOf, ValueTree, value_trees, ValueTrees, NoValues, MoreValues, NumberValue, TextValue, VariantValue, ArrayValue, StructValue, EntryValue, type_of, types_of}
+use Rattle.dbus_value_model.specs.Items.{Item, Sequence}
+use Rattle.dbus_value_model.specs.ValueItems.{number_row, text_row, array_row, items, fields}
+use Rattle.dbus_value_model.proofs.Numbers.{length-num}
 use Rattle.dbus_unmarshal.proofs.KindLaws.{text_single}
 use Rattle.dbus_unmarshal.proofs.OwnItems.{chosen}
 

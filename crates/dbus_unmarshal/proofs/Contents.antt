@@ -1,13 +1,13 @@
 -- The contents of an array.
 use Rattle.std.proofs.Common.{◌≡◌, ℕ, zero, suc, ◌+◌, ◌<◌, ◌≤◌, List, [], ◌∷◌, ◌++◌, true, false, ltb, eqb, refl, sym, ap, ◌∙◌, arith, inl, inr, append_assoc}
 use Rattle.std.proofs.lemmas.Bool.{ltb-true, lt-ltb, le-ltb, eqb-true, eq-eqb}
-use Rattle.dbus_value.specs.Bytes.{IsBytes}
-use Rattle.dbus_value.specs.Items.{Item, Sequence, StopsIn}
-use Rattle.dbus_value.specs.declared.fault.Fault.{Fault}
-use Rattle.dbus_value.specs.Items as items
-use Rattle.dbus_value.specs.Reading.{Reader, Outcome, Done, Faulty, Partial, after, stop, up_to}
-use Rattle.dbus_value.specs.Reading as reading
-use Rattle.dbus_value.proofs.Numbers.{IsBytes-rest}
+use Rattle.dbus_value_model.specs.Bytes.{IsBytes}
+use Rattle.dbus_value_model.specs.Items.{Item, Sequence, StopsIn}
+use Rattle.dbus_value_model.specs.declared.fault.Fault.{Fault}
+use Rattle.dbus_value_model.specs.Items as items
+use Rattle.dbus_value_model.specs.Reading.{Reader, Outcome, Done, Faulty, Partial, after, stop, up_to}
+use Rattle.dbus_value_model.specs.Reading as reading
+use Rattle.dbus_value_model.proofs.Numbers.{IsBytes-rest}
 use Rattle.dbus_unmarshal.proofs.Agreement.{Agrees, after_done, after_faulty}
 use Rattle.dbus_unmarshal.proofs.OwnItems.{chosen}
 

@@ -4,14 +4,14 @@ use Rattle.std.proofs.Common.{◌≡◌, ℕ, zero, suc, ◌+◌, ◌-◌, ◌<�
 use Rattle.std.proofs.lemmas.Bool.{lt-ltb, le-ltb, eq-eqb}
 use Rattle.dbus_types.specs.Types.{TypeTree, TypeTrees, NoTypes, MoreTypes, VariantType, ArrayType, StructType, EntryType, IsShaped}
 use Rattle.dbus_types.specs.Alignments.{alignment_of}
-use Rattle.dbus_value.specs.WantedTexts.{Of}
-use Rattle.dbus_value.specs.declared.order.Order.{Order}
-use Rattle.dbus_value.specs.Bytes.{IsBytes}
-use Rattle.dbus_value.specs.Spelling.{spelling}
-use Rattle.dbus_value.specs.Values.{type_of, ValueTree, value_trees, ValueTrees, MoreValues, VariantValue, ArrayValue, StructValue, EntryValue}
-use Rattle.dbus_value.specs.ValueItems.{text_row, array_row}
-use Rattle.dbus_value.specs.Reading.{Reader, Outcome, Done, Faulty, Partial, ◌>>=◌, after, padding, number, signature, nul, fields, contents, stop, up_to, value, pure}
-use Rattle.dbus_value.proofs.Numbers.{IsBytes-rest}
+use Rattle.dbus_value_model.specs.WantedTexts.{Of}
+use Rattle.dbus_value_model.specs.declared.order.Order.{Order}
+use Rattle.dbus_value_model.specs.Bytes.{IsBytes}
+use Rattle.dbus_value_model.specs.Spelling.{spelling}
+use Rattle.dbus_value_model.specs.Values.{type_of, ValueTree, value_trees, ValueTrees, MoreValues, VariantValue, ArrayValue, StructValue, EntryValue}
+use Rattle.dbus_value_model.specs.ValueItems.{text_row, array_row}
+use Rattle.dbus_value_model.specs.Reading.{Reader, Outcome, Done, Faulty, Partial, ◌>>=◌, after, padding, number, signature, nul, fields, contents, stop, up_to, value, pure}
+use Rattle.dbus_value_model.proofs.Numbers.{IsBytes-rest}
 use Rattle.dbus_unmarshal.proofs.ValueItemLaws.{positive}
 use Rattle.dbus_unmarshal.proofs.ValueOutcomes.{reads_spelled}
 use Rattle.dbus_types.specs.declared.text_kind.TextKind.TheVariants as kinds
@@ -71,7 +71,7 @@ module _ (order : Order) (frames : List Frame) where
       after_after (number order 1 end (text_row end) o s) _ _ ∙ after_same (number order 1 end (text_row end) o s) _ _ (λ n p u.
       after_after (signature (Of kinds.Single) n p u) _ _ ∙ after_same (signature (Of kinds.Single) n p u) _ _ (λ held p u.
       after_after (nul p u) _ _ ∙ after_same (nul p u) _ _ (λ _ p u.
-      after_after (value order room end held p u) _ _ ∙ sym (after_after (value order room end held p u) (λ v. pure (MoreValues v Rattle.dbus_value.specs.Values.NoValues)) (λ _. resume order frames)))))
+      after_after (value order room end held p u) _ _ ∙ sym (after_after (value order room end held p u) (λ v. pure (MoreValues v Rattle.dbus_value_model.specs.Values.NoValues)) (λ _. resume order frames)))))
 
 -- ---- one more element
 

@@ -8,7 +8,7 @@ use Rattle.dbus_types.specs.declared.text_kind.TextKind.{TextKind}
 use Rattle.dbus_types.specs.declared.text_kind.TextKind.TheVariants as kinds
 use Rattle.dbus_types.specs.ComputedKinds as computed
 use Rattle.dbus_types.proofs.KindFacts as facts
-use Rattle.dbus_value.specs.WantedTexts.{WantedText, Of, Only, IsWanted, IsBreakOf, is_kind, break_at, same_text, alike, IsName}
+use Rattle.dbus_value_model.specs.WantedTexts.{WantedText, Of, Only, IsWanted, IsBreakOf, is_kind, break_at, same_text, alike, IsName}
 
 alike_le : (u t : List ℕ) → alike u t ≤ length t
 alike_le [] t = omega arith

@@ -2,20 +2,20 @@
 use Rattle.std.proofs.Common.{◌≡◌, ℕ, zero, suc, ◌<◌, ◌≤◌, List, None, Some, cond, eqb, refl, ap, ◌∙◌, arith}
 use Rattle.std.proofs.lemmas.Bool.{lt-ltb, le-ltb}
 use Rattle.dbus_types.specs.Types.{BYTE, BOOLEAN}
-use Rattle.dbus_value.specs.declared.order.Order.{Order}
-use Rattle.dbus_value.specs.declared.fault.Reason.TheVariants as reasons
-use Rattle.dbus_value.specs.declared.stop.Stop.{Stop}
-use Rattle.dbus_value.specs.declared.value.Value.{Bool as BoolOf}
-use Rattle.dbus_value.specs.Items.{fault}
-use Rattle.dbus_value.specs.Values.{NumberValue}
-use Rattle.dbus_value.specs.Bytes.{gap_to}
-use Rattle.dbus_value.specs.ValueItems.{number_row}
-use Rattle.dbus_value.specs.Reading.{Done, Faulty, padding, number}
-use Rattle.dbus_value.specs.ValueReaders.{number_value}
-use Rattle.dbus_value.specs.ValueViews.{value_tree}
-use Rattle.dbus_value.specs.Gives.{Stops, no_row}
+use Rattle.dbus_value_model.specs.declared.order.Order.{Order}
+use Rattle.dbus_value_model.specs.declared.fault.Reason.TheVariants as reasons
+use Rattle.dbus_value_model.specs.declared.stop.Stop.{Stop}
+use Rattle.dbus_value_model.specs.declared.value.Value.{Bool as BoolOf}
+use Rattle.dbus_value_model.specs.Items.{fault}
+use Rattle.dbus_value_model.specs.Values.{NumberValue}
+use Rattle.dbus_value_model.specs.Bytes.{gap_to}
+use Rattle.dbus_value_model.specs.ValueItems.{number_row}
+use Rattle.dbus_value_model.specs.Reading.{Done, Faulty, padding, number}
+use Rattle.dbus_value_model.specs.ValueReaders.{number_value}
+use Rattle.dbus_value_model.specs.ValueViews.{value_tree}
+use Rattle.dbus_value_model.specs.Gives.{Stops, no_row}
 use Rattle.dbus_unmarshal.proofs.ReadSteps.{stops_after, number_stops, number_passes, number_fails, padding_is, gap_is}
-use Rattle.dbus_value.proofs.ValueRows.{tree-Byte, tree-Bool, tree-I16, tree-U16, tree-I32, tree-U32, tree-I64, tree-U64, tree-Double, tree-Fd}
+use Rattle.dbus_value_model.proofs.ValueRows.{tree-Byte, tree-Bool, tree-I16, tree-U16, tree-I32, tree-U32, tree-I64, tree-U64, tree-Double, tree-Fd}
 
 pub ruleset numbers = (tree-Byte, tree-I16, tree-U16, tree-I32, tree-U32, tree-I64, tree-U64, tree-Double, tree-Fd)
 

@@ -3,17 +3,17 @@ use Rattle.std.proofs.Common.{◌≡◌, ℕ, zero, suc, ◌+◌, ◌-◌, ◌<�
 use Rattle.std.proofs.lemmas.Bool.{lt-ltb, le-ltb}
 use Rattle.std.proofs.lemmas.List.{drop_all, drop_more, drop-drop, length-drop}
 use Rattle.std.proofs.Math.Numerals.{add-one}
-use Rattle.dbus_value.specs.declared.order.Order.{Order}
-use Rattle.dbus_value.specs.declared.order.Order.TheVariants.{Little, Big}
-use Rattle.dbus_value.specs.declared.fault.Reason.{Reason}
-use Rattle.dbus_value.specs.declared.fault.Reason.TheVariants as reasons
-use Rattle.dbus_value.specs.Bytes.{gap_to}
-use Rattle.dbus_value.specs.Items.{fault}
-use Rattle.dbus_value.specs.Reading.{Reader, Outcome, Done, Faulty, Partial, after, zeros, padding, number, number_of, judged, nul}
-use Rattle.dbus_value.specs.declared.stop.Stop.{Stop}
-use Rattle.dbus_value.specs.declared.stop.Stop.TheVariants as stops
-use Rattle.dbus_value.specs.Gives.{Stops, no_row}
-use Rattle.dbus_value.specs.ValueItems.{text_row}
+use Rattle.dbus_value_model.specs.declared.order.Order.{Order}
+use Rattle.dbus_value_model.specs.declared.order.Order.TheVariants.{Little, Big}
+use Rattle.dbus_value_model.specs.declared.fault.Reason.{Reason}
+use Rattle.dbus_value_model.specs.declared.fault.Reason.TheVariants as reasons
+use Rattle.dbus_value_model.specs.Bytes.{gap_to}
+use Rattle.dbus_value_model.specs.Items.{fault}
+use Rattle.dbus_value_model.specs.Reading.{Reader, Outcome, Done, Faulty, Partial, after, zeros, padding, number, number_of, judged, nul}
+use Rattle.dbus_value_model.specs.declared.stop.Stop.{Stop}
+use Rattle.dbus_value_model.specs.declared.stop.Stop.TheVariants as stops
+use Rattle.dbus_value_model.specs.Gives.{Stops, no_row}
+use Rattle.dbus_value_model.specs.ValueItems.{text_row}
 
 -- a stop within the first part is one of the whole
 pub stops_after : {A B : Type 0} (e : Stop) (r : Outcome A) (next : A → Reader B) → Stops e r → Stops e (after r next)

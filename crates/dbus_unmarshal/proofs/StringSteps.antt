@@ -6,19 +6,19 @@ use Rattle.dbus_types.specs.ComputedKinds.{types_spelled}
 use Rattle.dbus_types.specs.Kinds.{IsKind}
 use Rattle.dbus_types.specs.declared.text_kind.TextKind.TheVariants.{Text, Path, Signature}
 use Rattle.dbus_types.proofs.KindFacts.{kind_is, is_kind_of, path_is_text, text_utf8, signature_text_is}
-use Rattle.dbus_value.specs.WantedTexts.{Of}
-use Rattle.dbus_value.specs.declared.order.Order.{Order}
-use Rattle.dbus_value.specs.declared.stop.Stop.{Stop}
-use Rattle.dbus_value.specs.Values.{ValueTree, TextValue}
-use Rattle.dbus_value.specs.ValueViews.{value_tree}
-use Rattle.dbus_value.specs.declared.value.Value.{Sig}
-use Rattle.dbus_value.specs.ValueItems.{text_row}
-use Rattle.dbus_value.specs.Reading.{Done, number, text, nul}
-use Rattle.dbus_value.specs.ValueReaders.{text_value}
-use Rattle.dbus_value.specs.Gives.{Stops}
+use Rattle.dbus_value_model.specs.WantedTexts.{Of}
+use Rattle.dbus_value_model.specs.declared.order.Order.{Order}
+use Rattle.dbus_value_model.specs.declared.stop.Stop.{Stop}
+use Rattle.dbus_value_model.specs.Values.{ValueTree, TextValue}
+use Rattle.dbus_value_model.specs.ValueViews.{value_tree}
+use Rattle.dbus_value_model.specs.declared.value.Value.{Sig}
+use Rattle.dbus_value_model.specs.ValueItems.{text_row}
+use Rattle.dbus_value_model.specs.Reading.{Done, number, text, nul}
+use Rattle.dbus_value_model.specs.ValueReaders.{text_value}
+use Rattle.dbus_value_model.specs.Gives.{Stops}
 use Rattle.dbus_unmarshal.proofs.ReadSteps.{stops_after}
 use Rattle.dbus_unmarshal.proofs.NumberSteps.{no_padding}
-use Rattle.dbus_value.proofs.ValueRows.{tree-Str, tree-Path, tree-Sig}
+use Rattle.dbus_value_model.proofs.ValueRows.{tree-Str, tree-Path, tree-Sig}
 
 pub ruleset strings = (tree-Str, tree-Path, tree-Sig)
 

@@ -6,9 +6,9 @@ use Rattle.dbus_types.specs.Types.{TypeTree, sig, IsSingleType}
 use Rattle.dbus_types.specs.ComputedKinds.{type_spelled}
 use Rattle.dbus_types.specs.Kinds.{IsKind}
 use Rattle.dbus_types.specs.declared.text_kind.TextKind.TheVariants as kinds
-use Rattle.dbus_value.specs.WantedTexts.{WantedText, Of, Only, IsWanted, IsBreakOf, break_at, alike}
-use Rattle.dbus_value.specs.Items.{fault, text_reason}
-use Rattle.dbus_value.specs.Reading.{Done, Faulty, Partial, text, signature}
+use Rattle.dbus_value_model.specs.WantedTexts.{WantedText, Of, Only, IsWanted, IsBreakOf, break_at, alike}
+use Rattle.dbus_value_model.specs.Items.{fault, text_reason}
+use Rattle.dbus_value_model.specs.Reading.{Done, Faulty, Partial, text, signature}
 use Rattle.dbus_unmarshal.proofs.KindLaws.{break_le, break_whole, break_is, one_break, is_wanted, is_not_wanted, spelled_sig, single_text}
 
 -- given is what is there of a text of n bytes at a place

@@ -4,23 +4,23 @@ use Rattle.std.proofs.lemmas.List.{length-append}
 use Rattle.dbus_types.specs.Types.{NumberCode, BYTE, BOOLEAN, INT16, UINT16, INT32, UINT32, INT64, UINT64, DOUBLE, UNIX_FD, TextCode, TypeTree, NumberType, TextType, VariantType, ArrayType, StructType, EntryType, TypeTrees, NoTypes, MoreTypes, IsShaped, AreShaped, IsBasic}
 use Rattle.dbus_types.specs.Alignments.{width, length_width, alignment_of}
 use Rattle.dbus_types.proofs.KindFacts.{shaped_of}
-use Rattle.dbus_value.specs.WantedTexts.{kind_of, Of}
-use Rattle.dbus_value.specs.declared.order.Order.{Order}
-use Rattle.dbus_value.specs.Bytes.{gap_to}
-use Rattle.dbus_value.specs.Spelling.{spelling, Spelled}
-use Rattle.dbus_value.specs.Values.{ValueTree, value_trees, NoValues, MoreValues, NumberValue, TextValue, VariantValue, ArrayValue, StructValue, EntryValue, type_of}
-use Rattle.dbus_value.specs.Items.{Item}
-use Rattle.dbus_value.specs.Items as items
-use Rattle.dbus_value.specs.ValueItems.{number_row, text_row, array_row}
-use Rattle.dbus_value.specs.ValueItems as faults
-use Rattle.dbus_value.specs.Reading.{Reader, Outcome, Done, Faulty, Partial}
-use Rattle.dbus_value.specs.Reading as reading
-use Rattle.dbus_value.proofs.Numbers.{length-num}
+use Rattle.dbus_value_model.specs.WantedTexts.{kind_of, Of}
+use Rattle.dbus_value_model.specs.declared.order.Order.{Order}
+use Rattle.dbus_value_model.specs.Bytes.{gap_to}
+use Rattle.dbus_value_model.specs.Spelling.{spelling, Spelled}
+use Rattle.dbus_value_model.specs.Values.{ValueTree, value_trees, NoValues, MoreValues, NumberValue, TextValue, VariantValue, ArrayValue, StructValue, EntryValue, type_of}
+use Rattle.dbus_value_model.specs.Items.{Item}
+use Rattle.dbus_value_model.specs.Items as items
+use Rattle.dbus_value_model.specs.ValueItems.{number_row, text_row, array_row}
+use Rattle.dbus_value_model.specs.ValueItems as faults
+use Rattle.dbus_value_model.specs.Reading.{Reader, Outcome, Done, Faulty, Partial}
+use Rattle.dbus_value_model.specs.Reading as reading
+use Rattle.dbus_value_model.proofs.Numbers.{length-num}
 use Rattle.dbus_unmarshal.proofs.Agreement.{Agrees, Agrees-then, Agrees-before, Agrees-as}
 use Rattle.dbus_unmarshal.proofs.OwnItems.{Agrees-pure, Agrees-refuse, Agrees-padding, Agrees-number, Agrees-text, Agrees-nul, Agrees-signature}
 use Rattle.dbus_unmarshal.proofs.Contents.{Moves, Agrees-contents}
 use Rattle.dbus_unmarshal.proofs.Composition.{number_to, number_from, text_to, text_from, variant_to, variant_from, array_to, array_from, struct_to, struct_from, entry_to, entry_from}
-use Rattle.dbus_value.specs.declared.fault.Reason.TheVariants as reasons
+use Rattle.dbus_value_model.specs.declared.fault.Reason.TheVariants as reasons
 use Rattle.dbus_types.specs.declared.text_kind.TextKind.TheVariants as kinds
 
 -- ---- a value of a complete type has at least one byte

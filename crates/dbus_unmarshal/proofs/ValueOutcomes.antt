@@ -1,17 +1,17 @@
 -- The laws.
 use Rattle.std.proofs.Common.{◌≡◌, ℕ, ◌+◌, ◌≤◌, List, ◌++◌, length, refl, ap, subst, ◌∙◌, arith, inl, inr, append_assoc}
 use Rattle.dbus_types.specs.Types.{TypeTree, TypeTrees, IsShaped, AreShaped}
-use Rattle.dbus_value.specs.declared.order.Order.{Order}
-use Rattle.dbus_value.specs.Bytes.{IsBytes}
-use Rattle.dbus_value.specs.Spelling.{spelling, Spelled}
-use Rattle.dbus_value.specs.Values.{ValueTrees, type_of}
-use Rattle.dbus_value.specs.Items.{Item}
-use Rattle.dbus_value.specs.declared.fault.Fault.{Fault}
-use Rattle.dbus_value.specs.ValueItems as faults
-use Rattle.dbus_value.specs.Reading.{Reader, Outcome, Done, Faulty, Partial}
-use Rattle.dbus_value.specs.Reading as reading
-use Rattle.dbus_value.specs.Outcomes.{IsDone, Outcomes}
-use Rattle.dbus_value.specs.Laws.{OneValue, OneOutcome, NotBoth, OneFault, RefusedForGood, DoneForGood, ReadsSpelled, ReadsFaults}
+use Rattle.dbus_value_model.specs.declared.order.Order.{Order}
+use Rattle.dbus_value_model.specs.Bytes.{IsBytes}
+use Rattle.dbus_value_model.specs.Spelling.{spelling, Spelled}
+use Rattle.dbus_value_model.specs.Values.{ValueTrees, type_of}
+use Rattle.dbus_value_model.specs.Items.{Item}
+use Rattle.dbus_value_model.specs.declared.fault.Fault.{Fault}
+use Rattle.dbus_value_model.specs.ValueItems as faults
+use Rattle.dbus_value_model.specs.Reading.{Reader, Outcome, Done, Faulty, Partial}
+use Rattle.dbus_value_model.specs.Reading as reading
+use Rattle.dbus_value_model.specs.Outcomes.{IsDone, Outcomes}
+use Rattle.dbus_value_model.specs.Laws.{OneValue, OneOutcome, NotBoth, OneFault, RefusedForGood, DoneForGood, ReadsSpelled, ReadsFaults}
 use Rattle.dbus_unmarshal.proofs.Agreement.{Agrees}
 use Rattle.dbus_unmarshal.proofs.Composition.{fields_to, fields_from}
 use Rattle.dbus_unmarshal.proofs.ValueItemLaws.{Agrees-value, value_inside, agrees_fields}

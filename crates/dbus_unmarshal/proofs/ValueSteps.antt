@@ -6,26 +6,26 @@ use Rattle.dbus_types.specs.Types.{NumberCode, TextCode, TypeTree, NumberType, T
 use Rattle.dbus_types.proofs.KindFacts.{shaped_of}
 use Rattle.dbus_types.specs.SigTypes.{type_tree, type_trees_of}
 use Rattle.dbus_types.specs.declared.sig_type.SigType.{SigType}
-use Rattle.dbus_value.specs.declared.order.Order.{Order}
-use Rattle.dbus_value.specs.declared.fault.Reason.TheVariants as reasons
-use Rattle.dbus_value.specs.declared.stop.Stop.{Stop}
-use Rattle.dbus_value.specs.Items.{fault}
-use Rattle.dbus_value.specs.Bytes.{IsBytes}
-use Rattle.dbus_value.specs.Values.{ValueTree, ValueTrees, NoValues, MoreValues, ArrayValue, StructValue, value_trees}
-use Rattle.dbus_value.specs.Spelling.{spelling, Spelled}
-use Rattle.dbus_value.specs.Reading.{Reader, Outcome, Done, Faulty, Partial, after, pure, up_to, contents, fields, padding, number, opened, value}
-use Rattle.dbus_value.specs.Reading as reading
+use Rattle.dbus_value_model.specs.declared.order.Order.{Order}
+use Rattle.dbus_value_model.specs.declared.fault.Reason.TheVariants as reasons
+use Rattle.dbus_value_model.specs.declared.stop.Stop.{Stop}
+use Rattle.dbus_value_model.specs.Items.{fault}
+use Rattle.dbus_value_model.specs.Bytes.{IsBytes}
+use Rattle.dbus_value_model.specs.Values.{ValueTree, ValueTrees, NoValues, MoreValues, ArrayValue, StructValue, value_trees}
+use Rattle.dbus_value_model.specs.Spelling.{spelling, Spelled}
+use Rattle.dbus_value_model.specs.Reading.{Reader, Outcome, Done, Faulty, Partial, after, pure, up_to, contents, fields, padding, number, opened, value}
+use Rattle.dbus_value_model.specs.Reading as reading
 use Rattle.dbus_types.specs.Alignments.{alignment_of}
-use Rattle.dbus_value.specs.ValueItems.{array_row}
-use Rattle.dbus_value.specs.ValueReaders.{number_value, text_value, variant_value, held_value, array_frame, open_array, array_value, open_struct, struct_value, entry_value}
-use Rattle.dbus_value.specs.Gives.{Stops}
+use Rattle.dbus_value_model.specs.ValueItems.{array_row}
+use Rattle.dbus_value_model.specs.ValueReaders.{number_value, text_value, variant_value, held_value, array_frame, open_array, array_value, open_struct, struct_value, entry_value}
+use Rattle.dbus_value_model.specs.Gives.{Stops}
 use Rattle.dbus_unmarshal.proofs.ReadSteps.{stops_after}
 use Rattle.dbus_unmarshal.proofs.ValueItemLaws.{positive}
 use Rattle.dbus_unmarshal.proofs.ValueOutcomes.{reads_spelled, reads_faults}
-use Rattle.dbus_value.specs.Gets.{IsValuePartial}
-use Rattle.dbus_value.specs.ValueItems as items
-use Rattle.dbus_value.specs.declared.fault.Fault.{Fault}
-use Rattle.dbus_value.proofs.ValueRows.{tree-Variant, tree-Array, tree-Struct, tree-Entry, tree-Bytes}
+use Rattle.dbus_value_model.specs.Gets.{IsValuePartial}
+use Rattle.dbus_value_model.specs.ValueItems as items
+use Rattle.dbus_value_model.specs.declared.fault.Fault.{Fault}
+use Rattle.dbus_value_model.proofs.ValueRows.{tree-Variant, tree-Array, tree-Struct, tree-Entry, tree-Bytes}
 
 pub ruleset values = (tree-Variant, tree-Array, tree-Struct, tree-Entry, tree-Bytes)
 

@@ -4,16 +4,16 @@
 ghost use Rattle.std.specs.Prelude.{◌≢◌, ◌≡◌, ℕ, ◌+◌, ◌≤◌, length, drop, map, IfOk, IfErr};
 ghost use Rattle.dbus_types.specs.Types.{NumberType, BYTE};
 ghost use Rattle.dbus_types.specs.SigTypes.{type_tree};
-ghost use Rattle.dbus_value.specs.declared.order.Order.{Order};
-ghost use Rattle.dbus_value.specs.Values.{NumberValue};
-ghost use Rattle.dbus_value.specs.Reading.{contents, value};
-ghost use Rattle.dbus_value.specs.ValueReaders.{array_frame};
-ghost use Rattle.dbus_value.specs.declared.stop.Stop.TheVariants.{Memory};
-ghost use Rattle.dbus_value.specs.Gives.{Gives};
+ghost use Rattle.dbus_value_model.specs.declared.order.Order.{Order};
+ghost use Rattle.dbus_value_model.specs.Values.{NumberValue};
+ghost use Rattle.dbus_value_model.specs.Reading.{contents, value};
+ghost use Rattle.dbus_value_model.specs.ValueReaders.{array_frame};
+ghost use Rattle.dbus_value_model.specs.declared.stop.Stop.TheVariants.{Memory};
+ghost use Rattle.dbus_value_model.specs.Gives.{Gives};
 
 use crate::items::{read_padding, read_u32};
 use dbus_types::{SigType, alignment};
-use dbus_value::{Order, Reason, Stop, refuse};
+use dbus_value_model::{Order, Reason, Stop, refuse};
 use std::alloc::Allocator;
 
 /// The most bytes that an array's elements may have. D-Bus Specification, "Marshaling (Wire Format)".

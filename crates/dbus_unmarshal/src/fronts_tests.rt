@@ -3,7 +3,7 @@
 
 use super::*;
 use dbus_types::parse_single;
-use dbus_value::{Fault, Got, Order, Reason, Refusal};
+use dbus_value_model::{Fault, Got, Order, Reason, Refusal};
 use std::alloc::Allocator;
 use std::test::*;
 

@@ -7,14 +7,14 @@
 #![tactic(auto)]
 
 ghost use Rattle.std.specs.Prelude.{◌≢◌, ◌≡◌, ℕ, ◌+◌, ◌<◌, ◌≤◌, ◌^◌, length, take, drop, true, IfOk, IfErr};
-ghost use Rattle.dbus_value.specs.declared.order.Order.{Order};
-ghost use Rattle.dbus_value.specs.Bytes.{gap_to};
-ghost use Rattle.dbus_value.specs.ValueItems.{text_row};
-ghost use Rattle.dbus_value.specs.Reading.{padding, number, nul};
-ghost use Rattle.dbus_value.specs.declared.stop.Stop.TheVariants.{Memory};
-ghost use Rattle.dbus_value.specs.Gives.{Gives, no_row};
+ghost use Rattle.dbus_value_model.specs.declared.order.Order.{Order};
+ghost use Rattle.dbus_value_model.specs.Bytes.{gap_to};
+ghost use Rattle.dbus_value_model.specs.ValueItems.{text_row};
+ghost use Rattle.dbus_value_model.specs.Reading.{padding, number, nul};
+ghost use Rattle.dbus_value_model.specs.declared.stop.Stop.TheVariants.{Memory};
+ghost use Rattle.dbus_value_model.specs.Gives.{Gives, no_row};
 
-use dbus_value::{Order, Reason, Stop, refuse};
+use dbus_value_model::{Order, Reason, Stop, refuse};
 
 /// The zeros up to the next multiple of `alignment`. Gives the place behind them.
 ///

@@ -2,7 +2,7 @@
 //! when it runs. D-Bus Specification, "Marshaling (Wire Format)".
 #![tactic(auto)]
 
-ghost use Rattle.dbus_value.specs.Laws.{OneValue, OneOutcome, NotBoth, OneFault, RefusedForGood, DoneForGood, LeastPadding, NumberIsPlaceSum};
+ghost use Rattle.dbus_value_model.specs.Laws.{OneValue, OneOutcome, NotBoth, OneFault, RefusedForGood, DoneForGood, LeastPadding, NumberIsPlaceSum};
 
 /// At one order, depth and offset a value has one spelling, and of two values of one type neither's spelling begins the
 /// other's.

@@ -1,17 +1,17 @@
 //! Values that are one number.
-#![tactic(auto, using(crate::proofs::NumberSteps::numbers), unfolding(dbus_value::specs::ValueReaders::number_value))]
+#![tactic(auto, using(crate::proofs::NumberSteps::numbers), unfolding(dbus_value_model::specs::ValueReaders::number_value))]
 
 ghost use Rattle.std.specs.Prelude.{◌≢◌, ◌≤◌, length, drop, IsTrue, IfOk, IfErr};
 ghost use Rattle.dbus_types.specs.Types.{BYTE, BOOLEAN, INT16, UINT16, INT32, UINT32, INT64, UINT64, DOUBLE, UNIX_FD};
-ghost use Rattle.dbus_value.specs.declared.order.Order.{Order};
-ghost use Rattle.dbus_value.specs.PackedBytes.{keeps_bytes};
-ghost use Rattle.dbus_value.specs.ValueReaders.{number_value};
-ghost use Rattle.dbus_value.specs.ValueViews.{value_tree};
-ghost use Rattle.dbus_value.specs.declared.stop.Stop.TheVariants.{Memory};
-ghost use Rattle.dbus_value.specs.Gives.{Gives};
+ghost use Rattle.dbus_value_model.specs.declared.order.Order.{Order};
+ghost use Rattle.dbus_value_model.specs.PackedBytes.{keeps_bytes};
+ghost use Rattle.dbus_value_model.specs.ValueReaders.{number_value};
+ghost use Rattle.dbus_value_model.specs.ValueViews.{value_tree};
+ghost use Rattle.dbus_value_model.specs.declared.stop.Stop.TheVariants.{Memory};
+ghost use Rattle.dbus_value_model.specs.Gives.{Gives};
 
 use crate::items::{read_byte, read_padding, read_u16, read_u32, read_u64};
-use dbus_value::{Order, Reason, Stop, Value, refuse};
+use dbus_value_model::{Order, Reason, Stop, Value, refuse};
 use std::alloc::Allocator;
 
 /// A BYTE.

@@ -4,12 +4,12 @@
 ghost use Rattle.std.specs.Prelude.{◌≡◌, ℕ, ◌+◌, ◌-◌, ◌≤◌, ◌<◌, ◌^◌, length, drop, map, true, false, IsTrue, IfOk};
 ghost use Rattle.dbus_types.specs.Types.{IsShaped, AreShaped, IsSingleType};
 ghost use Rattle.dbus_types.specs.SigTypes.{type_tree, type_trees_of};
-ghost use Rattle.dbus_value.specs.ValueViews.{value_tree, value_trees_of};
-ghost use Rattle.dbus_value.specs.PackedBytes.{keeps_bytes, keep_bytes, KeepsBytes};
-ghost use Rattle.dbus_value.specs.Reading.{contents, fields, value};
-ghost use Rattle.dbus_value.specs.ValueReaders.{held_value, variant_value, open_array, array_value, open_struct, struct_value, entry_value};
-ghost use Rattle.dbus_value.specs.Gives.{Gives};
-ghost use Rattle.dbus_value.specs.Gets.{Gets};
+ghost use Rattle.dbus_value_model.specs.ValueViews.{value_tree, value_trees_of};
+ghost use Rattle.dbus_value_model.specs.PackedBytes.{keeps_bytes, keep_bytes, KeepsBytes};
+ghost use Rattle.dbus_value_model.specs.Reading.{contents, fields, value};
+ghost use Rattle.dbus_value_model.specs.ValueReaders.{held_value, variant_value, open_array, array_value, open_struct, struct_value, entry_value};
+ghost use Rattle.dbus_value_model.specs.Gives.{Gives};
+ghost use Rattle.dbus_value_model.specs.Gets.{Gets};
 
 use crate::arrays::{read_bytes, read_frame};
 use crate::items::{read_nul, read_padding, read_short_length};
@@ -19,7 +19,7 @@ use crate::number_values::{
 use crate::text_values::{get_path, get_sig, get_str};
 use crate::texts::read_signature;
 use dbus_types::{SigType, copy_type};
-use dbus_value::{Got, Order, Reason, Refusal, Stop, Value, refuse};
+use dbus_value_model::{Got, Order, Reason, Refusal, Stop, Value, refuse};
 use std::alloc::Allocator;
 
 /// The most containers that may be open at once. D-Bus Specification, "Message Protocol".
@@ -117,7 +117,7 @@ fn read_variant<A: Allocator + Copy>(
 
 /// What a variant that is open has: a signature, and a value of its type.
 #[cycle(values)]
-#[tactic(auto, using(crate::proofs::ValueSteps::values), unfolding(dbus_value::specs::ValueReaders::held_value))]
+#[tactic(auto, using(crate::proofs::ValueSteps::values), unfolding(dbus_value_model::specs::ValueReaders::held_value))]
 fn read_held<A: Allocator + Copy>(
     alloc: A,
     bytes: &[u8],
@@ -270,7 +270,7 @@ fn read_fields<A: Allocator + Copy>(
 
 /// A dict entry.
 #[cycle(values)]
-#[tactic(auto, using(crate::proofs::ValueSteps::values), unfolding(dbus_value::specs::ValueReaders::entry_value))]
+#[tactic(auto, using(crate::proofs::ValueSteps::values), unfolding(dbus_value_model::specs::ValueReaders::entry_value))]
 fn read_entry<A: Allocator + Copy>(
     alloc: A,
     bytes: &[u8],

@@ -4,7 +4,7 @@ ghost use Rattle.std.specs.Prelude.{◌≤◌};
 
 use super::*;
 use dbus_types::{SigType, parse_single};
-use dbus_value::{Fault, Got, Order, Reason, Refusal, Value};
+use dbus_value_model::{Fault, Got, Order, Reason, Refusal, Value};
 use refusing_alloc::Refusing;
 use std::alloc::Allocator;
 use std::test::*;

@@ -1,18 +1,18 @@
 //! Values that are one text.
-#![tactic(auto, using(crate::proofs::StringSteps::strings), unfolding(dbus_value::specs::ValueReaders::text_value))]
+#![tactic(auto, using(crate::proofs::StringSteps::strings), unfolding(dbus_value_model::specs::ValueReaders::text_value))]
 
 ghost use Rattle.std.specs.Prelude.{◌≡◌, ◌≤◌, length, drop, string_bytes, IsUtf8, IsTrue, IfOk};
 ghost use Rattle.dbus_types.specs.Types.{STRING, OBJECT_PATH, SIGNATURE};
-ghost use Rattle.dbus_value.specs.declared.order.Order.{Order};
-ghost use Rattle.dbus_value.specs.PackedBytes.{keeps_bytes};
-ghost use Rattle.dbus_value.specs.ValueReaders.{text_value};
-ghost use Rattle.dbus_value.specs.ValueViews.{value_tree};
-ghost use Rattle.dbus_value.specs.Gives.{Gives};
+ghost use Rattle.dbus_value_model.specs.declared.order.Order.{Order};
+ghost use Rattle.dbus_value_model.specs.PackedBytes.{keeps_bytes};
+ghost use Rattle.dbus_value_model.specs.ValueReaders.{text_value};
+ghost use Rattle.dbus_value_model.specs.ValueViews.{value_tree};
+ghost use Rattle.dbus_value_model.specs.Gives.{Gives};
 
 use crate::items::{read_length, read_nul, read_padding, read_short_length};
 use crate::texts::read_text;
 use dbus_types::TextKind;
-use dbus_value::{Order, Stop, Value};
+use dbus_value_model::{Order, Stop, Value};
 use std::alloc::{AllocError, Allocator};
 
 /// A string of bytes that are UTF-8.

@@ -10,14 +10,14 @@ ghost use Rattle.dbus_types.specs.Kinds.{IsKind};
 ghost use Rattle.dbus_types.specs.Types.{IsSingleType, sig};
 ghost use Rattle.dbus_types.specs.SigTypes.{type_tree};
 ghost use Rattle.dbus_types.specs.declared.text_kind.TextKind.TheVariants.{Single};
-ghost use Rattle.dbus_value.specs.WantedTexts.{Of, Only, alike};
-ghost use Rattle.dbus_value.specs.Items.{text_reason};
-ghost use Rattle.dbus_value.specs.Reading.{text, signature};
-ghost use Rattle.dbus_value.specs.declared.stop.Stop.TheVariants.{Memory};
-ghost use Rattle.dbus_value.specs.Gives.{Gives};
+ghost use Rattle.dbus_value_model.specs.WantedTexts.{Of, Only, alike};
+ghost use Rattle.dbus_value_model.specs.Items.{text_reason};
+ghost use Rattle.dbus_value_model.specs.Reading.{text, signature};
+ghost use Rattle.dbus_value_model.specs.declared.stop.Stop.TheVariants.{Memory};
+ghost use Rattle.dbus_value_model.specs.Gives.{Gives};
 
 use dbus_types::{SigType, TextKind, parse_single, text_break};
-use dbus_value::{Reason, Stop, refuse};
+use dbus_value_model::{Reason, Stop, refuse};
 use std::alloc::Allocator;
 
 /// The reason of a text that is not of the kind that is wanted.

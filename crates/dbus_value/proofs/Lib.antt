@@ -1,13 +1,1 @@
-pub mod Numbers
-pub mod ByteNumbers
-pub mod WorkedExamples
-pub mod ValueRows
-pub mod TypeRows
-pub mod NumberBytes
-pub mod Deciding
-pub mod Fitting
-pub mod Copied
-pub mod Formed
-pub mod SameTypes
-pub mod TypeParts
-pub mod RangeSteps
+pub use Rattle.dbus_marshal.proofs.ShortLaws

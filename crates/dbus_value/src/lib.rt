@@ -1,31 +1,17 @@
-//! Values of the D-Bus wire format: what they are, which of them are well formed, and, in `specs/`, the relation that
-//! spells them in bytes.
+//! Values of the D-Bus wire format: what they are, which of them are well formed, and how they are written and read.
+//! D-Bus Specification, "Type System" and "Marshaling (Wire Format)".
+//!
+//! One name for three crates: the values and the relation that spells them (`dbus_value_model`), writing
+//! (`dbus_marshal`) and reading, with its laws (`dbus_unmarshal`).
 #![tactic(auto)]
 
-pub mod check_laws;
 #[cfg(test)]
-mod check_tests;
-mod checking;
-mod copying;
-mod fault;
-mod got;
-mod order;
-mod ranges;
-mod same_types;
-mod stop;
-mod typing;
-mod uniformity;
-mod value;
-mod value_fault;
+mod growth_tests;
+#[cfg(test)]
+mod tests;
 
-pub use checking::{check_value, is_named, nest_within, nests_within};
-pub use copying::copy;
-pub use fault::{Fault, Reason, Refusal};
-pub use got::Got;
-pub use order::Order;
-pub use ranges::{read_all_numbers, read_numbers};
-pub use stop::{Stop, refuse};
-pub use typing::type_of;
-pub use uniformity::is_typed;
-pub use value::Value;
-pub use value_fault::ValueFault;
+pub use dbus_marshal::{put, size_after};
+pub use dbus_unmarshal::{get, laws};
+pub use dbus_value_model::{
+    Fault, Got, Order, Reason, Refusal, Value, ValueFault, check_value, copy, type_of,
+};

@@ -3,13 +3,13 @@ use Rattle.std.specs.Prelude.{string_bytes}
 use Rattle.dbus_types.specs.Types.{sig, STRING}
 use Rattle.dbus_types.specs.Alignments.{alignment_of}
 use Rattle.dbus_types.specs.SigTypes.{type_tree}
-use Rattle.dbus_value.specs.Appending.{with_padding, with_value, with_values}
-use Rattle.dbus_value.specs.Bytes.{num}
-use Rattle.dbus_value.specs.Values.{type_of}
-use Rattle.dbus_value.specs.ValueViews.{value_tree, value_trees_of}
-use Rattle.dbus_value.specs.declared.value.Value.{the_lemmas}
+use Rattle.dbus_value_model.specs.Appending.{with_padding, with_value, with_values}
+use Rattle.dbus_value_model.specs.Bytes.{num}
+use Rattle.dbus_value_model.specs.Values.{type_of}
+use Rattle.dbus_value_model.specs.ValueViews.{value_tree, value_trees_of}
+use Rattle.dbus_value_model.specs.declared.value.Value.{the_lemmas}
 use Rattle.dbus_marshal.proofs.Joining.{length_join}
-use Rattle.dbus_value.proofs.Numbers.{length-num}
+use Rattle.dbus_value_model.proofs.Numbers.{length-num}
 use Rattle.dbus_marshal.proofs.Measuring.{below_most_of_three}
 use Rattle.dbus_marshal.proofs.Patching.{array_patched, length_array, array_grows, alignment_positive}
 use Rattle.dbus_marshal.proofs.Signing.{short-Array, short-Struct, short-Entry, short-Variant, short_more}

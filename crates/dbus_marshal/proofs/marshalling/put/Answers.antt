@@ -1,6 +1,6 @@
 use Rattle.std.proofs.Common.{◌≡◌, Ok, length, None, sym, ap, ◌∙◌, arith, rules}
-use Rattle.dbus_value.specs.Sizes.{sized, message_limit}
-use Rattle.dbus_value.specs.ValueViews.{value_tree}
+use Rattle.dbus_value_model.specs.Sizes.{sized, message_limit}
+use Rattle.dbus_value_model.specs.ValueViews.{value_tree}
 use Rattle.dbus_marshal.proofs.Written.{length_value}
 use Rattle.dbus_marshal.proofs.SizeLaws.{written_ends, message_limit_is}
 use Rattle.dbus_marshal.proofs.marshalling.put.Goals as goal

@@ -1,8 +1,8 @@
 use Rattle.std.proofs.Common.{◌++◌, length, sym, ap, ◌∙◌, arith}
-use Rattle.dbus_value.specs.Appending.{with_padding}
-use Rattle.dbus_value.specs.Bytes.{num}
+use Rattle.dbus_value_model.specs.Appending.{with_padding}
+use Rattle.dbus_value_model.specs.Bytes.{num}
 use Rattle.dbus_marshal.proofs.Joining.{length_join}
-use Rattle.dbus_value.proofs.Numbers.{length-num}
+use Rattle.dbus_value_model.proofs.Numbers.{length-num}
 use Rattle.dbus_marshal.proofs.Spells.{written_bytes, length_bytes}
 use Rattle.dbus_marshal.proofs.marshalling.write_byte_array.Goals as goal
 

@@ -1,7 +1,7 @@
 use Rattle.std.proofs.Common.{◌≡◌, ℕ, ◌+◌, length, drop, None, Some, Option, inl, inr, arith}
-use Rattle.dbus_value.specs.declared.value.Value.{the_lemmas}
-use Rattle.dbus_value.specs.Measures.{AreMeasured}
-use Rattle.dbus_value.specs.ValueViews.{value_trees_of}
+use Rattle.dbus_value_model.specs.declared.value.Value.{the_lemmas}
+use Rattle.dbus_value_model.specs.Measures.{AreMeasured}
+use Rattle.dbus_value_model.specs.ValueViews.{value_trees_of}
 use Rattle.dbus_marshal.proofs.MeasureSteps.{measured-Byte, measured-Bool, measured-I16, measured-U16, measured-I32, measured-U32, measured-I64, measured-U64, measured-Double, measured-Fd, measured-Bytes, measured-Bytes_over, measured-Array, measured-Array_over, measured-Array_items, measured-Struct, measured-Entry, measured-Entry_key, measured-Variant, measured-rest, measured-stop, measured-end}
 use Rattle.dbus_marshal.proofs.Signing.{short-Array, short-Struct, short_more}
 use Rattle.dbus_marshal.proofs.measures.+size.Goals as goal

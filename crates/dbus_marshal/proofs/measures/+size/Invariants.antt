@@ -1,7 +1,7 @@
 use Rattle.std.proofs.Common.{ℕ, ◌<◌, Option, drop}
-use Rattle.dbus_value.specs.Measures.{AreMeasured}
-use Rattle.dbus_value.specs.ShortSignatures.{HaveShortSignatures}
-use Rattle.dbus_value.specs.ValueViews.{value_trees_of}
+use Rattle.dbus_value_model.specs.Measures.{AreMeasured}
+use Rattle.dbus_value_model.specs.ShortSignatures.{HaveShortSignatures}
+use Rattle.dbus_value_model.specs.ValueViews.{value_trees_of}
 use Rattle.dbus_marshal.proofs.measures.+size.Given as goal
 
 abbrev pub invariant-measure_values-loop-value : goal.invariant-measure_values-loop-value

@@ -1,6 +1,6 @@
 use Rattle.std.proofs.Common.{arith, rules}
-use Rattle.dbus_value.specs.declared.value.Value.{the_lemmas}
-use Rattle.dbus_value.proofs.TypeRows.{value_length-Struct, value_length-Entry}
+use Rattle.dbus_value_model.specs.declared.value.Value.{the_lemmas}
+use Rattle.dbus_value_model.proofs.TypeRows.{value_length-Struct, value_length-Entry}
 use Rattle.dbus_marshal.proofs.signatures.+signature_length.Goals as goal
 
 pub signature_length-signatures_length-requires : goal.signature_length-signatures_length-requires

@@ -1,7 +1,7 @@
 use Rattle.std.proofs.Common.{◌≡◌, ◌+◌, drop, length}
 use Rattle.dbus_types.specs.Types.{sigs}
-use Rattle.dbus_value.specs.Values.{types_of}
-use Rattle.dbus_value.specs.ValueViews.{value_trees_of}
+use Rattle.dbus_value_model.specs.Values.{types_of}
+use Rattle.dbus_value_model.specs.ValueViews.{value_trees_of}
 use Rattle.dbus_marshal.proofs.signatures.+signature_length.Given as goal
 
 abbrev pub invariant-signatures_length-loop-value : goal.invariant-signatures_length-loop-value

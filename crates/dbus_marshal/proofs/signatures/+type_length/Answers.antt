@@ -1,5 +1,5 @@
 use Rattle.std.proofs.Common.{arith}
-use Rattle.dbus_value.proofs.TypeRows.{length-Struct, length-Entry}
+use Rattle.dbus_value_model.proofs.TypeRows.{length-Struct, length-Entry}
 use Rattle.dbus_marshal.proofs.signatures.+type_length.Goals as goal
 
 pub type_length-overflow_add-result-in-Struct : goal.type_length-overflow_add-result-in-Struct

@@ -3,7 +3,7 @@ use Rattle.dbus_types.specs.Types.{sig, sigs}
 use Rattle.dbus_types.specs.SigTypes.{type_tree, type_trees_of}
 use Rattle.dbus_marshal.proofs.Joining.{length_join, join_assoc, join_around, join_two, first_fits, step_joined}
 use Rattle.dbus_marshal.proofs.Measuring.{below_most}
-use Rattle.dbus_value.proofs.TypeRows.{sig-Array, sig-Struct, sig-Entry, length-Struct, length-Entry, sigs_more}
+use Rattle.dbus_value_model.proofs.TypeRows.{sig-Array, sig-Struct, sig-Entry, length-Struct, length-Entry, sigs_more}
 use Rattle.dbus_marshal.proofs.signatures.+write_type.Goals as goal
 
 pub write_type-write_byte-requires-in-Struct-2 : goal.write_type-write_byte-requires-in-Struct-2

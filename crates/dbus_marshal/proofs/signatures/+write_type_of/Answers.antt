@@ -1,12 +1,12 @@
 use Rattle.std.proofs.Common.{◌+◌, ◌++◌, ◌∷◌, [], drop, vec_capacity, arith}
 use Rattle.dbus_types.specs.Types.{sig, sigs}
 use Rattle.dbus_types.specs.SigTypes.{type_tree}
-use Rattle.dbus_value.specs.Values.{type_of, types_of}
-use Rattle.dbus_value.specs.ValueViews.{value_tree, value_trees_of}
-use Rattle.dbus_value.specs.declared.value.Value.{the_lemmas}
+use Rattle.dbus_value_model.specs.Values.{type_of, types_of}
+use Rattle.dbus_value_model.specs.ValueViews.{value_tree, value_trees_of}
+use Rattle.dbus_value_model.specs.declared.value.Value.{the_lemmas}
 use Rattle.dbus_marshal.proofs.Joining.{length_join, join_assoc, join_around, join_two, first_fits, step_joined}
 use Rattle.dbus_marshal.proofs.Measuring.{below_most}
-use Rattle.dbus_value.proofs.TypeRows.{type-Array, type-Struct, type-Entry, value_length-Struct, value_length-Entry, types_more}
+use Rattle.dbus_value_model.proofs.TypeRows.{type-Array, type-Struct, type-Entry, value_length-Struct, value_length-Entry, types_more}
 use Rattle.dbus_marshal.proofs.signatures.+write_type_of.Goals as goal
 
 pub write_type_of-write_byte-requires-in-Struct-2 : goal.write_type_of-write_byte-requires-in-Struct-2

@@ -1,7 +1,7 @@
 use Rattle.std.proofs.Common.{◌≡◌, ◌≤◌, ◌++◌, drop, vec_capacity}
 use Rattle.dbus_types.specs.Types.{sigs}
-use Rattle.dbus_value.specs.Values.{types_of}
-use Rattle.dbus_value.specs.ValueViews.{value_trees_of}
+use Rattle.dbus_value_model.specs.Values.{types_of}
+use Rattle.dbus_value_model.specs.ValueViews.{value_trees_of}
 use Rattle.dbus_marshal.proofs.signatures.+write_type_of.Given as goal
 
 abbrev pub invariant-write_types_of-loop-value : goal.invariant-write_types_of-loop-value

@@ -1,7 +1,7 @@
 use Rattle.std.proofs.Common.{◌≡◌, ◌≤◌, drop}
-use Rattle.dbus_value.specs.Sizes.{message_limit, sizes}
-use Rattle.dbus_value.specs.ShortSignatures.{HaveShortSignatures}
-use Rattle.dbus_value.specs.ValueViews.{value_trees_of}
+use Rattle.dbus_value_model.specs.Sizes.{message_limit, sizes}
+use Rattle.dbus_value_model.specs.ShortSignatures.{HaveShortSignatures}
+use Rattle.dbus_value_model.specs.ValueViews.{value_trees_of}
 use Rattle.dbus_marshal.proofs.sizes.+size.Given as goal
 
 abbrev pub invariant-size_values-loop-value : goal.invariant-size_values-loop-value

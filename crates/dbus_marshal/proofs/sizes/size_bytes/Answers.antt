@@ -1,5 +1,5 @@
 use Rattle.std.proofs.Common.{◌≡◌, ◌≤◌, ◌+◌, length, Ok, sym, ap, ◌∙◌, arith}
-use Rattle.dbus_value.specs.Sizes.{message_limit}
+use Rattle.dbus_value_model.specs.Sizes.{message_limit}
 use Rattle.dbus_marshal.proofs.Sizing.{bytes_within, bytes_past_array, bytes_past_message, some_bytes}
 use Rattle.dbus_marshal.proofs.sizes.size_bytes.Goals as goal
 

@@ -1,7 +1,7 @@
 use Rattle.std.proofs.Common.{◌≡◌, ◌+◌, drop, refl}
 use Rattle.dbus_types.specs.ComputedKinds.{types_spelled}
 use Rattle.dbus_types.specs.SigTypes.{type_trees_of}
-use Rattle.dbus_value.specs.Reading.{Done, judge, padding}
+use Rattle.dbus_value_model.specs.Reading.{Done, judge, padding}
 use Rattle.dbus_unmarshal.proofs.ReadSteps.{stops_after}
 use Rattle.dbus_message.specs.HeaderReading.{message_read, body_read}
 use Rattle.dbus_message.specs.Messages.{lacks, required, body_signature}

@@ -1,5 +1,5 @@
 use Rattle.std.proofs.Common.{◌↔◌, drop}
-use Rattle.dbus_value.specs.Forming.{NestWithin}
+use Rattle.dbus_value_model.specs.Forming.{NestWithin}
 use Rattle.dbus_message.proofs.FieldWriting.{structs}
 use Rattle.dbus_message.proofs.depth.fields_nest.Given as goal
 

@@ -1,6 +1,6 @@
 use Rattle.std.proofs.Common.{◌+◌, drop, arith, sym, ◌∙◌}
-use Rattle.dbus_value.specs.Appending.{with_value}
-use Rattle.dbus_value.specs.ValueViews.{value_tree, value_trees_of}
+use Rattle.dbus_value_model.specs.Appending.{with_value}
+use Rattle.dbus_value_model.specs.ValueViews.{value_tree, value_trees_of}
 use Rattle.dbus_message.proofs.FieldWriting.{values_step, values_end_step, values_short, within_all}
 use Rattle.dbus_message.proofs.encoding.write_body.Goals as goal
 

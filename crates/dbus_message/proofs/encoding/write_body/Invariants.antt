@@ -1,7 +1,7 @@
 use Rattle.std.proofs.Common.{◌≡◌, ◌≤◌, drop, vec_capacity}
-use Rattle.dbus_value.specs.Appending.{with_values}
-use Rattle.dbus_value.specs.ShortSignatures.{HaveShortSignatures}
-use Rattle.dbus_value.specs.ValueViews.{value_trees_of}
+use Rattle.dbus_value_model.specs.Appending.{with_values}
+use Rattle.dbus_value_model.specs.ShortSignatures.{HaveShortSignatures}
+use Rattle.dbus_value_model.specs.ValueViews.{value_trees_of}
 use Rattle.dbus_message.proofs.encoding.write_body.Given as goal
 
 abbrev pub invariant-loop-value : goal.invariant-loop-value

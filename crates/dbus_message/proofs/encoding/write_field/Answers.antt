@@ -1,7 +1,7 @@
 use Rattle.std.proofs.Common.{◌≡◌, ◌<◌, ◌∷◌, [], length, arith, sym, ap, ◌∙◌}
 use Rattle.std.proofs.lemmas.List.{length-append}
-use Rattle.dbus_value.specs.Appending.{with_value}
-use Rattle.dbus_value.specs.ValueViews.{value_tree}
+use Rattle.dbus_value_model.specs.Appending.{with_value}
+use Rattle.dbus_value_model.specs.ValueViews.{value_tree}
 use Rattle.dbus_message.specs.PartsViews.{field_tree}
 use Rattle.dbus_message.proofs.FieldWriting.{before_value, field_written, field_length, field_before}
 use Rattle.dbus_message.proofs.encoding.write_field.Goals as goal

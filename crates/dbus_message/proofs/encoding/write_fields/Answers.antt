@@ -1,5 +1,5 @@
 use Rattle.std.proofs.Common.{◌+◌, drop, arith, sym, ◌∙◌}
-use Rattle.dbus_value.specs.Appending.{with_value}
+use Rattle.dbus_value_model.specs.Appending.{with_value}
 use Rattle.dbus_message.specs.Messages.{field_struct}
 use Rattle.dbus_message.specs.PartsViews.{field_tree}
 use Rattle.dbus_message.proofs.FieldWriting.{structs, fields_step, fields_end_step, fields_short, within_all}

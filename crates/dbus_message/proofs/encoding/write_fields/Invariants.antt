@@ -1,6 +1,6 @@
 use Rattle.std.proofs.Common.{◌≡◌, ◌≤◌, drop, vec_capacity}
-use Rattle.dbus_value.specs.Appending.{with_values}
-use Rattle.dbus_value.specs.ShortSignatures.{HaveShortSignatures}
+use Rattle.dbus_value_model.specs.Appending.{with_values}
+use Rattle.dbus_value_model.specs.ShortSignatures.{HaveShortSignatures}
 use Rattle.dbus_message.proofs.FieldWriting.{structs}
 use Rattle.dbus_message.proofs.encoding.write_fields.Given as goal
 

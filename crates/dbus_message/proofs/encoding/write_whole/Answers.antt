@@ -1,9 +1,9 @@
 use Rattle.std.proofs.Common.{◌≡◌, ◌+◌, ◌-◌, ◌≤◌, ◌<◌, length, vec_len, vec_capacity, arith, sym, ap, ◌∙◌}
 use Rattle.std.specs.Coded.{le_prop}
 use mathlib.Core.Logic.{∥∥₁_elim}
-use Rattle.dbus_value.specs.Appending.{with_padding, with_values}
-use Rattle.dbus_value.specs.Values.{value_trees}
-use Rattle.dbus_value.specs.ValueViews.{value_trees_of}
+use Rattle.dbus_value_model.specs.Appending.{with_padding, with_values}
+use Rattle.dbus_value_model.specs.Values.{value_trees}
+use Rattle.dbus_value_model.specs.ValueViews.{value_trees_of}
 use Rattle.dbus_message.specs.Messages.{MessageTree, message_bytes}
 use Rattle.dbus_message.specs.MessageViews.{message_tree}
 use Rattle.dbus_message.specs.PartsViews.{parts_tree, field_trees}

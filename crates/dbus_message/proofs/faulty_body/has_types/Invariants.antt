@@ -1,7 +1,7 @@
 use Rattle.std.proofs.Common.{◌≡◌, ◌++◌, ◌≤◌, None, drop, length, vec_capacity}
 use Rattle.dbus_types.specs.Types.{sigs}
-use Rattle.dbus_value.specs.Values.{types_of}
-use Rattle.dbus_value.specs.ValueViews.{value_trees_of}
+use Rattle.dbus_value_model.specs.Values.{types_of}
+use Rattle.dbus_value_model.specs.ValueViews.{value_trees_of}
 use Rattle.dbus_message.specs.BuildFaults.{IsFirstUnsound}
 use Rattle.dbus_message.proofs.faulty_body.has_types.Given as goal
 

@@ -1,6 +1,6 @@
 use Rattle.std.proofs.Common.{◌-◌, arith}
 use Rattle.dbus_types.specs.SigTypes.{type_tree}
-use Rattle.dbus_value.specs.ValueViews.{value_tree}
+use Rattle.dbus_value_model.specs.ValueViews.{value_tree}
 use Rattle.dbus_message.proofs.GetReads.{bytes_at, done_read, done_moves, faulty_read, partial_read}
 use Rattle.dbus_message.proofs.field_value.read_value.Goals as goal
 

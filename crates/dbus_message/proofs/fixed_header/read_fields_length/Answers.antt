@@ -1,5 +1,5 @@
 use Rattle.std.proofs.Common.{◌+◌, drop, arith}
-use Rattle.dbus_value.specs.declared.fault.Reason.TheVariants as reasons
+use Rattle.dbus_value_model.specs.declared.fault.Reason.TheVariants as reasons
 use Rattle.dbus_message.specs.MessageItems.{fields_row}
 use Rattle.dbus_message.proofs.NumberRows.{row_passed_at, row_refused_at, row_stops}
 use Rattle.dbus_message.proofs.FixedItems.{exits, long_fields, long_message, fields_fit, eight_gap}

@@ -1,5 +1,5 @@
 use Rattle.std.proofs.Common.{drop}
-use Rattle.dbus_value.specs.declared.fault.Reason.TheVariants as reasons
+use Rattle.dbus_value_model.specs.declared.fault.Reason.TheVariants as reasons
 use Rattle.dbus_message.specs.MessageItems.{not_zero_row}
 use Rattle.dbus_message.proofs.NumberRows.{row_passed, row_refused, row_stops}
 use Rattle.dbus_message.proofs.FixedItems.{exits, zero_row, some_row}

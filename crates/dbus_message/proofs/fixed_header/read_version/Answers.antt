@@ -1,6 +1,6 @@
 use Rattle.std.proofs.Common.{drop, refl, ap, ◌∙◌}
-use Rattle.dbus_value.specs.declared.fault.Reason.TheVariants as reasons
-use Rattle.dbus_value.specs.Reading.{number}
+use Rattle.dbus_value_model.specs.declared.fault.Reason.TheVariants as reasons
+use Rattle.dbus_value_model.specs.Reading.{number}
 use Rattle.dbus_message.specs.MessageItems.{version_row}
 use Rattle.dbus_message.proofs.NumberRows.{row_passed_at, row_refused_at, row_stops}
 use Rattle.dbus_message.proofs.FixedItems.{exits, other_version}
@@ -16,5 +16,5 @@ returns-then-version-ne1-clause-gives c order = rw c.refuse.ensures
 
 pub returns-clause-gives : goal.returns-clause-gives
 returns-clause-gives c order =
-    let gives = c.in_ok-version.ensures.gives order ∙ ap (λ (n : _). Rattle.dbus_value.specs.Reading.Done n c.in_ok-version.field-0-1 (drop c.in_ok-version.field-0-1 c.args.bytes.now)) c.if-version-ne1.false in
+    let gives = c.in_ok-version.ensures.gives order ∙ ap (λ (n : _). Rattle.dbus_value_model.specs.Reading.Done n c.in_ok-version.field-0-1 (drop c.in_ok-version.field-0-1 c.args.bytes.now)) c.if-version-ne1.false in
     row_passed_at order 1 16 version_row 3 c.args.bytes.now 1 4 c.in_ok-version.field-0-1 gives c.in_ok-version.ensures.moves.0 refl

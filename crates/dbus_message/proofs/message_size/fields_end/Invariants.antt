@@ -1,5 +1,5 @@
 use Rattle.std.proofs.Common.{◌≤◌, ℕ, Option, drop}
-use Rattle.dbus_value.specs.ShortSignatures.{HaveShortSignatures}
+use Rattle.dbus_value_model.specs.ShortSignatures.{HaveShortSignatures}
 use Rattle.dbus_message.specs.MessageSizes.{AreFieldEnds}
 use Rattle.dbus_message.specs.PartsViews.{field_trees}
 use Rattle.dbus_message.proofs.FieldWriting.{structs}

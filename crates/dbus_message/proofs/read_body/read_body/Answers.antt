@@ -1,9 +1,9 @@
 use Rattle.std.proofs.Common.{◌≡◌, ◌+◌, drop, map, [], ◌∷◌, ◌++◌, arith, refl, sym, ap, ◌∙◌}
 use Rattle.std.proofs.lemmas.List.{map_push}
 use Rattle.dbus_types.specs.SigTypes.{type_tree, type_trees_of}
-use Rattle.dbus_value.specs.Reading.{fields, value}
-use Rattle.dbus_value.specs.ValueViews.{value_tree, value_trees_of}
-use Rattle.dbus_value.proofs.Fitting.{keep_push}
+use Rattle.dbus_value_model.specs.Reading.{fields, value}
+use Rattle.dbus_value_model.specs.ValueViews.{value_tree, value_trees_of}
+use Rattle.dbus_value_model.proofs.Fitting.{keep_push}
 use Rattle.dbus_message.proofs.BodyLoop.{body_starts, body_goes_on, body_stops, body_done, body_stopped, body_trailing, body_whole, types_from, no_types_from, single_of}
 use Rattle.dbus_message.proofs.FixedItems.{exits}
 use Rattle.dbus_message.proofs.read_body.read_body.Goals as goal

@@ -1,8 +1,8 @@
 use Rattle.std.proofs.Common.{◌≡◌, ◌≤◌, length, drop, map, IsTrue}
 use Rattle.dbus_types.specs.SigTypes.{type_trees_of}
-use Rattle.dbus_value.specs.PackedBytes.{keep_bytes}
-use Rattle.dbus_value.specs.Reading.{fields, value}
-use Rattle.dbus_value.specs.ValueViews.{value_tree}
+use Rattle.dbus_value_model.specs.PackedBytes.{keep_bytes}
+use Rattle.dbus_value_model.specs.Reading.{fields, value}
+use Rattle.dbus_value_model.specs.ValueViews.{value_tree}
 use Rattle.dbus_message.proofs.BodyLoop.{with_values}
 use Rattle.dbus_message.proofs.read_body.read_body.Given as goal
 

@@ -1,5 +1,5 @@
 use Rattle.std.proofs.Common.{drop, refl, reverse}
-use Rattle.dbus_value.specs.Reading.{number}
+use Rattle.dbus_value_model.specs.Reading.{number}
 use Rattle.dbus_unmarshal.proofs.ReadSteps.{stops_after}
 use Rattle.dbus_message.specs.HeaderReading.{field_read, wanted_value}
 use Rattle.dbus_message.specs.MessageItems.{code_row}

@@ -1,6 +1,6 @@
 use Rattle.std.proofs.Common.{◌≡◌, ◌+◌, ◌-◌, suc, length, drop, [], ◌∷◌, ◌++◌, arith, refl, sym, ap, ◌∙◌}
 use Rattle.std.proofs.lemmas.List.{map_push, length_push}
-use Rattle.dbus_value.proofs.Fitting.{keep_push}
+use Rattle.dbus_value_model.proofs.Fitting.{keep_push}
 use Rattle.dbus_message.specs.HeaderReading.{field_read, fields_read}
 use Rattle.dbus_message.specs.PackedParts.{field_values}
 use Rattle.dbus_message.specs.PartsViews.{field_tree, field_trees}

@@ -1,6 +1,6 @@
 use Rattle.std.proofs.Common.{◌-◌, ◌≡◌, ◌+◌, ◌≤◌, length, drop, reverse, IsTrue}
-use Rattle.dbus_value.specs.PackedBytes.{keep_bytes}
-use Rattle.dbus_value.specs.Reading.{up_to}
+use Rattle.dbus_value_model.specs.PackedBytes.{keep_bytes}
+use Rattle.dbus_value_model.specs.Reading.{up_to}
 use Rattle.dbus_message.specs.HeaderReading.{field_read, fields_read}
 use Rattle.dbus_message.specs.PackedParts.{field_values}
 use Rattle.dbus_message.specs.PartsViews.{field_trees}

@@ -1,8 +1,8 @@
 use Rattle.std.proofs.Common.{◌≡◌, ◌++◌, ◌∷◌, [], ap, ◌∙◌, string_bytes}
 use Rattle.hex.specs.Hex.{encode_lower}
-use Rattle.dbus_value.specs.Bytes.{num}
-use Rattle.dbus_value.specs.declared.order.Order.TheVariants.{Big}
-use Rattle.dbus_value.proofs.NumberBytes.{num_64_big}
+use Rattle.dbus_value_model.specs.Bytes.{num}
+use Rattle.dbus_value_model.specs.declared.order.Order.TheVariants.{Big}
+use Rattle.dbus_value_model.proofs.NumberBytes.{num_64_big}
 use Rattle.dbus_show.proofs.Appending.{behind_one, last_text}
 use Rattle.dbus_show.proofs.numbers.write_double.Goals as goal
 

@@ -1,6 +1,6 @@
 use Rattle.std.proofs.Common.{◌≡◌, ◌++◌, string_bytes, take}
 use Rattle.std.specs.List.{flat_map}
-use Rattle.dbus_value.specs.ValueViews.{value_trees_of}
+use Rattle.dbus_value_model.specs.ValueViews.{value_trees_of}
 use Rattle.dbus_show.specs.ShownValues.{value_texts}
 use Rattle.dbus_show.specs.ShownMessages.{body_line}
 use Rattle.dbus_show.proofs.show.write_body.Given as goal

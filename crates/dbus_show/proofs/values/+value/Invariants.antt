@@ -1,5 +1,5 @@
 use Rattle.std.proofs.Common.{◌≡◌, ◌++◌, string_bytes, take}
-use Rattle.dbus_value.specs.ValueViews.{value_trees_of}
+use Rattle.dbus_value_model.specs.ValueViews.{value_trees_of}
 use Rattle.dbus_show.specs.ShownValues.{value_texts, joined}
 use Rattle.dbus_show.proofs.ItemTexts.{separator}
 use Rattle.dbus_show.proofs.values.+value.Given as goal

@@ -1,6 +1,6 @@
 use Rattle.std.proofs.Common.{◌++◌, ap, sym, ◌∙◌, string_bytes, append-nil}
 use Rattle.hex.specs.Hex.{encode_lower}
-use Rattle.dbus_value.specs.ValueViews.{value_tree, value_trees_of}
+use Rattle.dbus_value_model.specs.ValueViews.{value_tree, value_trees_of}
 use Rattle.dbus_show.specs.ShownValues.{byte_in, bytes_in}
 use Rattle.dbus_show.proofs.Appending.{one_more}
 use Rattle.dbus_show.proofs.HexDigits.{encode_none, encode_append}

@@ -1,6 +1,6 @@
 use Rattle.std.proofs.Common.{◌≡◌, ◌++◌, string_bytes, take}
 use Rattle.hex.specs.Hex.{encode_lower}
-use Rattle.dbus_value.specs.ValueViews.{value_trees_of}
+use Rattle.dbus_value_model.specs.ValueViews.{value_trees_of}
 use Rattle.dbus_show.specs.ShownValues.{bytes_in}
 use Rattle.dbus_show.proofs.values.write_byte_items.Given as goal
 

@@ -1,8 +1,8 @@
 use Rattle.std.proofs.Common.{◌++◌, ◌∷◌, [], ap, sym, ◌∙◌, string_bytes}
 use Rattle.hex.specs.Hex.{encode_lower}
 use Rattle.dbus_types.specs.Types.{BYTE, NumberType}
-use Rattle.dbus_value.specs.Values.{ArrayValue}
-use Rattle.dbus_value.specs.ValueViews.{byte_values}
+use Rattle.dbus_value_model.specs.Values.{ArrayValue}
+use Rattle.dbus_value_model.specs.ValueViews.{byte_values}
 use Rattle.dbus_show.specs.ShownValues.{value_text}
 use Rattle.dbus_show.proofs.Appending.{behind_one, last_text}
 use Rattle.dbus_show.proofs.ItemTexts.{bytes_of_bytes}

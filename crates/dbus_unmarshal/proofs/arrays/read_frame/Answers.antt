@@ -1,7 +1,7 @@
 use Rattle.std.proofs.Common.{drop, arith}
 use Rattle.std.proofs.lemmas.Result.{err_from_is_err_and}
 use Rattle.dbus_types.specs.SigTypes.{type_tree}
-use Rattle.dbus_value.specs.declared.fault.Reason.TheVariants as reasons
+use Rattle.dbus_value_model.specs.declared.fault.Reason.TheVariants as reasons
 use Rattle.dbus_unmarshal.proofs.ArraySteps.{row_too_long, row_overruns, row_fits, frame_stops_number, frame_fails, frame_stops_padding, frame_done}
 use Rattle.dbus_unmarshal.proofs.ReadSteps.{gap_is}
 use Rattle.dbus_unmarshal.proofs.arrays.read_frame.Goals as goal

@@ -1,5 +1,5 @@
 use Rattle.std.proofs.Common.{◌≡◌, ◌≤◌, ◌-◌, length, drop}
-use Rattle.dbus_value.specs.Reading.{zeros}
+use Rattle.dbus_value_model.specs.Reading.{zeros}
 use Rattle.dbus_unmarshal.proofs.items.read_padding.Given as goal
 
 abbrev pub invariant-loop-i : goal.invariant-loop-i

@@ -1,7 +1,7 @@
 use Rattle.std.proofs.Common.{drop, arith}
 use Rattle.std.proofs.lemmas.Result.{err_from_is_err_and}
-use Rattle.dbus_value.specs.declared.fault.Reason.TheVariants.{Overrun}
-use Rattle.dbus_value.specs.ValueItems.{text_row}
+use Rattle.dbus_value_model.specs.declared.fault.Reason.TheVariants.{Overrun}
+use Rattle.dbus_value_model.specs.ValueItems.{text_row}
 use Rattle.dbus_unmarshal.proofs.ReadSteps.{number_stops, number_passes, number_fails, text_fits, text_overruns}
 use Rattle.dbus_unmarshal.proofs.items.read_short_length.Goals as goal
 

@@ -1,4 +1,4 @@
-use Rattle.dbus_value.proofs.Numbers.{least_padding}
+use Rattle.dbus_value_model.proofs.Numbers.{least_padding}
 use Rattle.dbus_unmarshal.proofs.laws.least_padding.Goals as goal
 
 pub returns : goal.returns

@@ -1,4 +1,4 @@
-use Rattle.dbus_value.proofs.Numbers.{number_is_place_sum}
+use Rattle.dbus_value_model.proofs.Numbers.{number_is_place_sum}
 use Rattle.dbus_unmarshal.proofs.laws.number_is_place_sum.Goals as goal
 
 pub returns : goal.returns

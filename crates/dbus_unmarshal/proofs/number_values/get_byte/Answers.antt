@@ -1,7 +1,7 @@
 use Rattle.std.proofs.Common.{drop}
 use Rattle.std.proofs.lemmas.Result.{err_from_is_err_and}
 use Rattle.dbus_unmarshal.proofs.NumberSteps.{byte_stops, byte_done}
-use Rattle.dbus_value.proofs.ValueRows.{tree-Byte}
+use Rattle.dbus_value_model.proofs.ValueRows.{tree-Byte}
 use Rattle.dbus_unmarshal.proofs.number_values.get_byte.Goals as goal
 
 pub returns-in_err-n-clause-gives : goal.returns-in_err-n-clause-gives

@@ -5,12 +5,12 @@ use Rattle.std.proofs.lemmas.List.{map_push, length_push}
 use Rattle.dbus_types.specs.Types.{BYTE, BOOLEAN, INT16, UINT16, INT32, UINT32, INT64, UINT64, DOUBLE, UNIX_FD, STRING, OBJECT_PATH, SIGNATURE, sig, TypeTree, NumberType}
 use Rattle.dbus_types.specs.SigTypes.{type_tree, type_trees_of}
 use Rattle.dbus_types.proofs.TypeViews as types
-use Rattle.dbus_value.specs.PackedBytes.{is_byte}
-use Rattle.dbus_value.specs.Values.{ArrayValue}
-use Rattle.dbus_value.specs.ValueViews.{value_tree, value_trees_of, byte_values}
-use Rattle.dbus_value.specs.Reading.{value, fields, Done}
-use Rattle.dbus_value.proofs.Fitting.{keeps-Array, keep_push, other_than_byte}
-use Rattle.dbus_value.proofs.ValueRows.{tree-Bytes, tree-Array, tree-Struct}
+use Rattle.dbus_value_model.specs.PackedBytes.{is_byte}
+use Rattle.dbus_value_model.specs.Values.{ArrayValue}
+use Rattle.dbus_value_model.specs.ValueViews.{value_tree, value_trees_of, byte_values}
+use Rattle.dbus_value_model.specs.Reading.{value, fields, Done}
+use Rattle.dbus_value_model.proofs.Fitting.{keeps-Array, keep_push, other_than_byte}
+use Rattle.dbus_value_model.proofs.ValueRows.{tree-Bytes, tree-Array, tree-Struct}
 use Rattle.dbus_unmarshal.proofs.ValueSteps.{value_number, value_text, value_variant, value_array, value_struct, value_entry, variant_too_deep, variant_opens, array_stops, array_too_deep, array_opens, open_stops_frame, open_stops_contents, open_done, struct_stops, struct_too_deep, struct_stops_fields, struct_done, goes_on_at, stops_in, ends_in, fields_begin, fields_end, fields_stop, fields_go_on, types_more, types_end, bytes_at, value_moves, single_shaped, field_shaped, field_text}
 use Rattle.dbus_unmarshal.proofs.reading.+values.Goals as goal
 

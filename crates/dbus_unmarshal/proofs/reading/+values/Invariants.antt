@@ -1,9 +1,9 @@
 use Rattle.std.proofs.Common.{◌≡◌, ◌+◌, ◌-◌, ◌*◌, ◌≤◌, [], length, drop, map, IsTrue}
 use Rattle.dbus_types.specs.Types.{sig, sigs}
 use Rattle.dbus_types.specs.SigTypes.{type_tree, type_trees_of}
-use Rattle.dbus_value.specs.PackedBytes.{keep_bytes}
-use Rattle.dbus_value.specs.ValueViews.{value_tree}
-use Rattle.dbus_value.specs.Reading.{value, contents, fields, up_to}
+use Rattle.dbus_value_model.specs.PackedBytes.{keep_bytes}
+use Rattle.dbus_value_model.specs.ValueViews.{value_tree}
+use Rattle.dbus_value_model.specs.Reading.{value, contents, fields, up_to}
 use Rattle.dbus_unmarshal.proofs.ValueSteps.{with_front, with_fields}
 use Rattle.dbus_unmarshal.proofs.reading.+values.Given as goal
 

@@ -1,6 +1,6 @@
 use Rattle.std.proofs.Common.{◌-◌, arith}
 use Rattle.dbus_types.specs.SigTypes.{type_tree}
-use Rattle.dbus_value.specs.ValueViews.{value_tree}
+use Rattle.dbus_value_model.specs.ValueViews.{value_tree}
 use Rattle.dbus_unmarshal.proofs.ValueSteps.{single_shaped, bytes_at, gets_done, gets_partial, gets_refused}
 use Rattle.dbus_unmarshal.proofs.reading.get.Goals as goal
 

@@ -1,5 +1,5 @@
 use Rattle.std.proofs.Common.{arith}
-use Rattle.dbus_value.specs.WantedTexts.{Of}
+use Rattle.dbus_value_model.specs.WantedTexts.{Of}
 use Rattle.dbus_unmarshal.proofs.TextSteps.{breaks_within, text_breaks, text_waits, text_unlike, text_more, text_there, given_inside}
 use Rattle.dbus_unmarshal.proofs.texts.read_text.Goals as goal
 

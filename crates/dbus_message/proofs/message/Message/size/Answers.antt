@@ -1,9 +1,9 @@
 use Rattle.std.proofs.Common.{◌∙◌, subst, sym, ◌≤◌, ℕ}
 use Rattle.std.specs.Coded.{le_prop}
 use mathlib.Core.Logic.{∥∥₁_elim}
-use Rattle.dbus_value.specs.declared.order.Order.TheVariants.{Little}
+use Rattle.dbus_value_model.specs.declared.order.Order.TheVariants.{Little}
 use Rattle.dbus_message.specs.MessageViews.{message_tree}
-use Rattle.dbus_value.specs.Sizes.{message_limit}
+use Rattle.dbus_value_model.specs.Sizes.{message_limit}
 use Rattle.dbus_message.proofs.BothOrders.{any_message_length}
 use Rattle.dbus_message.proofs.message.Message.size.Goals as goal
 

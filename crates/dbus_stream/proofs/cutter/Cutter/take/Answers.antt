@@ -1,5 +1,5 @@
 use Rattle.std.proofs.Common.{◌≡◌, ◌+◌, ◌-◌, ◌<◌, ℕ, List, ◌++◌, None, length, arith, rules, subst, sym, ap, ◌∙◌}
-use Rattle.dbus_value.specs.declared.order.Order.{Order}
+use Rattle.dbus_value_model.specs.declared.order.Order.{Order}
 use Rattle.dbus_message.specs.Messages.{MessageTree}
 use Rattle.dbus_message.specs.MessageOutcomes.{IsWhole, IsPartial}
 use Rattle.dbus_message.specs.MessageViews.{message_tree}

@@ -1,6 +1,6 @@
 use Rattle.std.proofs.Common.{◌≡◌, ◌≤◌, None, Some, Ok, Err, refl, ap, arith, sym, ◌∙◌}
 use Rattle.std.specs.Prelude.{Option}
-use Rattle.dbus_value.specs.declared.order.Order.{Order}
+use Rattle.dbus_value_model.specs.declared.order.Order.{Order}
 use Rattle.dbus_message.specs.declared.message.Message.{Message}
 use Rattle.dbus_stream.specs.Stated.{BeginsWithNone}
 use Rattle.dbus_stream.specs.Reader.{kept, source_of, stopped_of}

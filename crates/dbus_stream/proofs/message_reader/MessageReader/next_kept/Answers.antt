@@ -1,5 +1,5 @@
 use Rattle.std.specs.Prelude.{Option}
-use Rattle.dbus_value.specs.declared.order.Order.{Order}
+use Rattle.dbus_value_model.specs.declared.order.Order.{Order}
 use Rattle.dbus_message.specs.declared.message.Message.{Message}
 use Rattle.dbus_stream.specs.Reader.{source_of, stopped_of}
 use Rattle.dbus_stream.proofs.NextSteps.{lasts, answers_kept, kept_counts}

@@ -1,0 +1,72 @@
+-- What is decided of a value, level by level and along a list.
+use Rattle.std.proofs.Common.{◌≡◌, ℕ, zero, suc, ◌+◌, ◌-◌, ◌<◌, Bool, true, false, List, [], ◌∷◌, length, get_or, drop, Vec, sym, subst, arith, Option, None, Some, refl, not, IsTrue}
+use Rattle.std.specs.Option.{is_some}
+use Rattle.dbus_types.specs.declared.text_kind.TextKind.{TextKind}
+use Rattle.dbus_types.specs.Kinds.{IsKind}
+use Rattle.dbus_types.specs.Verdicts.{IsTextBreak}
+use Rattle.std.proofs.lemmas.Bool.{false≢true}
+use Rattle.std.proofs.lemmas.List.{drop_more}
+use Rattle.dbus_types.specs.declared.sig_type.SigType.{SigType}
+use Rattle.dbus_value_model.specs.Forming.{NestsWithin, NestWithin, IsNamed, AreNamed}
+use Rattle.dbus_value_model.specs.ValueViews.{value_tree, value_trees_of, byte_values}
+use Rattle.dbus_value_model.specs.declared.value.Value.{Value, Bytes, Array, Struct}
+use Rattle.dbus_value_model.proofs.ValueRows.{tree-Bytes, tree-Array, tree-Struct}
+
+-- some item that fails
+pub fails_at : {A : Type 0} (room : ℕ) (vs : List (Value A)) (i : ℕ) (d : Value A) → i < length vs → (NestsWithin room (value_tree (get_or vs i d)) → ⊥) → NestWithin room (value_trees_of vs) → ⊥
+fails_at room [] i d l n h = absurd (omega arith)
+fails_at room (v ∷ vs) zero d l n h = n h.0
+fails_at room (v ∷ vs) (suc i) d l n h = fails_at room vs i d (omega arith) n h.1
+
+-- one item more
+pub nest_more : {A : Type 0} (room : ℕ) (vs : List (Value A)) (i : ℕ) (d : Value A) → i < length vs → NestsWithin room (value_tree (get_or vs i d)) → NestWithin room (value_trees_of (drop (i + 1) vs)) → NestWithin room (value_trees_of (drop i vs))
+nest_more room vs i d l h k = subst (λ us. NestWithin room (value_trees_of us)) (sym (drop_more vs i d l)) (h, k)
+
+pub bytes_nest : (room : ℕ) (bs : List ℕ) → NestWithin room (byte_values bs)
+bytes_nest room [] = tt
+bytes_nest room (b ∷ bs) = (tt, bytes_nest room bs)
+
+-- a container that is opened
+pub opens_array : {A : Type 0} (room : ℕ) (t : SigType A) (vs : Vec (Value A) A) → 0 < room → NestWithin (room - 1) (value_trees_of vs.items) → NestsWithin room (value_tree {A = A} (Array t vs))
+opens_array zero t vs l h = absurd (omega arith)
+opens_array (suc room) t vs l h = let e : suc room - 1 ≡ room = omega arith in subst (NestsWithin (suc room)) (sym (tree-Array t vs)) (subst (λ (n : ℕ). NestWithin n (value_trees_of vs.items)) e h)
+
+pub array_opens : {A : Type 0} (room : ℕ) (t : SigType A) (vs : Vec (Value A) A) → NestsWithin room (value_tree {A = A} (Array t vs)) → (0 < room) × NestWithin (room - 1) (value_trees_of vs.items)
+array_opens zero t vs h = absurd (subst (NestsWithin zero) (tree-Array t vs) h)
+array_opens (suc room) t vs h = let e : room ≡ suc room - 1 = omega arith in (omega arith, subst (λ (n : ℕ). NestWithin n (value_trees_of vs.items)) e (subst (NestsWithin (suc room)) (tree-Array t vs) h))
+
+pub opens_struct : {A : Type 0} (room : ℕ) (vs : Vec (Value A) A) → 0 < room → NestWithin (room - 1) (value_trees_of vs.items) → NestsWithin room (value_tree {A = A} (Struct vs))
+opens_struct zero vs l h = absurd (omega arith)
+opens_struct (suc room) vs l h = let e : suc room - 1 ≡ room = omega arith in subst (NestsWithin (suc room)) (sym (tree-Struct vs)) (subst (λ (n : ℕ). NestWithin n (value_trees_of vs.items)) e h)
+
+pub struct_opens : {A : Type 0} (room : ℕ) (vs : Vec (Value A) A) → NestsWithin room (value_tree {A = A} (Struct vs)) → (0 < room) × NestWithin (room - 1) (value_trees_of vs.items)
+struct_opens zero vs h = absurd (subst (NestsWithin zero) (tree-Struct vs) h)
+struct_opens (suc room) vs h = let e : room ≡ suc room - 1 = omega arith in (omega arith, subst (λ (n : ℕ). NestWithin n (value_trees_of vs.items)) e (subst (NestsWithin (suc room)) (tree-Struct vs) h))
+
+pub opens_bytes : {A : Type 0} (room : ℕ) (bs : Vec ℕ A) → 0 < room → NestsWithin room (value_tree {A = A} (Bytes bs))
+opens_bytes zero bs l = absurd (omega arith)
+opens_bytes (suc room) bs l = subst (NestsWithin (suc room)) (sym (tree-Bytes bs)) (bytes_nest room bs.items)
+
+pub bytes_open : {A : Type 0} (room : ℕ) (bs : Vec ℕ A) → NestsWithin room (value_tree {A = A} (Bytes bs)) → 0 < room
+bytes_open zero bs h = absurd (subst (NestsWithin zero) (tree-Bytes bs) h)
+bytes_open (suc room) bs h = omega arith
+
+-- ---- texts
+
+pub named_fails_at : {A : Type 0} (vs : List (Value A)) (i : ℕ) (d : Value A) → i < length vs → (IsNamed (value_tree (get_or vs i d)) → ⊥) → AreNamed (value_trees_of vs) → ⊥
+named_fails_at [] i d l n h = absurd (omega arith)
+named_fails_at (v ∷ vs) zero d l n h = n h.0
+named_fails_at (v ∷ vs) (suc i) d l n h = named_fails_at vs i d (omega arith) n h.1
+
+pub named_more : {A : Type 0} (vs : List (Value A)) (i : ℕ) (d : Value A) → i < length vs → IsNamed (value_tree (get_or vs i d)) → AreNamed (value_trees_of (drop (i + 1) vs)) → AreNamed (value_trees_of (drop i vs))
+named_more vs i d l h k = subst (λ us. AreNamed (value_trees_of us)) (sym (drop_more vs i d l)) (h, k)
+
+pub bytes_named : (bs : List ℕ) → AreNamed (byte_values bs)
+bytes_named [] = tt
+bytes_named (b ∷ bs) = (tt, bytes_named bs)
+
+pub kind_decided : (k : TextKind) (t : List ℕ) (o : Option ℕ) (b : Bool) → is_some o ≡ not b → IsTextBreak k t o → (IsTrue b → IsKind k t) × (IsKind k t → IsTrue b)
+kind_decided k t None true e h = (λ w. h, λ w. refl)
+kind_decided k t None false e h = absurd cc
+kind_decided k t (Some n) true e h = absurd cc
+kind_decided k t (Some n) false e h = (λ w. absurd (false≢true w), λ w. absurd (h.0 w))

@@ -1,0 +1,13 @@
+pub mod Numbers
+pub mod ByteNumbers
+pub mod WorkedExamples
+pub mod ValueRows
+pub mod TypeRows
+pub mod NumberBytes
+pub mod Deciding
+pub mod Fitting
+pub mod Copied
+pub mod Formed
+pub mod SameTypes
+pub mod TypeParts
+pub mod RangeSteps

@@ -1,0 +1,68 @@
+-- Worked examples of values: their spellings by the definitions, and the outcome of some bytes by the plain reader beside them.
+-- D-Bus Specification, "Marshaling (Wire Format)".
+use Rattle.std.proofs.Common.{◌≡◌, ℕ, List, [], ◌∷◌, refl}
+use Rattle.dbus_types.specs.Types.{NumberType, EntryType, BYTE, UINT16, INT64, UINT64, ArrayType}
+use Rattle.dbus_value_model.specs.declared.order.Order.TheVariants.{Little, Big}
+use Rattle.dbus_value_model.specs.declared.fault.Reason.TheVariants as reasons
+use Rattle.dbus_value_model.specs.Values.{ValueTree, NoValues, MoreValues, NumberValue, VariantValue, ArrayValue, StructValue, EntryValue}
+use Rattle.dbus_value_model.specs.Bytes.{gap_to, num, low_first}
+use Rattle.dbus_value_model.specs.Spelling.{spelling, spellings, array_limit}
+use Rattle.dbus_value_model.specs.Items.{fault}
+use Rattle.dbus_value_model.specs.Reading.{Outcome, Done, Faulty, Partial, padding, number, number_of, value}
+
+abbrev five : ValueTree
+five = ArrayValue (NumberType UINT64) (MoreValues (NumberValue UINT64 5) NoValues)
+
+array_from_the_start : spelling Little 0 five ≡ 8 ∷ 0 ∷ 0 ∷ 0 ∷ 0 ∷ 0 ∷ 0 ∷ 0 ∷ 5 ∷ 0 ∷ 0 ∷ 0 ∷ 0 ∷ 0 ∷ 0 ∷ 0 ∷ []
+unfolding spelling spellings gap_to num low_first
+array_from_the_start = refl
+
+array_from_four : spelling Little 4 five ≡ 8 ∷ 0 ∷ 0 ∷ 0 ∷ 5 ∷ 0 ∷ 0 ∷ 0 ∷ 0 ∷ 0 ∷ 0 ∷ 0 ∷ []
+unfolding spelling spellings gap_to num low_first
+array_from_four = refl
+
+abbrev pair : ℕ → ℕ → ValueTree
+pair k v = EntryValue (NumberValue BYTE k) (NumberValue BYTE v)
+
+dict_that_repeats_a_key : spelling Little 0 (ArrayValue (EntryType (NumberType BYTE) (NumberType BYTE)) (MoreValues (pair 1 2) (MoreValues (pair 1 3) NoValues)))
+    ≡ 10 ∷ 0 ∷ 0 ∷ 0 ∷ 0 ∷ 0 ∷ 0 ∷ 0 ∷ 1 ∷ 2 ∷ 0 ∷ 0 ∷ 0 ∷ 0 ∷ 0 ∷ 0 ∷ 1 ∷ 3 ∷ []
+unfolding spelling spellings gap_to num low_first
+dict_that_repeats_a_key = refl
+
+-- -2 in two's complement
+abbrev minus_two : ValueTree
+minus_two = VariantValue (NumberValue INT64 18_446_744_073_709_551_614)
+
+variant_in_little : spelling Little 0 minus_two ≡ 1 ∷ 120 ∷ 0 ∷ 0 ∷ 0 ∷ 0 ∷ 0 ∷ 0 ∷ 254 ∷ 255 ∷ 255 ∷ 255 ∷ 255 ∷ 255 ∷ 255 ∷ 255 ∷ []
+unfolding spelling spellings gap_to num low_first
+variant_in_little = refl
+
+variant_in_big : spelling Big 0 minus_two ≡ 1 ∷ 120 ∷ 0 ∷ 0 ∷ 0 ∷ 0 ∷ 0 ∷ 0 ∷ 255 ∷ 255 ∷ 255 ∷ 255 ∷ 255 ∷ 255 ∷ 255 ∷ 254 ∷ []
+unfolding spelling spellings gap_to num low_first
+variant_in_big = refl
+
+struct_from_one : spelling Little 1 (StructValue (MoreValues (NumberValue BYTE 1) (MoreValues (NumberValue UINT16 2) NoValues)))
+    ≡ 0 ∷ 0 ∷ 0 ∷ 0 ∷ 0 ∷ 0 ∷ 0 ∷ 1 ∷ 0 ∷ 2 ∷ 0 ∷ []
+unfolding spelling spellings gap_to num low_first
+struct_from_one = refl
+
+-- reading the array at the start, with so many containers left to open and an end
+
+abbrev read_five : ℕ → ℕ → List ℕ → Outcome ValueTree
+read_five room end bytes = value Little room end (ArrayType (NumberType UINT64)) 0 bytes
+
+array_read_back : read_five 64 16 (8 ∷ 0 ∷ 0 ∷ 0 ∷ 0 ∷ 0 ∷ 0 ∷ 0 ∷ 5 ∷ 0 ∷ 0 ∷ 0 ∷ 0 ∷ 0 ∷ 0 ∷ 0 ∷ []) ≡ Done five 16 []
+unfolding value padding number number_of gap_to array_limit
+array_read_back = refl
+
+array_without_its_last_byte : read_five 64 16 (8 ∷ 0 ∷ 0 ∷ 0 ∷ 0 ∷ 0 ∷ 0 ∷ 0 ∷ 5 ∷ 0 ∷ 0 ∷ 0 ∷ 0 ∷ 0 ∷ 0 ∷ []) ≡ Partial
+unfolding value padding number number_of gap_to array_limit
+array_without_its_last_byte = refl
+
+array_past_its_end : read_five 64 15 (8 ∷ 0 ∷ 0 ∷ 0 ∷ 0 ∷ 0 ∷ 0 ∷ 0 ∷ 5 ∷ 0 ∷ 0 ∷ 0 ∷ 0 ∷ 0 ∷ 0 ∷ 0 ∷ []) ≡ Faulty (fault 0 reasons.Overrun)
+unfolding value padding number number_of gap_to array_limit
+array_past_its_end = refl
+
+array_too_deep : read_five 0 16 (8 ∷ []) ≡ Faulty (fault 0 reasons.TooDeep)
+unfolding value padding number number_of gap_to array_limit
+array_too_deep = refl

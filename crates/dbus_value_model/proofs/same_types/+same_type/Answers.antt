@@ -1,0 +1,40 @@
+use Rattle.std.proofs.Common.{◌≡◌, ◌<◌, length, refl, sym, ap, subst, ◌∙◌, arith}
+use Rattle.std.proofs.lemmas.Bool.{false≢true}
+use Rattle.dbus_types.specs.SigTypes.{type_tree}
+use Rattle.dbus_value_model.proofs.SameTypes.{same_length, differ_at, same_more, structs_same, entry_told}
+use Rattle.dbus_value_model.proofs.same_types.+same_type.Goals as goal
+
+pub same_type-returns-in-Struct-other : goal.same_type-returns-in-Struct-other
+same_type-returns-in-Struct-other g t c =
+    let fields = rw (c.deref-in-Struct-other.ensures.value, c.deref-in-Struct-other-2.ensures.value) at c.same_types.ensures in
+    rw (c.in-Struct.is, c.in-Struct-other.is) (structs_same c.in-Struct.fields c.in-Struct-other.others c.same_types.result fields)
+
+pub same_type-returns-in_default-other-3 : goal.same_type-returns-in_default-other-3
+same_type-returns-in_default-other-3 g t c = (
+  λ e. absurd (false≢true e),
+  λ e. absurd (entry_told c.in-Entry.key c.in-Entry.value c.args.other.now c.in_default-other-3.not-Entry (subst (λ ty. type_tree ty ≡ type_tree c.args.other.now) c.in-Entry.is e)),
+)
+
+pub same_types-returns-then-types-others : goal.same_types-returns-then-types-others
+same_types-returns-then-types-others g t c = (
+  λ e. absurd (false≢true e),
+  λ e. absurd (c.if-types-others.true (same_length c.args.types.now c.args.others.now e)),
+)
+
+pub same_types-returns-then-not-same_type : goal.same_types-returns-then-not-same_type
+same_types-returns-then-not-same_type g t c =
+    let n = c.if-not-same_type.ensures in
+    let x = c.index-types-i.result in
+    let y = c.index-others-i.result in
+    let long : c.loop-i.i < length c.args.others.now = omega (arith, c.loop-i-test.true, c.if-types-others.false) in (
+      λ e. absurd (false≢true e),
+      λ e. absurd (differ_at c.args.types.now c.args.others.now c.loop-i.i x y c.loop-i-test.true long (λ s. false≢true (n.1 (ap type_tree c.index-types-i.is ∙ s ∙ sym (ap type_tree c.index-others-i.is)))) e),
+    )
+
+pub same_types-loop-i-preserved : goal.same_types-loop-i-preserved
+same_types-loop-i-preserved g t c =
+    let n = c.if-not-same_type.ensures.0 refl in
+    let x = c.index-types-i.result in
+    let y = c.index-others-i.result in
+    let long : c.loop-i.i < length c.args.others.now = omega (arith, c.loop-i-test.true, c.if-types-others.false) in
+    λ h. c.loop-i.invariant (same_more c.args.types.now c.args.others.now c.loop-i.i x y c.loop-i-test.true long (sym (ap type_tree c.index-types-i.is) ∙ n ∙ ap type_tree c.index-others-i.is) h)

@@ -1,0 +1,31 @@
+use Rattle.std.proofs.Common.{take_all, ◌≡◌, ◌++◌, ◌∷◌, [], map, take, sym, ap, ◌∙◌, rules}
+use Rattle.std.proofs.lemmas.List.{map_push, map_more}
+use Rattle.dbus_types.specs.SigTypes.{type_tree}
+use Rattle.dbus_value_model.specs.Values.{StructValue, type_of as tree_type}
+use Rattle.dbus_value_model.specs.ValueViews.{value_tree, value_trees_of}
+use Rattle.dbus_value_model.proofs.ValueRows.{tree-Struct}
+use Rattle.dbus_value_model.proofs.TypeRows.{type_tree-Struct, struct_type}
+use Rattle.dbus_value_model.proofs.typing.+type_of.Goals as goal
+
+pub type_of-returns-in_ok-types_of-in-Struct : goal.type_of-returns-in_ok-types_of-in-Struct
+type_of-returns-in_ok-types_of-in-Struct g t c =
+    let made = c.in_ok-types_of-in-Struct.field-0 in
+    let fields = c.in-Struct.fields in
+    type_tree-Struct made ∙ struct_type made.items c.deref.result.now c.in_ok-types_of-in-Struct.ensures
+    ∙ ap (λ vs. tree_type (StructValue (value_trees_of vs))) c.deref.ensures.value
+    ∙ ap tree_type (sym (tree-Struct fields)) ∙ ap (λ v. tree_type (value_tree v)) (sym c.in-Struct.is)
+
+pub types_of-loop-value-preserved : goal.types_of-loop-value-preserved
+types_of-loop-value-preserved g t c =
+    let xs = c.args.values.now in
+    let i = c.loop-value.value-index in
+    let x = c.value-item.result in
+    let made = c.in_ok-type_of.field-0 in
+    let pushed : c.push.new.self.items ≡ c.loop-value.types.items ++ made ∷ [] = search rules in
+    ap (map type_tree) pushed ∙ map_push type_tree c.loop-value.types.items made
+    ∙ ap (λ l. l ++ type_tree made ∷ []) c.loop-value.invariant
+    ∙ ap (λ u. map (λ v. tree_type (value_tree v)) (take i xs) ++ u ∷ []) (c.in_ok-type_of.ensures ∙ ap (λ v. tree_type (value_tree v)) c.value-item.is)
+    ∙ sym (map_more (λ v. tree_type (value_tree v)) xs i x c.loop-value-test.true)
+
+pub types_of-returns : goal.types_of-returns
+types_of-returns g t c = c.loop-value.invariant ∙ ap (map (λ v. tree_type (value_tree v))) (take_all c.loop-value.value-index c.args.values.now c.loop-value-test.false)

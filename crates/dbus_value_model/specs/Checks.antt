@@ -1,0 +1,33 @@
+-- Which values are well formed, and which case is answered where one is not.
+-- D-Bus Specification, "Type System", "Valid Signatures", "Message Protocol" for the limit on nesting.
+use Rattle.std.specs.Prelude.{ℕ, ◌-◌, Result, Ok, Err, IsTrue}
+use Rattle.dbus_types.specs.Types.{IsSingleType}
+use Rattle.dbus_value_model.specs.Values.{type_of}
+use Rattle.dbus_value_model.specs.Forming.{NestsWithin, IsUniform, IsNamed}
+use Rattle.dbus_value_model.specs.PackedBytes.{keeps_bytes}
+use Rattle.dbus_value_model.specs.ValueViews.{value_tree}
+use Rattle.dbus_value_model.specs.declared.value.Value.{Value}
+use Rattle.dbus_value_model.specs.declared.value_fault.ValueFault.{ValueFault}
+use Rattle.dbus_value_model.specs.declared.value_fault.ValueFault.TheVariants.{Memory, TooDeep, Mixed, Name, ArrayTooLong, TooLong}
+
+-- Every part has a type that fits its place. The type of a part that is within no variant is a part of the whole's type, so
+-- that the whole's type and those of variants' values speak for all: of the limits, of structs that are empty, and of dict
+-- entries and their keys. The law `WholesSpeakForParts` says so part by part.
+pub record IsTyped {A : Type 0} (v : Value A) : Type 0 where
+  pub single : IsSingleType (type_of (value_tree v))
+  pub uniform : IsUniform (value_tree v)
+  pub packed : IsTrue (keeps_bytes v)
+
+-- What is answered of a value within so many open containers: the first case that holds of any part. Memory is answered
+-- only where a growth was refused, which says nothing of the value.
+abbrev pub Refuses : {A : Type 0} → ValueFault → ℕ → Value A → Type 0
+Refuses Memory room v = Unit {0}
+Refuses TooDeep room v = NestsWithin room (value_tree v) → ⊥
+Refuses Mixed room v = NestsWithin room (value_tree v) × (IsTyped v → ⊥)
+Refuses Name room v = NestsWithin room (value_tree v) × IsTyped v × (IsNamed (value_tree v) → ⊥)
+Refuses ArrayTooLong room v = ⊥
+Refuses TooLong room v = ⊥
+
+abbrev pub Checks : {A : Type 0} → ℕ → Value A → Result (Unit {0}) ValueFault → Type 0
+Checks depth v (Ok u) = NestsWithin (64 - depth) (value_tree v) × IsTyped v × IsNamed (value_tree v)
+Checks depth v (Err fault) = Refuses fault (64 - depth) v

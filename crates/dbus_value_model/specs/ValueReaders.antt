@@ -1,0 +1,80 @@
+-- The computed reading of a value, one definition for each function of the code that reads one.
+-- D-Bus Specification, "Marshaling (Wire Format)".
+use Rattle.std.specs.Prelude.{ℕ, ◌-◌}
+use Rattle.dbus_types.specs.Types.{NumberCode, TextCode, TypeTree, TypeTrees}
+use Rattle.dbus_types.specs.Alignments.{width, length_width, alignment_of}
+use Rattle.dbus_types.specs.declared.text_kind.TextKind.TheVariants.{Single}
+use Rattle.dbus_value_model.specs.WantedTexts.{kind_of, Of}
+use Rattle.dbus_value_model.specs.declared.order.Order.{Order}
+use Rattle.dbus_value_model.specs.Values.{value_trees, ValueTree, NumberValue, TextValue, VariantValue, ArrayValue, StructValue, EntryValue}
+use Rattle.dbus_value_model.specs.ValueItems.{number_row, text_row, array_row}
+use Rattle.dbus_value_model.specs.Reading.{Reader, ◌>>=◌, ◌>>◌, pure, padding, number, text, nul, signature, contents, fields, opened, value}
+
+-- a number
+unfoldable pub number_value : Order → ℕ → NumberCode → Reader ValueTree
+number_value order end k = do
+  padding (width k) end
+  n ← number order (width k) end (number_row k)
+  pure (NumberValue k n)
+
+-- a text
+unfoldable pub text_value : Order → ℕ → TextCode → Reader ValueTree
+text_value order end k = do
+  padding (length_width k) end
+  n ← number order (length_width k) end (text_row end)
+  t ← text (kind_of k) n
+  nul
+  pure (TextValue k t)
+
+-- a value with its type, within a container that is open
+unfoldable pub held_value : Order → ℕ → ℕ → Reader ValueTree
+held_value order room end = do
+  n ← number order 1 end (text_row end)
+  held ← signature (Of Single) n
+  nul
+  x ← value order room end held
+  pure (VariantValue x)
+
+-- a value with its type
+unfoldable pub variant_value : Order → ℕ → ℕ → Reader ValueTree
+variant_value order room end = opened room (held_value order (room - 1) end)
+
+-- an array's length and the padding behind it
+unfoldable pub array_frame : Order → ℕ → TypeTree → Reader ℕ
+array_frame order end t = do
+  n ← number order 4 end (array_row t end)
+  padding (alignment_of t) end
+  pure n
+
+-- an array behind its first padding, within itself
+unfoldable pub open_array : Order → ℕ → ℕ → TypeTree → Reader ValueTree
+open_array order room end t = do
+  n ← array_frame order end t
+  xs ← contents n (λ end before. value order room end t)
+  pure (ArrayValue t (value_trees xs))
+
+-- an array
+unfoldable pub array_value : Order → ℕ → ℕ → TypeTree → Reader ValueTree
+array_value order room end t = do
+  padding 4 end
+  opened room (open_array order (room - 1) end t)
+
+-- a struct's fields, within it
+unfoldable pub open_struct : Order → ℕ → ℕ → TypeTrees → Reader ValueTree
+open_struct order room end ts = do
+  xs ← fields (value order room end) ts
+  pure (StructValue xs)
+
+-- a struct
+unfoldable pub struct_value : Order → ℕ → ℕ → TypeTrees → Reader ValueTree
+struct_value order room end ts = do
+  padding 8 end
+  opened room (open_struct order (room - 1) end ts)
+
+-- a dict entry
+unfoldable pub entry_value : Order → ℕ → ℕ → TypeTree → TypeTree → Reader ValueTree
+entry_value order room end k v = do
+  padding 8 end
+  key ← value order room end k
+  x ← value order room end v
+  pure (EntryValue key x)

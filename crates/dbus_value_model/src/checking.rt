@@ -1,0 +1,108 @@
+//! Whether a value is well formed.
+#![tactic(auto)]
+
+ghost use Rattle.std.specs.Prelude.{◌↔◌, ◌≤◌, IsTrue};
+ghost use Rattle.dbus_types.specs.Kinds.{IsKind};
+ghost use Rattle.dbus_value_model.specs.Checks.{Checks};
+ghost use Rattle.dbus_value_model.specs.Forming.{NestsWithin, NestWithin, IsNamed, AreNamed};
+ghost use Rattle.dbus_value_model.specs.ValueViews.{value_tree, value_trees_of};
+
+use crate::uniformity::is_typed;
+use crate::value::Value;
+use crate::value_fault::ValueFault;
+use dbus_types::{TextKind, text_break};
+use std::alloc::Allocator;
+
+/// The most arrays, structs and variants that are open at once in a message.
+const DEEPEST: u8 = 64;
+
+/// Whether a value is well formed where `depth` arrays, structs and variants are open around it, 64 at most.
+///
+/// It is refused for the first case that holds of any part of it: `TooDeep` where more than 64 arrays, structs and variants
+/// are open at once; `Mixed` where an item has another type than its array's, an array of BYTE is not `Bytes`, a dict entry
+/// stands outside an array or its key is not basic, a struct is empty, or a type spells no signature within the limits;
+/// `Name` where an object path or a signature is none, or a text has U+0000. `Memory` where a growth of memory was refused.
+/// D-Bus Specification, "Type System", "Valid Signatures" and "Message Protocol".
+pub fn check_value<A: Allocator + Copy>(
+    alloc: A,
+    value: &Value<A>,
+    depth: u8,
+) -> Result<(), ValueFault>
+    requires { depth ≤ 64 }
+    ensures { Checks depth value.now result }
+{
+    if !nests_within(value, DEEPEST - depth) {
+        return Err(ValueFault::TooDeep);
+    }
+    if !is_typed(alloc, value)? {
+        return Err(ValueFault::Mixed);
+    }
+    if !is_named(value) {
+        return Err(ValueFault::Name);
+    }
+    Ok(())
+}
+
+/// Whether no more than `room` arrays, structs and variants are open at once.
+#[cycle(nests)]
+pub fn nests_within<A: Allocator>(value: &Value<A>, room: u8) -> bool
+    ensures { IsTrue result ↔ NestsWithin room (value_tree value.now) }
+{
+    match value {
+        Value::Bytes(_) => 0 < room,
+        Value::Array(_, items) => 0 < room && nest_within(items, room - 1),
+        Value::Struct(fields) => 0 < room && nest_within(fields, room - 1),
+        Value::Entry(key, value) => nests_within(key, room) && nests_within(value, room),
+        Value::Variant(inner) => 0 < room && nests_within(inner, room - 1),
+        _ => true,
+    }
+}
+
+/// Whether no more than `room` arrays, structs and variants are open at once in any of the values.
+#[cycle(nests)]
+pub fn nest_within<A: Allocator>(values: &[Value<A>], room: u8) -> bool
+    ensures { IsTrue result ↔ NestWithin room (value_trees_of values.now) }
+{
+    for value in values {
+        if !nests_within(value, room) {
+            return false;
+        }
+    }
+    true
+}
+
+/// Whether every text is one of its kind: a path's an object path, a signature's a signature, and a text without U+0000.
+#[cycle(named)]
+pub fn is_named<A: Allocator>(value: &Value<A>) -> bool
+    ensures { IsTrue result ↔ IsNamed (value_tree value.now) }
+{
+    match value {
+        Value::Str(text) => is_of_kind(TextKind::Text, text.as_bytes()),
+        Value::Path(text) => is_of_kind(TextKind::Path, text.as_bytes()),
+        Value::Sig(text) => is_of_kind(TextKind::Signature, text.as_bytes()),
+        Value::Bytes(_) => true,
+        Value::Array(_, items) => are_named(items),
+        Value::Struct(fields) => are_named(fields),
+        Value::Entry(key, value) => is_named(key) && is_named(value),
+        Value::Variant(inner) => is_named(inner),
+        _ => true,
+    }
+}
+
+#[cycle(named)]
+fn are_named<A: Allocator>(values: &[Value<A>]) -> bool
+    ensures { IsTrue result ↔ AreNamed (value_trees_of values.now) }
+{
+    for value in values {
+        if !is_named(value) {
+            return false;
+        }
+    }
+    true
+}
+
+fn is_of_kind(kind: TextKind, text: &[u8]) -> bool
+    ensures { IsTrue result ↔ IsKind kind text.now }
+{
+    text_break(kind, text).is_none()
+}

@@ -1,0 +1,31 @@
+//! Values of the D-Bus wire format: what they are, which of them are well formed, and, in `specs/`, the relation that
+//! spells them in bytes.
+#![tactic(auto)]
+
+pub mod check_laws;
+#[cfg(test)]
+mod check_tests;
+mod checking;
+mod copying;
+mod fault;
+mod got;
+mod order;
+mod ranges;
+mod same_types;
+mod stop;
+mod typing;
+mod uniformity;
+mod value;
+mod value_fault;
+
+pub use checking::{check_value, is_named, nest_within, nests_within};
+pub use copying::copy;
+pub use fault::{Fault, Reason, Refusal};
+pub use got::Got;
+pub use order::Order;
+pub use ranges::{read_all_numbers, read_numbers};
+pub use stop::{Stop, refuse};
+pub use typing::type_of;
+pub use uniformity::is_typed;
+pub use value::Value;
+pub use value_fault::ValueFault;
