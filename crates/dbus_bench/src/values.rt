@@ -2,8 +2,8 @@
 ghost use Rattle.std.specs.Prelude.{IfSome};
 ghost use Rattle.dbus_types.specs.SigTypes.{type_tree};
 ghost use Rattle.dbus_types.specs.Types.{IsSingleType};
-ghost use Rattle.dbus_value.specs.ShortSignatures.{HasShortSignatures};
-ghost use Rattle.dbus_value.specs.ValueViews.{value_tree};
+ghost use Rattle.dbus_value_model.specs.ShortSignatures.{HasShortSignatures};
+ghost use Rattle.dbus_value_model.specs.ValueViews.{value_tree};
 
 use crate::samples::{byte_array, names, properties};
 use crate::timing::{Extent, Measure};
@@ -16,7 +16,7 @@ fn out_of_memory() -> Error {
 }
 
 // The value of a type that all of the bytes spell.
-#[tactic(auto, using(dbus_value::proofs::ShortLaws::formed_short))]
+#[tactic(auto, using(dbus_value_model::proofs::ShortLaws::formed_short))]
 fn value_in(rt: &HostRuntime, bytes: &[u8], wanted: &SigType) -> Option<Value>
     requires { IsSingleType (type_tree wanted.now) }
     ensures { IfSome result (λ v. HasShortSignatures (value_tree v)) }

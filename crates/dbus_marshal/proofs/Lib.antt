@@ -6,7 +6,6 @@ pub mod Written
 pub mod Patching
 pub mod Spells
 pub mod SizeLaws
-pub mod ShortLaws
 pub mod Lengths
 pub mod Periods
 pub mod Capping

@@ -28,7 +28,8 @@ use Rattle.dbus_message.proofs.FaultyBody.{none_unsound}
 use Rattle.dbus_message.proofs.FaultyFields.{not_both}
 use Rattle.dbus_message.proofs.JudgedFields.{AreJudged, judged_all, rest_without, rest_unsound, formed_fields, fields_hold, are_fields}
 use Rattle.dbus_message.proofs.PartEnds.{body_past, body_long, body_ends, body_kept}
-use Rattle.dbus_message.proofs.PartRanges.{ranged_of, all_ranged_of, all_short_of}
+use Rattle.dbus_message.proofs.PartRanges.{ranged_of, all_ranged_of}
+use Rattle.dbus_value_model.proofs.ShortLaws.{all_short_of}
 use Rattle.dbus_message.proofs.Whole.{message_length}
 
 -- ---- the fields and the body

@@ -1,13 +1,12 @@
--- What is within a message's limit has texts whose lengths fit, and what is typed has short signatures.
+-- What is within a message's limit has texts whose lengths fit.
 use Rattle.std.proofs.Common.{ℕ, ◌+◌, ◌≤◌, List, [], ◌∷◌, ◌++◌, length, arith}
 use Rattle.std.proofs.lemmas.List.{length-append}
 use Rattle.dbus_types.specs.Types.{TypeTree, TextCode, STRING, OBJECT_PATH, SIGNATURE, sig}
 use Rattle.dbus_types.specs.Alignments.{length_width, alignment_of}
 use Rattle.dbus_value_model.specs.Bytes.{gap_to, num, pad}
 use Rattle.dbus_value_model.specs.declared.order.Order.TheVariants.{Little}
-use Rattle.dbus_value_model.specs.Forming.{IsUniform, AreUniform, IsNamed, AreNamed, IsRanged, AreRanged}
+use Rattle.dbus_value_model.specs.Forming.{IsNamed, AreNamed, IsRanged, AreRanged}
 use Rattle.dbus_value_model.specs.Ranges.{HoldsNumbers, HoldNumbers}
-use Rattle.dbus_value_model.specs.ShortSignatures.{HasShortSignatures, HaveShortSignatures}
 use Rattle.dbus_value_model.specs.Spelling.{spelling, spellings, contents_start, ended_text}
 use Rattle.dbus_value_model.specs.Values.{ValueTree, ValueTrees, NoValues, MoreValues, NumberValue, TextValue, VariantValue, ArrayValue, StructValue, EntryValue, type_of}
 
@@ -86,20 +85,3 @@ mutual
     ranged_of o x h.0 name.0 (omega (arith, first_within o x xs)),
     all_ranged_of (o + length (spelling Little o x)) xs h.1 name.1 (omega (arith, rest_within o x xs)),
   )
-
--- ---- signatures
-
-mutual
-  pub short_of : (v : ValueTree) → IsUniform v → IsNamed v → HasShortSignatures v
-  short_of (NumberValue k n) h name = tt
-  short_of (TextValue STRING t) h name = tt
-  short_of (TextValue OBJECT_PATH t) h name = tt
-  short_of (TextValue SIGNATURE t) h name = omega (arith, name.1)
-  short_of (VariantValue x) h name = (h.0.1, short_of x h.1 name)
-  short_of (ArrayValue t xs) h name = all_short_of xs h.1 name
-  short_of (StructValue xs) h name = all_short_of xs h name
-  short_of (EntryValue k v) h name = (short_of k h.0 name.0, short_of v h.1 name.1)
-
-  pub all_short_of : (vs : ValueTrees) → AreUniform vs → AreNamed vs → HaveShortSignatures vs
-  all_short_of NoValues h name = tt
-  all_short_of (MoreValues x xs) h name = (short_of x h.0 name.0, all_short_of xs h.1 name.1)

@@ -1,7 +1,7 @@
 //! Messages as text.
 #![tactic(auto)]
 
-ghost use Rattle.std.specs.Prelude.{◌≡◌, ◌++◌, ◌∷◌, [], OnOk, IfOk, string_bytes};
+ghost use Rattle.std.specs.Prelude.{◌≡◌, ◌++◌, ◌∷◌, [], OnOk, IfOk, IfErr, string_bytes};
 ghost use Rattle.std.specs.List.{flat_map};
 ghost use Rattle.dbus_value_model.specs.ValueViews.{value_tree, value_trees_of};
 ghost use Rattle.dbus_message.specs.Messages.{order_byte};
@@ -130,15 +130,20 @@ pub fn show_message<A: Allocator + Copy>(
 
 /// Shows a message as [`show_message`] does, in a string in place of what that holds.
 ///
-/// `AllocError` comes only where a growth was refused: then the string holds some of the text.
+/// `AllocError` comes only where a growth was refused: then the string is empty.
 pub fn show_into<A: Allocator + Copy>(
     out: &mut String<A>,
     order: Order,
     message: &Message<A>,
     number: u64,
 ) -> Result<(), AllocError>
-    ensures { OnOk result (string_bytes out.new ≡ message_text order (message_tree message.now) number) }
+    ensures shown { OnOk result (string_bytes out.new ≡ message_text order (message_tree message.now) number) }
+    ensures emptied { IfErr result (λ _. string_bytes out.new ≡ []) }
 {
     out.clear();
-    write_parts(out, order, message.parts(), number)
+    let written = write_parts(out, order, message.parts(), number);
+    if written.is_err() {
+        out.clear();
+    }
+    written
 }

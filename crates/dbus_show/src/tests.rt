@@ -73,7 +73,7 @@ fn refused_growths(rt: HostRuntime) -> Result<(), Fail> {
     Ok(())
 }
 
-// Each growth refused in turn: the refusal is told, the string holds a front of the text, and once nothing is refused it
+// Each growth refused in turn: the refusal is told, the string is empty, and once nothing is refused it
 // holds the text in place of what it held. The text again takes no memory.
 #[test]
 fn refused_growths_of_a_kept_string(rt: HostRuntime) -> Result<(), Fail> {
@@ -88,8 +88,8 @@ fn refused_growths_of_a_kept_string(rt: HostRuntime) -> Result<(), Fail> {
         heap.refuse_nth(n);
         let shown = show_into(&mut kept, order, &message, 1);
         assert_eq!(rt; shown.is_err(), heap.refusals() == 1, "at {n}");
-        assert!(rt; SIGNAL_TEXT.starts_with(kept.as_str()), "at {n}");
-        assert_eq!(rt; kept.as_str() == SIGNAL_TEXT, shown.is_ok(), "at {n}");
+        let held = if shown.is_ok() { SIGNAL_TEXT } else { "" };
+        assert_eq!(rt; kept.as_str(), held, "at {n}");
         if shown.is_ok() {
             met = heap.growths();
         }

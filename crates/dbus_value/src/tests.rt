@@ -5,10 +5,12 @@ use super::*;
 use dbus_types::{SigType, parse_single};
 use std::test::*;
 
-fn seven_in(rt: &HostRuntime, order: Order) -> Result<Vec<u8>, Fail> {
-    let value: Value = Value::U64(7);
+// What is judged well formed may be measured and written.
+fn spelled(rt: &HostRuntime, value: &Value, order: Order) -> Result<Vec<u8>, ValueFault> {
+    check_value(rt.alloc(), value, 0)?;
+    size_after(value, 0)?;
     let mut bytes = Vec::new(rt.alloc());
-    put(&mut bytes, order, &value).ok().ok_or("written")?;
+    put(&mut bytes, order, value)?;
     Ok(bytes)
 }
 
@@ -22,7 +24,7 @@ fn number_in(rt: &HostRuntime, bytes: &[u8], end: usize, order: Order) -> Result
 #[test]
 fn there_and_back(rt: HostRuntime) -> Result<(), Fail> {
     for order in [Order::Little, Order::Big] {
-        let bytes = seven_in(&rt, order)?;
+        let bytes = spelled(&rt, &Value::U64(7), order).ok().ok_or("written")?;
         let read = number_in(&rt, &bytes, 8, order);
         assert!(rt; matches!(read, Ok(Got::Done(Value::U64(7), 8))));
         let short = number_in(&rt, &bytes, 7, order);

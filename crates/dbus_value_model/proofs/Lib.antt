@@ -11,3 +11,4 @@ pub mod Formed
 pub mod SameTypes
 pub mod TypeParts
 pub mod RangeSteps
+pub mod ShortLaws

@@ -1,10 +1,11 @@
 //! Whether a value is well formed.
 #![tactic(auto)]
 
-ghost use Rattle.std.specs.Prelude.{◌↔◌, ◌≤◌, IsTrue};
+ghost use Rattle.std.specs.Prelude.{◌↔◌, ◌≤◌, IsTrue, IfOk};
 ghost use Rattle.dbus_types.specs.Kinds.{IsKind};
 ghost use Rattle.dbus_value_model.specs.Checks.{Checks};
 ghost use Rattle.dbus_value_model.specs.Forming.{NestsWithin, NestWithin, IsNamed, AreNamed};
+ghost use Rattle.dbus_value_model.specs.ShortSignatures.{HasShortSignatures};
 ghost use Rattle.dbus_value_model.specs.ValueViews.{value_tree, value_trees_of};
 
 use crate::uniformity::is_typed;
@@ -22,14 +23,17 @@ const DEEPEST: u8 = 64;
 /// are open at once; `Mixed` where an item has another type than its array's, an array of BYTE is not `Bytes`, a dict entry
 /// stands outside an array or its key is not basic, a struct is empty, or a type spells no signature within the limits;
 /// `Name` where an object path or a signature is none, or a text has U+0000. `Memory` where a growth of memory was refused.
+/// A value that passes has short signatures, as writing and measuring ask.
 /// D-Bus Specification, "Type System", "Valid Signatures" and "Message Protocol".
+#[tactic(auto, using(crate::proofs::ShortLaws::short_of))]
 pub fn check_value<A: Allocator + Copy>(
     alloc: A,
     value: &Value<A>,
     depth: u8,
 ) -> Result<(), ValueFault>
     requires { depth ≤ 64 }
-    ensures { Checks depth value.now result }
+    ensures checks { Checks depth value.now result }
+    ensures short { IfOk result (λ _. HasShortSignatures (value_tree value.now)) }
 {
     if !nests_within(value, DEEPEST - depth) {
         return Err(ValueFault::TooDeep);

@@ -1,6 +1,6 @@
 use Rattle.std.proofs.Common.{◌≡◌, ◌∷◌, [], rules}
 use Rattle.dbus_value_model.specs.declared.value.Value as values
-use Rattle.dbus_marshal.proofs.ShortLaws.{short_array, short_U64}
+use Rattle.dbus_value_model.proofs.ShortLaws.{short_array, short_U64}
 use Rattle.dbus_marshal.proofs.put_tests.fives.Goals as goal
 
 pub returns : goal.returns

@@ -1,1 +1,0 @@
-pub use Rattle.dbus_marshal.proofs.ShortLaws
