@@ -1,15 +1,15 @@
 -- However the bytes are cut, a server's end sends the same lines and comes to the same status.
 use Rattle.std.proofs.Common.{◌≡◌, ◌≢◌, inl, inr, ℕ, suc, ◌+◌, ◌-◌, ◌==◌, Bool, true, false, cond, List, [], ◌∷◌, ◌++◌, length, take, drop, refl, sym, ◌∙◌, ap, arith, append_assoc, length-append, take-append-drop}
 use Rattle.std.proofs.lemmas.List.{append-nil, take-append-le, drop_at}
-use Rattle.dbus_auth.specs.Lines.{server_line, ended, client_meaning}
-use Rattle.dbus_auth.specs.Cut.{Cut, Ends, Bad, More, cut}
+use Rattle.dbus_auth_lines.specs.Lines.{server_line, ended, client_meaning}
+use Rattle.dbus_auth_lines.specs.Cut.{Cut, Ends, Bad, More, cut}
 use Rattle.dbus_auth.specs.Machines.{ServerMachine, ServerAction, server_step}
 use Rattle.dbus_auth.specs.Ends.{ServerEndState, EndOutcome, server_sends, server_status, server_cuts, server_first, server_talks, server_takes_at, server_takes, server_closes}
 use Rattle.dbus_auth.specs.AnyPeer.{ServerRun, line_sent, run_server, IsFinished, LooksAlike}
 use Rattle.dbus_auth.specs.World.{server_at_first}
 use Rattle.dbus_auth.specs.declared.end_step.Status.{Status}
 use Rattle.dbus_auth.specs.declared.end_step.Status.TheVariants as status
-use Rattle.dbus_auth.proofs.Cuts.{StaysSettled, IsAbove, cut_follows}
+use Rattle.dbus_auth_lines.proofs.Cuts.{StaysSettled, IsAbove, cut_follows}
 use Rattle.dbus_auth.proofs.Sides.{cut_nil}
 
 -- ---- byte by byte

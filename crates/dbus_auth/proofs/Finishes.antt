@@ -1,14 +1,14 @@
 -- Handing in byte by byte comes to an end: what is said of finished runs is said of some run of any bytes.
 use Rattle.std.proofs.Common.{◌≡◌, ◌≢◌, ◌⊎◌, inl, inr, ℕ, ◌+◌, ◌==◌, Bool, true, false, cond, List, [], ◌∷◌, ◌++◌, length, take, drop, refl, sym, ◌∙◌, arith, length-append}
 use Rattle.std.proofs.lemmas.List.{append-nil}
-use Rattle.dbus_auth.specs.Cut.{Cut, Ends, Bad, More, cut}
+use Rattle.dbus_auth_lines.specs.Cut.{Cut, Ends, Bad, More, cut}
 use Rattle.dbus_auth.specs.Machines.{ServerMachine}
 use Rattle.dbus_auth.specs.Ends.{ServerEndState, EndOutcome, server_cuts, server_first, server_talks, server_takes_at, server_takes, server_closes}
 use Rattle.dbus_auth.specs.AnyPeer.{run_server, IsFinished}
 use Rattle.dbus_auth.specs.World.{server_at_first}
 use Rattle.dbus_auth.specs.declared.end_step.Status.{Status}
 use Rattle.dbus_auth.specs.declared.end_step.Status.TheVariants as status
-use Rattle.dbus_auth.proofs.Cuts.{StaysSettled, IsAbove, cut_follows}
+use Rattle.dbus_auth_lines.proofs.Cuts.{StaysSettled, IsAbove, cut_follows}
 use Rattle.dbus_auth.proofs.Sides.{cut_nil}
 use Rattle.dbus_auth.proofs.AnyCut.{takes_sound}
 

@@ -2,10 +2,10 @@
 use Rattle.std.proofs.Common.{◌≡◌, ◌⊎◌, inl, inr, ℕ, ◌+◌, ◌*◌, ◌≤◌, Bool, true, false, List, [], ◌∷◌, ◌++◌, length, take, refl, sym, ◌∙◌, ap, arith, append_assoc}
 use Rattle.std.specs.List.{AllByRecursion}
 use Rattle.std.proofs.lemmas.List.{append-nil}
-use Rattle.dbus_auth.specs.ClientCommands.{ClientCommand}
-use Rattle.dbus_auth.specs.ClientCommands as client
-use Rattle.dbus_auth.specs.ServerCommands.{ServerCommand}
-use Rattle.dbus_auth.specs.ServerCommands as server
+use Rattle.dbus_auth_lines.specs.ClientCommands.{ClientCommand}
+use Rattle.dbus_auth_lines.specs.ClientCommands as client
+use Rattle.dbus_auth_lines.specs.ServerCommands.{ServerCommand}
+use Rattle.dbus_auth_lines.specs.ServerCommands as server
 use Rattle.dbus_auth.specs.Machines.{ServerMachine, ClientMechanism, IsServer, auth_line, waits_in, mechanisms}
 use Rattle.dbus_auth.specs.Ends.{ClientEndState, client_takes, client_starts}
 use Rattle.dbus_auth.specs.World.{untaken, World, Event, Start, To_server, To_client, Server_writes, Client_writes, server_writes, client_writes, start_once, hand_client, happens, run, at_first, line_ends, Handshake}

@@ -4,11 +4,11 @@ use Rattle.std.proofs.lemmas.List.{append-nil}
 use Rattle.dbus_auth.specs.World.{server_at_first}
 use Rattle.std.specs.Prelude.{codes}
 use Rattle.std.specs.List.{AllByRecursion}
-use Rattle.dbus_auth.specs.ClientCommands.{ClientCommand}
-use Rattle.dbus_auth.specs.ClientCommands as client
-use Rattle.dbus_auth.specs.ServerCommands as server
-use Rattle.dbus_auth.specs.Lines.{server_line, ended, client_meaning}
-use Rattle.dbus_auth.specs.Cut.{Cut, Ends, Bad, More, cut}
+use Rattle.dbus_auth_lines.specs.ClientCommands.{ClientCommand}
+use Rattle.dbus_auth_lines.specs.ClientCommands as client
+use Rattle.dbus_auth_lines.specs.ServerCommands as server
+use Rattle.dbus_auth_lines.specs.Lines.{server_line, ended, client_meaning}
+use Rattle.dbus_auth_lines.specs.Cut.{Cut, Ends, Bad, More, cut}
 use Rattle.dbus_auth.specs.Machines.{ServerMachine, ServerStep, ServerAction, server_step, server_step_at, rejects, accepts, replies, complains, mechanisms}
 use Rattle.dbus_auth.specs.Ends.{ServerEndState, server_answers, server_cuts, server_first, server_talks, server_takes_at, server_takes, server_closes}
 use Rattle.dbus_auth.specs.AnyPeer.{line_sent, run_server, LastIsOk}

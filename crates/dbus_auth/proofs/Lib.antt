@@ -1,4 +1,3 @@
-pub mod Cuts
 pub mod Sides
 pub mod Readable
 pub mod Stages
@@ -6,11 +5,4 @@ pub mod Steps
 pub mod Handshake
 pub mod LastOk
 pub mod AnyCut
-pub mod Spaces
-pub mod Resumes
 pub mod Finishes
-pub mod FirstLines
-pub mod CutterAnswers
-pub mod RoundTrips
-pub mod WordForms
-pub mod Meanings

@@ -1,13 +1,13 @@
 -- One side of a handshake: an end, the bytes that it keeps, and those that come to it.
 use Rattle.std.proofs.Common.{◌≡◌, ◌⊎◌, inl, inr, ℕ, zero, suc, ◌+◌, ◌-◌, ◌≤◌, Bool, true, false, List, [], ◌∷◌, ◌++◌, length, take, drop, refl, sym, ◌∙◌, ap, arith, append_assoc, length-append, length-take, length-drop, take-append-drop}
 use Rattle.std.proofs.lemmas.List.{drop_at, drop-append-le, append-nil, drop-drop}
-use Rattle.dbus_auth.specs.Lines.{ended, client_meaning, server_meaning}
-use Rattle.dbus_auth.specs.Cut.{More, cut, scan_from, IsLine}
+use Rattle.dbus_auth_lines.specs.Lines.{ended, client_meaning, server_meaning}
+use Rattle.dbus_auth_lines.specs.Cut.{More, cut, scan_from, IsLine}
 use Rattle.dbus_auth.specs.Machines.{ServerMachine, ClientMachine, ServerStep, ClientStep, server_step, client_step}
 use Rattle.dbus_auth.specs.Ends.{ServerEndState, ClientEndState, EndOutcome, nothing, server_sends, server_status, server_answers, server_cuts, server_talks, server_takes_at, server_takes, client_sends, client_status, client_cuts, client_takes_at, client_takes}
 use Rattle.dbus_auth.specs.World.{Wire, untaken, sending, taking}
 use Rattle.dbus_auth.specs.declared.end_step.Status.TheVariants as status
-use Rattle.dbus_auth.proofs.Cuts.{Comes, waits, whole, comes}
+use Rattle.dbus_auth_lines.proofs.Cuts.{Comes, waits, whole, comes}
 
 -- ---- wires
 

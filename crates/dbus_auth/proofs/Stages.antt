@@ -5,12 +5,12 @@ use Rattle.std.specs.List.{AllByRecursion}
 use Rattle.std.proofs.lemmas.List.{append-nil}
 use Rattle.std.proofs.lemmas.List.Sums.{sum_by-append}
 use Rattle.std.proofs.lemmas.Bool.{ne_eqb}
-use Rattle.dbus_auth.specs.ClientCommands.{ClientCommand}
-use Rattle.dbus_auth.specs.ClientCommands as client
-use Rattle.dbus_auth.specs.ServerCommands.{ServerCommand}
-use Rattle.dbus_auth.specs.ServerCommands as server
-use Rattle.dbus_auth.specs.Lines.{ended, client_line, server_line}
-use Rattle.dbus_auth.specs.Cut.{IsPlain, IsLine}
+use Rattle.dbus_auth_lines.specs.ClientCommands.{ClientCommand}
+use Rattle.dbus_auth_lines.specs.ClientCommands as client
+use Rattle.dbus_auth_lines.specs.ServerCommands.{ServerCommand}
+use Rattle.dbus_auth_lines.specs.ServerCommands as server
+use Rattle.dbus_auth_lines.specs.Lines.{ended, client_line, server_line}
+use Rattle.dbus_auth_lines.specs.Cut.{IsPlain, IsLine}
 use Rattle.dbus_auth.specs.Machines.{ServerMachine, ClientMachine, ClientMechanism, auth_line, waits_in, mechanisms}
 use Rattle.dbus_auth.specs.Ends.{ServerEndState, ClientEndState, client_takes}
 use Rattle.dbus_auth.specs.World.{Wire, untaken, sending, World, Start, To_client, Server_writes, Client_writes, client_did, server_writes, client_writes, start_once, hand_client, happens, client_at_first, line_ends}

@@ -3,12 +3,12 @@ use Rattle.std.proofs.Common.{◌≡◌, inl, inr, ℕ, suc, ◌+◌, ◌*◌, �
 use Rattle.std.specs.Prelude.{codes}
 use Rattle.std.specs.List.{AllByRecursion}
 use Rattle.std.proofs.lemmas.List.{append-nil}
-use Rattle.dbus_auth.specs.ClientCommands.{ClientCommand}
-use Rattle.dbus_auth.specs.ClientCommands as client
-use Rattle.dbus_auth.specs.ServerCommands.{ServerCommand}
-use Rattle.dbus_auth.specs.ServerCommands as server
-use Rattle.dbus_auth.specs.Lines.{ended, client_meaning, server_meaning, client_line, server_line}
-use Rattle.dbus_auth.specs.Cut.{cut}
+use Rattle.dbus_auth_lines.specs.ClientCommands.{ClientCommand}
+use Rattle.dbus_auth_lines.specs.ClientCommands as client
+use Rattle.dbus_auth_lines.specs.ServerCommands.{ServerCommand}
+use Rattle.dbus_auth_lines.specs.ServerCommands as server
+use Rattle.dbus_auth_lines.specs.Lines.{ended, client_meaning, server_meaning, client_line, server_line}
+use Rattle.dbus_auth_lines.specs.Cut.{cut}
 use Rattle.dbus_auth.specs.Machines.{ServerMachine, ClientMachine, ClientMechanism, External, Anonymous, ServerStep, ClientStep, ServerAction, ClientAction, server_step, client_step, IsServer, auth_line, waits_in, mechanisms, replies, asks, begins, next_of}
 use Rattle.dbus_auth.specs.Ends.{ServerEndState, ClientEndState, EndOutcome, nothing, server_takes, client_takes, client_starts, server_sends, client_sends, server_status, client_status}
 use Rattle.dbus_auth.specs.World.{Wire, untaken, sending, taking, World, Start, To_server, To_client, Server_writes, Client_writes, starts, server_did, client_did, server_writes, client_writes, start_once, hand_client, happens, client_at_first, line_ends}

@@ -1,8 +1,8 @@
 -- A server's end before any peer: any bytes, in any pieces. D-Bus Specification, "Authentication Protocol".
 use Rattle.std.specs.Prelude.{ℕ, ◌≡◌, ◌≢◌, ◌⊎◌, List, [], ◌∷◌, ◌++◌, take, drop, codes}
 use Rattle.std.specs.List.{AllByRecursion}
-use Rattle.dbus_auth.specs.ServerCommands as server
-use Rattle.dbus_auth.specs.Lines.{server_line, ended}
+use Rattle.dbus_auth_lines.specs.ServerCommands as server
+use Rattle.dbus_auth_lines.specs.Lines.{server_line, ended}
 use Rattle.dbus_auth.specs.Ends.{ServerEndState, server_takes}
 use Rattle.dbus_auth.specs.declared.end_step.Status.TheVariants as status
 

@@ -1,9 +1,9 @@
 -- The two ends of a connection: a state machine, and the bytes of an unfinished line. What a call of an end does.
 -- D-Bus Specification, "Authentication Protocol", "Special credentials-passing nul byte" and "Protocol Overview".
 use Rattle.std.specs.Prelude.{ℕ, ◌+◌, ◌-◌, ◌==◌, Bool, true, false, List, [], ◌∷◌, ◌++◌, length, take, if◌then◌else◌}
-use Rattle.dbus_auth.specs.Lines.{client_meaning, server_meaning, client_line, server_line, ended}
-use Rattle.dbus_auth.specs.Cut.{Cut, Ends, Bad, More, cut}
-use Rattle.dbus_auth.specs.ClientCommands as client
+use Rattle.dbus_auth_lines.specs.Lines.{client_meaning, server_meaning, client_line, server_line, ended}
+use Rattle.dbus_auth_lines.specs.Cut.{Cut, Ends, Bad, More, cut}
+use Rattle.dbus_auth_lines.specs.ClientCommands as client
 use Rattle.dbus_auth.specs.Machines.{ServerMachine, ClientMachine, ServerStep, ClientStep, ServerAction, ClientAction, server_step, client_step, next_of}
 use Rattle.dbus_auth.specs.declared.end_step.Status.{Status}
 use Rattle.dbus_auth.specs.declared.end_step.Status.TheVariants as status

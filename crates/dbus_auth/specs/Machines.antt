@@ -2,10 +2,10 @@
 -- state. D-Bus Specification, "Authentication Protocol", "Authentication state diagrams".
 use Rattle.std.specs.Prelude.{ℕ, ◌&&◌, ◌||◌, Bool, true, false, List, [], ◌∷◌, ◌++◌, Option, Some, None, codes, bytes_eq, decimal, if◌then◌else◌, ◌<◌, ◌^◌, length, IfSome, ◌≡◌}
 use Rattle.hex.specs.Hex.{IsBytes}
-use Rattle.dbus_auth.specs.ClientCommands.{ClientCommand}
-use Rattle.dbus_auth.specs.ClientCommands as client
-use Rattle.dbus_auth.specs.ServerCommands.{ServerCommand}
-use Rattle.dbus_auth.specs.ServerCommands as server
+use Rattle.dbus_auth_lines.specs.ClientCommands.{ClientCommand}
+use Rattle.dbus_auth_lines.specs.ClientCommands as client
+use Rattle.dbus_auth_lines.specs.ServerCommands.{ServerCommand}
+use Rattle.dbus_auth_lines.specs.ServerCommands as server
 use Rattle.dbus_auth.specs.declared.states.ServerState.{ServerState}
 use Rattle.dbus_auth.specs.declared.states.ServerState.TheVariants as at
 use Rattle.dbus_auth.specs.declared.states.ClientState.{ClientState}

@@ -6,12 +6,12 @@ ghost use Rattle.std.specs.List.{list_all, AllByRecursion};
 ghost use Rattle.hex.specs.Hex.{IsBytes};
 ghost use Rattle.dbus_auth.specs.Mechanisms.{IsMechanism};
 ghost use Rattle.dbus_auth.specs.Machines.{client_step, next_of, auth_line, client_waiting_for_data, client_waiting_for_ok, client_waiting_for_reject};
-ghost use Rattle.dbus_auth.specs.LineViews.{client_command, server_command};
+ghost use Rattle.dbus_auth_lines.specs.LineViews.{client_command, server_command};
 ghost use Rattle.dbus_auth.specs.ClientViews.{client_mechanism, is_short, client_machine, fresh_client, client_action, left_of, shown_turn, shown_client, stage_after, guid_of, state_of, IsListening};
 ghost use Rattle.dbus_auth.specs.declared.states.ClientState.TheVariants as now;
 
-use crate::lines::{ClientLine, Guid, ServerLine};
 use crate::states::ClientState;
+use dbus_auth_lines::{ClientLine, Guid, ServerLine};
 use std::alloc::{AllocError, Allocator, Global};
 
 /// A way in which a client says who it is.

@@ -1,9 +1,9 @@
 //! The client's end of a connection: its state machine over bytes that come in pieces.
 
 ghost use Rattle.std.specs.Prelude.{◌≡◌, ◌++◌, ◌+◌, ◌≤◌, ℕ, [], ◌-◌, true, false, IfOk, OnOk, OnErr, length, take, option_map};
-ghost use Rattle.dbus_auth.specs.Cut.{cut, Ends, More};
-ghost use Rattle.dbus_auth.specs.CutterViews.{IsWithin};
-ghost use Rattle.dbus_auth.specs.Lines.{server_meaning};
+ghost use Rattle.dbus_auth_lines.specs.Cut.{cut, Ends, More};
+ghost use Rattle.dbus_auth_lines.specs.CutterViews.{IsWithin};
+ghost use Rattle.dbus_auth_lines.specs.Lines.{server_meaning};
 ghost use Rattle.dbus_auth.specs.Machines.{client_step, next_of};
 ghost use Rattle.dbus_auth.specs.ClientViews.{client_machine, client_action};
 ghost use Rattle.dbus_auth.specs.Ends.{client_cuts, client_takes, client_starts, client_greets, client_sends, client_status};
@@ -11,10 +11,9 @@ ghost use Rattle.dbus_auth.specs.ClientAnswers.{IsClientReply, IsGreeting};
 
 use crate::client::{Client, ClientAct, ClientStage, ClientTurn};
 use crate::end_step::{EndStep, Status};
-use crate::lines::{ClientLine, Guid};
-use crate::reading::read_server;
-use crate::scanning::{Found, find, line_of};
-use crate::writing::client_bytes;
+use dbus_auth_lines::scanning::{Found, find, line_of};
+use dbus_auth_lines::writing::client_bytes;
+use dbus_auth_lines::{ClientLine, Guid, read_server};
 use std::alloc::{AllocError, Allocator, Global};
 
 /// The client's end of a connection. It keeps the bytes of an unfinished line, at most 16,383.

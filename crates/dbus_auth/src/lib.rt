@@ -26,29 +26,23 @@
 
 mod client;
 mod client_end;
-mod cutter;
 mod end_step;
 pub mod laws;
-mod lines;
-mod reading;
 #[cfg(test)]
 mod refusals;
-mod scanning;
 mod server;
 mod server_end;
 mod states;
 #[cfg(test)]
 mod tests;
-mod words;
-mod writing;
 
 pub use client::{Client, ClientAct, Mechanism};
 pub use client_end::ClientEnd;
-pub use cutter::{LineCutter, LineFault};
+pub use dbus_auth_lines::{
+    ClientLine, Guid, LineCutter, LineFault, ServerLine, TextFault, client_text, read_client,
+    read_server, server_text,
+};
 pub use end_step::{EndStep, Status};
-pub use lines::{ClientLine, Guid, ServerLine};
-pub use reading::{read_client, read_server};
 pub use server::{Server, ServerAct};
 pub use server_end::ServerEnd;
 pub use states::{ClientState, ServerState};
-pub use writing::{TextFault, client_text, server_text};

@@ -4,11 +4,11 @@
 ghost use Rattle.std.specs.Prelude.{◌≡◌, ◌++◌, ◌∷◌, [], ℕ, List, IfOk, OnOk, OnErr, map, codes, bytes_eq, ◌&&◌, if◌then◌else◌};
 ghost use Rattle.dbus_auth.specs.declared.states.ServerState.TheVariants as at;
 ghost use Rattle.dbus_auth.specs.Machines.{ServerMachine, IsServer, server_step, is_user, rejects, accepts, complains, is_empty, offers_external, server_step_at, waiting_for_auth, waiting_for_data, waiting_for_begin, by_mechanism};
-ghost use Rattle.dbus_auth.specs.LineViews.{client_command, server_command};
+ghost use Rattle.dbus_auth_lines.specs.LineViews.{client_command, server_command};
 ghost use Rattle.dbus_auth.specs.ServerViews.{server_machine, server_action, shown_step, IsWaiting};
 
-use crate::lines::{ClientLine, Guid, ServerLine};
 use crate::states::ServerState;
+use dbus_auth_lines::{ClientLine, Guid, ServerLine};
 use std::alloc::{AllocError, Allocator, Global};
 
 /// What a server does on a line.

@@ -1,20 +1,20 @@
 //! The server's end of a connection: its state machine over bytes that come in pieces.
 
 ghost use Rattle.std.specs.Prelude.{◌≡◌, ◌++◌, ◌+◌, ◌≤◌, ℕ, [], ◌-◌, IfOk, OnErr, length, take};
-ghost use Rattle.dbus_auth.specs.Cut.{cut, Ends, More};
-ghost use Rattle.dbus_auth.specs.CutterViews.{IsWithin};
-ghost use Rattle.dbus_auth.specs.Lines.{client_meaning};
+ghost use Rattle.dbus_auth_lines.specs.Cut.{cut, Ends, More};
+ghost use Rattle.dbus_auth_lines.specs.CutterViews.{IsWithin};
+ghost use Rattle.dbus_auth_lines.specs.Lines.{client_meaning};
 ghost use Rattle.dbus_auth.specs.Machines.{server_step};
 ghost use Rattle.dbus_auth.specs.ServerViews.{server_machine};
 ghost use Rattle.dbus_auth.specs.Ends.{server_cuts, server_takes};
 ghost use Rattle.dbus_auth.specs.ServerAnswers.{IsServerReply};
 
 use crate::end_step::{EndStep, Status};
-use crate::reading::read_client;
-use crate::scanning::{Found, find, line_of};
 use crate::server::{Server, ServerAct};
 use crate::states::ServerState;
-use crate::writing::server_bytes;
+use dbus_auth_lines::read_client;
+use dbus_auth_lines::scanning::{Found, find, line_of};
+use dbus_auth_lines::writing::server_bytes;
 use std::alloc::{AllocError, Allocator, Global};
 
 /// The server's end of a connection. It keeps the bytes of an unfinished line, at most 16,383.

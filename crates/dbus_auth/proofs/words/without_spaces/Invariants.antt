@@ -1,6 +1,0 @@
-use Rattle.std.proofs.Common.{◌≡◌, drop}
-use Rattle.dbus_auth.specs.Lines.{words}
-use Rattle.dbus_auth.proofs.words.without_spaces.Given as goal
-
-abbrev pub invariant-loop-i : goal.invariant-loop-i
-invariant-loop-i l = words (drop l.i l.bytes) ≡ words l.bytes

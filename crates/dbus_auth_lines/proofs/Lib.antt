@@ -1,0 +1,9 @@
+pub mod Cuts
+pub mod PrintedWords
+pub mod Spaces
+pub mod Resumes
+pub mod FirstLines
+pub mod CutterAnswers
+pub mod RoundTrips
+pub mod WordForms
+pub mod Meanings

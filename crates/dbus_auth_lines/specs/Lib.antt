@@ -1,0 +1,11 @@
+pub mod ClientCommands
+pub mod ServerCommands
+pub mod Lines
+pub mod LineForms
+pub mod Cut
+pub mod FirstLine
+pub mod LineViews
+pub mod WrittenLines
+pub mod RoundTrip
+pub mod CutterViews
+pub mod CutterStates

@@ -1,0 +1,56 @@
+-- Which commands are spelled by a line, and the line. D-Bus Specification, "Authentication Protocol", "Protocol
+-- Overview".
+use Rattle.std.specs.Prelude.{ℕ, ◌≡◌, ◌==◌, ◌&&◌, not, nat_le, nat_lt, Bool, true, false, List, length, Option, Some, None, Result, Ok, Err, if◌then◌else◌}
+use Rattle.std.specs.List.{list_all}
+use Rattle.dbus_auth_lines.specs.ClientCommands.{ClientCommand}
+use Rattle.dbus_auth_lines.specs.ClientCommands as client
+use Rattle.dbus_auth_lines.specs.ServerCommands.{ServerCommand}
+use Rattle.dbus_auth_lines.specs.ServerCommands as server
+use Rattle.dbus_auth_lines.specs.Lines.{client_line, server_line, ended}
+use Rattle.dbus_auth_lines.specs.declared.writing.TextFault.{TextFault}
+use Rattle.dbus_auth_lines.specs.declared.writing.TextFault.TheVariants as fault
+
+-- a byte of a mechanism
+abbrev pub is_printed : ℕ → Bool
+is_printed b = nat_le 33 b && nat_le b 126
+
+-- a byte of an ERROR text
+abbrev pub is_plain : ℕ → Bool
+is_plain b = nat_lt 0 b && nat_lt b 128 && not (b == 13) && not (b == 10)
+
+abbrev pub is_word : List ℕ → Bool
+is_word bytes = not (length bytes == 0) && list_all is_printed bytes
+
+abbrev pub is_client_spelled : ClientCommand → Bool
+is_client_spelled client.Auth = true
+is_client_spelled (client.AuthBy mech response) = is_word mech
+is_client_spelled client.Cancel = true
+is_client_spelled client.Begin = true
+is_client_spelled (client.DataOf bytes) = true
+is_client_spelled (client.Error text) = list_all is_plain text
+is_client_spelled client.Negotiate = true
+is_client_spelled client.Other = false
+
+abbrev pub is_server_spelled : ServerCommand → Bool
+is_server_spelled (server.Rejected mechanisms) = list_all is_word mechanisms
+is_server_spelled (server.Accepted guid) = true
+is_server_spelled (server.DataOf bytes) = true
+is_server_spelled (server.Error text) = list_all is_plain text
+is_server_spelled server.Agree = true
+is_server_spelled server.Other = false
+
+abbrev pub within_limit : List ℕ → Option (List ℕ)
+within_limit text = if nat_le (length text) 16384 then Some text else None
+
+-- the line with its CR LF, or None where none spells this
+abbrev pub client_text_of : ClientCommand → Option (List ℕ)
+client_text_of command = if is_client_spelled command then within_limit (ended (client_line command)) else None
+
+abbrev pub server_text_of : ServerCommand → Option (List ℕ)
+server_text_of command = if is_server_spelled command then within_limit (ended (server_line command)) else None
+
+-- what a call answers, unless memory ran out
+abbrev pub Writes : {X : Type 0} → (X → List ℕ) → Result X TextFault → Option (List ℕ) → Type 0
+Writes view (Ok text) t = t ≡ Some (view text)
+Writes view (Err fault.Memory) t = Unit {0}
+Writes view (Err fault.Unspellable) t = t ≡ None

@@ -1,0 +1,38 @@
+//! What holds of lines. None of these functions does anything: their contracts are the laws, over the
+//! definitions that the calls of the crate are specified by.
+//!
+//! D-Bus Specification, section "Authentication Protocol".
+
+ghost use Rattle.std.specs.Prelude.{List, ℕ, ◌≡◌, ◌≢◌, ◌++◌, ◌↔◌, Some};
+ghost use Rattle.dbus_auth_lines.specs.Cut.{cut};
+ghost use Rattle.dbus_auth_lines.specs.FirstLine.{Beginning, Unfinished, BeginsAs, cut_of};
+ghost use Rattle.dbus_auth_lines.specs.ClientCommands.{ClientCommand};
+ghost use Rattle.dbus_auth_lines.specs.ServerCommands.{ServerCommand};
+ghost use Rattle.dbus_auth_lines.specs.Lines.{client_meaning, server_meaning};
+ghost use Rattle.dbus_auth_lines.specs.LineForms.{MeansToServer, MeansToClient};
+ghost use Rattle.dbus_auth_lines.specs.WrittenLines.{client_text_of, server_text_of};
+ghost use Rattle.dbus_auth_lines.specs.RoundTrip.{HasClientBytes, HasServerBytes, ReadsBack};
+
+/// Any bytes begin with a line, with one fault or with the front of a line, and with one of these alone. A
+/// line and a fault stand whatever follows, so they do not depend on how the bytes are cut. The scan that an
+/// end of a connection is specified by finds them.
+pub fn first_line_law()
+    ensures some { (k : List ℕ) → (b : Beginning) × BeginsAs k b }
+    ensures one { (k : List ℕ) (a b : Beginning) → BeginsAs k a → BeginsAs k b → a ≡ b }
+    ensures stands { (k more : List ℕ) (b : Beginning) → b ≢ Unfinished → BeginsAs k b → BeginsAs (k ++ more) b }
+    ensures scan { (k : List ℕ) (b : Beginning) → BeginsAs k b → cut k ≡ cut_of b }
+{}
+
+/// What `client_text` and `server_text` write is one line, as `LineCutter` takes it, and `read_client` and
+/// `read_server` give back what was written.
+pub fn written_line_law()
+    ensures client { (c : ClientCommand) (text : List ℕ) → HasClientBytes c → client_text_of c ≡ Some text → ReadsBack client_meaning c text }
+    ensures server { (c : ServerCommand) (text : List ℕ) → HasServerBytes c → server_text_of c ≡ Some text → ReadsBack server_meaning c text }
+{}
+
+/// What a line means, as `read_client` and `read_server` answer it, is what the one row of the table says that has
+/// it: a name, and words behind spaces. Where no row has it, it is Other.
+pub fn line_meaning_law()
+    ensures client { (line : List ℕ) (c : ClientCommand) → MeansToServer line c ↔ (client_meaning line ≡ c) }
+    ensures server { (line : List ℕ) (c : ServerCommand) → MeansToClient line c ↔ (server_meaning line ≡ c) }
+{}

@@ -1,0 +1,29 @@
+//! The lines of the D-Bus authentication handshake.
+//!
+//! Before the first message, client and server say who the client is, in lines of ASCII ended by
+//! CR LF. [`read_client`] and [`read_server`] say what a line means, [`client_text`] and
+//! [`server_text`] write one, and [`LineCutter`] cuts lines out of bytes that come in pieces. A line
+//! has at most 16,384 bytes with its CR LF.
+//!
+//! [`scanning`] and [`writing`] hold what an end of a connection works with beside these: where the
+//! first line ends of bytes that it keeps itself, and a line's bytes.
+//!
+//! All is from the D-Bus Specification, section "Authentication Protocol".
+#![tactic(auto)]
+
+mod cutter;
+pub mod laws;
+mod lines;
+mod reading;
+#[cfg(test)]
+mod refusals;
+pub mod scanning;
+#[cfg(test)]
+mod tests;
+mod words;
+pub mod writing;
+
+pub use cutter::{LineCutter, LineFault};
+pub use lines::{ClientLine, Guid, ServerLine};
+pub use reading::{read_client, read_server};
+pub use writing::{TextFault, client_text, server_text};

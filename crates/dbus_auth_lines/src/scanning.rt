@@ -1,0 +1,104 @@
+//! Where the first line of some bytes ends, for an end of a connection that keeps the bytes of an unfinished line.
+
+ghost use Rattle.std.specs.Prelude.{◌≡◌, ◌++◌, ◌-◌, ◌≤◌, ℕ, length, take, false, IfOk};
+ghost use Rattle.dbus_auth_lines.specs.Cut.{passes_limit, is_bad, scan_from, cut, Ends, More};
+ghost use Rattle.dbus_auth_lines.specs.CutterViews.{found, cr_after, IsWithin};
+
+use std::alloc::{AllocError, Allocator};
+
+/// A fault of a line's bytes.
+#[derive(Clone, Copy, PartialEq, Eq, Debug, Drop)]
+pub enum BadLine {
+    /// The line has more than 16,384 bytes with its CR LF.
+    TooLong,
+    /// A byte that a line may not have.
+    BadByte {
+        /// Its place in the line, from 0.
+        at: usize,
+    },
+}
+
+/// What a scan finds.
+#[derive(Clone, Copy, Debug, Drop)]
+pub enum Found {
+    /// A line ends: the number of its bytes, its CR LF included.
+    Ends(usize),
+    /// The first fault, which stands before any line ends.
+    Bad(BadLine),
+    /// Neither: the bytes are the front of a line.
+    More,
+}
+
+/// Where the line ends that the bytes kept and the piece begin with, or the first fault. In the bytes
+/// kept no line ends, and none has a fault.
+pub fn find(kept: &[u8], piece: &[u8]) -> Found
+    requires { cut kept.now ≡ More }
+    ensures is { found result ≡ cut (kept.now ++ piece.now) }
+    ensures size { IsWithin (length kept.now) (length piece.now) (found result) }
+{
+    scan_piece(kept.len(), ends_in_cr(kept), piece)
+}
+
+/// The line of this size, which `find` found, without its CR LF.
+///
+/// Answers `AllocError` where memory ran out.
+pub fn line_of<A: Allocator + Copy>(
+    alloc: A,
+    kept: &[u8],
+    piece: &[u8],
+    size: usize,
+) -> Result<Vec<u8, A>, AllocError>
+    requires { IsWithin (length kept.now) (length piece.now) (Ends size) }
+    ensures { IfOk result (λ v. v.items ≡ take (size - 2) (kept.now ++ piece.now)) }
+{
+    let mut line = Vec::new(alloc);
+    line.extend_from_slice(kept)?;
+    line.extend_from_slice(&piece[..size - kept.len()])?;
+    line.truncate(size - 2);
+    Ok(line)
+}
+
+/// The first end of a line or the first fault, from the place `at` of a line on.
+fn scan_piece(at: usize, mut after_cr: bool, piece: &[u8]) -> Found
+    requires { at ≤ 16383 }
+    ensures { found result ≡ scan_from at after_cr piece.now }
+{
+    for (i, b) in piece.iter().enumerate() {
+        let place = at + i;
+        if is_past_limit(place, after_cr, *b) {
+            return Found::Bad(BadLine::TooLong);
+        }
+        if is_bad_byte(after_cr, *b) {
+            return Found::Bad(BadLine::BadByte { at: place });
+        }
+        if after_cr {
+            return Found::Ends(place + 1);
+        }
+        after_cr = *b == b'\r';
+    }
+    Found::More
+}
+
+/// Whether a line with this byte would be too long.
+fn is_past_limit(at: usize, after_cr: bool, b: u8) -> bool
+    ensures { result ≡ passes_limit at after_cr b }
+{
+    at == 16382 && !(b == b'\r' || (b == b'\n' && after_cr))
+}
+
+/// Whether the byte may not stand here.
+fn is_bad_byte(after_cr: bool, b: u8) -> bool
+    ensures { result ≡ is_bad after_cr b }
+{
+    b == 0 || 127 < b || (if after_cr { b != b'\n' } else { b == b'\n' })
+}
+
+/// Whether the last byte is CR.
+fn ends_in_cr(bytes: &[u8]) -> bool
+    ensures { result ≡ cr_after false bytes.now }
+{
+    match bytes {
+        [] => false,
+        [.., last] => *last == b'\r',
+    }
+}
