@@ -3,10 +3,10 @@
 //!
 //! Before the first message, client and server say who the client is, in lines of ASCII ended by
 //! CR LF. [`read_client`], [`read_server`], [`client_text`] and [`server_text`] are the lines, and
-//! [`LineCutter`] cuts them out of bytes that come in pieces. [`Server`] and [`Client`] are the
-//! state machines, which know no bytes. [`ServerEnd`] and [`ClientEnd`] are a machine over bytes:
-//! what a connection's owner holds until messages begin. They take nothing behind the end of the
-//! handshake, so what they leave is the first message.
+//! [`LineCutter`] cuts them out of bytes that come in pieces; the crate `dbus_auth_lines` has them
+//! all. [`Server`] and [`Client`] are the state machines, which know no bytes. [`ServerEnd`] and
+//! [`ClientEnd`] are a machine over bytes: what a connection's owner holds until messages begin. They
+//! take nothing behind the end of the handshake, so what they leave is the first message.
 //!
 //! # What a caller owes
 //!
