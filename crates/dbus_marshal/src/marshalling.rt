@@ -71,7 +71,7 @@ pub fn write_value<A: Allocator>(out: &mut Vec<u8, A>, order: Order, value: &Val
         Value::Double(bits) => write_number_64(out, order, *bits),
         Value::Str(text) => write_text(out, order, text.as_bytes()),
         Value::Path(text) => write_text(out, order, text.as_bytes()),
-        Value::Sig(text) => write_signature(out, order, text.as_bytes()),
+        Value::Sig(text) => write_signature(out, text.as_bytes()),
         Value::Fd(index) => write_number_32(out, order, *index),
         Value::Bytes(bytes) => write_byte_array(out, order, bytes),
         Value::Array(element, items) => write_array(out, order, items, element),
@@ -85,7 +85,7 @@ pub fn write_value<A: Allocator>(out: &mut Vec<u8, A>, order: Order, value: &Val
             write_value(out, order, value);
         }
         Value::Variant(inner) => {
-            write_variant_signature(out, order, inner);
+            write_variant_signature(out, inner);
             write_value(out, order, inner);
         }
     }

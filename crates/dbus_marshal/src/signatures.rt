@@ -4,13 +4,14 @@
 ghost use Rattle.std.specs.Prelude.{◌≡◌, ◌<◌, ◌+◌, ◌≤◌, ◌++◌, ◌∷◌, [], length, vec_capacity};
 ghost use Rattle.dbus_types.specs.Types.{sig, sigs};
 ghost use Rattle.dbus_types.specs.SigTypes.{type_tree, type_trees_of};
+ghost use Rattle.dbus_value_model.specs.declared.order.Order.{Order};
 ghost use Rattle.dbus_value_model.specs.Bytes.{num};
 ghost use Rattle.dbus_value_model.specs.Values.{type_of, types_of};
 ghost use Rattle.dbus_value_model.specs.ValueViews.{value_tree, value_trees_of};
 
 use crate::writing::{write_byte, write_bytes};
 use dbus_types::SigType;
-use dbus_value_model::{Order, Value};
+use dbus_value_model::Value;
 use std::alloc::Allocator;
 
 /// The length of a type's signature.
@@ -177,15 +178,15 @@ fn write_types_of<A: Allocator>(out: &mut Vec<u8, A>, values: &[Value<A>])
     }
 }
 
-/// Appends the signature of a value's type as a variant has it: its length in one byte, itself and a zero byte.
+/// Appends the signature of a value's type as a variant has it: its length in one byte, itself and a zero byte. It is the
+/// same in either byte order.
 #[tactic(auto, using(crate::proofs::Written::texts))]
-pub fn write_variant_signature<A: Allocator>(out: &mut Vec<u8, A>, order: Order, value: &Value<A>)
+pub fn write_variant_signature<A: Allocator>(out: &mut Vec<u8, A>, value: &Value<A>)
     requires space { length out.old.items + length (sig (type_of (value_tree value.now))) + 2 ≤ vec_capacity out.old }
     requires fits { length (sig (type_of (value_tree value.now))) < 256 }
-    ensures written { out.new.items ≡ ((out.old.items ++ num order 1 (length (sig (type_of (value_tree value.now))))) ++ sig (type_of (value_tree value.now))) ++ 0 ∷ [] }
+    ensures written { (order : Order) → out.new.items ≡ ((out.old.items ++ num order 1 (length (sig (type_of (value_tree value.now))))) ++ sig (type_of (value_tree value.now))) ++ 0 ∷ [] }
     ensures room { vec_capacity out.old ≤ vec_capacity out.new }
 {
-    let _order = order;
     write_byte(out, signature_length(value) as u8);
     write_type_of(out, value);
     write_byte(out, 0);

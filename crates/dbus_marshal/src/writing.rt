@@ -126,12 +126,12 @@ pub fn write_text<A: Allocator>(out: &mut Vec<u8, A>, order: Order, text: &[u8])
     write_byte(out, 0);
 }
 
-/// Appends the text of a SIGNATURE: its length in one byte, itself and a zero byte.
+/// Appends the text of a SIGNATURE: its length in one byte, itself and a zero byte. It is the same in either byte order.
 #[tactic(auto, using(crate::proofs::Written::texts))]
-pub fn write_signature<A: Allocator>(out: &mut Vec<u8, A>, order: Order, text: &[u8])
-    requires space { length (with_value order (TextValue SIGNATURE text.now) out.old.items) ≤ vec_capacity out.old }
+pub fn write_signature<A: Allocator>(out: &mut Vec<u8, A>, text: &[u8])
+    requires space { length out.old.items + length text.now + 2 ≤ vec_capacity out.old }
     requires fits { length text.now < 256 }
-    ensures written { out.new.items ≡ with_value order (TextValue SIGNATURE text.now) out.old.items }
+    ensures written { (order : Order) → out.new.items ≡ with_value order (TextValue SIGNATURE text.now) out.old.items }
     ensures room { vec_capacity out.old ≤ vec_capacity out.new }
 {
     write_byte(out, text.len() as u8);

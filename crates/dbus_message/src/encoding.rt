@@ -49,7 +49,7 @@ fn write_field<A: Allocator>(out: &mut Vec<u8, A>, order: Order, field: &HeaderF
     let code = field.code;
     write_padding(out, 8);
     write_byte(out, code);
-    write_variant_signature(out, order, &field.value);
+    write_variant_signature(out, &field.value);
     write_value(out, order, &field.value);
 }
 

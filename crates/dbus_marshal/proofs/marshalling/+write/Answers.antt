@@ -1,11 +1,11 @@
 use Rattle.std.proofs.Common.{◌≡◌, ◌+◌, ◌++◌, ◌∷◌, [], ◌-◌, length, drop, vec_capacity, refl, sym, ap, ◌∙◌, arith, rules}
 use Rattle.std.specs.Prelude.{string_bytes}
-use Rattle.dbus_types.specs.Types.{sig, STRING}
+use Rattle.dbus_types.specs.Types.{sig, STRING, SIGNATURE}
 use Rattle.dbus_types.specs.Alignments.{alignment_of}
 use Rattle.dbus_types.specs.SigTypes.{type_tree}
 use Rattle.dbus_value_model.specs.Appending.{with_padding, with_value, with_values}
 use Rattle.dbus_value_model.specs.Bytes.{num}
-use Rattle.dbus_value_model.specs.Values.{type_of}
+use Rattle.dbus_value_model.specs.Values.{TextValue, type_of}
 use Rattle.dbus_value_model.specs.ValueViews.{value_tree, value_trees_of}
 use Rattle.dbus_value_model.specs.declared.value.Value.{the_lemmas}
 use Rattle.dbus_marshal.proofs.Joining.{length_join}
@@ -13,8 +13,8 @@ use Rattle.dbus_value_model.proofs.Numbers.{length-num}
 use Rattle.dbus_marshal.proofs.Measuring.{below_most_of_three}
 use Rattle.dbus_marshal.proofs.Patching.{array_patched, length_array, array_grows, alignment_positive}
 use Rattle.dbus_marshal.proofs.Signing.{short-Array, short-Struct, short-Entry, short-Variant, short_more}
-use Rattle.dbus_marshal.proofs.Spells.{byte_fits, number_fits, writes-Byte, writes-Bool, writes-I16, writes-U16, writes-I32, writes-U32, writes-I64, writes-U64, writes-Double, writes-Fd, writes-Str, writes-Path, writes-Array, writes-Struct, writes-Entry, writes-Variant, writes_more, writes_end}
-use Rattle.dbus_marshal.proofs.Written.{length_value, length_values, length_text}
+use Rattle.dbus_marshal.proofs.Spells.{byte_fits, number_fits, writes-Byte, writes-Bool, writes-I16, writes-U16, writes-I32, writes-U32, writes-I64, writes-U64, writes-Double, writes-Fd, writes-Str, writes-Path, writes-Sig, writes-Array, writes-Struct, writes-Entry, writes-Variant, writes_more, writes_end}
+use Rattle.dbus_marshal.proofs.Written.{length_value, length_values, length_text, no_padding}
 use Rattle.dbus_marshal.proofs.marshalling.+write.Goals as goal
 
 pub write_value-write_byte-requires : goal.write_value-write_byte-requires
@@ -194,6 +194,15 @@ write_value-returns-in-Entry-clause-written g t c =
     let both = rw (c.deref-in-Entry-2.ensures, key) at c.write_value-in-Entry.ensures.written in
     rw c.in-Entry.is (both ∙ sym (writes-Entry c.args.order c.in-Entry.key c.in-Entry.value c.args.out.now.items))
 
+pub write_value-write_signature-requires-clause-space : goal.write_value-write_signature-requires-clause-space
+write_value-write_signature-requires-clause-space g t c =
+    let order = c.args.order in
+    let front = c.args.out.now.items in
+    let text = string_bytes c.in-Sig.text in
+    let space = rw (c.in-Sig.is, writes-Sig order c.in-Sig.text front) at c.requires.space in
+    let long : length (with_value order (TextValue SIGNATURE text) front) ≡ length (with_padding 1 front) + 1 + length text + 1 = length_text order SIGNATURE text front in
+    rw c.as_bytes-in-Sig.ensures.value (omega (arith, space, long, ap length (no_padding front)))
+
 pub write_value-write_variant_signature-requires-clause-space : goal.write_value-write_variant_signature-requires-clause-space
 write_value-write_variant_signature-requires-clause-space g t c =
     let order = c.args.order in
@@ -216,12 +225,12 @@ write_value-write_value-requires-in-Variant g t c κs within =
     let space = rw (is, writes) at c.requires.space in
     let fits = rw (is, writes) at c.requires.fits in
     let short = short-Variant c.in-Variant.inner (rw is at c.requires.signed) in
-    let wrote = rw c.deref-in-Variant.ensures at c.write_variant_signature.ensures.written in
+    let wrote = rw c.deref-in-Variant.ensures at (c.write_variant_signature.ensures.written c.args.order) in
     (rw (there, ← measure) (grind (arith, the_lemmas)), (within, (rw (there, wrote) (omega (arith, space, c.write_variant_signature.ensures.room)), (rw (there, wrote) fits, rw there short.1))))
 
 pub write_value-returns-in-Variant-clause-written : goal.write_value-returns-in-Variant-clause-written
 write_value-returns-in-Variant-clause-written g t c =
-    let signature = rw c.deref-in-Variant.ensures at c.write_variant_signature.ensures.written in
+    let signature = rw c.deref-in-Variant.ensures at (c.write_variant_signature.ensures.written c.args.order) in
     let both = rw (c.deref-in-Variant-2.ensures, signature) at c.write_value-in-Variant.ensures.written in
     rw c.in-Variant.is (both ∙ sym (writes-Variant c.args.order c.in-Variant.inner c.args.out.now.items))
 

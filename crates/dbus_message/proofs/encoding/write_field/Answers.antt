@@ -24,17 +24,17 @@ write_variant_signature-requires-clause-space g c =
 pub write_value-requires-clause-space : goal.write_value-requires-clause-space
 write_value-requires-clause-space g c =
     let small : c.args.field.now.code < 256 = omega arith in
-    let before : c.write_variant_signature.new.out.items ≡ before_value c.args.order (field_tree c.args.field.now) c.args.out.now.items = field_before c.args.order (field_tree c.args.field.now) c.args.out.now.items c.write_padding.new.out.items c.write_byte.new.out.items c.write_variant_signature.new.out.items c.write_padding.ensures.written c.write_byte.ensures.written c.write_variant_signature.ensures.written in
+    let before : c.write_variant_signature.new.out.items ≡ before_value c.args.order (field_tree c.args.field.now) c.args.out.now.items = field_before c.args.order (field_tree c.args.field.now) c.args.out.now.items c.write_padding.new.out.items c.write_byte.new.out.items c.write_variant_signature.new.out.items c.write_padding.ensures.written c.write_byte.ensures.written (c.write_variant_signature.ensures.written c.args.order) in
     rw (before, ← field_written c.args.order (field_tree c.args.field.now) c.args.out.now.items small) (omega (arith, c.requires.space, c.write_padding.ensures.room, c.write_byte.ensures.room, c.write_variant_signature.ensures.room))
 
 pub write_value-requires-clause-fits : goal.write_value-requires-clause-fits
 write_value-requires-clause-fits g c =
     let small : c.args.field.now.code < 256 = omega arith in
-    let before : c.write_variant_signature.new.out.items ≡ before_value c.args.order (field_tree c.args.field.now) c.args.out.now.items = field_before c.args.order (field_tree c.args.field.now) c.args.out.now.items c.write_padding.new.out.items c.write_byte.new.out.items c.write_variant_signature.new.out.items c.write_padding.ensures.written c.write_byte.ensures.written c.write_variant_signature.ensures.written in
+    let before : c.write_variant_signature.new.out.items ≡ before_value c.args.order (field_tree c.args.field.now) c.args.out.now.items = field_before c.args.order (field_tree c.args.field.now) c.args.out.now.items c.write_padding.new.out.items c.write_byte.new.out.items c.write_variant_signature.new.out.items c.write_padding.ensures.written c.write_byte.ensures.written (c.write_variant_signature.ensures.written c.args.order) in
     rw (before, ← field_written c.args.order (field_tree c.args.field.now) c.args.out.now.items small) c.requires.fits
 
 pub returns-clause-written : goal.returns-clause-written
 returns-clause-written g c =
     let small : c.args.field.now.code < 256 = omega arith in
-    let before : c.write_variant_signature.new.out.items ≡ before_value c.args.order (field_tree c.args.field.now) c.args.out.now.items = field_before c.args.order (field_tree c.args.field.now) c.args.out.now.items c.write_padding.new.out.items c.write_byte.new.out.items c.write_variant_signature.new.out.items c.write_padding.ensures.written c.write_byte.ensures.written c.write_variant_signature.ensures.written in
+    let before : c.write_variant_signature.new.out.items ≡ before_value c.args.order (field_tree c.args.field.now) c.args.out.now.items = field_before c.args.order (field_tree c.args.field.now) c.args.out.now.items c.write_padding.new.out.items c.write_byte.new.out.items c.write_variant_signature.new.out.items c.write_padding.ensures.written c.write_byte.ensures.written (c.write_variant_signature.ensures.written c.args.order) in
     c.write_value.ensures.written ∙ ap (with_value c.args.order (value_tree c.args.field.now.value)) before ∙ sym (field_written c.args.order (field_tree c.args.field.now) c.args.out.now.items small)
