@@ -28,13 +28,9 @@ mod client;
 mod client_end;
 mod end_step;
 pub mod laws;
-#[cfg(test)]
-mod refusals;
 mod server;
 mod server_end;
 mod states;
-#[cfg(test)]
-mod tests;
 
 pub use client::{Client, ClientAct, Mechanism};
 pub use client_end::ClientEnd;

@@ -15,11 +15,7 @@ mod cutter;
 pub mod laws;
 mod lines;
 mod reading;
-#[cfg(test)]
-mod refusals;
 pub mod scanning;
-#[cfg(test)]
-mod tests;
 mod words;
 pub mod writing;
 

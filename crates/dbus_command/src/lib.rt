@@ -4,8 +4,6 @@
 mod command;
 mod command_line;
 mod help;
-#[cfg(test)]
-mod tests;
 mod usage_fault;
 mod wire;
 

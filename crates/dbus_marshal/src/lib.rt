@@ -3,11 +3,7 @@
 
 mod marshalling;
 pub mod measure_laws;
-#[cfg(test)]
-mod measure_tests;
 mod measures;
-#[cfg(test)]
-mod put_tests;
 mod signatures;
 pub mod size_laws;
 mod sizes;

@@ -13,8 +13,6 @@ mod owner;
 mod pair;
 mod parse;
 mod rule;
-#[cfg(test)]
-mod tests;
 mod texts;
 mod to_text;
 mod value;

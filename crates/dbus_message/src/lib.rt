@@ -4,19 +4,13 @@
 mod answer;
 mod build_fault;
 mod building;
-#[cfg(test)]
-mod building_tests;
 mod decoding;
 mod depth;
 mod encoding;
-#[cfg(test)]
-mod fault_tests;
 mod faulty_body;
 mod faulty_fields;
 mod field_value;
 mod fixed_header;
-#[cfg(test)]
-mod growth_tests;
 mod header_field;
 mod known_fields;
 pub mod laws;
@@ -26,8 +20,6 @@ mod message_size;
 mod parts;
 mod read_body;
 mod read_fields;
-#[cfg(test)]
-mod tests;
 
 pub use answer::Answer;
 pub use build_fault::BuildFault;

@@ -7,8 +7,6 @@ mod hexadecimal;
 pub mod laws;
 mod numbers;
 mod show;
-#[cfg(test)]
-mod tests;
 mod values;
 
 pub use show::{show_into, show_message};

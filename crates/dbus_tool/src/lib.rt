@@ -12,8 +12,6 @@ mod output;
 mod rule_lines;
 mod running;
 mod spare;
-#[cfg(test)]
-mod tests;
 mod words;
 
 pub use dbus_command::{Command, UsageFault, command_of};

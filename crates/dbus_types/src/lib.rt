@@ -12,8 +12,6 @@ mod shape;
 mod sig_type;
 mod signature;
 mod spell;
-#[cfg(test)]
-mod tests;
 mod text_kind;
 mod utf8;
 

@@ -2,14 +2,10 @@
 #![tactic(auto)]
 
 mod arrays;
-#[cfg(test)]
-mod fronts_tests;
 pub mod items;
 pub mod laws;
 mod number_values;
 mod reading;
-#[cfg(test)]
-mod reading_tests;
 mod text_values;
 pub mod texts;
 

@@ -5,11 +5,6 @@
 //! (`dbus_marshal`) and reading, with its laws (`dbus_unmarshal`).
 #![tactic(auto)]
 
-#[cfg(test)]
-mod growth_tests;
-#[cfg(test)]
-mod tests;
-
 pub use dbus_marshal::{put, size_after};
 pub use dbus_unmarshal::{get, laws};
 pub use dbus_value_model::{

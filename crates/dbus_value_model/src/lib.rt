@@ -3,8 +3,6 @@
 #![tactic(auto)]
 
 pub mod check_laws;
-#[cfg(test)]
-mod check_tests;
 mod checking;
 mod copying;
 mod fault;

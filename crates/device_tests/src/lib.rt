@@ -1,19 +1,33 @@
-//! Devices that fail, and tests of readers and commands over them.
+//! Tests of streams, of the command line and of the commands, over devices that fail and with growths refused.
 #![tactic(auto)]
 
-mod narrow;
-mod one_byte;
-
-pub use narrow::Narrow;
-pub use one_byte::OneByte;
-
+#[cfg(test)]
+mod captures;
+#[cfg(test)]
+mod command_tests;
+#[cfg(test)]
+mod cutter_tests;
+#[cfg(test)]
+mod failure_tests;
 #[cfg(test)]
 mod growth_tests;
 #[cfg(test)]
+mod help_texts;
+#[cfg(test)]
+mod narrow;
+#[cfg(test)]
 mod order_tests;
 #[cfg(test)]
-mod stream_tests;
+mod pieces;
 #[cfg(test)]
-mod tests;
+mod reader_tests;
 #[cfg(test)]
-mod word_tests;
+mod run_tests;
+#[cfg(test)]
+mod running;
+#[cfg(test)]
+mod spelling;
+#[cfg(test)]
+mod usage_texts;
+#[cfg(test)]
+mod writer_tests;

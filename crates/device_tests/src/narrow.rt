@@ -1,32 +1,30 @@
-//! A sink of one byte a write.
-ghost use Rattle.std.specs.Prelude.{◌≡◌, [], None, Some};
+//! A sink of a few bytes a write.
+ghost use Rattle.std.specs.Prelude.{None};
 
 use dbus_stream::{DeviceFault, Sink};
 use std::alloc::Global;
 
-/// Takes one byte a write. The write of this number, counted from 1, fails.
+/// Takes at most so many bytes a write. The write of this number, counted from 1, fails.
 #[derive(Drop)]
-pub struct Narrow {
+pub(crate) struct Narrow {
     /// The bytes that it took.
-    pub held: Vec<u8>,
+    pub(crate) held: Vec<u8>,
+    /// How many bytes it takes at most; 0 for none.
+    size: usize,
     /// Which write fails; 0 for none.
-    pub fails_at: u64,
+    fails_at: u64,
     /// How many writes were made.
-    pub calls: u64,
-    /// How many writes failed.
-    pub failures: u64,
+    pub(crate) calls: u64,
+    /// How many writes failed, or took none of their bytes.
+    pub(crate) failures: u64,
 }
 
 impl Narrow {
-    /// A sink that holds nothing yet, and whose write of this number fails.
-    pub fn new(alloc: Global, fails_at: u64) -> Self
-        ensures held { result.held.items ≡ [] }
-        ensures fails_at { result.fails_at ≡ fails_at }
-        ensures calls { result.calls ≡ 0 }
-        ensures failures { result.failures ≡ 0 }
-    {
+    /// A sink that holds nothing yet, takes `size` bytes a write, and whose write of this number fails.
+    pub(crate) fn new(alloc: Global, size: usize, fails_at: u64) -> Self {
         Narrow {
             held: Vec::new(alloc),
+            size,
             fails_at,
             calls: 0,
             failures: 0,
@@ -35,7 +33,7 @@ impl Narrow {
 }
 
 impl Sink for Narrow {
-    ghost held = { λ s. Some s.held.items };
+    ghost held = { λ s. None };
 
     ghost failures = { λ s. s.failures };
 
@@ -43,13 +41,14 @@ impl Sink for Narrow {
 
     fn write(&mut self, bytes: &[u8]) -> Result<usize, DeviceFault> {
         self.calls = self.calls.wrapping_add(1);
-        let Some((first, _)) = bytes.split_first() else {
-            return Ok(0);
-        };
-        if self.calls == self.fails_at || self.held.push(*first).is_err() {
+        let count = self.size.min(bytes.len());
+        if self.calls == self.fails_at || self.held.extend_from_slice(&bytes[..count]).is_err() {
             self.failures = self.failures.wrapping_add(1);
             return Err(DeviceFault);
         }
-        Ok(1)
+        if count == 0 && !bytes.is_empty() {
+            self.failures = self.failures.wrapping_add(1);
+        }
+        Ok(count)
     }
 }

@@ -1,35 +1,26 @@
 //! That output goes out before more input is read.
 ghost use Rattle.std.specs.Prelude.{None};
 
+use crate::captures::*;
+use crate::pieces::Pieces;
+use crate::running::{CHECK, SHOW, TO_BIG, TO_LITTLE, words_of};
 use dbus_stream::{DeviceFault, Sink, Source};
-use dbus_tool::{Command, ExitStatus, run};
-use dbus_value::Order;
+use dbus_tool::{ExitStatus, run_words};
 use std::alloc::Global;
 use std::cell::Cell;
 use std::test::Fail;
 
-// A method return with the serial 1, for the call 1, in Little and in Big.
-const RETURN: &[u8] =
-    b"\x6c\x02\x01\x01\x00\x00\x00\x00\x01\x00\x00\x00\x08\x00\x00\x00\x05\x01\x75\x00\x01\x00\x00\x00";
-
-const BIG_RETURN: &[u8] =
-    b"\x42\x02\x01\x01\x00\x00\x00\x00\x00\x00\x00\x01\x00\x00\x00\x08\x05\x01\x75\x00\x00\x00\x00\x01";
-
-// The text of each has 52 bytes.
-const SHOWN: [usize; 4] = [0, 52, 104, 156];
-
-// Gives so many bytes a read, and keeps how many bytes were written before each.
+// Hands on what a source gives, and keeps how many bytes were written before each read.
 #[derive(Drop)]
-struct Pieces<'a> {
-    bytes: &'a [u8],
-    size: usize,
+struct Watched<'a> {
+    source: Pieces<'a>,
     written: &'a Cell<usize>,
     seen: Vec<usize>,
     calls: u64,
     failures: u64,
 }
 
-impl Source for Pieces<'_> {
+impl Source for Watched<'_> {
     ghost left = { λ s. None };
 
     ghost failures = { λ s. s.failures };
@@ -40,19 +31,13 @@ impl Source for Pieces<'_> {
 
     fn read(&mut self, buffer: &mut [u8]) -> Result<usize, DeviceFault> {
         self.calls = self.calls.wrapping_add(1);
-        if self.seen.push(self.written.get()).is_err() {
-            self.failures = self.failures.wrapping_add(1);
-            return Err(DeviceFault);
+        if self.seen.push(self.written.get()).is_ok() {
+            if let Ok(count) = self.source.read(buffer) {
+                return Ok(count);
+            }
         }
-        let count = self.size.min(self.bytes.len());
-        if buffer.len() < count {
-            self.failures = self.failures.wrapping_add(1);
-            return Err(DeviceFault);
-        }
-        let (piece, rest) = self.bytes.split_at(count);
-        buffer[..count].copy_from_slice(piece);
-        self.bytes = rest;
-        Ok(count)
+        self.failures = self.failures.wrapping_add(1);
+        Err(DeviceFault)
     }
 }
 
@@ -76,20 +61,19 @@ impl Sink for Counting<'_> {
     }
 }
 
-// How a run ends over the three method returns, of which this many bytes come with each read; how many bytes were written
-// before each read; and how many in the end.
-fn seen(
+// Whether a run goes through over these bytes, of which so many come with each read, and so many bytes are written before
+// each read and in the end.
+fn goes_out(
     alloc: Global,
-    command: Command,
+    words: &[&str],
+    bytes: &[u8],
     size: usize,
-) -> Result<(ExitStatus, Vec<usize>, usize), Fail> {
-    let mut bytes = Vec::from_slice(alloc, RETURN)?;
-    bytes.extend_from_slice(BIG_RETURN)?;
-    bytes.extend_from_slice(RETURN)?;
+    expected: &[usize],
+) -> Result<bool, Fail> {
+    let words = words_of(alloc, "dbus-wire", words)?;
     let written = Cell::new(0);
-    let mut reader = Pieces {
-        bytes: bytes.as_slice(),
-        size,
+    let mut reader = Watched {
+        source: Pieces::new(bytes, size, 0),
         written: &written,
         seen: Vec::new(alloc),
         calls: 0,
@@ -98,31 +82,35 @@ fn seen(
     let mut first = Counting { written: &written };
     let other = Cell::new(0);
     let mut second = Counting { written: &other };
-    let status = run(alloc, command, &mut reader, &mut first, &mut second);
-    Ok((status, reader.seen, written.get()))
+    let status = run_words(
+        alloc,
+        words.as_slice(),
+        &mut reader,
+        &mut first,
+        &mut second,
+    );
+    let mut seen = reader.seen;
+    seen.push(written.get())?;
+    Ok(status == ExitStatus::Done && seen.as_slice() == expected)
 }
 
-// What a command makes of a message is written before the read behind it.
+// Over three method returns of 24 bytes, of which so many bytes come with each read, the words write so many bytes before
+// each read and in the end.
+const ORDERS: &[(&[&str], usize, &[usize])] = &[
+    // What a command makes of a message is written before the read behind it. The text of each has 52 bytes.
+    (SHOW, 24, &[0, 52, 104, 156, 156]),
+    (TO_BIG, 24, &[0, 24, 48, 72, 72]),
+    (CHECK, 24, &[0, 0, 0, 0, 23]),
+    // Of a read with two messages and a front of the third, what is made of the two is written before the next read.
+    (TO_LITTLE, 60, &[0, 48, 72, 72]),
+];
+
 #[test]
 fn output_goes_out_before_each_read(rt: HostRuntime) -> Result<(), Fail> {
-    for (command, expected) in [
-        (Command::Show, SHOWN),
-        (Command::Swap(Order::Big), [0, 24, 48, 72]),
-        (Command::Check, [0, 0, 0, 0]),
-    ] {
-        let (status, seen, _) = seen(rt.alloc(), command, 24)?;
-        assert_eq!(rt; status, ExitStatus::Done);
-        assert_eq!(rt; seen.as_slice(), expected.as_slice());
+    let bytes = joined(rt.alloc(), &[RETURN, BIG_RETURN, RETURN])?;
+    for (n, (words, size, expected)) in ORDERS.iter().enumerate() {
+        let goes_out = goes_out(rt.alloc(), words, bytes.as_slice(), *size, expected)?;
+        assert!(rt; goes_out, "at {n}");
     }
-    Ok(())
-}
-
-// Of a read with two messages and a front of the third, what is made of the two is written before the next read.
-#[test]
-fn output_of_several_messages_goes_out_at_once(rt: HostRuntime) -> Result<(), Fail> {
-    let (status, seen, written) = seen(rt.alloc(), Command::Swap(Order::Little), 60)?;
-    assert_eq!(rt; status, ExitStatus::Done);
-    assert_eq!(rt; seen.as_slice(), [0, 48, 72].as_slice());
-    assert_eq!(rt; written, 72);
     Ok(())
 }

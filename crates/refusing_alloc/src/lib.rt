@@ -45,8 +45,6 @@ ghost use Rattle.std.specs.Prelude.{◌<◌, ◌^◌};
 use std::alloc::{AllocError, Allocator, Global};
 
 mod plan;
-#[cfg(test)]
-mod tests;
 
 use plan::Plan;
 

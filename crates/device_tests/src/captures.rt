@@ -1,0 +1,97 @@
+//! Messages of the wire format, byte by byte, and the texts that show them.
+
+use std::alloc::Global;
+use std::test::Fail;
+
+/// A method return with the serial 1, for the call 1, in Little and in Big.
+pub(crate) const RETURN: &[u8] =
+    b"\x6c\x02\x01\x01\x00\x00\x00\x00\x01\x00\x00\x00\x08\x00\x00\x00\x05\x01\x75\x00\x01\x00\x00\x00";
+
+pub(crate) const BIG_RETURN: &[u8] =
+    b"\x42\x02\x01\x01\x00\x00\x00\x00\x00\x00\x00\x01\x00\x00\x00\x08\x05\x01\x75\x00\x00\x00\x00\x01";
+
+pub(crate) const RETURN_TEXT: &[u8] = b"#1 l method_return serial=1 flags=01 reply_serial=1\n";
+
+/// The same in Big, as the second, third and fourth of some messages.
+pub(crate) const BIG_AS_SECOND: &[u8] = b"#2 B method_return serial=1 flags=01 reply_serial=1\n";
+
+pub(crate) const BIG_AS_THIRD: &[u8] = b"#3 B method_return serial=1 flags=01 reply_serial=1\n";
+
+pub(crate) const BIG_AS_FOURTH: &[u8] = b"#4 B method_return serial=1 flags=01 reply_serial=1\n";
+
+/// All bytes of the one in Little but the last.
+pub(crate) const ALL_BUT_ONE: &[u8] =
+    b"\x6c\x02\x01\x01\x00\x00\x00\x00\x01\x00\x00\x00\x08\x00\x00\x00\x05\x01\x75\x00\x01\x00\x00";
+
+/// Its first 5 bytes.
+pub(crate) const FRONT: &[u8] = b"\x6c\x02\x01\x01\x00";
+
+/// Those of the one in Big.
+pub(crate) const BIG_FRONT: &[u8] = b"\x42\x02\x01\x01\x00";
+
+/// No header field, where a method return wants a REPLY_SERIAL.
+pub(crate) const BARE: &[u8] = b"\x6c\x02\x01\x01\x00\x00\x00\x00\x01\x00\x00\x00\x00\x00\x00\x00";
+
+/// A message of an unknown type with two header fields of an unknown code.
+pub(crate) const UNKNOWN: &[u8] =
+    b"\x6c\x05\x00\x01\x00\x00\x00\x00\x01\x00\x00\x00\x0d\x00\x00\x00\x0a\x01\x79\x00\x05\x00\x00\x00\x0a\x01\x79\x00\x06\x00\x00\x00";
+
+pub(crate) const UNKNOWN_TEXT: &[u8] = b"#1 l kind5 serial=1 flags=00 field10=y:5 field10=y:6\n";
+
+/// Method returns with bodies of `dayax(yq)`, of `a{sv}` and of `s`.
+pub(crate) const NUMBERS: &[u8] =
+    b"\x6c\x02\x01\x01\x1c\x00\x00\x00\x01\x00\x00\x00\x17\x00\x00\x00\x05\x01\x75\x00\x01\x00\x00\x00\x08\x01\x67\x00\x09\x64\x61\x79\x61\x78\x28\x79\x71\x29\x00\x00\x00\x00\x00\x00\x00\x00\xf0\x3f\x02\x00\x00\x00\x00\xff\x00\x00\x00\x00\x00\x00\x00\x00\x00\x00\x01\x00\x02\x00";
+
+pub(crate) const NUMBERS_TEXT: &[u8] =
+    b"#1 l method_return serial=1 flags=01 reply_serial=1 signature=dayax(yq)\n  d:3ff0000000000000\n  ay:00ff\n  ax:[]\n  (y:1, q:2)\n";
+
+pub(crate) const DICT: &[u8] =
+    b"\x6c\x02\x01\x01\x12\x00\x00\x00\x01\x00\x00\x00\x13\x00\x00\x00\x05\x01\x75\x00\x01\x00\x00\x00\x08\x01\x67\x00\x05\x61\x7b\x73\x76\x7d\x00\x00\x00\x00\x00\x00\x0a\x00\x00\x00\x00\x00\x00\x00\x01\x00\x00\x00\x6b\x00\x01\x79\x00\x01";
+
+pub(crate) const DICT_TEXT: &[u8] =
+    b"#1 l method_return serial=1 flags=01 reply_serial=1 signature=a{sv}\n  a{sv}:[{s:\"k\", <y:1>}]\n";
+
+pub(crate) const ESCAPES: &[u8] =
+    b"\x6c\x02\x01\x01\x0a\x00\x00\x00\x01\x00\x00\x00\x0f\x00\x00\x00\x05\x01\x75\x00\x01\x00\x00\x00\x08\x01\x67\x00\x01\x73\x00\x00\x05\x00\x00\x00\x61\x22\x5c\x0a\x7f\x00";
+
+pub(crate) const ESCAPES_TEXT: &[u8] =
+    b"#1 l method_return serial=1 flags=01 reply_serial=1 signature=s\n  s:\"a\\\"\\\\\\x0a\\x7f\"\n";
+
+/// A signal whose body is the text `hi` and, in a variant, an array of two numbers.
+pub(crate) const SIGNAL: &[u8] =
+    b"\x6c\x04\x00\x01\x18\x00\x00\x00\x02\x00\x00\x00\x38\x00\x00\x00\x01\x01\x6f\x00\x02\x00\x00\x00\x2f\x61\x00\x00\x00\x00\x00\x00\x02\x01\x73\x00\x03\x00\x00\x00\x61\x2e\x62\x00\x00\x00\x00\x00\x03\x01\x73\x00\x01\x00\x00\x00\x43\x00\x00\x00\x00\x00\x00\x00\x08\x01\x67\x00\x02\x73\x76\x00\x02\x00\x00\x00\x68\x69\x00\x02\x61\x75\x00\x00\x08\x00\x00\x00\x01\x00\x00\x00\x02\x00\x00\x00";
+
+pub(crate) const SIGNAL_TEXT: &[u8] =
+    b"#1 l signal serial=2 flags=00 path=/a interface=a.b member=C signature=sv\n  s:\"hi\"\n  <au:[u:1, u:2]>\n";
+
+/// The same as the second of some messages.
+pub(crate) const SIGNAL_AS_SECOND: &[u8] =
+    b"#2 l signal serial=2 flags=00 path=/a interface=a.b member=C signature=sv\n  s:\"hi\"\n  <au:[u:1, u:2]>\n";
+
+/// Method returns with an empty array of UINT64 in the body, behind the number 7 and alone.
+pub(crate) const NUMBER_AND_ARRAY: &[u8] =
+    b"\x6c\x02\x00\x01\x08\x00\x00\x00\x01\x00\x00\x00\x11\x00\x00\x00\x05\x01\x75\x00\x01\x00\x00\x00\x08\x01\x67\x00\x03\x75\x61\x78\x00\x00\x00\x00\x00\x00\x00\x00\x07\x00\x00\x00\x00\x00\x00\x00";
+
+pub(crate) const EMPTY_ARRAY: &[u8] =
+    b"\x6c\x02\x00\x01\x08\x00\x00\x00\x01\x00\x00\x00\x10\x00\x00\x00\x05\x01\x75\x00\x01\x00\x00\x00\x08\x01\x67\x00\x02\x61\x78\x00\x00\x00\x00\x00\x00\x00\x00\x00";
+
+/// The header of a method return with a body of 5,000 bytes in an array, and the length of that array.
+pub(crate) const LONG_HEADER: &[u8] =
+    b"\x6c\x02\x00\x01\x8c\x13\x00\x00\x01\x00\x00\x00\x10\x00\x00\x00\x05\x01\x75\x00\x01\x00\x00\x00\x08\x01\x67\x00\x02\x61\x79\x00\x88\x13\x00\x00";
+
+/// The header of a method return with a body of 2,700 signatures in an array, the length of that array, and the text up to
+/// the first of them.
+pub(crate) const SIGNATURES_HEADER: &[u8] =
+    b"\x6c\x02\x00\x01\x1c\x15\x00\x00\x01\x00\x00\x00\x10\x00\x00\x00\x05\x01\x75\x00\x01\x00\x00\x00\x08\x01\x67\x00\x02\x61\x67\x00\x18\x15\x00\x00";
+
+pub(crate) const SIGNATURES_TEXT: &[u8] =
+    b"#1 l method_return serial=1 flags=00 reply_serial=1 signature=ag\n  ag:[";
+
+/// Bytes one behind the other.
+pub(crate) fn joined(alloc: Global, parts: &[&[u8]]) -> Result<Vec<u8>, Fail> {
+    let mut all = Vec::new(alloc);
+    for part in parts {
+        all.extend_from_slice(part)?;
+    }
+    Ok(all)
+}

@@ -1,0 +1,138 @@
+//! Which command the words of a command line name, and what is told of words that name none.
+
+use crate::help_texts::*;
+use crate::running::words_of;
+use crate::usage_texts::*;
+use dbus_match::{RuleFault, RuleReason, rule_text};
+use dbus_tool::{Command, UsageFault, command_of};
+use dbus_value::Order;
+use std::alloc::Global;
+use std::process::Abort;
+use std::test::Fail;
+
+// What words name: a command, of which a rule is told by its canonical text; or a rule with a fault.
+enum Named {
+    Show,
+    Check,
+    Swap(Order),
+    Filter(&'static str),
+    Refused(RuleFault),
+}
+
+// What the command line answers to these words behind the program's path.
+fn answer_to(alloc: Global, words: &[&str]) -> Result<Result<Command, UsageFault>, Fail> {
+    let words = words_of(alloc, "/usr/bin/dbus-wire", words)?;
+    Ok(command_of(alloc, words.as_slice()))
+}
+
+// Whether the words name this.
+fn is_named(alloc: Global, words: &[&str], named: &Named) -> Result<bool, Fail> {
+    match (answer_to(alloc, words)?, named) {
+        (Ok(Command::Show), Named::Show) => Ok(true),
+        (Ok(Command::Check), Named::Check) => Ok(true),
+        (Ok(Command::Swap(given)), Named::Swap(order)) => Ok(given == *order),
+        (Ok(Command::Filter(rule)), Named::Filter(text)) => {
+            Ok(rule_text(alloc, &rule)?.as_str() == *text)
+        }
+        (Err(UsageFault::Rule(given)), Named::Refused(fault)) => Ok(given == *fault),
+        (_, _) => Ok(false),
+    }
+}
+
+const NAMED: &[(&[&str], Named)] = &[
+    (&["show"], Named::Show),
+    (&["check"], Named::Check),
+    (&["swap", "--to", "l"], Named::Swap(Order::Little)),
+    (&["swap", "--to=B"], Named::Swap(Order::Big)),
+    (&["filter", ""], Named::Filter("")),
+    (
+        &["filter", "member=M,type='signal'"],
+        Named::Filter("type='signal',member='M'"),
+    ),
+    (&["filter", "--", "arg0='-h'"], Named::Filter("arg0='-h'")),
+    (
+        &["filter", "arg64='x'"],
+        Named::Refused(RuleFault::Bad {
+            at: 0,
+            reason: RuleReason::KeyName,
+        }),
+    ),
+];
+
+#[test]
+fn commands(rt: HostRuntime) -> Result<(), Fail> {
+    for (n, (words, named)) in NAMED.iter().enumerate() {
+        assert!(rt; is_named(rt.alloc(), words, named)?, "at {n}");
+    }
+    Ok(())
+}
+
+// What a text is told as.
+#[derive(Clone, Copy, Debug, PartialEq, Eq)]
+enum Text {
+    Help,
+    Usage,
+    Neither,
+}
+
+// What is told of the words.
+fn told(alloc: Global, words: &[&str]) -> Result<(Text, String), Fail> {
+    match answer_to(alloc, words)? {
+        Err(UsageFault::Help(text)) => Ok((Text::Help, text)),
+        Err(UsageFault::Usage(text)) => Ok((Text::Usage, text)),
+        _ => Ok((Text::Neither, String::new(alloc))),
+    }
+}
+
+// Of the words of each row this text is told, which is compared whole.
+fn each_tells(
+    rt: &(impl Abort + AllocGlobal),
+    rows: &[(&[&str], &str)],
+    expected: Text,
+) -> Result<(), Fail> {
+    for (n, (words, text)) in rows.iter().enumerate() {
+        let (given, told) = told(rt.alloc(), words)?;
+        assert_eq!(rt; given, expected, "at {n}");
+        assert_eq!(rt; told.as_str(), *text, "at {n}");
+    }
+    Ok(())
+}
+
+const HELPS: &[(&[&str], &str)] = &[
+    (&["--help"], PROGRAM),
+    (&["-h"], PROGRAM),
+    (&["help"], PROGRAM),
+    (&["show", "--help"], SHOW),
+    (&["help", "show"], SHOW),
+    (&["check", "-h"], CHECK),
+    (&["swap", "--help"], SWAP),
+    (&["swap", "--to", "x", "--help"], SWAP),
+    (&["filter", "--help"], FILTER),
+    (&["filter", "arg64='x'", "-h"], FILTER),
+];
+
+#[test]
+fn helps(rt: HostRuntime) -> Result<(), Fail> {
+    each_tells(&rt, HELPS, Text::Help)
+}
+
+const USAGES: &[(&[&str], &str)] = &[
+    (&[], NO_COMMAND),
+    (&["play"], UNKNOWN_COMMAND),
+    (&["chek"], SIMILAR_COMMAND),
+    (&["--to", "l", "swap"], OPTION_OF_ANOTHER),
+    (&["show", "capture"], WORD_BEHIND_SHOW),
+    (&["check", "--all"], OPTION_OF_CHECK),
+    (&["filter", "type=signal", "type=error"], SECOND_RULE),
+    (&["swap"], NO_ORDER),
+    (&["swap", "--to"], NO_WORD_OF_ORDER),
+    (&["swap", "--to", "l", "--to=B"], TWO_ORDERS),
+    (&["swap", "--to", "L"], CAPITAL_ORDER),
+    (&["swap", "--to=lB"], TWO_LETTERS),
+    (&["filter"], NO_RULE),
+];
+
+#[test]
+fn usages(rt: HostRuntime) -> Result<(), Fail> {
+    each_tells(&rt, USAGES, Text::Usage)
+}

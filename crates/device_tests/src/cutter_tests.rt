@@ -1,0 +1,158 @@
+//! Cutters on messages in pieces of every size, and with each growth refused in turn.
+
+ghost use Rattle.std.specs.Prelude.{◌<◌};
+
+use crate::captures::*;
+use crate::spelling::{is_spelled, spell};
+use dbus_stream::{Cutter, StreamFault};
+use dbus_value::{Fault, Reason};
+use refusing_alloc::Refusing;
+use std::alloc::{Allocator, Global};
+use std::process::Abort;
+use std::test::Fail;
+
+const MESSAGES: &[&[u8]] = &[RETURN, BIG_RETURN, NUMBER_AND_ARRAY, EMPTY_ARRAY, SIGNAL];
+
+// Of this piece the cutter takes so many bytes, gives the message that these bytes spell in its order, or none where they
+// are none, and holds so many bytes then.
+fn takes<A: Allocator + Copy>(
+    rt: &impl Abort,
+    alloc: A,
+    cutter: &mut Cutter<A>,
+    piece: &[u8],
+    count: usize,
+    message: &[u8],
+    held: usize,
+) -> Result<(), Fail> {
+    let Ok((taken, given)) = cutter.take(piece) else {
+        panic!(rt; "refused at {count}");
+    };
+    assert_eq!(rt; [taken, cutter.held()], [count, held], "at {count}");
+    assert!(rt; is_spelled(alloc, given, message)?, "at {count}");
+    Ok(())
+}
+
+#[test]
+fn a_message_and_a_front_of_it(rt: HostRuntime) -> Result<(), Fail> {
+    let alloc = rt.alloc();
+    let piece = joined(alloc, &[RETURN, FRONT])?;
+    let piece = piece.as_slice();
+    let mut cutter = Cutter::new(alloc);
+    takes(&rt, alloc, &mut cutter, piece, 24, RETURN, 0)?;
+    assert_eq!(rt; cutter.finish(), Ok(()));
+    takes(&rt, alloc, &mut cutter, FRONT, 5, b"", 5)?;
+    let fault = Fault {
+        at: 5,
+        reason: Reason::Truncated,
+    };
+    assert_eq!(rt; cutter.finish(), Err(fault));
+    Ok(())
+}
+
+#[test]
+fn a_message_in_pieces_of_one_byte(rt: HostRuntime) -> Result<(), Fail> {
+    let mut cutter = Cutter::new(rt.alloc());
+    for (i, piece) in RETURN.chunks(1).enumerate() {
+        let (message, held) = if i == 23 {
+            (RETURN, 0)
+        } else {
+            (b"".as_slice(), i + 1)
+        };
+        takes(&rt, rt.alloc(), &mut cutter, piece, 1, message, held)?;
+    }
+    Ok(())
+}
+
+// Each front wants more bytes, and gives the message with the rest.
+#[test]
+fn messages_in_two_pieces(rt: HostRuntime) -> Result<(), Fail> {
+    let alloc = rt.alloc();
+    for message in MESSAGES {
+        for n in 0..message.len() {
+            let mut cutter = Cutter::new(alloc);
+            let (front, rest) = message.split_at(n);
+            takes(&rt, alloc, &mut cutter, front, n, b"", n)?;
+            takes(&rt, alloc, &mut cutter, rest, rest.len(), message, 0)?;
+        }
+    }
+    Ok(())
+}
+
+// Whether these bytes are messages that a cutter gives where it is handed pieces of so many bytes, and again what it leaves
+// of one; and nothing is left of a piece, or held in the end.
+fn are_cut(alloc: Global, bytes: &[u8], size: usize) -> Result<bool, Fail>
+    requires { 0 < size }
+{
+    let mut cutter = Cutter::new(alloc);
+    let mut all = Vec::new(alloc);
+    let mut left = 0usize;
+    for piece in bytes.chunks(size) {
+        let mut rest = piece;
+        for _ in 0..bytes.len() {
+            if rest.is_empty() {
+                break;
+            }
+            let (count, given) = cutter.take(rest)?;
+            rest = &rest[count..];
+            spell(alloc, given, &mut all)?;
+        }
+        left = left.saturating_add(rest.len());
+    }
+    Ok(left == 0 && cutter.held() == 0 && all.as_slice() == bytes)
+}
+
+#[test]
+fn messages_in_pieces_of_each_size(rt: HostRuntime) -> Result<(), Fail> {
+    let bytes = joined(rt.alloc(), MESSAGES)?;
+    for size in 1..240usize {
+        assert!(rt; are_cut(rt.alloc(), bytes.as_slice(), size)?, "at {size}");
+    }
+    Ok(())
+}
+
+// Whether the cutter gives a message of the rest of the signal; whether it is refused memory; and whether it then holds what
+// it held.
+fn answer_of<A: Allocator + Copy>(cutter: &mut Cutter<A>, rest: &[u8]) -> [bool; 3] {
+    let [gives, refused] = match cutter.take(rest) {
+        Ok((46, Some(_))) => [true, false],
+        Err(StreamFault::Memory) => [false, true],
+        _ => [false, false],
+    };
+    [gives, refused, cutter.held() == 50]
+}
+
+// The signal in two pieces. Where the growth of this number is refused the cutter is as it was, and answers the same piece as if nothing had
+// happened. Where there are fewer growths, how many there are.
+fn take_refused(
+    rt: &(impl Abort + AllocGlobal),
+    front: &[u8],
+    rest: &[u8],
+    n: u64,
+) -> Result<Option<u64>, Fail> {
+    let heap = Refusing::none(rt.alloc());
+    let mut cutter = Cutter::new(&heap);
+    takes(rt, &heap, &mut cutter, front, 50, b"", 50)?;
+    heap.refuse_nth(n);
+    let answer = answer_of(&mut cutter, rest);
+    let refused = heap.refusals() == 1;
+    assert_eq!(rt; answer, [!refused, refused, refused], "at {n}");
+    if !refused {
+        return Ok(Some(heap.growths()));
+    }
+    takes(rt, &heap, &mut cutter, rest, 46, SIGNAL, 0)?;
+    drop(cutter);
+    assert_eq!(rt; heap.blocks(), 0, "at {n}");
+    Ok(None)
+}
+
+#[test]
+fn take_with_each_growth_refused(rt: HostRuntime) -> Result<(), Fail> {
+    let (front, rest) = SIGNAL.split_at(50);
+    for n in 1..100 {
+        if let Some(met) = take_refused(&rt, front, rest, n)? {
+            assert!(rt; met > 5, "{met}");
+            return Ok(());
+        }
+    }
+    panic!(rt; "each growth is refused")
+}

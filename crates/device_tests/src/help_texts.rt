@@ -1,0 +1,152 @@
+//! The texts of help.
+
+/// Of the program.
+pub(crate) const PROGRAM: &str = "\
+Reads D-Bus messages from standard input, and shows, checks, swaps or filters them
+
+Usage: dbus-wire <COMMAND>
+
+Commands:
+  show    Writes each message as text
+  check   Tells whether the input is messages, and how many
+  swap    Writes each message in one byte order
+  filter  Writes the messages that match a rule, as they came
+  help    Print this message or the help of the given subcommand(s)
+
+Options:
+  -h, --help  Print help
+
+Input:
+  Raw messages on standard input, one behind the other, as
+  `dbus-monitor --binary` writes them.
+
+Output:
+  What the command makes of the messages, on standard output. Of an input that
+  is refused, `refused at P: NAME` tells the place, in bytes from its start, and
+  the reason. check writes that line to standard output; the others write it to
+  standard error, and what they made of the messages before that place stays.
+
+Exit status:
+  0  the whole input is messages, or help was asked for
+  1  the input is refused: it has bytes that are no message, or ends within one
+  2  the words of the command line are wrong
+  3  a read or a write failed, too many reads were made, or memory was refused
+
+Example:
+  dbus-monitor --session --binary > capture
+  dbus-wire check < capture
+";
+
+/// Of `show`.
+pub(crate) const SHOW: &str = "\
+Writes each message as text
+
+Usage: dbus-wire show
+
+Options:
+  -h, --help  Print help
+
+Input:
+  Raw messages on standard input, one behind the other, as
+  `dbus-monitor --binary` writes them.
+
+Output:
+  For each message a line on standard output with its number from 1, byte order,
+  type, serial, flags and header fields, and below it a line for each value of
+  its body. Of an input that is refused, `refused at P: NAME` on standard error.
+
+Exit status:
+  0  the whole input is messages, or help was asked for
+  1  the input is refused: it has bytes that are no message, or ends within one
+  2  the words of the command line are wrong
+  3  a read or a write failed, too many reads were made, or memory was refused
+
+Example:
+  dbus-monitor --session --binary | dbus-wire show
+";
+
+/// Of `check`.
+pub(crate) const CHECK: &str = "\
+Tells whether the input is messages, and how many
+
+Usage: dbus-wire check
+
+Options:
+  -h, --help  Print help
+
+Input:
+  Raw messages on standard input, one behind the other, as
+  `dbus-monitor --binary` writes them.
+
+Output:
+  One line on standard output: `ok N messages B bytes`, or `refused at P: NAME`
+  with the place, in bytes from the start of the input, and the reason.
+
+Exit status:
+  0  the whole input is messages, or help was asked for
+  1  the input is refused: it has bytes that are no message, or ends within one
+  2  the words of the command line are wrong
+  3  a read or a write failed, too many reads were made, or memory was refused
+
+Example:
+  dbus-wire check < capture
+";
+
+/// Of `swap`.
+pub(crate) const SWAP: &str = "\
+Writes each message in one byte order
+
+Usage: dbus-wire swap --to <ORDER>
+
+Options:
+      --to <ORDER>  The byte order: l is little-endian, B is big-endian
+  -h, --help        Print help
+
+Input:
+  Raw messages on standard input, one behind the other, as
+  `dbus-monitor --binary` writes them.
+
+Output:
+  The raw messages on standard output, each in the byte order that is named.
+  Of an input that is refused, `refused at P: NAME` on standard error.
+
+Exit status:
+  0  the whole input is messages, or help was asked for
+  1  the input is refused: it has bytes that are no message, or ends within one
+  2  the words of the command line are wrong
+  3  a read or a write failed, too many reads were made, or memory was refused
+
+Example:
+  dbus-wire swap --to B < capture > big-endian
+";
+
+/// Of `filter`.
+pub(crate) const FILTER: &str = "\
+Writes the messages that match a rule, as they came
+
+Usage: dbus-wire filter <RULE>
+
+Arguments:
+  <RULE>  A D-Bus match rule, as type='signal',path='/a'; '' matches each message
+
+Options:
+  -h, --help  Print help
+
+Input:
+  Raw messages on standard input, one behind the other, as
+  `dbus-monitor --binary` writes them.
+
+Output:
+  The raw messages that match, on standard output, each as it came.
+  Of an input that is refused, `refused at P: NAME` on standard error. Of a rule
+  that is refused, `rule refused at P: NAME` there, with the place in the rule.
+
+Exit status:
+  0  the whole input is messages, or help was asked for
+  1  the input is refused: it has bytes that are no message, or ends within one
+  2  the words of the command line are wrong
+  3  a read or a write failed, too many reads were made, or memory was refused
+
+Example:
+  dbus-wire filter \"type='signal',member='NameLost'\" < capture | dbus-wire show
+";

@@ -1,0 +1,285 @@
+//! Readers of messages whose bytes come in pieces, over sources that fail at each read, and with each growth refused.
+
+use crate::captures::*;
+use crate::pieces::Pieces;
+use crate::spelling::is_spelled;
+use dbus_message::Message;
+use dbus_stream::{FromRead, MessageReader, ReadFault, Source};
+use dbus_value::{Fault, Order, Reason};
+use refusing_alloc::Refusing;
+use std::alloc::Allocator;
+use std::process::Abort;
+use std::test::Fail;
+
+// A call of a reader.
+#[derive(Clone, Copy)]
+enum Call {
+    Next,
+    NextKept,
+}
+
+use Call::{Next, NextKept};
+
+// What a call gives: the message that these bytes spell in its order, or none where they are none; or a fault.
+#[derive(Clone, Copy)]
+enum Given<'a> {
+    Gives(&'a [u8]),
+    Fails(ReadFault),
+}
+
+use Given::{Fails, Gives};
+
+const NOTHING: Given = Gives(b"");
+
+const FAILED: Given = Fails(ReadFault::Device);
+
+// The end of the input within a message.
+fn truncated(at: u64) -> Given<'static> {
+    Fails(ReadFault::Format(Fault {
+        at,
+        reason: Reason::Truncated,
+    }))
+}
+
+fn call_of<R: Source, A: Allocator + Copy>(
+    reader: &mut MessageReader<R, A>,
+    call: Call,
+) -> Result<Option<(Order, Message<A>)>, ReadFault> {
+    match call {
+        Next => reader.next(),
+        NextKept => reader.next_kept(),
+    }
+}
+
+// Whether a call gives this.
+fn call_gives<R: Source, A: Allocator + Copy>(
+    alloc: A,
+    reader: &mut MessageReader<R, A>,
+    call: Call,
+    given: Given,
+) -> Result<bool, Fail> {
+    match call_of(reader, call) {
+        Ok(message) => match given {
+            Gives(bytes) => is_spelled(alloc, message, bytes),
+            Fails(_) => Ok(false),
+        },
+        Err(fault) => Ok(matches!(given, Fails(wanted) if wanted == fault)),
+    }
+}
+
+// These calls, one after another, give this. The reader is that of row `n`.
+fn calls_give<R: Source, A: Allocator + Copy>(
+    rt: &impl Abort,
+    n: u64,
+    alloc: A,
+    reader: &mut MessageReader<R, A>,
+    script: &[(Call, Given)],
+) -> Result<(), Fail> {
+    for (i, (call, given)) in script.iter().enumerate() {
+        assert!(rt; call_gives(alloc, reader, *call, *given)?, "at {n}, {i}");
+    }
+    Ok(())
+}
+
+#[test]
+fn a_message_and_a_front_of_it(rt: HostRuntime) -> Result<(), Fail> {
+    let bytes = joined(rt.alloc(), &[RETURN, FRONT])?;
+    let mut reader = MessageReader::new(rt.alloc(), FromRead::new(bytes.as_slice()));
+    let script = [
+        (NextKept, NOTHING),
+        (Next, Gives(RETURN)),
+        (NextKept, NOTHING),
+        // A fault stays.
+        (Next, truncated(5)),
+        (NextKept, truncated(5)),
+        (Next, truncated(5)),
+        (NextKept, truncated(5)),
+    ];
+    calls_give(&rt, 0, rt.alloc(), &mut reader, script.as_slice())?;
+    assert_eq!(rt; reader.done(), 24);
+    Ok(())
+}
+
+// Calls of a reader over this source give this, one after another; the messages have so many bytes in all, and so many
+// reads were made and failed.
+fn reads(
+    rt: &(impl Abort + AllocGlobal),
+    source: Pieces,
+    script: &[(Call, Given)],
+    counts: [u64; 3],
+) -> Result<(), Fail> {
+    let n = source.fails_at;
+    let mut reader = MessageReader::new(rt.alloc(), source);
+    calls_give(rt, n, rt.alloc(), &mut reader, script)?;
+    let done = reader.done();
+    let source = reader.into_source();
+    assert_eq!(rt; [done, source.calls, source.failures], counts, "at {n}");
+    Ok(())
+}
+
+#[test]
+fn ends_within_a_message(rt: HostRuntime) -> Result<(), Fail> {
+    let source = Pieces::new(ALL_BUT_ONE, 1, 0);
+    let script = [(Next, truncated(23)), (Next, truncated(23))];
+    reads(&rt, source, script.as_slice(), [0, 24, 0])
+}
+
+// A message is given at the read that ends it, a short one and a long one.
+#[test]
+fn gives_a_message_at_once(rt: HostRuntime) -> Result<(), Fail> {
+    let mut long = joined(rt.alloc(), &[LONG_HEADER])?;
+    long.resize(36 + 5000, 7)?;
+    let bytes = joined(rt.alloc(), &[RETURN, long.as_slice()])?;
+    let source = Pieces::new(bytes.as_slice(), 1, 25);
+    let script = [
+        (Next, Gives(RETURN)),
+        (Next, FAILED),
+        (Next, Gives(long.as_slice())),
+    ];
+    reads(&rt, source, script.as_slice(), [5060, 5061, 1])
+}
+
+// The one message of these bytes, where each read in turn fails, the last of which finds their end.
+fn each_read_fails(rt: &(impl Abort + AllocGlobal), bytes: &[u8]) -> Result<(), Fail> {
+    let size = bytes.len() as u64;
+    let within = [
+        (Next, FAILED),
+        (NextKept, NOTHING),
+        (Next, Gives(bytes)),
+        (Next, NOTHING),
+        (NextKept, NOTHING),
+    ];
+    let behind = [
+        (Next, Gives(bytes)),
+        (Next, FAILED),
+        (Next, NOTHING),
+        (NextKept, NOTHING),
+    ];
+    for n in 1..size + 1 {
+        let source = Pieces::new(bytes, 1, n);
+        reads(rt, source, within.as_slice(), [size, size + 2, 1])?;
+    }
+    let source = Pieces::new(bytes, 1, size + 1);
+    reads(rt, source, behind.as_slice(), [size, size + 2, 1])
+}
+
+#[test]
+fn each_read_fails_once(rt: HostRuntime) -> Result<(), Fail> {
+    each_read_fails(&rt, RETURN)?;
+    each_read_fails(&rt, SIGNAL)
+}
+
+// A reader that finds a growth refused: its input, and how many bytes of it come with each read; the calls before, and how
+// many bytes the messages have that they gave; the call that finds it, and that gives the signal where none is refused;
+// how many bytes the messages have in the end, and how many reads there were.
+struct Refused {
+    input: &'static [&'static [u8]],
+    size: usize,
+    before: &'static [(Call, Given<'static>)],
+    done_before: u64,
+    call: Call,
+    done: u64,
+    calls: u64,
+}
+
+const REFUSED: &[Refused] = &[
+    Refused {
+        input: &[SIGNAL],
+        size: 1,
+        before: &[],
+        done_before: 0,
+        call: Next,
+        done: 96,
+        calls: 97,
+    },
+    // The signal is kept already, behind another message.
+    Refused {
+        input: &[RETURN, SIGNAL],
+        size: 1000,
+        before: &[(Next, Gives(RETURN))],
+        done_before: 24,
+        call: NextKept,
+        done: 120,
+        calls: 2,
+    },
+];
+
+// The reader, that found a growth refused, kept all that was read: the call made again gives the message.
+fn goes_on<A: Allocator + Copy>(
+    rt: &impl Abort,
+    n: u64,
+    alloc: A,
+    reader: MessageReader<Pieces, A>,
+    row: &Refused,
+) -> Result<(), Fail> {
+    let mut reader = reader;
+    assert_eq!(rt; reader.done(), row.done_before, "at {n}");
+    let script = [
+        (row.call, Gives(SIGNAL)),
+        (NextKept, NOTHING),
+        (Next, NOTHING),
+    ];
+    calls_give(rt, n, alloc, &mut reader, script.as_slice())?;
+    let done = reader.done();
+    assert_eq!(rt;
+        [done, reader.into_source().calls],
+        [row.done, row.calls],
+        "at {n}"
+    );
+    Ok(())
+}
+
+// Whether the reader gives a message, and whether it is refused memory.
+fn answer_of<R: Source, A: Allocator + Copy>(
+    reader: &mut MessageReader<R, A>,
+    call: Call,
+) -> [bool; 2] {
+    match call_of(reader, call) {
+        Ok(Some(_)) => [true, false],
+        Err(ReadFault::Memory) => [false, true],
+        _ => [false, false],
+    }
+}
+
+// Where the growth of this number is refused the reader goes on as if nothing had happened. Where there are fewer growths,
+// how many there are.
+fn growth_refused(
+    rt: &(impl Abort + AllocGlobal),
+    row: &Refused,
+    bytes: &[u8],
+    n: u64,
+) -> Result<Option<u64>, Fail> {
+    let heap = Refusing::none(rt.alloc());
+    let mut reader = MessageReader::new(&heap, Pieces::new(bytes, row.size, 0));
+    calls_give(rt, n, &heap, &mut reader, row.before)?;
+    heap.refuse_nth(n);
+    let answer = answer_of(&mut reader, row.call);
+    let refused = heap.refusals() == 1;
+    assert_eq!(rt; answer, [!refused, refused], "at {n}");
+    if !refused {
+        return Ok(Some(heap.growths()));
+    }
+    goes_on(rt, n, &heap, reader, row)?;
+    assert_eq!(rt; heap.blocks(), 0, "at {n}");
+    Ok(None)
+}
+
+// How many growths the row's call meets.
+fn growths_of(rt: &(impl Abort + AllocGlobal), row: &Refused) -> Result<u64, Fail> {
+    let bytes = joined(rt.alloc(), row.input)?;
+    for n in 1..100 {
+        if let Some(met) = growth_refused(rt, row, bytes.as_slice(), n)? {
+            return Ok(met);
+        }
+    }
+    Err(Fail::new("each growth is refused"))
+}
+
+#[test]
+fn calls_with_each_growth_refused(rt: HostRuntime) -> Result<(), Fail> {
+    for row in REFUSED {
+        let met = growths_of(&rt, row)?;
+        assert!(rt; met > 5, "{met}");
+    }
+    Ok(())
+}

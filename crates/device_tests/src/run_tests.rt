@@ -1,0 +1,193 @@
+//! What each command makes of its input, and what is told of words that name no command.
+
+use crate::captures::*;
+use crate::help_texts::PROGRAM;
+use crate::running::{BY_ONE, CHECK, SHOW, TO_BIG, TO_LITTLE, assert_end, ran, ran_words};
+use crate::usage_texts::NO_COMMAND;
+use dbus_stream::FromRead;
+use dbus_tool::ExitStatus;
+use std::process::Abort;
+use std::test::Fail;
+
+// The words of row `n` end so over these bytes: the command by a reader and writers of std's, and the program by devices
+// of one byte a call.
+fn ends(
+    rt: &(impl Abort + AllocGlobal),
+    n: usize,
+    words: &[&str],
+    input: &[u8],
+    status: ExitStatus,
+    first: &[u8],
+    second: &[u8],
+) -> Result<(), Fail> {
+    let end = ran(rt.alloc(), rt.alloc(), words, FromRead::new(input))?;
+    assert_end(rt, n, &end, status, first, second);
+    let (end, _, _) = ran_words(rt.alloc(), words, input, [BY_ONE; 3])?;
+    assert_end(rt, n, &end, status, first, second);
+    Ok(())
+}
+
+// Words, the input, and what is written of it on the first writer.
+const DONE: &[(&[&str], &[&[u8]], &[&[u8]])] = &[
+    (SHOW, &[RETURN], &[RETURN_TEXT]),
+    (SHOW, &[UNKNOWN], &[UNKNOWN_TEXT]),
+    (SHOW, &[NUMBERS], &[NUMBERS_TEXT]),
+    (SHOW, &[DICT], &[DICT_TEXT]),
+    (SHOW, &[ESCAPES], &[ESCAPES_TEXT]),
+    (SHOW, &[SIGNAL], &[SIGNAL_TEXT]),
+    // Messages are numbered from 1.
+    (SHOW, &[RETURN, SIGNAL], &[RETURN_TEXT, SIGNAL_AS_SECOND]),
+    (CHECK, &[RETURN], &[b"ok 1 messages 24 bytes\n"]),
+    (CHECK, &[], &[b"ok 0 messages 0 bytes\n"]),
+    (TO_BIG, &[RETURN], &[BIG_RETURN]),
+    (TO_BIG, &[BIG_RETURN], &[BIG_RETURN]),
+    (TO_LITTLE, &[RETURN], &[RETURN]),
+    (TO_LITTLE, &[BIG_RETURN], &[RETURN]),
+    (
+        &["filter", "type='signal',arg0='hi'"],
+        &[RETURN, SIGNAL, BIG_RETURN],
+        &[SIGNAL],
+    ),
+    (
+        &["filter", "type='signal',arg0='ho'"],
+        &[RETURN, SIGNAL, BIG_RETURN],
+        &[],
+    ),
+    (
+        &["filter", ""],
+        &[RETURN, SIGNAL, BIG_RETURN],
+        &[RETURN, SIGNAL, BIG_RETURN],
+    ),
+];
+
+#[test]
+fn inputs_of_messages(rt: HostRuntime) -> Result<(), Fail> {
+    for (n, (words, input, first)) in DONE.iter().enumerate() {
+        let input = joined(rt.alloc(), input)?;
+        let first = joined(rt.alloc(), first)?;
+        let done = ExitStatus::Done;
+        ends(&rt, n, words, input.as_slice(), done, first.as_slice(), b"")?;
+    }
+    Ok(())
+}
+
+const TRUNCATED: &[u8] = b"refused at 29: Truncated\n";
+
+// Words, the input, and what is written on the first writer and on the second. Each command keeps what came before.
+const REFUSED: &[(&[&str], &[&[u8]], &[u8], &[u8])] = &[
+    (SHOW, &[RETURN, FRONT], RETURN_TEXT, TRUNCATED),
+    (TO_BIG, &[RETURN, FRONT], BIG_RETURN, TRUNCATED),
+    (
+        &["filter", "type='method_return'"],
+        &[RETURN, FRONT],
+        RETURN,
+        TRUNCATED,
+    ),
+    (CHECK, &[RETURN, FRONT], TRUNCATED, b""),
+    (CHECK, &[BARE], b"refused at 16: FieldMissing(5)\n", b""),
+];
+
+#[test]
+fn inputs_that_are_refused(rt: HostRuntime) -> Result<(), Fail> {
+    for (n, (words, input, first, second)) in REFUSED.iter().enumerate() {
+        let input = joined(rt.alloc(), input)?;
+        let refused = ExitStatus::Refused;
+        ends(&rt, n, words, input.as_slice(), refused, first, second)?;
+    }
+    Ok(())
+}
+
+// Output of many reads.
+#[test]
+fn many_messages(rt: HostRuntime) -> Result<(), Fail> {
+    let mut input = Vec::new(rt.alloc());
+    let mut first = Vec::new(rt.alloc());
+    for _ in 0..2000u32 {
+        input.extend_from_slice(RETURN)?;
+        first.extend_from_slice(BIG_RETURN)?;
+    }
+    let (input, first) = (input.as_slice(), first.as_slice());
+    ends(&rt, 0, TO_BIG, input, ExitStatus::Done, first, b"")
+}
+
+// More than is gathered at once: a text of 16,271 bytes, and of the same read three texts behind it, of which the third
+// does not fit.
+#[test]
+fn a_long_text_and_more(rt: HostRuntime) -> Result<(), Fail> {
+    let mut input = joined(rt.alloc(), &[SIGNATURES_HEADER])?;
+    let mut first = joined(rt.alloc(), &[SIGNATURES_TEXT, b"g:\"\""])?;
+    for _ in 1..2700u32 {
+        first.extend_from_slice(b", g:\"\"")?;
+    }
+    input.resize(36 + 5400, 0)?;
+    for (message, text) in [
+        (BIG_RETURN, b"]\n".as_slice()),
+        (BIG_RETURN, BIG_AS_SECOND),
+        (BIG_RETURN, BIG_AS_THIRD),
+        (b"", BIG_AS_FOURTH),
+    ] {
+        input.extend_from_slice(message)?;
+        first.extend_from_slice(text)?;
+    }
+    let (input, first) = (input.as_slice(), first.as_slice());
+    ends(&rt, 0, SHOW, input, ExitStatus::Done, first, b"")
+}
+
+// Words, how they end, and what is written on the first writer and on the second.
+const TOLD: &[(&[&str], ExitStatus, &str, &str)] = &[
+    (&[], ExitStatus::Usage, "", NO_COMMAND),
+    (&["--help"], ExitStatus::Done, PROGRAM, ""),
+    (
+        &["filter", "\0"],
+        ExitStatus::Usage,
+        "",
+        "rule refused at 0: Nul\n",
+    ),
+    (
+        &["filter", "type"],
+        ExitStatus::Usage,
+        "",
+        "rule refused at 4: NoEquals\n",
+    ),
+    (
+        &["filter", "arg64='x'"],
+        ExitStatus::Usage,
+        "",
+        "rule refused at 0: KeyName\n",
+    ),
+    (
+        &["filter", "arg0='x',arg0='x'"],
+        ExitStatus::Usage,
+        "",
+        "rule refused at 9: KeyTwice\n",
+    ),
+    (
+        &["filter", "path='/',path_namespace='/'"],
+        ExitStatus::Usage,
+        "",
+        "rule refused at 9: PathAndNamespace\n",
+    ),
+    (
+        &["filter", "arg0='x"],
+        ExitStatus::Usage,
+        "",
+        "rule refused at 5: OpenQuote\n",
+    ),
+    (
+        &["filter", "type='x'"],
+        ExitStatus::Usage,
+        "",
+        "rule refused at 5: BadValue\n",
+    ),
+];
+
+// Nothing is read.
+#[test]
+fn words_that_name_no_command(rt: HostRuntime) -> Result<(), Fail> {
+    for (n, (words, status, first, second)) in TOLD.iter().enumerate() {
+        let (end, _, reads) = ran_words(rt.alloc(), words, RETURN, [BY_ONE; 3])?;
+        assert_end(&rt, n, &end, *status, first.as_bytes(), second.as_bytes());
+        assert_eq!(rt; reads, 0, "at {n}");
+    }
+    Ok(())
+}

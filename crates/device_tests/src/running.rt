@@ -1,0 +1,108 @@
+//! Runs of the commands, and what they come to.
+
+use crate::captures::joined;
+use crate::narrow::Narrow;
+use crate::pieces::Pieces;
+use dbus_stream::{FromWrite, Source};
+use dbus_tool::{ExitStatus, command_of, run, run_words};
+use std::alloc::{Allocator, Global};
+use std::process::Abort;
+use std::test::Fail;
+
+/// The words of the commands that take no rule.
+pub(crate) const SHOW: &[&str] = &["show"];
+
+pub(crate) const CHECK: &[&str] = &["check"];
+
+pub(crate) const TO_LITTLE: &[&str] = &["swap", "--to", "l"];
+
+pub(crate) const TO_BIG: &[&str] = &["swap", "--to", "B"];
+
+/// How a run ends, and what it wrote on both writers.
+#[derive(Drop)]
+pub(crate) struct End {
+    pub(crate) status: ExitStatus,
+    pub(crate) first: Vec<u8>,
+    pub(crate) second: Vec<u8>,
+}
+
+/// The name of a program and words behind it.
+pub(crate) fn words_of(alloc: Global, name: &str, words: &[&str]) -> Result<Vec<String>, Fail> {
+    let mut all = Vec::new(alloc);
+    all.push(String::from_str(alloc, name)?)?;
+    for word in words {
+        all.push(String::from_str(alloc, word)?)?;
+    }
+    Ok(all)
+}
+
+/// How the command that the words name ends over this reader. The run alone takes memory of the heap.
+pub(crate) fn ran<A: Allocator + Copy, R: Source + Drop>(
+    alloc: Global,
+    heap: A,
+    words: &[&str],
+    reader: R,
+) -> Result<End, Fail> {
+    let words = words_of(alloc, "dbus-wire", words)?;
+    let Ok(command) = command_of(alloc, words.as_slice()) else {
+        return Err(Fail::new("no command"));
+    };
+    let mut reader = reader;
+    let mut first = FromWrite::new(Vec::new(alloc));
+    let mut second = FromWrite::new(Vec::new(alloc));
+    let status = run(heap, command, &mut reader, &mut first, &mut second);
+    Ok(End {
+        status,
+        first: first.into_inner(),
+        second: second.into_inner(),
+    })
+}
+
+/// How many bytes a device moves a call at most, and which of its calls fails; 0 for none.
+pub(crate) type Device = (usize, u64);
+
+/// One byte a call, and none fails.
+pub(crate) const BY_ONE: Device = (1, 0);
+
+/// How the program ends for these words over a reader of these bytes and two writers; how often each of the three failed;
+/// and how many reads were made.
+pub(crate) fn ran_words(
+    alloc: Global,
+    words: &[&str],
+    bytes: &[u8],
+    devices: [Device; 3],
+) -> Result<(End, [u64; 3], u64), Fail> {
+    let words = words_of(alloc, "dbus-wire", words)?;
+    let [reader, first, second] = devices;
+    let mut reader = Pieces::new(bytes, reader.0, reader.1);
+    let mut first = Narrow::new(alloc, first.0, first.1);
+    let mut second = Narrow::new(alloc, second.0, second.1);
+    let status = run_words(
+        alloc,
+        words.as_slice(),
+        &mut reader,
+        &mut first,
+        &mut second,
+    );
+    let failures = [reader.failures, first.failures, second.failures];
+    let end = End {
+        status,
+        first: first.held,
+        second: second.held,
+    };
+    Ok((end, failures, reader.calls))
+}
+
+/// The run of the row `n` ended so, and wrote this.
+pub(crate) fn assert_end(
+    rt: &impl Abort,
+    n: usize,
+    end: &End,
+    status: ExitStatus,
+    first: &[u8],
+    second: &[u8],
+) {
+    assert_eq!(rt; end.status, status, "at {n}");
+    assert_eq!(rt; end.first.as_slice(), first, "at {n}");
+    assert_eq!(rt; end.second.as_slice(), second, "at {n}");
+}

@@ -1,0 +1,292 @@
+//! Messages made of parts, and the first case of fault of others.
+#![tactic(auto)]
+
+use crate::answers::{bytes_of, is_encoded, whole};
+use dbus_message::{BuildFault, HeaderField, Message, Parts};
+use dbus_types::SigType;
+use dbus_value::{Order, Value};
+use std::alloc::{AllocError, Global};
+use std::process::Abort;
+use std::test::Fail;
+
+// A value to be made.
+#[derive(Clone, Copy)]
+enum Item {
+    Byte(u8),
+    U32(u32),
+    Fd(u32),
+    Str(&'static str),
+    Path(&'static str),
+    Sig(&'static str),
+    // A BYTE within that many variants.
+    Nested(usize),
+    // An array of that many bytes.
+    Zeros(usize),
+    // An array of UINT64 that holds a UINT32.
+    Mixed,
+    // An array of BYTE that is not `Bytes`.
+    Unpacked,
+}
+
+// The parts of a message: its type, its serial, its fields and its body.
+type Row = (u8, u32, &'static [(u8, Item)], &'static [Item]);
+
+// Parts of messages, and their little-endian bytes where they are given.
+const MESSAGES: &[(Row, Option<&[u8]>)] = &[
+    (
+        (2, 1, &[(5, Item::U32(1))], &[]),
+        Some(b"l\x02\x01\x01\0\0\0\0\x01\0\0\0\x08\0\0\0\x05\x01u\0\x01\0\0\0"),
+    ),
+    (
+        (5, 1, &[(8, Item::Sig(""))], &[]),
+        Some(b"l\x05\x01\x01\0\0\0\0\x01\0\0\0\x06\0\0\0\x08\x01g\0\0\0\0\0"),
+    ),
+    // A field's value stands within three containers, a body's within none.
+    ((5, 1, &[(10, Item::Nested(61))], &[]), None),
+    ((5, 1, &[(8, Item::Sig("v"))], &[Item::Nested(64)]), None),
+];
+
+// A message of type 5 whose body is of the types `a{sv}(nd)hs`.
+const MANY_TYPES: &[u8] =
+    b"l\x05\x01\x01\x39\0\0\0\x01\0\0\0\x11\0\0\0\x08\x01g\0\x0ba{sv}(nd)hs\0\0\0\0\0\0\0\0\
+    \x13\0\0\0\0\0\0\0\x03\0\0\0key\0\x02ay\0\x03\0\0\0\x01\x02\x03\0\0\0\0\0\
+    \xff\xff\0\0\0\0\0\0\x07\0\0\0\0\0\0\0\0\0\0\0\0\0\0\0\0";
+
+// The longest field array: in front of its bytes, its contents have 12, the field's code, its signature, a padding and a
+// length.
+const LONGEST: Row = (5, 1, &[(10, Item::Zeros(67_108_852))], &[]);
+
+const REFUSED: &[(Row, BuildFault)] = &[
+    ((0, 1, &[], &[]), BuildFault::Kind),
+    ((2, 0, &[(5, Item::U32(1))], &[]), BuildFault::ZeroSerial),
+    ((2, 1, &[(5, Item::U32(0))], &[]), BuildFault::ZeroSerial),
+    (
+        (2, 1, &[(5, Item::U32(1)), (0, Item::Byte(1))], &[]),
+        BuildFault::FieldCode,
+    ),
+    (
+        (2, 1, &[(5, Item::U32(1)), (5, Item::U32(2))], &[]),
+        BuildFault::FieldTwice(5),
+    ),
+    // Two codes stand twice: the first field that stands behind one of its code is told.
+    (
+        (
+            2,
+            1,
+            &[
+                (5, Item::U32(1)),
+                (3, Item::Str("a")),
+                (3, Item::Str("a")),
+                (5, Item::U32(1)),
+            ],
+            &[],
+        ),
+        BuildFault::FieldTwice(3),
+    ),
+    (
+        (2, 1, &[(5, Item::Str("1"))], &[]),
+        BuildFault::FieldType(5),
+    ),
+    ((2, 1, &[(5, Item::Fd(0))], &[]), BuildFault::FieldType(5)),
+    ((2, 1, &[], &[]), BuildFault::FieldMissing(5)),
+    ((1, 1, &[], &[]), BuildFault::FieldMissing(1)),
+    (
+        (1, 1, &[(1, Item::Path("/a"))], &[]),
+        BuildFault::FieldMissing(3),
+    ),
+    (
+        (3, 1, &[(5, Item::U32(1))], &[]),
+        BuildFault::FieldMissing(4),
+    ),
+    ((4, 1, &[], &[]), BuildFault::FieldMissing(1)),
+    (
+        (4, 1, &[(1, Item::Path("/a"))], &[]),
+        BuildFault::FieldMissing(2),
+    ),
+    ((5, 1, &[(10, Item::Nested(62))], &[]), BuildFault::TooDeep),
+    (
+        (5, 1, &[(8, Item::Sig("v"))], &[Item::Nested(65)]),
+        BuildFault::TooDeep,
+    ),
+    (
+        (5, 1, &[(8, Item::Sig("v"))], &[Item::Nested(1000)]),
+        BuildFault::TooDeep,
+    ),
+    ((5, 1, &[(2, Item::Str("a"))], &[]), BuildFault::Name(2)),
+    ((5, 1, &[(8, Item::Sig("a"))], &[]), BuildFault::Name(8)),
+    (
+        (5, 1, &[(10, Item::Byte(1)), (11, Item::Path("a"))], &[]),
+        BuildFault::FieldValue(11),
+    ),
+    (
+        (5, 1, &[(12, Item::Mixed)], &[]),
+        BuildFault::FieldValue(12),
+    ),
+    (
+        (
+            5,
+            1,
+            &[(8, Item::Sig("yo"))],
+            &[Item::Byte(1), Item::Path("a")],
+        ),
+        BuildFault::Value(1),
+    ),
+    (
+        (5, 1, &[(8, Item::Sig("ay"))], &[Item::Unpacked]),
+        BuildFault::Value(0),
+    ),
+    (
+        (2, 1, &[(5, Item::U32(1))], &[Item::U32(7)]),
+        BuildFault::SignatureDiffers,
+    ),
+    (
+        (5, 1, &[(8, Item::Sig(""))], &[Item::U32(7)]),
+        BuildFault::SignatureDiffers,
+    ),
+    (
+        (5, 1, &[(8, Item::Sig("s"))], &[Item::U32(7)]),
+        BuildFault::SignatureDiffers,
+    ),
+    (
+        (5, 1, &[(8, Item::Sig("uu"))], &[Item::U32(7)]),
+        BuildFault::SignatureDiffers,
+    ),
+    (
+        (5, 1, &[(8, Item::Sig("u"))], &[]),
+        BuildFault::SignatureDiffers,
+    ),
+    (
+        (5, 1, &[(10, Item::Zeros(67_108_853))], &[]),
+        BuildFault::ArrayTooLong,
+    ),
+    (
+        (5, 1, &[(8, Item::Sig("ay"))], &[Item::Zeros(67_108_865)]),
+        BuildFault::ArrayTooLong,
+    ),
+    (
+        (
+            5,
+            1,
+            &[(8, Item::Sig("ayay"))],
+            &[Item::Zeros(67_108_864), Item::Zeros(67_108_864)],
+        ),
+        BuildFault::MessageTooLong,
+    ),
+];
+
+// A BYTE within that many variants.
+fn nested(alloc: Global, count: usize) -> Result<Value, AllocError> {
+    let mut value = Value::Byte(1);
+    for _ in 0..count {
+        value = Value::Variant(Box::new(alloc, value)?);
+    }
+    Ok(value)
+}
+
+// That many bytes, in blocks.
+fn zeros(alloc: Global, count: usize) -> Result<Vec<u8>, AllocError> {
+    let block = [0; 4096];
+    let mut all = Vec::with_capacity(alloc, count)?;
+    for _ in 0..count / 4096 {
+        all.extend_from_slice(&block)?;
+    }
+    for _ in 0..count % 4096 {
+        all.push(0)?;
+    }
+    Ok(all)
+}
+
+fn value_of(alloc: Global, item: Item) -> Result<Value, Fail> {
+    Ok(match item {
+        Item::Byte(number) => Value::Byte(number),
+        Item::U32(number) => Value::U32(number),
+        Item::Fd(number) => Value::Fd(number),
+        Item::Str(text) => Value::Str(String::from_str(alloc, text)?),
+        Item::Path(text) => Value::Path(String::from_str(alloc, text)?),
+        Item::Sig(text) => Value::Sig(String::from_str(alloc, text)?),
+        Item::Nested(count) => nested(alloc, count)?,
+        Item::Zeros(count) => Value::Bytes(zeros(alloc, count)?),
+        Item::Mixed => Value::Array(SigType::U64, vec![in alloc; Value::U32(1)]?),
+        Item::Unpacked => Value::Array(SigType::Byte, Vec::new(alloc)),
+    })
+}
+
+fn parts_of(alloc: Global, row: &Row) -> Result<Parts, Fail> {
+    let (kind, serial, items, values) = *row;
+    let mut fields = Vec::new(alloc);
+    for (code, item) in items {
+        let value = value_of(alloc, *item)?;
+        fields.push(HeaderField { code: *code, value })?;
+    }
+    let mut body = Vec::new(alloc);
+    for item in values {
+        body.push(value_of(alloc, *item)?)?;
+    }
+    Ok(Parts {
+        kind,
+        flags: 1,
+        serial,
+        fields,
+        body,
+    })
+}
+
+// Why a row's parts are no message, and how many fields and values come back.
+fn refused(rt: &impl Abort, alloc: Global, n: usize, parts: Parts) -> (BuildFault, usize, usize) {
+    match Message::new(alloc, parts) {
+        Err((back, fault)) => (fault, back.fields.len(), back.body.len()),
+        Ok(_) => panic!(rt; "not refused at {n}"),
+    }
+}
+
+fn message_of(rt: &impl Abort, alloc: Global, n: usize, parts: Parts) -> Message {
+    match Message::new(alloc, parts) {
+        Ok(message) => message,
+        Err((_, fault)) => panic!(rt; "{fault:?} at {n}"),
+    }
+}
+
+// A row's parts are a message, which comes back from its bytes in both orders, and these are its bytes in one.
+fn is_message(
+    rt: &impl Abort,
+    alloc: Global,
+    n: usize,
+    parts: Parts,
+    wanted: Option<&[u8]>,
+) -> Result<(), Fail> {
+    let message = message_of(rt, alloc, n, parts);
+    for order in [Order::Little, Order::Big] {
+        bytes_of(rt, alloc, n, &message, order)?;
+    }
+    if let Some(bytes) = wanted {
+        is_encoded(rt, alloc, n, &message, Order::Little, bytes)?;
+    }
+    Ok(())
+}
+
+#[test]
+fn messages_of_parts(rt: HostRuntime) -> Result<(), Fail> {
+    let alloc = rt.alloc();
+    for (n, (row, wanted)) in MESSAGES.iter().enumerate() {
+        is_message(&rt, alloc, n, parts_of(alloc, row)?, *wanted)?;
+    }
+    let parts = whole(&rt, alloc, 0, MANY_TYPES, Order::Little)?.into_parts();
+    is_message(&rt, alloc, MESSAGES.len(), parts, Some(MANY_TYPES))
+}
+
+#[test]
+fn the_longest_field_array(rt: HostRuntime) -> Result<(), Fail> {
+    let alloc = rt.alloc();
+    assert!(rt; Message::new(alloc, parts_of(alloc, &LONGEST)?).is_ok());
+    Ok(())
+}
+
+#[test]
+fn parts_that_are_no_message(rt: HostRuntime) -> Result<(), Fail> {
+    let alloc = rt.alloc();
+    for (n, (row, fault)) in REFUSED.iter().enumerate() {
+        let found = refused(&rt, alloc, n, parts_of(alloc, row)?);
+        assert_eq!(rt; found, (*fault, row.2.len(), row.3.len()), "at {n}");
+    }
+    Ok(())
+}

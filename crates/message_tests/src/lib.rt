@@ -1,0 +1,13 @@
+//! Tests of `dbus_message`: messages decoded, encoded and built of their parts, each fault, and each growth refused.
+#![tactic(auto)]
+
+#[cfg(test)]
+mod answers;
+#[cfg(test)]
+mod building;
+#[cfg(test)]
+mod faults;
+#[cfg(test)]
+mod growths;
+#[cfg(test)]
+mod whole;

@@ -1,0 +1,15 @@
+//! Tests of the handshake's lines and ends, of match rules, and of printed messages.
+#![tactic(auto)]
+
+#[cfg(test)]
+mod growths;
+#[cfg(test)]
+mod handshake;
+#[cfg(test)]
+mod lines;
+#[cfg(test)]
+mod rules;
+#[cfg(test)]
+mod samples;
+#[cfg(test)]
+mod shown;

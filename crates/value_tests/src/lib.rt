@@ -1,0 +1,21 @@
+//! Tests of types, of values, of how values are written and read, and of the allocator that refuses growths.
+#![tactic(auto)]
+
+#[cfg(test)]
+mod allocator;
+#[cfg(test)]
+mod checks;
+#[cfg(test)]
+mod examples;
+#[cfg(test)]
+mod fronts;
+#[cfg(test)]
+mod growths;
+#[cfg(test)]
+mod measures;
+#[cfg(test)]
+mod reading;
+#[cfg(test)]
+mod there_and_back;
+#[cfg(test)]
+mod types;

@@ -1,0 +1,124 @@
+//! What a measure answers, against ends counted by hand, and beside a size where both answer.
+
+ghost use Rattle.std.specs.Prelude.{IfOk};
+ghost use Rattle.dbus_value_model.specs.ShortSignatures.{HasShortSignatures};
+ghost use Rattle.dbus_value_model.specs.ValueViews.{value_tree};
+
+use crate::examples::value_of;
+use dbus_marshal::{measure, measure_all, measure_coded, size_after};
+use dbus_types::SigType;
+use dbus_value_model::{Order, Value, ValueFault};
+use std::alloc::{AllocError, Allocator, Global};
+use std::test::*;
+
+// A type and a value's bytes in little order, where the value begins, and where it ends.
+const ENDS: &[(&str, &[u8], u64, u64)] = &[
+    // The padding in front of an array's elements is there without any element.
+    ("at", b"\0\0\0\0\0\0\0\0", 0, 8),
+    ("at", b"\0\0\0\0\0\0\0\0", 1, 8),
+    ("at", b"\0\0\0\0\0\0\0\0", 4, 8),
+    ("at", b"\0\0\0\0\0\0\0\0", 5, 16),
+    ("at", b"\0\0\0\0\0\0\0\0", 16, 24),
+    // What a variant holds has its own padding.
+    (
+        "v",
+        b"\x01x\0\0\0\0\0\0\xfe\xff\xff\xff\xff\xff\xff\xff",
+        5,
+        16,
+    ),
+];
+
+// Where 67,108,864 bytes begin, the most that an array may have, and where they end. Past the limit of messages an end is
+// one of eight.
+const LONGEST: &[(u64, u64)] = &[
+    (16, 67_108_884),
+    (67_108_857, 134_217_728),
+    (67_108_861, 134_217_732),
+    (67_108_865, 134_217_736),
+    (67_108_869, 134_217_740),
+    (134_217_737, 134_217_736),
+];
+
+// How long a message may be.
+const LIMIT: u64 = 134_217_728;
+
+// Below this are the offsets that may be measured from.
+const OFFSETS: u64 = LIMIT + 16;
+
+// Whether the measure of a value is `end`, and its size too: past the limit of messages it is none.
+#[tactic(auto, unfolding(dbus_value_model::specs::Sizes::message_limit))]
+fn ends_at<A: Allocator>(value: &Value<A>, at: u64, end: u64) -> bool
+    requires { HasShortSignatures (value_tree value.now) }
+{
+    let size = if end > LIMIT {
+        Err(ValueFault::TooLong)
+    } else {
+        Ok(end)
+    };
+    at < OFFSETS && measure(value, at) == Some(end) && (at > LIMIT || size_after(value, at) == size)
+}
+
+#[test]
+fn ends_of_values(rt: HostRuntime) -> Result<(), Fail> {
+    for (signature, bytes, at, end) in ENDS {
+        let value = value_of(rt.alloc(), signature, bytes, Order::Little)?;
+        assert!(rt; ends_at(&value, *at, *end), "{signature} from {at}");
+    }
+    Ok(())
+}
+
+// What a header's field has behind its code has the padding of its own type.
+#[test]
+fn ends_of_header_fields(rt: HostRuntime) {
+    assert!(rt; measure_coded(&Value::<Global>::U64(0), 13) == Some(32));
+    let empty = Value::Array(SigType::U64, Vec::new(rt.alloc()));
+    assert!(rt; measure_coded(&empty, 16) == Some(32));
+}
+
+// Past the limit of messages an end is one of eight.
+#[test]
+fn values_past_the_limit(rt: HostRuntime) {
+    let values: [Value; 2] = [Value::U64(1), Value::Byte(1)];
+    assert!(rt; measure_all(&values, 134_217_720) == Some(134_217_729));
+    assert!(rt; measure_all(&values, 134_217_740) == Some(134_217_737));
+}
+
+// 67,108,864 bytes, and one more where that is asked for.
+fn long_bytes<A: Allocator>(alloc: A, one_more: bool) -> Result<Value<A>, AllocError>
+    ensures { IfOk result (λ v. HasShortSignatures (value_tree v)) }
+{
+    let block = [0; 4096];
+    let mut bytes = Vec::new(alloc);
+    for _ in 0..16384 {
+        bytes.extend_from_slice(&block)?;
+    }
+    if one_more {
+        bytes.push(0)?;
+    }
+    Ok(Value::Bytes(bytes))
+}
+
+#[test]
+fn the_longest_array(rt: HostRuntime) -> Result<(), Fail> {
+    let longest = long_bytes(rt.alloc(), false)?;
+    for (at, end) in LONGEST {
+        assert!(rt; ends_at(&longest, *at, *end), "from {at}");
+    }
+    Ok(())
+}
+
+// Whether no measure and no size is answered, wherever the value begins.
+fn has_no_end<A: Allocator>(value: &Value<A>) -> bool
+    requires { HasShortSignatures (value_tree value.now) }
+{
+    measure(value, 0).is_none()
+        && measure(value, 134_217_743).is_none()
+        && size_after(value, 0) == Err(ValueFault::ArrayTooLong)
+}
+
+#[test]
+fn an_array_of_a_byte_more(rt: HostRuntime) -> Result<(), Fail> {
+    let longer = long_bytes(rt.alloc(), true)?;
+    assert!(rt; has_no_end(&longer));
+    Ok(())
+}

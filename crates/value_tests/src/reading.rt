@@ -1,0 +1,54 @@
+//! What reading a value answers, without the value.
+
+use dbus_types::{SigFault, parse_single};
+use dbus_unmarshal::get;
+use dbus_value_model::{Fault, Got, Order, Refusal};
+use std::alloc::Allocator;
+
+/// What is asked for: a value of a type, that is to end at `end` at the latest, with `depth` containers open around it.
+#[derive(Clone, Copy)]
+pub struct Asked<'a> {
+    pub signature: &'a str,
+    pub order: Order,
+    pub end: usize,
+    pub depth: u8,
+}
+
+/// What is answered.
+#[derive(Clone, Copy, PartialEq, Eq, Debug)]
+pub enum Answer {
+    /// A value, and the place behind it.
+    Done(usize),
+    /// More bytes are wanted.
+    Partial,
+    /// The fault of the bytes.
+    Refused(Fault),
+    /// A growth was refused, of the type that is wanted or of the value.
+    Memory,
+    /// No type or no depth is asked for.
+    NotAsked,
+}
+
+fn answer_of<A: Allocator>(outcome: Result<Got<A>, Refusal>) -> Answer {
+    match outcome {
+        Ok(Got::Done(_, next)) => Answer::Done(next),
+        Ok(Got::Partial) => Answer::Partial,
+        Err(Refusal::Format(fault)) => Answer::Refused(fault),
+        Err(Refusal::Memory) => Answer::Memory,
+    }
+}
+
+/// What reading answers of bytes from their first on.
+pub fn read<A: Allocator + Copy>(alloc: A, asked: Asked<'_>, bytes: &[u8]) -> Answer {
+    let Asked {
+        signature,
+        order,
+        end,
+        depth,
+    } = asked;
+    match parse_single(alloc, signature.as_bytes()) {
+        Ok(wanted) if depth <= 64 => answer_of(get(alloc, bytes, 0, end, order, &wanted, depth)),
+        Err(SigFault::Memory) => Answer::Memory,
+        _ => Answer::NotAsked,
+    }
+}
