@@ -14,7 +14,7 @@ use dbus_value_model::Order;
 use std::alloc::Allocator;
 
 /// Appends these bytes.
-pub fn write_bytes<A: Allocator>(out: &mut Vec<u8, A>, bytes: &[u8])
+pub(crate) fn write_bytes<A: Allocator>(out: &mut Vec<u8, A>, bytes: &[u8])
     requires space { length out.old.items + length bytes.now ≤ vec_capacity out.old }
     ensures written { out.new.items ≡ out.old.items ++ bytes.now }
     ensures room { vec_capacity out.old ≤ vec_capacity out.new }
@@ -46,7 +46,7 @@ pub fn write_padding<A: Allocator>(out: &mut Vec<u8, A>, alignment: u8)
 
 /// Appends the two bytes of a number, without padding.
 #[tactic(auto, using(crate::proofs::Written::lengths, dbus_value_model::proofs::NumberBytes::numbers))]
-pub fn write_16<A: Allocator>(out: &mut Vec<u8, A>, order: Order, n: u16)
+pub(crate) fn write_16<A: Allocator>(out: &mut Vec<u8, A>, order: Order, n: u16)
     requires space { length out.old.items + 2 ≤ vec_capacity out.old }
     ensures written { out.new.items ≡ out.old.items ++ num order 2 n }
     ensures room { vec_capacity out.old ≤ vec_capacity out.new }
@@ -72,7 +72,7 @@ pub fn write_32<A: Allocator>(out: &mut Vec<u8, A>, order: Order, n: u32)
 
 /// Appends the eight bytes of a number, without padding.
 #[tactic(auto, using(crate::proofs::Written::lengths, dbus_value_model::proofs::NumberBytes::numbers))]
-pub fn write_64<A: Allocator>(out: &mut Vec<u8, A>, order: Order, n: u64)
+pub(crate) fn write_64<A: Allocator>(out: &mut Vec<u8, A>, order: Order, n: u64)
     requires space { length out.old.items + 8 ≤ vec_capacity out.old }
     ensures written { out.new.items ≡ out.old.items ++ num order 8 n }
     ensures room { vec_capacity out.old ≤ vec_capacity out.new }
@@ -84,7 +84,7 @@ pub fn write_64<A: Allocator>(out: &mut Vec<u8, A>, order: Order, n: u64)
 }
 
 /// Appends a number of two bytes, with the padding before it.
-pub fn write_number_16<A: Allocator>(out: &mut Vec<u8, A>, order: Order, n: u16)
+pub(crate) fn write_number_16<A: Allocator>(out: &mut Vec<u8, A>, order: Order, n: u16)
     requires space { length (with_padding 2 out.old.items) + 2 ≤ vec_capacity out.old }
     ensures written { out.new.items ≡ with_padding 2 out.old.items ++ num order 2 n }
     ensures room { vec_capacity out.old ≤ vec_capacity out.new }
@@ -94,7 +94,7 @@ pub fn write_number_16<A: Allocator>(out: &mut Vec<u8, A>, order: Order, n: u16)
 }
 
 /// Appends a number of four bytes, with the padding before it.
-pub fn write_number_32<A: Allocator>(out: &mut Vec<u8, A>, order: Order, n: u32)
+pub(crate) fn write_number_32<A: Allocator>(out: &mut Vec<u8, A>, order: Order, n: u32)
     requires space { length (with_padding 4 out.old.items) + 4 ≤ vec_capacity out.old }
     ensures written { out.new.items ≡ with_padding 4 out.old.items ++ num order 4 n }
     ensures room { vec_capacity out.old ≤ vec_capacity out.new }
@@ -104,7 +104,7 @@ pub fn write_number_32<A: Allocator>(out: &mut Vec<u8, A>, order: Order, n: u32)
 }
 
 /// Appends a number of eight bytes, with the padding before it.
-pub fn write_number_64<A: Allocator>(out: &mut Vec<u8, A>, order: Order, n: u64)
+pub(crate) fn write_number_64<A: Allocator>(out: &mut Vec<u8, A>, order: Order, n: u64)
     requires space { length (with_padding 8 out.old.items) + 8 ≤ vec_capacity out.old }
     ensures written { out.new.items ≡ with_padding 8 out.old.items ++ num order 8 n }
     ensures room { vec_capacity out.old ≤ vec_capacity out.new }
@@ -115,7 +115,7 @@ pub fn write_number_64<A: Allocator>(out: &mut Vec<u8, A>, order: Order, n: u64)
 
 /// Appends the text of a STRING or an OBJECT_PATH: padding, its length in four bytes, itself and a zero byte.
 #[tactic(auto, using(crate::proofs::Written::texts))]
-pub fn write_text<A: Allocator>(out: &mut Vec<u8, A>, order: Order, text: &[u8])
+pub(crate) fn write_text<A: Allocator>(out: &mut Vec<u8, A>, order: Order, text: &[u8])
     requires space { length (with_value order (TextValue STRING text.now) out.old.items) ≤ vec_capacity out.old }
     requires fits { length text.now < 2 ^ 32 }
     ensures written { out.new.items ≡ with_value order (TextValue STRING text.now) out.old.items }
@@ -128,7 +128,7 @@ pub fn write_text<A: Allocator>(out: &mut Vec<u8, A>, order: Order, text: &[u8])
 
 /// Appends the text of a SIGNATURE: its length in one byte, itself and a zero byte. It is the same in either byte order.
 #[tactic(auto, using(crate::proofs::Written::texts))]
-pub fn write_signature<A: Allocator>(out: &mut Vec<u8, A>, text: &[u8])
+pub(crate) fn write_signature<A: Allocator>(out: &mut Vec<u8, A>, text: &[u8])
     requires space { length out.old.items + length text.now + 2 ≤ vec_capacity out.old }
     requires fits { length text.now < 256 }
     ensures written { (order : Order) → out.new.items ≡ with_value order (TextValue SIGNATURE text.now) out.old.items }

@@ -65,7 +65,12 @@ pub fn read_byte(bytes: &[u8], at: usize, end: usize) -> Result<(u8, usize), Sto
 /// A number of two bytes, whose padding is read already.
 ///
 /// `Overrun` at `at` where it ends past the end.
-pub fn read_u16(bytes: &[u8], at: usize, end: usize, order: Order) -> Result<(u16, usize), Stop>
+pub(crate) fn read_u16(
+    bytes: &[u8],
+    at: usize,
+    end: usize,
+    order: Order,
+) -> Result<(u16, usize), Stop>
     requires at_most { at ≤ end }
     requires inside { at ≤ length bytes.now }
     ensures gives { Gives (λ x. x) bytes.now result (number order 2 end no_row at (drop at bytes.now)) }
@@ -103,7 +108,12 @@ pub fn read_u32(bytes: &[u8], at: usize, end: usize, order: Order) -> Result<(u3
 /// A number of eight bytes, whose padding is read already.
 ///
 /// `Overrun` at `at` where it ends past the end.
-pub fn read_u64(bytes: &[u8], at: usize, end: usize, order: Order) -> Result<(u64, usize), Stop>
+pub(crate) fn read_u64(
+    bytes: &[u8],
+    at: usize,
+    end: usize,
+    order: Order,
+) -> Result<(u64, usize), Stop>
     requires at_most { at ≤ end }
     requires inside { at ≤ length bytes.now }
     ensures gives { Gives (λ x. x) bytes.now result (number order 8 end no_row at (drop at bytes.now)) }

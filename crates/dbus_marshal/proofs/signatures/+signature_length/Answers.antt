@@ -1,6 +1,7 @@
 use Rattle.std.proofs.Common.{arith, rules}
 use Rattle.dbus_value_model.specs.declared.value.Value.{the_lemmas}
-use Rattle.dbus_value_model.proofs.TypeRows.{value_length-Struct, value_length-Entry}
+use Rattle.dbus_value_model.proofs.TypeRows.{value_length-Array, value_length-Struct, value_length-Entry, value_length_more, value_length_end}
+use Rattle.dbus_marshal.proofs.Measuring.{below_most}
 use Rattle.dbus_marshal.proofs.signatures.+signature_length.Goals as goal
 
 pub signature_length-signatures_length-requires : goal.signature_length-signatures_length-requires
@@ -40,3 +41,20 @@ signature_length-returns-in-Entry g t c =
     let key = rw c.deref-in-Entry.ensures at c.signature_length.ensures in
     let held = rw c.deref-in-Entry-2.ensures at c.signature_length-in-Entry.ensures in
     rw c.in-Entry.is (omega (arith, key, held, value_length-Entry c.in-Entry.key c.in-Entry.value))
+
+pub signatures_length-signature_length-len-requires : goal.signatures_length-signature_length-len-requires
+signatures_length-signature_length-len-requires g t c κs within =
+    let more = value_length_more c.args.values.now c.loop-value.value-index c.value-item.result c.loop-value-test.true c.value-item.is in
+    (rw (← c.decreases) (below_most _ c.args.values.now c.loop-value.value-index c.value-item.result c.loop-value-test.true c.value-item.is), (within, omega (arith, c.requires, c.loop-value.invariant, more)))
+
+pub signatures_length-loop-value-preserved : goal.signatures_length-loop-value-preserved
+signatures_length-loop-value-preserved g t c =
+    let more = value_length_more c.args.values.now c.loop-value.value-index c.value-item.result c.loop-value-test.true c.value-item.is in
+    omega (arith, c.loop-value.invariant, more, c.signature_length-len.ensures)
+
+pub signatures_length-returns : goal.signatures_length-returns
+signatures_length-returns g t c =
+    omega (arith, c.loop-value.invariant, value_length_end c.args.values.now c.loop-value.value-index c.loop-value-test.false)
+
+pub signature_length-returns-in-Array : goal.signature_length-returns-in-Array
+signature_length-returns-in-Array g t c = rw c.in-Array.is (omega (arith, c.type_length.ensures, value_length-Array c.in-Array.element c.in-Array.field-1))
