@@ -1,0 +1,103 @@
+#!/usr/bin/env python3
+"""Runs the gate, `rt ci`, and prints the processor minutes of each of its steps, crate by crate.
+
+A step's processes are looked at twice a second, so each process may be counted half a second short. What is left over,
+as building and running the tests, stands under `other`. The exit status is that of `rt ci`.
+"""
+
+import collections
+import os
+import subprocess
+import sys
+import threading
+import time
+
+STEPS = ("proof", "tests", "edits")
+TICKS = os.sysconf("SC_CLK_TCK")
+SECONDS_BETWEEN_LOOKS = 0.5
+
+Process = collections.namedtuple("Process", "parent started seconds")
+
+
+def read_process(pid):
+    """What the process has used so far, with those of its children that have ended, or None where it is gone."""
+    try:
+        with open(f"/proc/{pid}/stat") as file:
+            fields = file.read().rpartition(")")[2].split()
+    except OSError:
+        return None
+    used = sum(int(field) for field in fields[11:15])
+    return Process(int(fields[1]), int(fields[19]), used / TICKS)
+
+
+def read_step(pid):
+    """The crate and the step that the process works on, or None where it is no check or build."""
+    try:
+        with open(f"/proc/{pid}/cmdline") as file:
+            words = file.read().split("\0")
+        folder = os.readlink(f"/proc/{pid}/cwd")
+    except OSError:
+        return None
+    if not words[0].endswith("/rattle") or "--crate-name" not in words:
+        return None
+    crate = words[words.index("--crate-name") + 1]
+    if "--test" in words:
+        return crate, "tests"
+    # An edit is tried on a copy of the crate.
+    return crate, "edits" if "/rt-edit" in folder else "proof"
+
+
+def descends_from(pid, root, processes):
+    while pid in processes and pid != root:
+        pid = processes[pid].parent
+    return pid == root
+
+
+def look(root, used):
+    """Notes in `used` what each process below `root` that works on a step has used so far."""
+    pids = [int(name) for name in os.listdir("/proc") if name.isdigit()]
+    processes = {pid: process for pid in pids if (process := read_process(pid))}
+    steps = {pid: step for pid in processes if (step := read_step(pid))}
+    for pid, step in steps.items():
+        process = processes[pid]
+        # A check may split into copies of itself, whose time is its own once they have ended.
+        if process.parent not in steps and descends_from(pid, root, processes):
+            used[pid, process.started] = step, process.seconds
+
+
+def watch(root, used, ended):
+    while not ended.wait(SECONDS_BETWEEN_LOOKS):
+        look(root, used)
+
+
+def print_table(used, total, began):
+    minutes = collections.Counter()
+    runs = collections.Counter()
+    for step, seconds in used.values():
+        minutes[step] += seconds / 60
+        runs[step] += 1
+    crates = sorted({crate for crate, _ in minutes}, key=lambda it: -sum(minutes[it, step] for step in STEPS))
+    print(f"{'processor minutes':<20}" + "".join(f"{step:>8}" for step in STEPS) + f"{'all':>8}{'edits tried':>14}")
+    for crate in crates:
+        row = [minutes[crate, step] for step in STEPS]
+        print(f"{crate:<20}" + "".join(f"{it:8.1f}" for it in [*row, sum(row)]) + f"{runs[crate, 'edits']:14}")
+    sums = [sum(minutes[crate, step] for crate in crates) for step in STEPS]
+    print(f"{'all crates':<20}" + "".join(f"{it:8.1f}" for it in [*sums, sum(sums)]))
+    print(f"{'other':<20}{total / 60 - sum(sums):32.1f}")
+    print(f"{'the gate':<20}{total / 60:32.1f} in {(time.time() - began) / 60:.1f} minutes")
+
+
+def main():
+    began, used, ended = time.time(), {}, threading.Event()
+    gate = subprocess.Popen(["rt", "ci"])
+    watcher = threading.Thread(target=watch, args=(gate.pid, used, ended))
+    watcher.start()
+    _, status, resources = os.wait4(gate.pid, 0)
+    ended.set()
+    watcher.join()
+    print_table(used, resources.ru_utime + resources.ru_stime, began)
+    return os.waitstatus_to_exitcode(status)
+
+
+if __name__ == "__main__":
+    sys.exit(main())
