@@ -1,4 +1,4 @@
-# make run         builds dbus-wire without its proofs, half a minute, and checks a sample capture
+# make run         builds dbus-wire without its proofs, in 40 seconds, and checks a sample capture
 # make build       proves dbus-wire and all below it, and builds it: half an hour on four cores; with -j4 side by side
 # make test        the gate: every proof from nothing, the must-fail edits, the tests and the program's stored run
 # make gate-times  the gate, and the processor minutes of each of its steps

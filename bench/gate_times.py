@@ -77,7 +77,7 @@ def print_table(used, total, began):
         minutes[step] += seconds / 60
         runs[step] += 1
     crates = sorted({crate for crate, _ in minutes}, key=lambda it: -sum(minutes[it, step] for step in STEPS))
-    print(f"{'processor minutes':<20}" + "".join(f"{step:>8}" for step in STEPS) + f"{'all':>8}{'edits tried':>14}")
+    print(f"{'processor minutes':<20}" + "".join(f"{step:>8}" for step in STEPS) + f"{'all':>8}{'edit checks':>14}")
     for crate in crates:
         row = [minutes[crate, step] for step in STEPS]
         print(f"{crate:<20}" + "".join(f"{it:8.1f}" for it in [*row, sum(row)]) + f"{runs[crate, 'edits']:14}")

@@ -1,5 +1,5 @@
-//! Each growth refused in turn: the call answers want of memory, nothing is changed, no block leaks, and the same
-//! call made again answers as if nothing had been.
+//! Each growth refused in turn: the call answers want of memory, no block leaks, and what is changed by calls answers the
+//! same call made again as if nothing had been.
 
 use crate::lines::Sender::{Client, Server};
 use crate::lines::{Sender, cut, written_again};
@@ -99,7 +99,8 @@ fn growths_of(rt: &(impl Abort + AllocGlobal), row: usize, call: Call) -> Result
     Err(Fail::new("the call asks for too many growths"))
 }
 
-/// Whether the call answered want of memory, with its `n`th growth refused. Then it was made again.
+/// Whether the call answered want of memory, with its `n`th growth refused. A call of an end, or into a kept string, is
+/// then made again.
 fn is_refused(rt: &impl Abort, heap: &Refusing, n: u64, call: Call) -> Result<bool, Fail> {
     match call {
         Call::Line(sender, line, want) => Ok(line_again(rt, heap, n, sender, line, want)),
