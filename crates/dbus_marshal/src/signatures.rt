@@ -10,8 +10,8 @@ ghost use Rattle.dbus_value_model.specs.Values.{type_of, types_of};
 ghost use Rattle.dbus_value_model.specs.ValueViews.{value_tree, value_trees_of};
 
 use crate::writing::{write_byte, write_bytes};
-use dbus_types::SigType;
-use dbus_value_model::Value;
+use dbus_types::{SigType, type_code};
+use dbus_value_model::{Value, plain_type_of};
 use std::alloc::Allocator;
 
 /// The length of a type's signature.
@@ -80,20 +80,6 @@ pub fn write_type<A: Allocator>(out: &mut Vec<u8, A>, ty: &SigType<A>)
     ensures room { vec_capacity out.old ≤ vec_capacity out.new }
 {
     match ty {
-        SigType::Byte => write_byte(out, b'y'),
-        SigType::Bool => write_byte(out, b'b'),
-        SigType::I16 => write_byte(out, b'n'),
-        SigType::U16 => write_byte(out, b'q'),
-        SigType::I32 => write_byte(out, b'i'),
-        SigType::U32 => write_byte(out, b'u'),
-        SigType::I64 => write_byte(out, b'x'),
-        SigType::U64 => write_byte(out, b't'),
-        SigType::Double => write_byte(out, b'd'),
-        SigType::Str => write_byte(out, b's'),
-        SigType::Path => write_byte(out, b'o'),
-        SigType::Sig => write_byte(out, b'g'),
-        SigType::Fd => write_byte(out, b'h'),
-        SigType::Variant => write_byte(out, b'v'),
         SigType::Array(element) => {
             write_byte(out, b'a');
             write_type(out, element);
@@ -109,6 +95,7 @@ pub fn write_type<A: Allocator>(out: &mut Vec<u8, A>, ty: &SigType<A>)
             write_type(out, value);
             write_byte(out, b'}');
         }
+        _ => write_byte(out, type_code(ty)),
     }
 }
 
@@ -133,20 +120,6 @@ pub fn write_type_of<A: Allocator>(out: &mut Vec<u8, A>, value: &Value<A>)
     ensures room { vec_capacity out.old ≤ vec_capacity out.new }
 {
     match value {
-        Value::Byte(_) => write_byte(out, b'y'),
-        Value::Bool(_) => write_byte(out, b'b'),
-        Value::I16(_) => write_byte(out, b'n'),
-        Value::U16(_) => write_byte(out, b'q'),
-        Value::I32(_) => write_byte(out, b'i'),
-        Value::U32(_) => write_byte(out, b'u'),
-        Value::I64(_) => write_byte(out, b'x'),
-        Value::U64(_) => write_byte(out, b't'),
-        Value::Double(_) => write_byte(out, b'd'),
-        Value::Str(_) => write_byte(out, b's'),
-        Value::Path(_) => write_byte(out, b'o'),
-        Value::Sig(_) => write_byte(out, b'g'),
-        Value::Fd(_) => write_byte(out, b'h'),
-        Value::Variant(_) => write_byte(out, b'v'),
         Value::Bytes(_) => write_bytes(out, b"ay"),
         Value::Array(element, _) => {
             write_byte(out, b'a');
@@ -163,6 +136,10 @@ pub fn write_type_of<A: Allocator>(out: &mut Vec<u8, A>, value: &Value<A>)
             write_type_of(out, value);
             write_byte(out, b'}');
         }
+        _ => match plain_type_of(value) {
+            Some(ty) => write_byte(out, type_code(&ty)),
+            None => unreachable!(),
+        },
     }
 }
 

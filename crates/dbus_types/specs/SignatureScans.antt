@@ -4,12 +4,15 @@ use Rattle.std.specs.Prelude.{◌≡◌, ℕ, ◌+◌, ◌-◌, Bool, true, fals
 use Rattle.dbus_types.specs.declared.signature.Frame.{Frame}
 use Rattle.dbus_types.specs.declared.signature.SigPlace.{SigPlace}
 use Rattle.dbus_types.specs.declared.signature.SigPlace.TheVariants.{After, One, Element, Key}
-use Rattle.dbus_types.specs.Types.{TypeTree, TypeTrees, sig, sigs, IsComplete, AreComplete}
+use Rattle.dbus_types.specs.Types.{BYTE, BOOLEAN, INT16, UINT16, INT32, UINT32, INT64, UINT64, DOUBLE, UNIX_FD, STRING, OBJECT_PATH, SIGNATURE, TypeTree, TypeTrees, number_code, text_code, sig, sigs, IsComplete, AreComplete}
 use Rattle.dbus_types.specs.Signatures.{IsSignature}
 
--- the codes of the basic types: y b n q i u x t d h s o g
+-- the codes of the basic types
 abbrev pub is_basic_code : ℕ → Bool
-is_basic_code b = b == 121 || b == 98 || b == 110 || b == 113 || b == 105 || b == 117 || b == 120 || b == 116 || b == 100 || b == 104 || b == 115 || b == 111 || b == 103
+is_basic_code b =
+    b == number_code BYTE || b == number_code BOOLEAN || b == number_code INT16 || b == number_code UINT16 || b == number_code INT32
+    || b == number_code UINT32 || b == number_code INT64 || b == number_code UINT64 || b == number_code DOUBLE || b == number_code UNIX_FD
+    || b == text_code STRING || b == text_code OBJECT_PATH || b == text_code SIGNATURE
 
 -- the same, and v
 abbrev pub is_type_code : ℕ → Bool

@@ -60,6 +60,19 @@ abbrev mutual
   sigs NoTypes = []
   sigs (MoreTypes t ts) = sig t ++ sigs ts
 
+abbrev pub is_byte : TypeTree → Bool
+is_byte (NumberType BYTE) = true
+is_byte _ = false
+
+-- types without parts: the basic types and VARIANT
+abbrev pub is_plain : TypeTree → Bool
+is_plain (NumberType n) = true
+is_plain (TextType t) = true
+is_plain VariantType = true
+is_plain (ArrayType t) = false
+is_plain (StructType ts) = false
+is_plain (EntryType k v) = false
+
 -- basic types: a number or a text
 abbrev pub IsBasic : TypeTree → Type 0
 IsBasic (NumberType n) = Unit {0}

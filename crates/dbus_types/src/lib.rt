@@ -13,6 +13,7 @@ mod sig_type;
 mod signature;
 mod spell;
 mod text_kind;
+mod type_codes;
 mod utf8;
 
 pub use check::{
@@ -26,7 +27,8 @@ pub use laws::{
 };
 pub use parse::{parse_signature, parse_single};
 pub use scan::TextScan;
-pub use shape::{alignment, type_ok};
+pub use shape::{alignment, is_byte, type_ok};
 pub use sig_type::SigType;
 pub use spell::{push_type, signature_text};
 pub use text_kind::TextKind;
+pub use type_codes::type_code;

@@ -1,39 +1,14 @@
 //! The types that a signature spells.
 #![tactic(auto)]
 
-ghost use Rattle.std.specs.Prelude.{◌≡◌, ℕ, ◌++◌, ◌∷◌, [], length, IfOk, MatchOption, true, false};
-ghost use Rattle.dbus_types.specs.Types.{sig};
-ghost use Rattle.dbus_types.specs.SigTypes.{type_tree};
-ghost use Rattle.dbus_types.specs.SignatureScans.{is_type_code};
+ghost use Rattle.std.specs.Prelude.{IfOk};
 ghost use Rattle.dbus_types.specs.TypeReads.{StartsType, StartsFields, ReadsType, ReadsFields};
 ghost use Rattle.dbus_types.specs.Parses.{IsParse, IsSingleParse};
 
 use crate::check::{SigFault, check_signature, check_single};
 use crate::sig_type::SigType;
+use crate::type_codes::plain_type;
 use std::alloc::{AllocError, Allocator};
-
-/// The type that one byte spells.
-fn plain_type<A: Allocator>(byte: u8) -> Option<SigType<A>>
-    ensures { MatchOption result (is_type_code byte ≡ false) (λ ty. sig (type_tree ty) ≡ byte ∷ []) }
-{
-    match byte {
-        b'y' => Some(SigType::Byte),
-        b'b' => Some(SigType::Bool),
-        b'n' => Some(SigType::I16),
-        b'q' => Some(SigType::U16),
-        b'i' => Some(SigType::I32),
-        b'u' => Some(SigType::U32),
-        b'x' => Some(SigType::I64),
-        b't' => Some(SigType::U64),
-        b'd' => Some(SigType::Double),
-        b's' => Some(SigType::Str),
-        b'o' => Some(SigType::Path),
-        b'g' => Some(SigType::Sig),
-        b'h' => Some(SigType::Fd),
-        b'v' => Some(SigType::Variant),
-        _ => None,
-    }
-}
 
 /// The type at the front, and what follows it.
 #[cycle(parse)]

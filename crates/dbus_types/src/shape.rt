@@ -3,7 +3,7 @@
 
 ghost use Rattle.std.specs.Prelude.{◌≡◌, ◌↔◌, ◌≤◌, length, min, IsTrue, false, true};
 ghost use Rattle.dbus_types.specs.SigTypes.{type_tree, type_trees_of};
-ghost use Rattle.dbus_types.specs.Types.{sig, sigs, IsBasic, IsComplete, AreComplete, IsSingleType};
+ghost use Rattle.dbus_types.specs.Types.{sig, sigs, is_byte, IsBasic, IsComplete, AreComplete, IsSingleType};
 ghost use Rattle.dbus_types.specs.Alignments.{alignment_of};
 
 use crate::sig_type::SigType;
@@ -28,6 +28,13 @@ pub fn alignment<A: Allocator>(ty: &SigType<A>) -> u8
         SigType::I64 | SigType::U64 | SigType::Double | SigType::Struct(_) | SigType::Entry(_, _) =>
             8,
     }
+}
+
+/// Whether the type is BYTE. D-Bus Specification, "Basic types".
+pub fn is_byte<A: Allocator>(ty: &SigType<A>) -> bool
+    ensures { result ≡ is_byte (type_tree ty.now) }
+{
+    matches!(ty, SigType::Byte)
 }
 
 fn is_basic_type<A: Allocator>(ty: &SigType<A>) -> bool

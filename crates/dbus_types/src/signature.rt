@@ -3,8 +3,8 @@
 
 ghost use Rattle.std.specs.Prelude.{◌≡◌, ◌+◌, ◌<◌, ◌≤◌, length, IsTrue};
 ghost use Rattle.dbus_types.specs.Frames.{AreBounded, AreBounded-prop, spare};
-ghost use Rattle.dbus_types.specs.SignatureScans.{is_basic_code, is_type_code};
 
+use crate::type_codes::{is_basic_code, is_type_code};
 use arrayvec::ArrayVec;
 
 /// Where in a signature the scan stands.
@@ -29,23 +29,6 @@ pub struct Frame {
     pub arrays: u8,
     /// The structs open, of which there may be 32.
     pub structs: u8,
-}
-
-/// Whether the byte spells a basic type.
-pub fn is_basic_code(byte: u8) -> bool
-    ensures { result ≡ is_basic_code byte }
-{
-    matches!(
-        byte,
-        b'y' | b'b' | b'n' | b'q' | b'i' | b'u' | b'x' | b't' | b'd' | b'h' | b's' | b'o' | b'g'
-    )
-}
-
-/// Whether the byte alone spells a complete type.
-pub fn is_type_code(byte: u8) -> bool
-    ensures { result ≡ is_type_code byte }
-{
-    is_basic_code(byte) || byte == b'v'
 }
 
 /// What is wanted of a signature from here on.

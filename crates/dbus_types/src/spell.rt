@@ -8,13 +8,14 @@ ghost use Rattle.dbus_types.specs.Parses.{IsSignatureText};
 
 use crate::check::{SigFault, check_signature};
 use crate::sig_type::SigType;
+use crate::type_codes::type_code;
 use std::alloc::{AllocError, Allocator};
 
-fn push_code<A: Allocator + Copy>(out: &mut String<A>, code: char) -> Result<(), AllocError>
+fn push_code<A: Allocator + Copy>(out: &mut String<A>, code: u8) -> Result<(), AllocError>
     requires { code < 128 }
     ensures { OnOk result (string_bytes out.new ≡ string_bytes out.old ++ code ∷ []) }
 {
-    out.push(code)
+    out.push(char::from(code))
 }
 
 /// Appends the text of a type, one code for each basic type. D-Bus Specification, "Type System".
@@ -29,35 +30,22 @@ pub fn push_type<A: Allocator + Copy>(
     ensures { OnOk result (string_bytes out.new ≡ string_bytes out.old ++ sig (type_tree ty.now)) }
 {
     match ty {
-        SigType::Byte => push_code(out, 'y'),
-        SigType::Bool => push_code(out, 'b'),
-        SigType::I16 => push_code(out, 'n'),
-        SigType::U16 => push_code(out, 'q'),
-        SigType::I32 => push_code(out, 'i'),
-        SigType::U32 => push_code(out, 'u'),
-        SigType::I64 => push_code(out, 'x'),
-        SigType::U64 => push_code(out, 't'),
-        SigType::Double => push_code(out, 'd'),
-        SigType::Str => push_code(out, 's'),
-        SigType::Path => push_code(out, 'o'),
-        SigType::Sig => push_code(out, 'g'),
-        SigType::Fd => push_code(out, 'h'),
-        SigType::Variant => push_code(out, 'v'),
         SigType::Array(element) => {
-            push_code(out, 'a')?;
+            push_code(out, b'a')?;
             push_type(out, element)
         }
         SigType::Struct(fields) => {
-            push_code(out, '(')?;
+            push_code(out, b'(')?;
             push_types(out, fields.as_slice())?;
-            push_code(out, ')')
+            push_code(out, b')')
         }
         SigType::Entry(key, value) => {
-            push_code(out, '{')?;
+            push_code(out, b'{')?;
             push_type(out, key)?;
             push_type(out, value)?;
-            push_code(out, '}')
+            push_code(out, b'}')
         }
+        _ => push_code(out, type_code(ty)),
     }
 }
 

@@ -2,11 +2,11 @@
 use Rattle.std.proofs.Common.{◌≡◌, ℕ, zero, suc, ◌+◌, ◌<◌, Bool, false, ◌&&◌, not, List, [], ◌∷◌, ◌++◌, length, get_or, drop, Vec, refl, sym, subst, arith, rules, ◌↔◌, IsTrue, Result, Ok, Err, IfOk}
 use Rattle.std.proofs.lemmas.Bool.{and_parts, and_from}
 use Rattle.std.proofs.lemmas.List.{drop_more}
-use Rattle.dbus_types.specs.Types.{TypeTree, NumberType, BYTE}
+use Rattle.dbus_types.specs.Types.{TypeTree, NumberType, BYTE, is_byte}
 use Rattle.dbus_types.specs.SigTypes.{type_tree}
 use Rattle.dbus_types.specs.declared.sig_type.SigType.{SigType, the_lemmas as type_lemmas}
 use Rattle.dbus_types.specs.declared.sig_type.SigType.TheVariants as types
-use Rattle.dbus_value_model.specs.PackedBytes.{is_byte, keeps_bytes, keep_bytes}
+use Rattle.dbus_value_model.specs.PackedBytes.{keeps_bytes, keep_bytes}
 use Rattle.dbus_value_model.specs.Forming.{IsUniform, AreUniform}
 use Rattle.dbus_value_model.specs.Values.{AllOf, type_of}
 use Rattle.dbus_value_model.specs.ValueViews.{value_tree, value_trees_of, byte_values}

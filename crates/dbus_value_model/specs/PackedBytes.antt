@@ -2,33 +2,13 @@
 -- D-Bus Specification, "Marshaling (Wire Format)".
 use Rattle.std.specs.Prelude.{Bool, true, false, ◌&&◌, not, List, [], ◌∷◌, ◌++◌, map, IsTrue}
 use Rattle.std.specs.List.{list_all}
-use Rattle.dbus_types.specs.Types.{TypeTree, NumberType, TextType, VariantType, ArrayType, StructType, EntryType, NumberCode, BYTE, BOOLEAN, INT16, UINT16, INT32, UINT32, INT64, UINT64, DOUBLE, UNIX_FD}
+use Rattle.dbus_types.specs.Types.{is_byte}
 use Rattle.dbus_types.specs.SigTypes.{type_tree}
 use Rattle.dbus_value_model.specs.declared.got.Got.{Got}
 use Rattle.dbus_value_model.specs.declared.got.Got.TheVariants.{Done, Partial}
 use Rattle.dbus_value_model.specs.declared.value.Value.{Value}
 use Rattle.dbus_value_model.specs.declared.value.Value.TheOpen.{Value-F}
 use Rattle.dbus_value_model.specs.declared.value.Value.TheFolds.{fold-Value}
-
-abbrev pub is_byte_code : NumberCode → Bool
-is_byte_code BYTE = true
-is_byte_code BOOLEAN = false
-is_byte_code INT16 = false
-is_byte_code UINT16 = false
-is_byte_code INT32 = false
-is_byte_code UINT32 = false
-is_byte_code INT64 = false
-is_byte_code UINT64 = false
-is_byte_code DOUBLE = false
-is_byte_code UNIX_FD = false
-
-abbrev pub is_byte : TypeTree → Bool
-is_byte (NumberType n) = is_byte_code n
-is_byte (TextType t) = false
-is_byte VariantType = false
-is_byte (ArrayType t) = false
-is_byte (StructType ts) = false
-is_byte (EntryType k v) = false
 
 -- no `Array` in it is one of BYTE: such an array is `Bytes`
 abbrev pub keep_step : {A : Type 0} → Value-F A Bool → Bool

@@ -1,7 +1,8 @@
 //! The type of a value.
 #![tactic(auto)]
 
-ghost use Rattle.std.specs.Prelude.{◌≡◌, map, IfOk};
+ghost use Rattle.std.specs.Prelude.{◌≡◌, map, IfOk, MatchOption, true, false};
+ghost use Rattle.dbus_types.specs.Types.{is_plain};
 ghost use Rattle.dbus_types.specs.SigTypes.{type_tree};
 ghost use Rattle.dbus_value_model.specs.Values.{type_of as tree_type};
 ghost use Rattle.dbus_value_model.specs.ValueViews.{value_tree};
@@ -9,6 +10,31 @@ ghost use Rattle.dbus_value_model.specs.ValueViews.{value_tree};
 use crate::value::Value;
 use dbus_types::{SigType, copy_type};
 use std::alloc::{AllocError, Allocator};
+
+/// The type of a value, where the type has no parts: of an array, a struct and a dict entry there is `None`.
+///
+/// D-Bus Specification, "Type System".
+pub fn plain_type_of<A: Allocator>(value: &Value<A>) -> Option<SigType<A>>
+    ensures { let ty = tree_type (value_tree value.now) in MatchOption result (is_plain ty ≡ false) (λ t. (is_plain ty ≡ true) × (type_tree t ≡ ty)) }
+{
+    match value {
+        Value::Byte(_) => Some(SigType::Byte),
+        Value::Bool(_) => Some(SigType::Bool),
+        Value::I16(_) => Some(SigType::I16),
+        Value::U16(_) => Some(SigType::U16),
+        Value::I32(_) => Some(SigType::I32),
+        Value::U32(_) => Some(SigType::U32),
+        Value::I64(_) => Some(SigType::I64),
+        Value::U64(_) => Some(SigType::U64),
+        Value::Double(_) => Some(SigType::Double),
+        Value::Str(_) => Some(SigType::Str),
+        Value::Path(_) => Some(SigType::Path),
+        Value::Sig(_) => Some(SigType::Sig),
+        Value::Fd(_) => Some(SigType::Fd),
+        Value::Variant(_) => Some(SigType::Variant),
+        Value::Bytes(_) | Value::Array(_, _) | Value::Struct(_) | Value::Entry(_, _) => None,
+    }
+}
 
 /// The type of a value. D-Bus Specification, "Type System".
 ///
@@ -19,19 +45,6 @@ pub fn type_of<A: Allocator + Copy>(alloc: A, value: &Value<A>) -> Result<SigTyp
     ensures { IfOk result (λ t. type_tree t ≡ tree_type (value_tree value.now)) }
 {
     match value {
-        Value::Byte(_) => Ok(SigType::Byte),
-        Value::Bool(_) => Ok(SigType::Bool),
-        Value::I16(_) => Ok(SigType::I16),
-        Value::U16(_) => Ok(SigType::U16),
-        Value::I32(_) => Ok(SigType::I32),
-        Value::U32(_) => Ok(SigType::U32),
-        Value::I64(_) => Ok(SigType::I64),
-        Value::U64(_) => Ok(SigType::U64),
-        Value::Double(_) => Ok(SigType::Double),
-        Value::Str(_) => Ok(SigType::Str),
-        Value::Path(_) => Ok(SigType::Path),
-        Value::Sig(_) => Ok(SigType::Sig),
-        Value::Fd(_) => Ok(SigType::Fd),
         Value::Bytes(_) => Ok(SigType::Array(Box::new(alloc, SigType::Byte)?)),
         Value::Array(element, _) => {
             let element = copy_type(alloc, element)?;
@@ -43,7 +56,10 @@ pub fn type_of<A: Allocator + Copy>(alloc: A, value: &Value<A>) -> Result<SigTyp
             let value = type_of(alloc, value)?;
             Ok(SigType::Entry(Box::new(alloc, key)?, Box::new(alloc, value)?))
         }
-        Value::Variant(_) => Ok(SigType::Variant),
+        _ => match plain_type_of(value) {
+            Some(ty) => Ok(ty),
+            None => unreachable!(),
+        },
     }
 }
 

@@ -7,13 +7,13 @@ ghost use Rattle.dbus_types.specs.SigTypes.{type_tree};
 ghost use Rattle.dbus_value_model.specs.Values.{AllOf, type_of as tree_type};
 ghost use Rattle.dbus_value_model.specs.Forming.{IsUniform, AreUniform};
 ghost use Rattle.dbus_value_model.specs.Checks.{IsTyped};
-ghost use Rattle.dbus_value_model.specs.PackedBytes.{is_byte as is_byte_type, keeps_bytes, keep_bytes};
+ghost use Rattle.dbus_value_model.specs.PackedBytes.{keeps_bytes, keep_bytes};
 ghost use Rattle.dbus_value_model.specs.ValueViews.{value_tree, value_trees_of};
 
 use crate::same_types::same_type;
 use crate::typing::type_of;
 use crate::value::Value;
-use dbus_types::{SigType, type_ok};
+use dbus_types::{SigType, is_byte, type_ok};
 use std::alloc::{AllocError, Allocator};
 
 /// Whether every part has a type that fits its place.
@@ -104,12 +104,6 @@ fn are_uniform<A: Allocator + Copy>(alloc: A, values: &[Value<A>]) -> Result<boo
         }
     }
     Ok(true)
-}
-
-fn is_byte<A: Allocator>(ty: &SigType<A>) -> bool
-    ensures { result ≡ is_byte_type (type_tree ty.now) }
-{
-    matches!(ty, SigType::Byte)
 }
 
 /// Whether no `Array` is one of BYTE, which only `Bytes` may be.

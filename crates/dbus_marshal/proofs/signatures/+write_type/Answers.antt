@@ -28,7 +28,7 @@ pub write_type-returns-in-Array-clause-written : goal.write_type-returns-in-Arra
 write_type-returns-in-Array-clause-written g t c =
     let held = rw c.deref.ensures at c.write_type.ensures.written in
     rw (c.in-Array.is, sig-Array c.in-Array.element)
-    (join_assoc c.args.out.now.items (97 ∷ []) (sig (type_tree c.in-Array.element.value)) c.write_byte-in-Array.new.out.items c.write_type.new.out.items c.write_byte-in-Array.ensures.written held)
+    (join_assoc c.args.out.now.items (97 ∷ []) (sig (type_tree c.in-Array.element.value)) c.write_byte.new.out.items c.write_type.new.out.items c.write_byte.ensures.written held)
 
 pub write_type-returns-in-Struct-clause-written : goal.write_type-returns-in-Struct-clause-written
 write_type-returns-in-Struct-clause-written g t c =

@@ -31,7 +31,7 @@ pub write_type_of-returns-in-Array-clause-written : goal.write_type_of-returns-i
 write_type_of-returns-in-Array-clause-written g t c =
     let held = c.write_type.ensures.written in
     rw (c.in-Array.is, type-Array c.in-Array.element c.in-Array.field-1)
-    (join_assoc c.args.out.now.items (97 ∷ []) (sig (type_tree c.in-Array.element)) c.write_byte-in-Array.new.out.items c.write_type.new.out.items c.write_byte-in-Array.ensures.written held)
+    (join_assoc c.args.out.now.items (97 ∷ []) (sig (type_tree c.in-Array.element)) c.write_byte.new.out.items c.write_type.new.out.items c.write_byte.ensures.written held)
 
 pub write_type_of-returns-in-Struct-clause-written : goal.write_type_of-returns-in-Struct-clause-written
 write_type_of-returns-in-Struct-clause-written g t c =

@@ -1,7 +1,8 @@
 use Rattle.std.proofs.Common.{◌≡◌, ◌&&◌, not, refl, sym, ap, subst, ◌∙◌, IsTrue, arith}
 use Rattle.std.proofs.lemmas.Bool.{false≢true, and_parts, and_from}
+use Rattle.dbus_types.specs.Types.{is_byte}
 use Rattle.dbus_types.specs.SigTypes.{type_tree}
-use Rattle.dbus_value_model.specs.PackedBytes.{is_byte, keeps_bytes, keep_bytes}
+use Rattle.dbus_value_model.specs.PackedBytes.{keeps_bytes, keep_bytes}
 use Rattle.dbus_value_model.specs.declared.value.Value.{the_lemmas}
 use Rattle.dbus_value_model.proofs.Fitting.{keeps-Array, keeps-Struct, unpacked_at, packed_more}
 use Rattle.dbus_value_model.proofs.uniformity.+packed.Goals as goal
