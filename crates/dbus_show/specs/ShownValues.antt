@@ -1,12 +1,12 @@
 -- The text of a value: the code of its type, a colon and its number or text; an array behind its signature; the other
 -- containers in brackets of their own.
 -- The codes and signatures are those of the D-Bus Specification, "Type System", "Summary of types".
-use Rattle.std.specs.Prelude.{ℕ, List, [], ◌∷◌, ◌++◌, codes, decimal, Bool, true, false, ◌||◌, nat_eq, nat_lt, if◌then◌else◌}
+use Rattle.std.specs.Prelude.{ℕ, List, [], ◌∷◌, ◌++◌, codes, decimal, ◌||◌, nat_eq, nat_lt, if◌then◌else◌}
 use Rattle.std.specs.Fmt.{signed_decimal}
 use Rattle.std.specs.Int.{cast_signed, w16, w32, w64}
 use Rattle.std.specs.List.{concat, flat_map, join_by}
 use Rattle.hex.specs.Hex.{encode_lower}
-use Rattle.dbus_types.specs.Types.{NumberCode, BYTE, BOOLEAN, INT16, UINT16, INT32, UINT32, INT64, UINT64, DOUBLE, UNIX_FD, TypeTree, NumberType, ArrayType, number_code, text_code, sig}
+use Rattle.dbus_types.specs.Types.{NumberCode, BYTE, BOOLEAN, INT16, UINT16, INT32, UINT32, INT64, UINT64, DOUBLE, UNIX_FD, ArrayType, number_code, text_code, sig, is_byte}
 use Rattle.dbus_value_model.specs.declared.order.Order.TheVariants.{Big}
 use Rattle.dbus_value_model.specs.Values.{ValueTree, ValueTrees, NumberValue, TextValue, VariantValue, ArrayValue, StructValue, EntryValue, NoValues, MoreValues}
 use Rattle.dbus_value_model.specs.Bytes.{num}
@@ -25,6 +25,11 @@ number_text UINT64 n = decimal n
 number_text DOUBLE n = encode_lower (num Big 8 n)
 number_text UNIX_FD n = decimal n
 
+-- the number that a value is; of no other value is there one
+abbrev pub number_in : ValueTree → List ℕ
+number_in (NumberValue k n) = number_text k n
+number_in _ = []
+
 -- A byte of a text: 34 is a quotation mark and 92 a backslash, which stand behind a backslash; the bytes below 32 and 127
 -- have no sign of their own and are shown as `\x` and two hexadecimal digits. Every other byte is itself.
 abbrev pub escape : ℕ → List ℕ
@@ -39,10 +44,6 @@ quoted text = concat (codes "\"" ∷ flat_map escape text ∷ codes "\"" ∷ [])
 
 abbrev pub joined : List (List ℕ) → List ℕ
 joined texts = join_by (λ text. text) (codes ", ") texts
-
-abbrev pub is_byte : TypeTree → Bool
-is_byte (NumberType BYTE) = true
-is_byte _ = false
 
 -- the byte that a value is; of no other value is there one
 abbrev pub byte_in : ValueTree → List ℕ

@@ -1,43 +1,39 @@
-//! Numbers whose text is not that of an unsigned number.
+//! Numbers as text.
 #![tactic(auto)]
 
 ghost use Rattle.std.specs.Prelude.{◌≡◌, ◌++◌, OnOk, string_bytes};
-ghost use Rattle.std.specs.Int.{cast_unsigned, w16, w32, w64};
-ghost use Rattle.dbus_types.specs.Types.{DOUBLE, INT16, INT32, INT64};
-ghost use Rattle.dbus_value_model.specs.Values.{NumberValue};
-ghost use Rattle.dbus_show.specs.ShownValues.{value_text};
+ghost use Rattle.dbus_value_model.specs.ValueViews.{value_tree};
+ghost use Rattle.dbus_show.specs.ShownValues.{number_in};
 
 use crate::hexadecimal::write_hex;
+use dbus_value::Value;
 use std::alloc::{AllocError, Allocator};
 
-/// Appends an INT16.
+/// Appends the number that a value is, and of any other value nothing.
 #[tactic(auto, using(crate::proofs::SignedNumbers::back))]
-pub fn write_i16<A: Allocator>(out: &mut String<A>, number: i16) -> Result<(), AllocError>
-    ensures { OnOk result (string_bytes out.new ≡ string_bytes out.old ++ value_text (NumberValue INT16 (cast_unsigned w16 number))) }
+pub fn write_number<A: Allocator>(out: &mut String<A>, value: &Value<A>) -> Result<(), AllocError>
+    ensures { OnOk result (string_bytes out.new ≡ string_bytes out.old ++ number_in (value_tree value.now)) }
 {
-    write!(out, "n:{number}")
-}
-
-/// Appends an INT32.
-#[tactic(auto, using(crate::proofs::SignedNumbers::back))]
-pub fn write_i32<A: Allocator>(out: &mut String<A>, number: i32) -> Result<(), AllocError>
-    ensures { OnOk result (string_bytes out.new ≡ string_bytes out.old ++ value_text (NumberValue INT32 (cast_unsigned w32 number))) }
-{
-    write!(out, "i:{number}")
-}
-
-/// Appends an INT64.
-#[tactic(auto, using(crate::proofs::SignedNumbers::back))]
-pub fn write_i64<A: Allocator>(out: &mut String<A>, number: i64) -> Result<(), AllocError>
-    ensures { OnOk result (string_bytes out.new ≡ string_bytes out.old ++ value_text (NumberValue INT64 (cast_unsigned w64 number))) }
-{
-    write!(out, "x:{number}")
-}
-
-/// Appends a DOUBLE, whose bits are these.
-pub fn write_double<A: Allocator>(out: &mut String<A>, bits: u64) -> Result<(), AllocError>
-    ensures { OnOk result (string_bytes out.new ≡ string_bytes out.old ++ value_text (NumberValue DOUBLE bits)) }
-{
-    out.push_str("d:")?;
-    write_hex(out, &bits.to_be_bytes())
+    match value {
+        Value::Byte(number) => write!(out, "{number}"),
+        Value::Bool(truth) => write!(out, "{truth}"),
+        Value::I16(number) => {
+            let number = *number;
+            write!(out, "{number}")
+        }
+        Value::U16(number) => write!(out, "{number}"),
+        Value::I32(number) => {
+            let number = *number;
+            write!(out, "{number}")
+        }
+        Value::U32(number) => write!(out, "{number}"),
+        Value::I64(number) => {
+            let number = *number;
+            write!(out, "{number}")
+        }
+        Value::U64(number) => write!(out, "{number}"),
+        Value::Double(bits) => write_hex(out, &bits.to_be_bytes()),
+        Value::Fd(index) => write!(out, "{index}"),
+        _ => Ok(()),
+    }
 }

@@ -1,19 +1,20 @@
 //! Values as text.
 #![tactic(auto)]
 
-ghost use Rattle.std.specs.Prelude.{◌≡◌, ◌++◌, ◌∷◌, ◌<◌, codes, OnOk, string_bytes};
+ghost use Rattle.std.specs.Prelude.{◌≡◌, ◌++◌, codes, OnOk, string_bytes, true};
 ghost use Rattle.hex.specs.Hex.{encode_lower};
-ghost use Rattle.dbus_types.specs.Types.{BYTE, NumberType};
+ghost use Rattle.dbus_types.specs.Types.{BYTE, NumberType, is_plain, sig};
 ghost use Rattle.dbus_types.specs.SigTypes.{type_tree};
-ghost use Rattle.dbus_value_model.specs.Values.{ArrayValue, StructValue};
+ghost use Rattle.dbus_value_model.specs.Values.{ArrayValue, StructValue, type_of};
 ghost use Rattle.dbus_value_model.specs.ValueViews.{value_tree, value_trees_of, byte_values};
-ghost use Rattle.dbus_show.specs.ShownValues.{value_text, value_texts, joined, quoted, byte_in, bytes_in, is_byte as is_byte_type};
+ghost use Rattle.dbus_show.specs.ShownValues.{value_text, value_texts, joined, byte_in, bytes_in};
 
 use crate::escapes::write_quoted;
 use crate::hexadecimal::write_hex;
-use crate::numbers::{write_double, write_i16, write_i32, write_i64};
-use dbus_types::{SigType, push_type};
+use crate::numbers::write_number;
+use dbus_types::{SigType, is_byte, push_type};
 use dbus_value::Value;
+use dbus_value_model::plain_type_of;
 use std::alloc::{AllocError, Allocator};
 
 /// Appends the text of a value.
@@ -25,19 +26,6 @@ pub fn write_value<A: Allocator + Copy>(
     ensures { OnOk result (string_bytes out.new ≡ string_bytes out.old ++ value_text (value_tree value.now)) }
 {
     match value {
-        Value::Byte(number) => write!(out, "y:{number}"),
-        Value::Bool(truth) => write!(out, "b:{truth}"),
-        Value::I16(number) => write_i16(out, *number),
-        Value::U16(number) => write!(out, "q:{number}"),
-        Value::I32(number) => write_i32(out, *number),
-        Value::U32(number) => write!(out, "u:{number}"),
-        Value::I64(number) => write_i64(out, *number),
-        Value::U64(number) => write!(out, "t:{number}"),
-        Value::Double(bits) => write_double(out, *bits),
-        Value::Str(text) => write_text(out, 's', text),
-        Value::Path(text) => write_text(out, 'o', text),
-        Value::Sig(text) => write_text(out, 'g', text),
-        Value::Fd(index) => write!(out, "h:{index}"),
         Value::Bytes(bytes) => write_bytes(out, bytes),
         Value::Array(element, items) => write_array(out, items, element),
         Value::Struct(fields) => write_struct(out, fields),
@@ -52,6 +40,14 @@ pub fn write_value<A: Allocator + Copy>(
             out.push('<')?;
             write_value(out, inner)?;
             out.push('>')
+        }
+        Value::Str(text) | Value::Path(text) | Value::Sig(text) => {
+            write_code(out, value)?;
+            write_quoted(out, text)
+        }
+        _ => {
+            write_code(out, value)?;
+            write_number(out, value)
         }
     }
 }
@@ -106,14 +102,18 @@ fn write_items<A: Allocator + Copy>(
     Ok(())
 }
 
-/// Appends the code of a text's type and the text.
-fn write_text<A: Allocator>(out: &mut String<A>, code: char, text: &str) -> Result<(), AllocError>
-    requires { code < 128 }
-    ensures { OnOk result (string_bytes out.new ≡ string_bytes out.old ++ (code ∷ (codes ":" ++ quoted text.now))) }
+/// Appends the code of a value's type and a colon.
+fn write_code<A: Allocator + Copy>(out: &mut String<A>, value: &Value<A>) -> Result<(), AllocError>
+    requires { is_plain (type_of (value_tree value.now)) ≡ true }
+    ensures { OnOk result (string_bytes out.new ≡ string_bytes out.old ++ (sig (type_of (value_tree value.now)) ++ codes ":")) }
 {
-    out.push(code)?;
-    out.push(':')?;
-    write_quoted(out, text)
+    match plain_type_of(value) {
+        Some(ty) => {
+            push_type(out, &ty)?;
+            out.push(':')
+        }
+        None => unreachable!(),
+    }
 }
 
 /// Appends an array of BYTE.
@@ -122,13 +122,6 @@ fn write_bytes<A: Allocator>(out: &mut String<A>, bytes: &[u8]) -> Result<(), Al
 {
     out.push_str("ay:")?;
     write_hex(out, bytes)
-}
-
-/// Whether a type is BYTE.
-fn is_byte<A: Allocator>(ty: &SigType<A>) -> bool
-    ensures { result ≡ is_byte_type (type_tree ty.now) }
-{
-    matches!(ty, SigType::Byte)
 }
 
 /// Appends the two digits of a BYTE, and of any other value nothing.

@@ -1,11 +1,11 @@
 use Rattle.std.proofs.Common.{arith, rules, ◌≡◌, ◌++◌, ◌∷◌, [], ap, sym, ◌∙◌, string_bytes, lit<, false, refl, take, ◌+◌}
 use Rattle.std.proofs.lemmas.List.{take_more}
-use Rattle.dbus_types.specs.Types.{sig}
+use Rattle.dbus_types.specs.Types.{sig, is_byte}
 use Rattle.dbus_types.specs.SigTypes.{type_tree}
 use Rattle.dbus_value_model.specs.Values.{ArrayValue, StructValue}
 use Rattle.dbus_value_model.specs.ValueViews.{value_tree, value_trees_of}
 use Rattle.dbus_value_model.specs.declared.value.Value.{the_lemmas}
-use Rattle.dbus_show.specs.ShownValues.{value_text, value_texts, joined, is_byte}
+use Rattle.dbus_show.specs.ShownValues.{value_text, value_texts, joined}
 use Rattle.dbus_show.proofs.Appending.{behind_one, behind_two, behind_three, behind_four, pushed, last_push, last_text}
 use Rattle.dbus_value_model.proofs.ValueRows.{tree-Array, tree-Entry, tree-Variant}
 use Rattle.dbus_show.proofs.ItemTexts.{texts_push, joined_push, separator, separator_push}
