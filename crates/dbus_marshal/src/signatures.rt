@@ -73,7 +73,7 @@ fn signatures_length<A: Allocator>(values: &[Value<A>]) -> usize
 
 /// Appends a type's signature.
 #[cycle(write_type)]
-#[tactic(auto, using(dbus_value_model::proofs::TypeRows::basic_signatures, crate::proofs::Written::lengths))]
+#[tactic(auto, using(crate::proofs::Written::lengths))]
 pub fn write_type<A: Allocator>(out: &mut Vec<u8, A>, ty: &SigType<A>)
     requires space { length out.old.items + length (sig (type_tree ty.now)) ≤ vec_capacity out.old }
     ensures written { out.new.items ≡ out.old.items ++ sig (type_tree ty.now) }
@@ -100,7 +100,7 @@ pub fn write_type<A: Allocator>(out: &mut Vec<u8, A>, ty: &SigType<A>)
 }
 
 #[cycle(write_type)]
-#[tactic(auto, using(dbus_value_model::proofs::TypeRows::basic_signatures, crate::proofs::Written::lengths))]
+#[tactic(auto, using(crate::proofs::Written::lengths))]
 fn write_types<A: Allocator>(out: &mut Vec<u8, A>, types: &[SigType<A>])
     requires space { length out.old.items + length (sigs (type_trees_of types.now)) ≤ vec_capacity out.old }
     ensures written { out.new.items ≡ out.old.items ++ sigs (type_trees_of types.now) }
@@ -113,7 +113,7 @@ fn write_types<A: Allocator>(out: &mut Vec<u8, A>, types: &[SigType<A>])
 
 /// Appends the signature of a value's type.
 #[cycle(write_type_of)]
-#[tactic(auto, using(dbus_value_model::proofs::TypeRows::basic_value_signatures, crate::proofs::Written::lengths))]
+#[tactic(auto, using(crate::proofs::Written::lengths))]
 pub fn write_type_of<A: Allocator>(out: &mut Vec<u8, A>, value: &Value<A>)
     requires space { length out.old.items + length (sig (type_of (value_tree value.now))) ≤ vec_capacity out.old }
     ensures written { out.new.items ≡ out.old.items ++ sig (type_of (value_tree value.now)) }
@@ -144,7 +144,7 @@ pub fn write_type_of<A: Allocator>(out: &mut Vec<u8, A>, value: &Value<A>)
 }
 
 #[cycle(write_type_of)]
-#[tactic(auto, using(dbus_value_model::proofs::TypeRows::basic_value_signatures, crate::proofs::Written::lengths))]
+#[tactic(auto, using(crate::proofs::Written::lengths))]
 fn write_types_of<A: Allocator>(out: &mut Vec<u8, A>, values: &[Value<A>])
     requires space { length out.old.items + length (sigs (types_of (value_trees_of values.now))) ≤ vec_capacity out.old }
     ensures written { out.new.items ≡ out.old.items ++ sigs (types_of (value_trees_of values.now)) }

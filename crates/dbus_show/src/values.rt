@@ -13,8 +13,7 @@ use crate::escapes::write_quoted;
 use crate::hexadecimal::write_hex;
 use crate::numbers::write_number;
 use dbus_types::{SigType, is_byte, push_type};
-use dbus_value::Value;
-use dbus_value_model::plain_type_of;
+use dbus_value::{Value, plain_type_of};
 use std::alloc::{AllocError, Allocator};
 
 /// Appends the text of a value.

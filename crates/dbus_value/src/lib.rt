@@ -8,5 +8,6 @@
 pub use dbus_marshal::{put, size_after};
 pub use dbus_unmarshal::{get, laws};
 pub use dbus_value_model::{
-    Fault, Got, Order, Reason, Refusal, Value, ValueFault, check_value, copy, type_of,
+    Fault, Got, Order, Reason, Refusal, Value, ValueFault, check_value, copy, plain_type_of,
+    type_of,
 };

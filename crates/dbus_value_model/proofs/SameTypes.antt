@@ -4,7 +4,7 @@ use Rattle.std.proofs.lemmas.List.{drop_more}
 use Rattle.dbus_types.specs.Types.{StructType, NoTypes, MoreTypes}
 use Rattle.dbus_types.specs.SigTypes.{type_tree, type_trees_of}
 use Rattle.dbus_types.specs.declared.sig_type.SigType.{SigType, Struct, Entry, the_lemmas}
-use Rattle.dbus_value_model.proofs.TypeRows.{type_tree-Struct}
+use Rattle.dbus_types.proofs.TypeViews.{type_tree-Struct}
 
 pub same_length : {A : Type 0} (xs ys : List (SigType A)) → type_trees_of xs ≡ type_trees_of ys → length xs ≡ length ys
 same_length [] [] e = refl

@@ -3,8 +3,9 @@ use Rattle.std.proofs.lemmas.List.{map_push, map_more}
 use Rattle.dbus_types.specs.SigTypes.{type_tree}
 use Rattle.dbus_value_model.specs.Values.{StructValue, type_of as tree_type}
 use Rattle.dbus_value_model.specs.ValueViews.{value_tree, value_trees_of}
+use Rattle.dbus_types.proofs.TypeViews.{type_tree-Struct}
 use Rattle.dbus_value_model.proofs.ValueRows.{tree-Struct}
-use Rattle.dbus_value_model.proofs.TypeRows.{type_tree-Struct, struct_type}
+use Rattle.dbus_value_model.proofs.TypeRows.{struct_type}
 use Rattle.dbus_value_model.proofs.typing.+type_of.Goals as goal
 
 pub type_of-returns-in_ok-types_of-in-Struct : goal.type_of-returns-in_ok-types_of-in-Struct
