@@ -1,6 +1,7 @@
 //! The codes of types in a signature. D-Bus Specification, "Summary of types".
 //!
-//! They stand here alone: the code of each type, the type of each code, and which bytes are codes.
+//! Which code each type has, which type each code spells, and which bytes are codes: no other table has the code of a
+//! type without parts. Those of the containers, `a`, `(` with `)` and `{` with `}`, stand also where these are read and written.
 #![tactic(auto)]
 
 ghost use Rattle.std.specs.Prelude.{◌≡◌, ◌∷◌, [], get_or, MatchOption, false};
