@@ -2,7 +2,7 @@
 use Rattle.std.proofs.Common.{◌≡◌, ℕ, ◌+◌, ◌%◌, ◌<◌, ◌≤◌, refl, sym, ap, ◌∙◌, arith}
 use Rattle.std.proofs.Math.Decide.{dec_lt}
 use Rattle.std.proofs.lemmas.Bool.{le-ltb, lt-ltb}
-use Rattle.dbus_value_model.specs.Measures.{capped, CappedTells}
+use Rattle.dbus_value_model.specs.Measures.{IsCapped, capped, CappedTells}
 use Rattle.dbus_value_model.specs.Sizes.{message_limit}
 
 pub capped-near : (o : ℕ) → o < 134217736 → capped o ≡ o
@@ -13,7 +13,7 @@ pub capped-far : (o : ℕ) → 134217736 ≤ o → capped o ≡ 134217736 + o % 
 unfolding capped
 capped-far o h = rw (le-ltb _ _ h) refl
 
-pub capped-bound : (o : ℕ) → capped o < 134217744
+pub capped-bound : (o : ℕ) → IsCapped (capped o)
 capped-bound o = elim (dec_lt o 134217736) [
   | yes h ↦ omega (arith, capped-near o h)
   | no h ↦ let far : 134217736 ≤ o = omega arith in omega (arith, capped-far o far)
@@ -26,7 +26,7 @@ capped-rest o = elim (dec_lt o 134217736) [
 ]
 
 -- what is capped already stays
-pub capped-same : (o : ℕ) → o < 134217744 → capped o ≡ o
+pub capped-same : (o : ℕ) → IsCapped o → capped o ≡ o
 capped-same o low = elim (dec_lt o 134217736) [
   | yes h ↦ capped-near o h
   | no h ↦ let far : 134217736 ≤ o = omega arith in omega (arith, capped-far o far)
@@ -62,7 +62,7 @@ capped-more m n k e = elim (dec_lt m 134217736) [
 -- going on from a capped offset is going on from each that it stands for
 pub capped-onward : (o at k : ℕ) → capped o ≡ at → capped (at + k) ≡ capped (o + k)
 capped-onward o at k e =
-    let low : at < 134217744 = omega (arith, capped-bound o) in
+    let low : IsCapped at = omega (arith, capped-bound o) in
     capped-more at o k (capped-same at low ∙ sym e)
 
 pub onward-from : (o at k n end : ℕ) → capped o ≡ at → k ≡ n → end ≡ capped (at + k) → end ≡ capped (o + n)

@@ -11,7 +11,7 @@ use Rattle.dbus_types.specs.declared.sig_type.SigType.{SigType}
 use Rattle.dbus_value_model.specs.declared.order.Order.{Order}
 use Rattle.dbus_value_model.specs.declared.value.Value.{Value, Byte, Bool as BoolOf, I16, U16, I32, U32, I64, U64, Double, Str, Path, Sig, Fd, Bytes, Array, Struct, Entry, Variant}
 use Rattle.dbus_value_model.specs.Bytes.{gap_to}
-use Rattle.dbus_value_model.specs.Measures.{capped, coded, EndsAt, IsMeasured, AreMeasured}
+use Rattle.dbus_value_model.specs.Measures.{IsCapped, capped, coded, EndsAt, IsMeasured, AreMeasured}
 use Rattle.dbus_value_model.specs.ShortSignatures.{HasShortSignatures, HaveShortSignatures}
 use Rattle.dbus_value_model.specs.Spelling.{ended_text, contents_start, spelling, spellings, array_limit, IsWithinLimits, AreWithinLimits}
 use Rattle.dbus_value_model.specs.Values.{ValueTree, ValueTrees, NumberValue, TextValue, VariantValue, ArrayValue, StructValue, EntryValue, NoValues, MoreValues, type_of}
@@ -83,7 +83,7 @@ measured-key k v at p is key = record {
       λ w. key.from order (o + gap_to 8 o) there w.0;
 }
 
-pub measured-none : (at : ℕ) → at < 134217744 → AreMeasured NoValues at (Some at)
+pub measured-none : (at : ℕ) → IsCapped at → AreMeasured NoValues at (Some at)
 measured-none at low = record {
   from = λ order o h. (tt, let same : o ≡ o + length (spellings order o NoValues) = omega (arith, length-none order o) in sym h ∙ ap capped same);
 }
@@ -220,7 +220,7 @@ short_bytes bs = subst HasShortSignatures (sym (tree-Bytes bs)) (all-short bs.it
 bytes-from : (o at p : ℕ) → capped o ≡ at → p ≡ capped (at + (gap_to 4 at + 4)) → capped (contents_start (NumberType BYTE) o) ≡ p
 unfolding gap_to
 bytes-from o at p h is =
-    let low : p < 134217744 = omega (arith, capped-bound (at + (gap_to 4 at + 4))) in
+    let low : IsCapped p = omega (arith, capped-bound (at + (gap_to 4 at + 4))) in
     let none : p ≡ p + gap_to 1 p = omega arith in
     contents-from (NumberType BYTE) o at p p h is (sym (capped-same p low) ∙ ap capped none)
 
@@ -343,7 +343,7 @@ measured-stop {A} vs i at v lt e first =
     subst (λ (l : List (Value A)). AreMeasured (value_trees_of l) at None) (sym (drop_more vs i v lt))
     (measured-first (value_tree (get_or vs i v)) (value_trees_of (drop (i + 1) vs)) at here)
 
-pub measured-end : {A : Type 0} (vs : List (Value A)) (i at : ℕ) → length vs ≤ i → at < 134217744 → AreMeasured (value_trees_of (drop i vs)) at (Some at)
+pub measured-end : {A : Type 0} (vs : List (Value A)) (i at : ℕ) → length vs ≤ i → IsCapped at → AreMeasured (value_trees_of (drop i vs)) at (Some at)
 measured-end {A} vs i at le low = subst (λ (l : List (Value A)). AreMeasured (value_trees_of l) at (Some at)) (sym (drop_all i vs le)) (measured-none at low)
 
 -- a step behind another

@@ -22,7 +22,7 @@ use dbus_value_model::{Order, Value, ValueFault};
 use std::alloc::Allocator;
 
 /// Appends a value's spelling. The vector begins at the message's first byte, so its length is the value's offset, and
-/// is at most 134,217,728.
+/// is at most [`MESSAGE_LIMIT`](dbus_value_model::MESSAGE_LIMIT).
 ///
 /// Of the value it asks only that each signature in it has at most 255 bytes, as is so where it is well formed. It is
 /// refused exactly where `size_after` refuses it at this offset, and with that fault; else only by `Memory`, where a

@@ -1,45 +1,43 @@
 //! Where values end, however far, and whether the arrays in them keep their limit.
 #![tactic(auto, using(crate::proofs::MeasureSteps::measuring))]
 
-ghost use Rattle.std.specs.Prelude.{◌≡◌, ℕ, ◌+◌, ◌<◌, ◌^◌, IfSome};
+ghost use Rattle.std.specs.Prelude.{◌≡◌, ℕ, ◌+◌, ◌<◌, IfSome};
 ghost use Rattle.dbus_value_model.specs.Bytes.{gap_to};
-ghost use Rattle.dbus_value_model.specs.Measures.{capped, coded, IsMeasured, AreMeasured};
+ghost use Rattle.dbus_value_model.specs.Measures.{capped, coded, IsCapped, IsMeasured, AreMeasured};
 ghost use Rattle.dbus_value_model.specs.ShortSignatures.{HasShortSignatures, HaveShortSignatures};
 ghost use Rattle.dbus_value_model.specs.Values.{VariantValue};
 ghost use Rattle.dbus_value_model.specs.ValueViews.{value_tree, value_trees_of};
 
 use crate::signatures::signature_length;
 use dbus_types::alignment;
-use dbus_value_model::Value;
+use dbus_value_model::{ARRAY_LIMIT, MESSAGE_LIMIT, Value, padding_length};
 use std::alloc::Allocator;
 
 /// Offsets are exact below this, and known modulo 8 from here on: the limit of messages, and a step to a boundary beyond.
-const CAP: u64 = (1 << 27) + 8;
-
-const ARRAY_LIMIT: u64 = 1 << 26;
+const CAP: u64 = MESSAGE_LIMIT as u64 + 8;
 
 /// Where a value ends that begins at `at`, in both byte orders, or nothing where the contents of an array in it are over
-/// 67,108,864 bytes. D-Bus Specification, "Marshaling (Wire Format)".
+/// [`ARRAY_LIMIT`] bytes. D-Bus Specification, "Marshaling (Wire Format)".
 ///
-/// `at` is an offset from the message's first byte, or stands for one that is further out: 134,217,736 and its remainder
-/// modulo 8 for any from there on. The end is given in the same form, so one measure goes on from another however long
-/// the whole is, and it is over 134,217,728 exactly where the true end is. Of the value it asks only that each signature
+/// `at` is an offset from the message's first byte, or stands for one that is further out: 8 bytes past [`MESSAGE_LIMIT`] and
+/// its remainder modulo 8 for any from there on. The end is given in the same form, so one measure goes on from another however long
+/// the whole is, and it is over [`MESSAGE_LIMIT`] exactly where the true end is. Of the value it asks only that each signature
 /// in it has at most 255 bytes, as is so where it is well formed.
 pub fn measure<A: Allocator>(value: &Value<A>, at: u64) -> Option<u64>
-    requires start { at < 2 ^ 27 + 16 }
+    requires start { IsCapped at }
     requires signed { HasShortSignatures (value_tree value.now) }
     ensures exact { IsMeasured (value_tree value.now) at result }
-    ensures within { IfSome result (λ e. e < 2 ^ 27 + 16) }
+    ensures within { IfSome result IsCapped }
 {
     measure_value(value, at)
 }
 
 /// Where values end that stand one behind the other from `at` on, as [`measure`] says.
 pub fn measure_all<A: Allocator>(values: &[Value<A>], at: u64) -> Option<u64>
-    requires start { at < 2 ^ 27 + 16 }
+    requires start { IsCapped at }
     requires signed { HaveShortSignatures (value_trees_of values.now) }
     ensures exact { AreMeasured (value_trees_of values.now) at result }
-    ensures within { IfSome result (λ e. e < 2 ^ 27 + 16) }
+    ensures within { IfSome result IsCapped }
 {
     measure_values(values, at)
 }
@@ -47,10 +45,10 @@ pub fn measure_all<A: Allocator>(values: &[Value<A>], at: u64) -> Option<u64>
 /// Where a struct ends of a BYTE and a VARIANT that holds `value`, as each field of a message's header is one, as
 /// [`measure`] says.
 pub fn measure_coded<A: Allocator>(value: &Value<A>, at: u64) -> Option<u64>
-    requires start { at < 2 ^ 27 + 16 }
+    requires start { IsCapped at }
     requires signed { HasShortSignatures (VariantValue (value_tree value.now)) }
     ensures exact { (code : ℕ) → IsMeasured (coded code (value_tree value.now)) at result }
-    ensures within { IfSome result (λ e. e < 2 ^ 27 + 16) }
+    ensures within { IfSome result IsCapped }
 {
     let behind_code = number(1, boundary(8, at));
     measure_value(value, text(1, signature_length(value), behind_code))
@@ -60,49 +58,47 @@ pub fn measure_coded<A: Allocator>(value: &Value<A>, at: u64) -> Option<u64>
 #[tactic(auto, unfolding(dbus_value_model::specs::Measures::capped))]
 fn cap(at: u64) -> u64
     ensures exact { result ≡ capped at }
-    ensures within { result < 2 ^ 27 + 16 }
+    ensures within { IsCapped result }
 {
     if at < CAP { at } else { CAP + at % 8 }
 }
 
 /// The next multiple of `alignment`.
-#[tactic(auto, unfolding(dbus_value_model::specs::Bytes::gap_to))]
 fn boundary(alignment: u8, at: u64) -> u64
-    requires start { at < 2 ^ 27 + 16 }
+    requires start { IsCapped at }
     requires positive { 0 < alignment }
     ensures exact { result ≡ capped (at + gap_to alignment at) }
-    ensures within { result < 2 ^ 27 + 16 }
+    ensures within { IsCapped result }
 {
-    let alignment = u64::from(alignment);
-    cap(at + (alignment - at % alignment) % alignment)
+    cap(at + u64::from(padding_length(alignment, at)))
 }
 
 /// A number of `width` bytes, which is also its alignment.
 fn number(width: u8, at: u64) -> u64
-    requires start { at < 2 ^ 27 + 16 }
+    requires start { IsCapped at }
     requires positive { 0 < width }
     ensures exact { result ≡ capped (at + (gap_to width at + width)) }
-    ensures within { result < 2 ^ 27 + 16 }
+    ensures within { IsCapped result }
 {
     cap(boundary(width, at) + u64::from(width))
 }
 
 /// A text of `len` bytes, whose length has `width` bytes, and the byte behind it.
 fn text(width: u8, len: usize, at: u64) -> u64
-    requires start { at < 2 ^ 27 + 16 }
+    requires start { IsCapped at }
     requires positive { 0 < width }
     ensures exact { result ≡ capped (at + (gap_to width at + (width + (len + 1)))) }
-    ensures within { result < 2 ^ 27 + 16 }
+    ensures within { IsCapped result }
 {
     cap(number(width, at) + cap(len as u64) + 1)
 }
 
 #[cycle(size)]
 fn measure_value<A: Allocator>(value: &Value<A>, at: u64) -> Option<u64>
-    requires start { at < 2 ^ 27 + 16 }
+    requires start { IsCapped at }
     requires signed { HasShortSignatures (value_tree value.now) }
     ensures exact { IsMeasured (value_tree value.now) at result }
-    ensures within { IfSome result (λ e. e < 2 ^ 27 + 16) }
+    ensures within { IfSome result IsCapped }
 {
     match value {
         Value::Byte(_) => Some(number(1, at)),
@@ -114,7 +110,7 @@ fn measure_value<A: Allocator>(value: &Value<A>, at: u64) -> Option<u64>
         Value::Bytes(bytes) => {
             let start = number(4, at);
             let len = bytes.len() as u64;
-            if len > ARRAY_LIMIT {
+            if len > u64::from(ARRAY_LIMIT) {
                 return None;
             }
             Some(cap(start + len))
@@ -124,7 +120,7 @@ fn measure_value<A: Allocator>(value: &Value<A>, at: u64) -> Option<u64>
             // From here the contents have the same paddings, and an end that is exact up to the cap.
             let origin = start % 8;
             let end = measure_values(items, origin)?;
-            if end > origin + ARRAY_LIMIT {
+            if end > origin + u64::from(ARRAY_LIMIT) {
                 return None;
             }
             Some(cap(start - origin + end))
@@ -140,10 +136,10 @@ fn measure_value<A: Allocator>(value: &Value<A>, at: u64) -> Option<u64>
 
 #[cycle(size)]
 fn measure_values<A: Allocator>(values: &[Value<A>], at: u64) -> Option<u64>
-    requires start { at < 2 ^ 27 + 16 }
+    requires start { IsCapped at }
     requires signed { HaveShortSignatures (value_trees_of values.now) }
     ensures exact { AreMeasured (value_trees_of values.now) at result }
-    ensures within { IfSome result (λ e. e < 2 ^ 27 + 16) }
+    ensures within { IfSome result IsCapped }
 {
     let mut end = at;
     for value in values {

@@ -8,22 +8,18 @@ ghost use Rattle.dbus_value_model.specs.ValueViews.{value_tree, value_trees_of, 
 
 use crate::signatures::signature_length;
 use dbus_types::alignment;
-use dbus_value_model::{Value, ValueFault};
+use dbus_value_model::{ARRAY_LIMIT, MESSAGE_LIMIT, Value, ValueFault, padding_length};
 use std::alloc::Allocator;
-
-const MESSAGE_LIMIT: u64 = 1 << 27;
-
-const ARRAY_LIMIT: u64 = 1 << 26;
 
 /// The offset where a value ends that begins at `offset`, in both byte orders.
 /// D-Bus Specification, "Marshaling (Wire Format)".
 ///
-/// `offset` counts from the message's first byte and is at most 134,217,728. Of the value it asks only that each
+/// `offset` counts from the message's first byte and is at most [`MESSAGE_LIMIT`]. Of the value it asks only that each
 /// signature in it has at most 255 bytes, as is so where it is well formed.
 ///
 /// Refused is the first item, in order, whose end passes a bound: `ArrayTooLong` where that is the bound of an open
-/// array, 67,108,864 bytes from the start of its contents, else `TooLong`, where it is that of the message,
-/// 134,217,728. A padding, a number, a length, a text and the byte behind a text are an item each.
+/// array, [`ARRAY_LIMIT`] bytes from the start of its contents, else `TooLong`, where it is that of the message,
+/// [`MESSAGE_LIMIT`]. A padding, a number, a length, a text and the byte behind a text are an item each.
 pub fn size_after<A: Allocator>(value: &Value<A>, offset: u64) -> Result<u64, ValueFault>
     requires start { offset ≤ message_limit }
     requires signed { HasShortSignatures (value_tree value.now) }
@@ -47,14 +43,14 @@ fn item(bound: Option<u64>, len: usize, offset: u64) -> Result<u64, ValueFault>
     {
         return Err(ValueFault::ArrayTooLong);
     }
-    if MESSAGE_LIMIT < end {
+    if u64::from(MESSAGE_LIMIT) < end {
         return Err(ValueFault::TooLong);
     }
     Ok(end)
 }
 
 /// The padding up to the next multiple of `alignment`, where there is any.
-#[tactic(auto, unfolding(dbus_value_model::specs::Sizes::padding, dbus_value_model::specs::Bytes::gap_to))]
+#[tactic(auto, unfolding(dbus_value_model::specs::Sizes::padding))]
 fn padding(bound: Option<u64>, alignment: u8, offset: u64) -> Result<u64, ValueFault>
     requires start { offset ≤ message_limit }
     requires bounded { IfSome bound (λ b. b < 2 ^ 28) }
@@ -62,12 +58,11 @@ fn padding(bound: Option<u64>, alignment: u8, offset: u64) -> Result<u64, ValueF
     ensures exact { result ≡ padding bound alignment offset }
     ensures within { IfOk result (λ e. e ≤ message_limit) }
 {
-    let alignment = u64::from(alignment);
-    let count = (alignment - offset % alignment) % alignment;
+    let count = padding_length(alignment, offset);
     if count == 0 {
         return Ok(offset);
     }
-    item(bound, count as usize, offset)
+    item(bound, usize::from(count), offset)
 }
 
 /// A number of `width` bytes, which is also its alignment.
@@ -108,9 +103,10 @@ fn size_bytes(bytes: &[u8], bound: Option<u64>, offset: u64) -> Result<u64, Valu
     let end = offset.saturating_add(bytes.len() as u64);
     // The lesser of the bounds is the one that the bytes come to first.
     let array_end = bound.unwrap_or(u64::MAX);
-    if array_end <= MESSAGE_LIMIT && array_end < end {
+    let limit = u64::from(MESSAGE_LIMIT);
+    if array_end <= limit && array_end < end {
         Err(ValueFault::ArrayTooLong)
-    } else if MESSAGE_LIMIT < end {
+    } else if limit < end {
         Err(ValueFault::TooLong)
     } else {
         Ok(end)
@@ -125,7 +121,7 @@ fn narrowed(bound: Option<u64>, offset: u64) -> Option<u64>
     ensures exact { result ≡ narrowed bound offset }
     ensures within { IfSome result (λ b. b < 2 ^ 28) }
 {
-    let own = offset + ARRAY_LIMIT;
+    let own = offset + u64::from(ARRAY_LIMIT);
     match bound {
         None => Some(own),
         Some(outer) => Some(outer.min(own)),

@@ -10,7 +10,7 @@ ghost use Rattle.dbus_value_model.specs.Appending.{with_padding, with_value};
 ghost use Rattle.dbus_value_model.specs.Bytes.{num};
 ghost use Rattle.dbus_value_model.specs.Values.{TextValue};
 
-use dbus_value_model::Order;
+use dbus_value_model::{Order, padding_length};
 use std::alloc::Allocator;
 
 /// Appends these bytes.
@@ -32,16 +32,15 @@ pub fn write_byte<A: Allocator>(out: &mut Vec<u8, A>, byte: u8)
 }
 
 /// Appends zeros up to the next multiple of `alignment`.
-#[tactic(auto, using(crate::proofs::Written::lengths), unfolding(dbus_value_model::specs::Appending::with_padding, dbus_value_model::specs::Bytes::gap_to))]
+#[tactic(auto, using(crate::proofs::Written::lengths), unfolding(dbus_value_model::specs::Appending::with_padding))]
 pub fn write_padding<A: Allocator>(out: &mut Vec<u8, A>, alignment: u8)
     requires positive { 0 < alignment }
     requires space { length (with_padding alignment out.old.items) ≤ vec_capacity out.old }
     ensures written { out.new.items ≡ with_padding alignment out.old.items }
     ensures room { vec_capacity out.old ≤ vec_capacity out.new }
 {
-    let alignment = usize::from(alignment);
-    let count = (alignment - out.len() % alignment) % alignment;
-    out.resize(out.len() + count, 0).unwrap();
+    let count = padding_length(alignment, out.len() as u64);
+    out.resize(out.len() + usize::from(count), 0).unwrap();
 }
 
 /// Appends the two bytes of a number, without padding.

@@ -62,14 +62,10 @@ pub long_fields : (body p n : ℕ) → 67_108_864 < n → fields_row body p n �
 unfolding array_limit
 long_fields body p n h = rw (lt-ltb _ _ h) refl
 
-pub long_message : (body p n : ℕ) → n ≤ 67_108_864 → 134_217_728 < p + n + (8 - (p + n) % 8) % 8 + body → fields_row body p n ≡ Some reasons.MessageTooLong
-unfolding array_limit message_limit gap_to
+pub long_message : (body p n : ℕ) → n ≤ 67_108_864 → 134_217_728 < p + n + gap_to 8 (p + n) + body → fields_row body p n ≡ Some reasons.MessageTooLong
+unfolding array_limit message_limit
 long_message body p n le h = rw (le-ltb _ _ le, lt-ltb _ _ h) refl
 
-pub fields_fit : (body p n : ℕ) → n ≤ 67_108_864 → p + n + (8 - (p + n) % 8) % 8 + body ≤ 134_217_728 → fields_row body p n ≡ None
-unfolding array_limit message_limit gap_to
+pub fields_fit : (body p n : ℕ) → n ≤ 67_108_864 → p + n + gap_to 8 (p + n) + body ≤ 134_217_728 → fields_row body p n ≡ None
+unfolding array_limit message_limit
 fields_fit body p n le h = rw (le-ltb _ _ le, le-ltb _ _ h) refl
-
-pub eight_gap : (n : ℕ) → gap_to 8 n ≡ (8 - n % 8) % 8
-unfolding gap_to
-eight_gap n = refl

@@ -7,6 +7,7 @@ use Rattle.dbus_types.specs.declared.text_kind.TextKind.TheVariants as kinds
 use Rattle.dbus_types.specs.Kinds.{IsKind}
 use Rattle.dbus_value_model.specs.declared.order.Order.TheVariants.{Little}
 use Rattle.dbus_value_model.specs.declared.fault.Reason.TheVariants as reasons
+use Rattle.dbus_value_model.specs.declared.limits.TheConstants.{DEPTH_LIMIT}
 use Rattle.dbus_value_model.specs.Checks.{IsTyped}
 use Rattle.dbus_value_model.specs.Forming.{NestsWithin, NestWithin, IsNamed}
 use Rattle.dbus_value_model.specs.Values.{NumberValue, type_of, types_of}
@@ -67,9 +68,9 @@ HasOwnKind f = IsOf (own_kind f.code) (text_in f.value)
 
 -- ---- values
 
--- no more than 64 arrays, structs and variants are open at once, those of the header among them
+-- no more arrays, structs and variants are open at once than the limit says, those of the header among them
 abbrev pub IsShallow : MessageTree → Type 0
-IsShallow m = NestsWithin 64 (field_array m.fields) × NestWithin 64 m.body
+IsShallow m = NestsWithin DEPTH_LIMIT (field_array m.fields) × NestWithin DEPTH_LIMIT m.body
 
 -- its types fit together and its texts are of their kinds
 abbrev pub IsSound : {A : Type 0} → Value A → Type 0

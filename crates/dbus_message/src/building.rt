@@ -16,13 +16,11 @@ use crate::faulty_fields::{
 };
 use crate::known_fields::{body_signature, has_field, missing_field};
 use crate::message::Message;
-use crate::message_size::{fields_end, gap, read_parts};
+use crate::message_size::{fields_end, read_parts};
 use crate::parts::Parts;
 use dbus_marshal::measure_all;
+use dbus_value_model::{MESSAGE_LIMIT, padding_length};
 use std::alloc::Allocator;
-
-/// The bytes of the longest message. D-Bus Specification, "Message Protocol".
-const MESSAGE_LIMIT: u64 = 1 << 27;
 
 /// Judges the type, the serial, and which fields there are.
 fn check_header<A: Allocator>(parts: &Parts<A>) -> Result<(), BuildFault>
@@ -92,10 +90,10 @@ fn measure<A: Allocator>(parts: &Parts<A>) -> Result<usize, BuildFault>
         Some(end) => end,
         None => return Err(BuildFault::ArrayTooLong),
     };
-    match measure_all(&parts.body, fields + gap(fields)) {
+    match measure_all(&parts.body, fields + u64::from(padding_length(8, fields))) {
         None => Err(BuildFault::ArrayTooLong),
         Some(end) => {
-            if end > MESSAGE_LIMIT {
+            if end > u64::from(MESSAGE_LIMIT) {
                 return Err(BuildFault::MessageTooLong);
             }
             Ok(end as usize)

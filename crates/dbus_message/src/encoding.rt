@@ -4,6 +4,7 @@
 ghost use Rattle.std.specs.Prelude.{◌≡◌, ◌<◌, ◌≤◌, ◌^◌, ◌+◌, [], length, vec_capacity, map, IfOk, OnOk, OnErr};
 ghost use Rattle.dbus_value_model.specs.Appending.{with_value, with_values};
 ghost use Rattle.dbus_value_model.specs.ShortSignatures.{HasShortSignatures, HaveShortSignatures};
+ghost use Rattle.dbus_value_model.specs.declared.limits.TheConstants.{MESSAGE_LIMIT};
 ghost use Rattle.dbus_value_model.specs.Values.{value_trees};
 ghost use Rattle.dbus_value_model.specs.ValueViews.{value_trees_of};
 ghost use Rattle.dbus_message.specs.FixedBytes.{fixed_bytes};
@@ -83,7 +84,7 @@ fn write_body<A: Allocator>(out: &mut Vec<u8, A>, order: Order, values: &[Value<
 fn write_whole<A: Allocator>(out: &mut Vec<u8, A>, message: &Message<A>, order: Order)
     requires empty { out.old.items ≡ [] }
     requires space { length (message_bytes order (message_tree message.now)) ≤ vec_capacity out.old }
-    requires within { length (message_bytes order (message_tree message.now)) ≤ 134_217_728 }
+    requires within { length (message_bytes order (message_tree message.now)) ≤ MESSAGE_LIMIT }
     ensures { out.new.items ≡ message_bytes order (message_tree message.now) }
 {
     let parts = message.parts();

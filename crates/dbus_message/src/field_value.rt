@@ -1,12 +1,13 @@
 //! Reading the value of a header field: the signature in its variant, then a value of that type.
 #![tactic(auto)]
 
-ghost use Rattle.std.specs.Prelude.{◌≡◌, ◌+◌, ◌-◌, ◌≤◌, ◌<◌, length, take, drop, string_bytes, IsUtf8, IsTrue, IfOk};
+ghost use Rattle.std.specs.Prelude.{◌≡◌, ◌+◌, ◌-◌, ◌≤◌, ◌<◌, length, take, drop, IsTrue, IfOk};
 ghost use Rattle.dbus_types.specs.ComputedKinds.{type_spelled};
 ghost use Rattle.dbus_types.specs.SigTypes.{type_tree};
 ghost use Rattle.dbus_types.specs.Types.{IsSingleType, sig};
 ghost use Rattle.dbus_types.specs.declared.text_kind.TextKind.TheVariants.{Single};
 ghost use Rattle.dbus_value_model.specs.declared.order.Order.{Order};
+ghost use Rattle.dbus_value_model.specs.declared.limits.TheConstants.{DEPTH_LIMIT};
 ghost use Rattle.dbus_value_model.specs.Gives.{Gives};
 ghost use Rattle.dbus_value_model.specs.PackedBytes.{keeps_bytes};
 ghost use Rattle.dbus_value_model.specs.Reading.{number, value};
@@ -20,15 +21,15 @@ use crate::fixed_header::read_serial;
 use dbus_types::{SigType, TextKind};
 use dbus_unmarshal::get;
 use dbus_unmarshal::items::{read_length, read_nul, read_padding, read_short_length, read_u32};
-use dbus_unmarshal::texts::{read_only, read_signature, read_text};
+use dbus_unmarshal::texts::{copy_text, read_only, read_signature, read_text};
 use dbus_value_model::{Got, Order, Reason, Refusal, Stop, Value, refuse};
-use std::alloc::{AllocError, Allocator};
+use std::alloc::Allocator;
 
 /// The most bytes that a name in a header field has.
 const NAME_LIMIT: u32 = 255;
 
 /// How many containers are open around a field's value: the field array, the field and its variant.
-const FIELD_DEPTH: u8 = 3;
+pub const FIELD_DEPTH: u8 = 3;
 
 /// A value of the type that is wanted, with so many containers open around it, and the place behind it.
 pub fn read_value<A: Allocator + Copy>(
@@ -42,9 +43,9 @@ pub fn read_value<A: Allocator + Copy>(
 ) -> Result<(Value<A>, usize), Stop>
     requires at_most { at ≤ end }
     requires inside { at ≤ length bytes.now }
-    requires shallow { depth ≤ 64 }
+    requires shallow { depth ≤ DEPTH_LIMIT }
     requires complete { IsSingleType (type_tree wanted.now) }
-    ensures gives { Gives (λ x. (value_tree x.0, x.1)) bytes.now result (value order (64 - depth) end (type_tree wanted.now) at (drop at bytes.now)) }
+    ensures gives { Gives (λ x. (value_tree x.0, x.1)) bytes.now result (value order (DEPTH_LIMIT - depth) end (type_tree wanted.now) at (drop at bytes.now)) }
     ensures moves { IfOk result (λ x. (at < x.1) × (x.1 ≤ end) × (x.1 ≤ length bytes.now)) }
     ensures packed { IfOk result (λ x. IsTrue (keeps_bytes x.0)) }
 {
@@ -91,14 +92,6 @@ fn read_name_length(
         return refuse(at, Reason::Overrun);
     }
     Ok((n, behind))
-}
-
-/// A string of bytes that are UTF-8.
-fn copy_text<A: Allocator>(alloc: A, text: &[u8]) -> Result<String<A>, AllocError>
-    requires { IsUtf8 text.now }
-    ensures { IfOk result (λ s. string_bytes s ≡ text.now) }
-{
-    String::from_str(alloc, str::from_utf8(text).unwrap())
 }
 
 /// A field that holds a name: a STRING that is a text of the kind.

@@ -6,19 +6,14 @@ ghost use Rattle.dbus_value_model.specs.declared.fault.Reason.TheVariants as rea
 ghost use Rattle.dbus_value_model.specs.declared.order.Order.{Order};
 ghost use Rattle.dbus_value_model.specs.Gives.{Gives};
 ghost use Rattle.dbus_value_model.specs.Reading.{number};
+ghost use Rattle.dbus_value_model.specs.declared.limits.TheConstants.{MESSAGE_LIMIT};
 ghost use Rattle.dbus_value_model.specs.Bytes.{gap_to};
 ghost use Rattle.dbus_message.specs.HeaderReading.{fixed_header};
 ghost use Rattle.dbus_message.specs.MessageItems.{not_zero_row, version_row, fields_row};
 ghost use Rattle.dbus_message.specs.MessageReading.{byte_order};
 
 use dbus_unmarshal::items::{read_byte, read_u32};
-use dbus_value_model::{Order, Reason, Stop, refuse};
-
-/// The limit of an array's contents, in bytes.
-const ARRAY_LIMIT: u32 = 67_108_864;
-
-/// The limit of a message, in bytes.
-const MESSAGE_LIMIT: u64 = 134_217_728;
+use dbus_value_model::{ARRAY_LIMIT, MESSAGE_LIMIT, Order, Reason, Stop, padding_length, refuse};
 
 /// What the first sixteen bytes of a message say. D-Bus Specification, "Message Format".
 #[derive(Clone, Copy)]
@@ -100,14 +95,14 @@ pub fn read_serial(bytes: &[u8], at: usize, end: usize, order: Order) -> Result<
 fn read_fields_length(bytes: &[u8], order: Order, body: u32) -> Result<u32, Stop>
     requires { 12 ≤ length bytes.now }
     ensures gives { Gives (λ n. (n, 16)) bytes.now result (number order 4 16 (fields_row body) 12 (drop 12 bytes.now)) }
-    ensures there { IfOk result (λ n. (16 ≤ length bytes.now) × (16 + n + gap_to 8 (16 + n) + body ≤ 134_217_728)) }
+    ensures there { IfOk result (λ n. (16 ≤ length bytes.now) × (16 + n + gap_to 8 (16 + n) + body ≤ MESSAGE_LIMIT)) }
 {
     let (fields, _) = read_u32(bytes, 12, 16, order)?;
     if fields > ARRAY_LIMIT {
         return refuse(12, Reason::ArrayTooLong);
     }
     let end = 16 + u64::from(fields);
-    if end + (8 - end % 8) % 8 + u64::from(body) > MESSAGE_LIMIT {
+    if end + u64::from(padding_length(8, end)) + u64::from(body) > u64::from(MESSAGE_LIMIT) {
         return refuse(12, Reason::MessageTooLong);
     }
     Ok(fields)
@@ -117,7 +112,7 @@ fn read_fields_length(bytes: &[u8], order: Order, body: u32) -> Result<u32, Stop
 #[tactic(auto, unfolding(crate::specs::HeaderReading::fixed_header))]
 pub fn read_fixed_header(bytes: &[u8]) -> Result<FixedHeader, Stop>
     ensures gives { Gives (λ h. (h, 16)) bytes.now result (fixed_header 0 bytes.now) }
-    ensures there { IfOk result (λ h. (16 ≤ length bytes.now) × (16 + h.fields + gap_to 8 (16 + h.fields) + h.body ≤ 134_217_728)) }
+    ensures there { IfOk result (λ h. (16 ≤ length bytes.now) × (16 + h.fields + gap_to 8 (16 + h.fields) + h.body ≤ MESSAGE_LIMIT)) }
 {
     let order = read_order(bytes)?;
     let kind = read_kind(bytes)?;

@@ -27,6 +27,7 @@ pub struct Message<A: Allocator = Global> {
 impl<A: Allocator> Message<A> {
     ghost use Rattle.std.specs.Prelude.{◌≤◌};
     ghost use Rattle.dbus_value_model.specs.declared.order.Order.{Order};
+    ghost use Rattle.dbus_value_model.specs.declared.limits.TheConstants.{MESSAGE_LIMIT};
     ghost use Rattle.dbus_message.specs.MessageViews.{message_tree};
 
     /// The message of these parts, which are valid and are spelled by so many bytes.
@@ -42,7 +43,7 @@ impl<A: Allocator> Message<A> {
     /// How many bytes it is spelled by, in either order.
     pub(crate) fn size(&self) -> usize
         ensures exact { (order : Order) → result ≡ length (message_bytes order (message_tree self.now)) }
-        ensures within { result ≤ 134_217_728 }
+        ensures within { result ≤ MESSAGE_LIMIT }
     {
         self.size
     }

@@ -1,9 +1,9 @@
 //! How many bytes parts are spelled by.
 #![tactic(auto)]
 
-ghost use Rattle.std.specs.Prelude.{◌≡◌, ◌≤◌, ◌<◌, map};
-ghost use Rattle.dbus_value_model.specs.Bytes.{gap_to};
+ghost use Rattle.std.specs.Prelude.{◌≤◌, ◌+◌, map};
 ghost use Rattle.dbus_value_model.specs.ShortSignatures.{HasShortSignatures, HaveShortSignatures};
+ghost use Rattle.dbus_value_model.specs.declared.limits.TheConstants.{ARRAY_LIMIT};
 ghost use Rattle.dbus_value_model.specs.Values.{value_trees};
 ghost use Rattle.dbus_message.specs.Messages.{field_struct};
 ghost use Rattle.dbus_message.specs.MessageSizes.{IsFieldEnd, AreFieldEnds, HoldTheirNumbers};
@@ -12,24 +12,15 @@ ghost use Rattle.dbus_message.specs.PartsViews.{field_tree, field_trees, parts_t
 use crate::header_field::HeaderField;
 use crate::parts::Parts;
 use dbus_marshal::measure_coded;
-use dbus_value_model::{read_all_numbers, read_numbers};
+use dbus_value_model::{ARRAY_LIMIT, read_all_numbers, read_numbers};
 use std::alloc::Allocator;
 
-/// Where the longest field array ends. D-Bus Specification, "Marshaling (Wire Format)", for the longest array.
-const FIELDS_LIMIT: u64 = 16 + (1 << 26);
-
-/// How far it is from `at` to the next multiple of 8.
-#[tactic(auto, unfolding(dbus_value_model::specs::Bytes::gap_to))]
-pub fn gap(at: u64) -> u64
-    ensures exact { result ≡ gap_to 8 at }
-    ensures within { result < 8 }
-{
-    (8 - at % 8) % 8
-}
+/// Where the longest field array ends, whose contents begin at 16.
+const FIELDS_LIMIT: u64 = 16 + ARRAY_LIMIT as u64;
 
 /// Where a field ends that begins at `at`, or nothing where an array in it is too long, or the field array with it.
 fn field_end<A: Allocator>(field: &HeaderField<A>, at: u64) -> Option<u64>
-    requires start { at ≤ 67_108_880 }
+    requires start { at ≤ 16 + ARRAY_LIMIT }
     requires signed { HasShortSignatures (field_struct (field_tree field.now)) }
     ensures { IsFieldEnd (field_tree field.now) at result }
 {

@@ -11,12 +11,13 @@ use Rattle.dbus_value_model.specs.declared.fault.Reason.TheVariants as reasons
 use Rattle.dbus_value_model.specs.declared.stop.Stop.{Stop}
 use Rattle.dbus_value_model.specs.Items.{fault}
 use Rattle.dbus_value_model.specs.Values.{ValueTree, NumberValue}
+use Rattle.dbus_value_model.specs.Bytes.{gap_to}
 use Rattle.dbus_value_model.specs.Spelling.{array_limit}
 use Rattle.dbus_value_model.specs.ValueItems.{array_row}
 use Rattle.dbus_value_model.specs.Reading.{Done, Faulty, Partial, padding, number, number_of, up_to, contents, value}
 use Rattle.dbus_value_model.specs.ValueReaders.{number_value, array_frame}
 use Rattle.dbus_value_model.specs.Gives.{Stops, no_row}
-use Rattle.dbus_unmarshal.proofs.ReadSteps.{stops_after, number_stops, number_passes, number_fails, gap_is}
+use Rattle.dbus_unmarshal.proofs.ReadSteps.{stops_after, number_stops, number_passes, number_fails}
 use Rattle.dbus_unmarshal.proofs.NumberSteps.{no_padding, byte_done}
 use Rattle.dbus_unmarshal.proofs.ValueSteps.{value_number}
 
@@ -28,13 +29,13 @@ row_too_long t end p n h = rw (lt-ltb _ _ h) refl
 
 module _ (t : TypeTree) (a end p n : ℕ) (is : a ≡ alignment_of t) where
   module _ (short : n ≤ 67_108_864) where
-    pub row_overruns : end < p + (a - p % a) % a + n → array_row t end p n ≡ Some reasons.Overrun
+    pub row_overruns : end < p + gap_to a p + n → array_row t end p n ≡ Some reasons.Overrun
     unfolding array_limit
-    row_overruns h = rw (← is, gap_is a p, le-ltb _ _ short, lt-ltb _ _ h) refl
+    row_overruns h = rw (← is, le-ltb _ _ short, lt-ltb _ _ h) refl
 
-    pub row_fits : p + (a - p % a) % a + n ≤ end → array_row t end p n ≡ None
+    pub row_fits : p + gap_to a p + n ≤ end → array_row t end p n ≡ None
     unfolding array_limit
-    row_fits h = rw (← is, gap_is a p, le-ltb _ _ short, le-ltb _ _ h) refl
+    row_fits h = rw (← is, le-ltb _ _ short, le-ltb _ _ h) refl
 
 module _ (order : Order) (end : ℕ) (t : TypeTree) (o : ℕ) (s : List ℕ) where
   pub frame_stops_number : (e : Stop) → Stops e (number order 4 end no_row o s) → Stops e (array_frame order end t o s)

@@ -13,11 +13,8 @@ ghost use Rattle.dbus_value_model.specs.Gives.{Gives};
 
 use crate::items::{read_padding, read_u32};
 use dbus_types::{SigType, alignment};
-use dbus_value_model::{Order, Reason, Stop, refuse};
+use dbus_value_model::{ARRAY_LIMIT, Order, Reason, Stop, padding_length, refuse};
 use std::alloc::Allocator;
-
-/// The most bytes that an array's elements may have. D-Bus Specification, "Marshaling (Wire Format)".
-const LONGEST_CONTENTS: usize = 67_108_864;
 
 /// The length of an array's elements in bytes, and the place of the first one, behind its padding.
 pub fn read_frame<A: Allocator>(
@@ -34,12 +31,12 @@ pub fn read_frame<A: Allocator>(
     ensures no_memory { IfErr result (λ e. e ≢ Memory) }
 {
     let (n, behind) = read_u32(bytes, at, end, order)?;
-    let n = n as usize;
-    if n > LONGEST_CONTENTS {
+    if n > ARRAY_LIMIT {
         return refuse(at, Reason::ArrayTooLong);
     }
-    let alignment = alignment(item) as usize;
-    let gap = (alignment - behind % alignment) % alignment;
+    let n = n as usize;
+    let alignment = alignment(item);
+    let gap = usize::from(padding_length(alignment, behind as u64));
     if end - behind < gap + n {
         return refuse(at, Reason::Overrun);
     }

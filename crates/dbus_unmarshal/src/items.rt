@@ -14,13 +14,13 @@ ghost use Rattle.dbus_value_model.specs.Reading.{padding, number, nul};
 ghost use Rattle.dbus_value_model.specs.declared.stop.Stop.TheVariants.{Memory};
 ghost use Rattle.dbus_value_model.specs.Gives.{Gives, no_row};
 
-use dbus_value_model::{Order, Reason, Stop, refuse};
+use dbus_value_model::{Order, Reason, Stop, padding_length, refuse};
 
 /// The zeros up to the next multiple of `alignment`. Gives the place behind them.
 ///
 /// `Overrun` at `at` where they end past the end; else `Padding` at the first byte that is not 0. D-Bus
 /// Specification, "Marshaling (Wire Format)".
-pub fn read_padding(bytes: &[u8], at: usize, end: usize, alignment: usize) -> Result<usize, Stop>
+pub fn read_padding(bytes: &[u8], at: usize, end: usize, alignment: u8) -> Result<usize, Stop>
     requires aligned { 0 < alignment }
     requires at_most { at ≤ end }
     requires inside { at ≤ length bytes.now }
@@ -28,7 +28,7 @@ pub fn read_padding(bytes: &[u8], at: usize, end: usize, alignment: usize) -> Re
     ensures moves { IfOk result (λ q. (q ≡ at + gap_to alignment at) × (q ≤ end) × (q ≤ length bytes.now)) }
     ensures no_memory { IfErr result (λ e. e ≢ Memory) }
 {
-    let gap = (alignment - at % alignment) % alignment;
+    let gap = usize::from(padding_length(alignment, at as u64));
     if end - at < gap {
         return refuse(at, Reason::Overrun);
     }

@@ -10,6 +10,7 @@ ghost use Rattle.dbus_value_model.specs.Reading.{contents, fields, value};
 ghost use Rattle.dbus_value_model.specs.ValueReaders.{held_value, variant_value, open_array, array_value, open_struct, struct_value, entry_value};
 ghost use Rattle.dbus_value_model.specs.Gives.{Gives};
 ghost use Rattle.dbus_value_model.specs.Gets.{Gets};
+ghost use Rattle.dbus_value_model.specs.declared.limits.TheConstants.{DEPTH_LIMIT};
 
 use crate::arrays::{read_bytes, read_frame};
 use crate::items::{read_nul, read_padding, read_short_length};
@@ -19,11 +20,8 @@ use crate::number_values::{
 use crate::text_values::{get_path, get_sig, get_str};
 use crate::texts::read_signature;
 use dbus_types::{SigType, copy_type};
-use dbus_value_model::{Got, Order, Reason, Refusal, Stop, Value, refuse};
+use dbus_value_model::{DEPTH_LIMIT, Got, Order, Reason, Refusal, Stop, Value, refuse};
 use std::alloc::Allocator;
-
-/// The most containers that may be open at once. D-Bus Specification, "Message Protocol".
-const DEEPEST: u8 = 64;
 
 /// The value of a type that stands at a place, and the place behind it.
 ///
@@ -43,12 +41,12 @@ pub fn get<A: Allocator + Copy>(
 ) -> Result<Got<A>, Refusal>
     requires at_most { at ≤ end }
     requires inside { at ≤ length bytes.now }
-    requires open { depth ≤ 64 }
+    requires open { depth ≤ DEPTH_LIMIT }
     requires single { IsSingleType (type_tree wanted.now) }
-    ensures gets { Gets order (64 - depth) end (type_tree wanted.now) at bytes.now result }
+    ensures gets { Gets order (DEPTH_LIMIT - depth) end (type_tree wanted.now) at bytes.now result }
     ensures packed { IfOk result KeepsBytes }
 {
-    match read_value(alloc, bytes, at, end, order, wanted, DEEPEST - depth) {
+    match read_value(alloc, bytes, at, end, order, wanted, DEPTH_LIMIT - depth) {
         Ok((value, next)) => Ok(Got::Done(value, next)),
         Err(Stop::Partial) => Ok(Got::Partial),
         Err(Stop::Memory) => Err(Refusal::Memory),

@@ -1,7 +1,7 @@
 //! Values that are one text.
 #![tactic(auto, using(crate::proofs::StringSteps::strings), unfolding(dbus_value_model::specs::ValueReaders::text_value))]
 
-ghost use Rattle.std.specs.Prelude.{◌≡◌, ◌≤◌, length, drop, string_bytes, IsUtf8, IsTrue, IfOk};
+ghost use Rattle.std.specs.Prelude.{◌≡◌, ◌≤◌, length, drop, IsTrue, IfOk};
 ghost use Rattle.dbus_types.specs.Types.{STRING, OBJECT_PATH, SIGNATURE};
 ghost use Rattle.dbus_value_model.specs.declared.order.Order.{Order};
 ghost use Rattle.dbus_value_model.specs.PackedBytes.{keeps_bytes};
@@ -10,18 +10,10 @@ ghost use Rattle.dbus_value_model.specs.ValueViews.{value_tree};
 ghost use Rattle.dbus_value_model.specs.Gives.{Gives};
 
 use crate::items::{read_length, read_nul, read_padding, read_short_length};
-use crate::texts::read_text;
+use crate::texts::{copy_text, read_text};
 use dbus_types::TextKind;
 use dbus_value_model::{Order, Stop, Value};
-use std::alloc::{AllocError, Allocator};
-
-/// A string of bytes that are UTF-8.
-fn string_of<A: Allocator>(alloc: A, bytes: &[u8]) -> Result<String<A>, AllocError>
-    requires { IsUtf8 bytes.now }
-    ensures { IfOk result (λ s. string_bytes s ≡ bytes.now) }
-{
-    String::from_str(alloc, str::from_utf8(bytes).unwrap())
-}
+use std::alloc::Allocator;
 
 /// A STRING.
 pub fn get_str<A: Allocator>(
@@ -40,7 +32,7 @@ pub fn get_str<A: Allocator>(
     let (n, start) = read_length(bytes, at, end, order)?;
     let behind = read_text(bytes, start, n, TextKind::Text)?;
     let next = read_nul(bytes, behind)?;
-    Ok((Value::Str(string_of(alloc, &bytes[start..behind])?), next))
+    Ok((Value::Str(copy_text(alloc, &bytes[start..behind])?), next))
 }
 
 /// An OBJECT_PATH.
@@ -60,7 +52,7 @@ pub fn get_path<A: Allocator>(
     let (n, start) = read_length(bytes, at, end, order)?;
     let behind = read_text(bytes, start, n, TextKind::Path)?;
     let next = read_nul(bytes, behind)?;
-    Ok((Value::Path(string_of(alloc, &bytes[start..behind])?), next))
+    Ok((Value::Path(copy_text(alloc, &bytes[start..behind])?), next))
 }
 
 /// A SIGNATURE.
@@ -78,5 +70,5 @@ pub fn get_sig<A: Allocator>(
     let (n, start) = read_short_length(bytes, at, end)?;
     let behind = read_text(bytes, start, n, TextKind::Signature)?;
     let next = read_nul(bytes, behind)?;
-    Ok((Value::Sig(string_of(alloc, &bytes[start..behind])?), next))
+    Ok((Value::Sig(copy_text(alloc, &bytes[start..behind])?), next))
 }

@@ -5,7 +5,7 @@
 //! the text and show none.
 #![tactic(auto)]
 
-ghost use Rattle.std.specs.Prelude.{◌≢◌, ◌≡◌, ℕ, ◌+◌, ◌<◌, ◌≤◌, length, take, drop, IfOk, IfErr};
+ghost use Rattle.std.specs.Prelude.{◌≢◌, ◌≡◌, ℕ, ◌+◌, ◌<◌, ◌≤◌, length, take, drop, string_bytes, IsUtf8, IfOk, IfErr};
 ghost use Rattle.dbus_types.specs.Kinds.{IsKind};
 ghost use Rattle.dbus_types.specs.Types.{IsSingleType, sig};
 ghost use Rattle.dbus_types.specs.SigTypes.{type_tree};
@@ -18,7 +18,7 @@ ghost use Rattle.dbus_value_model.specs.Gives.{Gives};
 
 use dbus_types::{SigType, TextKind, parse_single, text_break};
 use dbus_value_model::{Reason, Stop, refuse};
-use std::alloc::Allocator;
+use std::alloc::{AllocError, Allocator};
 
 /// The reason of a text that is not of the kind that is wanted.
 pub(crate) fn text_reason(kind: TextKind) -> Reason
@@ -97,6 +97,14 @@ pub fn read_only(bytes: &[u8], at: usize, n: usize, wanted: &[u8]) -> Result<usi
         return refuse(at + same, Reason::FieldType);
     }
     Ok(at + n)
+}
+
+/// A copy of bytes that are UTF-8, as a text. The one error is that a growth of memory was refused.
+pub fn copy_text<A: Allocator>(alloc: A, text: &[u8]) -> Result<String<A>, AllocError>
+    requires { IsUtf8 text.now }
+    ensures { IfOk result (λ s. string_bytes s ≡ text.now) }
+{
+    String::from_str(alloc, str::from_utf8(text).unwrap())
 }
 
 /// The signature of one complete type, of n bytes: its type, and the place behind it.

@@ -1,8 +1,9 @@
 -- Where values end, however far: what a measure has to know of an offset, and what it answers.
 -- D-Bus Specification, "Marshaling (Wire Format)" for the arrays' limit, "Message Protocol" for the message's.
-use Rattle.std.specs.Prelude.{◌≡◌, ℕ, ◌+◌, ◌%◌, ◌≤◌, ◌↔◌, length, Option, Some, None, nat_lt, if◌then◌else◌}
+use Rattle.std.specs.Prelude.{◌≡◌, ℕ, ◌+◌, ◌%◌, ◌<◌, ◌≤◌, ◌↔◌, length, Option, Some, None, nat_lt, if◌then◌else◌}
 use Rattle.dbus_types.specs.Types.{BYTE}
 use Rattle.dbus_value_model.specs.declared.order.Order.{Order}
+use Rattle.dbus_value_model.specs.declared.limits.TheConstants.{MESSAGE_LIMIT}
 use Rattle.dbus_value_model.specs.Values.{ValueTree, ValueTrees, NumberValue, VariantValue, StructValue, NoValues, MoreValues}
 use Rattle.dbus_value_model.specs.Sizes.{message_limit}
 use Rattle.dbus_value_model.specs.Spelling.{spelling, spellings, IsWithinLimits, AreWithinLimits}
@@ -10,7 +11,11 @@ use Rattle.dbus_value_model.specs.Spelling.{spelling, spellings, IsWithinLimits,
 -- An offset up to the message's limit and a step to a boundary beyond is kept. Of one further out only the remainder modulo 8 is,
 -- since paddings depend on nothing more: so that a number stands for any offset, and both limits can still be tested.
 unfoldable pub capped : ℕ → ℕ
-capped o = if nat_lt o 134_217_736 then o else 134_217_736 + o % 8
+capped o = if nat_lt o (MESSAGE_LIMIT + 8) then o else MESSAGE_LIMIT + 8 + o % 8
+
+-- an offset that stands so for others, or is itself
+abbrev pub IsCapped : ℕ → Type 0
+IsCapped o = o < MESSAGE_LIMIT + 16
 
 -- what would end at e: its capped end where the arrays in it keep their limit, and nothing where one does not
 abbrev pub EndsAt : ℕ → Type 0 → Option ℕ → Type 0

@@ -4,6 +4,7 @@
 use Rattle.std.specs.Prelude.{ℕ, ◌+◌, min, Bool, false, length, Option, Some, None, Result, Ok, Err, nat_eq, nat_lt, if◌then◌else◌}
 use Rattle.dbus_types.specs.Types.{sig}
 use Rattle.dbus_types.specs.Alignments.{width, length_width, alignment_of}
+use Rattle.dbus_value_model.specs.declared.limits.TheConstants.{MESSAGE_LIMIT}
 use Rattle.dbus_value_model.specs.declared.value_fault.ValueFault.{ValueFault}
 use Rattle.dbus_value_model.specs.declared.value_fault.ValueFault.TheVariants.{ArrayTooLong, TooLong}
 use Rattle.dbus_value_model.specs.Values.{ValueTree, ValueTrees, NoValues, MoreValues, NumberValue, TextValue, VariantValue, ArrayValue, StructValue, EntryValue, type_of}
@@ -12,7 +13,7 @@ use Rattle.dbus_value_model.specs.Spelling.{array_limit}
 
 -- the limit of a message
 unfoldable pub message_limit : ℕ
-message_limit = 134_217_728
+message_limit = MESSAGE_LIMIT
 
 -- from an offset to where something ends, or why it may not stand there
 abbrev pub Sizing : Type 0

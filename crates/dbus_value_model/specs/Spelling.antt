@@ -4,6 +4,7 @@ use Rattle.std.specs.Prelude.{◌≡◌, ℕ, ◌+◌, ◌≤◌, List, [], ◌�
 use Rattle.dbus_types.specs.Types.{TypeTree, sig}
 use Rattle.dbus_types.specs.Alignments.{width, length_width, alignment_of}
 use Rattle.dbus_value_model.specs.declared.order.Order.{Order}
+use Rattle.dbus_value_model.specs.declared.limits.TheConstants.{ARRAY_LIMIT}
 use Rattle.dbus_value_model.specs.Bytes.{gap_to, pad, num}
 use Rattle.dbus_value_model.specs.Values.{ValueTree, ValueTrees, NumberValue, TextValue, VariantValue, ArrayValue, StructValue, EntryValue, NoValues, MoreValues, type_of, IsWellFormed, AreWellFormed}
 
@@ -34,7 +35,7 @@ unfoldable mutual
 
 -- the limit of an array's contents
 unfoldable pub array_limit : ℕ
-array_limit = 67_108_864
+array_limit = ARRAY_LIMIT
 
 -- the contents of every array in it are within the limit
 abbrev mutual

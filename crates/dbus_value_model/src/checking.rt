@@ -4,23 +4,22 @@
 ghost use Rattle.std.specs.Prelude.{◌↔◌, ◌≤◌, IsTrue, IfOk};
 ghost use Rattle.dbus_types.specs.Kinds.{IsKind};
 ghost use Rattle.dbus_value_model.specs.Checks.{Checks};
+ghost use Rattle.dbus_value_model.specs.declared.limits.TheConstants.{DEPTH_LIMIT};
 ghost use Rattle.dbus_value_model.specs.Forming.{NestsWithin, NestWithin, IsNamed, AreNamed};
 ghost use Rattle.dbus_value_model.specs.ShortSignatures.{HasShortSignatures};
 ghost use Rattle.dbus_value_model.specs.ValueViews.{value_tree, value_trees_of};
 
+use crate::limits::DEPTH_LIMIT;
 use crate::uniformity::is_typed;
 use crate::value::Value;
 use crate::value_fault::ValueFault;
 use dbus_types::{TextKind, text_break};
 use std::alloc::Allocator;
 
-/// The most arrays, structs and variants that are open at once in a message.
-const DEEPEST: u8 = 64;
-
-/// Whether a value is well formed where `depth` arrays, structs and variants are open around it, 64 at most.
+/// Whether a value is well formed where `depth` arrays, structs and variants are open around it, [`DEPTH_LIMIT`] at most.
 ///
-/// It is refused for the first case that holds of any part of it: `TooDeep` where more than 64 arrays, structs and variants
-/// are open at once; `Mixed` where an item has another type than its array's, an array of BYTE is not `Bytes`, a dict entry
+/// It is refused for the first case that holds of any part of it: `TooDeep` where more than [`DEPTH_LIMIT`] arrays,
+/// structs and variants are open at once; `Mixed` where an item has another type than its array's, an array of BYTE is not `Bytes`, a dict entry
 /// stands outside an array or its key is not basic, a struct is empty, or a type spells no signature within the limits;
 /// `Name` where an object path or a signature is none, or a text has U+0000. `Memory` where a growth of memory was refused.
 /// A value that passes has short signatures, as writing and measuring ask.
@@ -31,11 +30,11 @@ pub fn check_value<A: Allocator + Copy>(
     value: &Value<A>,
     depth: u8,
 ) -> Result<(), ValueFault>
-    requires { depth ≤ 64 }
+    requires { depth ≤ DEPTH_LIMIT }
     ensures checks { Checks depth value.now result }
     ensures short { IfOk result (λ _. HasShortSignatures (value_tree value.now)) }
 {
-    if !nests_within(value, DEEPEST - depth) {
+    if !nests_within(value, DEPTH_LIMIT - depth) {
         return Err(ValueFault::TooDeep);
     }
     if !is_typed(alloc, value)? {

@@ -6,9 +6,9 @@ use Rattle.dbus_marshal.proofs.MeasureSteps.{measured-Byte, measured-Bool, measu
 use Rattle.dbus_marshal.proofs.Signing.{short-Array, short-Struct, short_more}
 use Rattle.dbus_marshal.proofs.measures.+size.Goals as goal
 
-pub measure_value-returns-then-len-gt-ARRAY_LIMIT-clause-exact :
-    goal.measure_value-returns-then-len-gt-ARRAY_LIMIT-clause-exact
-measure_value-returns-then-len-gt-ARRAY_LIMIT-clause-exact g t c =
+pub measure_value-returns-then-len-from-clause-exact :
+    goal.measure_value-returns-then-len-from-clause-exact
+measure_value-returns-then-len-from-clause-exact g t c =
     rw c.in-Bytes.is (measured-Bytes_over c.args.at c.in-Bytes.bytes (omega arith))
 
 pub measure_value-measure_values-requires : goal.measure_value-measure_values-requires
@@ -50,9 +50,9 @@ measure_value-returns-in_err-behind_key-in-Entry-clause-exact g t c =
     rw (c.from_residual-in_err-behind_key-in-Entry.ensures, c.in-Entry.is)
     (measured-Entry_key c.args.at c.boundary-in-Entry.result c.in-Entry.key c.in-Entry.value c.boundary-in-Entry.ensures.exact key)
 
-pub measure_value-returns-else-len-gt-ARRAY_LIMIT-clause-exact :
-    goal.measure_value-returns-else-len-gt-ARRAY_LIMIT-clause-exact
-measure_value-returns-else-len-gt-ARRAY_LIMIT-clause-exact g t c =
+pub measure_value-returns-else-len-from-clause-exact :
+    goal.measure_value-returns-else-len-from-clause-exact
+measure_value-returns-else-len-from-clause-exact g t c =
     let len : c.len-len.result ≡ length c.in-Bytes.bytes.items = omega arith in
     let ends = rw len at c.cap.ensures.exact in
     rw c.in-Bytes.is

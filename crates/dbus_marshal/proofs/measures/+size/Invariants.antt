@@ -1,10 +1,10 @@
 use Rattle.std.proofs.Common.{ℕ, ◌<◌, Option, drop}
-use Rattle.dbus_value_model.specs.Measures.{AreMeasured}
+use Rattle.dbus_value_model.specs.Measures.{IsCapped, AreMeasured}
 use Rattle.dbus_value_model.specs.ShortSignatures.{HaveShortSignatures}
 use Rattle.dbus_value_model.specs.ValueViews.{value_trees_of}
 use Rattle.dbus_marshal.proofs.measures.+size.Given as goal
 
 abbrev pub invariant-measure_values-loop-value : goal.invariant-measure_values-loop-value
 invariant-measure_values-loop-value g l =
-    ((r : Option ℕ) → AreMeasured (value_trees_of (drop l.value-index l.values)) l.end r → AreMeasured (value_trees_of l.values) l.at r) × (l.end < 134217744)
+    ((r : Option ℕ) → AreMeasured (value_trees_of (drop l.value-index l.values)) l.end r → AreMeasured (value_trees_of l.values) l.at r) × (IsCapped l.end)
     × HaveShortSignatures (value_trees_of (drop l.value-index l.values))

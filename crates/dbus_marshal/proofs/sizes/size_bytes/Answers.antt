@@ -8,19 +8,19 @@ unfolding message_limit
 returns-then-array_end-end-clause-exact c =
     sym (bytes_past_array c.args.bound c.args.bytes.now c.args.offset c.unwrap_or-array_end.result c.unwrap_or-array_end.ensures (omega arith) (some_bytes (length c.args.bytes.now) c.if-is_empty.ensures) (omega arith))
 
-pub returns-then-end-gt-MESSAGE_LIMIT-clause-exact : goal.returns-then-end-gt-MESSAGE_LIMIT-clause-exact
+pub returns-then-limit-end-clause-exact : goal.returns-then-limit-end-clause-exact
 unfolding message_limit
-returns-then-end-gt-MESSAGE_LIMIT-clause-exact c =
-    sym (bytes_past_message c.args.bound c.args.bytes.now c.args.offset c.unwrap_or-array_end.result c.unwrap_or-array_end.ensures c.requires.start (omega (arith, c.else-array_end-le-MESSAGE_LIMIT.either)) (omega arith))
+returns-then-limit-end-clause-exact c =
+    sym (bytes_past_message c.args.bound c.args.bytes.now c.args.offset c.unwrap_or-array_end.result c.unwrap_or-array_end.ensures c.requires.start (omega (arith, c.else-array_end-limit.either)) (omega arith))
 
-pub returns-else-end-gt-MESSAGE_LIMIT-clause-exact : goal.returns-else-end-gt-MESSAGE_LIMIT-clause-exact
+pub returns-else-limit-end-clause-exact : goal.returns-else-limit-end-clause-exact
 unfolding message_limit
-returns-else-end-gt-MESSAGE_LIMIT-clause-exact c =
+returns-else-limit-end-clause-exact c =
     let start : c.args.offset ≤ 134217728 = c.requires.start in
     let end : c.saturating_add-end.result ≡ c.args.offset + length c.args.bytes.now = omega arith in
     ap (λ e. Ok e) end
-    ∙ sym (bytes_within c.args.bound c.args.bytes.now c.args.offset c.unwrap_or-array_end.result c.unwrap_or-array_end.ensures (omega (arith, c.else-array_end-le-MESSAGE_LIMIT.either)) (omega arith))
+    ∙ sym (bytes_within c.args.bound c.args.bytes.now c.args.offset c.unwrap_or-array_end.result c.unwrap_or-array_end.ensures (omega (arith, c.else-array_end-limit.either)) (omega arith))
 
-pub returns-else-end-gt-MESSAGE_LIMIT-clause-within : goal.returns-else-end-gt-MESSAGE_LIMIT-clause-within
+pub returns-else-limit-end-clause-within : goal.returns-else-limit-end-clause-within
 unfolding message_limit
-returns-else-end-gt-MESSAGE_LIMIT-clause-within c = omega arith
+returns-else-limit-end-clause-within c = omega arith

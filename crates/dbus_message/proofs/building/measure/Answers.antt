@@ -10,24 +10,24 @@ pub returns-in-None : goal.returns-in-None
 returns-in-None g c = (c.requires.passed, fields_past (parts_tree c.args.parts.now) (rw c.deref.ensures.value at c.in-None.ensures))
 
 pub overflow_add-fields : goal.overflow_add-fields
-overflow_add-fields g c = omega (arith, fields_near (parts_tree c.args.parts.now) c.in-Some.end (rw c.deref.ensures.value at c.in-Some.ensures), c.gap.ensures.within)
+overflow_add-fields g c = omega (arith, fields_near (parts_tree c.args.parts.now) c.in-Some.end (rw c.deref.ensures.value at c.in-Some.ensures))
 
 pub measure_all-requires-clause-start : goal.measure_all-requires-clause-start
-measure_all-requires-clause-start g c = omega (arith, fields_near (parts_tree c.args.parts.now) c.in-Some.end (rw c.deref.ensures.value at c.in-Some.ensures), c.gap.ensures.within)
+measure_all-requires-clause-start g c = omega (arith, fields_near (parts_tree c.args.parts.now) c.in-Some.end (rw c.deref.ensures.value at c.in-Some.ensures))
 
 pub measure_all-requires-clause-signed : goal.measure_all-requires-clause-signed
 measure_all-requires-clause-signed g c = rw c.deref-2.ensures.value (body_short c.args.parts.now c.requires.passed)
 
-pub returns-then-end-gt-MESSAGE_LIMIT : goal.returns-then-end-gt-MESSAGE_LIMIT
-returns-then-end-gt-MESSAGE_LIMIT g c =
-    too_long c.args.parts.now c.in-Some.end c.gap.result c.requires.passed (rw c.deref.ensures.value at c.in-Some.ensures) c.gap.ensures.exact c.gap.ensures.within
-    c.in-Some-measure_all.end (rw c.deref-2.ensures.value at c.in-Some-measure_all.ensures.exact) c.if-end-gt-MESSAGE_LIMIT.true
+pub returns-then-end-from : goal.returns-then-end-from
+returns-then-end-from g c =
+    too_long c.args.parts.now c.in-Some.end c.from.result c.requires.passed (rw c.deref.ensures.value at c.in-Some.ensures) (omega arith) (omega arith)
+    c.in-Some-measure_all.end (rw c.deref-2.ensures.value at c.in-Some-measure_all.ensures.exact) (omega arith)
 
 pub returns-in-None-measure_all : goal.returns-in-None-measure_all
 returns-in-None-measure_all g c =
-    (c.requires.passed, body_arrays c.args.parts.now c.in-Some.end c.gap.result c.requires.passed (rw c.deref.ensures.value at c.in-Some.ensures) c.gap.ensures.exact c.gap.ensures.within (rw c.deref-2.ensures.value at c.in-None-measure_all.ensures.exact))
+    (c.requires.passed, body_arrays c.args.parts.now c.in-Some.end c.from.result c.requires.passed (rw c.deref.ensures.value at c.in-Some.ensures) (omega arith) (omega arith) (rw c.deref-2.ensures.value at c.in-None-measure_all.ensures.exact))
 
-pub returns-else-end-gt-MESSAGE_LIMIT : goal.returns-else-end-gt-MESSAGE_LIMIT
-returns-else-end-gt-MESSAGE_LIMIT g c =
-    built c.args.parts.now c.in-Some.end c.gap.result c.requires.passed (rw c.deref.ensures.value at c.in-Some.ensures) c.gap.ensures.exact c.gap.ensures.within
-    c.in-Some-measure_all.end (rw c.deref-2.ensures.value at c.in-Some-measure_all.ensures.exact) c.if-end-gt-MESSAGE_LIMIT.false c.read_parts.ensures
+pub returns-else-end-from : goal.returns-else-end-from
+returns-else-end-from g c =
+    built c.args.parts.now c.in-Some.end c.from.result c.requires.passed (rw c.deref.ensures.value at c.in-Some.ensures) (omega arith) (omega arith)
+    c.in-Some-measure_all.end (rw c.deref-2.ensures.value at c.in-Some-measure_all.ensures.exact) (omega arith) c.read_parts.ensures

@@ -18,12 +18,12 @@ returns-in_err-next-clause-gives g c = λ order.
     let p = err_from_is_err_and c.from_residual-in_err-next.result c.from_residual-in_err-next.ensures.1 in
     rw (p.1, p.2) (sig_stops_nul order c.args.end c.args.at (drop c.args.at c.args.bytes.now) c.requires.at_most c.in_ok-n.n c.in_ok-n.start _ (c.in_ok-n.ensures.gives order) (take c.in_ok-n.n (drop c.in_ok-n.start c.args.bytes.now)) c.in_ok-behind.behind (drop c.in_ok-behind.behind c.args.bytes.now) c.in_ok-behind.ensures.gives _ c.in_err-next.ensures.gives)
 
-pub string_of-requires : goal.string_of-requires
-string_of-requires g c = utf8_signature c.in_ok-n.n c.in_ok-n.start c.in_ok-behind.behind c.args.bytes.now c.in_ok-behind.ensures.moves.0 c.in_ok-behind.ensures.moves.2
+pub copy_text-requires : goal.copy_text-requires
+copy_text-requires g c = utf8_signature c.in_ok-n.n c.in_ok-n.start c.in_ok-behind.behind c.args.bytes.now c.in_ok-behind.ensures.moves.0 c.in_ok-behind.ensures.moves.2
 
 pub returns-clause-gives : goal.returns-clause-gives
 returns-clause-gives g c = λ order.
     let start = c.in_ok-n.start in
     let behind = c.in_ok-behind.behind in
     let part = same_part c.in_ok-n.n start behind c.args.bytes.now c.in_ok-behind.ensures.moves.0 in
-    sig_made order c.args.end c.args.at (drop c.args.at c.args.bytes.now) c.requires.at_most c.in_ok-n.n start (drop start c.args.bytes.now) (c.in_ok-n.ensures.gives order) (take c.in_ok-n.n (drop start c.args.bytes.now)) behind (drop behind c.args.bytes.now) c.in_ok-behind.ensures.gives g.row.A.Denot c.in_ok-string_of.field-0 c.in_ok-next.next (drop c.in_ok-next.next c.args.bytes.now) (c.in_ok-string_of.ensures ∙ sym part) c.in_ok-next.ensures.gives
+    sig_made order c.args.end c.args.at (drop c.args.at c.args.bytes.now) c.requires.at_most c.in_ok-n.n start (drop start c.args.bytes.now) (c.in_ok-n.ensures.gives order) (take c.in_ok-n.n (drop start c.args.bytes.now)) behind (drop behind c.args.bytes.now) c.in_ok-behind.ensures.gives g.row.A.Denot c.in_ok-copy_text.field-0 c.in_ok-next.next (drop c.in_ok-next.next c.args.bytes.now) (c.in_ok-copy_text.ensures ∙ sym part) c.in_ok-next.ensures.gives

@@ -1,0 +1,18 @@
+//! How far it is to a boundary.
+#![tactic(auto)]
+
+ghost use Rattle.std.specs.Prelude.{◌≡◌, ◌<◌};
+ghost use Rattle.dbus_value_model.specs.Bytes.{gap_to};
+
+/// How many bytes of padding stand from the offset `at` to the next multiple of `alignment`, which is not 0: fewer than
+/// `alignment`. D-Bus Specification, "Marshaling (Wire Format)".
+#[inline]
+#[tactic(auto, unfolding(crate::specs::Bytes::gap_to))]
+pub fn padding_length(alignment: u8, at: u64) -> u8
+    requires positive { 0 < alignment }
+    ensures exact { result ≡ gap_to alignment at }
+    ensures within { result < alignment }
+{
+    let alignment = u64::from(alignment);
+    ((alignment - at % alignment) % alignment) as u8
+}
