@@ -1,5 +1,5 @@
 -- The loop over a header's fields, each of which sees those before it, the last first.
-use Rattle.std.proofs.Common.{◌≡◌, ℕ, zero, suc, ◌+◌, ◌-◌, ◌<◌, ◌≤◌, List, [], ◌∷◌, ◌++◌, reverse, Bool, true, false, ◌||◌, ◌&&◌, cond, ltb, eqb, Some, None, refl, sym, ap, ◌∙◌, arith, append_assoc}
+use Rattle.std.proofs.Common.{◌≡◌, ℕ, zero, suc, ◌+◌, ◌-◌, ◌<◌, List, [], ◌∷◌, ◌++◌, reverse, Bool, true, false, ◌||◌, ◌&&◌, ltb, eqb, Some, None, refl, sym, ap, ◌∙◌, arith, append_assoc}
 use Rattle.std.proofs.lemmas.Bool.{lt-ltb, le-ltb, eq-eqb, ne_eqb}
 use Rattle.std.proofs.lemmas.List.{append-nil, reverse-append}
 use Rattle.dbus_value_model.specs.declared.fault.Reason.TheVariants as reasons
@@ -66,24 +66,11 @@ has_reversed c (x ∷ xs) =
 pub code_zero : (before : List FieldTree) (p n : ℕ) → n ≡ 0 → code_row before p n ≡ Some reasons.FieldCode
 code_zero before p n h = rw (eq-eqb n 0 h) refl
 
-known : (n : ℕ) → (n ≡ 0 → ⊥) → n < 10 → is_known n ≡ true
-known n some h = let one : 0 < n = omega arith in rw (lt-ltb 0 n one, lt-ltb n 10 h) refl
+pub code_again : (before : List FieldTree) (p n : ℕ) → (n ≡ 0 → ⊥) → is_known n && has_code n before ≡ true → code_row (reverse before) p n ≡ Some reasons.FieldTwice
+code_again before p n some again = rw (ne_eqb n 0 some, has_reversed n before, again) refl
 
-unknown : (n : ℕ) → 10 ≤ n → is_known n ≡ false
-unknown n h = let one : 0 < n = omega arith in rw (lt-ltb 0 n one, le-ltb n 10 h) refl
-
-pub code_twice : (before : List FieldTree) (p n : ℕ) → (n ≡ 0 → ⊥) → n < 10 → has_code n before ≡ true → code_row (reverse before) p n ≡ Some reasons.FieldTwice
-code_twice before p n some h there = rw (ne_eqb n 0 some, known n some h, has_reversed n before, there) refl
-
-pub code_first : (before : List FieldTree) (p n : ℕ) → (n ≡ 0 → ⊥) → has_code n before ≡ false → code_row (reverse before) p n ≡ None
-code_first before p n some there = rw (ne_eqb n 0 some, has_reversed n before, there) (none (is_known n))
-  where
-    none : (b : Bool) → cond (b && false) (Some reasons.FieldTwice) None ≡ None
-    none true = refl
-    none false = refl
-
-pub code_unknown : (before : List FieldTree) (p n : ℕ) → (n ≡ 0 → ⊥) → 10 ≤ n → code_row before p n ≡ None
-code_unknown before p n some h = rw (ne_eqb n 0 some, unknown n h) refl
+pub code_first : (before : List FieldTree) (p n : ℕ) → (n ≡ 0 → ⊥) → is_known n && has_code n before ≡ false → code_row (reverse before) p n ≡ None
+code_first before p n some first = rw (ne_eqb n 0 some, has_reversed n before, first) refl
 
 with_nothing : {A : Type 0} (r : Outcome (List A)) → with_front [] r ≡ r
 with_nothing (Done vs p t) = refl

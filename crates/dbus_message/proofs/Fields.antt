@@ -1,10 +1,10 @@
 -- A field of the header: what its items pass is a field that is spelled, and its reader agrees.
-use Rattle.std.proofs.Common.{◌≡◌, ℕ, suc, ◌+◌, ◌<◌, ◌≤◌, List, ◌∷◌, ◌++◌, length, Bool, true, false, cond, ltb, eqb, ◌&&◌, None, refl, sym, ap, subst, ◌∙◌, arith, inl, inr, append_assoc}
+use Rattle.std.proofs.Common.{◌≡◌, ℕ, suc, ◌+◌, ◌<◌, ◌≤◌, List, ◌∷◌, ◌++◌, length, false, ltb, eqb, ◌&&◌, None, refl, sym, ap, subst, ◌∙◌, arith, inl, inr, append_assoc}
 use Rattle.std.proofs.lemmas.Bool.{ltb-false, le-ltb, eqb-false, ne_eqb}
 use Rattle.std.proofs.lemmas.List.{length-append, length-replicate}
 use Rattle.dbus_types.specs.Types.{BYTE, UINT32, STRING, TypeTree, NumberType, TextType, VariantType, NoTypes, MoreTypes, sig, IsSingleType}
 use Rattle.dbus_types.proofs.KindFacts.{shaped_of}
-use Rattle.dbus_value_model.specs.WantedTexts.{WantedText, IsWanted, IsName}
+use Rattle.dbus_value_model.specs.WantedTexts.{WantedText, IsWanted}
 use Rattle.dbus_types.specs.ComputedKinds.{type_spelled}
 use Rattle.dbus_value_model.specs.declared.order.Order.{Order}
 use Rattle.dbus_value_model.specs.Bytes.{num, gap_to, pad}
@@ -18,6 +18,7 @@ use Rattle.dbus_value_model.specs.Reading as reading
 use Rattle.dbus_message.specs.Messages.{FieldTree, Want, Anything, OfType, Name, Serial, want, Suits, IsField, field_type, field_struct, is_known, has_code}
 use Rattle.dbus_message.specs.MessageItems.{name_row, not_zero_row, code_row, kind_wanted, value_wanted, field_items, field}
 use Rattle.dbus_message.specs.MessageReading as reads
+use Rattle.dbus_message.proofs.Wants.{WantOk, want_ok}
 use Rattle.dbus_value_model.proofs.Numbers.{length-num}
 use Rattle.dbus_unmarshal.proofs.KindLaws.{spelled_sig, only_is, only_same, name_is_text, text_single}
 use Rattle.dbus_unmarshal.proofs.Agreement.{Agrees, Agrees-then, Agrees-before, Agrees-as}
@@ -28,30 +29,13 @@ use Rattle.dbus_value_model.specs.declared.fault.Reason.TheVariants as reasons
 
 -- ---- what is wanted of a code
 
-cond_holds : {X : Type 0} (P : X → Type 0) (b : Bool) (x y : X) → P x → P y → P (cond b x y)
-cond_holds P true x y p q = p
-cond_holds P false x y p q = q
-
--- a want is for types and names that there are
-abbrev WantOk : Want → Type 0
-WantOk Anything = Unit {0}
-WantOk (OfType t) = IsSingleType t
-WantOk (Name k) = IsName k
-WantOk Serial = Unit {0}
-
-want_ok : (code : ℕ) → WantOk (want code)
-want_ok code =
-    cond_holds WantOk (eqb code 1) _ _ (tt, omega arith) (cond_holds WantOk (eqb code 2) _ _ tt (cond_holds WantOk (eqb code 3) _ _ tt
-    (cond_holds WantOk (eqb code 4) _ _ tt (cond_holds WantOk (eqb code 5) _ _ tt (cond_holds WantOk (eqb code 6) _ _ tt
-    (cond_holds WantOk (eqb code 7) _ _ tt (cond_holds WantOk (eqb code 8) _ _ (tt, omega arith) (cond_holds WantOk (eqb code 9) _ _ (tt, omega arith) tt))))))))
-
 -- two types with one signature are one
 sig_injective : (t u : TypeTree) → sig t ≡ sig u → t ≡ u
 sig_injective t u e = sym (spelled_sig t) ∙ ap type_spelled e ∙ spelled_sig u
 
 single_kinds : (w : Want) → WantOk w → IsOfSingles (kind_wanted w)
 single_kinds Anything ok t h = h
-single_kinds (OfType u) ok t h = rw (← only_is (sig u) t h) (text_single u ok).0
+single_kinds (OfType u) ok t h = rw (← only_is (sig u) t h) (text_single u ok.0).0
 single_kinds (Name k) ok t h = rw (← only_is (sig (TextType STRING)) t h) (text_single (TextType STRING) (tt, omega arith)).0
 single_kinds Serial ok t h = rw (← only_is (sig (NumberType UINT32)) t h) (text_single (NumberType UINT32) (tt, omega arith)).0
 
@@ -85,7 +69,7 @@ module _ (order : Order) (inner end : ℕ) where
       let b = a.4 in
       let rows = name_row_fits end a.1 a.0 a.3.4 in
       let spelled = text_to order inner (value order inner) end STRING o s x q r
-      (h.0, h.1, h.2, h.3, (a.0, a.1, a.2, (a.3.0, a.3.1, a.3.2, a.3.3, rows.1), (b.0, b.1, b.2, (b.3.0, b.3.1, name_is_text k b.0 ok b.3.2, b.3.3), b.4))) in
+      (h.0, h.1, h.2, h.3, (a.0, a.1, a.2, (a.3.0, a.3.1, a.3.2, a.3.3, rows.1), (b.0, b.1, b.2, (b.3.0, b.3.1, name_is_text k b.0 ok.0 b.3.2, b.3.3), b.4))) in
       (subst (λ (u : TypeTree). Spelled order inner end u o s x q r) same spelled, (b.0, b.4.4.0, b.3.2, omega (arith, rows.0, b.3.1)))
   wanted_to Serial t o s x q r ok is h =
       let same : NumberType UINT32 ≡ t = sig_injective (NumberType UINT32) t (only_is (sig (NumberType UINT32)) (sig t) is) in

@@ -1,21 +1,18 @@
 -- Fields of which no case of fault holds are those of a message, and well formed.
-use Rattle.std.proofs.Common.{◌≡◌, inl, inr, ℕ, zero, suc, ◌<◌, List, [], ◌∷◌, ◌++◌, ◌&&◌, ◌||◌, Bool, true, false, length, map, Option, Some, None, if◌then◌else◌, eqb, ltb, refl, sym, ap, subst, ◌∙◌, arith}
-use Rattle.std.proofs.lemmas.Bool.{ne_eqb, le-ltb}
-use Rattle.dbus_types.specs.Types.{TextCode, UINT32, STRING, OBJECT_PATH, SIGNATURE, NumberType, TextType, IsSingleType}
-use Rattle.dbus_types.specs.Kinds.{IsKind}
-use Rattle.dbus_types.specs.declared.text_kind.TextKind.{TextKind}
-use Rattle.dbus_types.specs.declared.text_kind.TextKind.TheVariants as kinds
+use Rattle.std.proofs.Common.{◌≡◌, inl, inr, ℕ, zero, suc, ◌<◌, List, [], ◌∷◌, ◌++◌, ◌&&◌, ◌||◌, Bool, true, false, map, Option, Some, None, if◌then◌else◌, eqb, refl, sym, ap, subst, ◌∙◌, arith}
+use Rattle.dbus_types.specs.Types.{NumberCode, TextCode, UINT32, STRING, NumberType, TextType, VariantType, ArrayType, StructType, EntryType, IsSingleType}
 use Rattle.dbus_value_model.specs.Forming.{IsUniform, AreUniform, IsNamed, AreNamed}
 use Rattle.dbus_value_model.specs.Ranges.{HoldNumbers}
 use Rattle.dbus_value_model.specs.Values.{ValueTree, NumberValue, TextValue, VariantValue, ArrayValue, StructValue, EntryValue, type_of, value_trees, AllOf}
-use Rattle.dbus_value_model.specs.WantedTexts.{Of, IsName}
+use Rattle.dbus_value_model.specs.WantedTexts.{WantedText, IsWanted, kind_of}
 use Rattle.dbus_unmarshal.proofs.KindLaws.{name_is_text}
-use Rattle.dbus_message.specs.BuildFaults.{IsFirstWithout, IsNonzero, HasOwnType, HasOwnKind, IsOf, own_type, own_kind, twice, HoldsSound, IsFirstUnsoundField}
-use Rattle.dbus_message.specs.Messages.{FieldTree, Anything, OfType, Name, Serial, want, Suits, AreFields, field_struct, field_type, has_code, is_known, text_in}
+use Rattle.dbus_message.specs.BuildFaults.{IsFirstWithout, IsNonzero, HasOwnType, HasOwnKind, IsOfType, IsOf, type_wanted, text_wanted, twice, HoldsSound, IsFirstUnsoundField}
+use Rattle.dbus_message.specs.Messages.{FieldTree, Want, Anything, OfType, Name, Serial, want, is_particular, Suits, AreFields, field_struct, field_type, has_code, is_known, text_in}
 use Rattle.dbus_message.specs.MessageSizes.{HoldFieldNumbers}
 use Rattle.dbus_message.specs.PartsViews.{field_tree, field_trees}
 use Rattle.dbus_message.specs.declared.header_field.HeaderField.{HeaderField}
 use Rattle.dbus_message.proofs.FieldLoop.{has_append, or_comm, or_false}
+use Rattle.dbus_message.proofs.Wants.{WantOk, want_ok}
 
 -- ---- one field
 
@@ -25,24 +22,20 @@ pub record IsFormed (v : ValueTree) : Type 0 where
   pub uniform : IsUniform v
   pub named : IsNamed v
 
--- what is known of each field's code and value
-pub record IsJudged (c : ℕ) (v : ValueTree) : Type 0 where
-  pub nonzero : c ≡ 5 → v ≡ NumberValue UINT32 0 → ⊥
-  pub typed : is_known c ≡ true → type_of v ≡ own_type c
-  pub kind : IsOf (own_kind c) (text_in v)
-  pub sound : is_known c ≡ false → IsFormed v
+-- what is known of a value of which w is wanted
+pub record IsJudged (w : Want) (v : ValueTree) : Type 0 where
+  pub nonzero : w ≡ Serial → v ≡ NumberValue UINT32 0 → ⊥
+  pub typed : IsOfType (type_wanted w) v
+  pub kind : IsOf (text_wanted w) (text_in v)
+  pub sound : is_particular w ≡ false → IsFormed v
 
--- what is to be shown of them
-abbrev pub IsGood : ℕ → ValueTree → Type 0
-IsGood c v = Suits (want c) v × IsFormed v
-
-number_of : (v : ValueTree) → type_of v ≡ NumberType UINT32 → (n : ℕ) × (v ≡ NumberValue UINT32 n)
-number_of (NumberValue k n) h = let e : k ≡ UINT32 = cc in (n, ap (λ c. NumberValue c n) e)
-number_of (TextValue k t) h = absurd cc
-number_of (VariantValue x) h = absurd cc
-number_of (ArrayValue t xs) h = absurd cc
-number_of (StructValue xs) h = absurd cc
-number_of (EntryValue k v) h = absurd cc
+number_of : (c : NumberCode) (v : ValueTree) → type_of v ≡ NumberType c → (n : ℕ) × (v ≡ NumberValue c n)
+number_of c (NumberValue k n) h = let e : k ≡ c = cc in (n, ap (λ d. NumberValue d n) e)
+number_of c (TextValue k t) h = absurd cc
+number_of c (VariantValue x) h = absurd cc
+number_of c (ArrayValue t xs) h = absurd cc
+number_of c (StructValue xs) h = absurd cc
+number_of c (EntryValue k v) h = absurd cc
 
 text_of : (c : TextCode) (v : ValueTree) → type_of v ≡ TextType c → (t : List ℕ) × (v ≡ TextValue c t)
 text_of c (NumberValue k n) h = absurd cc
@@ -52,91 +45,40 @@ text_of c (ArrayValue t xs) h = absurd cc
 text_of c (StructValue xs) h = absurd cc
 text_of c (EntryValue k v) h = absurd cc
 
-number_formed : (n : ℕ) → IsFormed (NumberValue UINT32 n)
-number_formed n = record { single = (tt, omega arith); uniform = tt; named = tt }
+number_formed : (c : NumberCode) (n : ℕ) → IsSingleType (NumberType c) → IsFormed (NumberValue c n)
+number_formed c n single = record { single = single; uniform = tt; named = tt }
 
-path_good : (v : ValueTree) → type_of v ≡ TextType OBJECT_PATH → IsKind kinds.Path (text_in v) → Suits (OfType (TextType OBJECT_PATH)) v × IsFormed v
-path_good v typed kind =
-    let w = text_of OBJECT_PATH v typed in
-    let there : IsKind kinds.Path w.0 = subst (λ (x : ValueTree). IsKind kinds.Path (text_in x)) w.1 kind in
-    (typed, subst IsFormed (sym w.1) (record { single = (tt, omega arith); uniform = tt; named = there }))
+text_formed : (c : TextCode) (t : List ℕ) → IsSingleType (TextType c) → IsWanted (kind_of c) t → IsFormed (TextValue c t)
+text_formed c t single named = record { single = single; uniform = tt; named = named }
 
-signature_good : (v : ValueTree) → type_of v ≡ TextType SIGNATURE → IsKind kinds.Signature (text_in v) → Suits (OfType (TextType SIGNATURE)) v × IsFormed v
-signature_good v typed kind =
-    let w = text_of SIGNATURE v typed in
-    let there : IsKind kinds.Signature w.0 = subst (λ (x : ValueTree). IsKind kinds.Signature (text_in x)) w.1 kind in
-    (typed, subst IsFormed (sym w.1) (record { single = (tt, omega arith); uniform = tt; named = there }))
+-- a text that is wanted, in a value that is one
+text_there : (k : WantedText) (c : TextCode) (v : ValueTree) (t : List ℕ) → v ≡ TextValue c t → IsWanted k (text_in v) → IsWanted k t
+text_there k c v t is h = subst (λ (x : ValueTree). IsWanted k (text_in x)) is h
 
-name_good : (k : TextKind) → IsName (Of k) → ((t : List ℕ) → IsKind k t → length t < 256) → (v : ValueTree) → type_of v ≡ TextType STRING → IsKind k (text_in v) → Suits (Name (Of k)) v × IsFormed v
-name_good k name short v typed kind =
-    let w = text_of STRING v typed in
-    let there : IsKind k w.0 = subst (λ (x : ValueTree). IsKind k (text_in x)) w.1 kind in (
-      (w.0, w.1, there, short w.0 there),
-      subst IsFormed (sym w.1) (record { single = (tt, omega arith); uniform = tt; named = name_is_text (Of k) w.0 name there }),
-    )
-
-serial_good : (v : ValueTree) → type_of v ≡ NumberType UINT32 → (v ≡ NumberValue UINT32 0 → ⊥) → Suits Serial v × IsFormed v
-serial_good v typed nonzero =
-    let w = number_of v typed in
-    let some : w.0 ≡ 0 → ⊥ = λ z. nonzero (w.1 ∙ ap (λ (n : ℕ). NumberValue UINT32 n) z) in
-    ((w.0, w.1, omega (arith, some)), subst IsFormed (sym w.1) (number_formed w.0))
-
-count_good : (v : ValueTree) → type_of v ≡ NumberType UINT32 → Suits (OfType (NumberType UINT32)) v × IsFormed v
-count_good v typed = let w = number_of v typed in (typed, subst IsFormed (sym w.1) (number_formed w.0))
-
-and_false : (b : Bool) → b && false ≡ false
-and_false true = refl
-and_false false = refl
-
-unknown_is : (c : ℕ) → 9 < c → is_known c ≡ false
-unknown_is c h = let e : ltb c 10 ≡ false = le-ltb c 10 (omega arith) in rw e (and_false (ltb 0 c))
-
-want_unknown : (c : ℕ) → 9 < c → want c ≡ Anything
-want_unknown c h =
-    let e1 : eqb c 1 ≡ false = ne_eqb c 1 (omega arith) in
-    let e2 : eqb c 2 ≡ false = ne_eqb c 2 (omega arith) in
-    let e3 : eqb c 3 ≡ false = ne_eqb c 3 (omega arith) in
-    let e4 : eqb c 4 ≡ false = ne_eqb c 4 (omega arith) in
-    let e5 : eqb c 5 ≡ false = ne_eqb c 5 (omega arith) in
-    let e6 : eqb c 6 ≡ false = ne_eqb c 6 (omega arith) in
-    let e7 : eqb c 7 ≡ false = ne_eqb c 7 (omega arith) in
-    let e8 : eqb c 8 ≡ false = ne_eqb c 8 (omega arith) in
-    let e9 : eqb c 9 ≡ false = ne_eqb c 9 (omega arith) in
-    rw (e1, e2, e3, e4, e5, e6, e7, e8, e9) refl
-
--- each known code, and those from 10 on
-by_code : (P : ℕ → Type 0) → P 1 → P 2 → P 3 → P 4 → P 5 → P 6 → P 7 → P 8 → P 9 → ((c : ℕ) → 9 < c → P c) → (c : ℕ) → 0 < c → P c
-by_code P p1 p2 p3 p4 p5 p6 p7 p8 p9 more zero h = absurd (omega arith)
-by_code P p1 p2 p3 p4 p5 p6 p7 p8 p9 more (suc zero) h = p1
-by_code P p1 p2 p3 p4 p5 p6 p7 p8 p9 more (suc (suc zero)) h = p2
-by_code P p1 p2 p3 p4 p5 p6 p7 p8 p9 more (suc (suc (suc zero))) h = p3
-by_code P p1 p2 p3 p4 p5 p6 p7 p8 p9 more (suc (suc (suc (suc zero)))) h = p4
-by_code P p1 p2 p3 p4 p5 p6 p7 p8 p9 more (suc (suc (suc (suc (suc zero))))) h = p5
-by_code P p1 p2 p3 p4 p5 p6 p7 p8 p9 more (suc (suc (suc (suc (suc (suc zero)))))) h = p6
-by_code P p1 p2 p3 p4 p5 p6 p7 p8 p9 more (suc (suc (suc (suc (suc (suc (suc zero))))))) h = p7
-by_code P p1 p2 p3 p4 p5 p6 p7 p8 p9 more (suc (suc (suc (suc (suc (suc (suc (suc zero)))))))) h = p8
-by_code P p1 p2 p3 p4 p5 p6 p7 p8 p9 more (suc (suc (suc (suc (suc (suc (suc (suc (suc zero))))))))) h = p9
-by_code P p1 p2 p3 p4 p5 p6 p7 p8 p9 more (suc (suc (suc (suc (suc (suc (suc (suc (suc (suc n)))))))))) h = more (suc (suc (suc (suc (suc (suc (suc (suc (suc (suc n)))))))))) (omega arith)
-
-good_field : (c : ℕ) → 0 < c → (v : ValueTree) → IsJudged c v → IsGood c v
-good_field =
-    by_code (λ c. (v : ValueTree) → IsJudged c v → IsGood c v)
-    (λ v h. path_good v (h.typed refl) h.kind)
-    (λ v h. name_good kinds.Interface tt (λ t k. omega (arith, k.1)) v (h.typed refl) h.kind)
-    (λ v h. name_good kinds.Member tt (λ t k. omega (arith, k.1)) v (h.typed refl) h.kind)
-    (λ v h. name_good kinds.ErrorName tt (λ t k. omega (arith, k.1)) v (h.typed refl) h.kind)
-    (λ v h. serial_good v (h.typed refl) (h.nonzero refl))
-    (λ v h. name_good kinds.BusName tt (λ t k. omega (arith, k.1)) v (h.typed refl) h.kind)
-    (λ v h. name_good kinds.BusName tt (λ t k. omega (arith, k.1)) v (h.typed refl) h.kind)
-    (λ v h. signature_good v (h.typed refl) h.kind)
-    (λ v h. count_good v (h.typed refl))
-    (λ c more v h. (subst (λ w. Suits w v) (sym (want_unknown c more)) tt, h.sound (unknown_is c more)))
+good_value : (w : Want) → WantOk w → (v : ValueTree) → IsJudged w v → Suits w v × IsFormed v
+good_value Anything ok v h = (tt, h.sound refl)
+good_value (OfType (NumberType c)) ok v h =
+    let n = number_of c v h.typed in (h.typed, subst IsFormed (sym n.1) (number_formed c n.0 ok.0))
+good_value (OfType (TextType c)) ok v h =
+    let t = text_of c v h.typed in (h.typed, subst IsFormed (sym t.1) (text_formed c t.0 ok.0 (text_there (kind_of c) c v t.0 t.1 h.kind)))
+good_value (OfType VariantType) ok v h = absurd ok.1
+good_value (OfType (ArrayType t)) ok v h = absurd ok.1
+good_value (OfType (StructType ts)) ok v h = absurd ok.1
+good_value (OfType (EntryType k t)) ok v h = absurd ok.1
+good_value (Name k) ok v h =
+    let t = text_of STRING v h.typed in
+    let there = text_there k STRING v t.0 t.1 h.kind in
+    ((t.0, t.1, there, ok.1 t.0 there), subst IsFormed (sym t.1) (text_formed STRING t.0 (tt, omega arith) (name_is_text k t.0 ok.0 there)))
+good_value Serial ok v h =
+    let n = number_of UINT32 v h.typed in
+    let some : n.0 ≡ 0 → ⊥ = λ z. h.nonzero refl (n.1 ∙ ap (λ (m : ℕ). NumberValue UINT32 m) z) in
+    ((n.0, n.1, omega (arith, some)), subst IsFormed (sym n.1) (number_formed UINT32 n.0 (tt, omega arith)))
 
 -- ---- all fields
 
 abbrev pub AreJudged : List FieldTree → Type 0
 AreJudged [] = Unit {0}
-AreJudged (f ∷ fs) = (0 < f.code) × IsJudged f.code f.value × AreJudged fs
+AreJudged (f ∷ fs) = (0 < f.code) × IsJudged (want f.code) f.value × AreJudged fs
 
 or_parts : (a b : Bool) → a || b ≡ false → (a ≡ false) × (b ≡ false)
 or_parts true b h = absurd cc
@@ -175,7 +117,7 @@ pub record AreFormedFields (fs : List FieldTree) : Type 0 where
 pub formed_fields : (fs : List FieldTree) → AreJudged fs → AreFormedFields fs
 formed_fields [] h = record { typed = tt; uniform = tt; named = tt }
 formed_fields (f ∷ fs) h =
-    let good = (good_field f.code h.0 f.value h.1).1 in
+    let good = (good_value (want f.code) (want_ok f.code) f.value h.1).1 in
     let rest = formed_fields fs h.2 in
     record { typed = (refl, rest.typed); uniform = ((tt, ((good.single, good.uniform), tt)), rest.uniform); named = ((tt, (good.named, tt)), rest.named) }
 
@@ -191,7 +133,7 @@ pub are_fields : (before behind : List FieldTree) (fs : List FieldTree) → ((c 
 are_fields before behind [] same h t = tt
 are_fields before behind (f ∷ fs) same h t =
     let w = first_of (is_known f.code && has_code f.code behind) _ f.code t in (
-      record { not_zero = h.0; not_again = ap (λ (b : Bool). is_known f.code && b) (sym (same f.code)) ∙ w.0; suits = (good_field f.code h.0 f.value h.1).0 },
+      record { not_zero = h.0; not_again = ap (λ (b : Bool). is_known f.code && b) (sym (same f.code)) ∙ w.0; suits = (good_value (want f.code) (want_ok f.code) f.value h.1).0 },
       are_fields (f ∷ before) (behind ++ f ∷ []) fs
           (λ c. has_append c behind (f ∷ []) ∙ or_comm (has_code c behind) (eqb f.code c || false) ∙ ap (λ (b : Bool). b || has_code c behind) (or_false (eqb f.code c)) ∙ ap (λ (b : Bool). eqb f.code c || b) (same c))
           h.2 w.1,

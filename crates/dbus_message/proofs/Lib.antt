@@ -1,3 +1,4 @@
+pub mod Wants
 pub mod Fields
 pub mod MessageParts
 pub mod Whole

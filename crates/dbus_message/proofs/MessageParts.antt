@@ -19,7 +19,8 @@ use Rattle.dbus_value_model.specs.Reading.{Reader, Outcome, Done, Faulty, Partia
 use Rattle.dbus_value_model.specs.Reading as reading
 use Rattle.dbus_message.specs.Messages.{FieldTree, Suits, want, order_byte, lacks, required, text_in, body_signature}
 use Rattle.dbus_value_model.specs.Sizes.{message_limit}
-use Rattle.dbus_message.specs.MessageItems.{no_row, not_zero_row, version_row, fields_row, field, byte_order, types_of_text, body_items, message_items}
+use Rattle.dbus_value_model.specs.Gives.{no_row}
+use Rattle.dbus_message.specs.MessageItems.{not_zero_row, version_row, fields_row, field, byte_order, types_of_text, body_items, message_items}
 use Rattle.dbus_message.specs.MessageReading as reads
 use Rattle.dbus_unmarshal.proofs.KindLaws.{signature_text, spelled_sigs}
 use Rattle.dbus_unmarshal.proofs.Agreement.{Agrees, Agrees-then, Agrees-before}

@@ -7,8 +7,7 @@ use Rattle.dbus_value_model.specs.Items.{fault}
 use Rattle.dbus_value_model.specs.Reading.{Outcome, Done, Faulty, Partial, judged, number, number_of}
 use Rattle.dbus_value_model.specs.declared.stop.Stop.{Stop}
 use Rattle.dbus_value_model.specs.declared.stop.Stop.TheVariants as stops
-use Rattle.dbus_value_model.specs.Gives.{Stops}
-use Rattle.dbus_message.specs.MessageItems.{no_row}
+use Rattle.dbus_value_model.specs.Gives.{Stops, no_row}
 
 -- what `number` is, over plain variables
 abbrev chosen_number : Bool → Bool → Option Reason → ℕ → ℕ → ℕ → List ℕ → Outcome ℕ

@@ -1,49 +1,36 @@
 -- Parts of which no case of fault holds have each array of bytes as `Bytes`.
-use Rattle.std.proofs.Common.{◌≡◌, ℕ, ◌+◌, Bool, true, false, if◌then◌else◌, List, [], ◌∷◌, None, IsTrue, refl, ap, rules, ◌∙◌}
-use Rattle.std.specs.Prelude.{nat_eq}
+use Rattle.std.proofs.Common.{◌≡◌, ℕ, ◌+◌, Bool, true, false, List, [], ◌∷◌, None, IsTrue, refl, sym, subst, rules}
 use Rattle.std.proofs.lemmas.Bool.{and_from}
-use Rattle.dbus_types.specs.Types.{TypeTree, NumberType, TextType, VariantType, ArrayType, StructType, EntryType, UINT32, STRING, OBJECT_PATH, SIGNATURE}
+use Rattle.dbus_types.specs.Types.{IsBasic}
 use Rattle.dbus_value_model.specs.PackedBytes.{keeps_bytes, keep_bytes}
-use Rattle.dbus_value_model.specs.Values.{type_of}
+use Rattle.dbus_value_model.specs.Values.{ValueTree, type_of}
 use Rattle.dbus_value_model.specs.ValueViews.{value_tree}
 use Rattle.dbus_value_model.specs.declared.value.Value.{Value, the_lemmas}
-use Rattle.dbus_message.specs.BuildFaults.{IsFirstWithout, HasOwnType, HoldsSound, own_type, IsFirstUnsoundField, IsFirstUnsound, NoFault}
-use Rattle.dbus_message.specs.Messages.{is_known}
+use Rattle.dbus_message.specs.BuildFaults.{IsFirstWithout, HasOwnType, HoldsSound, IsOfType, type_wanted, IsFirstUnsoundField, IsFirstUnsound, NoFault}
+use Rattle.dbus_message.specs.Messages.{Want, Anything, OfType, Name, Serial, want, is_particular, is_known}
 use Rattle.dbus_message.specs.PackedParts.{field_values, PartsKeepBytes}
 use Rattle.dbus_message.specs.PartsViews.{field_tree, field_trees}
 use Rattle.dbus_message.specs.declared.header_field.HeaderField.{HeaderField}
 use Rattle.dbus_message.specs.declared.parts.Parts.{Parts}
 use Rattle.dbus_message.proofs.FaultyBody.{none_unsound}
 use Rattle.dbus_message.proofs.JudgedFields.{rest_without, rest_unsound}
+use Rattle.dbus_message.proofs.Wants.{WantOk, want_ok}
 
 -- ---- values that hold no others
 
-abbrev pub is_basic : TypeTree → Bool
-is_basic (NumberType n) = true
-is_basic (TextType t) = true
-is_basic VariantType = false
-is_basic (ArrayType t) = false
-is_basic (StructType ts) = false
-is_basic (EntryType k v) = false
-
-basic_packed : {A : Type 0} (v : Value A) → is_basic (type_of (value_tree v)) ≡ true → IsTrue (keeps_bytes v)
+basic_packed : {A : Type 0} (v : Value A) → IsBasic (type_of (value_tree v)) → IsTrue (keeps_bytes v)
 basic_packed v h = search (rules, the_lemmas)
 
-either_basic : (b : Bool) (t u : TypeTree) → is_basic t ≡ true → is_basic u ≡ true → is_basic (if b then t else u) ≡ true
-either_basic true t u h k = h
-either_basic false t u h k = k
-
-own_basic : (code : ℕ) → is_basic (own_type code) ≡ true
-own_basic code =
-    either_basic (nat_eq code 1) (TextType OBJECT_PATH) _ refl
-    (either_basic (nat_eq code 5) (NumberType UINT32) _ refl
-    (either_basic (nat_eq code 8) (TextType SIGNATURE) _ refl
-    (either_basic (nat_eq code 9) (NumberType UINT32) (TextType STRING) refl refl)))
+wanted_basic : (w : Want) → WantOk w → is_particular w ≡ true → (v : ValueTree) → IsOfType (type_wanted w) v → IsBasic (type_of v)
+wanted_basic Anything ok is v typed = absurd cc
+wanted_basic (OfType t) ok is v typed = subst IsBasic (sym typed) ok.1
+wanted_basic (Name k) ok is v typed = subst IsBasic (sym typed) tt
+wanted_basic Serial ok is v typed = subst IsBasic (sym typed) tt
 
 -- ---- fields
 
 field_packed : {A : Type 0} (f : HeaderField A) (known : Bool) → is_known f.code ≡ known → HasOwnType (field_tree f) → HoldsSound f → IsTrue (keeps_bytes f.value)
-field_packed f true is typed sound = basic_packed f.value (ap is_basic (typed is) ∙ own_basic f.code)
+field_packed f true is typed sound = basic_packed f.value (wanted_basic (want f.code) (want_ok f.code) is (value_tree f.value) typed)
 field_packed f false is typed sound = (sound is).0.packed
 
 fields_packed : {A : Type 0} (fs : List (HeaderField A)) → IsFirstWithout HasOwnType (field_trees fs) None → IsFirstUnsoundField fs None → IsTrue (keep_bytes (field_values fs))

@@ -1,21 +1,19 @@
 -- Why parts make no message: the cases, and which of them is the first that holds.
 -- D-Bus Specification, "Message Format", "Header Fields" and "Invalid Protocol and Spec Extensions".
-use Rattle.std.specs.Prelude.{◌≡◌, ◌⊎◌, ℕ, ◌+◌, ◌<◌, List, [], ◌∷◌, ◌++◌, length, true, false, ◌&&◌, nat_eq, if◌then◌else◌, Option, Some, None, Result, Ok, Err}
-use Rattle.dbus_types.specs.Types.{UINT32, STRING, OBJECT_PATH, SIGNATURE, TypeTree, NumberType, TextType, sigs}
-use Rattle.dbus_types.specs.declared.text_kind.TextKind.{TextKind}
-use Rattle.dbus_types.specs.declared.text_kind.TextKind.TheVariants as kinds
-use Rattle.dbus_types.specs.Kinds.{IsKind}
+use Rattle.std.specs.Prelude.{◌≡◌, ◌⊎◌, ℕ, ◌+◌, ◌<◌, List, [], ◌∷◌, ◌++◌, length, true, false, ◌&&◌, if◌then◌else◌, Option, Some, None, Result, Ok, Err}
+use Rattle.dbus_types.specs.Types.{UINT32, STRING, TypeTree, NumberType, TextType, sigs}
 use Rattle.dbus_value_model.specs.declared.order.Order.TheVariants.{Little}
 use Rattle.dbus_value_model.specs.declared.fault.Reason.TheVariants as reasons
 use Rattle.dbus_value_model.specs.declared.limits.TheConstants.{DEPTH_LIMIT}
 use Rattle.dbus_value_model.specs.Checks.{IsTyped}
 use Rattle.dbus_value_model.specs.Forming.{NestsWithin, NestWithin, IsNamed}
-use Rattle.dbus_value_model.specs.Values.{NumberValue, type_of, types_of}
+use Rattle.dbus_value_model.specs.Values.{ValueTree, NumberValue, type_of, types_of}
 use Rattle.dbus_value_model.specs.ValueViews.{value_tree}
 use Rattle.dbus_value_model.specs.declared.value.Value.{Value}
 use Rattle.dbus_value_model.specs.Spelling.{IsWithinLimits, AreWithinLimits}
 use Rattle.dbus_value_model.specs.Sizes.{message_limit}
-use Rattle.dbus_message.specs.Messages.{FieldTree, MessageTree, field_array, body_start, message_bytes, has_code, is_known, lacks, required, text_in, body_signature}
+use Rattle.dbus_value_model.specs.WantedTexts.{WantedText, IsWanted, kind_of}
+use Rattle.dbus_message.specs.Messages.{FieldTree, MessageTree, field_array, body_start, message_bytes, Want, Anything, OfType, Name, Serial, want, is_known, has_code, lacks, required, text_in, body_signature}
 use Rattle.dbus_message.specs.PartsViews.{parts_tree}
 use Rattle.dbus_message.specs.MessageViews.{message_tree}
 use Rattle.dbus_message.specs.declared.header_field.HeaderField.{HeaderField}
@@ -33,38 +31,41 @@ IsFirstWithout P (f ∷ fs) r = ((P f → ⊥) × (r ≡ Some f.code)) ⊎ (P f 
 
 -- no REPLY_SERIAL of 0
 abbrev pub IsNonzero : FieldTree → Type 0
-IsNonzero f = f.code ≡ 5 → f.value ≡ NumberValue UINT32 0 → ⊥
+IsNonzero f = want f.code ≡ Serial → f.value ≡ NumberValue UINT32 0 → ⊥
 
 -- the code of the first known field that stands behind one of its code; before are those in front
 abbrev pub twice : List FieldTree → List FieldTree → Option ℕ
 twice before [] = None
 twice before (f ∷ fs) = if is_known f.code && has_code f.code before then Some f.code else twice (before ++ f ∷ []) fs
 
--- the type of a known field
-abbrev pub own_type : ℕ → TypeTree
-own_type code =
-    if nat_eq code 1 then TextType OBJECT_PATH else if nat_eq code 5 then NumberType UINT32
-    else if nat_eq code 8 then TextType SIGNATURE else if nat_eq code 9 then NumberType UINT32 else TextType STRING
+-- the type that is wanted, where one is
+abbrev pub type_wanted : Want → Option TypeTree
+type_wanted Anything = None
+type_wanted (OfType t) = Some t
+type_wanted (Name k) = Some (TextType STRING)
+type_wanted Serial = Some (NumberType UINT32)
+
+abbrev pub IsOfType : Option TypeTree → ValueTree → Type 0
+IsOfType None v = Unit {0}
+IsOfType (Some t) v = type_of v ≡ t
 
 -- a known field is of its own type
 abbrev pub HasOwnType : FieldTree → Type 0
-HasOwnType f = is_known f.code ≡ true → type_of f.value ≡ own_type f.code
+HasOwnType f = IsOfType (type_wanted (want f.code)) f.value
 
--- what the text of a known field is
-abbrev pub own_kind : ℕ → Option TextKind
-own_kind code =
-    if nat_eq code 1 then Some kinds.Path else if nat_eq code 2 then Some kinds.Interface
-    else if nat_eq code 3 then Some kinds.Member else if nat_eq code 4 then Some kinds.ErrorName
-    else if nat_eq code 6 then Some kinds.BusName else if nat_eq code 7 then Some kinds.BusName
-    else if nat_eq code 8 then Some kinds.Signature else None
+-- the texts that are wanted, where a text is
+abbrev pub text_wanted : Want → Option WantedText
+text_wanted (OfType (TextType k)) = Some (kind_of k)
+text_wanted (Name k) = Some k
+text_wanted _ = None
 
-abbrev pub IsOf : Option TextKind → List ℕ → Type 0
+abbrev pub IsOf : Option WantedText → List ℕ → Type 0
 IsOf None t = Unit {0}
-IsOf (Some kind) t = IsKind kind t
+IsOf (Some k) t = IsWanted k t
 
 -- the text of a known field is of its kind
 abbrev pub HasOwnKind : FieldTree → Type 0
-HasOwnKind f = IsOf (own_kind f.code) (text_in f.value)
+HasOwnKind f = IsOf (text_wanted (want f.code)) (text_in f.value)
 
 -- ---- values
 

@@ -6,11 +6,12 @@ use Rattle.dbus_types.specs.ComputedKinds.{types_spelled}
 use Rattle.dbus_value_model.specs.declared.order.Order.{Order}
 use Rattle.dbus_value_model.specs.declared.fault.Reason.TheVariants as reasons
 use Rattle.dbus_value_model.specs.Values.{ValueTree, ValueTrees}
+use Rattle.dbus_value_model.specs.Gives.{no_row}
 use Rattle.dbus_value_model.specs.ValueItems.{text_row}
 use Rattle.dbus_value_model.specs.WantedTexts.{WantedText}
 use Rattle.dbus_value_model.specs.Reading.{Reader, ◌>>=◌, ◌>>◌, pure, judge, bounded, padding, number, signature, nul, contents}
 use Rattle.dbus_message.specs.Messages.{FieldTree, MessageTree, Want, want, lacks, required, body_signature}
-use Rattle.dbus_message.specs.MessageItems.{no_row, not_zero_row, version_row, fields_row, code_row, kind_wanted}
+use Rattle.dbus_message.specs.MessageItems.{not_zero_row, version_row, fields_row, code_row, kind_wanted}
 use Rattle.dbus_message.specs.MessageReading.{byte_order, value_wanted, body_items}
 use Rattle.dbus_message.specs.ValidMessages.{room_in_field}
 use Rattle.dbus_message.specs.declared.fixed_header.FixedHeader.{FixedHeader}

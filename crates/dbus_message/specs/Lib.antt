@@ -11,6 +11,7 @@ pub mod OutcomeLaws
 pub mod Lookups
 pub mod FixedBytes
 pub mod HeaderReading
+pub mod WantViews
 pub mod SingleTypes
 pub mod MissingFields
 pub mod BuildFaults

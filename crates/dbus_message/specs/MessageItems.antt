@@ -9,14 +9,12 @@ use Rattle.dbus_value_model.specs.Values.{ValueTree, ValueTrees, NumberValue, Te
 use Rattle.dbus_value_model.specs.Spelling.{Spelled, array_limit}
 use Rattle.dbus_value_model.specs.Items.{Item, ◌>>=◌, ◌>>◌, pure, judge, bounded, ends, padding, number, text, nul, signature, contents, fault}
 use Rattle.dbus_value_model.specs.declared.fault.Reason.{Reason}
+use Rattle.dbus_value_model.specs.Gives.{no_row}
 use Rattle.dbus_value_model.specs.ValueItems.{text_row, value, fields}
 use Rattle.dbus_message.specs.Messages.{FieldTree, MessageTree, order_byte, field_type, field_struct, Want, Anything, OfType, Name, Serial, want, is_known, has_code, IsField, lacks, required, body_signature}
 use Rattle.dbus_value_model.specs.Sizes.{message_limit}
 use Rattle.dbus_value_model.specs.declared.fault.Reason.TheVariants as reasons
 use Rattle.dbus_types.specs.declared.text_kind.TextKind.TheVariants as kinds
-
-abbrev pub no_row : ℕ → ℕ → Option Reason
-no_row p n = None
 
 abbrev pub not_zero_row : Reason → ℕ → ℕ → Option Reason
 not_zero_row why p n = if nat_eq n 0 then Some why else None

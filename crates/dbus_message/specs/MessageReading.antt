@@ -8,10 +8,11 @@ use Rattle.dbus_value_model.specs.declared.order.Order.{Order}
 use Rattle.dbus_value_model.specs.declared.order.Order.TheVariants.{Little, Big}
 use Rattle.dbus_value_model.specs.Values.{ValueTree, ValueTrees, NumberValue, TextValue}
 use Rattle.dbus_value_model.specs.Items.{fault}
+use Rattle.dbus_value_model.specs.Gives.{no_row}
 use Rattle.dbus_value_model.specs.ValueItems.{text_row}
 use Rattle.dbus_value_model.specs.Reading.{Reader, Outcome, Done, Faulty, Partial, ◌>>=◌, ◌>>◌, pure, judge, bounded, ends, padding, number, text, nul, signature, contents, value, fields}
 use Rattle.dbus_message.specs.Messages.{FieldTree, MessageTree, Want, Anything, OfType, Name, Serial, want, lacks, required, body_signature}
-use Rattle.dbus_message.specs.MessageItems.{no_row, not_zero_row, version_row, name_row, fields_row, code_row, kind_wanted}
+use Rattle.dbus_message.specs.MessageItems.{not_zero_row, version_row, name_row, fields_row, code_row, kind_wanted}
 use Rattle.dbus_value_model.specs.declared.fault.Reason.TheVariants as reasons
 
 abbrev pub value_wanted : Order → ℕ → ℕ → Want → TypeTree → Reader ValueTree

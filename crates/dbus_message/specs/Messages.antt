@@ -1,13 +1,14 @@
 -- Messages as trees, their one spelling in either byte order, and which are valid: the message relation.
 -- D-Bus Specification, "Message Format" and "Header Fields".
-use Rattle.std.specs.Prelude.{◌≡◌, ℕ, suc, ◌+◌, ◌^◌, ◌<◌, ◌≤◌, List, [], ◌∷◌, ◌++◌, length, map, Bool, false, ◌||◌, ◌&&◌, nat_eq, nat_lt, if◌then◌else◌, Option, Some, None}
+use Rattle.std.specs.Prelude.{◌≡◌, ℕ, suc, ◌+◌, ◌^◌, ◌<◌, ◌≤◌, List, [], ◌∷◌, ◌++◌, length, map, Bool, true, false, ◌||◌, ◌&&◌, nat_eq, if◌then◌else◌, Option, Some, None}
 use Rattle.dbus_types.specs.Types.{BYTE, UINT32, STRING, OBJECT_PATH, SIGNATURE, TypeTree, NumberType, TextType, VariantType, StructType, NoTypes, MoreTypes, sigs}
+use Rattle.dbus_value_model.specs.Measures.{coded}
 use Rattle.dbus_value_model.specs.Sizes.{message_limit}
 use Rattle.dbus_value_model.specs.WantedTexts.{WantedText, IsWanted, Of}
 use Rattle.dbus_value_model.specs.declared.order.Order.{Order}
 use Rattle.dbus_value_model.specs.declared.order.Order.TheVariants.{Little, Big}
 use Rattle.dbus_value_model.specs.Bytes.{num, gap_to, pad}
-use Rattle.dbus_value_model.specs.Values.{value_trees, ValueTrees, NoValues, MoreValues, ValueTree, NumberValue, TextValue, VariantValue, ArrayValue, StructValue, EntryValue, types_of, type_of, IsWellFormed, AreWellFormed}
+use Rattle.dbus_value_model.specs.Values.{value_trees, ValueTrees, ValueTree, NumberValue, TextValue, VariantValue, ArrayValue, StructValue, EntryValue, types_of, type_of, IsWellFormed, AreWellFormed}
 use Rattle.dbus_value_model.specs.Spelling.{spelling, spellings, IsWithinLimits, AreWithinLimits}
 use Rattle.dbus_value_model.specs.declared.fault.Reason.{Reason}
 use Rattle.dbus_value_model.specs.declared.fault.Reason.TheVariants as reasons
@@ -34,7 +35,7 @@ abbrev pub field_type : TypeTree
 field_type = StructType (MoreTypes (NumberType BYTE) (MoreTypes VariantType NoTypes))
 
 abbrev pub field_struct : FieldTree → ValueTree
-field_struct f = StructValue (MoreValues (NumberValue BYTE f.code) (MoreValues (VariantValue f.value) NoValues))
+field_struct f = coded f.code f.value
 
 -- the fields as a value
 abbrev pub field_array : List FieldTree → ValueTree
@@ -58,13 +59,14 @@ message_bytes order m =
 
 -- ---- fields
 
--- what a code asks of its value
+-- what is wanted of a field's value
 pub data Want : Type 0 where
   Anything : Want
   OfType : TypeTree → Want
   Name : WantedText → Want
   Serial : Want
 
+-- The table of the known fields: what is wanted of the value of each. Any other field holds anything.
 abbrev pub want : ℕ → Want
 want code =
     if nat_eq code 1 then OfType (TextType OBJECT_PATH) else if nat_eq code 2 then Name (Of kinds.Interface)
@@ -72,6 +74,16 @@ want code =
     else if nat_eq code 5 then Serial else if nat_eq code 6 then Name (Of kinds.BusName)
     else if nat_eq code 7 then Name (Of kinds.BusName) else if nat_eq code 8 then OfType (TextType SIGNATURE)
     else if nat_eq code 9 then OfType (NumberType UINT32) else Anything
+
+-- whether more is wanted than any value
+abbrev pub is_particular : Want → Bool
+is_particular Anything = false
+is_particular (OfType t) = true
+is_particular (Name k) = true
+is_particular Serial = true
+
+abbrev pub is_known : ℕ → Bool
+is_known code = is_particular (want code)
 
 abbrev pub Suits : Want → ValueTree → Type 0
 Suits Anything v = Unit {0}
@@ -83,9 +95,6 @@ Suits Serial v = (n : ℕ) × (v ≡ NumberValue UINT32 n) × (0 < n)
 abbrev pub has_code : ℕ → List FieldTree → Bool
 has_code c [] = false
 has_code c (f ∷ fs) = nat_eq f.code c || has_code c fs
-
-abbrev pub is_known : ℕ → Bool
-is_known c = nat_lt 0 c && nat_lt c 10
 
 -- a field behind others
 pub record IsField (before : List FieldTree) (f : FieldTree) : Type 0 where

@@ -1,14 +1,16 @@
 //! The first field of a header that is at fault.
 #![tactic(auto)]
 
-ghost use Rattle.std.specs.Prelude.{◌≡◌, ◌↔◌, ◌&&◌, [], IsTrue, IfOk};
-ghost use Rattle.dbus_message.specs.BuildFaults.{IsFirstWithout, IsFirstUnsoundField, IsNonzero, HasOwnType, HasOwnKind, HoldsSound, own_kind, twice};
-ghost use Rattle.dbus_message.specs.Messages.{has_code, is_known, text_in};
+ghost use Rattle.std.specs.Prelude.{◌≡◌, ◌↔◌, [], IsTrue, IfOk, option_map};
+ghost use Rattle.dbus_value_model.specs.WantedTexts.{Of};
+ghost use Rattle.dbus_message.specs.BuildFaults.{IsFirstWithout, IsFirstUnsoundField, IsNonzero, HasOwnType, HasOwnKind, HoldsSound, text_wanted, twice};
+ghost use Rattle.dbus_message.specs.Messages.{want};
 ghost use Rattle.dbus_message.specs.PartsViews.{field_tree, field_trees};
 
 use crate::faulty_body::is_sound;
+use crate::field_table::{Wanted, is_known, want};
 use crate::header_field::HeaderField;
-use crate::known_fields::{has_field, text_in};
+use crate::known_fields::{is_again, text_in};
 use dbus_types::{TextKind, text_break};
 use dbus_value_model::Value;
 use std::alloc::{AllocError, Allocator};
@@ -17,34 +19,34 @@ use std::alloc::{AllocError, Allocator};
 fn is_nonzero<A: Allocator>(field: &HeaderField<A>) -> bool
     ensures { IsTrue result ↔ IsNonzero (field_tree field.now) }
 {
-    field.code != 5 || !matches!(field.value, Value::U32(0))
+    match want(field.code) {
+        Wanted::Serial => !matches!(field.value, Value::U32(0)),
+        _ => true,
+    }
 }
 
 /// Whether a field is of its own type, where it is known.
 fn has_own_type<A: Allocator>(field: &HeaderField<A>) -> bool
     ensures { IsTrue result ↔ HasOwnType (field_tree field.now) }
 {
-    match field.code {
-        1 => matches!(field.value, Value::Path(_)),
-        2 | 3 | 4 | 6 | 7 => matches!(field.value, Value::Str(_)),
-        5 | 9 => matches!(field.value, Value::U32(_)),
-        8 => matches!(field.value, Value::Sig(_)),
-        _ => true,
+    match want(field.code) {
+        Wanted::Anything => true,
+        Wanted::Path => matches!(field.value, Value::Path(_)),
+        Wanted::Name(_) => matches!(field.value, Value::Str(_)),
+        Wanted::Serial | Wanted::Number => matches!(field.value, Value::U32(_)),
+        Wanted::Signature => matches!(field.value, Value::Sig(_)),
     }
 }
 
 /// What the text of a known field is.
 fn own_kind(code: u8) -> Option<TextKind>
-    ensures { result ≡ own_kind code }
+    ensures { option_map Of result ≡ text_wanted (want code) }
 {
-    match code {
-        1 => Some(TextKind::Path),
-        2 => Some(TextKind::Interface),
-        3 => Some(TextKind::Member),
-        4 => Some(TextKind::ErrorName),
-        6 | 7 => Some(TextKind::BusName),
-        8 => Some(TextKind::Signature),
-        _ => None,
+    match want(code) {
+        Wanted::Path => Some(TextKind::Path),
+        Wanted::Name(kind) => Some(kind),
+        Wanted::Signature => Some(TextKind::Signature),
+        Wanted::Anything | Wanted::Serial | Wanted::Number => None,
     }
 }
 
@@ -68,16 +70,6 @@ pub fn first_zero_reply<A: Allocator>(fields: &[HeaderField<A>]) -> Option<u8>
         }
     }
     None
-}
-
-/// Whether a code is a known field's and stands among these.
-fn is_again<A: Allocator>(before: &[HeaderField<A>], code: u8) -> bool
-    ensures { result ≡ (is_known code && has_code code (field_trees before.now)) }
-{
-    if code == 0 || code > 9 {
-        return false;
-    }
-    has_field(before, code)
 }
 
 /// The code of the first known field that stands behind one of its code.
@@ -120,7 +112,7 @@ pub fn first_misnamed<A: Allocator>(fields: &[HeaderField<A>]) -> Option<u8>
 fn holds_sound<A: Allocator + Copy>(alloc: A, field: &HeaderField<A>) -> Result<bool, AllocError>
     ensures { IfOk result (λ answer. IsTrue answer ↔ HoldsSound field.now) }
 {
-    if 0 < field.code && field.code < 10 {
+    if is_known(field.code) {
         return Ok(true);
     }
     is_sound(alloc, &field.value)

@@ -17,6 +17,7 @@ ghost use Rattle.dbus_message.specs.HeaderReading.{wanted_signature, wanted_valu
 ghost use Rattle.dbus_message.specs.MessageItems.{name_row};
 ghost use Rattle.dbus_message.specs.Messages.{Name, OfType, Anything, Serial, want};
 
+use crate::field_table::{Wanted, want};
 use crate::fixed_header::read_serial;
 use dbus_types::{SigType, TextKind};
 use dbus_unmarshal::get;
@@ -184,8 +185,7 @@ fn read_anything<A: Allocator + Copy>(
     read_value(alloc, bytes, at, end, order, &held, FIELD_DEPTH)
 }
 
-/// The value of a field, as its code asks for it: of its own type and kind where the code is known. D-Bus Specification,
-/// "Header Fields".
+/// The value of a field: of its own type and kind where its code is known. D-Bus Specification, "Header Fields".
 pub fn read_field_value<A: Allocator + Copy>(
     alloc: A,
     bytes: &[u8],
@@ -201,15 +201,12 @@ pub fn read_field_value<A: Allocator + Copy>(
     ensures moves { IfOk result (λ x. (at < x.1) × (x.1 ≤ end) × (x.1 ≤ length bytes.now)) }
     ensures packed { IfOk result (λ x. IsTrue (keeps_bytes x.0)) }
 {
-    match code {
-        1 => read_typed(alloc, bytes, at, end, order, b"o", &SigType::Path),
-        2 => read_name(alloc, bytes, at, end, order, TextKind::Interface),
-        3 => read_name(alloc, bytes, at, end, order, TextKind::Member),
-        4 => read_name(alloc, bytes, at, end, order, TextKind::ErrorName),
-        5 => read_reply_serial(bytes, at, end, order),
-        6 | 7 => read_name(alloc, bytes, at, end, order, TextKind::BusName),
-        8 => read_typed(alloc, bytes, at, end, order, b"g", &SigType::Sig),
-        9 => read_typed(alloc, bytes, at, end, order, b"u", &SigType::U32),
-        _ => read_anything(alloc, bytes, at, end, order),
+    match want(code) {
+        Wanted::Anything => read_anything(alloc, bytes, at, end, order),
+        Wanted::Path => read_typed(alloc, bytes, at, end, order, b"o", &SigType::Path),
+        Wanted::Name(kind) => read_name(alloc, bytes, at, end, order, kind),
+        Wanted::Serial => read_reply_serial(bytes, at, end, order),
+        Wanted::Signature => read_typed(alloc, bytes, at, end, order, b"g", &SigType::Sig),
+        Wanted::Number => read_typed(alloc, bytes, at, end, order, b"u", &SigType::U32),
     }
 }

@@ -1,18 +1,16 @@
 //! What a message's fields are looked up for.
 #![tactic(auto)]
 
-ghost use Rattle.std.specs.Prelude.{◌≡◌};
+ghost use Rattle.std.specs.Prelude.{◌≡◌, ◌&&◌};
 ghost use Rattle.dbus_value_model.specs.ValueViews.{value_tree};
 ghost use Rattle.dbus_message.specs.MissingFields.{IsMissing};
-ghost use Rattle.dbus_message.specs.Messages.{has_code, lacks, required, text_in, body_signature};
+ghost use Rattle.dbus_message.specs.Messages.{has_code, is_known, lacks, required, text_in, body_signature};
 ghost use Rattle.dbus_message.specs.PartsViews.{field_trees};
 
+use crate::field_table::{ERROR_NAME, INTERFACE, MEMBER, PATH, REPLY_SERIAL, SIGNATURE, is_known};
 use crate::header_field::HeaderField;
 use dbus_value_model::Value;
 use std::alloc::Allocator;
-
-/// The code of the SIGNATURE field.
-const SIGNATURE: u8 = 8;
 
 /// Whether a field of the code is there.
 #[tactic(auto, using(crate::proofs::FieldLists::has_here, crate::proofs::FieldLists::has_no_more))]
@@ -27,15 +25,22 @@ pub fn has_field<A: Allocator>(fields: &[HeaderField<A>], code: u8) -> bool
     false
 }
 
+/// Whether a code is a known field's and stands among these.
+pub fn is_again<A: Allocator>(before: &[HeaderField<A>], code: u8) -> bool
+    ensures { result ≡ (is_known code && has_code code (field_trees before.now)) }
+{
+    is_known(code) && has_field(before, code)
+}
+
 /// The codes of the fields that a message of the type has. D-Bus Specification, "Header Fields".
 fn required(kind: u8) -> &'static [u8]
     ensures { result.now ≡ required kind }
 {
     match kind {
-        1 => &[1, 3],
-        2 => &[5],
-        3 => &[4, 5],
-        4 => &[1, 2, 3],
+        1 => &[PATH, MEMBER],
+        2 => &[REPLY_SERIAL],
+        3 => &[ERROR_NAME, REPLY_SERIAL],
+        4 => &[PATH, INTERFACE, MEMBER],
         _ => &[],
     }
 }

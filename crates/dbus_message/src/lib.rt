@@ -9,6 +9,7 @@ mod depth;
 mod encoding;
 mod faulty_body;
 mod faulty_fields;
+mod field_table;
 mod field_value;
 mod fixed_header;
 mod header_field;

@@ -13,13 +13,10 @@ ghost use Rattle.dbus_message.specs.PartsViews.{field_tree, field_trees};
 
 use crate::field_value::read_field_value;
 use crate::header_field::HeaderField;
-use crate::known_fields::has_field;
+use crate::known_fields::is_again;
 use dbus_unmarshal::items::{read_byte, read_padding};
 use dbus_value_model::{Order, Reason, Stop, refuse};
 use std::alloc::Allocator;
-
-/// The lowest code of the unknown fields.
-const UNKNOWN: u8 = 10;
 
 /// The code of a field behind others: `FieldCode` where it is 0, `FieldTwice` where it is known and stands among them.
 fn read_code<A: Allocator>(
@@ -37,7 +34,7 @@ fn read_code<A: Allocator>(
     if code == 0 {
         return refuse(at, Reason::FieldCode);
     }
-    if code < UNKNOWN && has_field(before, code) {
+    if is_again(before, code) {
         return refuse(at, Reason::FieldTwice);
     }
     Ok((code, next))

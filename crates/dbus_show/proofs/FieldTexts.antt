@@ -1,7 +1,6 @@
 -- The header's line of a valid message, and its whole text, have no other line feeds than those at the ends of lines.
-use Rattle.std.proofs.Common.{◌≡◌, ◌≢◌, ℕ, zero, suc, Bool, true, false, eqb, cond, nat_lt, IsTrue, List, [], ◌∷◌, ◌++◌, ⊎_elim, length, map, codes, decimal, refl, sym, subst, arith}
+use Rattle.std.proofs.Common.{◌≡◌, ◌≢◌, ℕ, suc, Bool, true, false, eqb, cond, IsTrue, List, [], ◌∷◌, ◌++◌, ⊎_elim, length, map, codes, decimal, refl, sym, subst, arith}
 use Rattle.std.specs.List.{flat_map, AllByRecursion}
-use Rattle.std.proofs.lemmas.Bool.{ltb-true, and_parts}
 use Rattle.hex.specs.Hex.{encode_lower}
 use Rattle.dbus_types.specs.Types.{UINT32, TextCode, STRING, OBJECT_PATH, SIGNATURE, NumberType, TextType}
 use Rattle.dbus_types.specs.declared.text_kind.TextKind.{TextKind}
@@ -13,7 +12,7 @@ use Rattle.dbus_value_model.specs.WantedTexts.{Of, IsWanted, kind_of}
 use Rattle.dbus_value_model.specs.declared.order.Order.{Order}
 use Rattle.dbus_value_model.specs.declared.order.Order.TheVariants.{Little, Big}
 use Rattle.dbus_value_model.specs.Values.{ValueTree, NumberValue, TextValue, value_trees, IsWellFormed, AreWellFormed}
-use Rattle.dbus_message.specs.Messages.{FieldTree, MessageTree, order_byte, is_known, field_struct, Want, OfType, Name, Serial, want, Suits, AreFields}
+use Rattle.dbus_message.specs.Messages.{FieldTree, MessageTree, order_byte, is_known, field_struct, Want, OfType, Name, Serial, want, is_particular, Suits, AreFields}
 use Rattle.dbus_message.specs.ValidMessages.{room_in_field}
 use Rattle.dbus_show.specs.Laws.{line_feeds, OneForEachLine}
 use Rattle.dbus_show.specs.ShownValues.{value_text, value_texts}
@@ -88,21 +87,20 @@ asks_serial k t (n, is, positive) w = cc
 asks_name : (kind : TextKind) → ((w : List ℕ) → IsKind kind w → IsOneLine w) → Asks (Name (Of kind))
 asks_name kind line k t (u, is, wanted, short) w = let same : u ≡ t = cc in subst IsOneLine same (line u wanted)
 
-too_high : (c : ℕ) → is_known (suc (suc (suc (suc (suc (suc (suc (suc (suc (suc c)))))))))) ≡ true → ⊥
-too_high c h = let l = ltb-true (suc (suc (suc (suc (suc (suc (suc (suc (suc (suc c)))))))))) 10 (and_parts (nat_lt 0 (suc (suc (suc (suc (suc (suc (suc (suc (suc (suc c))))))))))) (nat_lt (suc (suc (suc (suc (suc (suc (suc (suc (suc (suc c)))))))))) 10) h).1 in omega arith
+abbrev KnownAsks : Want → Type 0
+KnownAsks w = is_particular w ≡ true → Asks w
+
+either_asks : (b : Bool) (x y : Want) → Asks x → KnownAsks y → KnownAsks (cond b x y)
+either_asks true x y p q = λ known. p
+either_asks false x y p q = q
 
 asks_one_line : (code : ℕ) → is_known code ≡ true → Asks (want code)
-asks_one_line zero h = λ k t s w. cc
-asks_one_line (suc zero) h = asks_type_path
-asks_one_line (suc (suc zero)) h = asks_name kinds.Interface (λ w h. one_line_interface w h.0)
-asks_one_line (suc (suc (suc zero))) h = asks_name kinds.Member one_line_member
-asks_one_line (suc (suc (suc (suc zero)))) h = asks_name kinds.ErrorName (λ w h. one_line_interface w h.0)
-asks_one_line (suc (suc (suc (suc (suc zero))))) h = asks_serial
-asks_one_line (suc (suc (suc (suc (suc (suc zero)))))) h = asks_name kinds.BusName one_line_bus
-asks_one_line (suc (suc (suc (suc (suc (suc (suc zero))))))) h = asks_name kinds.BusName one_line_bus
-asks_one_line (suc (suc (suc (suc (suc (suc (suc (suc zero)))))))) h = asks_type_signature
-asks_one_line (suc (suc (suc (suc (suc (suc (suc (suc (suc zero))))))))) h = asks_type_number
-asks_one_line (suc (suc (suc (suc (suc (suc (suc (suc (suc (suc c)))))))))) h = absurd (too_high c h)
+asks_one_line code =
+    either_asks (eqb code 1) _ _ asks_type_path (either_asks (eqb code 2) _ _ (asks_name kinds.Interface (λ w h. one_line_interface w h.0))
+    (either_asks (eqb code 3) _ _ (asks_name kinds.Member one_line_member) (either_asks (eqb code 4) _ _ (asks_name kinds.ErrorName (λ w h. one_line_interface w h.0))
+    (either_asks (eqb code 5) _ _ asks_serial (either_asks (eqb code 6) _ _ (asks_name kinds.BusName one_line_bus)
+    (either_asks (eqb code 7) _ _ (asks_name kinds.BusName one_line_bus) (either_asks (eqb code 8) _ _ asks_type_signature
+    (either_asks (eqb code 9) _ _ asks_type_number (λ known. absurd cc)))))))))
 
 bare_line : (code : ℕ) (v : ValueTree) (room : ℕ) → is_known code ≡ true → Suits (want code) v → IsWellFormed room v → IsOneLine (bare v)
 bare_line code (TextValue k t) room known suits formed = asks_one_line code known k t suits formed.0

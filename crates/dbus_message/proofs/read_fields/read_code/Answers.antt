@@ -4,8 +4,7 @@ use Rattle.dbus_message.specs.MessageItems.{code_row}
 use Rattle.dbus_message.specs.PartsViews.{field_trees}
 use Rattle.dbus_message.proofs.NumberRows.{row_passed, row_refused, row_stops}
 use Rattle.dbus_message.proofs.FixedItems.{exits}
-use Rattle.dbus_message.proofs.FieldLoop.{code_zero, code_twice, code_first, code_unknown}
-use Rattle.dbus_message.proofs.read_fields.read_code.Goals.{else-code-lt-UNKNOWN-via-then-code-lt-UNKNOWN+else-has_field, else-code-lt-UNKNOWN-via-else-code-lt-UNKNOWN}
+use Rattle.dbus_message.proofs.FieldLoop.{code_zero, code_again, code_first}
 use Rattle.dbus_message.proofs.read_fields.read_code.Goals as goal
 
 pub returns-in_err-code-clause-gives : goal.returns-in_err-code-clause-gives
@@ -17,14 +16,11 @@ returns-then-code-eq0-clause-gives g c order = rw c.refuse.ensures
     (row_refused order 1 c.args.end (code_row (reverse (field_trees c.args.before.now))) c.args.at (drop c.args.at c.args.bytes.now) reasons.FieldCode _ _ _ (c.in_ok-code.ensures.gives order)
     (code_zero (reverse (field_trees c.args.before.now)) c.in_ok-code.next _ c.if-code-eq0.true))
 
-pub returns-then-has_field-clause-gives : goal.returns-then-has_field-clause-gives
-returns-then-has_field-clause-gives g c order = rw c.refuse-then-has_field.ensures
+pub returns-then-is_again-clause-gives : goal.returns-then-is_again-clause-gives
+returns-then-is_again-clause-gives g c order = rw c.refuse-then-is_again.ensures
     (row_refused order 1 c.args.end (code_row (reverse (field_trees c.args.before.now))) c.args.at (drop c.args.at c.args.bytes.now) reasons.FieldTwice _ _ _ (c.in_ok-code.ensures.gives order)
-    (code_twice (field_trees c.args.before.now) c.in_ok-code.next c.in_ok-code.code c.if-code-eq0.false c.if-code-lt-UNKNOWN.true (sym c.has_field.ensures ∙ c.if-has_field.true)))
+    (code_again (field_trees c.args.before.now) c.in_ok-code.next c.in_ok-code.code c.if-code-eq0.false (sym c.is_again.ensures ∙ c.if-is_again.true)))
 
 pub returns-clause-gives : goal.returns-clause-gives
 returns-clause-gives g c order = row_passed order 1 c.args.end (code_row (reverse (field_trees c.args.before.now))) c.args.at (drop c.args.at c.args.bytes.now) _ _ _ (c.in_ok-code.ensures.gives order)
-    (elim c.else-code-lt-UNKNOWN.branch [
-      | else-code-lt-UNKNOWN-via-then-code-lt-UNKNOWN+else-has_field w ↦ code_first (field_trees c.args.before.now) c.in_ok-code.next c.in_ok-code.code c.if-code-eq0.false (sym w.has_field.ensures ∙ w.if-has_field.false)
-      | else-code-lt-UNKNOWN-via-else-code-lt-UNKNOWN w ↦ code_unknown (reverse (field_trees c.args.before.now)) c.in_ok-code.next c.in_ok-code.code c.if-code-eq0.false w.if-code-lt-UNKNOWN.false
-    ])
+    (code_first (field_trees c.args.before.now) c.in_ok-code.next c.in_ok-code.code c.if-code-eq0.false (sym c.is_again.ensures ∙ c.if-is_again.false))
