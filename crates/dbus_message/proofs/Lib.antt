@@ -27,3 +27,4 @@ pub mod JudgedFields
 pub mod PartEnds
 pub mod Built
 pub mod PackedFacts
+pub mod StatedLengths

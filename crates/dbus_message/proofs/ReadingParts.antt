@@ -13,12 +13,12 @@ use Rattle.dbus_message.specs.MessageReading as reads
 use Rattle.dbus_message.specs.ValidMessages.{room_in_field}
 use Rattle.dbus_message.specs.HeaderReading.{fixed_header, wanted_signature, wanted_value, field_read, fields_read, body_read, message_read}
 
-same_after : {A B : Type 0} (r : Outcome A) (f g : A → Reader B) → ((x : A) (p : ℕ) (t : List ℕ) → f x p t ≡ g x p t) → after r f ≡ after r g
+pub same_after : {A B : Type 0} (r : Outcome A) (f g : A → Reader B) → ((x : A) (p : ℕ) (t : List ℕ) → f x p t ≡ g x p t) → after r f ≡ after r g
 same_after (Done x p t) f g h = h x p t
 same_after (Faulty f) _ g h = refl
 same_after Partial f g h = refl
 
-after_after : {A B C : Type 0} (r : Outcome A) (f : A → Reader B) (g : B → Reader C) → after (after r f) g ≡ after r (λ x p t. after (f x p t) g)
+pub after_after : {A B C : Type 0} (r : Outcome A) (f : A → Reader B) (g : B → Reader C) → after (after r f) g ≡ after r (λ x p t. after (f x p t) g)
 after_after (Done x p t) f g = refl
 after_after (Faulty f) _ g = refl
 after_after Partial f g = refl

@@ -18,3 +18,5 @@ pub mod BuildFaults
 pub mod MessageSizes
 pub mod PackedParts
 pub mod PackedMessages
+pub mod StatedLengths
+pub mod StatedLaws

@@ -1,9 +1,10 @@
 //! The items of a message that have fixed places: its first sixteen bytes.
 #![tactic(auto)]
 
-ghost use Rattle.std.specs.Prelude.{◌≡◌, ◌+◌, ◌≤◌, ◌<◌, length, drop, IfOk};
+ghost use Rattle.std.specs.Prelude.{◌≢◌, ◌≡◌, ◌+◌, ◌≤◌, ◌<◌, length, drop, IfOk, IfErr};
 ghost use Rattle.dbus_value_model.specs.declared.fault.Reason.TheVariants as reasons;
 ghost use Rattle.dbus_value_model.specs.declared.order.Order.{Order};
+ghost use Rattle.dbus_value_model.specs.declared.stop.Stop.TheVariants.{Memory};
 ghost use Rattle.dbus_value_model.specs.Gives.{Gives};
 ghost use Rattle.dbus_value_model.specs.Reading.{number};
 ghost use Rattle.dbus_value_model.specs.declared.limits.TheConstants.{MESSAGE_LIMIT};
@@ -35,6 +36,7 @@ pub struct FixedHeader {
 /// The byte order, at 0: `ByteOrder` where the byte is neither `l` nor `B`.
 #[tactic(auto, using(crate::proofs::FixedItems::orders))]
 fn read_order(bytes: &[u8]) -> Result<Order, Stop>
+    ensures no_memory { IfErr result (λ e. e ≢ Memory) }
     ensures gives { Gives (λ order. (order, 1)) bytes.now result (byte_order 0 bytes.now) }
     ensures there { IfOk result (λ _. 1 ≤ length bytes.now) }
 {
@@ -51,6 +53,7 @@ fn read_order(bytes: &[u8]) -> Result<Order, Stop>
 /// The message type, at 1: `Kind` where it is 0.
 fn read_kind(bytes: &[u8]) -> Result<u8, Stop>
     requires { 1 ≤ length bytes.now }
+    ensures no_memory { IfErr result (λ e. e ≢ Memory) }
     ensures gives { (order : Order) → Gives (λ kind. (kind, 2)) bytes.now result (number order 1 16 (not_zero_row reasons.Kind) 1 (drop 1 bytes.now)) }
     ensures there { IfOk result (λ _. 2 ≤ length bytes.now) }
 {
@@ -64,6 +67,7 @@ fn read_kind(bytes: &[u8]) -> Result<u8, Stop>
 /// The protocol version, at 3: `Version` where it is not 1.
 fn read_version(bytes: &[u8]) -> Result<(), Stop>
     requires { 3 ≤ length bytes.now }
+    ensures no_memory { IfErr result (λ e. e ≢ Memory) }
     ensures gives { (order : Order) → Gives (λ _. (1, 4)) bytes.now result (number order 1 16 version_row 3 (drop 3 bytes.now)) }
     ensures there { IfOk result (λ _. 4 ≤ length bytes.now) }
 {
@@ -80,6 +84,7 @@ fn read_version(bytes: &[u8]) -> Result<(), Stop>
 pub fn read_serial(bytes: &[u8], at: usize, end: usize, order: Order) -> Result<(u32, usize), Stop>
     requires at_most { at ≤ end }
     requires inside { at ≤ length bytes.now }
+    ensures no_memory { IfErr result (λ e. e ≢ Memory) }
     ensures gives { Gives (λ x. x) bytes.now result (number order 4 end (not_zero_row reasons.ZeroSerial) at (drop at bytes.now)) }
     ensures moves { IfOk result (λ x. (x.1 ≡ at + 4) × (x.1 ≤ end) × (x.1 ≤ length bytes.now)) }
 {
@@ -94,6 +99,7 @@ pub fn read_serial(bytes: &[u8], at: usize, end: usize, order: Order) -> Result<
 /// `MessageTooLong` where the message is.
 fn read_fields_length(bytes: &[u8], order: Order, body: u32) -> Result<u32, Stop>
     requires { 12 ≤ length bytes.now }
+    ensures no_memory { IfErr result (λ e. e ≢ Memory) }
     ensures gives { Gives (λ n. (n, 16)) bytes.now result (number order 4 16 (fields_row body) 12 (drop 12 bytes.now)) }
     ensures there { IfOk result (λ n. (16 ≤ length bytes.now) × (16 + n + gap_to 8 (16 + n) + body ≤ MESSAGE_LIMIT)) }
 {
@@ -111,6 +117,7 @@ fn read_fields_length(bytes: &[u8], order: Order, body: u32) -> Result<u32, Stop
 /// The items that have fixed places, in their order.
 #[tactic(auto, unfolding(crate::specs::HeaderReading::fixed_header))]
 pub fn read_fixed_header(bytes: &[u8]) -> Result<FixedHeader, Stop>
+    ensures no_memory { IfErr result (λ e. e ≢ Memory) }
     ensures gives { Gives (λ h. (h, 16)) bytes.now result (fixed_header 0 bytes.now) }
     ensures there { IfOk result (λ h. (16 ≤ length bytes.now) × (16 + h.fields + gap_to 8 (16 + h.fields) + h.body ≤ MESSAGE_LIMIT)) }
 {

@@ -1,8 +1,9 @@
-//! Laws of messages, and of what bytes are to a decoder: whole, refused or partial. Each function's contract is a law; it
-//! does nothing when it runs.
+//! Laws of messages, of what bytes are to a decoder: whole, refused or partial, and of the length that they state. Each
+//! function's contract is a law; it does nothing when it runs.
 #![tactic(auto)]
 
 ghost use Rattle.dbus_message.specs.OutcomeLaws.{OneMessage, OneLength, SomeOutcome, OneOutcome, OneWhole, OneFault, WholeForGood, RefusedForGood};
+ghost use Rattle.dbus_message.specs.StatedLaws.{StatedHolds, WholeStates, OneStated, SomeStated};
 
 /// No message's bytes begin another message's, and bytes spell at most one message in at most one order.
 pub fn one_message()
@@ -42,4 +43,25 @@ pub fn whole_for_good()
 /// What is refused is refused so whatever bytes follow.
 pub fn refused_for_good()
     ensures { RefusedForGood }
+{}
+
+/// Whatever follows bytes for which `stated_length` gives a length, a message that they begin with has so many bytes, and all
+/// are there.
+pub fn stated_holds()
+    ensures { StatedHolds }
+{}
+
+/// `stated_length` gives the length of each message, which is 16 at least.
+pub fn whole_states()
+    ensures { WholeStates }
+{}
+
+/// Bytes state at most one length, and state it whatever follows.
+pub fn one_stated()
+    ensures { OneStated }
+{}
+
+/// Sixteen bytes and more state a length or are refused.
+pub fn some_stated()
+    ensures { SomeStated }
 {}

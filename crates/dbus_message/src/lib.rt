@@ -21,6 +21,7 @@ mod message_size;
 mod parts;
 mod read_body;
 mod read_fields;
+mod stated;
 
 pub use answer::Answer;
 pub use build_fault::BuildFault;
@@ -30,3 +31,4 @@ pub use header_field::HeaderField;
 pub use lookups::{arg, field};
 pub use message::Message;
 pub use parts::Parts;
+pub use stated::{FIXED_HEADER_LENGTH, stated_length};

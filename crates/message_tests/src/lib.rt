@@ -1,4 +1,4 @@
-//! Tests of `dbus_message`: messages decoded, encoded and built of their parts, each fault, and each growth refused.
+//! Tests of `dbus_message`: messages decoded, encoded and built of their parts, stated lengths, each fault, and each growth refused.
 #![tactic(auto)]
 
 #[cfg(test)]
@@ -9,5 +9,7 @@ mod building;
 mod faults;
 #[cfg(test)]
 mod growths;
+#[cfg(test)]
+mod stated;
 #[cfg(test)]
 mod whole;

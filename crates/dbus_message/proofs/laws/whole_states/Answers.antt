@@ -1,0 +1,5 @@
+use Rattle.dbus_message.proofs.StatedLengths.{whole_states}
+use Rattle.dbus_message.proofs.laws.whole_states.Goals as goal
+
+pub returns : goal.returns
+returns c = whole_states
