@@ -1,23 +1,21 @@
-use Rattle.std.proofs.Common.{◌≡◌, get_or, arith, ap, ◌∙◌, inl, inr}
-use Rattle.dbus_stream.specs.Stated.{stated_length, stated_order}
+use Rattle.std.proofs.Common.{arith, inl, inr}
+use Rattle.dbus_message.proofs.OutcomeLaws.{one_outcome}
 use Rattle.dbus_stream.proofs.StatedLaws.{header_first, in_time}
 use Rattle.dbus_stream.proofs.looking.next_look.Goals as goal
 
-pub returns-then-count-lt-FIXED_HEADER-clause-in_time :
-    goal.returns-then-count-lt-FIXED_HEADER-clause-in_time
-returns-then-count-lt-FIXED_HEADER-clause-in_time c = header_first c.args.held.now
-
 pub returns-then-stated-latest-clause-in_time : goal.returns-then-stated-latest-clause-in_time
 returns-then-stated-latest-clause-in_time c =
-    let held = c.args.held.now in
-    let stated : c.stated_length-stated.result ≡ stated_length (stated_order (get_or held 0 0)) held
-    = c.stated_length-stated.ensures ∙ ap (λ o. stated_length o held) c.order_of.ensures in
-    in_time held c.stated_length-stated.result c.requires.part c.if-count-lt-FIXED_HEADER.false (λ n e past. omega (arith, stated, e))
+    let states = rw c.in-Ok-Some.field-0-is at c.in-Ok-Some.ensures.stated in
+    in_time c.args.held.now c.in-Ok-Some.stated c.in-Ok-Some.stated c.requires.part states (λ past. omega arith)
 
-pub returns-clause-in_time : goal.returns-clause-in_time
-returns-clause-in_time c =
-    let held = c.args.held.now in
-    let stated : c.stated_length-stated.result ≡ stated_length (stated_order (get_or held 0 0)) held
-    = c.stated_length-stated.ensures ∙ ap (λ o. stated_length o held) c.order_of.ensures in
-    in_time held c.max-latest.result c.requires.part c.if-count-lt-FIXED_HEADER.false
-    (λ n e past. elim c.else-stated-count.either [ inl p ↦ omega (arith, stated, e, p.1) | inr q ↦ absurd (omega (arith, stated, e, q, past)) ])
+pub returns-else-stated-count-clause-in_time : goal.returns-else-stated-count-clause-in_time
+returns-else-stated-count-clause-in_time c =
+    let states = rw c.in-Ok-Some.field-0-is at c.in-Ok-Some.ensures.stated in
+    in_time c.args.held.now c.in-Ok-Some.stated c.max-latest.result c.requires.part states
+    (λ past. elim c.else-stated-count.either [ inl p ↦ omega (arith, p.1) | inr q ↦ absurd (omega (arith, q, past)) ])
+
+pub returns-in-Ok-None-clause-in_time : goal.returns-in-Ok-None-clause-in_time
+returns-in-Ok-None-clause-in_time c = header_first c.args.held.now
+
+pub returns-in-Err-clause-in_time : goal.returns-in-Err-clause-in_time
+returns-in-Err-clause-in_time c = absurd ((one_outcome c.args.held.now).2 c.in-Err.field-0 c.in-Err.ensures.stated.0 c.requires.part)
