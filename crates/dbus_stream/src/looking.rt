@@ -6,13 +6,13 @@ ghost use Rattle.dbus_stream.specs.Stated.{NoneEndsBefore};
 use dbus_message::{FIXED_HEADER_LENGTH, stated_length};
 
 // Below so many bytes a message is decoded again only when it is whole.
-const SMALL: usize = 4096;
+const SMALL: usize = 1_048_576;
 
 /// How many bytes to keep before these are decoded again, which are too few for a message so far.
 ///
 /// It is where the message ends by the lengths that its header states, so that a message is given as soon as it is
-/// there, and at the latest where twice as many bytes are kept, so that bytes that are no message are not gathered up to
-/// a great length. So a message is decoded a few times at most, however many reads it comes in.
+/// there; at the latest at 1,048,576 bytes, and past these where twice as many are kept, so that bytes that are no message
+/// are not gathered up to a great length. So a message is decoded a few times at most, however many reads it comes in.
 pub(crate) fn next_look(held: &[u8]) -> usize
     requires part { IsPartial held.now }
     requires small { length held.now ≤ 2 ^ 44 }
