@@ -6,8 +6,7 @@ ghost use Rattle.dbus_value_model.specs.Sizes.{message_limit};
 ghost use Rattle.dbus_message.specs.StatedLengths.{Stated};
 
 use crate::fixed_header::read_fixed_header;
-use crate::message_size::gap;
-use dbus_value_model::{Fault, Stop};
+use dbus_value_model::{Fault, Stop, padding_length};
 
 /// How many bytes tell how many a message has: those of its header in front of the contents of the field array. No message
 /// has fewer. D-Bus Specification, "Message Format".
@@ -28,7 +27,8 @@ pub fn stated_length(bytes: &[u8]) -> Result<Option<u64>, Fault>
     match read_fixed_header(bytes) {
         Ok(header) => {
             let fields_end = FIXED_HEADER_LENGTH as u64 + u64::from(header.fields);
-            Ok(Some(fields_end + gap(fields_end) + u64::from(header.body)))
+            let padding = u64::from(padding_length(8, fields_end));
+            Ok(Some(fields_end + padding + u64::from(header.body)))
         }
         Err(Stop::Refused(fault)) => Err(fault),
         Err(Stop::Partial) => Ok(None),

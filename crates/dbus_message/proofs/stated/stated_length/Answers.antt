@@ -7,11 +7,11 @@ use Rattle.dbus_message.proofs.stated.stated_length.Goals as goal
 pub returns-in-Ok-clause-stated : goal.returns-in-Ok-clause-stated
 returns-in-Ok-clause-stated c =
     let states = header_states c.args.bytes.now (bytes_from c.args.bytes.now (λ i. omega (arith, c.type_inv.bytes i))) c.in-Ok.header 16 (drop 16 c.args.bytes.now) c.in-Ok.ensures.gives in
-    rw (c.gap.ensures.exact, c.from.ensures, c.from-in-Ok.ensures) states
+    rw (c.from-padding.ensures, c.padding_length.ensures.exact, c.from.ensures, c.from-in-Ok.ensures) states
 
 pub returns-in-Ok-clause-within : goal.returns-in-Ok-clause-within
 unfolding message_limit
-returns-in-Ok-clause-within c = let limit = c.in-Ok.ensures.there.1 in (omega arith, rw (c.gap.ensures.exact, c.from.ensures, c.from-in-Ok.ensures) limit)
+returns-in-Ok-clause-within c = let limit = c.in-Ok.ensures.there.1 in (omega arith, rw (c.from-padding.ensures, c.padding_length.ensures.exact, c.from.ensures, c.from-in-Ok.ensures) limit)
 
 pub returns-in-Err-Refused-clause-stated : goal.returns-in-Err-Refused-clause-stated
 returns-in-Err-Refused-clause-stated c =
