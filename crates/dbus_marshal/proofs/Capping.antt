@@ -3,7 +3,6 @@ use Rattle.std.proofs.Common.{◌≡◌, ℕ, ◌+◌, ◌%◌, ◌<◌, ◌≤�
 use Rattle.std.proofs.Math.Decide.{dec_lt}
 use Rattle.std.proofs.lemmas.Bool.{le-ltb, lt-ltb}
 use Rattle.dbus_value_model.specs.Measures.{IsCapped, capped, CappedTells}
-use Rattle.dbus_value_model.specs.Sizes.{message_limit}
 
 pub capped-near : (o : ℕ) → o < 134217736 → capped o ≡ o
 unfolding capped
@@ -32,14 +31,13 @@ capped-same o low = elim (dec_lt o 134217736) [
   | no h ↦ let far : 134217736 ≤ o = omega arith in omega (arith, capped-far o far)
 ]
 
--- an offset within the message's limit is read off its capped one, and so is one past it
+-- an offset within a message's limit is read off its capped one, and so is one past it
 pub capped-tells : CappedTells
-unfolding message_limit
-capped-tells o = elim (dec_lt o 134217736) [
+capped-tells limits o = elim (dec_lt o 134217736) [
   | yes h ↦ ((λ le. omega (arith, capped-near o h), λ le. omega (arith, capped-near o h)), λ le. capped-near o h)
   | no h ↦
       let far : 134217736 ≤ o = omega arith in
-      ((λ le. omega arith, λ le. omega (arith, capped-far o far)), λ le. absurd (omega arith))
+      ((λ le. omega (arith, limits.message_in), λ le. omega (arith, capped-far o far, limits.message_in)), λ le. absurd (omega (arith, limits.message_in)))
 ]
 
 capped-more : (m n k : ℕ) → capped m ≡ capped n → capped (m + k) ≡ capped (n + k)

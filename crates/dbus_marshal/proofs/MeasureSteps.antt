@@ -8,206 +8,19 @@ use Rattle.dbus_types.specs.Types.{sig, TypeTree, NumberType, NumberCode, BYTE, 
 use Rattle.dbus_types.specs.Alignments.{width, length_width, alignment_of}
 use Rattle.dbus_types.specs.SigTypes.{type_tree}
 use Rattle.dbus_types.specs.declared.sig_type.SigType.{SigType}
+use Rattle.dbus_value_model.specs.declared.limits.Limits.{Limits}
 use Rattle.dbus_value_model.specs.declared.order.Order.{Order}
 use Rattle.dbus_value_model.specs.declared.value.Value.{Value, Byte, Bool as BoolOf, I16, U16, I32, U32, I64, U64, Double, Str, Path, Sig, Fd, Bytes, Array, Struct, Entry, Variant}
 use Rattle.dbus_value_model.specs.Bytes.{gap_to}
 use Rattle.dbus_value_model.specs.Measures.{IsCapped, capped, coded, EndsAt, IsMeasured, AreMeasured}
 use Rattle.dbus_value_model.specs.ShortSignatures.{HasShortSignatures, HaveShortSignatures}
-use Rattle.dbus_value_model.specs.Spelling.{ended_text, contents_start, spelling, spellings, array_limit, IsWithinLimits, AreWithinLimits}
+use Rattle.dbus_value_model.specs.Spelling.{ended_text, contents_start, spelling, spellings, IsWithinLimits, AreWithinLimits}
 use Rattle.dbus_value_model.specs.Values.{ValueTree, ValueTrees, NumberValue, TextValue, VariantValue, ArrayValue, StructValue, EntryValue, NoValues, MoreValues, type_of}
 use Rattle.dbus_value_model.specs.ValueViews.{value_tree, value_trees_of, byte_values}
 use Rattle.dbus_marshal.proofs.Capping.{capped-near, capped-far, capped-bound, capped-same, capped-onward, capped-step, onward-from, rest-of}
 use Rattle.dbus_marshal.proofs.Lengths.{length-number, length-ended, length-text, length-variant, length-struct, length-entry, length-array, length-more, length-none}
 use Rattle.dbus_marshal.proofs.Periods.{gap-of_4, gap-of_8, gap-of_number, gap-of_text, gap-of_type, lengths-period, are_within-period}
 use Rattle.dbus_value_model.proofs.ValueRows.{tree-Byte, tree-Bool, tree-I16, tree-U16, tree-I32, tree-U32, tree-I64, tree-U64, tree-Double, tree-Str, tree-Path, tree-Sig, tree-Fd, tree-Bytes, tree-Array, tree-Struct, tree-Entry, tree-Variant}
-
--- the same end, and the same arrays
-ends-as : (r : Option ℕ) (m n : ℕ) (K L : Type 0) → m ≡ n → (K → L) → (L → K) → EndsAt m K r → EndsAt n L r
-ends-as None m n K L e there back h = λ l. h (back l)
-ends-as (Some p) m n K L e there back h = (there h.0, h.1 ∙ ap capped e)
-
--- ---- a level at a time
-
-pub measured-number : (k : NumberCode) (n at end : ℕ) → end ≡ capped (at + (gap_to (width k) at + width k)) → IsMeasured (NumberValue k n) at (Some end)
-measured-number k n at end is = record {
-  from = λ order o h.
-      let same : gap_to (width k) at + width k ≡ length (spelling order o (NumberValue k n)) = omega (arith, length-number order o n k, gap-of_number k o at (rest-of o at h)) in
-      (tt, onward-from o at (gap_to (width k) at + width k) (length (spelling order o (NumberValue k n))) end h same is);
-}
-
-pub measured-text : (k : TextCode) (t : List ℕ) (at end : ℕ) → end ≡ capped (at + (gap_to (length_width k) at + (length_width k + (length t + 1)))) → IsMeasured (TextValue k t) at (Some end)
-measured-text k t at end is = record {
-  from = λ order o h.
-      let w = length_width k in
-      let n = length t in
-      let same : gap_to w at + (w + (n + 1)) ≡ length (spelling order o (TextValue k t)) = omega (arith, length-text order o k t, gap-of_text k o at (rest-of o at h)) in
-      (tt, onward-from o at (gap_to w at + (w + (n + 1))) (length (spelling order o (TextValue k t))) end h same is);
-}
-
-pub measured-variant : (x : ValueTree) (at p : ℕ) (r : Option ℕ) → p ≡ capped (at + (gap_to 1 at + (1 + (length (sig (type_of x)) + 1)))) → IsMeasured x p r → IsMeasured (VariantValue x) at r
-unfolding gap_to
-measured-variant x at p r is inner = record {
-  from = λ order o h.
-      let n = length (sig (type_of x)) in
-      let d = length (ended_text order 1 (sig (type_of x))) in
-      let same : gap_to 1 at + (1 + (n + 1)) ≡ d = omega (arith, length-ended order 1 (sig (type_of x))) in
-      let there : capped (o + d) ≡ p = sym (onward-from o at (gap_to 1 at + (1 + (n + 1))) d p h same is) in
-      ends-as r (o + d + length (spelling order (o + d) x)) (o + length (spelling order o (VariantValue x))) (IsWithinLimits order (o + d) x) (IsWithinLimits order o (VariantValue x))
-      (omega (arith, length-variant order o x)) (λ w. w) (λ w. w) (inner.from order (o + d) there);
-}
-
-pub measured-struct : (xs : ValueTrees) (at p : ℕ) (r : Option ℕ) → p ≡ capped (at + gap_to 8 at) → AreMeasured xs p r → IsMeasured (StructValue xs) at r
-measured-struct xs at p r is inner = record {
-  from = λ order o h.
-      let q = o + gap_to 8 o in
-      let there : capped q ≡ p = sym (onward-from o at (gap_to 8 at) (gap_to 8 o) p h (sym (gap-of_8 o at (rest-of o at h))) is) in
-      ends-as r (q + length (spellings order q xs)) (o + length (spelling order o (StructValue xs))) (AreWithinLimits order q xs) (IsWithinLimits order o (StructValue xs))
-      (omega (arith, length-struct order o xs)) (λ w. w) (λ w. w) (inner.from order q there);
-}
-
-pub measured-entry : (k v : ValueTree) (at p q : ℕ) (r : Option ℕ) → p ≡ capped (at + gap_to 8 at) → IsMeasured k p (Some q) → IsMeasured v q r → IsMeasured (EntryValue k v) at r
-measured-entry k v at p q r is key held = record {
-  from = λ order o h.
-      let b = o + gap_to 8 o in
-      let n = length (spelling order b k) in
-      let there : capped b ≡ p = sym (onward-from o at (gap_to 8 at) (gap_to 8 o) p h (sym (gap-of_8 o at (rest-of o at h))) is) in
-      let first = key.from order b there in
-      ends-as r (b + n + length (spelling order (b + n) v)) (o + length (spelling order o (EntryValue k v))) (IsWithinLimits order (b + n) v) (IsWithinLimits order o (EntryValue k v))
-      (omega (arith, length-entry order o k v)) (λ w. (first.0, w)) (λ w. w.1) (held.from order (b + n) (sym first.1));
-}
-
-pub measured-key : (k v : ValueTree) (at p : ℕ) → p ≡ capped (at + gap_to 8 at) → IsMeasured k p None → IsMeasured (EntryValue k v) at None
-measured-key k v at p is key = record {
-  from = λ order o h.
-      let there : capped (o + gap_to 8 o) ≡ p = sym (onward-from o at (gap_to 8 at) (gap_to 8 o) p h (sym (gap-of_8 o at (rest-of o at h))) is) in
-      λ w. key.from order (o + gap_to 8 o) there w.0;
-}
-
-pub measured-none : (at : ℕ) → IsCapped at → AreMeasured NoValues at (Some at)
-measured-none at low = record {
-  from = λ order o h. (tt, let same : o ≡ o + length (spellings order o NoValues) = omega (arith, length-none order o) in sym h ∙ ap capped same);
-}
-
-pub measured-more : (x : ValueTree) (xs : ValueTrees) (at p : ℕ) (r : Option ℕ) → IsMeasured x at (Some p) → AreMeasured xs p r → AreMeasured (MoreValues x xs) at r
-measured-more x xs at p r first rest = record {
-  from = λ order o h.
-      let n = length (spelling order o x) in
-      let f = first.from order o h in
-      ends-as r (o + n + length (spellings order (o + n) xs)) (o + length (spellings order o (MoreValues x xs))) (AreWithinLimits order (o + n) xs) (AreWithinLimits order o (MoreValues x xs))
-      (omega (arith, length-more order o x xs)) (λ w. (f.0, w)) (λ w. w.1) (rest.from order (o + n) (sym f.1));
-}
-
-pub measured-first : (x : ValueTree) (xs : ValueTrees) (at : ℕ) → IsMeasured x at None → AreMeasured (MoreValues x xs) at None
-measured-first x xs at first = record { from = λ order o h. λ w. first.from order o h w.0 }
-
-pub measured-one : (x : ValueTree) (at : ℕ) (r : Option ℕ) → IsMeasured x at r → AreMeasured (MoreValues x NoValues) at r
-measured-one x at r first = record {
-  from = λ order o h.
-      let n = length (spelling order o x) in
-      ends-as r (o + n) (o + length (spellings order o (MoreValues x NoValues))) (IsWithinLimits order o x) (AreWithinLimits order o (MoreValues x NoValues))
-      (omega (arith, length-more order o x NoValues, length-none order (o + n))) (λ w. (w, tt)) (λ w. w.0) (first.from order o h);
-}
-
-pub measured-coded : (x : ValueTree) (at p q s : ℕ) (r : Option ℕ) → p ≡ capped (at + gap_to 8 at) → q ≡ capped (p + (gap_to 1 p + 1)) → s ≡ capped (q + (gap_to 1 q + (1 + (length (sig (type_of x)) + 1)))) →
-    IsMeasured x s r → (code : ℕ) → IsMeasured (coded code x) at r
-measured-coded x at p q s r begins behind is inner code =
-    let held = measured-one (VariantValue x) q r (measured-variant x q s r is inner) in
-    measured-struct (MoreValues (NumberValue BYTE code) (MoreValues (VariantValue x) NoValues)) at p r begins
-    (measured-more (NumberValue BYTE code) (MoreValues (VariantValue x) NoValues) p q r (measured-number BYTE code p q behind) held)
-
--- ---- arrays
-
--- where the contents begin, seen from a capped offset
-contents-from : (t : TypeTree) (o at p s : ℕ) → capped o ≡ at → p ≡ capped (at + (gap_to 4 at + 4)) → s ≡ capped (p + gap_to (alignment_of t) p) → capped (contents_start t o) ≡ s
-contents-from t o at p s h is begins =
-    let head : gap_to 4 at + 4 ≡ gap_to 4 o + 4 = omega (arith, gap-of_4 o at (rest-of o at h)) in
-    let same : o + (gap_to 4 o + 4) ≡ o + gap_to 4 o + 4 = omega arith in
-    let there : capped (o + gap_to 4 o + 4) ≡ p = sym (onward-from o at (gap_to 4 at + 4) (gap_to 4 o + 4) p h head is ∙ ap capped same) in
-    let b = o + gap_to 4 o + 4 in
-    sym (onward-from b p (gap_to (alignment_of t) p) (gap_to (alignment_of t) b) s there (sym (gap-of_type t b p (rest-of b p there))) begins)
-
--- contents that begin at a small offset are within the array's limit exactly where their capped end is, which is then exact
-pub near-end : (m n e : ℕ) → m ≤ array_limit → e ≡ capped (m + n) → e ≤ m + array_limit → (n ≤ array_limit) × (e ≡ m + n)
-unfolding array_limit
-near-end m n e small is le = elim (dec_lt (m + n) 134217736) [
-  | yes h ↦ (omega (arith, capped-near (m + n) h), omega (arith, capped-near (m + n) h))
-  | no h ↦ let far : 134217736 ≤ m + n = omega arith in absurd (omega (arith, capped-far (m + n) far))
-]
-
-pub far-end : (m n e : ℕ) → m ≤ array_limit → e ≡ capped (m + n) → m + array_limit < e → array_limit < n
-unfolding array_limit
-far-end m n e small is lt = elim (dec_lt (m + n) 134217736) [
-  | yes h ↦ omega (arith, capped-near (m + n) h)
-  | no h ↦ omega arith
-]
-
-small-rest : (s : ℕ) → s % 8 ≤ array_limit
-unfolding array_limit
-small-rest s = omega arith
-
-pub measured-array : (t : TypeTree) (xs : ValueTrees) (at p s e end : ℕ) → p ≡ capped (at + (gap_to 4 at + 4)) → s ≡ capped (p + gap_to (alignment_of t) p) → AreMeasured xs (s % 8) (Some e) →
-    e ≤ s % 8 + array_limit → end ≡ capped (s - s % 8 + e) → IsMeasured (ArrayValue t xs) at (Some end)
-measured-array t xs at p s e end is begins inner fits ends = record {
-  from = λ order o h.
-      let z = contents_start t o in
-      let m = s % 8 in
-      let small : m ≤ array_limit = small-rest s in
-      let low : m < 134217736 = omega arith in
-      let there : capped z ≡ s = contents-from t o at p s h is begins in
-      let again : m % 8 ≡ m = omega arith in
-      let rest : m % 8 ≡ z % 8 = again ∙ sym (rest-of z s there) in
-      let contents = inner.from order m (capped-near m low) in
-      let near = near-end m (length (spellings order m xs)) e small contents.1 fits in
-      let same : length (spellings order m xs) ≡ length (spellings order z xs) = lengths-period order xs m z rest in
-      let shift : s - m + e ≡ s + length (spellings order z xs) = omega (arith, near.1, same) in
-      let n = length (spellings order z xs) in (
-        (omega (arith, near.0, same), are_within-period order xs m z rest contents.0),
-        ends ∙ ap capped shift ∙ capped-onward z s n there ∙ ap capped (sym (length-array order o t xs)),
-      );
-}
-
-pub measured-over : (t : TypeTree) (xs : ValueTrees) (at p s e : ℕ) → p ≡ capped (at + (gap_to 4 at + 4)) → s ≡ capped (p + gap_to (alignment_of t) p) → AreMeasured xs (s % 8) (Some e) →
-    s % 8 + array_limit < e → IsMeasured (ArrayValue t xs) at None
-measured-over t xs at p s e is begins inner over = record {
-  from = λ order o h.
-      let z = contents_start t o in
-      let m = s % 8 in
-      let small : m ≤ array_limit = small-rest s in
-      let low : m < 134217736 = omega arith in
-      let there : capped z ≡ s = contents-from t o at p s h is begins in
-      let again : m % 8 ≡ m = omega arith in
-      let rest : m % 8 ≡ z % 8 = again ∙ sym (rest-of z s there) in
-      let contents = inner.from order m (capped-near m low) in
-      let far = far-end m (length (spellings order m xs)) e small contents.1 over in
-      let same : length (spellings order m xs) ≡ length (spellings order z xs) = lengths-period order xs m z rest in
-      λ w. absurd (omega (arith, far, same, w.0));
-}
-
-pub measured-items : (t : TypeTree) (xs : ValueTrees) (at p s : ℕ) → p ≡ capped (at + (gap_to 4 at + 4)) → s ≡ capped (p + gap_to (alignment_of t) p) → AreMeasured xs (s % 8) None → IsMeasured (ArrayValue t xs) at None
-measured-items t xs at p s is begins inner = record {
-  from = λ order o h.
-      let z = contents_start t o in
-      let m = s % 8 in
-      let low : m < 134217736 = omega arith in
-      let there : capped z ≡ s = contents-from t o at p s h is begins in
-      let again : m % 8 ≡ m = omega arith in
-      let rest : z % 8 ≡ m % 8 = rest-of z s there ∙ sym again in
-      λ w. inner.from order m (capped-near m low) (are_within-period order xs z m rest w.1);
-}
-
--- ---- bytes
-
-length-bytes : (order : Order) (o : ℕ) (bs : List ℕ) → length (spellings order o (byte_values bs)) ≡ length bs
-unfolding gap_to
-length-bytes order o [] = length-none order o
-length-bytes order o (b ∷ bs) =
-    let x = NumberValue BYTE b in
-    let p = o + length (spelling order o x) in
-    omega (arith, length-more order o x (byte_values bs), length-number order o b BYTE, length-bytes order p bs)
-
-bytes-within : (order : Order) (o : ℕ) (bs : List ℕ) → AreWithinLimits order o (byte_values bs)
-bytes-within order o [] = tt
-bytes-within order o (b ∷ bs) = (tt, bytes-within order (o + length (spelling order o (NumberValue BYTE b))) bs)
 
 all-short : (bs : List ℕ) → HaveShortSignatures (byte_values bs)
 all-short [] = tt
@@ -216,145 +29,326 @@ all-short (b ∷ bs) = (tt, all-short bs)
 pub short_bytes : {A : Type 0} (bs : Vec ℕ A) → HasShortSignatures (value_tree {A = A} (Bytes bs))
 short_bytes bs = subst HasShortSignatures (sym (tree-Bytes bs)) (all-short bs.items)
 
--- bytes begin where their length ends
-bytes-from : (o at p : ℕ) → capped o ≡ at → p ≡ capped (at + (gap_to 4 at + 4)) → capped (contents_start (NumberType BYTE) o) ≡ p
-unfolding gap_to
-bytes-from o at p h is =
-    let low : IsCapped p = omega (arith, capped-bound (at + (gap_to 4 at + 4))) in
-    let none : p ≡ p + gap_to 1 p = omega arith in
-    contents-from (NumberType BYTE) o at p p h is (sym (capped-same p low) ∙ ap capped none)
+module _ (limits : Limits) where
+  -- the same end, and the same arrays
+  ends-as : (r : Option ℕ) (m n : ℕ) (K L : Type 0) → m ≡ n → (K → L) → (L → K) → EndsAt m K r → EndsAt n L r
+  ends-as None m n K L e there back h = λ l. h (back l)
+  ends-as (Some p) m n K L e there back h = (there h.0, h.1 ∙ ap capped e)
 
-pub measured-bytes : (bs : List ℕ) (at p end : ℕ) → p ≡ capped (at + (gap_to 4 at + 4)) → length bs ≤ array_limit → end ≡ capped (p + length bs) →
-    IsMeasured (ArrayValue (NumberType BYTE) (byte_values bs)) at (Some end)
-measured-bytes bs at p end is fits ends = record {
-  from = λ order o h.
-      let t = NumberType BYTE in
-      let z = contents_start t o in
-      let there : capped z ≡ p = bytes-from o at p h is in
-      let len = length-bytes order z bs in (
-        (omega (arith, len, fits), bytes-within order z bs),
-        onward-from z p (length bs) (length (spellings order z (byte_values bs))) end there (sym len) ends ∙ ap capped (sym (length-array order o t (byte_values bs))),
-      );
-}
+  -- ---- a level at a time
 
-pub measured-bytes_over : (bs : List ℕ) (at : ℕ) → array_limit < length bs → IsMeasured (ArrayValue (NumberType BYTE) (byte_values bs)) at None
-measured-bytes_over bs at over = record {
-  from = λ order o h. λ w. absurd (omega (arith, over, length-bytes order (contents_start (NumberType BYTE) o) bs, w.0));
-}
+  pub measured-number : (k : NumberCode) (n at end : ℕ) → end ≡ capped (at + (gap_to (width k) at + width k)) → IsMeasured limits.array (NumberValue k n) at (Some end)
+  measured-number k n at end is = record {
+    from = λ order o h.
+        let same : gap_to (width k) at + width k ≡ length (spelling order o (NumberValue k n)) = omega (arith, length-number order o n k, gap-of_number k o at (rest-of o at h)) in
+        (tt, onward-from o at (gap_to (width k) at + width k) (length (spelling order o (NumberValue k n))) end h same is);
+  }
 
--- ---- of a `Value`
+  pub measured-text : (k : TextCode) (t : List ℕ) (at end : ℕ) → end ≡ capped (at + (gap_to (length_width k) at + (length_width k + (length t + 1)))) → IsMeasured limits.array (TextValue k t) at (Some end)
+  measured-text k t at end is = record {
+    from = λ order o h.
+        let w = length_width k in
+        let n = length t in
+        let same : gap_to w at + (w + (n + 1)) ≡ length (spelling order o (TextValue k t)) = omega (arith, length-text order o k t, gap-of_text k o at (rest-of o at h)) in
+        (tt, onward-from o at (gap_to w at + (w + (n + 1))) (length (spelling order o (TextValue k t))) end h same is);
+  }
 
-abbrev MeasuredTo : ℕ → Option ℕ → ValueTree → Type 0
-MeasuredTo at r v = IsMeasured v at r
+  pub measured-variant : (x : ValueTree) (at p : ℕ) (r : Option ℕ) → p ≡ capped (at + (gap_to 1 at + (1 + (length (sig (type_of x)) + 1)))) → IsMeasured limits.array x p r → IsMeasured limits.array (VariantValue x) at r
+  unfolding gap_to
+  measured-variant x at p r is inner = record {
+    from = λ order o h.
+        let n = length (sig (type_of x)) in
+        let d = length (ended_text order 1 (sig (type_of x))) in
+        let same : gap_to 1 at + (1 + (n + 1)) ≡ d = omega (arith, length-ended order 1 (sig (type_of x))) in
+        let there : capped (o + d) ≡ p = sym (onward-from o at (gap_to 1 at + (1 + (n + 1))) d p h same is) in
+        ends-as r (o + d + length (spelling order (o + d) x)) (o + length (spelling order o (VariantValue x))) (IsWithinLimits limits.array order (o + d) x) (IsWithinLimits limits.array order o (VariantValue x))
+        (omega (arith, length-variant order o x)) (λ w. w) (λ w. w) (inner.from order (o + d) there);
+  }
 
-pub measured-Byte : (A : Type 0) (at end : ℕ) (n : ℕ) → end ≡ capped (at + (gap_to 1 at + 1)) → IsMeasured (value_tree {A = A} (Byte n)) at (Some end)
-measured-Byte A at end n is = subst (MeasuredTo at (Some end)) (sym (tree-Byte A n)) (measured-number BYTE n at end is)
+  pub measured-struct : (xs : ValueTrees) (at p : ℕ) (r : Option ℕ) → p ≡ capped (at + gap_to 8 at) → AreMeasured limits.array xs p r → IsMeasured limits.array (StructValue xs) at r
+  measured-struct xs at p r is inner = record {
+    from = λ order o h.
+        let q = o + gap_to 8 o in
+        let there : capped q ≡ p = sym (onward-from o at (gap_to 8 at) (gap_to 8 o) p h (sym (gap-of_8 o at (rest-of o at h))) is) in
+        ends-as r (q + length (spellings order q xs)) (o + length (spelling order o (StructValue xs))) (AreWithinLimits limits.array order q xs) (IsWithinLimits limits.array order o (StructValue xs))
+        (omega (arith, length-struct order o xs)) (λ w. w) (λ w. w) (inner.from order q there);
+  }
 
-pub measured-Bool : (A : Type 0) (at end : ℕ) (b : Bool) → end ≡ capped (at + (gap_to 4 at + 4)) → IsMeasured (value_tree {A = A} (BoolOf b)) at (Some end)
-measured-Bool A at end b is = subst (MeasuredTo at (Some end)) (sym (tree-Bool A b)) (measured-number BOOLEAN (cond b 1 0) at end is)
+  pub measured-entry : (k v : ValueTree) (at p q : ℕ) (r : Option ℕ) → p ≡ capped (at + gap_to 8 at) → IsMeasured limits.array k p (Some q) → IsMeasured limits.array v q r → IsMeasured limits.array (EntryValue k v) at r
+  measured-entry k v at p q r is key held = record {
+    from = λ order o h.
+        let b = o + gap_to 8 o in
+        let n = length (spelling order b k) in
+        let there : capped b ≡ p = sym (onward-from o at (gap_to 8 at) (gap_to 8 o) p h (sym (gap-of_8 o at (rest-of o at h))) is) in
+        let first = key.from order b there in
+        ends-as r (b + n + length (spelling order (b + n) v)) (o + length (spelling order o (EntryValue k v))) (IsWithinLimits limits.array order (b + n) v) (IsWithinLimits limits.array order o (EntryValue k v))
+        (omega (arith, length-entry order o k v)) (λ w. (first.0, w)) (λ w. w.1) (held.from order (b + n) (sym first.1));
+  }
 
-pub measured-I16 : (A : Type 0) (at end : ℕ) (z : ℤ) → end ≡ capped (at + (gap_to 2 at + 2)) → IsMeasured (value_tree {A = A} (I16 z)) at (Some end)
-measured-I16 A at end z is = subst (MeasuredTo at (Some end)) (sym (tree-I16 A z)) (measured-number INT16 (cast_unsigned w16 z) at end is)
+  pub measured-key : (k v : ValueTree) (at p : ℕ) → p ≡ capped (at + gap_to 8 at) → IsMeasured limits.array k p None → IsMeasured limits.array (EntryValue k v) at None
+  measured-key k v at p is key = record {
+    from = λ order o h.
+        let there : capped (o + gap_to 8 o) ≡ p = sym (onward-from o at (gap_to 8 at) (gap_to 8 o) p h (sym (gap-of_8 o at (rest-of o at h))) is) in
+        λ w. key.from order (o + gap_to 8 o) there w.0;
+  }
 
-pub measured-U16 : (A : Type 0) (at end : ℕ) (n : ℕ) → end ≡ capped (at + (gap_to 2 at + 2)) → IsMeasured (value_tree {A = A} (U16 n)) at (Some end)
-measured-U16 A at end n is = subst (MeasuredTo at (Some end)) (sym (tree-U16 A n)) (measured-number UINT16 n at end is)
+  pub measured-none : (at : ℕ) → IsCapped at → AreMeasured limits.array NoValues at (Some at)
+  measured-none at low = record {
+    from = λ order o h. (tt, let same : o ≡ o + length (spellings order o NoValues) = omega (arith, length-none order o) in sym h ∙ ap capped same);
+  }
 
-pub measured-I32 : (A : Type 0) (at end : ℕ) (z : ℤ) → end ≡ capped (at + (gap_to 4 at + 4)) → IsMeasured (value_tree {A = A} (I32 z)) at (Some end)
-measured-I32 A at end z is = subst (MeasuredTo at (Some end)) (sym (tree-I32 A z)) (measured-number INT32 (cast_unsigned w32 z) at end is)
+  pub measured-more : (x : ValueTree) (xs : ValueTrees) (at p : ℕ) (r : Option ℕ) → IsMeasured limits.array x at (Some p) → AreMeasured limits.array xs p r → AreMeasured limits.array (MoreValues x xs) at r
+  measured-more x xs at p r first rest = record {
+    from = λ order o h.
+        let n = length (spelling order o x) in
+        let f = first.from order o h in
+        ends-as r (o + n + length (spellings order (o + n) xs)) (o + length (spellings order o (MoreValues x xs))) (AreWithinLimits limits.array order (o + n) xs) (AreWithinLimits limits.array order o (MoreValues x xs))
+        (omega (arith, length-more order o x xs)) (λ w. (f.0, w)) (λ w. w.1) (rest.from order (o + n) (sym f.1));
+  }
 
-pub measured-U32 : (A : Type 0) (at end : ℕ) (n : ℕ) → end ≡ capped (at + (gap_to 4 at + 4)) → IsMeasured (value_tree {A = A} (U32 n)) at (Some end)
-measured-U32 A at end n is = subst (MeasuredTo at (Some end)) (sym (tree-U32 A n)) (measured-number UINT32 n at end is)
+  pub measured-first : (x : ValueTree) (xs : ValueTrees) (at : ℕ) → IsMeasured limits.array x at None → AreMeasured limits.array (MoreValues x xs) at None
+  measured-first x xs at first = record { from = λ order o h. λ w. first.from order o h w.0 }
 
-pub measured-I64 : (A : Type 0) (at end : ℕ) (z : ℤ) → end ≡ capped (at + (gap_to 8 at + 8)) → IsMeasured (value_tree {A = A} (I64 z)) at (Some end)
-measured-I64 A at end z is = subst (MeasuredTo at (Some end)) (sym (tree-I64 A z)) (measured-number INT64 (cast_unsigned w64 z) at end is)
+  pub measured-one : (x : ValueTree) (at : ℕ) (r : Option ℕ) → IsMeasured limits.array x at r → AreMeasured limits.array (MoreValues x NoValues) at r
+  measured-one x at r first = record {
+    from = λ order o h.
+        let n = length (spelling order o x) in
+        ends-as r (o + n) (o + length (spellings order o (MoreValues x NoValues))) (IsWithinLimits limits.array order o x) (AreWithinLimits limits.array order o (MoreValues x NoValues))
+        (omega (arith, length-more order o x NoValues, length-none order (o + n))) (λ w. (w, tt)) (λ w. w.0) (first.from order o h);
+  }
 
-pub measured-U64 : (A : Type 0) (at end : ℕ) (n : ℕ) → end ≡ capped (at + (gap_to 8 at + 8)) → IsMeasured (value_tree {A = A} (U64 n)) at (Some end)
-measured-U64 A at end n is = subst (MeasuredTo at (Some end)) (sym (tree-U64 A n)) (measured-number UINT64 n at end is)
+  pub measured-coded : (x : ValueTree) (at p q s : ℕ) (r : Option ℕ) → p ≡ capped (at + gap_to 8 at) → q ≡ capped (p + (gap_to 1 p + 1)) → s ≡ capped (q + (gap_to 1 q + (1 + (length (sig (type_of x)) + 1)))) →
+      IsMeasured limits.array x s r → (code : ℕ) → IsMeasured limits.array (coded code x) at r
+  measured-coded x at p q s r begins behind is inner code =
+      let held = measured-one (VariantValue x) q r (measured-variant x q s r is inner) in
+      measured-struct (MoreValues (NumberValue BYTE code) (MoreValues (VariantValue x) NoValues)) at p r begins
+      (measured-more (NumberValue BYTE code) (MoreValues (VariantValue x) NoValues) p q r (measured-number BYTE code p q behind) held)
 
-pub measured-Double : (A : Type 0) (at end : ℕ) (n : ℕ) → end ≡ capped (at + (gap_to 8 at + 8)) → IsMeasured (value_tree {A = A} (Double n)) at (Some end)
-measured-Double A at end n is = subst (MeasuredTo at (Some end)) (sym (tree-Double A n)) (measured-number DOUBLE n at end is)
+  -- ---- arrays
 
-pub measured-Fd : (A : Type 0) (at end : ℕ) (n : ℕ) → end ≡ capped (at + (gap_to 4 at + 4)) → IsMeasured (value_tree {A = A} (Fd n)) at (Some end)
-measured-Fd A at end n is = subst (MeasuredTo at (Some end)) (sym (tree-Fd A n)) (measured-number UNIX_FD n at end is)
+  -- where the contents begin, seen from a capped offset
+  contents-from : (t : TypeTree) (o at p s : ℕ) → capped o ≡ at → p ≡ capped (at + (gap_to 4 at + 4)) → s ≡ capped (p + gap_to (alignment_of t) p) → capped (contents_start t o) ≡ s
+  contents-from t o at p s h is begins =
+      let head : gap_to 4 at + 4 ≡ gap_to 4 o + 4 = omega (arith, gap-of_4 o at (rest-of o at h)) in
+      let same : o + (gap_to 4 o + 4) ≡ o + gap_to 4 o + 4 = omega arith in
+      let there : capped (o + gap_to 4 o + 4) ≡ p = sym (onward-from o at (gap_to 4 at + 4) (gap_to 4 o + 4) p h head is ∙ ap capped same) in
+      let b = o + gap_to 4 o + 4 in
+      sym (onward-from b p (gap_to (alignment_of t) p) (gap_to (alignment_of t) b) s there (sym (gap-of_type t b p (rest-of b p there))) begins)
 
-pub measured-Str : {A : Type 0} (at end : ℕ) (s : String A) → end ≡ capped (at + (gap_to 4 at + (4 + (length (string_bytes s) + 1)))) → IsMeasured (value_tree {A = A} (Str s)) at (Some end)
-measured-Str at end s is = subst (MeasuredTo at (Some end)) (sym (tree-Str s)) (measured-text STRING (string_bytes s) at end is)
+  -- contents that begin at a small offset are within the array's limit exactly where their capped end is, which is then exact
+  pub near-end : (m n e : ℕ) → m < 8 → e ≡ capped (m + n) → e ≤ m + limits.array → (n ≤ limits.array) × (e ≡ m + n)
+  near-end m n e small is le = elim (dec_lt (m + n) 134217736) [
+    | yes h ↦ (omega (arith, capped-near (m + n) h), omega (arith, capped-near (m + n) h))
+    | no h ↦ let far : 134217736 ≤ m + n = omega arith in absurd (omega (arith, capped-far (m + n) far, limits.array_in))
+  ]
 
-pub measured-Path : {A : Type 0} (at end : ℕ) (s : String A) → end ≡ capped (at + (gap_to 4 at + (4 + (length (string_bytes s) + 1)))) → IsMeasured (value_tree {A = A} (Path s)) at (Some end)
-measured-Path at end s is = subst (MeasuredTo at (Some end)) (sym (tree-Path s)) (measured-text OBJECT_PATH (string_bytes s) at end is)
+  pub far-end : (m n e : ℕ) → m < 8 → e ≡ capped (m + n) → m + limits.array < e → limits.array < n
+  far-end m n e small is lt = elim (dec_lt (m + n) 134217736) [
+    | yes h ↦ omega (arith, capped-near (m + n) h)
+    | no h ↦ omega (arith, limits.array_in)
+  ]
 
-pub measured-Sig : {A : Type 0} (at end : ℕ) (s : String A) → end ≡ capped (at + (gap_to 1 at + (1 + (length (string_bytes s) + 1)))) → IsMeasured (value_tree {A = A} (Sig s)) at (Some end)
-measured-Sig at end s is = subst (MeasuredTo at (Some end)) (sym (tree-Sig s)) (measured-text SIGNATURE (string_bytes s) at end is)
+  small-rest : (s : ℕ) → s % 8 < 8
+  small-rest s = omega arith
 
-pub measured-Struct : {A : Type 0} (at p : ℕ) (r : Option ℕ) (vs : Vec (Value A) A) → p ≡ capped (at + gap_to 8 at) → AreMeasured (value_trees_of vs.items) p r → IsMeasured (value_tree {A = A} (Struct vs)) at r
-measured-Struct at p r vs is inner = subst (MeasuredTo at r) (sym (tree-Struct vs)) (measured-struct (value_trees_of vs.items) at p r is inner)
+  pub measured-array : (t : TypeTree) (xs : ValueTrees) (at p s e end : ℕ) → p ≡ capped (at + (gap_to 4 at + 4)) → s ≡ capped (p + gap_to (alignment_of t) p) → AreMeasured limits.array xs (s % 8) (Some e) →
+      e ≤ s % 8 + limits.array → end ≡ capped (s - s % 8 + e) → IsMeasured limits.array (ArrayValue t xs) at (Some end)
+  measured-array t xs at p s e end is begins inner fits ends = record {
+    from = λ order o h.
+        let z = contents_start t o in
+        let m = s % 8 in
+        let small : m < 8 = small-rest s in
+        let low : m < 134217736 = omega arith in
+        let there : capped z ≡ s = contents-from t o at p s h is begins in
+        let again : m % 8 ≡ m = omega arith in
+        let rest : m % 8 ≡ z % 8 = again ∙ sym (rest-of z s there) in
+        let contents = inner.from order m (capped-near m low) in
+        let near = near-end m (length (spellings order m xs)) e small contents.1 fits in
+        let same : length (spellings order m xs) ≡ length (spellings order z xs) = lengths-period order xs m z rest in
+        let shift : s - m + e ≡ s + length (spellings order z xs) = omega (arith, near.1, same) in
+        let n = length (spellings order z xs) in (
+          (omega (arith, near.0, same), are_within-period limits.array order xs m z rest contents.0),
+          ends ∙ ap capped shift ∙ capped-onward z s n there ∙ ap capped (sym (length-array order o t xs)),
+        );
+  }
 
-pub measured-Entry : {A : Type 0} (at p q : ℕ) (r : Option ℕ) (k v : Box (Value A) A) → p ≡ capped (at + gap_to 8 at) → IsMeasured (value_tree k.value) p (Some q) → IsMeasured (value_tree v.value) q r →
-    IsMeasured (value_tree {A = A} (Entry k v)) at r
-measured-Entry at p q r k v is key held = subst (MeasuredTo at r) (sym (tree-Entry k v)) (measured-entry (value_tree k.value) (value_tree v.value) at p q r is key held)
+  pub measured-over : (t : TypeTree) (xs : ValueTrees) (at p s e : ℕ) → p ≡ capped (at + (gap_to 4 at + 4)) → s ≡ capped (p + gap_to (alignment_of t) p) → AreMeasured limits.array xs (s % 8) (Some e) →
+      s % 8 + limits.array < e → IsMeasured limits.array (ArrayValue t xs) at None
+  measured-over t xs at p s e is begins inner over = record {
+    from = λ order o h.
+        let z = contents_start t o in
+        let m = s % 8 in
+        let small : m < 8 = small-rest s in
+        let low : m < 134217736 = omega arith in
+        let there : capped z ≡ s = contents-from t o at p s h is begins in
+        let again : m % 8 ≡ m = omega arith in
+        let rest : m % 8 ≡ z % 8 = again ∙ sym (rest-of z s there) in
+        let contents = inner.from order m (capped-near m low) in
+        let far = far-end m (length (spellings order m xs)) e small contents.1 over in
+        let same : length (spellings order m xs) ≡ length (spellings order z xs) = lengths-period order xs m z rest in
+        λ w. absurd (omega (arith, far, same, w.0));
+  }
 
-pub measured-Entry_key : {A : Type 0} (at p : ℕ) (k v : Box (Value A) A) → p ≡ capped (at + gap_to 8 at) → IsMeasured (value_tree k.value) p None → IsMeasured (value_tree {A = A} (Entry k v)) at None
-measured-Entry_key at p k v is key = subst (MeasuredTo at None) (sym (tree-Entry k v)) (measured-key (value_tree k.value) (value_tree v.value) at p is key)
+  pub measured-items : (t : TypeTree) (xs : ValueTrees) (at p s : ℕ) → p ≡ capped (at + (gap_to 4 at + 4)) → s ≡ capped (p + gap_to (alignment_of t) p) → AreMeasured limits.array xs (s % 8) None → IsMeasured limits.array (ArrayValue t xs) at None
+  measured-items t xs at p s is begins inner = record {
+    from = λ order o h.
+        let z = contents_start t o in
+        let m = s % 8 in
+        let low : m < 134217736 = omega arith in
+        let there : capped z ≡ s = contents-from t o at p s h is begins in
+        let again : m % 8 ≡ m = omega arith in
+        let rest : z % 8 ≡ m % 8 = rest-of z s there ∙ sym again in
+        λ w. inner.from order m (capped-near m low) (are_within-period limits.array order xs z m rest w.1);
+  }
 
-pub measured-Variant : {A : Type 0} (at p : ℕ) (r : Option ℕ) (v : Box (Value A) A) → p ≡ capped (at + (gap_to 1 at + (1 + (length (sig (type_of (value_tree v.value))) + 1)))) → IsMeasured (value_tree v.value) p r →
-    IsMeasured (value_tree {A = A} (Variant v)) at r
-measured-Variant at p r v is inner = subst (MeasuredTo at r) (sym (tree-Variant v)) (measured-variant (value_tree v.value) at p r is inner)
+  -- ---- bytes
 
-pub measured-Bytes : {A : Type 0} (at p end : ℕ) (bs : Vec ℕ A) → p ≡ capped (at + (gap_to 4 at + 4)) → length bs.items ≤ 67108864 → end ≡ capped (p + length bs.items) →
-    IsMeasured (value_tree {A = A} (Bytes bs)) at (Some end)
-unfolding array_limit
-measured-Bytes at p end bs is fits ends = subst (MeasuredTo at (Some end)) (sym (tree-Bytes bs)) (measured-bytes bs.items at p end is fits ends)
+  length-bytes : (order : Order) (o : ℕ) (bs : List ℕ) → length (spellings order o (byte_values bs)) ≡ length bs
+  unfolding gap_to
+  length-bytes order o [] = length-none order o
+  length-bytes order o (b ∷ bs) =
+      let x = NumberValue BYTE b in
+      let p = o + length (spelling order o x) in
+      omega (arith, length-more order o x (byte_values bs), length-number order o b BYTE, length-bytes order p bs)
 
-pub measured-Bytes_over : {A : Type 0} (at : ℕ) (bs : Vec ℕ A) → 67108864 < length bs.items → IsMeasured (value_tree {A = A} (Bytes bs)) at None
-unfolding array_limit
-measured-Bytes_over at bs over = subst (MeasuredTo at None) (sym (tree-Bytes bs)) (measured-bytes_over bs.items at over)
+  bytes-within : (order : Order) (o : ℕ) (bs : List ℕ) → AreWithinLimits limits.array order o (byte_values bs)
+  bytes-within order o [] = tt
+  bytes-within order o (b ∷ bs) = (tt, bytes-within order (o + length (spelling order o (NumberValue BYTE b))) bs)
 
-pub measured-Array : {A : Type 0} (at p s e end : ℕ) (t : SigType A) (vs : Vec (Value A) A) → p ≡ capped (at + (gap_to 4 at + 4)) → s ≡ capped (p + gap_to (alignment_of (type_tree t)) p) →
-    AreMeasured (value_trees_of vs.items) (s % 8) (Some e) → e ≤ s % 8 + 67108864 → end ≡ capped (s - s % 8 + e) → IsMeasured (value_tree {A = A} (Array t vs)) at (Some end)
-unfolding array_limit
-measured-Array at p s e end t vs is begins inner fits ends =
-    subst (MeasuredTo at (Some end)) (sym (tree-Array t vs)) (measured-array (type_tree t) (value_trees_of vs.items) at p s e end is begins inner fits ends)
+  -- bytes begin where their length ends
+  bytes-from : (o at p : ℕ) → capped o ≡ at → p ≡ capped (at + (gap_to 4 at + 4)) → capped (contents_start (NumberType BYTE) o) ≡ p
+  unfolding gap_to
+  bytes-from o at p h is =
+      let low : IsCapped p = omega (arith, capped-bound (at + (gap_to 4 at + 4))) in
+      let none : p ≡ p + gap_to 1 p = omega arith in
+      contents-from (NumberType BYTE) o at p p h is (sym (capped-same p low) ∙ ap capped none)
 
-pub measured-Array_over : {A : Type 0} (at p s e : ℕ) (t : SigType A) (vs : Vec (Value A) A) → p ≡ capped (at + (gap_to 4 at + 4)) → s ≡ capped (p + gap_to (alignment_of (type_tree t)) p) →
-    AreMeasured (value_trees_of vs.items) (s % 8) (Some e) → s % 8 + 67108864 < e → IsMeasured (value_tree {A = A} (Array t vs)) at None
-unfolding array_limit
-measured-Array_over at p s e t vs is begins inner over =
-    subst (MeasuredTo at None) (sym (tree-Array t vs)) (measured-over (type_tree t) (value_trees_of vs.items) at p s e is begins inner over)
+  pub measured-bytes : (bs : List ℕ) (at p end : ℕ) → p ≡ capped (at + (gap_to 4 at + 4)) → length bs ≤ limits.array → end ≡ capped (p + length bs) →
+      IsMeasured limits.array (ArrayValue (NumberType BYTE) (byte_values bs)) at (Some end)
+  measured-bytes bs at p end is fits ends = record {
+    from = λ order o h.
+        let t = NumberType BYTE in
+        let z = contents_start t o in
+        let there : capped z ≡ p = bytes-from o at p h is in
+        let len = length-bytes order z bs in (
+          (omega (arith, len, fits), bytes-within order z bs),
+          onward-from z p (length bs) (length (spellings order z (byte_values bs))) end there (sym len) ends ∙ ap capped (sym (length-array order o t (byte_values bs))),
+        );
+  }
 
-pub measured-Array_items : {A : Type 0} (at p s : ℕ) (t : SigType A) (vs : Vec (Value A) A) → p ≡ capped (at + (gap_to 4 at + 4)) → s ≡ capped (p + gap_to (alignment_of (type_tree t)) p) →
-    AreMeasured (value_trees_of vs.items) (s % 8) None → IsMeasured (value_tree {A = A} (Array t vs)) at None
-unfolding array_limit
-measured-Array_items at p s t vs is begins inner =
-    subst (MeasuredTo at None) (sym (tree-Array t vs)) (measured-items (type_tree t) (value_trees_of vs.items) at p s is begins inner)
+  pub measured-bytes_over : (bs : List ℕ) (at : ℕ) → limits.array < length bs → IsMeasured limits.array (ArrayValue (NumberType BYTE) (byte_values bs)) at None
+  measured-bytes_over bs at over = record {
+    from = λ order o h. λ w. absurd (omega (arith, over, length-bytes order (contents_start (NumberType BYTE) o) bs, w.0));
+  }
 
--- ---- along a list
+  -- ---- of a `Value`
 
-pub measured-rest : {A : Type 0} (vs : List (Value A)) (i at p : ℕ) (r : Option ℕ) (v : Value A) → i < length vs → v ≡ get_or vs i v → IsMeasured (value_tree v) at (Some p) →
-    AreMeasured (value_trees_of (drop (i + 1) vs)) p r → AreMeasured (value_trees_of (drop i vs)) at r
-measured-rest {A} vs i at p r v lt e first rest =
-    let here : IsMeasured (value_tree (get_or vs i v)) at (Some p) = subst (λ (x : Value A). IsMeasured (value_tree x) at (Some p)) e first in
-    subst (λ (l : List (Value A)). AreMeasured (value_trees_of l) at r) (sym (drop_more vs i v lt))
-    (measured-more (value_tree (get_or vs i v)) (value_trees_of (drop (i + 1) vs)) at p r here rest)
+  abbrev MeasuredTo : ℕ → Option ℕ → ValueTree → Type 0
+  MeasuredTo at r v = IsMeasured limits.array v at r
 
-pub measured-stop : {A : Type 0} (vs : List (Value A)) (i at : ℕ) (v : Value A) → i < length vs → v ≡ get_or vs i v → IsMeasured (value_tree v) at None →
-    AreMeasured (value_trees_of (drop i vs)) at None
-measured-stop {A} vs i at v lt e first =
-    let here : IsMeasured (value_tree (get_or vs i v)) at None = subst (λ (x : Value A). IsMeasured (value_tree x) at None) e first in
-    subst (λ (l : List (Value A)). AreMeasured (value_trees_of l) at None) (sym (drop_more vs i v lt))
-    (measured-first (value_tree (get_or vs i v)) (value_trees_of (drop (i + 1) vs)) at here)
+  pub measured-Byte : (A : Type 0) (at end : ℕ) (n : ℕ) → end ≡ capped (at + (gap_to 1 at + 1)) → IsMeasured limits.array (value_tree {A = A} (Byte n)) at (Some end)
+  measured-Byte A at end n is = subst (MeasuredTo at (Some end)) (sym (tree-Byte A n)) (measured-number BYTE n at end is)
 
-pub measured-end : {A : Type 0} (vs : List (Value A)) (i at : ℕ) → length vs ≤ i → IsCapped at → AreMeasured (value_trees_of (drop i vs)) at (Some at)
-measured-end {A} vs i at le low = subst (λ (l : List (Value A)). AreMeasured (value_trees_of l) at (Some at)) (sym (drop_all i vs le)) (measured-none at low)
+  pub measured-Bool : (A : Type 0) (at end : ℕ) (b : Bool) → end ≡ capped (at + (gap_to 4 at + 4)) → IsMeasured limits.array (value_tree {A = A} (BoolOf b)) at (Some end)
+  measured-Bool A at end b is = subst (MeasuredTo at (Some end)) (sym (tree-Bool A b)) (measured-number BOOLEAN (cond b 1 0) at end is)
 
--- a step behind another
-pub number-steps : (at g w p end : ℕ) → p ≡ capped (at + g) → end ≡ capped (p + w) → end ≡ capped (at + (g + w))
-number-steps at g w p end is ends = ends ∙ onward-from (at + g) p w w (capped (p + w)) (sym is) refl refl ∙ ap capped (let e : at + g + w ≡ at + (g + w) = omega arith in e)
+  pub measured-I16 : (A : Type 0) (at end : ℕ) (z : ℤ) → end ≡ capped (at + (gap_to 2 at + 2)) → IsMeasured limits.array (value_tree {A = A} (I16 z)) at (Some end)
+  measured-I16 A at end z is = subst (MeasuredTo at (Some end)) (sym (tree-I16 A z)) (measured-number INT16 (cast_unsigned w16 z) at end is)
 
-pub text-steps : (at g w n p end : ℕ) → p ≡ capped (at + (g + w)) → end ≡ capped (p + capped n + 1) → end ≡ capped (at + (g + (w + (n + 1))))
-text-steps at g w n p end is ends =
-    let a : p + capped n + 1 ≡ p + 1 + capped n = omega arith in
-    let b : p + 1 + n ≡ p + (n + 1) = omega arith in
-    let c : at + (g + w) + (n + 1) ≡ at + (g + (w + (n + 1))) = omega arith in
-    ends ∙ ap capped a ∙ capped-step (p + 1) n ∙ ap capped b ∙ capped-onward (at + (g + w)) p (n + 1) (sym is) ∙ ap capped c
+  pub measured-U16 : (A : Type 0) (at end : ℕ) (n : ℕ) → end ≡ capped (at + (gap_to 2 at + 2)) → IsMeasured limits.array (value_tree {A = A} (U16 n)) at (Some end)
+  measured-U16 A at end n is = subst (MeasuredTo at (Some end)) (sym (tree-U16 A n)) (measured-number UINT16 n at end is)
+
+  pub measured-I32 : (A : Type 0) (at end : ℕ) (z : ℤ) → end ≡ capped (at + (gap_to 4 at + 4)) → IsMeasured limits.array (value_tree {A = A} (I32 z)) at (Some end)
+  measured-I32 A at end z is = subst (MeasuredTo at (Some end)) (sym (tree-I32 A z)) (measured-number INT32 (cast_unsigned w32 z) at end is)
+
+  pub measured-U32 : (A : Type 0) (at end : ℕ) (n : ℕ) → end ≡ capped (at + (gap_to 4 at + 4)) → IsMeasured limits.array (value_tree {A = A} (U32 n)) at (Some end)
+  measured-U32 A at end n is = subst (MeasuredTo at (Some end)) (sym (tree-U32 A n)) (measured-number UINT32 n at end is)
+
+  pub measured-I64 : (A : Type 0) (at end : ℕ) (z : ℤ) → end ≡ capped (at + (gap_to 8 at + 8)) → IsMeasured limits.array (value_tree {A = A} (I64 z)) at (Some end)
+  measured-I64 A at end z is = subst (MeasuredTo at (Some end)) (sym (tree-I64 A z)) (measured-number INT64 (cast_unsigned w64 z) at end is)
+
+  pub measured-U64 : (A : Type 0) (at end : ℕ) (n : ℕ) → end ≡ capped (at + (gap_to 8 at + 8)) → IsMeasured limits.array (value_tree {A = A} (U64 n)) at (Some end)
+  measured-U64 A at end n is = subst (MeasuredTo at (Some end)) (sym (tree-U64 A n)) (measured-number UINT64 n at end is)
+
+  pub measured-Double : (A : Type 0) (at end : ℕ) (n : ℕ) → end ≡ capped (at + (gap_to 8 at + 8)) → IsMeasured limits.array (value_tree {A = A} (Double n)) at (Some end)
+  measured-Double A at end n is = subst (MeasuredTo at (Some end)) (sym (tree-Double A n)) (measured-number DOUBLE n at end is)
+
+  pub measured-Fd : (A : Type 0) (at end : ℕ) (n : ℕ) → end ≡ capped (at + (gap_to 4 at + 4)) → IsMeasured limits.array (value_tree {A = A} (Fd n)) at (Some end)
+  measured-Fd A at end n is = subst (MeasuredTo at (Some end)) (sym (tree-Fd A n)) (measured-number UNIX_FD n at end is)
+
+  pub measured-Str : {A : Type 0} (at end : ℕ) (s : String A) → end ≡ capped (at + (gap_to 4 at + (4 + (length (string_bytes s) + 1)))) → IsMeasured limits.array (value_tree {A = A} (Str s)) at (Some end)
+  measured-Str at end s is = subst (MeasuredTo at (Some end)) (sym (tree-Str s)) (measured-text STRING (string_bytes s) at end is)
+
+  pub measured-Path : {A : Type 0} (at end : ℕ) (s : String A) → end ≡ capped (at + (gap_to 4 at + (4 + (length (string_bytes s) + 1)))) → IsMeasured limits.array (value_tree {A = A} (Path s)) at (Some end)
+  measured-Path at end s is = subst (MeasuredTo at (Some end)) (sym (tree-Path s)) (measured-text OBJECT_PATH (string_bytes s) at end is)
+
+  pub measured-Sig : {A : Type 0} (at end : ℕ) (s : String A) → end ≡ capped (at + (gap_to 1 at + (1 + (length (string_bytes s) + 1)))) → IsMeasured limits.array (value_tree {A = A} (Sig s)) at (Some end)
+  measured-Sig at end s is = subst (MeasuredTo at (Some end)) (sym (tree-Sig s)) (measured-text SIGNATURE (string_bytes s) at end is)
+
+  pub measured-Struct : {A : Type 0} (at p : ℕ) (r : Option ℕ) (vs : Vec (Value A) A) → p ≡ capped (at + gap_to 8 at) → AreMeasured limits.array (value_trees_of vs.items) p r → IsMeasured limits.array (value_tree {A = A} (Struct vs)) at r
+  measured-Struct at p r vs is inner = subst (MeasuredTo at r) (sym (tree-Struct vs)) (measured-struct (value_trees_of vs.items) at p r is inner)
+
+  pub measured-Entry : {A : Type 0} (at p q : ℕ) (r : Option ℕ) (k v : Box (Value A) A) → p ≡ capped (at + gap_to 8 at) → IsMeasured limits.array (value_tree k.value) p (Some q) → IsMeasured limits.array (value_tree v.value) q r →
+      IsMeasured limits.array (value_tree {A = A} (Entry k v)) at r
+  measured-Entry at p q r k v is key held = subst (MeasuredTo at r) (sym (tree-Entry k v)) (measured-entry (value_tree k.value) (value_tree v.value) at p q r is key held)
+
+  pub measured-Entry_key : {A : Type 0} (at p : ℕ) (k v : Box (Value A) A) → p ≡ capped (at + gap_to 8 at) → IsMeasured limits.array (value_tree k.value) p None → IsMeasured limits.array (value_tree {A = A} (Entry k v)) at None
+  measured-Entry_key at p k v is key = subst (MeasuredTo at None) (sym (tree-Entry k v)) (measured-key (value_tree k.value) (value_tree v.value) at p is key)
+
+  pub measured-Variant : {A : Type 0} (at p : ℕ) (r : Option ℕ) (v : Box (Value A) A) → p ≡ capped (at + (gap_to 1 at + (1 + (length (sig (type_of (value_tree v.value))) + 1)))) → IsMeasured limits.array (value_tree v.value) p r →
+      IsMeasured limits.array (value_tree {A = A} (Variant v)) at r
+  measured-Variant at p r v is inner = subst (MeasuredTo at r) (sym (tree-Variant v)) (measured-variant (value_tree v.value) at p r is inner)
+
+  pub measured-Bytes : {A : Type 0} (at p end : ℕ) (bs : Vec ℕ A) → p ≡ capped (at + (gap_to 4 at + 4)) → length bs.items ≤ limits.array → end ≡ capped (p + length bs.items) →
+      IsMeasured limits.array (value_tree {A = A} (Bytes bs)) at (Some end)
+  measured-Bytes at p end bs is fits ends = subst (MeasuredTo at (Some end)) (sym (tree-Bytes bs)) (measured-bytes bs.items at p end is fits ends)
+
+  pub measured-Bytes_over : {A : Type 0} (at : ℕ) (bs : Vec ℕ A) → limits.array < length bs.items → IsMeasured limits.array (value_tree {A = A} (Bytes bs)) at None
+  measured-Bytes_over at bs over = subst (MeasuredTo at None) (sym (tree-Bytes bs)) (measured-bytes_over bs.items at over)
+
+  pub measured-Array : {A : Type 0} (at p s e end : ℕ) (t : SigType A) (vs : Vec (Value A) A) → p ≡ capped (at + (gap_to 4 at + 4)) → s ≡ capped (p + gap_to (alignment_of (type_tree t)) p) →
+      AreMeasured limits.array (value_trees_of vs.items) (s % 8) (Some e) → e ≤ s % 8 + limits.array → end ≡ capped (s - s % 8 + e) → IsMeasured limits.array (value_tree {A = A} (Array t vs)) at (Some end)
+  measured-Array at p s e end t vs is begins inner fits ends =
+      subst (MeasuredTo at (Some end)) (sym (tree-Array t vs)) (measured-array (type_tree t) (value_trees_of vs.items) at p s e end is begins inner fits ends)
+
+  pub measured-Array_over : {A : Type 0} (at p s e : ℕ) (t : SigType A) (vs : Vec (Value A) A) → p ≡ capped (at + (gap_to 4 at + 4)) → s ≡ capped (p + gap_to (alignment_of (type_tree t)) p) →
+      AreMeasured limits.array (value_trees_of vs.items) (s % 8) (Some e) → s % 8 + limits.array < e → IsMeasured limits.array (value_tree {A = A} (Array t vs)) at None
+  measured-Array_over at p s e t vs is begins inner over =
+      subst (MeasuredTo at None) (sym (tree-Array t vs)) (measured-over (type_tree t) (value_trees_of vs.items) at p s e is begins inner over)
+
+  pub measured-Array_items : {A : Type 0} (at p s : ℕ) (t : SigType A) (vs : Vec (Value A) A) → p ≡ capped (at + (gap_to 4 at + 4)) → s ≡ capped (p + gap_to (alignment_of (type_tree t)) p) →
+      AreMeasured limits.array (value_trees_of vs.items) (s % 8) None → IsMeasured limits.array (value_tree {A = A} (Array t vs)) at None
+  measured-Array_items at p s t vs is begins inner =
+      subst (MeasuredTo at None) (sym (tree-Array t vs)) (measured-items (type_tree t) (value_trees_of vs.items) at p s is begins inner)
+
+  -- ---- along a list
+
+  pub measured-rest : {A : Type 0} (vs : List (Value A)) (i at p : ℕ) (r : Option ℕ) (v : Value A) → i < length vs → v ≡ get_or vs i v → IsMeasured limits.array (value_tree v) at (Some p) →
+      AreMeasured limits.array (value_trees_of (drop (i + 1) vs)) p r → AreMeasured limits.array (value_trees_of (drop i vs)) at r
+  measured-rest {A} vs i at p r v lt e first rest =
+      let here : IsMeasured limits.array (value_tree (get_or vs i v)) at (Some p) = subst (λ (x : Value A). IsMeasured limits.array (value_tree x) at (Some p)) e first in
+      subst (λ (l : List (Value A)). AreMeasured limits.array (value_trees_of l) at r) (sym (drop_more vs i v lt))
+      (measured-more (value_tree (get_or vs i v)) (value_trees_of (drop (i + 1) vs)) at p r here rest)
+
+  pub measured-stop : {A : Type 0} (vs : List (Value A)) (i at : ℕ) (v : Value A) → i < length vs → v ≡ get_or vs i v → IsMeasured limits.array (value_tree v) at None →
+      AreMeasured limits.array (value_trees_of (drop i vs)) at None
+  measured-stop {A} vs i at v lt e first =
+      let here : IsMeasured limits.array (value_tree (get_or vs i v)) at None = subst (λ (x : Value A). IsMeasured limits.array (value_tree x) at None) e first in
+      subst (λ (l : List (Value A)). AreMeasured limits.array (value_trees_of l) at None) (sym (drop_more vs i v lt))
+      (measured-first (value_tree (get_or vs i v)) (value_trees_of (drop (i + 1) vs)) at here)
+
+  pub measured-end : {A : Type 0} (vs : List (Value A)) (i at : ℕ) → length vs ≤ i → IsCapped at → AreMeasured limits.array (value_trees_of (drop i vs)) at (Some at)
+  measured-end {A} vs i at le low = subst (λ (l : List (Value A)). AreMeasured limits.array (value_trees_of l) at (Some at)) (sym (drop_all i vs le)) (measured-none at low)
+
+  -- a step behind another
+  pub number-steps : (at g w p end : ℕ) → p ≡ capped (at + g) → end ≡ capped (p + w) → end ≡ capped (at + (g + w))
+  number-steps at g w p end is ends = ends ∙ onward-from (at + g) p w w (capped (p + w)) (sym is) refl refl ∙ ap capped (let e : at + g + w ≡ at + (g + w) = omega arith in e)
+
+  pub text-steps : (at g w n p end : ℕ) → p ≡ capped (at + (g + w)) → end ≡ capped (p + capped n + 1) → end ≡ capped (at + (g + (w + (n + 1))))
+  text-steps at g w n p end is ends =
+      let a : p + capped n + 1 ≡ p + 1 + capped n = omega arith in
+      let b : p + 1 + n ≡ p + (n + 1) = omega arith in
+      let c : at + (g + w) + (n + 1) ≡ at + (g + (w + (n + 1))) = omega arith in
+      ends ∙ ap capped a ∙ capped-step (p + 1) n ∙ ap capped b ∙ capped-onward (at + (g + w)) p (n + 1) (sym is) ∙ ap capped c
 
 pub ruleset measuring = (measured-coded, measured-Str, measured-Path, measured-Sig, number-steps, text-steps)

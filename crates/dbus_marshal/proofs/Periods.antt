@@ -5,7 +5,7 @@ use Rattle.dbus_types.specs.Alignments.{width, length_width, alignment_of}
 use Rattle.dbus_value_model.specs.declared.order.Order.{Order}
 use Rattle.dbus_value_model.specs.Values.{ValueTree, ValueTrees, NumberValue, TextValue, VariantValue, ArrayValue, StructValue, EntryValue, NoValues, MoreValues, type_of}
 use Rattle.dbus_value_model.specs.Bytes.{gap_to}
-use Rattle.dbus_value_model.specs.Spelling.{ended_text, contents_start, spelling, spellings, array_limit, IsWithinLimits, AreWithinLimits}
+use Rattle.dbus_value_model.specs.Spelling.{ended_text, contents_start, spelling, spellings, IsWithinLimits, AreWithinLimits}
 use Rattle.dbus_value_model.specs.Measures.{OffsetsRepeat}
 use Rattle.dbus_marshal.proofs.Lengths.{length-number, length-text, length-variant, length-struct, length-entry, length-array, length-more, length-none}
 
@@ -108,31 +108,32 @@ mutual
 
 -- ---- limits
 
-mutual
-  pub within-period : (order : Order) (v : ValueTree) (o p : ℕ) → o % 8 ≡ p % 8 → IsWithinLimits order o v → IsWithinLimits order p v
-  within-period order (NumberValue k n) o p e w = tt
-  within-period order (TextValue k t) o p e w = tt
-  within-period order (VariantValue x) o p e w =
-      let n = length (ended_text order 1 (sig (type_of x))) in
-      within-period order x (o + n) (p + n) (rest-more o p n n e (omega arith)) w
-  within-period order (ArrayValue t xs) o p e w =
-      let rest = rest-contents t o p e in
-      (subst (λ (n : ℕ). n ≤ array_limit) (lengths-period order xs (contents_start t o) (contents_start t p) rest) w.0, are_within-period order xs (contents_start t o) (contents_start t p) rest w.1)
-  within-period order (StructValue xs) o p e w = are_within-period order xs (o + gap_to 8 o) (p + gap_to 8 p) (rest-boundary o p e) w
-  within-period order (EntryValue k v) o p e w =
-      let start = rest-boundary o p e in
-      let key = length-period order k (o + gap_to 8 o) (p + gap_to 8 p) start in
-      let rest = rest-more (o + gap_to 8 o) (p + gap_to 8 p) (length (spelling order (o + gap_to 8 o) k)) (length (spelling order (p + gap_to 8 p) k)) start key in (
-        within-period order k (o + gap_to 8 o) (p + gap_to 8 p) start w.0,
-        within-period order v (o + gap_to 8 o + length (spelling order (o + gap_to 8 o) k)) (p + gap_to 8 p + length (spelling order (p + gap_to 8 p) k)) rest w.1,
-      )
+module _ (array : ℕ) where
+  mutual
+    pub within-period : (order : Order) (v : ValueTree) (o p : ℕ) → o % 8 ≡ p % 8 → IsWithinLimits array order o v → IsWithinLimits array order p v
+    within-period order (NumberValue k n) o p e w = tt
+    within-period order (TextValue k t) o p e w = tt
+    within-period order (VariantValue x) o p e w =
+        let n = length (ended_text order 1 (sig (type_of x))) in
+        within-period order x (o + n) (p + n) (rest-more o p n n e (omega arith)) w
+    within-period order (ArrayValue t xs) o p e w =
+        let rest = rest-contents t o p e in
+        (subst (λ (n : ℕ). n ≤ array) (lengths-period order xs (contents_start t o) (contents_start t p) rest) w.0, are_within-period order xs (contents_start t o) (contents_start t p) rest w.1)
+    within-period order (StructValue xs) o p e w = are_within-period order xs (o + gap_to 8 o) (p + gap_to 8 p) (rest-boundary o p e) w
+    within-period order (EntryValue k v) o p e w =
+        let start = rest-boundary o p e in
+        let key = length-period order k (o + gap_to 8 o) (p + gap_to 8 p) start in
+        let rest = rest-more (o + gap_to 8 o) (p + gap_to 8 p) (length (spelling order (o + gap_to 8 o) k)) (length (spelling order (p + gap_to 8 p) k)) start key in (
+          within-period order k (o + gap_to 8 o) (p + gap_to 8 p) start w.0,
+          within-period order v (o + gap_to 8 o + length (spelling order (o + gap_to 8 o) k)) (p + gap_to 8 p + length (spelling order (p + gap_to 8 p) k)) rest w.1,
+        )
 
-  pub are_within-period : (order : Order) (vs : ValueTrees) (o p : ℕ) → o % 8 ≡ p % 8 → AreWithinLimits order o vs → AreWithinLimits order p vs
-  are_within-period order NoValues o p e w = tt
-  are_within-period order (MoreValues x xs) o p e w =
-      let first = length-period order x o p e in
-      let rest = rest-more o p (length (spelling order o x)) (length (spelling order p x)) e first in
-      (within-period order x o p e w.0, are_within-period order xs (o + length (spelling order o x)) (p + length (spelling order p x)) rest w.1)
+    pub are_within-period : (order : Order) (vs : ValueTrees) (o p : ℕ) → o % 8 ≡ p % 8 → AreWithinLimits array order o vs → AreWithinLimits array order p vs
+    are_within-period order NoValues o p e w = tt
+    are_within-period order (MoreValues x xs) o p e w =
+        let first = length-period order x o p e in
+        let rest = rest-more o p (length (spelling order o x)) (length (spelling order p x)) e first in
+        (within-period order x o p e w.0, are_within-period order xs (o + length (spelling order o x)) (p + length (spelling order p x)) rest w.1)
 
 pub offsets-repeat : OffsetsRepeat
-offsets-repeat order v o p e = (length-period order v o p e, (λ w. within-period order v o p e w, λ w. within-period order v p o (sym e) w))
+offsets-repeat array order v o p e = (length-period order v o p e, (λ w. within-period array order v o p e w, λ w. within-period array order v p o (sym e) w))

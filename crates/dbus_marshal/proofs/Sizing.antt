@@ -12,229 +12,233 @@ use Rattle.dbus_types.specs.SigTypes.{type_tree}
 use Rattle.dbus_types.specs.declared.sig_type.SigType.{SigType}
 use Rattle.dbus_value_model.specs.Values.{ValueTree, NumberValue, type_of}
 use Rattle.dbus_value_model.specs.Bytes.{gap_to}
-use Rattle.dbus_value_model.specs.Sizes.{Sizing, and_then, item, padding, contents, narrowed, sized, sizes, ◌⊳◌, message_limit}
+use Rattle.dbus_value_model.specs.Sizes.{Sizing, and_then, item, padding, contents, narrowed, sized, sizes, ◌⊳◌}
+use Rattle.dbus_value_model.specs.declared.limits.Limits.{Limits}
 use Rattle.dbus_value_model.specs.ValueViews.{value_tree, value_trees_of, byte_values}
 use Rattle.dbus_value_model.specs.declared.value.Value.{Value, Byte, Bool as BoolOf, I16, U16, I32, U32, I64, U64, Double, Str, Path, Sig, Fd, Bytes, Array, Struct, Entry, Variant}
 use Rattle.dbus_value_model.specs.declared.value_fault.ValueFault.{ValueFault}
 use Rattle.dbus_value_model.specs.declared.value_fault.ValueFault.TheVariants.{ArrayTooLong, TooLong}
 use Rattle.dbus_value_model.proofs.ValueRows.{tree-Byte, tree-Bool, tree-I16, tree-U16, tree-I32, tree-U32, tree-I64, tree-U64, tree-Double, tree-Str, tree-Path, tree-Sig, tree-Fd, tree-Bytes, tree-Array, tree-Struct, tree-Entry, tree-Variant}
 
--- ---- joined
+module _ (limits : Limits) where
+  -- ---- joined
 
-pub and_then_assoc : (r : Result ℕ ValueFault) (z y : Sizing) → and_then (and_then r z) y ≡ and_then r (z ⊳ y)
-and_then_assoc (Ok x) z y = refl
-and_then_assoc (Err f) z y = refl
+  pub and_then_assoc : (r : Result ℕ ValueFault) (z y : Sizing) → and_then (and_then r z) y ≡ and_then r (z ⊳ y)
+  and_then_assoc (Ok x) z y = refl
+  and_then_assoc (Err f) z y = refl
 
-pub contents_is : (s : Option ℕ → Sizing) (b : Option ℕ) (o : ℕ) → contents s b o ≡ s (narrowed b o) o
-unfolding contents
-contents_is s b o = refl
+  pub contents_is : (s : Option ℕ → Sizing) (b : Option ℕ) (o : ℕ) → contents limits s b o ≡ s (narrowed limits b o) o
+  unfolding contents
+  contents_is s b o = refl
 
--- no padding is needed before a byte
-pub no_padding : (b : Option ℕ) (o : ℕ) → padding b 1 o ≡ Ok o
-unfolding padding gap_to
-no_padding b o =
-    let none : (1 - o % 1) % 1 ≡ 0 = omega arith in
-    rw none refl
+  -- no padding is needed before a byte
+  pub no_padding : (b : Option ℕ) (o : ℕ) → padding limits b 1 o ≡ Ok o
+  unfolding padding gap_to
+  no_padding b o =
+      let none : (1 - o % 1) % 1 ≡ 0 = omega arith in
+      rw none refl
 
--- ---- level by level
+  -- ---- level by level
 
-abbrev size_of : Option ℕ → ℕ → ValueTree → Result ℕ ValueFault
-size_of b o v = sized v b o
+  abbrev size_of : Option ℕ → ℕ → ValueTree → Result ℕ ValueFault
+  size_of b o v = sized limits v b o
 
-pub sized-Byte : (A : Type 0) (b : Option ℕ) (o n : ℕ) → sized (value_tree {A = A} (Byte n)) b o ≡ and_then (padding b 1 o) (item b 1)
-sized-Byte A b o n = ap (size_of b o) (tree-Byte A n)
+  pub sized-Byte : (A : Type 0) (b : Option ℕ) (o n : ℕ) → sized limits (value_tree {A = A} (Byte n)) b o ≡ and_then (padding limits b 1 o) (item limits b 1)
+  sized-Byte A b o n = ap (size_of b o) (tree-Byte A n)
 
-pub sized-Bool : (A : Type 0) (b : Option ℕ) (o : ℕ) (x : Bool) → sized (value_tree {A = A} (BoolOf x)) b o ≡ and_then (padding b 4 o) (item b 4)
-sized-Bool A b o x = ap (size_of b o) (tree-Bool A x)
+  pub sized-Bool : (A : Type 0) (b : Option ℕ) (o : ℕ) (x : Bool) → sized limits (value_tree {A = A} (BoolOf x)) b o ≡ and_then (padding limits b 4 o) (item limits b 4)
+  sized-Bool A b o x = ap (size_of b o) (tree-Bool A x)
 
-pub sized-I16 : (A : Type 0) (b : Option ℕ) (o : ℕ) (z : ℤ) → sized (value_tree {A = A} (I16 z)) b o ≡ and_then (padding b 2 o) (item b 2)
-sized-I16 A b o z = ap (size_of b o) (tree-I16 A z)
+  pub sized-I16 : (A : Type 0) (b : Option ℕ) (o : ℕ) (z : ℤ) → sized limits (value_tree {A = A} (I16 z)) b o ≡ and_then (padding limits b 2 o) (item limits b 2)
+  sized-I16 A b o z = ap (size_of b o) (tree-I16 A z)
 
-pub sized-U16 : (A : Type 0) (b : Option ℕ) (o n : ℕ) → sized (value_tree {A = A} (U16 n)) b o ≡ and_then (padding b 2 o) (item b 2)
-sized-U16 A b o n = ap (size_of b o) (tree-U16 A n)
+  pub sized-U16 : (A : Type 0) (b : Option ℕ) (o n : ℕ) → sized limits (value_tree {A = A} (U16 n)) b o ≡ and_then (padding limits b 2 o) (item limits b 2)
+  sized-U16 A b o n = ap (size_of b o) (tree-U16 A n)
 
-pub sized-I32 : (A : Type 0) (b : Option ℕ) (o : ℕ) (z : ℤ) → sized (value_tree {A = A} (I32 z)) b o ≡ and_then (padding b 4 o) (item b 4)
-sized-I32 A b o z = ap (size_of b o) (tree-I32 A z)
+  pub sized-I32 : (A : Type 0) (b : Option ℕ) (o : ℕ) (z : ℤ) → sized limits (value_tree {A = A} (I32 z)) b o ≡ and_then (padding limits b 4 o) (item limits b 4)
+  sized-I32 A b o z = ap (size_of b o) (tree-I32 A z)
 
-pub sized-U32 : (A : Type 0) (b : Option ℕ) (o n : ℕ) → sized (value_tree {A = A} (U32 n)) b o ≡ and_then (padding b 4 o) (item b 4)
-sized-U32 A b o n = ap (size_of b o) (tree-U32 A n)
+  pub sized-U32 : (A : Type 0) (b : Option ℕ) (o n : ℕ) → sized limits (value_tree {A = A} (U32 n)) b o ≡ and_then (padding limits b 4 o) (item limits b 4)
+  sized-U32 A b o n = ap (size_of b o) (tree-U32 A n)
 
-pub sized-I64 : (A : Type 0) (b : Option ℕ) (o : ℕ) (z : ℤ) → sized (value_tree {A = A} (I64 z)) b o ≡ and_then (padding b 8 o) (item b 8)
-sized-I64 A b o z = ap (size_of b o) (tree-I64 A z)
+  pub sized-I64 : (A : Type 0) (b : Option ℕ) (o : ℕ) (z : ℤ) → sized limits (value_tree {A = A} (I64 z)) b o ≡ and_then (padding limits b 8 o) (item limits b 8)
+  sized-I64 A b o z = ap (size_of b o) (tree-I64 A z)
 
-pub sized-U64 : (A : Type 0) (b : Option ℕ) (o n : ℕ) → sized (value_tree {A = A} (U64 n)) b o ≡ and_then (padding b 8 o) (item b 8)
-sized-U64 A b o n = ap (size_of b o) (tree-U64 A n)
+  pub sized-U64 : (A : Type 0) (b : Option ℕ) (o n : ℕ) → sized limits (value_tree {A = A} (U64 n)) b o ≡ and_then (padding limits b 8 o) (item limits b 8)
+  sized-U64 A b o n = ap (size_of b o) (tree-U64 A n)
 
-pub sized-Double : (A : Type 0) (b : Option ℕ) (o n : ℕ) → sized (value_tree {A = A} (Double n)) b o ≡ and_then (padding b 8 o) (item b 8)
-sized-Double A b o n = ap (size_of b o) (tree-Double A n)
+  pub sized-Double : (A : Type 0) (b : Option ℕ) (o n : ℕ) → sized limits (value_tree {A = A} (Double n)) b o ≡ and_then (padding limits b 8 o) (item limits b 8)
+  sized-Double A b o n = ap (size_of b o) (tree-Double A n)
 
-pub sized-Fd : (A : Type 0) (b : Option ℕ) (o n : ℕ) → sized (value_tree {A = A} (Fd n)) b o ≡ and_then (padding b 4 o) (item b 4)
-sized-Fd A b o n = ap (size_of b o) (tree-Fd A n)
+  pub sized-Fd : (A : Type 0) (b : Option ℕ) (o n : ℕ) → sized limits (value_tree {A = A} (Fd n)) b o ≡ and_then (padding limits b 4 o) (item limits b 4)
+  sized-Fd A b o n = ap (size_of b o) (tree-Fd A n)
 
-pub sized-Str : {A : Type 0} (b : Option ℕ) (o : ℕ) (s : String A) → sized (value_tree {A = A} (Str s)) b o ≡ and_then (padding b 4 o) (item b 4 ⊳ item b (length (string_bytes s)) ⊳ item b 1)
-sized-Str b o s = ap (size_of b o) (tree-Str s)
+  pub sized-Str : {A : Type 0} (b : Option ℕ) (o : ℕ) (s : String A) → sized limits (value_tree {A = A} (Str s)) b o ≡ and_then (padding limits b 4 o) (item limits b 4 ⊳ item limits b (length (string_bytes s)) ⊳ item limits b 1)
+  sized-Str b o s = ap (size_of b o) (tree-Str s)
 
-pub sized-Path : {A : Type 0} (b : Option ℕ) (o : ℕ) (s : String A) → sized (value_tree {A = A} (Path s)) b o ≡ and_then (padding b 4 o) (item b 4 ⊳ item b (length (string_bytes s)) ⊳ item b 1)
-sized-Path b o s = ap (size_of b o) (tree-Path s)
+  pub sized-Path : {A : Type 0} (b : Option ℕ) (o : ℕ) (s : String A) → sized limits (value_tree {A = A} (Path s)) b o ≡ and_then (padding limits b 4 o) (item limits b 4 ⊳ item limits b (length (string_bytes s)) ⊳ item limits b 1)
+  sized-Path b o s = ap (size_of b o) (tree-Path s)
 
-pub sized-Sig : {A : Type 0} (b : Option ℕ) (o : ℕ) (s : String A) → sized (value_tree {A = A} (Sig s)) b o ≡ and_then (padding b 1 o) (item b 1 ⊳ item b (length (string_bytes s)) ⊳ item b 1)
-sized-Sig b o s = ap (size_of b o) (tree-Sig s)
+  pub sized-Sig : {A : Type 0} (b : Option ℕ) (o : ℕ) (s : String A) → sized limits (value_tree {A = A} (Sig s)) b o ≡ and_then (padding limits b 1 o) (item limits b 1 ⊳ item limits b (length (string_bytes s)) ⊳ item limits b 1)
+  sized-Sig b o s = ap (size_of b o) (tree-Sig s)
 
-without_padding : (b : Option ℕ) (r : Result ℕ ValueFault) (s : Sizing) → and_then r (padding b 1 ⊳ s) ≡ and_then r s
-without_padding b (Ok x) s = ap (λ (r : Result ℕ ValueFault). and_then r s) (no_padding b x)
-without_padding b (Err f) s = refl
+  without_padding : (b : Option ℕ) (r : Result ℕ ValueFault) (s : Sizing) → and_then r (padding limits b 1 ⊳ s) ≡ and_then r s
+  without_padding b (Ok x) s = ap (λ (r : Result ℕ ValueFault). and_then r s) (no_padding b x)
+  without_padding b (Err f) s = refl
 
-pub sized-Bytes : {A : Type 0} (b : Option ℕ) (o : ℕ) (bs : Vec ℕ A) →
-    sized (value_tree {A = A} (Bytes bs)) b o ≡ and_then (and_then (padding b 4 o) (item b 4)) (contents (sizes (byte_values bs.items)) b)
-sized-Bytes b o bs =
-    ap (size_of b o) (tree-Bytes bs) ∙ sym (and_then_assoc (padding b 4 o) (item b 4) (padding b 1 ⊳ contents (sizes (byte_values bs.items)) b))
-    ∙ without_padding b (and_then (padding b 4 o) (item b 4)) (contents (sizes (byte_values bs.items)) b)
+  pub sized-Bytes : {A : Type 0} (b : Option ℕ) (o : ℕ) (bs : Vec ℕ A) →
+      sized limits (value_tree {A = A} (Bytes bs)) b o ≡ and_then (and_then (padding limits b 4 o) (item limits b 4)) (contents limits (sizes limits (byte_values bs.items)) b)
+  sized-Bytes b o bs =
+      ap (size_of b o) (tree-Bytes bs) ∙ sym (and_then_assoc (padding limits b 4 o) (item limits b 4) (padding limits b 1 ⊳ contents limits (sizes limits (byte_values bs.items)) b))
+      ∙ without_padding b (and_then (padding limits b 4 o) (item limits b 4)) (contents limits (sizes limits (byte_values bs.items)) b)
 
-pub sized-Array : {A : Type 0} (b : Option ℕ) (o : ℕ) (t : SigType A) (vs : Vec (Value A) A) →
-    sized (value_tree {A = A} (Array t vs)) b o ≡ and_then (and_then (padding b 4 o) (item b 4)) (padding b (alignment_of (type_tree t)) ⊳ contents (sizes (value_trees_of vs.items)) b)
-sized-Array b o t vs =
-    ap (size_of b o) (tree-Array t vs) ∙ sym (and_then_assoc (padding b 4 o) (item b 4) (padding b (alignment_of (type_tree t)) ⊳ contents (sizes (value_trees_of vs.items)) b))
+  pub sized-Array : {A : Type 0} (b : Option ℕ) (o : ℕ) (t : SigType A) (vs : Vec (Value A) A) →
+      sized limits (value_tree {A = A} (Array t vs)) b o ≡ and_then (and_then (padding limits b 4 o) (item limits b 4)) (padding limits b (alignment_of (type_tree t)) ⊳ contents limits (sizes limits (value_trees_of vs.items)) b)
+  sized-Array b o t vs =
+      ap (size_of b o) (tree-Array t vs) ∙ sym (and_then_assoc (padding limits b 4 o) (item limits b 4) (padding limits b (alignment_of (type_tree t)) ⊳ contents limits (sizes limits (value_trees_of vs.items)) b))
 
-pub sized-Struct : {A : Type 0} (b : Option ℕ) (o : ℕ) (vs : Vec (Value A) A) → sized (value_tree {A = A} (Struct vs)) b o ≡ and_then (padding b 8 o) (sizes (value_trees_of vs.items) b)
-sized-Struct b o vs = ap (size_of b o) (tree-Struct vs)
+  pub sized-Struct : {A : Type 0} (b : Option ℕ) (o : ℕ) (vs : Vec (Value A) A) → sized limits (value_tree {A = A} (Struct vs)) b o ≡ and_then (padding limits b 8 o) (sizes limits (value_trees_of vs.items) b)
+  sized-Struct b o vs = ap (size_of b o) (tree-Struct vs)
 
-pub sized-Entry : {A : Type 0} (b : Option ℕ) (o : ℕ) (k v : Box (Value A) A) → sized (value_tree {A = A} (Entry k v)) b o ≡ and_then (padding b 8 o) (sized (value_tree k.value) b ⊳ sized (value_tree v.value) b)
-sized-Entry b o k v = ap (size_of b o) (tree-Entry k v)
+  pub sized-Entry : {A : Type 0} (b : Option ℕ) (o : ℕ) (k v : Box (Value A) A) → sized limits (value_tree {A = A} (Entry k v)) b o ≡ and_then (padding limits b 8 o) (sized limits (value_tree k.value) b ⊳ sized limits (value_tree v.value) b)
+  sized-Entry b o k v = ap (size_of b o) (tree-Entry k v)
 
--- a text's items, before its byte more
-pub sized_text : (b : Option ℕ) (o w n : ℕ) → and_then (and_then (padding b w o) (item b w)) (item b n ⊳ item b 1) ≡ and_then (padding b w o) (item b w ⊳ item b n ⊳ item b 1)
-sized_text b o w n = and_then_assoc (padding b w o) (item b w) (item b n ⊳ item b 1)
+  -- a text's items, before its byte more
+  pub sized_text : (b : Option ℕ) (o w n : ℕ) → and_then (and_then (padding limits b w o) (item limits b w)) (item limits b n ⊳ item limits b 1) ≡ and_then (padding limits b w o) (item limits b w ⊳ item limits b n ⊳ item limits b 1)
+  sized_text b o w n = and_then_assoc (padding limits b w o) (item limits b w) (item limits b n ⊳ item limits b 1)
 
-text_before : (b : Option ℕ) (n : ℕ) (s : Sizing) (r : Result ℕ ValueFault) → and_then (and_then r (item b 1 ⊳ item b n ⊳ item b 1)) s ≡ and_then r (item b 1 ⊳ item b n ⊳ item b 1 ⊳ s)
-text_before b n s (Err f) = refl
-text_before b n s (Ok x) =
-    and_then_assoc (item b 1 x) (item b n ⊳ item b 1) s ∙ inner (item b 1 x)
-  where
-    inner : (r : Result ℕ ValueFault) → and_then r ((item b n ⊳ item b 1) ⊳ s) ≡ and_then r (item b n ⊳ item b 1 ⊳ s)
-    inner (Err f) = refl
-    inner (Ok y) = and_then_assoc (item b n y) (item b 1) s
+  text_before : (b : Option ℕ) (n : ℕ) (s : Sizing) (r : Result ℕ ValueFault) → and_then (and_then r (item limits b 1 ⊳ item limits b n ⊳ item limits b 1)) s ≡ and_then r (item limits b 1 ⊳ item limits b n ⊳ item limits b 1 ⊳ s)
+  text_before b n s (Err f) = refl
+  text_before b n s (Ok x) =
+      and_then_assoc (item limits b 1 x) (item limits b n ⊳ item limits b 1) s ∙ inner (item limits b 1 x)
+    where
+      inner : (r : Result ℕ ValueFault) → and_then r ((item limits b n ⊳ item limits b 1) ⊳ s) ≡ and_then r (item limits b n ⊳ item limits b 1 ⊳ s)
+      inner (Err f) = refl
+      inner (Ok y) = and_then_assoc (item limits b n y) (item limits b 1) s
 
-pub sized-Variant : {A : Type 0} (b : Option ℕ) (o : ℕ) (v : Box (Value A) A) →
-    sized (value_tree {A = A} (Variant v)) b o
-    ≡ and_then (and_then (padding b 1 o) (item b 1 ⊳ item b (length (sig (type_of (value_tree v.value)))) ⊳ item b 1)) (sized (value_tree v.value) b)
-sized-Variant b o v =
-    let n = length (sig (type_of (value_tree v.value))) in
-    let s = sized (value_tree v.value) b in
-    ap (size_of b o) (tree-Variant v) ∙ ap (λ (r : Result ℕ ValueFault). and_then r (item b 1 ⊳ item b n ⊳ item b 1 ⊳ s)) (sym (no_padding b o))
-    ∙ sym (text_before b n s (padding b 1 o))
+  pub sized-Variant : {A : Type 0} (b : Option ℕ) (o : ℕ) (v : Box (Value A) A) →
+      sized limits (value_tree {A = A} (Variant v)) b o
+      ≡ and_then (and_then (padding limits b 1 o) (item limits b 1 ⊳ item limits b (length (sig (type_of (value_tree v.value)))) ⊳ item limits b 1)) (sized limits (value_tree v.value) b)
+  sized-Variant b o v =
+      let n = length (sig (type_of (value_tree v.value))) in
+      let s = sized limits (value_tree v.value) b in
+      ap (size_of b o) (tree-Variant v) ∙ ap (λ (r : Result ℕ ValueFault). and_then r (item limits b 1 ⊳ item limits b n ⊳ item limits b 1 ⊳ s)) (sym (no_padding b o))
+      ∙ sym (text_before b n s (padding limits b 1 o))
 
--- ---- level by level, past the items before the parts
+  -- ---- level by level, past the items before the parts
 
-pub sized_bytes : {A : Type 0} (b : Option ℕ) (o p : ℕ) (bs : Vec ℕ A) → Ok p ≡ and_then (padding b 4 o) (item b 4) →
-    sizes (byte_values bs.items) (narrowed b p) p ≡ sized (value_tree {A = A} (Bytes bs)) b o
-sized_bytes b o p bs e =
-    let rest = contents (sizes (byte_values bs.items)) b in
-    sym (sized-Bytes b o bs ∙ ap (λ (r : Result ℕ ValueFault). and_then r rest) (sym e) ∙ contents_is (sizes (byte_values bs.items)) b p)
+  pub sized_bytes : {A : Type 0} (b : Option ℕ) (o p : ℕ) (bs : Vec ℕ A) → Ok p ≡ and_then (padding limits b 4 o) (item limits b 4) →
+      sizes limits (byte_values bs.items) (narrowed limits b p) p ≡ sized limits (value_tree {A = A} (Bytes bs)) b o
+  sized_bytes b o p bs e =
+      let rest = contents limits (sizes limits (byte_values bs.items)) b in
+      sym (sized-Bytes b o bs ∙ ap (λ (r : Result ℕ ValueFault). and_then r rest) (sym e) ∙ contents_is (sizes limits (byte_values bs.items)) b p)
 
-pub sized_array : {A : Type 0} (b : Option ℕ) (o p q : ℕ) (t : SigType A) (vs : Vec (Value A) A) → Ok p ≡ and_then (padding b 4 o) (item b 4) → Ok q ≡ padding b (alignment_of (type_tree t)) p →
-    sizes (value_trees_of vs.items) (narrowed b q) q ≡ sized (value_tree {A = A} (Array t vs)) b o
-sized_array b o p q t vs e d =
-    let a = alignment_of (type_tree t) in
-    let rest = contents (sizes (value_trees_of vs.items)) b in
-    sym (sized-Array b o t vs ∙ ap (λ (r : Result ℕ ValueFault). and_then r (padding b a ⊳ rest)) (sym e) ∙ ap (λ (r : Result ℕ ValueFault). and_then r rest) (sym d)
-    ∙ contents_is (sizes (value_trees_of vs.items)) b q)
+  pub sized_array : {A : Type 0} (b : Option ℕ) (o p q : ℕ) (t : SigType A) (vs : Vec (Value A) A) → Ok p ≡ and_then (padding limits b 4 o) (item limits b 4) → Ok q ≡ padding limits b (alignment_of (type_tree t)) p →
+      sizes limits (value_trees_of vs.items) (narrowed limits b q) q ≡ sized limits (value_tree {A = A} (Array t vs)) b o
+  sized_array b o p q t vs e d =
+      let a = alignment_of (type_tree t) in
+      let rest = contents limits (sizes limits (value_trees_of vs.items)) b in
+      sym (sized-Array b o t vs ∙ ap (λ (r : Result ℕ ValueFault). and_then r (padding limits b a ⊳ rest)) (sym e) ∙ ap (λ (r : Result ℕ ValueFault). and_then r rest) (sym d)
+      ∙ contents_is (sizes limits (value_trees_of vs.items)) b q)
 
-pub sized_variant : {A : Type 0} (b : Option ℕ) (o : ℕ) (v : Box (Value A) A) (r : Result ℕ ValueFault) → r ≡ and_then (padding b 1 o) (item b 1 ⊳ item b (length (sig (type_of (value_tree v.value)))) ⊳ item b 1) →
-    and_then r (sized (value_tree v.value) b) ≡ sized (value_tree {A = A} (Variant v)) b o
-sized_variant b o v r e = ap (λ (r : Result ℕ ValueFault). and_then r (sized (value_tree v.value) b)) e ∙ sym (sized-Variant b o v)
+  pub sized_struct : {A : Type 0} (b : Option ℕ) (o p : ℕ) (vs : Vec (Value A) A) → Ok p ≡ padding limits b 8 o → sizes limits (value_trees_of vs.items) b p ≡ sized limits (value_tree {A = A} (Struct vs)) b o
+  sized_struct b o p vs e = sym (sized-Struct b o vs ∙ ap (λ (r : Result ℕ ValueFault). and_then r (sizes limits (value_trees_of vs.items) b)) (sym e))
 
--- ---- bytes, each an item
+  pub sized_variant : {A : Type 0} (b : Option ℕ) (o : ℕ) (v : Box (Value A) A) (r : Result ℕ ValueFault) → r ≡ and_then (padding limits b 1 o) (item limits b 1 ⊳ item limits b (length (sig (type_of (value_tree v.value)))) ⊳ item limits b 1) →
+      and_then r (sized limits (value_tree v.value) b) ≡ sized limits (value_tree {A = A} (Variant v)) b o
+  sized_variant b o v r e = ap (λ (r : Result ℕ ValueFault). and_then r (sized limits (value_tree v.value) b)) e ∙ sym (sized-Variant b o v)
 
-byte_sized : (b : Option ℕ) (n o : ℕ) → sized (NumberValue BYTE n) b o ≡ item b 1 o
-byte_sized b n o = ap (λ (r : Result ℕ ValueFault). and_then r (item b 1)) (no_padding b o)
+  -- ---- bytes, each an item
 
-item_fits : (b : Option ℕ) (n o : ℕ) → IfSome b (λ x. o + n ≤ x) → o + n ≤ message_limit → item b n o ≡ Ok (o + n)
-unfolding item
-item_fits None n o h l = rw (le-ltb _ _ l) refl
-item_fits (Some x) n o h l = rw (le-ltb _ _ h, le-ltb _ _ l) refl
+  byte_sized : (b : Option ℕ) (n o : ℕ) → sized limits (NumberValue BYTE n) b o ≡ item limits b 1 o
+  byte_sized b n o = ap (λ (r : Result ℕ ValueFault). and_then r (item limits b 1)) (no_padding b o)
 
-item_passes : (x n o : ℕ) → x < o + n → item (Some x) n o ≡ Err ArrayTooLong
-unfolding item
-item_passes x n o h = rw (lt-ltb _ _ h) refl
+  item_fits : (b : Option ℕ) (n o : ℕ) → IfSome b (λ x. o + n ≤ x) → o + n ≤ limits.message → item limits b n o ≡ Ok (o + n)
+  unfolding item
+  item_fits None n o h l = rw (le-ltb _ _ l) refl
+  item_fits (Some x) n o h l = rw (le-ltb _ _ h, le-ltb _ _ l) refl
 
-item_too_long : (b : Option ℕ) (n o : ℕ) → IfSome b (λ x. o + n ≤ x) → message_limit < o + n → item b n o ≡ Err TooLong
-unfolding item
-item_too_long None n o h l = rw (lt-ltb _ _ l) refl
-item_too_long (Some x) n o h l = rw (le-ltb _ _ h, lt-ltb _ _ l) refl
+  item_passes : (x n o : ℕ) → x < o + n → item limits (Some x) n o ≡ Err ArrayTooLong
+  unfolding item
+  item_passes x n o h = rw (lt-ltb _ _ h) refl
 
-step_ok : (b : Option ℕ) (n : ℕ) (bs : List ℕ) (o p : ℕ) → item b 1 o ≡ Ok p → sizes (byte_values (n ∷ bs)) b o ≡ sizes (byte_values bs) b p
-step_ok b n bs o p e = ap (λ (r : Result ℕ ValueFault). and_then r (sizes (byte_values bs) b)) (byte_sized b n o ∙ e)
+  item_too_long : (b : Option ℕ) (n o : ℕ) → IfSome b (λ x. o + n ≤ x) → limits.message < o + n → item limits b n o ≡ Err TooLong
+  unfolding item
+  item_too_long None n o h l = rw (lt-ltb _ _ l) refl
+  item_too_long (Some x) n o h l = rw (le-ltb _ _ h, lt-ltb _ _ l) refl
 
-step_err : (b : Option ℕ) (n : ℕ) (bs : List ℕ) (o : ℕ) (f : ValueFault) → item b 1 o ≡ Err f → sizes (byte_values (n ∷ bs)) b o ≡ Err f
-step_err b n bs o f e = ap (λ (r : Result ℕ ValueFault). and_then r (sizes (byte_values bs) b)) (byte_sized b n o ∙ e)
+  step_ok : (b : Option ℕ) (n : ℕ) (bs : List ℕ) (o p : ℕ) → item limits b 1 o ≡ Ok p → sizes limits (byte_values (n ∷ bs)) b o ≡ sizes limits (byte_values bs) b p
+  step_ok b n bs o p e = ap (λ (r : Result ℕ ValueFault). and_then r (sizes limits (byte_values bs) b)) (byte_sized b n o ∙ e)
 
-some_le : (b : Option ℕ) (m n : ℕ) → m ≤ n → IfSome b (λ x. n ≤ x) → IfSome b (λ x. m ≤ x)
-some_le None m n h w = tt
-some_le (Some x) m n h w = omega arith
+  step_err : (b : Option ℕ) (n : ℕ) (bs : List ℕ) (o : ℕ) (f : ValueFault) → item limits b 1 o ≡ Err f → sizes limits (byte_values (n ∷ bs)) b o ≡ Err f
+  step_err b n bs o f e = ap (λ (r : Result ℕ ValueFault). and_then r (sizes limits (byte_values bs) b)) (byte_sized b n o ∙ e)
 
-pub bytes_fit : (b : Option ℕ) (bs : List ℕ) (o : ℕ) → IfSome b (λ x. o + length bs ≤ x) → o + length bs ≤ message_limit → sizes (byte_values bs) b o ≡ Ok (o + length bs)
-bytes_fit b [] o h l = let e : o ≡ o + 0 = omega arith in ap (λ (n : ℕ). Ok n) e
-bytes_fit b (n ∷ bs) o h l =
-    let first : item b 1 o ≡ Ok (o + 1) = item_fits b 1 o (some_le b (o + 1) (o + suc (length bs)) (omega arith) h) (omega arith) in
-    let same : o + 1 + length bs ≡ o + suc (length bs) = omega arith in
-    step_ok b n bs o (o + 1) first ∙ rw same at (bytes_fit b bs (o + 1) (some_le b (o + 1 + length bs) (o + suc (length bs)) (omega arith) h) (omega arith))
+  some_le : (b : Option ℕ) (m n : ℕ) → m ≤ n → IfSome b (λ x. n ≤ x) → IfSome b (λ x. m ≤ x)
+  some_le None m n h w = tt
+  some_le (Some x) m n h w = omega arith
 
-pub bytes_pass : (x : ℕ) (bs : List ℕ) (o : ℕ) → x ≤ message_limit → 0 < length bs → x < o + length bs → sizes (byte_values bs) (Some x) o ≡ Err ArrayTooLong
-bytes_pass x [] o l some h = absurd (omega arith)
-bytes_pass x (n ∷ bs) o l some h = elim (dec_lt x (o + 1)) [
-  | yes past ↦ step_err (Some x) n bs o ArrayTooLong (item_passes x 1 o past)
-  | no not ↦
-      let at : o + 1 ≤ x = omega arith in
-      step_ok (Some x) n bs o (o + 1) (item_fits (Some x) 1 o at (omega arith)) ∙ bytes_pass x bs (o + 1) l (omega arith) (omega arith)
-]
+  pub bytes_fit : (b : Option ℕ) (bs : List ℕ) (o : ℕ) → IfSome b (λ x. o + length bs ≤ x) → o + length bs ≤ limits.message → sizes limits (byte_values bs) b o ≡ Ok (o + length bs)
+  bytes_fit b [] o h l = let e : o ≡ o + 0 = omega arith in ap (λ (n : ℕ). Ok n) e
+  bytes_fit b (n ∷ bs) o h l =
+      let first : item limits b 1 o ≡ Ok (o + 1) = item_fits b 1 o (some_le b (o + 1) (o + suc (length bs)) (omega arith) h) (omega arith) in
+      let same : o + 1 + length bs ≡ o + suc (length bs) = omega arith in
+      step_ok b n bs o (o + 1) first ∙ rw same at (bytes_fit b bs (o + 1) (some_le b (o + 1 + length bs) (o + suc (length bs)) (omega arith) h) (omega arith))
 
-pub bytes_too_long : (b : Option ℕ) (bs : List ℕ) (o : ℕ) → o ≤ message_limit → IfSome b (λ x. message_limit < x) → message_limit < o + length bs → sizes (byte_values bs) b o ≡ Err TooLong
-bytes_too_long b [] o l w h = absurd (omega arith)
-bytes_too_long b (n ∷ bs) o l w h = elim (dec_lt message_limit (o + 1)) [
-  | yes past ↦ step_err b n bs o TooLong (item_too_long b 1 o (some_le b (o + 1) (suc message_limit) (omega arith) (above b w)) past)
-  | no not ↦
-      let at : o + 1 ≤ message_limit = omega arith in
-      step_ok b n bs o (o + 1) (item_fits b 1 o (some_le b (o + 1) (suc message_limit) (omega arith) (above b w)) at) ∙ bytes_too_long b bs (o + 1) at w (omega arith)
-]
-  where
-    above : (b : Option ℕ) → IfSome b (λ x. message_limit < x) → IfSome b (λ x. suc message_limit ≤ x)
-    above None w = tt
-    above (Some x) w = omega arith
+  pub bytes_pass : (x : ℕ) (bs : List ℕ) (o : ℕ) → x ≤ limits.message → 0 < length bs → x < o + length bs → sizes limits (byte_values bs) (Some x) o ≡ Err ArrayTooLong
+  bytes_pass x [] o l some h = absurd (omega arith)
+  bytes_pass x (n ∷ bs) o l some h = elim (dec_lt x (o + 1)) [
+    | yes past ↦ step_err (Some x) n bs o ArrayTooLong (item_passes x 1 o past)
+    | no not ↦
+        let at : o + 1 ≤ x = omega arith in
+        step_ok (Some x) n bs o (o + 1) (item_fits (Some x) 1 o at (omega arith)) ∙ bytes_pass x bs (o + 1) l (omega arith) (omega arith)
+  ]
 
--- where the array's end is a number that no end comes to, where there is none
-pub bytes_within : (b : Option ℕ) (bs : List ℕ) (o a : ℕ) → a ≡ unwrap_or b 18446744073709551615 → o + length bs ≤ a → o + length bs ≤ message_limit → sizes (byte_values bs) b o ≡ Ok (o + length bs)
-bytes_within None bs o a e h l = bytes_fit None bs o tt l
-bytes_within (Some x) bs o a e h l = let at : a ≡ x = e in bytes_fit (Some x) bs o (omega arith) l
+  pub bytes_too_long : (b : Option ℕ) (bs : List ℕ) (o : ℕ) → o ≤ limits.message → IfSome b (λ x. limits.message < x) → limits.message < o + length bs → sizes limits (byte_values bs) b o ≡ Err TooLong
+  bytes_too_long b [] o l w h = absurd (omega arith)
+  bytes_too_long b (n ∷ bs) o l w h = elim (dec_lt limits.message (o + 1)) [
+    | yes past ↦ step_err b n bs o TooLong (item_too_long b 1 o (some_le b (o + 1) (suc limits.message) (omega arith) (above b w)) past)
+    | no not ↦
+        let at : o + 1 ≤ limits.message = omega arith in
+        step_ok b n bs o (o + 1) (item_fits b 1 o (some_le b (o + 1) (suc limits.message) (omega arith) (above b w)) at) ∙ bytes_too_long b bs (o + 1) at w (omega arith)
+  ]
+    where
+      above : (b : Option ℕ) → IfSome b (λ x. limits.message < x) → IfSome b (λ x. suc limits.message ≤ x)
+      above None w = tt
+      above (Some x) w = omega arith
 
-pub bytes_past_array : (b : Option ℕ) (bs : List ℕ) (o a : ℕ) → a ≡ unwrap_or b 18446744073709551615 → a ≤ message_limit → 0 < length bs → a < o + length bs → sizes (byte_values bs) b o ≡ Err ArrayTooLong
-unfolding message_limit
-bytes_past_array None bs o a e l some h = let at : a ≡ 18446744073709551615 = e in absurd (omega arith)
-bytes_past_array (Some x) bs o a e l some h = let at : a ≡ x = e in bytes_pass x bs o (omega arith) some (omega arith)
+  -- where the array's end is a number that no end comes to, where there is none
+  pub bytes_within : (b : Option ℕ) (bs : List ℕ) (o a : ℕ) → a ≡ unwrap_or b 18446744073709551615 → o + length bs ≤ a → o + length bs ≤ limits.message → sizes limits (byte_values bs) b o ≡ Ok (o + length bs)
+  bytes_within None bs o a e h l = bytes_fit None bs o tt l
+  bytes_within (Some x) bs o a e h l = let at : a ≡ x = e in bytes_fit (Some x) bs o (omega arith) l
 
-pub bytes_past_message : (b : Option ℕ) (bs : List ℕ) (o a : ℕ) → a ≡ unwrap_or b 18446744073709551615 → o ≤ message_limit → message_limit < a → message_limit < o + length bs → sizes (byte_values bs) b o ≡ Err TooLong
-bytes_past_message None bs o a e l w h = bytes_too_long None bs o l tt h
-bytes_past_message (Some x) bs o a e l w h = let at : a ≡ x = e in bytes_too_long (Some x) bs o l (omega arith) h
+  pub bytes_past_array : (b : Option ℕ) (bs : List ℕ) (o a : ℕ) → a ≡ unwrap_or b 18446744073709551615 → a ≤ limits.message → 0 < length bs → a < o + length bs → sizes limits (byte_values bs) b o ≡ Err ArrayTooLong
+  bytes_past_array None bs o a e l some h = let at : a ≡ 18446744073709551615 = e in absurd (omega (arith, limits.message_in))
+  bytes_past_array (Some x) bs o a e l some h = let at : a ≡ x = e in bytes_pass x bs o (omega arith) some (omega arith)
 
--- ---- along a list
+  pub bytes_past_message : (b : Option ℕ) (bs : List ℕ) (o a : ℕ) → a ≡ unwrap_or b 18446744073709551615 → o ≤ limits.message → limits.message < a → limits.message < o + length bs → sizes limits (byte_values bs) b o ≡ Err TooLong
+  bytes_past_message None bs o a e l w h = bytes_too_long None bs o l tt h
+  bytes_past_message (Some x) bs o a e l w h = let at : a ≡ x = e in bytes_too_long (Some x) bs o l (omega arith) h
 
-pub sizes_more : {A : Type 0} (b : Option ℕ) (o : ℕ) (vs : List (Value A)) (i : ℕ) (v : Value A) → i < length vs → v ≡ get_or vs i v →
-    sizes (value_trees_of (drop i vs)) b o ≡ and_then (sized (value_tree v) b o) (sizes (value_trees_of (drop (i + 1) vs)) b)
-sizes_more {A} b o vs i v lt e =
-    at_drop_more (λ (l : List (Value A)). sizes (value_trees_of l) b o) vs i v lt ∙ ap (λ (x : Value A). and_then (sized (value_tree x) b o) (sizes (value_trees_of (drop (i + 1) vs)) b)) (sym e)
+  -- ---- along a list
 
-pub sizes_end : {A : Type 0} (b : Option ℕ) (o : ℕ) (vs : List (Value A)) (i : ℕ) → length vs ≤ i → sizes (value_trees_of (drop i vs)) b o ≡ Ok o
-sizes_end {A} b o vs i le = at_drop_all (λ (l : List (Value A)). sizes (value_trees_of l) b o) vs i le
+  pub sizes_more : {A : Type 0} (b : Option ℕ) (o : ℕ) (vs : List (Value A)) (i : ℕ) (v : Value A) → i < length vs → v ≡ get_or vs i v →
+      sizes limits (value_trees_of (drop i vs)) b o ≡ and_then (sized limits (value_tree v) b o) (sizes limits (value_trees_of (drop (i + 1) vs)) b)
+  sizes_more {A} b o vs i v lt e =
+      at_drop_more (λ (l : List (Value A)). sizes limits (value_trees_of l) b o) vs i v lt ∙ ap (λ (x : Value A). and_then (sized limits (value_tree x) b o) (sizes limits (value_trees_of (drop (i + 1) vs)) b)) (sym e)
 
-pub sizes_stop : {A : Type 0} (b : Option ℕ) (o : ℕ) (vs : List (Value A)) (i : ℕ) (v : Value A) (f : ValueFault) → i < length vs → v ≡ get_or vs i v → Err f ≡ sized (value_tree v) b o →
-    Err f ≡ sizes (value_trees_of (drop i vs)) b o
-sizes_stop b o vs i v f lt e d = sym (sizes_more b o vs i v lt e ∙ ap (λ (r : Result ℕ ValueFault). and_then r (sizes (value_trees_of (drop (i + 1) vs)) b)) (sym d))
+  pub sizes_end : {A : Type 0} (b : Option ℕ) (o : ℕ) (vs : List (Value A)) (i : ℕ) → length vs ≤ i → sizes limits (value_trees_of (drop i vs)) b o ≡ Ok o
+  sizes_end {A} b o vs i le = at_drop_all (λ (l : List (Value A)). sizes limits (value_trees_of l) b o) vs i le
 
-pub sizes_step : {A : Type 0} (b : Option ℕ) (o p : ℕ) (vs : List (Value A)) (i : ℕ) (v : Value A) → i < length vs → v ≡ get_or vs i v → Ok p ≡ sized (value_tree v) b o →
-    sizes (value_trees_of (drop (i + 1) vs)) b p ≡ sizes (value_trees_of (drop i vs)) b o
-sizes_step b o p vs i v lt e d = sym (sizes_more b o vs i v lt e ∙ ap (λ (r : Result ℕ ValueFault). and_then r (sizes (value_trees_of (drop (i + 1) vs)) b)) (sym d))
+  pub sizes_stop : {A : Type 0} (b : Option ℕ) (o : ℕ) (vs : List (Value A)) (i : ℕ) (v : Value A) (f : ValueFault) → i < length vs → v ≡ get_or vs i v → Err f ≡ sized limits (value_tree v) b o →
+      Err f ≡ sizes limits (value_trees_of (drop i vs)) b o
+  sizes_stop b o vs i v f lt e d = sym (sizes_more b o vs i v lt e ∙ ap (λ (r : Result ℕ ValueFault). and_then r (sizes limits (value_trees_of (drop (i + 1) vs)) b)) (sym d))
 
-pub some_bytes : (n : ℕ) → false ≡ (n == 0) → 0 < n
-some_bytes zero e = absurd cc
-some_bytes (suc n) e = omega arith
+  pub sizes_step : {A : Type 0} (b : Option ℕ) (o p : ℕ) (vs : List (Value A)) (i : ℕ) (v : Value A) → i < length vs → v ≡ get_or vs i v → Ok p ≡ sized limits (value_tree v) b o →
+      sizes limits (value_trees_of (drop (i + 1) vs)) b p ≡ sizes limits (value_trees_of (drop i vs)) b o
+  sizes_step b o p vs i v lt e d = sym (sizes_more b o vs i v lt e ∙ ap (λ (r : Result ℕ ValueFault). and_then r (sizes limits (value_trees_of (drop (i + 1) vs)) b)) (sym d))
+
+  pub some_bytes : (n : ℕ) → false ≡ (n == 0) → 0 < n
+  some_bytes zero e = absurd cc
+  some_bytes (suc n) e = omega arith
 
 pub ruleset sizing = (sized-Byte, sized-Bool, sized-I16, sized-U16, sized-I32, sized-U32, sized-I64, sized-U64, sized-Double, sized-Fd, sized-Str, sized-Path, sized-Sig, sized-Bytes, sized-Array, sized-Struct, sized-Entry, sized-Variant, sized_text, contents_is)

@@ -4,45 +4,65 @@
 ghost use Rattle.std.specs.Prelude.{◌≡◌, ◌<◌, ◌≤◌, ◌^◌, ◌++◌, length, vec_capacity, None, OnOk, OnErr, IsOkUnless, MatchResult, if◌then◌else◌};
 ghost use Rattle.dbus_types.specs.SigTypes.{type_tree};
 ghost use Rattle.dbus_types.specs.Types.{NumberType, BYTE};
+ghost use Rattle.dbus_value_model.specs.declared.limits.TheConstants.{MESSAGE_LIMIT};
+ghost use Rattle.dbus_value_model.specs.Specification.{specification};
 ghost use Rattle.dbus_value_model.specs.Appending.{with_value, with_values};
 ghost use Rattle.dbus_value_model.specs.ShortSignatures.{HasShortSignatures, HaveShortSignatures};
-ghost use Rattle.dbus_value_model.specs.Sizes.{message_limit, sized};
+ghost use Rattle.dbus_value_model.specs.Sizes.{sized};
 ghost use Rattle.dbus_value_model.specs.Values.{ArrayValue};
 ghost use Rattle.dbus_value_model.specs.Spelling.{spelling};
 ghost use Rattle.dbus_value_model.specs.ValueViews.{value_tree, value_trees_of, byte_values};
 
 use crate::signatures::write_variant_signature;
-use crate::sizes::size_after;
+use crate::sizes::size_after_within;
 use crate::writing::{
     overwrite_32, write_byte, write_bytes, write_number_16, write_number_32, write_number_64,
     write_padding, write_signature, write_text,
 };
 use dbus_types::{SigType, alignment};
-use dbus_value_model::{Order, Value, ValueFault};
+use dbus_value_model::{Limits, Order, Value, ValueFault};
 use std::alloc::Allocator;
 
-/// Appends a value's spelling. The vector begins at the message's first byte, so its length is the value's offset, and
-/// is at most [`MESSAGE_LIMIT`](dbus_value_model::MESSAGE_LIMIT).
-///
-/// Of the value it asks only that each signature in it has at most 255 bytes, as is so where it is well formed. It is
-/// refused exactly where `size_after` refuses it at this offset, and with that fault; else only by `Memory`, where a
-/// growth was refused. A refusal leaves the vector's bytes as they were.
-#[tactic(auto, using(crate::proofs::SizeLaws::put_needs))]
+/// Appends a value's spelling, as [`put_within`] says under the limits of the specification.
 pub fn put<A: Allocator>(
     out: &mut Vec<u8, A>,
     order: Order,
     value: &Value<A>,
 ) -> Result<(), ValueFault>
-    requires start { length out.old.items ≤ message_limit }
+    requires start { length out.old.items ≤ MESSAGE_LIMIT }
     requires signed { HasShortSignatures (value_tree value.now) }
     ensures written { OnOk result (out.new.items ≡ out.old.items ++ spelling order (length out.old.items) (value_tree value.now)) }
     ensures unchanged { OnErr result (out.new.items ≡ out.old.items) }
-    ensures refused { MatchResult (sized (value_tree value.now) None (length out.old.items))
+    ensures refused { MatchResult (sized specification (value_tree value.now) None (length out.old.items))
+        (λ _. IsOkUnless result ValueFault.Memory)
+        (λ f. result ≡ Err f) }
+{
+    put_within(out, order, value, Limits::specification())
+}
+
+/// Appends a value's spelling. The vector begins at the message's first byte, so its length is the value's offset, and
+/// is at most the limits' message.
+///
+/// Of the value it asks only that each signature in it has at most 255 bytes, as is so where it is well formed. It is
+/// refused exactly where `size_after_within` refuses it at this offset, and with that fault; else only by `Memory`, where
+/// a growth was refused. A refusal leaves the vector's bytes as they were.
+#[tactic(auto, using(crate::proofs::SizeLaws::put_needs))]
+pub fn put_within<A: Allocator>(
+    out: &mut Vec<u8, A>,
+    order: Order,
+    value: &Value<A>,
+    limits: Limits,
+) -> Result<(), ValueFault>
+    requires start { length out.old.items ≤ limits.message }
+    requires signed { HasShortSignatures (value_tree value.now) }
+    ensures written { OnOk result (out.new.items ≡ out.old.items ++ spelling order (length out.old.items) (value_tree value.now)) }
+    ensures unchanged { OnErr result (out.new.items ≡ out.old.items) }
+    ensures refused { MatchResult (sized limits (value_tree value.now) None (length out.old.items))
         (λ _. IsOkUnless result ValueFault.Memory)
         (λ f. result ≡ Err f) }
 {
     let start = out.len();
-    let end = size_after(value, start as u64)?;
+    let end = size_after_within(value, start as u64, limits)?;
     out.reserve(end as usize - start)?;
     write_value(out, order, value);
     Ok(())

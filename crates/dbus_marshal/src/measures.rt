@@ -10,48 +10,48 @@ ghost use Rattle.dbus_value_model.specs.ValueViews.{value_tree, value_trees_of};
 
 use crate::signatures::signature_length;
 use dbus_types::alignment;
-use dbus_value_model::{ARRAY_LIMIT, MESSAGE_LIMIT, Value, padding_length};
+use dbus_value_model::{Limits, MESSAGE_LIMIT, Value, padding_length};
 use std::alloc::Allocator;
 
 /// Offsets are exact below this, and known modulo 8 from here on: the limit of messages, and a step to a boundary beyond.
 const CAP: u64 = MESSAGE_LIMIT as u64 + 8;
 
-/// Where a value ends that begins at `at`, in both byte orders, or nothing where the contents of an array in it are over
-/// [`ARRAY_LIMIT`] bytes. D-Bus Specification, "Marshaling (Wire Format)".
+/// Where a value ends that begins at `at`, in both byte orders, or nothing where the contents of an array in it have more
+/// bytes than the limits' array. D-Bus Specification, "Marshaling (Wire Format)".
 ///
 /// `at` is an offset from the message's first byte, or stands for one that is further out: 8 bytes past [`MESSAGE_LIMIT`] and
 /// its remainder modulo 8 for any from there on. The end is given in the same form, so one measure goes on from another however long
 /// the whole is, and it is over [`MESSAGE_LIMIT`] exactly where the true end is. Of the value it asks only that each signature
 /// in it has at most 255 bytes, as is so where it is well formed.
-pub fn measure<A: Allocator>(value: &Value<A>, at: u64) -> Option<u64>
+pub fn measure<A: Allocator>(value: &Value<A>, at: u64, limits: Limits) -> Option<u64>
     requires start { IsCapped at }
     requires signed { HasShortSignatures (value_tree value.now) }
-    ensures exact { IsMeasured (value_tree value.now) at result }
+    ensures exact { IsMeasured limits.array (value_tree value.now) at result }
     ensures within { IfSome result IsCapped }
 {
-    measure_value(value, at)
+    measure_value(value, at, limits)
 }
 
 /// Where values end that stand one behind the other from `at` on, as [`measure`] says.
-pub fn measure_all<A: Allocator>(values: &[Value<A>], at: u64) -> Option<u64>
+pub fn measure_all<A: Allocator>(values: &[Value<A>], at: u64, limits: Limits) -> Option<u64>
     requires start { IsCapped at }
     requires signed { HaveShortSignatures (value_trees_of values.now) }
-    ensures exact { AreMeasured (value_trees_of values.now) at result }
+    ensures exact { AreMeasured limits.array (value_trees_of values.now) at result }
     ensures within { IfSome result IsCapped }
 {
-    measure_values(values, at)
+    measure_values(values, at, limits)
 }
 
 /// Where a struct ends of a BYTE and a VARIANT that holds `value`, as each field of a message's header is one, as
 /// [`measure`] says.
-pub fn measure_coded<A: Allocator>(value: &Value<A>, at: u64) -> Option<u64>
+pub fn measure_coded<A: Allocator>(value: &Value<A>, at: u64, limits: Limits) -> Option<u64>
     requires start { IsCapped at }
     requires signed { HasShortSignatures (VariantValue (value_tree value.now)) }
-    ensures exact { (code : ℕ) → IsMeasured (coded code (value_tree value.now)) at result }
+    ensures exact { (code : ℕ) → IsMeasured limits.array (coded code (value_tree value.now)) at result }
     ensures within { IfSome result IsCapped }
 {
     let behind_code = number(1, boundary(8, at));
-    measure_value(value, text(1, signature_length(value), behind_code))
+    measure_value(value, text(1, signature_length(value), behind_code), limits)
 }
 
 /// The offset that stands for `at`.
@@ -94,10 +94,10 @@ fn text(width: u8, len: usize, at: u64) -> u64
 }
 
 #[cycle(size)]
-fn measure_value<A: Allocator>(value: &Value<A>, at: u64) -> Option<u64>
+fn measure_value<A: Allocator>(value: &Value<A>, at: u64, limits: Limits) -> Option<u64>
     requires start { IsCapped at }
     requires signed { HasShortSignatures (value_tree value.now) }
-    ensures exact { IsMeasured (value_tree value.now) at result }
+    ensures exact { IsMeasured limits.array (value_tree value.now) at result }
     ensures within { IfSome result IsCapped }
 {
     match value {
@@ -110,7 +110,7 @@ fn measure_value<A: Allocator>(value: &Value<A>, at: u64) -> Option<u64>
         Value::Bytes(bytes) => {
             let start = number(4, at);
             let len = bytes.len() as u64;
-            if len > u64::from(ARRAY_LIMIT) {
+            if len > u64::from(limits.array) {
                 return None;
             }
             Some(cap(start + len))
@@ -119,31 +119,31 @@ fn measure_value<A: Allocator>(value: &Value<A>, at: u64) -> Option<u64>
             let start = boundary(alignment(element), number(4, at));
             // From here the contents have the same paddings, and an end that is exact up to the cap.
             let origin = start % 8;
-            let end = measure_values(items, origin)?;
-            if end > origin + u64::from(ARRAY_LIMIT) {
+            let end = measure_values(items, origin, limits)?;
+            if end > origin + u64::from(limits.array) {
                 return None;
             }
             Some(cap(start - origin + end))
         }
-        Value::Struct(fields) => measure_values(fields, boundary(8, at)),
+        Value::Struct(fields) => measure_values(fields, boundary(8, at), limits),
         Value::Entry(key, value) => {
-            let behind_key = measure_value(key, boundary(8, at))?;
-            measure_value(value, behind_key)
+            let behind_key = measure_value(key, boundary(8, at), limits)?;
+            measure_value(value, behind_key, limits)
         }
-        Value::Variant(inner) => measure_value(inner, text(1, signature_length(inner), at)),
+        Value::Variant(inner) => measure_value(inner, text(1, signature_length(inner), at), limits),
     }
 }
 
 #[cycle(size)]
-fn measure_values<A: Allocator>(values: &[Value<A>], at: u64) -> Option<u64>
+fn measure_values<A: Allocator>(values: &[Value<A>], at: u64, limits: Limits) -> Option<u64>
     requires start { IsCapped at }
     requires signed { HaveShortSignatures (value_trees_of values.now) }
-    ensures exact { AreMeasured (value_trees_of values.now) at result }
+    ensures exact { AreMeasured limits.array (value_trees_of values.now) at result }
     ensures within { IfSome result IsCapped }
 {
     let mut end = at;
     for value in values {
-        end = measure_value(value, end)?;
+        end = measure_value(value, end, limits)?;
     }
     Some(end)
 }

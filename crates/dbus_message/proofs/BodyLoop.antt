@@ -13,6 +13,7 @@ use Rattle.dbus_value_model.specs.Items.{fault}
 use Rattle.dbus_value_model.specs.Values.{ValueTree, ValueTrees, NoValues, MoreValues, value_trees}
 use Rattle.dbus_value_model.specs.Reading.{Reader, Outcome, Done, Faulty, Partial, after, pure, fields, value, ends}
 use Rattle.dbus_unmarshal.proofs.ReadSteps.{stops_after}
+use Rattle.dbus_message.specs.Bounds.{bounds}
 use Rattle.dbus_message.specs.HeaderReading.{body_read}
 use Rattle.dbus_message.specs.SingleTypes.{AreSingleTypes}
 use Rattle.dbus_message.specs.ValidMessages.{room_in_field}
@@ -56,15 +57,15 @@ module _ (part : TypeTree → Reader ValueTree) (front : List ValueTree) (o : �
 -- ---- the body
 
 module _ (order : Order) (end : ℕ) (ts : TypeTrees) (o : ℕ) (s : List ℕ) where
-  pub body_stopped : (e : Stop) → Stops e (fields (value order 64 end) ts o s) → Stops e (body_read order ts end o s)
+  pub body_stopped : (e : Stop) → Stops e (fields (value bounds order 64 end) ts o s) → Stops e (body_read order ts end o s)
   unfolding body_read room_in_field
-  body_stopped e h = stops_after e (fields (value order 64 end) ts o s) (λ xs p t. after (ends end p t) (λ _. pure xs)) h
+  body_stopped e h = stops_after e (fields (value bounds order 64 end) ts o s) (λ xs p t. after (ends end p t) (λ _. pure xs)) h
 
-  pub body_trailing : (vs : ValueTrees) (q : ℕ) (r : List ℕ) → fields (value order 64 end) ts o s ≡ Done vs q r → q < end → body_read order ts end o s ≡ Faulty (fault q reasons.Trailing)
+  pub body_trailing : (vs : ValueTrees) (q : ℕ) (r : List ℕ) → fields (value bounds order 64 end) ts o s ≡ Done vs q r → q < end → body_read order ts end o s ≡ Faulty (fault q reasons.Trailing)
   unfolding body_read room_in_field ends
   body_trailing vs q r e h = rw (e, lt-ltb _ _ h) refl
 
-  pub body_whole : (vs : ValueTrees) (q : ℕ) (r : List ℕ) → fields (value order 64 end) ts o s ≡ Done vs q r → q ≡ end → body_read order ts end o s ≡ Done vs q r
+  pub body_whole : (vs : ValueTrees) (q : ℕ) (r : List ℕ) → fields (value bounds order 64 end) ts o s ≡ Done vs q r → q ≡ end → body_read order ts end o s ≡ Done vs q r
   unfolding body_read room_in_field ends
   body_whole vs q r e h = rw (e, le-ltb q end (omega arith), eq-eqb q end h) refl
 

@@ -1,13 +1,13 @@
 -- A message that is valid and within the limits in one byte order is so in the other.
 use Rattle.std.proofs.Common.{◌≡◌, ℕ, ◌+◌, ◌≤◌, List, length, refl, sym, ap, subst}
 use Rattle.dbus_types.specs.Types.{sig}
+use Rattle.dbus_value_model.specs.declared.limits.TheConstants.{ARRAY_LIMIT, MESSAGE_LIMIT}
 use Rattle.dbus_value_model.specs.declared.order.Order.{Order}
 use Rattle.dbus_value_model.specs.declared.order.Order.TheVariants.{Little, Big}
 use Rattle.dbus_value_model.specs.Bytes.{gap_to}
-use Rattle.dbus_value_model.specs.Spelling.{spelling, spellings, contents_start, ended_text, array_limit, IsWithinLimits, AreWithinLimits}
+use Rattle.dbus_value_model.specs.Spelling.{spelling, spellings, contents_start, ended_text, IsWithinLimits, AreWithinLimits}
 use Rattle.dbus_value_model.specs.Values.{ValueTree, ValueTrees, NoValues, MoreValues, NumberValue, TextValue, VariantValue, ArrayValue, StructValue, EntryValue, type_of}
 use Rattle.dbus_message.specs.Messages.{FieldTree, MessageTree, message_bytes, field_array, fields_end, body_start, IsMessage}
-use Rattle.dbus_value_model.specs.Sizes.{message_limit}
 use Rattle.dbus_message.specs.ValidMessages.{room_in_field, IsValidMessage}
 use Rattle.dbus_message.proofs.MessageOutcomes.{same_ended, same_length, same_lengths, same_message_length}
 
@@ -36,27 +36,27 @@ any_message_length Big Little m = sym (same_message_length m)
 any_message_length Big Big m = refl
 
 mutual
-  pub any_within : (order other : Order) (o : ℕ) (v : ValueTree) → IsWithinLimits order o v → IsWithinLimits other o v
+  pub any_within : (order other : Order) (o : ℕ) (v : ValueTree) → IsWithinLimits ARRAY_LIMIT order o v → IsWithinLimits ARRAY_LIMIT other o v
   any_within order other o (NumberValue k n) h = tt
   any_within order other o (TextValue k t) h = tt
   any_within order other o (VariantValue x) h =
       any_within order other (o + length (ended_text other 1 (sig (type_of x)))) x
-      (subst (λ (n : ℕ). IsWithinLimits order (o + n) x) (any_ended order other 1 (sig (type_of x))) h)
+      (subst (λ (n : ℕ). IsWithinLimits ARRAY_LIMIT order (o + n) x) (any_ended order other 1 (sig (type_of x))) h)
   any_within order other o (ArrayValue t xs) h =
-      (subst (λ (n : ℕ). n ≤ array_limit) (any_lengths order other (contents_start t o) xs) h.0, any_within_all order other (contents_start t o) xs h.1)
+      (subst (λ (n : ℕ). n ≤ ARRAY_LIMIT) (any_lengths order other (contents_start t o) xs) h.0, any_within_all order other (contents_start t o) xs h.1)
   any_within order other o (StructValue xs) h = any_within_all order other (o + gap_to 8 o) xs h
   any_within order other o (EntryValue k x) h = (
     any_within order other (o + gap_to 8 o) k h.0,
     any_within order other (o + gap_to 8 o + length (spelling other (o + gap_to 8 o) k)) x
-        (subst (λ (n : ℕ). IsWithinLimits order (o + gap_to 8 o + n) x) (any_length order other (o + gap_to 8 o) k) h.1),
+        (subst (λ (n : ℕ). IsWithinLimits ARRAY_LIMIT order (o + gap_to 8 o + n) x) (any_length order other (o + gap_to 8 o) k) h.1),
   )
 
-  pub any_within_all : (order other : Order) (o : ℕ) (vs : ValueTrees) → AreWithinLimits order o vs → AreWithinLimits other o vs
+  pub any_within_all : (order other : Order) (o : ℕ) (vs : ValueTrees) → AreWithinLimits ARRAY_LIMIT order o vs → AreWithinLimits ARRAY_LIMIT other o vs
   any_within_all order other o NoValues h = tt
   any_within_all order other o (MoreValues x xs) h = (
     any_within order other o x h.0,
     any_within_all order other (o + length (spelling other o x)) xs
-        (subst (λ (n : ℕ). AreWithinLimits order (o + n) xs) (any_length order other o x) h.1),
+        (subst (λ (n : ℕ). AreWithinLimits ARRAY_LIMIT order (o + n) xs) (any_length order other o x) h.1),
   )
 
 pub any_fields_end : (order other : Order) (fs : List FieldTree) → fields_end order fs ≡ fields_end other fs
@@ -79,8 +79,8 @@ any_order order other inner m h = record {
   signature = h.signature;
   formed_body = h.formed_body;
   within_body = any_within_all order other (body_start other m.fields) m.body
-      (subst (λ (n : ℕ). AreWithinLimits order n m.body) (any_body_start order other m.fields) h.within_body);
-  limit = subst (λ (n : ℕ). n ≤ message_limit) (any_message_length order other m) h.limit;
+      (subst (λ (n : ℕ). AreWithinLimits ARRAY_LIMIT order n m.body) (any_body_start order other m.fields) h.within_body);
+  limit = subst (λ (n : ℕ). n ≤ MESSAGE_LIMIT) (any_message_length order other m) h.limit;
 }
 
 pub valid_from : (order : Order) (m : MessageTree) → IsMessage order room_in_field m → IsValidMessage m

@@ -1,19 +1,18 @@
 -- Parts of which no case of fault holds are valid, and no others are.
 use Rattle.std.proofs.Common.{◌≡◌, inl, inr, ℕ, suc, ◌+◌, ◌<◌, ◌≤◌, List, [], ◌∷◌, length, map, None, Some, refl, sym, ap, subst, ◌∙◌, arith}
 use Rattle.std.proofs.lemmas.List.{length-append}
+use Rattle.dbus_value_model.specs.declared.limits.TheConstants.{ARRAY_LIMIT}
 use Rattle.dbus_value_model.specs.declared.order.Order.TheVariants.{Little}
 use Rattle.dbus_value_model.specs.Bytes.{gap_to, num}
 use Rattle.dbus_value_model.specs.Forming.{AreUniform, AreNamed}
 use Rattle.dbus_value_model.specs.Measures.{AreMeasured}
 use Rattle.dbus_value_model.specs.ShortSignatures.{HaveShortSignatures}
-use Rattle.dbus_value_model.specs.Sizes.{message_limit}
-use Rattle.dbus_value_model.specs.Spelling.{spelling, spellings, array_limit, IsWithinLimits, AreWithinLimits}
+use Rattle.dbus_value_model.specs.Spelling.{spelling, spellings, IsWithinLimits, AreWithinLimits}
 use Rattle.dbus_value_model.specs.Values.{value_trees, IsWellFormed, AreWellFormed}
 use Rattle.dbus_value_model.specs.ValueViews.{value_trees_of}
 use Rattle.dbus_value_model.specs.declared.value.Value.{Value}
 use Rattle.dbus_value_model.proofs.Formed.{formed_of, all_formed_of}
 use Rattle.dbus_value_model.proofs.Numbers.{length-num}
-use Rattle.dbus_marshal.proofs.SizeLaws.{message_limit_is}
 use Rattle.dbus_message.specs.BuildFaults.{IsFirstWithout, IsNonzero, HasOwnType, HasOwnKind, IsFirstUnsoundField, IsFirstUnsound, SignaturePasses, KeepsArrays, ArraysPass, IsLong, NoFault, IsFirstFault}
 use Rattle.dbus_message.specs.declared.build_fault.BuildFault.{BuildFault}
 use Rattle.dbus_message.specs.declared.build_fault.BuildFault.TheVariants as faults
@@ -61,7 +60,6 @@ within_whole : (m : MessageTree) → (length (spelling Little 12 (field_array m.
 within_whole m = (omega (arith, message_length Little 0 m), omega (arith, message_length Little 0 m))
 
 pub valid : {A : Type 0} (p : Parts A) → SignaturePasses p → HoldTheirNumbers (parts_tree p) → KeepsArrays (parts_tree p) → (IsLong (parts_tree p) → ⊥) → IsValidMessage (parts_tree p)
-unfolding message_limit
 valid p s holds arrays long =
     let m = parts_tree p in
     let short : length (message_bytes Little m) ≤ 134_217_728 = omega (arith, long) in
@@ -94,11 +92,7 @@ valid p s holds arrays long =
 
 -- ---- sizes, as they are computed
 
-array_limit_is : array_limit ≡ 67_108_864
-unfolding array_limit
-array_limit_is = refl
-
-contents_at : (fs : List FieldTree) → IsWithinLimits Little 12 (field_array fs) ≡ ((length (spellings Little 16 (value_trees (map field_struct fs))) ≤ array_limit) × AreWithinLimits Little 16 (value_trees (map field_struct fs)))
+contents_at : (fs : List FieldTree) → IsWithinLimits ARRAY_LIMIT Little 12 (field_array fs) ≡ ((length (spellings Little 16 (value_trees (map field_struct fs))) ≤ ARRAY_LIMIT) × AreWithinLimits ARRAY_LIMIT Little 16 (value_trees (map field_struct fs)))
 unfolding gap_to
 contents_at fs = refl
 
@@ -110,11 +104,11 @@ fields_end_is fs = omega (arith, length-append (num Little 4 (length (spellings 
 pub fields_past : (m : MessageTree) → AreFieldEnds m.fields 16 None → KeepsArrays m → ⊥
 fields_past m h kept = let w = subst (λ (t : Type 0). t) (contents_at m.fields) kept.0 in absurd (omega (arith, w.0, h w.1))
 
-pub fields_keep : (m : MessageTree) (e : ℕ) → AreFieldEnds m.fields 16 (Some e) → IsWithinLimits Little 12 (field_array m.fields)
+pub fields_keep : (m : MessageTree) (e : ℕ) → AreFieldEnds m.fields 16 (Some e) → IsWithinLimits ARRAY_LIMIT Little 12 (field_array m.fields)
 fields_keep m e h = subst (λ (t : Type 0). t) (sym (contents_at m.fields)) (omega (arith, h.2), h.0)
 
 pub fields_near : (m : MessageTree) (e : ℕ) → AreFieldEnds m.fields 16 (Some e) → e ≤ 67_108_880
-fields_near m e h = omega (arith, array_limit_is, h.1, h.2)
+fields_near m e h = omega (arith, h.1, h.2)
 
 pub body_at : (m : MessageTree) (e g : ℕ) → AreFieldEnds m.fields 16 (Some e) → g ≡ gap_to 8 e → body_start Little m.fields ≡ e + g
 body_at m e g h gap =
@@ -131,19 +125,19 @@ module _ {A : Type 0} (p : Parts A) (e g : ℕ) (passed : SignaturePasses p) (en
   start_is : body_start Little (parts_tree p).fields ≡ e + g
   start_is = body_at (parts_tree p) e g ends gap
 
-  pub body_arrays : AreMeasured (parts_tree p).body (e + g) None → KeepsArrays (parts_tree p) → ⊥
-  body_arrays h kept = body_past (parts_tree p).body (e + g) start_near h (subst (λ (n : ℕ). AreWithinLimits Little n (parts_tree p).body) start_is kept.1)
+  pub body_arrays : AreMeasured ARRAY_LIMIT (parts_tree p).body (e + g) None → KeepsArrays (parts_tree p) → ⊥
+  body_arrays h kept = body_past (parts_tree p).body (e + g) start_near h (subst (λ (n : ℕ). AreWithinLimits ARRAY_LIMIT Little n (parts_tree p).body) start_is kept.1)
 
-  keeps : (n : ℕ) → AreMeasured (parts_tree p).body (e + g) (Some n) → KeepsArrays (parts_tree p)
-  keeps n h = (fields_keep (parts_tree p) e ends, subst (λ (o : ℕ). AreWithinLimits Little o (parts_tree p).body) (sym start_is) (body_kept (parts_tree p).body (e + g) n start_near h))
+  keeps : (n : ℕ) → AreMeasured ARRAY_LIMIT (parts_tree p).body (e + g) (Some n) → KeepsArrays (parts_tree p)
+  keeps n h = (fields_keep (parts_tree p) e ends, subst (λ (o : ℕ). AreWithinLimits ARRAY_LIMIT Little o (parts_tree p).body) (sym start_is) (body_kept (parts_tree p).body (e + g) n start_near h))
 
-  pub too_long : (n : ℕ) → AreMeasured (parts_tree p).body (e + g) (Some n) → 134_217_728 < n → ArraysPass p × IsLong (parts_tree p)
+  pub too_long : (n : ℕ) → AreMeasured ARRAY_LIMIT (parts_tree p).body (e + g) (Some n) → 134_217_728 < n → ArraysPass p × IsLong (parts_tree p)
   too_long n h long = ((passed, keeps n h), omega (arith, body_long (parts_tree p).body (e + g) n start_near h long, whole_at (parts_tree p) (e + g) start_is))
 
-  pub built : (n : ℕ) → AreMeasured (parts_tree p).body (e + g) (Some n) → n ≤ 134_217_728 → HoldTheirNumbers (parts_tree p) → IsValidMessage (parts_tree p) × (n ≡ length (message_bytes Little (parts_tree p))) × NoFault p
+  pub built : (n : ℕ) → AreMeasured ARRAY_LIMIT (parts_tree p).body (e + g) (Some n) → n ≤ 134_217_728 → HoldTheirNumbers (parts_tree p) → IsValidMessage (parts_tree p) × (n ≡ length (message_bytes Little (parts_tree p))) × NoFault p
   built n h le holds =
       let size : n ≡ length (message_bytes Little (parts_tree p)) = body_ends (parts_tree p).body (e + g) n start_near h le ∙ sym (whole_at (parts_tree p) (e + g) start_is) in
-      let short : IsLong (parts_tree p) → ⊥ = λ long. absurd (omega (arith, message_limit_is, long, size, le)) in
+      let short : IsLong (parts_tree p) → ⊥ = λ long. absurd (omega (arith, long, size, le)) in
       (valid p passed holds (keeps n h) short, size, ((passed, keeps n h), short))
 
 -- ---- what is at fault is not without fault

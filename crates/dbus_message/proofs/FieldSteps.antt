@@ -12,6 +12,7 @@ use Rattle.dbus_value_model.specs.declared.fault.Reason.TheVariants as reasons
 use Rattle.dbus_value_model.specs.WantedTexts.{IsName, Of, Only}
 use Rattle.dbus_value_model.specs.Reading.{Done, value}
 use Rattle.dbus_unmarshal.proofs.KindLaws.{name_is_text, spelled_sig}
+use Rattle.dbus_message.specs.Bounds.{bounds}
 use Rattle.dbus_message.specs.Messages.{OfType, Anything}
 use Rattle.dbus_message.specs.MessageItems.{name_row}
 use Rattle.dbus_message.specs.ValidMessages.{room_in_field}
@@ -44,7 +45,7 @@ field_room = refl
 
 module _ (order : Order) (end : ℕ) (at : ℕ) (bytes : List ℕ) (q : ℕ) where
   pub typed_value : (t : TypeTree) (wanted : List ℕ) → wanted ≡ sig t → wanted_signature order end (Only wanted) at (drop at bytes) ≡ Done (type_spelled wanted) q (drop q bytes)
-      → wanted_value order end (OfType t) at (drop at bytes) ≡ value order 61 end t q (drop q bytes)
+      → wanted_value order end (OfType t) at (drop at bytes) ≡ value bounds order 61 end t q (drop q bytes)
   unfolding wanted_value
   typed_value t wanted is h =
       let found : wanted_signature order end (Only (sig t)) at (drop at bytes) ≡ Done t q (drop q bytes) =
@@ -52,6 +53,6 @@ module _ (order : Order) (end : ℕ) (at : ℕ) (bytes : List ℕ) (q : ℕ) whe
       rw (found, field_room) refl
 
   pub any_value : (t : TypeTree) → wanted_signature order end (Of kinds.Single) at (drop at bytes) ≡ Done t q (drop q bytes)
-      → wanted_value order end Anything at (drop at bytes) ≡ value order 61 end t q (drop q bytes)
+      → wanted_value order end Anything at (drop at bytes) ≡ value bounds order 61 end t q (drop q bytes)
   unfolding wanted_value
   any_value t h = rw (h, field_room) refl

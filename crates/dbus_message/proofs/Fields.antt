@@ -15,6 +15,7 @@ use Rattle.dbus_value_model.specs.declared.fault.Reason.{Reason}
 use Rattle.dbus_value_model.specs.Items as items
 use Rattle.dbus_value_model.specs.ValueItems.{text_row, value}
 use Rattle.dbus_value_model.specs.Reading as reading
+use Rattle.dbus_message.specs.Bounds.{bounds}
 use Rattle.dbus_message.specs.Messages.{FieldTree, Want, Anything, OfType, Name, Serial, want, Suits, IsField, field_type, field_struct, is_known, has_code}
 use Rattle.dbus_message.specs.MessageItems.{name_row, not_zero_row, code_row, kind_wanted, value_wanted, field_items, field}
 use Rattle.dbus_message.specs.MessageReading as reads
@@ -58,56 +59,56 @@ pub fits_not_zero : (why : Reason) (p n : ℕ) → 0 < n → not_zero_row why p 
 fits_not_zero why p n h = let other : eqb n 0 ≡ false = ne_eqb n 0 (omega arith) in rw other refl
 
 module _ (order : Order) (inner end : ℕ) where
-  wanted_to : (w : Want) (t : TypeTree) (o : ℕ) (s : List ℕ) (x : ValueTree) (q : ℕ) (r : List ℕ) → WantOk w → IsWanted (kind_wanted w) (sig t) → (value_wanted order inner end w t).Passed o s x q r → Spelled order inner end t o s x q r × Suits w x
-  wanted_to Anything t o s x q r ok is h = ((value_inside order inner end t o s x q r).0 h, tt)
+  wanted_to : (w : Want) (t : TypeTree) (o : ℕ) (s : List ℕ) (x : ValueTree) (q : ℕ) (r : List ℕ) → WantOk w → IsWanted (kind_wanted w) (sig t) → (value_wanted order inner end w t).Passed o s x q r → Spelled bounds order inner end t o s x q r × Suits w x
+  wanted_to Anything t o s x q r ok is h = ((value_inside bounds order inner end t o s x q r).0 h, tt)
   wanted_to (OfType u) t o s x q r ok is h =
-      let spelled = (value_inside order inner end t o s x q r).0 h in
+      let spelled = (value_inside bounds order inner end t o s x q r).0 h in
       (spelled, spelled.has_type ∙ sym (sig_injective u t (only_is (sig u) (sig t) is)))
   wanted_to (Name k) t o s x q r ok is h =
       let same : TextType STRING ≡ t = sig_injective (TextType STRING) t (only_is (sig (TextType STRING)) (sig t) is) in
       let a = h.4 in
       let b = a.4 in
       let rows = name_row_fits end a.1 a.0 a.3.4 in
-      let spelled = text_to order inner (value order inner) end STRING o s x q r
+      let spelled = text_to bounds order inner (value bounds order inner) end STRING o s x q r
       (h.0, h.1, h.2, h.3, (a.0, a.1, a.2, (a.3.0, a.3.1, a.3.2, a.3.3, rows.1), (b.0, b.1, b.2, (b.3.0, b.3.1, name_is_text k b.0 ok.0 b.3.2, b.3.3), b.4))) in
-      (subst (λ (u : TypeTree). Spelled order inner end u o s x q r) same spelled, (b.0, b.4.4.0, b.3.2, omega (arith, rows.0, b.3.1)))
+      (subst (λ (u : TypeTree). Spelled bounds order inner end u o s x q r) same spelled, (b.0, b.4.4.0, b.3.2, omega (arith, rows.0, b.3.1)))
   wanted_to Serial t o s x q r ok is h =
       let same : NumberType UINT32 ≡ t = sig_injective (NumberType UINT32) t (only_is (sig (NumberType UINT32)) (sig t) is) in
       let a = h.4 in
-      let spelled = number_to order inner (value order inner) end UINT32 o s x q r
+      let spelled = number_to bounds order inner (value bounds order inner) end UINT32 o s x q r
       (h.0, h.1, h.2, h.3, (a.0, a.1, a.2, (a.3.0, a.3.1, a.3.2, a.3.3, refl), a.4)) in
-      (subst (λ (u : TypeTree). Spelled order inner end u o s x q r) same spelled, (a.0, a.4.0, not_zero_fits reasons.ZeroSerial a.1 a.0 a.3.4))
+      (subst (λ (u : TypeTree). Spelled bounds order inner end u o s x q r) same spelled, (a.0, a.4.0, not_zero_fits reasons.ZeroSerial a.1 a.0 a.3.4))
 
-  name_from : (k : WantedText) (o : ℕ) (s name : List ℕ) (q : ℕ) (r : List ℕ) → Spelled order inner end (TextType STRING) o s (TextValue STRING name) q r → IsWanted k name → length name < 256 → (value_wanted order inner end (Name k) (TextType STRING)).Passed o s (TextValue STRING name) q r
+  name_from : (k : WantedText) (o : ℕ) (s name : List ℕ) (q : ℕ) (r : List ℕ) → Spelled bounds order inner end (TextType STRING) o s (TextValue STRING name) q r → IsWanted k name → length name < 256 → (value_wanted order inner end (Name k) (TextType STRING)).Passed o s (TextValue STRING name) q r
   name_from k o s name q r spelled is short =
-      let h = text_from order inner (value order inner) end STRING o s name q r spelled in
+      let h = text_from bounds order inner (value bounds order inner) end STRING o s name q r spelled in
       let a = h.4 in
       let b = a.4 in
       let same : name ≡ b.0 = cc (b.4.4.0) in
       let few : a.0 < 256 = omega (arith, b.3.1, ap length same) in
       (h.0, h.1, h.2, h.3, (a.0, a.1, a.2, (a.3.0, a.3.1, a.3.2, a.3.3, fits_name_row end a.1 a.0 few a.3.4), (b.0, b.1, b.2, (b.3.0, b.3.1, rw (← same) is, b.3.3), b.4)))
 
-  serial_from : (o : ℕ) (s : List ℕ) (n q : ℕ) (r : List ℕ) → Spelled order inner end (NumberType UINT32) o s (NumberValue UINT32 n) q r → 0 < n → (value_wanted order inner end Serial (NumberType UINT32)).Passed o s (NumberValue UINT32 n) q r
+  serial_from : (o : ℕ) (s : List ℕ) (n q : ℕ) (r : List ℕ) → Spelled bounds order inner end (NumberType UINT32) o s (NumberValue UINT32 n) q r → 0 < n → (value_wanted order inner end Serial (NumberType UINT32)).Passed o s (NumberValue UINT32 n) q r
   serial_from o s n q r spelled positive =
-      let h = number_from order inner (value order inner) end UINT32 o s n q r spelled in
+      let h = number_from bounds order inner (value bounds order inner) end UINT32 o s n q r spelled in
       let a = h.4 in
       let same : n ≡ a.0 = cc (a.4.0) in
       (h.0, h.1, h.2, h.3, (a.0, a.1, a.2, (a.3.0, a.3.1, a.3.2, a.3.3, fits_not_zero reasons.ZeroSerial a.1 a.0 (omega (arith, same))), a.4))
 
-  wanted_from : (w : Want) (t : TypeTree) (o : ℕ) (s : List ℕ) (x : ValueTree) (q : ℕ) (r : List ℕ) → IsSingleType t → Spelled order inner end t o s x q r → Suits w x → (IsWanted (kind_wanted w) (sig t)) × (value_wanted order inner end w t).Passed o s x q r
-  wanted_from Anything t o s x q r single spelled suits = ((text_single t single).0, (value_inside order inner end t o s x q r).1 spelled)
+  wanted_from : (w : Want) (t : TypeTree) (o : ℕ) (s : List ℕ) (x : ValueTree) (q : ℕ) (r : List ℕ) → IsSingleType t → Spelled bounds order inner end t o s x q r → Suits w x → (IsWanted (kind_wanted w) (sig t)) × (value_wanted order inner end w t).Passed o s x q r
+  wanted_from Anything t o s x q r single spelled suits = ((text_single t single).0, (value_inside bounds order inner end t o s x q r).1 spelled)
   wanted_from (OfType u) t o s x q r single spelled suits =
       let same : t ≡ u = sym spelled.has_type ∙ suits in
-      (rw same (only_same (sig u)), (value_inside order inner end t o s x q r).1 spelled)
+      (rw same (only_same (sig u)), (value_inside bounds order inner end t o s x q r).1 spelled)
   wanted_from (Name k) t o s x q r single spelled suits =
       let name = suits.0 in
       let same : t ≡ TextType STRING = sym spelled.has_type ∙ ap type_of suits.1 in
-      let spelled' : Spelled order inner end (TextType STRING) o s (TextValue STRING name) q r = subst (λ (v : ValueTree). Spelled order inner end (TextType STRING) o s v q r) suits.1 (subst (λ (u : TypeTree). Spelled order inner end u o s x q r) same spelled) in
+      let spelled' : Spelled bounds order inner end (TextType STRING) o s (TextValue STRING name) q r = subst (λ (v : ValueTree). Spelled bounds order inner end (TextType STRING) o s v q r) suits.1 (subst (λ (u : TypeTree). Spelled bounds order inner end u o s x q r) same spelled) in
       (rw same (only_same (sig (TextType STRING))), subst (λ (v : ValueTree). (value_wanted order inner end (Name k) t).Passed o s v q r) (sym suits.1) (name_from k o s name q r spelled' suits.2 suits.3))
   wanted_from Serial t o s x q r single spelled suits =
       let n = suits.0 in
       let same : t ≡ NumberType UINT32 = sym spelled.has_type ∙ ap type_of suits.1 in
-      let spelled' : Spelled order inner end (NumberType UINT32) o s (NumberValue UINT32 n) q r = subst (λ (v : ValueTree). Spelled order inner end (NumberType UINT32) o s v q r) suits.1 (subst (λ (u : TypeTree). Spelled order inner end u o s x q r) same spelled) in
+      let spelled' : Spelled bounds order inner end (NumberType UINT32) o s (NumberValue UINT32 n) q r = subst (λ (v : ValueTree). Spelled bounds order inner end (NumberType UINT32) o s v q r) suits.1 (subst (λ (u : TypeTree). Spelled bounds order inner end u o s x q r) same spelled) in
       (rw same (only_same (sig (NumberType UINT32))), subst (λ (v : ValueTree). (value_wanted order inner end Serial t).Passed o s v q r) (sym suits.1) (serial_from o s n q r spelled' suits.2))
 
 -- ---- the code
@@ -145,7 +146,7 @@ module _ (order : Order) (inner end : ℕ) (before : List FieldTree) where
       let rows = code_row_fits before a.1 code a.3.4 in
       let wanted = wanted_to order inner end (want code) c.0 d.1 d.2 x e.1 e.2 (want_ok code) c.3.1 e.3 in
       let no_pad = no_gap w.1 in
-      let first : Spelled order (suc inner) end (NumberType BYTE) w.1 w.2 (NumberValue BYTE code) a.1 a.2 = record {
+      let first : Spelled bounds order (suc inner) end (NumberType BYTE) w.1 w.2 (NumberValue BYTE code) a.1 a.2 = record {
         has_type = refl;
         formed = a.3.0;
         within = tt;
@@ -153,11 +154,11 @@ module _ (order : Order) (inner end : ℕ) (before : List FieldTree) where
         place = rw no_pad (omega (arith, a.3.2, length-num order 1 code));
         bound = a.3.3;
       } in
-      let second : Spelled order (suc inner) end VariantType a.1 a.2 (VariantValue x) e.1 e.2 =
-      variant_to order inner (value order inner) (λ e t o s v q r. (value_inside order inner e t o s v q r).0) (λ e t o s v q r. (value_inside order inner e t o s v q r).1) end a.1 a.2 (VariantValue x) e.1 e.2
-      (b.0, b.1, b.2, b.3, (c.0, c.1, c.2, (c.3.0, (text_single c.0 c.3.0).0, c.3.2, c.3.3, c.3.4), (d.0, d.1, d.2, d.3, (x, e.1, e.2, (value_inside order inner end c.0 d.1 d.2 x e.1 e.2).1 wanted.0, (refl, refl, refl))))) in
-      let whole : Spelled order (suc (suc inner)) end field_type o s (StructValue (MoreValues (NumberValue BYTE code) (MoreValues (VariantValue x) NoValues))) e.1 e.2 =
-      struct_to order (suc inner) (value order (suc inner)) (λ e t o s v q r. (value_inside order (suc inner) e t o s v q r).0) (λ e t o s v q r. (value_inside order (suc inner) e t o s v q r).1) end (MoreTypes (NumberType BYTE) (MoreTypes VariantType NoTypes)) o s _ e.1 e.2 (
+      let second : Spelled bounds order (suc inner) end VariantType a.1 a.2 (VariantValue x) e.1 e.2 =
+      variant_to bounds order inner (value bounds order inner) (λ e t o s v q r. (value_inside bounds order inner e t o s v q r).0) (λ e t o s v q r. (value_inside bounds order inner e t o s v q r).1) end a.1 a.2 (VariantValue x) e.1 e.2
+      (b.0, b.1, b.2, b.3, (c.0, c.1, c.2, (c.3.0, (text_single c.0 c.3.0).0, c.3.2, c.3.3, c.3.4), (d.0, d.1, d.2, d.3, (x, e.1, e.2, (value_inside bounds order inner end c.0 d.1 d.2 x e.1 e.2).1 wanted.0, (refl, refl, refl))))) in
+      let whole : Spelled bounds order (suc (suc inner)) end field_type o s (StructValue (MoreValues (NumberValue BYTE code) (MoreValues (VariantValue x) NoValues))) e.1 e.2 =
+      struct_to bounds order (suc inner) (value bounds order (suc inner)) (λ e t o s v q r. (value_inside bounds order (suc inner) e t o s v q r).0) (λ e t o s v q r. (value_inside bounds order (suc inner) e t o s v q r).1) end (MoreTypes (NumberType BYTE) (MoreTypes VariantType NoTypes)) o s _ e.1 e.2 (
         w.0,
         w.1,
         w.2,
@@ -170,13 +171,13 @@ module _ (order : Order) (inner end : ℕ) (before : List FieldTree) where
           (refl, refl, refl),
         ),
       ) in
-      let both : Spelled order (suc (suc inner)) end field_type o s (field_struct f) q r × IsField before f =
+      let both : Spelled bounds order (suc (suc inner)) end field_type o s (field_struct f) q r × IsField before f =
       rw (g.0, g.1, g.2) (whole, record { not_zero = rows.0; not_again = rows.1; suits = wanted.1 }) in
       both
 
 -- a struct of two parts, taken apart
-two_parts : (order : Order) (room end : ℕ) (t : TypeTree) (o : ℕ) (s : List ℕ) (a b : ValueTree) (q : ℕ) (r : List ℕ) → Spelled order (suc room) end t o s (StructValue (MoreValues a (MoreValues b NoValues))) q r
-    → (p : ℕ) × (u : List ℕ) × (p1 : ℕ) × (u1 : List ℕ) × ((s ≡ pad 8 o ++ u) × (p ≡ o + gap_to 8 o) × (p ≤ end)) × Spelled order room end (type_of a) p u a p1 u1 × Spelled order room end (type_of b) p1 u1 b q r
+two_parts : (order : Order) (room end : ℕ) (t : TypeTree) (o : ℕ) (s : List ℕ) (a b : ValueTree) (q : ℕ) (r : List ℕ) → Spelled bounds order (suc room) end t o s (StructValue (MoreValues a (MoreValues b NoValues))) q r
+    → (p : ℕ) × (u : List ℕ) × (p1 : ℕ) × (u1 : List ℕ) × ((s ≡ pad 8 o ++ u) × (p ≡ o + gap_to 8 o) × (p ≤ end)) × Spelled bounds order room end (type_of a) p u a p1 u1 × Spelled bounds order room end (type_of b) p1 u1 b q r
 unfolding spelling
 two_parts order room end t o s a b q r h =
     let p = o + gap_to 8 o in
@@ -195,8 +196,8 @@ two_parts order room end t o s a b q r h =
     )
 
 -- a variant, taken apart
-variant_parts : (order : Order) (room end o : ℕ) (s : List ℕ) (x : ValueTree) (q : ℕ) (r : List ℕ) → Spelled order (suc room) end VariantType o s (VariantValue x) q r
-    → (p : ℕ) × (u : List ℕ) × (s ≡ num order 1 (length (sig (type_of x))) ++ (sig (type_of x) ++ 0 ∷ u)) × (p ≡ o + 1 + length (sig (type_of x)) + 1) × IsSingleType (type_of x) × Spelled order room end (type_of x) p u x q r
+variant_parts : (order : Order) (room end o : ℕ) (s : List ℕ) (x : ValueTree) (q : ℕ) (r : List ℕ) → Spelled bounds order (suc room) end VariantType o s (VariantValue x) q r
+    → (p : ℕ) × (u : List ℕ) × (s ≡ num order 1 (length (sig (type_of x))) ++ (sig (type_of x) ++ 0 ∷ u)) × (p ≡ o + 1 + length (sig (type_of x)) + 1) × IsSingleType (type_of x) × Spelled bounds order room end (type_of x) p u x q r
 unfolding spelling
 variant_parts order room end o s x q r h =
     let t = sig (type_of x) in
@@ -212,7 +213,7 @@ variant_parts order room end o s x q r h =
       record { has_type = refl; formed = h.formed.1; within = h.within; bytes = refl; place = ends; bound = h.bound },
     )
 
-byte_there : (order : Order) (room end o : ℕ) (s : List ℕ) (n q : ℕ) (r : List ℕ) → Spelled order room end (NumberType BYTE) o s (NumberValue BYTE n) q r → (n < 256) × (s ≡ num order 1 n ++ r) × (q ≡ o + 1)
+byte_there : (order : Order) (room end o : ℕ) (s : List ℕ) (n q : ℕ) (r : List ℕ) → Spelled bounds order room end (NumberType BYTE) o s (NumberValue BYTE n) q r → (n < 256) × (s ≡ num order 1 n ++ r) × (q ≡ o + 1)
 unfolding spelling
 byte_there order room end o s n q r h =
     let no_pad = no_gap o in
@@ -220,7 +221,7 @@ byte_there order room end o s n q r h =
     let bytes : s ≡ (pad 1 o ++ num order 1 n) ++ r = h.bytes in
     (h.formed, rw no_pad at bytes, place ∙ simp (length-append, length-num, length-replicate) (omega (arith, no_pad)))
 
-forward : (order : Order) (room end : ℕ) (t : TypeTree) (o : ℕ) (s : List ℕ) (v : ValueTree) (q : ℕ) (r : List ℕ) → Spelled order room end t o s v q r → o ≤ q
+forward : (order : Order) (room end : ℕ) (t : TypeTree) (o : ℕ) (s : List ℕ) (v : ValueTree) (q : ℕ) (r : List ℕ) → Spelled bounds order room end t o s v q r → o ≤ q
 forward order room end t o s v q r h = omega (arith, h.place)
 
 module _ (order : Order) (inner end : ℕ) (before : List FieldTree) where
@@ -272,8 +273,8 @@ module _ (order : Order) (inner end : ℕ) (before : List FieldTree) where
       omega (arith, a.4.1, code.2, forward order (suc inner) end VariantType a.2 a.3 (VariantValue f.value) q r a.6)
 
   agrees_wanted : (w : Want) (t : TypeTree) → WantOk w → IsSingleType t → IsWanted (kind_wanted w) (sig t) → Agrees (value_wanted order inner end w t) (reads.value_wanted order inner end w t)
-  agrees_wanted Anything t ok single is = Agrees-value order inner end false t (shaped_of t false 0 0 single.0)
-  agrees_wanted (OfType u) t ok single is = Agrees-value order inner end false t (shaped_of t false 0 0 single.0)
+  agrees_wanted Anything t ok single is = Agrees-value bounds order inner end false t (shaped_of t false 0 0 single.0)
+  agrees_wanted (OfType u) t ok single is = Agrees-value bounds order inner end false t (shaped_of t false 0 0 single.0)
   agrees_wanted (Name k) t ok single is =
       Agrees-before (items.padding 4 end) (reading.padding 4 end) _ _ (Agrees-padding 4 end) (λ _.
       Agrees-before (items.number order 4 end (name_row end)) (reading.number order 4 end (name_row end)) _ _ (Agrees-number order 4 end (name_row end)) (λ n.

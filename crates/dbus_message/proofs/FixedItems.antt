@@ -8,11 +8,9 @@ use Rattle.dbus_value_model.specs.declared.fault.Reason.{Reason}
 use Rattle.dbus_value_model.specs.declared.fault.Reason.TheVariants as reasons
 use Rattle.dbus_value_model.specs.Items.{fault}
 use Rattle.dbus_value_model.specs.Bytes.{gap_to}
-use Rattle.dbus_value_model.specs.Spelling.{array_limit}
 use Rattle.dbus_value_model.specs.Reading.{Outcome, Done, Faulty, Partial}
 use Rattle.dbus_value_model.specs.declared.stop.Stop.{Stop}
 use Rattle.dbus_value_model.specs.Gives.{Stops, Gives}
-use Rattle.dbus_value_model.specs.Sizes.{message_limit}
 use Rattle.dbus_message.specs.MessageItems.{not_zero_row, version_row, fields_row}
 use Rattle.dbus_message.specs.MessageReading.{byte_order}
 
@@ -59,13 +57,10 @@ pub version_one : (p : ℕ) → version_row p 1 ≡ None
 version_one p = refl
 
 pub long_fields : (body p n : ℕ) → 67_108_864 < n → fields_row body p n ≡ Some reasons.ArrayTooLong
-unfolding array_limit
 long_fields body p n h = rw (lt-ltb _ _ h) refl
 
 pub long_message : (body p n : ℕ) → n ≤ 67_108_864 → 134_217_728 < p + n + gap_to 8 (p + n) + body → fields_row body p n ≡ Some reasons.MessageTooLong
-unfolding array_limit message_limit
 long_message body p n le h = rw (le-ltb _ _ le, lt-ltb _ _ h) refl
 
 pub fields_fit : (body p n : ℕ) → n ≤ 67_108_864 → p + n + gap_to 8 (p + n) + body ≤ 134_217_728 → fields_row body p n ≡ None
-unfolding array_limit message_limit
 fields_fit body p n le h = rw (le-ltb _ _ le, le-ltb _ _ h) refl

@@ -13,6 +13,7 @@ use Rattle.dbus_value_model.specs.Values.{ValueTree}
 use Rattle.dbus_value_model.specs.ValueItems as faults
 use Rattle.dbus_unmarshal.proofs.ValueItemLaws.{positive}
 use Rattle.dbus_unmarshal.proofs.ValueOutcomes.{reads_spelled, reads_faults}
+use Rattle.dbus_message.specs.Bounds.{bounds}
 
 pub bytes_from : (s : List ℕ) → ((i : ℕ) → get_or s i 0 < 256) → IsBytes s
 bytes_from [] h = tt
@@ -25,22 +26,22 @@ module _ (order : Order) (room end : ℕ) (t : TypeTree) (at : ℕ) (bytes : Lis
   shaped : IsShaped false t
   shaped = shaped_of t false 0 0 complete.0
 
-  pub done_read : (v : ValueTree) (q : ℕ) → Spelled order room end t at (drop at bytes) v q (drop q bytes) → value order room end t at (drop at bytes) ≡ Done v q (drop q bytes)
-  done_read v q h = (reads_spelled order room end false t at (drop at bytes) v q (drop q bytes) shaped are_bytes).1 h
+  pub done_read : (v : ValueTree) (q : ℕ) → Spelled bounds order room end t at (drop at bytes) v q (drop q bytes) → value bounds order room end t at (drop at bytes) ≡ Done v q (drop q bytes)
+  done_read v q h = (reads_spelled bounds order room end false t at (drop at bytes) v q (drop q bytes) shaped are_bytes).1 h
 
-  pub done_moves : (v : ValueTree) (q : ℕ) → at ≤ length bytes → Spelled order room end t at (drop at bytes) v q (drop q bytes) → (at < q) × (q ≤ end) × (q ≤ length bytes)
+  pub done_moves : (v : ValueTree) (q : ℕ) → at ≤ length bytes → Spelled bounds order room end t at (drop at bytes) v q (drop q bytes) → (at < q) × (q ≤ end) × (q ≤ length bytes)
   done_moves v q inside h =
-      let some = positive order v false at (subst (λ (u : TypeTree). IsShaped false u) (sym h.has_type) shaped) in
+      let some = positive bounds order v false at (subst (λ (u : TypeTree). IsShaped false u) (sym h.has_type) shaped) in
       let long = sym (length-drop at bytes) ∙ ap length h.bytes ∙ length-append (spelling order at v) (drop q bytes) in
       (omega (arith, h.place, some), h.bound, omega (arith, h.place, some, long, length-drop q bytes))
 
-  pub faulty_read : (f : Fault) → (faults.value order room end t).Refused at (drop at bytes) f → value order room end t at (drop at bytes) ≡ Faulty f
-  faulty_read f h = (reads_faults order room end false t at (drop at bytes) f shaped are_bytes).1 h
+  pub faulty_read : (f : Fault) → (faults.value bounds order room end t).Refused at (drop at bytes) f → value bounds order room end t at (drop at bytes) ≡ Faulty f
+  faulty_read f h = (reads_faults bounds order room end false t at (drop at bytes) f shaped are_bytes).1 h
 
-  neither : IsValuePartial order room end t at (drop at bytes) → (read : Outcome ValueTree) → value order room end t at (drop at bytes) ≡ read → read ≡ Partial
-  neither h (Done v q r) e = absurd (h.not_spelled v q r ((reads_spelled order room end false t at (drop at bytes) v q r shaped are_bytes).0 e))
-  neither h (Faulty f) e = absurd (h.not_refused f ((reads_faults order room end false t at (drop at bytes) f shaped are_bytes).0 e))
+  neither : IsValuePartial bounds order room end t at (drop at bytes) → (read : Outcome ValueTree) → value bounds order room end t at (drop at bytes) ≡ read → read ≡ Partial
+  neither h (Done v q r) e = absurd (h.not_spelled v q r ((reads_spelled bounds order room end false t at (drop at bytes) v q r shaped are_bytes).0 e))
+  neither h (Faulty f) e = absurd (h.not_refused f ((reads_faults bounds order room end false t at (drop at bytes) f shaped are_bytes).0 e))
   neither h Partial e = refl
 
-  pub partial_read : IsValuePartial order room end t at (drop at bytes) → value order room end t at (drop at bytes) ≡ Partial
-  partial_read h = neither h (value order room end t at (drop at bytes)) refl
+  pub partial_read : IsValuePartial bounds order room end t at (drop at bytes) → value bounds order room end t at (drop at bytes) ≡ Partial
+  partial_read h = neither h (value bounds order room end t at (drop at bytes)) refl

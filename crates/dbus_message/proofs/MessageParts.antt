@@ -2,12 +2,12 @@
 use Rattle.std.proofs.Common.{◌≡◌, ℕ, suc, ◌+◌, ◌≤◌, List, [], ◌∷◌, ◌++◌, Bool, true, false, cond, ltb, eqb, Option, Some, None, refl, sym, ap, subst, ◌∙◌, inl, inr}
 use Rattle.std.proofs.lemmas.Bool.{ltb-false, le-ltb, eqb-true}
 use Rattle.dbus_types.specs.Types.{BYTE, UINT32, STRING, OBJECT_PATH, SIGNATURE, TypeTree, NumberType, TextType, VariantType, ArrayType, StructType, EntryType, TypeTrees, NoTypes, MoreTypes, sig, sigs, IsSingleType, IsShaped, AreShaped}
+use Rattle.dbus_value_model.specs.declared.limits.TheConstants.{ARRAY_LIMIT, MESSAGE_LIMIT}
 use Rattle.dbus_value_model.specs.WantedTexts.{WantedText, IsWanted}
 use Rattle.dbus_types.specs.ComputedKinds.{types_spelled}
 use Rattle.dbus_value_model.specs.declared.order.Order.{Order}
 use Rattle.dbus_value_model.specs.declared.order.Order.TheVariants.{Little, Big}
 use Rattle.dbus_value_model.specs.Bytes.{gap_to}
-use Rattle.dbus_value_model.specs.Spelling.{array_limit}
 use Rattle.dbus_value_model.specs.Values.{IsWellFormed, ValueTree, NumberValue, TextValue, VariantValue, ArrayValue, StructValue, EntryValue, type_of}
 use Rattle.dbus_value_model.specs.Items.{Item, Sequence, fault, judge}
 use Rattle.dbus_value_model.specs.declared.fault.Fault.{Fault}
@@ -17,8 +17,8 @@ use Rattle.dbus_value_model.specs.ValueItems.{value}
 use Rattle.dbus_value_model.specs.ValueItems as faults
 use Rattle.dbus_value_model.specs.Reading.{Reader, Outcome, Done, Faulty, Partial}
 use Rattle.dbus_value_model.specs.Reading as reading
+use Rattle.dbus_message.specs.Bounds.{bounds}
 use Rattle.dbus_message.specs.Messages.{FieldTree, Suits, want, order_byte, lacks, required, text_in, body_signature}
-use Rattle.dbus_value_model.specs.Sizes.{message_limit}
 use Rattle.dbus_value_model.specs.Gives.{no_row}
 use Rattle.dbus_message.specs.MessageItems.{not_zero_row, version_row, fields_row, field, byte_order, types_of_text, body_items, message_items}
 use Rattle.dbus_message.specs.MessageReading as reads
@@ -46,16 +46,16 @@ version_fits p n e = elim (chosen (eqb n 1) _ _ _ e) [
   | inr h ↦ absurd (cc (h.1))
 ]
 
-pub fields_row_fits : (body p n : ℕ) → fields_row body p n ≡ None → (n ≤ array_limit) × (p + n + gap_to 8 (p + n) + body ≤ message_limit)
-fields_row_fits body p n e = elim (chosen (ltb array_limit n) _ _ _ e) [
+pub fields_row_fits : (body p n : ℕ) → fields_row body p n ≡ None → (n ≤ ARRAY_LIMIT) × (p + n + gap_to 8 (p + n) + body ≤ MESSAGE_LIMIT)
+fields_row_fits body p n e = elim (chosen (ltb ARRAY_LIMIT n) _ _ _ e) [
   | inl h ↦ absurd (cc (h.1))
-  | inr h ↦ elim (chosen (ltb message_limit (p + n + gap_to 8 (p + n) + body)) _ _ _ h.1) [
+  | inr h ↦ elim (chosen (ltb MESSAGE_LIMIT (p + n + gap_to 8 (p + n) + body)) _ _ _ h.1) [
     | inl k ↦ absurd (cc (k.1))
     | inr k ↦ (ltb-false _ _ h.0, ltb-false _ _ k.0)
   ]
 ]
 
-pub fits_fields_row : (body p n : ℕ) → n ≤ array_limit → p + n + gap_to 8 (p + n) + body ≤ message_limit → fields_row body p n ≡ None
+pub fits_fields_row : (body p n : ℕ) → n ≤ ARRAY_LIMIT → p + n + gap_to 8 (p + n) + body ≤ MESSAGE_LIMIT → fields_row body p n ≡ None
 fits_fields_row body p n a b = rw (le-ltb _ _ a, le-ltb _ _ b) refl
 
 -- ---- the byte order
@@ -153,8 +153,8 @@ Agrees-types text ok = record {
 
 Agrees-body : (order : Order) (room : ℕ) (ts : TypeTrees) → AreShaped ts → (end : ℕ) → Agrees (body_items order room ts end) (reads.body_items order room ts end)
 Agrees-body order room ts complete end =
-    Agrees-before (faults.fields (value order room end) ts) (reading.fields (reading.value order room end) ts) _ _
-    (agrees_fields order room (value order room) (reading.value order room) (value_inside order room) (λ e b t c. Agrees-value order room e b t c) end ts complete) (λ xs.
+    Agrees-before (faults.fields (value bounds order room end) ts) (reading.fields (reading.value bounds order room end) ts) _ _
+    (agrees_fields bounds order room (value bounds order room) (reading.value bounds order room) (value_inside bounds order room) (λ e b t c. Agrees-value bounds order room e b t c) end ts complete) (λ xs.
     Agrees-before (items.ends end) (reading.ends end) _ _ (Agrees-ends end) (λ _.
     Agrees-pure xs))
 

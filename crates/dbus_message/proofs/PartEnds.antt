@@ -1,13 +1,14 @@
 -- Where fields and values end, as they are measured.
-use Rattle.std.proofs.Common.{◌≡◌, ℕ, ◌+◌, ◌<◌, ◌≤◌, List, ◌∷◌, length, get_or, drop, map, Option, Some, None, refl, sym, subst, ◌∙◌, arith}
+use Rattle.std.proofs.Common.{◌≡◌, ℕ, ◌+◌, ◌<◌, ◌≤◌, List, ◌∷◌, length, get_or, drop, map, Option, Some, None, sym, subst, ◌∙◌, arith}
 use Rattle.std.proofs.Math.Decide.{dec_lt}
 use Rattle.std.proofs.lemmas.List.{length-append}
 use Rattle.dbus_marshal.proofs.Capping.{capped-near, capped-tells}
+use Rattle.dbus_value_model.specs.Specification.{specification}
+use Rattle.dbus_value_model.specs.declared.limits.TheConstants.{ARRAY_LIMIT, MESSAGE_LIMIT}
 use Rattle.dbus_value_model.specs.declared.order.Order.TheVariants.{Little}
 use Rattle.dbus_value_model.specs.Measures.{capped, IsMeasured, AreMeasured}
 use Rattle.dbus_value_model.specs.Ranges.{HoldsNumbers}
-use Rattle.dbus_value_model.specs.Sizes.{message_limit}
-use Rattle.dbus_value_model.specs.Spelling.{spelling, spellings, array_limit, AreWithinLimits}
+use Rattle.dbus_value_model.specs.Spelling.{spelling, spellings, AreWithinLimits}
 use Rattle.dbus_value_model.specs.Values.{ValueTree, ValueTrees, NoValues, MoreValues, value_trees}
 use Rattle.dbus_value_model.specs.ValueViews.{value_tree}
 use Rattle.dbus_message.specs.Messages.{FieldTree, field_struct}
@@ -16,44 +17,39 @@ use Rattle.dbus_message.specs.PartsViews.{field_tree, field_trees}
 use Rattle.dbus_message.specs.declared.header_field.HeaderField.{HeaderField}
 use Rattle.dbus_message.proofs.FieldLists.{fields_from, no_fields_from}
 
-array_limit_is : array_limit ≡ 67_108_864
-unfolding array_limit
-array_limit_is = refl
-
 -- an offset within the message's limit is its capped one
-capped-within : (o : ℕ) → capped o ≤ message_limit → capped o ≡ o
-capped-within o le = (capped-tells o).1 ((capped-tells o).0.1 le)
+capped-within : (o : ℕ) → capped o ≤ MESSAGE_LIMIT → capped o ≡ o
+capped-within o le = (capped-tells specification o).1 ((capped-tells specification o).0.1 le)
 
 -- and one is past it where its capped one is
-capped-past : (o : ℕ) → message_limit < capped o → message_limit < o
-capped-past o lt = elim (dec_lt message_limit o) [
+capped-past : (o : ℕ) → MESSAGE_LIMIT < capped o → MESSAGE_LIMIT < o
+capped-past o lt = elim (dec_lt MESSAGE_LIMIT o) [
   | yes h ↦ h
   | no h ↦
-      let within : o ≤ message_limit = omega arith in
-      absurd (omega (arith, (capped-tells o).0.0 within))
+      let within : o ≤ MESSAGE_LIMIT = omega arith in
+      absurd (omega (arith, (capped-tells specification o).0.0 within))
 ]
 
 -- ---- one field
 
-pub field_kept : (f : FieldTree) (at : ℕ) → at ≤ 67_108_880 → IsMeasured (field_struct f) at None → IsFieldEnd f at None
+pub field_kept : (f : FieldTree) (at : ℕ) → at ≤ 67_108_880 → IsMeasured ARRAY_LIMIT (field_struct f) at None → IsFieldEnd f at None
 field_kept f at near h kept = absurd (h.from Little at (capped-near at (omega arith)) kept)
 
-pub field_past : (f : FieldTree) (at e : ℕ) → at ≤ 67_108_880 → IsMeasured (field_struct f) at (Some e) → 67_108_880 < e → IsFieldEnd f at None
+pub field_past : (f : FieldTree) (at e : ℕ) → at ≤ 67_108_880 → IsMeasured ARRAY_LIMIT (field_struct f) at (Some e) → 67_108_880 < e → IsFieldEnd f at None
 field_past f at e near h past kept =
     let n = at + length (spelling Little at (field_struct f)) in
     let is : e ≡ capped n = (h.from Little at (capped-near at (omega arith))).1 in
     elim (dec_lt n 134_217_736) [
-      | yes small ↦ omega (arith, array_limit_is, is, capped-near n small)
-      | no large ↦ omega (arith, array_limit_is)
+      | yes small ↦ omega (arith, is, capped-near n small)
+      | no large ↦ omega arith
     ]
 
-pub field_near : (f : FieldTree) (at e : ℕ) → at ≤ 67_108_880 → IsMeasured (field_struct f) at (Some e) → e ≤ 67_108_880 → IsFieldEnd f at (Some e)
-unfolding message_limit
+pub field_near : (f : FieldTree) (at e : ℕ) → at ≤ 67_108_880 → IsMeasured ARRAY_LIMIT (field_struct f) at (Some e) → e ≤ 67_108_880 → IsFieldEnd f at (Some e)
 field_near f at e near h le =
     let n = at + length (spelling Little at (field_struct f)) in
     let w = h.from Little at (capped-near at (omega arith)) in
     let same : capped n ≡ n = capped-within n (omega (arith, w.1)) in
-    (w.0, w.1 ∙ same, omega (arith, array_limit_is, w.1, same))
+    (w.0, w.1 ∙ same, omega (arith, w.1, same))
 
 -- ---- the fields, one behind the other
 
@@ -74,11 +70,11 @@ more_same f fs at e h =
     subst (λ (n : ℕ). n + length (spellings Little n structs) ≡ at + length (spellings Little at (MoreValues (field_struct f) structs))) (sym h.1) (more_end at (field_struct f) structs)
 
 more_ends : (f : FieldTree) (fs : List FieldTree) (at e : ℕ) (r : Option ℕ) → IsFieldEnd f at (Some e) → AreFieldEnds fs e r → AreFieldEnds (f ∷ fs) at r
-more_ends f fs at e None h rest = λ kept. omega (arith, rest (subst (λ (n : ℕ). AreWithinLimits Little n (value_trees (map field_struct fs))) (sym h.1) kept.1), more_same f fs at e h)
+more_ends f fs at e None h rest = λ kept. omega (arith, rest (subst (λ (n : ℕ). AreWithinLimits ARRAY_LIMIT Little n (value_trees (map field_struct fs))) (sym h.1) kept.1), more_same f fs at e h)
 more_ends f fs at e (Some r) h rest =
     let structs = value_trees (map field_struct fs) in
     let all = more_same f fs at e h in
-    ((h.0, subst (λ (n : ℕ). AreWithinLimits Little n structs) h.1 rest.0), rest.1 ∙ all, omega (arith, rest.2, all))
+    ((h.0, subst (λ (n : ℕ). AreWithinLimits ARRAY_LIMIT Little n structs) h.1 rest.0), rest.1 ∙ all, omega (arith, rest.2, all))
 
 module _ {A : Type 0} (fields : List (HeaderField A)) (i at : ℕ) where
   pub ends_past : (f : HeaderField A) → i < length fields → f ≡ get_or fields i f → IsFieldEnd (field_tree f) at None → AreFieldEnds (field_trees (drop i fields)) at None
@@ -88,25 +84,23 @@ module _ {A : Type 0} (fields : List (HeaderField A)) (i at : ℕ) where
   ends_on f e r h is w rest = subst (λ (fs : List FieldTree). AreFieldEnds fs at r) (sym (fields_from fields i f h is)) (more_ends (field_tree f) (field_trees (drop (i + 1) fields)) at e r w rest)
 
   pub ends_last : at ≤ 67_108_880 → length fields ≤ i → AreFieldEnds (field_trees (drop i fields)) at (Some at)
-  ends_last near h = subst (λ (fs : List FieldTree). AreFieldEnds fs at (Some at)) (sym (no_fields_from fields i h)) (tt, sym (no_end at), omega (arith, array_limit_is, near, no_end at))
+  ends_last near h = subst (λ (fs : List FieldTree). AreFieldEnds fs at (Some at)) (sym (no_fields_from fields i h)) (tt, sym (no_end at), omega (arith, near, no_end at))
 
 pub end_near : (f : FieldTree) (at e : ℕ) → IsFieldEnd f at (Some e) → e ≤ 67_108_880
-end_near f at e h = omega (arith, array_limit_is, h.1, h.2)
+end_near f at e h = omega (arith, h.1, h.2)
 
 -- ---- the body
 
-pub body_past : (vs : ValueTrees) (at : ℕ) → at ≤ 67_108_888 → AreMeasured vs at None → AreWithinLimits Little at vs → ⊥
+pub body_past : (vs : ValueTrees) (at : ℕ) → at ≤ 67_108_888 → AreMeasured ARRAY_LIMIT vs at None → AreWithinLimits ARRAY_LIMIT Little at vs → ⊥
 body_past vs at near h = h.from Little at (capped-near at (omega arith))
 
-pub body_long : (vs : ValueTrees) (at e : ℕ) → at ≤ 67_108_888 → AreMeasured vs at (Some e) → 134_217_728 < e → message_limit < at + length (spellings Little at vs)
-unfolding message_limit
+pub body_long : (vs : ValueTrees) (at e : ℕ) → at ≤ 67_108_888 → AreMeasured ARRAY_LIMIT vs at (Some e) → 134_217_728 < e → MESSAGE_LIMIT < at + length (spellings Little at vs)
 body_long vs at e near h long = let w = h.from Little at (capped-near at (omega arith)) in capped-past (at + length (spellings Little at vs)) (omega (arith, w.1))
 
-pub body_ends : (vs : ValueTrees) (at e : ℕ) → at ≤ 67_108_888 → AreMeasured vs at (Some e) → e ≤ 134_217_728 → e ≡ at + length (spellings Little at vs)
-unfolding message_limit
+pub body_ends : (vs : ValueTrees) (at e : ℕ) → at ≤ 67_108_888 → AreMeasured ARRAY_LIMIT vs at (Some e) → e ≤ 134_217_728 → e ≡ at + length (spellings Little at vs)
 body_ends vs at e near h le = let w = h.from Little at (capped-near at (omega arith)) in w.1 ∙ capped-within (at + length (spellings Little at vs)) (omega (arith, w.1))
 
-pub body_kept : (vs : ValueTrees) (at e : ℕ) → at ≤ 67_108_888 → AreMeasured vs at (Some e) → AreWithinLimits Little at vs
+pub body_kept : (vs : ValueTrees) (at e : ℕ) → at ≤ 67_108_888 → AreMeasured ARRAY_LIMIT vs at (Some e) → AreWithinLimits ARRAY_LIMIT Little at vs
 body_kept vs at e near h = (h.from Little at (capped-near at (omega arith))).0
 
 -- ---- numbers

@@ -3,14 +3,15 @@ use Rattle.std.proofs.Common.{◌≡◌, ℕ, suc, ◌+◌, ◌^◌, ◌<◌, �
 use Rattle.std.proofs.lemmas.List.{length-append, length-replicate}
 use Rattle.dbus_types.specs.Types.{TypeTrees, sigs, AreShaped}
 use Rattle.dbus_types.specs.ComputedKinds.{types_spelled}
+use Rattle.dbus_value_model.specs.declared.limits.TheConstants.{ARRAY_LIMIT, MESSAGE_LIMIT}
 use Rattle.dbus_value_model.specs.declared.order.Order.{Order}
 use Rattle.dbus_value_model.specs.Bytes.{num, gap_to, pad}
-use Rattle.dbus_value_model.specs.Spelling.{spelling, spellings, SpelledAll, array_limit, IsWithinLimits, AreWithinLimits}
+use Rattle.dbus_value_model.specs.Spelling.{spelling, spellings, SpelledAll, IsWithinLimits, AreWithinLimits}
 use Rattle.dbus_value_model.specs.Values.{AllOf, value_trees, ValueTrees, types_of}
 use Rattle.dbus_value_model.specs.Items.{Sequence}
 use Rattle.dbus_value_model.specs.ValueItems.{value}
+use Rattle.dbus_message.specs.Bounds.{bounds}
 use Rattle.dbus_message.specs.Messages.{FieldTree, MessageTree, AreFields, field_type, field_struct, field_array, fields_end, body_start, body_bytes, message_bytes, order_byte, lacks, required, body_signature, IsMessage}
-use Rattle.dbus_value_model.specs.Sizes.{message_limit}
 use Rattle.dbus_message.specs.MessageItems.{field, message_items}
 use Rattle.dbus_value_model.proofs.Numbers.{length-num}
 use Rattle.dbus_unmarshal.proofs.KindLaws.{spelled_sigs}
@@ -30,11 +31,11 @@ field_array_bytes : (order : Order) (fs : List FieldTree) → spelling order 12 
 unfolding spelling gap_to
 field_array_bytes order fs = refl
 
-field_array_within : (order : Order) (fs : List FieldTree) → length (field_bytes order fs) ≤ array_limit → AreWithinLimits order 16 (value_trees (map field_struct fs)) → IsWithinLimits order 12 (field_array fs)
+field_array_within : (order : Order) (fs : List FieldTree) → length (field_bytes order fs) ≤ ARRAY_LIMIT → AreWithinLimits ARRAY_LIMIT order 16 (value_trees (map field_struct fs)) → IsWithinLimits ARRAY_LIMIT order 12 (field_array fs)
 unfolding gap_to
 field_array_within order fs a b = (a, b)
 
-within_field_array : (order : Order) (fs : List FieldTree) → IsWithinLimits order 12 (field_array fs) → (length (field_bytes order fs) ≤ array_limit) × AreWithinLimits order 16 (value_trees (map field_struct fs))
+within_field_array : (order : Order) (fs : List FieldTree) → IsWithinLimits ARRAY_LIMIT order 12 (field_array fs) → (length (field_bytes order fs) ≤ ARRAY_LIMIT) × AreWithinLimits ARRAY_LIMIT order 16 (value_trees (map field_struct fs))
 unfolding gap_to
 within_field_array order fs h = h
 
@@ -43,17 +44,17 @@ fields_end_is order fs = rw (field_array_bytes order fs) (simp (length-append, l
 
 module _ (order : Order) (inner end : ℕ) where
   seq_fields_to : (fs before : List FieldTree) (o : ℕ) (s : List ℕ) (q : ℕ) (r : List ℕ) → Sequence (field order inner end) before fs o s q r
-      → AreFields before fs × AllOf field_type (value_trees (map field_struct fs)) × SpelledAll order (suc (suc inner)) o s (value_trees (map field_struct fs)) q r
-  seq_fields_to [] before o s q r h = (tt, tt, rw (h.0, h.1) (all_none order (suc (suc inner)) o s))
+      → AreFields before fs × AllOf field_type (value_trees (map field_struct fs)) × SpelledAll bounds order (suc (suc inner)) o s (value_trees (map field_struct fs)) q r
+  seq_fields_to [] before o s q r h = (tt, tt, rw (h.0, h.1) (all_none bounds order (suc (suc inner)) o s))
   seq_fields_to (f ∷ fs) before o s q r h =
       let more = seq_fields_to fs (f ∷ before) h.0 h.1 q r h.3 in
-      ((h.2.1, more.0), (h.2.0.has_type, more.1), all_more order (suc (suc inner)) end field_type o s (field_struct f) h.0 h.1 (value_trees (map field_struct fs)) q r h.2.0 more.2)
+      ((h.2.1, more.0), (h.2.0.has_type, more.1), all_more bounds order (suc (suc inner)) end field_type o s (field_struct f) h.0 h.1 (value_trees (map field_struct fs)) q r h.2.0 more.2)
 
-  seq_fields_from : (fs before : List FieldTree) (o : ℕ) (s : List ℕ) (q : ℕ) (r : List ℕ) → q ≤ end → AreFields before fs → SpelledAll order (suc (suc inner)) o s (value_trees (map field_struct fs)) q r → Sequence (field order inner end) before fs o s q r
+  seq_fields_from : (fs before : List FieldTree) (o : ℕ) (s : List ℕ) (q : ℕ) (r : List ℕ) → q ≤ end → AreFields before fs → SpelledAll bounds order (suc (suc inner)) o s (value_trees (map field_struct fs)) q r → Sequence (field order inner end) before fs o s q r
   unfolding spelling
   seq_fields_from [] before o s q r bound ok h = (omega (arith, h.place), sym h.bytes)
   seq_fields_from (f ∷ fs) before o s q r bound ok h =
-      let parts = all_parts order (suc (suc inner)) end o s (field_struct f) (value_trees (map field_struct fs)) q r bound h in
+      let parts = all_parts bounds order (suc (suc inner)) end o s (field_struct f) (value_trees (map field_struct fs)) q r bound h in
       (parts.0, parts.1, (parts.2, ok.0), seq_fields_from fs (f ∷ before) parts.0 parts.1 q r bound ok.1 parts.3)
 
 -- ---- the parts of a message, put together
@@ -94,18 +95,18 @@ built : (order : Order) (inner kind flags serial body n p : ℕ) (fs : List Fiel
     → s3 ≡ num order 1 1 ++ s4
     → s4 ≡ num order 4 body ++ s5
     → 0 < serial → serial < 256 ^ 4 → s5 ≡ num order 4 serial ++ s6
-    → s6 ≡ num order 4 n ++ s7 → n ≤ array_limit → 16 + n + gap_to 8 (16 + n) + body ≤ message_limit
-    → AreFields [] fs → AllOf field_type (value_trees (map field_struct fs)) → SpelledAll order (suc (suc inner)) 16 s7 (value_trees (map field_struct fs)) (16 + n) s8
+    → s6 ≡ num order 4 n ++ s7 → n ≤ ARRAY_LIMIT → 16 + n + gap_to 8 (16 + n) + body ≤ MESSAGE_LIMIT
+    → AreFields [] fs → AllOf field_type (value_trees (map field_struct fs)) → SpelledAll bounds order (suc (suc inner)) 16 s7 (value_trees (map field_struct fs)) (16 + n) s8
     → lacks (required kind) fs ≡ None
     → s8 ≡ pad 8 (16 + n) ++ s9 → p ≡ 16 + n + gap_to 8 (16 + n)
-    → sigs ts ≡ body_signature fs → types_of xs ≡ ts → SpelledAll order (suc (suc (suc inner))) p s9 xs q r → q ≡ p + body
+    → sigs ts ≡ body_signature fs → types_of xs ≡ ts → SpelledAll bounds order (suc (suc (suc inner))) p s9 xs q r → q ≡ p + body
     → let m : MessageTree = record { kind = kind; flags = flags; serial = serial; fields = fs; body = xs } in IsMessage order inner m × (s ≡ message_bytes order m ++ r) × (q ≡ length (message_bytes order m))
 built order inner kind flags serial body n p fs ts xs s1 s2 s3 s4 s5 s6 s7 s8 s9 r s q e0 k0 k1 e1 f1 e2 e3 e4 z0 z1 e5 e6 n1 limit fields types all none e8 p1 sigs_are typed body_all q1 =
     let m : MessageTree = record { kind = kind; flags = flags; serial = serial; fields = fs; body = xs } in
     let len : n ≡ length (field_bytes order fs) = omega (arith, all.place) in
     let ends : 16 + n ≡ fields_end order fs = omega (arith, len, fields_end_is order fs) in
     let start : p ≡ body_start order fs = p1 ∙ ap (λ (u : ℕ). u + gap_to 8 u) ends in
-    let spelled : SpelledAll order (suc (suc (suc inner))) (body_start order fs) s9 xs q r = subst (λ (u : ℕ). SpelledAll order (suc (suc (suc inner))) u s9 xs q r) start body_all in
+    let spelled : SpelledAll bounds order (suc (suc (suc inner))) (body_start order fs) s9 xs q r = subst (λ (u : ℕ). SpelledAll bounds order (suc (suc (suc inner))) u s9 xs q r) start body_all in
     let body_len : body ≡ length (body_bytes order m) = omega (arith, spelled.place, q1, start) in
     let whole_len = message_length order inner m in
     let e4' : s4 ≡ num order 4 (length (body_bytes order m)) ++ s5 = rw body_len at e4 in
@@ -163,16 +164,16 @@ message_to inner s y q r w =
     let rows = fields_row_fits body a6.1 n a6.3.4 in
     let seq = seq_fields_to order inner (a6.1 + n) fs [] a6.1 a6.2 a7.1 a7.2 a7.3.0 in
     let at_end : a7.1 ≡ 16 + n = omega (arith, a7.3.1, at16) in
-    let all : SpelledAll order (suc (suc inner)) 16 a6.2 (value_trees (map field_struct fs)) (16 + n) a7.2 = rw (at16, at_end) at seq.2 in
+    let all : SpelledAll bounds order (suc (suc inner)) 16 a6.2 (value_trees (map field_struct fs)) (16 + n) a7.2 = rw (at16, at_end) at seq.2 in
     let none = judge_passed (lacks (required kind) fs) a7.1 a7.2 a8.0 a8.1 a8.2 a8.3 in
     let padded : a7.2 ≡ pad 8 (16 + n) ++ a9.2 = rw (none.2, none.1, at_end) at a9.3.0 in
     let start : a9.1 ≡ 16 + n + gap_to 8 (16 + n) = rw (none.1, at_end) at a9.3.1 in
     let b = a11.3 in
     let c = b.4.4 in
-    let typed = fields_to order (suc (suc (suc inner))) (value order (suc (suc (suc inner)))) (λ e t o s v q r. (value_inside order (suc (suc (suc inner))) e t o s v q r).0) (λ e t o s v q r. (value_inside order (suc (suc (suc inner))) e t o s v q r).1) (a10.1 + body) a10.0 a10.1 a10.2 b.0 b.1 b.2 b.3 in
+    let typed = fields_to bounds order (suc (suc (suc inner))) (value bounds order (suc (suc (suc inner)))) (λ e t o s v q r. (value_inside bounds order (suc (suc (suc inner))) e t o s v q r).0) (λ e t o s v q r. (value_inside bounds order (suc (suc (suc inner))) e t o s v q r).1) (a10.1 + body) a10.0 a10.1 a10.2 b.0 b.1 b.2 b.3 in
     let begins : a10.1 ≡ a9.1 = a10.3.2 in
     let rest : a10.2 ≡ a9.2 = a10.3.3 in
-    let spelled : SpelledAll order (suc (suc (suc inner))) a9.1 a9.2 b.0 b.1 b.2 = rw (begins, rest) at typed.1 in
+    let spelled : SpelledAll bounds order (suc (suc (suc inner))) a9.1 a9.2 b.0 b.1 b.2 = rw (begins, rest) at typed.1 in
     let ends_at : b.1 ≡ a9.1 + body = b.4.3.0 ∙ ap (λ (u : ℕ). u + body) begins in
     let last : q ≡ b.1 = a12.1 ∙ c.1 ∙ b.4.3.1 in
     let left : r ≡ b.2 = a12.2 ∙ c.2 ∙ b.4.3.2 in
@@ -195,19 +196,19 @@ taken : (order : Order) (inner kind flags serial body n : ℕ) (fs : List FieldT
     → s3 ≡ num order 1 1 ++ s4
     → body < 256 ^ 4 → s4 ≡ num order 4 body ++ s5
     → 0 < serial → serial < 256 ^ 4 → s5 ≡ num order 4 serial ++ s6
-    → n < 256 ^ 4 → s6 ≡ num order 4 n ++ s7 → n ≤ array_limit → 16 + n + gap_to 8 (16 + n) + body ≤ message_limit
-    → AreFields [] fs → SpelledAll order (suc (suc inner)) 16 s7 (value_trees (map field_struct fs)) (16 + n) s8
+    → n < 256 ^ 4 → s6 ≡ num order 4 n ++ s7 → n ≤ ARRAY_LIMIT → 16 + n + gap_to 8 (16 + n) + body ≤ MESSAGE_LIMIT
+    → AreFields [] fs → SpelledAll bounds order (suc (suc inner)) 16 s7 (value_trees (map field_struct fs)) (16 + n) s8
     → lacks (required kind) fs ≡ None
     → s8 ≡ pad 8 (16 + n) ++ s9
     → sigs (types_of xs) ≡ body_signature fs
-    → SpelledAll order (suc (suc (suc inner))) (16 + n + gap_to 8 (16 + n)) s9 xs (16 + n + gap_to 8 (16 + n) + body) r
+    → SpelledAll bounds order (suc (suc (suc inner))) (16 + n + gap_to 8 (16 + n)) s9 xs (16 + n + gap_to 8 (16 + n) + body) r
     → (message_items inner).Passed 0 s (order, record { kind = kind; flags = flags; serial = serial; fields = fs; body = xs }) (16 + n + gap_to 8 (16 + n) + body) r
 taken order inner kind flags serial body n fs xs s1 s2 s3 s4 s5 s6 s7 s8 s9 r s e0 k0 k1 e1 f1 e2 e3 b1 e4 z0 z1 e5 n0 e6 n1 limit fields all none e8 signature body_all =
     let at = 16 + n + gap_to 8 (16 + n) in
     let seq = seq_fields_from order inner (16 + n) fs [] 16 s7 (16 + n) s8 (omega arith) fields all in
     let spells = field_signature order inner (16 + n) fs [] 16 s7 (16 + n) s8 seq in
     let types : types_spelled (body_signature fs) ≡ types_of xs = ap types_spelled (sym signature) ∙ spelled_sigs (types_of xs) in
-    let typed = fields_from order (suc (suc (suc inner))) (value order (suc (suc (suc inner)))) (λ e t o s v q r. (value_inside order (suc (suc (suc inner))) e t o s v q r).0) (λ e t o s v q r. (value_inside order (suc (suc (suc inner))) e t o s v q r).1) (at + body) xs at s9 (at + body) r (omega arith) body_all in (
+    let typed = fields_from bounds order (suc (suc (suc inner))) (value bounds order (suc (suc (suc inner)))) (λ e t o s v q r. (value_inside bounds order (suc (suc (suc inner))) e t o s v q r).0) (λ e t o s v q r. (value_inside bounds order (suc (suc (suc inner))) e t o s v q r).1) (at + body) xs at s9 (at + body) r (omega arith) body_all in (
       order,
       1,
       s1,
@@ -276,7 +277,6 @@ taken order inner kind flags serial body n fs xs s1 s2 s3 s4 s5 s6 s7 s8 s9 r s 
     )
 
 pub message_from : (inner : ℕ) (s : List ℕ) (order : Order) (m : MessageTree) (q : ℕ) (r : List ℕ) → IsFront inner s (order, m) q r → (message_items inner).Passed 0 s (order, m) q r
-unfolding message_limit array_limit
 message_from inner s order m q r h =
     let ok = h.0 in
     let n = length (field_bytes order m.fields) in
@@ -284,15 +284,15 @@ message_from inner s order m q r h =
     let within = within_field_array order m.fields ok.within_fields in
     let whole_len = message_length order inner m in
     let bytes : s ≡ order_byte order ∷ (num order 1 m.kind ++ (num order 1 m.flags ++ (num order 1 1 ++ (num order 4 (length (body_bytes order m)) ++ (num order 4 m.serial ++ (num order 4 n ++ (field_bytes order m.fields ++ (pad 8 (fields_end order m.fields) ++ (body_bytes order m ++ r))))))))) = h.1 ∙ message_parts order inner m r in
-    let all : SpelledAll order (suc (suc inner)) 16 (field_bytes order m.fields ++ (pad 8 (fields_end order m.fields) ++ (body_bytes order m ++ r))) (value_trees (map field_struct m.fields)) (16 + n) (pad 8 (fields_end order m.fields) ++ (body_bytes order m ++ r)) =
+    let all : SpelledAll bounds order (suc (suc inner)) 16 (field_bytes order m.fields ++ (pad 8 (fields_end order m.fields) ++ (body_bytes order m ++ r))) (value_trees (map field_struct m.fields)) (16 + n) (pad 8 (fields_end order m.fields) ++ (body_bytes order m ++ r)) =
     record { formed = ok.formed_fields.1; within = within.1; bytes = refl; place = refl } in
-    let body_all : SpelledAll order (suc (suc (suc inner))) (body_start order m.fields) (body_bytes order m ++ r) m.body (body_start order m.fields + length (body_bytes order m)) r =
+    let body_all : SpelledAll bounds order (suc (suc (suc inner))) (body_start order m.fields) (body_bytes order m ++ r) m.body (body_start order m.fields + length (body_bytes order m)) r =
     record { formed = ok.formed_body; within = ok.within_body; bytes = refl; place = refl } in
     let start : body_start order m.fields ≡ 16 + n + gap_to 8 (16 + n) = ap (λ (u : ℕ). u + gap_to 8 u) ends in
-    let spelled : SpelledAll order (suc (suc (suc inner))) (16 + n + gap_to 8 (16 + n)) (body_bytes order m ++ r) m.body (16 + n + gap_to 8 (16 + n) + length (body_bytes order m)) r =
-    subst (λ (u : ℕ). SpelledAll order (suc (suc (suc inner))) u (body_bytes order m ++ r) m.body (u + length (body_bytes order m)) r) start body_all in
+    let spelled : SpelledAll bounds order (suc (suc (suc inner))) (16 + n + gap_to 8 (16 + n)) (body_bytes order m ++ r) m.body (16 + n + gap_to 8 (16 + n) + length (body_bytes order m)) r =
+    subst (λ (u : ℕ). SpelledAll bounds order (suc (suc (suc inner))) u (body_bytes order m ++ r) m.body (u + length (body_bytes order m)) r) start body_all in
     let last : q ≡ 16 + n + gap_to 8 (16 + n) + length (body_bytes order m) = omega (arith, h.2, whole_len, start) in
-    let fits : 16 + n + gap_to 8 (16 + n) + length (body_bytes order m) ≤ message_limit = omega (arith, ok.limit, whole_len, start) in
+    let fits : 16 + n + gap_to 8 (16 + n) + length (body_bytes order m) ≤ MESSAGE_LIMIT = omega (arith, ok.limit, whole_len, start) in
     let tail = body_bytes order m ++ r in
     let s8 = pad 8 (fields_end order m.fields) ++ tail in
     let s7 = field_bytes order m.fields ++ s8 in

@@ -4,14 +4,13 @@ use Rattle.std.specs.Prelude.{◌≡◌, ◌⊎◌, ℕ, ◌+◌, ◌<◌, List,
 use Rattle.dbus_types.specs.Types.{UINT32, STRING, TypeTree, NumberType, TextType, sigs}
 use Rattle.dbus_value_model.specs.declared.order.Order.TheVariants.{Little}
 use Rattle.dbus_value_model.specs.declared.fault.Reason.TheVariants as reasons
-use Rattle.dbus_value_model.specs.declared.limits.TheConstants.{DEPTH_LIMIT}
+use Rattle.dbus_value_model.specs.declared.limits.TheConstants.{ARRAY_LIMIT, DEPTH_LIMIT, MESSAGE_LIMIT}
 use Rattle.dbus_value_model.specs.Checks.{IsTyped}
 use Rattle.dbus_value_model.specs.Forming.{NestsWithin, NestWithin, IsNamed}
 use Rattle.dbus_value_model.specs.Values.{ValueTree, NumberValue, type_of, types_of}
 use Rattle.dbus_value_model.specs.ValueViews.{value_tree}
 use Rattle.dbus_value_model.specs.declared.value.Value.{Value}
 use Rattle.dbus_value_model.specs.Spelling.{IsWithinLimits, AreWithinLimits}
-use Rattle.dbus_value_model.specs.Sizes.{message_limit}
 use Rattle.dbus_value_model.specs.WantedTexts.{WantedText, IsWanted, kind_of}
 use Rattle.dbus_message.specs.Messages.{FieldTree, MessageTree, field_array, body_start, message_bytes, Want, Anything, OfType, Name, Serial, want, is_known, has_code, lacks, required, text_in, body_signature}
 use Rattle.dbus_message.specs.PartsViews.{parts_tree}
@@ -132,13 +131,13 @@ SignaturePasses p = ValuesPass p × HasOwnSignature (parts_tree p)
 
 -- Both orders spell arrays and messages in as many bytes.
 abbrev pub KeepsArrays : MessageTree → Type 0
-KeepsArrays m = IsWithinLimits Little 12 (field_array m.fields) × AreWithinLimits Little (body_start Little m.fields) m.body
+KeepsArrays m = IsWithinLimits ARRAY_LIMIT Little 12 (field_array m.fields) × AreWithinLimits ARRAY_LIMIT Little (body_start Little m.fields) m.body
 
 abbrev pub ArraysPass : {A : Type 0} → Parts A → Type 0
 ArraysPass p = SignaturePasses p × KeepsArrays (parts_tree p)
 
 abbrev pub IsLong : MessageTree → Type 0
-IsLong m = message_limit < length (message_bytes Little m)
+IsLong m = MESSAGE_LIMIT < length (message_bytes Little m)
 
 -- no case holds
 abbrev pub NoFault : {A : Type 0} → Parts A → Type 0

@@ -2,17 +2,18 @@
 -- D-Bus Specification, "Message Format" and "Header Fields"; docs/WIRE-FORMAT.md, "Messages" and "Faults".
 use Rattle.std.specs.Prelude.{◌≡◌, ℕ, suc, ◌+◌, List, ◌∷◌, false, ◌&&◌, if◌then◌else◌, nat_lt, nat_eq, Option, Some, None}
 use Rattle.dbus_types.specs.Types.{UINT32, STRING, TypeTree, NumberType, TextType, TypeTrees, sig, sigs, AreShaped}
+use Rattle.dbus_value_model.specs.declared.limits.TheConstants.{ARRAY_LIMIT, MESSAGE_LIMIT}
 use Rattle.dbus_value_model.specs.WantedTexts.{WantedText, Of, Only}
 use Rattle.dbus_value_model.specs.declared.order.Order.{Order}
 use Rattle.dbus_value_model.specs.Bytes.{gap_to}
 use Rattle.dbus_value_model.specs.Values.{ValueTree, ValueTrees, NumberValue, TextValue}
-use Rattle.dbus_value_model.specs.Spelling.{Spelled, array_limit}
+use Rattle.dbus_value_model.specs.Spelling.{Spelled}
 use Rattle.dbus_value_model.specs.Items.{Item, ◌>>=◌, ◌>>◌, pure, judge, bounded, ends, padding, number, text, nul, signature, contents, fault}
 use Rattle.dbus_value_model.specs.declared.fault.Reason.{Reason}
 use Rattle.dbus_value_model.specs.Gives.{no_row}
 use Rattle.dbus_value_model.specs.ValueItems.{text_row, value, fields}
+use Rattle.dbus_message.specs.Bounds.{bounds}
 use Rattle.dbus_message.specs.Messages.{FieldTree, MessageTree, order_byte, field_type, field_struct, Want, Anything, OfType, Name, Serial, want, is_known, has_code, IsField, lacks, required, body_signature}
-use Rattle.dbus_value_model.specs.Sizes.{message_limit}
 use Rattle.dbus_value_model.specs.declared.fault.Reason.TheVariants as reasons
 use Rattle.dbus_types.specs.declared.text_kind.TextKind.TheVariants as kinds
 
@@ -27,8 +28,8 @@ name_row end p n = if nat_lt 255 n then Some reasons.NameTooLong else text_row e
 
 abbrev pub fields_row : ℕ → ℕ → ℕ → Option Reason
 fields_row body p n =
-    if nat_lt array_limit n then Some reasons.ArrayTooLong
-    else if nat_lt message_limit (p + n + gap_to 8 (p + n) + body) then Some reasons.MessageTooLong else None
+    if nat_lt ARRAY_LIMIT n then Some reasons.ArrayTooLong
+    else if nat_lt MESSAGE_LIMIT (p + n + gap_to 8 (p + n) + body) then Some reasons.MessageTooLong else None
 
 abbrev pub code_row : List FieldTree → ℕ → ℕ → Option Reason
 code_row before p n =
@@ -44,8 +45,8 @@ kind_wanted (Name k) = Only (sig (TextType STRING))
 kind_wanted Serial = Only (sig (NumberType UINT32))
 
 abbrev pub value_wanted : Order → ℕ → ℕ → Want → TypeTree → Item ValueTree
-value_wanted order inner end Anything t = value order inner end t
-value_wanted order inner end (OfType u) t = value order inner end t
+value_wanted order inner end Anything t = value bounds order inner end t
+value_wanted order inner end (OfType u) t = value bounds order inner end t
 value_wanted order inner end (Name k) t = do
   padding 4 end
   n ← number order 4 end (name_row end)
@@ -70,7 +71,7 @@ field_items order inner end before = do
 -- a field is passed where it is spelled, whole, and is one behind those before it
 abbrev pub field : Order → ℕ → ℕ → List FieldTree → Item FieldTree
 field order inner end before = record {
-  Passed = λ o s f q r. Spelled order (suc (suc inner)) end field_type o s (field_struct f) q r × IsField before f;
+  Passed = λ o s f q r. Spelled bounds order (suc (suc inner)) end field_type o s (field_struct f) q r × IsField before f;
   Refused = (field_items order inner end before).Refused;
 }
 
@@ -91,7 +92,7 @@ types_of_text text = record {
 
 abbrev pub body_items : Order → ℕ → TypeTrees → ℕ → Item ValueTrees
 body_items order room ts end = do
-  xs ← fields (value order room end) ts
+  xs ← fields (value bounds order room end) ts
   ends end
   pure xs
 

@@ -11,13 +11,14 @@ use Rattle.dbus_value_model.specs.Items.{fault}
 use Rattle.dbus_value_model.specs.Gives.{no_row}
 use Rattle.dbus_value_model.specs.ValueItems.{text_row}
 use Rattle.dbus_value_model.specs.Reading.{Reader, Outcome, Done, Faulty, Partial, ◌>>=◌, ◌>>◌, pure, judge, bounded, ends, padding, number, text, nul, signature, contents, value, fields}
+use Rattle.dbus_message.specs.Bounds.{bounds}
 use Rattle.dbus_message.specs.Messages.{FieldTree, MessageTree, Want, Anything, OfType, Name, Serial, want, lacks, required, body_signature}
 use Rattle.dbus_message.specs.MessageItems.{not_zero_row, version_row, name_row, fields_row, code_row, kind_wanted}
 use Rattle.dbus_value_model.specs.declared.fault.Reason.TheVariants as reasons
 
 abbrev pub value_wanted : Order → ℕ → ℕ → Want → TypeTree → Reader ValueTree
-value_wanted order inner end Anything t = value order inner end t
-value_wanted order inner end (OfType u) t = value order inner end t
+value_wanted order inner end Anything t = value bounds order inner end t
+value_wanted order inner end (OfType u) t = value bounds order inner end t
 value_wanted order inner end (Name k) t = do
   padding 4 end
   n ← number order 4 end (name_row end)
@@ -51,7 +52,7 @@ types_of_text text = pure (types_spelled text)
 
 abbrev pub body_items : Order → ℕ → TypeTrees → ℕ → Reader ValueTrees
 body_items order room ts end = do
-  xs ← fields (value order room end) ts
+  xs ← fields (value bounds order room end) ts
   ends end
   pure xs
 

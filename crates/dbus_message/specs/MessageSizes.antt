@@ -1,25 +1,26 @@
 -- Where the fields of a header end, and the numbers that parts hold.
 -- D-Bus Specification, "Marshaling (Wire Format)" and "Message Format".
 use Rattle.std.specs.Prelude.{◌≡◌, ℕ, ◌+◌, ◌^◌, ◌<◌, ◌≤◌, List, [], ◌∷◌, length, map, Option, Some, None}
+use Rattle.dbus_value_model.specs.declared.limits.TheConstants.{ARRAY_LIMIT}
 use Rattle.dbus_value_model.specs.declared.order.Order.TheVariants.{Little}
 use Rattle.dbus_value_model.specs.Ranges.{HoldsNumbers, HoldNumbers}
-use Rattle.dbus_value_model.specs.Spelling.{spelling, spellings, array_limit, IsWithinLimits, AreWithinLimits}
+use Rattle.dbus_value_model.specs.Spelling.{spelling, spellings, IsWithinLimits, AreWithinLimits}
 use Rattle.dbus_value_model.specs.Values.{value_trees}
 use Rattle.dbus_message.specs.Messages.{FieldTree, MessageTree, field_struct}
 
 -- The end n, where what stands before it keeps the limits on arrays and it is not past the end of the longest field array;
 -- else nothing. Both orders spell fields in as many bytes.
 abbrev pub IsEnd : Type 0 → ℕ → Option ℕ → Type 0
-IsEnd kept n None = kept → 16 + array_limit < n
-IsEnd kept n (Some e) = kept × (e ≡ n) × (n ≤ 16 + array_limit)
+IsEnd kept n None = kept → 16 + ARRAY_LIMIT < n
+IsEnd kept n (Some e) = kept × (e ≡ n) × (n ≤ 16 + ARRAY_LIMIT)
 
 abbrev pub IsFieldEnd : FieldTree → ℕ → Option ℕ → Type 0
-IsFieldEnd f at end = IsEnd (IsWithinLimits Little at (field_struct f)) (at + length (spelling Little at (field_struct f))) end
+IsFieldEnd f at end = IsEnd (IsWithinLimits ARRAY_LIMIT Little at (field_struct f)) (at + length (spelling Little at (field_struct f))) end
 
 abbrev pub AreFieldEnds : List FieldTree → ℕ → Option ℕ → Type 0
 AreFieldEnds fs at end =
     let structs = value_trees (map field_struct fs) in
-    IsEnd (AreWithinLimits Little at structs) (at + length (spellings Little at structs)) end
+    IsEnd (AreWithinLimits ARRAY_LIMIT Little at structs) (at + length (spellings Little at structs)) end
 
 -- a code is one byte, and a field's value holds numbers of their types
 abbrev pub HoldFieldNumbers : List FieldTree → Type 0

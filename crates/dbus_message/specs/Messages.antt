@@ -2,8 +2,8 @@
 -- D-Bus Specification, "Message Format" and "Header Fields".
 use Rattle.std.specs.Prelude.{◌≡◌, ℕ, suc, ◌+◌, ◌^◌, ◌<◌, ◌≤◌, List, [], ◌∷◌, ◌++◌, length, map, Bool, true, false, ◌||◌, ◌&&◌, nat_eq, if◌then◌else◌, Option, Some, None}
 use Rattle.dbus_types.specs.Types.{BYTE, UINT32, STRING, OBJECT_PATH, SIGNATURE, TypeTree, NumberType, TextType, VariantType, StructType, NoTypes, MoreTypes, sigs}
+use Rattle.dbus_value_model.specs.declared.limits.TheConstants.{ARRAY_LIMIT, MESSAGE_LIMIT}
 use Rattle.dbus_value_model.specs.Measures.{coded}
-use Rattle.dbus_value_model.specs.Sizes.{message_limit}
 use Rattle.dbus_value_model.specs.WantedTexts.{WantedText, IsWanted, Of}
 use Rattle.dbus_value_model.specs.declared.order.Order.{Order}
 use Rattle.dbus_value_model.specs.declared.order.Order.TheVariants.{Little, Big}
@@ -139,9 +139,9 @@ pub record IsMessage (order : Order) (inner : ℕ) (m : MessageTree) : Type 0 wh
   pub serial_fits : m.serial < 256 ^ 4
   pub fields : AreFields [] m.fields
   pub formed_fields : IsWellFormed (suc (suc (suc inner))) (field_array m.fields)
-  pub within_fields : IsWithinLimits order 12 (field_array m.fields)
+  pub within_fields : IsWithinLimits ARRAY_LIMIT order 12 (field_array m.fields)
   pub required_codes : lacks (required m.kind) m.fields ≡ None
   pub signature : sigs (types_of m.body) ≡ body_signature m.fields
   pub formed_body : AreWellFormed (suc (suc (suc inner))) m.body
-  pub within_body : AreWithinLimits order (body_start order m.fields) m.body
-  pub limit : length (message_bytes order m) ≤ message_limit
+  pub within_body : AreWithinLimits ARRAY_LIMIT order (body_start order m.fields) m.body
+  pub limit : length (message_bytes order m) ≤ MESSAGE_LIMIT

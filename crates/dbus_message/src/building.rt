@@ -19,7 +19,7 @@ use crate::message::Message;
 use crate::message_size::{fields_end, read_parts};
 use crate::parts::Parts;
 use dbus_marshal::measure_all;
-use dbus_value_model::{MESSAGE_LIMIT, padding_length};
+use dbus_value_model::{Limits, MESSAGE_LIMIT, padding_length};
 use std::alloc::Allocator;
 
 /// Judges the type, the serial, and which fields there are.
@@ -90,7 +90,8 @@ fn measure<A: Allocator>(parts: &Parts<A>) -> Result<usize, BuildFault>
         Some(end) => end,
         None => return Err(BuildFault::ArrayTooLong),
     };
-    match measure_all(&parts.body, fields + u64::from(padding_length(8, fields))) {
+    let start = fields + u64::from(padding_length(8, fields));
+    match measure_all(&parts.body, start, Limits::specification()) {
         None => Err(BuildFault::ArrayTooLong),
         Some(end) => {
             if end > u64::from(MESSAGE_LIMIT) {

@@ -13,6 +13,7 @@ ghost use Rattle.dbus_value_model.specs.PackedBytes.{keeps_bytes};
 ghost use Rattle.dbus_value_model.specs.Reading.{number, value};
 ghost use Rattle.dbus_value_model.specs.ValueViews.{value_tree};
 ghost use Rattle.dbus_value_model.specs.WantedTexts.{IsName, Of, Only};
+ghost use Rattle.dbus_message.specs.Bounds.{bounds};
 ghost use Rattle.dbus_message.specs.HeaderReading.{wanted_signature, wanted_value};
 ghost use Rattle.dbus_message.specs.MessageItems.{name_row};
 ghost use Rattle.dbus_message.specs.Messages.{Name, OfType, Anything, Serial, want};
@@ -46,7 +47,7 @@ pub fn read_value<A: Allocator + Copy>(
     requires inside { at ≤ length bytes.now }
     requires shallow { depth ≤ DEPTH_LIMIT }
     requires complete { IsSingleType (type_tree wanted.now) }
-    ensures gives { Gives (λ x. (value_tree x.0, x.1)) bytes.now result (value order (DEPTH_LIMIT - depth) end (type_tree wanted.now) at (drop at bytes.now)) }
+    ensures gives { Gives (λ x. (value_tree x.0, x.1)) bytes.now result (value bounds order (DEPTH_LIMIT - depth) end (type_tree wanted.now) at (drop at bytes.now)) }
     ensures moves { IfOk result (λ x. (at < x.1) × (x.1 ≤ end) × (x.1 ≤ length bytes.now)) }
     ensures packed { IfOk result (λ x. IsTrue (keeps_bytes x.0)) }
 {

@@ -12,7 +12,7 @@ ghost use Rattle.dbus_message.specs.PartsViews.{field_tree, field_trees, parts_t
 use crate::header_field::HeaderField;
 use crate::parts::Parts;
 use dbus_marshal::measure_coded;
-use dbus_value_model::{ARRAY_LIMIT, read_all_numbers, read_numbers};
+use dbus_value_model::{ARRAY_LIMIT, Limits, read_all_numbers, read_numbers};
 use std::alloc::Allocator;
 
 /// Where the longest field array ends, whose contents begin at 16.
@@ -24,7 +24,7 @@ fn field_end<A: Allocator>(field: &HeaderField<A>, at: u64) -> Option<u64>
     requires signed { HasShortSignatures (field_struct (field_tree field.now)) }
     ensures { IsFieldEnd (field_tree field.now) at result }
 {
-    match measure_coded(&field.value, at) {
+    match measure_coded(&field.value, at, Limits::specification()) {
         None => None,
         Some(end) => {
             if end > FIELDS_LIMIT {

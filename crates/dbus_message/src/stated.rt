@@ -2,7 +2,7 @@
 #![tactic(auto)]
 
 ghost use Rattle.std.specs.Prelude.{◌≤◌, IfOk, IfSome};
-ghost use Rattle.dbus_value_model.specs.Sizes.{message_limit};
+ghost use Rattle.dbus_value_model.specs.declared.limits.TheConstants.{MESSAGE_LIMIT};
 ghost use Rattle.dbus_message.specs.StatedLengths.{Stated};
 
 use crate::fixed_header::read_fixed_header;
@@ -22,7 +22,7 @@ pub const FIXED_HEADER_LENGTH: usize = 16;
 /// limit), with the fault that `decode` answers. No memory is taken.
 pub fn stated_length(bytes: &[u8]) -> Result<Option<u64>, Fault>
     ensures stated { Stated bytes.now result }
-    ensures within { IfOk result (λ stated. IfSome stated (λ n. (16 ≤ n) × (n ≤ message_limit))) }
+    ensures within { IfOk result (λ stated. IfSome stated (λ n. (16 ≤ n) × (n ≤ MESSAGE_LIMIT))) }
 {
     match read_fixed_header(bytes) {
         Ok(header) => {

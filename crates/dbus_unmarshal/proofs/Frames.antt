@@ -5,6 +5,7 @@ use Rattle.std.proofs.lemmas.Bool.{lt-ltb, le-ltb, eq-eqb}
 use Rattle.dbus_types.specs.Types.{TypeTree, TypeTrees, NoTypes, MoreTypes, VariantType, ArrayType, StructType, EntryType, IsShaped}
 use Rattle.dbus_types.specs.Alignments.{alignment_of}
 use Rattle.dbus_value_model.specs.WantedTexts.{Of}
+use Rattle.dbus_value_model.specs.declared.limits.Bounds.{Bounds}
 use Rattle.dbus_value_model.specs.declared.order.Order.{Order}
 use Rattle.dbus_value_model.specs.Bytes.{IsBytes}
 use Rattle.dbus_value_model.specs.Spelling.{spelling}
@@ -22,10 +23,10 @@ pub data Frame : Type 0 where
   -- values of one type up to the end
   Fills : (end room : ℕ) → TypeTree → Frame
 
-abbrev pub resume : Order → List Frame → Reader (Unit {0})
-resume order [] o s = Done tt o s
-resume order (Wants end room ts ∷ frames) o s = after (fields (value order room end) ts o s) (λ _. resume order frames)
-resume order (Fills end room t ∷ frames) o s = after (up_to (end - o) end (λ before. value order room end t) [] o s) (λ _. resume order frames)
+abbrev pub resume : Bounds → Order → List Frame → Reader (Unit {0})
+resume bounds order [] o s = Done tt o s
+resume bounds order (Wants end room ts ∷ frames) o s = after (fields (value bounds order room end) ts o s) (λ _. resume bounds order frames)
+resume bounds order (Fills end room t ∷ frames) o s = after (up_to (end - o) end (λ before. value bounds order room end t) [] o s) (λ _. resume bounds order frames)
 
 after_after : {A B C : Type 0} (r : Outcome A) (f : A → Reader B) (g : B → Reader C) → after (after r f) g ≡ after r (λ x p t. after (f x p t) g)
 after_after (Done x p t) f g = refl
@@ -37,41 +38,41 @@ after_same (Done x p t) f g h = h x p t
 after_same (Faulty e) f g h = refl
 after_same Partial f g h = refl
 
-module _ (order : Order) (frames : List Frame) where
-  pub wants_none : (end room o : ℕ) (s : List ℕ) → resume order (Wants end room NoTypes ∷ frames) o s ≡ resume order frames o s
+module _ (bounds : Bounds) (order : Order) (frames : List Frame) where
+  pub wants_none : (end room o : ℕ) (s : List ℕ) → resume bounds order (Wants end room NoTypes ∷ frames) o s ≡ resume bounds order frames o s
   wants_none end room o s = refl
 
-  pub wants_more : (end room : ℕ) (t : TypeTree) (ts : TypeTrees) (o : ℕ) (s : List ℕ) → resume order (Wants end room (MoreTypes t ts) ∷ frames) o s ≡ after (value order room end t o s) (λ _. resume order (Wants end room ts ∷ frames))
+  pub wants_more : (end room : ℕ) (t : TypeTree) (ts : TypeTrees) (o : ℕ) (s : List ℕ) → resume bounds order (Wants end room (MoreTypes t ts) ∷ frames) o s ≡ after (value bounds order room end t o s) (λ _. resume bounds order (Wants end room ts ∷ frames))
   wants_more end room t ts o s =
-      after_after (value order room end t o s) _ _ ∙ after_same (value order room end t o s) _ _ (λ v p u. after_after (fields (value order room end) ts p u) _ _)
+      after_after (value bounds order room end t o s) _ _ ∙ after_same (value bounds order room end t o s) _ _ (λ v p u. after_after (fields (value bounds order room end) ts p u) _ _)
 
   -- an array that is wanted: behind its own items its elements are wanted, and then the frames
-  pub array_opens : (end room : ℕ) (t : TypeTree) (o : ℕ) (s : List ℕ) → after (value order (suc room) end (ArrayType t) o s) (λ _. resume order frames)
-      ≡ after (padding 4 end o s) (λ _ p u. after (number order 4 end (array_row t end) p u) (λ n p u. after (padding (alignment_of t) end p u) (λ _ p u. resume order (Fills (p + n) room t ∷ frames) p u)))
+  pub array_opens : (end room : ℕ) (t : TypeTree) (o : ℕ) (s : List ℕ) → after (value bounds order (suc room) end (ArrayType t) o s) (λ _. resume bounds order frames)
+      ≡ after (padding 4 end o s) (λ _ p u. after (number order 4 end (array_row bounds t end) p u) (λ n p u. after (padding (alignment_of t) end p u) (λ _ p u. resume bounds order (Fills (p + n) room t ∷ frames) p u)))
   unfolding value
   array_opens end room t o s =
       after_after (padding 4 end o s) _ _ ∙ after_same (padding 4 end o s) _ _ (λ _ p u.
-      after_after (number order 4 end (array_row t end) p u) _ _ ∙ after_same (number order 4 end (array_row t end) p u) _ _ (λ n p u.
+      after_after (number order 4 end (array_row bounds t end) p u) _ _ ∙ after_same (number order 4 end (array_row bounds t end) p u) _ _ (λ n p u.
       after_after (padding (alignment_of t) end p u) _ _ ∙ after_same (padding (alignment_of t) end p u) _ _ (λ _ p u.
-      after_after (contents n (λ e before. value order room e t) p u) _ _
-      ∙ (let e : (p + n) - p ≡ n = omega arith in ap (λ (k : ℕ). after (up_to k (p + n) (λ before. value order room (p + n) t) [] p u) (λ _. resume order frames)) (sym e)))))
+      after_after (contents n (λ e before. value bounds order room e t) p u) _ _
+      ∙ (let e : (p + n) - p ≡ n = omega arith in ap (λ (k : ℕ). after (up_to k (p + n) (λ before. value bounds order room (p + n) t) [] p u) (λ _. resume bounds order frames)) (sym e)))))
 
   -- a struct that is wanted
-  pub struct_opens : (end room : ℕ) (ts : TypeTrees) (o : ℕ) (s : List ℕ) → after (value order (suc room) end (StructType ts) o s) (λ _. resume order frames)
-      ≡ after (padding 8 end o s) (λ _. resume order (Wants end room ts ∷ frames))
+  pub struct_opens : (end room : ℕ) (ts : TypeTrees) (o : ℕ) (s : List ℕ) → after (value bounds order (suc room) end (StructType ts) o s) (λ _. resume bounds order frames)
+      ≡ after (padding 8 end o s) (λ _. resume bounds order (Wants end room ts ∷ frames))
   unfolding value
   struct_opens end room ts o s =
-      after_after (padding 8 end o s) _ _ ∙ after_same (padding 8 end o s) _ _ (λ _ p u. after_after (fields (value order room end) ts p u) _ _)
+      after_after (padding 8 end o s) _ _ ∙ after_same (padding 8 end o s) _ _ (λ _ p u. after_after (fields (value bounds order room end) ts p u) _ _)
 
   -- a variant that is wanted
-  pub variant_opens : (end room o : ℕ) (s : List ℕ) → after (value order (suc room) end VariantType o s) (λ _. resume order frames)
-      ≡ after (number order 1 end (text_row end) o s) (λ n p u. after (signature (Of kinds.Single) n p u) (λ held p u. after (nul p u) (λ _. resume order (Wants end room (MoreTypes held NoTypes) ∷ frames))))
+  pub variant_opens : (end room o : ℕ) (s : List ℕ) → after (value bounds order (suc room) end VariantType o s) (λ _. resume bounds order frames)
+      ≡ after (number order 1 end (text_row end) o s) (λ n p u. after (signature (Of kinds.Single) n p u) (λ held p u. after (nul p u) (λ _. resume bounds order (Wants end room (MoreTypes held NoTypes) ∷ frames))))
   unfolding value
   variant_opens end room o s =
       after_after (number order 1 end (text_row end) o s) _ _ ∙ after_same (number order 1 end (text_row end) o s) _ _ (λ n p u.
       after_after (signature (Of kinds.Single) n p u) _ _ ∙ after_same (signature (Of kinds.Single) n p u) _ _ (λ held p u.
       after_after (nul p u) _ _ ∙ after_same (nul p u) _ _ (λ _ p u.
-      after_after (value order room end held p u) _ _ ∙ sym (after_after (value order room end held p u) (λ v. pure (MoreValues v Rattle.dbus_value_model.specs.Values.NoValues)) (λ _. resume order frames)))))
+      after_after (value bounds order room end held p u) _ _ ∙ sym (after_after (value bounds order room end held p u) (λ v. pure (MoreValues v Rattle.dbus_value_model.specs.Values.NoValues)) (λ _. resume bounds order frames)))))
 
 -- ---- one more element
 
@@ -108,46 +109,46 @@ steps_same (Done x p t) f g h = h x p t refl
 steps_same (Faulty e) f g h = refl
 steps_same Partial f g h = refl
 
-value_steps : (order : Order) (room end : ℕ) (t : TypeTree) → IsShaped true t → Steps (value order room end t)
-value_steps order room end t complete o s v q r bytes e =
-    let spelled = (reads_spelled order room end true t o s v q r complete bytes).0 e in
-    (omega (arith, spelled.place, positive order v true o (subst (λ (u : TypeTree). IsShaped true u) (sym spelled.has_type) complete)), IsBytes-rest s (spelling order o v) r spelled.bytes bytes)
+value_steps : (bounds : Bounds) (order : Order) (room end : ℕ) (t : TypeTree) → IsShaped true t → Steps (value bounds order room end t)
+value_steps bounds order room end t complete o s v q r bytes e =
+    let spelled = (reads_spelled bounds order room end true t o s v q r complete bytes).0 e in
+    (omega (arith, spelled.place, positive bounds order v true o (subst (λ (u : TypeTree). IsShaped true u) (sym spelled.has_type) complete)), IsBytes-rest s (spelling order o v) r spelled.bytes bytes)
 
 -- an array with room left: one more element, and then it again
-pub fills_more : (order : Order) (frames : List Frame) (end room : ℕ) (t : TypeTree) (o : ℕ) (s : List ℕ) → IsShaped true t → IsBytes s → o < end
-    → resume order (Fills end room t ∷ frames) o s ≡ after (value order room end t o s) (λ _. resume order (Fills end room t ∷ frames))
-fills_more order frames end room t o s complete bytes on =
-    let run = value order room end t in
-    let steps = value_steps order room end t complete in
+pub fills_more : (bounds : Bounds) (order : Order) (frames : List Frame) (end room : ℕ) (t : TypeTree) (o : ℕ) (s : List ℕ) → IsShaped true t → IsBytes s → o < end
+    → resume bounds order (Fills end room t ∷ frames) o s ≡ after (value bounds order room end t o s) (λ _. resume bounds order (Fills end room t ∷ frames))
+fills_more bounds order frames end room t o s complete bytes on =
+    let run = value bounds order room end t in
+    let steps = value_steps bounds order room end t complete in
     let k = end - o - 1 in
     let turns : end - o ≡ suc k = omega arith in
     let go : up_to (end - o) end (λ before. run) [] o s ≡ after (run o s) (next_of run steps end k []) =
     ap (λ (n : ℕ). up_to n end (λ before. run) [] o s) turns ∙ ap (λ (b : Bool). cond b (after (run o s) (next_of run steps end k [])) (stop end o s)) (lt-ltb _ _ on) in
-    ap (λ (u : Outcome (List ValueTree)). after u (λ _. resume order frames)) go
-    ∙ after_after (run o s) (next_of run steps end k []) (λ _. resume order frames)
+    ap (λ (u : Outcome (List ValueTree)). after u (λ _. resume bounds order frames)) go
+    ∙ after_after (run o s) (next_of run steps end k []) (λ _. resume bounds order frames)
     ∙ steps_same (run o s) _ _ (λ v p u e.
     let w = steps o s v p u bytes e in
-    after_after (up_to k end (λ before. run) (v ∷ []) p u) (λ vs. pure (v ∷ vs)) (λ _. resume order frames)
-    ∙ ap (λ (r : Outcome (List ValueTree)). after r (λ _. resume order frames)) (same_turns run steps end k (end - p) (v ∷ []) [] p u w.1 (omega (arith, w.0)) (omega arith)))
+    after_after (up_to k end (λ before. run) (v ∷ []) p u) (λ vs. pure (v ∷ vs)) (λ _. resume bounds order frames)
+    ∙ ap (λ (r : Outcome (List ValueTree)). after r (λ _. resume bounds order frames)) (same_turns run steps end k (end - p) (v ∷ []) [] p u w.1 (omega (arith, w.0)) (omega arith)))
 
 -- an array with no room left is passed
-pub fills_none : (order : Order) (frames : List Frame) (end room : ℕ) (t : TypeTree) (s : List ℕ) → resume order (Fills end room t ∷ frames) end s ≡ resume order frames end s
-fills_none order frames end room t s = let zero_left : end - end ≡ 0 = omega arith in rw (zero_left, eq-eqb end end refl) refl
+pub fills_none : (bounds : Bounds) (order : Order) (frames : List Frame) (end room : ℕ) (t : TypeTree) (s : List ℕ) → resume bounds order (Fills end room t ∷ frames) end s ≡ resume bounds order frames end s
+fills_none bounds order frames end room t s = let zero_left : end - end ≡ 0 = omega arith in rw (zero_left, eq-eqb end end refl) refl
 
 -- an entry that is wanted: its key and value, with the same room
-module _ (order : Order) (frames : List Frame) where
+module _ (bounds : Bounds) (order : Order) (frames : List Frame) where
   entry_parts : (end room : ℕ) (k v : TypeTree) (p : ℕ) (u : List ℕ)
-      → after (after (value order room end k p u) (λ key. ◌>>=◌ (value order room end v) (λ x. pure (EntryValue key x)))) (λ _. resume order frames)
-      ≡ resume order (Wants end room (MoreTypes k (MoreTypes v NoTypes)) ∷ frames) p u
+      → after (after (value bounds order room end k p u) (λ key. ◌>>=◌ (value bounds order room end v) (λ x. pure (EntryValue key x)))) (λ _. resume bounds order frames)
+      ≡ resume bounds order (Wants end room (MoreTypes k (MoreTypes v NoTypes)) ∷ frames) p u
   entry_parts end room k v p u =
-      after_after (value order room end k p u) _ _
-      ∙ after_same (value order room end k p u) _ _ (λ key q w.
-      after_after (value order room end v q w) _ _
-      ∙ sym (wants_more order frames end room v NoTypes q w))
-      ∙ sym (wants_more order frames end room k (MoreTypes v NoTypes) p u)
+      after_after (value bounds order room end k p u) _ _
+      ∙ after_same (value bounds order room end k p u) _ _ (λ key q w.
+      after_after (value bounds order room end v q w) _ _
+      ∙ sym (wants_more bounds order frames end room v NoTypes q w))
+      ∙ sym (wants_more bounds order frames end room k (MoreTypes v NoTypes) p u)
 
-  pub entry_opens : (end room : ℕ) (k v : TypeTree) (o : ℕ) (s : List ℕ) → after (value order room end (EntryType k v) o s) (λ _. resume order frames)
-      ≡ after (padding 8 end o s) (λ _. resume order (Wants end room (MoreTypes k (MoreTypes v NoTypes)) ∷ frames))
+  pub entry_opens : (end room : ℕ) (k v : TypeTree) (o : ℕ) (s : List ℕ) → after (value bounds order room end (EntryType k v) o s) (λ _. resume bounds order frames)
+      ≡ after (padding 8 end o s) (λ _. resume bounds order (Wants end room (MoreTypes k (MoreTypes v NoTypes)) ∷ frames))
   unfolding value
   entry_opens end zero k v o s =
       after_after (padding 8 end o s) _ _ ∙ after_same (padding 8 end o s) _ _ (λ _ p u. entry_parts end zero k v p u)

@@ -6,6 +6,7 @@ use Rattle.dbus_types.specs.Types.{NumberCode, TextCode, TypeTree, NumberType, T
 use Rattle.dbus_types.proofs.KindFacts.{shaped_of}
 use Rattle.dbus_types.specs.SigTypes.{type_tree, type_trees_of}
 use Rattle.dbus_types.specs.declared.sig_type.SigType.{SigType}
+use Rattle.dbus_value_model.specs.declared.limits.Bounds.{Bounds}
 use Rattle.dbus_value_model.specs.declared.order.Order.{Order}
 use Rattle.dbus_value_model.specs.declared.fault.Reason.TheVariants as reasons
 use Rattle.dbus_value_model.specs.declared.stop.Stop.{Stop}
@@ -47,41 +48,41 @@ framed p next (Faulty f) = refl
 framed p next Partial = refl
 
 -- what stands behind an array's length and padding
-abbrev array_rest : Order → ℕ → ℕ → TypeTree → ℕ → Reader ValueTree
-array_rest order room end t n o s = after (contents n (λ end before. value order room end t) o s) (λ xs. pure (ArrayValue t (value_trees xs)))
+abbrev array_rest : Bounds → Order → ℕ → ℕ → TypeTree → ℕ → Reader ValueTree
+array_rest bounds order room end t n o s = after (contents n (λ end before. value bounds order room end t) o s) (λ xs. pure (ArrayValue t (value_trees xs)))
 
-module _ (order : Order) where
-  pub value_number : (room end : ℕ) (k : NumberCode) (o : ℕ) (s : List ℕ) → value order room end (NumberType k) o s ≡ number_value order end k o s
+module _ (bounds : Bounds) (order : Order) where
+  pub value_number : (room end : ℕ) (k : NumberCode) (o : ℕ) (s : List ℕ) → value bounds order room end (NumberType k) o s ≡ number_value order end k o s
   unfolding value number_value
   value_number zero end k o s = refl
   value_number (suc room) end k o s = refl
 
-  pub value_text : (room end : ℕ) (k : TextCode) (o : ℕ) (s : List ℕ) → value order room end (TextType k) o s ≡ text_value order end k o s
+  pub value_text : (room end : ℕ) (k : TextCode) (o : ℕ) (s : List ℕ) → value bounds order room end (TextType k) o s ≡ text_value order end k o s
   unfolding value text_value
   value_text zero end k o s = refl
   value_text (suc room) end k o s = refl
 
-  pub value_variant : (room end o : ℕ) (s : List ℕ) → value order room end VariantType o s ≡ variant_value order room end o s
+  pub value_variant : (room end o : ℕ) (s : List ℕ) → value bounds order room end VariantType o s ≡ variant_value bounds order room end o s
   unfolding value variant_value held_value
   value_variant zero end o s = refl
   value_variant (suc room) end o s = let e : suc room - 1 ≡ room = omega arith in rw e refl
 
-  pub value_struct : (room end : ℕ) (ts : TypeTrees) (o : ℕ) (s : List ℕ) → value order room end (StructType ts) o s ≡ struct_value order room end ts o s
+  pub value_struct : (room end : ℕ) (ts : TypeTrees) (o : ℕ) (s : List ℕ) → value bounds order room end (StructType ts) o s ≡ struct_value bounds order room end ts o s
   unfolding value struct_value open_struct
   value_struct zero end ts o s = refl
   value_struct (suc room) end ts o s = let e : suc room - 1 ≡ room = omega arith in rw e refl
 
-  pub value_entry : (room end : ℕ) (k v : TypeTree) (o : ℕ) (s : List ℕ) → value order room end (EntryType k v) o s ≡ entry_value order room end k v o s
+  pub value_entry : (room end : ℕ) (k v : TypeTree) (o : ℕ) (s : List ℕ) → value bounds order room end (EntryType k v) o s ≡ entry_value bounds order room end k v o s
   unfolding value entry_value
   value_entry zero end k v o s = refl
   value_entry (suc room) end k v o s = refl
 
-  pub value_array : (room end : ℕ) (t : TypeTree) (o : ℕ) (s : List ℕ) → value order room end (ArrayType t) o s ≡ array_value order room end t o s
+  pub value_array : (room end : ℕ) (t : TypeTree) (o : ℕ) (s : List ℕ) → value bounds order room end (ArrayType t) o s ≡ array_value bounds order room end t o s
   unfolding value array_value open_array array_frame
   value_array zero end t o s = refl
   value_array (suc room) end t o s =
       let e : suc room - 1 ≡ room = omega arith in
-      rw e (same_behind (padding 4 end o s) _ _ (λ x p u. framed (λ n. padding (alignment_of t) end) (λ n. array_rest order room end t n) (number order 4 end (array_row t end) p u)))
+      rw e (same_behind (padding 4 end o s) _ _ (λ x p u. framed (λ n. padding (alignment_of t) end) (λ n. array_rest bounds order room end t n) (number order 4 end (array_row bounds t end) p u)))
 
 -- ---- containers
 
@@ -100,62 +101,62 @@ module _ {A : Type 0} (a end room : ℕ) (inner : Reader A) (o : ℕ) (s : List 
     boxed_opens : 0 < room → after (padding a end o s) (λ _. opened room inner) ≡ inner p u
     boxed_opens h = rw padded (ap (λ (m : Reader A). m p u) (is_open room h))
 
-module _ (order : Order) (room end o : ℕ) (s : List ℕ) where
-  pub variant_too_deep : room ≡ 0 → variant_value order room end o s ≡ Faulty (fault o reasons.TooDeep)
+module _ (bounds : Bounds) (order : Order) (room end o : ℕ) (s : List ℕ) where
+  pub variant_too_deep : room ≡ 0 → variant_value bounds order room end o s ≡ Faulty (fault o reasons.TooDeep)
   unfolding variant_value
   variant_too_deep e = rw e refl
 
-  pub variant_opens : 0 < room → variant_value order room end o s ≡ held_value order (room - 1) end o s
+  pub variant_opens : 0 < room → variant_value bounds order room end o s ≡ held_value bounds order (room - 1) end o s
   unfolding variant_value
-  variant_opens h = ap (λ (m : Reader ValueTree). m o s) (is_open 1 end room (held_value order (room - 1) end) o s room h)
+  variant_opens h = ap (λ (m : Reader ValueTree). m o s) (is_open 1 end room (held_value bounds order (room - 1) end) o s room h)
 
   module _ (t : TypeTree) where
-    pub array_stops : (e : Stop) → Stops e (padding 4 end o s) → Stops e (array_value order room end t o s)
+    pub array_stops : (e : Stop) → Stops e (padding 4 end o s) → Stops e (array_value bounds order room end t o s)
     unfolding array_value
-    array_stops e h = boxed_stops 4 end room (open_array order (room - 1) end t) o s e h
+    array_stops e h = boxed_stops 4 end room (open_array bounds order (room - 1) end t) o s e h
 
     module _ (p : ℕ) (u : List ℕ) (padded : padding 4 end o s ≡ Done tt p u) where
-      pub array_too_deep : room ≡ 0 → array_value order room end t o s ≡ Faulty (fault p reasons.TooDeep)
+      pub array_too_deep : room ≡ 0 → array_value bounds order room end t o s ≡ Faulty (fault p reasons.TooDeep)
       unfolding array_value
-      array_too_deep e = boxed_too_deep 4 end room (open_array order (room - 1) end t) o s p u padded e
+      array_too_deep e = boxed_too_deep 4 end room (open_array bounds order (room - 1) end t) o s p u padded e
 
-      pub array_opens : 0 < room → array_value order room end t o s ≡ open_array order (room - 1) end t p u
+      pub array_opens : 0 < room → array_value bounds order room end t o s ≡ open_array bounds order (room - 1) end t p u
       unfolding array_value
-      array_opens h = boxed_opens 4 end room (open_array order (room - 1) end t) o s p u padded h
+      array_opens h = boxed_opens 4 end room (open_array bounds order (room - 1) end t) o s p u padded h
 
-    pub open_stops_frame : (e : Stop) → Stops e (array_frame order end t o s) → Stops e (open_array order room end t o s)
+    pub open_stops_frame : (e : Stop) → Stops e (array_frame bounds order end t o s) → Stops e (open_array bounds order room end t o s)
     unfolding open_array
-    open_stops_frame e h = stops_after e (array_frame order end t o s) _ h
+    open_stops_frame e h = stops_after e (array_frame bounds order end t o s) _ h
 
-    module _ (n p : ℕ) (u : List ℕ) (framed : array_frame order end t o s ≡ Done n p u) where
-      pub open_stops_contents : (e : Stop) → Stops e (contents n (λ end before. value order room end t) p u) → Stops e (open_array order room end t o s)
+    module _ (n p : ℕ) (u : List ℕ) (framed : array_frame bounds order end t o s ≡ Done n p u) where
+      pub open_stops_contents : (e : Stop) → Stops e (contents n (λ end before. value bounds order room end t) p u) → Stops e (open_array bounds order room end t o s)
       unfolding open_array
-      open_stops_contents e h = rw framed (stops_after e (contents n (λ end before. value order room end t) p u) _ h)
+      open_stops_contents e h = rw framed (stops_after e (contents n (λ end before. value bounds order room end t) p u) _ h)
 
-      pub open_done : (xs : List ValueTree) (q : ℕ) (r : List ℕ) → contents n (λ end before. value order room end t) p u ≡ Done xs q r → open_array order room end t o s ≡ Done (ArrayValue t (value_trees xs)) q r
+      pub open_done : (xs : List ValueTree) (q : ℕ) (r : List ℕ) → contents n (λ end before. value bounds order room end t) p u ≡ Done xs q r → open_array bounds order room end t o s ≡ Done (ArrayValue t (value_trees xs)) q r
       unfolding open_array
       open_done xs q r h = rw (framed, h) refl
 
   module _ (ts : TypeTrees) where
-    pub struct_stops : (e : Stop) → Stops e (padding 8 end o s) → Stops e (struct_value order room end ts o s)
+    pub struct_stops : (e : Stop) → Stops e (padding 8 end o s) → Stops e (struct_value bounds order room end ts o s)
     unfolding struct_value
-    struct_stops e h = boxed_stops 8 end room (open_struct order (room - 1) end ts) o s e h
+    struct_stops e h = boxed_stops 8 end room (open_struct bounds order (room - 1) end ts) o s e h
 
     module _ (p : ℕ) (u : List ℕ) (padded : padding 8 end o s ≡ Done tt p u) where
-      pub struct_too_deep : room ≡ 0 → struct_value order room end ts o s ≡ Faulty (fault p reasons.TooDeep)
+      pub struct_too_deep : room ≡ 0 → struct_value bounds order room end ts o s ≡ Faulty (fault p reasons.TooDeep)
       unfolding struct_value
-      struct_too_deep e = boxed_too_deep 8 end room (open_struct order (room - 1) end ts) o s p u padded e
+      struct_too_deep e = boxed_too_deep 8 end room (open_struct bounds order (room - 1) end ts) o s p u padded e
 
       module _ (h : 0 < room) where
-        struct_opens : struct_value order room end ts o s ≡ open_struct order (room - 1) end ts p u
+        struct_opens : struct_value bounds order room end ts o s ≡ open_struct bounds order (room - 1) end ts p u
         unfolding struct_value
-        struct_opens = boxed_opens 8 end room (open_struct order (room - 1) end ts) o s p u padded h
+        struct_opens = boxed_opens 8 end room (open_struct bounds order (room - 1) end ts) o s p u padded h
 
-        pub struct_stops_fields : (e : Stop) → Stops e (fields (value order (room - 1) end) ts p u) → Stops e (struct_value order room end ts o s)
+        pub struct_stops_fields : (e : Stop) → Stops e (fields (value bounds order (room - 1) end) ts p u) → Stops e (struct_value bounds order room end ts o s)
         unfolding open_struct
-        struct_stops_fields e f = rw struct_opens (stops_after e (fields (value order (room - 1) end) ts p u) _ f)
+        struct_stops_fields e f = rw struct_opens (stops_after e (fields (value bounds order (room - 1) end) ts p u) _ f)
 
-        pub struct_done : (xs : ValueTrees) (q : ℕ) (r : List ℕ) → fields (value order (room - 1) end) ts p u ≡ Done xs q r → struct_value order room end ts o s ≡ Done (StructValue xs) q r
+        pub struct_done : (xs : ValueTrees) (q : ℕ) (r : List ℕ) → fields (value bounds order (room - 1) end) ts p u ≡ Done xs q r → struct_value bounds order room end ts o s ≡ Done (StructValue xs) q r
         unfolding open_struct
         struct_done xs q r f = rw (struct_opens, f) refl
 
@@ -163,6 +164,11 @@ module _ (order : Order) (room end o : ℕ) (s : List ℕ) where
 
 abbrev pub with_front : {A : Type 0} → List A → Outcome (List A) → Outcome (List A)
 with_front front read = after read (λ us. pure (front ++ us))
+
+pub front_none : {A : Type 0} (read : Outcome (List A)) → with_front [] read ≡ read
+front_none (Done us q r) = refl
+front_none (Faulty f) = refl
+front_none Partial = refl
 
 module _ {A : Type 0} (run : Reader A) (end : ℕ) where
   same_before : (turns : ℕ) (a b : List A) (o : ℕ) (s : List ℕ) → up_to turns end (λ before. run) a o s ≡ up_to turns end (λ before. run) b o s
@@ -259,11 +265,11 @@ pub record EndsBehind (at end : ℕ) (bytes : List ℕ) (q : ℕ) : Type 0 where
   pub at_most : q ≤ end
   pub inside : q ≤ length bytes
 
-pub value_moves : (order : Order) (room end : ℕ) (t : TypeTree) (at : ℕ) (bytes : List ℕ) (v : ValueTree) (q : ℕ) → IsShaped true t → IsBytes (drop at bytes) → at ≤ length bytes
-    → value order room end t at (drop at bytes) ≡ Done v q (drop q bytes) → EndsBehind at end bytes q
-value_moves order room end t at bytes v q shaped are inside h =
-    let spelled = (reads_spelled order room end true t at (drop at bytes) v q (drop q bytes) shaped are).0 h in
-    let some = positive order v true at (subst (λ (u : TypeTree). IsShaped true u) (sym spelled.has_type) shaped) in
+pub value_moves : (bounds : Bounds) (order : Order) (room end : ℕ) (t : TypeTree) (at : ℕ) (bytes : List ℕ) (v : ValueTree) (q : ℕ) → IsShaped true t → IsBytes (drop at bytes) → at ≤ length bytes
+    → value bounds order room end t at (drop at bytes) ≡ Done v q (drop q bytes) → EndsBehind at end bytes q
+value_moves bounds order room end t at bytes v q shaped are inside h =
+    let spelled = (reads_spelled bounds order room end true t at (drop at bytes) v q (drop q bytes) shaped are).0 h in
+    let some = positive bounds order v true at (subst (λ (u : TypeTree). IsShaped true u) (sym spelled.has_type) shaped) in
     let place : q ≡ at + length (spelling order at v) = spelled.place in
     let long = ap length spelled.bytes ∙ length-append (spelling order at v) (drop q bytes) in
     record { moves = omega arith; at_most = spelled.bound; inside = omega (arith, length-drop at bytes) }
@@ -303,15 +309,15 @@ module _ {A : Type 0} where
 
 -- ---- from what is computed to what the relations say
 
-module _ (order : Order) (room end : ℕ) (t : TypeTree) (at : ℕ) (bytes : List ℕ) (shaped : IsShaped true t) (are : IsBytes (drop at bytes)) where
-  pub gets_done : (v : ValueTree) (q : ℕ) → value order room end t at (drop at bytes) ≡ Done v q (drop q bytes) → Spelled order room end t at (drop at bytes) v q (drop q bytes)
-  gets_done v q h = (reads_spelled order room end true t at (drop at bytes) v q (drop q bytes) shaped are).0 h
+module _ (bounds : Bounds) (order : Order) (room end : ℕ) (t : TypeTree) (at : ℕ) (bytes : List ℕ) (shaped : IsShaped true t) (are : IsBytes (drop at bytes)) where
+  pub gets_done : (v : ValueTree) (q : ℕ) → value bounds order room end t at (drop at bytes) ≡ Done v q (drop q bytes) → Spelled bounds order room end t at (drop at bytes) v q (drop q bytes)
+  gets_done v q h = (reads_spelled bounds order room end true t at (drop at bytes) v q (drop q bytes) shaped are).0 h
 
-  pub gets_partial : value order room end t at (drop at bytes) ≡ Partial → IsValuePartial order room end t at (drop at bytes)
+  pub gets_partial : value bounds order room end t at (drop at bytes) ≡ Partial → IsValuePartial bounds order room end t at (drop at bytes)
   gets_partial h = record {
-    not_spelled = λ v q r spelled. let e = (reads_spelled order room end true t at (drop at bytes) v q r shaped are).1 spelled in let d = sym h ∙ e in absurd cc;
-    not_refused = λ f refused. let e = (reads_faults order room end true t at (drop at bytes) f shaped are).1 refused in let d = sym h ∙ e in absurd cc;
+    not_spelled = λ v q r spelled. let e = (reads_spelled bounds order room end true t at (drop at bytes) v q r shaped are).1 spelled in let d = sym h ∙ e in absurd cc;
+    not_refused = λ f refused. let e = (reads_faults bounds order room end true t at (drop at bytes) f shaped are).1 refused in let d = sym h ∙ e in absurd cc;
   }
 
-  pub gets_refused : (f : Fault) → value order room end t at (drop at bytes) ≡ Faulty f → (items.value order room end t).Refused at (drop at bytes) f
-  gets_refused f h = (reads_faults order room end true t at (drop at bytes) f shaped are).0 h
+  pub gets_refused : (f : Fault) → value bounds order room end t at (drop at bytes) ≡ Faulty f → (items.value bounds order room end t).Refused at (drop at bytes) f
+  gets_refused f h = (reads_faults bounds order room end true t at (drop at bytes) f shaped are).0 h

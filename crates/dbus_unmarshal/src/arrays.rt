@@ -4,6 +4,7 @@
 ghost use Rattle.std.specs.Prelude.{◌≢◌, ◌≡◌, ℕ, ◌+◌, ◌≤◌, length, drop, map, IfOk, IfErr};
 ghost use Rattle.dbus_types.specs.Types.{NumberType, BYTE};
 ghost use Rattle.dbus_types.specs.SigTypes.{type_tree};
+ghost use Rattle.dbus_value_model.specs.declared.limits.Bounds.{Bounds};
 ghost use Rattle.dbus_value_model.specs.declared.order.Order.{Order};
 ghost use Rattle.dbus_value_model.specs.Values.{NumberValue};
 ghost use Rattle.dbus_value_model.specs.Reading.{contents, value};
@@ -13,25 +14,28 @@ ghost use Rattle.dbus_value_model.specs.Gives.{Gives};
 
 use crate::items::{read_padding, read_u32};
 use dbus_types::{SigType, alignment};
-use dbus_value_model::{ARRAY_LIMIT, Order, Reason, Stop, padding_length, refuse};
+use dbus_value_model::{Bounds, Order, Reason, Stop, padding_length, refuse};
 use std::alloc::Allocator;
 
 /// The length of an array's elements in bytes, and the place of the first one, behind its padding.
+///
+/// `ArrayTooLong` at the length where it is over the bounds' array, else `Overrun` where the elements end past the end.
 pub fn read_frame<A: Allocator>(
     bytes: &[u8],
     at: usize,
     end: usize,
     order: Order,
     item: &SigType<A>,
+    bounds: Bounds,
 ) -> Result<(usize, usize), Stop>
     requires at_most { at ≤ end }
     requires inside { at ≤ length bytes.now }
-    ensures gives { Gives (λ x. x) bytes.now result (array_frame order end (type_tree item.now) at (drop at bytes.now)) }
+    ensures gives { Gives (λ x. x) bytes.now result (array_frame bounds order end (type_tree item.now) at (drop at bytes.now)) }
     ensures moves { IfOk result (λ x. (at ≤ x.1) × (x.1 + x.0 ≤ end) × (x.1 ≤ length bytes.now)) }
     ensures no_memory { IfErr result (λ e. e ≢ Memory) }
 {
     let (n, behind) = read_u32(bytes, at, end, order)?;
-    if n > ARRAY_LIMIT {
+    if n > bounds.array {
         return refuse(at, Reason::ArrayTooLong);
     }
     let n = n as usize;
@@ -52,7 +56,7 @@ pub fn read_bytes<A: Allocator>(
     n: usize,
 ) -> Result<Vec<u8, A>, Stop>
     requires inside { at ≤ length bytes.now }
-    ensures { (order : Order) (room : ℕ) → Gives (λ v. (map (NumberValue BYTE) v.items, at + n)) bytes.now result (contents n (λ end before. value order room end (NumberType BYTE)) at (drop at bytes.now)) }
+    ensures { (bounds : Bounds) (order : Order) (room : ℕ) → Gives (λ v. (map (NumberValue BYTE) v.items, at + n)) bytes.now result (contents n (λ end before. value bounds order room end (NumberType BYTE)) at (drop at bytes.now)) }
 {
     let rest = &bytes[at..];
     if rest.len() < n {

@@ -10,6 +10,7 @@ ghost use Rattle.dbus_value_model.specs.Reading.{contents, fields, value};
 ghost use Rattle.dbus_value_model.specs.ValueReaders.{held_value, variant_value, open_array, array_value, open_struct, struct_value, entry_value};
 ghost use Rattle.dbus_value_model.specs.Gives.{Gives};
 ghost use Rattle.dbus_value_model.specs.Gets.{Gets};
+ghost use Rattle.dbus_value_model.specs.Specification.{specification, bounds_of};
 ghost use Rattle.dbus_value_model.specs.declared.limits.TheConstants.{DEPTH_LIMIT};
 
 use crate::arrays::{read_bytes, read_frame};
@@ -20,16 +21,11 @@ use crate::number_values::{
 use crate::text_values::{get_path, get_sig, get_str};
 use crate::texts::read_signature;
 use dbus_types::{SigType, copy_type};
-use dbus_value_model::{DEPTH_LIMIT, Got, Order, Reason, Refusal, Stop, Value, refuse};
+use dbus_value_model::{Bounds, Got, Limits, Order, Reason, Refusal, Stop, Value, refuse};
 use std::alloc::Allocator;
 
-/// The value of a type that stands at a place, and the place behind it.
-///
-/// `bytes` begin at the message's first byte, from which padding counts; the value begins at `at` and ends at or
-/// before `end`, and `depth` containers are open around it. `Partial` comes where the bytes end within the value and
-/// show no fault. A refusal is `Format` with the first fault of the bytes, or `Memory` where a growth was refused. An
-/// array of BYTE comes as `Bytes`, also within the value.
-/// D-Bus Specification, "Marshaling (Wire Format)".
+/// The value of a type that stands at a place, and the place behind it, as [`get_within`] says under the limits of the
+/// specification.
 pub fn get<A: Allocator + Copy>(
     alloc: A,
     bytes: &[u8],
@@ -43,10 +39,55 @@ pub fn get<A: Allocator + Copy>(
     requires inside { at ≤ length bytes.now }
     requires open { depth ≤ DEPTH_LIMIT }
     requires single { IsSingleType (type_tree wanted.now) }
-    ensures gets { Gets order (DEPTH_LIMIT - depth) end (type_tree wanted.now) at bytes.now result }
+    ensures gets { Gets (bounds_of specification) order (DEPTH_LIMIT - depth) end (type_tree wanted.now) at bytes.now result }
     ensures packed { IfOk result KeepsBytes }
 {
-    match read_value(alloc, bytes, at, end, order, wanted, DEPTH_LIMIT - depth) {
+    get_within(
+        alloc,
+        bytes,
+        at,
+        end,
+        order,
+        wanted,
+        depth,
+        Limits::specification(),
+    )
+}
+
+/// The value of a type that stands at a place, and the place behind it.
+///
+/// `bytes` begin at the message's first byte, from which padding counts; the value begins at `at` and ends at or
+/// before `end`, and `depth` containers are open around it, at most the limits' depth. `Partial` comes where the bytes end
+/// within the value and show no fault. A refusal is `Format` with the first fault of the bytes, or `Memory` where a growth
+/// was refused. An array of BYTE comes as `Bytes`, also within the value.
+/// D-Bus Specification, "Marshaling (Wire Format)".
+pub fn get_within<A: Allocator + Copy>(
+    alloc: A,
+    bytes: &[u8],
+    at: usize,
+    end: usize,
+    order: Order,
+    wanted: &SigType<A>,
+    depth: u8,
+    limits: Limits,
+) -> Result<Got<A>, Refusal>
+    requires at_most { at ≤ end }
+    requires inside { at ≤ length bytes.now }
+    requires open { depth ≤ limits.depth }
+    requires single { IsSingleType (type_tree wanted.now) }
+    ensures gets { Gets (bounds_of limits) order (limits.depth - depth) end (type_tree wanted.now) at bytes.now result }
+    ensures packed { IfOk result KeepsBytes }
+{
+    match read_value(
+        alloc,
+        bytes,
+        at,
+        end,
+        order,
+        wanted,
+        limits.depth - depth,
+        limits.bounds(),
+    ) {
         Ok((value, next)) => Ok(Got::Done(value, next)),
         Err(Stop::Partial) => Ok(Got::Partial),
         Err(Stop::Memory) => Err(Refusal::Memory),
@@ -64,11 +105,12 @@ fn read_value<A: Allocator + Copy>(
     order: Order,
     wanted: &SigType<A>,
     room: u8,
+    bounds: Bounds,
 ) -> Result<(Value<A>, usize), Stop>
     requires at_most { at ≤ end }
     requires inside { at ≤ length bytes.now }
     requires shaped { IsShaped true (type_tree wanted.now) }
-    ensures gives { Gives (λ x. (value_tree x.0, x.1)) bytes.now result (value order room end (type_tree wanted.now) at (drop at bytes.now)) }
+    ensures gives { Gives (λ x. (value_tree x.0, x.1)) bytes.now result (value bounds order room end (type_tree wanted.now) at (drop at bytes.now)) }
     ensures packed { IfOk result (λ x. IsTrue (keeps_bytes x.0)) }
 {
     match wanted {
@@ -85,10 +127,12 @@ fn read_value<A: Allocator + Copy>(
         SigType::Str => get_str(alloc, bytes, at, end, order),
         SigType::Path => get_path(alloc, bytes, at, end, order),
         SigType::Sig => get_sig(alloc, bytes, at, end),
-        SigType::Variant => read_variant(alloc, bytes, at, end, order, room),
-        SigType::Array(item) => read_array(alloc, bytes, at, end, order, item, room),
-        SigType::Struct(types) => read_struct(alloc, bytes, at, end, order, types, room),
-        SigType::Entry(key, value) => read_entry(alloc, bytes, at, end, order, key, value, room),
+        SigType::Variant => read_variant(alloc, bytes, at, end, order, room, bounds),
+        SigType::Array(item) => read_array(alloc, bytes, at, end, order, item, room, bounds),
+        SigType::Struct(types) => read_struct(alloc, bytes, at, end, order, types, room, bounds),
+        SigType::Entry(key, value) => read_entry(
+            alloc, bytes, at, end, order, key, value, room, bounds,
+        ),
     }
 }
 
@@ -101,16 +145,17 @@ fn read_variant<A: Allocator + Copy>(
     end: usize,
     order: Order,
     room: u8,
+    bounds: Bounds,
 ) -> Result<(Value<A>, usize), Stop>
     requires at_most { at ≤ end }
     requires inside { at ≤ length bytes.now }
-    ensures gives { Gives (λ x. (value_tree x.0, x.1)) bytes.now result (variant_value order room end at (drop at bytes.now)) }
+    ensures gives { Gives (λ x. (value_tree x.0, x.1)) bytes.now result (variant_value bounds order room end at (drop at bytes.now)) }
     ensures packed { IfOk result (λ x. IsTrue (keeps_bytes x.0)) }
 {
     if room == 0 {
         return refuse(at, Reason::TooDeep);
     }
-    read_held(alloc, bytes, at, end, order, room - 1)
+    read_held(alloc, bytes, at, end, order, room - 1, bounds)
 }
 
 /// What a variant that is open has: a signature, and a value of its type.
@@ -123,16 +168,17 @@ fn read_held<A: Allocator + Copy>(
     end: usize,
     order: Order,
     room: u8,
+    bounds: Bounds,
 ) -> Result<(Value<A>, usize), Stop>
     requires at_most { at ≤ end }
     requires inside { at ≤ length bytes.now }
-    ensures gives { Gives (λ x. (value_tree x.0, x.1)) bytes.now result (held_value order room end at (drop at bytes.now)) }
+    ensures gives { Gives (λ x. (value_tree x.0, x.1)) bytes.now result (held_value bounds order room end at (drop at bytes.now)) }
     ensures packed { IfOk result (λ x. IsTrue (keeps_bytes x.0)) }
 {
     let (n, start) = read_short_length(bytes, at, end)?;
     let (held, behind) = read_signature(alloc, bytes, start, n)?;
     let first = read_nul(bytes, behind)?;
-    let (value, next) = read_value(alloc, bytes, first, end, order, &held, room)?;
+    let (value, next) = read_value(alloc, bytes, first, end, order, &held, room, bounds)?;
     Ok((Value::Variant(Box::new(alloc, value)?), next))
 }
 
@@ -146,18 +192,19 @@ fn read_array<A: Allocator + Copy>(
     order: Order,
     item: &SigType<A>,
     room: u8,
+    bounds: Bounds,
 ) -> Result<(Value<A>, usize), Stop>
     requires at_most { at ≤ end }
     requires inside { at ≤ length bytes.now }
     requires shaped { IsShaped true (type_tree item.now) }
-    ensures gives { Gives (λ x. (value_tree x.0, x.1)) bytes.now result (array_value order room end (type_tree item.now) at (drop at bytes.now)) }
+    ensures gives { Gives (λ x. (value_tree x.0, x.1)) bytes.now result (array_value bounds order room end (type_tree item.now) at (drop at bytes.now)) }
     ensures packed { IfOk result (λ x. IsTrue (keeps_bytes x.0)) }
 {
     let start = read_padding(bytes, at, end, 4)?;
     if room == 0 {
         return refuse(start, Reason::TooDeep);
     }
-    read_open_array(alloc, bytes, start, end, order, item, room - 1)
+    read_open_array(alloc, bytes, start, end, order, item, room - 1, bounds)
 }
 
 /// What an array that is open has: its length, and elements up to its end.
@@ -170,19 +217,20 @@ fn read_open_array<A: Allocator + Copy>(
     order: Order,
     item: &SigType<A>,
     room: u8,
+    bounds: Bounds,
 ) -> Result<(Value<A>, usize), Stop>
     requires at_most { at ≤ end }
     requires inside { at ≤ length bytes.now }
     requires shaped { IsShaped true (type_tree item.now) }
-    ensures gives { Gives (λ x. (value_tree x.0, x.1)) bytes.now result (open_array order room end (type_tree item.now) at (drop at bytes.now)) }
+    ensures gives { Gives (λ x. (value_tree x.0, x.1)) bytes.now result (open_array bounds order room end (type_tree item.now) at (drop at bytes.now)) }
     ensures packed { IfOk result (λ x. IsTrue (keeps_bytes x.0)) }
 {
-    let (n, first) = read_frame(bytes, at, end, order, item)?;
+    let (n, first) = read_frame(bytes, at, end, order, item, bounds)?;
     if let SigType::Byte = item {
         let contents = read_bytes(alloc, bytes, first, n)?;
         return Ok((Value::Bytes(contents), first + n));
     }
-    let values = read_items(alloc, bytes, first, n, order, item, room)?;
+    let values = read_items(alloc, bytes, first, n, order, item, room, bounds)?;
     Ok((Value::Array(copy_type(alloc, item)?, values), first + n))
 }
 
@@ -196,18 +244,19 @@ fn read_items<A: Allocator + Copy>(
     order: Order,
     item: &SigType<A>,
     room: u8,
+    bounds: Bounds,
 ) -> Result<Vec<Value<A>, A>, Stop>
     requires fits { at + n < 2 ^ 64 }
     requires inside { at ≤ length bytes.now }
     requires shaped { IsShaped true (type_tree item.now) }
-    ensures gives { Gives (λ x. (map value_tree x.items, at + n)) bytes.now result (contents n (λ end before. value order room end (type_tree item.now)) at (drop at bytes.now)) }
+    ensures gives { Gives (λ x. (map value_tree x.items, at + n)) bytes.now result (contents n (λ end before. value bounds order room end (type_tree item.now)) at (drop at bytes.now)) }
     ensures packed { IfOk result (λ x. IsTrue (keep_bytes x.items)) }
 {
     let end = at + n;
     let mut values = Vec::new(alloc);
     let mut place = at;
     while place < end {
-        let (value, next) = read_value(alloc, bytes, place, end, order, item, room)?;
+        let (value, next) = read_value(alloc, bytes, place, end, order, item, room, bounds)?;
         values.push(value)?;
         place = next;
     }
@@ -224,18 +273,19 @@ fn read_struct<A: Allocator + Copy>(
     order: Order,
     types: &[SigType<A>],
     room: u8,
+    bounds: Bounds,
 ) -> Result<(Value<A>, usize), Stop>
     requires at_most { at ≤ end }
     requires inside { at ≤ length bytes.now }
     requires shaped { AreShaped (type_trees_of types.now) }
-    ensures gives { Gives (λ x. (value_tree x.0, x.1)) bytes.now result (struct_value order room end (type_trees_of types.now) at (drop at bytes.now)) }
+    ensures gives { Gives (λ x. (value_tree x.0, x.1)) bytes.now result (struct_value bounds order room end (type_trees_of types.now) at (drop at bytes.now)) }
     ensures packed { IfOk result (λ x. IsTrue (keeps_bytes x.0)) }
 {
     let first = read_padding(bytes, at, end, 8)?;
     if room == 0 {
         return refuse(first, Reason::TooDeep);
     }
-    let (values, next) = read_fields(alloc, bytes, first, end, order, types, room - 1)?;
+    let (values, next) = read_fields(alloc, bytes, first, end, order, types, room - 1, bounds)?;
     Ok((Value::Struct(values), next))
 }
 
@@ -249,17 +299,18 @@ fn read_fields<A: Allocator + Copy>(
     order: Order,
     types: &[SigType<A>],
     room: u8,
+    bounds: Bounds,
 ) -> Result<(Vec<Value<A>, A>, usize), Stop>
     requires at_most { at ≤ end }
     requires inside { at ≤ length bytes.now }
     requires shaped { AreShaped (type_trees_of types.now) }
-    ensures gives { Gives (λ x. (value_trees_of x.0.items, x.1)) bytes.now result (fields (value order room end) (type_trees_of types.now) at (drop at bytes.now)) }
+    ensures gives { Gives (λ x. (value_trees_of x.0.items, x.1)) bytes.now result (fields (value bounds order room end) (type_trees_of types.now) at (drop at bytes.now)) }
     ensures packed { IfOk result (λ x. IsTrue (keep_bytes x.0.items)) }
 {
     let mut values = Vec::new(alloc);
     let mut place = at;
     for wanted in types {
-        let (value, next) = read_value(alloc, bytes, place, end, order, wanted, room)?;
+        let (value, next) = read_value(alloc, bytes, place, end, order, wanted, room, bounds)?;
         values.push(value)?;
         place = next;
     }
@@ -278,16 +329,17 @@ fn read_entry<A: Allocator + Copy>(
     key: &SigType<A>,
     value: &SigType<A>,
     room: u8,
+    bounds: Bounds,
 ) -> Result<(Value<A>, usize), Stop>
     requires at_most { at ≤ end }
     requires inside { at ≤ length bytes.now }
     requires key_shaped { IsShaped true (type_tree key.now) }
     requires value_shaped { IsShaped true (type_tree value.now) }
-    ensures gives { Gives (λ x. (value_tree x.0, x.1)) bytes.now result (entry_value order room end (type_tree key.now) (type_tree value.now) at (drop at bytes.now)) }
+    ensures gives { Gives (λ x. (value_tree x.0, x.1)) bytes.now result (entry_value bounds order room end (type_tree key.now) (type_tree value.now) at (drop at bytes.now)) }
     ensures packed { IfOk result (λ x. IsTrue (keeps_bytes x.0)) }
 {
     let start = read_padding(bytes, at, end, 8)?;
-    let (k, behind) = read_value(alloc, bytes, start, end, order, key, room)?;
-    let (v, next) = read_value(alloc, bytes, behind, end, order, value, room)?;
+    let (k, behind) = read_value(alloc, bytes, start, end, order, key, room, bounds)?;
+    let (v, next) = read_value(alloc, bytes, behind, end, order, value, room, bounds)?;
     Ok((Value::Entry(Box::new(alloc, k)?, Box::new(alloc, v)?), next))
 }

@@ -5,9 +5,9 @@
 //! (`dbus_marshal`) and reading, with its laws (`dbus_unmarshal`).
 #![tactic(auto)]
 
-pub use dbus_marshal::{put, size_after};
-pub use dbus_unmarshal::{get, laws};
+pub use dbus_marshal::{put, put_within, size_after, size_after_within};
+pub use dbus_unmarshal::{get, get_within, laws};
 pub use dbus_value_model::{
-    Fault, Got, Order, Reason, Refusal, Value, ValueFault, check_value, copy, plain_type_of,
-    type_of,
+    ARRAY_LIMIT, DEPTH_LIMIT, Fault, Got, Limits, MESSAGE_LIMIT, Order, Reason, Refusal, Value,
+    ValueFault, check_value, check_value_within, copy, plain_type_of, type_of,
 };

@@ -6,7 +6,8 @@ use Rattle.dbus_value_model.specs.declared.order.Order.TheVariants.{Little, Big}
 use Rattle.dbus_value_model.specs.declared.fault.Reason.TheVariants as reasons
 use Rattle.dbus_value_model.specs.Values.{ValueTree, NoValues, MoreValues, NumberValue, VariantValue, ArrayValue, StructValue, EntryValue}
 use Rattle.dbus_value_model.specs.Bytes.{gap_to, num, low_first}
-use Rattle.dbus_value_model.specs.Spelling.{spelling, spellings, array_limit}
+use Rattle.dbus_value_model.specs.Specification.{specification, bounds_of}
+use Rattle.dbus_value_model.specs.Spelling.{spelling, spellings}
 use Rattle.dbus_value_model.specs.Items.{fault}
 use Rattle.dbus_value_model.specs.Reading.{Outcome, Done, Faulty, Partial, padding, number, number_of, value}
 
@@ -49,20 +50,20 @@ struct_from_one = refl
 -- reading the array at the start, with so many containers left to open and an end
 
 abbrev read_five : ℕ → ℕ → List ℕ → Outcome ValueTree
-read_five room end bytes = value Little room end (ArrayType (NumberType UINT64)) 0 bytes
+read_five room end bytes = value (bounds_of specification) Little room end (ArrayType (NumberType UINT64)) 0 bytes
 
 array_read_back : read_five 64 16 (8 ∷ 0 ∷ 0 ∷ 0 ∷ 0 ∷ 0 ∷ 0 ∷ 0 ∷ 5 ∷ 0 ∷ 0 ∷ 0 ∷ 0 ∷ 0 ∷ 0 ∷ 0 ∷ []) ≡ Done five 16 []
-unfolding value padding number number_of gap_to array_limit
+unfolding value padding number number_of gap_to
 array_read_back = refl
 
 array_without_its_last_byte : read_five 64 16 (8 ∷ 0 ∷ 0 ∷ 0 ∷ 0 ∷ 0 ∷ 0 ∷ 0 ∷ 5 ∷ 0 ∷ 0 ∷ 0 ∷ 0 ∷ 0 ∷ 0 ∷ []) ≡ Partial
-unfolding value padding number number_of gap_to array_limit
+unfolding value padding number number_of gap_to
 array_without_its_last_byte = refl
 
 array_past_its_end : read_five 64 15 (8 ∷ 0 ∷ 0 ∷ 0 ∷ 0 ∷ 0 ∷ 0 ∷ 0 ∷ 5 ∷ 0 ∷ 0 ∷ 0 ∷ 0 ∷ 0 ∷ 0 ∷ 0 ∷ []) ≡ Faulty (fault 0 reasons.Overrun)
-unfolding value padding number number_of gap_to array_limit
+unfolding value padding number number_of gap_to
 array_past_its_end = refl
 
 array_too_deep : read_five 0 16 (8 ∷ []) ≡ Faulty (fault 0 reasons.TooDeep)
-unfolding value padding number number_of gap_to array_limit
+unfolding value padding number number_of gap_to
 array_too_deep = refl

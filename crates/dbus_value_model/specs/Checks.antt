@@ -6,7 +6,7 @@ use Rattle.dbus_value_model.specs.Values.{type_of}
 use Rattle.dbus_value_model.specs.Forming.{NestsWithin, IsUniform, IsNamed}
 use Rattle.dbus_value_model.specs.PackedBytes.{keeps_bytes}
 use Rattle.dbus_value_model.specs.ValueViews.{value_tree}
-use Rattle.dbus_value_model.specs.declared.limits.TheConstants.{DEPTH_LIMIT}
+use Rattle.dbus_value_model.specs.declared.limits.Limits.{Limits}
 use Rattle.dbus_value_model.specs.declared.value.Value.{Value}
 use Rattle.dbus_value_model.specs.declared.value_fault.ValueFault.{ValueFault}
 use Rattle.dbus_value_model.specs.declared.value_fault.ValueFault.TheVariants.{Memory, TooDeep, Mixed, Name, ArrayTooLong, TooLong}
@@ -29,6 +29,6 @@ Refuses Name room v = NestsWithin room (value_tree v) × IsTyped v × (IsNamed (
 Refuses ArrayTooLong room v = ⊥
 Refuses TooLong room v = ⊥
 
-abbrev pub Checks : {A : Type 0} → ℕ → Value A → Result (Unit {0}) ValueFault → Type 0
-Checks depth v (Ok u) = NestsWithin (DEPTH_LIMIT - depth) (value_tree v) × IsTyped v × IsNamed (value_tree v)
-Checks depth v (Err fault) = Refuses fault (DEPTH_LIMIT - depth) v
+abbrev pub Checks : {A : Type 0} → Limits → ℕ → Value A → Result (Unit {0}) ValueFault → Type 0
+Checks limits depth v (Ok u) = NestsWithin (limits.depth - depth) (value_tree v) × IsTyped v × IsNamed (value_tree v)
+Checks limits depth v (Err fault) = Refuses fault (limits.depth - depth) v

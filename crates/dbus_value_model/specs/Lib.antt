@@ -20,3 +20,4 @@ pub mod Forming
 pub mod PackedBytes
 pub mod Checks
 pub mod Ranges
+pub mod Specification

@@ -4,8 +4,8 @@ use Rattle.std.specs.Prelude.{◌≡◌, ℕ, ◌+◌, ◌%◌, ◌<◌, ◌≤�
 use Rattle.dbus_types.specs.Types.{BYTE}
 use Rattle.dbus_value_model.specs.declared.order.Order.{Order}
 use Rattle.dbus_value_model.specs.declared.limits.TheConstants.{MESSAGE_LIMIT}
+use Rattle.dbus_value_model.specs.declared.limits.Limits.{Limits}
 use Rattle.dbus_value_model.specs.Values.{ValueTree, ValueTrees, NumberValue, VariantValue, StructValue, NoValues, MoreValues}
-use Rattle.dbus_value_model.specs.Sizes.{message_limit}
 use Rattle.dbus_value_model.specs.Spelling.{spelling, spellings, IsWithinLimits, AreWithinLimits}
 
 -- An offset up to the message's limit and a step to a boundary beyond is kept. Of one further out only the remainder modulo 8 is,
@@ -22,23 +22,23 @@ abbrev pub EndsAt : ℕ → Type 0 → Option ℕ → Type 0
 EndsAt e kept None = ¬ kept
 EndsAt e kept (Some p) = kept × (p ≡ capped e)
 
--- the end of a value at every offset that at stands for, in either byte order
-pub record IsMeasured (v : ValueTree) (at : ℕ) (end : Option ℕ) : Type 0 where
-  pub from : (order : Order) (o : ℕ) → capped o ≡ at → EndsAt (o + length (spelling order o v)) (IsWithinLimits order o v) end
+-- the end of a value at every offset that at stands for, in either byte order, where arrays have no more than so many bytes
+pub record IsMeasured (array : ℕ) (v : ValueTree) (at : ℕ) (end : Option ℕ) : Type 0 where
+  pub from : (order : Order) (o : ℕ) → capped o ≡ at → EndsAt (o + length (spelling order o v)) (IsWithinLimits array order o v) end
 
 -- the end of values one behind the other
-pub record AreMeasured (vs : ValueTrees) (at : ℕ) (end : Option ℕ) : Type 0 where
-  pub from : (order : Order) (o : ℕ) → capped o ≡ at → EndsAt (o + length (spellings order o vs)) (AreWithinLimits order o vs) end
+pub record AreMeasured (array : ℕ) (vs : ValueTrees) (at : ℕ) (end : Option ℕ) : Type 0 where
+  pub from : (order : Order) (o : ℕ) → capped o ≡ at → EndsAt (o + length (spellings order o vs)) (AreWithinLimits array order o vs) end
 
 -- a struct of a BYTE and a VARIANT, as each field of a message's header is
 abbrev pub coded : ℕ → ValueTree → ValueTree
 coded code x = StructValue (MoreValues (NumberValue BYTE code) (MoreValues (VariantValue x) NoValues))
 
--- An offset is within the message's limit exactly where its capped one is, and both are one offset there.
+-- An offset is within a limit on messages exactly where its capped one is, and both are one offset there.
 abbrev pub CappedTells : Type 0
-CappedTells = (o : ℕ) → ((o ≤ message_limit) ↔ (capped o ≤ message_limit)) × (o ≤ message_limit → capped o ≡ o)
+CappedTells = (limits : Limits) (o : ℕ) → ((o ≤ limits.message) ↔ (capped o ≤ limits.message)) × (o ≤ limits.message → capped o ≡ o)
 
 -- How many bytes spell a value, and whether the arrays in it keep their limit, depends on the offset modulo 8 alone.
 abbrev pub OffsetsRepeat : Type 0
-OffsetsRepeat = (order : Order) (v : ValueTree) (o p : ℕ) → o % 8 ≡ p % 8
-    → (length (spelling order o v) ≡ length (spelling order p v)) × (IsWithinLimits order o v ↔ IsWithinLimits order p v)
+OffsetsRepeat = (array : ℕ) (order : Order) (v : ValueTree) (o p : ℕ) → o % 8 ≡ p % 8
+    → (length (spelling order o v) ≡ length (spelling order p v)) × (IsWithinLimits array order o v ↔ IsWithinLimits array order p v)

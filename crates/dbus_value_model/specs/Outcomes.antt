@@ -2,6 +2,7 @@
 -- D-Bus Specification, "Marshaling (Wire Format)".
 use Rattle.std.specs.Prelude.{◌≡◌, ℕ, ◌≤◌, ◌⊎◌, List}
 use Rattle.dbus_types.specs.Types.{TypeTrees}
+use Rattle.dbus_value_model.specs.declared.limits.Bounds.{Bounds}
 use Rattle.dbus_value_model.specs.declared.order.Order.{Order}
 use Rattle.dbus_value_model.specs.Values.{ValueTrees, types_of}
 use Rattle.dbus_value_model.specs.Spelling.{SpelledAll}
@@ -9,21 +10,21 @@ use Rattle.dbus_value_model.specs.declared.fault.Fault.{Fault}
 use Rattle.dbus_value_model.specs.ValueItems.{value, fields}
 
 -- values of these types are spelled, one after another, up to q
-pub record IsDone (order : Order) (room end : ℕ) (ts : TypeTrees) (o : ℕ) (s : List ℕ) (vs : ValueTrees) (q : ℕ) (r : List ℕ) : Type 0 where
+pub record IsDone (bounds : Bounds) (order : Order) (room end : ℕ) (ts : TypeTrees) (o : ℕ) (s : List ℕ) (vs : ValueTrees) (q : ℕ) (r : List ℕ) : Type 0 where
   pub types : types_of vs ≡ ts
-  pub spelled : SpelledAll order room o s vs q r
+  pub spelled : SpelledAll bounds order room o s vs q r
   pub bound : q ≤ end
 
 -- the item that is wanted next shows a fault
-abbrev pub IsRefused : Order → ℕ → ℕ → TypeTrees → ℕ → List ℕ → Fault → Type 0
-IsRefused order room end ts o s f = (fields (value order room end) ts).Refused o s f
+abbrev pub IsRefused : Bounds → Order → ℕ → ℕ → TypeTrees → ℕ → List ℕ → Fault → Type 0
+IsRefused bounds order room end ts o s f = (fields (value bounds order room end) ts).Refused o s f
 
 -- neither
-pub record IsPartial (order : Order) (room end : ℕ) (ts : TypeTrees) (o : ℕ) (s : List ℕ) : Type 0 where
-  pub not_done : (vs : ValueTrees) (q : ℕ) (r : List ℕ) → IsDone order room end ts o s vs q r → ⊥
-  pub not_refused : (f : Fault) → IsRefused order room end ts o s f → ⊥
+pub record IsPartial (bounds : Bounds) (order : Order) (room end : ℕ) (ts : TypeTrees) (o : ℕ) (s : List ℕ) : Type 0 where
+  pub not_done : (vs : ValueTrees) (q : ℕ) (r : List ℕ) → IsDone bounds order room end ts o s vs q r → ⊥
+  pub not_refused : (f : Fault) → IsRefused bounds order room end ts o s f → ⊥
 
-abbrev pub Outcomes : Order → ℕ → ℕ → TypeTrees → ℕ → List ℕ → Type 0
-Outcomes order room end ts o s =
-    ((vs : ValueTrees) × (q : ℕ) × (r : List ℕ) × IsDone order room end ts o s vs q r)
-    ⊎ (((f : Fault) × IsRefused order room end ts o s f) ⊎ IsPartial order room end ts o s)
+abbrev pub Outcomes : Bounds → Order → ℕ → ℕ → TypeTrees → ℕ → List ℕ → Type 0
+Outcomes bounds order room end ts o s =
+    ((vs : ValueTrees) × (q : ℕ) × (r : List ℕ) × IsDone bounds order room end ts o s vs q r)
+    ⊎ (((f : Fault) × IsRefused bounds order room end ts o s f) ⊎ IsPartial bounds order room end ts o s)

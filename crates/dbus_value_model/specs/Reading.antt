@@ -7,6 +7,7 @@ use Rattle.dbus_types.specs.Types.{TypeTree, NumberType, TextType, VariantType, 
 use Rattle.dbus_types.specs.Alignments.{width, length_width, alignment_of}
 use Rattle.dbus_value_model.specs.WantedTexts.{WantedText, kind_of, is_kind, break_at, Of}
 use Rattle.dbus_types.specs.ComputedKinds.{type_spelled}
+use Rattle.dbus_value_model.specs.declared.limits.Bounds.{Bounds}
 use Rattle.dbus_value_model.specs.declared.order.Order.{Order}
 use Rattle.dbus_value_model.specs.declared.order.Order.TheVariants.{Little, Big}
 use Rattle.dbus_value_model.specs.Bytes.{gap_to}
@@ -123,44 +124,44 @@ abbrev pub opened : {A : Type 0} → (room : ℕ) → Reader A → Reader A
 opened zero within = refuse reasons.TooDeep
 opened (suc room) within = within
 
-abbrev pub items : Order → (room : ℕ) → (ℕ → TypeTree → Reader ValueTree) → ℕ → TypeTree → Reader ValueTree
-items order room inside end (NumberType k) = do
+abbrev pub items : Bounds → Order → (room : ℕ) → (ℕ → TypeTree → Reader ValueTree) → ℕ → TypeTree → Reader ValueTree
+items bounds order room inside end (NumberType k) = do
   padding (width k) end
   n ← number order (width k) end (number_row k)
   pure (NumberValue k n)
-items order room inside end (TextType k) = do
+items bounds order room inside end (TextType k) = do
   padding (length_width k) end
   n ← number order (length_width k) end (text_row end)
   t ← text (kind_of k) n
   nul
   pure (TextValue k t)
-items order room inside end VariantType = opened room (do
+items bounds order room inside end VariantType = opened room (do
   n ← number order 1 end (text_row end)
   held ← signature (Of kinds.Single) n
   nul
   x ← inside end held
   pure (VariantValue x))
-items order room inside end (ArrayType t) = do
+items bounds order room inside end (ArrayType t) = do
   padding 4 end
   opened room (do
-    n ← number order 4 end (array_row t end)
+    n ← number order 4 end (array_row bounds t end)
     padding (alignment_of t) end
     xs ← contents n (λ end before. inside end t)
     pure (ArrayValue t (value_trees xs)))
-items order room inside end (StructType ts) = do
+items bounds order room inside end (StructType ts) = do
   padding 8 end
   opened room (do
     xs ← fields (inside end) ts
     pure (StructValue xs))
-items order room inside end (EntryType k v) = do
+items bounds order room inside end (EntryType k v) = do
   padding 8 end
-  key ← items order room inside end k
-  x ← items order room inside end v
+  key ← items bounds order room inside end k
+  x ← items bounds order room inside end v
   pure (EntryValue key x)
 
 abbrev pub nowhere : ℕ → TypeTree → Reader ValueTree
 nowhere end t = refuse reasons.TooDeep
 
-unfoldable pub value : Order → (room : ℕ) → ℕ → TypeTree → Reader ValueTree
-value order zero end t = items order zero nowhere end t
-value order (suc room) end t = items order (suc room) (value order room) end t
+unfoldable pub value : Bounds → Order → (room : ℕ) → ℕ → TypeTree → Reader ValueTree
+value bounds order zero end t = items bounds order zero nowhere end t
+value bounds order (suc room) end t = items bounds order (suc room) (value bounds order room) end t

@@ -4,7 +4,7 @@ use Rattle.std.specs.Prelude.{◌≡◌, ℕ, ◌+◌, ◌≤◌, List, [], ◌�
 use Rattle.dbus_types.specs.Types.{TypeTree, sig}
 use Rattle.dbus_types.specs.Alignments.{width, length_width, alignment_of}
 use Rattle.dbus_value_model.specs.declared.order.Order.{Order}
-use Rattle.dbus_value_model.specs.declared.limits.TheConstants.{ARRAY_LIMIT}
+use Rattle.dbus_value_model.specs.declared.limits.Bounds.{Bounds}
 use Rattle.dbus_value_model.specs.Bytes.{gap_to, pad, num}
 use Rattle.dbus_value_model.specs.Values.{ValueTree, ValueTrees, NumberValue, TextValue, VariantValue, ArrayValue, StructValue, EntryValue, NoValues, MoreValues, type_of, IsWellFormed, AreWellFormed}
 
@@ -33,37 +33,33 @@ unfoldable mutual
   spellings order o NoValues = []
   spellings order o (MoreValues x xs) = let s = spelling order o x in s ++ spellings order (o + length s) xs
 
--- the limit of an array's contents
-unfoldable pub array_limit : ℕ
-array_limit = ARRAY_LIMIT
-
--- the contents of every array in it are within the limit
+-- the contents of every array in it have no more than so many bytes
 abbrev mutual
-  pub IsWithinLimits : Order → ℕ → ValueTree → Type 0
-  IsWithinLimits order o (NumberValue k n) = Unit {0}
-  IsWithinLimits order o (TextValue k t) = Unit {0}
-  IsWithinLimits order o (VariantValue x) = IsWithinLimits order (o + length (ended_text order 1 (sig (type_of x)))) x
-  IsWithinLimits order o (ArrayValue t xs) = (length (spellings order (contents_start t o) xs) ≤ array_limit) × AreWithinLimits order (contents_start t o) xs
-  IsWithinLimits order o (StructValue xs) = AreWithinLimits order (o + gap_to 8 o) xs
-  IsWithinLimits order o (EntryValue k v) = IsWithinLimits order (o + gap_to 8 o) k × IsWithinLimits order (o + gap_to 8 o + length (spelling order (o + gap_to 8 o) k)) v
+  pub IsWithinLimits : (array : ℕ) → Order → ℕ → ValueTree → Type 0
+  IsWithinLimits array order o (NumberValue k n) = Unit {0}
+  IsWithinLimits array order o (TextValue k t) = Unit {0}
+  IsWithinLimits array order o (VariantValue x) = IsWithinLimits array order (o + length (ended_text order 1 (sig (type_of x)))) x
+  IsWithinLimits array order o (ArrayValue t xs) = (length (spellings order (contents_start t o) xs) ≤ array) × AreWithinLimits array order (contents_start t o) xs
+  IsWithinLimits array order o (StructValue xs) = AreWithinLimits array order (o + gap_to 8 o) xs
+  IsWithinLimits array order o (EntryValue k v) = IsWithinLimits array order (o + gap_to 8 o) k × IsWithinLimits array order (o + gap_to 8 o + length (spelling order (o + gap_to 8 o) k)) v
 
-  pub AreWithinLimits : Order → ℕ → ValueTrees → Type 0
-  AreWithinLimits order o NoValues = Unit {0}
-  AreWithinLimits order o (MoreValues x xs) = IsWithinLimits order o x × AreWithinLimits order (o + length (spelling order o x)) xs
+  pub AreWithinLimits : (array : ℕ) → Order → ℕ → ValueTrees → Type 0
+  AreWithinLimits array order o NoValues = Unit {0}
+  AreWithinLimits array order o (MoreValues x xs) = IsWithinLimits array order o x × AreWithinLimits array order (o + length (spelling order o x)) xs
 
 -- A value of type t, well formed, is spelled at o by the front of the bytes s that stand there. It ends at q, which is
 -- not past the end, and r are the bytes from there on.
-pub record Spelled (order : Order) (room end : ℕ) (t : TypeTree) (o : ℕ) (s : List ℕ) (v : ValueTree) (q : ℕ) (r : List ℕ) : Type 0 where
+pub record Spelled (bounds : Bounds) (order : Order) (room end : ℕ) (t : TypeTree) (o : ℕ) (s : List ℕ) (v : ValueTree) (q : ℕ) (r : List ℕ) : Type 0 where
   pub has_type : type_of v ≡ t
   pub formed : IsWellFormed room v
-  pub within : IsWithinLimits order o v
+  pub within : IsWithinLimits bounds.array order o v
   pub bytes : s ≡ spelling order o v ++ r
   pub place : q ≡ o + length (spelling order o v)
   pub bound : q ≤ end
 
 -- Values one after another, each where the one before ended.
-pub record SpelledAll (order : Order) (room : ℕ) (o : ℕ) (s : List ℕ) (vs : ValueTrees) (q : ℕ) (r : List ℕ) : Type 0 where
+pub record SpelledAll (bounds : Bounds) (order : Order) (room : ℕ) (o : ℕ) (s : List ℕ) (vs : ValueTrees) (q : ℕ) (r : List ℕ) : Type 0 where
   pub formed : AreWellFormed room vs
-  pub within : AreWithinLimits order o vs
+  pub within : AreWithinLimits bounds.array order o vs
   pub bytes : s ≡ spellings order o vs ++ r
   pub place : q ≡ o + length (spellings order o vs)

@@ -4,10 +4,11 @@ use Rattle.std.specs.Prelude.{ℕ, zero, suc, ◌+◌, if◌then◌else◌, nat_
 use Rattle.dbus_types.specs.Types.{NumberCode, BYTE, BOOLEAN, INT16, UINT16, INT32, UINT32, INT64, UINT64, DOUBLE, UNIX_FD, TypeTree, NumberType, TextType, VariantType, ArrayType, StructType, EntryType, TypeTrees, NoTypes, MoreTypes}
 use Rattle.dbus_types.specs.Alignments.{width, length_width, alignment_of}
 use Rattle.dbus_value_model.specs.WantedTexts.{kind_of, Of}
+use Rattle.dbus_value_model.specs.declared.limits.Bounds.{Bounds}
 use Rattle.dbus_value_model.specs.declared.order.Order.{Order}
 use Rattle.dbus_value_model.specs.Bytes.{gap_to}
 use Rattle.dbus_value_model.specs.Values.{value_trees, ValueTrees, NoValues, MoreValues, ValueTree, NumberValue, TextValue, VariantValue, ArrayValue, StructValue, EntryValue}
-use Rattle.dbus_value_model.specs.Spelling.{Spelled, array_limit}
+use Rattle.dbus_value_model.specs.Spelling.{Spelled}
 use Rattle.dbus_value_model.specs.Items.{Item, ◌>>=◌, ◌>>◌, pure, refuse, padding, number, text, nul, signature, contents}
 use Rattle.dbus_value_model.specs.declared.fault.Reason.{Reason}
 use Rattle.dbus_value_model.specs.declared.fault.Reason.TheVariants as reasons
@@ -31,12 +32,12 @@ abbrev pub text_row : ℕ → ℕ → ℕ → Option Reason
 text_row end p n = if nat_lt end (p + n + 1) then Some reasons.Overrun else None
 
 -- an array's length
-abbrev pub array_row : TypeTree → ℕ → ℕ → ℕ → Option Reason
-array_row t end p n = if nat_lt array_limit n then Some reasons.ArrayTooLong else if nat_lt end (p + gap_to (alignment_of t) p + n) then Some reasons.Overrun else None
+abbrev pub array_row : Bounds → TypeTree → ℕ → ℕ → ℕ → Option Reason
+array_row bounds t end p n = if nat_lt bounds.array n then Some reasons.ArrayTooLong else if nat_lt end (p + gap_to (alignment_of t) p + n) then Some reasons.Overrun else None
 
 -- a part is passed where a value of its type is spelled, whole
-abbrev pub whole : Order → ℕ → ℕ → TypeTree → Item ValueTree → Item ValueTree
-whole order room end t items = record { Passed = Spelled order room end t; Refused = items.Refused }
+abbrev pub whole : Bounds → Order → ℕ → ℕ → TypeTree → Item ValueTree → Item ValueTree
+whole bounds order room end t items = record { Passed = Spelled bounds order room end t; Refused = items.Refused }
 
 abbrev pub fields : (TypeTree → Item ValueTree) → TypeTrees → Item ValueTrees
 fields part NoTypes = pure NoValues
@@ -51,45 +52,45 @@ opened zero within = refuse reasons.TooDeep
 opened (suc room) within = within
 
 -- inside end t: a part of type t within the container that is opened here
-abbrev pub items : Order → (room : ℕ) → (ℕ → TypeTree → Item ValueTree) → ℕ → TypeTree → Item ValueTree
-items order room inside end (NumberType k) = do
+abbrev pub items : Bounds → Order → (room : ℕ) → (ℕ → TypeTree → Item ValueTree) → ℕ → TypeTree → Item ValueTree
+items bounds order room inside end (NumberType k) = do
   padding (width k) end
   n ← number order (width k) end (number_row k)
   pure (NumberValue k n)
-items order room inside end (TextType k) = do
+items bounds order room inside end (TextType k) = do
   padding (length_width k) end
   n ← number order (length_width k) end (text_row end)
   t ← text (kind_of k) n
   nul
   pure (TextValue k t)
-items order room inside end VariantType = opened room (do
+items bounds order room inside end VariantType = opened room (do
   n ← number order 1 end (text_row end)
   held ← signature (Of kinds.Single) n
   nul
   x ← inside end held
   pure (VariantValue x))
-items order room inside end (ArrayType t) = do
+items bounds order room inside end (ArrayType t) = do
   padding 4 end
   opened room (do
-    n ← number order 4 end (array_row t end)
+    n ← number order 4 end (array_row bounds t end)
     padding (alignment_of t) end
     xs ← contents n (λ end before. inside end t)
     pure (ArrayValue t (value_trees xs)))
-items order room inside end (StructType ts) = do
+items bounds order room inside end (StructType ts) = do
   padding 8 end
   opened room (do
     xs ← fields (inside end) ts
     pure (StructValue xs))
-items order room inside end (EntryType k v) = do
+items bounds order room inside end (EntryType k v) = do
   padding 8 end
-  key ← whole order room end k (items order room inside end k)
-  x ← whole order room end v (items order room inside end v)
+  key ← whole bounds order room end k (items bounds order room inside end k)
+  x ← whole bounds order room end v (items bounds order room inside end v)
   pure (EntryValue key x)
 
 abbrev pub nowhere : ℕ → TypeTree → Item ValueTree
 nowhere end t = refuse reasons.TooDeep
 
 -- a wanted value of type t, with room for so many open containers
-abbrev pub value : Order → (room : ℕ) → ℕ → TypeTree → Item ValueTree
-value order zero end t = whole order zero end t (items order zero nowhere end t)
-value order (suc room) end t = whole order (suc room) end t (items order (suc room) (value order room) end t)
+abbrev pub value : Bounds → Order → (room : ℕ) → ℕ → TypeTree → Item ValueTree
+value bounds order zero end t = whole bounds order zero end t (items bounds order zero nowhere end t)
+value bounds order (suc room) end t = whole bounds order (suc room) end t (items bounds order (suc room) (value bounds order room) end t)

@@ -5,6 +5,7 @@ use Rattle.dbus_types.specs.Types.{NumberCode, TextCode, TypeTree, TypeTrees}
 use Rattle.dbus_types.specs.Alignments.{width, length_width, alignment_of}
 use Rattle.dbus_types.specs.declared.text_kind.TextKind.TheVariants.{Single}
 use Rattle.dbus_value_model.specs.WantedTexts.{kind_of, Of}
+use Rattle.dbus_value_model.specs.declared.limits.Bounds.{Bounds}
 use Rattle.dbus_value_model.specs.declared.order.Order.{Order}
 use Rattle.dbus_value_model.specs.Values.{value_trees, ValueTree, NumberValue, TextValue, VariantValue, ArrayValue, StructValue, EntryValue}
 use Rattle.dbus_value_model.specs.ValueItems.{number_row, text_row, array_row}
@@ -27,54 +28,54 @@ text_value order end k = do
   pure (TextValue k t)
 
 -- a value with its type, within a container that is open
-unfoldable pub held_value : Order → ℕ → ℕ → Reader ValueTree
-held_value order room end = do
+unfoldable pub held_value : Bounds → Order → ℕ → ℕ → Reader ValueTree
+held_value bounds order room end = do
   n ← number order 1 end (text_row end)
   held ← signature (Of Single) n
   nul
-  x ← value order room end held
+  x ← value bounds order room end held
   pure (VariantValue x)
 
 -- a value with its type
-unfoldable pub variant_value : Order → ℕ → ℕ → Reader ValueTree
-variant_value order room end = opened room (held_value order (room - 1) end)
+unfoldable pub variant_value : Bounds → Order → ℕ → ℕ → Reader ValueTree
+variant_value bounds order room end = opened room (held_value bounds order (room - 1) end)
 
 -- an array's length and the padding behind it
-unfoldable pub array_frame : Order → ℕ → TypeTree → Reader ℕ
-array_frame order end t = do
-  n ← number order 4 end (array_row t end)
+unfoldable pub array_frame : Bounds → Order → ℕ → TypeTree → Reader ℕ
+array_frame bounds order end t = do
+  n ← number order 4 end (array_row bounds t end)
   padding (alignment_of t) end
   pure n
 
 -- an array behind its first padding, within itself
-unfoldable pub open_array : Order → ℕ → ℕ → TypeTree → Reader ValueTree
-open_array order room end t = do
-  n ← array_frame order end t
-  xs ← contents n (λ end before. value order room end t)
+unfoldable pub open_array : Bounds → Order → ℕ → ℕ → TypeTree → Reader ValueTree
+open_array bounds order room end t = do
+  n ← array_frame bounds order end t
+  xs ← contents n (λ end before. value bounds order room end t)
   pure (ArrayValue t (value_trees xs))
 
 -- an array
-unfoldable pub array_value : Order → ℕ → ℕ → TypeTree → Reader ValueTree
-array_value order room end t = do
+unfoldable pub array_value : Bounds → Order → ℕ → ℕ → TypeTree → Reader ValueTree
+array_value bounds order room end t = do
   padding 4 end
-  opened room (open_array order (room - 1) end t)
+  opened room (open_array bounds order (room - 1) end t)
 
 -- a struct's fields, within it
-unfoldable pub open_struct : Order → ℕ → ℕ → TypeTrees → Reader ValueTree
-open_struct order room end ts = do
-  xs ← fields (value order room end) ts
+unfoldable pub open_struct : Bounds → Order → ℕ → ℕ → TypeTrees → Reader ValueTree
+open_struct bounds order room end ts = do
+  xs ← fields (value bounds order room end) ts
   pure (StructValue xs)
 
 -- a struct
-unfoldable pub struct_value : Order → ℕ → ℕ → TypeTrees → Reader ValueTree
-struct_value order room end ts = do
+unfoldable pub struct_value : Bounds → Order → ℕ → ℕ → TypeTrees → Reader ValueTree
+struct_value bounds order room end ts = do
   padding 8 end
-  opened room (open_struct order (room - 1) end ts)
+  opened room (open_struct bounds order (room - 1) end ts)
 
 -- a dict entry
-unfoldable pub entry_value : Order → ℕ → ℕ → TypeTree → TypeTree → Reader ValueTree
-entry_value order room end k v = do
+unfoldable pub entry_value : Bounds → Order → ℕ → ℕ → TypeTree → TypeTree → Reader ValueTree
+entry_value bounds order room end k v = do
   padding 8 end
-  key ← value order room end k
-  x ← value order room end v
+  key ← value bounds order room end k
+  x ← value bounds order room end v
   pure (EntryValue key x)

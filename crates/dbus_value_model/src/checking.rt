@@ -6,24 +6,20 @@ ghost use Rattle.dbus_types.specs.Kinds.{IsKind};
 ghost use Rattle.dbus_value_model.specs.Checks.{Checks};
 ghost use Rattle.dbus_value_model.specs.declared.limits.TheConstants.{DEPTH_LIMIT};
 ghost use Rattle.dbus_value_model.specs.Forming.{NestsWithin, NestWithin, IsNamed, AreNamed};
+ghost use Rattle.dbus_value_model.specs.Specification.{specification};
 ghost use Rattle.dbus_value_model.specs.ShortSignatures.{HasShortSignatures};
 ghost use Rattle.dbus_value_model.specs.ValueViews.{value_tree, value_trees_of};
 
-use crate::limits::DEPTH_LIMIT;
+use crate::limits::Limits;
 use crate::uniformity::is_typed;
 use crate::value::Value;
 use crate::value_fault::ValueFault;
 use dbus_types::{TextKind, text_break};
 use std::alloc::Allocator;
 
-/// Whether a value is well formed where `depth` arrays, structs and variants are open around it, [`DEPTH_LIMIT`] at most.
+/// Whether a value is well formed, as [`check_value_within`] says under the limits of the specification.
 ///
-/// It is refused for the first case that holds of any part of it: `TooDeep` where more than [`DEPTH_LIMIT`] arrays,
-/// structs and variants are open at once; `Mixed` where an item has another type than its array's, an array of BYTE is not `Bytes`, a dict entry
-/// stands outside an array or its key is not basic, a struct is empty, or a type spells no signature within the limits;
-/// `Name` where an object path or a signature is none, or a text has U+0000. `Memory` where a growth of memory was refused.
-/// A value that passes has short signatures, as writing and measuring ask.
-/// D-Bus Specification, "Type System", "Valid Signatures" and "Message Protocol".
+/// `depth` arrays, structs and variants are open around it, [`DEPTH_LIMIT`] at most.
 #[tactic(auto, using(crate::proofs::ShortLaws::short_of))]
 pub fn check_value<A: Allocator + Copy>(
     alloc: A,
@@ -31,10 +27,33 @@ pub fn check_value<A: Allocator + Copy>(
     depth: u8,
 ) -> Result<(), ValueFault>
     requires { depth ≤ DEPTH_LIMIT }
-    ensures checks { Checks depth value.now result }
+    ensures checks { Checks specification depth value.now result }
     ensures short { IfOk result (λ _. HasShortSignatures (value_tree value.now)) }
 {
-    if !nests_within(value, DEPTH_LIMIT - depth) {
+    check_value_within(alloc, value, depth, Limits::specification())
+}
+
+/// Whether a value is well formed where `depth` arrays, structs and variants are open around it, at most as many as the
+/// limits' depth.
+///
+/// It is refused for the first case that holds of any part of it: `TooDeep` where more arrays, structs and variants are
+/// open at once than the limits' depth; `Mixed` where an item has another type than its array's, an array of BYTE is not
+/// `Bytes`, a dict entry stands outside an array or its key is not basic, a struct is empty, or a type spells no signature
+/// within the limits; `Name` where an object path or a signature is none, or a text has U+0000. `Memory` where a growth of
+/// memory was refused. A value that passes has short signatures, as writing and measuring ask.
+/// D-Bus Specification, "Type System", "Valid Signatures" and "Message Protocol".
+#[tactic(auto, using(crate::proofs::ShortLaws::short_of))]
+pub fn check_value_within<A: Allocator + Copy>(
+    alloc: A,
+    value: &Value<A>,
+    depth: u8,
+    limits: Limits,
+) -> Result<(), ValueFault>
+    requires { depth ≤ limits.depth }
+    ensures checks { Checks limits depth value.now result }
+    ensures short { IfOk result (λ _. HasShortSignatures (value_tree value.now)) }
+{
+    if !nests_within(value, limits.depth - depth) {
         return Err(ValueFault::TooDeep);
     }
     if !is_typed(alloc, value)? {

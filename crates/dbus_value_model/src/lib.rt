@@ -18,11 +18,11 @@ mod uniformity;
 mod value;
 mod value_fault;
 
-pub use checking::{check_value, is_named, nest_within, nests_within};
+pub use checking::{check_value, check_value_within, is_named, nest_within, nests_within};
 pub use copying::copy;
 pub use fault::{Fault, Reason, Refusal};
 pub use got::Got;
-pub use limits::{ARRAY_LIMIT, DEPTH_LIMIT, MESSAGE_LIMIT};
+pub use limits::{ARRAY_LIMIT, Bounds, DEPTH_LIMIT, Limits, MESSAGE_LIMIT};
 pub use order::Order;
 pub use padding::padding_length;
 pub use ranges::{read_all_numbers, read_numbers};

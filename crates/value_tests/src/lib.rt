@@ -12,6 +12,8 @@ mod fronts;
 #[cfg(test)]
 mod growths;
 #[cfg(test)]
+mod limits;
+#[cfg(test)]
 mod measures;
 #[cfg(test)]
 mod reading;

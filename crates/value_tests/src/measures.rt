@@ -7,7 +7,7 @@ ghost use Rattle.dbus_value_model.specs.ValueViews.{value_tree};
 use crate::examples::value_of;
 use dbus_marshal::{measure, measure_all, measure_coded, size_after};
 use dbus_types::SigType;
-use dbus_value_model::{Order, Value, ValueFault};
+use dbus_value_model::{Limits, Order, Value, ValueFault};
 use std::alloc::{AllocError, Allocator, Global};
 use std::test::*;
 
@@ -46,7 +46,6 @@ const LIMIT: u64 = 134_217_728;
 const OFFSETS: u64 = LIMIT + 16;
 
 // Whether the measure of a value is `end`, and its size too: past the limit of messages it is none.
-#[tactic(auto, unfolding(dbus_value_model::specs::Sizes::message_limit))]
 fn ends_at<A: Allocator>(value: &Value<A>, at: u64, end: u64) -> bool
     requires { HasShortSignatures (value_tree value.now) }
 {
@@ -55,7 +54,9 @@ fn ends_at<A: Allocator>(value: &Value<A>, at: u64, end: u64) -> bool
     } else {
         Ok(end)
     };
-    at < OFFSETS && measure(value, at) == Some(end) && (at > LIMIT || size_after(value, at) == size)
+    at < OFFSETS
+        && measure(value, at, Limits::specification()) == Some(end)
+        && (at > LIMIT || size_after(value, at) == size)
 }
 
 #[test]
@@ -70,17 +71,17 @@ fn ends_of_values(rt: HostRuntime) -> Result<(), Fail> {
 // What a header's field has behind its code has the padding of its own type.
 #[test]
 fn ends_of_header_fields(rt: HostRuntime) {
-    assert!(rt; measure_coded(&Value::<Global>::U64(0), 13) == Some(32));
+    assert!(rt; measure_coded(&Value::<Global>::U64(0), 13, Limits::specification()) == Some(32));
     let empty = Value::Array(SigType::U64, Vec::new(rt.alloc()));
-    assert!(rt; measure_coded(&empty, 16) == Some(32));
+    assert!(rt; measure_coded(&empty, 16, Limits::specification()) == Some(32));
 }
 
 // Past the limit of messages an end is one of eight.
 #[test]
 fn values_past_the_limit(rt: HostRuntime) {
     let values: [Value; 2] = [Value::U64(1), Value::Byte(1)];
-    assert!(rt; measure_all(&values, 134_217_720) == Some(134_217_729));
-    assert!(rt; measure_all(&values, 134_217_740) == Some(134_217_737));
+    assert!(rt; measure_all(&values, 134_217_720, Limits::specification()) == Some(134_217_729));
+    assert!(rt; measure_all(&values, 134_217_740, Limits::specification()) == Some(134_217_737));
 }
 
 // 67,108,864 bytes, and one more where that is asked for.
@@ -111,8 +112,8 @@ fn the_longest_array(rt: HostRuntime) -> Result<(), Fail> {
 fn has_no_end<A: Allocator>(value: &Value<A>) -> bool
     requires { HasShortSignatures (value_tree value.now) }
 {
-    measure(value, 0).is_none()
-        && measure(value, 134_217_743).is_none()
+    measure(value, 0, Limits::specification()).is_none()
+        && measure(value, 134_217_743, Limits::specification()).is_none()
         && size_after(value, 0) == Err(ValueFault::ArrayTooLong)
 }
 

@@ -1,8 +1,8 @@
 //! What reading a value answers, without the value.
 
 use dbus_types::{SigFault, parse_single};
-use dbus_unmarshal::get;
-use dbus_value_model::{Fault, Got, Order, Refusal};
+use dbus_unmarshal::{get, get_within};
+use dbus_value_model::{Fault, Got, Limits, Order, Refusal};
 use std::alloc::Allocator;
 
 /// What is asked for: a value of a type, that is to end at `end` at the latest, with `depth` containers open around it.
@@ -48,6 +48,28 @@ pub fn read<A: Allocator + Copy>(alloc: A, asked: Asked<'_>, bytes: &[u8]) -> An
     } = asked;
     match parse_single(alloc, signature.as_bytes()) {
         Ok(wanted) if depth <= 64 => answer_of(get(alloc, bytes, 0, end, order, &wanted, depth)),
+        Err(SigFault::Memory) => Answer::Memory,
+        _ => Answer::NotAsked,
+    }
+}
+
+/// What reading answers under limits.
+pub fn read_within<A: Allocator + Copy>(
+    alloc: A,
+    asked: Asked<'_>,
+    bytes: &[u8],
+    limits: Limits,
+) -> Answer {
+    let Asked {
+        signature,
+        order,
+        end,
+        depth,
+    } = asked;
+    match parse_single(alloc, signature.as_bytes()) {
+        Ok(wanted) if depth <= limits.depth => {
+            answer_of(get_within(alloc, bytes, 0, end, order, &wanted, depth, limits))
+        }
         Err(SigFault::Memory) => Answer::Memory,
         _ => Answer::NotAsked,
     }

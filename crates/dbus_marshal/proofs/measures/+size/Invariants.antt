@@ -6,5 +6,5 @@ use Rattle.dbus_marshal.proofs.measures.+size.Given as goal
 
 abbrev pub invariant-measure_values-loop-value : goal.invariant-measure_values-loop-value
 invariant-measure_values-loop-value g l =
-    ((r : Option ℕ) → AreMeasured (value_trees_of (drop l.value-index l.values)) l.end r → AreMeasured (value_trees_of l.values) l.at r) × (IsCapped l.end)
+    ((r : Option ℕ) → AreMeasured l.limits.array (value_trees_of (drop l.value-index l.values)) l.end r → AreMeasured l.limits.array (value_trees_of l.values) l.at r) × (IsCapped l.end)
     × HaveShortSignatures (value_trees_of (drop l.value-index l.values))

@@ -1,10 +1,10 @@
 use Rattle.std.proofs.Common.{◌≡◌, ◌≤◌, drop}
-use Rattle.dbus_value_model.specs.Sizes.{message_limit, sizes}
+use Rattle.dbus_value_model.specs.Sizes.{sizes}
 use Rattle.dbus_value_model.specs.ShortSignatures.{HaveShortSignatures}
 use Rattle.dbus_value_model.specs.ValueViews.{value_trees_of}
 use Rattle.dbus_marshal.proofs.sizes.+size.Given as goal
 
 abbrev pub invariant-size_values-loop-value : goal.invariant-size_values-loop-value
 invariant-size_values-loop-value g l =
-    (sizes (value_trees_of (drop l.value-index l.values)) l.bound l.at ≡ sizes (value_trees_of l.values) l.bound l.offset) × (l.at ≤ message_limit)
+    (sizes l.limits (value_trees_of (drop l.value-index l.values)) l.bound l.at ≡ sizes l.limits (value_trees_of l.values) l.bound l.offset) × (l.at ≤ l.limits.message)
     × HaveShortSignatures (value_trees_of (drop l.value-index l.values))

@@ -1,26 +1,21 @@
 use Rattle.std.proofs.Common.{◌≡◌, ◌≤◌, ◌+◌, length, Ok, sym, ap, ◌∙◌, arith}
-use Rattle.dbus_value_model.specs.Sizes.{message_limit}
 use Rattle.dbus_marshal.proofs.Sizing.{bytes_within, bytes_past_array, bytes_past_message, some_bytes}
 use Rattle.dbus_marshal.proofs.sizes.size_bytes.Goals as goal
 
 pub returns-then-array_end-end-clause-exact : goal.returns-then-array_end-end-clause-exact
-unfolding message_limit
 returns-then-array_end-end-clause-exact c =
-    sym (bytes_past_array c.args.bound c.args.bytes.now c.args.offset c.unwrap_or-array_end.result c.unwrap_or-array_end.ensures (omega arith) (some_bytes (length c.args.bytes.now) c.if-is_empty.ensures) (omega arith))
+    sym (bytes_past_array c.args.limits c.args.bound c.args.bytes.now c.args.offset c.unwrap_or-array_end.result c.unwrap_or-array_end.ensures (omega arith) (some_bytes c.args.limits (length c.args.bytes.now) c.if-is_empty.ensures) (omega arith))
 
 pub returns-then-limit-end-clause-exact : goal.returns-then-limit-end-clause-exact
-unfolding message_limit
 returns-then-limit-end-clause-exact c =
-    sym (bytes_past_message c.args.bound c.args.bytes.now c.args.offset c.unwrap_or-array_end.result c.unwrap_or-array_end.ensures c.requires.start (omega (arith, c.else-array_end-limit.either)) (omega arith))
+    sym (bytes_past_message c.args.limits c.args.bound c.args.bytes.now c.args.offset c.unwrap_or-array_end.result c.unwrap_or-array_end.ensures c.requires.start (omega (arith, c.else-array_end-limit.either)) (omega arith))
 
 pub returns-else-limit-end-clause-exact : goal.returns-else-limit-end-clause-exact
-unfolding message_limit
 returns-else-limit-end-clause-exact c =
-    let start : c.args.offset ≤ 134217728 = c.requires.start in
+    let start : c.args.offset ≤ c.args.limits.message = c.requires.start in
     let end : c.saturating_add-end.result ≡ c.args.offset + length c.args.bytes.now = omega arith in
     ap (λ e. Ok e) end
-    ∙ sym (bytes_within c.args.bound c.args.bytes.now c.args.offset c.unwrap_or-array_end.result c.unwrap_or-array_end.ensures (omega (arith, c.else-array_end-limit.either)) (omega arith))
+    ∙ sym (bytes_within c.args.limits c.args.bound c.args.bytes.now c.args.offset c.unwrap_or-array_end.result c.unwrap_or-array_end.ensures (omega (arith, c.else-array_end-limit.either)) (omega arith))
 
 pub returns-else-limit-end-clause-within : goal.returns-else-limit-end-clause-within
-unfolding message_limit
 returns-else-limit-end-clause-within c = omega arith

@@ -1,5 +1,4 @@
 use Rattle.std.proofs.Common.{drop, arith}
-use Rattle.dbus_value_model.specs.Sizes.{message_limit}
 use Rattle.dbus_message.proofs.GetReads.{bytes_from}
 use Rattle.dbus_message.proofs.StatedLengths.{header_states, header_refused, header_faulty, header_partial, header_short}
 use Rattle.dbus_message.proofs.stated.stated_length.Goals as goal
@@ -10,7 +9,6 @@ returns-in-Ok-clause-stated c =
     rw (c.from-padding.ensures, c.padding_length.ensures.exact, c.from.ensures, c.from-in-Ok.ensures) states
 
 pub returns-in-Ok-clause-within : goal.returns-in-Ok-clause-within
-unfolding message_limit
 returns-in-Ok-clause-within c = let limit = c.in-Ok.ensures.there.1 in (omega arith, rw (c.from-padding.ensures, c.padding_length.ensures.exact, c.from.ensures, c.from-in-Ok.ensures) limit)
 
 pub returns-in-Err-Refused-clause-stated : goal.returns-in-Err-Refused-clause-stated

@@ -41,8 +41,8 @@ invariant-read_fields-loop-wanted g l = record {
   at_most : l.place ≤ l.end;
   inside : l.place ≤ length l.bytes;
   packed : IsTrue (keep_bytes l.values.items);
-  so_far : with_fields (map value_tree l.values.items) (fields (value l.order l.room l.end) (type_trees_of (drop l.wanted-index l.types)) l.place (drop l.place l.bytes))
-      ≡ fields (value l.order l.room l.end) (type_trees_of l.types) l.fn.at (drop l.fn.at l.bytes);
+  so_far : with_fields (map value_tree l.values.items) (fields (value l.bounds l.order l.room l.end) (type_trees_of (drop l.wanted-index l.types)) l.place (drop l.place l.bytes))
+      ≡ fields (value l.bounds l.order l.room l.end) (type_trees_of l.types) l.fn.at (drop l.fn.at l.bytes);
 }
 
 abbrev pub invariant-read_items-loop-place : goal.invariant-read_items-loop-place
@@ -51,8 +51,8 @@ invariant-read_items-loop-place g l = record {
   inside : l.place ≤ length l.bytes;
   taken : length l.values.items + l.at ≤ l.place;
   packed : IsTrue (keep_bytes l.values.items);
-  so_far : with_front (map value_tree l.values.items) (up_to (l.n - length l.values.items) l.end (λ before. value l.order l.room l.end (type_tree l.item)) [] l.place (drop l.place l.bytes))
-      ≡ contents l.n (λ end before. value l.order l.room end (type_tree l.item)) l.at (drop l.at l.bytes);
+  so_far : with_front (map value_tree l.values.items) (up_to (l.n - length l.values.items) l.end (λ before. value l.bounds l.order l.room l.end (type_tree l.item)) [] l.place (drop l.place l.bytes))
+      ≡ contents l.n (λ end before. value l.bounds l.order l.room end (type_tree l.item)) l.at (drop l.at l.bytes);
 }
 
 abbrev pub decreases-read_items-loop-place : goal.decreases-read_items-loop-place
