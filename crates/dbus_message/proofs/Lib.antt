@@ -28,3 +28,4 @@ pub mod PartEnds
 pub mod Built
 pub mod PackedFacts
 pub mod StatedLengths
+pub mod Widening

@@ -6,6 +6,7 @@ use Rattle.dbus_value_model.specs.PackedBytes.{keeps_bytes, keep_bytes}
 use Rattle.dbus_value_model.specs.Values.{ValueTree, type_of}
 use Rattle.dbus_value_model.specs.ValueViews.{value_tree}
 use Rattle.dbus_value_model.specs.declared.value.Value.{Value, the_lemmas}
+use Rattle.dbus_value_model.specs.declared.limits.Limits.{Limits}
 use Rattle.dbus_message.specs.BuildFaults.{IsFirstWithout, HasOwnType, HoldsSound, IsOfType, type_wanted, IsFirstUnsoundField, IsFirstUnsound, NoFault}
 use Rattle.dbus_message.specs.Messages.{Want, Anything, OfType, Name, Serial, want, is_particular, is_known}
 use Rattle.dbus_message.specs.PackedParts.{field_values, PartsKeepBytes}
@@ -46,7 +47,7 @@ body_packed : {A : Type 0} (n : ℕ) (vs : List (Value A)) → IsFirstUnsound n 
 body_packed n [] h = refl
 body_packed n (v ∷ vs) h = let w = none_unsound n v vs h in and_from _ _ w.0.0.packed (body_packed (n + 1) vs w.1)
 
-pub parts_packed : {A : Type 0} (p : Parts A) → NoFault p → PartsKeepBytes p
-parts_packed p h =
+pub parts_packed : {A : Type 0} (limits : Limits) (p : Parts A) → NoFault limits p → PartsKeepBytes p
+parts_packed limits p h =
     let s = h.0.0 in
     (fields_packed p.fields.items s.0.0.0.0.0.0.1 s.0.0.1, body_packed 0 p.body.items s.0.1)

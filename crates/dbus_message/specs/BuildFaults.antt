@@ -4,7 +4,7 @@ use Rattle.std.specs.Prelude.{◌≡◌, ◌⊎◌, ℕ, ◌+◌, ◌<◌, List,
 use Rattle.dbus_types.specs.Types.{UINT32, STRING, TypeTree, NumberType, TextType, sigs}
 use Rattle.dbus_value_model.specs.declared.order.Order.TheVariants.{Little}
 use Rattle.dbus_value_model.specs.declared.fault.Reason.TheVariants as reasons
-use Rattle.dbus_value_model.specs.declared.limits.TheConstants.{ARRAY_LIMIT, DEPTH_LIMIT, MESSAGE_LIMIT}
+use Rattle.dbus_value_model.specs.declared.limits.Limits.{Limits}
 use Rattle.dbus_value_model.specs.Checks.{IsTyped}
 use Rattle.dbus_value_model.specs.Forming.{NestsWithin, NestWithin, IsNamed}
 use Rattle.dbus_value_model.specs.Values.{ValueTree, NumberValue, type_of, types_of}
@@ -69,8 +69,8 @@ HasOwnKind f = IsOf (text_wanted (want f.code)) (text_in f.value)
 -- ---- values
 
 -- no more arrays, structs and variants are open at once than the limit says, those of the header among them
-abbrev pub IsShallow : MessageTree → Type 0
-IsShallow m = NestsWithin DEPTH_LIMIT (field_array m.fields) × NestWithin DEPTH_LIMIT m.body
+abbrev pub IsShallow : Limits → MessageTree → Type 0
+IsShallow limits m = NestsWithin limits.depth (field_array m.fields) × NestWithin limits.depth m.body
 
 -- its types fit together and its texts are of their kinds
 abbrev pub IsSound : {A : Type 0} → Value A → Type 0
@@ -110,65 +110,69 @@ TypesPass m = NoneIsTwice m × IsFirstWithout HasOwnType m.fields None
 abbrev pub NoneIsMissing : MessageTree → Type 0
 NoneIsMissing m = TypesPass m × (lacks (required m.kind) m.fields ≡ None)
 
-abbrev pub DepthPasses : MessageTree → Type 0
-DepthPasses m = NoneIsMissing m × IsShallow m
+abbrev pub DepthPasses : Limits → MessageTree → Type 0
+DepthPasses limits m = NoneIsMissing m × IsShallow limits m
 
-abbrev pub NamesPass : MessageTree → Type 0
-NamesPass m = DepthPasses m × IsFirstWithout HasOwnKind m.fields None
+abbrev pub NamesPass : Limits → MessageTree → Type 0
+NamesPass limits m = DepthPasses limits m × IsFirstWithout HasOwnKind m.fields None
 
 -- That an array of bytes is not an `Array` is no matter of trees, so that from here on the parts are spoken of.
-abbrev pub FieldValuesPass : {A : Type 0} → Parts A → Type 0
-FieldValuesPass p = NamesPass (parts_tree p) × IsFirstUnsoundField p.fields.items None
+abbrev pub FieldValuesPass : {A : Type 0} → Limits → Parts A → Type 0
+FieldValuesPass limits p = NamesPass limits (parts_tree p) × IsFirstUnsoundField p.fields.items None
 
-abbrev pub ValuesPass : {A : Type 0} → Parts A → Type 0
-ValuesPass p = FieldValuesPass p × IsFirstUnsound 0 p.body.items None
+abbrev pub ValuesPass : {A : Type 0} → Limits → Parts A → Type 0
+ValuesPass limits p = FieldValuesPass limits p × IsFirstUnsound 0 p.body.items None
 
 abbrev pub HasOwnSignature : MessageTree → Type 0
 HasOwnSignature m = sigs (types_of m.body) ≡ body_signature m.fields
 
-abbrev pub SignaturePasses : {A : Type 0} → Parts A → Type 0
-SignaturePasses p = ValuesPass p × HasOwnSignature (parts_tree p)
+abbrev pub SignaturePasses : {A : Type 0} → Limits → Parts A → Type 0
+SignaturePasses limits p = ValuesPass limits p × HasOwnSignature (parts_tree p)
 
 -- Both orders spell arrays and messages in as many bytes.
-abbrev pub KeepsArrays : MessageTree → Type 0
-KeepsArrays m = IsWithinLimits ARRAY_LIMIT Little 12 (field_array m.fields) × AreWithinLimits ARRAY_LIMIT Little (body_start Little m.fields) m.body
+abbrev pub KeepsArrays : Limits → MessageTree → Type 0
+KeepsArrays limits m = IsWithinLimits limits.array Little 12 (field_array m.fields) × AreWithinLimits limits.array Little (body_start Little m.fields) m.body
 
-abbrev pub ArraysPass : {A : Type 0} → Parts A → Type 0
-ArraysPass p = SignaturePasses p × KeepsArrays (parts_tree p)
+abbrev pub ArraysPass : {A : Type 0} → Limits → Parts A → Type 0
+ArraysPass limits p = SignaturePasses limits p × KeepsArrays limits (parts_tree p)
 
-abbrev pub IsLong : MessageTree → Type 0
-IsLong m = MESSAGE_LIMIT < length (message_bytes Little m)
+abbrev pub IsLong : Limits → MessageTree → Type 0
+IsLong limits m = limits.message < length (message_bytes Little m)
+
+-- none of the cases holds that speak of limits
+abbrev pub KeepsLimits : Limits → MessageTree → Type 0
+KeepsLimits limits m = IsShallow limits m × KeepsArrays limits m × (IsLong limits m → ⊥)
 
 -- no case holds
-abbrev pub NoFault : {A : Type 0} → Parts A → Type 0
-NoFault p = ArraysPass p × (IsLong (parts_tree p) → ⊥)
+abbrev pub NoFault : {A : Type 0} → Limits → Parts A → Type 0
+NoFault limits p = ArraysPass limits p × (IsLong limits (parts_tree p) → ⊥)
 
 -- The case holds, and none before it does. Memory is answered only where a growth was refused, which says nothing of the
 -- parts.
-abbrev pub IsFirstFault : {A : Type 0} → Parts A → BuildFault → Type 0
-IsFirstFault p faults.Memory = Unit {0}
-IsFirstFault p faults.Kind = p.kind ≡ 0
-IsFirstFault p faults.ZeroSerial = let m = parts_tree p in KindPasses m × ((m.serial ≡ 0) ⊎ ((c : ℕ) × IsFirstWithout IsNonzero m.fields (Some c)))
-IsFirstFault p faults.FieldCode = let m = parts_tree p in SerialsPass m × (has_code 0 m.fields ≡ true)
-IsFirstFault p (faults.FieldTwice c) = let m = parts_tree p in CodesPass m × (twice [] m.fields ≡ Some c)
-IsFirstFault p (faults.FieldType c) = let m = parts_tree p in NoneIsTwice m × IsFirstWithout HasOwnType m.fields (Some c)
-IsFirstFault p (faults.FieldMissing c) = let m = parts_tree p in TypesPass m × (lacks (required m.kind) m.fields ≡ Some (reasons.FieldMissing c))
-IsFirstFault p faults.TooDeep = let m = parts_tree p in NoneIsMissing m × (IsShallow m → ⊥)
-IsFirstFault p (faults.Name c) = let m = parts_tree p in DepthPasses m × IsFirstWithout HasOwnKind m.fields (Some c)
-IsFirstFault p (faults.FieldValue c) = NamesPass (parts_tree p) × IsFirstUnsoundField p.fields.items (Some c)
-IsFirstFault p (faults.Value n) = FieldValuesPass p × IsFirstUnsound 0 p.body.items (Some n)
-IsFirstFault p faults.SignatureDiffers = ValuesPass p × (HasOwnSignature (parts_tree p) → ⊥)
-IsFirstFault p faults.ArrayTooLong = SignaturePasses p × (KeepsArrays (parts_tree p) → ⊥)
-IsFirstFault p faults.MessageTooLong = ArraysPass p × IsLong (parts_tree p)
+abbrev pub IsFirstFault : {A : Type 0} → Limits → Parts A → BuildFault → Type 0
+IsFirstFault limits p faults.Memory = Unit {0}
+IsFirstFault limits p faults.Kind = p.kind ≡ 0
+IsFirstFault limits p faults.ZeroSerial = let m = parts_tree p in KindPasses m × ((m.serial ≡ 0) ⊎ ((c : ℕ) × IsFirstWithout IsNonzero m.fields (Some c)))
+IsFirstFault limits p faults.FieldCode = let m = parts_tree p in SerialsPass m × (has_code 0 m.fields ≡ true)
+IsFirstFault limits p (faults.FieldTwice c) = let m = parts_tree p in CodesPass m × (twice [] m.fields ≡ Some c)
+IsFirstFault limits p (faults.FieldType c) = let m = parts_tree p in NoneIsTwice m × IsFirstWithout HasOwnType m.fields (Some c)
+IsFirstFault limits p (faults.FieldMissing c) = let m = parts_tree p in TypesPass m × (lacks (required m.kind) m.fields ≡ Some (reasons.FieldMissing c))
+IsFirstFault limits p faults.TooDeep = let m = parts_tree p in NoneIsMissing m × (IsShallow limits m → ⊥)
+IsFirstFault limits p (faults.Name c) = let m = parts_tree p in DepthPasses limits m × IsFirstWithout HasOwnKind m.fields (Some c)
+IsFirstFault limits p (faults.FieldValue c) = NamesPass limits (parts_tree p) × IsFirstUnsoundField p.fields.items (Some c)
+IsFirstFault limits p (faults.Value n) = FieldValuesPass limits p × IsFirstUnsound 0 p.body.items (Some n)
+IsFirstFault limits p faults.SignatureDiffers = ValuesPass limits p × (HasOwnSignature (parts_tree p) → ⊥)
+IsFirstFault limits p faults.ArrayTooLong = SignaturePasses limits p × (KeepsArrays limits (parts_tree p) → ⊥)
+IsFirstFault limits p faults.MessageTooLong = ArraysPass limits p × IsLong limits (parts_tree p)
 
 -- ---- what is built
 
 -- a message of these parts where no case holds, else the parts and the first case that does
-abbrev pub IsBuilt : {A : Type 0} → Parts A → Result (Message A) (Parts A × BuildFault) → Type 0
-IsBuilt p (Ok message) = (message_tree message ≡ parts_tree p) × NoFault p
-IsBuilt p (Err refused) = (refused.0 ≡ p) × IsFirstFault p refused.1
+abbrev pub IsBuilt : {A : Type 0} → Limits → Parts A → Result (Message A) (Parts A × BuildFault) → Type 0
+IsBuilt limits p (Ok message) = (message_tree message ≡ parts_tree p) × NoFault limits p
+IsBuilt limits p (Err refused) = (refused.0 ≡ p) × IsFirstFault limits p refused.1
 
 -- where no case holds, nothing is refused but for want of memory
-abbrev pub IsAccepted : {A : Type 0} → Parts A → Result (Message A) (Parts A × BuildFault) → Type 0
-IsAccepted p (Ok message) = Unit {0}
-IsAccepted p (Err refused) = NoFault p → refused.1 ≡ faults.Memory
+abbrev pub IsAccepted : {A : Type 0} → Limits → Parts A → Result (Message A) (Parts A × BuildFault) → Type 0
+IsAccepted limits p (Ok message) = Unit {0}
+IsAccepted limits p (Err refused) = NoFault limits p → refused.1 ≡ faults.Memory

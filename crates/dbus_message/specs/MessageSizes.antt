@@ -1,7 +1,7 @@
 -- Where the fields of a header end, and the numbers that parts hold.
 -- D-Bus Specification, "Marshaling (Wire Format)" and "Message Format".
 use Rattle.std.specs.Prelude.{◌≡◌, ℕ, ◌+◌, ◌^◌, ◌<◌, ◌≤◌, List, [], ◌∷◌, length, map, Option, Some, None}
-use Rattle.dbus_value_model.specs.declared.limits.TheConstants.{ARRAY_LIMIT}
+use Rattle.dbus_value_model.specs.declared.limits.Limits.{Limits}
 use Rattle.dbus_value_model.specs.declared.order.Order.TheVariants.{Little}
 use Rattle.dbus_value_model.specs.Ranges.{HoldsNumbers, HoldNumbers}
 use Rattle.dbus_value_model.specs.Spelling.{spelling, spellings, IsWithinLimits, AreWithinLimits}
@@ -10,17 +10,17 @@ use Rattle.dbus_message.specs.Messages.{FieldTree, MessageTree, field_struct}
 
 -- The end n, where what stands before it keeps the limits on arrays and it is not past the end of the longest field array;
 -- else nothing. Both orders spell fields in as many bytes.
-abbrev pub IsEnd : Type 0 → ℕ → Option ℕ → Type 0
-IsEnd kept n None = kept → 16 + ARRAY_LIMIT < n
-IsEnd kept n (Some e) = kept × (e ≡ n) × (n ≤ 16 + ARRAY_LIMIT)
+abbrev pub IsEnd : Limits → Type 0 → ℕ → Option ℕ → Type 0
+IsEnd limits kept n None = kept → 16 + limits.array < n
+IsEnd limits kept n (Some e) = kept × (e ≡ n) × (n ≤ 16 + limits.array)
 
-abbrev pub IsFieldEnd : FieldTree → ℕ → Option ℕ → Type 0
-IsFieldEnd f at end = IsEnd (IsWithinLimits ARRAY_LIMIT Little at (field_struct f)) (at + length (spelling Little at (field_struct f))) end
+abbrev pub IsFieldEnd : Limits → FieldTree → ℕ → Option ℕ → Type 0
+IsFieldEnd limits f at end = IsEnd limits (IsWithinLimits limits.array Little at (field_struct f)) (at + length (spelling Little at (field_struct f))) end
 
-abbrev pub AreFieldEnds : List FieldTree → ℕ → Option ℕ → Type 0
-AreFieldEnds fs at end =
+abbrev pub AreFieldEnds : Limits → List FieldTree → ℕ → Option ℕ → Type 0
+AreFieldEnds limits fs at end =
     let structs = value_trees (map field_struct fs) in
-    IsEnd (AreWithinLimits ARRAY_LIMIT Little at structs) (at + length (spellings Little at structs)) end
+    IsEnd limits (AreWithinLimits limits.array Little at structs) (at + length (spellings Little at structs)) end
 
 -- a code is one byte, and a field's value holds numbers of their types
 abbrev pub HoldFieldNumbers : List FieldTree → Type 0

@@ -3,6 +3,8 @@
 
 ghost use Rattle.std.specs.Prelude.{◌≡◌, length, MatchResult};
 ghost use Rattle.dbus_value_model.specs.declared.order.Order.TheVariants.{Little};
+ghost use Rattle.dbus_value_model.specs.Specification.{specification};
+ghost use Rattle.dbus_value_model.specs.declared.limits.Limits.{Limits};
 ghost use Rattle.dbus_message.specs.BuildFaults.{IsAccepted, IsBuilt, IsFirstFault, NoFault, NoneIsMissing, SignaturePasses};
 ghost use Rattle.dbus_message.specs.Messages.{message_bytes};
 ghost use Rattle.dbus_message.specs.PartsViews.{parts_tree};
@@ -19,12 +21,12 @@ use crate::message::Message;
 use crate::message_size::{fields_end, read_parts};
 use crate::parts::Parts;
 use dbus_marshal::measure_all;
-use dbus_value_model::{Limits, MESSAGE_LIMIT, padding_length};
+use dbus_value_model::{Limits, padding_length};
 use std::alloc::Allocator;
 
 /// Judges the type, the serial, and which fields there are.
 fn check_header<A: Allocator>(parts: &Parts<A>) -> Result<(), BuildFault>
-    ensures { MatchResult result (λ _. NoneIsMissing (parts_tree parts.now)) (λ f. IsFirstFault parts.now f) }
+    ensures { (limits : Limits) → MatchResult result (λ _. NoneIsMissing (parts_tree parts.now)) (λ f. IsFirstFault limits parts.now f) }
 {
     if parts.kind == 0 {
         return Err(BuildFault::Kind);
@@ -55,11 +57,15 @@ fn check_header<A: Allocator>(parts: &Parts<A>) -> Result<(), BuildFault>
 }
 
 /// Judges how deep the values nest, the texts of the fields, the values, and their types.
-fn check_contents<A: Allocator + Copy>(alloc: A, parts: &Parts<A>) -> Result<(), BuildFault>
+fn check_contents<A: Allocator + Copy>(
+    alloc: A,
+    parts: &Parts<A>,
+    limits: Limits,
+) -> Result<(), BuildFault>
     requires header { NoneIsMissing (parts_tree parts.now) }
-    ensures { MatchResult result (λ _. SignaturePasses parts.now) (λ f. IsFirstFault parts.now f) }
+    ensures { MatchResult result (λ _. SignaturePasses limits parts.now) (λ f. IsFirstFault limits parts.now f) }
 {
-    if !is_shallow(parts) {
+    if !is_shallow(parts, limits) {
         return Err(BuildFault::TooDeep);
     }
     match first_misnamed(&parts.fields) {
@@ -81,20 +87,20 @@ fn check_contents<A: Allocator + Copy>(alloc: A, parts: &Parts<A>) -> Result<(),
 }
 
 /// How many bytes the parts are spelled by, within the limits.
-fn measure<A: Allocator>(parts: &Parts<A>) -> Result<usize, BuildFault>
-    requires passed { SignaturePasses parts.now }
-    ensures { MatchResult result (λ n. IsValidMessage (parts_tree parts.now) × (n ≡ length (message_bytes Little (parts_tree parts.now))) × NoFault parts.now) (λ f. IsFirstFault parts.now f) }
+fn measure<A: Allocator>(parts: &Parts<A>, limits: Limits) -> Result<usize, BuildFault>
+    requires passed { SignaturePasses limits parts.now }
+    ensures { MatchResult result (λ n. IsValidMessage (parts_tree parts.now) × (n ≡ length (message_bytes Little (parts_tree parts.now))) × NoFault limits parts.now) (λ f. IsFirstFault limits parts.now f) }
 {
     read_parts(parts);
-    let fields = match fields_end(&parts.fields) {
+    let fields = match fields_end(&parts.fields, limits) {
         Some(end) => end,
         None => return Err(BuildFault::ArrayTooLong),
     };
     let start = fields + u64::from(padding_length(8, fields));
-    match measure_all(&parts.body, start, Limits::specification()) {
+    match measure_all(&parts.body, start, limits) {
         None => Err(BuildFault::ArrayTooLong),
         Some(end) => {
-            if end > u64::from(MESSAGE_LIMIT) {
+            if end > u64::from(limits.message) {
                 return Err(BuildFault::MessageTooLong);
             }
             Ok(end as usize)
@@ -103,22 +109,34 @@ fn measure<A: Allocator>(parts: &Parts<A>) -> Result<usize, BuildFault>
 }
 
 impl<A: Allocator + Copy> Message<A> {
-    /// The message of these parts, which is `Ok` exactly where no case of [`BuildFault`] holds of them and memory was
-    /// there.
+    /// The message of these parts, as [`Message::new_within`] says under the limits of the specification.
+    pub fn new(alloc: A, parts: Parts<A>) -> Result<Message<A>, (Parts<A>, BuildFault)>
+        ensures built { IsBuilt specification parts result }
+        ensures accepted { IsAccepted specification parts result }
+    {
+        Message::new_within(alloc, parts, Limits::specification())
+    }
+
+    /// The message of these parts, which is `Ok` exactly where no case of [`BuildFault`] holds of them under the limits and
+    /// memory was there.
     ///
     /// The error hands the parts back, with the first case that holds of them, or `Memory` where a growth was refused.
     /// D-Bus Specification, "Message Format", "Header Fields".
-    pub fn new(alloc: A, parts: Parts<A>) -> Result<Message<A>, (Parts<A>, BuildFault)>
-        ensures built { IsBuilt parts result }
-        ensures accepted { IsAccepted parts result }
+    pub fn new_within(
+        alloc: A,
+        parts: Parts<A>,
+        limits: Limits,
+    ) -> Result<Message<A>, (Parts<A>, BuildFault)>
+        ensures built { IsBuilt limits parts result }
+        ensures accepted { IsAccepted limits parts result }
     {
         if let Err(fault) = check_header(&parts) {
             return Err((parts, fault));
         }
-        if let Err(fault) = check_contents(alloc, &parts) {
+        if let Err(fault) = check_contents(alloc, &parts, limits) {
             return Err((parts, fault));
         }
-        match measure(&parts) {
+        match measure(&parts, limits) {
             Err(fault) => Err((parts, fault)),
             Ok(size) => Ok(Message::of_valid(parts, size)),
         }

@@ -22,6 +22,7 @@ mod parts;
 mod read_body;
 mod read_fields;
 mod stated;
+mod within;
 
 pub use answer::Answer;
 pub use build_fault::BuildFault;

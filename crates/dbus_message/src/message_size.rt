@@ -3,7 +3,6 @@
 
 ghost use Rattle.std.specs.Prelude.{◌≤◌, ◌+◌, map};
 ghost use Rattle.dbus_value_model.specs.ShortSignatures.{HasShortSignatures, HaveShortSignatures};
-ghost use Rattle.dbus_value_model.specs.declared.limits.TheConstants.{ARRAY_LIMIT};
 ghost use Rattle.dbus_value_model.specs.Values.{value_trees};
 ghost use Rattle.dbus_message.specs.Messages.{field_struct};
 ghost use Rattle.dbus_message.specs.MessageSizes.{IsFieldEnd, AreFieldEnds, HoldTheirNumbers};
@@ -12,22 +11,20 @@ ghost use Rattle.dbus_message.specs.PartsViews.{field_tree, field_trees, parts_t
 use crate::header_field::HeaderField;
 use crate::parts::Parts;
 use dbus_marshal::measure_coded;
-use dbus_value_model::{ARRAY_LIMIT, Limits, read_all_numbers, read_numbers};
+use dbus_value_model::{Limits, read_all_numbers, read_numbers};
 use std::alloc::Allocator;
 
-/// Where the longest field array ends, whose contents begin at 16.
-const FIELDS_LIMIT: u64 = 16 + ARRAY_LIMIT as u64;
-
-/// Where a field ends that begins at `at`, or nothing where an array in it is too long, or the field array with it.
-fn field_end<A: Allocator>(field: &HeaderField<A>, at: u64) -> Option<u64>
-    requires start { at ≤ 16 + ARRAY_LIMIT }
+/// Where a field ends that begins at `at`, or nothing where an array in it is too long, or the field array with it, whose
+/// contents begin at 16.
+fn field_end<A: Allocator>(field: &HeaderField<A>, at: u64, limits: Limits) -> Option<u64>
+    requires start { at ≤ 16 + limits.array }
     requires signed { HasShortSignatures (field_struct (field_tree field.now)) }
-    ensures { IsFieldEnd (field_tree field.now) at result }
+    ensures { IsFieldEnd limits (field_tree field.now) at result }
 {
-    match measure_coded(&field.value, at, Limits::specification()) {
+    match measure_coded(&field.value, at, limits) {
         None => None,
         Some(end) => {
-            if end > FIELDS_LIMIT {
+            if end > 16 + u64::from(limits.array) {
                 return None;
             }
             Some(end)
@@ -36,13 +33,13 @@ fn field_end<A: Allocator>(field: &HeaderField<A>, at: u64) -> Option<u64>
 }
 
 /// Where the fields end, the first of which begins at 16, or nothing where the field array or an array in it is too long.
-pub fn fields_end<A: Allocator>(fields: &[HeaderField<A>]) -> Option<u64>
+pub fn fields_end<A: Allocator>(fields: &[HeaderField<A>], limits: Limits) -> Option<u64>
     requires signed { HaveShortSignatures (value_trees (map field_struct (field_trees fields.now))) }
-    ensures { AreFieldEnds (field_trees fields.now) 16 result }
+    ensures { AreFieldEnds limits (field_trees fields.now) 16 result }
 {
     let mut at = 16;
     for field in fields {
-        match field_end(field, at) {
+        match field_end(field, at, limits) {
             Some(end) => at = end,
             None => return None,
         }

@@ -4,7 +4,7 @@
 use crate::answers::{bytes_of, is_encoded, whole};
 use dbus_message::{BuildFault, HeaderField, Message, Parts};
 use dbus_types::SigType;
-use dbus_value::{Order, Value};
+use dbus_value::{Limits, Order, Value};
 use std::alloc::{AllocError, Global};
 use std::process::Abort;
 use std::test::Fail;
@@ -174,6 +174,17 @@ const REFUSED: &[(Row, BuildFault)] = &[
     ),
 ];
 
+// The parts of a message of 24 bytes, whose field array has 8 and whose field's value stands within three containers.
+const SHORT: Row = (2, 1, &[(5, Item::U32(1))], &[]);
+
+// Limits on messages, arrays and open containers, and the first case that holds of those parts under them.
+const LIMITED: &[(u32, u32, u8, Option<BuildFault>)] = &[
+    (24, 8, 3, None),
+    (23, 67_108_864, 64, Some(BuildFault::MessageTooLong)),
+    (134_217_728, 7, 64, Some(BuildFault::ArrayTooLong)),
+    (134_217_728, 67_108_864, 2, Some(BuildFault::TooDeep)),
+];
+
 // A BYTE within that many variants.
 fn nested(alloc: Global, count: usize) -> Result<Value, AllocError> {
     let mut value = Value::Byte(1);
@@ -287,6 +298,28 @@ fn parts_that_are_no_message(rt: HostRuntime) -> Result<(), Fail> {
     for (n, (row, fault)) in REFUSED.iter().enumerate() {
         let found = refused(&rt, alloc, n, parts_of(alloc, row)?);
         assert_eq!(rt; found, (*fault, row.2.len(), row.3.len()), "at {n}");
+    }
+    Ok(())
+}
+
+// Why parts are no message under limits, or nothing where they are one.
+fn fault_within(alloc: Global, parts: Parts, limits: Limits) -> Option<BuildFault> {
+    match Message::new_within(alloc, parts, limits) {
+        Ok(_) => None,
+        Err((_, fault)) => Some(fault),
+    }
+}
+
+// The message keeps the limits exactly where its parts are a message under them.
+#[test]
+fn parts_under_limits(rt: HostRuntime) -> Result<(), Fail> {
+    let alloc = rt.alloc();
+    let whole = message_of(&rt, alloc, 0, parts_of(alloc, &SHORT)?);
+    for (n, (message, array, depth, wanted)) in LIMITED.iter().enumerate() {
+        let limits = Limits::new(*message, *array, *depth).expect(&rt, "limits in range");
+        let found = fault_within(alloc, parts_of(alloc, &SHORT)?, limits);
+        assert_eq!(rt; found, *wanted, "at {n}");
+        assert!(rt; whole.within(limits) == wanted.is_none(), "at {n}");
     }
     Ok(())
 }

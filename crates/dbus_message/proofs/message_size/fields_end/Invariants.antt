@@ -1,4 +1,4 @@
-use Rattle.std.proofs.Common.{◌≤◌, ℕ, Option, drop}
+use Rattle.std.proofs.Common.{◌≤◌, ◌+◌, ℕ, Option, drop}
 use Rattle.dbus_value_model.specs.ShortSignatures.{HaveShortSignatures}
 use Rattle.dbus_message.specs.MessageSizes.{AreFieldEnds}
 use Rattle.dbus_message.specs.PartsViews.{field_trees}
@@ -7,7 +7,7 @@ use Rattle.dbus_message.proofs.message_size.fields_end.Given as goal
 
 abbrev pub invariant-loop-field : goal.invariant-loop-field
 invariant-loop-field g l = record {
-  near : l.at ≤ 67_108_880;
+  near : l.at ≤ 16 + l.limits.array;
   signed : HaveShortSignatures (structs (drop l.field-index l.fields));
-  so_far : (r : Option ℕ) → AreFieldEnds (field_trees (drop l.field-index l.fields)) l.at r → AreFieldEnds (field_trees l.fields) 16 r;
+  so_far : (r : Option ℕ) → AreFieldEnds l.limits (field_trees (drop l.field-index l.fields)) l.at r → AreFieldEnds l.limits (field_trees l.fields) 16 r;
 }

@@ -1,0 +1,15 @@
+use Rattle.dbus_message.proofs.Built.{only_memory}
+use Rattle.dbus_message.proofs.PackedFacts.{parts_packed}
+use Rattle.dbus_message.proofs.message.Message.new_within.Goals as goal
+
+pub returns-in-Err-clause-accepted : goal.returns-in-Err-clause-accepted
+returns-in-Err-clause-accepted g c = only_memory c.args.limits c.args.parts c.in-Err.fault (c.in-Err.ensures c.args.limits)
+
+pub returns-in-Err-check_contents-clause-accepted : goal.returns-in-Err-check_contents-clause-accepted
+returns-in-Err-check_contents-clause-accepted g c = only_memory c.args.limits c.args.parts c.in-Err-check_contents.fault c.in-Err-check_contents.ensures
+
+pub returns-in-Err-measure-clause-accepted : goal.returns-in-Err-measure-clause-accepted
+returns-in-Err-measure-clause-accepted g c = only_memory c.args.limits c.args.parts c.in-Err-measure.fault c.in-Err-measure.ensures
+
+pub of_valid-requires-clause-packed : goal.of_valid-requires-clause-packed
+of_valid-requires-clause-packed g c = parts_packed c.args.limits c.args.parts c.in-Ok.ensures.2
