@@ -1,6 +1,9 @@
 -- What keeps limits keeps wider ones.
 use Rattle.std.proofs.Common.{ℕ, zero, suc, ◌+◌, ◌≤◌, length, arith}
 use Rattle.dbus_value_model.specs.declared.order.Order.{Order}
+use Rattle.dbus_value_model.specs.declared.order.Order.TheVariants.{Little}
+use Rattle.dbus_message.specs.Messages.{field_array, body_start}
+use Rattle.dbus_message.specs.OutcomeLaws.{WiderLimits}
 use Rattle.dbus_value_model.specs.Bytes.{gap_to}
 use Rattle.dbus_value_model.specs.Forming.{NestsWithin, NestWithin}
 use Rattle.dbus_value_model.specs.Spelling.{contents_start, ended_text, spelling, spellings, IsWithinLimits, AreWithinLimits}
@@ -40,3 +43,13 @@ module _ (array longer : ℕ) (le : array ≤ longer) (order : Order) where
     pub are_within_wider : (o : ℕ) (vs : ValueTrees) → AreWithinLimits array order o vs → AreWithinLimits longer order o vs
     are_within_wider o NoValues h = tt
     are_within_wider o (MoreValues x xs) h = (within_wider o x h.0, are_within_wider (o + length (spelling order o x)) xs h.1)
+
+pub wider_limits : WiderLimits
+wider_limits limits wider m longer arrays deeper keeps = (
+  (nests_wider limits.depth wider.depth (field_array m.fields) deeper keeps.0.0, nest_wider limits.depth wider.depth m.body deeper keeps.0.1),
+  (
+    within_wider limits.array wider.array arrays Little 12 (field_array m.fields) keeps.1.0,
+    are_within_wider limits.array wider.array arrays Little (body_start Little m.fields) m.body keeps.1.1,
+  ),
+  λ long. keeps.2 (omega (arith, longer, long)),
+)

@@ -1,10 +1,12 @@
 -- The laws of messages and of the three outcomes.
 -- D-Bus Specification, "Message Protocol".
-use Rattle.std.specs.Prelude.{◌≡◌, ℕ, ◌⊎◌, List, ◌++◌, length}
+use Rattle.std.specs.Prelude.{◌≡◌, ℕ, ◌≤◌, ◌⊎◌, List, ◌++◌, length}
 use Rattle.dbus_value_model.specs.declared.order.Order.{Order}
 use Rattle.dbus_value_model.specs.declared.order.Order.TheVariants.{Little, Big}
 use Rattle.dbus_value_model.specs.declared.fault.Fault.{Fault}
 use Rattle.dbus_value_model.specs.Bytes.{IsBytes}
+use Rattle.dbus_value_model.specs.declared.limits.Limits.{Limits}
+use Rattle.dbus_message.specs.BuildFaults.{KeepsLimits}
 use Rattle.dbus_message.specs.Messages.{MessageTree, message_bytes}
 use Rattle.dbus_message.specs.ValidMessages.{IsValidMessage}
 use Rattle.dbus_message.specs.MessageOutcomes.{IsWhole, IsRefused, IsPartial}
@@ -44,3 +46,8 @@ WholeForGood = (b c : List ℕ) (order : Order) (m : MessageTree) (n : ℕ) → 
 -- What is refused stays so, whatever follows.
 abbrev pub RefusedForGood : Type 0
 RefusedForGood = (b c : List ℕ) (f : Fault) → IsRefused b f → IsRefused (b ++ c) f
+
+-- A message that keeps limits keeps limits none of which is smaller.
+abbrev pub WiderLimits : Type 0
+WiderLimits = (limits wider : Limits) (m : MessageTree) → limits.message ≤ wider.message → limits.array ≤ wider.array → limits.depth ≤ wider.depth
+    → KeepsLimits limits m → KeepsLimits wider m

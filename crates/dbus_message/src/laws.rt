@@ -2,7 +2,7 @@
 //! function's contract is a law; it does nothing when it runs.
 #![tactic(auto)]
 
-ghost use Rattle.dbus_message.specs.OutcomeLaws.{OneMessage, OneLength, SomeOutcome, OneOutcome, OneWhole, OneFault, WholeForGood, RefusedForGood};
+ghost use Rattle.dbus_message.specs.OutcomeLaws.{OneMessage, OneLength, SomeOutcome, OneOutcome, OneWhole, OneFault, WholeForGood, RefusedForGood, WiderLimits};
 ghost use Rattle.dbus_message.specs.StatedLaws.{StatedHolds, WholeStates, OneStated, SomeStated};
 
 /// No message's bytes begin another message's, and bytes spell at most one message in at most one order.
@@ -64,4 +64,9 @@ pub fn one_stated()
 /// Sixteen bytes and more state a length or are refused.
 pub fn some_stated()
     ensures { SomeStated }
+{}
+
+/// A message that keeps limits keeps limits none of which is smaller.
+pub fn wider_limits()
+    ensures { WiderLimits }
 {}

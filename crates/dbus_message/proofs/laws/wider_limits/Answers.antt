@@ -1,0 +1,5 @@
+use Rattle.dbus_message.proofs.Widening.{wider_limits}
+use Rattle.dbus_message.proofs.laws.wider_limits.Goals as goal
+
+pub returns : goal.returns
+returns c = wider_limits
