@@ -26,7 +26,7 @@ pub enum BuildFault {
     FieldType(u8),
     /// The message type requires a field of this code, the lowest that is missing.
     FieldMissing(u8),
-    /// More than 64 containers would be open at once. A field's value stands within three.
+    /// More containers would be open at once than the limit on depth. A field's value stands within three.
     TooDeep,
     /// The text of a known field of this code, the first of such, is not of the field's kind.
     Name(u8),
@@ -36,9 +36,9 @@ pub enum BuildFault {
     Value(usize),
     /// The types of the body's values are not those of the SIGNATURE field, which are none where it is absent.
     SignatureDiffers,
-    /// The contents of the field array, or of an array in the message, are over 67,108,864 bytes.
+    /// The contents of the field array, or of an array in the message, are over the limit on arrays.
     ArrayTooLong,
-    /// The message is over 134,217,728 bytes.
+    /// The message is over the limit on messages.
     MessageTooLong,
 }
 

@@ -12,7 +12,7 @@ pub enum Reason {
     Version,
     /// The serial, or a REPLY_SERIAL, is 0.
     ZeroSerial,
-    /// An array's length is over 67,108,864 bytes.
+    /// An array's length is over the limit on arrays: 67,108,864 bytes, or fewer where such a limit is handed in.
     ArrayTooLong,
     /// The header, its padding and the body have more than 134,217,728 bytes.
     MessageTooLong,
@@ -50,7 +50,7 @@ pub enum Reason {
     FieldMissing(u8),
     /// Bytes are left behind the body's last value, or behind the message.
     Trailing,
-    /// A container is opened while 64 are open.
+    /// A container is opened while as many are open as the limit on depth: 64, or fewer where such a limit is handed in.
     TooDeep,
     /// The input ends within a message.
     Truncated,

@@ -16,7 +16,7 @@ pub const MESSAGE_LIMIT: u32 = 134_217_728;
 /// D-Bus Specification, "Valid Signatures", for the limit on nesting.
 pub const DEPTH_LIMIT: u8 = 64;
 
-/// The limits that messages are read and made within, none of them over that of the specification.
+/// The limits that values are read and written within, and messages made, none of them over that of the specification.
 #[derive(Clone, Copy, PartialEq, Eq, Debug)]
 pub struct Limits {
     /// The most bytes that a message has, at most [`MESSAGE_LIMIT`].

@@ -11,7 +11,7 @@ use std::alloc::AllocError;
 pub enum ValueFault {
     /// A growth of memory was refused.
     Memory,
-    /// More than 64 arrays, structs and variants are open at once.
+    /// More arrays, structs and variants are open at once than the limit on depth.
     TooDeep,
     /// A part has no type that fits its place: an item has another type than its array's, an array of BYTE is not
     /// `Bytes`, a dict entry stands outside an array or its key is not basic, a struct is empty, or a type spells no
@@ -19,9 +19,9 @@ pub enum ValueFault {
     Mixed,
     /// A path or a signature is none, or a text has U+0000.
     Name,
-    /// The contents of an array end past 67,108,864 bytes from their start.
+    /// The contents of an array end past the limit on arrays, from their start.
     ArrayTooLong,
-    /// The value ends past 134,217,728 bytes from the message's first byte.
+    /// The value ends past the limit on messages, from the message's first byte.
     TooLong,
 }
 
