@@ -5,6 +5,8 @@ use Rattle.std.proofs.lemmas.List.{drop_more, drop_all, length-append}
 use Rattle.dbus_types.specs.SigTypes.{type_tree, type_trees_of}
 use Rattle.dbus_types.specs.Types.{TypeTree, TypeTrees, NoTypes, MoreTypes, IsSingleType, AreComplete, sig, sigs}
 use Rattle.dbus_types.specs.declared.sig_type.SigType.{SigType}
+use Rattle.dbus_value_model.specs.Specification.{bounds_of}
+use Rattle.dbus_value_model.specs.declared.limits.Limits.{Limits}
 use Rattle.dbus_value_model.specs.declared.order.Order.{Order}
 use Rattle.dbus_value_model.specs.declared.fault.Reason.TheVariants as reasons
 use Rattle.dbus_value_model.specs.declared.stop.Stop.{Stop}
@@ -13,10 +15,8 @@ use Rattle.dbus_value_model.specs.Items.{fault}
 use Rattle.dbus_value_model.specs.Values.{ValueTree, ValueTrees, NoValues, MoreValues, value_trees}
 use Rattle.dbus_value_model.specs.Reading.{Reader, Outcome, Done, Faulty, Partial, after, pure, fields, value, ends}
 use Rattle.dbus_unmarshal.proofs.ReadSteps.{stops_after}
-use Rattle.dbus_message.specs.Bounds.{bounds}
 use Rattle.dbus_message.specs.HeaderReading.{body_read}
 use Rattle.dbus_message.specs.SingleTypes.{AreSingleTypes}
-use Rattle.dbus_message.specs.ValidMessages.{room_in_field}
 
 -- values before others
 abbrev pub joined : List ValueTree → ValueTrees → ValueTrees
@@ -56,17 +56,17 @@ module _ (part : TypeTree → Reader ValueTree) (front : List ValueTree) (o : �
 
 -- ---- the body
 
-module _ (order : Order) (end : ℕ) (ts : TypeTrees) (o : ℕ) (s : List ℕ) where
-  pub body_stopped : (e : Stop) → Stops e (fields (value bounds order 64 end) ts o s) → Stops e (body_read order ts end o s)
-  unfolding body_read room_in_field
-  body_stopped e h = stops_after e (fields (value bounds order 64 end) ts o s) (λ xs p t. after (ends end p t) (λ _. pure xs)) h
+module _ (limits : Limits) (order : Order) (end : ℕ) (ts : TypeTrees) (o : ℕ) (s : List ℕ) where
+  pub body_stopped : (e : Stop) → Stops e (fields (value (bounds_of limits) order limits.depth end) ts o s) → Stops e (body_read limits order ts end o s)
+  unfolding body_read
+  body_stopped e h = stops_after e (fields (value (bounds_of limits) order limits.depth end) ts o s) (λ xs p t. after (ends end p t) (λ _. pure xs)) h
 
-  pub body_trailing : (vs : ValueTrees) (q : ℕ) (r : List ℕ) → fields (value bounds order 64 end) ts o s ≡ Done vs q r → q < end → body_read order ts end o s ≡ Faulty (fault q reasons.Trailing)
-  unfolding body_read room_in_field ends
+  pub body_trailing : (vs : ValueTrees) (q : ℕ) (r : List ℕ) → fields (value (bounds_of limits) order limits.depth end) ts o s ≡ Done vs q r → q < end → body_read limits order ts end o s ≡ Faulty (fault q reasons.Trailing)
+  unfolding body_read ends
   body_trailing vs q r e h = rw (e, lt-ltb _ _ h) refl
 
-  pub body_whole : (vs : ValueTrees) (q : ℕ) (r : List ℕ) → fields (value bounds order 64 end) ts o s ≡ Done vs q r → q ≡ end → body_read order ts end o s ≡ Done vs q r
-  unfolding body_read room_in_field ends
+  pub body_whole : (vs : ValueTrees) (q : ℕ) (r : List ℕ) → fields (value (bounds_of limits) order limits.depth end) ts o s ≡ Done vs q r → q ≡ end → body_read limits order ts end o s ≡ Done vs q r
+  unfolding body_read ends
   body_whole vs q r e h = rw (e, le-ltb q end (omega arith), eq-eqb q end h) refl
 
 -- ---- the types

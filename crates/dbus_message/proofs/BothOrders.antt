@@ -1,14 +1,14 @@
 -- A message that is valid and within the limits in one byte order is so in the other.
 use Rattle.std.proofs.Common.{◌≡◌, ℕ, ◌+◌, ◌≤◌, List, length, refl, sym, ap, subst}
 use Rattle.dbus_types.specs.Types.{sig}
-use Rattle.dbus_value_model.specs.declared.limits.TheConstants.{ARRAY_LIMIT, MESSAGE_LIMIT}
+use Rattle.dbus_value_model.specs.declared.limits.Limits.{Limits}
 use Rattle.dbus_value_model.specs.declared.order.Order.{Order}
 use Rattle.dbus_value_model.specs.declared.order.Order.TheVariants.{Little, Big}
 use Rattle.dbus_value_model.specs.Bytes.{gap_to}
 use Rattle.dbus_value_model.specs.Spelling.{spelling, spellings, contents_start, ended_text, IsWithinLimits, AreWithinLimits}
 use Rattle.dbus_value_model.specs.Values.{ValueTree, ValueTrees, NoValues, MoreValues, NumberValue, TextValue, VariantValue, ArrayValue, StructValue, EntryValue, type_of}
 use Rattle.dbus_message.specs.Messages.{FieldTree, MessageTree, message_bytes, field_array, fields_end, body_start, IsMessage}
-use Rattle.dbus_message.specs.ValidMessages.{room_in_field, IsValidMessage}
+use Rattle.dbus_message.specs.ValidMessages.{IsValidMessage}
 use Rattle.dbus_message.proofs.MessageOutcomes.{same_ended, same_length, same_lengths, same_message_length}
 
 pub any_ended : (order other : Order) (w : ℕ) (t : List ℕ) → length (ended_text order w t) ≡ length (ended_text other w t)
@@ -36,27 +36,27 @@ any_message_length Big Little m = sym (same_message_length m)
 any_message_length Big Big m = refl
 
 mutual
-  pub any_within : (order other : Order) (o : ℕ) (v : ValueTree) → IsWithinLimits ARRAY_LIMIT order o v → IsWithinLimits ARRAY_LIMIT other o v
-  any_within order other o (NumberValue k n) h = tt
-  any_within order other o (TextValue k t) h = tt
-  any_within order other o (VariantValue x) h =
-      any_within order other (o + length (ended_text other 1 (sig (type_of x)))) x
-      (subst (λ (n : ℕ). IsWithinLimits ARRAY_LIMIT order (o + n) x) (any_ended order other 1 (sig (type_of x))) h)
-  any_within order other o (ArrayValue t xs) h =
-      (subst (λ (n : ℕ). n ≤ ARRAY_LIMIT) (any_lengths order other (contents_start t o) xs) h.0, any_within_all order other (contents_start t o) xs h.1)
-  any_within order other o (StructValue xs) h = any_within_all order other (o + gap_to 8 o) xs h
-  any_within order other o (EntryValue k x) h = (
-    any_within order other (o + gap_to 8 o) k h.0,
-    any_within order other (o + gap_to 8 o + length (spelling other (o + gap_to 8 o) k)) x
-        (subst (λ (n : ℕ). IsWithinLimits ARRAY_LIMIT order (o + gap_to 8 o + n) x) (any_length order other (o + gap_to 8 o) k) h.1),
+  pub any_within : (array : ℕ) (order other : Order) (o : ℕ) (v : ValueTree) → IsWithinLimits array order o v → IsWithinLimits array other o v
+  any_within array order other o (NumberValue k n) h = tt
+  any_within array order other o (TextValue k t) h = tt
+  any_within array order other o (VariantValue x) h =
+      any_within array order other (o + length (ended_text other 1 (sig (type_of x)))) x
+      (subst (λ (n : ℕ). IsWithinLimits array order (o + n) x) (any_ended order other 1 (sig (type_of x))) h)
+  any_within array order other o (ArrayValue t xs) h =
+      (subst (λ (n : ℕ). n ≤ array) (any_lengths order other (contents_start t o) xs) h.0, any_within_all array order other (contents_start t o) xs h.1)
+  any_within array order other o (StructValue xs) h = any_within_all array order other (o + gap_to 8 o) xs h
+  any_within array order other o (EntryValue k x) h = (
+    any_within array order other (o + gap_to 8 o) k h.0,
+    any_within array order other (o + gap_to 8 o + length (spelling other (o + gap_to 8 o) k)) x
+        (subst (λ (n : ℕ). IsWithinLimits array order (o + gap_to 8 o + n) x) (any_length order other (o + gap_to 8 o) k) h.1),
   )
 
-  pub any_within_all : (order other : Order) (o : ℕ) (vs : ValueTrees) → AreWithinLimits ARRAY_LIMIT order o vs → AreWithinLimits ARRAY_LIMIT other o vs
-  any_within_all order other o NoValues h = tt
-  any_within_all order other o (MoreValues x xs) h = (
-    any_within order other o x h.0,
-    any_within_all order other (o + length (spelling other o x)) xs
-        (subst (λ (n : ℕ). AreWithinLimits ARRAY_LIMIT order (o + n) xs) (any_length order other o x) h.1),
+  pub any_within_all : (array : ℕ) (order other : Order) (o : ℕ) (vs : ValueTrees) → AreWithinLimits array order o vs → AreWithinLimits array other o vs
+  any_within_all array order other o NoValues h = tt
+  any_within_all array order other o (MoreValues x xs) h = (
+    any_within array order other o x h.0,
+    any_within_all array order other (o + length (spelling other o x)) xs
+        (subst (λ (n : ℕ). AreWithinLimits array order (o + n) xs) (any_length order other o x) h.1),
   )
 
 pub any_fields_end : (order other : Order) (fs : List FieldTree) → fields_end order fs ≡ fields_end other fs
@@ -65,8 +65,8 @@ any_fields_end order other fs = ap (λ (n : ℕ). 12 + n) (any_length order othe
 pub any_body_start : (order other : Order) (fs : List FieldTree) → body_start order fs ≡ body_start other fs
 any_body_start order other fs = ap (λ (n : ℕ). n + gap_to 8 n) (any_fields_end order other fs)
 
-pub any_order : (order other : Order) (inner : ℕ) (m : MessageTree) → IsMessage order inner m → IsMessage other inner m
-any_order order other inner m h = record {
+pub any_order : (limits : Limits) (order other : Order) (m : MessageTree) → IsMessage limits order m → IsMessage limits other m
+any_order limits order other m h = record {
   kind = h.kind;
   kind_fits = h.kind_fits;
   flags = h.flags;
@@ -74,14 +74,14 @@ any_order order other inner m h = record {
   serial_fits = h.serial_fits;
   fields = h.fields;
   formed_fields = h.formed_fields;
-  within_fields = any_within order other 12 (field_array m.fields) h.within_fields;
+  within_fields = any_within limits.array order other 12 (field_array m.fields) h.within_fields;
   required_codes = h.required_codes;
   signature = h.signature;
   formed_body = h.formed_body;
-  within_body = any_within_all order other (body_start other m.fields) m.body
-      (subst (λ (n : ℕ). AreWithinLimits ARRAY_LIMIT order n m.body) (any_body_start order other m.fields) h.within_body);
-  limit = subst (λ (n : ℕ). n ≤ MESSAGE_LIMIT) (any_message_length order other m) h.limit;
+  within_body = any_within_all limits.array order other (body_start other m.fields) m.body
+      (subst (λ (n : ℕ). AreWithinLimits limits.array order n m.body) (any_body_start order other m.fields) h.within_body);
+  limit = subst (λ (n : ℕ). n ≤ limits.message) (any_message_length order other m) h.limit;
 }
 
-pub valid_from : (order : Order) (m : MessageTree) → IsMessage order room_in_field m → IsValidMessage m
-valid_from order m h other = any_order order other room_in_field m h
+pub valid_from : (limits : Limits) (order : Order) (m : MessageTree) → IsMessage limits order m → IsValidMessage limits m
+valid_from limits order m h other = any_order limits order other m h

@@ -1,7 +1,8 @@
 -- Parts of which no case of fault holds are valid, and no others are.
-use Rattle.std.proofs.Common.{◌≡◌, inl, inr, ℕ, suc, ◌+◌, ◌<◌, ◌≤◌, List, [], ◌∷◌, length, map, None, Some, refl, sym, ap, subst, ◌∙◌, arith}
+use Rattle.std.proofs.Common.{◌≡◌, inl, inr, ℕ, ◌+◌, ◌<◌, ◌≤◌, List, [], ◌∷◌, length, map, None, Some, refl, sym, ap, subst, ◌∙◌, arith}
 use Rattle.std.proofs.lemmas.List.{length-append}
 use Rattle.dbus_value_model.specs.declared.limits.Limits.{Limits}
+use Rattle.dbus_value_model.specs.Specification.{specification}
 use Rattle.dbus_value_model.specs.declared.limits.TheConstants.{ARRAY_LIMIT, MESSAGE_LIMIT}
 use Rattle.dbus_value_model.specs.declared.order.Order.TheVariants.{Little}
 use Rattle.dbus_value_model.specs.Bytes.{gap_to, num}
@@ -9,7 +10,7 @@ use Rattle.dbus_value_model.specs.Forming.{AreUniform, AreNamed}
 use Rattle.dbus_value_model.specs.Measures.{AreMeasured}
 use Rattle.dbus_value_model.specs.ShortSignatures.{HaveShortSignatures}
 use Rattle.dbus_value_model.specs.Spelling.{spelling, spellings, IsWithinLimits, AreWithinLimits}
-use Rattle.dbus_value_model.specs.Values.{value_trees, IsWellFormed, AreWellFormed}
+use Rattle.dbus_value_model.specs.Values.{value_trees}
 use Rattle.dbus_value_model.specs.ValueViews.{value_trees_of}
 use Rattle.dbus_value_model.specs.declared.value.Value.{Value}
 use Rattle.dbus_value_model.proofs.Formed.{formed_of, all_formed_of}
@@ -22,7 +23,7 @@ use Rattle.dbus_message.specs.declared.parts.Parts.{Parts}
 use Rattle.dbus_message.specs.Messages.{FieldTree, MessageTree, field_struct, field_array, fields_end, body_start, message_bytes}
 use Rattle.dbus_message.specs.MessageSizes.{HoldTheirNumbers, AreFieldEnds}
 use Rattle.dbus_message.specs.PartsViews.{parts_tree}
-use Rattle.dbus_message.specs.ValidMessages.{room_in_field, IsValidMessage}
+use Rattle.dbus_message.specs.ValidMessages.{IsValidMessage}
 use Rattle.dbus_message.proofs.BothOrders.{valid_from}
 use Rattle.dbus_message.proofs.FaultyBody.{none_unsound}
 use Rattle.dbus_message.proofs.FaultyFields.{not_both}
@@ -55,14 +56,10 @@ module _ (limits : Limits) where
 
   -- ---- the message
 
-  room_is : suc (suc (suc room_in_field)) ≡ 64
-  unfolding room_in_field
-  room_is = refl
-
   within_whole : (m : MessageTree) → (length (spelling Little 12 (field_array m.fields)) ≤ length (message_bytes Little m)) × (length (spellings Little (body_start Little m.fields) m.body) ≤ length (message_bytes Little m))
-  within_whole m = (omega (arith, limits.array_in, limits.message_in, message_length Little 0 m), omega (arith, limits.array_in, limits.message_in, message_length Little 0 m))
+  within_whole m = (omega (arith, limits.array_in, limits.message_in, message_length Little m), omega (arith, limits.array_in, limits.message_in, message_length Little m))
 
-  pub valid : {A : Type 0} (p : Parts A) → SignaturePasses limits p → HoldTheirNumbers (parts_tree p) → KeepsArrays limits (parts_tree p) → (IsLong limits (parts_tree p) → ⊥) → IsValidMessage (parts_tree p)
+  pub valid : {A : Type 0} (p : Parts A) → SignaturePasses limits p → HoldTheirNumbers (parts_tree p) → KeepsArrays limits (parts_tree p) → (IsLong limits (parts_tree p) → ⊥) → IsValidMessage specification (parts_tree p)
   valid p s holds arrays long =
       let m = parts_tree p in
       let short : length (message_bytes Little m) ≤ MESSAGE_LIMIT = omega (arith, limits.array_in, limits.message_in, long) in
@@ -74,18 +71,18 @@ module _ (limits : Limits) where
       let named = named_all 0 p.body.items s.0.1 in
       let ranged = all_ranged_of (body_start Little m.fields) m.body holds.body named (omega (arith, limits.array_in, limits.message_in, inside.1)) in
       let header = ranged_of 12 (field_array m.fields) (fields_hold m.fields holds.fields) fields.named (omega (arith, limits.array_in, limits.message_in, inside.0)) in
-      valid_from Little m (record {
+      valid_from specification Little m (record {
         kind = positive m.kind s.0.0.0.0.0.0.0.0.0.0;
         kind_fits = holds.kind;
         flags = holds.flags;
         serial = positive m.serial s.0.0.0.0.0.0.0.0.0.1;
         serial_fits = holds.serial;
         fields = are_fields [] [] m.fields (λ c. refl) all s.0.0.0.0.0.0.0.1;
-        formed_fields = subst (λ (room : ℕ). IsWellFormed room (field_array m.fields)) (sym room_is) (formed_of 64 (field_array m.fields) (nests_wider limits.depth 64 (field_array m.fields) limits.depth_in shallow.0) (fields.typed, fields.uniform) fields.named header);
+        formed_fields = (formed_of 64 (field_array m.fields) (nests_wider limits.depth 64 (field_array m.fields) limits.depth_in shallow.0) (fields.typed, fields.uniform) fields.named header);
         within_fields = within_wider limits.array ARRAY_LIMIT limits.array_in Little 12 (field_array m.fields) arrays.0;
         required_codes = s.0.0.0.0.0.1;
         signature = s.1;
-        formed_body = subst (λ (room : ℕ). AreWellFormed room m.body) (sym room_is) (all_formed_of 64 m.body (nest_wider limits.depth 64 m.body limits.depth_in shallow.1) uniform named ranged);
+        formed_body = (all_formed_of 64 m.body (nest_wider limits.depth 64 m.body limits.depth_in shallow.1) uniform named ranged);
         within_body = are_within_wider limits.array ARRAY_LIMIT limits.array_in Little (body_start Little m.fields) m.body arrays.1;
         limit = short;
       })
@@ -119,7 +116,7 @@ module _ (limits : Limits) where
       ap (λ (n : ℕ). n + gap_to 8 n) f ∙ ap (λ (n : ℕ). e + n) (sym gap)
 
   pub whole_at : (m : MessageTree) (s : ℕ) → body_start Little m.fields ≡ s → length (message_bytes Little m) ≡ s + length (spellings Little s m.body)
-  whole_at m s at = message_length Little 0 m ∙ ap (λ (n : ℕ). n + length (spellings Little n m.body)) at
+  whole_at m s at = message_length Little m ∙ ap (λ (n : ℕ). n + length (spellings Little n m.body)) at
 
   module _ (m : MessageTree) (e g : ℕ) (ends : AreFieldEnds limits m.fields 16 (Some e)) (gap : g ≡ gap_to 8 e) (few : g < 8) where
     start_near : e + g ≤ 24 + limits.array
@@ -138,7 +135,7 @@ module _ (limits : Limits) where
     pub too_long : (n : ℕ) → AreMeasured limits.array (parts_tree p).body (e + g) (Some n) → limits.message < n → ArraysPass limits p × IsLong limits (parts_tree p)
     too_long n h long = ((passed, keeps (parts_tree p) e g ends gap few n h), omega (arith, limits.array_in, limits.message_in, body_long limits (parts_tree p).body (e + g) n (start_near (parts_tree p) e g ends gap few) h long, whole_at (parts_tree p) (e + g) (start_is (parts_tree p) e g ends gap few)))
 
-    pub built : (n : ℕ) → AreMeasured limits.array (parts_tree p).body (e + g) (Some n) → n ≤ limits.message → HoldTheirNumbers (parts_tree p) → IsValidMessage (parts_tree p) × (n ≡ length (message_bytes Little (parts_tree p))) × NoFault limits p
+    pub built : (n : ℕ) → AreMeasured limits.array (parts_tree p).body (e + g) (Some n) → n ≤ limits.message → HoldTheirNumbers (parts_tree p) → IsValidMessage specification (parts_tree p) × (n ≡ length (message_bytes Little (parts_tree p))) × NoFault limits p
     built n h le holds =
         let size : n ≡ length (message_bytes Little (parts_tree p)) = body_ends limits (parts_tree p).body (e + g) n (start_near (parts_tree p) e g ends gap few) h le ∙ sym (whole_at (parts_tree p) (e + g) (start_is (parts_tree p) e g ends gap few)) in
         let short : IsLong limits (parts_tree p) → ⊥ = λ long. absurd (omega (arith, limits.array_in, limits.message_in, long, size, le)) in

@@ -51,8 +51,8 @@ mutual
   shorts_prop (MoreValues x xs) = ×_prop (short_prop x) (shorts_prop xs)
 
 -- the fields' structs too
-pub short_fields : (inner : ℕ) (fs : List FieldTree) → IsWellFormed (suc (suc (suc inner))) (field_array fs) → HaveShortSignatures (value_trees (map field_struct fs))
-short_fields inner fs h = short_all (suc (suc inner)) (value_trees (map field_struct fs)) h.1
+pub short_fields : (room : ℕ) (fs : List FieldTree) → IsWellFormed (suc room) (field_array fs) → HaveShortSignatures (value_trees (map field_struct fs))
+short_fields room fs h = short_all room (value_trees (map field_struct fs)) h.1
 
 -- ---- the bytes
 
@@ -148,13 +148,13 @@ module _ (order : Order) (m : MessageTree) where
   pub fits_fields : length with_fields ≤ length (message_bytes order m)
   fits_fields =
       let array = ap length contents_array ∙ length-append (num order 4 (length field_contents)) field_contents in
-      omega (arith, with_fields_length, message_length order 0 m, array, length-num order 4 (length field_contents))
+      omega (arith, with_fields_length, message_length order m, array, length-num order 4 (length field_contents))
 
   pub fits_start : length (with_padding 8 with_length) ≤ length (message_bytes order m)
-  fits_start = omega (arith, start_length, message_length order 0 m)
+  fits_start = omega (arith, start_length, message_length order m)
 
   pub fits_body : length with_body ≡ length (message_bytes order m)
-  fits_body = with_body_length ∙ sym (message_length order 0 m)
+  fits_body = with_body_length ∙ sym (message_length order m)
 
   pub long_start : 16 ≤ length (with_padding 8 with_length)
   long_start =

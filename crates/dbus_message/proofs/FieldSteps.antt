@@ -7,15 +7,15 @@ use Rattle.dbus_types.specs.Types.{TypeTree, sig}
 use Rattle.dbus_types.specs.declared.text_kind.TextKind.{TextKind}
 use Rattle.dbus_types.specs.declared.text_kind.TextKind.TheVariants as kinds
 use Rattle.dbus_types.proofs.KindFacts.{text_utf8}
+use Rattle.dbus_value_model.specs.Specification.{bounds_of}
+use Rattle.dbus_value_model.specs.declared.limits.Limits.{Limits}
 use Rattle.dbus_value_model.specs.declared.order.Order.{Order}
 use Rattle.dbus_value_model.specs.declared.fault.Reason.TheVariants as reasons
 use Rattle.dbus_value_model.specs.WantedTexts.{IsName, Of, Only}
 use Rattle.dbus_value_model.specs.Reading.{Done, value}
 use Rattle.dbus_unmarshal.proofs.KindLaws.{name_is_text, spelled_sig}
-use Rattle.dbus_message.specs.Bounds.{bounds}
 use Rattle.dbus_message.specs.Messages.{OfType, Anything}
 use Rattle.dbus_message.specs.MessageItems.{name_row}
-use Rattle.dbus_message.specs.ValidMessages.{room_in_field}
 use Rattle.dbus_message.specs.HeaderReading.{wanted_signature, wanted_value}
 
 -- ---- the length of a name
@@ -39,20 +39,16 @@ name_utf8 kind t n h = (text_utf8 t (name_is_text (Of kind) t n h).0).0
 
 -- ---- a field that holds a value of a type
 
-field_room : room_in_field ≡ 61
-unfolding room_in_field
-field_room = refl
-
-module _ (order : Order) (end : ℕ) (at : ℕ) (bytes : List ℕ) (q : ℕ) where
+module _ (limits : Limits) (order : Order) (end : ℕ) (at : ℕ) (bytes : List ℕ) (q : ℕ) where
   pub typed_value : (t : TypeTree) (wanted : List ℕ) → wanted ≡ sig t → wanted_signature order end (Only wanted) at (drop at bytes) ≡ Done (type_spelled wanted) q (drop q bytes)
-      → wanted_value order end (OfType t) at (drop at bytes) ≡ value bounds order 61 end t q (drop q bytes)
+      → wanted_value limits order end (OfType t) at (drop at bytes) ≡ value (bounds_of limits) order (limits.depth - 3) end t q (drop q bytes)
   unfolding wanted_value
   typed_value t wanted is h =
       let found : wanted_signature order end (Only (sig t)) at (drop at bytes) ≡ Done t q (drop q bytes) =
       ap (λ (u : List ℕ). wanted_signature order end (Only u) at (drop at bytes)) (sym is) ∙ h ∙ ap (λ (u : TypeTree). Done u q (drop q bytes)) (ap type_spelled is ∙ spelled_sig t) in
-      rw (found, field_room) refl
+      rw found refl
 
   pub any_value : (t : TypeTree) → wanted_signature order end (Of kinds.Single) at (drop at bytes) ≡ Done t q (drop q bytes)
-      → wanted_value order end Anything at (drop at bytes) ≡ value bounds order 61 end t q (drop q bytes)
+      → wanted_value limits order end Anything at (drop at bytes) ≡ value (bounds_of limits) order (limits.depth - 3) end t q (drop q bytes)
   unfolding wanted_value
-  any_value t h = rw (h, field_room) refl
+  any_value t h = rw h refl

@@ -1,8 +1,9 @@
 -- Steps of reading the items that have fixed places, and of any reader's exits.
-use Rattle.std.proofs.Common.{◌≡◌, ℕ, ◌+◌, ◌-◌, ◌%◌, ◌<◌, ◌≤◌, List, [], ◌∷◌, length, get_or, drop, Some, None, Result, refl, arith}
+use Rattle.std.proofs.Common.{◌≡◌, ℕ, ◌+◌, ◌<◌, ◌≤◌, List, [], ◌∷◌, length, get_or, drop, Some, None, Result, refl, arith}
 use Rattle.std.specs.Result.{IsErrAnd}
 use Rattle.std.proofs.lemmas.Result.{err_from_is_err_and}
 use Rattle.std.proofs.lemmas.Bool.{eq-eqb, ne_eqb, lt-ltb, le-ltb}
+use Rattle.dbus_value_model.specs.declared.limits.Limits.{Limits}
 use Rattle.dbus_value_model.specs.declared.order.Order.TheVariants.{Little, Big}
 use Rattle.dbus_value_model.specs.declared.fault.Reason.{Reason}
 use Rattle.dbus_value_model.specs.declared.fault.Reason.TheVariants as reasons
@@ -56,11 +57,11 @@ other_version p n h = rw (ne_eqb n 1 h) refl
 pub version_one : (p : ℕ) → version_row p 1 ≡ None
 version_one p = refl
 
-pub long_fields : (body p n : ℕ) → 67_108_864 < n → fields_row body p n ≡ Some reasons.ArrayTooLong
-long_fields body p n h = rw (lt-ltb _ _ h) refl
+pub long_fields : (limits : Limits) (body p n : ℕ) → limits.array < n → fields_row limits body p n ≡ Some reasons.ArrayTooLong
+long_fields limits body p n h = rw (lt-ltb _ _ h) refl
 
-pub long_message : (body p n : ℕ) → n ≤ 67_108_864 → 134_217_728 < p + n + gap_to 8 (p + n) + body → fields_row body p n ≡ Some reasons.MessageTooLong
-long_message body p n le h = rw (le-ltb _ _ le, lt-ltb _ _ h) refl
+pub long_message : (limits : Limits) (body p n : ℕ) → n ≤ limits.array → limits.message < p + n + gap_to 8 (p + n) + body → fields_row limits body p n ≡ Some reasons.MessageTooLong
+long_message limits body p n le h = rw (le-ltb _ _ le, lt-ltb _ _ h) refl
 
-pub fields_fit : (body p n : ℕ) → n ≤ 67_108_864 → p + n + gap_to 8 (p + n) + body ≤ 134_217_728 → fields_row body p n ≡ None
-fields_fit body p n le h = rw (le-ltb _ _ le, le-ltb _ _ h) refl
+pub fields_fit : (limits : Limits) (body p n : ℕ) → n ≤ limits.array → p + n + gap_to 8 (p + n) + body ≤ limits.message → fields_row limits body p n ≡ None
+fields_fit limits body p n le h = rw (le-ltb _ _ le, le-ltb _ _ h) refl

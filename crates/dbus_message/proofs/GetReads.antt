@@ -3,6 +3,7 @@ use Rattle.std.proofs.Common.{◌≡◌, ℕ, suc, ◌+◌, ◌<◌, ◌≤◌, 
 use Rattle.std.proofs.lemmas.List.{get_or-drop, length-drop, length-append}
 use Rattle.dbus_types.specs.Types.{TypeTree, IsSingleType, IsShaped}
 use Rattle.dbus_types.proofs.KindFacts.{shaped_of}
+use Rattle.dbus_value_model.specs.declared.limits.Bounds.{Bounds}
 use Rattle.dbus_value_model.specs.declared.order.Order.{Order}
 use Rattle.dbus_value_model.specs.declared.fault.Fault.{Fault}
 use Rattle.dbus_value_model.specs.Gets.{IsValuePartial}
@@ -13,7 +14,6 @@ use Rattle.dbus_value_model.specs.Values.{ValueTree}
 use Rattle.dbus_value_model.specs.ValueItems as faults
 use Rattle.dbus_unmarshal.proofs.ValueItemLaws.{positive}
 use Rattle.dbus_unmarshal.proofs.ValueOutcomes.{reads_spelled, reads_faults}
-use Rattle.dbus_message.specs.Bounds.{bounds}
 
 pub bytes_from : (s : List ℕ) → ((i : ℕ) → get_or s i 0 < 256) → IsBytes s
 bytes_from [] h = tt
@@ -22,7 +22,7 @@ bytes_from (b ∷ s) h = (h 0, bytes_from s (λ i. h (suc i)))
 pub bytes_at : (s : List ℕ) (at : ℕ) → ((i : ℕ) → get_or s i 0 < 256) → IsBytes (drop at s)
 bytes_at s at h = bytes_from (drop at s) (λ i. rw get_or-drop (h (at + i)))
 
-module _ (order : Order) (room end : ℕ) (t : TypeTree) (at : ℕ) (bytes : List ℕ) (complete : IsSingleType t) (are_bytes : IsBytes (drop at bytes)) where
+module _ (bounds : Bounds) (order : Order) (room end : ℕ) (t : TypeTree) (at : ℕ) (bytes : List ℕ) (complete : IsSingleType t) (are_bytes : IsBytes (drop at bytes)) where
   shaped : IsShaped false t
   shaped = shaped_of t false 0 0 complete.0
 

@@ -2,6 +2,7 @@
 use Rattle.std.proofs.Common.{◌≡◌, ℕ, ◌+◌, ◌⊎◌, List, ◌++◌, length, refl, sym, ap, ◌∙◌, arith, inl, inr, append_assoc}
 use Rattle.std.proofs.lemmas.List.{length-append, length-replicate}
 use Rattle.dbus_types.specs.Types.{sig}
+use Rattle.dbus_value_model.specs.declared.limits.Limits.{Limits}
 use Rattle.dbus_value_model.specs.declared.order.Order.{Order}
 use Rattle.dbus_value_model.specs.declared.order.Order.TheVariants.{Little, Big}
 use Rattle.dbus_value_model.specs.Bytes.{IsBytes, gap_to}
@@ -57,49 +58,49 @@ same_message_length m =
     let at : fields_end Little m.fields ≡ fields_end Big m.fields = ap (λ (u : ℕ). 12 + u) e in
     let start : body_start Little m.fields ≡ body_start Big m.fields = ap (λ (u : ℕ). u + gap_to 8 u) at in
     let b : length (body_bytes Little m) ≡ length (body_bytes Big m) = same_lengths m.body (body_start Little m.fields) ∙ ap (λ (u : ℕ). length (spellings Big u m.body)) start in
-    message_length Little 0 m ∙ omega (arith, b, start) ∙ sym (message_length Big 0 m)
+    message_length Little m ∙ omega (arith, b, start) ∙ sym (message_length Big m)
 
 pub one_message : OneMessage
-one_message inner order other m n x y a b same =
-    let both = agreed_value (message_items inner) (reads.message inner) (Agrees-message_items inner) 0 (message_bytes order m ++ x) (order, m) (length (message_bytes order m)) x (other, n) (length (message_bytes other n)) y
-    ((message_passed inner (message_bytes order m ++ x) (order, m) (length (message_bytes order m)) x).1 (a, refl, refl))
-    ((message_passed inner (message_bytes order m ++ x) (other, n) (length (message_bytes other n)) y).1 (b, same, refl)) in
+one_message limits order other m n x y a b same =
+    let both = agreed_value (message_items limits) (reads.message limits) (Agrees-message_items limits) 0 (message_bytes order m ++ x) (order, m) (length (message_bytes order m)) x (other, n) (length (message_bytes other n)) y
+    ((message_passed limits (message_bytes order m ++ x) (order, m) (length (message_bytes order m)) x).1 (a, refl, refl))
+    ((message_passed limits (message_bytes order m ++ x) (other, n) (length (message_bytes other n)) y).1 (b, same, refl)) in
     (ap (λ (p : Order × MessageTree). p.0) both.0, ap (λ (p : Order × MessageTree). p.1) both.0, both.2)
 
-whole_passed : (inner : ℕ) (b : List ℕ) (order : Order) (m : MessageTree) (n : ℕ) → (w : IsWhole inner b order m n) → (message_items inner).Passed 0 b (order, m) n w.rest
-whole_passed inner b order m n w = (message_passed inner b (order, m) n w.rest).1 (w.message, w.bytes, w.size)
+whole_passed : (limits : Limits) (b : List ℕ) (order : Order) (m : MessageTree) (n : ℕ) → (w : IsWhole limits b order m n) → (message_items limits).Passed 0 b (order, m) n w.rest
+whole_passed limits b order m n w = (message_passed limits b (order, m) n w.rest).1 (w.message, w.bytes, w.size)
 
 pub message_not_both : MessageNotBoth
-message_not_both inner b order m n f w refused = agreed_either (message_items inner) (reads.message inner) (Agrees-message_items inner) 0 b (order, m) n w.rest f (whole_passed inner b order m n w) refused
+message_not_both limits b order m n f w refused = agreed_either (message_items limits) (reads.message limits) (Agrees-message_items limits) 0 b (order, m) n w.rest f (whole_passed limits b order m n w) refused
 
 pub message_one_fault : MessageOneFault
-message_one_fault inner b f g p q = agreed_fault (message_items inner) (reads.message inner) (Agrees-message_items inner) 0 b f g p q
+message_one_fault limits b f g p q = agreed_fault (message_items limits) (reads.message limits) (Agrees-message_items limits) 0 b f g p q
 
 pub message_refused_for_good : MessageRefusedForGood
-message_refused_for_good inner b c f h = (Agrees-message_items inner).refuses_more c 0 b f h
+message_refused_for_good limits b c f h = (Agrees-message_items limits).refuses_more c 0 b f h
 
 pub message_whole_for_good : MessageWholeForGood
-message_whole_for_good inner b c order m n w = record { message = w.message; rest = w.rest ++ c; bytes = ap (λ (t : List ℕ). t ++ c) w.bytes ∙ append_assoc (message_bytes order m) w.rest c; size = w.size }
+message_whole_for_good limits b c order m n w = record { message = w.message; rest = w.rest ++ c; bytes = ap (λ (t : List ℕ). t ++ c) w.bytes ∙ append_assoc (message_bytes order m) w.rest c; size = w.size }
 
-outcome_of : (inner : ℕ) (b : List ℕ) → IsBytes b → (read : Outcome (Order × MessageTree)) → reads.message inner 0 b ≡ read
-    → ((order : Order) × (m : MessageTree) × (n : ℕ) × IsWhole inner b order m n) ⊎ (((f : Fault) × IsRefused inner b f) ⊎ IsPartial inner b)
-outcome_of inner b bytes (Done y n r) e =
-    let w = (message_passed inner b y n r).0 ((Agrees-message_items inner).reads 0 b y n r bytes e) in
+outcome_of : (limits : Limits) (b : List ℕ) → IsBytes b → (read : Outcome (Order × MessageTree)) → reads.message limits 0 b ≡ read
+    → ((order : Order) × (m : MessageTree) × (n : ℕ) × IsWhole limits b order m n) ⊎ (((f : Fault) × IsRefused limits b f) ⊎ IsPartial limits b)
+outcome_of limits b bytes (Done y n r) e =
+    let w = (message_passed limits b y n r).0 ((Agrees-message_items limits).reads 0 b y n r bytes e) in
     inl (y.0, y.1, n, record { message = w.0; rest = r; bytes = w.1; size = w.2 })
-outcome_of inner b bytes (Faulty f) e = inr (inl (f, (Agrees-message_items inner).shows 0 b f bytes e))
-outcome_of inner b bytes Partial e = inr (inr (record {
-  not_whole = λ order m n w. let d : reads.message inner 0 b ≡ Done (order, m) n w.rest = (Agrees-message_items inner).passes 0 b (order, m) n w.rest (whole_passed inner b order m n w) in cc;
-  not_refused = λ f refused. let d : reads.message inner 0 b ≡ Faulty f = (Agrees-message_items inner).refuses 0 b f refused in cc;
+outcome_of limits b bytes (Faulty f) e = inr (inl (f, (Agrees-message_items limits).shows 0 b f bytes e))
+outcome_of limits b bytes Partial e = inr (inr (record {
+  not_whole = λ order m n w. let d : reads.message limits 0 b ≡ Done (order, m) n w.rest = (Agrees-message_items limits).passes 0 b (order, m) n w.rest (whole_passed limits b order m n w) in cc;
+  not_refused = λ f refused. let d : reads.message limits 0 b ≡ Faulty f = (Agrees-message_items limits).refuses 0 b f refused in cc;
 }))
 
 pub message_outcome : MessageOutcome
-message_outcome inner b bytes = outcome_of inner b bytes (reads.message inner 0 b) refl
+message_outcome limits b bytes = outcome_of limits b bytes (reads.message limits 0 b) refl
 
 pub reads_messages : ReadsMessages
-reads_messages inner b order m n rest bytes = (
-  λ e. (message_passed inner b (order, m) n rest).0 ((Agrees-message_items inner).reads 0 b (order, m) n rest bytes e),
-  λ h. (Agrees-message_items inner).passes 0 b (order, m) n rest ((message_passed inner b (order, m) n rest).1 h),
+reads_messages limits b order m n rest bytes = (
+  λ e. (message_passed limits b (order, m) n rest).0 ((Agrees-message_items limits).reads 0 b (order, m) n rest bytes e),
+  λ h. (Agrees-message_items limits).passes 0 b (order, m) n rest ((message_passed limits b (order, m) n rest).1 h),
 )
 
 pub reads_message_faults : ReadsMessageFaults
-reads_message_faults inner b f bytes = (λ e. (Agrees-message_items inner).shows 0 b f bytes e, λ h. (Agrees-message_items inner).refuses 0 b f h)
+reads_message_faults limits b f bytes = (λ e. (Agrees-message_items limits).shows 0 b f bytes e, λ h. (Agrees-message_items limits).refuses 0 b f h)

@@ -1,8 +1,10 @@
 -- A message: what its items pass is a message that is spelled, and its reader agrees.
-use Rattle.std.proofs.Common.{◌≡◌, ℕ, suc, ◌+◌, ◌≤◌, List, [], ◌∷◌, ◌++◌, Bool, true, false, cond, ltb, eqb, Option, Some, None, refl, sym, ap, subst, ◌∙◌, inl, inr}
+use Rattle.std.proofs.Common.{◌≡◌, ℕ, ◌+◌, ◌≤◌, List, [], ◌∷◌, ◌++◌, Bool, true, false, cond, ltb, eqb, Option, Some, None, refl, sym, ap, subst, ◌∙◌, inl, inr}
 use Rattle.std.proofs.lemmas.Bool.{ltb-false, le-ltb, eqb-true}
 use Rattle.dbus_types.specs.Types.{BYTE, UINT32, STRING, OBJECT_PATH, SIGNATURE, TypeTree, NumberType, TextType, VariantType, ArrayType, StructType, EntryType, TypeTrees, NoTypes, MoreTypes, sig, sigs, IsSingleType, IsShaped, AreShaped}
-use Rattle.dbus_value_model.specs.declared.limits.TheConstants.{ARRAY_LIMIT, MESSAGE_LIMIT}
+use Rattle.dbus_value_model.specs.declared.limits.Limits.{Limits}
+use Rattle.dbus_value_model.specs.declared.limits.Bounds.{Bounds}
+use Rattle.dbus_value_model.specs.Specification.{bounds_of}
 use Rattle.dbus_value_model.specs.WantedTexts.{WantedText, IsWanted}
 use Rattle.dbus_types.specs.ComputedKinds.{types_spelled}
 use Rattle.dbus_value_model.specs.declared.order.Order.{Order}
@@ -17,17 +19,16 @@ use Rattle.dbus_value_model.specs.ValueItems.{value}
 use Rattle.dbus_value_model.specs.ValueItems as faults
 use Rattle.dbus_value_model.specs.Reading.{Reader, Outcome, Done, Faulty, Partial}
 use Rattle.dbus_value_model.specs.Reading as reading
-use Rattle.dbus_message.specs.Bounds.{bounds}
-use Rattle.dbus_message.specs.Messages.{FieldTree, Suits, want, order_byte, lacks, required, text_in, body_signature}
+use Rattle.dbus_message.specs.Messages.{FieldTree, Suits, field_struct, want, order_byte, lacks, required, text_in, body_signature}
 use Rattle.dbus_value_model.specs.Gives.{no_row}
-use Rattle.dbus_message.specs.MessageItems.{not_zero_row, version_row, fields_row, field, byte_order, types_of_text, body_items, message_items}
+use Rattle.dbus_message.specs.MessageItems.{not_zero_row, version_row, fields_row, opening, field, byte_order, types_of_text, body_items, message_items}
 use Rattle.dbus_message.specs.MessageReading as reads
 use Rattle.dbus_unmarshal.proofs.KindLaws.{signature_text, spelled_sigs}
 use Rattle.dbus_unmarshal.proofs.Agreement.{Agrees, Agrees-then, Agrees-before}
 use Rattle.dbus_unmarshal.proofs.OwnItems.{chosen, same_fault, Agrees-pure, Agrees-padding, Agrees-number, Agrees-judge, Agrees-bounded, Agrees-ends}
 use Rattle.dbus_unmarshal.proofs.Contents.{Agrees-contents}
 use Rattle.dbus_unmarshal.proofs.ValueItemLaws.{Agrees-value, value_inside, agrees_fields}
-use Rattle.dbus_message.proofs.Fields.{Agrees-field, field_moves}
+use Rattle.dbus_message.proofs.Fields.{Agrees-opening, Agrees-field, field_moves, two_rooms}
 use Rattle.dbus_value_model.specs.declared.fault.Reason.TheVariants as reasons
 
 -- ---- rows
@@ -46,17 +47,17 @@ version_fits p n e = elim (chosen (eqb n 1) _ _ _ e) [
   | inr h ↦ absurd (cc (h.1))
 ]
 
-pub fields_row_fits : (body p n : ℕ) → fields_row body p n ≡ None → (n ≤ ARRAY_LIMIT) × (p + n + gap_to 8 (p + n) + body ≤ MESSAGE_LIMIT)
-fields_row_fits body p n e = elim (chosen (ltb ARRAY_LIMIT n) _ _ _ e) [
+pub fields_row_fits : (limits : Limits) (body p n : ℕ) → fields_row limits body p n ≡ None → (n ≤ limits.array) × (p + n + gap_to 8 (p + n) + body ≤ limits.message)
+fields_row_fits limits body p n e = elim (chosen (ltb limits.array n) _ _ _ e) [
   | inl h ↦ absurd (cc (h.1))
-  | inr h ↦ elim (chosen (ltb MESSAGE_LIMIT (p + n + gap_to 8 (p + n) + body)) _ _ _ h.1) [
+  | inr h ↦ elim (chosen (ltb limits.message (p + n + gap_to 8 (p + n) + body)) _ _ _ h.1) [
     | inl k ↦ absurd (cc (k.1))
     | inr k ↦ (ltb-false _ _ h.0, ltb-false _ _ k.0)
   ]
 ]
 
-pub fits_fields_row : (body p n : ℕ) → n ≤ ARRAY_LIMIT → p + n + gap_to 8 (p + n) + body ≤ MESSAGE_LIMIT → fields_row body p n ≡ None
-fits_fields_row body p n a b = rw (le-ltb _ _ a, le-ltb _ _ b) refl
+pub fits_fields_row : (limits : Limits) (body p n : ℕ) → n ≤ limits.array → p + n + gap_to 8 (p + n) + body ≤ limits.message → fields_row limits body p n ≡ None
+fits_fields_row limits body p n a b = rw (le-ltb _ _ a, le-ltb _ _ b) refl
 
 -- ---- the byte order
 
@@ -124,8 +125,8 @@ signature_value inner (ArrayValue t xs) e h = absurd cc
 signature_value inner (StructValue xs) e h = absurd cc
 signature_value inner (EntryValue k x) e h = absurd cc
 
-module _ (order : Order) (inner end : ℕ) where
-  pub field_signature : (fs before : List FieldTree) (o : ℕ) (s : List ℕ) (q : ℕ) (r : List ℕ) → Sequence (field order inner end) before fs o s q r → SpellsTypes (body_signature fs)
+module _ (bounds : Bounds) (order : Order) (room end : ℕ) where
+  pub field_signature : (fs before : List FieldTree) (o : ℕ) (s : List ℕ) (q : ℕ) (r : List ℕ) → Sequence (field bounds order room end) before fs o s q r → SpellsTypes (body_signature fs)
   field_signature [] before o s q r h = no_types
   field_signature (f ∷ fs) before o s q r h =
       let more = field_signature fs (f ∷ before) h.0 h.1 q r h.3 in
@@ -135,7 +136,9 @@ module _ (order : Order) (inner end : ℕ) where
       go true e more =
           let is : f.code ≡ 8 = eqb-true _ _ e in
           let suits : Suits (want 8) f.value = subst (λ (c : ℕ). Suits (want c) f.value) is h.2.1.suits in
-          signature_value inner f.value suits h.2.0.formed.1.0.1
+          let two = two_rooms room f h.2.0.formed in
+          let formed = subst (λ (u : ℕ). IsWellFormed u (field_struct f)) two.1 h.2.0.formed in
+          signature_value two.0 f.value suits formed.1.0.1
       go false e more = more
 
 -- ---- agreement
@@ -151,27 +154,28 @@ Agrees-types text ok = record {
   refuses_more = λ c o s f h. absurd h;
 }
 
-Agrees-body : (order : Order) (room : ℕ) (ts : TypeTrees) → AreShaped ts → (end : ℕ) → Agrees (body_items order room ts end) (reads.body_items order room ts end)
-Agrees-body order room ts complete end =
+Agrees-body : (bounds : Bounds) (order : Order) (room : ℕ) (ts : TypeTrees) → AreShaped ts → (end : ℕ) → Agrees (body_items bounds order room ts end) (reads.body_items bounds order room ts end)
+Agrees-body bounds order room ts complete end =
     Agrees-before (faults.fields (value bounds order room end) ts) (reading.fields (reading.value bounds order room end) ts) _ _
     (agrees_fields bounds order room (value bounds order room) (reading.value bounds order room) (value_inside bounds order room) (λ e b t c. Agrees-value bounds order room e b t c) end ts complete) (λ xs.
     Agrees-before (items.ends end) (reading.ends end) _ _ (Agrees-ends end) (λ _.
     Agrees-pure xs))
 
-pub Agrees-message_items : (inner : ℕ) → Agrees (message_items inner) (reads.message inner)
-Agrees-message_items inner =
+pub Agrees-message_items : (limits : Limits) → Agrees (message_items limits) (reads.message limits)
+Agrees-message_items limits =
     Agrees-before byte_order reads.byte_order _ _ Agrees-byte_order (λ order.
     Agrees-before (items.number order 1 16 (not_zero_row reasons.Kind)) (reading.number order 1 16 (not_zero_row reasons.Kind)) _ _ (Agrees-number order 1 16 (not_zero_row reasons.Kind)) (λ kind.
     Agrees-before (items.number order 1 16 no_row) (reading.number order 1 16 no_row) _ _ (Agrees-number order 1 16 no_row) (λ flags.
     Agrees-before (items.number order 1 16 version_row) (reading.number order 1 16 version_row) _ _ (Agrees-number order 1 16 version_row) (λ version.
     Agrees-before (items.number order 4 16 no_row) (reading.number order 4 16 no_row) _ _ (Agrees-number order 4 16 no_row) (λ body.
     Agrees-before (items.number order 4 16 (not_zero_row reasons.ZeroSerial)) (reading.number order 4 16 (not_zero_row reasons.ZeroSerial)) _ _ (Agrees-number order 4 16 (not_zero_row reasons.ZeroSerial)) (λ serial.
-    Agrees-before (items.number order 4 16 (fields_row body)) (reading.number order 4 16 (fields_row body)) _ _ (Agrees-number order 4 16 (fields_row body)) (λ n.
-    Agrees-then (items.contents n (field order inner)) (reading.contents n (reads.field order inner)) _ _
-    (Agrees-contents n (field order inner) (reads.field order inner) (λ end before. Agrees-field order inner end before) (λ end before. field_moves order inner end before)) (λ fs o s q r was.
+    Agrees-before (opening limits.depth) (reads.opening limits.depth) _ _ (Agrees-opening limits.depth) (λ room.
+    Agrees-before (items.number order 4 16 (fields_row limits body)) (reading.number order 4 16 (fields_row limits body)) _ _ (Agrees-number order 4 16 (fields_row limits body)) (λ n.
+    Agrees-then (items.contents n (field (bounds_of limits) order room)) (reading.contents n (reads.field (bounds_of limits) order room)) _ _
+    (Agrees-contents n (field (bounds_of limits) order room) (reads.field (bounds_of limits) order room) (λ end before. Agrees-field (bounds_of limits) order room end before) (λ end before. field_moves (bounds_of limits) order room end before)) (λ fs o s q r was.
     Agrees-before (items.judge (lacks (required kind) fs)) (reading.judge (lacks (required kind) fs)) _ _ (Agrees-judge (lacks (required kind) fs)) (λ _.
     Agrees-before (items.bounded 8 (items.padding 8)) (reading.bounded 8 (reading.padding 8)) _ _ (Agrees-bounded 8 (items.padding 8) (reading.padding 8) (Agrees-padding 8)) (λ _.
-    Agrees-then (types_of_text (body_signature fs)) (reads.types_of_text (body_signature fs)) _ _ (Agrees-types (body_signature fs) (field_signature order inner (o + n) fs [] o s q r was.0)) (λ ts o s q r typed.
-    Agrees-before (items.bounded body (body_items order (suc (suc (suc inner))) ts)) (reading.bounded body (reads.body_items order (suc (suc (suc inner))) ts)) _ _
-    (Agrees-bounded body (body_items order (suc (suc (suc inner))) ts) (reads.body_items order (suc (suc (suc inner))) ts) (Agrees-body order (suc (suc (suc inner))) ts typed.1)) (λ xs.
-    Agrees-pure (order, record { kind = kind; flags = flags; serial = serial; fields = fs; body = xs })))))))))))))
+    Agrees-then (types_of_text (body_signature fs)) (reads.types_of_text (body_signature fs)) _ _ (Agrees-types (body_signature fs) (field_signature (bounds_of limits) order room (o + n) fs [] o s q r was.0)) (λ ts o s q r typed.
+    Agrees-before (items.bounded body (body_items (bounds_of limits) order limits.depth ts)) (reading.bounded body (reads.body_items (bounds_of limits) order limits.depth ts)) _ _
+    (Agrees-bounded body (body_items (bounds_of limits) order limits.depth ts) (reads.body_items (bounds_of limits) order limits.depth ts) (Agrees-body (bounds_of limits) order limits.depth ts typed.1)) (λ xs.
+    Agrees-pure (order, record { kind = kind; flags = flags; serial = serial; fields = fs; body = xs }))))))))))))))

@@ -1,12 +1,13 @@
--- The laws of the three outcomes at the limit of 64 open containers, and what readers of streams take from them.
+-- The laws of the three outcomes under limits, and what readers of streams take from them.
 use Rattle.std.proofs.Common.{◌≡◌, ℕ, ◌<◌, ◌≤◌, List, [], ◌++◌, length, take, drop, refl, sym, ap, ◌∙◌, arith}
 use Rattle.std.proofs.lemmas.List.{length-append, take_at, drop_at}
+use Rattle.dbus_value_model.specs.declared.limits.Limits.{Limits}
 use Rattle.dbus_value_model.specs.declared.order.Order.{Order}
 use Rattle.dbus_value_model.specs.declared.fault.Fault.{Fault}
 use Rattle.dbus_value_model.specs.Reading.{Faulty, Partial}
 use Rattle.dbus_message.specs.Messages.{MessageTree, message_bytes}
 use Rattle.dbus_message.specs.MessageReading as reads
-use Rattle.dbus_message.specs.ValidMessages.{room_in_field, IsValidMessage}
+use Rattle.dbus_message.specs.ValidMessages.{IsValidMessage}
 use Rattle.dbus_message.specs.MessageOutcomes.{IsWhole, IsRefused, IsPartial}
 use Rattle.dbus_message.specs.OutcomeLaws.{OneMessage, OneLength, SomeOutcome, OneOutcome, OneWhole, OneFault, WholeForGood, RefusedForGood}
 use Rattle.dbus_message.proofs.BothOrders.{valid_from}
@@ -14,75 +15,75 @@ use Rattle.dbus_message.proofs.MessageParts.{Agrees-message_items}
 use Rattle.dbus_message.proofs.MessageOutcomes as within
 
 pub one_message : OneMessage
-one_message order other m n x y a b same = within.one_message room_in_field order other m n x y (a order) (b other) same
+one_message limits order other m n x y a b same = within.one_message limits order other m n x y (a order) (b other) same
 
 pub one_length : OneLength
 one_length m = within.same_message_length m
 
 pub some_outcome : SomeOutcome
 unfolding IsWhole IsRefused IsPartial
-some_outcome b bytes = within.message_outcome room_in_field b bytes
+some_outcome limits b bytes = within.message_outcome limits b bytes
 
 -- what is whole is not refused
-pub not_both : (b : List ℕ) (order : Order) (m : MessageTree) (n : ℕ) (f : Fault) → IsWhole b order m n → IsRefused b f → ⊥
+pub not_both : (limits : Limits) (b : List ℕ) (order : Order) (m : MessageTree) (n : ℕ) (f : Fault) → IsWhole limits b order m n → IsRefused limits b f → ⊥
 unfolding IsWhole IsRefused
-not_both b order m n f = within.message_not_both room_in_field b order m n f
+not_both limits b order m n f = within.message_not_both limits b order m n f
 
 pub one_outcome : OneOutcome
 unfolding IsWhole IsRefused IsPartial
-one_outcome b = (λ order m n f w r. not_both b order m n f w r, λ order m n w p. p.not_whole order m n w, λ f r p. p.not_refused f r)
+one_outcome limits b = (λ order m n f w r. not_both limits b order m n f w r, λ order m n w p. p.not_whole order m n w, λ f r p. p.not_refused f r)
 
 pub one_whole : OneWhole
 unfolding IsWhole
-one_whole b order other m n i j v w =
-    let both = within.one_message room_in_field order other m n v.rest w.rest v.message w.message (sym v.bytes ∙ w.bytes) in
+one_whole limits b order other m n i j v w =
+    let both = within.one_message limits order other m n v.rest w.rest v.message w.message (sym v.bytes ∙ w.bytes) in
     (both.0, both.1, v.size ∙ ap (λ (o : Order). length (message_bytes o m)) both.0 ∙ ap (λ (u : MessageTree). length (message_bytes other u)) both.1 ∙ sym w.size)
 
 pub one_fault : OneFault
 unfolding IsRefused
-one_fault b f g = within.message_one_fault room_in_field b f g
+one_fault limits b f g = within.message_one_fault limits b f g
 
 pub whole_for_good : WholeForGood
 unfolding IsWhole
-whole_for_good b c order m n w = within.message_whole_for_good room_in_field b c order m n w
+whole_for_good limits b c order m n w = within.message_whole_for_good limits b c order m n w
 
 pub refused_for_good : RefusedForGood
 unfolding IsRefused
-refused_for_good b c f h = within.message_refused_for_good room_in_field b c f h
+refused_for_good limits b c f h = within.message_refused_for_good limits b c f h
 
 -- a message has bytes, and they are there
-pub whole_inside : (b : List ℕ) (order : Order) (m : MessageTree) (n : ℕ) → IsWhole b order m n → (0 < n) × (n ≤ length b)
+pub whole_inside : (limits : Limits) (b : List ℕ) (order : Order) (m : MessageTree) (n : ℕ) → IsWhole limits b order m n → (0 < n) × (n ≤ length b)
 unfolding IsWhole
-whole_inside b order m n w =
+whole_inside limits b order m n w =
     let all = ap length w.bytes ∙ length-append (message_bytes order m) w.rest in
     (rw w.size (omega arith), omega (arith, all, w.size))
 
-nothing_read : (inner : ℕ) → reads.message inner 0 [] ≡ Partial
+nothing_read : (limits : Limits) → reads.message limits 0 [] ≡ Partial
 unfolding reads.byte_order
-nothing_read inner = refl
+nothing_read limits = refl
 
 -- where there are no bytes, more are wanted
-pub nothing_partial : IsPartial []
+pub nothing_partial : (limits : Limits) → IsPartial limits []
 unfolding IsWhole IsRefused IsPartial
-nothing_partial = record {
+nothing_partial limits = record {
   not_whole = λ order m n w. let none : List ℕ = [] in let e : none ≡ message_bytes order m ++ w.rest = w.bytes in absurd cc;
-  not_refused = λ f refused. let e : reads.message room_in_field 0 [] ≡ Faulty f = (Agrees-message_items room_in_field).refuses 0 [] f refused in let d = sym (nothing_read room_in_field) ∙ e in absurd cc;
+  not_refused = λ f refused. let e : reads.message limits 0 [] ≡ Faulty f = (Agrees-message_items limits).refuses 0 [] f refused in let d = sym (nothing_read limits) ∙ e in absurd cc;
 }
 
 -- the first n bytes are the message's, and the others follow
-pub whole_bytes : (b : List ℕ) (order : Order) (m : MessageTree) (n : ℕ) → IsWhole b order m n → (take n b ≡ message_bytes order m) × (n ≡ length (message_bytes order m)) × (b ≡ message_bytes order m ++ drop n b)
+pub whole_bytes : (limits : Limits) (b : List ℕ) (order : Order) (m : MessageTree) (n : ℕ) → IsWhole limits b order m n → (take n b ≡ message_bytes order m) × (n ≡ length (message_bytes order m)) × (b ≡ message_bytes order m ++ drop n b)
 unfolding IsWhole
-whole_bytes b order m n w =
+whole_bytes limits b order m n w =
     let front : take n b ≡ message_bytes order m = ap (take n) w.bytes ∙ take_at (message_bytes order m) w.rest n (sym w.size) in
     let behind : drop n b ≡ w.rest = ap (drop n) w.bytes ∙ drop_at (message_bytes order m) w.rest n (sym w.size) in
     (front, w.size, w.bytes ∙ ap (λ (t : List ℕ). message_bytes order m ++ t) (sym behind))
 
 -- a message that bytes begin with is valid
-pub whole_valid : (b : List ℕ) (order : Order) (m : MessageTree) (n : ℕ) → IsWhole b order m n → IsValidMessage m
+pub whole_valid : (limits : Limits) (b : List ℕ) (order : Order) (m : MessageTree) (n : ℕ) → IsWhole limits b order m n → IsValidMessage limits m
 unfolding IsWhole
-whole_valid b order m n w = valid_from order m w.message
+whole_valid limits b order m n w = valid_from limits order m w.message
 
 -- a message's own bytes begin with it
-pub valid_whole : (order : Order) (m : MessageTree) (rest : List ℕ) → IsValidMessage m → IsWhole (message_bytes order m ++ rest) order m (length (message_bytes order m))
+pub valid_whole : (limits : Limits) (order : Order) (m : MessageTree) (rest : List ℕ) → IsValidMessage limits m → IsWhole limits (message_bytes order m ++ rest) order m (length (message_bytes order m))
 unfolding IsWhole
-valid_whole order m rest valid = record { message = valid order; rest = rest; bytes = refl; size = refl }
+valid_whole limits order m rest valid = record { message = valid order; rest = rest; bytes = refl; size = refl }

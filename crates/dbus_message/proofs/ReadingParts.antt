@@ -1,6 +1,8 @@
 -- A message read in parts is read as a whole.
-use Rattle.std.proofs.Common.{◌≡◌, ℕ, zero, suc, ◌+◌, List, [], ◌∷◌, Bool, true, false, cond, ltb, refl, ap, ◌∙◌}
+use Rattle.std.proofs.Common.{◌≡◌, ℕ, zero, suc, ◌+◌, ◌-◌, List, [], ◌∷◌, Bool, true, false, cond, ltb, refl, ap, ◌∙◌, arith}
 use Rattle.dbus_types.specs.Types.{TypeTree}
+use Rattle.dbus_value_model.specs.Specification.{bounds_of}
+use Rattle.dbus_value_model.specs.declared.limits.Limits.{Limits}
 use Rattle.dbus_value_model.specs.declared.order.Order.{Order}
 use Rattle.dbus_value_model.specs.declared.fault.Reason.TheVariants as reasons
 use Rattle.dbus_value_model.specs.Values.{ValueTree}
@@ -10,7 +12,6 @@ use Rattle.dbus_message.specs.Messages.{FieldTree, want}
 use Rattle.dbus_value_model.specs.Gives.{no_row}
 use Rattle.dbus_message.specs.MessageItems.{not_zero_row, version_row, fields_row, code_row, kind_wanted}
 use Rattle.dbus_message.specs.MessageReading as reads
-use Rattle.dbus_message.specs.ValidMessages.{room_in_field}
 use Rattle.dbus_message.specs.HeaderReading.{fixed_header, wanted_signature, wanted_value, field_read, fields_read, body_read, message_read}
 
 pub same_after : {A B : Type 0} (r : Outcome A) (f g : A → Reader B) → ((x : A) (p : ℕ) (t : List ℕ) → f x p t ≡ g x p t) → after r f ≡ after r g
@@ -41,10 +42,21 @@ module _ {W : Type 0} (d : TypeTree → Reader ValueTree) (last : ValueTree → 
   behind_length signed (Faulty f) = refl
   behind_length signed Partial = refl
 
-pub field_is : (order : Order) (end : ℕ) (before : List FieldTree) (o : ℕ) (s : List ℕ) → field_read order end before o s ≡ reads.field order room_in_field end before o s
-unfolding field_read wanted_value wanted_signature
-field_is order end before o s = same_after (padding 8 end o s) _ _ (λ _ p t. same_after (number order 1 end (code_row before) p t) _ _ (λ code p t.
-    behind_length (reads.value_wanted order room_in_field end (want code)) _ (signature (kind_wanted (want code))) (number order 1 end (text_row end) p t)))
+-- what follows an opened container
+opened_after : {B : Type 0} (depth o : ℕ) (s : List ℕ) (f g : ℕ → Reader B) → ((room : ℕ) → depth ≡ suc room → f room o s ≡ g room o s) → after (reads.opening depth o s) f ≡ after (reads.opening depth o s) g
+opened_after zero o s f g same = refl
+opened_after (suc room) o s f g same = same (suc room - 1) (omega arith)
+
+module _ (limits : Limits) (order : Order) (room : ℕ) (opened : limits.depth ≡ suc room) where
+  pub field_is : (end : ℕ) (before : List FieldTree) (o : ℕ) (s : List ℕ) → field_read limits order end before o s ≡ reads.field (bounds_of limits) order room end before o s
+  unfolding field_read wanted_value wanted_signature
+  field_is end before o s =
+      let array : limits.depth - 1 ≡ room = omega (arith, opened) in
+      rw array (same_after (padding 8 end o s) _ _ (λ _ p t. opened_after room p t _ _ (λ within struct. same_after (number order 1 end (code_row before) p t) _ _ (λ code p t.
+      let two : limits.depth - 2 ≡ within = omega (arith, opened, struct) in
+      rw two (opened_after within p t _ _ (λ inner variant.
+      let three : limits.depth - 3 ≡ inner = omega (arith, opened, struct, variant) in
+      rw three (behind_length (reads.value_wanted (bounds_of limits) order inner end (want code)) _ (signature (kind_wanted (want code))) (number order 1 end (text_row end) p t))))))))
 
 -- ---- the fields
 
@@ -60,23 +72,24 @@ module _ {A : Type 0} (end : ℕ) (part other : List A → Reader A) (same : (be
           ∙ same_after (other before o s) _ _ (λ v p t. ap (λ (r : Outcome (List A)). after r (λ vs. pure (v ∷ vs))) (rest (v ∷ before) p t))
       same_test turns before o s false rest = refl
 
-pub fields_are : (order : Order) (n o : ℕ) (s : List ℕ) → fields_read order n o s ≡ contents n (reads.field order room_in_field) o s
+pub fields_are : (limits : Limits) (order : Order) (room : ℕ) → limits.depth ≡ suc room → (n o : ℕ) (s : List ℕ) → fields_read limits order n o s ≡ contents n (reads.field (bounds_of limits) order room) o s
 unfolding fields_read
-fields_are order n o s = same_turns (o + n) (field_read order (o + n)) (reads.field order room_in_field (o + n)) (field_is order (o + n)) n [] o s
+fields_are limits order room opened n o s = same_turns (o + n) (field_read limits order (o + n)) (reads.field (bounds_of limits) order room (o + n)) (field_is limits order room opened (o + n)) n [] o s
 
 after_same : {A B : Type 0} (r q : Outcome A) (f : A → Reader B) → r ≡ q → after r f ≡ after q f
 after_same r q f e = ap (λ (u : Outcome _). after u f) e
 
 -- ---- a message
 
-pub message_is : (b : List ℕ) → message_read 0 b ≡ reads.message room_in_field 0 b
+pub message_is : (limits : Limits) (b : List ℕ) → message_read limits 0 b ≡ reads.message limits 0 b
 unfolding message_read fixed_header body_read
-message_is b =
+message_is limits b =
     after_after (reads.byte_order 0 b) _ _ ∙ same_after (reads.byte_order 0 b) _ _ (λ order p t.
     after_after (number order 1 16 (not_zero_row reasons.Kind) p t) _ _ ∙ same_after (number order 1 16 (not_zero_row reasons.Kind) p t) _ _ (λ kind p t.
     after_after (number order 1 16 no_row p t) _ _ ∙ same_after (number order 1 16 no_row p t) _ _ (λ flags p t.
     after_after (number order 1 16 version_row p t) _ _ ∙ same_after (number order 1 16 version_row p t) _ _ (λ version p t.
     after_after (number order 4 16 no_row p t) _ _ ∙ same_after (number order 4 16 no_row p t) _ _ (λ body p t.
     after_after (number order 4 16 (not_zero_row reasons.ZeroSerial) p t) _ _ ∙ same_after (number order 4 16 (not_zero_row reasons.ZeroSerial) p t) _ _ (λ serial p t.
-    after_after (number order 4 16 (fields_row body) p t) _ _ ∙ same_after (number order 4 16 (fields_row body) p t) _ _ (λ n p t.
-    after_same (fields_read order n p t) (contents n (reads.field order room_in_field) p t) _ (fields_are order n p t))))))))
+    after_after (reads.opening limits.depth p t) _ _ ∙ opened_after limits.depth p t _ _ (λ room opened.
+    after_after (number order 4 16 (fields_row limits body) p t) _ _ ∙ same_after (number order 4 16 (fields_row limits body) p t) _ _ (λ n p t.
+    after_same (fields_read limits order n p t) (contents n (reads.field (bounds_of limits) order room) p t) _ (fields_are limits order room opened n p t)))))))))

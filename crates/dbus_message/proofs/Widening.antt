@@ -1,13 +1,19 @@
--- What keeps limits keeps wider ones.
-use Rattle.std.proofs.Common.{ℕ, zero, suc, ◌+◌, ◌≤◌, length, arith}
+-- What keeps limits keeps wider ones, and the valid messages that keep limits are those that are valid within them.
+use Rattle.std.proofs.Common.{ℕ, zero, suc, ◌+◌, ◌≤◌, length, subst, arith}
 use Rattle.dbus_value_model.specs.declared.order.Order.{Order}
 use Rattle.dbus_value_model.specs.declared.order.Order.TheVariants.{Little}
-use Rattle.dbus_message.specs.Messages.{field_array, body_start}
-use Rattle.dbus_message.specs.OutcomeLaws.{WiderLimits}
+use Rattle.dbus_value_model.specs.declared.limits.Limits.{Limits}
+use Rattle.dbus_value_model.specs.Specification.{specification}
+use Rattle.dbus_message.specs.BuildFaults.{KeepsLimits}
+use Rattle.dbus_message.specs.Messages.{MessageTree, IsMessage, field_array, body_start}
+use Rattle.dbus_message.specs.MessageOutcomes.{IsWhole}
+use Rattle.dbus_message.specs.OutcomeLaws.{AreWider, WiderLimits, WiderWhole, ValidWithin}
+use Rattle.dbus_message.specs.ValidMessages.{IsValidMessage}
+use Rattle.dbus_message.proofs.BothOrders.{any_within, any_within_all, any_body_start, any_message_length}
 use Rattle.dbus_value_model.specs.Bytes.{gap_to}
 use Rattle.dbus_value_model.specs.Forming.{NestsWithin, NestWithin}
-use Rattle.dbus_value_model.specs.Spelling.{contents_start, ended_text, spelling, spellings, IsWithinLimits, AreWithinLimits}
-use Rattle.dbus_value_model.specs.Values.{ValueTree, ValueTrees, NumberValue, TextValue, VariantValue, ArrayValue, StructValue, EntryValue, NoValues, MoreValues, type_of}
+use Rattle.dbus_value_model.specs.Spelling.{contents_start, ended_text, spelling, IsWithinLimits, AreWithinLimits}
+use Rattle.dbus_value_model.specs.Values.{ValueTree, ValueTrees, NumberValue, TextValue, VariantValue, ArrayValue, StructValue, EntryValue, NoValues, MoreValues, type_of, IsWellFormed, AreWellFormed}
 use Rattle.dbus_types.specs.Types.{sig}
 
 mutual
@@ -44,12 +50,132 @@ module _ (array longer : ℕ) (le : array ≤ longer) (order : Order) where
     are_within_wider o NoValues h = tt
     are_within_wider o (MoreValues x xs) h = (within_wider o x h.0, are_within_wider (o + length (spelling order o x)) xs h.1)
 
+-- ---- well-formed values
+
+mutual
+  pub formed_wider : (room more : ℕ) (v : ValueTree) → room ≤ more → IsWellFormed room v → IsWellFormed more v
+  formed_wider room more (NumberValue k n) le h = h
+  formed_wider room more (TextValue k t) le h = h
+  formed_wider zero more (VariantValue x) le h = absurd h
+  formed_wider (suc room) zero (VariantValue x) le h = absurd (omega arith)
+  formed_wider (suc room) (suc more) (VariantValue x) le h = (h.0, formed_wider room more x (omega arith) h.1)
+  formed_wider zero more (ArrayValue t xs) le h = absurd h
+  formed_wider (suc room) zero (ArrayValue t xs) le h = absurd (omega arith)
+  formed_wider (suc room) (suc more) (ArrayValue t xs) le h = (h.0, are_formed_wider room more xs (omega arith) h.1)
+  formed_wider zero more (StructValue xs) le h = absurd h
+  formed_wider (suc room) zero (StructValue xs) le h = absurd (omega arith)
+  formed_wider (suc room) (suc more) (StructValue xs) le h = are_formed_wider room more xs (omega arith) h
+  formed_wider room more (EntryValue k v) le h = (formed_wider room more k le h.0, formed_wider room more v le h.1)
+
+  pub are_formed_wider : (room more : ℕ) (vs : ValueTrees) → room ≤ more → AreWellFormed room vs → AreWellFormed more vs
+  are_formed_wider room more NoValues le h = tt
+  are_formed_wider room more (MoreValues x xs) le h = (formed_wider room more x le h.0, are_formed_wider room more xs le h.1)
+
+-- what nests within less room is well formed there
+mutual
+  formed_within : (room more : ℕ) (v : ValueTree) → NestsWithin room v → IsWellFormed more v → IsWellFormed room v
+  formed_within room more (NumberValue k n) nests h = h
+  formed_within room more (TextValue k t) nests h = h
+  formed_within zero more (VariantValue x) nests h = absurd nests
+  formed_within (suc room) zero (VariantValue x) nests h = absurd h
+  formed_within (suc room) (suc more) (VariantValue x) nests h = (h.0, formed_within room more x nests h.1)
+  formed_within zero more (ArrayValue t xs) nests h = absurd nests
+  formed_within (suc room) zero (ArrayValue t xs) nests h = absurd h
+  formed_within (suc room) (suc more) (ArrayValue t xs) nests h = (h.0, are_formed_within room more xs nests h.1)
+  formed_within zero more (StructValue xs) nests h = absurd nests
+  formed_within (suc room) zero (StructValue xs) nests h = absurd h
+  formed_within (suc room) (suc more) (StructValue xs) nests h = are_formed_within room more xs nests h
+  formed_within room more (EntryValue k v) nests h = (formed_within room more k nests.0 h.0, formed_within room more v nests.1 h.1)
+
+  are_formed_within : (room more : ℕ) (vs : ValueTrees) → NestWithin room vs → AreWellFormed more vs → AreWellFormed room vs
+  are_formed_within room more NoValues nest h = tt
+  are_formed_within room more (MoreValues x xs) nest h = (formed_within room more x nest.0 h.0, are_formed_within room more xs nest.1 h.1)
+
+mutual
+  formed_nests : (room : ℕ) (v : ValueTree) → IsWellFormed room v → NestsWithin room v
+  formed_nests room (NumberValue k n) h = tt
+  formed_nests room (TextValue k t) h = tt
+  formed_nests zero (VariantValue x) h = absurd h
+  formed_nests (suc room) (VariantValue x) h = formed_nests room x h.1
+  formed_nests zero (ArrayValue t xs) h = absurd h
+  formed_nests (suc room) (ArrayValue t xs) h = formed_nest room xs h.1
+  formed_nests zero (StructValue xs) h = absurd h
+  formed_nests (suc room) (StructValue xs) h = formed_nest room xs h
+  formed_nests room (EntryValue k v) h = (formed_nests room k h.0, formed_nests room v h.1)
+
+  formed_nest : (room : ℕ) (vs : ValueTrees) → AreWellFormed room vs → NestWithin room vs
+  formed_nest room NoValues h = tt
+  formed_nest room (MoreValues x xs) h = (formed_nests room x h.0, formed_nest room xs h.1)
+
+-- ---- messages
+
+pub wider_message : (limits wider : Limits) (order : Order) (m : MessageTree) → AreWider wider limits → IsMessage limits order m → IsMessage wider order m
+wider_message limits wider order m le h = record {
+  kind = h.kind;
+  kind_fits = h.kind_fits;
+  flags = h.flags;
+  serial = h.serial;
+  serial_fits = h.serial_fits;
+  fields = h.fields;
+  formed_fields = formed_wider limits.depth wider.depth (field_array m.fields) le.2 h.formed_fields;
+  within_fields = within_wider limits.array wider.array le.1 order 12 (field_array m.fields) h.within_fields;
+  required_codes = h.required_codes;
+  signature = h.signature;
+  formed_body = are_formed_wider limits.depth wider.depth m.body le.2 h.formed_body;
+  within_body = are_within_wider limits.array wider.array le.1 order (body_start order m.fields) m.body h.within_body;
+  limit = omega (arith, h.limit, le.0);
+}
+
+-- no limits are wider than those of the specification
+pub widest : (limits : Limits) → AreWider specification limits
+widest limits = (limits.message_in, limits.array_in, limits.depth_in)
+
+pub widest_valid : (limits : Limits) (m : MessageTree) → IsValidMessage limits m → IsValidMessage specification m
+widest_valid limits m valid order = wider_message limits specification order m (widest limits) (valid order)
+
+kept_valid : (limits : Limits) (m : MessageTree) → IsValidMessage specification m → KeepsLimits limits m → IsValidMessage limits m
+kept_valid limits m valid keeps order =
+    let h = valid order in
+    record {
+      kind = h.kind;
+      kind_fits = h.kind_fits;
+      flags = h.flags;
+      serial = h.serial;
+      serial_fits = h.serial_fits;
+      fields = h.fields;
+      formed_fields = formed_within limits.depth specification.depth (field_array m.fields) keeps.0.0 h.formed_fields;
+      within_fields = any_within limits.array Little order 12 (field_array m.fields) keeps.1.0;
+      required_codes = h.required_codes;
+      signature = h.signature;
+      formed_body = are_formed_within limits.depth specification.depth m.body keeps.0.1 h.formed_body;
+      within_body = any_within_all limits.array Little order (body_start order m.fields) m.body
+          (subst (λ (n : ℕ). AreWithinLimits limits.array Little n m.body) (any_body_start Little order m.fields) keeps.1.1);
+      limit = omega (arith, keeps.2, any_message_length Little order m);
+    }
+
+valid_keeps : (limits : Limits) (m : MessageTree) → IsValidMessage limits m → KeepsLimits limits m
+valid_keeps limits m valid =
+    let h = valid Little in (
+      (formed_nests limits.depth (field_array m.fields) h.formed_fields, formed_nest limits.depth m.body h.formed_body),
+      (h.within_fields, h.within_body),
+      λ long. omega (arith, long, h.limit),
+    )
+
+-- ---- the laws
+
+pub valid_within : ValidWithin
+valid_within limits m = (λ valid. (widest_valid limits m valid, valid_keeps limits m valid), λ h. kept_valid limits m h.0 h.1)
+
+pub wider_whole : WiderWhole
+unfolding IsWhole
+wider_whole limits wider b order m n le w = record { message = wider_message limits wider order m le w.message; rest = w.rest; bytes = w.bytes; size = w.size }
+
 pub wider_limits : WiderLimits
-wider_limits limits wider m longer arrays deeper keeps = (
-  (nests_wider limits.depth wider.depth (field_array m.fields) deeper keeps.0.0, nest_wider limits.depth wider.depth m.body deeper keeps.0.1),
+wider_limits limits wider m le keeps = (
+  (nests_wider limits.depth wider.depth (field_array m.fields) le.2 keeps.0.0, nest_wider limits.depth wider.depth m.body le.2 keeps.0.1),
   (
-    within_wider limits.array wider.array arrays Little 12 (field_array m.fields) keeps.1.0,
-    are_within_wider limits.array wider.array arrays Little (body_start Little m.fields) m.body keeps.1.1,
+    within_wider limits.array wider.array le.1 Little 12 (field_array m.fields) keeps.1.0,
+    are_within_wider limits.array wider.array le.1 Little (body_start Little m.fields) m.body keeps.1.1,
   ),
-  λ long. keeps.2 (omega (arith, longer, long)),
+  λ long. keeps.2 (omega (arith, le.0, long)),
 )

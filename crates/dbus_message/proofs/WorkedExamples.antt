@@ -4,6 +4,7 @@ use Rattle.std.proofs.Common.{◌≡◌, ℕ, List, [], ◌∷◌, refl}
 use Rattle.dbus_types.specs.ComputedKinds as computed
 use Rattle.dbus_types.specs.ComputedKinds.{type_spelled, types_spelled, parse, parses}
 use Rattle.dbus_value_model.specs.WantedTexts.{is_kind, break_at}
+use Rattle.dbus_value_model.specs.Specification.{specification}
 use Rattle.dbus_value_model.specs.declared.order.Order.{Order}
 use Rattle.dbus_value_model.specs.declared.order.Order.TheVariants.{Little, Big}
 use Rattle.dbus_value_model.specs.declared.fault.Fault.{Fault}
@@ -26,7 +27,7 @@ answer_of Partial = Wanting
 
 -- what bytes that may begin with a message are answered
 abbrev answer : List ℕ → Answer
-answer bytes = answer_of (message 61 0 bytes)
+answer bytes = answer_of (message specification 0 bytes)
 
 reply : answer (108 ∷ 2 ∷ 1 ∷ 1 ∷ 0 ∷ 0 ∷ 0 ∷ 0 ∷ 1 ∷ 0 ∷ 0 ∷ 0 ∷ 8 ∷ 0 ∷ 0 ∷ 0 ∷ 5 ∷ 1 ∷ 117 ∷ 0 ∷ 1 ∷ 0 ∷ 0 ∷ 0 ∷ []) ≡ Whole Little 24
 unfolding is_kind break_at computed.is_kind computed.break_at parse type_spelled types_spelled gap_to padding number number_of text ends value byte_order

@@ -1,6 +1,7 @@
--- What decoding answers.
+-- What decoding answers under limits.
 -- D-Bus Specification, "Message Protocol".
 use Rattle.std.specs.Prelude.{ℕ, List, Result, Ok, Err}
+use Rattle.dbus_value_model.specs.declared.limits.Limits.{Limits}
 use Rattle.dbus_value_model.specs.declared.fault.Refusal.{Refusal}
 use Rattle.dbus_value_model.specs.declared.fault.Refusal.TheVariants.{Memory, Format}
 use Rattle.dbus_message.specs.declared.answer.Answer.{Answer}
@@ -8,8 +9,8 @@ use Rattle.dbus_message.specs.declared.answer.Answer.TheVariants.{Whole, Partial
 use Rattle.dbus_message.specs.MessageOutcomes.{IsWhole, IsRefused, IsPartial}
 use Rattle.dbus_message.specs.MessageViews.{message_tree}
 
-abbrev pub Decodes : {A : Type 0} → List ℕ → Result (Answer A) Refusal → Type 0
-Decodes b (Ok (Whole order message used)) = IsWhole b order (message_tree message) used
-Decodes b (Ok Partial) = IsPartial b
-Decodes b (Err Memory) = Unit {0}
-Decodes b (Err (Format f)) = IsRefused b f
+abbrev pub Decodes : {A : Type 0} → Limits → List ℕ → Result (Answer A) Refusal → Type 0
+Decodes limits b (Ok (Whole order message used)) = IsWhole limits b order (message_tree message) used
+Decodes limits b (Ok Partial) = IsPartial limits b
+Decodes limits b (Err Memory) = Unit {0}
+Decodes limits b (Err (Format f)) = IsRefused limits b f

@@ -1,8 +1,10 @@
 -- Reading a message in the parts in which the code reads it.
 -- D-Bus Specification, "Message Format", "Header Fields".
-use Rattle.std.specs.Prelude.{ℕ, suc, List}
+use Rattle.std.specs.Prelude.{ℕ, ◌-◌, List}
 use Rattle.dbus_types.specs.Types.{TypeTree, TypeTrees}
 use Rattle.dbus_types.specs.ComputedKinds.{types_spelled}
+use Rattle.dbus_value_model.specs.Specification.{bounds_of}
+use Rattle.dbus_value_model.specs.declared.limits.Limits.{Limits}
 use Rattle.dbus_value_model.specs.declared.order.Order.{Order}
 use Rattle.dbus_value_model.specs.declared.fault.Reason.TheVariants as reasons
 use Rattle.dbus_value_model.specs.Values.{ValueTree, ValueTrees}
@@ -12,20 +14,20 @@ use Rattle.dbus_value_model.specs.WantedTexts.{WantedText}
 use Rattle.dbus_value_model.specs.Reading.{Reader, ◌>>=◌, ◌>>◌, pure, judge, bounded, padding, number, signature, nul, contents}
 use Rattle.dbus_message.specs.Messages.{FieldTree, MessageTree, Want, want, lacks, required, body_signature}
 use Rattle.dbus_message.specs.MessageItems.{not_zero_row, version_row, fields_row, code_row, kind_wanted}
-use Rattle.dbus_message.specs.MessageReading.{byte_order, value_wanted, body_items}
-use Rattle.dbus_message.specs.ValidMessages.{room_in_field}
+use Rattle.dbus_message.specs.MessageReading.{byte_order, opening, value_wanted, body_items}
 use Rattle.dbus_message.specs.declared.fixed_header.FixedHeader.{FixedHeader}
 
 -- the items that have fixed places
-unfoldable pub fixed_header : Reader FixedHeader
-fixed_header = do
+unfoldable pub fixed_header : Limits → Reader FixedHeader
+fixed_header limits = do
   order ← byte_order
   kind ← number order 1 16 (not_zero_row reasons.Kind)
   flags ← number order 1 16 no_row
   number order 1 16 version_row
   body ← number order 4 16 no_row
   serial ← number order 4 16 (not_zero_row reasons.ZeroSerial)
-  n ← number order 4 16 (fields_row body)
+  opening limits.depth
+  n ← number order 4 16 (fields_row limits body)
   pure (record { order = order; kind = kind; flags = flags; body = body; serial = serial; fields = n })
 
 -- the signature of a field's variant
@@ -36,30 +38,32 @@ wanted_signature order end k = do
   nul
   pure held
 
--- the signature and the value of a field
-unfoldable pub wanted_value : Order → ℕ → Want → Reader ValueTree
-wanted_value order end w = do
+-- the signature and the value of a field, which stands in the field array, a struct and a variant
+unfoldable pub wanted_value : Limits → Order → ℕ → Want → Reader ValueTree
+wanted_value limits order end w = do
   held ← wanted_signature order end (kind_wanted w)
-  value_wanted order room_in_field end w held
+  value_wanted (bounds_of limits) order (limits.depth - 3) end w held
 
-unfoldable pub field_read : Order → ℕ → List FieldTree → Reader FieldTree
-field_read order end before = do
+unfoldable pub field_read : Limits → Order → ℕ → List FieldTree → Reader FieldTree
+field_read limits order end before = do
   padding 8 end
+  opening (limits.depth - 1)
   code ← number order 1 end (code_row before)
-  x ← wanted_value order end (want code)
+  opening (limits.depth - 2)
+  x ← wanted_value limits order end (want code)
   pure (record { code = code; value = x })
 
-unfoldable pub fields_read : Order → ℕ → Reader (List FieldTree)
-fields_read order n = contents n (field_read order)
+unfoldable pub fields_read : Limits → Order → ℕ → Reader (List FieldTree)
+fields_read limits order n = contents n (field_read limits order)
 
-unfoldable pub body_read : Order → TypeTrees → ℕ → Reader ValueTrees
-body_read order ts end = body_items order (suc (suc (suc room_in_field))) ts end
+unfoldable pub body_read : Limits → Order → TypeTrees → ℕ → Reader ValueTrees
+body_read limits order ts end = body_items (bounds_of limits) order limits.depth ts end
 
-unfoldable pub message_read : Reader (Order × MessageTree)
-message_read = do
-  h ← fixed_header
-  fs ← fields_read h.order h.fields
+unfoldable pub message_read : Limits → Reader (Order × MessageTree)
+message_read limits = do
+  h ← fixed_header limits
+  fs ← fields_read limits h.order h.fields
   judge (lacks (required h.kind) fs)
   bounded 8 (padding 8)
-  xs ← bounded h.body (body_read h.order (types_spelled (body_signature fs)))
+  xs ← bounded h.body (body_read limits h.order (types_spelled (body_signature fs)))
   pure (h.order, record { kind = h.kind; flags = h.flags; serial = h.serial; fields = fs; body = xs })

@@ -1,4 +1,3 @@
-pub mod Bounds
 pub mod Messages
 pub mod MessageItems
 pub mod MessageReading

@@ -1,8 +1,10 @@
 -- The items of a message, in their order, and so its faults: the fixed header, the header fields, their padding, the body.
 -- D-Bus Specification, "Message Format" and "Header Fields"; docs/WIRE-FORMAT.md, "Messages" and "Faults".
-use Rattle.std.specs.Prelude.{◌≡◌, ℕ, suc, ◌+◌, List, ◌∷◌, false, ◌&&◌, if◌then◌else◌, nat_lt, nat_eq, Option, Some, None}
+use Rattle.std.specs.Prelude.{◌≡◌, ℕ, ◌+◌, ◌-◌, List, ◌∷◌, false, ◌&&◌, if◌then◌else◌, nat_lt, nat_eq, Option, Some, None}
 use Rattle.dbus_types.specs.Types.{UINT32, STRING, TypeTree, NumberType, TextType, TypeTrees, sig, sigs, AreShaped}
-use Rattle.dbus_value_model.specs.declared.limits.TheConstants.{ARRAY_LIMIT, MESSAGE_LIMIT}
+use Rattle.dbus_value_model.specs.declared.limits.Limits.{Limits}
+use Rattle.dbus_value_model.specs.declared.limits.Bounds.{Bounds}
+use Rattle.dbus_value_model.specs.Specification.{bounds_of}
 use Rattle.dbus_value_model.specs.WantedTexts.{WantedText, Of, Only}
 use Rattle.dbus_value_model.specs.declared.order.Order.{Order}
 use Rattle.dbus_value_model.specs.Bytes.{gap_to}
@@ -11,8 +13,7 @@ use Rattle.dbus_value_model.specs.Spelling.{Spelled}
 use Rattle.dbus_value_model.specs.Items.{Item, ◌>>=◌, ◌>>◌, pure, judge, bounded, ends, padding, number, text, nul, signature, contents, fault}
 use Rattle.dbus_value_model.specs.declared.fault.Reason.{Reason}
 use Rattle.dbus_value_model.specs.Gives.{no_row}
-use Rattle.dbus_value_model.specs.ValueItems.{text_row, value, fields}
-use Rattle.dbus_message.specs.Bounds.{bounds}
+use Rattle.dbus_value_model.specs.ValueItems.{text_row, opened, value, fields}
 use Rattle.dbus_message.specs.Messages.{FieldTree, MessageTree, order_byte, field_type, field_struct, Want, Anything, OfType, Name, Serial, want, is_known, has_code, IsField, lacks, required, body_signature}
 use Rattle.dbus_value_model.specs.declared.fault.Reason.TheVariants as reasons
 use Rattle.dbus_types.specs.declared.text_kind.TextKind.TheVariants as kinds
@@ -26,14 +27,18 @@ version_row p n = if nat_eq n 1 then None else Some reasons.Version
 abbrev pub name_row : ℕ → ℕ → ℕ → Option Reason
 name_row end p n = if nat_lt 255 n then Some reasons.NameTooLong else text_row end p n
 
-abbrev pub fields_row : ℕ → ℕ → ℕ → Option Reason
-fields_row body p n =
-    if nat_lt ARRAY_LIMIT n then Some reasons.ArrayTooLong
-    else if nat_lt MESSAGE_LIMIT (p + n + gap_to 8 (p + n) + body) then Some reasons.MessageTooLong else None
+abbrev pub fields_row : Limits → ℕ → ℕ → ℕ → Option Reason
+fields_row limits body p n =
+    if nat_lt limits.array n then Some reasons.ArrayTooLong
+    else if nat_lt limits.message (p + n + gap_to 8 (p + n) + body) then Some reasons.MessageTooLong else None
 
 abbrev pub code_row : List FieldTree → ℕ → ℕ → Option Reason
 code_row before p n =
     if nat_eq n 0 then Some reasons.FieldCode else if is_known n && has_code n before then Some reasons.FieldTwice else None
+
+-- A container is opened, which has no bytes: how many more may be opened within it.
+abbrev pub opening : ℕ → Item ℕ
+opening room = opened room (pure (room - 1))
 
 -- ---- a field
 
@@ -44,35 +49,38 @@ kind_wanted (OfType t) = Only (sig t)
 kind_wanted (Name k) = Only (sig (TextType STRING))
 kind_wanted Serial = Only (sig (NumberType UINT32))
 
-abbrev pub value_wanted : Order → ℕ → ℕ → Want → TypeTree → Item ValueTree
-value_wanted order inner end Anything t = value bounds order inner end t
-value_wanted order inner end (OfType u) t = value bounds order inner end t
-value_wanted order inner end (Name k) t = do
+abbrev pub value_wanted : Bounds → Order → ℕ → ℕ → Want → TypeTree → Item ValueTree
+value_wanted bounds order room end Anything t = value bounds order room end t
+value_wanted bounds order room end (OfType u) t = value bounds order room end t
+value_wanted bounds order room end (Name k) t = do
   padding 4 end
   n ← number order 4 end (name_row end)
   name ← text k n
   nul
   pure (TextValue STRING name)
-value_wanted order inner end Serial t = do
+value_wanted bounds order room end Serial t = do
   padding 4 end
   n ← number order 4 end (not_zero_row reasons.ZeroSerial)
   pure (NumberValue UINT32 n)
 
-abbrev pub field_items : Order → ℕ → ℕ → List FieldTree → Item FieldTree
-field_items order inner end before = do
+-- a struct of the code and a variant, where so many containers may be opened
+abbrev pub field_items : Bounds → Order → ℕ → ℕ → List FieldTree → Item FieldTree
+field_items bounds order room end before = do
   padding 8 end
+  within ← opening room
   code ← number order 1 end (code_row before)
+  inner ← opening within
   n ← number order 1 end (text_row end)
   held ← signature (kind_wanted (want code)) n
   nul
-  x ← value_wanted order inner end (want code) held
+  x ← value_wanted bounds order inner end (want code) held
   pure (record { code = code; value = x })
 
 -- a field is passed where it is spelled, whole, and is one behind those before it
-abbrev pub field : Order → ℕ → ℕ → List FieldTree → Item FieldTree
-field order inner end before = record {
-  Passed = λ o s f q r. Spelled bounds order (suc (suc inner)) end field_type o s (field_struct f) q r × IsField before f;
-  Refused = (field_items order inner end before).Refused;
+abbrev pub field : Bounds → Order → ℕ → ℕ → List FieldTree → Item FieldTree
+field bounds order room end before = record {
+  Passed = λ o s f q r. Spelled bounds order room end field_type o s (field_struct f) q r × IsField before f;
+  Refused = (field_items bounds order room end before).Refused;
 }
 
 -- ---- the message
@@ -90,25 +98,26 @@ types_of_text text = record {
   Refused = λ o s f. ⊥;
 }
 
-abbrev pub body_items : Order → ℕ → TypeTrees → ℕ → Item ValueTrees
-body_items order room ts end = do
+abbrev pub body_items : Bounds → Order → ℕ → TypeTrees → ℕ → Item ValueTrees
+body_items bounds order room ts end = do
   xs ← fields (value bounds order room end) ts
   ends end
   pure xs
 
 -- In the first 16 bytes and in the padding behind the fields there is no end: 16 and 8 are far enough.
-abbrev pub message_items : ℕ → Item (Order × MessageTree)
-message_items inner = do
+abbrev pub message_items : Limits → Item (Order × MessageTree)
+message_items limits = do
   order ← byte_order
   kind ← number order 1 16 (not_zero_row reasons.Kind)
   flags ← number order 1 16 no_row
   number order 1 16 version_row
   body ← number order 4 16 no_row
   serial ← number order 4 16 (not_zero_row reasons.ZeroSerial)
-  n ← number order 4 16 (fields_row body)
-  fs ← contents n (field order inner)
+  room ← opening limits.depth
+  n ← number order 4 16 (fields_row limits body)
+  fs ← contents n (field (bounds_of limits) order room)
   judge (lacks (required kind) fs)
   bounded 8 (padding 8)
   ts ← types_of_text (body_signature fs)
-  xs ← bounded body (body_items order (suc (suc (suc inner))) ts)
+  xs ← bounded body (body_items (bounds_of limits) order limits.depth ts)
   pure (order, record { kind = kind; flags = flags; serial = serial; fields = fs; body = xs })

@@ -1,7 +1,7 @@
--- The three outcomes of bytes that may begin with a message, and their laws. `inner` is how many containers may be opened within a
--- field's value: the limit on open containers, less the field array, the field's struct and its variant.
+-- The three outcomes of bytes that may begin with a message, under limits, and their laws.
 -- D-Bus Specification, "Message Format".
 use Rattle.std.specs.Prelude.{◌≡◌, ℕ, ◌↔◌, ◌⊎◌, List, ◌++◌, length}
+use Rattle.dbus_value_model.specs.declared.limits.Limits.{Limits}
 use Rattle.dbus_value_model.specs.declared.order.Order.{Order}
 use Rattle.dbus_value_model.specs.declared.order.Order.TheVariants.{Little, Big}
 use Rattle.dbus_value_model.specs.Bytes.{IsBytes}
@@ -12,22 +12,22 @@ use Rattle.dbus_value_model.specs.Reading.{Done, Faulty}
 use Rattle.dbus_message.specs.MessageReading as reads
 
 -- the bytes begin with a message of n bytes
-pub record IsWhole (inner : ℕ) (b : List ℕ) (order : Order) (m : MessageTree) (n : ℕ) : Type 0 where
-  pub message : IsMessage order inner m
+pub record IsWhole (limits : Limits) (b : List ℕ) (order : Order) (m : MessageTree) (n : ℕ) : Type 0 where
+  pub message : IsMessage limits order m
   pub rest : List ℕ
   pub bytes : b ≡ message_bytes order m ++ rest
   pub size : n ≡ length (message_bytes order m)
 
-abbrev pub IsRefused : ℕ → List ℕ → Fault → Type 0
-IsRefused inner b f = (message_items inner).Refused 0 b f
+abbrev pub IsRefused : Limits → List ℕ → Fault → Type 0
+IsRefused limits b f = (message_items limits).Refused 0 b f
 
-pub record IsPartial (inner : ℕ) (b : List ℕ) : Type 0 where
-  pub not_whole : (order : Order) (m : MessageTree) (n : ℕ) → IsWhole inner b order m n → ⊥
-  pub not_refused : (f : Fault) → IsRefused inner b f → ⊥
+pub record IsPartial (limits : Limits) (b : List ℕ) : Type 0 where
+  pub not_whole : (order : Order) (m : MessageTree) (n : ℕ) → IsWhole limits b order m n → ⊥
+  pub not_refused : (f : Fault) → IsRefused limits b f → ⊥
 
 -- No message's bytes begin another's: one list of bytes begins with one message of one order at most.
 abbrev pub OneMessage : Type 0
-OneMessage = (inner : ℕ) (order other : Order) (m n : MessageTree) (x y : List ℕ) → IsMessage order inner m → IsMessage other inner n
+OneMessage = (limits : Limits) (order other : Order) (m n : MessageTree) (x y : List ℕ) → IsMessage limits order m → IsMessage limits other n
     → message_bytes order m ++ x ≡ message_bytes other n ++ y → (order ≡ other) × (m ≡ n) × (x ≡ y)
 
 abbrev pub SameLength : Type 0
@@ -35,26 +35,26 @@ SameLength = (m : MessageTree) → length (message_bytes Little m) ≡ length (m
 
 -- Every list of bytes is whole, refused or partial, and no more than one of these; a refusal has one place and reason.
 abbrev pub MessageOutcome : Type 0
-MessageOutcome = (inner : ℕ) (b : List ℕ) → IsBytes b →
-    ((order : Order) × (m : MessageTree) × (n : ℕ) × IsWhole inner b order m n) ⊎ (((f : Fault) × IsRefused inner b f) ⊎ IsPartial inner b)
+MessageOutcome = (limits : Limits) (b : List ℕ) → IsBytes b →
+    ((order : Order) × (m : MessageTree) × (n : ℕ) × IsWhole limits b order m n) ⊎ (((f : Fault) × IsRefused limits b f) ⊎ IsPartial limits b)
 
 abbrev pub MessageNotBoth : Type 0
-MessageNotBoth = (inner : ℕ) (b : List ℕ) (order : Order) (m : MessageTree) (n : ℕ) (f : Fault) → IsWhole inner b order m n → IsRefused inner b f → ⊥
+MessageNotBoth = (limits : Limits) (b : List ℕ) (order : Order) (m : MessageTree) (n : ℕ) (f : Fault) → IsWhole limits b order m n → IsRefused limits b f → ⊥
 
 abbrev pub MessageOneFault : Type 0
-MessageOneFault = (inner : ℕ) (b : List ℕ) (f g : Fault) → IsRefused inner b f → IsRefused inner b g → f ≡ g
+MessageOneFault = (limits : Limits) (b : List ℕ) (f g : Fault) → IsRefused limits b f → IsRefused limits b g → f ≡ g
 
 -- Whatever bytes follow.
 abbrev pub MessageRefusedForGood : Type 0
-MessageRefusedForGood = (inner : ℕ) (b c : List ℕ) (f : Fault) → IsRefused inner b f → IsRefused inner (b ++ c) f
+MessageRefusedForGood = (limits : Limits) (b c : List ℕ) (f : Fault) → IsRefused limits b f → IsRefused limits (b ++ c) f
 
 abbrev pub MessageWholeForGood : Type 0
-MessageWholeForGood = (inner : ℕ) (b c : List ℕ) (order : Order) (m : MessageTree) (n : ℕ) → IsWhole inner b order m n → IsWhole inner (b ++ c) order m n
+MessageWholeForGood = (limits : Limits) (b c : List ℕ) (order : Order) (m : MessageTree) (n : ℕ) → IsWhole limits b order m n → IsWhole limits (b ++ c) order m n
 
 -- Reading answers what the relations say, both ways.
 abbrev pub ReadsMessages : Type 0
-ReadsMessages = (inner : ℕ) (b : List ℕ) (order : Order) (m : MessageTree) (n : ℕ) (rest : List ℕ) → IsBytes b
-    → (reads.message inner 0 b ≡ Done (order, m) n rest) ↔ (IsMessage order inner m × (b ≡ message_bytes order m ++ rest) × (n ≡ length (message_bytes order m)))
+ReadsMessages = (limits : Limits) (b : List ℕ) (order : Order) (m : MessageTree) (n : ℕ) (rest : List ℕ) → IsBytes b
+    → (reads.message limits 0 b ≡ Done (order, m) n rest) ↔ (IsMessage limits order m × (b ≡ message_bytes order m ++ rest) × (n ≡ length (message_bytes order m)))
 
 abbrev pub ReadsMessageFaults : Type 0
-ReadsMessageFaults = (inner : ℕ) (b : List ℕ) (f : Fault) → IsBytes b → (reads.message inner 0 b ≡ Faulty f) ↔ IsRefused inner b f
+ReadsMessageFaults = (limits : Limits) (b : List ℕ) (f : Fault) → IsBytes b → (reads.message limits 0 b ≡ Faulty f) ↔ IsRefused limits b f

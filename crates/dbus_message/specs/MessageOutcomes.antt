@@ -1,20 +1,20 @@
--- The three outcomes of bytes, at the limit of 64 open containers: they begin with a message, or are refused, or neither.
+-- The three outcomes of bytes under limits: they begin with a message, or are refused, or neither.
 -- D-Bus Specification, "Message Protocol".
 use Rattle.std.specs.Prelude.{ℕ, List}
+use Rattle.dbus_value_model.specs.declared.limits.Limits.{Limits}
 use Rattle.dbus_value_model.specs.declared.order.Order.{Order}
 use Rattle.dbus_value_model.specs.declared.fault.Fault.{Fault}
 use Rattle.dbus_message.specs.Messages.{MessageTree}
-use Rattle.dbus_message.specs.MessageLaws as within
-use Rattle.dbus_message.specs.ValidMessages.{room_in_field}
+use Rattle.dbus_message.specs.MessageLaws as laws
 
 -- the first n bytes spell the message
-unfoldable pub IsWhole : List ℕ → Order → MessageTree → ℕ → Type 0
-IsWhole b order m n = within.IsWhole room_in_field b order m n
+unfoldable pub IsWhole : Limits → List ℕ → Order → MessageTree → ℕ → Type 0
+IsWhole limits b order m n = laws.IsWhole limits b order m n
 
 -- the first item that is not passed shows the fault
-unfoldable pub IsRefused : List ℕ → Fault → Type 0
-IsRefused b f = within.IsRefused room_in_field b f
+unfoldable pub IsRefused : Limits → List ℕ → Fault → Type 0
+IsRefused limits b f = laws.IsRefused limits b f
 
 -- neither
-unfoldable pub IsPartial : List ℕ → Type 0
-IsPartial b = within.IsPartial room_in_field b
+unfoldable pub IsPartial : Limits → List ℕ → Type 0
+IsPartial limits b = laws.IsPartial limits b

@@ -1,8 +1,8 @@
 -- Messages as trees, their one spelling in either byte order, and which are valid: the message relation.
 -- D-Bus Specification, "Message Format" and "Header Fields".
-use Rattle.std.specs.Prelude.{◌≡◌, ℕ, suc, ◌+◌, ◌^◌, ◌<◌, ◌≤◌, List, [], ◌∷◌, ◌++◌, length, map, Bool, true, false, ◌||◌, ◌&&◌, nat_eq, if◌then◌else◌, Option, Some, None}
+use Rattle.std.specs.Prelude.{◌≡◌, ℕ, ◌+◌, ◌^◌, ◌<◌, ◌≤◌, List, [], ◌∷◌, ◌++◌, length, map, Bool, true, false, ◌||◌, ◌&&◌, nat_eq, if◌then◌else◌, Option, Some, None}
 use Rattle.dbus_types.specs.Types.{BYTE, UINT32, STRING, OBJECT_PATH, SIGNATURE, TypeTree, NumberType, TextType, VariantType, StructType, NoTypes, MoreTypes, sigs}
-use Rattle.dbus_value_model.specs.declared.limits.TheConstants.{ARRAY_LIMIT, MESSAGE_LIMIT}
+use Rattle.dbus_value_model.specs.declared.limits.Limits.{Limits}
 use Rattle.dbus_value_model.specs.Measures.{coded}
 use Rattle.dbus_value_model.specs.WantedTexts.{WantedText, IsWanted, Of}
 use Rattle.dbus_value_model.specs.declared.order.Order.{Order}
@@ -130,18 +130,18 @@ abbrev pub body_signature : List FieldTree → List ℕ
 body_signature [] = []
 body_signature (f ∷ fs) = if nat_eq f.code 8 then text_in f.value else body_signature fs
 
--- inner is the room within a field's variant, three containers deep
-pub record IsMessage (order : Order) (inner : ℕ) (m : MessageTree) : Type 0 where
+-- valid, and within the limits as it is spelled in the order
+pub record IsMessage (limits : Limits) (order : Order) (m : MessageTree) : Type 0 where
   pub kind : 0 < m.kind
   pub kind_fits : m.kind < 256
   pub flags : m.flags < 256
   pub serial : 0 < m.serial
   pub serial_fits : m.serial < 256 ^ 4
   pub fields : AreFields [] m.fields
-  pub formed_fields : IsWellFormed (suc (suc (suc inner))) (field_array m.fields)
-  pub within_fields : IsWithinLimits ARRAY_LIMIT order 12 (field_array m.fields)
+  pub formed_fields : IsWellFormed limits.depth (field_array m.fields)
+  pub within_fields : IsWithinLimits limits.array order 12 (field_array m.fields)
   pub required_codes : lacks (required m.kind) m.fields ≡ None
   pub signature : sigs (types_of m.body) ≡ body_signature m.fields
-  pub formed_body : AreWellFormed (suc (suc (suc inner))) m.body
-  pub within_body : AreWithinLimits ARRAY_LIMIT order (body_start order m.fields) m.body
-  pub limit : length (message_bytes order m) ≤ MESSAGE_LIMIT
+  pub formed_body : AreWellFormed limits.depth m.body
+  pub within_body : AreWithinLimits limits.array order (body_start order m.fields) m.body
+  pub limit : length (message_bytes order m) ≤ limits.message

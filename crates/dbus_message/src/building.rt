@@ -89,7 +89,7 @@ fn check_contents<A: Allocator + Copy>(
 /// How many bytes the parts are spelled by, within the limits.
 fn measure<A: Allocator>(parts: &Parts<A>, limits: Limits) -> Result<usize, BuildFault>
     requires passed { SignaturePasses limits parts.now }
-    ensures { MatchResult result (λ n. IsValidMessage (parts_tree parts.now) × (n ≡ length (message_bytes Little (parts_tree parts.now))) × NoFault limits parts.now) (λ f. IsFirstFault limits parts.now f) }
+    ensures { MatchResult result (λ n. IsValidMessage specification (parts_tree parts.now) × (n ≡ length (message_bytes Little (parts_tree parts.now))) × NoFault limits parts.now) (λ f. IsFirstFault limits parts.now f) }
 {
     read_parts(parts);
     let fields = match fields_end(&parts.fields, limits) {

@@ -4,6 +4,7 @@
 ghost use Rattle.std.specs.Prelude.{◌≡◌, ℕ, List, drop, IfOk};
 ghost use Rattle.dbus_types.specs.ComputedKinds.{types_spelled};
 ghost use Rattle.dbus_types.specs.SigTypes.{type_trees_of};
+ghost use Rattle.dbus_value_model.specs.Specification.{specification};
 ghost use Rattle.dbus_value_model.specs.Gives.{Gives};
 ghost use Rattle.dbus_value_model.specs.Reading.{judge};
 ghost use Rattle.dbus_message.specs.Decodes.{Decodes};
@@ -24,7 +25,7 @@ use crate::read_body::read_body;
 use crate::read_fields::read_fields;
 use dbus_types::{SigType, parse_signature};
 use dbus_unmarshal::items::read_padding;
-use dbus_value_model::{Order, Reason, Refusal, Stop, refuse};
+use dbus_value_model::{Limits, Order, Reason, Refusal, Stop, refuse};
 use std::alloc::{AllocError, Allocator};
 
 /// That no required field is missing, at the place behind the fields: `FieldMissing` with the lowest code that is. D-Bus
@@ -57,17 +58,19 @@ fn body_types<A: Allocator + Copy>(
 fn read_message<A: Allocator + Copy>(
     alloc: A,
     bytes: &[u8],
+    limits: Limits,
 ) -> Result<(Order, Parts<A>, usize), Stop>
-    ensures gives { Gives (λ x. ((x.0, parts_tree x.1), x.2)) bytes.now result (message_read 0 bytes.now) }
+    ensures gives { Gives (λ x. ((x.0, parts_tree x.1), x.2)) bytes.now result (message_read limits 0 bytes.now) }
     ensures packed { IfOk result (λ x. PartsKeepBytes x.1) }
 {
-    let header = read_fixed_header(bytes)?;
-    let (fields, at) = read_fields(alloc, bytes, 16, header.fields as usize, header.order)?;
+    let header = read_fixed_header(bytes, limits)?;
+    let length = header.fields as usize;
+    let (fields, at) = read_fields(alloc, bytes, 16, length, header.order, limits)?;
     check_required(header.kind, &fields, at)?;
     let at = read_padding(bytes, at, at + 8, 8)?;
     let types = body_types(alloc, &fields)?;
     let end = at + header.body as usize;
-    let (body, used) = read_body(alloc, bytes, at, end, header.order, &types)?;
+    let (body, used) = read_body(alloc, bytes, at, end, header.order, &types, limits)?;
     let parts = Parts {
         kind: header.kind,
         flags: header.flags,
@@ -78,17 +81,34 @@ fn read_message<A: Allocator + Copy>(
     Ok((header.order, parts, used))
 }
 
-/// Decodes the message that the bytes begin with. D-Bus Specification, "Message Protocol".
+/// Decodes the message that the bytes begin with, within the limits of the specification: it is [`decode_within`] under these.
+/// D-Bus Specification, "Message Protocol".
+pub fn decode<A: Allocator + Copy>(alloc: A, bytes: &[u8]) -> Result<Answer<A>, Refusal>
+    ensures decodes { Decodes specification bytes.now result }
+    ensures packed { IfOk result AnswerKeepsBytes }
+{
+    decode_within(alloc, bytes, Limits::specification())
+}
+
+/// Decodes the message that the bytes begin with, under limits. D-Bus Specification, "Message Protocol".
 ///
 /// `Whole` where they do: `used` is how many bytes it has, and those behind it are not looked at. `Partial` where they
 /// neither do nor are refused: more bytes are wanted. `Format` where the next item of the message is at fault, with the
 /// fault's place, as soon as the bytes that are there show it. `Memory` only where a growth was refused. An array of BYTE
 /// comes as `Bytes`, in the values of fields and of the body, also within others.
-pub fn decode<A: Allocator + Copy>(alloc: A, bytes: &[u8]) -> Result<Answer<A>, Refusal>
-    ensures decodes { Decodes bytes.now result }
+///
+/// Of the limits: `MessageTooLong` at 12 where the header states more bytes than the limits' message, `ArrayTooLong` at its
+/// length where an array has more than their array (the field array at 12), and `TooDeep` where a container is opened while
+/// their depth are open: at 12 for the field array, behind a field's padding for its struct, behind its code for its variant.
+pub fn decode_within<A: Allocator + Copy>(
+    alloc: A,
+    bytes: &[u8],
+    limits: Limits,
+) -> Result<Answer<A>, Refusal>
+    ensures decodes { Decodes limits bytes.now result }
     ensures packed { IfOk result AnswerKeepsBytes }
 {
-    match read_message(alloc, bytes) {
+    match read_message(alloc, bytes, limits) {
         Ok((order, parts, used)) => Ok(Answer::Whole {
             order,
             message: Message::of_valid(parts, used),

@@ -7,13 +7,14 @@ ghost use Rattle.dbus_types.specs.SigTypes.{type_tree};
 ghost use Rattle.dbus_types.specs.Types.{IsSingleType, sig};
 ghost use Rattle.dbus_types.specs.declared.text_kind.TextKind.TheVariants.{Single};
 ghost use Rattle.dbus_value_model.specs.declared.order.Order.{Order};
-ghost use Rattle.dbus_value_model.specs.declared.limits.TheConstants.{DEPTH_LIMIT};
+ghost use Rattle.dbus_value_model.specs.Specification.{bounds_of};
+ghost use Rattle.dbus_value_model.specs.declared.limits.Limits.{Limits};
+ghost use Rattle.dbus_message.specs.declared.field_value.TheConstants.{FIELD_DEPTH};
 ghost use Rattle.dbus_value_model.specs.Gives.{Gives};
 ghost use Rattle.dbus_value_model.specs.PackedBytes.{keeps_bytes};
 ghost use Rattle.dbus_value_model.specs.Reading.{number, value};
 ghost use Rattle.dbus_value_model.specs.ValueViews.{value_tree};
 ghost use Rattle.dbus_value_model.specs.WantedTexts.{IsName, Of, Only};
-ghost use Rattle.dbus_message.specs.Bounds.{bounds};
 ghost use Rattle.dbus_message.specs.HeaderReading.{wanted_signature, wanted_value};
 ghost use Rattle.dbus_message.specs.MessageItems.{name_row};
 ghost use Rattle.dbus_message.specs.Messages.{Name, OfType, Anything, Serial, want};
@@ -21,10 +22,10 @@ ghost use Rattle.dbus_message.specs.Messages.{Name, OfType, Anything, Serial, wa
 use crate::field_table::{Wanted, want};
 use crate::fixed_header::read_serial;
 use dbus_types::{SigType, TextKind};
-use dbus_unmarshal::get;
+use dbus_unmarshal::get_within;
 use dbus_unmarshal::items::{read_length, read_nul, read_padding, read_short_length, read_u32};
 use dbus_unmarshal::texts::{copy_text, read_only, read_signature, read_text};
-use dbus_value_model::{Got, Order, Reason, Refusal, Stop, Value, refuse};
+use dbus_value_model::{Got, Limits, Order, Reason, Refusal, Stop, Value, refuse};
 use std::alloc::Allocator;
 
 /// The most bytes that a name in a header field has.
@@ -33,7 +34,7 @@ const NAME_LIMIT: u32 = 255;
 /// How many containers are open around a field's value: the field array, the field and its variant.
 pub const FIELD_DEPTH: u8 = 3;
 
-/// A value of the type that is wanted, with so many containers open around it, and the place behind it.
+/// A value of the type that is wanted, under limits, with so many containers open around it, and the place behind it.
 pub fn read_value<A: Allocator + Copy>(
     alloc: A,
     bytes: &[u8],
@@ -42,16 +43,17 @@ pub fn read_value<A: Allocator + Copy>(
     order: Order,
     wanted: &SigType<A>,
     depth: u8,
+    limits: Limits,
 ) -> Result<(Value<A>, usize), Stop>
     requires at_most { at ≤ end }
     requires inside { at ≤ length bytes.now }
-    requires shallow { depth ≤ DEPTH_LIMIT }
+    requires shallow { depth ≤ limits.depth }
     requires complete { IsSingleType (type_tree wanted.now) }
-    ensures gives { Gives (λ x. (value_tree x.0, x.1)) bytes.now result (value bounds order (DEPTH_LIMIT - depth) end (type_tree wanted.now) at (drop at bytes.now)) }
+    ensures gives { Gives (λ x. (value_tree x.0, x.1)) bytes.now result (value (bounds_of limits) order (limits.depth - depth) end (type_tree wanted.now) at (drop at bytes.now)) }
     ensures moves { IfOk result (λ x. (at < x.1) × (x.1 ≤ end) × (x.1 ≤ length bytes.now)) }
     ensures packed { IfOk result (λ x. IsTrue (keeps_bytes x.0)) }
 {
-    match get(alloc, bytes, at, end, order, wanted, depth) {
+    match get_within(alloc, bytes, at, end, order, wanted, depth, limits) {
         Ok(Got::Done(value, next)) => Ok((value, next)),
         Ok(Got::Partial) => Err(Stop::Partial),
         Err(Refusal::Memory) => Err(Stop::Memory),
@@ -109,7 +111,7 @@ fn read_name<A: Allocator + Copy>(
     requires at_most { at ≤ end }
     requires inside { at ≤ length bytes.now }
     requires name { IsName (Of kind) }
-    ensures gives { Gives (λ x. (value_tree x.0, x.1)) bytes.now result (wanted_value order end (Name (Of kind)) at (drop at bytes.now)) }
+    ensures gives { (limits : Limits) → Gives (λ x. (value_tree x.0, x.1)) bytes.now result (wanted_value limits order end (Name (Of kind)) at (drop at bytes.now)) }
     ensures moves { IfOk result (λ x. (at < x.1) × (x.1 ≤ end) × (x.1 ≤ length bytes.now)) }
     ensures packed { IfOk result (λ x. IsTrue (keeps_bytes x.0)) }
 {
@@ -132,7 +134,7 @@ fn read_reply_serial<A: Allocator + Copy>(
 ) -> Result<(Value<A>, usize), Stop>
     requires at_most { at ≤ end }
     requires inside { at ≤ length bytes.now }
-    ensures gives { Gives (λ x. (value_tree x.0, x.1)) bytes.now result (wanted_value order end Serial at (drop at bytes.now)) }
+    ensures gives { (limits : Limits) → Gives (λ x. (value_tree x.0, x.1)) bytes.now result (wanted_value limits order end Serial at (drop at bytes.now)) }
     ensures moves { IfOk result (λ x. (at < x.1) × (x.1 ≤ end) × (x.1 ≤ length bytes.now)) }
     ensures packed { IfOk result (λ x. IsTrue (keeps_bytes x.0)) }
 {
@@ -152,17 +154,19 @@ fn read_typed<A: Allocator + Copy>(
     order: Order,
     wanted: &[u8],
     held: &SigType<A>,
+    limits: Limits,
 ) -> Result<(Value<A>, usize), Stop>
+    requires opened { FIELD_DEPTH ≤ limits.depth }
     requires at_most { at ≤ end }
     requires inside { at ≤ length bytes.now }
     requires complete { IsSingleType (type_tree held.now) }
     requires spelled { wanted.now ≡ sig (type_tree held.now) }
-    ensures gives { Gives (λ x. (value_tree x.0, x.1)) bytes.now result (wanted_value order end (OfType (type_tree held.now)) at (drop at bytes.now)) }
+    ensures gives { Gives (λ x. (value_tree x.0, x.1)) bytes.now result (wanted_value limits order end (OfType (type_tree held.now)) at (drop at bytes.now)) }
     ensures moves { IfOk result (λ x. (at < x.1) × (x.1 ≤ end) × (x.1 ≤ length bytes.now)) }
     ensures packed { IfOk result (λ x. IsTrue (keeps_bytes x.0)) }
 {
     let at = read_wanted(bytes, at, end, wanted)?;
-    read_value(alloc, bytes, at, end, order, held, FIELD_DEPTH)
+    read_value(alloc, bytes, at, end, order, held, FIELD_DEPTH, limits)
 }
 
 /// A field of an unknown code: any value.
@@ -173,17 +177,19 @@ fn read_anything<A: Allocator + Copy>(
     at: usize,
     end: usize,
     order: Order,
+    limits: Limits,
 ) -> Result<(Value<A>, usize), Stop>
+    requires opened { FIELD_DEPTH ≤ limits.depth }
     requires at_most { at ≤ end }
     requires inside { at ≤ length bytes.now }
-    ensures gives { Gives (λ x. (value_tree x.0, x.1)) bytes.now result (wanted_value order end Anything at (drop at bytes.now)) }
+    ensures gives { Gives (λ x. (value_tree x.0, x.1)) bytes.now result (wanted_value limits order end Anything at (drop at bytes.now)) }
     ensures moves { IfOk result (λ x. (at < x.1) × (x.1 ≤ end) × (x.1 ≤ length bytes.now)) }
     ensures packed { IfOk result (λ x. IsTrue (keeps_bytes x.0)) }
 {
     let (n, at) = read_short_length(bytes, at, end)?;
     let (held, behind) = read_signature(alloc, bytes, at, n)?;
     let at = read_nul(bytes, behind)?;
-    read_value(alloc, bytes, at, end, order, &held, FIELD_DEPTH)
+    read_value(alloc, bytes, at, end, order, &held, FIELD_DEPTH, limits)
 }
 
 /// The value of a field: of its own type and kind where its code is known. D-Bus Specification, "Header Fields".
@@ -194,20 +200,22 @@ pub fn read_field_value<A: Allocator + Copy>(
     end: usize,
     order: Order,
     code: u8,
+    limits: Limits,
 ) -> Result<(Value<A>, usize), Stop>
+    requires opened { FIELD_DEPTH ≤ limits.depth }
     requires at_most { at ≤ end }
     requires inside { at ≤ length bytes.now }
     requires some { 0 < code }
-    ensures gives { Gives (λ x. (value_tree x.0, x.1)) bytes.now result (wanted_value order end (want code) at (drop at bytes.now)) }
+    ensures gives { Gives (λ x. (value_tree x.0, x.1)) bytes.now result (wanted_value limits order end (want code) at (drop at bytes.now)) }
     ensures moves { IfOk result (λ x. (at < x.1) × (x.1 ≤ end) × (x.1 ≤ length bytes.now)) }
     ensures packed { IfOk result (λ x. IsTrue (keeps_bytes x.0)) }
 {
     match want(code) {
-        Wanted::Anything => read_anything(alloc, bytes, at, end, order),
-        Wanted::Path => read_typed(alloc, bytes, at, end, order, b"o", &SigType::Path),
+        Wanted::Anything => read_anything(alloc, bytes, at, end, order, limits),
+        Wanted::Path => read_typed(alloc, bytes, at, end, order, b"o", &SigType::Path, limits),
         Wanted::Name(kind) => read_name(alloc, bytes, at, end, order, kind),
         Wanted::Serial => read_reply_serial(bytes, at, end, order),
-        Wanted::Signature => read_typed(alloc, bytes, at, end, order, b"g", &SigType::Sig),
-        Wanted::Number => read_typed(alloc, bytes, at, end, order, b"u", &SigType::U32),
+        Wanted::Signature => read_typed(alloc, bytes, at, end, order, b"g", &SigType::Sig, limits),
+        Wanted::Number => read_typed(alloc, bytes, at, end, order, b"u", &SigType::U32, limits),
     }
 }

@@ -7,14 +7,14 @@ ghost use Rattle.dbus_value_model.specs.declared.order.Order.{Order};
 ghost use Rattle.dbus_value_model.specs.declared.stop.Stop.TheVariants.{Memory};
 ghost use Rattle.dbus_value_model.specs.Gives.{Gives};
 ghost use Rattle.dbus_value_model.specs.Reading.{number};
-ghost use Rattle.dbus_value_model.specs.declared.limits.TheConstants.{MESSAGE_LIMIT};
 ghost use Rattle.dbus_value_model.specs.Bytes.{gap_to};
 ghost use Rattle.dbus_message.specs.HeaderReading.{fixed_header};
 ghost use Rattle.dbus_message.specs.MessageItems.{not_zero_row, version_row, fields_row};
 ghost use Rattle.dbus_message.specs.MessageReading.{byte_order};
 
+use crate::opening::check_open;
 use dbus_unmarshal::items::{read_byte, read_u32};
-use dbus_value_model::{ARRAY_LIMIT, MESSAGE_LIMIT, Order, Reason, Stop, padding_length, refuse};
+use dbus_value_model::{Limits, Order, Reason, Stop, padding_length, refuse};
 
 /// What the first sixteen bytes of a message say. D-Bus Specification, "Message Format".
 #[derive(Clone, Copy)]
@@ -95,31 +95,31 @@ pub fn read_serial(bytes: &[u8], at: usize, end: usize, order: Order) -> Result<
     Ok((serial, next))
 }
 
-/// The length of the field array, at 12, where the body has so many bytes: `ArrayTooLong` where it is over its limit, else
-/// `MessageTooLong` where the message is.
-fn read_fields_length(bytes: &[u8], order: Order, body: u32) -> Result<u32, Stop>
+/// The length of the field array, at 12, where the body has so many bytes: `ArrayTooLong` where it is over the limits' array,
+/// else `MessageTooLong` where the message is over their message.
+fn read_fields_length(bytes: &[u8], order: Order, body: u32, limits: Limits) -> Result<u32, Stop>
     requires { 12 ≤ length bytes.now }
     ensures no_memory { IfErr result (λ e. e ≢ Memory) }
-    ensures gives { Gives (λ n. (n, 16)) bytes.now result (number order 4 16 (fields_row body) 12 (drop 12 bytes.now)) }
-    ensures there { IfOk result (λ n. (16 ≤ length bytes.now) × (16 + n + gap_to 8 (16 + n) + body ≤ MESSAGE_LIMIT)) }
+    ensures gives { Gives (λ n. (n, 16)) bytes.now result (number order 4 16 (fields_row limits body) 12 (drop 12 bytes.now)) }
+    ensures there { IfOk result (λ n. (16 ≤ length bytes.now) × (16 + n + gap_to 8 (16 + n) + body ≤ limits.message)) }
 {
     let (fields, _) = read_u32(bytes, 12, 16, order)?;
-    if fields > ARRAY_LIMIT {
+    if fields > limits.array {
         return refuse(12, Reason::ArrayTooLong);
     }
     let end = 16 + u64::from(fields);
-    if end + u64::from(padding_length(8, end)) + u64::from(body) > u64::from(MESSAGE_LIMIT) {
+    if end + u64::from(padding_length(8, end)) + u64::from(body) > u64::from(limits.message) {
         return refuse(12, Reason::MessageTooLong);
     }
     Ok(fields)
 }
 
-/// The items that have fixed places, in their order.
+/// The items that have fixed places, in their order. `TooDeep` at 12 where the field array may not be opened.
 #[tactic(auto, unfolding(crate::specs::HeaderReading::fixed_header))]
-pub fn read_fixed_header(bytes: &[u8]) -> Result<FixedHeader, Stop>
+pub fn read_fixed_header(bytes: &[u8], limits: Limits) -> Result<FixedHeader, Stop>
     ensures no_memory { IfErr result (λ e. e ≢ Memory) }
-    ensures gives { Gives (λ h. (h, 16)) bytes.now result (fixed_header 0 bytes.now) }
-    ensures there { IfOk result (λ h. (16 ≤ length bytes.now) × (16 + h.fields + gap_to 8 (16 + h.fields) + h.body ≤ MESSAGE_LIMIT)) }
+    ensures gives { Gives (λ h. (h, 16)) bytes.now result (fixed_header limits 0 bytes.now) }
+    ensures there { IfOk result (λ h. (0 < limits.depth) × (16 ≤ length bytes.now) × (16 + h.fields + gap_to 8 (16 + h.fields) + h.body ≤ limits.message)) }
 {
     let order = read_order(bytes)?;
     let kind = read_kind(bytes)?;
@@ -127,7 +127,8 @@ pub fn read_fixed_header(bytes: &[u8]) -> Result<FixedHeader, Stop>
     read_version(bytes)?;
     let (body, _) = read_u32(bytes, 4, 16, order)?;
     let (serial, _) = read_serial(bytes, 8, 16, order)?;
-    let fields = read_fields_length(bytes, order, body)?;
+    check_open(limits, 0, 12)?;
+    let fields = read_fields_length(bytes, order, body, limits)?;
     Ok(FixedHeader {
         order,
         kind,

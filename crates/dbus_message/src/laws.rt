@@ -2,7 +2,7 @@
 //! function's contract is a law; it does nothing when it runs.
 #![tactic(auto)]
 
-ghost use Rattle.dbus_message.specs.OutcomeLaws.{OneMessage, OneLength, SomeOutcome, OneOutcome, OneWhole, OneFault, WholeForGood, RefusedForGood, WiderLimits};
+ghost use Rattle.dbus_message.specs.OutcomeLaws.{OneMessage, OneLength, SomeOutcome, OneOutcome, OneWhole, OneFault, WholeForGood, RefusedForGood, WiderLimits, WiderWhole, ValidWithin};
 ghost use Rattle.dbus_message.specs.StatedLaws.{StatedHolds, WholeStates, OneStated, SomeStated};
 
 /// No message's bytes begin another message's, and bytes spell at most one message in at most one order.
@@ -69,4 +69,14 @@ pub fn some_stated()
 /// A message that keeps limits keeps limits none of which is smaller.
 pub fn wider_limits()
     ensures { WiderLimits }
+{}
+
+/// What begins with a message under limits begins with it under limits none of which is smaller.
+pub fn wider_whole()
+    ensures { WiderWhole }
+{}
+
+/// The messages that are valid within limits are the valid ones that keep them, as `Message::within` says.
+pub fn valid_within()
+    ensures { ValidWithin }
 {}

@@ -3,6 +3,7 @@
 
 ghost use Rattle.std.specs.Prelude.{◌≡◌, length};
 ghost use Rattle.dbus_value_model.specs.declared.order.Order.TheVariants.{Little};
+ghost use Rattle.dbus_value_model.specs.Specification.{specification};
 ghost use Rattle.dbus_message.specs.Messages.{message_bytes};
 ghost use Rattle.dbus_message.specs.PackedParts.{PartsKeepBytes};
 ghost use Rattle.dbus_message.specs.PartsViews.{parts_tree};
@@ -19,7 +20,7 @@ pub struct Message<A: Allocator = Global> {
     parts: Parts<A>,
     /// How many bytes it is spelled by.
     size: usize,
-    ghost valid: { ∥ IsValidMessage (parts_tree parts) ∥₁ },
+    ghost valid: { ∥ IsValidMessage specification (parts_tree parts) ∥₁ },
     ghost packed: { PartsKeepBytes parts },
     ghost sized: { size ≡ length (message_bytes Little (parts_tree parts)) },
 }
@@ -32,7 +33,7 @@ impl<A: Allocator> Message<A> {
 
     /// The message of these parts, which are valid and are spelled by so many bytes.
     pub(crate) fn of_valid(parts: Parts<A>, size: usize) -> Self
-        requires valid { IsValidMessage (parts_tree parts) }
+        requires valid { IsValidMessage specification (parts_tree parts) }
         requires packed { PartsKeepBytes parts }
         requires sized { size ≡ length (message_bytes Little (parts_tree parts)) }
         ensures { message_tree result ≡ parts_tree parts }
@@ -51,7 +52,7 @@ impl<A: Allocator> Message<A> {
     /// What it is made of. An array of BYTE in it is `Bytes`.
     pub fn parts(&self) -> &Parts<A>
         ensures same { parts_tree result.now ≡ message_tree self.now }
-        ensures valid { ∥ IsValidMessage (parts_tree result.now) ∥₁ }
+        ensures valid { ∥ IsValidMessage specification (parts_tree result.now) ∥₁ }
         ensures packed { PartsKeepBytes result.now }
     {
         &self.parts

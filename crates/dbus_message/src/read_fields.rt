@@ -14,8 +14,9 @@ ghost use Rattle.dbus_message.specs.PartsViews.{field_tree, field_trees};
 use crate::field_value::read_field_value;
 use crate::header_field::HeaderField;
 use crate::known_fields::is_again;
+use crate::opening::check_open;
 use dbus_unmarshal::items::{read_byte, read_padding};
-use dbus_value_model::{Order, Reason, Stop, refuse};
+use dbus_value_model::{Limits, Order, Reason, Stop, refuse};
 use std::alloc::Allocator;
 
 /// The code of a field behind others: `FieldCode` where it is 0, `FieldTwice` where it is known and stands among them.
@@ -40,7 +41,8 @@ fn read_code<A: Allocator>(
     Ok((code, next))
 }
 
-/// A field behind others, and the place behind it. D-Bus Specification, "Header Fields".
+/// A field behind others, and the place behind it: a struct of its code and a variant, within the field array. `TooDeep` where
+/// one of these may not be opened. D-Bus Specification, "Header Fields".
 #[tactic(auto, unfolding(crate::specs::HeaderReading::field_read))]
 fn read_field<A: Allocator + Copy>(
     alloc: A,
@@ -49,16 +51,20 @@ fn read_field<A: Allocator + Copy>(
     end: usize,
     order: Order,
     before: &[HeaderField<A>],
+    limits: Limits,
 ) -> Result<(HeaderField<A>, usize), Stop>
+    requires opened { 0 < limits.depth }
     requires at_most { at ≤ end }
     requires inside { at ≤ length bytes.now }
-    ensures gives { Gives (λ x. (field_tree x.0, x.1)) bytes.now result (field_read order end (reverse (field_trees before.now)) at (drop at bytes.now)) }
+    ensures gives { Gives (λ x. (field_tree x.0, x.1)) bytes.now result (field_read limits order end (reverse (field_trees before.now)) at (drop at bytes.now)) }
     ensures moves { IfOk result (λ x. (at < x.1) × (x.1 ≤ end) × (x.1 ≤ length bytes.now)) }
     ensures packed { IfOk result (λ x. IsTrue (keeps_bytes x.0.value)) }
 {
     let at = read_padding(bytes, at, end, 8)?;
+    check_open(limits, 1, at)?;
     let (code, at) = read_code(bytes, at, end, before)?;
-    let (value, next) = read_field_value(alloc, bytes, at, end, order, code)?;
+    check_open(limits, 2, at)?;
+    let (value, next) = read_field_value(alloc, bytes, at, end, order, code, limits)?;
     Ok((HeaderField { code, value }, next))
 }
 
@@ -69,10 +75,12 @@ pub fn read_fields<A: Allocator + Copy>(
     at: usize,
     n: usize,
     order: Order,
+    limits: Limits,
 ) -> Result<(Vec<HeaderField<A>, A>, usize), Stop>
+    requires opened { 0 < limits.depth }
     requires near { at + n < 2 ^ 62 }
     requires inside { at ≤ length bytes.now }
-    ensures gives { Gives (λ x. (field_trees x.0.items, x.1)) bytes.now result (fields_read order n at (drop at bytes.now)) }
+    ensures gives { Gives (λ x. (field_trees x.0.items, x.1)) bytes.now result (fields_read limits order n at (drop at bytes.now)) }
     ensures moves { IfOk result (λ x. (x.1 ≡ at + n) × (x.1 ≤ length bytes.now)) }
     ensures packed { IfOk result (λ x. IsTrue (keep_bytes (field_values x.0.items))) }
 {
@@ -80,7 +88,7 @@ pub fn read_fields<A: Allocator + Copy>(
     let mut fields = Vec::new(alloc);
     let mut place = at;
     while place < end {
-        let (field, next) = read_field(alloc, bytes, place, end, order, &fields)?;
+        let (field, next) = read_field(alloc, bytes, place, end, order, &fields, limits)?;
         fields.push(field)?;
         place = next;
     }

@@ -33,7 +33,7 @@ returns-in_err-body-clause-gives g c =
     let types : type_trees_of c.deref-3.result.now ≡ types_spelled (body_signature (field_trees c.in_ok-fields.fields.items)) = rw (c.deref-3.ensures.value, c.in_ok-types.ensures.spelled, c.deref-2.ensures.value) refl in
     exits (λ x. ((x.0, parts_tree x.1), x.2)) c.args.bytes.now c.from_residual-in_err-body.result _ _ c.from_residual-in_err-body.ensures.1
     (rw (c.in_ok-header.ensures.gives, c.in_ok-fields.ensures.gives, judged, c.in_ok-at.ensures.gives, ← types)
-    (stops_after _ (body_read c.in_ok-header.header.order (type_trees_of c.deref-3.result.now) (c.in_ok-at.at + c.in_ok-header.header.body) c.in_ok-at.at (drop c.in_ok-at.at c.args.bytes.now)) _ c.in_err-body.ensures.gives))
+    (stops_after _ (body_read c.args.limits c.in_ok-header.header.order (type_trees_of c.deref-3.result.now) (c.in_ok-at.at + c.in_ok-header.header.body) c.in_ok-at.at (drop c.in_ok-at.at c.args.bytes.now)) _ c.in_err-body.ensures.gives))
 
 pub returns-clause-gives : goal.returns-clause-gives
 unfolding message_read

@@ -7,7 +7,6 @@ use Rattle.dbus_value_model.specs.ValueViews.{value_trees_of}
 use Rattle.dbus_message.specs.Messages.{MessageTree, message_bytes}
 use Rattle.dbus_message.specs.MessageViews.{message_tree}
 use Rattle.dbus_message.specs.PartsViews.{parts_tree, field_trees}
-use Rattle.dbus_message.specs.ValidMessages.{room_in_field}
 use Rattle.dbus_message.proofs.Encoded.{short_all, short_fields, shorts_prop, with_fields, with_length, with_body, long_fields, fits_fields, fits_start, fits_body, long_start, step_fields, step_length, step_body, step_all}
 use Rattle.dbus_message.proofs.encoding.write_whole.Goals as goal
 
@@ -30,7 +29,7 @@ write_fields-requires-clause-fits g c =
 
 pub write_fields-requires-clause-signed : goal.write_fields-requires-clause-signed
 write_fields-requires-clause-signed g c =
-    ∥∥₁_elim c.parts-parts.ensures.valid (shorts_prop _) (λ v. rw c.deref.ensures.value (short_fields room_in_field (parts_tree c.parts-parts.result.now).fields (v c.args.order).formed_fields))
+    ∥∥₁_elim c.parts-parts.ensures.valid (shorts_prop _) (λ v. rw c.deref.ensures.value (short_fields 63 (parts_tree c.parts-parts.result.now).fields (v c.args.order).formed_fields))
 
 pub overflow_sub-fields : goal.overflow_sub-fields
 overflow_sub-fields g c =

@@ -13,8 +13,8 @@ invariant-loop-place g l = record {
   inside : l.place ≤ length l.bytes;
   taken : length l.fields.items + l.at ≤ l.place;
   packed : IsTrue (keep_bytes (field_values l.fields.items));
-  so_far : with_front (field_trees l.fields.items) (up_to (l.n - length l.fields.items) l.end (field_read l.order l.end) (reverse (field_trees l.fields.items)) l.place (drop l.place l.bytes))
-      ≡ fields_read l.order l.n l.at (drop l.at l.bytes);
+  so_far : with_front (field_trees l.fields.items) (up_to (l.n - length l.fields.items) l.end (field_read l.limits l.order l.end) (reverse (field_trees l.fields.items)) l.place (drop l.place l.bytes))
+      ≡ fields_read l.limits l.order l.n l.at (drop l.at l.bytes);
 }
 
 abbrev pub decreases-loop-place : goal.decreases-loop-place

@@ -1,7 +1,7 @@
 use Rattle.std.proofs.Common.{refl, arith}
 use Rattle.std.proofs.lemmas.Bool.{false≢true}
 use Rattle.dbus_message.specs.PartsViews.{parts_tree}
-use Rattle.dbus_message.proofs.Built.{fields_past, fields_near, body_arrays, keeps}
+use Rattle.dbus_message.proofs.Built.{fields_past, body_arrays, keeps}
 use Rattle.dbus_message.proofs.within.keeps_arrays.Goals as goal
 
 pub returns-in-None : goal.returns-in-None

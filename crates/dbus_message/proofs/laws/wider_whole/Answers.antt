@@ -1,0 +1,5 @@
+use Rattle.dbus_message.proofs.Widening.{wider_whole}
+use Rattle.dbus_message.proofs.laws.wider_whole.Goals as goal
+
+pub returns : goal.returns
+returns c = wider_whole
