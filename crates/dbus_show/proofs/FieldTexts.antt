@@ -13,7 +13,7 @@ use Rattle.dbus_value_model.specs.declared.order.Order.{Order}
 use Rattle.dbus_value_model.specs.declared.order.Order.TheVariants.{Little, Big}
 use Rattle.dbus_value_model.specs.Values.{ValueTree, NumberValue, TextValue, value_trees, IsWellFormed, AreWellFormed}
 use Rattle.dbus_message.specs.Messages.{FieldTree, MessageTree, order_byte, is_known, field_struct, Want, OfType, Name, Serial, want, is_particular, Suits, AreFields}
-use Rattle.dbus_message.specs.ValidMessages.{room_in_field}
+use Rattle.dbus_message.proofs.Widening.{widest_valid}
 use Rattle.dbus_show.specs.Laws.{line_feeds, OneForEachLine}
 use Rattle.dbus_show.specs.ShownValues.{value_text, value_texts}
 use Rattle.dbus_show.specs.ShownMessages.{kind_text, field_name, bare, field_value, field_text, header_line, body_line}
@@ -165,9 +165,9 @@ body_lines (t ∷ ts) h =
     omega (arith, line.one)
 
 pub one_for_each_line : OneForEachLine
-one_for_each_line order m number valid =
-    let v = valid order in
-    let fields = fields_line [] m.fields room_in_field v.fields v.formed_fields.1 in
+one_for_each_line limits order m number valid =
+    let v = widest_valid limits m valid order in
+    let fields = fields_line [] m.fields 61 v.fields v.formed_fields.1 in
     let header = header_ended order m number fields in
     let body = body_lines (value_texts m.body) (lines_of m.body) in
     let e = feeds_append (header_line order m number) (flat_map body_line (value_texts m.body)) in
