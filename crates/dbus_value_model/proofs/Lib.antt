@@ -11,4 +11,5 @@ pub mod Formed
 pub mod SameTypes
 pub mod TypeParts
 pub mod RangeSteps
+pub mod Indexes
 pub mod ShortLaws

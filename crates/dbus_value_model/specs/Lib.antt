@@ -1,6 +1,7 @@
 pub mod WantedTexts
 pub mod Bytes
 pub mod Values
+pub mod FdIndexes
 pub mod Spelling
 pub mod Items
 pub mod ValueItems

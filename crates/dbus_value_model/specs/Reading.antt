@@ -127,7 +127,7 @@ opened (suc room) within = within
 abbrev pub items : Bounds → Order → (room : ℕ) → (ℕ → TypeTree → Reader ValueTree) → ℕ → TypeTree → Reader ValueTree
 items bounds order room inside end (NumberType k) = do
   padding (width k) end
-  n ← number order (width k) end (number_row k)
+  n ← number order (width k) end (number_row bounds.fds k)
   pure (NumberValue k n)
 items bounds order room inside end (TextType k) = do
   padding (length_width k) end

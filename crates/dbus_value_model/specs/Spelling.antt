@@ -6,6 +6,7 @@ use Rattle.dbus_types.specs.Alignments.{width, length_width, alignment_of}
 use Rattle.dbus_value_model.specs.declared.order.Order.{Order}
 use Rattle.dbus_value_model.specs.declared.limits.Bounds.{Bounds}
 use Rattle.dbus_value_model.specs.Bytes.{gap_to, pad, num}
+use Rattle.dbus_value_model.specs.FdIndexes.{AreIndexesBelow, AreAllBelow}
 use Rattle.dbus_value_model.specs.Values.{ValueTree, ValueTrees, NumberValue, TextValue, VariantValue, ArrayValue, StructValue, EntryValue, NoValues, MoreValues, type_of, IsWellFormed, AreWellFormed}
 
 -- where the contents of an array at o begin
@@ -53,6 +54,7 @@ pub record Spelled (bounds : Bounds) (order : Order) (room end : ℕ) (t : TypeT
   pub has_type : type_of v ≡ t
   pub formed : IsWellFormed room v
   pub within : IsWithinLimits bounds.array order o v
+  pub indexes : AreIndexesBelow bounds.fds v
   pub bytes : s ≡ spelling order o v ++ r
   pub place : q ≡ o + length (spelling order o v)
   pub bound : q ≤ end
@@ -61,5 +63,6 @@ pub record Spelled (bounds : Bounds) (order : Order) (room end : ℕ) (t : TypeT
 pub record SpelledAll (bounds : Bounds) (order : Order) (room : ℕ) (o : ℕ) (s : List ℕ) (vs : ValueTrees) (q : ℕ) (r : List ℕ) : Type 0 where
   pub formed : AreWellFormed room vs
   pub within : AreWithinLimits bounds.array order o vs
+  pub indexes : AreAllBelow bounds.fds vs
   pub bytes : s ≡ spellings order o vs ++ r
   pub place : q ≡ o + length (spellings order o vs)

@@ -14,18 +14,23 @@ use Rattle.dbus_value_model.specs.declared.fault.Reason.{Reason}
 use Rattle.dbus_value_model.specs.declared.fault.Reason.TheVariants as reasons
 use Rattle.dbus_types.specs.declared.text_kind.TextKind.TheVariants as kinds
 
+-- an index of a descriptor: below the number fds, where there is one
+abbrev pub index_row : Option ℕ → ℕ → Option Reason
+index_row None n = None
+index_row (Some limit) n = if nat_lt n limit then None else Some reasons.FdIndex
+
 -- a number's own rows
-abbrev pub number_row : NumberCode → ℕ → ℕ → Option Reason
-number_row BOOLEAN p n = if nat_lt n 2 then None else Some reasons.Bool
-number_row BYTE p n = None
-number_row INT16 p n = None
-number_row UINT16 p n = None
-number_row INT32 p n = None
-number_row UINT32 p n = None
-number_row INT64 p n = None
-number_row UINT64 p n = None
-number_row DOUBLE p n = None
-number_row UNIX_FD p n = None
+abbrev pub number_row : (fds : Option ℕ) → NumberCode → ℕ → ℕ → Option Reason
+number_row fds BOOLEAN p n = if nat_lt n 2 then None else Some reasons.Bool
+number_row fds BYTE p n = None
+number_row fds INT16 p n = None
+number_row fds UINT16 p n = None
+number_row fds INT32 p n = None
+number_row fds UINT32 p n = None
+number_row fds INT64 p n = None
+number_row fds UINT64 p n = None
+number_row fds DOUBLE p n = None
+number_row fds UNIX_FD p n = index_row fds n
 
 -- a text's length: the text and its nul fit before the end
 abbrev pub text_row : ℕ → ℕ → ℕ → Option Reason
@@ -55,7 +60,7 @@ opened (suc room) within = within
 abbrev pub items : Bounds → Order → (room : ℕ) → (ℕ → TypeTree → Item ValueTree) → ℕ → TypeTree → Item ValueTree
 items bounds order room inside end (NumberType k) = do
   padding (width k) end
-  n ← number order (width k) end (number_row k)
+  n ← number order (width k) end (number_row bounds.fds k)
   pure (NumberValue k n)
 items bounds order room inside end (TextType k) = do
   padding (length_width k) end

@@ -1,6 +1,6 @@
 -- The computed reading of a value, one definition for each function of the code that reads one.
 -- D-Bus Specification, "Marshaling (Wire Format)".
-use Rattle.std.specs.Prelude.{ℕ, ◌-◌}
+use Rattle.std.specs.Prelude.{ℕ, ◌-◌, Option}
 use Rattle.dbus_types.specs.Types.{NumberCode, TextCode, TypeTree, TypeTrees}
 use Rattle.dbus_types.specs.Alignments.{width, length_width, alignment_of}
 use Rattle.dbus_types.specs.declared.text_kind.TextKind.TheVariants.{Single}
@@ -11,11 +11,11 @@ use Rattle.dbus_value_model.specs.Values.{value_trees, ValueTree, NumberValue, T
 use Rattle.dbus_value_model.specs.ValueItems.{number_row, text_row, array_row}
 use Rattle.dbus_value_model.specs.Reading.{Reader, ◌>>=◌, ◌>>◌, pure, padding, number, text, nul, signature, contents, fields, opened, value}
 
--- a number
-unfoldable pub number_value : Order → ℕ → NumberCode → Reader ValueTree
-number_value order end k = do
+-- a number; an index of a descriptor is below the number fds, where there is one
+unfoldable pub number_value : (fds : Option ℕ) → Order → ℕ → NumberCode → Reader ValueTree
+number_value fds order end k = do
   padding (width k) end
-  n ← number order (width k) end (number_row k)
+  n ← number order (width k) end (number_row fds k)
   pure (NumberValue k n)
 
 -- a text

@@ -54,7 +54,7 @@ pub enum Reason {
     TooDeep,
     /// The input ends within a message.
     Truncated,
-    /// The index of a file descriptor is not below their count. It is answered nowhere yet: indexes are not looked up.
+    /// The index of a file descriptor is not below their count, where that is asked for.
     FdIndex,
     /// Something that is not read yet. It is answered nowhere: all that the wire format has is read. The case is kept so that
     /// the reasons keep their order.

@@ -4,6 +4,8 @@
 ghost use Rattle.std.specs.Prelude.{◌≡◌, ◌≤◌};
 ghost use Rattle.dbus_value_model.specs.declared.limits.TheConstants.{ARRAY_LIMIT, DEPTH_LIMIT, MESSAGE_LIMIT};
 
+use crate::fd_rule::FdRule;
+
 /// The most bytes that the contents of an array have, the header's array of fields among them.
 /// D-Bus Specification, "Marshaling (Wire Format)".
 pub const ARRAY_LIMIT: u32 = 67_108_864;
@@ -16,7 +18,8 @@ pub const MESSAGE_LIMIT: u32 = 134_217_728;
 /// D-Bus Specification, "Valid Signatures", for the limit on nesting.
 pub const DEPTH_LIMIT: u8 = 64;
 
-/// The limits that values are read and written within, and messages made, none of them over that of the specification.
+/// The limits that values are read and written within, and messages made, none of them over that of the specification, and
+/// the rule on the indexes of file descriptors.
 #[derive(Clone, Copy, PartialEq, Eq, Debug)]
 pub struct Limits {
     /// The most bytes that a message has, at most [`MESSAGE_LIMIT`].
@@ -25,6 +28,8 @@ pub struct Limits {
     pub array: u32,
     /// The most arrays, structs and variants that are open at once, at most [`DEPTH_LIMIT`].
     pub depth: u8,
+    /// Which indexes of file descriptors may stand in a message's body.
+    pub fds: FdRule,
     pub ghost message_in: { message ≤ MESSAGE_LIMIT },
     pub ghost array_in: { array ≤ ARRAY_LIMIT },
     pub ghost depth_in: { depth ≤ DEPTH_LIMIT },
@@ -35,13 +40,16 @@ pub struct Limits {
 pub struct Bounds {
     /// The most bytes that the contents of an array have, at most [`ARRAY_LIMIT`].
     pub array: u32,
+    /// The number that every index of a file descriptor is below, or nothing where any index may stand.
+    pub fds: Option<u32>,
     pub ghost array_in: { array ≤ ARRAY_LIMIT },
 }
 
 impl Limits {
-    ghost use Rattle.dbus_value_model.specs.Specification.{IsLimits, specification, bounds_of};
+    ghost use Rattle.dbus_value_model.specs.Specification.{IsLimits, specification, with_fds, bounds_of, bounds_with};
 
-    /// These limits, or nothing where one of them is over that of the specification.
+    /// These limits, under which any index of a file descriptor may stand, or nothing where one of them is over that of the
+    /// specification.
     pub fn new(message: u32, array: u32, depth: u8) -> Option<Limits>
         ensures { IsLimits message array depth result }
     {
@@ -52,10 +60,11 @@ impl Limits {
             message,
             array,
             depth,
+            fds: FdRule::Any,
         })
     }
 
-    /// The limits of the specification.
+    /// The limits of the specification, under which any index of a file descriptor may stand.
     pub fn specification() -> Limits
         ensures { result ≡ specification }
     {
@@ -63,13 +72,33 @@ impl Limits {
             message: MESSAGE_LIMIT,
             array: ARRAY_LIMIT,
             depth: DEPTH_LIMIT,
+            fds: FdRule::Any,
         }
     }
 
-    /// What values keep under these limits.
+    /// These limits, with another rule on the indexes of file descriptors.
+    pub fn with_fds(mut self, fds: FdRule) -> Limits
+        ensures { result ≡ with_fds self fds }
+    {
+        self.fds = fds;
+        self
+    }
+
+    /// What values keep under these limits, where any index of a file descriptor may stand.
     pub fn bounds(self) -> Bounds
         ensures { result ≡ bounds_of self }
     {
-        Bounds { array: self.array }
+        self.bounds_with(None)
+    }
+
+    /// What values keep under these limits, where every index of a file descriptor is below `fds`, or any stands where that
+    /// is nothing. The rule of the limits has no part in it.
+    pub fn bounds_with(self, fds: Option<u32>) -> Bounds
+        ensures { result ≡ bounds_with self fds }
+    {
+        Bounds {
+            array: self.array,
+            fds,
+        }
     }
 }

@@ -1,0 +1,34 @@
+use Rattle.std.proofs.Common.{Some, refl, sym, subst}
+use Rattle.std.proofs.lemmas.Bool.{false≢true}
+use Rattle.dbus_value_model.specs.FdIndexes.{AreIndexesBelow}
+use Rattle.dbus_value_model.specs.ValueViews.{value_tree}
+use Rattle.dbus_value_model.proofs.Indexes.{past_at, below_more, bytes_below}
+use Rattle.dbus_value_model.proofs.ValueRows.{tree-Array, tree-Struct, tree-Bytes}
+use Rattle.dbus_value_model.proofs.fd_indexes.+below.Goals as goal
+
+pub is_below-returns-in-Array : goal.is_below-returns-in-Array
+is_below-returns-in-Array g t c =
+    let items = rw c.deref.ensures.value at c.are_below.ensures in
+    let fds = Some c.args.limit in
+    rw c.in-Array.is (λ e. subst (AreIndexesBelow fds) (sym (tree-Array c.in-Array.field-0 c.in-Array.items)) (items.0 e), λ h. items.1 (subst (AreIndexesBelow fds) (tree-Array c.in-Array.field-0 c.in-Array.items) h))
+
+pub is_below-returns-in-Struct : goal.is_below-returns-in-Struct
+is_below-returns-in-Struct g t c =
+    let fields = rw c.deref-in-Struct.ensures.value at c.are_below-in-Struct.ensures in
+    let fds = Some c.args.limit in
+    rw c.in-Struct.is (λ e. subst (AreIndexesBelow fds) (sym (tree-Struct c.in-Struct.fields)) (fields.0 e), λ h. fields.1 (subst (AreIndexesBelow fds) (tree-Struct c.in-Struct.fields) h))
+
+pub is_below-returns-in-Bytes : goal.is_below-returns-in-Bytes
+is_below-returns-in-Bytes g t c = rw c.in-Bytes.is (λ e. subst (AreIndexesBelow (Some c.args.limit)) (sym (tree-Bytes c.in-Bytes.field-0)) (bytes_below (Some c.args.limit) c.in-Bytes.field-0.items), λ h. refl)
+
+pub are_below-returns-then-not-is_below : goal.are_below-returns-then-not-is_below
+are_below-returns-then-not-is_below g t c =
+    let n = c.if-not-is_below.ensures in (
+      λ e. absurd (false≢true e),
+      λ h. absurd (past_at (Some c.args.limit) c.args.values.now c.loop-value.value-index c.value-item.result c.loop-value-test.true (λ k. false≢true (n.1 (subst (λ x. AreIndexesBelow (Some c.args.limit) (value_tree x)) (sym c.value-item.is) k))) h),
+    )
+
+pub are_below-loop-value-preserved : goal.are_below-loop-value-preserved
+are_below-loop-value-preserved g t c =
+    let n = c.if-not-is_below.ensures.0 refl in
+    λ h. c.loop-value.invariant (below_more (Some c.args.limit) c.args.values.now c.loop-value.value-index c.value-item.result c.loop-value-test.true (subst (λ x. AreIndexesBelow (Some c.args.limit) (value_tree x)) c.value-item.is n) h)
