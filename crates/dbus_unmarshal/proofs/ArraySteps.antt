@@ -1,5 +1,5 @@
 -- Steps of reading an array's length, and the elements of an array of BYTE.
-use Rattle.std.proofs.Common.{◌≡◌, ℕ, zero, suc, ◌+◌, ◌-◌, ◌%◌, ◌<◌, ◌≤◌, List, [], ◌∷◌, length, take, drop, map, Some, None, refl, sym, ap, subst, ◌∙◌, arith}
+use Rattle.std.proofs.Common.{◌≡◌, ℕ, zero, suc, ◌+◌, ◌-◌, ◌<◌, ◌≤◌, List, [], ◌∷◌, length, take, drop, map, Some, None, refl, sym, ap, subst, ◌∙◌, arith}
 use Rattle.std.proofs.lemmas.Bool.{lt-ltb, le-ltb, eq-eqb}
 use Rattle.std.proofs.lemmas.List.{length-drop, take_all, drop-drop}
 use Rattle.dbus_types.specs.Types.{BYTE, TypeTree, NumberType}
@@ -19,7 +19,7 @@ use Rattle.dbus_value_model.specs.ValueReaders.{number_value, array_frame}
 use Rattle.dbus_value_model.specs.Gives.{Stops, no_row}
 use Rattle.dbus_unmarshal.proofs.ReadSteps.{stops_after, number_stops, number_passes, number_fails}
 use Rattle.dbus_unmarshal.proofs.NumberSteps.{no_padding, byte_done}
-use Rattle.dbus_unmarshal.proofs.ValueSteps.{value_number}
+use Rattle.dbus_unmarshal.proofs.ValueSteps.{value_plain}
 
 -- ---- the length, and the padding behind it
 
@@ -66,11 +66,11 @@ module _ (bounds : Bounds) (order : Order) (room end : ℕ) where
   byte_number o b s h = rw (le-ltb end (o + 1) (omega arith), le-ltb (length (b ∷ s)) 1 (omega arith), one_place order b) refl
 
   byte_here : (o b : ℕ) (s : List ℕ) → o < end → value bounds order room end (NumberType BYTE) o (b ∷ s) ≡ Done (NumberValue BYTE b) (o + 1) s
-  byte_here o b s h = value_number bounds order room end BYTE o (b ∷ s) ∙ byte_done order end o (b ∷ s) (omega arith) b (o + 1) s (byte_number o b s h)
+  byte_here o b s h = value_plain bounds order room end BYTE o (b ∷ s) refl ∙ byte_done order end o (b ∷ s) (omega arith) b (o + 1) s (byte_number o b s h)
 
   byte_missing : (o : ℕ) → o < end → value bounds order room end (NumberType BYTE) o [] ≡ Partial
   unfolding number_value number
-  byte_missing o h = value_number bounds order room end BYTE o [] ∙ rw (no_padding end o [] (omega arith), le-ltb end (o + 1) (omega arith)) refl
+  byte_missing o h = value_plain bounds order room end BYTE o [] refl ∙ rw (no_padding end o [] (omega arith), le-ltb end (o + 1) (omega arith)) refl
 
   bytes_there : (n o : ℕ) (s : List ℕ) (before : List ValueTree) → end ≡ o + n → n ≤ length s
       → up_to n end (λ before. value bounds order room end (NumberType BYTE)) before o s ≡ Done (map (NumberValue BYTE) (take n s)) (o + n) (drop n s)

@@ -1,5 +1,5 @@
 -- What the items of a type pass, one after another, is what is spelled.
-use Rattle.std.proofs.Common.{◌≡◌, ℕ, suc, ◌+◌, ◌^◌, ◌<◌, ◌≤◌, List, [], ◌∷◌, ◌++◌, length, ltb, None, refl, sym, ap, subst, ◌∙◌, arith, inl, inr, append_assoc}
+use Rattle.std.proofs.Common.{◌≡◌, ℕ, suc, ◌+◌, ◌^◌, ◌<◌, ◌≤◌, List, [], ◌∷◌, ◌++◌, length, ltb, Option, None, Some, IfSome, refl, sym, ap, subst, ◌∙◌, arith, inl, inr, append_assoc}
 use Rattle.std.proofs.lemmas.Bool.{ltb-true, ltb-false, lt-ltb, le-ltb}
 use Rattle.std.proofs.lemmas.List.{length-append, length-replicate}
 use Rattle.dbus_types.specs.Types.{NumberCode, BYTE, BOOLEAN, INT16, UINT16, INT32, UINT32, INT64, UINT64, DOUBLE, UNIX_FD, TextCode, TypeTree, NumberType, TextType, VariantType, ArrayType, StructType, EntryType, TypeTrees, NoTypes, MoreTypes, sig, IsSingleType}
@@ -7,10 +7,11 @@ use Rattle.dbus_types.specs.Alignments.{width, length_width, alignment_of}
 use Rattle.dbus_value_model.specs.declared.limits.Bounds.{Bounds}
 use Rattle.dbus_value_model.specs.declared.order.Order.{Order}
 use Rattle.dbus_value_model.specs.Bytes.{num, gap_to, pad}
+use Rattle.dbus_value_model.specs.FdIndexes.{IsIndexBelow}
 use Rattle.dbus_value_model.specs.Spelling.{contents_start, ended_text, spelling, spellings, Spelled, SpelledAll}
 use Rattle.dbus_value_model.specs.Values.{IsNumber, AllOf, ValueTree, value_trees, ValueTrees, NoValues, MoreValues, NumberValue, TextValue, VariantValue, ArrayValue, StructValue, EntryValue, type_of, types_of}
 use Rattle.dbus_value_model.specs.Items.{Item, Sequence}
-use Rattle.dbus_value_model.specs.ValueItems.{number_row, text_row, array_row, items, fields}
+use Rattle.dbus_value_model.specs.ValueItems.{index_row, number_row, text_row, array_row, items, fields}
 use Rattle.dbus_value_model.proofs.Numbers.{length-num}
 use Rattle.dbus_unmarshal.proofs.KindLaws.{text_single}
 use Rattle.dbus_unmarshal.proofs.OwnItems.{chosen}
@@ -38,29 +39,37 @@ array_row_fits bounds t end p n e = elim (chosen (ltb bounds.array n) _ _ _ e) [
 pub fits_array_row : (bounds : Bounds) (t : TypeTree) (end p n : ℕ) → n ≤ bounds.array → p + gap_to (alignment_of t) p + n ≤ end → array_row bounds t end p n ≡ None
 fits_array_row bounds t end p n a b = rw (le-ltb _ _ a, le-ltb _ _ b) refl
 
-pub row_number : (k : NumberCode) (p n : ℕ) → n < 256 ^ width k → number_row k p n ≡ None → IsNumber k n
-row_number BYTE p n h e = h
-row_number BOOLEAN p n h e = elim (chosen (ltb n 2) _ _ _ e) [ inl w ↦ ltb-true _ _ w.0 | inr w ↦ absurd (cc (w.1)) ]
-row_number INT16 p n h e = h
-row_number UINT16 p n h e = h
-row_number INT32 p n h e = h
-row_number UINT32 p n h e = h
-row_number INT64 p n h e = h
-row_number UINT64 p n h e = h
-row_number DOUBLE p n h e = h
-row_number UNIX_FD p n h e = h
+row_below : (fds : Option ℕ) (n : ℕ) → index_row fds n ≡ None → IfSome fds (λ limit. n < limit)
+row_below None n e = tt
+row_below (Some limit) n e = elim (chosen (ltb n limit) _ _ _ e) [ inl w ↦ ltb-true _ _ w.0 | inr w ↦ absurd (cc (w.1)) ]
 
-pub number_row_none : (k : NumberCode) (p n : ℕ) → IsNumber k n → (n < 256 ^ width k) × (number_row k p n ≡ None)
-number_row_none BYTE p n h = (h, refl)
-number_row_none BOOLEAN p n h = (omega arith, rw (lt-ltb _ _ h) refl)
-number_row_none INT16 p n h = (h, refl)
-number_row_none UINT16 p n h = (h, refl)
-number_row_none INT32 p n h = (h, refl)
-number_row_none UINT32 p n h = (h, refl)
-number_row_none INT64 p n h = (h, refl)
-number_row_none UINT64 p n h = (h, refl)
-number_row_none DOUBLE p n h = (h, refl)
-number_row_none UNIX_FD p n h = (h, refl)
+below_row : (fds : Option ℕ) (n : ℕ) → IfSome fds (λ limit. n < limit) → index_row fds n ≡ None
+below_row None n h = refl
+below_row (Some limit) n h = rw (lt-ltb _ _ h) refl
+
+pub row_number : (fds : Option ℕ) (k : NumberCode) (p n : ℕ) → n < 256 ^ width k → number_row fds k p n ≡ None → IsNumber k n × IsIndexBelow fds k n
+row_number fds BYTE p n h e = (h, tt)
+row_number fds BOOLEAN p n h e = elim (chosen (ltb n 2) _ _ _ e) [ inl w ↦ (ltb-true _ _ w.0, tt) | inr w ↦ absurd (cc (w.1)) ]
+row_number fds INT16 p n h e = (h, tt)
+row_number fds UINT16 p n h e = (h, tt)
+row_number fds INT32 p n h e = (h, tt)
+row_number fds UINT32 p n h e = (h, tt)
+row_number fds INT64 p n h e = (h, tt)
+row_number fds UINT64 p n h e = (h, tt)
+row_number fds DOUBLE p n h e = (h, tt)
+row_number fds UNIX_FD p n h e = (h, row_below fds n e)
+
+pub number_row_none : (fds : Option ℕ) (k : NumberCode) (p n : ℕ) → IsNumber k n → IsIndexBelow fds k n → (n < 256 ^ width k) × (number_row fds k p n ≡ None)
+number_row_none fds BYTE p n h below = (h, refl)
+number_row_none fds BOOLEAN p n h below = (omega arith, rw (lt-ltb _ _ h) refl)
+number_row_none fds INT16 p n h below = (h, refl)
+number_row_none fds UINT16 p n h below = (h, refl)
+number_row_none fds INT32 p n h below = (h, refl)
+number_row_none fds UINT32 p n h below = (h, refl)
+number_row_none fds INT64 p n h below = (h, refl)
+number_row_none fds UINT64 p n h below = (h, refl)
+number_row_none fds DOUBLE p n h below = (h, refl)
+number_row_none fds UNIX_FD p n h below = (h, below_row fds n below)
 
 -- ---- lists
 
@@ -79,10 +88,12 @@ number_to bounds order room inside end k o s v q r w =
     let a = w.4 in
     let read = a.3 in
     let b = a.4 in
+    let rows = row_number bounds.fds k a.1 a.0 read.0 read.4 in
     let one : Spelled bounds order room end (NumberType k) o s (NumberValue k a.0) q r = record {
       has_type = refl;
-      formed = row_number k a.1 a.0 read.0 read.4;
+      formed = rows.0;
       within = tt;
+      indexes = rows.1;
       bytes = rw b.2 (joined s (pad (width k) o) w.2 (num order (width k) a.0) a.2 padded.0 read.1);
       place = simp (length-append, length-num, length-replicate) (omega (arith, b.1, read.2, padded.1));
       bound = omega (arith, b.1, read.3);
@@ -92,7 +103,7 @@ number_to bounds order room inside end k o s v q r w =
 pub number_from : (bounds : Bounds) (order : Order) (room : ℕ) (inside : ℕ → TypeTree → Item ValueTree) (end : ℕ) (k : NumberCode) (o : ℕ) (s : List ℕ) (n q : ℕ) (r : List ℕ) → Spelled bounds order room end (NumberType k) o s (NumberValue k n) q r → (items bounds order room inside end (NumberType k)).Passed o s (NumberValue k n) q r
 unfolding spelling
 number_from bounds order room inside end k o s n q r h =
-    let ok = number_row_none k (o + gap_to (width k) o + width k) n h.formed in
+    let ok = number_row_none bounds.fds k (o + gap_to (width k) o + width k) n h.formed h.indexes in
     let long : length (pad (width k) o ++ num order (width k) n) ≡ gap_to (width k) o + width k = simp (length-append, length-num, length-replicate) in
     let ends : q ≡ o + gap_to (width k) o + width k = omega (arith, h.place, long) in (
       tt,
@@ -125,6 +136,7 @@ text_to bounds order room inside end k o s v q r w =
       has_type = refl;
       formed = (taken.2, rw len read.0);
       within = tt;
+      indexes = tt;
       bytes = joined s (pad (length_width k) o) w.2 (ended_text order (length_width k) b.0) r padded.0
           (joined w.2 (num order (length_width k) (length b.0)) a.2 (b.0 ++ 0 ∷ []) r number_there text_there);
       place = simp (length-append, length-num, length-replicate) (omega (arith, d.1, ended.1, taken.3, read.2, padded.1, len));
@@ -163,7 +175,7 @@ text_from bounds order room inside end k o s t q r h =
 
 pub all_none : (bounds : Bounds) (order : Order) (room o : ℕ) (s : List ℕ) → SpelledAll bounds order room o s NoValues o s
 unfolding spelling
-all_none bounds order room o s = record { formed = tt; within = tt; bytes = refl; place = omega arith }
+all_none bounds order room o s = record { formed = tt; within = tt; indexes = tt; bytes = refl; place = omega arith }
 
 pub all_more : (bounds : Bounds) (order : Order) (room end : ℕ) (t : TypeTree) (o : ℕ) (s : List ℕ) (v : ValueTree) (p : ℕ) (u : List ℕ) (vs : ValueTrees) (q : ℕ) (r : List ℕ) → Spelled bounds order room end t o s v p u → SpelledAll bounds order room p u vs q r → SpelledAll bounds order room o s (MoreValues v vs) q r
 unfolding spelling
@@ -172,6 +184,7 @@ all_more bounds order room end t o s v p u vs q r one more =
     record {
       formed = (one.formed, more.formed);
       within = (one.within, rw at at more.within);
+      indexes = (one.indexes, more.indexes);
       bytes = joined s (spelling order o v) u (spellings order (o + length (spelling order o v)) vs) r one.bytes (rw at at more.bytes);
       place = simp length-append (let e : q ≡ o + length (spelling order o v) + length (spellings order (o + length (spelling order o v)) vs) = rw at at more.place in omega arith);
     }
@@ -184,8 +197,8 @@ all_parts bounds order room end o s v vs q r bound h =
     let long = length-append (spelling order o v) (spellings order p vs) in (
       p,
       spellings order p vs ++ r,
-      record { has_type = refl; formed = h.formed.0; within = h.within.0; bytes = h.bytes ∙ append_assoc (spelling order o v) (spellings order p vs) r; place = refl; bound = omega (arith, h.place, long) },
-      record { formed = h.formed.1; within = h.within.1; bytes = refl; place = omega (arith, h.place, long) },
+      record { has_type = refl; formed = h.formed.0; within = h.within.0; indexes = h.indexes.0; bytes = h.bytes ∙ append_assoc (spelling order o v) (spellings order p vs) r; place = refl; bound = omega (arith, h.place, long) },
+      record { formed = h.formed.1; within = h.within.1; indexes = h.indexes.1; bytes = refl; place = omega (arith, h.place, long) },
     )
 
 -- ---- containers
@@ -224,6 +237,7 @@ module _ (bounds : Bounds) (order : Order) (room : ℕ) (inside : ℕ → TypeTr
         has_type = refl;
         formed = (subst IsSingleType same held.0, inner.formed);
         within = rw place_x at inner.within;
+        indexes = inner.indexes;
         bytes = rw d.2 (joined s (ended_text order 1 (sig (type_of x))) b.2 (spelling order (o + length (ended_text order 1 (sig (type_of x)))) x) c.2 front_x (rw place_x at inner.bytes));
         place = rw (d.1, length-append (ended_text order 1 (sig (type_of x)))) (let e : c.1 ≡ (o + length (ended_text order 1 (sig (type_of x)))) + length (spelling order (o + length (ended_text order 1 (sig (type_of x)))) x) = rw place_x at inner.place in omega (arith, e));
         bound = omega (arith, d.1, inner.bound);
@@ -239,7 +253,7 @@ module _ (bounds : Bounds) (order : Order) (room : ℕ) (inside : ℕ → TypeTr
       let ends : q ≡ p + length (spelling order p x) = omega (arith, h.place, length-append (ended_text order 1 t) (spelling order p x)) in
       let there : s ≡ num order 1 (length t) ++ (t ++ 0 ∷ (spelling order p x ++ r)) = h.bytes ∙ simp append_assoc in
       let at : p ≡ o + 1 + length t + 1 = omega (arith, head) in
-      let inner : Spelled bounds order room end (type_of x) p (spelling order p x ++ r) x q r = record { has_type = refl; formed = h.formed.1; within = h.within; bytes = refl; place = ends; bound = h.bound } in (
+      let inner : Spelled bounds order room end (type_of x) p (spelling order p x ++ r) x q r = record { has_type = refl; formed = h.formed.1; within = h.within; indexes = h.indexes; bytes = refl; place = ends; bound = h.bound } in (
         length t,
         o + 1,
         t ++ 0 ∷ (spelling order p x ++ r),
@@ -298,6 +312,7 @@ module _ (bounds : Bounds) (order : Order) (room : ℕ) (inside : ℕ → TypeTr
         has_type = refl;
         formed = (spelled.0, all.formed);
         within = (rw len at rows.0, all.within);
+        indexes = all.indexes;
         bytes = rw d.2 (joined s (pad 4 o) w.2 _ c.2 padded.0 (joined w.2 (num order 4 (length (spellings order start xs))) a.2 _ c.2 number_there (joined a.2 (pad (alignment_of t) (o + gap_to 4 o + 4)) b.2 (spellings order start xs) c.2 pad_there all.bytes)));
         place = simp (length-append, length-num, length-replicate) (omega (arith, d.1, all.place));
         bound = omega (arith, d.1, c.3.1, padded'.1, rows.1);
@@ -312,7 +327,7 @@ module _ (bounds : Bounds) (order : Order) (room : ℕ) (inside : ℕ → TypeTr
       let c = spellings order start xs in
       let ends : q ≡ start + length c = simp (length-append, length-num, length-replicate) at h.place ∙ omega arith in
       let there : s ≡ pad 4 o ++ (num order 4 (length c) ++ (pad (alignment_of t) (p + 4) ++ (c ++ r))) = h.bytes ∙ simp append_assoc in
-      let all : SpelledAll bounds order room start (c ++ r) xs q r = record { formed = h.formed.1; within = h.within.1; bytes = refl; place = ends } in (
+      let all : SpelledAll bounds order room start (c ++ r) xs q r = record { formed = h.formed.1; within = h.within.1; indexes = h.indexes; bytes = refl; place = ends } in (
         tt,
         p,
         num order 4 (length c) ++ (pad (alignment_of t) (p + 4) ++ (c ++ r)),
@@ -362,6 +377,7 @@ module _ (bounds : Bounds) (order : Order) (room : ℕ) (inside : ℕ → TypeTr
         has_type = ap StructType spelled.0;
         formed = all.formed;
         within = all.within;
+        indexes = all.indexes;
         bytes = rw d.2 (joined s (pad 8 o) w.2 (spellings order (o + gap_to 8 o) xs) a.2 padded.0 all.bytes);
         place = simp (length-append, length-replicate) (omega (arith, d.1, all.place));
         bound = omega (arith, d.1, spelled.2 padded.2);
@@ -374,7 +390,7 @@ module _ (bounds : Bounds) (order : Order) (room : ℕ) (inside : ℕ → TypeTr
       let p = o + gap_to 8 o in
       let c = spellings order p xs in
       let ends : q ≡ p + length c = simp (length-append, length-replicate) at h.place ∙ omega arith in
-      let all : SpelledAll bounds order room p (c ++ r) xs q r = record { formed = h.formed; within = h.within; bytes = refl; place = ends } in (
+      let all : SpelledAll bounds order room p (c ++ r) xs q r = record { formed = h.formed; within = h.within; indexes = h.indexes; bytes = refl; place = ends } in (
         tt,
         p,
         c ++ r,
@@ -399,6 +415,7 @@ entry_to bounds order room inside end k x o s v q r w =
       has_type = rw (key.has_type, held.has_type) refl;
       formed = (key.formed, held.formed);
       within = (key.within, held.within);
+      indexes = (key.indexes, held.indexes);
       bytes = rw d.2 (joined s (pad 8 o) w.2 _ b.2 padded.0 (joined w.2 (spelling order p a.0) a.2 (spelling order (p + length (spelling order p a.0)) b.0) b.2 key.bytes held.bytes));
       place = simp (length-append, length-replicate) (omega (arith, d.1, held.place));
       bound = omega (arith, d.1, held.bound);
@@ -422,7 +439,7 @@ entry_from bounds order room inside end o s k x q r h =
         k,
         u,
         held ++ r,
-        record { has_type = refl; formed = h.formed.0; within = h.within.0; bytes = refl; place = refl; bound = omega (arith, h.bound, ends) },
-        (x, q, r, record { has_type = refl; formed = h.formed.1; within = h.within.1; bytes = refl; place = ends; bound = h.bound }, (refl, refl, refl)),
+        record { has_type = refl; formed = h.formed.0; within = h.within.0; indexes = h.indexes.0; bytes = refl; place = refl; bound = omega (arith, h.bound, ends) },
+        (x, q, r, record { has_type = refl; formed = h.formed.1; within = h.within.1; indexes = h.indexes.1; bytes = refl; place = ends; bound = h.bound }, (refl, refl, refl)),
       ),
     )

@@ -98,7 +98,7 @@ module _ (bounds : Bounds) (order : Order) (inside : ℕ → TypeTree → Item V
 
 -- a spelled value has the type that was wanted, so it is enough to know its own type
 own_type : (bounds : Bounds) (order : Order) (room end : ℕ) (t : TypeTree) (o : ℕ) (s : List ℕ) (v : ValueTree) (q : ℕ) (r : List ℕ) → Spelled bounds order room end t o s v q r → Spelled bounds order room end (type_of v) o s v q r
-own_type bounds order room end t o s v q r h = record { has_type = refl; formed = h.formed; within = h.within; bytes = h.bytes; place = h.place; bound = h.bound }
+own_type bounds order room end t o s v q r h = record { has_type = refl; formed = h.formed; within = h.within; indexes = h.indexes; bytes = h.bytes; place = h.place; bound = h.bound }
 
 passed_zero : (bounds : Bounds) (order : Order) (inside : ℕ → TypeTree → Item ValueTree) → IsInside bounds order zero (faults.items bounds order zero inside)
 passed_zero bounds order inside end t o s v q r =
@@ -122,7 +122,7 @@ Agrees-whole bounds order room end t item run same a = Agrees-as item (faults.wh
 agrees_number : (bounds : Bounds) (order : Order) (room : ℕ) (inside : ℕ → TypeTree → Item ValueTree) (run : ℕ → TypeTree → Reader ValueTree) (end : ℕ) (k : NumberCode) → Agrees (faults.items bounds order room inside end (NumberType k)) (reading.items bounds order room run end (NumberType k))
 agrees_number bounds order room inside run end k =
     Agrees-before (items.padding (width k) end) (reading.padding (width k) end) _ _ (Agrees-padding (width k) end) (λ _.
-    Agrees-before (items.number order (width k) end (number_row k)) (reading.number order (width k) end (number_row k)) _ _ (Agrees-number order (width k) end (number_row k)) (λ n.
+    Agrees-before (items.number order (width k) end (number_row bounds.fds k)) (reading.number order (width k) end (number_row bounds.fds k)) _ _ (Agrees-number order (width k) end (number_row bounds.fds k)) (λ n.
     Agrees-pure (NumberValue k n)))
 
 agrees_text : (bounds : Bounds) (order : Order) (room : ℕ) (inside : ℕ → TypeTree → Item ValueTree) (run : ℕ → TypeTree → Reader ValueTree) (end : ℕ) (k : TextCode) → Agrees (faults.items bounds order room inside end (TextType k)) (reading.items bounds order room run end (TextType k))

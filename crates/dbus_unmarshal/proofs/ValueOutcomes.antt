@@ -1,5 +1,5 @@
 -- The laws.
-use Rattle.std.proofs.Common.{◌≡◌, ℕ, ◌+◌, ◌≤◌, List, ◌++◌, length, refl, ap, subst, ◌∙◌, arith, inl, inr, append_assoc}
+use Rattle.std.proofs.Common.{◌≡◌, ℕ, ◌+◌, ◌≤◌, List, ◌++◌, length, None, refl, ap, subst, ◌∙◌, arith, inl, inr, append_assoc}
 use Rattle.dbus_types.specs.Types.{TypeTree, TypeTrees, IsShaped, AreShaped}
 use Rattle.dbus_value_model.specs.declared.limits.Bounds.{Bounds}
 use Rattle.dbus_value_model.specs.declared.order.Order.{Order}
@@ -13,6 +13,7 @@ use Rattle.dbus_value_model.specs.Reading.{Reader, Outcome, Done, Faulty, Partia
 use Rattle.dbus_value_model.specs.Reading as reading
 use Rattle.dbus_value_model.specs.Outcomes.{IsDone, Outcomes}
 use Rattle.dbus_value_model.specs.Laws.{OneValue, OneOutcome, NotBoth, OneFault, RefusedForGood, DoneForGood, ReadsSpelled, ReadsFaults}
+use Rattle.dbus_value_model.proofs.Indexes.{any_below}
 use Rattle.dbus_unmarshal.proofs.Agreement.{Agrees}
 use Rattle.dbus_unmarshal.proofs.Composition.{fields_to, fields_from}
 use Rattle.dbus_unmarshal.proofs.ValueItemLaws.{Agrees-value, value_inside, agrees_fields}
@@ -67,7 +68,7 @@ refused_for_good bounds order room end ts o s c f h a = (Agrees-wanted bounds or
 pub done_for_good : DoneForGood
 done_for_good bounds order room end ts o s c vs q r h = record {
   types = h.types;
-  spelled = record { formed = h.spelled.formed; within = h.spelled.within; bytes = ap (λ (t : List ℕ). t ++ c) h.spelled.bytes ∙ append_assoc _ r c; place = h.spelled.place };
+  spelled = record { formed = h.spelled.formed; within = h.spelled.within; indexes = h.spelled.indexes; bytes = ap (λ (t : List ℕ). t ++ c) h.spelled.bytes ∙ append_assoc _ r c; place = h.spelled.place };
   bound = h.bound;
 }
 
@@ -84,14 +85,15 @@ one_outcome bounds order room end ts o s h le bytes = one_outcome_of bounds orde
 
 pub one_value : OneValue
 one_value bounds order room o v w x y a b same_type same =
+    let any : Bounds = record { array = bounds.array; fds = None; array_in = bounds.array_in } in
     let end = o + length (spelling order o v) + length (spelling order o w) in
     let t = type_of w in
     let complete = subst (λ (u : TypeTree). IsShaped a.complete.0 u) same_type a.complete.1 in
-    let first : Spelled bounds order room end t o (spelling order o v ++ x) v (o + length (spelling order o v)) x = record { has_type = same_type; formed = a.formed; within = a.within; bytes = refl; place = refl; bound = omega arith } in
-    let second : Spelled bounds order room end t o (spelling order o v ++ x) w (o + length (spelling order o w)) y = record { has_type = refl; formed = b.formed; within = b.within; bytes = same; place = refl; bound = omega arith } in
-    let both = agreed_value (faults.value bounds order room end t) (reading.value bounds order room end t) (Agrees-value bounds order room end a.complete.0 t complete) o (spelling order o v ++ x) v (o + length (spelling order o v)) x w (o + length (spelling order o w)) y
-    ((value_inside bounds order room end t o (spelling order o v ++ x) v (o + length (spelling order o v)) x).1 first)
-    ((value_inside bounds order room end t o (spelling order o v ++ x) w (o + length (spelling order o w)) y).1 second) in
+    let first : Spelled any order room end t o (spelling order o v ++ x) v (o + length (spelling order o v)) x = record { has_type = same_type; formed = a.formed; within = a.within; indexes = any_below v; bytes = refl; place = refl; bound = omega arith } in
+    let second : Spelled any order room end t o (spelling order o v ++ x) w (o + length (spelling order o w)) y = record { has_type = refl; formed = b.formed; within = b.within; indexes = any_below w; bytes = same; place = refl; bound = omega arith } in
+    let both = agreed_value (faults.value any order room end t) (reading.value any order room end t) (Agrees-value any order room end a.complete.0 t complete) o (spelling order o v ++ x) v (o + length (spelling order o v)) x w (o + length (spelling order o w)) y
+    ((value_inside any order room end t o (spelling order o v ++ x) v (o + length (spelling order o v)) x).1 first)
+    ((value_inside any order room end t o (spelling order o v ++ x) w (o + length (spelling order o w)) y).1 second) in
     (both.0, both.2)
 
 pub reads_spelled : ReadsSpelled

@@ -1,5 +1,5 @@
 -- Steps of reading a value of any type.
-use Rattle.std.proofs.Common.{◌≡◌, ℕ, zero, suc, ◌+◌, ◌-◌, ◌<◌, ◌≤◌, List, [], ◌∷◌, ◌++◌, length, get_or, drop, true, false, cond, ltb, refl, ap, ◌∙◌, sym, subst, arith, append_assoc}
+use Rattle.std.proofs.Common.{◌≡◌, ℕ, zero, suc, ◌+◌, ◌-◌, ◌<◌, ◌≤◌, List, [], ◌∷◌, ◌++◌, length, get_or, drop, Option, None, true, false, cond, ltb, refl, ap, ◌∙◌, sym, subst, arith, append_assoc}
 use Rattle.std.proofs.lemmas.Bool.{lt-ltb, le-ltb, eq-eqb}
 use Rattle.std.proofs.lemmas.List.{append-nil, at_drop_more, at_drop_all, length-append, length-drop, get_or-drop}
 use Rattle.dbus_types.specs.Types.{NumberCode, TextCode, TypeTree, NumberType, TextType, VariantType, ArrayType, StructType, EntryType, TypeTrees, NoTypes, MoreTypes, sig, sigs, IsShaped, AreShaped, IsSingleType}
@@ -8,16 +8,17 @@ use Rattle.dbus_types.specs.SigTypes.{type_tree, type_trees_of}
 use Rattle.dbus_types.specs.declared.sig_type.SigType.{SigType}
 use Rattle.dbus_value_model.specs.declared.limits.Bounds.{Bounds}
 use Rattle.dbus_value_model.specs.declared.order.Order.{Order}
+use Rattle.dbus_value_model.specs.declared.fault.Reason.{Reason}
 use Rattle.dbus_value_model.specs.declared.fault.Reason.TheVariants as reasons
 use Rattle.dbus_value_model.specs.declared.stop.Stop.{Stop}
 use Rattle.dbus_value_model.specs.Items.{fault}
 use Rattle.dbus_value_model.specs.Bytes.{IsBytes}
-use Rattle.dbus_value_model.specs.Values.{ValueTree, ValueTrees, NoValues, MoreValues, ArrayValue, StructValue, value_trees}
+use Rattle.dbus_value_model.specs.Values.{ValueTree, ValueTrees, NoValues, MoreValues, NumberValue, ArrayValue, StructValue, value_trees}
 use Rattle.dbus_value_model.specs.Spelling.{spelling, Spelled}
 use Rattle.dbus_value_model.specs.Reading.{Reader, Outcome, Done, Faulty, Partial, after, pure, up_to, contents, fields, padding, number, opened, value}
 use Rattle.dbus_value_model.specs.Reading as reading
-use Rattle.dbus_types.specs.Alignments.{alignment_of}
-use Rattle.dbus_value_model.specs.ValueItems.{array_row}
+use Rattle.dbus_types.specs.Alignments.{width, alignment_of}
+use Rattle.dbus_value_model.specs.ValueItems.{number_row, array_row}
 use Rattle.dbus_value_model.specs.ValueReaders.{number_value, text_value, variant_value, held_value, array_frame, open_array, array_value, open_struct, struct_value, entry_value}
 use Rattle.dbus_value_model.specs.Gives.{Stops}
 use Rattle.dbus_unmarshal.proofs.ReadSteps.{stops_after}
@@ -52,10 +53,15 @@ abbrev array_rest : Bounds → Order → ℕ → ℕ → TypeTree → ℕ → Re
 array_rest bounds order room end t n o s = after (contents n (λ end before. value bounds order room end t) o s) (λ xs. pure (ArrayValue t (value_trees xs)))
 
 module _ (bounds : Bounds) (order : Order) where
-  pub value_number : (room end : ℕ) (k : NumberCode) (o : ℕ) (s : List ℕ) → value bounds order room end (NumberType k) o s ≡ number_value order end k o s
+  pub value_number : (room end : ℕ) (k : NumberCode) (o : ℕ) (s : List ℕ) → value bounds order room end (NumberType k) o s ≡ number_value bounds.fds order end k o s
   unfolding value number_value
   value_number zero end k o s = refl
   value_number (suc room) end k o s = refl
+
+  -- of a number that is no UNIX_FD
+  pub value_plain : (room end : ℕ) (k : NumberCode) (o : ℕ) (s : List ℕ) → number_row bounds.fds k ≡ number_row None k → value bounds order room end (NumberType k) o s ≡ number_value None order end k o s
+  unfolding number_value
+  value_plain room end k o s same = value_number room end k o s ∙ ap (λ (row : ℕ → ℕ → Option Reason). after (padding (width k) end o s) (λ _ p u. after (number order (width k) end row p u) (λ n. pure (NumberValue k n)))) same
 
   pub value_text : (room end : ℕ) (k : TextCode) (o : ℕ) (s : List ℕ) → value bounds order room end (TextType k) o s ≡ text_value order end k o s
   unfolding value text_value

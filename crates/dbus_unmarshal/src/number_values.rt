@@ -1,7 +1,7 @@
 //! Values that are one number.
 #![tactic(auto, using(crate::proofs::NumberSteps::numbers), unfolding(dbus_value_model::specs::ValueReaders::number_value))]
 
-ghost use Rattle.std.specs.Prelude.{◌≢◌, ◌≤◌, length, drop, IsTrue, IfOk, IfErr};
+ghost use Rattle.std.specs.Prelude.{◌≢◌, ◌≤◌, length, drop, None, IsTrue, IfOk, IfErr};
 ghost use Rattle.dbus_types.specs.Types.{BYTE, BOOLEAN, INT16, UINT16, INT32, UINT32, INT64, UINT64, DOUBLE, UNIX_FD};
 ghost use Rattle.dbus_value_model.specs.declared.order.Order.{Order};
 ghost use Rattle.dbus_value_model.specs.PackedBytes.{keeps_bytes};
@@ -22,7 +22,7 @@ pub fn get_byte<A: Allocator>(
 ) -> Result<(Value<A>, usize), Stop>
     requires at_most { at ≤ end }
     requires inside { at ≤ length bytes.now }
-    ensures gives { (order : Order) → Gives (λ x. (value_tree x.0, x.1)) bytes.now result (number_value order end BYTE at (drop at bytes.now)) }
+    ensures gives { (order : Order) → Gives (λ x. (value_tree x.0, x.1)) bytes.now result (number_value None order end BYTE at (drop at bytes.now)) }
     ensures packed { IfOk result (λ x. IsTrue (keeps_bytes x.0)) }
     ensures no_memory { IfErr result (λ e. e ≢ Memory) }
 {
@@ -39,7 +39,7 @@ pub fn get_bool<A: Allocator>(
 ) -> Result<(Value<A>, usize), Stop>
     requires at_most { at ≤ end }
     requires inside { at ≤ length bytes.now }
-    ensures gives { Gives (λ x. (value_tree x.0, x.1)) bytes.now result (number_value order end BOOLEAN at (drop at bytes.now)) }
+    ensures gives { Gives (λ x. (value_tree x.0, x.1)) bytes.now result (number_value None order end BOOLEAN at (drop at bytes.now)) }
     ensures packed { IfOk result (λ x. IsTrue (keeps_bytes x.0)) }
     ensures no_memory { IfErr result (λ e. e ≢ Memory) }
 {
@@ -60,7 +60,7 @@ pub fn get_i16<A: Allocator>(
 ) -> Result<(Value<A>, usize), Stop>
     requires at_most { at ≤ end }
     requires inside { at ≤ length bytes.now }
-    ensures gives { Gives (λ x. (value_tree x.0, x.1)) bytes.now result (number_value order end INT16 at (drop at bytes.now)) }
+    ensures gives { Gives (λ x. (value_tree x.0, x.1)) bytes.now result (number_value None order end INT16 at (drop at bytes.now)) }
     ensures packed { IfOk result (λ x. IsTrue (keeps_bytes x.0)) }
     ensures no_memory { IfErr result (λ e. e ≢ Memory) }
 {
@@ -78,7 +78,7 @@ pub fn get_u16<A: Allocator>(
 ) -> Result<(Value<A>, usize), Stop>
     requires at_most { at ≤ end }
     requires inside { at ≤ length bytes.now }
-    ensures gives { Gives (λ x. (value_tree x.0, x.1)) bytes.now result (number_value order end UINT16 at (drop at bytes.now)) }
+    ensures gives { Gives (λ x. (value_tree x.0, x.1)) bytes.now result (number_value None order end UINT16 at (drop at bytes.now)) }
     ensures packed { IfOk result (λ x. IsTrue (keeps_bytes x.0)) }
     ensures no_memory { IfErr result (λ e. e ≢ Memory) }
 {
@@ -96,7 +96,7 @@ pub fn get_i32<A: Allocator>(
 ) -> Result<(Value<A>, usize), Stop>
     requires at_most { at ≤ end }
     requires inside { at ≤ length bytes.now }
-    ensures gives { Gives (λ x. (value_tree x.0, x.1)) bytes.now result (number_value order end INT32 at (drop at bytes.now)) }
+    ensures gives { Gives (λ x. (value_tree x.0, x.1)) bytes.now result (number_value None order end INT32 at (drop at bytes.now)) }
     ensures packed { IfOk result (λ x. IsTrue (keeps_bytes x.0)) }
     ensures no_memory { IfErr result (λ e. e ≢ Memory) }
 {
@@ -114,7 +114,7 @@ pub fn get_u32<A: Allocator>(
 ) -> Result<(Value<A>, usize), Stop>
     requires at_most { at ≤ end }
     requires inside { at ≤ length bytes.now }
-    ensures gives { Gives (λ x. (value_tree x.0, x.1)) bytes.now result (number_value order end UINT32 at (drop at bytes.now)) }
+    ensures gives { Gives (λ x. (value_tree x.0, x.1)) bytes.now result (number_value None order end UINT32 at (drop at bytes.now)) }
     ensures packed { IfOk result (λ x. IsTrue (keeps_bytes x.0)) }
     ensures no_memory { IfErr result (λ e. e ≢ Memory) }
 {
@@ -132,7 +132,7 @@ pub fn get_i64<A: Allocator>(
 ) -> Result<(Value<A>, usize), Stop>
     requires at_most { at ≤ end }
     requires inside { at ≤ length bytes.now }
-    ensures gives { Gives (λ x. (value_tree x.0, x.1)) bytes.now result (number_value order end INT64 at (drop at bytes.now)) }
+    ensures gives { Gives (λ x. (value_tree x.0, x.1)) bytes.now result (number_value None order end INT64 at (drop at bytes.now)) }
     ensures packed { IfOk result (λ x. IsTrue (keeps_bytes x.0)) }
     ensures no_memory { IfErr result (λ e. e ≢ Memory) }
 {
@@ -150,7 +150,7 @@ pub fn get_u64<A: Allocator>(
 ) -> Result<(Value<A>, usize), Stop>
     requires at_most { at ≤ end }
     requires inside { at ≤ length bytes.now }
-    ensures gives { Gives (λ x. (value_tree x.0, x.1)) bytes.now result (number_value order end UINT64 at (drop at bytes.now)) }
+    ensures gives { Gives (λ x. (value_tree x.0, x.1)) bytes.now result (number_value None order end UINT64 at (drop at bytes.now)) }
     ensures packed { IfOk result (λ x. IsTrue (keeps_bytes x.0)) }
     ensures no_memory { IfErr result (λ e. e ≢ Memory) }
 {
@@ -168,7 +168,7 @@ pub fn get_double<A: Allocator>(
 ) -> Result<(Value<A>, usize), Stop>
     requires at_most { at ≤ end }
     requires inside { at ≤ length bytes.now }
-    ensures gives { Gives (λ x. (value_tree x.0, x.1)) bytes.now result (number_value order end DOUBLE at (drop at bytes.now)) }
+    ensures gives { Gives (λ x. (value_tree x.0, x.1)) bytes.now result (number_value None order end DOUBLE at (drop at bytes.now)) }
     ensures packed { IfOk result (λ x. IsTrue (keeps_bytes x.0)) }
     ensures no_memory { IfErr result (λ e. e ≢ Memory) }
 {
@@ -177,20 +177,24 @@ pub fn get_double<A: Allocator>(
     Ok((Value::Double(n), next))
 }
 
-/// A UNIX_FD.
+/// A UNIX_FD, which is below `fds` where that is something.
 pub fn get_fd<A: Allocator>(
     bytes: &[u8],
     at: usize,
     end: usize,
     order: Order,
+    fds: Option<u32>,
 ) -> Result<(Value<A>, usize), Stop>
     requires at_most { at ≤ end }
     requires inside { at ≤ length bytes.now }
-    ensures gives { Gives (λ x. (value_tree x.0, x.1)) bytes.now result (number_value order end UNIX_FD at (drop at bytes.now)) }
+    ensures gives { Gives (λ x. (value_tree x.0, x.1)) bytes.now result (number_value fds order end UNIX_FD at (drop at bytes.now)) }
     ensures packed { IfOk result (λ x. IsTrue (keeps_bytes x.0)) }
     ensures no_memory { IfErr result (λ e. e ≢ Memory) }
 {
     let at = read_padding(bytes, at, end, 4)?;
     let (n, next) = read_u32(bytes, at, end, order)?;
-    Ok((Value::Fd(n), next))
+    match fds {
+        Some(limit) if n >= limit => refuse(at, Reason::FdIndex),
+        _ => Ok((Value::Fd(n), next)),
+    }
 }

@@ -10,7 +10,7 @@ ghost use Rattle.dbus_value_model.specs.Reading.{contents, fields, value};
 ghost use Rattle.dbus_value_model.specs.ValueReaders.{held_value, variant_value, open_array, array_value, open_struct, struct_value, entry_value};
 ghost use Rattle.dbus_value_model.specs.Gives.{Gives};
 ghost use Rattle.dbus_value_model.specs.Gets.{Gets};
-ghost use Rattle.dbus_value_model.specs.Specification.{specification, bounds_of};
+ghost use Rattle.dbus_value_model.specs.Specification.{specification, bounds_of, bounds_with};
 ghost use Rattle.dbus_value_model.specs.declared.limits.TheConstants.{DEPTH_LIMIT};
 
 use crate::arrays::{read_bytes, read_frame};
@@ -51,16 +51,19 @@ pub fn get<A: Allocator + Copy>(
         wanted,
         depth,
         Limits::specification(),
+        None,
     )
 }
 
 /// The value of a type that stands at a place, and the place behind it.
 ///
 /// `bytes` begin at the message's first byte, from which padding counts; the value begins at `at` and ends at or
-/// before `end`, and `depth` containers are open around it, at most the limits' depth. `Partial` comes where the bytes end
-/// within the value and show no fault. A refusal is `Format` with the first fault of the bytes, or `Memory` where a growth
-/// was refused. An array of BYTE comes as `Bytes`, also within the value.
-/// D-Bus Specification, "Marshaling (Wire Format)".
+/// before `end`, and `depth` containers are open around it, at most the limits' depth. Every index of a file descriptor in it
+/// is below `fds`, or any where that is nothing: the limits' own rule has no part in it. `Partial` comes where the bytes end
+/// within the value and show no fault. A refusal is `Format` with the first fault of the bytes, which is `FdIndex` at an
+/// index that is not below `fds`, or `Memory` where a growth was refused. An array of BYTE comes as `Bytes`, also within the
+/// value.
+/// D-Bus Specification, "Marshaling (Wire Format)", "Basic types".
 pub fn get_within<A: Allocator + Copy>(
     alloc: A,
     bytes: &[u8],
@@ -70,12 +73,13 @@ pub fn get_within<A: Allocator + Copy>(
     wanted: &SigType<A>,
     depth: u8,
     limits: Limits,
+    fds: Option<u32>,
 ) -> Result<Got<A>, Refusal>
     requires at_most { at ≤ end }
     requires inside { at ≤ length bytes.now }
     requires open { depth ≤ limits.depth }
     requires single { IsSingleType (type_tree wanted.now) }
-    ensures gets { Gets (bounds_of limits) order (limits.depth - depth) end (type_tree wanted.now) at bytes.now result }
+    ensures gets { Gets (bounds_with limits fds) order (limits.depth - depth) end (type_tree wanted.now) at bytes.now result }
     ensures packed { IfOk result KeepsBytes }
 {
     match read_value(
@@ -86,7 +90,7 @@ pub fn get_within<A: Allocator + Copy>(
         order,
         wanted,
         limits.depth - depth,
-        limits.bounds(),
+        limits.bounds_with(fds),
     ) {
         Ok((value, next)) => Ok(Got::Done(value, next)),
         Err(Stop::Partial) => Ok(Got::Partial),
@@ -123,7 +127,7 @@ fn read_value<A: Allocator + Copy>(
         SigType::I64 => get_i64(bytes, at, end, order),
         SigType::U64 => get_u64(bytes, at, end, order),
         SigType::Double => get_double(bytes, at, end, order),
-        SigType::Fd => get_fd(bytes, at, end, order),
+        SigType::Fd => get_fd(bytes, at, end, order, bounds.fds),
         SigType::Str => get_str(alloc, bytes, at, end, order),
         SigType::Path => get_path(alloc, bytes, at, end, order),
         SigType::Sig => get_sig(alloc, bytes, at, end),

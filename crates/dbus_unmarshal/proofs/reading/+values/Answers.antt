@@ -10,35 +10,35 @@ use Rattle.dbus_value_model.specs.ValueViews.{value_tree, value_trees_of, byte_v
 use Rattle.dbus_value_model.specs.Reading.{value, fields, Done}
 use Rattle.dbus_value_model.proofs.Fitting.{keeps-Array, keep_push, other_than_byte}
 use Rattle.dbus_value_model.proofs.ValueRows.{tree-Bytes, tree-Array, tree-Struct}
-use Rattle.dbus_unmarshal.proofs.ValueSteps.{front_none, value_number, value_text, value_variant, value_array, value_struct, value_entry, variant_too_deep, variant_opens, array_stops, array_too_deep, array_opens, open_stops_frame, open_stops_contents, open_done, struct_stops, struct_too_deep, struct_stops_fields, struct_done, goes_on_at, stops_in, ends_in, fields_begin, fields_end, fields_stop, fields_go_on, types_more, types_end, bytes_at, value_moves, single_shaped, field_shaped, field_text}
+use Rattle.dbus_unmarshal.proofs.ValueSteps.{front_none, value_number, value_plain, value_text, value_variant, value_array, value_struct, value_entry, variant_too_deep, variant_opens, array_stops, array_too_deep, array_opens, open_stops_frame, open_stops_contents, open_done, struct_stops, struct_too_deep, struct_stops_fields, struct_done, goes_on_at, stops_in, ends_in, fields_begin, fields_end, fields_stop, fields_go_on, types_more, types_end, bytes_at, value_moves, single_shaped, field_shaped, field_text}
 use Rattle.dbus_unmarshal.proofs.reading.+values.Goals as goal
 
 pub read_value-returns-in-Byte-clause-gives : goal.read_value-returns-in-Byte-clause-gives
-read_value-returns-in-Byte-clause-gives g t c = rw (c.in-Byte.is, types.type_tree-Byte, value_number c.args.bounds c.args.order c.args.room c.args.end BYTE c.args.at (drop c.args.at c.args.bytes.now)) (c.get_byte.ensures.gives c.args.order)
+read_value-returns-in-Byte-clause-gives g t c = rw (c.in-Byte.is, types.type_tree-Byte, value_plain c.args.bounds c.args.order c.args.room c.args.end BYTE c.args.at (drop c.args.at c.args.bytes.now) refl) (c.get_byte.ensures.gives c.args.order)
 
 pub read_value-returns-in-Bool-clause-gives : goal.read_value-returns-in-Bool-clause-gives
-read_value-returns-in-Bool-clause-gives g t c = rw (c.in-Bool.is, types.type_tree-Bool, value_number c.args.bounds c.args.order c.args.room c.args.end BOOLEAN c.args.at (drop c.args.at c.args.bytes.now)) c.get_bool.ensures.gives
+read_value-returns-in-Bool-clause-gives g t c = rw (c.in-Bool.is, types.type_tree-Bool, value_plain c.args.bounds c.args.order c.args.room c.args.end BOOLEAN c.args.at (drop c.args.at c.args.bytes.now) refl) c.get_bool.ensures.gives
 
 pub read_value-returns-in-I16-clause-gives : goal.read_value-returns-in-I16-clause-gives
-read_value-returns-in-I16-clause-gives g t c = rw (c.in-I16.is, types.type_tree-I16, value_number c.args.bounds c.args.order c.args.room c.args.end INT16 c.args.at (drop c.args.at c.args.bytes.now)) c.get_i16.ensures.gives
+read_value-returns-in-I16-clause-gives g t c = rw (c.in-I16.is, types.type_tree-I16, value_plain c.args.bounds c.args.order c.args.room c.args.end INT16 c.args.at (drop c.args.at c.args.bytes.now) refl) c.get_i16.ensures.gives
 
 pub read_value-returns-in-U16-clause-gives : goal.read_value-returns-in-U16-clause-gives
-read_value-returns-in-U16-clause-gives g t c = rw (c.in-U16.is, types.type_tree-U16, value_number c.args.bounds c.args.order c.args.room c.args.end UINT16 c.args.at (drop c.args.at c.args.bytes.now)) c.get_u16.ensures.gives
+read_value-returns-in-U16-clause-gives g t c = rw (c.in-U16.is, types.type_tree-U16, value_plain c.args.bounds c.args.order c.args.room c.args.end UINT16 c.args.at (drop c.args.at c.args.bytes.now) refl) c.get_u16.ensures.gives
 
 pub read_value-returns-in-I32-clause-gives : goal.read_value-returns-in-I32-clause-gives
-read_value-returns-in-I32-clause-gives g t c = rw (c.in-I32.is, types.type_tree-I32, value_number c.args.bounds c.args.order c.args.room c.args.end INT32 c.args.at (drop c.args.at c.args.bytes.now)) c.get_i32.ensures.gives
+read_value-returns-in-I32-clause-gives g t c = rw (c.in-I32.is, types.type_tree-I32, value_plain c.args.bounds c.args.order c.args.room c.args.end INT32 c.args.at (drop c.args.at c.args.bytes.now) refl) c.get_i32.ensures.gives
 
 pub read_value-returns-in-U32-clause-gives : goal.read_value-returns-in-U32-clause-gives
-read_value-returns-in-U32-clause-gives g t c = rw (c.in-U32.is, types.type_tree-U32, value_number c.args.bounds c.args.order c.args.room c.args.end UINT32 c.args.at (drop c.args.at c.args.bytes.now)) c.get_u32.ensures.gives
+read_value-returns-in-U32-clause-gives g t c = rw (c.in-U32.is, types.type_tree-U32, value_plain c.args.bounds c.args.order c.args.room c.args.end UINT32 c.args.at (drop c.args.at c.args.bytes.now) refl) c.get_u32.ensures.gives
 
 pub read_value-returns-in-I64-clause-gives : goal.read_value-returns-in-I64-clause-gives
-read_value-returns-in-I64-clause-gives g t c = rw (c.in-I64.is, types.type_tree-I64, value_number c.args.bounds c.args.order c.args.room c.args.end INT64 c.args.at (drop c.args.at c.args.bytes.now)) c.get_i64.ensures.gives
+read_value-returns-in-I64-clause-gives g t c = rw (c.in-I64.is, types.type_tree-I64, value_plain c.args.bounds c.args.order c.args.room c.args.end INT64 c.args.at (drop c.args.at c.args.bytes.now) refl) c.get_i64.ensures.gives
 
 pub read_value-returns-in-U64-clause-gives : goal.read_value-returns-in-U64-clause-gives
-read_value-returns-in-U64-clause-gives g t c = rw (c.in-U64.is, types.type_tree-U64, value_number c.args.bounds c.args.order c.args.room c.args.end UINT64 c.args.at (drop c.args.at c.args.bytes.now)) c.get_u64.ensures.gives
+read_value-returns-in-U64-clause-gives g t c = rw (c.in-U64.is, types.type_tree-U64, value_plain c.args.bounds c.args.order c.args.room c.args.end UINT64 c.args.at (drop c.args.at c.args.bytes.now) refl) c.get_u64.ensures.gives
 
 pub read_value-returns-in-Double-clause-gives : goal.read_value-returns-in-Double-clause-gives
-read_value-returns-in-Double-clause-gives g t c = rw (c.in-Double.is, types.type_tree-Double, value_number c.args.bounds c.args.order c.args.room c.args.end DOUBLE c.args.at (drop c.args.at c.args.bytes.now)) c.get_double.ensures.gives
+read_value-returns-in-Double-clause-gives g t c = rw (c.in-Double.is, types.type_tree-Double, value_plain c.args.bounds c.args.order c.args.room c.args.end DOUBLE c.args.at (drop c.args.at c.args.bytes.now) refl) c.get_double.ensures.gives
 
 pub read_value-returns-in-Fd-clause-gives : goal.read_value-returns-in-Fd-clause-gives
 read_value-returns-in-Fd-clause-gives g t c = rw (c.in-Fd.is, types.type_tree-Fd, value_number c.args.bounds c.args.order c.args.room c.args.end UNIX_FD c.args.at (drop c.args.at c.args.bytes.now)) c.get_fd.ensures.gives
