@@ -1,6 +1,7 @@
 pub use Rattle.dbus_value_model.specs.WantedTexts
 pub use Rattle.dbus_value_model.specs.Bytes
 pub use Rattle.dbus_value_model.specs.Values
+pub use Rattle.dbus_value_model.specs.FdIndexes
 pub use Rattle.dbus_value_model.specs.Spelling
 pub use Rattle.dbus_value_model.specs.Items
 pub use Rattle.dbus_value_model.specs.ValueItems
