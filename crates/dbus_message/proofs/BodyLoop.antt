@@ -1,11 +1,11 @@
 -- The loop over a body's types.
-use Rattle.std.proofs.Common.{◌≡◌, ℕ, zero, suc, ◌+◌, ◌<◌, ◌≤◌, List, [], ◌∷◌, ◌++◌, length, get_or, drop, refl, sym, ap, subst, ◌∙◌, arith}
+use Rattle.std.proofs.Common.{◌≡◌, Option, ℕ, zero, suc, ◌+◌, ◌<◌, ◌≤◌, List, [], ◌∷◌, ◌++◌, length, get_or, drop, refl, sym, ap, subst, ◌∙◌, arith}
 use Rattle.std.proofs.lemmas.Bool.{lt-ltb, le-ltb, eq-eqb}
 use Rattle.std.proofs.lemmas.List.{drop_more, drop_all, length-append}
 use Rattle.dbus_types.specs.SigTypes.{type_tree, type_trees_of}
 use Rattle.dbus_types.specs.Types.{TypeTree, TypeTrees, NoTypes, MoreTypes, IsSingleType, AreComplete, sig, sigs}
 use Rattle.dbus_types.specs.declared.sig_type.SigType.{SigType}
-use Rattle.dbus_value_model.specs.Specification.{bounds_of}
+use Rattle.dbus_value_model.specs.Specification.{bounds_with}
 use Rattle.dbus_value_model.specs.declared.limits.Limits.{Limits}
 use Rattle.dbus_value_model.specs.declared.order.Order.{Order}
 use Rattle.dbus_value_model.specs.declared.fault.Reason.TheVariants as reasons
@@ -56,16 +56,16 @@ module _ (part : TypeTree → Reader ValueTree) (front : List ValueTree) (o : �
 
 -- ---- the body
 
-module _ (limits : Limits) (order : Order) (end : ℕ) (ts : TypeTrees) (o : ℕ) (s : List ℕ) where
-  pub body_stopped : (e : Stop) → Stops e (fields (value (bounds_of limits) order limits.depth end) ts o s) → Stops e (body_read limits order ts end o s)
+module _ (limits : Limits) (fds : Option ℕ) (order : Order) (end : ℕ) (ts : TypeTrees) (o : ℕ) (s : List ℕ) where
+  pub body_stopped : (e : Stop) → Stops e (fields (value (bounds_with limits fds) order limits.depth end) ts o s) → Stops e (body_read limits fds order ts end o s)
   unfolding body_read
-  body_stopped e h = stops_after e (fields (value (bounds_of limits) order limits.depth end) ts o s) (λ xs p t. after (ends end p t) (λ _. pure xs)) h
+  body_stopped e h = stops_after e (fields (value (bounds_with limits fds) order limits.depth end) ts o s) (λ xs p t. after (ends end p t) (λ _. pure xs)) h
 
-  pub body_trailing : (vs : ValueTrees) (q : ℕ) (r : List ℕ) → fields (value (bounds_of limits) order limits.depth end) ts o s ≡ Done vs q r → q < end → body_read limits order ts end o s ≡ Faulty (fault q reasons.Trailing)
+  pub body_trailing : (vs : ValueTrees) (q : ℕ) (r : List ℕ) → fields (value (bounds_with limits fds) order limits.depth end) ts o s ≡ Done vs q r → q < end → body_read limits fds order ts end o s ≡ Faulty (fault q reasons.Trailing)
   unfolding body_read ends
   body_trailing vs q r e h = rw (e, lt-ltb _ _ h) refl
 
-  pub body_whole : (vs : ValueTrees) (q : ℕ) (r : List ℕ) → fields (value (bounds_of limits) order limits.depth end) ts o s ≡ Done vs q r → q ≡ end → body_read limits order ts end o s ≡ Done vs q r
+  pub body_whole : (vs : ValueTrees) (q : ℕ) (r : List ℕ) → fields (value (bounds_with limits fds) order limits.depth end) ts o s ≡ Done vs q r → q ≡ end → body_read limits fds order ts end o s ≡ Done vs q r
   unfolding body_read ends
   body_whole vs q r e h = rw (e, le-ltb q end (omega arith), eq-eqb q end h) refl
 

@@ -81,6 +81,7 @@ any_order limits order other m h = record {
   within_body = any_within_all limits.array order other (body_start other m.fields) m.body
       (subst (λ (n : ℕ). AreWithinLimits limits.array order n m.body) (any_body_start order other m.fields) h.within_body);
   limit = subst (λ (n : ℕ). n ≤ limits.message) (any_message_length order other m) h.limit;
+  indexes = h.indexes;
 }
 
 pub valid_from : (limits : Limits) (order : Order) (m : MessageTree) → IsMessage limits order m → IsValidMessage limits m

@@ -1,21 +1,24 @@
 -- Parts of which no case of fault holds are valid, and no others are.
-use Rattle.std.proofs.Common.{◌≡◌, inl, inr, ℕ, ◌+◌, ◌<◌, ◌≤◌, List, [], ◌∷◌, length, map, None, Some, refl, sym, ap, subst, ◌∙◌, arith}
+use Rattle.std.proofs.Common.{◌≡◌, inl, inr, ℕ, ◌+◌, ◌<◌, ◌≤◌, List, [], ◌∷◌, length, map, Bool, true, false, not, IsTrue, ◌↔◌, Option, None, Some, refl, sym, ap, subst, ◌∙◌, arith}
+use Rattle.std.specs.Option.{is_some}
 use Rattle.std.proofs.lemmas.List.{length-append}
 use Rattle.dbus_value_model.specs.declared.limits.Limits.{Limits}
 use Rattle.dbus_value_model.specs.Specification.{specification}
 use Rattle.dbus_value_model.specs.declared.limits.TheConstants.{ARRAY_LIMIT, MESSAGE_LIMIT}
 use Rattle.dbus_value_model.specs.declared.order.Order.TheVariants.{Little}
 use Rattle.dbus_value_model.specs.Bytes.{gap_to, num}
+use Rattle.dbus_value_model.specs.FdIndexes.{AreAllBelow, IsFirstPast}
+use Rattle.dbus_value_model.proofs.Indexes.{any_all_below, all_below}
 use Rattle.dbus_value_model.specs.Forming.{AreUniform, AreNamed}
 use Rattle.dbus_value_model.specs.Measures.{AreMeasured}
 use Rattle.dbus_value_model.specs.ShortSignatures.{HaveShortSignatures}
 use Rattle.dbus_value_model.specs.Spelling.{spelling, spellings, IsWithinLimits, AreWithinLimits}
-use Rattle.dbus_value_model.specs.Values.{value_trees}
+use Rattle.dbus_value_model.specs.Values.{value_trees, ValueTrees, NoValues, MoreValues}
 use Rattle.dbus_value_model.specs.ValueViews.{value_trees_of}
 use Rattle.dbus_value_model.specs.declared.value.Value.{Value}
 use Rattle.dbus_value_model.proofs.Formed.{formed_of, all_formed_of}
 use Rattle.dbus_value_model.proofs.Numbers.{length-num}
-use Rattle.dbus_message.specs.BuildFaults.{IsFirstWithout, IsNonzero, HasOwnType, HasOwnKind, IsFirstUnsoundField, IsFirstUnsound, SignaturePasses, KeepsArrays, ArraysPass, IsLong, NoFault, IsFirstFault}
+use Rattle.dbus_message.specs.BuildFaults.{IsFirstWithout, IsNonzero, HasOwnType, HasOwnKind, IsFirstUnsoundField, IsFirstUnsound, SignaturePasses, KeepsArrays, ArraysPass, SizePasses, IsLong, NoFault, IsFirstFault}
 use Rattle.dbus_message.specs.declared.build_fault.BuildFault.{BuildFault}
 use Rattle.dbus_message.specs.declared.build_fault.BuildFault.TheVariants as faults
 use Rattle.dbus_message.specs.declared.header_field.HeaderField.{HeaderField}
@@ -33,6 +36,19 @@ use Rattle.dbus_message.proofs.PartRanges.{ranged_of, all_ranged_of}
 use Rattle.dbus_value_model.proofs.ShortLaws.{all_short_of}
 use Rattle.dbus_message.proofs.Whole.{message_length}
 use Rattle.dbus_message.proofs.Widening.{nests_wider, nest_wider, within_wider, are_within_wider}
+
+pub past_both : (fds : Option ℕ) (n : ℕ) (vs : ValueTrees) (i : ℕ) → AreAllBelow fds vs → IsFirstPast fds n vs (Some i) → ⊥
+past_both fds n NoValues i below past = absurd cc
+past_both fds n (MoreValues v vs) i below past = elim past [
+  | inl x ↦ x.0 below.0
+  | inr y ↦ past_both fds (n + 1) vs i below.1 y.1
+]
+
+pub none_is_past : (fds : Option ℕ) (vs : ValueTrees) (r : Option ℕ) (none : Bool) → IsFirstPast fds 0 vs r → is_some r ≡ not none → IsTrue none ↔ AreAllBelow fds vs
+none_is_past fds vs None true past e = (λ t. all_below fds 0 vs past, λ below. refl)
+none_is_past fds vs None false past e = absurd cc
+none_is_past fds vs (Some i) true past e = absurd cc
+none_is_past fds vs (Some i) false past e = (λ t. absurd cc, λ below. absurd (past_both fds 0 vs i below past))
 
 module _ (limits : Limits) where
   -- ---- the fields and the body
@@ -85,6 +101,7 @@ module _ (limits : Limits) where
         formed_body = (all_formed_of 64 m.body (nest_wider limits.depth 64 m.body limits.depth_in shallow.1) uniform named ranged);
         within_body = are_within_wider limits.array ARRAY_LIMIT limits.array_in Little (body_start Little m.fields) m.body arrays.1;
         limit = short;
+        indexes = any_all_below m.body;
       })
     where
       positive : (n : ℕ) → (n ≡ 0 → ⊥) → 0 < n
@@ -135,7 +152,7 @@ module _ (limits : Limits) where
     pub too_long : (n : ℕ) → AreMeasured limits.array (parts_tree p).body (e + g) (Some n) → limits.message < n → ArraysPass limits p × IsLong limits (parts_tree p)
     too_long n h long = ((passed, keeps (parts_tree p) e g ends gap few n h), omega (arith, limits.array_in, limits.message_in, body_long limits (parts_tree p).body (e + g) n (start_near (parts_tree p) e g ends gap few) h long, whole_at (parts_tree p) (e + g) (start_is (parts_tree p) e g ends gap few)))
 
-    pub built : (n : ℕ) → AreMeasured limits.array (parts_tree p).body (e + g) (Some n) → n ≤ limits.message → HoldTheirNumbers (parts_tree p) → IsValidMessage specification (parts_tree p) × (n ≡ length (message_bytes Little (parts_tree p))) × NoFault limits p
+    pub built : (n : ℕ) → AreMeasured limits.array (parts_tree p).body (e + g) (Some n) → n ≤ limits.message → HoldTheirNumbers (parts_tree p) → IsValidMessage specification (parts_tree p) × (n ≡ length (message_bytes Little (parts_tree p))) × SizePasses limits p
     built n h le holds =
         let size : n ≡ length (message_bytes Little (parts_tree p)) = body_ends limits (parts_tree p).body (e + g) n (start_near (parts_tree p) e g ends gap few) h le ∙ sym (whole_at (parts_tree p) (e + g) (start_is (parts_tree p) e g ends gap few)) in
         let short : IsLong limits (parts_tree p) → ⊥ = λ long. absurd (omega (arith, limits.array_in, limits.message_in, long, size, le)) in
@@ -166,16 +183,17 @@ module _ (limits : Limits) where
 
   pub only_memory : {A : Type 0} (p : Parts A) (f : BuildFault) → IsFirstFault limits p f → NoFault limits p → f ≡ faults.Memory
   only_memory p faults.Memory h n = refl
-  only_memory p faults.Kind h n = absurd (n.0.0.0.0.0.0.0.0.0.0.0.0 h)
-  only_memory p faults.ZeroSerial h n = absurd (elim h.1 [ inl e ↦ n.0.0.0.0.0.0.0.0.0.0.0.1 e | inr w ↦ without_both IsNonzero (parts_tree p).fields w.0 n.0.0.0.0.0.0.0.0.0.0.0.2 w.1 ])
-  only_memory p faults.FieldCode h n = absurd (not_both _ n.0.0.0.0.0.0.0.0.0.0.1 h.1)
-  only_memory p (faults.FieldTwice c) h n = let e = sym n.0.0.0.0.0.0.0.0.0.1 ∙ h.1 in absurd cc
-  only_memory p (faults.FieldType c) h n = absurd (without_both HasOwnType (parts_tree p).fields c n.0.0.0.0.0.0.0.0.1 h.1)
-  only_memory p (faults.FieldMissing c) h n = let e = sym n.0.0.0.0.0.0.0.1 ∙ h.1 in absurd cc
-  only_memory p faults.TooDeep h n = absurd (h.1 n.0.0.0.0.0.0.1)
-  only_memory p (faults.Name c) h n = absurd (without_both HasOwnKind (parts_tree p).fields c n.0.0.0.0.0.1 h.1)
-  only_memory p (faults.FieldValue c) h n = absurd (field_both p.fields.items c n.0.0.0.0.1 h.1)
-  only_memory p (faults.Value i) h n = absurd (value_both 0 p.body.items i n.0.0.0.1 h.1)
-  only_memory p faults.SignatureDiffers h n = absurd (h.1 n.0.0.1)
-  only_memory p faults.ArrayTooLong h n = absurd (h.1 n.0.1)
-  only_memory p faults.MessageTooLong h n = absurd (n.1 h.1)
+  only_memory p faults.Kind h n = absurd (n.0.0.0.0.0.0.0.0.0.0.0.0.0 h)
+  only_memory p faults.ZeroSerial h n = absurd (elim h.1 [ inl e ↦ n.0.0.0.0.0.0.0.0.0.0.0.0.1 e | inr w ↦ without_both IsNonzero (parts_tree p).fields w.0 n.0.0.0.0.0.0.0.0.0.0.0.0.2 w.1 ])
+  only_memory p faults.FieldCode h n = absurd (not_both _ n.0.0.0.0.0.0.0.0.0.0.0.1 h.1)
+  only_memory p (faults.FieldTwice c) h n = let e = sym n.0.0.0.0.0.0.0.0.0.0.1 ∙ h.1 in absurd cc
+  only_memory p (faults.FieldType c) h n = absurd (without_both HasOwnType (parts_tree p).fields c n.0.0.0.0.0.0.0.0.0.1 h.1)
+  only_memory p (faults.FieldMissing c) h n = let e = sym n.0.0.0.0.0.0.0.0.1 ∙ h.1 in absurd cc
+  only_memory p faults.TooDeep h n = absurd (h.1 n.0.0.0.0.0.0.0.1)
+  only_memory p (faults.Name c) h n = absurd (without_both HasOwnKind (parts_tree p).fields c n.0.0.0.0.0.0.1 h.1)
+  only_memory p (faults.FieldValue c) h n = absurd (field_both p.fields.items c n.0.0.0.0.0.1 h.1)
+  only_memory p (faults.Value i) h n = absurd (value_both 0 p.body.items i n.0.0.0.0.1 h.1)
+  only_memory p faults.SignatureDiffers h n = absurd (h.1 n.0.0.0.1)
+  only_memory p faults.ArrayTooLong h n = absurd (h.1 n.0.0.1)
+  only_memory p faults.MessageTooLong h n = absurd (n.0.1 h.1)
+  only_memory p (faults.FdIndex i) h n = absurd (past_both _ 0 (parts_tree p).body i n.1 h.1)

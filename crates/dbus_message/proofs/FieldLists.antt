@@ -3,7 +3,7 @@ use Rattle.std.proofs.Common.{◌≡◌, ℕ, zero, suc, ◌+◌, ◌<◌, ◌�
 use Rattle.std.proofs.lemmas.Bool.{and_parts, eq-eqb, ne_eqb}
 use Rattle.std.proofs.lemmas.List.{drop_more, drop_all}
 use Rattle.dbus_message.specs.Lookups.{field_value}
-use Rattle.dbus_message.specs.Messages.{has_code, text_in, body_signature}
+use Rattle.dbus_message.specs.Messages.{has_code, text_in, body_signature, number_in, fd_count}
 use Rattle.dbus_value_model.specs.PackedBytes.{keeps_bytes, keep_bytes}
 use Rattle.dbus_value_model.specs.ValueViews.{value_tree}
 use Rattle.dbus_message.specs.PackedParts.{field_values}
@@ -33,6 +33,13 @@ module _ {A : Type 0} (fields : List (HeaderField A)) (i : ℕ) where
 
   pub signature_later : (f : HeaderField A) → i < length fields → f ≡ get_or fields i f → (f.code ≡ 8 → ⊥) → body_signature (field_trees (drop i fields)) ≡ body_signature (field_trees (drop (i + 1) fields))
   signature_later f h is e = rw (fields_from f h is, ne_eqb f.code 8 e) refl
+
+  -- the UNIX_FDS field stands at i, or behind it
+  pub count_here : (f : HeaderField A) → i < length fields → f ≡ get_or fields i f → f.code ≡ 9 → fd_count (field_trees (drop i fields)) ≡ number_in (value_tree f.value)
+  count_here f h is e = rw (fields_from f h is, eq-eqb f.code 9 e) refl
+
+  pub count_later : (f : HeaderField A) → i < length fields → f ≡ get_or fields i f → (f.code ≡ 9 → ⊥) → fd_count (field_trees (drop i fields)) ≡ fd_count (field_trees (drop (i + 1) fields))
+  count_later f h is e = rw (fields_from f h is, ne_eqb f.code 9 e) refl
 
   -- the first field of a code stands at i
   pub value_here : (c : ℕ) (f : HeaderField A) → i < length fields → f ≡ get_or fields i f → f.code ≡ c → field_value c (field_trees (drop i fields)) ≡ Some (value_tree f.value)

@@ -168,6 +168,7 @@ module _ (bounds : Bounds) (order : Order) (room end : ℕ) (before : List Field
         has_type = refl;
         formed = a.3.0;
         within = tt;
+        indexes = tt;
         bytes = rw (no_pad, ← within.2) a.3.1;
         place = rw no_pad (omega (arith, within.1, a.3.2, length-num order 1 code));
         bound = a.3.3;
@@ -210,8 +211,8 @@ two_parts bounds order room end t o s a b q r h =
       p1,
       two ++ r,
       (h.bytes ∙ simp append_assoc, refl, omega arith),
-      record { has_type = refl; formed = h.formed.0; within = h.within.0; bytes = refl; place = refl; bound = omega arith },
-      record { has_type = refl; formed = h.formed.1.0; within = h.within.1.0; bytes = refl; place = ends; bound = bound },
+      record { has_type = refl; formed = h.formed.0; within = h.within.0; indexes = h.indexes.0; bytes = refl; place = refl; bound = omega arith },
+      record { has_type = refl; formed = h.formed.1.0; within = h.within.1.0; indexes = h.indexes.1.0; bytes = refl; place = ends; bound = bound },
     )
 
 -- a variant, taken apart
@@ -229,7 +230,7 @@ variant_parts bounds order room end o s x q r h =
       there,
       omega (arith, head),
       h.formed.0,
-      record { has_type = refl; formed = h.formed.1; within = h.within; bytes = refl; place = ends; bound = h.bound },
+      record { has_type = refl; formed = h.formed.1; within = h.within; indexes = h.indexes; bytes = refl; place = ends; bound = h.bound },
     )
 
 byte_there : (bounds : Bounds) (order : Order) (room end o : ℕ) (s : List ℕ) (n q : ℕ) (r : List ℕ) → Spelled bounds order room end (NumberType BYTE) o s (NumberValue BYTE n) q r → (n < 256) × (s ≡ num order 1 n ++ r) × (q ≡ o + 1)

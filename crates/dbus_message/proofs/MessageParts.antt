@@ -4,7 +4,7 @@ use Rattle.std.proofs.lemmas.Bool.{ltb-false, le-ltb, eqb-true}
 use Rattle.dbus_types.specs.Types.{BYTE, UINT32, STRING, OBJECT_PATH, SIGNATURE, TypeTree, NumberType, TextType, VariantType, ArrayType, StructType, EntryType, TypeTrees, NoTypes, MoreTypes, sig, sigs, IsSingleType, IsShaped, AreShaped}
 use Rattle.dbus_value_model.specs.declared.limits.Limits.{Limits}
 use Rattle.dbus_value_model.specs.declared.limits.Bounds.{Bounds}
-use Rattle.dbus_value_model.specs.Specification.{bounds_of}
+use Rattle.dbus_value_model.specs.Specification.{bounds_of, bounds_with}
 use Rattle.dbus_value_model.specs.WantedTexts.{WantedText, IsWanted}
 use Rattle.dbus_types.specs.ComputedKinds.{types_spelled}
 use Rattle.dbus_value_model.specs.declared.order.Order.{Order}
@@ -19,7 +19,7 @@ use Rattle.dbus_value_model.specs.ValueItems.{value}
 use Rattle.dbus_value_model.specs.ValueItems as faults
 use Rattle.dbus_value_model.specs.Reading.{Reader, Outcome, Done, Faulty, Partial}
 use Rattle.dbus_value_model.specs.Reading as reading
-use Rattle.dbus_message.specs.Messages.{FieldTree, Suits, field_struct, want, order_byte, lacks, required, text_in, body_signature}
+use Rattle.dbus_message.specs.Messages.{FieldTree, Suits, field_struct, want, order_byte, lacks, required, text_in, body_signature, body_fds}
 use Rattle.dbus_value_model.specs.Gives.{no_row}
 use Rattle.dbus_message.specs.MessageItems.{not_zero_row, version_row, fields_row, opening, field, byte_order, types_of_text, body_items, message_items}
 use Rattle.dbus_message.specs.MessageReading as reads
@@ -176,6 +176,6 @@ Agrees-message_items limits =
     Agrees-before (items.judge (lacks (required kind) fs)) (reading.judge (lacks (required kind) fs)) _ _ (Agrees-judge (lacks (required kind) fs)) (λ _.
     Agrees-before (items.bounded 8 (items.padding 8)) (reading.bounded 8 (reading.padding 8)) _ _ (Agrees-bounded 8 (items.padding 8) (reading.padding 8) (Agrees-padding 8)) (λ _.
     Agrees-then (types_of_text (body_signature fs)) (reads.types_of_text (body_signature fs)) _ _ (Agrees-types (body_signature fs) (field_signature (bounds_of limits) order room (o + n) fs [] o s q r was.0)) (λ ts o s q r typed.
-    Agrees-before (items.bounded body (body_items (bounds_of limits) order limits.depth ts)) (reading.bounded body (reads.body_items (bounds_of limits) order limits.depth ts)) _ _
-    (Agrees-bounded body (body_items (bounds_of limits) order limits.depth ts) (reads.body_items (bounds_of limits) order limits.depth ts) (Agrees-body (bounds_of limits) order limits.depth ts typed.1)) (λ xs.
+    Agrees-before (items.bounded body (body_items (bounds_with limits (body_fds limits fs)) order limits.depth ts)) (reading.bounded body (reads.body_items (bounds_with limits (body_fds limits fs)) order limits.depth ts)) _ _
+    (Agrees-bounded body (body_items (bounds_with limits (body_fds limits fs)) order limits.depth ts) (reads.body_items (bounds_with limits (body_fds limits fs)) order limits.depth ts) (Agrees-body (bounds_with limits (body_fds limits fs)) order limits.depth ts typed.1)) (λ xs.
     Agrees-pure (order, record { kind = kind; flags = flags; serial = serial; fields = fs; body = xs }))))))))))))))

@@ -49,5 +49,5 @@ body_packed n (v ∷ vs) h = let w = none_unsound n v vs h in and_from _ _ w.0.0
 
 pub parts_packed : {A : Type 0} (limits : Limits) (p : Parts A) → NoFault limits p → PartsKeepBytes p
 parts_packed limits p h =
-    let s = h.0.0 in
+    let s = h.0.0.0 in
     (fields_packed p.fields.items s.0.0.0.0.0.0.1 s.0.0.1, body_packed 0 p.body.items s.0.1)

@@ -5,15 +5,16 @@ use Rattle.dbus_types.specs.Types.{TypeTrees, sigs, AreShaped}
 use Rattle.dbus_types.specs.ComputedKinds.{types_spelled}
 use Rattle.dbus_value_model.specs.declared.limits.Limits.{Limits}
 use Rattle.dbus_value_model.specs.declared.limits.Bounds.{Bounds}
-use Rattle.dbus_value_model.specs.Specification.{bounds_of}
+use Rattle.dbus_value_model.specs.Specification.{bounds_of, bounds_with}
 use Rattle.dbus_value_model.specs.declared.order.Order.{Order}
 use Rattle.dbus_value_model.specs.Bytes.{num, gap_to, pad}
 use Rattle.dbus_value_model.specs.Spelling.{spelling, spellings, SpelledAll, IsWithinLimits, AreWithinLimits}
 use Rattle.dbus_value_model.specs.Values.{AllOf, value_trees, ValueTrees, types_of, IsWellFormed}
 use Rattle.dbus_value_model.specs.Items.{Sequence}
 use Rattle.dbus_value_model.specs.ValueItems.{value}
-use Rattle.dbus_message.specs.Messages.{FieldTree, MessageTree, AreFields, field_type, field_struct, field_array, fields_end, body_start, body_bytes, message_bytes, order_byte, lacks, required, body_signature, IsMessage}
+use Rattle.dbus_message.specs.Messages.{FieldTree, MessageTree, AreFields, field_type, field_struct, field_array, fields_end, body_start, body_bytes, message_bytes, order_byte, lacks, required, body_signature, body_fds, IsMessage}
 use Rattle.dbus_message.specs.MessageItems.{field, message_items}
+use Rattle.dbus_value_model.proofs.Indexes.{any_all_below}
 use Rattle.dbus_value_model.proofs.Numbers.{length-num}
 use Rattle.dbus_unmarshal.proofs.KindLaws.{spelled_sigs}
 use Rattle.dbus_unmarshal.proofs.Composition.{all_none, all_more, all_parts, fields_to, fields_from}
@@ -101,14 +102,14 @@ built : (limits : Limits) (order : Order) (room kind flags serial body n p : ℕ
     → AreFields [] fs → AllOf field_type (value_trees (map field_struct fs)) → SpelledAll (bounds_of limits) order room 16 s7 (value_trees (map field_struct fs)) (16 + n) s8
     → lacks (required kind) fs ≡ None
     → s8 ≡ pad 8 (16 + n) ++ s9 → p ≡ 16 + n + gap_to 8 (16 + n)
-    → sigs ts ≡ body_signature fs → types_of xs ≡ ts → SpelledAll (bounds_of limits) order limits.depth p s9 xs q r → q ≡ p + body
+    → sigs ts ≡ body_signature fs → types_of xs ≡ ts → SpelledAll (bounds_with limits (body_fds limits fs)) order limits.depth p s9 xs q r → q ≡ p + body
     → let m : MessageTree = record { kind = kind; flags = flags; serial = serial; fields = fs; body = xs } in IsMessage limits order m × (s ≡ message_bytes order m ++ r) × (q ≡ length (message_bytes order m))
 built limits order room kind flags serial body n p fs ts xs s1 s2 s3 s4 s5 s6 s7 s8 s9 r s q opened e0 k0 k1 e1 f1 e2 e3 e4 z0 z1 e5 e6 n1 limit fields types all none e8 p1 sigs_are typed body_all q1 =
     let m : MessageTree = record { kind = kind; flags = flags; serial = serial; fields = fs; body = xs } in
     let len : n ≡ length (field_bytes order fs) = omega (arith, all.place) in
     let ends : 16 + n ≡ fields_end order fs = omega (arith, len, fields_end_is order fs) in
     let start : p ≡ body_start order fs = p1 ∙ ap (λ (u : ℕ). u + gap_to 8 u) ends in
-    let spelled : SpelledAll (bounds_of limits) order limits.depth (body_start order fs) s9 xs q r = subst (λ (u : ℕ). SpelledAll (bounds_of limits) order limits.depth u s9 xs q r) start body_all in
+    let spelled : SpelledAll (bounds_with limits (body_fds limits fs)) order limits.depth (body_start order fs) s9 xs q r = subst (λ (u : ℕ). SpelledAll (bounds_with limits (body_fds limits fs)) order limits.depth u s9 xs q r) start body_all in
     let body_len : body ≡ length (body_bytes order m) = omega (arith, spelled.place, q1, start) in
     let whole_len = message_length order m in
     let e4' : s4 ≡ num order 4 (length (body_bytes order m)) ++ s5 = rw body_len at e4 in
@@ -132,6 +133,7 @@ built limits order room kind flags serial body n p fs ts xs s1 s2 s3 s4 s5 s6 s7
         formed_body = spelled.formed;
         within_body = spelled.within;
         limit = omega (arith, whole_len, limit, start, p1, body_len);
+        indexes = spelled.indexes;
       },
       there,
       omega (arith, whole_len, spelled.place),
@@ -175,10 +177,10 @@ message_to limits s y q r w =
     let start : a9.1 ≡ 16 + n + gap_to 8 (16 + n) = rw (none.1, at_end) at a9.3.1 in
     let b = a11.3 in
     let c = b.4.4 in
-    let typed = fields_to (bounds_of limits) order limits.depth (value (bounds_of limits) order limits.depth) (λ e t o s v q r. (value_inside (bounds_of limits) order limits.depth e t o s v q r).0) (λ e t o s v q r. (value_inside (bounds_of limits) order limits.depth e t o s v q r).1) (a10.1 + body) a10.0 a10.1 a10.2 b.0 b.1 b.2 b.3 in
+    let typed = fields_to (bounds_with limits (body_fds limits fs)) order limits.depth (value (bounds_with limits (body_fds limits fs)) order limits.depth) (λ e t o s v q r. (value_inside (bounds_with limits (body_fds limits fs)) order limits.depth e t o s v q r).0) (λ e t o s v q r. (value_inside (bounds_with limits (body_fds limits fs)) order limits.depth e t o s v q r).1) (a10.1 + body) a10.0 a10.1 a10.2 b.0 b.1 b.2 b.3 in
     let begins : a10.1 ≡ a9.1 = a10.3.2 in
     let rest : a10.2 ≡ a9.2 = a10.3.3 in
-    let spelled : SpelledAll (bounds_of limits) order limits.depth a9.1 a9.2 b.0 b.1 b.2 = rw (begins, rest) at typed.1 in
+    let spelled : SpelledAll (bounds_with limits (body_fds limits fs)) order limits.depth a9.1 a9.2 b.0 b.1 b.2 = rw (begins, rest) at typed.1 in
     let ends_at : b.1 ≡ a9.1 + body = b.4.3.0 ∙ ap (λ (u : ℕ). u + body) begins in
     let last : q ≡ b.1 = a12.1 ∙ c.1 ∙ b.4.3.1 in
     let left : r ≡ b.2 = a12.2 ∙ c.2 ∙ b.4.3.2 in
@@ -207,14 +209,14 @@ taken : (limits : Limits) (order : Order) (room kind flags serial body n : ℕ) 
     → lacks (required kind) fs ≡ None
     → s8 ≡ pad 8 (16 + n) ++ s9
     → sigs (types_of xs) ≡ body_signature fs
-    → SpelledAll (bounds_of limits) order limits.depth (16 + n + gap_to 8 (16 + n)) s9 xs (16 + n + gap_to 8 (16 + n) + body) r
+    → SpelledAll (bounds_with limits (body_fds limits fs)) order limits.depth (16 + n + gap_to 8 (16 + n)) s9 xs (16 + n + gap_to 8 (16 + n) + body) r
     → (message_items limits).Passed 0 s (order, record { kind = kind; flags = flags; serial = serial; fields = fs; body = xs }) (16 + n + gap_to 8 (16 + n) + body) r
 taken limits order room kind flags serial body n fs xs s1 s2 s3 s4 s5 s6 s7 s8 s9 r s opened e0 k0 k1 e1 f1 e2 e3 b1 e4 z0 z1 e5 n0 e6 n1 limit fields all none e8 signature body_all =
     let at = 16 + n + gap_to 8 (16 + n) in
     let seq = seq_fields_from (bounds_of limits) order room (16 + n) fs [] 16 s7 (16 + n) s8 (omega arith) fields all in
     let spells = field_signature (bounds_of limits) order room (16 + n) fs [] 16 s7 (16 + n) s8 seq in
     let types : types_spelled (body_signature fs) ≡ types_of xs = ap types_spelled (sym signature) ∙ spelled_sigs (types_of xs) in
-    let typed = fields_from (bounds_of limits) order limits.depth (value (bounds_of limits) order limits.depth) (λ e t o s v q r. (value_inside (bounds_of limits) order limits.depth e t o s v q r).0) (λ e t o s v q r. (value_inside (bounds_of limits) order limits.depth e t o s v q r).1) (at + body) xs at s9 (at + body) r (omega arith) body_all in (
+    let typed = fields_from (bounds_with limits (body_fds limits fs)) order limits.depth (value (bounds_with limits (body_fds limits fs)) order limits.depth) (λ e t o s v q r. (value_inside (bounds_with limits (body_fds limits fs)) order limits.depth e t o s v q r).0) (λ e t o s v q r. (value_inside (bounds_with limits (body_fds limits fs)) order limits.depth e t o s v q r).1) (at + body) xs at s9 (at + body) r (omega arith) body_all in (
       order,
       1,
       s1,
@@ -304,12 +306,12 @@ message_from limits s order m q r h =
     let whole_len = message_length order m in
     let bytes : s ≡ order_byte order ∷ (num order 1 m.kind ++ (num order 1 m.flags ++ (num order 1 1 ++ (num order 4 (length (body_bytes order m)) ++ (num order 4 m.serial ++ (num order 4 n ++ (field_bytes order m.fields ++ (pad 8 (fields_end order m.fields) ++ (body_bytes order m ++ r))))))))) = h.1 ∙ message_parts order m r in
     let all : SpelledAll (bounds_of limits) order room 16 (field_bytes order m.fields ++ (pad 8 (fields_end order m.fields) ++ (body_bytes order m ++ r))) (value_trees (map field_struct m.fields)) (16 + n) (pad 8 (fields_end order m.fields) ++ (body_bytes order m ++ r)) =
-    record { formed = formed.1; within = within.1; bytes = refl; place = refl } in
-    let body_all : SpelledAll (bounds_of limits) order limits.depth (body_start order m.fields) (body_bytes order m ++ r) m.body (body_start order m.fields + length (body_bytes order m)) r =
-    record { formed = ok.formed_body; within = ok.within_body; bytes = refl; place = refl } in
+    record { formed = formed.1; within = within.1; indexes = any_all_below (value_trees (map field_struct m.fields)); bytes = refl; place = refl } in
+    let body_all : SpelledAll (bounds_with limits (body_fds limits m.fields)) order limits.depth (body_start order m.fields) (body_bytes order m ++ r) m.body (body_start order m.fields + length (body_bytes order m)) r =
+    record { formed = ok.formed_body; within = ok.within_body; indexes = ok.indexes; bytes = refl; place = refl } in
     let start : body_start order m.fields ≡ 16 + n + gap_to 8 (16 + n) = ap (λ (u : ℕ). u + gap_to 8 u) ends in
-    let spelled : SpelledAll (bounds_of limits) order limits.depth (16 + n + gap_to 8 (16 + n)) (body_bytes order m ++ r) m.body (16 + n + gap_to 8 (16 + n) + length (body_bytes order m)) r =
-    subst (λ (u : ℕ). SpelledAll (bounds_of limits) order limits.depth u (body_bytes order m ++ r) m.body (u + length (body_bytes order m)) r) start body_all in
+    let spelled : SpelledAll (bounds_with limits (body_fds limits m.fields)) order limits.depth (16 + n + gap_to 8 (16 + n)) (body_bytes order m ++ r) m.body (16 + n + gap_to 8 (16 + n) + length (body_bytes order m)) r =
+    subst (λ (u : ℕ). SpelledAll (bounds_with limits (body_fds limits m.fields)) order limits.depth u (body_bytes order m ++ r) m.body (u + length (body_bytes order m)) r) start body_all in
     let last : q ≡ 16 + n + gap_to 8 (16 + n) + length (body_bytes order m) = omega (arith, h.2, whole_len, start) in
     let fits : 16 + n + gap_to 8 (16 + n) + length (body_bytes order m) ≤ limits.message = omega (arith, ok.limit, whole_len, start) in
     let tail = body_bytes order m ++ r in

@@ -1,11 +1,15 @@
 -- What keeps limits keeps wider ones, and the valid messages that keep limits are those that are valid within them.
-use Rattle.std.proofs.Common.{ℕ, zero, suc, ◌+◌, ◌≤◌, length, subst, arith}
+use Rattle.std.proofs.Common.{◌≡◌, ◌⊎◌, ℕ, zero, suc, ◌+◌, ◌≤◌, length, refl, sym, subst, arith, inl, inr}
 use Rattle.dbus_value_model.specs.declared.order.Order.{Order}
 use Rattle.dbus_value_model.specs.declared.order.Order.TheVariants.{Little}
 use Rattle.dbus_value_model.specs.declared.limits.Limits.{Limits}
 use Rattle.dbus_value_model.specs.Specification.{specification}
 use Rattle.dbus_message.specs.BuildFaults.{KeepsLimits}
-use Rattle.dbus_message.specs.Messages.{MessageTree, IsMessage, field_array, body_start}
+use Rattle.dbus_value_model.specs.FdIndexes.{index_limit, AreAllBelow}
+use Rattle.dbus_value_model.specs.declared.fd_rule.FdRule.{FdRule}
+use Rattle.dbus_value_model.specs.declared.fd_rule.FdRule.TheVariants.{Any}
+use Rattle.dbus_value_model.proofs.Indexes.{any_all_below}
+use Rattle.dbus_message.specs.Messages.{MessageTree, IsMessage, field_array, body_start, fd_count, KeepsIndexes}
 use Rattle.dbus_message.specs.MessageOutcomes.{IsWhole}
 use Rattle.dbus_message.specs.OutcomeLaws.{AreWider, WiderLimits, WiderWhole, ValidWithin}
 use Rattle.dbus_message.specs.ValidMessages.{IsValidMessage}
@@ -107,6 +111,14 @@ mutual
   formed_nest room NoValues h = tt
   formed_nest room (MoreValues x xs) h = (formed_nests room x h.0, formed_nest room xs h.1)
 
+-- ---- indexes of descriptors
+
+wider_indexes : (limits wider : Limits) (m : MessageTree) → (wider.fds ≡ limits.fds) ⊎ (wider.fds ≡ Any) → KeepsIndexes limits m → KeepsIndexes wider m
+wider_indexes limits wider m rule h = elim rule [
+  | inl same ↦ subst (λ (r : FdRule). AreAllBelow (index_limit r (fd_count m.fields)) m.body) (sym same) h
+  | inr any ↦ subst (λ (r : FdRule). AreAllBelow (index_limit r (fd_count m.fields)) m.body) (sym any) (any_all_below m.body)
+]
+
 -- ---- messages
 
 pub wider_message : (limits wider : Limits) (order : Order) (m : MessageTree) → AreWider wider limits → IsMessage limits order m → IsMessage wider order m
@@ -124,11 +136,12 @@ wider_message limits wider order m le h = record {
   formed_body = are_formed_wider limits.depth wider.depth m.body le.2 h.formed_body;
   within_body = are_within_wider limits.array wider.array le.1 order (body_start order m.fields) m.body h.within_body;
   limit = omega (arith, h.limit, le.0);
+  indexes = wider_indexes limits wider m le.3 h.indexes;
 }
 
 -- no limits are wider than those of the specification
 pub widest : (limits : Limits) → AreWider specification limits
-widest limits = (limits.message_in, limits.array_in, limits.depth_in)
+widest limits = (limits.message_in, limits.array_in, limits.depth_in, inr refl)
 
 pub widest_valid : (limits : Limits) (m : MessageTree) → IsValidMessage limits m → IsValidMessage specification m
 widest_valid limits m valid order = wider_message limits specification order m (widest limits) (valid order)
@@ -151,6 +164,7 @@ kept_valid limits m valid keeps order =
       within_body = any_within_all limits.array Little order (body_start order m.fields) m.body
           (subst (λ (n : ℕ). AreWithinLimits limits.array Little n m.body) (any_body_start Little order m.fields) keeps.1.1);
       limit = omega (arith, keeps.2, any_message_length Little order m);
+      indexes = keeps.3;
     }
 
 valid_keeps : (limits : Limits) (m : MessageTree) → IsValidMessage limits m → KeepsLimits limits m
@@ -159,6 +173,7 @@ valid_keeps limits m valid =
       (formed_nests limits.depth (field_array m.fields) h.formed_fields, formed_nest limits.depth m.body h.formed_body),
       (h.within_fields, h.within_body),
       λ long. omega (arith, long, h.limit),
+      h.indexes,
     )
 
 -- ---- the laws
@@ -178,4 +193,5 @@ wider_limits limits wider m le keeps = (
     are_within_wider limits.array wider.array le.1 Little (body_start Little m.fields) m.body keeps.1.1,
   ),
   λ long. keeps.2 (omega (arith, le.0, long)),
+  wider_indexes limits wider m le.3 keeps.3,
 )

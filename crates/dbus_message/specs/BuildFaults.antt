@@ -6,13 +6,14 @@ use Rattle.dbus_value_model.specs.declared.order.Order.TheVariants.{Little}
 use Rattle.dbus_value_model.specs.declared.fault.Reason.TheVariants as reasons
 use Rattle.dbus_value_model.specs.declared.limits.Limits.{Limits}
 use Rattle.dbus_value_model.specs.Checks.{IsTyped}
+use Rattle.dbus_value_model.specs.FdIndexes.{IsFirstPast}
 use Rattle.dbus_value_model.specs.Forming.{NestsWithin, NestWithin, IsNamed}
 use Rattle.dbus_value_model.specs.Values.{ValueTree, NumberValue, type_of, types_of}
 use Rattle.dbus_value_model.specs.ValueViews.{value_tree}
 use Rattle.dbus_value_model.specs.declared.value.Value.{Value}
 use Rattle.dbus_value_model.specs.Spelling.{IsWithinLimits, AreWithinLimits}
 use Rattle.dbus_value_model.specs.WantedTexts.{WantedText, IsWanted, kind_of}
-use Rattle.dbus_message.specs.Messages.{FieldTree, MessageTree, field_array, body_start, message_bytes, Want, Anything, OfType, Name, Serial, want, is_known, has_code, lacks, required, text_in, body_signature}
+use Rattle.dbus_message.specs.Messages.{FieldTree, MessageTree, field_array, body_start, message_bytes, Want, Anything, OfType, Name, Serial, want, is_known, has_code, lacks, required, text_in, body_signature, body_fds, KeepsIndexes}
 use Rattle.dbus_message.specs.PartsViews.{parts_tree}
 use Rattle.dbus_message.specs.MessageViews.{message_tree}
 use Rattle.dbus_message.specs.declared.header_field.HeaderField.{HeaderField}
@@ -139,13 +140,16 @@ ArraysPass limits p = SignaturePasses limits p × KeepsArrays limits (parts_tree
 abbrev pub IsLong : Limits → MessageTree → Type 0
 IsLong limits m = limits.message < length (message_bytes Little m)
 
+abbrev pub SizePasses : {A : Type 0} → Limits → Parts A → Type 0
+SizePasses limits p = ArraysPass limits p × (IsLong limits (parts_tree p) → ⊥)
+
 -- none of the cases holds that speak of limits
 abbrev pub KeepsLimits : Limits → MessageTree → Type 0
-KeepsLimits limits m = IsShallow limits m × KeepsArrays limits m × (IsLong limits m → ⊥)
+KeepsLimits limits m = IsShallow limits m × KeepsArrays limits m × (IsLong limits m → ⊥) × KeepsIndexes limits m
 
 -- no case holds
 abbrev pub NoFault : {A : Type 0} → Limits → Parts A → Type 0
-NoFault limits p = ArraysPass limits p × (IsLong limits (parts_tree p) → ⊥)
+NoFault limits p = SizePasses limits p × KeepsIndexes limits (parts_tree p)
 
 -- The case holds, and none before it does. Memory is answered only where a growth was refused, which says nothing of the
 -- parts.
@@ -164,6 +168,7 @@ IsFirstFault limits p (faults.Value n) = FieldValuesPass limits p × IsFirstUnso
 IsFirstFault limits p faults.SignatureDiffers = ValuesPass limits p × (HasOwnSignature (parts_tree p) → ⊥)
 IsFirstFault limits p faults.ArrayTooLong = SignaturePasses limits p × (KeepsArrays limits (parts_tree p) → ⊥)
 IsFirstFault limits p faults.MessageTooLong = ArraysPass limits p × IsLong limits (parts_tree p)
+IsFirstFault limits p (faults.FdIndex n) = let m = parts_tree p in SizePasses limits p × IsFirstPast (body_fds limits m.fields) 0 m.body (Some n)
 
 -- ---- what is built
 

@@ -1,9 +1,9 @@
 -- Reading a message in the parts in which the code reads it.
 -- D-Bus Specification, "Message Format", "Header Fields".
-use Rattle.std.specs.Prelude.{ℕ, ◌-◌, List}
+use Rattle.std.specs.Prelude.{ℕ, ◌-◌, List, Option}
 use Rattle.dbus_types.specs.Types.{TypeTree, TypeTrees}
 use Rattle.dbus_types.specs.ComputedKinds.{types_spelled}
-use Rattle.dbus_value_model.specs.Specification.{bounds_of}
+use Rattle.dbus_value_model.specs.Specification.{bounds_of, bounds_with}
 use Rattle.dbus_value_model.specs.declared.limits.Limits.{Limits}
 use Rattle.dbus_value_model.specs.declared.order.Order.{Order}
 use Rattle.dbus_value_model.specs.declared.fault.Reason.TheVariants as reasons
@@ -12,7 +12,7 @@ use Rattle.dbus_value_model.specs.Gives.{no_row}
 use Rattle.dbus_value_model.specs.ValueItems.{text_row}
 use Rattle.dbus_value_model.specs.WantedTexts.{WantedText}
 use Rattle.dbus_value_model.specs.Reading.{Reader, ◌>>=◌, ◌>>◌, pure, judge, bounded, padding, number, signature, nul, contents}
-use Rattle.dbus_message.specs.Messages.{FieldTree, MessageTree, Want, want, lacks, required, body_signature}
+use Rattle.dbus_message.specs.Messages.{FieldTree, MessageTree, Want, want, lacks, required, body_signature, body_fds}
 use Rattle.dbus_message.specs.MessageItems.{not_zero_row, version_row, fields_row, code_row, kind_wanted}
 use Rattle.dbus_message.specs.MessageReading.{byte_order, opening, value_wanted, body_items}
 use Rattle.dbus_message.specs.declared.fixed_header.FixedHeader.{FixedHeader}
@@ -56,8 +56,8 @@ field_read limits order end before = do
 unfoldable pub fields_read : Limits → Order → ℕ → Reader (List FieldTree)
 fields_read limits order n = contents n (field_read limits order)
 
-unfoldable pub body_read : Limits → Order → TypeTrees → ℕ → Reader ValueTrees
-body_read limits order ts end = body_items (bounds_of limits) order limits.depth ts end
+unfoldable pub body_read : Limits → Option ℕ → Order → TypeTrees → ℕ → Reader ValueTrees
+body_read limits fds order ts end = body_items (bounds_with limits fds) order limits.depth ts end
 
 unfoldable pub message_read : Limits → Reader (Order × MessageTree)
 message_read limits = do
@@ -65,5 +65,5 @@ message_read limits = do
   fs ← fields_read limits h.order h.fields
   judge (lacks (required h.kind) fs)
   bounded 8 (padding 8)
-  xs ← bounded h.body (body_read limits h.order (types_spelled (body_signature fs)))
+  xs ← bounded h.body (body_read limits (body_fds limits fs) h.order (types_spelled (body_signature fs)))
   pure (h.order, record { kind = h.kind; flags = h.flags; serial = h.serial; fields = fs; body = xs })

@@ -4,7 +4,7 @@
 use Rattle.std.specs.Prelude.{ℕ, ◌+◌, ◌-◌, List, [], ◌∷◌, if◌then◌else◌, nat_eq}
 use Rattle.dbus_types.specs.Types.{UINT32, STRING, TypeTree, TypeTrees}
 use Rattle.dbus_types.specs.ComputedKinds.{types_spelled}
-use Rattle.dbus_value_model.specs.Specification.{bounds_of}
+use Rattle.dbus_value_model.specs.Specification.{bounds_of, bounds_with}
 use Rattle.dbus_value_model.specs.declared.limits.Limits.{Limits}
 use Rattle.dbus_value_model.specs.declared.limits.Bounds.{Bounds}
 use Rattle.dbus_value_model.specs.declared.order.Order.{Order}
@@ -14,7 +14,7 @@ use Rattle.dbus_value_model.specs.Items.{fault}
 use Rattle.dbus_value_model.specs.Gives.{no_row}
 use Rattle.dbus_value_model.specs.ValueItems.{text_row}
 use Rattle.dbus_value_model.specs.Reading.{Reader, Outcome, Done, Faulty, Partial, ◌>>=◌, ◌>>◌, pure, judge, bounded, ends, padding, number, text, nul, signature, contents, opened, value, fields}
-use Rattle.dbus_message.specs.Messages.{FieldTree, MessageTree, Want, Anything, OfType, Name, Serial, want, lacks, required, body_signature}
+use Rattle.dbus_message.specs.Messages.{FieldTree, MessageTree, Want, Anything, OfType, Name, Serial, want, lacks, required, body_signature, body_fds}
 use Rattle.dbus_message.specs.MessageItems.{not_zero_row, version_row, name_row, fields_row, code_row, kind_wanted}
 use Rattle.dbus_value_model.specs.declared.fault.Reason.TheVariants as reasons
 
@@ -77,5 +77,5 @@ message limits = do
   judge (lacks (required kind) fs)
   bounded 8 (padding 8)
   ts ← types_of_text (body_signature fs)
-  xs ← bounded body (body_items (bounds_of limits) order limits.depth ts)
+  xs ← bounded body (body_items (bounds_with limits (body_fds limits fs)) order limits.depth ts)
   pure (order, record { kind = kind; flags = flags; serial = serial; fields = fs; body = xs })

@@ -2,6 +2,7 @@
 -- D-Bus Specification, "Message Format" and "Header Fields".
 use Rattle.std.specs.Prelude.{◌≡◌, ℕ, ◌+◌, ◌^◌, ◌<◌, ◌≤◌, List, [], ◌∷◌, ◌++◌, length, map, Bool, true, false, ◌||◌, ◌&&◌, nat_eq, if◌then◌else◌, Option, Some, None}
 use Rattle.dbus_types.specs.Types.{BYTE, UINT32, STRING, OBJECT_PATH, SIGNATURE, TypeTree, NumberType, TextType, VariantType, StructType, NoTypes, MoreTypes, sigs}
+use Rattle.dbus_value_model.specs.FdIndexes.{index_limit, AreAllBelow}
 use Rattle.dbus_value_model.specs.declared.limits.Limits.{Limits}
 use Rattle.dbus_value_model.specs.Measures.{coded}
 use Rattle.dbus_value_model.specs.WantedTexts.{WantedText, IsWanted, Of}
@@ -130,6 +131,26 @@ abbrev pub body_signature : List FieldTree → List ℕ
 body_signature [] = []
 body_signature (f ∷ fs) = if nat_eq f.code 8 then text_in f.value else body_signature fs
 
+-- ---- descriptors
+
+abbrev pub number_in : ValueTree → ℕ
+number_in (NumberValue UINT32 n) = n
+number_in _ = 0
+
+-- how many descriptors come with a message: the number of the first UNIX_FDS field, or 0
+abbrev pub fd_count : List FieldTree → ℕ
+fd_count [] = 0
+fd_count (f ∷ fs) = if nat_eq f.code 9 then number_in f.value else fd_count fs
+
+-- the number that the indexes of descriptors in the body are below, where the limits' rule asks for one
+abbrev pub body_fds : Limits → List FieldTree → Option ℕ
+body_fds limits fs = index_limit limits.fds (fd_count fs)
+
+abbrev pub KeepsIndexes : Limits → MessageTree → Type 0
+KeepsIndexes limits m = AreAllBelow (body_fds limits m.fields) m.body
+
+-- ---- messages
+
 -- valid, and within the limits as it is spelled in the order
 pub record IsMessage (limits : Limits) (order : Order) (m : MessageTree) : Type 0 where
   pub kind : 0 < m.kind
@@ -145,3 +166,4 @@ pub record IsMessage (limits : Limits) (order : Order) (m : MessageTree) : Type 
   pub formed_body : AreWellFormed limits.depth m.body
   pub within_body : AreWithinLimits limits.array order (body_start order m.fields) m.body
   pub limit : length (message_bytes order m) ≤ limits.message
+  pub indexes : KeepsIndexes limits m

@@ -4,6 +4,7 @@ use Rattle.std.specs.Prelude.{◌≡◌, ◌↔◌, ℕ, ◌≤◌, ◌⊎◌, L
 use Rattle.dbus_value_model.specs.declared.order.Order.{Order}
 use Rattle.dbus_value_model.specs.declared.order.Order.TheVariants.{Little, Big}
 use Rattle.dbus_value_model.specs.declared.fault.Fault.{Fault}
+use Rattle.dbus_value_model.specs.declared.fd_rule.FdRule.TheVariants.{Any}
 use Rattle.dbus_value_model.specs.Bytes.{IsBytes}
 use Rattle.dbus_value_model.specs.declared.limits.Limits.{Limits}
 use Rattle.dbus_value_model.specs.Specification.{specification}
@@ -48,9 +49,10 @@ WholeForGood = (limits : Limits) (b c : List ℕ) (order : Order) (m : MessageTr
 abbrev pub RefusedForGood : Type 0
 RefusedForGood = (limits : Limits) (b c : List ℕ) (f : Fault) → IsRefused limits b f → IsRefused limits (b ++ c) f
 
--- none of the wider limits is smaller
+-- None of the wider limits is smaller. A rule on indexes of descriptors is not where it is the same, or where any may stand.
 abbrev pub AreWider : Limits → Limits → Type 0
 AreWider wider limits = (limits.message ≤ wider.message) × (limits.array ≤ wider.array) × (limits.depth ≤ wider.depth)
+    × ((wider.fds ≡ limits.fds) ⊎ (wider.fds ≡ Any))
 
 -- A message that keeps limits keeps wider ones.
 abbrev pub WiderLimits : Type 0

@@ -40,6 +40,9 @@ pub enum BuildFault {
     ArrayTooLong,
     /// The message is over the limit on messages.
     MessageTooLong,
+    /// The body's value of this number, counted from 0, the first of such, holds an index of a descriptor that is not below
+    /// the number of the UNIX_FDS field, which is 0 where there is none. It holds only where the limits' rule asks for that.
+    FdIndex(usize),
 }
 
 impl From<AllocError> for BuildFault {

@@ -5,7 +5,7 @@ ghost use Rattle.std.specs.Prelude.{◌≡◌, length, MatchResult};
 ghost use Rattle.dbus_value_model.specs.declared.order.Order.TheVariants.{Little};
 ghost use Rattle.dbus_value_model.specs.Specification.{specification};
 ghost use Rattle.dbus_value_model.specs.declared.limits.Limits.{Limits};
-ghost use Rattle.dbus_message.specs.BuildFaults.{IsAccepted, IsBuilt, IsFirstFault, NoFault, NoneIsMissing, SignaturePasses};
+ghost use Rattle.dbus_message.specs.BuildFaults.{IsAccepted, IsBuilt, IsFirstFault, NoFault, NoneIsMissing, SignaturePasses, SizePasses};
 ghost use Rattle.dbus_message.specs.Messages.{message_bytes};
 ghost use Rattle.dbus_message.specs.PartsViews.{parts_tree};
 ghost use Rattle.dbus_message.specs.ValidMessages.{IsValidMessage};
@@ -16,12 +16,12 @@ use crate::faulty_body::{first_unsound, has_types};
 use crate::faulty_fields::{
     first_misnamed, first_mistyped, first_twice, first_unsound_field, first_zero_reply,
 };
-use crate::known_fields::{body_signature, has_field, missing_field};
+use crate::known_fields::{body_signature, fd_count, has_field, missing_field};
 use crate::message::Message;
 use crate::message_size::{fields_end, read_parts};
 use crate::parts::Parts;
 use dbus_marshal::measure_all;
-use dbus_value_model::{Limits, padding_length};
+use dbus_value_model::{Limits, first_past, padding_length};
 use std::alloc::Allocator;
 
 /// Judges the type, the serial, and which fields there are.
@@ -89,7 +89,7 @@ fn check_contents<A: Allocator + Copy>(
 /// How many bytes the parts are spelled by, within the limits.
 fn measure<A: Allocator>(parts: &Parts<A>, limits: Limits) -> Result<usize, BuildFault>
     requires passed { SignaturePasses limits parts.now }
-    ensures { MatchResult result (λ n. IsValidMessage specification (parts_tree parts.now) × (n ≡ length (message_bytes Little (parts_tree parts.now))) × NoFault limits parts.now) (λ f. IsFirstFault limits parts.now f) }
+    ensures { MatchResult result (λ n. IsValidMessage specification (parts_tree parts.now) × (n ≡ length (message_bytes Little (parts_tree parts.now))) × SizePasses limits parts.now) (λ f. IsFirstFault limits parts.now f) }
 {
     read_parts(parts);
     let fields = match fields_end(&parts.fields, limits) {
@@ -105,6 +105,18 @@ fn measure<A: Allocator>(parts: &Parts<A>, limits: Limits) -> Result<usize, Buil
             }
             Ok(end as usize)
         }
+    }
+}
+
+/// Judges the indexes of descriptors.
+fn check_indexes<A: Allocator>(parts: &Parts<A>, limits: Limits) -> Result<(), BuildFault>
+    requires passed { SizePasses limits parts.now }
+    ensures { MatchResult result (λ _. NoFault limits parts.now) (λ f. IsFirstFault limits parts.now f) }
+{
+    let fds = limits.fds.index_limit(fd_count(&parts.fields));
+    match first_past(&parts.body, fds) {
+        Some(n) => Err(BuildFault::FdIndex(n)),
+        None => Ok(()),
     }
 }
 
@@ -136,9 +148,13 @@ impl<A: Allocator + Copy> Message<A> {
         if let Err(fault) = check_contents(alloc, &parts, limits) {
             return Err((parts, fault));
         }
-        match measure(&parts, limits) {
+        let size = match measure(&parts, limits) {
+            Err(fault) => return Err((parts, fault)),
+            Ok(size) => size,
+        };
+        match check_indexes(&parts, limits) {
             Err(fault) => Err((parts, fault)),
-            Ok(size) => Ok(Message::of_valid(parts, size)),
+            Ok(()) => Ok(Message::of_valid(parts, size)),
         }
     }
 }

@@ -18,7 +18,7 @@ ghost use Rattle.dbus_message.specs.SingleTypes.{AreSingleTypes};
 use crate::answer::Answer;
 use crate::fixed_header::read_fixed_header;
 use crate::header_field::HeaderField;
-use crate::known_fields::{body_signature, missing_field};
+use crate::known_fields::{body_signature, fd_count, missing_field};
 use crate::message::Message;
 use crate::parts::Parts;
 use crate::read_body::read_body;
@@ -70,7 +70,8 @@ fn read_message<A: Allocator + Copy>(
     let at = read_padding(bytes, at, at + 8, 8)?;
     let types = body_types(alloc, &fields)?;
     let end = at + header.body as usize;
-    let (body, used) = read_body(alloc, bytes, at, end, header.order, &types, limits)?;
+    let fds = limits.fds.index_limit(fd_count(&fields));
+    let (body, used) = read_body(alloc, bytes, at, end, header.order, &types, limits, fds)?;
     let parts = Parts {
         kind: header.kind,
         flags: header.flags,
@@ -100,6 +101,8 @@ pub fn decode<A: Allocator + Copy>(alloc: A, bytes: &[u8]) -> Result<Answer<A>, 
 /// Of the limits: `MessageTooLong` at 12 where the header states more bytes than the limits' message, `ArrayTooLong` at its
 /// length where an array has more than their array (the field array at 12), and `TooDeep` where a container is opened while
 /// their depth are open: at 12 for the field array, behind a field's padding for its struct, behind its code for its variant.
+/// Where their rule on descriptors is `BelowCount`: `FdIndex` at an index in the body that is not below the number of the
+/// UNIX_FDS field, which is 0 where there is none. Indexes in header fields are not looked at.
 pub fn decode_within<A: Allocator + Copy>(
     alloc: A,
     bytes: &[u8],

@@ -7,7 +7,7 @@ ghost use Rattle.dbus_types.specs.SigTypes.{type_tree};
 ghost use Rattle.dbus_types.specs.Types.{IsSingleType, sig};
 ghost use Rattle.dbus_types.specs.declared.text_kind.TextKind.TheVariants.{Single};
 ghost use Rattle.dbus_value_model.specs.declared.order.Order.{Order};
-ghost use Rattle.dbus_value_model.specs.Specification.{bounds_of};
+ghost use Rattle.dbus_value_model.specs.Specification.{bounds_with};
 ghost use Rattle.dbus_value_model.specs.declared.limits.Limits.{Limits};
 ghost use Rattle.dbus_message.specs.declared.field_value.TheConstants.{FIELD_DEPTH};
 ghost use Rattle.dbus_value_model.specs.Gives.{Gives};
@@ -34,7 +34,8 @@ const NAME_LIMIT: u32 = 255;
 /// How many containers are open around a field's value: the field array, the field and its variant.
 pub const FIELD_DEPTH: u8 = 3;
 
-/// A value of the type that is wanted, under limits, with so many containers open around it, and the place behind it.
+/// A value of the type that is wanted, under limits, with so many containers open around it, and the place behind it. Where
+/// `fds` is given, every index of a descriptor in it is below that.
 pub fn read_value<A: Allocator + Copy>(
     alloc: A,
     bytes: &[u8],
@@ -44,16 +45,17 @@ pub fn read_value<A: Allocator + Copy>(
     wanted: &SigType<A>,
     depth: u8,
     limits: Limits,
+    fds: Option<u32>,
 ) -> Result<(Value<A>, usize), Stop>
     requires at_most { at ≤ end }
     requires inside { at ≤ length bytes.now }
     requires shallow { depth ≤ limits.depth }
     requires complete { IsSingleType (type_tree wanted.now) }
-    ensures gives { Gives (λ x. (value_tree x.0, x.1)) bytes.now result (value (bounds_of limits) order (limits.depth - depth) end (type_tree wanted.now) at (drop at bytes.now)) }
+    ensures gives { Gives (λ x. (value_tree x.0, x.1)) bytes.now result (value (bounds_with limits fds) order (limits.depth - depth) end (type_tree wanted.now) at (drop at bytes.now)) }
     ensures moves { IfOk result (λ x. (at < x.1) × (x.1 ≤ end) × (x.1 ≤ length bytes.now)) }
     ensures packed { IfOk result (λ x. IsTrue (keeps_bytes x.0)) }
 {
-    match get_within(alloc, bytes, at, end, order, wanted, depth, limits) {
+    match get_within(alloc, bytes, at, end, order, wanted, depth, limits, fds) {
         Ok(Got::Done(value, next)) => Ok((value, next)),
         Ok(Got::Partial) => Err(Stop::Partial),
         Err(Refusal::Memory) => Err(Stop::Memory),
@@ -166,7 +168,17 @@ fn read_typed<A: Allocator + Copy>(
     ensures packed { IfOk result (λ x. IsTrue (keeps_bytes x.0)) }
 {
     let at = read_wanted(bytes, at, end, wanted)?;
-    read_value(alloc, bytes, at, end, order, held, FIELD_DEPTH, limits)
+    read_value(
+        alloc,
+        bytes,
+        at,
+        end,
+        order,
+        held,
+        FIELD_DEPTH,
+        limits,
+        None,
+    )
 }
 
 /// A field of an unknown code: any value.
@@ -189,7 +201,17 @@ fn read_anything<A: Allocator + Copy>(
     let (n, at) = read_short_length(bytes, at, end)?;
     let (held, behind) = read_signature(alloc, bytes, at, n)?;
     let at = read_nul(bytes, behind)?;
-    read_value(alloc, bytes, at, end, order, &held, FIELD_DEPTH, limits)
+    read_value(
+        alloc,
+        bytes,
+        at,
+        end,
+        order,
+        &held,
+        FIELD_DEPTH,
+        limits,
+        None,
+    )
 }
 
 /// The value of a field: of its own type and kind where its code is known. D-Bus Specification, "Header Fields".

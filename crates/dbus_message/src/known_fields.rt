@@ -4,10 +4,12 @@
 ghost use Rattle.std.specs.Prelude.{◌≡◌, ◌&&◌};
 ghost use Rattle.dbus_value_model.specs.ValueViews.{value_tree};
 ghost use Rattle.dbus_message.specs.MissingFields.{IsMissing};
-ghost use Rattle.dbus_message.specs.Messages.{has_code, is_known, lacks, required, text_in, body_signature};
+ghost use Rattle.dbus_message.specs.Messages.{has_code, is_known, lacks, required, text_in, body_signature, number_in, fd_count};
 ghost use Rattle.dbus_message.specs.PartsViews.{field_trees};
 
-use crate::field_table::{ERROR_NAME, INTERFACE, MEMBER, PATH, REPLY_SERIAL, SIGNATURE, is_known};
+use crate::field_table::{
+    ERROR_NAME, INTERFACE, MEMBER, PATH, REPLY_SERIAL, SIGNATURE, UNIX_FDS, is_known,
+};
 use crate::header_field::HeaderField;
 use dbus_value_model::Value;
 use std::alloc::Allocator;
@@ -77,4 +79,27 @@ pub fn body_signature<A: Allocator>(fields: &[HeaderField<A>]) -> &[u8]
         }
     }
     &[]
+}
+
+/// The number that a value of four bytes is, or 0.
+fn number_in<A: Allocator>(value: &Value<A>) -> u32
+    ensures { result ≡ number_in (value_tree value.now) }
+{
+    match value {
+        Value::U32(n) => *n,
+        _ => 0,
+    }
+}
+
+/// How many descriptors come with the message: the number of the first UNIX_FDS field, or 0. D-Bus Specification, "Header
+/// Fields".
+pub fn fd_count<A: Allocator>(fields: &[HeaderField<A>]) -> u32
+    ensures { result ≡ fd_count (field_trees fields.now) }
+{
+    for field in fields {
+        if field.code == UNIX_FDS {
+            return number_in(&field.value);
+        }
+    }
+    0
 }

@@ -5,16 +5,17 @@ ghost use Rattle.std.specs.Prelude.{◌↔◌, map, IsTrue};
 ghost use Rattle.dbus_value_model.specs.ShortSignatures.{HaveShortSignatures};
 ghost use Rattle.dbus_value_model.specs.Values.{value_trees};
 ghost use Rattle.dbus_message.specs.BuildFaults.{KeepsArrays, KeepsLimits};
-ghost use Rattle.dbus_message.specs.Messages.{field_struct};
+ghost use Rattle.dbus_message.specs.Messages.{field_struct, KeepsIndexes};
 ghost use Rattle.dbus_message.specs.MessageViews.{message_tree};
 ghost use Rattle.dbus_message.specs.PartsViews.{parts_tree};
 
 use crate::depth::is_shallow;
+use crate::known_fields::fd_count;
 use crate::message::Message;
 use crate::message_size::fields_end;
 use crate::parts::Parts;
 use dbus_marshal::measure_all;
-use dbus_value_model::{Limits, padding_length};
+use dbus_value_model::{Limits, first_past, padding_length};
 use std::alloc::Allocator;
 
 /// Whether the field array, and each array in the parts, has no more bytes than the limits' array.
@@ -34,9 +35,18 @@ fn keeps_arrays<A: Allocator>(parts: &Parts<A>, limits: Limits) -> bool
     }
 }
 
+/// Whether every index of a descriptor in the body is below the number that the limits' rule asks for.
+fn keeps_indexes<A: Allocator>(parts: &Parts<A>, limits: Limits) -> bool
+    ensures { IsTrue result ↔ KeepsIndexes limits (parts_tree parts.now) }
+{
+    let fds = limits.fds.index_limit(fd_count(&parts.fields));
+    first_past(&parts.body, fds).is_none()
+}
+
 impl<A: Allocator> Message<A> {
     /// Whether the message keeps the limits: it has no more bytes than their message, no array in it, that of its fields
-    /// among them, more than their array, and no more arrays, structs and variants are open at once than their depth.
+    /// among them, more than their array, no more arrays, structs and variants are open at once than their depth, and the
+    /// indexes of descriptors in its body are as their rule asks.
     ///
     /// These are the cases of [`BuildFault`](crate::BuildFault) that speak of limits.
     /// D-Bus Specification, "Message Format" and "Marshaling (Wire Format)".
@@ -47,6 +57,6 @@ impl<A: Allocator> Message<A> {
             return false;
         }
         let parts = self.parts();
-        is_shallow(parts, limits) && keeps_arrays(parts, limits)
+        is_shallow(parts, limits) && keeps_arrays(parts, limits) && keeps_indexes(parts, limits)
     }
 }

@@ -4,7 +4,7 @@ use Rattle.dbus_types.specs.SigTypes.{type_trees_of}
 use Rattle.dbus_value_model.specs.Reading.{Done, judge, padding}
 use Rattle.dbus_unmarshal.proofs.ReadSteps.{stops_after}
 use Rattle.dbus_message.specs.HeaderReading.{message_read, body_read}
-use Rattle.dbus_message.specs.Messages.{lacks, required, body_signature}
+use Rattle.dbus_message.specs.Messages.{lacks, required, body_signature, body_fds}
 use Rattle.dbus_message.specs.PartsViews.{parts_tree, field_trees}
 use Rattle.dbus_message.proofs.FixedItems.{exits}
 use Rattle.dbus_message.proofs.decoding.read_message.Goals as goal
@@ -24,20 +24,22 @@ returns-in_err-at-clause-gives g c =
     (stops_after _ (padding 8 (c.in_ok-fields.at + 8) c.in_ok-fields.at (drop c.in_ok-fields.at c.args.bytes.now)) _ c.in_err-at.ensures.gives))
 
 pub read_body-requires-clause-complete : goal.read_body-requires-clause-complete
-read_body-requires-clause-complete g c = rw c.deref-3.ensures.value c.in_ok-types.ensures.complete
+read_body-requires-clause-complete g c = rw c.deref-4.ensures.value c.in_ok-types.ensures.complete
 
 pub returns-in_err-body-clause-gives : goal.returns-in_err-body-clause-gives
 unfolding message_read
 returns-in_err-body-clause-gives g c =
     let judged : judge (lacks (required c.in_ok-header.header.kind) (field_trees c.in_ok-fields.fields.items)) c.in_ok-fields.at (drop c.in_ok-fields.at c.args.bytes.now) ≡ Done tt c.in_ok-fields.at (drop c.in_ok-fields.at c.args.bytes.now) = rw (← c.deref.ensures.value) (c.in_ok-check_required.ensures c.args.bytes.now) in
-    let types : type_trees_of c.deref-3.result.now ≡ types_spelled (body_signature (field_trees c.in_ok-fields.fields.items)) = rw (c.deref-3.ensures.value, c.in_ok-types.ensures.spelled, c.deref-2.ensures.value) refl in
+    let types : type_trees_of c.deref-4.result.now ≡ types_spelled (body_signature (field_trees c.in_ok-fields.fields.items)) = rw (c.deref-4.ensures.value, c.in_ok-types.ensures.spelled, c.deref-2.ensures.value) refl in
+    let fds : c.index_limit-fds.result ≡ body_fds c.args.limits (field_trees c.in_ok-fields.fields.items) = rw (c.index_limit-fds.ensures, c.fd_count.ensures, c.deref-3.ensures.value) refl in
     exits (λ x. ((x.0, parts_tree x.1), x.2)) c.args.bytes.now c.from_residual-in_err-body.result _ _ c.from_residual-in_err-body.ensures.1
-    (rw (c.in_ok-header.ensures.gives, c.in_ok-fields.ensures.gives, judged, c.in_ok-at.ensures.gives, ← types)
-    (stops_after _ (body_read c.args.limits c.in_ok-header.header.order (type_trees_of c.deref-3.result.now) (c.in_ok-at.at + c.in_ok-header.header.body) c.in_ok-at.at (drop c.in_ok-at.at c.args.bytes.now)) _ c.in_err-body.ensures.gives))
+    (rw (c.in_ok-header.ensures.gives, c.in_ok-fields.ensures.gives, judged, c.in_ok-at.ensures.gives, ← types, ← fds)
+    (stops_after _ (body_read c.args.limits c.index_limit-fds.result c.in_ok-header.header.order (type_trees_of c.deref-4.result.now) (c.in_ok-at.at + c.in_ok-header.header.body) c.in_ok-at.at (drop c.in_ok-at.at c.args.bytes.now)) _ c.in_err-body.ensures.gives))
 
 pub returns-clause-gives : goal.returns-clause-gives
 unfolding message_read
 returns-clause-gives g c =
     let judged : judge (lacks (required c.in_ok-header.header.kind) (field_trees c.in_ok-fields.fields.items)) c.in_ok-fields.at (drop c.in_ok-fields.at c.args.bytes.now) ≡ Done tt c.in_ok-fields.at (drop c.in_ok-fields.at c.args.bytes.now) = rw (← c.deref.ensures.value) (c.in_ok-check_required.ensures c.args.bytes.now) in
-    let types : type_trees_of c.deref-3.result.now ≡ types_spelled (body_signature (field_trees c.in_ok-fields.fields.items)) = rw (c.deref-3.ensures.value, c.in_ok-types.ensures.spelled, c.deref-2.ensures.value) refl in
-    rw (c.in_ok-header.ensures.gives, c.in_ok-fields.ensures.gives, judged, c.in_ok-at.ensures.gives, ← types, c.in_ok-body.ensures.gives) refl
+    let types : type_trees_of c.deref-4.result.now ≡ types_spelled (body_signature (field_trees c.in_ok-fields.fields.items)) = rw (c.deref-4.ensures.value, c.in_ok-types.ensures.spelled, c.deref-2.ensures.value) refl in
+    let fds : c.index_limit-fds.result ≡ body_fds c.args.limits (field_trees c.in_ok-fields.fields.items) = rw (c.index_limit-fds.ensures, c.fd_count.ensures, c.deref-3.ensures.value) refl in
+    rw (c.in_ok-header.ensures.gives, c.in_ok-fields.ensures.gives, judged, c.in_ok-at.ensures.gives, ← types, ← fds, c.in_ok-body.ensures.gives) refl

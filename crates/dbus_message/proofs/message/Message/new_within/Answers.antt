@@ -12,4 +12,7 @@ pub returns-in-Err-measure-clause-accepted : goal.returns-in-Err-measure-clause-
 returns-in-Err-measure-clause-accepted g c = only_memory c.args.limits c.args.parts c.in-Err-measure.fault c.in-Err-measure.ensures
 
 pub of_valid-requires-clause-packed : goal.of_valid-requires-clause-packed
-of_valid-requires-clause-packed g c = parts_packed c.args.limits c.args.parts c.in-Ok.ensures.2
+of_valid-requires-clause-packed g c = parts_packed c.args.limits c.args.parts c.in-Ok-check_indexes.ensures
+
+pub returns-in-Err-check_indexes-clause-accepted : goal.returns-in-Err-check_indexes-clause-accepted
+returns-in-Err-check_indexes-clause-accepted g c = only_memory c.args.limits c.args.parts c.in-Err-check_indexes.fault c.in-Err-check_indexes.ensures
