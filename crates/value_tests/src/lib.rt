@@ -8,6 +8,8 @@ mod checks;
 #[cfg(test)]
 mod examples;
 #[cfg(test)]
+mod fd_indexes;
+#[cfg(test)]
 mod fronts;
 #[cfg(test)]
 mod growths;

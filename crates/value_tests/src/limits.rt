@@ -89,7 +89,7 @@ fn an_array_under_limits(rt: HostRuntime) -> Result<(), Fail> {
         assert!(rt; size_after_within(&value, 0, limits) == *size, "{limits:?}");
         assert!(rt; is_put(rt.alloc(), &value, limits), "{limits:?}");
         assert!(rt;
-            read_within(rt.alloc(), ASKED, ARRAY, limits) == answer(*read),
+            read_within(rt.alloc(), ASKED, ARRAY, limits, None) == answer(*read),
             "{limits:?}"
         );
     }

@@ -53,12 +53,13 @@ pub fn read<A: Allocator + Copy>(alloc: A, asked: Asked<'_>, bytes: &[u8]) -> An
     }
 }
 
-/// What reading answers under limits.
+/// What reading answers under limits, where the indexes of descriptors are to be below a number.
 pub fn read_within<A: Allocator + Copy>(
     alloc: A,
     asked: Asked<'_>,
     bytes: &[u8],
     limits: Limits,
+    fds: Option<u32>,
 ) -> Answer {
     let Asked {
         signature,
@@ -68,7 +69,7 @@ pub fn read_within<A: Allocator + Copy>(
     } = asked;
     match parse_single(alloc, signature.as_bytes()) {
         Ok(wanted) if depth <= limits.depth => {
-            answer_of(get_within(alloc, bytes, 0, end, order, &wanted, depth, limits))
+            answer_of(get_within(alloc, bytes, 0, end, order, &wanted, depth, limits, fds))
         }
         Err(SigFault::Memory) => Answer::Memory,
         _ => Answer::NotAsked,
