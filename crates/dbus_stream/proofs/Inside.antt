@@ -1,6 +1,7 @@
 -- How far a decoding went.
 use Rattle.std.proofs.Common.{ℕ, List, Ok, Err, Result, length}
 use Rattle.dbus_value_model.specs.declared.fault.Refusal.{Refusal}
+use Rattle.dbus_value_model.specs.declared.limits.Limits.{Limits}
 use Rattle.dbus_message.specs.declared.answer.Answer.{Answer}
 use Rattle.dbus_message.specs.declared.answer.Answer.TheVariants.{Whole, Partial}
 use Rattle.dbus_message.specs.Decodes.{Decodes}
@@ -8,7 +9,7 @@ use Rattle.dbus_message.specs.MessageViews.{message_tree}
 use Rattle.dbus_message.proofs.OutcomeLaws.{whole_inside}
 use Rattle.dbus_stream.specs.Decoded.{IsInside}
 
-pub inside_of : {A : Type 0} (b : List ℕ) (result : Result (Answer A) Refusal) → Decodes b result → IsInside (length b) result
-inside_of b (Ok (Whole order message used)) d = whole_inside b order (message_tree message) used d
-inside_of b (Ok Partial) d = tt
-inside_of b (Err refusal) d = tt
+pub inside_of : {A : Type 0} (limits : Limits) (b : List ℕ) (result : Result (Answer A) Refusal) → Decodes limits b result → IsInside (length b) result
+inside_of limits b (Ok (Whole order message used)) d = whole_inside limits b order (message_tree message) used d
+inside_of limits b (Ok Partial) d = tt
+inside_of limits b (Err refusal) d = tt

@@ -3,6 +3,8 @@ use Rattle.std.proofs.Common.{◌≡◌, ℕ, ◌+◌, ◌^◌, ◌%◌, List, [
 use Rattle.std.specs.Io.KnownBytes.{Consumes, IsAtEnd}
 use Rattle.std.proofs.KnownBytes.{Consumes-nil, Consumes-trans, Consumes-kept}
 use Rattle.dbus_value_model.specs.declared.order.Order.{Order}
+use Rattle.dbus_value_model.specs.declared.fault.Fault.{Fault}
+use Rattle.dbus_value_model.specs.declared.limits.Limits.{Limits}
 use Rattle.dbus_message.specs.declared.message.Message.{Message}
 use Rattle.dbus_message.specs.MessageOutcomes.{IsWhole, IsRefused, IsPartial}
 use Rattle.dbus_message.specs.MessageViews.{message_tree}
@@ -11,7 +13,7 @@ use Rattle.dbus_stream.specs.declared.read_fault.ReadFault.{ReadFault}
 use Rattle.dbus_stream.specs.declared.read_fault.ReadFault.TheVariants.{Memory, Format, Device, TooManyReads}
 use Rattle.dbus_stream.specs.Device.{one_more}
 use Rattle.dbus_stream.specs.Stated.{BeginsWithNone}
-use Rattle.dbus_stream.specs.Reader.{kept, source_of, done_of, reads_of, limit_of, is_ended, stopped_of}
+use Rattle.dbus_stream.specs.Reader.{limits_of, kept, source_of, done_of, reads_of, most_reads_of, is_ended, stopped_of}
 use Rattle.dbus_stream.specs.Lasting.{is_lasting}
 use Rattle.dbus_stream.specs.Next.{NextAnswers, KeptAnswers, DeviceCounts, Reads, RisesBy, KeepsAll, GivesMessage, IsCutShort, ReadsNothing}
 use Rattle.dbus_stream.specs.Steps.{TakesKept, KeepsOn, Finishes, GivesUp, FillsBy, FillsNone}
@@ -28,8 +30,14 @@ pub record HasRead {R A : Type 0} (left : R → Option (List ℕ)) (calls failur
   pub unstopped : stopped_of mid ≡ None
   pub failed : failures (source_of mid) ≡ failures (source_of old)
 
-short_of_kept : (w v : List ℕ) (fault : _) → v ≡ w → IsCutShort v fault → IsCutShort w fault
-short_of_kept w v fault k s = subst (λ l. IsCutShort l fault) k s
+short_of_kept : (here there : Limits) (w v : List ℕ) (fault : _) → here ≡ there → v ≡ w → IsCutShort here v fault → IsCutShort there w fault
+short_of_kept here there w v fault e k s = subst (λ limits. IsCutShort limits w fault) e (subst (λ l. IsCutShort here l fault) k s)
+
+refused_of_kept : (here there : Limits) (w v : List ℕ) (fault : Fault) → here ≡ there → v ≡ w → IsRefused here v fault → IsRefused there w fault
+refused_of_kept here there w v fault e k r = subst (λ limits. IsRefused limits w fault) e (subst (λ l. IsRefused here l fault) k r)
+
+none_of_kept : (here there : Limits) (w v : List ℕ) → here ≡ there → v ≡ w → BeginsWithNone here v → BeginsWithNone there w
+none_of_kept here there w v e k b = subst (λ limits. BeginsWithNone limits w) e (subst (λ l. BeginsWithNone here l) k b)
 
 -- a fault that is answered for good is none of the device
 pub lasts : (T : Type 0) (failures : ℕ) (stopped : Option ReadFault) (fault : ReadFault) → stopped ≡ Some fault → is_lasting stopped ≡ true
@@ -56,7 +64,8 @@ module _ {R A : Type 0} (left : R → Option (List ℕ)) (calls failures : R →
     needed = λ some. absurd (omega (arith, some));
     reads = omega arith;
     called = ap (λ k. k % 2 ^ 64) (omega arith);
-    limit = refl;
+    most_reads = refl;
+    limits = refl;
     settled = λ e. (refl, refl, e, refl);
     at_end = λ f t. absurd (both_ways (is_ended old) t f);
   }
@@ -82,7 +91,8 @@ module _ {R A : Type 0} (left : R → Option (List ℕ)) (calls failures : R →
     needed = r.needed;
     reads = n.reads ∙ r.reads;
     called = subst (λ s. RisesBy r.count (calls (source_of old)) (calls s)) (sym n.source) r.called;
-    limit = n.limit ∙ r.limit;
+    most_reads = n.most_reads ∙ r.most_reads;
+    limits = n.limits ∙ r.limits;
     settled = λ e. ((r.settled e).0, (r.settled e).1, n.ended ∙ (r.settled e).2, n.source ∙ (r.settled e).3);
     at_end = λ f t. subst (λ s. IsAtEnd (left s)) (sym n.source) (r.at_end f (sym n.ended ∙ t));
   }
@@ -99,11 +109,11 @@ module _ {R A : Type 0} (left : R → Option (List ℕ)) (calls failures : R →
   }
 
   -- the message that is kept is given
-  gives_kept : (w : List ℕ) (old mid new : MessageReader R A) (given : Order × Message A) → kept mid ≡ w → done_of mid ≡ done_of old
+  gives_kept : (w : List ℕ) (old mid new : MessageReader R A) (given : Order × Message A) → limits_of mid ≡ limits_of old → kept mid ≡ w → done_of mid ≡ done_of old
       → GivesMessage (kept mid) given mid new → GivesMessage w given old new
-  gives_kept w old mid new given k d g = record {
+  gives_kept w old mid new given e k d g = record {
     size = g.size;
-    whole = subst (λ l. IsWhole l given.0 (message_tree given.1) g.size) k g.whole;
+    whole = subst (λ limits. IsWhole limits w given.0 (message_tree given.1) g.size) e (subst (λ l. IsWhole (limits_of mid) l given.0 (message_tree given.1) g.size) k g.whole);
     kept = g.kept ∙ ap (drop g.size) k;
     done = g.done ∙ ap (λ n. n + g.size) d;
     unstopped = g.unstopped;
@@ -113,68 +123,68 @@ module _ {R A : Type 0} (left : R → Option (List ℕ)) (calls failures : R →
   keeps_kept w old mid new k d a = record { kept = a.kept ∙ k; done = a.done ∙ d }
 
   -- what comes of the bytes that are kept is the answer
-  answers_taken : (w : List ℕ) (old mid new : MessageReader R A) (res : Result (Option (Order × Message A)) ReadFault) → (res ≡ Ok None → ⊥) → kept mid ≡ w
+  answers_taken : (w : List ℕ) (old mid new : MessageReader R A) (res : Result (Option (Order × Message A)) ReadFault) → (res ≡ Ok None → ⊥) → limits_of mid ≡ limits_of old → kept mid ≡ w
       → done_of mid ≡ done_of old → TakesKept mid new res → NextAnswers w old new res
-  answers_taken w old mid new (Ok (Some given)) some k d t = gives_kept w old mid new given k d t
-  answers_taken w old mid new (Ok None) some k d t = absurd (some refl)
-  answers_taken w old mid new (Err Memory) some k d t = (keeps_kept w old mid new k d t.keeps, t.unstopped)
-  answers_taken w old mid new (Err (Format fault)) some k d t =
-      (keeps_kept w old mid new k d t.0.keeps, t.0.stopped, inl (subst (λ l. IsRefused l fault) k t.1))
-  answers_taken w old mid new (Err Device) some k d t = absurd t
-  answers_taken w old mid new (Err TooManyReads) some k d t = absurd t
+  answers_taken w old mid new (Ok (Some given)) some e k d t = gives_kept w old mid new given e k d t
+  answers_taken w old mid new (Ok None) some e k d t = absurd (some refl)
+  answers_taken w old mid new (Err Memory) some e k d t = (keeps_kept w old mid new k d t.keeps, t.unstopped)
+  answers_taken w old mid new (Err (Format fault)) some e k d t =
+      (keeps_kept w old mid new k d t.0.keeps, t.0.stopped, inl (refused_of_kept _ _ w (kept mid) fault e k t.1))
+  answers_taken w old mid new (Err Device) some e k d t = absurd t
+  answers_taken w old mid new (Err TooManyReads) some e k d t = absurd t
 
   pub given : (old mid new : MessageReader R A) (res : Result (Option (Order × Message A)) ReadFault) → HasRead left calls failures old mid → (res ≡ Ok None → ⊥)
       → TakesKept mid new res → ReadsNothing mid new
       → (r : Reads left calls old new) × (stopped_of old ≡ None → NextAnswers (kept old ++ r.bytes) old new res)
-  given old mid new res h some t n = (unread old mid new h.reads n, λ _. answers_taken (kept old ++ h.reads.bytes) old mid new res some h.kept h.done t)
+  given old mid new res h some t n = (unread old mid new h.reads n, λ _. answers_taken (kept old ++ h.reads.bytes) old mid new res some h.reads.limits h.kept h.done t)
 
-  answers_finished : (w : List ℕ) (old mid new : MessageReader R A) (res : Result (Option (Order × Message A)) ReadFault) → kept mid ≡ w
+  answers_finished : (w : List ℕ) (old mid new : MessageReader R A) (res : Result (Option (Order × Message A)) ReadFault) → limits_of mid ≡ limits_of old → kept mid ≡ w
       → done_of mid ≡ done_of old → is_ended new ≡ true → Finishes mid new res → NextAnswers w old new res
-  answers_finished w old mid new (Ok (Some given)) k d e f = gives_kept w old mid new given k d f
-  answers_finished w old mid new (Ok None) k d e f = (sym k ∙ f.1, e, keeps_kept w old mid new k d f.0.keeps, f.0.unstopped)
-  answers_finished w old mid new (Err Memory) k d e f = (keeps_kept w old mid new k d f.keeps, f.unstopped)
-  answers_finished w old mid new (Err (Format fault)) k d e f = (
+  answers_finished w old mid new (Ok (Some given)) s k d e f = gives_kept w old mid new given s k d f
+  answers_finished w old mid new (Ok None) s k d e f = (sym k ∙ f.1, e, keeps_kept w old mid new k d f.0.keeps, f.0.unstopped)
+  answers_finished w old mid new (Err Memory) s k d e f = (keeps_kept w old mid new k d f.keeps, f.unstopped)
+  answers_finished w old mid new (Err (Format fault)) s k d e f = (
     keeps_kept w old mid new k d f.0.keeps,
     f.0.stopped,
     elim f.1 [
-      | inl refused ↦ inl (subst (λ l. IsRefused l fault) k refused)
-      | inr short ↦ inr (short_of_kept w (kept mid) fault k short, e)
+      | inl refused ↦ inl (refused_of_kept _ _ w (kept mid) fault s k refused)
+      | inr short ↦ inr (short_of_kept _ _ w (kept mid) fault s k short, e)
     ],
   )
-  answers_finished w old mid new (Err Device) k d e f = absurd f
-  answers_finished w old mid new (Err TooManyReads) k d e f = absurd f
+  answers_finished w old mid new (Err Device) s k d e f = absurd f
+  answers_finished w old mid new (Err TooManyReads) s k d e f = absurd f
 
   -- the end of the input
   pub finished : (old mid new : MessageReader R A) (res : Result (Option (Order × Message A)) ReadFault) → HasRead left calls failures old mid
       → is_ended mid ≡ true → Finishes mid new res → ReadsNothing mid new
       → (r : Reads left calls old new) × (stopped_of old ≡ None → NextAnswers (kept old ++ r.bytes) old new res)
   finished old mid new res h e f n =
-      (unread old mid new h.reads n, λ _. answers_finished (kept old ++ h.reads.bytes) old mid new res h.kept h.done (n.ended ∙ e) f)
+      (unread old mid new h.reads n, λ _. answers_finished (kept old ++ h.reads.bytes) old mid new res h.reads.limits h.kept h.done (n.ended ∙ e) f)
 
-  answers_given_up : (w : List ℕ) (old mid new : MessageReader R A) (res : Result (Option (Order × Message A)) ReadFault) → kept mid ≡ w
-      → done_of mid ≡ done_of old → reads_of new ≡ limit_of new → GivesUp mid new res → NextAnswers w old new res
-  answers_given_up w old mid new (Ok (Some given)) k d e f = gives_kept w old mid new given k d f
-  answers_given_up w old mid new (Ok None) k d e f = absurd f
-  answers_given_up w old mid new (Err Memory) k d e f = (keeps_kept w old mid new k d f.keeps, f.unstopped)
-  answers_given_up w old mid new (Err (Format fault)) k d e f =
-      (keeps_kept w old mid new k d f.0.keeps, f.0.stopped, inl (subst (λ l. IsRefused l fault) k f.1))
-  answers_given_up w old mid new (Err Device) k d e f = absurd f
-  answers_given_up w old mid new (Err TooManyReads) k d e f =
-      (keeps_kept w old mid new k d f.0.keeps, f.0.stopped, subst IsPartial k f.1, e)
+  answers_given_up : (w : List ℕ) (old mid new : MessageReader R A) (res : Result (Option (Order × Message A)) ReadFault) → limits_of mid ≡ limits_of old → kept mid ≡ w
+      → done_of mid ≡ done_of old → reads_of new ≡ most_reads_of new → GivesUp mid new res → NextAnswers w old new res
+  answers_given_up w old mid new (Ok (Some given)) s k d e f = gives_kept w old mid new given s k d f
+  answers_given_up w old mid new (Ok None) s k d e f = absurd f
+  answers_given_up w old mid new (Err Memory) s k d e f = (keeps_kept w old mid new k d f.keeps, f.unstopped)
+  answers_given_up w old mid new (Err (Format fault)) s k d e f =
+      (keeps_kept w old mid new k d f.0.keeps, f.0.stopped, inl (refused_of_kept _ _ w (kept mid) fault s k f.1))
+  answers_given_up w old mid new (Err Device) s k d e f = absurd f
+  answers_given_up w old mid new (Err TooManyReads) s k d e f =
+      (keeps_kept w old mid new k d f.0.keeps, f.0.stopped, subst (λ limits. IsPartial limits w) s (subst (λ l. IsPartial (limits_of mid) l) k f.1), e)
 
   -- no more reads may be made
   pub gave_up : (old mid new : MessageReader R A) (res : Result (Option (Order × Message A)) ReadFault) → HasRead left calls failures old mid
-      → reads_of mid ≡ limit_of mid → GivesUp mid new res → ReadsNothing mid new
+      → reads_of mid ≡ most_reads_of mid → GivesUp mid new res → ReadsNothing mid new
       → (r : Reads left calls old new) × (stopped_of old ≡ None → NextAnswers (kept old ++ r.bytes) old new res)
   gave_up old mid new res h e f n =
-      (unread old mid new h.reads n, λ _. answers_given_up (kept old ++ h.reads.bytes) old mid new res h.kept h.done (n.reads ∙ (e ∙ sym n.limit)) f)
+      (unread old mid new h.reads n, λ _. answers_given_up (kept old ++ h.reads.bytes) old mid new res h.reads.limits h.kept h.done (n.reads ∙ (e ∙ sym n.most_reads)) f)
 
   -- a read that failed
-  pub failed_read : (old mid new : MessageReader R A) → HasRead left calls failures old mid → BeginsWithNone (kept mid) → is_ended mid ≡ false → FillsNone left mid new
-      → reads_of new ≡ reads_of mid + 1 → calls (source_of new) ≡ one_more (calls (source_of mid)) → limit_of new ≡ limit_of mid
+  pub failed_read : (old mid new : MessageReader R A) → HasRead left calls failures old mid → BeginsWithNone (limits_of mid) (kept mid) → is_ended mid ≡ false → FillsNone left mid new
+      → reads_of new ≡ reads_of mid + 1 → calls (source_of new) ≡ one_more (calls (source_of mid)) → most_reads_of new ≡ most_reads_of mid → limits_of new ≡ limits_of mid
       → done_of new ≡ done_of mid → stopped_of new ≡ stopped_of mid
       → (r : Reads left calls old new) × (stopped_of old ≡ None → NextAnswers (kept old ++ r.bytes) old new (Err Device))
-  failed_read old mid new h none open_ f more called limit done stopped = (
+  failed_read old mid new h none open_ f more called most_reads limits done stopped = (
     record {
       bytes = h.reads.bytes;
       count = h.reads.count + 1;
@@ -182,22 +192,23 @@ module _ {R A : Type 0} (left : R → Option (List ℕ)) (calls failures : R →
       last = [];
       before = h.reads.bytes;
       joined = sym (append-nil h.reads.bytes);
-      needed = λ some. subst (λ l. BeginsWithNone l) h.kept none;
+      needed = λ some. none_of_kept _ _ _ _ h.reads.limits h.kept none;
       reads = omega (arith, more, h.reads.reads);
       called = RisesBy-more h.reads.count _ _ _ h.reads.called called;
-      limit = limit ∙ h.reads.limit;
+      most_reads = most_reads ∙ h.reads.most_reads;
+      limits = limits ∙ h.reads.limits;
       settled = λ e. absurd (both_ways (is_ended mid) (h.reads.settled e).2 open_);
       at_end = λ _ t. absurd (both_ways (is_ended mid) (sym f.ended ∙ t) open_);
     },
-    λ _. (record { kept = f.kept ∙ h.kept; done = done ∙ h.done }, stopped ∙ h.unstopped, subst (λ l. BeginsWithNone l) h.kept none),
+    λ _. (record { kept = f.kept ∙ h.kept; done = done ∙ h.done }, stopped ∙ h.unstopped, none_of_kept _ _ _ _ h.reads.limits h.kept none),
   )
 
   -- a read that gave bytes, or the end
-  pub filled : (old mid new : MessageReader R A) (more_bytes : List ℕ) → HasRead left calls failures old mid → BeginsWithNone (kept mid) → is_ended mid ≡ false
+  pub filled : (old mid new : MessageReader R A) (more_bytes : List ℕ) → HasRead left calls failures old mid → BeginsWithNone (limits_of mid) (kept mid) → is_ended mid ≡ false
       → FillsBy left more_bytes mid new → failures (source_of new) ≡ failures (source_of mid)
-      → reads_of new ≡ reads_of mid + 1 → calls (source_of new) ≡ one_more (calls (source_of mid)) → limit_of new ≡ limit_of mid
+      → reads_of new ≡ reads_of mid + 1 → calls (source_of new) ≡ one_more (calls (source_of mid)) → most_reads_of new ≡ most_reads_of mid → limits_of new ≡ limits_of mid
       → done_of new ≡ done_of mid → stopped_of new ≡ stopped_of mid → HasRead left calls failures old new
-  filled old mid new more_bytes h none open_ f failed more called limit done stopped = record {
+  filled old mid new more_bytes h none open_ f failed more called most_reads limits done stopped = record {
     reads = record {
       bytes = h.reads.bytes ++ more_bytes;
       count = h.reads.count + 1;
@@ -205,10 +216,11 @@ module _ {R A : Type 0} (left : R → Option (List ℕ)) (calls failures : R →
       last = more_bytes;
       before = h.reads.bytes;
       joined = refl;
-      needed = λ some. subst (λ l. BeginsWithNone l) h.kept none;
+      needed = λ some. none_of_kept _ _ _ _ h.reads.limits h.kept none;
       reads = omega (arith, more, h.reads.reads);
       called = RisesBy-more h.reads.count _ _ _ h.reads.called called;
-      limit = limit ∙ h.reads.limit;
+      most_reads = most_reads ∙ h.reads.most_reads;
+      limits = limits ∙ h.reads.limits;
       settled = λ e. absurd (both_ways (is_ended mid) (h.reads.settled e).2 open_);
       at_end = λ _ t. f.at_end t;
     };
@@ -222,7 +234,7 @@ module _ {R A : Type 0} where
   -- what comes of the bytes that are kept is the answer
   pub answers_kept : (old new : MessageReader R A) (res : Result (Option (Order × Message A)) ReadFault) → TakesKept old new res → KeptAnswers old new res
   answers_kept old new (Ok (Some given)) t = t
-  answers_kept old new (Ok None) t = (t.0.keeps, t.0.unstopped, subst (λ l. BeginsWithNone l) t.0.keeps.kept t.2)
+  answers_kept old new (Ok None) t = (t.0.keeps, t.0.unstopped, subst (λ l. BeginsWithNone (limits_of old) l) t.0.keeps.kept t.2)
   answers_kept old new (Err Memory) t = (t.keeps, t.unstopped)
   answers_kept old new (Err (Format fault)) t = (t.0.keeps, t.0.stopped, t.1)
   answers_kept old new (Err Device) t = absurd t
@@ -244,7 +256,7 @@ module _ {R A : Type 0} (left : R → Option (List ℕ)) (calls failures : R →
   answers_as_next w old new (Ok (Some given)) e some k = subst (λ l. GivesMessage l given old new) e k
   answers_as_next w old new (Ok None) e some k = absurd (some refl)
   answers_as_next w old new (Err Memory) e some k = (subst (λ l. KeepsAll l old new) e k.0, k.1)
-  answers_as_next w old new (Err (Format fault)) e some k = (subst (λ l. KeepsAll l old new) e k.0, k.1, inl (subst (λ l. IsRefused l fault) e k.2))
+  answers_as_next w old new (Err (Format fault)) e some k = (subst (λ l. KeepsAll l old new) e k.0, k.1, inl (subst (λ l. IsRefused (limits_of old) l fault) e k.2))
   answers_as_next w old new (Err Device) e some k = absurd k
   answers_as_next w old new (Err TooManyReads) e some k = absurd k
 

@@ -5,6 +5,7 @@ use Rattle.std.proofs.lemmas.List.{drop-append-le}
 use Rattle.std.proofs.Math.Seq.{drop-append-add, drop-length}
 use Rattle.dbus_value_model.specs.declared.order.Order.{Order}
 use Rattle.dbus_value_model.specs.declared.fault.Fault.{Fault}
+use Rattle.dbus_value_model.specs.declared.limits.Limits.{Limits}
 use Rattle.dbus_message.specs.declared.message.Message.{Message}
 use Rattle.dbus_message.specs.MessageViews.{message_tree}
 use Rattle.dbus_message.specs.MessageOutcomes.{IsWhole, IsRefused, IsPartial}
@@ -18,12 +19,13 @@ use Rattle.dbus_stream.proofs.CutLaws.{BeginWith-first}
 
 -- what a cutter holds and answers, where these bytes are ahead
 record Stands (now : CutterState) (ahead : List ℕ) : Type 0 where
-  unfinished : now.fault ≡ None → IsPartial now.held
-  refused : (f : Fault) → now.fault ≡ Some f → IsRefused (now.held ++ ahead) f
+  unfinished : now.fault ≡ None → IsPartial now.limits now.held
+  refused : (f : Fault) → now.fault ≡ Some f → IsRefused now.limits (now.held ++ ahead) f
 
--- the bytes were cut into these messages, what is held and what is left
-record Reaches (bytes : List ℕ) (given : List Item) (now : CutterState) (left : List ℕ) : Type 0 where
-  messages : BeginWith bytes given (now.held ++ left)
+-- the bytes were cut into these messages, what is held and what is left; the limits stay
+record Reaches (limits : Limits) (bytes : List ℕ) (given : List Item) (now : CutterState) (left : List ℕ) : Type 0 where
+  messages : BeginWith limits bytes given (now.held ++ left)
+  limits_stay : now.limits ≡ limits
   stands : Stands now left
 
 -- no byte is lost that is handed in again
@@ -31,86 +33,90 @@ concat-again : (piece : List ℕ) (pieces : List (List ℕ)) → concat (again p
 concat-again [] pieces = refl
 concat-again (x ∷ xs) pieces = refl
 
-unfaulted : (held ahead : List ℕ) → IsPartial held → Stands (record { held = held; fault = None }) ahead
-unfaulted held ahead p = record { unfinished = λ e. p; refused = λ f e. absurd cc }
+unfaulted : (limits : Limits) (held ahead : List ℕ) → IsPartial limits held → Stands (record { limits = limits; held = held; fault = None }) ahead
+unfaulted limits held ahead p = record { unfinished = λ e. p; refused = λ f e. absurd cc }
 
-faulted : (held ahead : List ℕ) (fault : Fault) → IsRefused (held ++ ahead) fault → Stands (record { held = held; fault = Some fault }) ahead
-faulted held ahead fault r = record {
+faulted : (limits : Limits) (held ahead : List ℕ) (fault : Fault) → IsRefused limits (held ++ ahead) fault → Stands (record { limits = limits; held = held; fault = Some fault }) ahead
+faulted limits held ahead fault r = record {
   unfinished = λ e. absurd cc;
-  refused = λ f e. let same : fault ≡ f = cc in subst (λ g. IsRefused (held ++ ahead) g) same r;
+  refused = λ f e. let same : fault ≡ f = cc in subst (λ g. IsRefused limits (held ++ ahead) g) same r;
 }
 
 -- a message that ends in the piece
-given_first : (held piece behind : List ℕ) (item : Item) (n : ℕ) (items : List Item) (rest : List ℕ) → item.size ≡ length held + n
-    → IsWhole (held ++ piece) item.order item.message item.size → BeginWith (drop n piece ++ behind) items rest
-    → BeginWith (held ++ (piece ++ behind)) (item ∷ items) rest
-given_first held piece behind item n items rest size w f =
-    let inside : item.size ≤ length (held ++ piece) = (whole_inside (held ++ piece) item.order item.message item.size w).1 in
+given_first : (limits : Limits) (held piece behind : List ℕ) (item : Item) (n : ℕ) (items : List Item) (rest : List ℕ) → item.size ≡ length held + n
+    → IsWhole limits (held ++ piece) item.order item.message item.size → BeginWith limits (drop n piece ++ behind) items rest
+    → BeginWith limits (held ++ (piece ++ behind)) (item ∷ items) rest
+given_first limits held piece behind item n items rest size w f =
+    let inside : item.size ≤ length (held ++ piece) = (whole_inside limits (held ++ piece) item.order item.message item.size w).1 in
     let within : n ≤ length piece = omega (arith, length-append held piece, inside, size) in
     let cut : drop item.size (held ++ (piece ++ behind)) ≡ drop n piece ++ behind
     = ap (λ k. drop k (held ++ (piece ++ behind))) size ∙ (drop-append-add held (piece ++ behind) n ∙ drop-append-le n piece behind within) in (
-      subst (λ l. IsWhole l item.order item.message item.size) (append_assoc held piece behind)
-          (whole_for_good (held ++ piece) behind item.order item.message item.size w),
-      subst (λ l. BeginWith l items rest) (sym cut) f,
+      subst (λ l. IsWhole limits l item.order item.message item.size) (append_assoc held piece behind)
+          (whole_for_good limits (held ++ piece) behind item.order item.message item.size w),
+      subst (λ l. BeginWith limits l items rest) (sym cut) f,
     )
 
 module _ {A : Type 0} where
   -- what the calls from a state on came to
   abbrev Onward : List (TakeAnswer A) → CutterState → List (List ℕ) → CutterState → List (List ℕ) → Type 0
   Onward answers old pieces now left =
-      Reaches (old.held ++ concat pieces) (given_by (length old.held) answers) now (concat left)
+      Reaches old.limits (old.held ++ concat pieces) (given_by (length old.held) answers) now (concat left)
 
   -- one call that met no fault before, and then the others
-  onward_by : (answer : TakeAnswer A) (answers : List (TakeAnswer A)) (held piece : List ℕ) (pieces : List (List ℕ)) (new now : CutterState) (left : List (List ℕ))
-      → TakeAnswers (record { held = held; fault = None }) piece new answer
+  onward_by : (answer : TakeAnswer A) (answers : List (TakeAnswer A)) (limits : Limits) (held piece : List ℕ) (pieces : List (List ℕ)) (new now : CutterState) (left : List (List ℕ))
+      → TakeAnswers (record { limits = limits; held = held; fault = None }) piece new answer
       → (Stands new (concat (again (drop (taken answer) piece) pieces)) → Onward answers new (again (drop (taken answer) piece) pieces) now left)
-      → IsPartial held → Onward (answer ∷ answers) (record { held = held; fault = None }) (piece ∷ pieces) now left
-  onward_by (Ok (n, Some given)) answers held piece pieces new now left t others p =
+      → IsPartial limits held → Onward (answer ∷ answers) (record { limits = limits; held = held; fault = None }) (piece ∷ pieces) now left
+  onward_by (Ok (n, Some given)) answers limits held piece pieces new now left t others p =
       let item : Item = record { order = given.0; message = message_tree given.1; size = length held + n } in
-      let stands : Stands new (concat (again (drop n piece) pieces)) = subst (λ s. Stands s (concat (again (drop n piece) pieces))) (sym t.1) (unfaulted [] _ nothing_partial) in
+      let stands : Stands new (concat (again (drop n piece) pieces)) = subst (λ s. Stands s (concat (again (drop n piece) pieces))) (sym t.1) (unfaulted limits [] _ (nothing_partial limits)) in
       let r = others stands in
-      let behind : BeginWith (concat (again (drop n piece) pieces)) (given_by 0 answers) (now.held ++ concat left)
-      = subst (λ (s : CutterState). BeginWith (s.held ++ concat (again (drop n piece) pieces)) (given_by (length s.held) answers) (now.held ++ concat left)) t.1 r.messages in
+      let behind : BeginWith limits (concat (again (drop n piece) pieces)) (given_by 0 answers) (now.held ++ concat left)
+      = subst (λ (s : CutterState). BeginWith s.limits (s.held ++ concat (again (drop n piece) pieces)) (given_by (length s.held) answers) (now.held ++ concat left)) t.1 r.messages in
       record {
-        messages = given_first held piece (concat pieces) item n (given_by 0 answers) (now.held ++ concat left) refl t.0
-            (subst (λ l. BeginWith l (given_by 0 answers) (now.held ++ concat left)) (concat-again (drop n piece) pieces) behind);
+        messages = given_first limits held piece (concat pieces) item n (given_by 0 answers) (now.held ++ concat left) refl t.0
+            (subst (λ l. BeginWith limits l (given_by 0 answers) (now.held ++ concat left)) (concat-again (drop n piece) pieces) behind);
+        limits_stay = r.limits_stay ∙ ap (λ (s : CutterState). s.limits) t.1;
         stands = r.stands;
       }
-  onward_by (Ok (n, None)) answers held piece pieces new now left t others p =
-      let stands : Stands new (concat (again (drop n piece) pieces)) = subst (λ s. Stands s (concat (again (drop n piece) pieces))) (sym t.2) (unfaulted (held ++ piece) _ t.0) in
+  onward_by (Ok (n, None)) answers limits held piece pieces new now left t others p =
+      let stands : Stands new (concat (again (drop n piece) pieces)) = subst (λ s. Stands s (concat (again (drop n piece) pieces))) (sym t.2) (unfaulted limits (held ++ piece) _ t.0) in
       let r = others stands in
       let none : drop n piece ≡ [] = ap (λ k. drop k piece) t.1 ∙ drop-length piece in
       let ahead : concat (again (drop n piece) pieces) ≡ concat pieces = concat-again (drop n piece) pieces ∙ ap (λ l. l ++ concat pieces) none in
       let all : (held ++ piece) ++ concat (again (drop n piece) pieces) ≡ held ++ (piece ++ concat pieces)
       = ap (λ l. (held ++ piece) ++ l) ahead ∙ append_assoc held piece (concat pieces) in
       let count : length (held ++ piece) ≡ length held + n = length-append held piece ∙ ap (λ k. length held + k) (sym t.1) in
-      let behind : BeginWith ((held ++ piece) ++ concat (again (drop n piece) pieces)) (given_by (length (held ++ piece)) answers) (now.held ++ concat left)
-      = subst (λ (s : CutterState). BeginWith (s.held ++ concat (again (drop n piece) pieces)) (given_by (length s.held) answers) (now.held ++ concat left)) t.2 r.messages in
+      let behind : BeginWith limits ((held ++ piece) ++ concat (again (drop n piece) pieces)) (given_by (length (held ++ piece)) answers) (now.held ++ concat left)
+      = subst (λ (s : CutterState). BeginWith s.limits (s.held ++ concat (again (drop n piece) pieces)) (given_by (length s.held) answers) (now.held ++ concat left)) t.2 r.messages in
       record {
-        messages = subst (λ l. BeginWith l (given_by (length held + n) answers) (now.held ++ concat left)) all
-            (subst (λ k. BeginWith ((held ++ piece) ++ concat (again (drop n piece) pieces)) (given_by k answers) (now.held ++ concat left)) count behind);
+        messages = subst (λ l. BeginWith limits l (given_by (length held + n) answers) (now.held ++ concat left)) all
+            (subst (λ k. BeginWith limits ((held ++ piece) ++ concat (again (drop n piece) pieces)) (given_by k answers) (now.held ++ concat left)) count behind);
+        limits_stay = r.limits_stay ∙ ap (λ (s : CutterState). s.limits) t.2;
         stands = r.stands;
       }
-  onward_by (Err Memory) answers held piece pieces new now left t others p =
-      let stands : Stands new (concat (again piece pieces)) = subst (λ s. Stands s (concat (again piece pieces))) (sym t) (unfaulted held _ p) in
+  onward_by (Err Memory) answers limits held piece pieces new now left t others p =
+      let stands : Stands new (concat (again piece pieces)) = subst (λ s. Stands s (concat (again piece pieces))) (sym t) (unfaulted limits held _ p) in
       let r = others stands in
-      let behind : BeginWith (held ++ concat (again piece pieces)) (given_by (length held) answers) (now.held ++ concat left)
-      = subst (λ (s : CutterState). BeginWith (s.held ++ concat (again piece pieces)) (given_by (length s.held) answers) (now.held ++ concat left)) t r.messages in
+      let behind : BeginWith limits (held ++ concat (again piece pieces)) (given_by (length held) answers) (now.held ++ concat left)
+      = subst (λ (s : CutterState). BeginWith s.limits (s.held ++ concat (again piece pieces)) (given_by (length s.held) answers) (now.held ++ concat left)) t r.messages in
       record {
-        messages = subst (λ l. BeginWith (held ++ l) (given_by (length held) answers) (now.held ++ concat left)) (concat-again piece pieces) behind;
+        messages = subst (λ l. BeginWith limits (held ++ l) (given_by (length held) answers) (now.held ++ concat left)) (concat-again piece pieces) behind;
+        limits_stay = r.limits_stay ∙ ap (λ (s : CutterState). s.limits) t;
         stands = r.stands;
       }
-  onward_by (Err (Format fault)) answers held piece pieces new now left t others p =
+  onward_by (Err (Format fault)) answers limits held piece pieces new now left t others p =
       let ahead : (held ++ piece) ++ concat pieces ≡ held ++ concat (again piece pieces)
       = append_assoc held piece (concat pieces) ∙ ap (λ l. held ++ l) (sym (concat-again piece pieces)) in
-      let refused : IsRefused (held ++ concat (again piece pieces)) fault
-      = subst (λ l. IsRefused l fault) ahead (refused_for_good (held ++ piece) (concat pieces) fault t.0) in
-      let stands : Stands new (concat (again piece pieces)) = subst (λ s. Stands s (concat (again piece pieces))) (sym t.1) (faulted held _ fault refused) in
+      let refused : IsRefused limits (held ++ concat (again piece pieces)) fault
+      = subst (λ l. IsRefused limits l fault) ahead (refused_for_good limits (held ++ piece) (concat pieces) fault t.0) in
+      let stands : Stands new (concat (again piece pieces)) = subst (λ s. Stands s (concat (again piece pieces))) (sym t.1) (faulted limits held _ fault refused) in
       let r = others stands in
-      let behind : BeginWith (held ++ concat (again piece pieces)) (given_by (length held) answers) (now.held ++ concat left)
-      = subst (λ (s : CutterState). BeginWith (s.held ++ concat (again piece pieces)) (given_by (length s.held) answers) (now.held ++ concat left)) t.1 r.messages in
+      let behind : BeginWith limits (held ++ concat (again piece pieces)) (given_by (length held) answers) (now.held ++ concat left)
+      = subst (λ (s : CutterState). BeginWith s.limits (s.held ++ concat (again piece pieces)) (given_by (length s.held) answers) (now.held ++ concat left)) t.1 r.messages in
       record {
-        messages = subst (λ l. BeginWith (held ++ l) (given_by (length held) answers) (now.held ++ concat left)) (concat-again piece pieces) behind;
+        messages = subst (λ l. BeginWith limits (held ++ l) (given_by (length held) answers) (now.held ++ concat left)) (concat-again piece pieces) behind;
+        limits_stay = r.limits_stay ∙ ap (λ (s : CutterState). s.limits) t.1;
         stands = r.stands;
       }
 
@@ -122,82 +128,87 @@ module _ {A : Type 0} where
       let stands : Stands new (concat (again piece pieces))
       = subst (λ (x : CutterState). Stands x (concat (again piece pieces))) (sym same) (subst (λ l. Stands old l) (sym (concat-again piece pieces)) s) in
       let r = others stands in
-      let behind : BeginWith (old.held ++ concat (again piece pieces)) (given_by (length old.held) answers) (now.held ++ concat left)
-      = subst (λ (x : CutterState). BeginWith (x.held ++ concat (again piece pieces)) (given_by (length x.held) answers) (now.held ++ concat left)) same r.messages in
+      let behind : BeginWith old.limits (old.held ++ concat (again piece pieces)) (given_by (length old.held) answers) (now.held ++ concat left)
+      = subst (λ (x : CutterState). BeginWith x.limits (x.held ++ concat (again piece pieces)) (given_by (length x.held) answers) (now.held ++ concat left)) same r.messages in
       record {
-        messages = subst (λ l. BeginWith (old.held ++ l) (given_by (length old.held) answers) (now.held ++ concat left)) (concat-again piece pieces) behind;
+        messages = subst (λ l. BeginWith old.limits (old.held ++ l) (given_by (length old.held) answers) (now.held ++ concat left)) (concat-again piece pieces) behind;
+        limits_stay = r.limits_stay ∙ ap (λ (s : CutterState). s.limits) same;
         stands = r.stands;
       }
 
   -- one call, and then the others
-  onward_call : (fault : Option Fault) (answer : TakeAnswer A) (answers : List (TakeAnswer A)) (held piece : List ℕ) (pieces : List (List ℕ)) (new now : CutterState) (left : List (List ℕ))
-      → Takes (record { held = held; fault = fault }) piece new answer → Stands (record { held = held; fault = fault }) (piece ++ concat pieces)
+  onward_call : (fault : Option Fault) (answer : TakeAnswer A) (answers : List (TakeAnswer A)) (limits : Limits) (held piece : List ℕ) (pieces : List (List ℕ)) (new now : CutterState) (left : List (List ℕ))
+      → Takes (record { limits = limits; held = held; fault = fault }) piece new answer → Stands (record { limits = limits; held = held; fault = fault }) (piece ++ concat pieces)
       → (Stands new (concat (again (drop (taken answer) piece) pieces)) → Onward answers new (again (drop (taken answer) piece) pieces) now left)
-      → Onward (answer ∷ answers) (record { held = held; fault = fault }) (piece ∷ pieces) now left
-  onward_call None answer answers held piece pieces new now left t s others =
-      onward_by answer answers held piece pieces new now left (t.answers refl) others (s.unfinished refl)
-  onward_call (Some fault) answer answers held piece pieces new now left t s others =
+      → Onward (answer ∷ answers) (record { limits = limits; held = held; fault = fault }) (piece ∷ pieces) now left
+  onward_call None answer answers limits held piece pieces new now left t s others =
+      onward_by answer answers limits held piece pieces new now left (t.answers refl) others (s.unfinished refl)
+  onward_call (Some fault) answer answers limits held piece pieces new now left t s others =
       let stays = t.stays fault refl in
       subst (λ (x : TakeAnswer A). (Stands new (concat (again (drop (taken x) piece) pieces)) → Onward answers new (again (drop (taken x) piece) pieces) now left)
-      → Onward (x ∷ answers) (record { held = held; fault = Some fault }) (piece ∷ pieces) now left) (sym stays.0)
-      (onward_refused answers (record { held = held; fault = Some fault }) new piece pieces now left fault stays.1 s) others
+      → Onward (x ∷ answers) (record { limits = limits; held = held; fault = Some fault }) (piece ∷ pieces) now left) (sym stays.0)
+      (onward_refused answers (record { limits = limits; held = held; fault = Some fault }) new piece pieces now left fault stays.1 s) others
 
   -- the calls from a state on
   onward : (answers : List (TakeAnswer A)) (old : CutterState) (pieces : List (List ℕ)) (now : CutterState) (left : List (List ℕ)) → Stands old (concat pieces)
       → Feeds old pieces answers now left → Onward answers old pieces now left
   onward [] old pieces now left s f = record {
     messages = (λ i. (sym f.0 i).held ++ concat (sym f.1 i));
+    limits_stay = ap (λ (s : CutterState). s.limits) f.0;
     stands = subst (λ (x : CutterState). Stands x (concat left)) (sym f.0) (subst (λ l. Stands old (concat l)) (sym f.1) s);
   }
   onward (answer ∷ answers) old [] now left s f = absurd f
   onward (answer ∷ answers) old (piece ∷ pieces) now left s f =
-      onward_call old.fault answer answers old.held piece pieces f.0 now left f.1 s (λ stands. onward answers f.0 (again (drop (taken answer) piece) pieces) now left stands f.2)
+      onward_call old.fault answer answers old.limits old.held piece pieces f.0 now left f.1 s (λ stands. onward answers f.0 (again (drop (taken answer) piece) pieces) now left stands f.2)
 
 -- the outcome, where nothing more is handed in
-settled_outcome : (held left : List ℕ) (fault : Option Fault) → Stands (record { held = held; fault = fault }) left
-    → IsSettled (record { held = held; fault = fault }) left → IsOutcome (held ++ left) (outcome_of held fault)
-settled_outcome held left (Some fault) s e = s.refused fault refl
-settled_outcome [] left None s e = elim e [ inl none ↦ none | inr met ↦ let never : None ≡ Some met.0 = met.1 in absurd cc ]
-settled_outcome (x ∷ xs) left None s e = elim e [
+settled_outcome : (limits : Limits) (held left : List ℕ) (fault : Option Fault) → Stands (record { limits = limits; held = held; fault = fault }) left
+    → IsSettled (record { limits = limits; held = held; fault = fault }) left → IsOutcome limits (held ++ left) (outcome_of held fault)
+settled_outcome limits held left (Some fault) s e = s.refused fault refl
+settled_outcome limits [] left None s e = elim e [ inl none ↦ none | inr met ↦ let never : None ≡ Some met.0 = met.1 in absurd cc ]
+settled_outcome limits (x ∷ xs) left None s e = elim e [
   | inl none ↦
       let same : (x ∷ xs) ++ left ≡ x ∷ xs = ap (λ l. (x ∷ xs) ++ l) none ∙ append-nil (x ∷ xs) in
-      (λ empty. absurd cc, subst IsPartial (sym same) (s.unfinished refl))
+      (λ empty. absurd cc, subst (IsPartial limits) (sym same) (s.unfinished refl))
   | inr met ↦ let never : None ≡ Some met.0 = met.1 in absurd cc
 ]
 
 -- however bytes are cut into pieces
-pub however_cut : {A : Type 0} (pieces left : List (List ℕ)) (answers : List (TakeAnswer A)) (now : CutterState) → Feeds fresh pieces answers now left
-    → CutsInto (concat pieces) (given_by 0 answers) now (concat left)
-however_cut pieces left answers now f =
-    let r = onward answers fresh pieces now left (unfaulted [] (concat pieces) nothing_partial) f in
+pub however_cut : {A : Type 0} (limits : Limits) (pieces left : List (List ℕ)) (answers : List (TakeAnswer A)) (now : CutterState)
+    → Feeds (fresh limits) pieces answers now left → CutsInto limits (concat pieces) (given_by 0 answers) now (concat left)
+however_cut limits pieces left answers now f =
+    let r = onward answers (fresh limits) pieces now left (unfaulted limits [] (concat pieces) (nothing_partial limits)) f in
     record {
       messages = r.messages;
+      limits_stay = r.limits_stay;
       first = λ all rest outcome c.
-          let more = BeginWith-first (concat pieces) (given_by 0 answers) all (now.held ++ concat left) rest outcome r.messages c.messages c.outcome_is in
+          let more = BeginWith-first limits (concat pieces) (given_by 0 answers) all (now.held ++ concat left) rest outcome r.messages c.messages c.outcome_is in
           (more.0, more.1);
-      all = λ e. record { messages = r.messages; outcome_is = settled_outcome now.held (concat left) now.fault r.stands e };
+      all = λ e.
+          let settled = settled_outcome now.limits now.held (concat left) now.fault r.stands e in
+          record { messages = r.messages; outcome_is = subst (λ l. IsOutcome l (now.held ++ concat left) (outcome_of now.held now.fault)) r.limits_stay settled };
     }
 
 module _ {A : Type 0} where
   -- a call that gives a message holds nothing behind it
-  gives_all : (fault : Option Fault) (held piece : List ℕ) (n : ℕ) (given : Order × Message A) (new : CutterState)
-      → Takes (record { held = held; fault = fault }) piece new (Ok (n, Some given)) → new.held ≡ []
-  gives_all None held piece n given new t = ap (λ (s : CutterState). s.held) (t.answers refl).1
-  gives_all (Some fault) held piece n given new t = absurd (let never = (t.stays fault refl).0 in cc)
+  gives_all : (fault : Option Fault) (limits : Limits) (held piece : List ℕ) (n : ℕ) (given : Order × Message A) (new : CutterState)
+      → Takes (record { limits = limits; held = held; fault = fault }) piece new (Ok (n, Some given)) → new.held ≡ []
+  gives_all None limits held piece n given new t = ap (λ (s : CutterState). s.held) (t.answers refl).1
+  gives_all (Some fault) limits held piece n given new t = absurd (let never = (t.stays fault refl).0 in cc)
 
   last_holds_none : (answers : List (TakeAnswer A)) (n : ℕ) (given : Order × Message A) (old : CutterState) (pieces : List (List ℕ)) (now : CutterState) (left : List (List ℕ))
       → Feeds old pieces (answers ++ Ok (n, Some given) ∷ []) now left → now.held ≡ []
   last_holds_none [] n given old [] now left f = absurd f
   last_holds_none [] n given old (piece ∷ pieces) now left f =
-      ap (λ (s : CutterState). s.held) f.2.0 ∙ gives_all old.fault old.held piece n given f.0 f.1
+      ap (λ (s : CutterState). s.held) f.2.0 ∙ gives_all old.fault old.limits old.held piece n given f.0 f.1
   last_holds_none (answer ∷ answers) n given old [] now left f = absurd f
   last_holds_none (answer ∷ answers) n given old (piece ∷ pieces) now left f =
       last_holds_none answers n given f.0 (again (drop (taken answer) piece) pieces) now left f.2
 
-  pub none_past : (pieces left : List (List ℕ)) (answers : List (TakeAnswer A)) (n : ℕ) (given : Order × Message A) (now : CutterState)
-      → Feeds fresh pieces (answers ++ Ok (n, Some given) ∷ []) now left
-      → BeginWith (concat pieces) (given_by 0 (answers ++ Ok (n, Some given) ∷ [])) (concat left)
-  none_past pieces left answers n given now f =
-      let run = however_cut pieces left (answers ++ Ok (n, Some given) ∷ []) now f in
-      subst (λ (l : List ℕ). BeginWith (concat pieces) (given_by 0 (answers ++ Ok (n, Some given) ∷ [])) (l ++ concat left))
-      (last_holds_none answers n given fresh pieces now left f) run.messages
+  pub none_past : (limits : Limits) (pieces left : List (List ℕ)) (answers : List (TakeAnswer A)) (n : ℕ) (given : Order × Message A) (now : CutterState)
+      → Feeds (fresh limits) pieces (answers ++ Ok (n, Some given) ∷ []) now left
+      → BeginWith limits (concat pieces) (given_by 0 (answers ++ Ok (n, Some given) ∷ [])) (concat left)
+  none_past limits pieces left answers n given now f =
+      let run = however_cut limits pieces left (answers ++ Ok (n, Some given) ∷ []) now f in
+      subst (λ (l : List ℕ). BeginWith limits (concat pieces) (given_by 0 (answers ++ Ok (n, Some given) ∷ [])) (l ++ concat left))
+      (last_holds_none answers n given (fresh limits) pieces now left f) run.messages

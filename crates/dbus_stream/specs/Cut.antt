@@ -3,6 +3,7 @@
 use Rattle.std.specs.Prelude.{◌≡◌, ◌≢◌, ℕ, ◌+◌, List, [], ◌∷◌, length, drop, Option, None, Some}
 use Rattle.dbus_value_model.specs.declared.order.Order.{Order}
 use Rattle.dbus_value_model.specs.declared.fault.Fault.{Fault}
+use Rattle.dbus_value_model.specs.declared.limits.Limits.{Limits}
 use Rattle.dbus_value_model.specs.declared.fault.Reason.TheVariants.{Truncated}
 use Rattle.dbus_message.specs.Messages.{MessageTree}
 use Rattle.dbus_message.specs.MessageOutcomes.{IsWhole, IsRefused, IsPartial}
@@ -13,10 +14,10 @@ pub record Item : Type 0 where
   pub message : MessageTree
   pub size : ℕ
 
--- the bytes are these messages, one behind the other, and then the rest
-abbrev pub BeginWith : List ℕ → List Item → List ℕ → Type 0
-BeginWith bytes [] rest = bytes ≡ rest
-BeginWith bytes (item ∷ items) rest = IsWhole bytes item.order item.message item.size × BeginWith (drop item.size bytes) items rest
+-- the bytes are these messages, one behind the other, which keep the limits, and then the rest
+abbrev pub BeginWith : Limits → List ℕ → List Item → List ℕ → Type 0
+BeginWith limits bytes [] rest = bytes ≡ rest
+BeginWith limits bytes (item ∷ items) rest = IsWhole limits bytes item.order item.message item.size × BeginWith limits (drop item.size bytes) items rest
 
 -- why no further message comes
 pub data Outcome : Type 0 where
@@ -24,15 +25,15 @@ pub data Outcome : Type 0 where
   Unfinished : Outcome
   Refused : Fault → Outcome
 
-abbrev pub IsOutcome : List ℕ → Outcome → Type 0
-IsOutcome rest Ended = rest ≡ []
-IsOutcome rest Unfinished = (rest ≢ []) × IsPartial rest
-IsOutcome rest (Refused fault) = IsRefused rest fault
+abbrev pub IsOutcome : Limits → List ℕ → Outcome → Type 0
+IsOutcome limits rest Ended = rest ≡ []
+IsOutcome limits rest Unfinished = (rest ≢ []) × IsPartial limits rest
+IsOutcome limits rest (Refused fault) = IsRefused limits rest fault
 
 -- the bytes are these messages and then the rest, behind which no further message comes
-pub record IsCut (bytes : List ℕ) (items : List Item) (rest : List ℕ) (outcome : Outcome) : Type 0 where
-  pub messages : BeginWith bytes items rest
-  pub outcome_is : IsOutcome rest outcome
+pub record IsCut (limits : Limits) (bytes : List ℕ) (items : List Item) (rest : List ℕ) (outcome : Outcome) : Type 0 where
+  pub messages : BeginWith limits bytes items rest
+  pub outcome_is : IsOutcome limits rest outcome
 
 -- the fault of an input that ends within a message, behind these bytes of it
 abbrev pub truncated : List ℕ → Fault

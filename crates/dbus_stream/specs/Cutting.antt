@@ -1,11 +1,11 @@
 -- What a cutter makes of a piece.
-use Rattle.std.specs.Prelude.{◌≡◌, ℕ, ◌+◌, List, [], ◌++◌, length, Option, None, Some, Result, Ok, Err}
+use Rattle.std.specs.Prelude.{◌≡◌, ℕ, ◌+◌, List, ◌++◌, length, Option, None, Some, Result, Ok, Err}
 use Rattle.dbus_value_model.specs.declared.order.Order.{Order}
 use Rattle.dbus_value_model.specs.declared.fault.Fault.{Fault}
 use Rattle.dbus_message.specs.declared.message.Message.{Message}
 use Rattle.dbus_message.specs.MessageViews.{message_tree}
 use Rattle.dbus_message.specs.MessageOutcomes.{IsWhole, IsRefused, IsPartial}
-use Rattle.dbus_stream.specs.CutterState.{CutterState}
+use Rattle.dbus_stream.specs.CutterState.{CutterState, fresh}
 use Rattle.dbus_stream.specs.declared.stream_fault.StreamFault.{StreamFault}
 use Rattle.dbus_stream.specs.declared.stream_fault.StreamFault.TheVariants.{Memory, Format}
 
@@ -13,18 +13,18 @@ use Rattle.dbus_stream.specs.declared.stream_fault.StreamFault.TheVariants.{Memo
 abbrev pub TakeAnswer : Type 0 → Type 0
 TakeAnswer A = Result (ℕ × Option (Order × Message A)) StreamFault
 
--- where it met no fault before
+-- where it met no fault before; its limits stay
 abbrev pub TakeAnswers : {A : Type 0} → CutterState → List ℕ → CutterState → TakeAnswer A → Type 0
 -- the message ends in the piece
-TakeAnswers old piece new (Ok (n, Some given)) = IsWhole (old.held ++ piece) given.0 (message_tree given.1) (length old.held + n)
-    × (new ≡ record { held = []; fault = None })
+TakeAnswers old piece new (Ok (n, Some given)) = IsWhole old.limits (old.held ++ piece) given.0 (message_tree given.1) (length old.held + n)
+    × (new ≡ fresh old.limits)
 -- the piece is taken whole
-TakeAnswers old piece new (Ok (n, None)) = IsPartial (old.held ++ piece) × (n ≡ length piece)
-    × (new ≡ record { held = old.held ++ piece; fault = None })
+TakeAnswers old piece new (Ok (n, None)) = IsPartial old.limits (old.held ++ piece) × (n ≡ length piece)
+    × (new ≡ record { limits = old.limits; held = old.held ++ piece; fault = None })
 -- nothing is taken
 TakeAnswers old piece new (Err Memory) = new ≡ old
-TakeAnswers old piece new (Err (Format fault)) = IsRefused (old.held ++ piece) fault
-    × (new ≡ record { held = old.held; fault = Some fault })
+TakeAnswers old piece new (Err (Format fault)) = IsRefused old.limits (old.held ++ piece) fault
+    × (new ≡ record { limits = old.limits; held = old.held; fault = Some fault })
 
 -- one call, which answers for good a fault that was met
 pub record Takes {A : Type 0} (old : CutterState) (piece : List ℕ) (new : CutterState) (answer : TakeAnswer A) : Type 0 where

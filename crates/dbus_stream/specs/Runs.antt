@@ -1,6 +1,7 @@
 -- Runs of a cutter: pieces that it is handed one after another, and what its calls answer.
 use Rattle.std.specs.Prelude.{◌≡◌, ◌⊎◌, ℕ, ◌+◌, List, [], ◌∷◌, ◌++◌, drop, Option, None, Some, Ok, Err}
 use Rattle.dbus_value_model.specs.declared.fault.Fault.{Fault}
+use Rattle.dbus_value_model.specs.declared.limits.Limits.{Limits}
 use Rattle.dbus_message.specs.MessageViews.{message_tree}
 use Rattle.dbus_stream.specs.Cut.{Item, BeginWith, Outcome, Ended, Unfinished, Refused, IsCut}
 use Rattle.dbus_stream.specs.CutterState.{CutterState}
@@ -42,11 +43,13 @@ outcome_of (x ∷ xs) None = Unfinished
 abbrev pub IsSettled : CutterState → List ℕ → Type 0
 IsSettled now left = (left ≡ []) ⊎ ((f : Fault) × (now.fault ≡ Some f))
 
--- the messages that were given of the bytes, where the cutter is now as said and these bytes are left
-pub record CutsInto (bytes : List ℕ) (given : List Item) (now : CutterState) (left : List ℕ) : Type 0 where
+-- the messages that were given of the bytes by a cutter under these limits, where it is now as said and these bytes are left
+pub record CutsInto (limits : Limits) (bytes : List ℕ) (given : List Item) (now : CutterState) (left : List ℕ) : Type 0 where
   -- the bytes are those of the messages, then those that it holds and then those that are left: none is lost
-  pub messages : BeginWith bytes given (now.held ++ left)
+  pub messages : BeginWith limits bytes given (now.held ++ left)
+  -- its limits are as they were
+  pub limits_stay : now.limits ≡ limits
   -- they are the first messages of the cut of the bytes
-  pub first : (all : List Item) (rest : List ℕ) (outcome : Outcome) → IsCut bytes all rest outcome → (more : List Item) × (all ≡ given ++ more)
+  pub first : (all : List Item) (rest : List ℕ) (outcome : Outcome) → IsCut limits bytes all rest outcome → (more : List Item) × (all ≡ given ++ more)
   -- and in the end all of them, with the cut's rest and its fault
-  pub all : IsSettled now left → IsCut bytes given (now.held ++ left) (outcome_of now.held now.fault)
+  pub all : IsSettled now left → IsCut limits bytes given (now.held ++ left) (outcome_of now.held now.fault)

@@ -9,7 +9,7 @@ use Rattle.dbus_stream.specs.declared.message_reader.MessageReader.{MessageReade
 use Rattle.dbus_stream.specs.declared.read_fault.ReadFault.{ReadFault}
 use Rattle.dbus_stream.specs.declared.read_fault.ReadFault.TheVariants.{Memory, Format, Device, TooManyReads}
 use Rattle.dbus_stream.specs.declared.device_fault.DeviceFault.{DeviceFault}
-use Rattle.dbus_stream.specs.Reader.{kept, source_of, is_ended, stopped_of}
+use Rattle.dbus_stream.specs.Reader.{limits_of, kept, source_of, is_ended, stopped_of}
 use Rattle.dbus_stream.specs.Stated.{BeginsWithNone}
 use Rattle.dbus_stream.specs.Next.{KeepsAll, GivesMessage, IsCutShort}
 
@@ -39,9 +39,9 @@ pub record Refuses {R A : Type 0} (fault : ReadFault) (old new : MessageReader R
 -- what comes of the bytes that are kept
 abbrev pub TakesKept : {R A : Type 0} → MessageReader R A → MessageReader R A → Result (Option (Order × Message A)) ReadFault → Type 0
 TakesKept old new (Ok (Some given)) = GivesMessage (kept old) given old new
-TakesKept old new (Ok None) = KeepsOn old new × IsDrained new × BeginsWithNone (kept new)
+TakesKept old new (Ok None) = KeepsOn old new × IsDrained new × BeginsWithNone (limits_of old) (kept new)
 TakesKept old new (Err Memory) = KeepsOn old new
-TakesKept old new (Err (Format fault)) = Refuses (Format fault) old new × IsRefused (kept old) fault
+TakesKept old new (Err (Format fault)) = Refuses (Format fault) old new × IsRefused (limits_of old) (kept old) fault
 TakesKept old new (Err Device) = ⊥
 TakesKept old new (Err TooManyReads) = ⊥
 
@@ -50,16 +50,16 @@ abbrev pub Looks : {R A : Type 0} → MessageReader R A → MessageReader R A �
 Looks old new (Ok (Some given)) = GivesMessage (kept old) given old new
 Looks old new (Ok None) = KeepsOn old new × IsUnlooked new × SameBuffer old new
 Looks old new (Err Memory) = KeepsOn old new
-Looks old new (Err (Format fault)) = Refuses (Format fault) old new × IsRefused (kept old) fault
+Looks old new (Err (Format fault)) = Refuses (Format fault) old new × IsRefused (limits_of old) (kept old) fault
 Looks old new (Err Device) = ⊥
 Looks old new (Err TooManyReads) = ⊥
 
 -- the same of what is held, which is looked at
 abbrev pub Decodes : {R A : Type 0} → MessageReader R A → MessageReader R A → Result (Option (Order × Message A)) ReadFault → Type 0
 Decodes old new (Ok (Some given)) = GivesMessage (kept old) given old new
-Decodes old new (Ok None) = KeepsOn old new × IsUnlooked new × SameBuffer old new × (new.held.items ≡ old.held.items) × IsPartial old.held.items
+Decodes old new (Ok None) = KeepsOn old new × IsUnlooked new × SameBuffer old new × (new.held.items ≡ old.held.items) × IsPartial (limits_of old) old.held.items
 Decodes old new (Err Memory) = KeepsOn old new
-Decodes old new (Err (Format fault)) = Refuses (Format fault) old new × IsRefused (kept old) fault
+Decodes old new (Err (Format fault)) = Refuses (Format fault) old new × IsRefused (limits_of old) (kept old) fault
 Decodes old new (Err Device) = ⊥
 Decodes old new (Err TooManyReads) = ⊥
 
@@ -73,7 +73,7 @@ abbrev pub Finishes : {R A : Type 0} → MessageReader R A → MessageReader R A
 Finishes old new (Ok (Some given)) = GivesMessage (kept old) given old new
 Finishes old new (Ok None) = KeepsOn old new × (kept old ≡ [])
 Finishes old new (Err Memory) = KeepsOn old new
-Finishes old new (Err (Format fault)) = Refuses (Format fault) old new × (IsRefused (kept old) fault ⊎ IsCutShort (kept old) fault)
+Finishes old new (Err (Format fault)) = Refuses (Format fault) old new × (IsRefused (limits_of old) (kept old) fault ⊎ IsCutShort (limits_of old) (kept old) fault)
 Finishes old new (Err Device) = ⊥
 Finishes old new (Err TooManyReads) = ⊥
 
@@ -82,9 +82,9 @@ abbrev pub GivesUp : {R A : Type 0} → MessageReader R A → MessageReader R A 
 GivesUp old new (Ok (Some given)) = GivesMessage (kept old) given old new
 GivesUp old new (Ok None) = ⊥
 GivesUp old new (Err Memory) = KeepsOn old new
-GivesUp old new (Err (Format fault)) = Refuses (Format fault) old new × IsRefused (kept old) fault
+GivesUp old new (Err (Format fault)) = Refuses (Format fault) old new × IsRefused (limits_of old) (kept old) fault
 GivesUp old new (Err Device) = ⊥
-GivesUp old new (Err TooManyReads) = Refuses TooManyReads old new × IsPartial (kept old)
+GivesUp old new (Err TooManyReads) = Refuses TooManyReads old new × IsPartial (limits_of old) (kept old)
 
 -- what a read adds to the bytes that are kept
 pub record FillsBy {R A : Type 0} (left : R → Option (List ℕ)) (bytes : List ℕ) (old new : MessageReader R A) : Type 0 where

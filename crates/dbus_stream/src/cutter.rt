@@ -1,5 +1,6 @@
 //! Messages out of bytes that come in pieces.
 ghost use Rattle.std.specs.Prelude.{◌≡◌, ◌<◌, ◌≤◌, [], length, None, Some, Ok, Err, IfOk};
+ghost use Rattle.dbus_value_model.specs.Specification.{specification};
 ghost use Rattle.dbus_value_model.specs.declared.fault.Fault.{Fault};
 ghost use Rattle.dbus_message.specs.MessageOutcomes.{IsPartial};
 ghost use Rattle.dbus_stream.specs.Cut.{truncated};
@@ -9,15 +10,16 @@ ghost use Rattle.dbus_stream.specs.Cutting.{Takes};
 use crate::decoded::decoded;
 use crate::stream_fault::StreamFault;
 use dbus_message::{Answer, Message};
-use dbus_value::{Fault, Order, Reason, Refusal};
+use dbus_value::{Fault, Limits, Order, Reason, Refusal};
 use std::alloc::{Allocator, Global};
 use std::marker::Model;
 
 /// Cuts messages out of bytes that come in pieces of any length. It keeps the bytes of the message under way, so at
-/// most those of one message.
+/// most those of one message. The limits of its messages are those that it was made with.
 #[derive(Drop)]
 pub struct Cutter<A: Allocator = Global> {
     alloc: A,
+    limits: Limits,
     held: Vec<u8, A>,
     fault: Option<Fault>,
 }
@@ -28,18 +30,26 @@ impl<A: Allocator> Model for Cutter<A> {
 
     ghost Value = { CutterState };
 
-    ghost view = { λ c. record { held = c.held.items; fault = c.fault } };
+    ghost view = { λ c. record { limits = c.limits; held = c.held.items; fault = c.fault } };
 
-    ghost invariant = { λ c. IsPartial c.held.items };
+    ghost invariant = { λ c. IsPartial c.limits c.held.items };
 }
 
 impl<A: Allocator + Copy> Cutter<A> {
-    /// A cutter that holds nothing yet. What it keeps is allocated by `alloc`.
+    /// A cutter as [`Cutter::within`] makes it, under the limits of the specification.
     pub fn new(alloc: A) -> Self
-        ensures { result ≡ fresh }
+        ensures { result ≡ fresh specification }
+    {
+        Cutter::within(alloc, Limits::specification())
+    }
+
+    /// A cutter that holds nothing yet, and gives messages that keep these limits. What it keeps is allocated by `alloc`.
+    pub fn within(alloc: A, limits: Limits) -> Self
+        ensures { result ≡ fresh limits }
     {
         Cutter {
             alloc,
+            limits,
             held: Vec::new(alloc),
             fault: None,
         }
@@ -48,8 +58,8 @@ impl<A: Allocator + Copy> Cutter<A> {
     /// Takes up to the end of the message under way and gives that message; or the whole piece, where its end is not
     /// there yet. It says how many bytes of the piece were taken: hand in the others again.
     ///
-    /// `Format`: the bytes that are held and the piece are no message; it stays for good. `Memory`: a growth was
-    /// refused. A refused call takes nothing.
+    /// `Format`: the bytes that are held and the piece are no message within its limits; it stays for good. `Memory`: a
+    /// growth was refused. A refused call takes nothing.
     pub fn take(
         &mut self,
         piece: &[u8],
@@ -66,7 +76,7 @@ impl<A: Allocator + Copy> Cutter<A> {
         if self.held.extend_from_slice(piece).is_err() {
             return Err(StreamFault::Memory);
         }
-        match decoded(self.alloc, self.held.as_slice()) {
+        match decoded(self.alloc, self.held.as_slice(), self.limits) {
             Ok(
                 Answer::Whole {
                     order,

@@ -1,4 +1,5 @@
 //! Laws of streams. Each function's contract is one, and it does nothing at run time.
+ghost use Rattle.dbus_value_model.specs.declared.limits.Limits.{Limits};
 ghost use Rattle.dbus_stream.specs.StreamLaws.{OneCut, FrontOfCut, EachCut};
 ghost use Rattle.dbus_stream.specs.Headline.{Headline};
 
@@ -9,24 +10,26 @@ use std::alloc::Allocator;
 /// gives the message; however the input is cut, the same messages come and no byte past each is taken; a refusal carries
 /// the fault table's one place and reason.
 ///
-/// It speaks of `decode` by `Decodes`, of `encode` by the bytes that it gives, and of a cutter by `Feeds`: any pieces are
-/// handed to `Cutter::take` one after another, and what a call leaves of one is handed in again. Each of them may answer
+/// The limits are any that are handed in, and every message is every valid one within them.
+///
+/// It speaks of `decode_within` by `Decodes`, of `encode` by the bytes that it gives, and of a cutter by `Feeds`: any pieces
+/// are handed to `Cutter::take` one after another, and what a call leaves of one is handed in again. Each of them may answer
 /// want of memory, which takes nothing.
 pub fn headline<A: Allocator>()
-    ensures { Headline A }
+    ensures { (limits : Limits) → Headline limits A }
 {}
 
-/// A stream of bytes is cut into messages, a rest and an outcome in one way.
+/// A stream of bytes is cut into messages, a rest and an outcome in one way, under any limits.
 pub fn one_cut()
     ensures { OneCut }
 {}
 
-/// Where a stream is cut in two anywhere, the messages of its first part are the first of its messages.
+/// Where a stream is cut in two anywhere, the messages of its first part are the first of its messages, under any limits.
 pub fn front_of_cut()
     ensures { FrontOfCut }
 {}
 
-/// Each list of bytes is cut.
+/// Each list of bytes is cut, under any limits.
 pub fn each_cut()
     ensures { EachCut }
 {}

@@ -9,19 +9,20 @@ use crate::looking::next_look;
 use crate::read_fault::ReadFault;
 use crate::source::Source;
 use dbus_message::{Answer, Message};
-use dbus_value::{Fault, Order, Reason, Refusal};
+use dbus_value::{Fault, Limits, Order, Reason, Refusal};
 use std::alloc::{AllocError, Allocator, Global};
 
-// How many reads a reader makes in its life.
+// How many reads a reader makes in its life, where no number is handed in.
 const MOST_READS: u64 = 1 << 32;
 
 /// Reads messages from a source, one after another, by a buffer of 4,096 bytes inside it.
 ///
-/// It keeps the bytes that it read and did not give in a message yet: at most those of one message and one buffer. It
-/// makes at most 2^32 reads in its life.
+/// It keeps the bytes that it read and did not give in a message yet: at most those of one message and one buffer. The
+/// limits of its messages, and how many reads it makes at most in its life, are those that it was made with.
 #[derive(Drop)]
 pub struct MessageReader<R, A: Allocator = Global> {
     alloc: A,
+    limits: Limits,
     source: R,
     // The bytes of the message under way that came by earlier reads.
     held: Vec<u8, A>,
@@ -33,38 +34,51 @@ pub struct MessageReader<R, A: Allocator = Global> {
     end: usize,
     done: u64,
     reads: u64,
-    limit: u64,
+    most_reads: u64,
     ended: bool,
     stopped: Option<ReadFault>,
     ghost in_order: { start ≤ end },
     ghost in_buffer: { end ≤ 4096 },
-    ghost few_reads: { reads ≤ limit },
-    ghost low_limit: { limit ≤ 2 ^ 32 },
+    ghost few_reads: { reads ≤ most_reads },
+    ghost low_most: { most_reads ≤ 2 ^ 32 },
     ghost lasting: { is_lasting stopped ≡ true },
-    ghost patient: { NoneEndsBefore held.items wanted },
+    ghost patient: { NoneEndsBefore limits held.items wanted },
     ghost counted: { done + length held.items + (end - start) ≤ 4096 * reads },
 }
 
 impl<R: Source, A: Allocator + Copy> MessageReader<R, A> {
+    ghost use Rattle.dbus_value_model.specs.Specification.{specification};
     ghost use Rattle.dbus_value_model.specs.declared.fault.Fault.{Fault};
     ghost use Rattle.dbus_stream.specs.declared.read_fault.ReadFault.{ReadFault};
-    ghost use Rattle.dbus_stream.specs.Reader.{kept, source_of, done_of, reads_of, limit_of, is_ended, stopped_of};
+    ghost use Rattle.dbus_stream.specs.Reader.{limits_of, kept, source_of, done_of, reads_of, most_reads_of, is_ended, stopped_of, IsNewReader};
     ghost use Rattle.dbus_stream.specs.Next.{NextAnswers, KeptAnswers, DeviceCounts, Reads, ReadsNothing};
     ghost use Rattle.dbus_stream.specs.Steps.{TakesKept, Looks, Decodes, Gathers, IsDrained, IsUnlooked, Fills, Finishes, GivesUp};
     ghost use Rattle.dbus_stream.specs.Device.{ReadCounts, one_more};
 
-    /// A reader of what the source gives, which read nothing yet. What it keeps is allocated by `alloc`.
+    /// A reader as [`MessageReader::within`] makes it, of at most 2^32 reads and under the limits of the specification.
     pub fn new(alloc: A, source: R) -> Self
-        ensures source { source_of result ≡ source }
-        ensures kept { kept result ≡ [] }
-        ensures done { done_of result ≡ 0 }
-        ensures reads { reads_of result ≡ 0 }
-        ensures limit { limit_of result ≡ 2 ^ 32 }
-        ensures ended { is_ended result ≡ false }
-        ensures stopped { stopped_of result ≡ None }
+        ensures { IsNewReader source (2 ^ 32) specification result }
+    {
+        MessageReader::with_reads(alloc, source, MOST_READS)
+    }
+
+    /// A reader as [`MessageReader::within`] makes it, under the limits of the specification.
+    pub fn with_reads(alloc: A, source: R, reads: u64) -> Self
+        requires { reads ≤ 2 ^ 32 }
+        ensures { IsNewReader source reads specification result }
+    {
+        MessageReader::within(alloc, source, reads, Limits::specification())
+    }
+
+    /// A reader of what the source gives, which read nothing yet. It makes at most so many reads in its life, the one that
+    /// finds the end of the input among them, and gives messages that keep these limits. What it keeps is allocated by `alloc`.
+    pub fn within(alloc: A, source: R, reads: u64, limits: Limits) -> Self
+        requires { reads ≤ 2 ^ 32 }
+        ensures { IsNewReader source reads limits result }
     {
         MessageReader {
             alloc,
+            limits,
             source,
             held: Vec::new(alloc),
             wanted: 0,
@@ -73,7 +87,7 @@ impl<R: Source, A: Allocator + Copy> MessageReader<R, A> {
             end: 0,
             done: 0,
             reads: 0,
-            limit: MOST_READS,
+            most_reads: reads,
             ended: false,
             stopped: None,
         }
@@ -97,10 +111,10 @@ impl<R: Source, A: Allocator + Copy> MessageReader<R, A> {
     /// the end each call answers the same, without reading. A read is made only where no whole message is kept, so a
     /// message is given at the read that ends it.
     ///
-    /// `Format`: the bytes begin with no message; or the input ended within one, and then the reason is `Truncated`, at
-    /// their number. `TooManyReads`: 2^32 reads were made, and no whole message is kept. Both stay for good. `Device`: a
-    /// read failed in this call. `Memory`: a growth was refused. After these two all that was read is kept, and the call
-    /// may be made again.
+    /// `Format`: the bytes begin with no message within the limits; or the input ended within one, and then the reason is
+    /// `Truncated`, at their number. `TooManyReads`: as many reads were made as it may make, and no whole message is kept.
+    /// Both stay for good. `Device`: a read failed in this call. `Memory`: a growth was refused. After these two all that was
+    /// read is kept, and the call may be made again.
     pub fn next(&mut self) -> Result<Option<(Order, Message<A>)>, ReadFault>
         // Of what was kept and then read it gives what that begins with.
         ensures read { (r : Reads R.left R.calls self.old self.new)
@@ -123,7 +137,7 @@ impl<R: Source, A: Allocator + Copy> MessageReader<R, A> {
             if self.ended {
                 return self.finish();
             }
-            if self.reads >= self.limit {
+            if self.reads >= self.most_reads {
                 return self.give_up();
             }
             match self.fill() {
@@ -136,8 +150,8 @@ impl<R: Source, A: Allocator + Copy> MessageReader<R, A> {
     /// The next message with its byte order out of what was read already: no read is made. Bytes behind the message are
     /// kept. None where what is kept begins with no whole message; then `next` goes on from there and reads more.
     ///
-    /// `Format`: the bytes begin with no message. It stays for good, and so does a fault that `next` answers for good.
-    /// `Memory`: a growth was refused. Then all that was read is kept, and the call may be made again.
+    /// `Format`: the bytes begin with no message within the limits. It stays for good, and so does a fault that `next`
+    /// answers for good. `Memory`: a growth was refused. Then all that was read is kept, and the call may be made again.
     pub fn next_kept(&mut self) -> Result<Option<(Order, Message<A>)>, ReadFault>
         // It gives what the bytes that are kept begin with.
         ensures kept { stopped_of self.old ≡ None → KeptAnswers self.old self.new result }
@@ -226,7 +240,7 @@ impl<R: Source, A: Allocator + Copy> MessageReader<R, A> {
     {
         let buffer: &[u8] = &self.buffer;
         let fresh = &buffer[self.start..self.end];
-        match decoded(self.alloc, fresh) {
+        match decoded(self.alloc, fresh, self.limits) {
             Ok(
                 Answer::Whole {
                     order,
@@ -242,7 +256,7 @@ impl<R: Source, A: Allocator + Copy> MessageReader<R, A> {
                 if self.held.extend_from_slice(fresh).is_err() {
                     return Err(ReadFault::Memory);
                 }
-                self.wanted = next_look(fresh);
+                self.wanted = next_look(fresh, self.limits);
                 self.start = self.end;
                 Ok(None)
             }
@@ -272,7 +286,7 @@ impl<R: Source, A: Allocator + Copy> MessageReader<R, A> {
         ensures decodes { Decodes self.old self.new result }
         ensures unread { ReadsNothing self.old self.new }
     {
-        match decoded(self.alloc, self.held.as_slice()) {
+        match decoded(self.alloc, self.held.as_slice(), self.limits) {
             Ok(
                 Answer::Whole {
                     order,
@@ -286,7 +300,7 @@ impl<R: Source, A: Allocator + Copy> MessageReader<R, A> {
                 Ok(Some((order, message)))
             }
             Ok(Answer::Partial) => {
-                self.wanted = next_look(self.held.as_slice());
+                self.wanted = next_look(self.held.as_slice(), self.limits);
                 Ok(None)
             }
             Err(Refusal::Memory) => Err(ReadFault::Memory),
@@ -316,13 +330,14 @@ impl<R: Source, A: Allocator + Copy> MessageReader<R, A> {
     // One more read, into the buffer, which has nothing left.
     fn fill(&mut self) -> Result<(), DeviceFault>
         requires drained { IsDrained self.old }
-        requires more { reads_of self.old < limit_of self.old }
+        requires more { reads_of self.old < most_reads_of self.old }
         ensures fills { Fills R.left self.old self.new result }
         ensures failed { ReadCounts (R.failures (source_of self.old)) (R.failures (source_of self.new)) result }
         ensures reads { reads_of self.new ≡ reads_of self.old + 1 }
         ensures called { R.calls (source_of self.new) ≡ one_more (R.calls (source_of self.old)) }
         ensures same_reference { R.reference (source_of self.new) ≡ R.reference (source_of self.old) }
-        ensures limit { limit_of self.new ≡ limit_of self.old }
+        ensures most_reads { most_reads_of self.new ≡ most_reads_of self.old }
+        ensures limits { limits_of self.new ≡ limits_of self.old }
         ensures done { done_of self.new ≡ done_of self.old }
         ensures stopped { stopped_of self.new ≡ stopped_of self.old }
     {

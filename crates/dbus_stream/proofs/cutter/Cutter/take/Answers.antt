@@ -1,5 +1,6 @@
 use Rattle.std.proofs.Common.{◌≡◌, ◌+◌, ◌-◌, ◌<◌, ℕ, List, ◌++◌, None, length, arith, rules, subst, sym, ap, ◌∙◌}
 use Rattle.dbus_value_model.specs.declared.order.Order.{Order}
+use Rattle.dbus_value_model.specs.declared.limits.Limits.{Limits}
 use Rattle.dbus_message.specs.Messages.{MessageTree}
 use Rattle.dbus_message.specs.MessageOutcomes.{IsWhole, IsPartial}
 use Rattle.dbus_message.specs.MessageViews.{message_tree}
@@ -10,27 +11,29 @@ use Rattle.dbus_stream.proofs.cutter.Cutter.take.Goals as goal
 use Rattle.dbus_stream.proofs.cutter.Cutter.take.Goals.{In-Ok-Whole}
 
 -- what is taken of the piece ends where the message ends
-ends_at : (held piece all : List ℕ) (order : Order) (m : MessageTree) (n before : ℕ) → all ≡ held ++ piece → before ≡ length held → IsPartial held → IsWhole all order m n
-    → IsWhole (held ++ piece) order m (length held + (n - before)) × (before < n)
-ends_at held piece all order m n before joined count part_of w =
-    let whole = subst (λ l. IsWhole l order m n) joined w in
-    let past : length held < n = whole_past held piece order m n part_of whole in
+ends_at : (limits : Limits) (held piece all : List ℕ) (order : Order) (m : MessageTree) (n before : ℕ) → all ≡ held ++ piece → before ≡ length held → IsPartial limits held → IsWhole limits all order m n
+    → IsWhole limits (held ++ piece) order m (length held + (n - before)) × (before < n)
+ends_at limits held piece all order m n before joined count part_of w =
+    let whole = subst (λ l. IsWhole limits l order m n) joined w in
+    let past : length held < n = whole_past limits held piece order m n part_of whole in
     let same : n ≡ length held + (n - before) = omega arith in
-    (subst (λ k. IsWhole (held ++ piece) order m k) same whole, omega arith)
+    (subst (λ k. IsWhole limits (held ++ piece) order m k) same whole, omega arith)
 
 -- the message that was decoded
-taken : (g : _) (c : In-Ok-Whole g) → IsWhole (c.args.self.now.held ++ c.args.piece.now) c.in-Ok-Whole.order (message_tree c.in-Ok-Whole.message) (length c.args.self.now.held + (c.in-Ok-Whole.used - c.len-before.result))
+taken : (g : _) (c : In-Ok-Whole g) → IsWhole c.args.self.now.limits (c.args.self.now.held ++ c.args.piece.now) c.in-Ok-Whole.order (message_tree c.in-Ok-Whole.message) (length c.args.self.now.held + (c.in-Ok-Whole.used - c.len-before.result))
     × (c.len-before.result < c.in-Ok-Whole.used)
 taken g c =
     let held_is : c.self.inside.held.items ≡ c.args.self.now.held = ap (λ (s : CutterState). s.held) c.self.view_is in
+    let limits_is : c.self.inside.limits ≡ c.args.self.now.limits = ap (λ (s : CutterState). s.limits) c.self.view_is in
     let joined : c.as_slice.result.now ≡ c.args.self.now.held ++ c.args.piece.now = search rules in
     let count : c.len-before.result ≡ length c.args.self.now.held = search rules in
-    let held_part : IsPartial c.args.self.now.held = subst (λ l. IsPartial l) held_is c.self.invariant in
-    let whole : IsWhole c.as_slice.result.now c.in-Ok-Whole.order (message_tree c.in-Ok-Whole.message) c.in-Ok-Whole.used = rw c.in-Ok-Whole.field-0-is at c.in-Ok-Whole.ensures.decodes in
-    ends_at c.args.self.now.held c.args.piece.now c.as_slice.result.now c.in-Ok-Whole.order (message_tree c.in-Ok-Whole.message) c.in-Ok-Whole.used c.len-before.result joined count held_part whole
+    let held_part : IsPartial c.args.self.now.limits c.args.self.now.held = subst (λ limits. IsPartial limits c.args.self.now.held) limits_is (subst (λ l. IsPartial c.self.inside.limits l) held_is c.self.invariant) in
+    let given : IsWhole c.self.inside.limits c.as_slice.result.now c.in-Ok-Whole.order (message_tree c.in-Ok-Whole.message) c.in-Ok-Whole.used = rw c.in-Ok-Whole.field-0-is at c.in-Ok-Whole.ensures.decodes in
+    let whole = subst (λ limits. IsWhole limits c.as_slice.result.now c.in-Ok-Whole.order (message_tree c.in-Ok-Whole.message) c.in-Ok-Whole.used) limits_is given in
+    ends_at c.args.self.now.limits c.args.self.now.held c.args.piece.now c.as_slice.result.now c.in-Ok-Whole.order (message_tree c.in-Ok-Whole.message) c.in-Ok-Whole.used c.len-before.result joined count held_part whole
 
 pub invariant_of-self-in-Ok-Whole : goal.invariant_of-self-in-Ok-Whole
-invariant_of-self-in-Ok-Whole g c = subst (λ l. IsPartial l) (sym c.clear.ensures.items) nothing_partial
+invariant_of-self-in-Ok-Whole g c = subst (λ l. IsPartial c.self.inside.limits l) (sym c.clear.ensures.items) (nothing_partial c.self.inside.limits)
 
 pub overflow_sub-result : goal.overflow_sub-result
 overflow_sub-result g c = let past = (taken g (goal.at.overflow_sub-result g c).In-Ok-Whole).1 in omega (arith, past)

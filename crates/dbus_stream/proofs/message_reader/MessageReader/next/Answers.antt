@@ -1,9 +1,9 @@
-use Rattle.std.proofs.Common.{◌≡◌, ◌≤◌, None, Some, Ok, Err, refl, ap, arith, sym, ◌∙◌}
+use Rattle.std.proofs.Common.{◌≡◌, ◌≤◌, None, Some, Ok, Err, refl, ap, arith, sym, subst, ◌∙◌}
 use Rattle.std.specs.Prelude.{Option}
 use Rattle.dbus_value_model.specs.declared.order.Order.{Order}
 use Rattle.dbus_message.specs.declared.message.Message.{Message}
 use Rattle.dbus_stream.specs.Stated.{BeginsWithNone}
-use Rattle.dbus_stream.specs.Reader.{kept, source_of, stopped_of}
+use Rattle.dbus_stream.specs.Reader.{limits_of, kept, source_of, stopped_of}
 use Rattle.dbus_stream.specs.Steps.{TakesKept}
 use Rattle.dbus_stream.proofs.NextSteps.{HasRead, lasts, starts, begins, holds_all, given, finished, gave_up, failed_read, filled}
 use Rattle.dbus_stream.proofs.message_reader.MessageReader.next.Goals as goal
@@ -35,10 +35,13 @@ returns-in-Err-clause-read g c =
 
 -- all of what is kept is held
 held : (g : _) (c : In-Ok-None g) → HasRead g.R.Source.left g.R.Source.calls g.R.Source.failures c.args.self.now c.take_kept.new.self
-    × BeginsWithNone (kept c.take_kept.new.self)
+    × BeginsWithNone (limits_of c.take_kept.new.self) (kept c.take_kept.new.self)
 held g c =
     let takes : TakesKept c.reading.self c.take_kept.new.self (Ok None) = rw c.in-Ok-None.field-0-is at c.in-Ok-None.ensures.takes in
-    (holds_all g.R.Source.left g.R.Source.calls g.R.Source.failures c.args.self.now c.reading.self c.take_kept.new.self c.reading.invariant.0 takes.0 c.take_kept.ensures.unread, takes.2)
+    let unread = c.take_kept.ensures.unread in (
+      holds_all g.R.Source.left g.R.Source.calls g.R.Source.failures c.args.self.now c.reading.self c.take_kept.new.self c.reading.invariant.0 takes.0 unread,
+      subst (λ limits. BeginsWithNone limits (kept c.take_kept.new.self)) (sym unread.limits) takes.2,
+    )
 
 pub returns-then-self-clause-read : goal.returns-then-self-clause-read
 returns-then-self-clause-read g c =
@@ -48,8 +51,8 @@ returns-then-self-clause-read g c =
 pub returns-then-self-2-clause-read : goal.returns-then-self-2-clause-read
 returns-then-self-2-clause-read g c =
     let r = c.take_kept.new.self in
-    let few : r.reads ≤ r.limit = r.few_reads in
-    let all : r.reads ≡ r.limit = omega arith in
+    let few : r.reads ≤ r.most_reads = r.few_reads in
+    let all : r.reads ≡ r.most_reads = omega arith in
     gave_up g.R.Source.left g.R.Source.calls g.R.Source.failures c.args.self.now r c.give_up.new.self c.give_up.result
     (held g (goal.at.returns-then-self-2-clause-read g c).In-Ok-None).0 all c.give_up.ensures.gives_up c.give_up.ensures.unread
 
@@ -58,13 +61,13 @@ returns-in-Err-fill-clause-read g c =
     let fill = c.in-Err-fill.ensures in
     let h = held g (goal.at.returns-in-Err-fill-clause-read g c).In-Ok-None in
     failed_read g.R.Source.left g.R.Source.calls g.R.Source.failures c.args.self.now c.take_kept.new.self c.fill.new.self
-    h.0 h.1 c.if-self.false fill.fills fill.reads fill.called fill.limit fill.done fill.stopped
+    h.0 h.1 c.if-self.false fill.fills fill.reads fill.called fill.most_reads fill.limits fill.done fill.stopped
 
 pub reading-preserved : goal.reading-preserved
 reading-preserved g c =
     let fill = c.in-Ok.ensures in
     let h = held g (goal.at.reading-preserved g c).In-Ok-None in (
       filled g.R.Source.left g.R.Source.calls g.R.Source.failures c.args.self.now c.take_kept.new.self c.fill.new.self fill.fills.0
-          h.0 h.1 c.if-self.false fill.fills.1 fill.failed fill.reads fill.called fill.limit fill.done fill.stopped,
+          h.0 h.1 c.if-self.false fill.fills.1 fill.failed fill.reads fill.called fill.most_reads fill.limits fill.done fill.stopped,
       fill.same_reference ∙ (ap g.R.Source.reference c.take_kept.ensures.unread.source ∙ c.reading.invariant.1),
     )

@@ -9,4 +9,4 @@ invariant-reading g l =
     × (g.R.Source.reference (source_of l.self) ≡ g.R.Source.reference (source_of l.fn.self))
 
 abbrev pub decreases-reading : goal.decreases-reading
-decreases-reading g l = l.self.limit - l.self.reads
+decreases-reading g l = l.self.most_reads - l.self.reads

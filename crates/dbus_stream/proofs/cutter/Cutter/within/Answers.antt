@@ -1,7 +1,7 @@
 use Rattle.std.proofs.Common.{subst, sym}
 use Rattle.dbus_message.specs.MessageOutcomes.{IsPartial}
 use Rattle.dbus_message.proofs.OutcomeLaws.{nothing_partial}
-use Rattle.dbus_stream.proofs.cutter.Cutter.new.Goals as goal
+use Rattle.dbus_stream.proofs.cutter.Cutter.within.Goals as goal
 
 pub invariant_of-result : goal.invariant_of-result
-invariant_of-result g c = subst (λ l. IsPartial l) (sym c.new.ensures.items) nothing_partial
+invariant_of-result g c = subst (λ l. IsPartial c.args.limits l) (sym c.new.ensures.items) (nothing_partial c.args.limits)
