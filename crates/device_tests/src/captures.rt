@@ -32,6 +32,10 @@ pub(crate) const BIG_FRONT: &[u8] = b"\x42\x02\x01\x01\x00";
 /// No header field, where a method return wants a REPLY_SERIAL.
 pub(crate) const BARE: &[u8] = b"\x6c\x02\x01\x01\x00\x00\x00\x00\x01\x00\x00\x00\x00\x00\x00\x00";
 
+/// A message of an unknown type, for which no header field is wanted, without any.
+pub(crate) const NO_FIELDS: &[u8] =
+    b"\x6c\x05\x00\x01\x00\x00\x00\x00\x01\x00\x00\x00\x00\x00\x00\x00";
+
 /// A message of an unknown type with two header fields of an unknown code.
 pub(crate) const UNKNOWN: &[u8] =
     b"\x6c\x05\x00\x01\x00\x00\x00\x00\x01\x00\x00\x00\x0d\x00\x00\x00\x0a\x01\x79\x00\x05\x00\x00\x00\x0a\x01\x79\x00\x06\x00\x00\x00";

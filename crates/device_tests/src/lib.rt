@@ -14,6 +14,8 @@ mod growth_tests;
 #[cfg(test)]
 mod help_texts;
 #[cfg(test)]
+mod limit_tests;
+#[cfg(test)]
 mod narrow;
 #[cfg(test)]
 mod order_tests;

@@ -33,6 +33,8 @@ const NOTHING: Given = Gives(b"");
 
 const FAILED: Given = Fails(ReadFault::Device);
 
+const TOO_MANY: Given = Fails(ReadFault::TooManyReads);
+
 // The end of the input within a message.
 fn truncated(at: u64) -> Given<'static> {
     Fails(ReadFault::Format(Fault {
@@ -100,8 +102,24 @@ fn a_message_and_a_front_of_it(rt: HostRuntime) -> Result<(), Fail> {
     Ok(())
 }
 
-// Calls of a reader over this source give this, one after another; the messages have so many bytes in all, and so many
-// reads were made and failed.
+// Calls of the reader of row `n` give this, one after another; the messages have so many bytes in all, and so many reads
+// were made and failed.
+fn gives(
+    rt: &(impl Abort + AllocGlobal),
+    n: u64,
+    reader: MessageReader<Pieces>,
+    script: &[(Call, Given)],
+    counts: [u64; 3],
+) -> Result<(), Fail> {
+    let mut reader = reader;
+    calls_give(rt, n, rt.alloc(), &mut reader, script)?;
+    let done = reader.done();
+    let source = reader.into_source();
+    assert_eq!(rt; [done, source.calls, source.failures], counts, "at {n}");
+    Ok(())
+}
+
+// The same of a reader over this source, which may make as many reads as it likes.
 fn reads(
     rt: &(impl Abort + AllocGlobal),
     source: Pieces,
@@ -109,11 +127,39 @@ fn reads(
     counts: [u64; 3],
 ) -> Result<(), Fail> {
     let n = source.fails_at;
-    let mut reader = MessageReader::new(rt.alloc(), source);
-    calls_give(rt, n, rt.alloc(), &mut reader, script)?;
-    let done = reader.done();
-    let source = reader.into_source();
-    assert_eq!(rt; [done, source.calls, source.failures], counts, "at {n}");
+    let reader = MessageReader::new(rt.alloc(), source);
+    gives(rt, n, reader, script, counts)
+}
+
+// How many reads a reader may make, and what its calls give where a method return comes one byte a read; how many bytes the
+// messages have, and how many reads were made and failed.
+const FEW_READS: &[(u32, &[(Call, Given<'static>)], [u64; 3])] = &[
+    (
+        0,
+        &[(NextKept, NOTHING), (Next, TOO_MANY), (NextKept, TOO_MANY)],
+        [0, 0, 0],
+    ),
+    (2, &[(Next, TOO_MANY), (Next, TOO_MANY)], [0, 2, 0]),
+    (
+        24,
+        &[(Next, Gives(RETURN)), (Next, TOO_MANY), (Next, TOO_MANY)],
+        [24, 24, 0],
+    ),
+    // The last read finds the end.
+    (
+        25,
+        &[(Next, Gives(RETURN)), (Next, NOTHING), (Next, NOTHING)],
+        [24, 25, 0],
+    ),
+];
+
+#[test]
+fn readers_of_few_reads(rt: HostRuntime) -> Result<(), Fail> {
+    for (most, script, counts) in FEW_READS {
+        let most = u64::from(*most);
+        let reader = MessageReader::with_reads(rt.alloc(), Pieces::new(RETURN, 1, 0), most);
+        gives(&rt, most, reader, *script, *counts)?;
+    }
     Ok(())
 }
 
