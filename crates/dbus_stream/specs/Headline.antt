@@ -1,4 +1,4 @@
--- What reading and writing promise, as one law over `decode`, `encode` and the cutter.
+-- What reading and writing promise under limits, as one law over `decode_within`, `encode` and the cutter.
 -- D-Bus Specification, "Message Protocol".
 use Rattle.std.specs.Prelude.{◌≡◌, ◌≢◌, ◌↔◌, ℕ, List, [], ◌∷◌, ◌++◌, length, take, Some, Vec, Result, Ok, Err, IfOk}
 use Rattle.std.specs.List.{concat}
@@ -27,7 +27,7 @@ pub record BeginsWithMessage (limits : Limits) (bytes : List ℕ) (order : Order
   pub spelled : take n bytes ≡ message_bytes order m
   pub size : n ≡ length (message_bytes order m)
 
--- `decode` answers that the bytes begin with this message, of n bytes
+-- `decode_within` answers that the bytes begin with this message, of n bytes
 abbrev pub Accepts : {A : Type 0} → Result (Answer A) Refusal → Order → MessageTree → ℕ → Type 0
 Accepts (Ok (Whole order message used)) as_order m n = (order ≡ as_order) × (message_tree message ≡ m) × (used ≡ n)
 Accepts (Ok Partial) as_order m n = ⊥
