@@ -1,12 +1,12 @@
 -- Worked examples of values: their spellings by the definitions, and the outcome of some bytes by the plain reader beside them.
 -- D-Bus Specification, "Marshaling (Wire Format)".
-use Rattle.std.proofs.Common.{◌≡◌, ℕ, List, [], ◌∷◌, refl}
-use Rattle.dbus_types.specs.Types.{NumberType, EntryType, BYTE, UINT16, INT64, UINT64, ArrayType}
+use Rattle.std.proofs.Common.{◌≡◌, ℕ, List, [], ◌∷◌, Option, None, Some, refl}
+use Rattle.dbus_types.specs.Types.{NumberType, EntryType, BYTE, UINT16, INT64, UINT64, UNIX_FD, ArrayType}
 use Rattle.dbus_value_model.specs.declared.order.Order.TheVariants.{Little, Big}
 use Rattle.dbus_value_model.specs.declared.fault.Reason.TheVariants as reasons
 use Rattle.dbus_value_model.specs.Values.{ValueTree, NoValues, MoreValues, NumberValue, VariantValue, ArrayValue, StructValue, EntryValue}
 use Rattle.dbus_value_model.specs.Bytes.{gap_to, num, low_first}
-use Rattle.dbus_value_model.specs.Specification.{specification, bounds_of}
+use Rattle.dbus_value_model.specs.Specification.{specification, bounds_of, bounds_with}
 use Rattle.dbus_value_model.specs.Spelling.{spelling, spellings}
 use Rattle.dbus_value_model.specs.Items.{fault}
 use Rattle.dbus_value_model.specs.Reading.{Outcome, Done, Faulty, Partial, padding, number, number_of, value}
@@ -67,3 +67,23 @@ array_past_its_end = refl
 array_too_deep : read_five 0 16 (8 ∷ []) ≡ Faulty (fault 0 reasons.TooDeep)
 unfolding value padding number number_of gap_to
 array_too_deep = refl
+
+-- reading an array of an index of 1 at the start, where indexes are to be below a number
+
+abbrev read_index : Option ℕ → Outcome ValueTree
+read_index fds = value (bounds_with specification fds) Little 64 8 (ArrayType (NumberType UNIX_FD)) 0 (4 ∷ 0 ∷ 0 ∷ 0 ∷ 1 ∷ 0 ∷ 0 ∷ 0 ∷ [])
+
+abbrev index_of_one : Outcome ValueTree
+index_of_one = Done (ArrayValue (NumberType UNIX_FD) (MoreValues (NumberValue UNIX_FD 1) NoValues)) 8 []
+
+index_below_two : read_index (Some 2) ≡ index_of_one
+unfolding value padding number number_of gap_to
+index_below_two = refl
+
+index_at_the_number : read_index (Some 1) ≡ Faulty (fault 4 reasons.FdIndex)
+unfolding value padding number number_of gap_to
+index_at_the_number = refl
+
+any_index : read_index None ≡ index_of_one
+unfolding value padding number number_of gap_to
+any_index = refl
