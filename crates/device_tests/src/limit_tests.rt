@@ -4,74 +4,122 @@ use crate::captures::*;
 use crate::pieces::Pieces;
 use crate::spelling::is_spelled;
 use dbus_stream::{Cutter, MessageReader, ReadFault, StreamFault};
-use dbus_value::{ARRAY_LIMIT, DEPTH_LIMIT, Fault, Limits, MESSAGE_LIMIT, Reason};
+use dbus_value::{ARRAY_LIMIT, DEPTH_LIMIT, Fault, FdRule, Limits, MESSAGE_LIMIT, Reason};
 use std::process::Abort;
 use std::test::Fail;
 
-// A message; limits on messages, arrays and open containers; and where it is refused under them, the fault's place and
-// reason, and how many of its bytes show it.
+// A message; limits on messages, arrays and open containers, and the rule on indexes of descriptors; and where it is refused
+// under them, the fault's place and reason, and how many of its bytes show it.
 struct Row {
     message: &'static [u8],
-    limits: (u32, u32, u8),
+    limits: (u32, u32, u8, FdRule::Any),
     refused: Option<(u64, Reason, usize)>,
 }
 
 const ROWS: &[Row] = &[
     Row {
         message: RETURN,
-        limits: (24, ARRAY_LIMIT, DEPTH_LIMIT),
+        limits: (24, ARRAY_LIMIT, DEPTH_LIMIT, FdRule::Any),
         refused: None,
     },
     Row {
         message: RETURN,
-        limits: (23, ARRAY_LIMIT, DEPTH_LIMIT),
+        limits: (23, ARRAY_LIMIT, DEPTH_LIMIT, FdRule::Any),
         refused: Some((12, Reason::MessageTooLong, 16)),
     },
     Row {
         message: RETURN,
-        limits: (MESSAGE_LIMIT, 8, DEPTH_LIMIT),
+        limits: (MESSAGE_LIMIT, 8, DEPTH_LIMIT, FdRule::Any),
         refused: None,
     },
     Row {
         message: RETURN,
-        limits: (MESSAGE_LIMIT, 7, DEPTH_LIMIT),
+        limits: (MESSAGE_LIMIT, 7, DEPTH_LIMIT, FdRule::Any),
         refused: Some((12, Reason::ArrayTooLong, 16)),
     },
     // The array of the fields, the struct of one, and its variant are open at once. An opening has no bytes of its own.
     Row {
         message: RETURN,
-        limits: (MESSAGE_LIMIT, ARRAY_LIMIT, 3),
+        limits: (MESSAGE_LIMIT, ARRAY_LIMIT, 3, FdRule::Any),
         refused: None,
     },
     Row {
         message: RETURN,
-        limits: (MESSAGE_LIMIT, ARRAY_LIMIT, 2),
+        limits: (MESSAGE_LIMIT, ARRAY_LIMIT, 2, FdRule::Any),
         refused: Some((17, Reason::TooDeep, 17)),
     },
     Row {
         message: RETURN,
-        limits: (MESSAGE_LIMIT, ARRAY_LIMIT, 1),
+        limits: (MESSAGE_LIMIT, ARRAY_LIMIT, 1, FdRule::Any),
         refused: Some((16, Reason::TooDeep, 16)),
     },
     Row {
         message: RETURN,
-        limits: (MESSAGE_LIMIT, ARRAY_LIMIT, 0),
+        limits: (MESSAGE_LIMIT, ARRAY_LIMIT, 0, FdRule::Any),
         refused: Some((12, Reason::TooDeep, 12)),
     },
     Row {
         message: NO_FIELDS,
-        limits: (MESSAGE_LIMIT, ARRAY_LIMIT, 1),
+        limits: (MESSAGE_LIMIT, ARRAY_LIMIT, 1, FdRule::Any),
         refused: None,
     },
     Row {
         message: SIGNAL,
-        limits: (96, 56, 3),
+        limits: (96, 56, 3, FdRule::Any),
         refused: None,
     },
     Row {
         message: SIGNAL,
-        limits: (MESSAGE_LIMIT, 55, DEPTH_LIMIT),
+        limits: (MESSAGE_LIMIT, 55, DEPTH_LIMIT, FdRule::Any),
         refused: Some((12, Reason::ArrayTooLong, 16)),
+    },
+    // The index 0, where no descriptors come with the message and where one does; and the index 1 where one does.
+    Row {
+        message: INDEX_OF_NONE,
+        limits: (MESSAGE_LIMIT, ARRAY_LIMIT, DEPTH_LIMIT, FdRule::Any),
+        refused: None,
+    },
+    Row {
+        message: INDEX_OF_NONE,
+        limits: (MESSAGE_LIMIT, ARRAY_LIMIT, DEPTH_LIMIT, FdRule::BelowCount),
+        refused: Some((32, Reason::FdIndex, 36)),
+    },
+    Row {
+        message: INDEX_OF_ONE,
+        limits: (MESSAGE_LIMIT, ARRAY_LIMIT, DEPTH_LIMIT, FdRule::BelowCount),
+        refused: None,
+    },
+    Row {
+        message: INDEX_PAST_ONE,
+        limits: (MESSAGE_LIMIT, ARRAY_LIMIT, DEPTH_LIMIT, FdRule::Any),
+        refused: None,
+    },
+    Row {
+        message: INDEX_PAST_ONE,
+        limits: (MESSAGE_LIMIT, ARRAY_LIMIT, DEPTH_LIMIT, FdRule::BelowCount),
+        refused: Some((40, Reason::FdIndex, 44)),
+    },
+    // Within a variant.
+    Row {
+        message: INDEX_IN_VARIANT,
+        limits: (MESSAGE_LIMIT, ARRAY_LIMIT, DEPTH_LIMIT, FdRule::Any),
+        refused: None,
+    },
+    Row {
+        message: INDEX_IN_VARIANT,
+        limits: (MESSAGE_LIMIT, ARRAY_LIMIT, DEPTH_LIMIT, FdRule::BelowCount),
+        refused: Some((36, Reason::FdIndex, 40)),
+    },
+    // The body's length is one byte too many, which shows behind the index.
+    Row {
+        message: INDEX_AND_MORE,
+        limits: (MESSAGE_LIMIT, ARRAY_LIMIT, DEPTH_LIMIT, FdRule::Any),
+        refused: Some((36, Reason::Trailing, 36)),
+    },
+    Row {
+        message: INDEX_AND_MORE,
+        limits: (MESSAGE_LIMIT, ARRAY_LIMIT, DEPTH_LIMIT, FdRule::BelowCount),
+        refused: Some((32, Reason::FdIndex, 36)),
     },
 ];
 
@@ -94,8 +142,10 @@ fn outcome_at(row: &Row, count: usize) -> Result<&'static [u8], Fault> {
 }
 
 fn limits_of(rt: &impl Abort, row: &Row) -> Limits {
-    let (message, array, depth) = row.limits;
-    Limits::new(message, array, depth).expect(rt, "limits in range")
+    let (message, array, depth, fds) = row.limits;
+    Limits::new(message, array, depth)
+        .expect(rt, "limits in range")
+        .with_fds(fds)
 }
 
 // The cutter of row `n` answers what the row's bytes come to, of which so many are there with this piece. It takes all of

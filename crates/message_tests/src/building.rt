@@ -4,7 +4,7 @@
 use crate::answers::{bytes_of, is_encoded, whole};
 use dbus_message::{BuildFault, HeaderField, Message, Parts};
 use dbus_types::SigType;
-use dbus_value::{Limits, Order, Value};
+use dbus_value::{FdRule, Limits, Order, Value};
 use std::alloc::{AllocError, Global};
 use std::process::Abort;
 use std::test::Fail;
@@ -320,6 +320,63 @@ fn parts_under_limits(rt: HostRuntime) -> Result<(), Fail> {
         let found = fault_within(alloc, parts_of(alloc, &SHORT)?, limits);
         assert_eq!(rt; found, *wanted, "at {n}");
         assert!(rt; whole.within(limits) == wanted.is_none(), "at {n}");
+    }
+    Ok(())
+}
+
+// The index 0 in a body, of which no descriptors come, one does, and one is said by a field of another code.
+const INDEXED: &[(Row, Option<BuildFault>)] = &[
+    (
+        (
+            2,
+            1,
+            &[(5, Item::U32(1)), (8, Item::Sig("h"))],
+            &[Item::Fd(0)],
+        ),
+        Some(BuildFault::FdIndex(0)),
+    ),
+    (
+        (
+            2,
+            1,
+            &[(5, Item::U32(1)), (8, Item::Sig("h")), (9, Item::U32(1))],
+            &[Item::Fd(0)],
+        ),
+        None,
+    ),
+    (
+        (
+            2,
+            1,
+            &[(5, Item::U32(1)), (8, Item::Sig("h")), (10, Item::U32(1))],
+            &[Item::Fd(0)],
+        ),
+        Some(BuildFault::FdIndex(0)),
+    ),
+    // The first value whose index is past is told.
+    (
+        (
+            2,
+            1,
+            &[(5, Item::U32(1)), (8, Item::Sig("hhh")), (9, Item::U32(2))],
+            &[Item::Fd(1), Item::Fd(2), Item::Fd(3)],
+        ),
+        Some(BuildFault::FdIndex(1)),
+    ),
+    // An index in a field of an unknown code is not looked at.
+    ((2, 1, &[(5, Item::U32(1)), (10, Item::Fd(7))], &[]), None),
+];
+
+// Under the rule on indexes of descriptors, and without it.
+#[test]
+fn parts_with_indexes(rt: HostRuntime) -> Result<(), Fail> {
+    let alloc = rt.alloc();
+    let below = Limits::specification().with_fds(FdRule::BelowCount);
+    for (n, (row, wanted)) in INDEXED.iter().enumerate() {
+        let whole = message_of(&rt, alloc, n, parts_of(alloc, row)?);
+        let found = fault_within(alloc, parts_of(alloc, row)?, below);
+        assert_eq!(rt; found, *wanted, "at {n}");
+        assert!(rt; whole.within(below) == wanted.is_none(), "at {n}");
     }
     Ok(())
 }

@@ -1,4 +1,4 @@
-//! Tests of `dbus_message`: messages decoded, encoded and built of their parts, stated lengths, each fault, and each growth refused.
+//! Tests of `dbus_message`: messages decoded, encoded and built of their parts, stated lengths, limits that are handed in, each fault, and each growth refused.
 #![tactic(auto)]
 
 #[cfg(test)]
@@ -9,6 +9,8 @@ mod building;
 mod faults;
 #[cfg(test)]
 mod growths;
+#[cfg(test)]
+mod limits;
 #[cfg(test)]
 mod stated;
 #[cfg(test)]
