@@ -1,32 +1,44 @@
 # The completion of dbus-wire's commands and options, for bash.
 
 _dbus_wire() {
-    local word=${COMP_WORDS[COMP_CWORD]} before=${COMP_WORDS[COMP_CWORD-1]}
+    local word=${COMP_WORDS[COMP_CWORD]} option=${COMP_WORDS[COMP_CWORD-1]}
     local commands='show check swap filter help'
+    local options='--max-message --max-array --max-depth -h --help'
     COMPREPLY=()
     if ((COMP_CWORD == 1)); then
         COMPREPLY=($(compgen -W "$commands -h --help" -- "$word"))
         return
     fi
+    # Bash gives `--to=l` as the words `--to`, `=` and `l`.
+    if [[ $word == = ]]; then
+        word=
+    elif [[ $option == = ]]; then
+        option=${COMP_WORDS[COMP_CWORD-2]}
+    fi
+    case $option in
+        --to)
+            COMPREPLY=($(compgen -W 'l B' -- "$word"))
+            return
+            ;;
+        --max-*)
+            # A number.
+            return
+            ;;
+    esac
     case ${COMP_WORDS[1]} in
         swap)
-            # Bash gives `--to=l` as the words `--to`, `=` and `l`.
-            if [[ $before == --to || $before == = ]]; then
-                COMPREPLY=($(compgen -W 'l B' -- "${word#=}"))
-            else
-                COMPREPLY=($(compgen -W '--to -h --help' -- "$word"))
-            fi
+            COMPREPLY=($(compgen -W "--to $options" -- "$word"))
             ;;
         filter)
             if [[ $word == -* ]]; then
-                COMPREPLY=($(compgen -W '-h --help' -- "$word"))
+                COMPREPLY=($(compgen -W "$options" -- "$word"))
             elif ((COMP_CWORD == 2)); then
                 compopt -o nospace
                 COMPREPLY=($(compgen -W 'type= sender= interface= member= path= path_namespace= destination=' -- "$word"))
             fi
             ;;
         show | check)
-            COMPREPLY=($(compgen -W '-h --help' -- "$word"))
+            COMPREPLY=($(compgen -W "$options" -- "$word"))
             ;;
         help)
             ((COMP_CWORD == 2)) && COMPREPLY=($(compgen -W "$commands" -- "$word"))

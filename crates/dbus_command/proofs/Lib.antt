@@ -1,2 +1,4 @@
 pub mod Nothing
+pub mod Numbers
+pub mod Options
 pub mod Tells

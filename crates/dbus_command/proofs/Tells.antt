@@ -1,5 +1,5 @@
 -- What clap's answer says of what is told.
-use Rattle.std.proofs.Common.{◌≡◌, List, [], true, refl, subst, sym, ◌∙◌, inl, inr, Ok, Err, Option, Result}
+use Rattle.std.proofs.Common.{◌≡◌, List, [], true, refl, subst, sym, ◌∙◌, inl, inr, Ok, Err, Option, Some, Result}
 use Rattle.clap.specs.Words.{Row, Text, subcommand_of}
 use Rattle.clap.specs.Kinds.{IsAmong, HasKind}
 use Rattle.clap.specs.Faults.{fault_of, is_simple_and_free}
@@ -9,8 +9,11 @@ use Rattle.clap.specs.declared.error.Error.{Error}
 use Rattle.clap.specs.declared.error.kind.ErrorKind.TheVariants.{DisplayHelp, OutOfMemory}
 use Rattle.clap.proofs.OnLiterals.{clap_on_literals}
 use Rattle.dbus_command.specs.CommandLine.{wire_app}
-use Rattle.dbus_command.specs.Told.{TellsFault, TellsKind, Tells, IsUsageOrMemory, NamesNothing}
+use Rattle.dbus_value_model.specs.declared.limits.Limits.{Limits}
+use Rattle.dbus_command.specs.Limiting.{HasLimits}
+use Rattle.dbus_command.specs.Told.{TellsFault, TellsKind, Tells, TellsCommand, IsUsageOrMemory, IsNoCommand, NamesNothing}
 use Rattle.dbus_command.specs.Named.{HasRuleFault}
+use Rattle.dbus_command.proofs.Nothing.{no_command_names_nothing}
 use Rattle.dbus_command.specs.declared.command.Command.{Command}
 use Rattle.dbus_command.specs.declared.usage_fault.UsageFault.{UsageFault}
 use Rattle.dbus_command.specs.declared.usage_fault.UsageFault.TheVariants.{Memory, Help, Usage, Rule}
@@ -30,9 +33,24 @@ nothing_told sub (Help text) is none = absurd is
 nothing_told sub (Usage text) is none = none
 nothing_told sub (Rule fault) is none = absurd is
 
-pub told_of_matches : (words : List Text) (sub : Option (Text × List Row)) (answer : Result Command UsageFault) → fault_of wire_app words ≡ []
+-- and of words behind a name that are no command
+pub no_command_told : (name : Text) (rows : List Row) (told : UsageFault) → IsUsageOrMemory told → IsNoCommand name rows → TellsCommand name rows (Err told)
+no_command_told name rows Memory is none = tt
+no_command_told name rows (Help text) is none = absurd is
+no_command_told name rows (Usage text) is none = none
+no_command_told name rows (Rule fault) is none = absurd is
+
+-- what is told of the words behind a name, where they name limits
+pub told_under_limits : (sub : Text × List Row) (limits : Limits) (told : UsageFault) → HasLimits sub.1 limits → TellsCommand sub.0 sub.1 (Err told)
+    → Tells (Some sub) (Err told)
+told_under_limits sub limits Memory given h = tt
+told_under_limits sub limits (Help text) given h = h
+told_under_limits sub limits (Usage text) given h = no_command_names_nothing sub h
+told_under_limits sub limits (Rule fault) given h = (h, (limits, given))
+
+pub told_of_matches : (words : List Text) (sub : Option (Text × List Row)) (answer : Result (Command × Limits) UsageFault) → fault_of wire_app words ≡ []
     → subcommand_of wire_app words ≡ sub → Tells sub answer → TellsFault words answer
-told_of_matches words sub (Ok command) none same h = none
+told_of_matches words sub (Ok named) none same h = none
 told_of_matches words sub (Err Memory) none same h = tt
 told_of_matches words sub (Err (Help text)) none same h = absurd h
 told_of_matches words sub (Err (Usage text)) none same h = inr (none, subst NamesNothing (sym same) h)

@@ -1,9 +1,11 @@
 -- The command line of the program, as `clap` reads it: its name and then a subcommand with its words.
-use Rattle.std.specs.Prelude.{◌≡◌, Some, true, false, codes}
-use Rattle.clap.specs.Words.{App, Rule, app_of, new_app, new_rule, with_rule, with_subcommand}
+use Rattle.std.specs.Prelude.{◌≡◌, ℕ, Some, true, false, codes, pos}
+use Rattle.clap.specs.Words.{App, Rule, Text, app_of, new_app, new_rule, with_rule, with_subcommand}
 use Rattle.clap.specs.Simple.{on_top}
 use Rattle.clap.specs.declared.builder.command.Command.{Command}
 use Rattle.clap.specs.declared.builder.command.Command.TheViews.{out-Command}
+use Rattle.clap.specs.declared.builder.value_parser.ValueParser.TheVariants.{Signed}
+use Rattle.dbus_value_model.specs.declared.limits.TheConstants.{ARRAY_LIMIT, DEPTH_LIMIT, MESSAGE_LIMIT}
 
 -- the option `--to`, which must be there, with one value
 abbrev pub to_rule : Rule
@@ -13,17 +15,27 @@ to_rule = record (new_rule (codes "to")) { long = Some (codes "to"); value_names
 abbrev pub text_rule : Rule
 text_rule = record (new_rule (codes "rule")) { value_names = 1; required = true }
 
+-- an option with one value, a number from 0 up to this one
+abbrev pub limit_rule : Text → ℕ → Rule
+limit_rule name most = record (new_rule name) { long = Some name; value_names = 1; parser = Some (Signed (pos 0) (pos most)) }
+
+-- the command with the three options for limits
+abbrev pub with_limits : App → App
+with_limits app = with_rule
+    (with_rule (with_rule app (limit_rule (codes "max-message") MESSAGE_LIMIT)) (limit_rule (codes "max-array") ARRAY_LIMIT))
+    (limit_rule (codes "max-depth") DEPTH_LIMIT)
+
 abbrev pub show_app : App
-show_app = new_app (codes "show")
+show_app = with_limits (new_app (codes "show"))
 
 abbrev pub check_app : App
-check_app = new_app (codes "check")
+check_app = with_limits (new_app (codes "check"))
 
 abbrev pub swap_app : App
-swap_app = with_rule (new_app (codes "swap")) to_rule
+swap_app = with_limits (with_rule (new_app (codes "swap")) to_rule)
 
 abbrev pub filter_app : App
-filter_app = with_rule (new_app (codes "filter")) text_rule
+filter_app = with_limits (with_rule (new_app (codes "filter")) text_rule)
 
 -- one of the subcommands must be named
 abbrev pub bare_app : App
@@ -37,3 +49,8 @@ wire_app = with_subcommand (with_subcommand (with_subcommand (with_subcommand ba
 pub record IsLocal (app : App) (command : Command) : Type 0 where
   pub app_is : app_of command ≡ app
   pub local : (out-Command command).has_globals ≡ false
+
+-- the command has the options for limits behind its own, and nothing else is new
+pub record TakesLimits (old new : Command) : Type 0 where
+  pub app_is : app_of new ≡ with_limits (app_of old)
+  pub as_local : (out-Command new).has_globals ≡ (out-Command old).has_globals

@@ -1,3 +1,4 @@
 pub mod CommandLine
+pub mod Limiting
 pub mod Named
 pub mod Told

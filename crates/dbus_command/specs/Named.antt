@@ -1,7 +1,8 @@
--- The command that words name, and the fault of a rule's text among them.
+-- The command and the limits that words name, and the fault of a rule's text among them.
 use Rattle.std.specs.Prelude.{◌≡◌, ℕ, List, Option, Some, None, codes}
 use Rattle.std.specs.declared.alloc.Global.{Global}
 use Rattle.clap.specs.Words.{Row, Text, first_of, subcommand_of}
+use Rattle.dbus_value_model.specs.declared.limits.Limits.{Limits}
 use Rattle.dbus_value_model.specs.declared.order.Order.{Order}
 use Rattle.dbus_value_model.specs.declared.order.Order.TheVariants.{Little, Big}
 use Rattle.dbus_match.specs.declared.fault.RuleFault.{RuleFault}
@@ -12,6 +13,7 @@ use Rattle.dbus_match.specs.Faults.{IsFault}
 use Rattle.dbus_match.specs.Rules.{SpellsRule}
 use Rattle.dbus_match.specs.RuleViews.{rule_pairs}
 use Rattle.dbus_command.specs.CommandLine.{wire_app}
+use Rattle.dbus_command.specs.Limiting.{HasLimits}
 use Rattle.dbus_command.specs.declared.command.Command.{Command}
 use Rattle.dbus_command.specs.declared.command.Command.TheVariants.{Show, Check, Swap, Filter}
 
@@ -31,26 +33,35 @@ pub record IsRuleGiven (rows : List Row) (rule : Rule Global) : Type 0 where
   pub given : first_of (codes "rule") rows ≡ Some text
   pub spelled : SpellsRule text (rule_pairs rule)
 
--- the subcommand and the words behind it name the command
-abbrev pub Names : Option (Text × List Row) → Command → Type 0
-Names sub Show = (rows : List Row) × (sub ≡ Some (codes "show", rows))
-Names sub Check = (rows : List Row) × (sub ≡ Some (codes "check", rows))
-Names sub (Swap order) = (rows : List Row) × (sub ≡ Some (codes "swap", rows)) × (first_of (codes "to") rows ≡ Some (order_word order))
-Names sub (Filter rule) = (rows : List Row) × (sub ≡ Some (codes "filter", rows)) × IsRuleGiven rows rule
+-- the name of a subcommand and the words behind it name the command
+abbrev pub NamesCommand : Text → List Row → Command → Type 0
+NamesCommand name rows Show = name ≡ codes "show"
+NamesCommand name rows Check = name ≡ codes "check"
+NamesCommand name rows (Swap order) = (name ≡ codes "swap") × (first_of (codes "to") rows ≡ Some (order_word order))
+NamesCommand name rows (Filter rule) = (name ≡ codes "filter") × IsRuleGiven rows rule
 
--- the command is the one that the words name
-abbrev pub IsNamedBy : List Text → Command → Type 0
-IsNamedBy words command = Names (subcommand_of wire_app words) command
+-- the subcommand and the words behind it name the command and its limits
+abbrev pub Names : Option (Text × List Row) → Command → Limits → Type 0
+Names None command limits = ⊥
+Names (Some sub) command limits = NamesCommand sub.0 sub.1 command × HasLimits sub.1 limits
+
+-- the command and the limits are those that the words name
+abbrev pub IsNamedBy : List Text → Command × Limits → Type 0
+IsNamedBy words named = Names (subcommand_of wire_app words) named.0 named.1
 
 -- the words behind `filter` have a text with this fault at this place
-pub record HasFaultAt (sub : Option (Text × List Row)) (reason : RuleReason) (at : ℕ) : Type 0 where
-  pub rows : List Row
-  pub named : sub ≡ Some (codes "filter", rows)
+pub record HasFaultAt (name : Text) (rows : List Row) (reason : RuleReason) (at : ℕ) : Type 0 where
+  pub named : name ≡ codes "filter"
   pub text : Text
   pub given : first_of (codes "rule") rows ≡ Some text
   pub fault : IsFault text reason at
 
 -- the same, of a fault; want of memory is none of a text
+abbrev pub HasFault : Text → List Row → RuleFault → Type 0
+HasFault name rows Memory = ⊥
+HasFault name rows (Bad at reason) = HasFaultAt name rows reason at
+
+-- the same, behind options that name limits
 abbrev pub HasRuleFault : Option (Text × List Row) → RuleFault → Type 0
-HasRuleFault sub Memory = ⊥
-HasRuleFault sub (Bad at reason) = HasFaultAt sub reason at
+HasRuleFault None fault = ⊥
+HasRuleFault (Some sub) fault = HasFault sub.0 sub.1 fault × ((limits : Limits) × HasLimits sub.1 limits)

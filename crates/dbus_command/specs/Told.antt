@@ -5,9 +5,10 @@ use Rattle.clap.specs.Kinds.{IsAmong}
 use Rattle.clap.specs.Faults.{fault_of}
 use Rattle.clap.specs.declared.error.kind.ErrorKind.{ErrorKind}
 use Rattle.clap.specs.declared.error.kind.ErrorKind.TheVariants.{DisplayHelp, OutOfMemory}
+use Rattle.dbus_value_model.specs.declared.limits.Limits.{Limits}
 use Rattle.dbus_match.specs.declared.fault.RuleFault.{RuleFault}
 use Rattle.dbus_command.specs.CommandLine.{wire_app}
-use Rattle.dbus_command.specs.Named.{Names, HasRuleFault}
+use Rattle.dbus_command.specs.Named.{Names, NamesCommand, HasFault, HasRuleFault}
 use Rattle.dbus_command.specs.declared.command.Command.{Command}
 use Rattle.dbus_command.specs.declared.usage_fault.UsageFault.{UsageFault}
 use Rattle.dbus_command.specs.declared.usage_fault.UsageFault.TheVariants.{Memory, Help, Usage, Rule}
@@ -25,14 +26,28 @@ IsUsageOrMemory (Help text) = ⊥
 IsUsageOrMemory (Usage text) = Unit {0}
 IsUsageOrMemory (Rule fault) = ⊥
 
--- the subcommand and the words behind it name no command, and no rule's text that has a fault
+-- the name of a subcommand and the words behind it name no command, and no rule's text that has a fault
+pub record IsNoCommand (name : Text) (rows : List Row) : Type 0 where
+  pub no_command : (command : Command) → NamesCommand name rows command → ⊥
+  pub no_fault : (fault : RuleFault) → HasFault name rows fault → ⊥
+
+-- the command that they name; else the fault of the rule's text; else a fault of usage
+abbrev pub TellsCommand : Text → List Row → Result Command UsageFault → Type 0
+TellsCommand name rows (Ok command) = NamesCommand name rows command
+TellsCommand name rows (Err Memory) = Unit {0}
+TellsCommand name rows (Err (Help text)) = ⊥
+TellsCommand name rows (Err (Usage text)) = IsNoCommand name rows
+TellsCommand name rows (Err (Rule fault)) = HasFault name rows fault
+
+-- the subcommand and the words behind it name no command with its limits, and no rule's text that has a fault
 pub record NamesNothing (sub : Option (Text × List Row)) : Type 0 where
-  pub no_command : (command : Command) → Names sub command → ⊥
+  pub no_command : (command : Command) (limits : Limits) → Names sub command limits → ⊥
   pub no_rule : (fault : RuleFault) → HasRuleFault sub fault → ⊥
 
--- the command that the subcommand and the words behind it name; else the fault of the rule's text; else a fault of usage
-abbrev pub Tells : Option (Text × List Row) → Result Command UsageFault → Type 0
-Tells sub (Ok command) = Names sub command
+-- the command and the limits that the subcommand and the words behind it name; else the fault of the rule's text; else a
+-- fault of usage
+abbrev pub Tells : Option (Text × List Row) → Result (Command × Limits) UsageFault → Type 0
+Tells sub (Ok named) = Names sub named.0 named.1
 Tells sub (Err Memory) = Unit {0}
 Tells sub (Err (Help text)) = ⊥
 Tells sub (Err (Usage text)) = NamesNothing sub
@@ -46,8 +61,8 @@ pub record HasUsageFault (words : List Text) : Type 0 where
 
 -- a command, and a rule's fault, come only from words in which clap finds no fault, help only from words that ask for it,
 -- and a fault of usage only from words that have one, or that have neither a command nor a rule's fault
-abbrev pub TellsFault : List Text → Result Command UsageFault → Type 0
-TellsFault words (Ok command) = fault_of wire_app words ≡ []
+abbrev pub TellsFault : List Text → Result (Command × Limits) UsageFault → Type 0
+TellsFault words (Ok named) = fault_of wire_app words ≡ []
 TellsFault words (Err Memory) = Unit {0}
 TellsFault words (Err (Help text)) = IsAmong DisplayHelp (fault_of wire_app words)
 TellsFault words (Err (Usage text)) = HasUsageFault words ⊎ ((fault_of wire_app words ≡ []) × NamesNothing (subcommand_of wire_app words))

@@ -1,24 +1,28 @@
 //! The command that the words of a command line name.
-ghost use Rattle.std.specs.Prelude.{List, IfOk, Some, map, string_bytes, codes};
+ghost use Rattle.std.specs.Prelude.{List, IfOk, map, string_bytes, codes};
 ghost use Rattle.clap.specs.Words.{found_of, kind_of, rows_of, subcommand_rows_of};
 ghost use Rattle.dbus_command.specs.Named.{IsNamedBy, IsOrderOf};
-ghost use Rattle.dbus_command.specs.Told.{TellsKind, IsUsageOrMemory, Tells, TellsFault};
+ghost use Rattle.dbus_command.specs.Told.{TellsKind, IsUsageOrMemory, Tells, TellsCommand, TellsFault};
 
 use crate::command::Command;
+use crate::limits_named::limits_named;
 use crate::usage_fault::UsageFault;
 use crate::wire::wire;
 use clap::ArgMatches;
 use clap::error::ErrorKind;
 use dbus_match::{RuleFault, parse_rule};
-use dbus_value::Order;
+use dbus_value::{Limits, Order};
 use std::alloc::Global;
 
-/// The command that the words name. The first of them is the program's name.
+/// The command that the words name, and the limits that its messages are read under. The first of the words is the
+/// program's name. `--max-message` and `--max-array`, in bytes, and `--max-depth`, in open containers, name the limits;
+/// one that they do not name is that of the specification.
 ///
-/// `Usage`: the words name no command of the program, or have what it does not take. `Rule`: they name `filter`, with a
-/// text that spells no rule. `Help`: they ask for help. `Memory`: a growth was refused.
-pub fn command_of(alloc: Global, words: &[String]) -> Result<Command, UsageFault>
-    // A command that is answered is the one that the words name.
+/// `Usage`: the words name no command of the program, or have what it does not take, a limit over that of the
+/// specification among it. `Rule`: they name `filter`, with a text that spells no rule. `Help`: they ask for help.
+/// `Memory`: a growth was refused.
+pub fn command_of(alloc: Global, words: &[String]) -> Result<(Command, Limits), UsageFault>
+    // A command that is answered is the one that the words name, and so are its limits.
     ensures named { IfOk result (IsNamedBy (map string_bytes words.now)) }
     // Help is told where the words ask for it, a fault of usage where they have one, and a rule's fault where its text has it.
     ensures faults { TellsFault (map string_bytes words.now) result }
@@ -32,13 +36,24 @@ pub fn command_of(alloc: Global, words: &[String]) -> Result<Command, UsageFault
     }
 }
 
-// The command that matches name.
-fn command_named(alloc: Global, matches: &ArgMatches) -> Result<Command, UsageFault>
+// The command that matches name, and its limits.
+fn command_named(alloc: Global, matches: &ArgMatches) -> Result<(Command, Limits), UsageFault>
     ensures { Tells (subcommand_rows_of matches.now) result }
 {
     let Some((name, inner)) = matches.subcommand() else {
         return Err(usage(alloc, "error: no command\n"));
     };
+    let Some(limits) = limits_named(inner) else {
+        return Err(usage(alloc, "error: no limits\n"));
+    };
+    let command = command_behind(alloc, name, inner)?;
+    Ok((command, limits))
+}
+
+// The command of this name, with what stands behind it.
+fn command_behind(alloc: Global, name: &str, inner: &ArgMatches) -> Result<Command, UsageFault>
+    ensures { TellsCommand name.now (rows_of (found_of inner.now)) result }
+{
     if name == "show" {
         return Ok(Command::Show);
     }
@@ -56,7 +71,7 @@ fn command_named(alloc: Global, matches: &ArgMatches) -> Result<Command, UsageFa
 
 // The order that `swap` is given.
 fn order_named(alloc: Global, inner: &ArgMatches) -> Result<Command, UsageFault>
-    ensures { Tells (Some (codes "swap", rows_of (found_of inner.now))) result }
+    ensures { TellsCommand (codes "swap") (rows_of (found_of inner.now)) result }
 {
     let Some(word) = inner.get_str("to") else {
         return Err(usage(alloc, "error: no order\n"));
@@ -82,7 +97,7 @@ fn order_of(word: &str) -> Option<Order>
 
 // The rule that `filter` is given.
 fn rule_named(alloc: Global, inner: &ArgMatches) -> Result<Command, UsageFault>
-    ensures { Tells (Some (codes "filter", rows_of (found_of inner.now))) result }
+    ensures { TellsCommand (codes "filter") (rows_of (found_of inner.now)) result }
 {
     let Some(text) = inner.get_str("rule") else {
         return Err(usage(alloc, "error: no rule\n"));

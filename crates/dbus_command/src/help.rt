@@ -6,7 +6,8 @@ macro_rules! more {
         concat!(
             "Input:
   Raw messages on standard input, one behind the other, as
-  `dbus-monitor --binary` writes them.
+  `dbus-monitor --binary` writes them. A message over one of the limits, which
+  the options of a command lower, is refused.
 
 Output:",
             $output,
@@ -15,7 +16,7 @@ Output:",
 Exit status:
   0  the whole input is messages, or help was asked for
   1  the input is refused: it has bytes that are no message, or ends within one
-  2  the words of the command line are wrong
+  2  the words of the command line are wrong, or a limit is out of its range
   3  a read or a write failed, too many reads were made, or memory was refused
 
 Example:",
@@ -96,3 +97,12 @@ pub(crate) const FILTER_MORE: &str = more!(
 /// What the rule of `filter` is.
 pub(crate) const RULE: &str =
     "A D-Bus match rule, as type='signal',path='/a'; '' matches each message";
+
+/// What the limit on messages is.
+pub(crate) const MAX_MESSAGE: &str = "Most bytes of a message: 0 to 134217728, the default";
+
+/// What the limit on arrays is.
+pub(crate) const MAX_ARRAY: &str = "Most bytes of an array: 0 to 67108864, the default";
+
+/// What the limit on depth is.
+pub(crate) const MAX_DEPTH: &str = "Most containers open at once: 0 to 64, the default";

@@ -1,9 +1,10 @@
-//! The command line of the program `dbus-wire`: which command its words name.
+//! The command line of the program `dbus-wire`: which command its words name, under which limits.
 #![tactic(auto)]
 
 mod command;
 mod command_line;
 mod help;
+mod limits_named;
 mod usage_fault;
 mod wire;
 

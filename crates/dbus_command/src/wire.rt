@@ -1,31 +1,57 @@
 //! The command line, as `clap` is told it.
-ghost use Rattle.std.specs.Prelude.{◌≡◌, IfOk};
-ghost use Rattle.clap.specs.Words.{app_of};
-ghost use Rattle.dbus_command.specs.CommandLine.{IsLocal, wire_app, bare_app, show_app, check_app, swap_app, filter_app};
+ghost use Rattle.std.specs.Prelude.{◌≡◌, IfOk, false};
+ghost use Rattle.clap.specs.Words.{app_of, rule_of};
+ghost use Rattle.dbus_command.specs.CommandLine.{IsLocal, TakesLimits, limit_rule, wire_app, bare_app, show_app, check_app, swap_app, filter_app};
 
 use crate::help;
+use clap::builder::ValueParser;
 use clap::{Arg, Command};
+use dbus_value::{ARRAY_LIMIT, DEPTH_LIMIT, MESSAGE_LIMIT};
 use std::alloc::{AllocError, Global};
 
-// `show`, which takes no words.
-fn show_command<'a>(alloc: Global) -> Command<'a>
-    ensures { IsLocal show_app result }
+// The option of one limit: a number up to the limit of the specification.
+fn limit_option<'a>(alloc: Global, name: &'a str, most: u32, help: &'a str) -> Arg<'a>
+    ensures rule { rule_of result ≡ limit_rule name.entry.now most }
+    ensures local { result.global ≡ false }
 {
-    Command::new(alloc, "show")
+    Arg::new(alloc, name)
+        .long(name)
+        .value_name("N")
+        .help(help)
+        .value_parser(ValueParser::signed(0, i64::from(most)))
+}
+
+// The command with the options for limits, which each command of the program takes.
+fn with_limits<'a>(alloc: Global, command: Command<'a>) -> Result<Command<'a>, AllocError>
+    ensures { IfOk result (TakesLimits command.entry) }
+{
+    let message = limit_option(alloc, "max-message", MESSAGE_LIMIT, help::MAX_MESSAGE);
+    let array = limit_option(alloc, "max-array", ARRAY_LIMIT, help::MAX_ARRAY);
+    let depth = limit_option(alloc, "max-depth", u32::from(DEPTH_LIMIT), help::MAX_DEPTH);
+    command.arg(message)?.arg(array)?.arg(depth)
+}
+
+// `show`, which takes no words but its options.
+fn show_command<'a>(alloc: Global) -> Result<Command<'a>, AllocError>
+    ensures { IfOk result (IsLocal show_app) }
+{
+    let show = Command::new(alloc, "show")
         .about(help::SHOW)
-        .after_help(help::SHOW_MORE)
+        .after_help(help::SHOW_MORE);
+    with_limits(alloc, show)
 }
 
-// `check`, which takes no words.
-fn check_command<'a>(alloc: Global) -> Command<'a>
-    ensures { IsLocal check_app result }
+// `check`, which takes no words but its options.
+fn check_command<'a>(alloc: Global) -> Result<Command<'a>, AllocError>
+    ensures { IfOk result (IsLocal check_app) }
 {
-    Command::new(alloc, "check")
+    let check = Command::new(alloc, "check")
         .about(help::CHECK)
-        .after_help(help::CHECK_MORE)
+        .after_help(help::CHECK_MORE);
+    with_limits(alloc, check)
 }
 
-// `swap`, with its option.
+// `swap`, with its order.
 fn swap_command<'a>(alloc: Global) -> Result<Command<'a>, AllocError>
     ensures { IfOk result (IsLocal swap_app) }
 {
@@ -34,10 +60,11 @@ fn swap_command<'a>(alloc: Global) -> Result<Command<'a>, AllocError>
         .value_name("ORDER")
         .help(help::ORDER)
         .required(true);
-    Command::new(alloc, "swap")
+    let swap = Command::new(alloc, "swap")
         .about(help::SWAP)
         .after_help(help::SWAP_MORE)
-        .arg(to)
+        .arg(to)?;
+    with_limits(alloc, swap)
 }
 
 // `filter`, with its rule.
@@ -48,10 +75,11 @@ fn filter_command<'a>(alloc: Global) -> Result<Command<'a>, AllocError>
         .value_name("RULE")
         .help(help::RULE)
         .required(true);
-    Command::new(alloc, "filter")
+    let filter = Command::new(alloc, "filter")
         .about(help::FILTER)
         .after_help(help::FILTER_MORE)
-        .arg(rule)
+        .arg(rule)?;
+    with_limits(alloc, filter)
 }
 
 // The program before it has subcommands. Its texts call it `dbus-wire`, whatever the first word is.
@@ -69,11 +97,13 @@ fn bare_command<'a>(alloc: Global) -> Result<Command<'a>, AllocError>
 pub(crate) fn wire<'a>(alloc: Global) -> Result<Command<'a>, AllocError>
     ensures { IfOk result (λ c. app_of c ≡ wire_app) }
 {
+    let show = show_command(alloc)?;
+    let check = check_command(alloc)?;
     let swap = swap_command(alloc)?;
     let filter = filter_command(alloc)?;
     let bare = bare_command(alloc)?;
-    let showing = bare.subcommand(show_command(alloc))?;
-    let checking = showing.subcommand(check_command(alloc))?;
+    let showing = bare.subcommand(show)?;
+    let checking = showing.subcommand(check)?;
     let swapping = checking.subcommand(swap)?;
     swapping.subcommand(filter)
 }
