@@ -1,16 +1,17 @@
 -- The turns in which messages are counted.
-use Rattle.std.proofs.Common.{◌≡◌, ℕ, ◌+◌, ◌^◌, ◌≤◌, List, [], ◌∷◌, ◌++◌, Bool, true, false, None, Some, Ok, Err, Option, length, drop, sym, ap, ◌∙◌, subst, refl, arith, inl, inr}
+use Rattle.std.proofs.Common.{◌≡◌, ℕ, ◌+◌, ◌≤◌, List, [], ◌∷◌, ◌++◌, Bool, true, false, None, Some, Ok, Err, Option, length, drop, sym, ap, ◌∙◌, subst, refl, arith, inl, inr}
 use Rattle.std.specs.Io.KnownBytes.{Consumes, IsAtEnd}
 use Rattle.std.proofs.KnownBytes.{Consumes-nil, Consumes-trans}
 use Rattle.dbus_value_model.specs.declared.order.Order.{Order}
 use Rattle.dbus_value_model.specs.declared.fault.Fault.{Fault}
+use Rattle.dbus_value_model.specs.declared.limits.Limits.{Limits}
 use Rattle.dbus_message.specs.declared.message.Message.{Message}
 use Rattle.dbus_message.specs.MessageViews.{message_tree}
-use Rattle.dbus_message.specs.MessageOutcomes.{IsRefused, IsPartial}
+use Rattle.dbus_message.specs.MessageOutcomes.{IsWhole, IsRefused, IsPartial}
 use Rattle.dbus_message.proofs.OutcomeLaws.{whole_inside}
 use Rattle.dbus_stream.specs.Cut.{Item, BeginWith, Ended, Unfinished, Refused, truncated, sizes}
 use Rattle.dbus_stream.specs.Next.{RisesBy, Reads, NextAnswers, GivesMessage, KeepsAll}
-use Rattle.dbus_stream.specs.Reader.{kept, source_of, done_of, reads_of, limit_of, is_ended, stopped_of}
+use Rattle.dbus_stream.specs.Reader.{limits_of, kept, source_of, done_of, reads_of, most_reads_of, is_ended, stopped_of}
 use Rattle.dbus_stream.specs.declared.message_reader.MessageReader.{MessageReader}
 use Rattle.dbus_stream.specs.declared.read_fault.ReadFault.TheVariants as read
 use Rattle.dbus_stream.proofs.CutLaws.{BeginWith-last, BeginWith-more}
@@ -32,27 +33,28 @@ length-last [] item = omega arith
 length-last (x ∷ items) item = omega (arith, length-last items item)
 
 -- no more messages than bytes
-pub length-sizes : (bytes : List ℕ) (items : List Item) (rest : List ℕ) → BeginWith bytes items rest → length items ≤ sizes items
-length-sizes bytes [] rest f = omega arith
-length-sizes bytes (item ∷ items) rest f =
-    omega (arith, length-sizes (drop item.size bytes) items rest f.1, (whole_inside bytes item.order item.message item.size f.0).0)
+pub length-sizes : (limits : Limits) (bytes : List ℕ) (items : List Item) (rest : List ℕ) → BeginWith limits bytes items rest → length items ≤ sizes items
+length-sizes limits bytes [] rest f = omega arith
+length-sizes limits bytes (item ∷ items) rest f =
+    omega (arith, length-sizes limits (drop item.size bytes) items rest f.1, (whole_inside limits bytes item.order item.message item.size f.0).0)
 
-module _ {R A : Type 0} (left : R → Option (List ℕ)) (calls failures : R → ℕ) where
+module _ {R A : Type 0} (left : R → Option (List ℕ)) (calls failures : R → ℕ) (limits : Limits) (most : ℕ) where
   -- the messages of what was read so far were given
   pub record HasCounted (old new : MessageReader R A) : Type 0 where
     pub bytes : List ℕ
     pub items : List Item
     pub consumed : Consumes (left (source_of old)) (left (source_of new)) bytes
-    pub messages : BeginWith bytes items (kept new)
+    pub messages : BeginWith limits bytes items (kept new)
     pub done : done_of new ≡ sizes items
     pub unstopped : stopped_of new ≡ None
     pub called : RisesBy (reads_of new) (calls (source_of old)) (calls (source_of new))
-    pub limit : limit_of new ≡ 2 ^ 32
+    pub most_reads : most_reads_of new ≡ most
+    pub limits_are : limits_of new ≡ limits
     pub at_end : is_ended new ≡ true → IsAtEnd (left (source_of new))
     pub failed : failures (source_of new) ≡ failures (source_of old)
 
-  pub counts_none : (reader : MessageReader R A) → IsFresh reader → (h : HasCounted reader reader) × (0 ≡ length h.items)
-  counts_none reader f = (
+  pub counts_none : (reader : MessageReader R A) → IsFresh reader → most_reads_of reader ≡ most → limits_of reader ≡ limits → (h : HasCounted reader reader) × (0 ≡ length h.items)
+  counts_none reader f reads within = (
     record {
       bytes = [];
       items = [];
@@ -61,7 +63,8 @@ module _ {R A : Type 0} (left : R → Option (List ℕ)) (calls failures : R →
       done = f.done;
       unstopped = f.unstopped;
       called = RisesBy-none (reads_of reader) (calls (source_of reader)) f.reads;
-      limit = f.limit;
+      most_reads = reads;
+      limits_are = within;
       at_end = λ e. absurd (both_ways (is_ended reader) e f.ended);
       failed = refl;
     },
@@ -71,9 +74,10 @@ module _ {R A : Type 0} (left : R → Option (List ℕ)) (calls failures : R →
   -- what was read once more
   pub record MoreRead (old mid new : MessageReader R A) (bytes : List ℕ) (items : List Item) (more : List ℕ) : Type 0 where
     pub consumed : Consumes (left (source_of old)) (left (source_of new)) (bytes ++ more)
-    pub messages : BeginWith (bytes ++ more) items (kept mid ++ more)
+    pub messages : BeginWith limits (bytes ++ more) items (kept mid ++ more)
     pub called : RisesBy (reads_of new) (calls (source_of old)) (calls (source_of new))
-    pub limit : limit_of new ≡ 2 ^ 32
+    pub most_reads : most_reads_of new ≡ most
+    pub limits_are : limits_of new ≡ limits
     pub at_end : is_ended new ≡ true → IsAtEnd (left (source_of new))
 
   still_at_end : (mid new : MessageReader R A) (b : Bool) → is_ended mid ≡ b → (is_ended mid ≡ true → IsAtEnd (left (source_of mid))) → Reads left calls mid new
@@ -84,9 +88,10 @@ module _ {R A : Type 0} (left : R → Option (List ℕ)) (calls failures : R →
   pub more_read : (old mid new : MessageReader R A) (h : HasCounted old mid) (r : Reads left calls mid new) → MoreRead old mid new h.bytes h.items r.bytes
   more_read old mid new h r = record {
     consumed = Consumes-trans _ _ _ _ _ h.consumed r.consumed;
-    messages = BeginWith-more h.bytes h.items (kept mid) r.bytes h.messages;
+    messages = BeginWith-more limits h.bytes h.items (kept mid) r.bytes h.messages;
     called = RisesBy-both (reads_of mid) r.count (reads_of new) _ _ _ h.called r.called r.reads;
-    limit = r.limit ∙ h.limit;
+    most_reads = r.most_reads ∙ h.most_reads;
+    limits_are = r.limits ∙ h.limits_are;
     at_end = still_at_end mid new (is_ended mid) refl h.at_end r;
   }
 
@@ -102,12 +107,14 @@ module _ {R A : Type 0} (left : R → Option (List ℕ)) (calls failures : R →
           bytes = h.bytes ++ r.bytes;
           items = h.items ++ item ∷ [];
           consumed = m.consumed;
-          messages = subst (λ l. BeginWith (h.bytes ++ r.bytes) (h.items ++ item ∷ []) l) (sym gives.kept)
-              (BeginWith-last (h.bytes ++ r.bytes) h.items (kept mid ++ r.bytes) item m.messages gives.whole);
+          messages = subst (λ l. BeginWith limits (h.bytes ++ r.bytes) (h.items ++ item ∷ []) l) (sym gives.kept)
+              (BeginWith-last limits (h.bytes ++ r.bytes) h.items (kept mid ++ r.bytes) item m.messages
+              (subst (λ w. IsWhole w (kept mid ++ r.bytes) given.0 (message_tree given.1) gives.size) h.limits_are gives.whole));
           done = gives.done ∙ (ap (λ n. n + gives.size) h.done ∙ sym (sizes-last h.items item));
           unstopped = gives.unstopped;
           called = m.called;
-          limit = m.limit;
+          most_reads = m.most_reads;
+          limits_are = m.limits_are;
           at_end = m.at_end;
           failed = same ∙ h.failed;
         },
@@ -116,12 +123,12 @@ module _ {R A : Type 0} (left : R → Option (List ℕ)) (calls failures : R →
       )
 
   kept_behind : (old mid new : MessageReader R A) (bytes : List ℕ) (items : List Item) (more : List ℕ) → MoreRead old mid new bytes items more → KeepsAll (kept mid ++ more) mid new
-      → BeginWith (bytes ++ more) items (kept new)
-  kept_behind old mid new bytes items more m k = subst (λ l. BeginWith (bytes ++ more) items l) (sym k.kept) m.messages
+      → BeginWith limits (bytes ++ more) items (kept new)
+  kept_behind old mid new bytes items more m k = subst (λ l. BeginWith limits (bytes ++ more) items l) (sym k.kept) m.messages
 
   pub counts_ended : (old mid new : MessageReader R A) (count : ℕ) (h : HasCounted old mid) (r : Reads left calls mid new) → count ≡ length h.items
       → NextAnswers {A = A} (kept mid ++ r.bytes) mid new (Ok None)
-      → (all : CountsAll left (record { count = count; size = done_of new; fault = None }) (source_of old) (source_of new)) × (all.items ≡ h.items)
+      → (all : CountsAll left limits (record { count = count; size = done_of new; fault = None }) (source_of old) (source_of new)) × (all.items ≡ h.items)
   counts_ended old mid new count h r c answer =
       let m = more_read old mid new h r in (
         record {
@@ -141,7 +148,7 @@ module _ {R A : Type 0} (left : R → Option (List ℕ)) (calls failures : R →
 
   pub counts_refused : (old mid new : MessageReader R A) (count : ℕ) (fault : Fault) (h : HasCounted old mid) (r : Reads left calls mid new) → count ≡ length h.items
       → NextAnswers {A = A} (kept mid ++ r.bytes) mid new (Err (read.Format fault))
-      → (all : CountsAll left (record { count = count; size = done_of new; fault = Some fault }) (source_of old) (source_of new)) × (all.items ≡ h.items)
+      → (all : CountsAll left limits (record { count = count; size = done_of new; fault = Some fault }) (source_of old) (source_of new)) × (all.items ≡ h.items)
   counts_refused old mid new count fault h r c answer =
       let m = more_read old mid new h r in
       let k = answer.0 in
@@ -153,7 +160,7 @@ module _ {R A : Type 0} (left : R → Option (List ℕ)) (calls failures : R →
             rest = kept new;
             outcome = Refused fault;
             consumed = m.consumed;
-            cut = record { messages = kept_behind old mid new h.bytes h.items r.bytes m k; outcome_is = subst (λ l. IsRefused l fault) (sym k.kept) refused };
+            cut = record { messages = kept_behind old mid new h.bytes h.items r.bytes m k; outcome_is = subst (λ l. IsRefused limits l fault) (sym k.kept) (subst (λ w. IsRefused w (kept mid ++ r.bytes) fault) h.limits_are refused) };
             count_is = c;
             size_is = k.done ∙ h.done;
             fault_is = refl;
@@ -170,7 +177,7 @@ module _ {R A : Type 0} (left : R → Option (List ℕ)) (calls failures : R →
             consumed = m.consumed;
             cut = record {
               messages = kept_behind old mid new h.bytes h.items r.bytes m k;
-              outcome_is = (λ e. short.0.0 (sym k.kept ∙ e), subst IsPartial (sym k.kept) short.0.1);
+              outcome_is = (λ e. short.0.0 (sym k.kept ∙ e), subst (IsPartial limits) (sym k.kept) (subst (λ w. IsPartial w (kept mid ++ r.bytes)) h.limits_are short.0.1));
             };
             count_is = c;
             size_is = k.done ∙ h.done;
@@ -181,8 +188,8 @@ module _ {R A : Type 0} (left : R → Option (List ℕ)) (calls failures : R →
         )
       ]
 
-  pub called_all : (old mid new : MessageReader R A) (h : HasCounted old mid) (r : Reads left calls mid new) → reads_of new ≡ limit_of new
-      → RisesBy (2 ^ 32) (calls (source_of old)) (calls (source_of new))
+  pub called_all : (old mid new : MessageReader R A) (h : HasCounted old mid) (r : Reads left calls mid new) → reads_of new ≡ most_reads_of new
+      → RisesBy most (calls (source_of old)) (calls (source_of new))
   called_all old mid new h r e =
       let m = more_read old mid new h r in
-      subst (λ k. RisesBy k (calls (source_of old)) (calls (source_of new))) (e ∙ m.limit) m.called
+      subst (λ k. RisesBy k (calls (source_of old)) (calls (source_of new))) (e ∙ m.most_reads) m.called

@@ -1,11 +1,13 @@
 -- The next message, where nothing was read before it.
-use Rattle.std.proofs.Common.{ℕ, ◌+◌, List, [], ◌++◌, None, Some, Ok, Err, Option, Result, refl, ap, ◌∙◌, subst}
+use Rattle.std.proofs.Common.{◌≡◌, ◌⊎◌, true, ℕ, ◌+◌, List, [], ◌++◌, None, Some, Ok, Err, Option, Result, refl, ap, ◌∙◌, subst}
 use Rattle.std.specs.Io.KnownBytes.{Consumes}
 use Rattle.dbus_value_model.specs.declared.order.Order.{Order}
 use Rattle.dbus_message.specs.declared.message.Message.{Message}
+use Rattle.dbus_message.specs.MessageViews.{message_tree}
+use Rattle.dbus_message.specs.MessageOutcomes.{IsWhole, IsRefused, IsPartial}
 use Rattle.dbus_stream.specs.Stated.{BeginsWithNone}
-use Rattle.dbus_stream.specs.Next.{RisesBy, Reads, ReadsNothing, KeepsAll, NextAnswers, KeptAnswers, DeviceCounts}
-use Rattle.dbus_stream.specs.Reader.{kept, source_of}
+use Rattle.dbus_stream.specs.Next.{RisesBy, Reads, ReadsNothing, KeepsAll, IsCutShort, NextAnswers, KeptAnswers, DeviceCounts}
+use Rattle.dbus_stream.specs.Reader.{limits_of, kept, source_of, is_ended}
 use Rattle.dbus_stream.specs.declared.message_reader.MessageReader.{MessageReader}
 use Rattle.dbus_stream.specs.declared.read_fault.ReadFault.{ReadFault}
 use Rattle.dbus_stream.specs.declared.read_fault.ReadFault.TheVariants as read
@@ -26,10 +28,12 @@ module _ {R A : Type 0} (left : R → Option (List ℕ)) (calls failures : R →
     last = r.last;
     before = r.before;
     joined = r.joined;
-    needed = λ some. subst (λ l. BeginsWithNone (l ++ r.before)) k.kept (r.needed some);
+    needed = λ some. subst (λ l. BeginsWithNone (limits_of old) (l ++ r.before)) k.kept
+        (subst (λ limits. BeginsWithNone limits (kept mid ++ r.before)) n.limits (r.needed some));
     reads = r.reads ∙ ap (λ x. x + r.count) n.reads;
     called = subst (λ (s : R). RisesBy r.count (calls s) (calls (source_of new))) n.source r.called;
-    limit = r.limit ∙ n.limit;
+    most_reads = r.most_reads ∙ n.most_reads;
+    limits = r.limits ∙ n.limits;
     settled = λ e. let s = r.settled (n.ended ∙ e) in (s.0, s.1, s.2, s.3 ∙ n.source);
     at_end = λ e f. r.at_end (n.ended ∙ e) f;
   }
@@ -37,21 +41,30 @@ module _ {R A : Type 0} (left : R → Option (List ℕ)) (calls failures : R →
   keeps_behind : (w : List ℕ) (old mid new : MessageReader R A) → KeepsAll (kept old) old mid → KeepsAll w mid new → KeepsAll w old new
   keeps_behind w old mid new k l = record { kept = l.kept; done = l.done ∙ k.done }
 
-  answers_behind : (w : List ℕ) (old mid new : MessageReader R A) (res : Result (Option (Order × Message A)) ReadFault) → KeepsAll (kept old) old mid
-      → NextAnswers w mid new res → NextAnswers w old new res
-  answers_behind w old mid new (Ok (Some given)) k a =
-      record { size = a.size; whole = a.whole; kept = a.kept; done = a.done ∙ ap (λ x. x + a.size) k.done; unstopped = a.unstopped }
-  answers_behind w old mid new (Ok None) k a = (a.0, a.1, keeps_behind w old mid new k a.2, a.3)
-  answers_behind w old mid new (Err read.Memory) k a = (keeps_behind w old mid new k a.0, a.1)
-  answers_behind w old mid new (Err (read.Format fault)) k a = (keeps_behind w old mid new k a.0, a.1, a.2)
-  answers_behind w old mid new (Err read.Device) k a = (keeps_behind w old mid new k a.0, a.1, a.2)
-  answers_behind w old mid new (Err read.TooManyReads) k a = (keeps_behind w old mid new k a.0, a.1, a.2, a.3)
+  answers_behind : (w : List ℕ) (old mid new : MessageReader R A) (res : Result (Option (Order × Message A)) ReadFault) → limits_of mid ≡ limits_of old
+      → KeepsAll (kept old) old mid → NextAnswers w mid new res → NextAnswers w old new res
+  answers_behind w old mid new (Ok (Some given)) same k a = record {
+    size = a.size;
+    whole = subst (λ limits. IsWhole limits w given.0 (message_tree given.1) a.size) same a.whole;
+    kept = a.kept;
+    done = a.done ∙ ap (λ x. x + a.size) k.done;
+    unstopped = a.unstopped;
+  }
+  answers_behind w old mid new (Ok None) same k a = (a.0, a.1, keeps_behind w old mid new k a.2, a.3)
+  answers_behind w old mid new (Err read.Memory) same k a = (keeps_behind w old mid new k a.0, a.1)
+  answers_behind w old mid new (Err (read.Format fault)) same k a = (
+    keeps_behind w old mid new k a.0,
+    a.1,
+    subst (λ limits. IsRefused limits w fault ⊎ (IsCutShort limits w fault × (is_ended new ≡ true))) same a.2,
+  )
+  answers_behind w old mid new (Err read.Device) same k a = (keeps_behind w old mid new k a.0, a.1, subst (λ limits. BeginsWithNone limits w) same a.2)
+  answers_behind w old mid new (Err read.TooManyReads) same k a = (keeps_behind w old mid new k a.0, a.1, subst (λ limits. IsPartial limits w) same a.2, a.3)
 
   both_behind : (old mid new : MessageReader R A) (res : Result (Option (Order × Message A)) ReadFault) → ReadsNothing old mid → KeepsAll (kept old) old mid
       → (r : Reads left calls mid new) → NextAnswers (kept mid ++ r.bytes) mid new res → (s : Reads left calls old new) × NextAnswers (kept old ++ s.bytes) old new res
   both_behind old mid new res n k r a = (
     reads_behind old mid new n k r,
-    answers_behind (kept old ++ r.bytes) old mid new res k (subst (λ l. NextAnswers (l ++ r.bytes) mid new res) k.kept a),
+    answers_behind (kept old ++ r.bytes) old mid new res n.limits k (subst (λ l. NextAnswers (l ++ r.bytes) mid new res) k.kept a),
   )
 
   module _ {W : Type 0} (held : W → Option (List ℕ)) (write_failures : W → ℕ) where
@@ -82,4 +95,4 @@ module _ {R A : Type 0} (left : R → Option (List ℕ)) (calls failures : R →
     -- what is gathered was not written, and nothing was read
     pub gives_unwritten : (old : MessageReader R A) (g0 g1 : List ℕ) (w0 w1 : W) → Breaks held write_failures [] g0 w0 w1
         → GivesNext left calls failures held write_failures old old g0 g1 w0 w1 (Err Writer)
-    gives_unwritten old g0 g1 w0 w1 b = (unread left calls failures old old old (starts left calls failures old) (record { source = refl; reads = refl; limit = refl; ended = refl }), b)
+    gives_unwritten old g0 g1 w0 w1 b = (unread left calls failures old old old (starts left calls failures old) (record { source = refl; reads = refl; most_reads = refl; limits = refl; ended = refl }), b)

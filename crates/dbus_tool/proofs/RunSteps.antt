@@ -6,6 +6,7 @@ use Rattle.dbus_stream.specs.Device.{one_more}
 use Rattle.dbus_stream.specs.Cut.{Item, IsCut, Outcome, fault_at_end, sizes}
 use Rattle.dbus_stream.specs.Write.{Wrote}
 use Rattle.dbus_stream.proofs.CutLaws.{BeginWith-first, IsCut-one}
+use Rattle.dbus_value_model.specs.declared.limits.Limits.{Limits}
 use Rattle.dbus_command.specs.declared.command.Command.{Command}
 use Rattle.dbus_tool.specs.Output.{IsFrontOf, IsOutputOfAll, IsFirstOutput, last_line, second_output, status_of}
 use Rattle.dbus_tool.specs.Gathering.{Passes, Gathers}
@@ -37,22 +38,22 @@ module _ {W : Type 0} (held : W → Option (List ℕ)) (failures : W → ℕ) wh
   }
 
 module _ {R W E : Type 0} (left : R → Option (List ℕ)) (calls read_failures : R → ℕ) (held : W → Option (List ℕ)) (write_failures : W → ℕ)
-    (second_held : E → Option (List ℕ)) (second_failures : E → ℕ) (command : Command) where
+    (second_held : E → Option (List ℕ)) (second_failures : E → ℕ) (limits : Limits) (most : ℕ) (command : Command) where
   -- what the first writer got before and then the bytes that were gathered are the output and then the last line
   joined_is : (out g1 written line : List ℕ) → out ≡ written ++ g1 → written ++ (g1 ++ line) ≡ out ++ line
   joined_is out g1 written line e = sym (append_assoc written g1 line) ∙ ap (λ l. l ++ line) (sym e)
 
-  last_is : (counted : Counted) (g0 g1 : List ℕ) (r0 r1 : R) (w0 w1 : W) (a : HandsAll left calls read_failures held write_failures command counted r0 r1 g0 g1 w0 w1)
+  last_is : (counted : Counted) (g0 g1 : List ℕ) (r0 r1 : R) (w0 w1 : W) (a : HandsAll left calls read_failures held write_failures limits most command counted r0 r1 g0 g1 w0 w1)
       → last_line command counted.count counted.size counted.fault
       ≡ last_line command (length a.counts.items) (sizes a.counts.items) (fault_at_end a.counts.rest a.counts.outcome)
   last_is counted g0 g1 r0 r1 w0 w1 a = λ i. last_line command (a.counts.count_is i) (a.counts.size_is i) (a.counts.fault_is i)
 
   -- both writers got all
   closed : (counted : Counted) (g1 : List ℕ) (r0 r1 : R) (w0 w1 w2 : W) (e0 e1 : E) (end : ExitStatus)
-      → HandsAll left calls read_failures held write_failures command counted r0 r1 [] g1 w0 w1
+      → HandsAll left calls read_failures held write_failures limits most command counted r0 r1 [] g1 w0 w1
       → Wrote held write_failures w1 (g1 ++ last_line command counted.count counted.size counted.fault) w2
       → Appends (second_held e0) (second_held e1) (second_output command counted.size counted.fault) → end ≡ status_of counted.fault
-      → Answers left calls read_failures held write_failures second_held second_failures command r0 r1 w0 w2 e0 e1 end
+      → Answers left calls read_failures held write_failures second_held second_failures limits most command r0 r1 w0 w2 e0 e1 end
   closed counted g1 r0 r1 w0 w1 w2 e0 e1 end a wrote second s =
       let line = last_line command counted.count counted.size counted.fault in
       let second_is : second_output command counted.size counted.fault ≡ second_output command (sizes a.counts.items) (fault_at_end a.counts.rest a.counts.outcome)
@@ -74,13 +75,13 @@ module _ {R W E : Type 0} (left : R → Option (List ℕ)) (calls read_failures 
       }
 
   -- what was written of the last line says how much was written of all
-  front_of_all : (counted : Counted) (g1 written : List ℕ) (r0 r1 : R) (w0 w1 : W) (a : HandsAll left calls read_failures held write_failures command counted r0 r1 [] g1 w0 w1)
+  front_of_all : (counted : Counted) (g1 written : List ℕ) (r0 r1 : R) (w0 w1 : W) (a : HandsAll left calls read_failures held write_failures limits most command counted r0 r1 [] g1 w0 w1)
       → IsFrontOf written (g1 ++ last_line command counted.count counted.size counted.fault)
-      → (items : List Item) (rest : List ℕ) (outcome : Outcome) (out : List ℕ) → IsCut a.counts.bytes items rest outcome
+      → (items : List Item) (rest : List ℕ) (outcome : Outcome) (out : List ℕ) → IsCut limits a.counts.bytes items rest outcome
       → IsFirstOutput command items (fault_at_end rest outcome) out → IsFrontOf (a.passes.written ++ written) out
   front_of_all counted g1 written r0 r1 w0 w1 a front items rest outcome out cut whole =
       let line = last_line command counted.count counted.size counted.fault in
-      let one = IsCut-one a.counts.bytes a.counts.items items a.counts.rest rest a.counts.outcome outcome a.counts.cut cut in
+      let one = IsCut-one limits a.counts.bytes a.counts.items items a.counts.rest rest a.counts.outcome outcome a.counts.cut cut in
       let fault_is : fault_at_end rest outcome ≡ fault_at_end a.counts.rest a.counts.outcome = sym (λ i. fault_at_end (one.1 i) (one.2 i)) in
       let here : IsFirstOutput command a.counts.items (fault_at_end a.counts.rest a.counts.outcome) out
       = subst (λ f. IsFirstOutput command a.counts.items f out) fault_is (subst (λ l. IsFirstOutput command l (fault_at_end rest outcome) out) (sym one.0) whole) in
@@ -91,21 +92,21 @@ module _ {R W E : Type 0} (left : R → Option (List ℕ)) (calls read_failures 
 
   -- a cause that a write has
   first_cause : (r0 r1 : R) (w0 w1 w2 : W) (e0 e1 : E) (cause : Cause) → write_failures w1 ≡ write_failures w0 → IsWriteCause held write_failures w1 w2 cause
-      → IsCause left calls read_failures held write_failures second_held second_failures command r0 r1 w0 w2 e0 e1 cause
+      → IsCause left calls read_failures held write_failures second_held second_failures limits most command r0 r1 w0 w2 e0 e1 cause
   first_cause r0 r1 w0 w1 w2 e0 e1 Memory same c = tt
   first_cause r0 r1 w0 w1 w2 e0 e1 ReadFailed same c = absurd c
   first_cause r0 r1 w0 w1 w2 e0 e1 WriteFailed same c = inl (c ∙ ap one_more same)
   first_cause r0 r1 w0 w1 w2 e0 e1 TooManyReads same c = absurd c
 
   second_cause : (r0 r1 : R) (w0 w1 : W) (e0 e1 : E) (cause : Cause) → IsWriteCause second_held second_failures e0 e1 cause
-      → IsCause left calls read_failures held write_failures second_held second_failures command r0 r1 w0 w1 e0 e1 cause
+      → IsCause left calls read_failures held write_failures second_held second_failures limits most command r0 r1 w0 w1 e0 e1 cause
   second_cause r0 r1 w0 w1 e0 e1 Memory c = tt
   second_cause r0 r1 w0 w1 e0 e1 ReadFailed c = absurd c
   second_cause r0 r1 w0 w1 e0 e1 WriteFailed c = inr c
   second_cause r0 r1 w0 w1 e0 e1 TooManyReads c = absurd c
 
   before_write : {V : Type 0} (bytes written : List ℕ) (w0 w1 : W) (h : V → Option (List ℕ)) (f : V → ℕ) (v0 v1 : V) (cause : Cause) → IsWriteCause h f v0 v1 cause
-      → WritesBefore left calls read_failures held write_failures second_held second_failures command cause bytes written w0 w1
+      → WritesBefore left calls read_failures held write_failures second_held second_failures limits most command cause bytes written w0 w1
   before_write bytes written w0 w1 h f v0 v1 Memory c = tt
   before_write bytes written w0 w1 h f v0 v1 ReadFailed c = absurd c
   before_write bytes written w0 w1 h f v0 v1 WriteFailed c = tt
@@ -113,10 +114,10 @@ module _ {R W E : Type 0} (left : R → Option (List ℕ)) (calls read_failures 
 
   -- all messages were handed on, and then a line was not written
   not_closed : {V : Type 0} (counted : Counted) (cause : Cause) (g1 written : List ℕ) (r0 r1 : R) (w0 w1 w2 : W) (e0 e1 : E) (h : V → Option (List ℕ)) (f : V → ℕ) (v0 v1 : V)
-      → HandsAll left calls read_failures held write_failures command counted r0 r1 [] g1 w0 w1 → Appends (held w1) (held w2) written
+      → HandsAll left calls read_failures held write_failures limits most command counted r0 r1 [] g1 w0 w1 → Appends (held w1) (held w2) written
       → IsFrontOf written (g1 ++ last_line command counted.count counted.size counted.fault) → IsWriteCause h f v0 v1 cause
-      → IsCause left calls read_failures held write_failures second_held second_failures command r0 r1 w0 w2 e0 e1 cause
-      → Fails left calls read_failures held write_failures second_held second_failures command cause r0 r1 w0 w2 e0 e1
+      → IsCause left calls read_failures held write_failures second_held second_failures limits most command r0 r1 w0 w2 e0 e1 cause
+      → Fails left calls read_failures held write_failures second_held second_failures limits most command cause r0 r1 w0 w2 e0 e1
   not_closed counted cause g1 written r0 r1 w0 w1 w2 e0 e1 h f v0 v1 a appended front write caused = record {
     bytes = a.counts.bytes;
     written = a.passes.written ++ written;
@@ -129,9 +130,9 @@ module _ {R W E : Type 0} (left : R → Option (List ℕ)) (calls read_failures 
 
   -- all messages were handed on
   pub ran_to_end : (counted : Counted) (g1 : List ℕ) (r0 r1 : R) (w0 w1 w2 : W) (e0 e1 : E) (end : ExitStatus)
-      → HandsAll left calls read_failures held write_failures command counted r0 r1 [] g1 w0 w1
+      → HandsAll left calls read_failures held write_failures limits most command counted r0 r1 [] g1 w0 w1
       → Closes held write_failures second_held second_failures command counted g1 w1 w2 e0 e1 end
-      → Runs left calls read_failures held write_failures second_held second_failures command r0 r1 w0 w2 e0 e1 end
+      → Runs left calls read_failures held write_failures second_held second_failures limits most command r0 r1 w0 w2 e0 e1 end
   ran_to_end counted g1 r0 r1 w0 w1 w2 e0 e1 end a closes = elim closes [
     | inl c ↦ elim c.second [
       | inl told ↦ inl (closed counted g1 r0 r1 w0 w1 w2 e0 e1 end a c.first told.0 told.1)
@@ -153,11 +154,11 @@ module _ {R W E : Type 0} (left : R → Option (List ℕ)) (calls read_failures 
   ]
 
   -- of the messages that were handed on a front was written
-  some_front : (cause : Cause) (out written : List ℕ) (g1 : List ℕ) (r0 r1 : R) (w0 w1 : W) (s : HandsSome left calls read_failures held write_failures command cause r0 r1 [] g1 w0 w1)
-      → IsFrontOf written s.out → (items : List Item) (rest : List ℕ) (outcome : Outcome) (first : List ℕ) → IsCut s.bytes items rest outcome
+  some_front : (cause : Cause) (out written : List ℕ) (g1 : List ℕ) (r0 r1 : R) (w0 w1 : W) (s : HandsSome left calls read_failures held write_failures limits most command cause r0 r1 [] g1 w0 w1)
+      → IsFrontOf written s.out → (items : List Item) (rest : List ℕ) (outcome : Outcome) (first : List ℕ) → IsCut limits s.bytes items rest outcome
       → IsFirstOutput command items (fault_at_end rest outcome) first → IsFrontOf written first
   some_front cause out written g1 r0 r1 w0 w1 s front items rest outcome first cut whole =
-      let more = BeginWith-first s.bytes s.items items s.rest rest outcome s.messages cut.messages cut.outcome_is in
+      let more = BeginWith-first limits s.bytes s.items items s.rest rest outcome s.messages cut.messages cut.outcome_is in
       front_of_first command s.items more.0 items (fault_at_end rest outcome) s.out written first more.1 s.output front whole
 
   -- what is gathered was written, and the messages before were
@@ -169,8 +170,8 @@ module _ {R W E : Type 0} (left : R → Option (List ℕ)) (calls read_failures 
   )
 
   -- reading was given up
-  pub gave_up : (cause : Cause) (g1 : List ℕ) (r0 r1 : R) (w0 w1 w2 : W) (e0 e1 : E) → HandsSome left calls read_failures held write_failures command cause r0 r1 [] g1 w0 w1
-      → WritesRest held write_failures cause g1 w1 w2 → Fails left calls read_failures held write_failures second_held second_failures command cause r0 r1 w0 w2 e0 e1
+  pub gave_up : (cause : Cause) (g1 : List ℕ) (r0 r1 : R) (w0 w1 w2 : W) (e0 e1 : E) → HandsSome left calls read_failures held write_failures limits most command cause r0 r1 [] g1 w0 w1
+      → WritesRest held write_failures cause g1 w1 w2 → Fails left calls read_failures held write_failures second_held second_failures limits most command cause r0 r1 w0 w2 e0 e1
   gave_up Memory g1 r0 r1 w0 w1 w2 e0 e1 s q =
       let done = rest_written s.out g1 w0 w1 w2 s.leaves q in
       record {

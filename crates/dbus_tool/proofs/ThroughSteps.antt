@@ -1,22 +1,24 @@
 -- What is said of references to a device holds of the device.
 use Rattle.std.proofs.Common.{ℕ, List, Option, Result, Ok, Err}
+use Rattle.dbus_value_model.specs.declared.limits.Limits.{Limits}
 use Rattle.dbus_command.specs.declared.command.Command.{Command}
 use Rattle.dbus_tool.specs.Handing.{Hands, IsReadCause}
 use Rattle.dbus_tool.specs.declared.ending.Cause.{Cause}
 use Rattle.dbus_tool.specs.declared.ending.Cause.TheVariants.{Memory, ReadFailed, WriteFailed, TooManyReads}
 use Rattle.dbus_tool.specs.declared.ending.Counted.{Counted}
 
-module _ {Q R W : Type 0} (now : Q → R) (left : R → Option (List ℕ)) (calls failures : R → ℕ) (held : W → Option (List ℕ)) (write_failures : W → ℕ) where
-  cause_through : (old new : Q) (cause : Cause) → IsReadCause (λ q. left (now q)) (λ q. calls (now q)) (λ q. failures (now q)) held write_failures old new cause
-      → IsReadCause left calls failures held write_failures (now old) (now new) cause
+module _ {Q R W : Type 0} (now : Q → R) (left : R → Option (List ℕ)) (calls failures : R → ℕ) (held : W → Option (List ℕ)) (write_failures : W → ℕ)
+    (limits : Limits) (most : ℕ) where
+  cause_through : (old new : Q) (cause : Cause) → IsReadCause (λ q. left (now q)) (λ q. calls (now q)) (λ q. failures (now q)) held write_failures limits most old new cause
+      → IsReadCause left calls failures held write_failures limits most (now old) (now new) cause
   cause_through old new Memory c = c
   cause_through old new ReadFailed c = c
   cause_through old new WriteFailed c = c
   cause_through old new TooManyReads c = c
 
   pub hands_through : (command : Command) (old new : Q) (g0 g1 : List ℕ) (w0 w1 : W) (res : Result Counted Cause)
-      → Hands (λ q. left (now q)) (λ q. calls (now q)) (λ q. failures (now q)) held write_failures command old new g0 g1 w0 w1 res
-      → Hands left calls failures held write_failures command (now old) (now new) g0 g1 w0 w1 res
+      → Hands (λ q. left (now q)) (λ q. calls (now q)) (λ q. failures (now q)) held write_failures limits most command old new g0 g1 w0 w1 res
+      → Hands left calls failures held write_failures limits most command (now old) (now new) g0 g1 w0 w1 res
   hands_through command old new g0 g1 w0 w1 (Ok counted) a = record {
     counts = record {
       bytes = a.counts.bytes;

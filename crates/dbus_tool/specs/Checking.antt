@@ -1,7 +1,9 @@
--- What a command writes of what it reads, and why it gives up.
-use Rattle.std.specs.Prelude.{◌≡◌, ◌⊎◌, ℕ, ◌^◌, List, Option, Result, Ok, Err}
+-- What a command writes of what it reads, and why it gives up. limits are those that each message keeps, and most is how
+-- many reads may be made.
+use Rattle.std.specs.Prelude.{◌≡◌, ◌⊎◌, ℕ, List, Option, Result, Ok, Err}
 use Rattle.std.specs.Io.KnownBytes.{Appends, Consumes, IsAtEnd}
 use Rattle.dbus_value_model.specs.declared.fault.Fault.{Fault}
+use Rattle.dbus_value_model.specs.declared.limits.Limits.{Limits}
 use Rattle.dbus_stream.specs.Device.{one_more}
 use Rattle.dbus_stream.specs.Next.{RisesBy}
 use Rattle.dbus_stream.specs.Write.{Wrote}
@@ -33,16 +35,16 @@ module _ {W : Type 0} (held : W → Option (List ℕ)) (failures : W → ℕ) wh
   WritesLine line old new (Ok x) = Wrote held failures old line new
   WritesLine line old new (Err cause) = WritesFront line cause old new
 
--- what the command makes of all messages that the bytes begin with was written
-pub record WritesMessages (command : Command) (bytes written : List ℕ) : Type 0 where
+-- what the command makes of all messages within the limits that the bytes begin with was written
+pub record WritesMessages (limits : Limits) (command : Command) (bytes written : List ℕ) : Type 0 where
   pub items : List Item
   pub rest : List ℕ
-  pub messages : BeginWith bytes items rest
-  pub none : BeginsWithNone rest
+  pub messages : BeginWith limits bytes items rest
+  pub none : BeginsWithNone limits rest
   pub output : IsOutputOfAll command 1 items written
 
 module _ {R W E : Type 0} (left : R → Option (List ℕ)) (calls read_failures : R → ℕ) (held : W → Option (List ℕ)) (write_failures : W → ℕ)
-    (second_held : E → Option (List ℕ)) (second_failures : E → ℕ) (command : Command) where
+    (second_held : E → Option (List ℕ)) (second_failures : E → ℕ) (limits : Limits) (most : ℕ) (command : Command) where
   -- both writers got what the command makes of what was read, and the status is that of its fault
   pub record Answers (old new : R) (first_old first_new : W) (second_old second_new : E) (end : ExitStatus) : Type 0 where
     pub bytes : List ℕ
@@ -51,7 +53,7 @@ module _ {R W E : Type 0} (left : R → Option (List ℕ)) (calls read_failures 
     pub outcome : Outcome
     pub out : List ℕ
     pub consumed : Consumes (left old) (left new) bytes
-    pub cut : IsCut bytes items rest outcome
+    pub cut : IsCut limits bytes items rest outcome
     -- without a fault that bytes show, all was read
     pub at_end : ((f : Fault) → outcome ≡ Refused f → ⊥) → IsAtEnd (left new)
     pub output : IsFirstOutput command items (fault_at_end rest outcome) out
@@ -64,14 +66,14 @@ module _ {R W E : Type 0} (left : R → Option (List ℕ)) (calls read_failures 
   IsCause r0 r1 w0 w1 e0 e1 Memory = Unit {0}
   IsCause r0 r1 w0 w1 e0 e1 ReadFailed = read_failures r1 ≡ one_more (read_failures r0)
   IsCause r0 r1 w0 w1 e0 e1 WriteFailed = (write_failures w1 ≡ one_more (write_failures w0)) ⊎ (second_failures e1 ≡ one_more (second_failures e0))
-  IsCause r0 r1 w0 w1 e0 e1 TooManyReads = RisesBy (2 ^ 32) (calls r0) (calls r1)
+  IsCause r0 r1 w0 w1 e0 e1 TooManyReads = RisesBy most (calls r0) (calls r1)
 
   -- where reading was given up, and no write failed, all messages that were read were written
   abbrev pub WritesBefore : Cause → List ℕ → List ℕ → W → W → Type 0
   WritesBefore Memory bytes written w0 w1 = Unit {0}
-  WritesBefore ReadFailed bytes written w0 w1 = write_failures w1 ≡ write_failures w0 → WritesMessages command bytes written
+  WritesBefore ReadFailed bytes written w0 w1 = write_failures w1 ≡ write_failures w0 → WritesMessages limits command bytes written
   WritesBefore WriteFailed bytes written w0 w1 = Unit {0}
-  WritesBefore TooManyReads bytes written w0 w1 = write_failures w1 ≡ write_failures w0 → WritesMessages command bytes written
+  WritesBefore TooManyReads bytes written w0 w1 = write_failures w1 ≡ write_failures w0 → WritesMessages limits command bytes written
 
   -- the first writer got a front of what the command makes of what was read
   pub record Fails (cause : Cause) (old new : R) (first_old first_new : W) (second_old second_new : E) : Type 0 where
@@ -79,7 +81,7 @@ module _ {R W E : Type 0} (left : R → Option (List ℕ)) (calls read_failures 
     pub written : List ℕ
     pub consumed : Consumes (left old) (left new) bytes
     pub appended : Appends (held first_old) (held first_new) written
-    pub front : (items : List Item) (rest : List ℕ) (outcome : Outcome) (out : List ℕ) → IsCut bytes items rest outcome
+    pub front : (items : List Item) (rest : List ℕ) (outcome : Outcome) (out : List ℕ) → IsCut limits bytes items rest outcome
         → IsFirstOutput command items (fault_at_end rest outcome) out → IsFrontOf written out
     pub before : WritesBefore cause bytes written first_old first_new
     pub caused : IsCause old new first_old first_new second_old second_new cause

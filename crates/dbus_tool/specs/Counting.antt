@@ -1,9 +1,10 @@
 -- What the messages of an input are counted as.
-use Rattle.std.specs.Prelude.{◌≡◌, ℕ, ◌^◌, List, [], false, length, Option, None, Some, Result, Ok, Err}
+use Rattle.std.specs.Prelude.{◌≡◌, ℕ, List, [], false, length, Option, None, Some, Result, Ok, Err}
 use Rattle.std.specs.Io.KnownBytes.{Consumes, IsAtEnd}
 use Rattle.dbus_value_model.specs.declared.fault.Fault.{Fault}
+use Rattle.dbus_value_model.specs.declared.limits.Limits.{Limits}
 use Rattle.dbus_stream.specs.Cut.{Item, IsCut, Outcome, Refused, fault_at_end, sizes}
-use Rattle.dbus_stream.specs.Reader.{kept, done_of, reads_of, limit_of, is_ended, stopped_of}
+use Rattle.dbus_stream.specs.Reader.{kept, done_of, reads_of, is_ended, stopped_of}
 use Rattle.dbus_stream.specs.declared.message_reader.MessageReader.{MessageReader}
 use Rattle.dbus_stream.specs.declared.read_fault.ReadFault.{ReadFault}
 use Rattle.dbus_stream.specs.declared.read_fault.ReadFault.TheVariants as read
@@ -18,7 +19,6 @@ pub record IsFresh {R A : Type 0} (reader : MessageReader R A) : Type 0 where
   pub kept : kept reader ≡ []
   pub done : done_of reader ≡ 0
   pub reads : reads_of reader ≡ 0
-  pub limit : limit_of reader ≡ 2 ^ 32
   pub ended : is_ended reader ≡ false
   pub unstopped : stopped_of reader ≡ None
 
@@ -34,14 +34,14 @@ abbrev pub stopped_by : ℕ → ℕ → Stop → Result Counted Cause
 stopped_by count size (Reader fault) = ended_by count size fault
 stopped_by count size Writer = Err WriteFailed
 
--- all messages of what was read were counted, up to the end of the input or a fault
-pub record CountsAll {R : Type 0} (left : R → Option (List ℕ)) (counted : Counted) (old new : R) : Type 0 where
+-- all messages within the limits of what was read were counted, up to the end of the input or a fault
+pub record CountsAll {R : Type 0} (left : R → Option (List ℕ)) (limits : Limits) (counted : Counted) (old new : R) : Type 0 where
   pub bytes : List ℕ
   pub items : List Item
   pub rest : List ℕ
   pub outcome : Outcome
   pub consumed : Consumes (left old) (left new) bytes
-  pub cut : IsCut bytes items rest outcome
+  pub cut : IsCut limits bytes items rest outcome
   pub count_is : counted.count ≡ length items
   pub size_is : counted.size ≡ sizes items
   pub fault_is : counted.fault ≡ fault_at_end rest outcome

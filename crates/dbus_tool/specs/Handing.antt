@@ -1,6 +1,8 @@
--- What was read and written where messages are handed to a command. g0 and g1 are what is gathered before and after.
-use Rattle.std.specs.Prelude.{◌≡◌, ℕ, ◌^◌, List, [], ◌++◌, Option, Result, Ok, Err}
+-- What was read and written where messages are handed to a command. g0 and g1 are what is gathered before and after,
+-- limits are those that each message keeps, and most is how many reads may be made.
+use Rattle.std.specs.Prelude.{◌≡◌, ℕ, List, [], ◌++◌, Option, Result, Ok, Err}
 use Rattle.std.specs.Io.KnownBytes.{Consumes}
+use Rattle.dbus_value_model.specs.declared.limits.Limits.{Limits}
 use Rattle.dbus_value_model.specs.declared.order.Order.{Order}
 use Rattle.dbus_message.specs.declared.message.Message.{Message}
 use Rattle.dbus_message.specs.Messages.{MessageTree}
@@ -33,11 +35,11 @@ module _ {W : Type 0} (held : W → Option (List ℕ)) (failures : W → ℕ) wh
       (out : List ℕ) × IsOutputOf command order message n out × GathersOrNot held failures out g0 g1 old new result
 
 -- where reading was given up, no further message was read
-abbrev pub AreAll : Cause → List ℕ → Type 0
-AreAll Memory rest = Unit {0}
-AreAll ReadFailed rest = BeginsWithNone rest
-AreAll WriteFailed rest = Unit {0}
-AreAll TooManyReads rest = BeginsWithNone rest
+abbrev pub AreAll : Limits → Cause → List ℕ → Type 0
+AreAll limits Memory rest = Unit {0}
+AreAll limits ReadFailed rest = BeginsWithNone limits rest
+AreAll limits WriteFailed rest = Unit {0}
+AreAll limits TooManyReads rest = BeginsWithNone limits rest
 
 module _ {R W : Type 0} (left : R → Option (List ℕ)) (calls read_failures : R → ℕ) (held : W → Option (List ℕ)) (write_failures : W → ℕ) where
   -- the next message of a reader, where what is gathered may have been written before
@@ -48,16 +50,18 @@ module _ {R W : Type 0} (left : R → Option (List ℕ)) (calls read_failures : 
       × DeviceCounts {T = Option (Order × Message A)} (read_failures (source_of old)) (read_failures (source_of new)) (Err fault) × Passes held write_failures [] g0 g1 w0 w1
   GivesNext old new g0 g1 w0 w1 (Err Writer) = Reads left calls old new × Breaks held write_failures [] g0 w0 w1
 
+module _ {R W : Type 0} (left : R → Option (List ℕ)) (calls read_failures : R → ℕ) (held : W → Option (List ℕ)) (write_failures : W → ℕ)
+    (limits : Limits) (most : ℕ) where
   -- why no more messages are handed to a command, where no write failed
   abbrev pub IsReadCause : R → R → Cause → Type 0
   IsReadCause old new Memory = Unit {0}
   IsReadCause old new ReadFailed = read_failures new ≡ one_more (read_failures old)
   IsReadCause old new WriteFailed = Unit {0}
-  IsReadCause old new TooManyReads = RisesBy (2 ^ 32) (calls old) (calls new)
+  IsReadCause old new TooManyReads = RisesBy most (calls old) (calls new)
 
   -- all messages of what was read were handed to the command, up to the end of the input or a fault
   pub record HandsAll (command : Command) (counted : Counted) (old new : R) (g0 g1 : List ℕ) (w0 w1 : W) : Type 0 where
-    pub counts : CountsAll left counted old new
+    pub counts : CountsAll left limits counted old new
     pub out : List ℕ
     pub output : IsOutputOfAll command 1 counts.items out
     pub passes : Passes held write_failures out g0 g1 w0 w1
@@ -69,8 +73,8 @@ module _ {R W : Type 0} (left : R → Option (List ℕ)) (calls read_failures : 
     pub rest : List ℕ
     pub out : List ℕ
     pub consumed : Consumes (left old) (left new) bytes
-    pub messages : BeginWith bytes items rest
-    pub all : AreAll cause rest
+    pub messages : BeginWith limits bytes items rest
+    pub all : AreAll limits cause rest
     pub output : IsOutputOfAll command 1 items out
     pub leaves : Leaves held write_failures cause out g0 g1 w0 w1
     pub caused : IsReadCause old new cause

@@ -1,6 +1,8 @@
--- What a command does with what it reads.
+-- What a command does with what it reads. limits are those that each message keeps, and most is how many reads may be
+-- made.
 use Rattle.std.specs.Prelude.{◌≡◌, ◌⊎◌, ℕ, List, Option}
 use Rattle.std.specs.Io.KnownBytes.{Appends}
+use Rattle.dbus_value_model.specs.declared.limits.Limits.{Limits}
 use Rattle.dbus_command.specs.declared.command.Command.{Command}
 use Rattle.dbus_tool.specs.Lines.{cause_line}
 use Rattle.dbus_tool.specs.Checking.{Answers, Fails}
@@ -13,14 +15,14 @@ abbrev pub Told : {E : Type 0} → (E → Option (List ℕ)) → (E → ℕ) →
 Told held failures old new cause = failures new ≡ failures old → Appends (held old) (held new) (cause_line cause)
 
 module _ {R W E : Type 0} (left : R → Option (List ℕ)) (calls read_failures : R → ℕ) (held : W → Option (List ℕ)) (write_failures : W → ℕ)
-    (second_held : E → Option (List ℕ)) (second_failures : E → ℕ) (command : Command) where
+    (second_held : E → Option (List ℕ)) (second_failures : E → ℕ) (limits : Limits) (most : ℕ) (command : Command) where
   -- the first writer got a front of what the command makes of what was read, and the second the cause
   pub record GaveUp (r0 r1 : R) (w0 w1 : W) (e0 e1 : E) (end : ExitStatus) : Type 0 where
     pub failed : end ≡ status.Failed
     pub cause : Cause
-    pub fails : Fails left calls read_failures held write_failures second_held second_failures command cause r0 r1 w0 w1 e0 e1
+    pub fails : Fails left calls read_failures held write_failures second_held second_failures limits most command cause r0 r1 w0 w1 e0 e1
     pub told : Told second_held second_failures e0 e1 cause
 
   abbrev pub Runs : R → R → W → W → E → E → ExitStatus → Type 0
-  Runs r0 r1 w0 w1 e0 e1 end = Answers left calls read_failures held write_failures second_held second_failures command r0 r1 w0 w1 e0 e1 end
+  Runs r0 r1 w0 w1 e0 e1 end = Answers left calls read_failures held write_failures second_held second_failures limits most command r0 r1 w0 w1 e0 e1 end
       ⊎ GaveUp r0 r1 w0 w1 e0 e1 end

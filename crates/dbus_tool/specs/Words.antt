@@ -1,7 +1,8 @@
 -- What the program does for the words of its command line.
-use Rattle.std.specs.Prelude.{◌≡◌, ◌⊎◌, ℕ, List, Option, Result, Ok, Err, IfOk, string_bytes}
+use Rattle.std.specs.Prelude.{◌≡◌, ◌⊎◌, ℕ, ◌^◌, List, Option, Result, Ok, Err, IfOk, string_bytes}
 use Rattle.std.specs.Io.KnownBytes.{Appends}
 use Rattle.clap.specs.Words.{Text}
+use Rattle.dbus_value_model.specs.declared.limits.Limits.{Limits}
 use Rattle.dbus_match.specs.declared.fault.RuleFault.{RuleFault}
 use Rattle.dbus_match.specs.declared.fault.RuleFault.TheVariants as rule_fault
 use Rattle.dbus_command.specs.Named.{IsNamedBy}
@@ -39,9 +40,9 @@ module _ {W E : Type 0} (held : W → Option (List ℕ)) (failures : W → ℕ) 
 
 module _ {R W E : Type 0} (left : R → Option (List ℕ)) (calls read_failures : R → ℕ) (held : W → Option (List ℕ)) (write_failures : W → ℕ)
     (second_held : E → Option (List ℕ)) (second_failures : E → ℕ) where
-  -- what is done for a command, or for words that name none
-  abbrev pub Does : Result Command UsageFault → R → R → W → W → E → E → ExitStatus → Type 0
-  Does (Ok command) r0 r1 w0 w1 e0 e1 end = Runs left calls read_failures held write_failures second_held second_failures command r0 r1 w0 w1 e0 e1 end
+  -- what is done for a command under its limits, or for words that name none
+  abbrev pub Does : Result (Command × Limits) UsageFault → R → R → W → W → E → E → ExitStatus → Type 0
+  Does (Ok named) r0 r1 w0 w1 e0 e1 end = Runs left calls read_failures held write_failures second_held second_failures named.1 (2 ^ 32) named.0 r0 r1 w0 w1 e0 e1 end
   Does (Err Memory) r0 r1 w0 w1 e0 e1 end = (r1 ≡ r0) × (w1 ≡ w0) × WantsMemory second_held second_failures e0 e1 end
   Does (Err (Help text)) r0 r1 w0 w1 e0 e1 end = (r1 ≡ r0) × ShowsHelp held write_failures second_held second_failures (string_bytes text) w0 w1 e0 e1 end
   Does (Err (Usage text)) r0 r1 w0 w1 e0 e1 end = (r1 ≡ r0) × (w1 ≡ w0) × ShowsUsage second_held second_failures (string_bytes text) e0 e1 end
@@ -49,7 +50,7 @@ module _ {R W E : Type 0} (left : R → Option (List ℕ)) (calls read_failures 
 
   -- the words were told from one another, and it did what they say
   pub record RunsWords (words : List Text) (r0 r1 : R) (w0 w1 : W) (e0 e1 : E) (end : ExitStatus) : Type 0 where
-    pub answer : Result Command UsageFault
+    pub answer : Result (Command × Limits) UsageFault
     pub named : IfOk answer (IsNamedBy words)
     pub told : TellsFault words answer
     pub does : Does answer r0 r1 w0 w1 e0 e1 end

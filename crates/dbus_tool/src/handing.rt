@@ -1,6 +1,6 @@
 //! The messages of a reader are handed to a command.
 ghost use Rattle.std.specs.Prelude.{◌≡◌, ◌≤◌, ◌^◌, ℕ, List, None, IfOk};
-ghost use Rattle.dbus_stream.specs.Reader.{source_of, done_of, stopped_of};
+ghost use Rattle.dbus_stream.specs.Reader.{limits_of, source_of, done_of, most_reads_of, stopped_of};
 ghost use Rattle.dbus_tool.specs.Counting.{IsFresh, ended_by, stopped_by};
 ghost use Rattle.dbus_tool.specs.Handing.{GivesNext, Hands};
 
@@ -11,7 +11,7 @@ use crate::spare::Spare;
 use dbus_command::Command;
 use dbus_message::Message;
 use dbus_stream::{MessageReader, ReadFault, Sink, Source};
-use dbus_value::Order;
+use dbus_value::{Limits, Order};
 use std::alloc::Allocator;
 
 // The next message of the reader. Where it keeps none, what is gathered is written, and then more is read.
@@ -61,7 +61,8 @@ fn hand_all<R: Source, A: Allocator + Copy, W: Sink>(
     first: &mut W,
 ) -> Result<Counted, Cause>
     requires { IsFresh messages.old }
-    ensures hands { Hands R.left R.calls R.failures W.held W.failures command.now (source_of messages.old) (source_of messages.new) gathered.old.items gathered.new.items first.old first.new result }
+    ensures hands { Hands R.left R.calls R.failures W.held W.failures (limits_of messages.old) (most_reads_of messages.old) command.now
+        (source_of messages.old) (source_of messages.new) gathered.old.items gathered.new.items first.old first.new result }
     ensures same_reference { R.reference (source_of messages.new) ≡ R.reference (source_of messages.old) }
 {
     let mut count = 0u64;
@@ -119,28 +120,34 @@ fn ended_by(count: u64, size: u64, fault: ReadFault) -> Result<Counted, Cause>
 fn hand_through<R: Source + Drop, A: Allocator + Copy, W: Sink>(
     alloc: A,
     command: &Command,
+    limits: Limits,
+    reads: u64,
     source: R,
     gathered: &mut Gathered,
     first: &mut W,
 ) -> (Result<Counted, Cause>, R)
-    ensures hands { Hands R.left R.calls R.failures W.held W.failures command.now source result.1 gathered.old.items gathered.new.items first.old first.new result.0 }
+    requires { reads ≤ 2 ^ 32 }
+    ensures hands { Hands R.left R.calls R.failures W.held W.failures limits reads command.now source result.1 gathered.old.items gathered.new.items first.old first.new result.0 }
     ensures same_reference { R.reference result.1 ≡ R.reference source }
 {
-    let mut messages = MessageReader::new(alloc, source);
+    let mut messages = MessageReader::within(alloc, source, reads, limits);
     let counted = hand_all(alloc, command, &mut messages, gathered, first);
     (counted, messages.into_source())
 }
 
-/// Hands the messages of a source to the command, up to its end or a fault.
+/// Hands the messages of a source within these limits to the command, up to its end, a fault or so many reads.
 pub(crate) fn hand_over<R: Source, A: Allocator + Copy, W: Sink>(
     alloc: A,
     command: &Command,
+    limits: Limits,
+    reads: u64,
     source: &mut R,
     gathered: &mut Gathered,
     first: &mut W,
 ) -> Result<Counted, Cause>
-    ensures { Hands R.left R.calls R.failures W.held W.failures command.now source.old source.new gathered.old.items gathered.new.items first.old first.new result }
+    requires { reads ≤ 2 ^ 32 }
+    ensures { Hands R.left R.calls R.failures W.held W.failures limits reads command.now source.old source.new gathered.old.items gathered.new.items first.old first.new result }
 {
-    let (counted, _source) = hand_through(alloc, command, source, gathered, first);
+    let (counted, _source) = hand_through(alloc, command, limits, reads, source, gathered, first);
     counted
 }

@@ -16,5 +16,5 @@ mod words;
 
 pub use dbus_command::{Command, UsageFault, command_of};
 pub use ending::ExitStatus;
-pub use running::run;
+pub use running::{run, run_reads, run_within};
 pub use words::run_words;

@@ -1,4 +1,6 @@
 //! A command, over any reader and two writers.
+ghost use Rattle.std.specs.Prelude.{◌≤◌, ◌^◌};
+ghost use Rattle.dbus_value_model.specs.Specification.{specification};
 ghost use Rattle.dbus_tool.specs.Running.{Runs};
 
 use crate::closing::{break_off, close};
@@ -7,23 +9,13 @@ use crate::gathering::Gathered;
 use crate::handing::hand_over;
 use dbus_command::Command;
 use dbus_stream::{Sink, Source};
+use dbus_value::Limits;
 use std::alloc::Allocator;
 
-/// Does what the command says with all that the reader gives. Its output goes to the first writer.
-///
-/// `Show` writes each message as text, numbered from 1. `Swap` writes each message in the order that it names. `Filter`
-/// writes each message that the rule matches, with no owners, in its own order. Where the bytes behind the messages are
-/// none or too few, each of these writes `refused at P: NAME` on the second writer, with the place from the start of the
-/// input and the name of the reason. `Check` writes that line on the first writer; or, where the input is messages alone,
-/// `ok N messages B bytes`, how many they are and of how many bytes.
-///
-/// Where the run fails, it writes `read failed`, `write failed`, `too many reads` or `out of memory` on the second
-/// writer, the first of these that was met. Each line ends in LF. What is written is gathered up to 16,384 bytes, and
-/// goes out before each read and before the status is given. The run holds at most the bytes of one message and of one
-/// read, one message, room for the longest output of a message so far, and what is gathered.
-///
-/// `Done`, `Refused`: all was written, and the status says which. `Failed`: a read failed, a write to either writer
-/// failed or took none of its bytes, 2^32 reads were made, or a growth was refused. It is never `Usage`.
+/// How many reads a run makes at most, where no number is handed in.
+pub(crate) const MOST_READS: u64 = 1 << 32;
+
+/// Does what [`run_within`] does, with at most 2^32 reads and under the limits of the specification.
 pub fn run<A: Allocator + Copy, R: Source, W: Sink, E: Sink>(
     alloc: A,
     command: Command,
@@ -31,23 +23,84 @@ pub fn run<A: Allocator + Copy, R: Source, W: Sink, E: Sink>(
     first: &mut W,
     second: &mut E,
 ) -> ExitStatus
-    ensures { Runs R.left R.calls R.failures W.held W.failures E.held E.failures command reader.old reader.new first.old first.new second.old second.new result }
+    ensures { Runs R.left R.calls R.failures W.held W.failures E.held E.failures specification (2 ^ 32) command
+        reader.old reader.new first.old first.new second.old second.new result }
 {
-    run_command(alloc, &command, reader, first, second)
+    run_reads(alloc, command, MOST_READS, reader, first, second)
+}
+
+/// Does what [`run_within`] does, under the limits of the specification.
+pub fn run_reads<A: Allocator + Copy, R: Source, W: Sink, E: Sink>(
+    alloc: A,
+    command: Command,
+    reads: u64,
+    reader: &mut R,
+    first: &mut W,
+    second: &mut E,
+) -> ExitStatus
+    requires { reads ≤ 2 ^ 32 }
+    ensures { Runs R.left R.calls R.failures W.held W.failures E.held E.failures specification reads command
+        reader.old reader.new first.old first.new second.old second.new result }
+{
+    run_within(
+        alloc,
+        command,
+        Limits::specification(),
+        reads,
+        reader,
+        first,
+        second,
+    )
+}
+
+/// Does what the command says with all that the reader gives, in messages that keep these limits, each by itself. Its
+/// output goes to the first writer. At most so many reads are made, the one that finds the end of the input among them.
+///
+/// `Show` writes each message as text, numbered from 1. `Swap` writes each message in the order that it names. `Filter`
+/// writes each message that the rule matches, with no owners, in its own order. Where the bytes behind the messages are
+/// none within the limits or too few, each of these writes `refused at P: NAME` on the second writer, with the place from
+/// the start of the input and the name of the reason. `Check` writes that line on the first writer; or, where the input is
+/// messages alone, `ok N messages B bytes`, how many they are and of how many bytes.
+///
+/// Where the run fails, it writes `read failed`, `write failed`, `too many reads` or `out of memory` on the second
+/// writer, the first of these that was met. Each line ends in LF. What is written is gathered up to 16,384 bytes, and
+/// goes out before each read and before the status is given. The run holds at most the bytes of one message and of one
+/// read, one message, room for the longest output of a message so far, and what is gathered.
+///
+/// `Done`, `Refused`: all was written, and the status says which. `Failed`: a read failed, a write to either writer
+/// failed or took none of its bytes, as many reads were made as may be, or a growth was refused. It is never `Usage`.
+pub fn run_within<A: Allocator + Copy, R: Source, W: Sink, E: Sink>(
+    alloc: A,
+    command: Command,
+    limits: Limits,
+    reads: u64,
+    reader: &mut R,
+    first: &mut W,
+    second: &mut E,
+) -> ExitStatus
+    requires { reads ≤ 2 ^ 32 }
+    ensures { Runs R.left R.calls R.failures W.held W.failures E.held E.failures limits reads command
+        reader.old reader.new first.old first.new second.old second.new result }
+{
+    run_command(alloc, &command, limits, reads, reader, first, second)
 }
 
 // The same, of a command that is lent.
 fn run_command<A: Allocator + Copy, R: Source, W: Sink, E: Sink>(
     alloc: A,
     command: &Command,
+    limits: Limits,
+    reads: u64,
     reader: &mut R,
     first: &mut W,
     second: &mut E,
 ) -> ExitStatus
-    ensures { Runs R.left R.calls R.failures W.held W.failures E.held E.failures command.now reader.old reader.new first.old first.new second.old second.new result }
+    requires { reads ≤ 2 ^ 32 }
+    ensures { Runs R.left R.calls R.failures W.held W.failures E.held E.failures limits reads command.now
+        reader.old reader.new first.old first.new second.old second.new result }
 {
     let mut gathered = Gathered::new();
-    match hand_over(alloc, command, reader, &mut gathered, first) {
+    match hand_over(alloc, command, limits, reads, reader, &mut gathered, first) {
         Ok(counted) => close(alloc, command, counted, &mut gathered, first, second),
         Err(cause) => break_off(cause, &mut gathered, first, second),
     }

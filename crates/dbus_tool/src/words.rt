@@ -5,20 +5,20 @@ ghost use Rattle.dbus_tool.specs.Words.{RefusesRule, RunsWords, ShowsHelp, Shows
 use crate::ending::{Cause, ExitStatus};
 use crate::failing::give_up;
 use crate::rule_lines::rule_line;
-use crate::running::run;
+use crate::running::{MOST_READS, run_within};
 use dbus_command::{UsageFault, command_of};
 use dbus_match::RuleFault;
 use dbus_stream::{Sink, Source, WrittenOnly, write_all};
 use std::alloc::Global;
 
-/// Does what `run` does for the command that the words name, of which the first is the program's name. Where the words
-/// ask for help, its text goes to the first writer. Where they name no command, a text that says how goes to the second;
-/// and where they name `filter` with a text that spells no rule, `rule refused at P: NAME` and LF, the place in that text
-/// and the name of the reason.
+/// Does what [`run_within`] does for the command that the words name, of which the first is the program's name, under the
+/// limits that they name and with at most 2^32 reads. Where the words ask for help, its text goes to the first writer.
+/// Where they name no command, a text that says how goes to the second; and where they name `filter` with a text that
+/// spells no rule, `rule refused at P: NAME` and LF, the place in that text and the name of the reason.
 ///
-/// `Done`, `Refused`, `Failed`: as `run` says. `Done` also where help was written. `Usage`: the words name no command,
-/// and that was told. `Failed` also where such a text was not written, of help with `write failed` on the second writer;
-/// and where a growth was refused, with `out of memory` there.
+/// `Done`, `Refused`, `Failed`: as [`run_within`] says. `Done` also where help was written. `Usage`: the words name no
+/// command, and that was told. `Failed` also where such a text was not written, of help with `write failed` on the second
+/// writer; and where a growth was refused, with `out of memory` there.
 pub fn run_words<R: Source, W: Sink, E: Sink>(
     alloc: Global,
     words: &[String],
@@ -30,7 +30,9 @@ pub fn run_words<R: Source, W: Sink, E: Sink>(
         reader.old reader.new first.old first.new second.old second.new result }
 {
     match command_of(alloc, words) {
-        Ok(command) => run(alloc, command, reader, first, second),
+        Ok((command, limits)) => {
+            run_within(alloc, command, limits, MOST_READS, reader, first, second)
+        }
         Err(UsageFault::Memory) => give_up(Cause::Memory, second),
         Err(UsageFault::Help(text)) => show_help(text.as_str(), first, second),
         Err(UsageFault::Usage(text)) => show_usage(text.as_str(), second),

@@ -1,7 +1,7 @@
 use Rattle.std.proofs.Common.{◌≡◌, ◌≤◌, ◌<◌, ◌^◌, ◌++◌, ℕ, None, arith, refl, sym, ap, ◌∙◌, subst}
 use Rattle.dbus_message.specs.MessageViews.{message_tree}
 use Rattle.dbus_message.proofs.OutcomeLaws.{whole_inside}
-use Rattle.dbus_stream.specs.Reader.{done_of, source_of, kept}
+use Rattle.dbus_stream.specs.Reader.{limits_of, done_of, most_reads_of, source_of, kept}
 use Rattle.dbus_stream.specs.Next.{GivesMessage}
 use Rattle.dbus_tool.specs.Counting.{stopped_by}
 use Rattle.dbus_tool.specs.Handing.{HandsAll, Hands}
@@ -10,7 +10,7 @@ use Rattle.dbus_tool.proofs.HandSteps.{hands_none, hands_more, hands_ended, hand
 use Rattle.dbus_tool.proofs.handing.hand_all.Goals as goal
 
 pub messages-init : goal.messages-init
-messages-init g c = (hands_none g.R.Source.left g.R.Source.calls g.R.Source.failures g.W.Sink.held g.W.Sink.failures c.args.command.now c.args.messages.now c.args.gathered.now.items c.args.first.now c.requires, refl)
+messages-init g c = (hands_none g.R.Source.left g.R.Source.calls g.R.Source.failures g.W.Sink.held g.W.Sink.failures (limits_of c.args.messages.now) (most_reads_of c.args.messages.now) c.args.command.now c.args.messages.now c.args.gathered.now.items c.args.first.now c.requires refl refl, refl)
 
 pub overflow_add-count : goal.overflow_add-count
 overflow_add-count g c =
@@ -18,12 +18,12 @@ overflow_add-count g c =
     let given = rw c.in-Ok-Some.field-0-is at c.in-Ok-Some.ensures.gives in
     let gives : GivesMessage (kept c.messages.messages ++ given.0.bytes) c.in-Ok-Some.given c.messages.messages c.next_message.new.messages = given.1 in
     let few : done_of c.next_message.new.messages ≤ 2 ^ 44 = c.in-Ok-Some.ensures.few in
-    omega (arith, c.messages.invariant.0.count_is, length-sizes h.bytes h.items _ h.messages, h.done, gives.done, few)
+    omega (arith, c.messages.invariant.0.count_is, length-sizes (limits_of c.args.messages.now) h.bytes h.items _ h.messages, h.done, gives.done, few)
 
 pub messages-preserved : goal.messages-preserved
 messages-preserved g c =
     let given = rw c.in-Ok-Some.field-0-is at c.in-Ok-Some.ensures.gives in (
-      hands_more g.R.Source.left g.R.Source.calls g.R.Source.failures g.W.Sink.held g.W.Sink.failures c.args.command.now c.messages.count c.args.messages.now c.messages.messages c.next_message.new.messages c.in-Ok-Some.given
+      hands_more g.R.Source.left g.R.Source.calls g.R.Source.failures g.W.Sink.held g.W.Sink.failures (limits_of c.args.messages.now) (most_reads_of c.args.messages.now) c.args.command.now c.messages.count c.args.messages.now c.messages.messages c.next_message.new.messages c.in-Ok-Some.given
           c.args.gathered.now.items c.messages.gathered.items c.next_message.new.gathered.items c.write_one.new.gathered.items
           c.args.first.now c.messages.first c.next_message.new.first c.write_one.new.first c.messages.invariant.0 given.0 given.1 given.2 given.3 c.in-Ok.ensures,
       c.next_message.ensures.same_reference ∙ c.messages.invariant.1,
@@ -34,23 +34,23 @@ messages-smaller g c =
     let mid = c.messages.messages in
     let given = rw c.in-Ok-Some.field-0-is at c.in-Ok-Some.ensures.gives in
     let gives : GivesMessage (kept mid ++ given.0.bytes) c.in-Ok-Some.given mid c.next_message.new.messages = given.1 in
-    let some : 0 < gives.size = (whole_inside (kept mid ++ given.0.bytes) c.in-Ok-Some.given.0 (message_tree c.in-Ok-Some.given.1) gives.size gives.whole).0 in
+    let some : 0 < gives.size = (whole_inside (limits_of mid) (kept mid ++ given.0.bytes) c.in-Ok-Some.given.0 (message_tree c.in-Ok-Some.given.1) gives.size gives.whole).0 in
     let few : done_of c.next_message.new.messages ≤ 2 ^ 44 = c.in-Ok-Some.ensures.few in
     omega (arith, gives.done, few, some)
 
 pub returns-in-Err-write_one-clause-hands : goal.returns-in-Err-write_one-clause-hands
 returns-in-Err-write_one-clause-hands g c =
     let given = rw c.in-Ok-Some.field-0-is at c.in-Ok-Some.ensures.gives in
-    hands_not g.R.Source.left g.R.Source.calls g.R.Source.failures g.W.Sink.held g.W.Sink.failures c.args.command.now c.in-Err-write_one.cause c.messages.count c.args.messages.now c.messages.messages c.next_message.new.messages c.in-Ok-Some.given
+    hands_not g.R.Source.left g.R.Source.calls g.R.Source.failures g.W.Sink.held g.W.Sink.failures (limits_of c.args.messages.now) (most_reads_of c.args.messages.now) c.args.command.now c.in-Err-write_one.cause c.messages.count c.args.messages.now c.messages.messages c.next_message.new.messages c.in-Ok-Some.given
     c.args.gathered.now.items c.messages.gathered.items c.next_message.new.gathered.items c.write_one.new.gathered.items
     c.args.first.now c.messages.first c.next_message.new.first c.write_one.new.first c.messages.invariant.0 given.0 given.1 given.3 c.in-Err-write_one.ensures
 
 pub returns-in-Ok-None-clause-hands : goal.returns-in-Ok-None-clause-hands
 returns-in-Ok-None-clause-hands g c =
     let given = rw c.in-Ok-None.field-0-is at c.in-Ok-None.ensures.gives in
-    subst (λ (n : ℕ). HandsAll g.R.Source.left g.R.Source.calls g.R.Source.failures g.W.Sink.held g.W.Sink.failures c.args.command.now (record { count = c.messages.count; size = n; fault = None })
+    subst (λ (n : ℕ). HandsAll g.R.Source.left g.R.Source.calls g.R.Source.failures g.W.Sink.held g.W.Sink.failures (limits_of c.args.messages.now) (most_reads_of c.args.messages.now) c.args.command.now (record { count = c.messages.count; size = n; fault = None })
     (source_of c.args.messages.now) (source_of c.next_message.new.messages) c.args.gathered.now.items c.next_message.new.gathered.items c.args.first.now c.next_message.new.first) (sym c.done.ensures)
-    (hands_ended g.R.Source.left g.R.Source.calls g.R.Source.failures g.W.Sink.held g.W.Sink.failures c.args.command.now c.messages.count c.args.messages.now c.messages.messages c.next_message.new.messages
+    (hands_ended g.R.Source.left g.R.Source.calls g.R.Source.failures g.W.Sink.held g.W.Sink.failures (limits_of c.args.messages.now) (most_reads_of c.args.messages.now) c.args.command.now c.messages.count c.args.messages.now c.messages.messages c.next_message.new.messages
     c.args.gathered.now.items c.messages.gathered.items c.next_message.new.gathered.items c.args.first.now c.messages.first c.next_message.new.first c.messages.invariant.0 given.0 given.1 given.3)
 
 pub returns-in-Err-clause-hands : goal.returns-in-Err-clause-hands
@@ -58,7 +58,7 @@ returns-in-Err-clause-hands g c =
     let stop = c.in-Err.stop in
     let answer : c.stopped_by.result ≡ stopped_by c.messages.count (done_of c.next_message.new.messages) stop
     = c.stopped_by.ensures ∙ ap (λ n. stopped_by c.messages.count n stop) c.done-in-Err.ensures in
-    subst (λ x. Hands g.R.Source.left g.R.Source.calls g.R.Source.failures g.W.Sink.held g.W.Sink.failures c.args.command.now (source_of c.args.messages.now) (source_of c.next_message.new.messages)
+    subst (λ x. Hands g.R.Source.left g.R.Source.calls g.R.Source.failures g.W.Sink.held g.W.Sink.failures (limits_of c.args.messages.now) (most_reads_of c.args.messages.now) c.args.command.now (source_of c.args.messages.now) (source_of c.next_message.new.messages)
     c.args.gathered.now.items c.next_message.new.gathered.items c.args.first.now c.next_message.new.first x) (sym answer)
-    (hands_stopped g.R.Source.left g.R.Source.calls g.R.Source.failures g.W.Sink.held g.W.Sink.failures c.args.command.now stop c.messages.count c.args.messages.now c.messages.messages c.next_message.new.messages
+    (hands_stopped g.R.Source.left g.R.Source.calls g.R.Source.failures g.W.Sink.held g.W.Sink.failures (limits_of c.args.messages.now) (most_reads_of c.args.messages.now) c.args.command.now stop c.messages.count c.args.messages.now c.messages.messages c.next_message.new.messages
     c.args.gathered.now.items c.messages.gathered.items c.next_message.new.gathered.items c.args.first.now c.messages.first c.next_message.new.first c.messages.invariant.0 c.in-Err.ensures.gives)
