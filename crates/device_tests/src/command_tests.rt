@@ -5,7 +5,7 @@ use crate::running::words_of;
 use crate::usage_texts::*;
 use dbus_match::{RuleFault, RuleReason, rule_text};
 use dbus_tool::{Command, UsageFault, command_of};
-use dbus_value::Order;
+use dbus_value::{Limits, Order};
 use std::alloc::Global;
 use std::process::Abort;
 use std::test::Fail;
@@ -20,7 +20,7 @@ enum Named {
 }
 
 // What the command line answers to these words behind the program's path.
-fn answer_to(alloc: Global, words: &[&str]) -> Result<Result<Command, UsageFault>, Fail> {
+fn answer_to(alloc: Global, words: &[&str]) -> Result<Result<(Command, Limits), UsageFault>, Fail> {
     let words = words_of(alloc, "/usr/bin/dbus-wire", words)?;
     Ok(command_of(alloc, words.as_slice()))
 }
@@ -28,10 +28,10 @@ fn answer_to(alloc: Global, words: &[&str]) -> Result<Result<Command, UsageFault
 // Whether the words name this.
 fn is_named(alloc: Global, words: &[&str], named: &Named) -> Result<bool, Fail> {
     match (answer_to(alloc, words)?, named) {
-        (Ok(Command::Show), Named::Show) => Ok(true),
-        (Ok(Command::Check), Named::Check) => Ok(true),
-        (Ok(Command::Swap(given)), Named::Swap(order)) => Ok(given == *order),
-        (Ok(Command::Filter(rule)), Named::Filter(text)) => {
+        (Ok((Command::Show, _)), Named::Show) => Ok(true),
+        (Ok((Command::Check, _)), Named::Check) => Ok(true),
+        (Ok((Command::Swap(given), _)), Named::Swap(order)) => Ok(given == *order),
+        (Ok((Command::Filter(rule), _)), Named::Filter(text)) => {
             Ok(rule_text(alloc, &rule)?.as_str() == *text)
         }
         (Err(UsageFault::Rule(given)), Named::Refused(fault)) => Ok(given == *fault),
@@ -63,6 +63,69 @@ const NAMED: &[(&[&str], Named)] = &[
 fn commands(rt: HostRuntime) -> Result<(), Fail> {
     for (n, (words, named)) in NAMED.iter().enumerate() {
         assert!(rt; is_named(rt.alloc(), words, named)?, "at {n}");
+    }
+    Ok(())
+}
+
+const MESSAGE: u32 = 134_217_728;
+
+const ARRAY: u32 = 67_108_864;
+
+const DEPTH: u8 = 64;
+
+// Words, and the limits on messages, arrays and depth that they name.
+const LIMITED: &[(&[&str], u32, u32, u8)] = &[
+    (&["show"], MESSAGE, ARRAY, DEPTH),
+    (&["show", "--max-message", "23"], 23, ARRAY, DEPTH),
+    (&["check", "--max-array=7"], MESSAGE, 7, DEPTH),
+    (&["check", "--max-depth", "2"], MESSAGE, ARRAY, 2),
+    (
+        &[
+            "swap",
+            "--max-depth=0",
+            "--to",
+            "l",
+            "--max-array",
+            "0",
+            "--max-message=0",
+        ],
+        0,
+        0,
+        0,
+    ),
+    (
+        &[
+            "filter",
+            "--max-message",
+            "134217728",
+            "",
+            "--max-array=67108864",
+            "--max-depth",
+            "64",
+        ],
+        MESSAGE,
+        ARRAY,
+        DEPTH,
+    ),
+    (
+        &["check", "--max-message=+007", "--max-depth=-0"],
+        7,
+        ARRAY,
+        0,
+    ),
+];
+
+#[test]
+fn limits(rt: HostRuntime) -> Result<(), Fail> {
+    for (n, (words, message, array, depth)) in LIMITED.iter().enumerate() {
+        let Ok((_, named)) = answer_to(rt.alloc(), words)? else {
+            return Err(Fail::new("no command"));
+        };
+        assert_eq!(rt;
+            Some(named),
+            Limits::new(*message, *array, *depth),
+            "at {n}"
+        );
     }
     Ok(())
 }
@@ -130,6 +193,18 @@ const USAGES: &[(&[&str], &str)] = &[
     (&["swap", "--to", "L"], CAPITAL_ORDER),
     (&["swap", "--to=lB"], TWO_LETTERS),
     (&["filter"], NO_RULE),
+    (&["show", "--max-message", "134217729"], LONG_MESSAGE),
+    (&["check", "--max-array=67108865"], LONG_ARRAY),
+    (&["swap", "--to", "l", "--max-depth", "65"], TOO_DEEP),
+    // Before a bad rule.
+    (&["filter", "arg64='x'", "--max-depth=65"], TOO_DEEP),
+    (&["check", "--max-depth=-1"], BELOW_ZERO),
+    (&["check", "--max-message", "1k"], NO_NUMBER),
+    (&["check", "--max-array", ""], NO_DIGITS),
+    (&["check", "--max-message=9223372036854775808"], HUGE_NUMBER),
+    (&["check", "--max-depth"], NO_WORD_OF_DEPTH),
+    (&["check", "--max-depth", "1", "--max-depth=1"], TWO_DEPTHS),
+    (&["--max-depth", "1", "check"], DEPTH_BEFORE_COMMAND),
 ];
 
 #[test]

@@ -18,7 +18,8 @@ Options:
 
 Input:
   Raw messages on standard input, one behind the other, as
-  `dbus-monitor --binary` writes them.
+  `dbus-monitor --binary` writes them. A message over one of the limits, which
+  the options of a command lower, is refused.
 
 Output:
   What the command makes of the messages, on standard output. Of an input that
@@ -29,7 +30,7 @@ Output:
 Exit status:
   0  the whole input is messages, or help was asked for
   1  the input is refused: it has bytes that are no message, or ends within one
-  2  the words of the command line are wrong
+  2  the words of the command line are wrong, or a limit is out of its range
   3  a read or a write failed, too many reads were made, or memory was refused
 
 Example:
@@ -41,14 +42,18 @@ Example:
 pub(crate) const SHOW: &str = "\
 Writes each message as text
 
-Usage: dbus-wire show
+Usage: dbus-wire show [OPTIONS]
 
 Options:
-  -h, --help  Print help
+      --max-message <N>  Most bytes of a message: 0 to 134217728, the default
+      --max-array <N>    Most bytes of an array: 0 to 67108864, the default
+      --max-depth <N>    Most containers open at once: 0 to 64, the default
+  -h, --help             Print help
 
 Input:
   Raw messages on standard input, one behind the other, as
-  `dbus-monitor --binary` writes them.
+  `dbus-monitor --binary` writes them. A message over one of the limits, which
+  the options of a command lower, is refused.
 
 Output:
   For each message a line on standard output with its number from 1, byte order,
@@ -58,7 +63,7 @@ Output:
 Exit status:
   0  the whole input is messages, or help was asked for
   1  the input is refused: it has bytes that are no message, or ends within one
-  2  the words of the command line are wrong
+  2  the words of the command line are wrong, or a limit is out of its range
   3  a read or a write failed, too many reads were made, or memory was refused
 
 Example:
@@ -69,14 +74,18 @@ Example:
 pub(crate) const CHECK: &str = "\
 Tells whether the input is messages, and how many
 
-Usage: dbus-wire check
+Usage: dbus-wire check [OPTIONS]
 
 Options:
-  -h, --help  Print help
+      --max-message <N>  Most bytes of a message: 0 to 134217728, the default
+      --max-array <N>    Most bytes of an array: 0 to 67108864, the default
+      --max-depth <N>    Most containers open at once: 0 to 64, the default
+  -h, --help             Print help
 
 Input:
   Raw messages on standard input, one behind the other, as
-  `dbus-monitor --binary` writes them.
+  `dbus-monitor --binary` writes them. A message over one of the limits, which
+  the options of a command lower, is refused.
 
 Output:
   One line on standard output: `ok N messages B bytes`, or `refused at P: NAME`
@@ -85,7 +94,7 @@ Output:
 Exit status:
   0  the whole input is messages, or help was asked for
   1  the input is refused: it has bytes that are no message, or ends within one
-  2  the words of the command line are wrong
+  2  the words of the command line are wrong, or a limit is out of its range
   3  a read or a write failed, too many reads were made, or memory was refused
 
 Example:
@@ -96,15 +105,19 @@ Example:
 pub(crate) const SWAP: &str = "\
 Writes each message in one byte order
 
-Usage: dbus-wire swap --to <ORDER>
+Usage: dbus-wire swap [OPTIONS] --to <ORDER>
 
 Options:
-      --to <ORDER>  The byte order: l is little-endian, B is big-endian
-  -h, --help        Print help
+      --to <ORDER>       The byte order: l is little-endian, B is big-endian
+      --max-message <N>  Most bytes of a message: 0 to 134217728, the default
+      --max-array <N>    Most bytes of an array: 0 to 67108864, the default
+      --max-depth <N>    Most containers open at once: 0 to 64, the default
+  -h, --help             Print help
 
 Input:
   Raw messages on standard input, one behind the other, as
-  `dbus-monitor --binary` writes them.
+  `dbus-monitor --binary` writes them. A message over one of the limits, which
+  the options of a command lower, is refused.
 
 Output:
   The raw messages on standard output, each in the byte order that is named.
@@ -113,7 +126,7 @@ Output:
 Exit status:
   0  the whole input is messages, or help was asked for
   1  the input is refused: it has bytes that are no message, or ends within one
-  2  the words of the command line are wrong
+  2  the words of the command line are wrong, or a limit is out of its range
   3  a read or a write failed, too many reads were made, or memory was refused
 
 Example:
@@ -124,17 +137,21 @@ Example:
 pub(crate) const FILTER: &str = "\
 Writes the messages that match a rule, as they came
 
-Usage: dbus-wire filter <RULE>
+Usage: dbus-wire filter [OPTIONS] <RULE>
 
 Arguments:
   <RULE>  A D-Bus match rule, as type='signal',path='/a'; '' matches each message
 
 Options:
-  -h, --help  Print help
+      --max-message <N>  Most bytes of a message: 0 to 134217728, the default
+      --max-array <N>    Most bytes of an array: 0 to 67108864, the default
+      --max-depth <N>    Most containers open at once: 0 to 64, the default
+  -h, --help             Print help
 
 Input:
   Raw messages on standard input, one behind the other, as
-  `dbus-monitor --binary` writes them.
+  `dbus-monitor --binary` writes them. A message over one of the limits, which
+  the options of a command lower, is refused.
 
 Output:
   The raw messages that match, on standard output, each as it came.
@@ -144,7 +161,7 @@ Output:
 Exit status:
   0  the whole input is messages, or help was asked for
   1  the input is refused: it has bytes that are no message, or ends within one
-  2  the words of the command line are wrong
+  2  the words of the command line are wrong, or a limit is out of its range
   3  a read or a write failed, too many reads were made, or memory was refused
 
 Example:

@@ -2,10 +2,13 @@
 
 use crate::captures::*;
 use crate::help_texts::PROGRAM;
-use crate::running::{BY_ONE, CHECK, SHOW, TO_BIG, TO_LITTLE, assert_end, ran, ran_words};
-use crate::usage_texts::NO_COMMAND;
-use dbus_stream::FromRead;
-use dbus_tool::ExitStatus;
+use crate::pieces::Pieces;
+use crate::running::{
+    BY_ONE, CHECK, End, SHOW, TO_BIG, TO_LITTLE, assert_end, ran, ran_reads, ran_words,
+};
+use crate::usage_texts::{NO_COMMAND, TOO_DEEP};
+use dbus_stream::{FromRead, FromWrite};
+use dbus_tool::{Command, ExitStatus, run};
 use std::process::Abort;
 use std::test::Fail;
 
@@ -58,6 +61,30 @@ const DONE: &[(&[&str], &[&[u8]], &[&[u8]])] = &[
         &[RETURN, SIGNAL, BIG_RETURN],
         &[RETURN, SIGNAL, BIG_RETURN],
     ),
+    // Limits that are met, each message by itself.
+    (
+        &[
+            "check",
+            "--max-message",
+            "24",
+            "--max-array=8",
+            "--max-depth",
+            "3",
+        ],
+        &[RETURN, BIG_RETURN],
+        &[b"ok 2 messages 48 bytes\n"],
+    ),
+    (
+        &["swap", "--max-depth=3", "--to=B"],
+        &[RETURN],
+        &[BIG_RETURN],
+    ),
+    (
+        &["filter", "--max-message=24", "type='method_return'"],
+        &[RETURN],
+        &[RETURN],
+    ),
+    (&["show", "--max-array", "8"], &[RETURN], &[RETURN_TEXT]),
 ];
 
 #[test]
@@ -85,6 +112,55 @@ const REFUSED: &[(&[&str], &[&[u8]], &[u8], &[u8])] = &[
     ),
     (CHECK, &[RETURN, FRONT], TRUNCATED, b""),
     (CHECK, &[BARE], b"refused at 16: FieldMissing(5)\n", b""),
+    (
+        &["check", "--max-message", "23"],
+        &[RETURN],
+        b"refused at 12: MessageTooLong\n",
+        b"",
+    ),
+    (
+        &["check", "--max-array", "7"],
+        &[RETURN],
+        b"refused at 12: ArrayTooLong\n",
+        b"",
+    ),
+    (
+        &["check", "--max-depth", "2"],
+        &[RETURN],
+        b"refused at 17: TooDeep\n",
+        b"",
+    ),
+    (
+        &["show", "--max-message=24"],
+        &[RETURN, SIGNAL],
+        RETURN_TEXT,
+        b"refused at 36: MessageTooLong\n",
+    ),
+    (
+        &["swap", "--to", "B", "--max-depth=1"],
+        &[RETURN],
+        b"",
+        b"refused at 16: TooDeep\n",
+    ),
+    (
+        &["filter", "", "--max-array=0"],
+        &[RETURN],
+        b"",
+        b"refused at 12: ArrayTooLong\n",
+    ),
+    // A message is refused for its length once that is there, its first 16 bytes.
+    (
+        &["check", "--max-message=0"],
+        &[FRONT],
+        b"refused at 5: Truncated\n",
+        b"",
+    ),
+    (
+        &["check", "--max-message=0"],
+        &[BARE],
+        b"refused at 12: MessageTooLong\n",
+        b"",
+    ),
 ];
 
 #[test]
@@ -94,6 +170,56 @@ fn inputs_that_are_refused(rt: HostRuntime) -> Result<(), Fail> {
         let refused = ExitStatus::Refused;
         ends(&rt, n, words, input.as_slice(), refused, first, second)?;
     }
+    Ok(())
+}
+
+const TOO_MANY: &[u8] = b"too many reads\n";
+
+// Words, how many reads may be made of a message in pieces of one byte, how the command ends, and what is written on the
+// first writer and on the second. The read that finds the end is one of them.
+const FEW_READS: &[(&[&str], u64, ExitStatus, &[u8], &[u8])] = &[
+    (CHECK, 0, ExitStatus::Failed, b"", TOO_MANY),
+    (CHECK, 2, ExitStatus::Failed, b"", TOO_MANY),
+    (SHOW, 24, ExitStatus::Failed, RETURN_TEXT, TOO_MANY),
+    (
+        CHECK,
+        25,
+        ExitStatus::Done,
+        b"ok 1 messages 24 bytes\n",
+        b"",
+    ),
+];
+
+#[test]
+fn few_reads(rt: HostRuntime) -> Result<(), Fail> {
+    for (n, (words, reads, status, first, second)) in FEW_READS.iter().enumerate() {
+        let mut reader = Pieces::new(RETURN, 1, 0);
+        let end = ran_reads(rt.alloc(), words, *reads, &mut reader)?;
+        assert_end(&rt, n, &end, *status, first, second);
+        assert_eq!(rt; reader.calls, *reads, "at {n}");
+    }
+    Ok(())
+}
+
+// Where neither limits nor a number of reads is handed in.
+#[test]
+fn a_run_at_the_specification(rt: HostRuntime) -> Result<(), Fail> {
+    let mut reader = FromRead::new(RETURN);
+    let mut first = FromWrite::new(Vec::new(rt.alloc()));
+    let mut second = FromWrite::new(Vec::new(rt.alloc()));
+    let status = run(
+        rt.alloc(),
+        Command::Show,
+        &mut reader,
+        &mut first,
+        &mut second,
+    );
+    let end = End {
+        status,
+        first: first.into_inner(),
+        second: second.into_inner(),
+    };
+    assert_end(&rt, 0, &end, ExitStatus::Done, RETURN_TEXT, b"");
     Ok(())
 }
 
@@ -137,6 +263,12 @@ fn a_long_text_and_more(rt: HostRuntime) -> Result<(), Fail> {
 const TOLD: &[(&[&str], ExitStatus, &str, &str)] = &[
     (&[], ExitStatus::Usage, "", NO_COMMAND),
     (&["--help"], ExitStatus::Done, PROGRAM, ""),
+    (
+        &["check", "--max-depth", "65"],
+        ExitStatus::Usage,
+        "",
+        TOO_DEEP,
+    ),
     (
         &["filter", "\0"],
         ExitStatus::Usage,

@@ -4,7 +4,8 @@ use crate::captures::joined;
 use crate::narrow::Narrow;
 use crate::pieces::Pieces;
 use dbus_stream::{FromWrite, Source};
-use dbus_tool::{ExitStatus, command_of, run, run_words};
+use dbus_tool::{Command, ExitStatus, command_of, run_reads, run_within, run_words};
+use dbus_value::Limits;
 use std::alloc::{Allocator, Global};
 use std::process::Abort;
 use std::test::Fail;
@@ -17,6 +18,9 @@ pub(crate) const CHECK: &[&str] = &["check"];
 pub(crate) const TO_LITTLE: &[&str] = &["swap", "--to", "l"];
 
 pub(crate) const TO_BIG: &[&str] = &["swap", "--to", "B"];
+
+// The most reads that a run may make.
+const MOST_READS: u64 = 1 << 32;
 
 /// How a run ends, and what it wrote on both writers.
 #[derive(Drop)]
@@ -36,21 +40,51 @@ pub(crate) fn words_of(alloc: Global, name: &str, words: &[&str]) -> Result<Vec<
     Ok(all)
 }
 
-/// How the command that the words name ends over this reader. The run alone takes memory of the heap.
+// The command that the words name, and its limits.
+fn named(alloc: Global, words: &[&str]) -> Result<(Command, Limits), Fail> {
+    let words = words_of(alloc, "dbus-wire", words)?;
+    command_of(alloc, words.as_slice()).map_err(|_| Fail::new("no command"))
+}
+
+/// How the command that the words name ends over this reader, under the limits that they name. The run alone takes memory
+/// of the heap.
 pub(crate) fn ran<A: Allocator + Copy, R: Source + Drop>(
     alloc: Global,
     heap: A,
     words: &[&str],
     reader: R,
 ) -> Result<End, Fail> {
-    let words = words_of(alloc, "dbus-wire", words)?;
-    let Ok(command) = command_of(alloc, words.as_slice()) else {
-        return Err(Fail::new("no command"));
-    };
+    let (command, limits) = named(alloc, words)?;
     let mut reader = reader;
     let mut first = FromWrite::new(Vec::new(alloc));
     let mut second = FromWrite::new(Vec::new(alloc));
-    let status = run(heap, command, &mut reader, &mut first, &mut second);
+    let status = run_within(
+        heap,
+        command,
+        limits,
+        MOST_READS,
+        &mut reader,
+        &mut first,
+        &mut second,
+    );
+    Ok(End {
+        status,
+        first: first.into_inner(),
+        second: second.into_inner(),
+    })
+}
+
+/// How the command ends where it may make so many reads of the reader.
+pub(crate) fn ran_reads(
+    alloc: Global,
+    words: &[&str],
+    reads: u64,
+    reader: &mut Pieces,
+) -> Result<End, Fail> {
+    let (command, _) = named(alloc, words)?;
+    let mut first = FromWrite::new(Vec::new(alloc));
+    let mut second = FromWrite::new(Vec::new(alloc));
+    let status = run_reads(alloc, command, reads, reader, &mut first, &mut second);
     Ok(End {
         status,
         first: first.into_inner(),

@@ -40,7 +40,7 @@ For more information, try '--help'.
 pub(crate) const WORD_BEHIND_SHOW: &str = "\
 error: unexpected argument 'capture' found
 
-Usage: dbus-wire show
+Usage: dbus-wire show [OPTIONS]
 
 For more information, try '--help'.
 ";
@@ -48,7 +48,7 @@ For more information, try '--help'.
 pub(crate) const OPTION_OF_CHECK: &str = "\
 error: unexpected argument '--all' found
 
-Usage: dbus-wire check
+Usage: dbus-wire check [OPTIONS]
 
 For more information, try '--help'.
 ";
@@ -56,7 +56,7 @@ For more information, try '--help'.
 pub(crate) const SECOND_RULE: &str = "\
 error: unexpected argument 'type=error' found
 
-Usage: dbus-wire filter <RULE>
+Usage: dbus-wire filter [OPTIONS] <RULE>
 
 For more information, try '--help'.
 ";
@@ -79,7 +79,7 @@ For more information, try '--help'.
 pub(crate) const TWO_ORDERS: &str = "\
 error: the argument '--to <ORDER>' cannot be used multiple times
 
-Usage: dbus-wire swap --to <ORDER>
+Usage: dbus-wire swap [OPTIONS] --to <ORDER>
 
 For more information, try '--help'.
 ";
@@ -103,6 +103,79 @@ error: the following required arguments were not provided:
   <RULE>
 
 Usage: dbus-wire filter <RULE>
+
+For more information, try '--help'.
+";
+
+// Of an option that does not take its value, and why.
+macro_rules! bad_value {
+    ($option:literal, $value:literal, $why:literal) => {
+        concat!(
+            "error: invalid value '",
+            $value,
+            "' for '",
+            $option,
+            " <N>': ",
+            $why,
+            "\n\nFor more information, try '--help'.\n"
+        )
+    };
+}
+
+pub(crate) const LONG_MESSAGE: &str = bad_value!(
+    "--max-message",
+    "134217729",
+    "134217729 is not in 0..=134217728"
+);
+
+pub(crate) const LONG_ARRAY: &str = bad_value!(
+    "--max-array",
+    "67108865",
+    "67108865 is not in 0..=67108864"
+);
+
+pub(crate) const TOO_DEEP: &str = bad_value!("--max-depth", "65", "65 is not in 0..=64");
+
+pub(crate) const BELOW_ZERO: &str = bad_value!("--max-depth", "-1", "-1 is not in 0..=64");
+
+pub(crate) const NO_NUMBER: &str = bad_value!(
+    "--max-message",
+    "1k",
+    "invalid digit found in string"
+);
+
+pub(crate) const NO_DIGITS: &str = bad_value!(
+    "--max-array",
+    "",
+    "cannot parse integer from empty string"
+);
+
+pub(crate) const HUGE_NUMBER: &str = bad_value!(
+    "--max-message",
+    "9223372036854775808",
+    "number too large to fit in target type"
+);
+
+pub(crate) const NO_WORD_OF_DEPTH: &str = "\
+error: a value is required for '--max-depth <N>' but none was supplied
+
+For more information, try '--help'.
+";
+
+pub(crate) const TWO_DEPTHS: &str = "\
+error: the argument '--max-depth <N>' cannot be used multiple times
+
+Usage: dbus-wire check [OPTIONS]
+
+For more information, try '--help'.
+";
+
+pub(crate) const DEPTH_BEFORE_COMMAND: &str = "\
+error: unexpected argument '--max-depth' found
+
+  tip: 'check --max-depth' exists
+
+Usage: dbus-wire <COMMAND>
 
 For more information, try '--help'.
 ";
