@@ -3,7 +3,7 @@
 _dbus_wire() {
     local word=${COMP_WORDS[COMP_CWORD]} option=${COMP_WORDS[COMP_CWORD-1]}
     local commands='show check swap filter help'
-    local options='--max-message --max-array --max-depth -h --help'
+    local options='--max-message --max-array --max-depth --fds -h --help'
     COMPREPLY=()
     if ((COMP_CWORD == 1)); then
         COMPREPLY=($(compgen -W "$commands -h --help" -- "$word"))
@@ -18,6 +18,10 @@ _dbus_wire() {
     case $option in
         --to)
             COMPREPLY=($(compgen -W 'l B' -- "$word"))
+            return
+            ;;
+        --fds)
+            COMPREPLY=($(compgen -W 'any below-count' -- "$word"))
             return
             ;;
         --max-*)

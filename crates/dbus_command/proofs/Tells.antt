@@ -1,19 +1,19 @@
 -- What clap's answer says of what is told.
-use Rattle.std.proofs.Common.{◌≡◌, List, [], true, refl, subst, sym, ◌∙◌, inl, inr, Ok, Err, Option, Some, Result}
-use Rattle.clap.specs.Words.{Row, Text, subcommand_of}
+use Rattle.std.proofs.Common.{◌≡◌, List, [], true, refl, subst, sym, ap, ◌∙◌, inl, inr, IfOk, Ok, Err, Option, Some, Result}
+use Rattle.clap.specs.Words.{App, HasMatchesOf, Row, Text, is_simple, subcommand_of, subcommand_rows_of}
+use Rattle.clap.specs.declared.parser.matches.ArgMatches.{ArgMatches}
 use Rattle.clap.specs.Kinds.{IsAmong, HasKind}
 use Rattle.clap.specs.Faults.{fault_of, is_simple_and_free}
-use Rattle.clap.specs.Simple.{is_simple}
 use Rattle.clap.specs.Values.{kind_of}
 use Rattle.clap.specs.declared.error.Error.{Error}
 use Rattle.clap.specs.declared.error.kind.ErrorKind.TheVariants.{DisplayHelp, OutOfMemory}
 use Rattle.clap.proofs.OnLiterals.{clap_on_literals}
 use Rattle.dbus_command.specs.CommandLine.{wire_app}
 use Rattle.dbus_value_model.specs.declared.limits.Limits.{Limits}
-use Rattle.dbus_command.specs.Limiting.{HasLimits}
+use Rattle.dbus_command.specs.Limiting.{HasLimits, TellsLimits}
 use Rattle.dbus_command.specs.Told.{TellsFault, TellsKind, Tells, TellsCommand, IsUsageOrMemory, IsNoCommand, NamesNothing}
-use Rattle.dbus_command.specs.Named.{HasRuleFault}
-use Rattle.dbus_command.proofs.Nothing.{no_command_names_nothing}
+use Rattle.dbus_command.specs.Named.{HasRuleFault, IsNamedBy, Names}
+use Rattle.dbus_command.proofs.Nothing.{no_command_names_nothing, unlimited_names_nothing}
 use Rattle.dbus_command.specs.declared.command.Command.{Command}
 use Rattle.dbus_command.specs.declared.usage_fault.UsageFault.{UsageFault}
 use Rattle.dbus_command.specs.declared.usage_fault.UsageFault.TheVariants.{Memory, Help, Usage, Rule}
@@ -25,6 +25,11 @@ wire_is_simple = refl
 pub wire_is_free : is_simple_and_free wire_app ≡ true
 unfolding clap_on_literals
 wire_is_free = refl
+
+-- the subcommand of a parse is the one that the words name
+pub same_subcommand : (app : App) (words : List Text) (matches : ArgMatches) → app ≡ wire_app → HasMatchesOf app words matches
+    → subcommand_of wire_app words ≡ subcommand_rows_of matches
+same_subcommand app words matches is has = ap (λ (a : App). subcommand_of a words) (sym is) ∙ sym (has (ap is_simple is ∙ wire_is_simple)).1
 
 -- a text that is told of words that name nothing
 pub nothing_told : (sub : Option (Text × List Row)) (told : UsageFault) → IsUsageOrMemory told → NamesNothing sub → Tells sub (Err told)
@@ -40,6 +45,20 @@ no_command_told name rows (Help text) is none = absurd is
 no_command_told name rows (Usage text) is none = none
 no_command_told name rows (Rule fault) is none = absurd is
 
+-- what is told of options that name no limits
+pub no_limits_told : (rows : List Row) (told : UsageFault) → IsUsageOrMemory told → ((limits : Limits) → HasLimits rows limits → ⊥) → TellsLimits rows (Err told)
+no_limits_told rows Memory is none = tt
+no_limits_told rows (Help text) is none = absurd is
+no_limits_told rows (Usage text) is none = none
+no_limits_told rows (Rule fault) is none = absurd is
+
+-- and of a command behind such options
+pub told_without_limits : (sub : Text × List Row) (told : UsageFault) → TellsLimits sub.1 (Err told) → Tells (Some sub) (Err told)
+told_without_limits sub Memory h = tt
+told_without_limits sub (Help text) h = h
+told_without_limits sub (Usage text) h = unlimited_names_nothing sub h
+told_without_limits sub (Rule fault) h = absurd h
+
 -- what is told of the words behind a name, where they name limits
 pub told_under_limits : (sub : Text × List Row) (limits : Limits) (told : UsageFault) → HasLimits sub.1 limits → TellsCommand sub.0 sub.1 (Err told)
     → Tells (Some sub) (Err told)
@@ -47,6 +66,11 @@ told_under_limits sub limits Memory given h = tt
 told_under_limits sub limits (Help text) given h = h
 told_under_limits sub limits (Usage text) given h = no_command_names_nothing sub h
 told_under_limits sub limits (Rule fault) given h = (h, (limits, given))
+
+pub named_of_matches : (words : List Text) (sub : Option (Text × List Row)) (answer : Result (Command × Limits) UsageFault) → subcommand_of wire_app words ≡ sub
+    → Tells sub answer → IfOk answer (IsNamedBy words)
+named_of_matches words sub (Ok named) same h = subst (λ s. Names s named.0 named.1) (sym same) h
+named_of_matches words sub (Err fault) same h = tt
 
 pub told_of_matches : (words : List Text) (sub : Option (Text × List Row)) (answer : Result (Command × Limits) UsageFault) → fault_of wire_app words ≡ []
     → subcommand_of wire_app words ≡ sub → Tells sub answer → TellsFault words answer

@@ -19,11 +19,16 @@ text_rule = record (new_rule (codes "rule")) { value_names = 1; required = true 
 abbrev pub limit_rule : Text → ℕ → Rule
 limit_rule name most = record (new_rule name) { long = Some name; value_names = 1; parser = Some (Signed (pos 0) (pos most)) }
 
--- the command with the three options for limits
+-- the option `--fds`, with one value
+abbrev pub fds_rule : Rule
+fds_rule = record (new_rule (codes "fds")) { long = Some (codes "fds"); value_names = 1 }
+
+-- the command with the four options for limits
 abbrev pub with_limits : App → App
 with_limits app = with_rule
+    (with_rule
     (with_rule (with_rule app (limit_rule (codes "max-message") MESSAGE_LIMIT)) (limit_rule (codes "max-array") ARRAY_LIMIT))
-    (limit_rule (codes "max-depth") DEPTH_LIMIT)
+    (limit_rule (codes "max-depth") DEPTH_LIMIT)) fds_rule
 
 abbrev pub show_app : App
 show_app = with_limits (new_app (codes "show"))

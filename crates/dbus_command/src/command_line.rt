@@ -2,11 +2,11 @@
 ghost use Rattle.std.specs.Prelude.{List, IfOk, map, string_bytes, codes};
 ghost use Rattle.clap.specs.Words.{found_of, kind_of, rows_of, subcommand_rows_of};
 ghost use Rattle.dbus_command.specs.Named.{IsNamedBy, IsOrderOf};
-ghost use Rattle.dbus_command.specs.Told.{TellsKind, IsUsageOrMemory, Tells, TellsCommand, TellsFault};
+ghost use Rattle.dbus_command.specs.Told.{TellsKind, Tells, TellsCommand, TellsFault};
 
 use crate::command::Command;
 use crate::limits_named::limits_named;
-use crate::usage_fault::UsageFault;
+use crate::usage_fault::{UsageFault, bad_value, usage};
 use crate::wire::wire;
 use clap::ArgMatches;
 use clap::error::ErrorKind;
@@ -15,8 +15,8 @@ use dbus_value::{Limits, Order};
 use std::alloc::Global;
 
 /// The command that the words name, and the limits that its messages are read under. The first of the words is the
-/// program's name. `--max-message` and `--max-array`, in bytes, and `--max-depth`, in open containers, name the limits;
-/// one that they do not name is that of the specification.
+/// program's name. `--max-message` and `--max-array`, in bytes, `--max-depth`, in open containers, and `--fds`, a rule on
+/// indexes of descriptors, name the limits; one that they do not name is that of the specification.
 ///
 /// `Usage`: the words name no command of the program, or have what it does not take, a limit over that of the
 /// specification among it. `Rule`: they name `filter`, with a text that spells no rule. `Help`: they ask for help.
@@ -43,9 +43,7 @@ fn command_named(alloc: Global, matches: &ArgMatches) -> Result<(Command, Limits
     let Some((name, inner)) = matches.subcommand() else {
         return Err(usage(alloc, "error: no command\n"));
     };
-    let Some(limits) = limits_named(inner) else {
-        return Err(usage(alloc, "error: no limits\n"));
-    };
+    let limits = limits_named(alloc, inner)?;
     let command = command_behind(alloc, name, inner)?;
     Ok((command, limits))
 }
@@ -78,7 +76,7 @@ fn order_named(alloc: Global, inner: &ArgMatches) -> Result<Command, UsageFault>
     };
     match order_of(word) {
         Some(order) => Ok(Command::Swap(order)),
-        None => Err(no_order(alloc, word)),
+        None => Err(bad_value(alloc, word, "--to <ORDER>", "l, B")),
     }
 }
 
@@ -106,29 +104,6 @@ fn rule_named(alloc: Global, inner: &ArgMatches) -> Result<Command, UsageFault>
         Ok(rule) => Ok(Command::Filter(rule)),
         Err(RuleFault::Memory) => Err(UsageFault::Memory),
         Err(RuleFault::Bad { at, reason }) => Err(UsageFault::Rule(RuleFault::Bad { at, reason })),
-    }
-}
-
-// A word that stands for no order, told as `clap` tells a value that it does not take.
-fn no_order(alloc: Global, word: &str) -> UsageFault
-    ensures { IsUsageOrMemory result }
-{
-    let told = format!(in alloc;
-        "error: invalid value '{word}' for '--to <ORDER>'\n  [possible values: l, B]\n\nFor more information, try '--help'.\n"
-    );
-    match told {
-        Ok(text) => UsageFault::Usage(text),
-        Err(_) => UsageFault::Memory,
-    }
-}
-
-// A fault of usage with this text.
-fn usage(alloc: Global, text: &str) -> UsageFault
-    ensures { IsUsageOrMemory result }
-{
-    match String::from_str(alloc, text) {
-        Ok(text) => UsageFault::Usage(text),
-        Err(_) => UsageFault::Memory,
     }
 }
 

@@ -106,3 +106,6 @@ pub(crate) const MAX_ARRAY: &str = "Most bytes of an array: 0 to 67108864, the d
 
 /// What the limit on depth is.
 pub(crate) const MAX_DEPTH: &str = "Most containers open at once: 0 to 64, the default";
+
+/// What the rule on indexes of descriptors is.
+pub(crate) const FDS: &str = "Descriptor indexes: any, the default, or below-count";

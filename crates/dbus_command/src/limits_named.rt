@@ -1,13 +1,31 @@
 //! The limits that the options of a command name.
 ghost use Rattle.clap.specs.Words.{found_of, one_of, rows_of};
-ghost use Rattle.dbus_command.specs.Limiting.{GivesLimits, GivesNumber};
+ghost use Rattle.dbus_command.specs.Limiting.{GivesNumber, GivesNumbers, IsFdsOf, TellsLimits};
 
+use crate::usage_fault::{UsageFault, bad_value, usage};
 use clap::ArgMatches;
-use dbus_value::{ARRAY_LIMIT, DEPTH_LIMIT, Limits, MESSAGE_LIMIT};
+use dbus_value::{ARRAY_LIMIT, DEPTH_LIMIT, FdRule, Limits, MESSAGE_LIMIT};
+use std::alloc::Global;
 
-/// The limits that the options name, or nothing where one of them is given no number that it may be.
-pub(crate) fn limits_named(inner: &ArgMatches) -> Option<Limits>
-    ensures { GivesLimits (rows_of (found_of inner.now)) result }
+/// The limits that the options name. `Usage`: one of them is given what it may not be. `Memory`: a growth was refused.
+pub(crate) fn limits_named(alloc: Global, inner: &ArgMatches) -> Result<Limits, UsageFault>
+    ensures { TellsLimits (rows_of (found_of inner.now)) result }
+{
+    let Some(limits) = numbers_named(inner) else {
+        return Err(usage(alloc, "error: no limits\n"));
+    };
+    let Some(word) = inner.get_str("fds") else {
+        return Ok(limits);
+    };
+    match fds_of(word) {
+        Some(fds) => Ok(limits.with_fds(fds)),
+        None => Err(bad_value(alloc, word, "--fds <RULE>", "any, below-count")),
+    }
+}
+
+// Limits of the numbers that the options name, or nothing where one of them is given no number that it may be.
+fn numbers_named(inner: &ArgMatches) -> Option<Limits>
+    ensures { GivesNumbers (rows_of (found_of inner.now)) result }
 {
     let message = number_named(inner, "max-message", MESSAGE_LIMIT)?;
     let array = number_named(inner, "max-array", ARRAY_LIMIT)?;
@@ -23,4 +41,17 @@ fn number_named(inner: &ArgMatches, name: &str, most: u32) -> Option<u32>
         Ok(given) => Some(given.unwrap_or(most)),
         Err(_) => None,
     }
+}
+
+// The rule on indexes of file descriptors that a word stands for.
+fn fds_of(word: &str) -> Option<FdRule>
+    ensures { IsFdsOf word.now result }
+{
+    if word == "any" {
+        return Some(FdRule::Any);
+    }
+    if word == "below-count" {
+        return Some(FdRule::BelowCount);
+    }
+    None
 }

@@ -1,5 +1,8 @@
 //! Why words name no command.
+ghost use Rattle.dbus_command.specs.Told.{IsUsageOrMemory};
+
 use dbus_match::RuleFault;
+use std::alloc::Global;
 
 /// Why the words of a command line name no command.
 #[derive(Debug, Drop)]
@@ -12,4 +15,27 @@ pub enum UsageFault {
     Usage(String),
     /// The words name `filter` with a text that spells no rule: its one fault, which is never `Memory`.
     Rule(RuleFault),
+}
+
+/// A fault of usage with this text.
+pub(crate) fn usage(alloc: Global, text: &str) -> UsageFault
+    ensures { IsUsageOrMemory result }
+{
+    match String::from_str(alloc, text) {
+        Ok(text) => UsageFault::Usage(text),
+        Err(_) => UsageFault::Memory,
+    }
+}
+
+/// A word that an option does not take, told as `clap` tells it.
+pub(crate) fn bad_value(alloc: Global, word: &str, option: &str, possible: &str) -> UsageFault
+    ensures { IsUsageOrMemory result }
+{
+    let told = format!(in alloc;
+        "error: invalid value '{word}' for '{option}'\n  [possible values: {possible}]\n\nFor more information, try '--help'.\n"
+    );
+    match told {
+        Ok(text) => UsageFault::Usage(text),
+        Err(_) => UsageFault::Memory,
+    }
 }

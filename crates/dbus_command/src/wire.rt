@@ -1,7 +1,7 @@
 //! The command line, as `clap` is told it.
 ghost use Rattle.std.specs.Prelude.{◌≡◌, IfOk, false};
 ghost use Rattle.clap.specs.Words.{app_of, rule_of};
-ghost use Rattle.dbus_command.specs.CommandLine.{IsLocal, TakesLimits, limit_rule, wire_app, bare_app, show_app, check_app, swap_app, filter_app};
+ghost use Rattle.dbus_command.specs.CommandLine.{IsLocal, TakesLimits, fds_rule, limit_rule, wire_app, bare_app, show_app, check_app, swap_app, filter_app};
 
 use crate::help;
 use clap::builder::ValueParser;
@@ -21,6 +21,17 @@ fn limit_option<'a>(alloc: Global, name: &'a str, most: u32, help: &'a str) -> A
         .value_parser(ValueParser::signed(0, i64::from(most)))
 }
 
+// The option of the rule on indexes of file descriptors.
+fn fds_option<'a>(alloc: Global) -> Arg<'a>
+    ensures rule { rule_of result ≡ fds_rule }
+    ensures local { result.global ≡ false }
+{
+    Arg::new(alloc, "fds")
+        .long("fds")
+        .value_name("RULE")
+        .help(help::FDS)
+}
+
 // The command with the options for limits, which each command of the program takes.
 fn with_limits<'a>(alloc: Global, command: Command<'a>) -> Result<Command<'a>, AllocError>
     ensures { IfOk result (TakesLimits command.entry) }
@@ -28,7 +39,11 @@ fn with_limits<'a>(alloc: Global, command: Command<'a>) -> Result<Command<'a>, A
     let message = limit_option(alloc, "max-message", MESSAGE_LIMIT, help::MAX_MESSAGE);
     let array = limit_option(alloc, "max-array", ARRAY_LIMIT, help::MAX_ARRAY);
     let depth = limit_option(alloc, "max-depth", u32::from(DEPTH_LIMIT), help::MAX_DEPTH);
-    command.arg(message)?.arg(array)?.arg(depth)
+    command
+        .arg(message)?
+        .arg(array)?
+        .arg(depth)?
+        .arg(fds_option(alloc))
 }
 
 // `show`, which takes no words but its options.

@@ -22,5 +22,5 @@ pub returns-in-None : goal.returns-in-None
 returns-in-None c =
     let given : first_of (codes "to") (rows_of (found_of c.args.inner.now)) ≡ Some c.in-Some.word.now
     = sym (first_value-rows (found_of c.args.inner.now) (codes "to")) ∙ (sym c.get_str.ensures ∙ ap (option_map (λ s. s.now)) c.in-Some.is) in
-    no_command_told _ _ c.no_order.result c.no_order.ensures
+    no_command_told _ _ c.bad_value.result c.bad_value.ensures
     (unordered_is_no_command _ (λ order named. let same : Some c.in-Some.word.now ≡ Some (order_word order) = sym given ∙ named in c.in-None.ensures order cc))

@@ -9,10 +9,12 @@ pub returns : goal.returns
 returns c =
     let message = c.in_ok-arg.ensures.shape c.limit_option-message.ensures.local ∙ ap (with_rule _) c.limit_option-message.ensures.rule in
     let array = c.in_ok-arg-2.ensures.shape c.limit_option-array.ensures.local ∙ ap₂ with_rule message c.limit_option-array.ensures.rule in
-    let depth = c.limit_option-depth.ensures.rule ∙ ap (limit_rule (codes "max-depth")) c.from.ensures in
+    let depth_rule = c.limit_option-depth.ensures.rule ∙ ap (limit_rule (codes "max-depth")) c.from.ensures in
+    let depth = c.in_ok-arg-3.ensures.shape c.limit_option-depth.ensures.local ∙ ap₂ with_rule array depth_rule in
     let first = same_locals _ _ _ c.in_ok-arg.ensures c.limit_option-message.ensures.local in
     let second = same_locals _ _ _ c.in_ok-arg-2.ensures c.limit_option-array.ensures.local in
-    IfOk-weaker c.arg-3.result _ _ (λ m h. record {
-      app_is = h.shape c.limit_option-depth.ensures.local ∙ ap₂ with_rule array depth;
-      as_local = same_locals _ _ _ h c.limit_option-depth.ensures.local ∙ (second ∙ first);
-    }) c.arg-3.ensures
+    let third = same_locals _ _ _ c.in_ok-arg-3.ensures c.limit_option-depth.ensures.local in
+    IfOk-weaker c.arg-4.result _ _ (λ m h. record {
+      app_is = h.shape c.fds_option.ensures.local ∙ ap₂ with_rule depth c.fds_option.ensures.rule;
+      as_local = same_locals _ _ _ h c.fds_option.ensures.local ∙ (third ∙ (second ∙ first));
+    }) c.arg-4.ensures
