@@ -5,7 +5,7 @@ use crate::running::words_of;
 use crate::usage_texts::*;
 use dbus_match::{RuleFault, RuleReason, rule_text};
 use dbus_tool::{Command, UsageFault, command_of};
-use dbus_value::{Limits, Order};
+use dbus_value::{FdRule, Limits, Order};
 use std::alloc::Global;
 use std::process::Abort;
 use std::test::Fail;
@@ -73,12 +73,32 @@ const ARRAY: u32 = 67_108_864;
 
 const DEPTH: u8 = 64;
 
-// Words, and the limits on messages, arrays and depth that they name.
-const LIMITED: &[(&[&str], u32, u32, u8)] = &[
-    (&["show"], MESSAGE, ARRAY, DEPTH),
-    (&["show", "--max-message", "23"], 23, ARRAY, DEPTH),
-    (&["check", "--max-array=7"], MESSAGE, 7, DEPTH),
-    (&["check", "--max-depth", "2"], MESSAGE, ARRAY, 2),
+// Words, and the limits on messages, arrays and depth and the rule on indexes of descriptors that they name.
+const LIMITED: &[(&[&str], u32, u32, u8, FdRule)] = &[
+    (&["show"], MESSAGE, ARRAY, DEPTH, FdRule::Any),
+    (
+        &["show", "--max-message", "23"],
+        23,
+        ARRAY,
+        DEPTH,
+        FdRule::Any,
+    ),
+    (&["check", "--max-array=7"], MESSAGE, 7, DEPTH, FdRule::Any),
+    (
+        &["check", "--max-depth", "2"],
+        MESSAGE,
+        ARRAY,
+        2,
+        FdRule::Any,
+    ),
+    (
+        &["check", "--fds", "below-count"],
+        MESSAGE,
+        ARRAY,
+        DEPTH,
+        FdRule::BelowCount,
+    ),
+    (&["show", "--fds=any"], MESSAGE, ARRAY, DEPTH, FdRule::Any),
     (
         &[
             "swap",
@@ -92,12 +112,14 @@ const LIMITED: &[(&[&str], u32, u32, u8)] = &[
         0,
         0,
         0,
+        FdRule::Any,
     ),
     (
         &[
             "filter",
             "--max-message",
             "134217728",
+            "--fds=below-count",
             "",
             "--max-array=67108864",
             "--max-depth",
@@ -106,26 +128,27 @@ const LIMITED: &[(&[&str], u32, u32, u8)] = &[
         MESSAGE,
         ARRAY,
         DEPTH,
+        FdRule::BelowCount,
     ),
     (
         &["check", "--max-message=+007", "--max-depth=-0"],
         7,
         ARRAY,
         0,
+        FdRule::Any,
     ),
 ];
 
 #[test]
 fn limits(rt: HostRuntime) -> Result<(), Fail> {
-    for (n, (words, message, array, depth)) in LIMITED.iter().enumerate() {
+    for (n, (words, message, array, depth, fds)) in LIMITED.iter().enumerate() {
         let Ok((_, named)) = answer_to(rt.alloc(), words)? else {
             return Err(Fail::new("no command"));
         };
-        assert_eq!(rt;
-            Some(named),
-            Limits::new(*message, *array, *depth),
-            "at {n}"
-        );
+        let Some(limits) = Limits::new(*message, *array, *depth) else {
+            return Err(Fail::new("no limits"));
+        };
+        assert_eq!(rt; named, limits.with_fds(*fds), "at {n}");
     }
     Ok(())
 }
@@ -205,6 +228,8 @@ const USAGES: &[(&[&str], &str)] = &[
     (&["check", "--max-depth"], NO_WORD_OF_DEPTH),
     (&["check", "--max-depth", "1", "--max-depth=1"], TWO_DEPTHS),
     (&["--max-depth", "1", "check"], DEPTH_BEFORE_COMMAND),
+    (&["show", "--fds", "none"], NO_FDS_RULE),
+    (&["filter", "arg64='x'", "--fds=none"], NO_FDS_RULE),
 ];
 
 #[test]

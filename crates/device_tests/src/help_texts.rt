@@ -48,6 +48,7 @@ Options:
       --max-message <N>  Most bytes of a message: 0 to 134217728, the default
       --max-array <N>    Most bytes of an array: 0 to 67108864, the default
       --max-depth <N>    Most containers open at once: 0 to 64, the default
+      --fds <RULE>       Descriptor indexes: any, the default, or below-count
   -h, --help             Print help
 
 Input:
@@ -80,6 +81,7 @@ Options:
       --max-message <N>  Most bytes of a message: 0 to 134217728, the default
       --max-array <N>    Most bytes of an array: 0 to 67108864, the default
       --max-depth <N>    Most containers open at once: 0 to 64, the default
+      --fds <RULE>       Descriptor indexes: any, the default, or below-count
   -h, --help             Print help
 
 Input:
@@ -112,6 +114,7 @@ Options:
       --max-message <N>  Most bytes of a message: 0 to 134217728, the default
       --max-array <N>    Most bytes of an array: 0 to 67108864, the default
       --max-depth <N>    Most containers open at once: 0 to 64, the default
+      --fds <RULE>       Descriptor indexes: any, the default, or below-count
   -h, --help             Print help
 
 Input:
@@ -146,6 +149,7 @@ Options:
       --max-message <N>  Most bytes of a message: 0 to 134217728, the default
       --max-array <N>    Most bytes of an array: 0 to 67108864, the default
       --max-depth <N>    Most containers open at once: 0 to 64, the default
+      --fds <RULE>       Descriptor indexes: any, the default, or below-count
   -h, --help             Print help
 
 Input:

@@ -12,7 +12,7 @@ use std::test::Fail;
 // under them, the fault's place and reason, and how many of its bytes show it.
 struct Row {
     message: &'static [u8],
-    limits: (u32, u32, u8, FdRule::Any),
+    limits: (u32, u32, u8, FdRule),
     refused: Option<(u64, Reason, usize)>,
 }
 

@@ -85,6 +85,13 @@ const DONE: &[(&[&str], &[&[u8]], &[&[u8]])] = &[
         &[RETURN],
     ),
     (&["show", "--max-array", "8"], &[RETURN], &[RETURN_TEXT]),
+    // Indexes of descriptors.
+    (CHECK, &[INDEX_PAST_ONE], &[b"ok 1 messages 44 bytes\n"]),
+    (
+        &["check", "--fds=below-count"],
+        &[INDEX_OF_ONE],
+        &[b"ok 1 messages 44 bytes\n"],
+    ),
 ];
 
 #[test]
@@ -147,6 +154,12 @@ const REFUSED: &[(&[&str], &[&[u8]], &[u8], &[u8])] = &[
         &[RETURN],
         b"",
         b"refused at 12: ArrayTooLong\n",
+    ),
+    (
+        &["check", "--fds", "below-count"],
+        &[INDEX_PAST_ONE],
+        b"refused at 40: FdIndex\n",
+        b"",
     ),
     // A message is refused for its length once that is there, its first 16 bytes.
     (

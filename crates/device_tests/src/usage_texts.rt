@@ -179,3 +179,10 @@ Usage: dbus-wire <COMMAND>
 
 For more information, try '--help'.
 ";
+
+pub(crate) const NO_FDS_RULE: &str = "\
+error: invalid value 'none' for '--fds <RULE>'
+  [possible values: any, below-count]
+
+For more information, try '--help'.
+";
