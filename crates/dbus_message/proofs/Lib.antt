@@ -29,3 +29,4 @@ pub mod Built
 pub mod PackedFacts
 pub mod StatedLengths
 pub mod Widening
+pub mod Accepting

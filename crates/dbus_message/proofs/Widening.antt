@@ -8,6 +8,7 @@ use Rattle.dbus_message.specs.BuildFaults.{KeepsLimits}
 use Rattle.dbus_value_model.specs.FdIndexes.{index_limit, AreAllBelow}
 use Rattle.dbus_value_model.specs.declared.fd_rule.FdRule.{FdRule}
 use Rattle.dbus_value_model.specs.declared.fd_rule.FdRule.TheVariants.{Any}
+use Rattle.dbus_value_model.proofs.Formed.{formed_of, all_formed_of, parts_of, all_parts_of}
 use Rattle.dbus_value_model.proofs.Indexes.{any_all_below}
 use Rattle.dbus_message.specs.Messages.{MessageTree, IsMessage, field_array, body_start, fd_count, KeepsIndexes}
 use Rattle.dbus_message.specs.MessageOutcomes.{IsWhole}
@@ -56,60 +57,18 @@ module _ (array longer : ℕ) (le : array ≤ longer) (order : Order) where
 
 -- ---- well-formed values
 
-mutual
-  pub formed_wider : (room more : ℕ) (v : ValueTree) → room ≤ more → IsWellFormed room v → IsWellFormed more v
-  formed_wider room more (NumberValue k n) le h = h
-  formed_wider room more (TextValue k t) le h = h
-  formed_wider zero more (VariantValue x) le h = absurd h
-  formed_wider (suc room) zero (VariantValue x) le h = absurd (omega arith)
-  formed_wider (suc room) (suc more) (VariantValue x) le h = (h.0, formed_wider room more x (omega arith) h.1)
-  formed_wider zero more (ArrayValue t xs) le h = absurd h
-  formed_wider (suc room) zero (ArrayValue t xs) le h = absurd (omega arith)
-  formed_wider (suc room) (suc more) (ArrayValue t xs) le h = (h.0, are_formed_wider room more xs (omega arith) h.1)
-  formed_wider zero more (StructValue xs) le h = absurd h
-  formed_wider (suc room) zero (StructValue xs) le h = absurd (omega arith)
-  formed_wider (suc room) (suc more) (StructValue xs) le h = are_formed_wider room more xs (omega arith) h
-  formed_wider room more (EntryValue k v) le h = (formed_wider room more k le h.0, formed_wider room more v le h.1)
+formed_wider : (room more : ℕ) (v : ValueTree) → room ≤ more → IsWellFormed room v → IsWellFormed more v
+formed_wider room more v le h = let w = parts_of room v h in formed_of more v (nests_wider room more v le w.0) w.1 w.2 w.3
 
-  pub are_formed_wider : (room more : ℕ) (vs : ValueTrees) → room ≤ more → AreWellFormed room vs → AreWellFormed more vs
-  are_formed_wider room more NoValues le h = tt
-  are_formed_wider room more (MoreValues x xs) le h = (formed_wider room more x le h.0, are_formed_wider room more xs le h.1)
+are_formed_wider : (room more : ℕ) (vs : ValueTrees) → room ≤ more → AreWellFormed room vs → AreWellFormed more vs
+are_formed_wider room more vs le h = let w = all_parts_of room vs h in all_formed_of more vs (nest_wider room more vs le w.0) w.1 w.2 w.3
 
 -- what nests within less room is well formed there
-mutual
-  formed_within : (room more : ℕ) (v : ValueTree) → NestsWithin room v → IsWellFormed more v → IsWellFormed room v
-  formed_within room more (NumberValue k n) nests h = h
-  formed_within room more (TextValue k t) nests h = h
-  formed_within zero more (VariantValue x) nests h = absurd nests
-  formed_within (suc room) zero (VariantValue x) nests h = absurd h
-  formed_within (suc room) (suc more) (VariantValue x) nests h = (h.0, formed_within room more x nests h.1)
-  formed_within zero more (ArrayValue t xs) nests h = absurd nests
-  formed_within (suc room) zero (ArrayValue t xs) nests h = absurd h
-  formed_within (suc room) (suc more) (ArrayValue t xs) nests h = (h.0, are_formed_within room more xs nests h.1)
-  formed_within zero more (StructValue xs) nests h = absurd nests
-  formed_within (suc room) zero (StructValue xs) nests h = absurd h
-  formed_within (suc room) (suc more) (StructValue xs) nests h = are_formed_within room more xs nests h
-  formed_within room more (EntryValue k v) nests h = (formed_within room more k nests.0 h.0, formed_within room more v nests.1 h.1)
+formed_within : (room more : ℕ) (v : ValueTree) → NestsWithin room v → IsWellFormed more v → IsWellFormed room v
+formed_within room more v nests h = let w = parts_of more v h in formed_of room v nests w.1 w.2 w.3
 
-  are_formed_within : (room more : ℕ) (vs : ValueTrees) → NestWithin room vs → AreWellFormed more vs → AreWellFormed room vs
-  are_formed_within room more NoValues nest h = tt
-  are_formed_within room more (MoreValues x xs) nest h = (formed_within room more x nest.0 h.0, are_formed_within room more xs nest.1 h.1)
-
-mutual
-  formed_nests : (room : ℕ) (v : ValueTree) → IsWellFormed room v → NestsWithin room v
-  formed_nests room (NumberValue k n) h = tt
-  formed_nests room (TextValue k t) h = tt
-  formed_nests zero (VariantValue x) h = absurd h
-  formed_nests (suc room) (VariantValue x) h = formed_nests room x h.1
-  formed_nests zero (ArrayValue t xs) h = absurd h
-  formed_nests (suc room) (ArrayValue t xs) h = formed_nest room xs h.1
-  formed_nests zero (StructValue xs) h = absurd h
-  formed_nests (suc room) (StructValue xs) h = formed_nest room xs h
-  formed_nests room (EntryValue k v) h = (formed_nests room k h.0, formed_nests room v h.1)
-
-  formed_nest : (room : ℕ) (vs : ValueTrees) → AreWellFormed room vs → NestWithin room vs
-  formed_nest room NoValues h = tt
-  formed_nest room (MoreValues x xs) h = (formed_nests room x h.0, formed_nest room xs h.1)
+are_formed_within : (room more : ℕ) (vs : ValueTrees) → NestWithin room vs → AreWellFormed more vs → AreWellFormed room vs
+are_formed_within room more vs nest h = let w = all_parts_of more vs h in all_formed_of room vs nest w.1 w.2 w.3
 
 -- ---- indexes of descriptors
 
@@ -146,7 +105,7 @@ widest limits = (limits.message_in, limits.array_in, limits.depth_in, inr refl)
 pub widest_valid : (limits : Limits) (m : MessageTree) → IsValidMessage limits m → IsValidMessage specification m
 widest_valid limits m valid order = wider_message limits specification order m (widest limits) (valid order)
 
-kept_valid : (limits : Limits) (m : MessageTree) → IsValidMessage specification m → KeepsLimits limits m → IsValidMessage limits m
+pub kept_valid : (limits : Limits) (m : MessageTree) → IsValidMessage specification m → KeepsLimits limits m → IsValidMessage limits m
 kept_valid limits m valid keeps order =
     let h = valid order in
     record {
@@ -167,10 +126,10 @@ kept_valid limits m valid keeps order =
       indexes = keeps.3;
     }
 
-valid_keeps : (limits : Limits) (m : MessageTree) → IsValidMessage limits m → KeepsLimits limits m
+pub valid_keeps : (limits : Limits) (m : MessageTree) → IsValidMessage limits m → KeepsLimits limits m
 valid_keeps limits m valid =
     let h = valid Little in (
-      (formed_nests limits.depth (field_array m.fields) h.formed_fields, formed_nest limits.depth m.body h.formed_body),
+      ((parts_of limits.depth (field_array m.fields) h.formed_fields).0, (all_parts_of limits.depth m.body h.formed_body).0),
       (h.within_fields, h.within_body),
       λ long. omega (arith, long, h.limit),
       h.indexes,

@@ -14,7 +14,9 @@ use Rattle.dbus_value_model.specs.declared.value.Value.{Value}
 use Rattle.dbus_value_model.specs.Spelling.{IsWithinLimits, AreWithinLimits}
 use Rattle.dbus_value_model.specs.WantedTexts.{WantedText, IsWanted, kind_of}
 use Rattle.dbus_message.specs.Messages.{FieldTree, MessageTree, field_array, body_start, message_bytes, Want, Anything, OfType, Name, Serial, want, is_known, has_code, lacks, required, text_in, body_signature, body_fds, KeepsIndexes}
+use Rattle.dbus_message.specs.PackedParts.{PartsKeepBytes}
 use Rattle.dbus_message.specs.PartsViews.{parts_tree}
+use Rattle.dbus_message.specs.ValidMessages.{IsValidMessage}
 use Rattle.dbus_message.specs.MessageViews.{message_tree}
 use Rattle.dbus_message.specs.declared.header_field.HeaderField.{HeaderField}
 use Rattle.dbus_message.specs.declared.parts.Parts.{Parts}
@@ -181,3 +183,8 @@ IsBuilt limits p (Err refused) = (refused.0 ≡ p) × IsFirstFault limits p refu
 abbrev pub IsAccepted : {A : Type 0} → Limits → Parts A → Result (Message A) (Parts A × BuildFault) → Type 0
 IsAccepted limits p (Ok message) = Unit {0}
 IsAccepted limits p (Err refused) = NoFault limits p → refused.1 ≡ faults.Memory
+
+-- where the parts are valid within the limits, and each array of bytes in them is `Bytes`, nothing is refused but for want of memory
+abbrev pub IsTaken : {A : Type 0} → Limits → Parts A → Result (Message A) (Parts A × BuildFault) → Type 0
+IsTaken limits p (Ok message) = Unit {0}
+IsTaken limits p (Err refused) = IsValidMessage limits (parts_tree p) → PartsKeepBytes p → refused.1 ≡ faults.Memory

@@ -8,7 +8,10 @@ use Rattle.dbus_value_model.specs.declared.fd_rule.FdRule.TheVariants.{Any}
 use Rattle.dbus_value_model.specs.Bytes.{IsBytes}
 use Rattle.dbus_value_model.specs.declared.limits.Limits.{Limits}
 use Rattle.dbus_value_model.specs.Specification.{specification}
-use Rattle.dbus_message.specs.BuildFaults.{KeepsLimits}
+use Rattle.dbus_message.specs.BuildFaults.{KeepsLimits, NoFault}
+use Rattle.dbus_message.specs.PackedParts.{PartsKeepBytes}
+use Rattle.dbus_message.specs.PartsViews.{parts_tree}
+use Rattle.dbus_message.specs.declared.parts.Parts.{Parts}
 use Rattle.dbus_message.specs.Messages.{MessageTree, message_bytes}
 use Rattle.dbus_message.specs.ValidMessages.{IsValidMessage}
 use Rattle.dbus_message.specs.MessageOutcomes.{IsWhole, IsRefused, IsPartial}
@@ -65,3 +68,7 @@ WiderWhole = (limits wider : Limits) (b : List ℕ) (order : Order) (m : Message
 -- The messages that are valid within limits are the valid ones that keep them.
 abbrev pub ValidWithin : Type 0
 ValidWithin = (limits : Limits) (m : MessageTree) → IsValidMessage limits m ↔ (IsValidMessage specification m × KeepsLimits limits m)
+
+-- Of the parts of a message, each array of bytes in which is `Bytes`, no case of fault holds exactly where they keep the limits.
+abbrev pub KeptParts : Type 0 → Type 0
+KeptParts A = (limits : Limits) (p : Parts A) → IsValidMessage specification (parts_tree p) → PartsKeepBytes p → NoFault limits p ↔ KeepsLimits limits (parts_tree p)

@@ -5,7 +5,7 @@ ghost use Rattle.std.specs.Prelude.{◌≡◌, length, MatchResult};
 ghost use Rattle.dbus_value_model.specs.declared.order.Order.TheVariants.{Little};
 ghost use Rattle.dbus_value_model.specs.Specification.{specification};
 ghost use Rattle.dbus_value_model.specs.declared.limits.Limits.{Limits};
-ghost use Rattle.dbus_message.specs.BuildFaults.{IsAccepted, IsBuilt, IsFirstFault, NoFault, NoneIsMissing, SignaturePasses, SizePasses};
+ghost use Rattle.dbus_message.specs.BuildFaults.{IsAccepted, IsBuilt, IsTaken, IsFirstFault, NoFault, NoneIsMissing, SignaturePasses, SizePasses};
 ghost use Rattle.dbus_message.specs.Messages.{message_bytes};
 ghost use Rattle.dbus_message.specs.PartsViews.{parts_tree};
 ghost use Rattle.dbus_message.specs.ValidMessages.{IsValidMessage};
@@ -125,6 +125,7 @@ impl<A: Allocator + Copy> Message<A> {
     pub fn new(alloc: A, parts: Parts<A>) -> Result<Message<A>, (Parts<A>, BuildFault)>
         ensures built { IsBuilt specification parts result }
         ensures accepted { IsAccepted specification parts result }
+        ensures taken { IsTaken specification parts result }
     {
         Message::new_within(alloc, parts, Limits::specification())
     }
@@ -141,6 +142,7 @@ impl<A: Allocator + Copy> Message<A> {
     ) -> Result<Message<A>, (Parts<A>, BuildFault)>
         ensures built { IsBuilt limits parts result }
         ensures accepted { IsAccepted limits parts result }
+        ensures taken { IsTaken limits parts result }
     {
         if let Err(fault) = check_header(&parts) {
             return Err((parts, fault));

@@ -2,8 +2,10 @@
 //! function's contract is a law; it does nothing when it runs.
 #![tactic(auto)]
 
-ghost use Rattle.dbus_message.specs.OutcomeLaws.{OneMessage, OneLength, SomeOutcome, OneOutcome, OneWhole, OneFault, WholeForGood, RefusedForGood, WiderLimits, WiderWhole, ValidWithin};
+ghost use Rattle.dbus_message.specs.OutcomeLaws.{OneMessage, OneLength, SomeOutcome, OneOutcome, OneWhole, OneFault, WholeForGood, RefusedForGood, WiderLimits, WiderWhole, ValidWithin, KeptParts};
 ghost use Rattle.dbus_message.specs.StatedLaws.{StatedHolds, WholeStates, OneStated, SomeStated};
+
+use std::alloc::Allocator;
 
 /// No message's bytes begin another message's, and bytes spell at most one message in at most one order.
 pub fn one_message()
@@ -79,4 +81,9 @@ pub fn wider_whole()
 /// The messages that are valid within limits are the valid ones that keep them, as `Message::within` says.
 pub fn valid_within()
     ensures { ValidWithin }
+{}
+
+/// `Message::new_within` finds no fault in the parts of a message exactly where `Message::within` says that it keeps the limits.
+pub fn kept_parts<A: Allocator>()
+    ensures { KeptParts A }
 {}

@@ -58,9 +58,10 @@ impl<A: Allocator> Message<A> {
         &self.parts
     }
 
-    /// What it was made of. An array of BYTE in it is `Bytes`.
+    /// What it was made of, which [`Message::new`] takes again. An array of BYTE in it is `Bytes`.
     pub fn into_parts(self) -> Parts<A>
         ensures same { parts_tree result ≡ message_tree self }
+        ensures valid { ∥ IsValidMessage specification (parts_tree result) ∥₁ }
         ensures packed { PartsKeepBytes result }
     {
         self.parts

@@ -48,7 +48,8 @@ impl<A: Allocator> Message<A> {
     /// among them, more than their array, no more arrays, structs and variants are open at once than their depth, and the
     /// indexes of descriptors in its body are as their rule asks.
     ///
-    /// These are the cases of [`BuildFault`](crate::BuildFault) that speak of limits.
+    /// These are the cases of [`BuildFault`](crate::BuildFault) that speak of limits: it is true exactly where
+    /// [`Message::new_within`] finds no fault in its parts.
     /// D-Bus Specification, "Message Format" and "Marshaling (Wire Format)".
     pub fn within(&self, limits: Limits) -> bool
         ensures { IsTrue result ↔ KeepsLimits limits (message_tree self.now) }
