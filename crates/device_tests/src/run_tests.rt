@@ -190,7 +190,7 @@ const TOO_MANY: &[u8] = b"too many reads\n";
 
 // Words, how many reads may be made of a message in pieces of one byte, how the command ends, and what is written on the
 // first writer and on the second. The read that finds the end is one of them.
-const FEW_READS: &[(&[&str], u64, ExitStatus, &[u8], &[u8])] = &[
+const FEW_READS: &[(&[&str], u32, ExitStatus, &[u8], &[u8])] = &[
     (CHECK, 0, ExitStatus::Failed, b"", TOO_MANY),
     (CHECK, 2, ExitStatus::Failed, b"", TOO_MANY),
     (SHOW, 24, ExitStatus::Failed, RETURN_TEXT, TOO_MANY),
@@ -209,7 +209,7 @@ fn few_reads(rt: HostRuntime) -> Result<(), Fail> {
         let mut reader = Pieces::new(RETURN, 1, 0);
         let end = ran_reads(rt.alloc(), words, *reads, &mut reader)?;
         assert_end(&rt, n, &end, *status, first, second);
-        assert_eq!(rt; reader.calls, *reads, "at {n}");
+        assert_eq!(rt; reader.calls, u64::from(*reads), "at {n}");
     }
     Ok(())
 }

@@ -78,13 +78,20 @@ pub(crate) fn ran<A: Allocator + Copy, R: Source + Drop>(
 pub(crate) fn ran_reads(
     alloc: Global,
     words: &[&str],
-    reads: u64,
+    reads: u32,
     reader: &mut Pieces,
 ) -> Result<End, Fail> {
     let (command, _) = named(alloc, words)?;
     let mut first = FromWrite::new(Vec::new(alloc));
     let mut second = FromWrite::new(Vec::new(alloc));
-    let status = run_reads(alloc, command, reads, reader, &mut first, &mut second);
+    let status = run_reads(
+        alloc,
+        command,
+        u64::from(reads),
+        reader,
+        &mut first,
+        &mut second,
+    );
     Ok(End {
         status,
         first: first.into_inner(),
