@@ -5,7 +5,7 @@ ghost use Rattle.std.specs.Prelude.{◌≡◌, ◌↔◌, Option, IsTrue};
 ghost use Rattle.dbus_types.specs.Utf8.{IsText};
 ghost use Rattle.dbus_types.specs.Utf8Scans.{lead, text_next, text_end, text_rest};
 
-use crate::ascii::plain_blocks;
+use crate::ascii::plain_front;
 use std::str;
 
 /// Where in a character the scan stands.
@@ -51,7 +51,10 @@ fn lead(byte: u8) -> Option<Utf8Place>
 fn is_text(text: &[u8]) -> bool
     ensures { IsTrue result ↔ IsText text.now }
 {
-    let rest = &text[plain_blocks(text)..];
+    let rest = &text[plain_front(text)..];
+    if rest.is_empty() {
+        return true;
+    }
     match str::from_utf8(rest) {
         Ok(_) => !rest.contains(&0),
         Err(_) => false,

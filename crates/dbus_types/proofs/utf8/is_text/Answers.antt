@@ -1,14 +1,14 @@
 use Rattle.std.proofs.Common.{◌≡◌, ◌↔◌, ℕ, ◌-◌, Bool, true, false, Some, not, eqb, List, [], length, ◌∷◌, ◌++◌, take, drop, refl, sym, ap, ◌∙◌, subst, arith, length-drop, take-append-drop, IsTrue, IsUtf8}
 use Rattle.std.specs.List.{AllByRecursion, list_any}
 use Rattle.std.specs.Int.{IsInRange}
-use Rattle.std.proofs.lemmas.Bool.{false≢true}
+use Rattle.std.proofs.lemmas.Bool.{false≢true, eqb-true}
 use Rattle.std.proofs.lemmas.List.{take_all}
 use Rattle.dbus_types.specs.declared.utf8.Utf8Place.TheVariants.{Free}
 use Rattle.dbus_types.specs.Prefixes.{Moves}
 use Rattle.dbus_types.specs.Utf8.{IsText}
 use Rattle.dbus_types.specs.Utf8Scans.{lead, text_rest, text_next}
 use Rattle.dbus_types.proofs.ScanSteps.{step_some}
-use Rattle.dbus_types.proofs.Utf8Steps.{in_range_is, text_moves}
+use Rattle.dbus_types.proofs.Utf8Steps.{in_range_is, text_moves, text_ends}
 use Rattle.dbus_types.proofs.TextUtf8.{no_zero, a_zero}
 use Rattle.dbus_types.proofs.KindFacts.{text_utf8, utf8_text}
 use Rattle.dbus_types.proofs.utf8.is_text.Goals as goal
@@ -38,14 +38,25 @@ without_zero : (w : List ℕ) (r : Bool) → IsUtf8 w → r ≡ list_any (λ b. 
 without_zero w true u e = (λ n. absurd (false≢true n), λ t. absurd (a_zero w (sym e) (text_utf8 w t).1))
 without_zero w false u e = (λ n. utf8_text w u (no_zero w (sym e)), λ t. refl)
 
+none_left : (w : List ℕ) → length w ≡ 0 → IsText w
+none_left [] e = text_ends Free refl
+none_left (b ∷ w) e = absurd (omega (arith, e))
+
+pub returns-then-is_empty : goal.returns-then-is_empty
+returns-then-is_empty c =
+    let w = c.args.text.now in
+    let n = c.plain_front.result in
+    let none : length (behind n w) ≡ 0 = eqb-true _ _ (sym c.is_empty.ensures ∙ c.if-is_empty.true) in
+    from_rest w n true c.plain_front.ensures.plain (λ e. none_left (behind n w) none, λ t. refl)
+
 pub returns-in-Ok : goal.returns-in-Ok
 returns-in-Ok c =
     let w = c.args.text.now in
-    let n = c.plain_blocks.result in
-    from_rest w n (not c.contains.result) c.plain_blocks.ensures.plain (without_zero (behind n w) c.contains.result c.in-Ok.ensures.cases.1 c.contains.ensures.value)
+    let n = c.plain_front.result in
+    from_rest w n (not c.contains.result) c.plain_front.ensures.plain (without_zero (behind n w) c.contains.result c.in-Ok.ensures.cases.1 c.contains.ensures.value)
 
 pub returns-in-Err : goal.returns-in-Err
 returns-in-Err c =
     let w = c.args.text.now in
-    let n = c.plain_blocks.result in
-    from_rest w n false c.plain_blocks.ensures.plain (λ e. absurd (false≢true e), λ t. absurd (c.in-Err.ensures.cases.0 (text_utf8 (behind n w) t).0))
+    let n = c.plain_front.result in
+    from_rest w n false c.plain_front.ensures.plain (λ e. absurd (false≢true e), λ t. absurd (c.in-Err.ensures.cases.0 (text_utf8 (behind n w) t).0))
