@@ -1,7 +1,8 @@
 -- The types that one byte spells.
-use Rattle.std.proofs.Common.{◌≡◌, ℕ, Bool, true, false, ◌||◌, eqb, [], ◌∷◌, ◌⊎◌, ⊎_elim, inl, inr, refl, sym, ap, ◌∙◌}
+use Rattle.std.proofs.Common.{◌≡◌, ℕ, Bool, true, false, ◌||◌, eqb, List, [], ◌∷◌, length, get_or, append-nil, arith, ◌⊎◌, ⊎_elim, inl, inr, refl, sym, ap, ◌∙◌}
 use Rattle.std.proofs.lemmas.Bool.{eqb-true}
-use Rattle.dbus_types.specs.Types.{TypeTree, NumberCode, BYTE, BOOLEAN, INT16, UINT16, INT32, UINT32, INT64, UINT64, DOUBLE, UNIX_FD, TextCode, STRING, OBJECT_PATH, SIGNATURE, NumberType, TextType, VariantType, ArrayType, StructType, EntryType, number_code, text_code, sig, IsBasic, IsComplete}
+use Rattle.dbus_types.specs.Types.{TypeTree, NumberCode, BYTE, BOOLEAN, INT16, UINT16, INT32, UINT32, INT64, UINT64, DOUBLE, UNIX_FD, TextCode, STRING, OBJECT_PATH, SIGNATURE, NumberType, TextType, VariantType, ArrayType, StructType, EntryType, NoTypes, MoreTypes, number_code, text_code, sig, IsBasic, IsComplete}
+use Rattle.dbus_types.specs.Signatures.{IsSignature, IsSingle}
 use Rattle.dbus_types.specs.SignatureScans.{is_basic_code, is_type_code}
 
 pub number_is_basic : (n : NumberCode) → is_basic_code (number_code n) ≡ true
@@ -79,3 +80,14 @@ code_type b e =
     (λ w. let t = basic_type b w in (t.0, t.1, λ inside a s. basic_complete t.0 t.2 inside a s))
     (λ w. (VariantType, ap (λ x. x ∷ []) (sym (eqb-true b 118 w)), λ inside a s. tt))
     (either (is_basic_code b) (eqb b 118) e)
+
+one_byte : (w : List ℕ) → length w ≡ 1 → w ≡ get_or w 0 0 ∷ []
+one_byte [] e = absurd (omega (arith, e))
+one_byte (b ∷ []) e = refl
+one_byte (b ∷ c ∷ w) e = absurd (omega (arith, e))
+
+pub coded_single : (w : List ℕ) → length w ≡ 1 → is_type_code (get_or w 0 0) ≡ true → IsSingle w
+coded_single w one e = let t = code_type (get_or w 0 0) e in (t.0, t.2 false 0 0, one_byte w one ∙ sym t.1)
+
+pub coded_signature : (w : List ℕ) → length w ≡ 1 → is_type_code (get_or w 0 0) ≡ true → IsSignature w
+coded_signature w one e = let t = code_type (get_or w 0 0) e in (MoreTypes t.0 NoTypes, (t.2 false 0 0, tt), one_byte w one ∙ sym t.1 ∙ sym (append-nil (sig t.0)))

@@ -4,11 +4,12 @@
 ghost use Rattle.std.specs.Prelude.{◌≡◌, ◌↔◌, ℕ, List, ◌∷◌, IsTrue};
 ghost use Rattle.dbus_types.specs.declared.text_kind.TextKind.TheVariants.{Path, Interface, Member, ErrorName, BusName, Signature, Single};
 ghost use Rattle.dbus_types.specs.declared.check.SigFault.TheVariants.{Memory};
-ghost use Rattle.dbus_types.specs.Kinds.{IsBreak};
+ghost use Rattle.dbus_types.specs.Kinds.{IsBreak, IsOfKind};
 ghost use Rattle.dbus_types.specs.Verdicts.{IsBreakOf, IsTextBreak, IsVerdict, IsPathVerdict, IsSigVerdict};
 
 use crate::scan::ScanState;
 use crate::text_kind::TextKind;
+use crate::type_codes::is_type_code;
 use std::alloc::{AllocError, AllocFailed};
 
 /// Why a text is not the name that is wanted.
@@ -50,10 +51,24 @@ impl<T: Drop> From<AllocFailed<T>> for SigFault {
 /// The most bytes of a name or a signature.
 const LONGEST: usize = 255;
 
+/// Whether one byte is there, for a signature, and spells a type: so are most signatures of variants.
+#[tactic(auto, using(crate::proofs::Codes::coded_signature, crate::proofs::Codes::coded_single))]
+fn is_one_code(kind: TextKind, text: &[u8]) -> bool
+    ensures { IsTrue result → IsOfKind kind text.now }
+{
+    match kind {
+        TextKind::Signature | TextKind::Single => text.len() == 1 && is_type_code(text[0]),
+        _ => false,
+    }
+}
+
 /// Where a text breaks that is not of the kind, limits on length aside.
 fn break_of(kind: TextKind, text: &[u8]) -> Option<usize>
     ensures { IsBreakOf kind text.now result }
 {
+    if is_one_code(kind, text) {
+        return None;
+    }
     ScanState::of_kind(kind).break_of(text)
 }
 
