@@ -104,7 +104,9 @@ pub fn copy_text<A: Allocator>(alloc: A, text: &[u8]) -> Result<String<A>, Alloc
     requires { IsUtf8 text.now }
     ensures { IfOk result (λ s. string_bytes s ≡ text.now) }
 {
-    String::from_str(alloc, str::from_utf8(text).unwrap())
+    // The contract asks for UTF-8, so it is not looked for again.
+    let text = unsafe { str::from_utf8_unchecked(text) };
+    String::from_str(alloc, text)
 }
 
 /// The signature of one complete type, of n bytes: its type, and the place behind it.
