@@ -25,7 +25,7 @@ pub use laws::{
     breaks_are_computed, kinds_are_computed, names_are_texts, no_type_begins_another,
     signatures_spell_types, singles_spell_types, texts_are_utf8,
 };
-pub use parse::{parse_signature, parse_single};
+pub use parse::{parse_signature, parse_single, spelled_type, spelled_types};
 pub use scan::TextScan;
 pub use shape::{alignment, is_byte, type_ok};
 pub use sig_type::SigType;

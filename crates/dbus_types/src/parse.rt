@@ -1,7 +1,11 @@
 //! The types that a signature spells.
 #![tactic(auto)]
 
-ghost use Rattle.std.specs.Prelude.{IfOk};
+ghost use Rattle.std.specs.Prelude.{◌≡◌, IfOk};
+ghost use Rattle.dbus_types.specs.declared.text_kind.TextKind.TheVariants.{Signature, Single};
+ghost use Rattle.dbus_types.specs.Kinds.{IsKind};
+ghost use Rattle.dbus_types.specs.SigTypes.{type_tree, type_trees_of};
+ghost use Rattle.dbus_types.specs.Types.{AreSignatureTypes, IsSingleType, sig, sigs};
 ghost use Rattle.dbus_types.specs.TypeReads.{StartsType, StartsFields, ReadsType, ReadsFields};
 ghost use Rattle.dbus_types.specs.Parses.{IsParse, IsSingleParse};
 
@@ -66,6 +70,39 @@ fn parse_fields<A: Allocator + Copy>(
     Ok((types, &rest[1..]))
 }
 
+/// The types that a signature spells, one for each complete type in it, where the text is known to be a signature: it is
+/// not judged again.
+///
+/// The one error is that a growth of memory was refused. D-Bus Specification, "Valid Signatures".
+pub fn spelled_types<A: Allocator + Copy>(
+    alloc: A,
+    text: &[u8],
+) -> Result<Vec<SigType<A>, A>, AllocError>
+    requires { IsKind Signature text.now }
+    ensures { IfOk result (λ v. AreSignatureTypes (type_trees_of v.items) × (sigs (type_trees_of v.items) ≡ text.now)) }
+{
+    let mut types = Vec::new(alloc);
+    let mut rest = text;
+    while !rest.is_empty() {
+        let (ty, more) = parse_type(alloc, rest)?;
+        types.push(ty)?;
+        rest = more;
+    }
+    Ok(types)
+}
+
+/// The type that a signature of exactly one complete type spells, where the text is known to be one: it is not judged
+/// again.
+///
+/// The one error is that a growth of memory was refused. D-Bus Specification, "Valid Signatures".
+pub fn spelled_type<A: Allocator + Copy>(alloc: A, text: &[u8]) -> Result<SigType<A>, AllocError>
+    requires { IsKind Single text.now }
+    ensures { IfOk result (λ t. IsSingleType (type_tree t) × (sig (type_tree t) ≡ text.now)) }
+{
+    let (ty, _) = parse_type(alloc, text)?;
+    Ok(ty)
+}
+
 /// The types that a signature spells, one for each complete type in it.
 ///
 /// Else `TooLong` over 255 bytes, else `Bad` at its break; `Memory` where a growth was refused.
@@ -77,14 +114,7 @@ pub fn parse_signature<A: Allocator + Copy>(
     ensures { IsParse text.now result }
 {
     check_signature(text)?;
-    let mut types = Vec::new(alloc);
-    let mut rest = text;
-    while !rest.is_empty() {
-        let (ty, more) = parse_type(alloc, rest)?;
-        types.push(ty)?;
-        rest = more;
-    }
-    Ok(types)
+    Ok(spelled_types(alloc, text)?)
 }
 
 /// The type that a signature of exactly one complete type spells.
@@ -95,6 +125,5 @@ pub fn parse_single<A: Allocator + Copy>(alloc: A, text: &[u8]) -> Result<SigTyp
     ensures { IsSingleParse text.now result }
 {
     check_single(text)?;
-    let (ty, _) = parse_type(alloc, text)?;
-    Ok(ty)
+    Ok(spelled_type(alloc, text)?)
 }

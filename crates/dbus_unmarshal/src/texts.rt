@@ -16,7 +16,7 @@ ghost use Rattle.dbus_value_model.specs.Reading.{text, signature};
 ghost use Rattle.dbus_value_model.specs.declared.stop.Stop.TheVariants.{Memory};
 ghost use Rattle.dbus_value_model.specs.Gives.{Gives};
 
-use dbus_types::{SigType, TextKind, parse_single, text_break};
+use dbus_types::{SigType, TextKind, spelled_type, text_break};
 use dbus_value_model::{Reason, Stop, refuse};
 use std::alloc::{AllocError, Allocator};
 
@@ -123,9 +123,6 @@ pub fn read_signature<A: Allocator + Copy>(
     ensures moves { IfOk result (λ x. (x.1 ≡ at + n) × (x.1 ≤ length bytes.now) × (length (sig (type_tree x.0)) ≡ n) × IsSingleType (type_tree x.0)) }
 {
     let behind = read_text(bytes, at, n, TextKind::Single)?;
-    match parse_single(alloc, &bytes[at..behind]) {
-        Ok(held) => Ok((held, behind)),
-        // The text is a signature, so no more than memory can be missing.
-        Err(_) => Err(Stop::Memory),
-    }
+    let held = spelled_type(alloc, &bytes[at..behind])?;
+    Ok((held, behind))
 }

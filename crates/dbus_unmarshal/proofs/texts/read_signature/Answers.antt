@@ -3,13 +3,13 @@ use Rattle.dbus_types.specs.SigTypes.{type_tree}
 use Rattle.dbus_unmarshal.proofs.TextSteps.{signature_there, signature_long, signature_single, part_is}
 use Rattle.dbus_unmarshal.proofs.texts.read_signature.Goals as goal
 
-pub returns-in-Ok-clause-gives : goal.returns-in-Ok-clause-gives
-returns-in-Ok-clause-gives g c =
+pub returns-clause-gives : goal.returns-clause-gives
+returns-clause-gives g c =
     let m = c.in_ok-behind.ensures.moves in
-    signature_there c.args.n c.args.at c.args.bytes.now (type_tree c.in-Ok.held) (part_is c.args.n c.args.at c.in_ok-behind.behind c.args.bytes.now m.0 c.in-Ok.ensures.1) c.in_ok-behind.behind _ c.in_ok-behind.ensures.gives
+    signature_there c.args.n c.args.at c.args.bytes.now (type_tree c.in_ok-held.held) (part_is c.args.n c.args.at c.in_ok-behind.behind c.args.bytes.now m.0 c.in_ok-held.ensures.1) c.in_ok-behind.behind _ c.in_ok-behind.ensures.gives
 
-pub returns-in-Ok-clause-moves : goal.returns-in-Ok-clause-moves
-returns-in-Ok-clause-moves g c =
+pub returns-clause-moves : goal.returns-clause-moves
+returns-clause-moves g c =
     let m = c.in_ok-behind.ensures.moves in
-    let e = part_is c.args.n c.args.at c.in_ok-behind.behind c.args.bytes.now m.0 c.in-Ok.ensures.1 in
-    (m.0, m.1, signature_long c.args.n c.args.at c.args.bytes.now (type_tree c.in-Ok.held) e (omega (arith, m.0, m.1)), signature_single c.args.n c.args.at c.args.bytes.now (type_tree c.in-Ok.held) e m.2)
+    let e = part_is c.args.n c.args.at c.in_ok-behind.behind c.args.bytes.now m.0 c.in_ok-held.ensures.1 in
+    (m.0, m.1, signature_long c.args.n c.args.at c.args.bytes.now (type_tree c.in_ok-held.held) e (omega (arith, m.0, m.1)), signature_single c.args.n c.args.at c.args.bytes.now (type_tree c.in_ok-held.held) e m.2)

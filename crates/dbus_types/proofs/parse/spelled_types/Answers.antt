@@ -3,7 +3,7 @@ use Rattle.std.proofs.lemmas.Bool.{eqb-false}
 use Rattle.dbus_types.specs.Types.{AreComplete}
 use Rattle.dbus_types.specs.SigTypes.{type_trees_of}
 use Rattle.dbus_types.proofs.Parsing.{sig_starts, sig_step, reads_shorter, complete_push, spelled_push}
-use Rattle.dbus_types.proofs.parse.parse_signature.Goals as goal
+use Rattle.dbus_types.proofs.parse.spelled_types.Goals as goal
 
 pub parse_type-requires : goal.parse_type-requires
 parse_type-requires g c =

@@ -2,7 +2,7 @@ use Rattle.std.proofs.Common.{◌≡◌, ◌++◌, length}
 use Rattle.dbus_types.specs.Types.{sigs, AreComplete}
 use Rattle.dbus_types.specs.Signatures.{IsSignature}
 use Rattle.dbus_types.specs.SigTypes.{type_trees_of}
-use Rattle.dbus_types.proofs.parse.parse_signature.Given as goal
+use Rattle.dbus_types.proofs.parse.spelled_types.Given as goal
 
 abbrev pub invariant-loop-rest : goal.invariant-loop-rest
 invariant-loop-rest g l =

@@ -1,5 +1,0 @@
-use Rattle.dbus_types.proofs.Parsing.{single_whole}
-use Rattle.dbus_types.proofs.parse.parse_single.Goals as goal
-
-pub returns : goal.returns
-returns g c = single_whole c.args.text.now c.in_ok-ty.ty c.in_ok-ty.field-0-1.now c.in_ok-check_single.ensures.1 c.in_ok-check_single.ensures.0 c.in_ok-ty.ensures
