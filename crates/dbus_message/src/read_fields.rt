@@ -19,6 +19,9 @@ use dbus_unmarshal::items::{read_byte, read_padding};
 use dbus_value_model::{Limits, Order, Reason, Stop, refuse};
 use std::alloc::Allocator;
 
+/// For how many fields room is made at the start: most messages have no more.
+const FIELD_ROOM: usize = 8;
+
 /// The code of a field behind others: `FieldCode` where it is 0, `FieldTwice` where it is known and stands among them.
 fn read_code<A: Allocator>(
     bytes: &[u8],
@@ -85,7 +88,8 @@ pub fn read_fields<A: Allocator + Copy>(
     ensures packed { IfOk result (λ x. IsTrue (keep_bytes (field_values x.0.items))) }
 {
     let end = at + n;
-    let mut fields = Vec::new(alloc);
+    // Most fields have sixteen bytes or more.
+    let mut fields = Vec::with_capacity(alloc, n.div_ceil(16).min(FIELD_ROOM))?;
     let mut place = at;
     while place < end {
         let (field, next) = read_field(alloc, bytes, place, end, order, &fields, limits)?;

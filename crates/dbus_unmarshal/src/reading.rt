@@ -311,7 +311,7 @@ fn read_fields<A: Allocator + Copy>(
     ensures gives { Gives (λ x. (value_trees_of x.0.items, x.1)) bytes.now result (fields (value bounds order room end) (type_trees_of types.now) at (drop at bytes.now)) }
     ensures packed { IfOk result (λ x. IsTrue (keep_bytes x.0.items)) }
 {
-    let mut values = Vec::new(alloc);
+    let mut values = Vec::with_capacity(alloc, types.len())?;
     let mut place = at;
     for wanted in types {
         let (value, next) = read_value(alloc, bytes, place, end, order, wanted, room, bounds)?;

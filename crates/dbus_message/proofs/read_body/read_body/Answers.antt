@@ -16,14 +16,14 @@ pub loop-wanted-init : goal.loop-wanted-init
 loop-wanted-init g c = record {
   at_most = c.requires.at_most;
   inside = c.requires.inside;
-  packed = rw c.new-values.ensures.items refl;
-  so_far = rw c.new-values.ensures.items (body_starts (fields (value (bounds_with c.args.limits c.args.fds) c.args.order c.args.limits.depth c.args.end) (type_trees_of c.args.types.now) c.args.at (drop c.args.at c.args.bytes.now)));
+  packed = rw c.in_ok-values.ensures.items refl;
+  so_far = rw c.in_ok-values.ensures.items (body_starts (fields (value (bounds_with c.args.limits c.args.fds) c.args.order c.args.limits.depth c.args.end) (type_trees_of c.args.types.now) c.args.at (drop c.args.at c.args.bytes.now)));
 }
 
 pub returns-in_err-value-clause-gives : goal.returns-in_err-value-clause-gives
 returns-in_err-value-clause-gives g c =
     let none : c.args.limits.depth - 0 ≡ c.args.limits.depth = omega arith in
-    exits (λ x. (value_trees_of x.0.items, x.1)) c.args.bytes.now c.from_residual.result _ _ c.from_residual.ensures.1
+    exits (λ x. (value_trees_of x.0.items, x.1)) c.args.bytes.now c.from_residual-in_err-value.result _ _ c.from_residual-in_err-value.ensures.1
     (body_stopped c.args.limits c.args.fds c.args.order c.args.end (type_trees_of c.args.types.now) c.args.at (drop c.args.at c.args.bytes.now) _
     (rw (← c.loop-wanted.invariant.so_far)
     (body_stops (value (bounds_with c.args.limits c.args.fds) c.args.order c.args.limits.depth c.args.end) (map value_tree c.loop-wanted.values.items) c.loop-wanted.place (drop c.loop-wanted.place c.args.bytes.now) (type_trees_of (drop c.loop-wanted.wanted-index c.args.types.now)) (type_tree c.wanted-item.result) (type_trees_of (drop (c.loop-wanted.wanted-index + 1) c.args.types.now)) _

@@ -13,15 +13,15 @@ unfolding fields_read
 loop-place-init g c = record {
   in_range = omega arith;
   inside = c.requires.inside;
-  taken = rw c.new-fields.ensures.items (omega arith);
-  packed = rw c.new-fields.ensures.items refl;
-  so_far = rw c.new-fields.ensures.items (starts (field_read c.args.limits c.args.order) c.args.n c.args.at (drop c.args.at c.args.bytes.now));
+  taken = rw c.in_ok-fields.ensures.items (omega arith);
+  packed = rw c.in_ok-fields.ensures.items refl;
+  so_far = rw c.in_ok-fields.ensures.items (starts (field_read c.args.limits c.args.order) c.args.n c.args.at (drop c.args.at c.args.bytes.now));
 }
 
 pub returns-in_err-field-clause-gives : goal.returns-in_err-field-clause-gives
 returns-in_err-field-clause-gives g c =
     let more : c.args.n - length c.loop-place.fields.items ≡ suc (c.args.n - length c.loop-place.fields.items - 1) = omega (arith, c.loop-place-test.true, c.loop-place.invariant.taken) in
-    exits (λ x. (field_trees x.0.items, x.1)) c.args.bytes.now c.from_residual.result _ _ c.from_residual.ensures.1
+    exits (λ x. (field_trees x.0.items, x.1)) c.args.bytes.now c.from_residual-in_err-field.result _ _ c.from_residual-in_err-field.ensures.1
     (rw (← c.loop-place.invariant.so_far)
     (stops_in (field_read c.args.limits c.args.order (c.args.at + c.args.n)) (c.args.at + c.args.n) (field_trees c.loop-place.fields.items) (c.args.n - length c.loop-place.fields.items) (c.args.n - length c.loop-place.fields.items - 1) c.loop-place.place (drop c.loop-place.place c.args.bytes.now) _ more c.loop-place-test.true
     (rw (← c.deref.ensures.value) c.in_err-field.ensures.gives)))

@@ -186,7 +186,7 @@ read_items-returns-clause-gives g t c =
 
 pub read_fields-loop-wanted-init : goal.read_fields-loop-wanted-init
 read_fields-loop-wanted-init g t c =
-    rw c.new-values.ensures.items (record { at_most = c.requires.at_most; inside = c.requires.inside; packed = refl; so_far = fields_begin (fields (value c.args.bounds c.args.order c.args.room c.args.end) (type_trees_of c.args.types.now) c.args.at (drop c.args.at c.args.bytes.now)) })
+    rw c.in_ok-values.ensures.items (record { at_most = c.requires.at_most; inside = c.requires.inside; packed = refl; so_far = fields_begin (fields (value c.args.bounds c.args.order c.args.room c.args.end) (type_trees_of c.args.types.now) c.args.at (drop c.args.at c.args.bytes.now)) })
 
 pub read_fields-read_value-requires : goal.read_fields-read_value-requires
 read_fields-read_value-requires g t c =
@@ -198,7 +198,7 @@ read_fields-read_value-requires g t c =
 
 pub read_fields-returns-in_err-value-clause-gives : goal.read_fields-returns-in_err-value-clause-gives
 read_fields-returns-in_err-value-clause-gives g t c =
-    let p = err_from_is_err_and c.from_residual.result c.from_residual.ensures.1 in
+    let p = err_from_is_err_and c.from_residual-in_err-value.result c.from_residual-in_err-value.ensures.1 in
     rw (p.1, p.2, ← c.loop-wanted.invariant.so_far, types_more c.args.types.now c.loop-wanted.wanted-index c.wanted-item.result c.loop-wanted-test.true c.wanted-item.is) (fields_stop (value c.args.bounds c.args.order c.args.room c.args.end) (map value_tree c.loop-wanted.values.items) c.loop-wanted.place (drop c.loop-wanted.place c.args.bytes.now) (type_tree c.wanted-item.result) (type_trees_of (drop (c.loop-wanted.wanted-index + 1) c.args.types.now)) _ c.in_err-value.ensures.gives)
 
 pub read_fields-loop-wanted-preserved : goal.read_fields-loop-wanted-preserved
