@@ -1,6 +1,7 @@
 mod Codes
 mod Quotients
 mod PlainBlocks
+mod NameRuns
 mod NameSteps
 mod Utf8Steps
 mod SignatureSteps

@@ -1,7 +1,7 @@
 //! The scan of object paths and names.
 #![tactic(auto)]
 
-ghost use Rattle.std.specs.Prelude.{◌≡◌};
+ghost use Rattle.std.specs.Prelude.{◌≡◌, ℕ, ◌≤◌, ◌<◌, length, true, get_or};
 ghost use Rattle.dbus_types.specs.Names.{is_word, is_dashed_start};
 ghost use Rattle.dbus_types.specs.NameScans.{begins, goes_on, separator, name_next, name_end, name_rest};
 
@@ -89,6 +89,28 @@ impl Letters {
         }
     }
 
+    /// The place behind the bytes, from a place on, with which an element may go on.
+    fn run_end(self, text: &[u8], at: usize) -> usize
+        requires { at ≤ length text.now }
+        ensures range { (at ≤ result) × (result ≤ length text.now) }
+        ensures run { (i : ℕ) → at ≤ i → i < result → goes_on self (get_or text.now i 0) ≡ true }
+    {
+        let mut end = at;
+        match self {
+            Letters::Word | Letters::Name => {
+                while end < text.len() && is_word(text[end]) {
+                    end += 1;
+                }
+            }
+            Letters::Unique | Letters::WellKnown => {
+                while end < text.len() && (is_word(text[end]) || text[end] == b'-') {
+                    end += 1;
+                }
+            }
+        }
+        end
+    }
+
     /// The byte between elements.
     fn separator(self) -> u8
         ensures { result ≡ separator self }
@@ -171,10 +193,15 @@ impl NameScan {
         ensures { IsBreakFrom (name_rest self) text.now result }
     {
         let mut scan = self;
-        for (i, byte) in text.iter().enumerate() {
-            match scan.next(*byte) {
+        let mut at = 0;
+        while at < text.len() {
+            match scan.next(text[at]) {
                 Some(next) => scan = next,
-                None => return Some(i),
+                None => return Some(at),
+            }
+            at += 1;
+            if let Place::More = scan.place {
+                at = scan.letters.run_end(text, at);
             }
         }
         if scan.end() { None } else { Some(text.len()) }

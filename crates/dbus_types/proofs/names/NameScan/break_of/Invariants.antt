@@ -1,7 +1,10 @@
-use Rattle.std.proofs.Common.{take}
+use Rattle.std.proofs.Common.{◌-◌, length, take}
 use Rattle.dbus_types.specs.Prefixes.{IsQuotient}
 use Rattle.dbus_types.specs.NameScans.{name_rest}
 use Rattle.dbus_types.proofs.names.NameScan.break_of.Given as goal
 
-abbrev pub invariant-loop-i : goal.invariant-loop-i
-invariant-loop-i l = IsQuotient (name_rest l.fn.self) (take l.i l.text) (name_rest l.scan)
+abbrev pub invariant-loop-at : goal.invariant-loop-at
+invariant-loop-at l = IsQuotient (name_rest l.fn.self) (take l.at l.text) (name_rest l.scan)
+
+abbrev pub decreases-loop-at : goal.decreases-loop-at
+decreases-loop-at l = length l.text - l.at
