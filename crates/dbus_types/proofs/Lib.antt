@@ -18,4 +18,3 @@ mod Fronts
 mod Parsing
 mod Spelling
 mod Shapes
-mod Copies

@@ -1,5 +1,6 @@
 -- The parser's steps.
-use Rattle.std.proofs.Common.{◌≡◌, ℕ, ◌-◌, ◌<◌, ◌≤◌, false, List, [], ◌∷◌, ◌++◌, refl, sym, ap, ◌∙◌, subst, arith, append_assoc, append-nil, length, length-append, get_or, take, drop, Vec, Box}
+use Rattle.std.proofs.Common.{◌≡◌, ℕ, ◌-◌, ◌<◌, ◌≤◌, false, List, [], ◌∷◌, ◌++◌, refl, sym, ap, ◌∙◌, subst, arith, append_assoc, append-nil, length, length-append, get_or, take, drop, Vec}
+use Rattle.std.specs.declared.sync.Arc.{Arc}
 use Rattle.std.proofs.lemmas.List.{take_all}
 use Rattle.dbus_types.specs.declared.sig_type.SigType as ty
 use Rattle.dbus_types.specs.declared.sig_type.SigType.{SigType}
@@ -92,19 +93,20 @@ module _ {A : Type 0} where
   spelled_push ts t us w more e q =
       ap (λ v. sigs (type_trees_of ts) ++ v) q ∙ sym (append_assoc (sigs (type_trees_of ts)) (sig (type_tree t)) more) ∙ ap (λ v. v ++ more) (sym (texts_push ts t)) ∙ ap (λ v. sigs (type_trees_of v) ++ more) (sym e)
 
-  -- a value made from boxes or a vector
-  pub reads_array : (w c : List ℕ) (b : ℕ) (p : Box (SigType A) A) (x : SigType A) (r : List ℕ) → w ≡ b ∷ c → b ≡ 97 → p.value ≡ x → ReadsType c x r → ReadsType w (ty.Array p) r
+  -- a type made from those inside it
+  pub reads_array : (w c : List ℕ) (b : ℕ) (p : Arc (SigType A) A) (x : SigType A) (r : List ℕ) → w ≡ b ∷ c → b ≡ 97 → p.value ≡ x → ReadsType c x r → ReadsType w (ty.Array p) r
   reads_array w c b p x r e n same h =
       let whole : w ≡ sig (ArrayType (type_tree p.value)) ++ r = e ∙ ap (λ y. y ∷ c) n ∙ ap (λ y. 97 ∷ y) (h.spelled ∙ ap (λ y. sig (type_tree y) ++ r) (sym same)) in
       record { spelled = subst (λ t. w ≡ sig t ++ r) (sym (type_tree-Array p)) whole }
 
-  pub reads_struct : (w c : List ℕ) (b : ℕ) (v : Vec (SigType A) A) (r : List ℕ) → w ≡ b ∷ c → b ≡ 40 → ReadsFields c v.items r → ReadsType w (ty.Struct v) r
-  reads_struct w c b v r e n h =
+  pub reads_struct : (w c : List ℕ) (b : ℕ) (p : Arc (Vec (SigType A) A) A) (v : Vec (SigType A) A) (r : List ℕ) → w ≡ b ∷ c → b ≡ 40 → p.value ≡ v → ReadsFields c v.items r → ReadsType w (ty.Struct p) r
+  reads_struct w c b p v r e n same h =
       let tail : c ≡ (sigs (type_trees_of v.items) ++ 41 ∷ []) ++ r = h.spelled ∙ sym (append_assoc (sigs (type_trees_of v.items)) (41 ∷ []) r) in
       let whole : w ≡ sig (StructType (type_trees_of v.items)) ++ r = e ∙ ap (λ x. x ∷ c) n ∙ ap (λ x. 40 ∷ x) tail in
-      record { spelled = subst (λ t. w ≡ sig t ++ r) (sym (type_tree-Struct v)) whole }
+      let shared : w ≡ sig (StructType (type_trees_of p.value.items)) ++ r = whole ∙ ap (λ (y : Vec (SigType A) A). sig (StructType (type_trees_of y.items)) ++ r) (sym same) in
+      record { spelled = subst (λ t. w ≡ sig t ++ r) (sym (type_tree-Struct p)) shared }
 
-  pub reads_entry : (w c : List ℕ) (b : ℕ) (k v : Box (SigType A) A) (x y : SigType A) (r s : List ℕ) → w ≡ b ∷ c → b ≡ 123 → k.value ≡ x → v.value ≡ y → ReadsType c x r → ReadsType r y s → (rest : List ℕ) × (s ≡ 125 ∷ rest) → ReadsType w (ty.Entry k v) (take (length s - 1) (drop 1 s))
+  pub reads_entry : (w c : List ℕ) (b : ℕ) (k v : Arc (SigType A) A) (x y : SigType A) (r s : List ℕ) → w ≡ b ∷ c → b ≡ 123 → k.value ≡ x → v.value ≡ y → ReadsType c x r → ReadsType r y s → (rest : List ℕ) × (s ≡ 125 ∷ rest) → ReadsType w (ty.Entry k v) (take (length s - 1) (drop 1 s))
   reads_entry w c b k v x y r s e n ek ev hx hy z =
       let end : take (length s - 1) (drop 1 s) ≡ z.0 = ap (λ q. take (length q - 1) (drop 1 q)) z.1 ∙ take_all (length (125 ∷ z.0) - 1) z.0 (omega arith) in
       let tail : c ≡ (sig (type_tree x) ++ (sig (type_tree y) ++ 125 ∷ [])) ++ z.0 =

@@ -1,5 +1,6 @@
 -- The tree of each case of a `SigType`.
-use Rattle.std.proofs.Common.{◌≡◌, Vec, Box, rules}
+use Rattle.std.proofs.Common.{◌≡◌, Vec, rules}
+use Rattle.std.specs.declared.sync.Arc.{Arc}
 use Rattle.dbus_types.specs.Types.{NumberType, TextType, VariantType, ArrayType, StructType, EntryType, BYTE, BOOLEAN, INT16, UINT16, INT32, UINT32, INT64, UINT64, DOUBLE, UNIX_FD, STRING, OBJECT_PATH, SIGNATURE}
 use Rattle.dbus_types.specs.SigTypes.{type_tree, type_trees_of}
 use Rattle.dbus_types.specs.declared.sig_type.SigType as ty
@@ -48,11 +49,11 @@ pub type_tree-Variant : (A : Type 0) → type_tree {A = A} ty.Variant ≡ Varian
 type_tree-Variant A = search (rules, the_lemmas)
 
 module _ {A : Type 0} where
-  pub type_tree-Array : (t : Box (SigType A) A) → type_tree (ty.Array t) ≡ ArrayType (type_tree t.value)
+  pub type_tree-Array : (t : Arc (SigType A) A) → type_tree (ty.Array t) ≡ ArrayType (type_tree t.value)
   type_tree-Array t = search (rules, the_lemmas)
 
-  pub type_tree-Struct : (ts : Vec (SigType A) A) → type_tree (ty.Struct ts) ≡ StructType (type_trees_of ts.items)
+  pub type_tree-Struct : (ts : Arc (Vec (SigType A) A) A) → type_tree (ty.Struct ts) ≡ StructType (type_trees_of ts.value.items)
   type_tree-Struct ts = search (rules, the_lemmas)
 
-  pub type_tree-Entry : (k v : Box (SigType A) A) → type_tree (ty.Entry k v) ≡ EntryType (type_tree k.value) (type_tree v.value)
+  pub type_tree-Entry : (k v : Arc (SigType A) A) → type_tree (ty.Entry k v) ≡ EntryType (type_tree k.value) (type_tree v.value)
   type_tree-Entry k v = search (rules, the_lemmas)

@@ -22,7 +22,7 @@ type_step SigType-F.Sig = TextType SIGNATURE
 type_step SigType-F.Fd = NumberType UNIX_FD
 type_step SigType-F.Variant = VariantType
 type_step (SigType-F.Array t) = ArrayType t.value
-type_step (SigType-F.Struct ts) = StructType (type_trees ts.items)
+type_step (SigType-F.Struct ts) = StructType (type_trees ts.value.items)
 type_step (SigType-F.Entry k v) = EntryType k.value v.value
 
 abbrev pub type_tree : {A : Type 0} → SigType A → TypeTree

@@ -20,7 +20,6 @@ pub use check::{
     NameFault, SigFault, check_bus_name, check_error_name, check_interface, check_member,
     check_path, check_signature, check_single, first_break, is_unique, text_break,
 };
-pub use copy::copy_type;
 pub use laws::{
     breaks_are_computed, kinds_are_computed, names_are_texts, no_type_begins_another,
     signatures_spell_types, singles_spell_types, texts_are_utf8,

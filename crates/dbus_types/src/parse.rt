@@ -13,6 +13,7 @@ use crate::check::{SigFault, check_signature, check_single};
 use crate::sig_type::SigType;
 use crate::type_codes::plain_type;
 use std::alloc::{AllocError, Allocator};
+use std::sync::Arc;
 
 /// The type at the front, and what follows it.
 #[cycle(parse)]
@@ -30,18 +31,19 @@ fn parse_type<A: Allocator + Copy>(
     match byte {
         b'a' => {
             let (element, rest) = parse_type(alloc, rest)?;
-            let element = Box::new(alloc, element)?;
+            let element = Arc::new(alloc, element)?;
             Ok((SigType::Array(element), rest))
         }
         b'(' => {
             let (fields, rest) = parse_fields(alloc, rest)?;
+            let fields = Arc::new(alloc, fields)?;
             Ok((SigType::Struct(fields), rest))
         }
         b'{' => {
             let (key, rest) = parse_type(alloc, rest)?;
             let (value, rest) = parse_type(alloc, rest)?;
-            let key = Box::new(alloc, key)?;
-            let value = Box::new(alloc, value)?;
+            let key = Arc::new(alloc, key)?;
+            let value = Arc::new(alloc, value)?;
             Ok((SigType::Entry(key, value), &rest[1..]))
         }
         _ => match plain_type(byte) {

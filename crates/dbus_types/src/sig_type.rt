@@ -2,11 +2,14 @@
 #![tactic(auto)]
 
 use std::alloc::{Allocator, Global};
+use std::sync::Arc;
 
 /// A type, as a signature spells it. D-Bus Specification, "Type System".
 ///
 /// Not every value of it spells a signature: a struct needs a field, and a dict entry stands only as an
 /// array's element, with a basic key.
+///
+/// The types inside it are shared with its clones, so a clone takes no memory, however long its signature is.
 #[derive(Debug, Drop)]
 pub enum SigType<A: Allocator = Global> {
     /// `y`, one byte.
@@ -38,9 +41,9 @@ pub enum SigType<A: Allocator = Global> {
     /// `v`, a value with its own type.
     Variant,
     /// `a` and the element's type.
-    Array(Box<SigType<A>, A>),
+    Array(Arc<SigType<A>, A>),
     /// `(`, the fields' types and `)`.
-    Struct(Vec<SigType<A>, A>),
+    Struct(Arc<Vec<SigType<A>, A>, A>),
     /// `{`, the key's type, the value's type and `}`.
-    Entry(Box<SigType<A>, A>, Box<SigType<A>, A>),
+    Entry(Arc<SigType<A>, A>, Arc<SigType<A>, A>),
 }

@@ -55,8 +55,9 @@ parse_type-unreachable-requires-in-None-plain_type g t c =
     let e = c.in-Some.ensures.cases in
     false≢true (sym c.in-None-plain_type.ensures ∙ code_first c.args.bytes.now c.in-Some.byte.now c.in-Some.rest.now e.0 (λ z. omega arith) (λ z. omega arith) (λ z. omega arith) c.requires)
 
-pub parse_type-returns-in_ok-fields-in-40 : goal.parse_type-returns-in_ok-fields-in-40
-parse_type-returns-in_ok-fields-in-40 g t c = reads_struct c.args.bytes.now c.in-Some.rest.now c.in-Some.byte.now c.in_ok-fields-in-40.fields c.in_ok-fields-in-40.rest.now c.in-Some.ensures.cases.0 c.in-40.is c.in_ok-fields-in-40.ensures
+pub parse_type-returns-in_ok-fields-in-40-2 : goal.parse_type-returns-in_ok-fields-in-40-2
+parse_type-returns-in_ok-fields-in-40-2 g t c =
+    reads_struct c.args.bytes.now c.in-Some.rest.now c.in-Some.byte.now c.in_ok-fields-in-40-2.fields c.in_ok-fields-in-40.fields c.in_ok-fields-in-40.rest.now c.in-Some.ensures.cases.0 c.in-40.is c.in_ok-fields-in-40-2.ensures.ok c.in_ok-fields-in-40.ensures
 
 pub parse_type-returns-in_ok-value-in-123-2 : goal.parse_type-returns-in_ok-value-in-123-2
 parse_type-returns-in_ok-value-in-123-2 g t c =

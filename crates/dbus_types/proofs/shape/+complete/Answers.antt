@@ -1,4 +1,4 @@
-use Rattle.std.proofs.Common.{◌+◌, ◌<◌, length, arith, sym, ap, subst, ◌↔◌, IsTrue, false, refl}
+use Rattle.std.proofs.Common.{◌+◌, ◌<◌, length, arith, sym, ap, ◌∙◌, subst, ◌↔◌, IsTrue, false, refl}
 use Rattle.std.proofs.lemmas.Bool.{false≢true, eqb-false}
 use Rattle.dbus_types.specs.Types.{IsComplete, AreComplete}
 use Rattle.dbus_types.specs.SigTypes.{type_tree, type_trees_of}
@@ -20,5 +20,6 @@ are_complete-loop-ty-preserved g t c =
 pub is_complete-returns-else-is_empty : goal.is_complete-returns-else-is_empty
 is_complete-returns-else-is_empty g t c =
     let z = eqb-false (length c.as_slice-fields.result.now) 0 (sym c.if-is_empty.ensures) in
-    let long : 0 < length c.in-Struct.fields.items = omega (arith, z, ap length c.as_slice-fields.ensures.value) in
-    by_fields c.args.ty.now c.in-Struct.fields c.args.inside c.args.arrays c.args.structs c.in-Struct.is c.are_complete.result (omega arith) long (subst (λ ts. IsTrue c.are_complete.result ↔ AreComplete (type_trees_of ts) c.args.arrays (c.args.structs + 1)) c.as_slice-fields.ensures.value c.are_complete.ensures)
+    let same = c.as_slice-fields.ensures.value ∙ ap (λ v. v.items) c.deref-in-Struct.ensures in
+    let long : 0 < length c.in-Struct.fields.value.items = omega (arith, z, ap length same) in
+    by_fields c.args.ty.now c.in-Struct.fields c.args.inside c.args.arrays c.args.structs c.in-Struct.is c.are_complete.result (omega arith) long (subst (λ ts. IsTrue c.are_complete.result ↔ AreComplete (type_trees_of ts) c.args.arrays (c.args.structs + 1)) same c.are_complete.ensures)

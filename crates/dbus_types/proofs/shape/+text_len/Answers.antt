@@ -8,7 +8,8 @@ pub text_len-returns-in-Struct : goal.text_len-returns-in-Struct
 text_len-returns-in-Struct g t c =
     let l = struct_long c.args.ty.now c.in-Struct.fields c.in-Struct.is in
     let m = ap (λ ts. length (sigs (type_trees_of ts))) c.as_slice.ensures.value in
-    omega (arith, l, m, c.min-in-Struct.ensures, c.texts_len.ensures)
+    let n = ap (λ v. length (sigs (type_trees_of v.items))) c.deref-in-Struct.ensures in
+    omega (arith, l, m, n, c.min-in-Struct.ensures, c.texts_len.ensures)
 
 pub text_len-returns-in-Entry : goal.text_len-returns-in-Entry
 text_len-returns-in-Entry g t c =

@@ -7,7 +7,8 @@ use Rattle.dbus_types.proofs.spell.+spell.Goals as goal
 
 pub push_type-returns-in_ok-push_types-in-Struct : goal.push_type-returns-in_ok-push_types-in-Struct
 push_type-returns-in_ok-push_types-in-Struct g t c =
-    let inner = c.in_ok-push_types-in-Struct.ensures ∙ ap (λ ts. string_bytes c.push_code-in-Struct.new.out ++ sigs (type_trees_of ts)) c.as_slice.ensures.value in
+    let fields = c.as_slice.ensures.value ∙ ap (λ v. v.items) c.deref-in-Struct.ensures in
+    let inner = c.in_ok-push_types-in-Struct.ensures ∙ ap (λ ts. string_bytes c.push_code-in-Struct.new.out ++ sigs (type_trees_of ts)) fields in
     on_ok_weaker c.push_code-in-Struct-2.result (λ e. struct_text c.args.ty.now c.in-Struct.fields (string_bytes c.args.out.now) (string_bytes c.push_code-in-Struct.new.out) (string_bytes c.push_types.new.out) (string_bytes c.push_code-in-Struct-2.new.out) c.in-Struct.is c.in_ok-push_code-in-Struct.ensures inner e) c.push_code-in-Struct-2.ensures
 
 pub push_type-returns-in_ok-push_type-in-Entry-2 : goal.push_type-returns-in_ok-push_type-in-Entry-2
