@@ -1,5 +1,6 @@
 -- When types are the same, level by level and along two lists.
-use Rattle.std.proofs.Common.{◌≡◌, ℕ, zero, suc, ◌+◌, ◌<◌, Bool, List, [], ◌∷◌, length, get_or, drop, Vec, Box, refl, sym, ap, ◌∙◌, arith, rules, ◌↔◌, IsTrue}
+use Rattle.std.proofs.Common.{◌≡◌, ℕ, zero, suc, ◌+◌, ◌<◌, Bool, List, [], ◌∷◌, length, get_or, drop, Vec, refl, sym, ap, ◌∙◌, arith, rules, ◌↔◌, IsTrue}
+use Rattle.std.specs.declared.sync.Arc.{Arc}
 use Rattle.std.proofs.lemmas.List.{drop_more}
 use Rattle.dbus_types.specs.Types.{StructType, NoTypes, MoreTypes}
 use Rattle.dbus_types.specs.SigTypes.{type_tree, type_trees_of}
@@ -28,12 +29,12 @@ same_more xs ys i d e l m s h =
     let one : MoreTypes (type_tree (get_or xs i d)) (type_trees_of (drop (i + 1) xs)) ≡ MoreTypes (type_tree (get_or ys i e)) (type_trees_of (drop (i + 1) ys)) = cc in
     ap (λ us. type_trees_of us) (drop_more xs i d l) ∙ one ∙ sym (ap (λ us. type_trees_of us) (drop_more ys i e m))
 
-pub structs_same : {A : Type 0} (fs os : Vec (SigType A) A) (r : Bool) → (IsTrue r ↔ (type_trees_of fs.items ≡ type_trees_of os.items)) → IsTrue r ↔ (type_tree {A = A} (Struct fs) ≡ type_tree {A = A} (Struct os))
+pub structs_same : {A : Type 0} (fs os : Arc (Vec (SigType A) A) A) (r : Bool) → (IsTrue r ↔ (type_trees_of fs.value.items ≡ type_trees_of os.value.items)) → IsTrue r ↔ (type_tree {A = A} (Struct fs) ≡ type_tree {A = A} (Struct os))
 structs_same {A} fs os r h = (
   λ e. type_tree-Struct fs ∙ ap StructType (h.0 e) ∙ sym (type_tree-Struct os),
-  λ e. let f : StructType (type_trees_of fs.items) ≡ StructType (type_trees_of os.items) = sym (type_tree-Struct fs) ∙ e ∙ type_tree-Struct os in h.1 cc,
+  λ e. let f : StructType (type_trees_of fs.value.items) ≡ StructType (type_trees_of os.value.items) = sym (type_tree-Struct fs) ∙ e ∙ type_tree-Struct os in h.1 cc,
 )
 
 -- no other type is that of a dict entry
-pub entry_told : {A : Type 0} (k v : Box (SigType A) A) (o : SigType A) → ((x y : Box (SigType A) A) → o ≡ Entry x y → ⊥) → type_tree {A = A} (Entry k v) ≡ type_tree o → ⊥
+pub entry_told : {A : Type 0} (k v : Arc (SigType A) A) (o : SigType A) → ((x y : Arc (SigType A) A) → o ≡ Entry x y → ⊥) → type_tree {A = A} (Entry k v) ≡ type_tree o → ⊥
 entry_told k v o n e = search (rules, the_lemmas)

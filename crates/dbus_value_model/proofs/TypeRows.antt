@@ -1,5 +1,6 @@
 -- The signature of a type and of a value's type, level by level, and the types of several values.
 use Rattle.std.proofs.Common.{◌≡◌, ℕ, ◌+◌, ◌<◌, ◌≤◌, List, [], ◌∷◌, ◌++◌, length, get_or, drop, map, Vec, Box, refl, ap, ◌∙◌, sym, arith}
+use Rattle.std.specs.declared.sync.Arc.{Arc}
 use Rattle.std.proofs.lemmas.List.{at_drop_more, at_drop_all, length-append}
 use Rattle.dbus_types.specs.Types.{TypeTree, StructType, MoreTypes, type_trees, sig, sigs}
 use Rattle.dbus_types.specs.SigTypes.{type_tree, type_trees_of}
@@ -10,13 +11,13 @@ use Rattle.dbus_value_model.specs.ValueViews.{value_tree, value_trees_of}
 use Rattle.dbus_value_model.specs.declared.value.Value.{Value, Bytes, Array as ArrayOf, Struct as StructOf, Entry as EntryOf}
 use Rattle.dbus_value_model.proofs.ValueRows.{tree-Bytes, tree-Array, tree-Struct, tree-Entry}
 
-pub sig-Array : {A : Type 0} (t : Box (SigType A) A) → sig (type_tree {A = A} (Array t)) ≡ 97 ∷ sig (type_tree t.value)
+pub sig-Array : {A : Type 0} (t : Arc (SigType A) A) → sig (type_tree {A = A} (Array t)) ≡ 97 ∷ sig (type_tree t.value)
 sig-Array t = ap sig (type_tree-Array t)
 
-pub sig-Struct : {A : Type 0} (ts : Vec (SigType A) A) → sig (type_tree {A = A} (Struct ts)) ≡ 40 ∷ (sigs (type_trees_of ts.items) ++ 41 ∷ [])
+pub sig-Struct : {A : Type 0} (ts : Arc (Vec (SigType A) A) A) → sig (type_tree {A = A} (Struct ts)) ≡ 40 ∷ (sigs (type_trees_of ts.value.items) ++ 41 ∷ [])
 sig-Struct ts = ap sig (type_tree-Struct ts)
 
-pub sig-Entry : {A : Type 0} (k v : Box (SigType A) A) → sig (type_tree {A = A} (Entry k v)) ≡ 123 ∷ (sig (type_tree k.value) ++ (sig (type_tree v.value) ++ 125 ∷ []))
+pub sig-Entry : {A : Type 0} (k v : Arc (SigType A) A) → sig (type_tree {A = A} (Entry k v)) ≡ 123 ∷ (sig (type_tree k.value) ++ (sig (type_tree v.value) ++ 125 ∷ []))
 sig-Entry k v = ap sig (type_tree-Entry k v)
 
 pub sigs_more : {A : Type 0} (ts : List (SigType A)) (i : ℕ) (t : SigType A) → i < length ts → t ≡ get_or ts i t →
@@ -30,13 +31,13 @@ sigs_end {A} ts i le = at_drop_all (λ (l : List (SigType A)). sigs (type_trees_
 length_within : (a b : ℕ) (s : List ℕ) → length (a ∷ (s ++ b ∷ [])) ≡ length s + 2
 length_within a b s = omega (arith, length-append s (b ∷ []))
 
-pub length-Array : {A : Type 0} (t : Box (SigType A) A) → length (sig (type_tree {A = A} (Array t))) ≡ 1 + length (sig (type_tree t.value))
+pub length-Array : {A : Type 0} (t : Arc (SigType A) A) → length (sig (type_tree {A = A} (Array t))) ≡ 1 + length (sig (type_tree t.value))
 length-Array t = ap length (sig-Array t) ∙ omega arith
 
-pub length-Struct : {A : Type 0} (ts : Vec (SigType A) A) → length (sig (type_tree {A = A} (Struct ts))) ≡ 2 + length (sigs (type_trees_of ts.items))
-length-Struct ts = ap length (sig-Struct ts) ∙ omega (arith, length_within 40 41 (sigs (type_trees_of ts.items)))
+pub length-Struct : {A : Type 0} (ts : Arc (Vec (SigType A) A) A) → length (sig (type_tree {A = A} (Struct ts))) ≡ 2 + length (sigs (type_trees_of ts.value.items))
+length-Struct ts = ap length (sig-Struct ts) ∙ omega (arith, length_within 40 41 (sigs (type_trees_of ts.value.items)))
 
-pub length-Entry : {A : Type 0} (k v : Box (SigType A) A) → length (sig (type_tree {A = A} (Entry k v))) ≡ 2 + length (sig (type_tree k.value)) + length (sig (type_tree v.value))
+pub length-Entry : {A : Type 0} (k v : Arc (SigType A) A) → length (sig (type_tree {A = A} (Entry k v))) ≡ 2 + length (sig (type_tree k.value)) + length (sig (type_tree v.value))
 length-Entry k v =
     let a = sig (type_tree k.value) in
     let b = sig (type_tree v.value) in

@@ -6,7 +6,6 @@ ghost use Rattle.dbus_value_model.specs.PackedBytes.{packing};
 ghost use Rattle.dbus_value_model.specs.ValueViews.{value_tree};
 
 use crate::value::Value;
-use dbus_types::copy_type;
 use std::alloc::{AllocError, Allocator};
 use std::string::String;
 
@@ -35,7 +34,7 @@ pub fn copy<A: Allocator + Copy>(alloc: A, value: &Value<A>) -> Result<Value<A>,
         Value::Bytes(bytes) => Ok(Value::Bytes(Vec::from_slice(alloc, bytes)?)),
         Value::Array(element, items) => {
             let items = copy_all(alloc, items)?;
-            Ok(Value::Array(copy_type(alloc, element)?, items))
+            Ok(Value::Array(element.clone()?, items))
         }
         Value::Struct(fields) => Ok(Value::Struct(copy_all(alloc, fields)?)),
         Value::Entry(key, value) => {

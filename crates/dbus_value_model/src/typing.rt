@@ -8,8 +8,9 @@ ghost use Rattle.dbus_value_model.specs.Values.{type_of as tree_type};
 ghost use Rattle.dbus_value_model.specs.ValueViews.{value_tree};
 
 use crate::value::Value;
-use dbus_types::{SigType, copy_type};
+use dbus_types::SigType;
 use std::alloc::{AllocError, Allocator};
+use std::sync::Arc;
 
 /// The type of a value, where the type has no parts: of an array, a struct and a dict entry there is `None`.
 ///
@@ -45,16 +46,16 @@ pub fn type_of<A: Allocator + Copy>(alloc: A, value: &Value<A>) -> Result<SigTyp
     ensures { IfOk result (λ t. type_tree t ≡ tree_type (value_tree value.now)) }
 {
     match value {
-        Value::Bytes(_) => Ok(SigType::Array(Box::new(alloc, SigType::Byte)?)),
-        Value::Array(element, _) => {
-            let element = copy_type(alloc, element)?;
-            Ok(SigType::Array(Box::new(alloc, element)?))
+        Value::Bytes(_) => Ok(SigType::Array(Arc::new(alloc, SigType::Byte)?)),
+        Value::Array(element, _) => { Ok(SigType::Array(Arc::new(alloc, element.clone()?)?)) }
+        Value::Struct(fields) => {
+            let types = types_of(alloc, fields)?;
+            Ok(SigType::Struct(Arc::new(alloc, types)?))
         }
-        Value::Struct(fields) => Ok(SigType::Struct(types_of(alloc, fields)?)),
         Value::Entry(key, value) => {
             let key = type_of(alloc, key)?;
             let value = type_of(alloc, value)?;
-            Ok(SigType::Entry(Box::new(alloc, key)?, Box::new(alloc, value)?))
+            Ok(SigType::Entry(Arc::new(alloc, key)?, Arc::new(alloc, value)?))
         }
         _ => match plain_type_of(value) {
             Some(ty) => Ok(ty),

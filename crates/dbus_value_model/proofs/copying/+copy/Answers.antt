@@ -4,13 +4,13 @@ use Rattle.dbus_value_model.specs.ValueViews.{value_tree}
 use Rattle.dbus_value_model.proofs.Copied.{array_equal, array_same_bytes, struct_equal, struct_same_bytes, more_copied}
 use Rattle.dbus_value_model.proofs.copying.+copy.Goals as goal
 
-pub copy-returns-in_ok-copy_type-in-Array-clause-equal : goal.copy-returns-in_ok-copy_type-in-Array-clause-equal
-copy-returns-in_ok-copy_type-in-Array-clause-equal g t c =
-    rw c.in-Array.is (array_equal c.in_ok-items-in-Array.items c.in-Array.items c.in_ok-copy_type-in-Array.field-0 c.in-Array.element c.in_ok-copy_type-in-Array.ensures (rw (← c.deref-in-Array.ensures.value) c.in_ok-items-in-Array.ensures.equal))
+pub copy-returns-in_ok-clone-in-Array-clause-equal : goal.copy-returns-in_ok-clone-in-Array-clause-equal
+copy-returns-in_ok-clone-in-Array-clause-equal g t c =
+    rw c.in-Array.is (array_equal c.in_ok-items-in-Array.items c.in-Array.items c.in_ok-clone-in-Array.field-0 c.in-Array.element c.in_ok-clone-in-Array.ensures.cases (rw (← c.deref-in-Array.ensures.value) c.in_ok-items-in-Array.ensures.equal))
 
-pub copy-returns-in_ok-copy_type-in-Array-clause-same_bytes : goal.copy-returns-in_ok-copy_type-in-Array-clause-same_bytes
-copy-returns-in_ok-copy_type-in-Array-clause-same_bytes g t c =
-    rw c.in-Array.is (array_same_bytes c.in_ok-items-in-Array.items c.in-Array.items c.in_ok-copy_type-in-Array.field-0 c.in-Array.element (rw (← c.deref-in-Array.ensures.value) c.in_ok-items-in-Array.ensures.same_bytes))
+pub copy-returns-in_ok-clone-in-Array-clause-same_bytes : goal.copy-returns-in_ok-clone-in-Array-clause-same_bytes
+copy-returns-in_ok-clone-in-Array-clause-same_bytes g t c =
+    rw c.in-Array.is (array_same_bytes c.in_ok-items-in-Array.items c.in-Array.items c.in_ok-clone-in-Array.field-0 c.in-Array.element (rw (← c.deref-in-Array.ensures.value) c.in_ok-items-in-Array.ensures.same_bytes))
 
 pub copy-returns-in_ok-copy_all-in-Struct-clause-equal : goal.copy-returns-in_ok-copy_all-in-Struct-clause-equal
 copy-returns-in_ok-copy_all-in-Struct-clause-equal g t c =

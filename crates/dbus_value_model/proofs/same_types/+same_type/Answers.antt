@@ -6,7 +6,7 @@ use Rattle.dbus_value_model.proofs.same_types.+same_type.Goals as goal
 
 pub same_type-returns-in-Struct-other : goal.same_type-returns-in-Struct-other
 same_type-returns-in-Struct-other g t c =
-    let fields = rw (c.deref-in-Struct-other.ensures.value, c.deref-in-Struct-other-2.ensures.value) at c.same_types.ensures in
+    let fields = rw (c.deref-in-Struct-other-2.ensures.value, c.deref-in-Struct-other.ensures, c.deref-in-Struct-other-4.ensures.value, c.deref-in-Struct-other-3.ensures) at c.same_types.ensures in
     rw (c.in-Struct.is, c.in-Struct-other.is) (structs_same c.in-Struct.fields c.in-Struct-other.others c.same_types.result fields)
 
 pub same_type-returns-in_default-other-3 : goal.same_type-returns-in_default-other-3

@@ -1,6 +1,7 @@
 use Rattle.std.proofs.Common.{take_all, ◌≡◌, ◌++◌, ◌∷◌, [], map, take, sym, ap, ◌∙◌, rules}
 use Rattle.std.proofs.lemmas.List.{map_push, map_more}
-use Rattle.dbus_types.specs.SigTypes.{type_tree}
+use Rattle.dbus_types.specs.Types.{StructType}
+use Rattle.dbus_types.specs.SigTypes.{type_tree, type_trees_of}
 use Rattle.dbus_value_model.specs.Values.{StructValue, type_of as tree_type}
 use Rattle.dbus_value_model.specs.ValueViews.{value_tree, value_trees_of}
 use Rattle.dbus_types.proofs.TypeViews.{type_tree-Struct}
@@ -8,11 +9,12 @@ use Rattle.dbus_value_model.proofs.ValueRows.{tree-Struct}
 use Rattle.dbus_value_model.proofs.TypeRows.{struct_type}
 use Rattle.dbus_value_model.proofs.typing.+type_of.Goals as goal
 
-pub type_of-returns-in_ok-types_of-in-Struct : goal.type_of-returns-in_ok-types_of-in-Struct
-type_of-returns-in_ok-types_of-in-Struct g t c =
-    let made = c.in_ok-types_of-in-Struct.field-0 in
+pub type_of-returns-in_ok-new-in-Struct : goal.type_of-returns-in_ok-new-in-Struct
+type_of-returns-in_ok-new-in-Struct g t c =
+    let made = c.in_ok-new-in-Struct.field-0 in
+    let types = c.in_ok-types-in-Struct.types in
     let fields = c.in-Struct.fields in
-    type_tree-Struct made ∙ struct_type made.items c.deref.result.now c.in_ok-types_of-in-Struct.ensures
+    type_tree-Struct made ∙ ap (λ v. StructType (type_trees_of v.items)) c.in_ok-new-in-Struct.ensures.ok ∙ struct_type types.items c.deref.result.now c.in_ok-types-in-Struct.ensures
     ∙ ap (λ vs. tree_type (StructValue (value_trees_of vs))) c.deref.ensures.value
     ∙ ap tree_type (sym (tree-Struct fields)) ∙ ap (λ v. tree_type (value_tree v)) (sym c.in-Struct.is)
 
