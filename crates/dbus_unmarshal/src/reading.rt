@@ -20,7 +20,7 @@ use crate::number_values::{
 };
 use crate::text_values::{get_path, get_sig, get_str};
 use crate::texts::read_signature;
-use dbus_types::{SigType, copy_type};
+use dbus_types::SigType;
 use dbus_value_model::{Bounds, Got, Limits, Order, Reason, Refusal, Stop, Value, refuse};
 use std::alloc::Allocator;
 
@@ -235,7 +235,7 @@ fn read_open_array<A: Allocator + Copy>(
         return Ok((Value::Bytes(contents), first + n));
     }
     let values = read_items(alloc, bytes, first, n, order, item, room, bounds)?;
-    Ok((Value::Array(copy_type(alloc, item)?, values), first + n))
+    Ok((Value::Array(item.clone()?, values), first + n))
 }
 
 /// Elements up to the end of the next n bytes.

@@ -59,7 +59,7 @@ pub read_value-returns-in-Array-clause-gives : goal.read_value-returns-in-Array-
 read_value-returns-in-Array-clause-gives g t c = rw (c.in-Array.is, types.type_tree-Array, value_array c.args.bounds c.args.order c.args.room c.args.end (type_tree c.in-Array.item.value) c.args.at (drop c.args.at c.args.bytes.now), ← c.deref.ensures) c.read_array.ensures.gives
 
 pub read_value-returns-in-Struct-clause-gives : goal.read_value-returns-in-Struct-clause-gives
-read_value-returns-in-Struct-clause-gives g t c = rw (c.in-Struct.is, types.type_tree-Struct, value_struct c.args.bounds c.args.order c.args.room c.args.end (type_trees_of c.in-Struct.types.items) c.args.at (drop c.args.at c.args.bytes.now), ← c.deref-in-Struct.ensures.value) c.read_struct.ensures.gives
+read_value-returns-in-Struct-clause-gives g t c = rw (c.in-Struct.is, types.type_tree-Struct, value_struct c.args.bounds c.args.order c.args.room c.args.end (type_trees_of c.in-Struct.types.value.items) c.args.at (drop c.args.at c.args.bytes.now), ← c.deref-in-Struct.ensures, ← c.deref-in-Struct-2.ensures.value) c.read_struct.ensures.gives
 
 pub read_value-returns-in-Entry-clause-gives : goal.read_value-returns-in-Entry-clause-gives
 read_value-returns-in-Entry-clause-gives g t c = rw (c.in-Entry.is, types.type_tree-Entry, value_entry c.args.bounds c.args.order c.args.room c.args.end (type_tree c.in-Entry.key.value) (type_tree c.in-Entry.value.value) c.args.at (drop c.args.at c.args.bytes.now), ← c.deref-in-Entry.ensures, ← c.deref-in-Entry-2.ensures) c.read_entry.ensures.gives
@@ -118,12 +118,12 @@ read_open_array-returns-in_err-values-clause-gives g t c =
 pub read_open_array-returns-clause-gives : goal.read_open_array-returns-clause-gives
 read_open_array-returns-clause-gives g t c =
     let read = open_done c.args.bounds c.args.order c.args.room c.args.end c.args.at (drop c.args.at c.args.bytes.now) (type_tree c.args.item.now) c.in_ok-n.n c.in_ok-n.first (drop c.in_ok-n.first c.args.bytes.now) c.in_ok-n.ensures.gives _ _ _ c.in_ok-values.ensures.gives in
-    rw tree-Array (read ∙ ap (λ (u : TypeTree). Done (ArrayValue u (value_trees_of c.in_ok-values.values.items)) (c.in_ok-n.first + c.in_ok-n.n) (drop (c.in_ok-n.first + c.in_ok-n.n) c.args.bytes.now)) (sym c.in_ok-copy_type.ensures))
+    rw tree-Array (read ∙ ap (λ (u : TypeTree). Done (ArrayValue u (value_trees_of c.in_ok-values.values.items)) (c.in_ok-n.first + c.in_ok-n.n) (drop (c.in_ok-n.first + c.in_ok-n.n) c.args.bytes.now)) (sym c.in_ok-clone.ensures.cases))
 
 pub read_open_array-returns-clause-packed : goal.read_open_array-returns-clause-packed
 read_open_array-returns-clause-packed g t c =
-    let element = c.in_ok-copy_type.field-0 in
-    let other : is_byte (type_tree element) ≡ false = rw c.in_ok-copy_type.ensures (other_than_byte c.args.item.now c.in_default.not-Byte) in
+    let element = c.in_ok-clone.field-0 in
+    let other : is_byte (type_tree element) ≡ false = rw c.in_ok-clone.ensures.cases (other_than_byte c.args.item.now c.in_default.not-Byte) in
     rw keeps-Array (and_from _ _ (ap not other) c.in_ok-values.ensures.packed)
 
 pub read_struct-returns-in_err-first-clause-gives : goal.read_struct-returns-in_err-first-clause-gives
