@@ -5,12 +5,12 @@ use Rattle.dbus_marshal.proofs.signatures.+type_length.Goals as goal
 pub type_length-overflow_add-result-in-Struct : goal.type_length-overflow_add-result-in-Struct
 type_length-overflow_add-result-in-Struct g t c =
     let short = rw c.in-Struct.is at c.requires in
-    let fields = rw c.deref-in-Struct.ensures.value at c.types_length.ensures in
+    let fields = rw (c.deref-in-Struct-2.ensures.value, c.deref-in-Struct.ensures) at c.types_length.ensures in
     omega (arith, short, fields, length-Struct c.in-Struct.fields)
 
 pub type_length-returns-in-Struct : goal.type_length-returns-in-Struct
 type_length-returns-in-Struct g t c =
-    let fields = rw c.deref-in-Struct.ensures.value at c.types_length.ensures in
+    let fields = rw (c.deref-in-Struct-2.ensures.value, c.deref-in-Struct.ensures) at c.types_length.ensures in
     rw c.in-Struct.is (omega (arith, fields, length-Struct c.in-Struct.fields))
 
 pub type_length-overflow_add-result-in-Entry : goal.type_length-overflow_add-result-in-Entry

@@ -9,9 +9,9 @@ use Rattle.dbus_marshal.proofs.signatures.+write_type.Goals as goal
 pub write_type-write_byte-requires-in-Struct-2 : goal.write_type-write_byte-requires-in-Struct-2
 write_type-write_byte-requires-in-Struct-2 g t c =
     let space = rw c.in-Struct.is at c.requires.space in
-    let fields = rw c.deref-in-Struct.ensures.value at c.write_types.ensures.written in
+    let fields = rw (c.deref-in-Struct-2.ensures.value, c.deref-in-Struct.ensures) at c.write_types.ensures.written in
     let first = length_join c.args.out.now.items (40 ∷ []) c.write_byte-in-Struct.new.out.items c.write_byte-in-Struct.ensures.written in
-    let all = length_join c.write_byte-in-Struct.new.out.items (sigs (type_trees_of c.in-Struct.fields.items)) c.write_types.new.out.items fields in
+    let all = length_join c.write_byte-in-Struct.new.out.items (sigs (type_trees_of c.in-Struct.fields.value.items)) c.write_types.new.out.items fields in
     record { space = omega (arith, space, first, all, length-Struct c.in-Struct.fields, c.write_byte-in-Struct.ensures.room, c.write_types.ensures.room) }
 
 pub write_type-write_byte-requires-in-Entry-2 : goal.write_type-write_byte-requires-in-Entry-2
@@ -32,9 +32,9 @@ write_type-returns-in-Array-clause-written g t c =
 
 pub write_type-returns-in-Struct-clause-written : goal.write_type-returns-in-Struct-clause-written
 write_type-returns-in-Struct-clause-written g t c =
-    let fields = rw c.deref-in-Struct.ensures.value at c.write_types.ensures.written in
+    let fields = rw (c.deref-in-Struct-2.ensures.value, c.deref-in-Struct.ensures) at c.write_types.ensures.written in
     rw (c.in-Struct.is, sig-Struct c.in-Struct.fields)
-    (join_around c.args.out.now.items (sigs (type_trees_of c.in-Struct.fields.items)) c.write_byte-in-Struct.new.out.items c.write_types.new.out.items c.write_byte-in-Struct-2.new.out.items 40 41
+    (join_around c.args.out.now.items (sigs (type_trees_of c.in-Struct.fields.value.items)) c.write_byte-in-Struct.new.out.items c.write_types.new.out.items c.write_byte-in-Struct-2.new.out.items 40 41
     c.write_byte-in-Struct.ensures.written fields c.write_byte-in-Struct-2.ensures.written)
 
 pub write_type-returns-in-Entry-clause-written : goal.write_type-returns-in-Entry-clause-written
