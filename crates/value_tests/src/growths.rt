@@ -4,7 +4,7 @@
 use crate::examples::{PAIRS, value_of};
 use crate::reading::{self, Asked, read};
 use dbus_marshal::put;
-use dbus_types::{SigFault, SigType, copy_type, parse_signature, signature_text};
+use dbus_types::{SigFault, SigType, parse_signature, signature_text};
 use dbus_value_model::{Order, Value, ValueFault, check_value, copy, type_of};
 use refusing_alloc::Refusing;
 use std::alloc::{AllocError, Allocator};
@@ -13,7 +13,6 @@ use std::test::*;
 #[derive(Clone, Copy, Debug)]
 enum Call {
     ParseSignature,
-    CopyType,
     SignatureText,
     Get,
     CheckValue,
@@ -24,12 +23,11 @@ enum Call {
 // Each call, and a number of growths that it takes more than.
 const CALLS: &[(Call, u64)] = &[
     (Call::ParseSignature, 3),
-    (Call::CopyType, 1),
     (Call::SignatureText, 0),
     (Call::Get, 3),
     (Call::CheckValue, 0),
     (Call::Copy, 3),
-    (Call::TypeOf, 1),
+    (Call::TypeOf, 0),
 ];
 
 #[derive(Clone, Copy, PartialEq, Eq, Debug)]
@@ -78,13 +76,6 @@ fn of_check(outcome: Result<(), ValueFault>) -> Answer {
     }
 }
 
-fn of_copied_type<A: Allocator + Copy>(alloc: A, types: &[SigType<A>]) -> Answer {
-    match types {
-        [ty] => of_growth(copy_type(alloc, ty)),
-        _ => Answer::Other,
-    }
-}
-
 // What a call answers of a value and its type. What it made is given back.
 fn answer_of<A: Allocator + Copy>(
     alloc: A,
@@ -94,7 +85,6 @@ fn answer_of<A: Allocator + Copy>(
 ) -> Answer {
     match call {
         Call::ParseSignature => of_signature(parse_signature(alloc, b"a{sv}(ua(yv))")),
-        Call::CopyType => of_copied_type(alloc, types),
         Call::SignatureText => of_signature(signature_text(alloc, types)),
         Call::Get => of_pairs(alloc),
         Call::CheckValue => of_check(check_value(alloc, value, 0)),

@@ -20,6 +20,8 @@ mod measures;
 #[cfg(test)]
 mod reading;
 #[cfg(test)]
+mod sharing;
+#[cfg(test)]
 mod there_and_back;
 #[cfg(test)]
 mod types;

@@ -2,10 +2,11 @@
 
 use dbus_types::{
     NameFault, SigFault, SigType, TextKind, TextScan, alignment, check_bus_name, check_error_name,
-    check_interface, check_member, check_path, check_signature, check_single, copy_type,
-    first_break, is_unique, parse_signature, parse_single, signature_text, type_ok,
+    check_interface, check_member, check_path, check_signature, check_single, first_break,
+    is_unique, parse_signature, parse_single, signature_text, type_ok,
 };
 use std::alloc::{AllocError, Allocator};
+use std::sync::Arc;
 use std::test::*;
 
 // A text and where it breaks as one of the kind.
@@ -226,8 +227,14 @@ fn bytes<A: Allocator + Copy>(alloc: A, count: usize) -> Result<Vec<SigType<A>, 
 }
 
 fn entry<A: Allocator + Copy>(alloc: A) -> Result<SigType<A>, AllocError> {
-    let key = Box::new(alloc, SigType::Str)?;
-    Ok(SigType::Entry(key, Box::new(alloc, SigType::Variant)?))
+    let key = Arc::new(alloc, SigType::Str)?;
+    Ok(SigType::Entry(key, Arc::new(alloc, SigType::Variant)?))
+}
+
+// A struct of so many bytes.
+fn structure<A: Allocator + Copy>(alloc: A, count: usize) -> Result<SigType<A>, AllocError> {
+    let fields = bytes(alloc, count)?;
+    Ok(SigType::Struct(Arc::new(alloc, fields)?))
 }
 
 fn alone<A: Allocator + Copy>(alloc: A, ty: SigType<A>) -> Result<Vec<SigType<A>, A>, AllocError> {
@@ -239,8 +246,8 @@ fn alone<A: Allocator + Copy>(alloc: A, ty: SigType<A>) -> Result<Vec<SigType<A>
 fn make<A: Allocator + Copy>(alloc: A, what: Made) -> Result<Vec<SigType<A>, A>, AllocError> {
     match what {
         Made::LoneEntry => alone(alloc, entry(alloc)?),
-        Made::Entries => alone(alloc, SigType::Array(Box::new(alloc, entry(alloc)?)?)),
-        Made::Struct(count) => alone(alloc, SigType::Struct(bytes(alloc, count)?)),
+        Made::Entries => alone(alloc, SigType::Array(Arc::new(alloc, entry(alloc)?)?)),
+        Made::Struct(count) => alone(alloc, structure(alloc, count)?),
         Made::Bytes(count) => bytes(alloc, count),
     }
 }
@@ -251,7 +258,7 @@ fn copies<A: Allocator + Copy>(
 ) -> Result<Vec<SigType<A>, A>, AllocError> {
     let mut copies = Vec::new(alloc);
     for ty in types {
-        copies.push(copy_type(alloc, ty)?)?;
+        copies.push(ty.clone()?)?;
     }
     Ok(copies)
 }
@@ -303,7 +310,6 @@ fn types_spelled(rt: HostRuntime) -> Result<(), Fail> {
 
 #[test]
 fn a_struct_begins_at_a_multiple_of_8(rt: HostRuntime) -> Result<(), Fail> {
-    let bytes = SigType::Struct(bytes(rt.alloc(), 1)?);
-    assert!(rt; alignment(&bytes) == 8);
+    assert!(rt; alignment(&structure(rt.alloc(), 1)?) == 8);
     Ok(())
 }
