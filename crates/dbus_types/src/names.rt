@@ -52,11 +52,11 @@ pub struct NameScan {
     pub tail: Tail,
 }
 
-/// `[A-Za-z0-9_]`
+/// `[A-Za-z0-9_]`, of which small letters are asked for first, since most are.
 fn is_word(byte: u8) -> bool
     ensures { result ≡ is_word byte }
 {
-    byte.is_ascii_alphanumeric() || byte == b'_'
+    byte.is_ascii_lowercase() || byte.is_ascii_alphanumeric() || byte == b'_'
 }
 
 /// `[A-Za-z_-]`
