@@ -13,6 +13,7 @@ pub mod FieldSteps
 pub mod FieldLoop
 pub mod FieldLists
 pub mod BodyLoop
+mod SignedFields
 pub mod Decoded
 pub mod BodyValues
 pub mod FieldWriting

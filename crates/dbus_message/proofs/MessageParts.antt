@@ -1,5 +1,5 @@
 -- A message: what its items pass is a message that is spelled, and its reader agrees.
-use Rattle.std.proofs.Common.{◌≡◌, ℕ, ◌+◌, ◌≤◌, List, [], ◌∷◌, ◌++◌, Bool, true, false, cond, ltb, eqb, Option, Some, None, refl, sym, ap, subst, ◌∙◌, inl, inr}
+use Rattle.std.proofs.Common.{◌≡◌, ℕ, ◌+◌, ◌≤◌, List, [], ◌∷◌, ◌++◌, Bool, true, false, cond, ltb, eqb, Option, Some, None, refl, sym, ap, subst, ◌∙◌, inl, inr, arith}
 use Rattle.std.proofs.lemmas.Bool.{ltb-false, le-ltb, eqb-true}
 use Rattle.dbus_types.specs.Types.{BYTE, UINT32, STRING, OBJECT_PATH, SIGNATURE, TypeTree, NumberType, TextType, VariantType, ArrayType, StructType, EntryType, TypeTrees, NoTypes, MoreTypes, sig, sigs, IsSingleType, IsShaped, AreShaped}
 use Rattle.dbus_value_model.specs.declared.limits.Limits.{Limits}
@@ -7,6 +7,8 @@ use Rattle.dbus_value_model.specs.declared.limits.Bounds.{Bounds}
 use Rattle.dbus_value_model.specs.Specification.{bounds_of, bounds_with}
 use Rattle.dbus_value_model.specs.WantedTexts.{WantedText, IsWanted}
 use Rattle.dbus_types.specs.ComputedKinds.{types_spelled}
+use Rattle.dbus_types.specs.Kinds.{IsKind}
+use Rattle.dbus_types.specs.declared.text_kind.TextKind.TheVariants as kinds
 use Rattle.dbus_value_model.specs.declared.order.Order.{Order}
 use Rattle.dbus_value_model.specs.declared.order.Order.TheVariants.{Little, Big}
 use Rattle.dbus_value_model.specs.Bytes.{gap_to}
@@ -112,27 +114,27 @@ Agrees-byte_order = record {
 abbrev pub SpellsTypes : List ℕ → Type 0
 SpellsTypes text = AreShaped (types_spelled text) × (sigs (types_spelled text) ≡ text)
 
-no_types : SpellsTypes []
-no_types = let e : types_spelled [] ≡ NoTypes = spelled_sigs NoTypes in (rw e tt, rw e refl)
+no_types : IsKind kinds.Signature []
+no_types = ((NoTypes, tt, refl), omega arith)
 
-signature_value : (inner : ℕ) (v : ValueTree) → type_of v ≡ TextType SIGNATURE → IsWellFormed inner v → SpellsTypes (text_in v)
+signature_value : (inner : ℕ) (v : ValueTree) → type_of v ≡ TextType SIGNATURE → IsWellFormed inner v → IsKind kinds.Signature (text_in v)
 signature_value inner (NumberValue k n) e h = absurd cc
 signature_value inner (TextValue k t) e h =
     let same : k ≡ SIGNATURE = cc in
-    signature_text t (subst (λ (u : Rattle.dbus_types.specs.Types.TextCode). IsWanted (Rattle.dbus_value_model.specs.WantedTexts.kind_of u) t) same h.0)
+    subst (λ (u : Rattle.dbus_types.specs.Types.TextCode). IsWanted (Rattle.dbus_value_model.specs.WantedTexts.kind_of u) t) same h.0
 signature_value inner (VariantValue x) e h = absurd cc
 signature_value inner (ArrayValue t xs) e h = absurd cc
 signature_value inner (StructValue xs) e h = absurd cc
 signature_value inner (EntryValue k x) e h = absurd cc
 
 module _ (bounds : Bounds) (order : Order) (room end : ℕ) where
-  pub field_signature : (fs before : List FieldTree) (o : ℕ) (s : List ℕ) (q : ℕ) (r : List ℕ) → Sequence (field bounds order room end) before fs o s q r → SpellsTypes (body_signature fs)
+  pub field_signature : (fs before : List FieldTree) (o : ℕ) (s : List ℕ) (q : ℕ) (r : List ℕ) → Sequence (field bounds order room end) before fs o s q r → IsKind kinds.Signature (body_signature fs)
   field_signature [] before o s q r h = no_types
   field_signature (f ∷ fs) before o s q r h =
       let more = field_signature fs (f ∷ before) h.0 h.1 q r h.3 in
       go (eqb f.code 8) refl more
     where
-      go : (b : Bool) → eqb f.code 8 ≡ b → SpellsTypes (body_signature fs) → SpellsTypes (cond b (text_in f.value) (body_signature fs))
+      go : (b : Bool) → eqb f.code 8 ≡ b → IsKind kinds.Signature (body_signature fs) → IsKind kinds.Signature (cond b (text_in f.value) (body_signature fs))
       go true e more =
           let is : f.code ≡ 8 = eqb-true _ _ e in
           let suits : Suits (want 8) f.value = subst (λ (c : ℕ). Suits (want c) f.value) is h.2.1.suits in
@@ -175,7 +177,7 @@ Agrees-message_items limits =
     (Agrees-contents n (field (bounds_of limits) order room) (reads.field (bounds_of limits) order room) (λ end before. Agrees-field (bounds_of limits) order room end before) (λ end before. field_moves (bounds_of limits) order room end before)) (λ fs o s q r was.
     Agrees-before (items.judge (lacks (required kind) fs)) (reading.judge (lacks (required kind) fs)) _ _ (Agrees-judge (lacks (required kind) fs)) (λ _.
     Agrees-before (items.bounded 8 (items.padding 8)) (reading.bounded 8 (reading.padding 8)) _ _ (Agrees-bounded 8 (items.padding 8) (reading.padding 8) (Agrees-padding 8)) (λ _.
-    Agrees-then (types_of_text (body_signature fs)) (reads.types_of_text (body_signature fs)) _ _ (Agrees-types (body_signature fs) (field_signature (bounds_of limits) order room (o + n) fs [] o s q r was.0)) (λ ts o s q r typed.
+    Agrees-then (types_of_text (body_signature fs)) (reads.types_of_text (body_signature fs)) _ _ (Agrees-types (body_signature fs) (signature_text (body_signature fs) (field_signature (bounds_of limits) order room (o + n) fs [] o s q r was.0))) (λ ts o s q r typed.
     Agrees-before (items.bounded body (body_items (bounds_with limits (body_fds limits fs)) order limits.depth ts)) (reading.bounded body (reads.body_items (bounds_with limits (body_fds limits fs)) order limits.depth ts)) _ _
     (Agrees-bounded body (body_items (bounds_with limits (body_fds limits fs)) order limits.depth ts) (reads.body_items (bounds_with limits (body_fds limits fs)) order limits.depth ts) (Agrees-body (bounds_with limits (body_fds limits fs)) order limits.depth ts typed.1)) (λ xs.
     Agrees-pure (order, record { kind = kind; flags = flags; serial = serial; fields = fs; body = xs }))))))))))))))

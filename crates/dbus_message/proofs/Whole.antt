@@ -16,7 +16,7 @@ use Rattle.dbus_message.specs.Messages.{FieldTree, MessageTree, AreFields, field
 use Rattle.dbus_message.specs.MessageItems.{field, message_items}
 use Rattle.dbus_value_model.proofs.Indexes.{any_all_below}
 use Rattle.dbus_value_model.proofs.Numbers.{length-num}
-use Rattle.dbus_unmarshal.proofs.KindLaws.{spelled_sigs}
+use Rattle.dbus_unmarshal.proofs.KindLaws.{signature_text, spelled_sigs}
 use Rattle.dbus_unmarshal.proofs.Composition.{all_none, all_more, all_parts, fields_to, fields_from}
 use Rattle.dbus_unmarshal.proofs.ValueItemLaws.{value_inside}
 use Rattle.dbus_message.proofs.Fields.{not_zero_fits, fits_not_zero, open_to, opens}
@@ -214,7 +214,7 @@ taken : (limits : Limits) (order : Order) (room kind flags serial body n : ℕ) 
 taken limits order room kind flags serial body n fs xs s1 s2 s3 s4 s5 s6 s7 s8 s9 r s opened e0 k0 k1 e1 f1 e2 e3 b1 e4 z0 z1 e5 n0 e6 n1 limit fields all none e8 signature body_all =
     let at = 16 + n + gap_to 8 (16 + n) in
     let seq = seq_fields_from (bounds_of limits) order room (16 + n) fs [] 16 s7 (16 + n) s8 (omega arith) fields all in
-    let spells = field_signature (bounds_of limits) order room (16 + n) fs [] 16 s7 (16 + n) s8 seq in
+    let spells = signature_text (body_signature fs) (field_signature (bounds_of limits) order room (16 + n) fs [] 16 s7 (16 + n) s8 seq) in
     let types : types_spelled (body_signature fs) ≡ types_of xs = ap types_spelled (sym signature) ∙ spelled_sigs (types_of xs) in
     let typed = fields_from (bounds_with limits (body_fds limits fs)) order limits.depth (value (bounds_with limits (body_fds limits fs)) order limits.depth) (λ e t o s v q r. (value_inside (bounds_with limits (body_fds limits fs)) order limits.depth e t o s v q r).0) (λ e t o s v q r. (value_inside (bounds_with limits (body_fds limits fs)) order limits.depth e t o s v q r).1) (at + body) xs at s9 (at + body) r (omega arith) body_all in (
       order,

@@ -3,7 +3,9 @@
 
 ghost use Rattle.std.specs.Prelude.{◌≡◌, ℕ, List, drop, IfOk};
 ghost use Rattle.dbus_types.specs.ComputedKinds.{types_spelled};
+ghost use Rattle.dbus_types.specs.Kinds.{IsKind};
 ghost use Rattle.dbus_types.specs.SigTypes.{type_trees_of};
+ghost use Rattle.dbus_types.specs.declared.text_kind.TextKind.TheVariants.{Signature};
 ghost use Rattle.dbus_value_model.specs.Specification.{specification};
 ghost use Rattle.dbus_value_model.specs.Gives.{Gives};
 ghost use Rattle.dbus_value_model.specs.Reading.{judge};
@@ -23,7 +25,7 @@ use crate::message::Message;
 use crate::parts::Parts;
 use crate::read_body::read_body;
 use crate::read_fields::read_fields;
-use dbus_types::{SigType, parse_signature};
+use dbus_types::{SigType, spelled_types};
 use dbus_unmarshal::items::read_padding;
 use dbus_value_model::{Limits, Order, Reason, Refusal, Stop, refuse};
 use std::alloc::{AllocError, Allocator};
@@ -39,18 +41,18 @@ fn check_required<A: Allocator>(kind: u8, fields: &[HeaderField<A>], at: usize) 
     }
 }
 
-/// The types that the SIGNATURE field spells, which was read as a signature: so only memory may be refused.
+/// The types that the SIGNATURE field spells, which was read as a signature. The one error is that a growth of memory was
+/// refused.
 fn body_types<A: Allocator + Copy>(
     alloc: A,
     fields: &[HeaderField<A>],
 ) -> Result<Vec<SigType<A>, A>, AllocError>
+    requires signed { IsKind Signature (body_signature (field_trees fields.now)) }
     ensures spelled { IfOk result (λ types. type_trees_of types.items ≡ types_spelled (body_signature (field_trees fields.now))) }
     ensures complete { IfOk result (λ types. AreSingleTypes (type_trees_of types.items)) }
 {
-    match parse_signature(alloc, body_signature(fields)) {
-        Ok(types) => Ok(types),
-        Err(_) => Err(AllocError),
-    }
+    let types = spelled_types(alloc, body_signature(fields))?;
+    Ok(types)
 }
 
 /// The message that the bytes begin with, its order and the place behind it.

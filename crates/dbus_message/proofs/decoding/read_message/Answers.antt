@@ -1,4 +1,4 @@
-use Rattle.std.proofs.Common.{◌≡◌, ◌+◌, drop, refl}
+use Rattle.std.proofs.Common.{◌≡◌, ◌+◌, drop, refl, arith}
 use Rattle.dbus_types.specs.ComputedKinds.{types_spelled}
 use Rattle.dbus_types.specs.SigTypes.{type_trees_of}
 use Rattle.dbus_value_model.specs.Reading.{Done, judge, padding}
@@ -7,6 +7,8 @@ use Rattle.dbus_message.specs.HeaderReading.{message_read, body_read}
 use Rattle.dbus_message.specs.Messages.{lacks, required, body_signature, body_fds}
 use Rattle.dbus_message.specs.PartsViews.{parts_tree, field_trees}
 use Rattle.dbus_message.proofs.FixedItems.{exits}
+use Rattle.dbus_message.proofs.GetReads.{bytes_at}
+use Rattle.dbus_message.proofs.SignedFields.{signed_fields}
 use Rattle.dbus_message.proofs.decoding.read_message.Goals as goal
 
 pub returns-in_err-check_required-clause-gives : goal.returns-in_err-check_required-clause-gives
@@ -22,6 +24,11 @@ returns-in_err-at-clause-gives g c =
     exits (λ x. ((x.0, parts_tree x.1), x.2)) c.args.bytes.now c.from_residual-in_err-at.result _ _ c.from_residual-in_err-at.ensures.1
     (rw (c.in_ok-header.ensures.gives, c.in_ok-fields.ensures.gives, judged)
     (stops_after _ (padding 8 (c.in_ok-fields.at + 8) c.in_ok-fields.at (drop c.in_ok-fields.at c.args.bytes.now)) _ c.in_err-at.ensures.gives))
+
+pub body_types-requires : goal.body_types-requires
+body_types-requires g c =
+    let signed = signed_fields c.args.limits c.in_ok-header.header.order c.in_ok-header.header.fields 16 (drop 16 c.args.bytes.now) (field_trees c.in_ok-fields.fields.items) c.in_ok-fields.at (drop c.in_ok-fields.at c.args.bytes.now) c.in_ok-header.ensures.there.0 (bytes_at c.args.bytes.now 16 (λ i. omega (arith, c.type_inv.bytes i))) c.in_ok-fields.ensures.gives in
+    record { signed = rw c.deref-2.ensures.value signed }
 
 pub read_body-requires-clause-complete : goal.read_body-requires-clause-complete
 read_body-requires-clause-complete g c = rw c.deref-4.ensures.value c.in_ok-types.ensures.complete
