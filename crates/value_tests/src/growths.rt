@@ -7,7 +7,7 @@ use dbus_marshal::put;
 use dbus_types::{SigFault, SigType, parse_signature, signature_text};
 use dbus_value_model::{Order, Value, ValueFault, check_value, copy, type_of};
 use refusing_alloc::Refusing;
-use std::alloc::{AllocError, Allocator};
+use std::alloc::{AllocError, Allocator, Global};
 use std::test::*;
 
 #[derive(Clone, Copy, Debug)]
@@ -121,7 +121,7 @@ fn run_of<'a, A: Allocator>(
     }
 }
 
-fn run_on_pairs<A: Allocator>(heap: &Refusing<A>, call: Call, n: u64) -> Result<Run, SigFault> {
+fn run_on_pairs(heap: &Refusing<Global>, call: Call, n: u64) -> Result<Run, SigFault> {
     let types = parse_signature(heap, b"a(yv)")?;
     let value = value_of(heap, "a(yv)", PAIRS, Order::Little)?;
     Ok(run_of(heap, call, n, &value, &types))

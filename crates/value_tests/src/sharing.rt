@@ -4,7 +4,7 @@ use dbus_types::{SigFault, parse_signature, parse_single};
 use dbus_unmarshal::get;
 use dbus_value_model::{Got, Order};
 use refusing_alloc::Refusing;
-use std::alloc::Allocator;
+use std::alloc::Global;
 use std::test::*;
 
 // Four arrays without elements.
@@ -23,7 +23,7 @@ fn clones_of_types_take_no_memory(rt: HostRuntime) -> Result<(), Fail> {
 }
 
 // The growths that reading these arrays takes, which are the elements of one, their type being read already.
-fn growths_of_reading<A: Allocator>(alloc: A, signature: &[u8]) -> Result<Option<u64>, SigFault> {
+fn growths_of_reading(alloc: Global, signature: &[u8]) -> Result<Option<u64>, SigFault> {
     let heap = Refusing::none(alloc);
     let wanted = parse_single(&heap, signature)?;
     heap.refuse_none();
