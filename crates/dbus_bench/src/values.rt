@@ -1,7 +1,7 @@
 //! Values, read and written.
 ghost use Rattle.std.specs.Prelude.{IfSome};
 ghost use Rattle.dbus_types.specs.SigTypes.{type_tree};
-ghost use Rattle.dbus_types.specs.Types.{IsSingleType};
+ghost use Rattle.dbus_texts.specs.Types.{IsSingleType};
 ghost use Rattle.dbus_value_model.specs.ShortSignatures.{HasShortSignatures};
 ghost use Rattle.dbus_value_model.specs.ValueViews.{value_tree};
 

@@ -1,7 +1,7 @@
 -- How many bytes values are spelled by, level by level.
 use Rattle.std.proofs.Common.{◌≡◌, ℕ, ◌+◌, List, [], ◌∷◌, ◌++◌, length, refl, arith}
 use Rattle.std.proofs.lemmas.List.{length-append, length-replicate}
-use Rattle.dbus_types.specs.Types.{sig, TypeTree, NumberCode, TextCode}
+use Rattle.dbus_texts.specs.Types.{sig, TypeTree, NumberCode, TextCode}
 use Rattle.dbus_types.specs.Alignments.{width, length_width, alignment_of}
 use Rattle.dbus_value_model.specs.declared.order.Order.{Order}
 use Rattle.dbus_value_model.specs.Values.{ValueTree, ValueTrees, NumberValue, TextValue, VariantValue, ArrayValue, StructValue, EntryValue, NoValues, MoreValues, type_of}

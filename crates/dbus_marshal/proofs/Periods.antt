@@ -1,6 +1,6 @@
 -- The length of a spelling, and whether its arrays keep their limit, depend on the offset modulo 8 alone.
 use Rattle.std.proofs.Common.{◌≡◌, ℕ, ◌+◌, ◌%◌, ◌≤◌, length, sym, subst, arith}
-use Rattle.dbus_types.specs.Types.{sig, TypeTree, NumberType, TextType, VariantType, ArrayType, StructType, EntryType, NumberCode, BYTE, BOOLEAN, INT16, UINT16, INT32, UINT32, INT64, UINT64, DOUBLE, UNIX_FD, TextCode, STRING, OBJECT_PATH, SIGNATURE}
+use Rattle.dbus_texts.specs.Types.{sig, TypeTree, NumberType, TextType, VariantType, ArrayType, StructType, EntryType, NumberCode, BYTE, BOOLEAN, INT16, UINT16, INT32, UINT32, INT64, UINT64, DOUBLE, UNIX_FD, TextCode, STRING, OBJECT_PATH, SIGNATURE}
 use Rattle.dbus_types.specs.Alignments.{width, length_width, alignment_of}
 use Rattle.dbus_value_model.specs.declared.order.Order.{Order}
 use Rattle.dbus_value_model.specs.Values.{ValueTree, ValueTrees, NumberValue, TextValue, VariantValue, ArrayValue, StructValue, EntryValue, NoValues, MoreValues, type_of}

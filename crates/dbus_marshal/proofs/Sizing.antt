@@ -6,7 +6,7 @@ use Rattle.std.specs.Option.{unwrap_or}
 use Rattle.std.specs.Bool.{◌==◌}
 use Rattle.std.specs.Prelude.{ℤ, string_bytes}
 use Rattle.std.proofs.lemmas.List.{at_drop_more, at_drop_all}
-use Rattle.dbus_types.specs.Types.{sig, BYTE}
+use Rattle.dbus_texts.specs.Types.{sig, BYTE}
 use Rattle.dbus_types.specs.Alignments.{alignment_of}
 use Rattle.dbus_types.specs.SigTypes.{type_tree}
 use Rattle.dbus_types.specs.declared.sig_type.SigType.{SigType}

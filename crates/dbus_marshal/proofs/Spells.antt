@@ -3,7 +3,7 @@ use Rattle.std.proofs.Common.{◌≡◌, ℕ, ℤ, ◌+◌, ◌<◌, ◌≤◌, 
 use Rattle.std.specs.Prelude.{Bool, string_bytes}
 use Rattle.std.specs.Int.{cast_unsigned, w16, w32, w64}
 use Rattle.std.proofs.lemmas.List.{at_drop_more, at_drop_all, length-append}
-use Rattle.dbus_types.specs.Types.{NumberType, BYTE, BOOLEAN, INT16, UINT16, INT32, UINT32, INT64, UINT64, DOUBLE, UNIX_FD, STRING, SIGNATURE, sig}
+use Rattle.dbus_texts.specs.Types.{NumberType, BYTE, BOOLEAN, INT16, UINT16, INT32, UINT32, INT64, UINT64, DOUBLE, UNIX_FD, STRING, SIGNATURE, sig}
 use Rattle.dbus_types.specs.SigTypes.{type_tree}
 use Rattle.dbus_types.specs.declared.sig_type.SigType.{SigType}
 use Rattle.dbus_value_model.specs.declared.order.Order.{Order}

@@ -3,7 +3,7 @@
 
 ghost use Rattle.std.specs.Prelude.{◌≡◌, ◌<◌, ◌≤◌, ◌^◌, ◌++◌, length, vec_capacity, None, OnOk, OnErr, IsOkUnless, MatchResult, if◌then◌else◌};
 ghost use Rattle.dbus_types.specs.SigTypes.{type_tree};
-ghost use Rattle.dbus_types.specs.Types.{NumberType, BYTE};
+ghost use Rattle.dbus_texts.specs.Types.{NumberType, BYTE};
 ghost use Rattle.dbus_value_model.specs.declared.limits.TheConstants.{MESSAGE_LIMIT};
 ghost use Rattle.dbus_value_model.specs.Specification.{specification};
 ghost use Rattle.dbus_value_model.specs.Appending.{with_value, with_values};

@@ -5,7 +5,7 @@
 #![tactic(auto, using(crate::proofs::Written::lengths))]
 
 ghost use Rattle.std.specs.Prelude.{◌≡◌, ◌+◌, ◌<◌, ◌≤◌, ◌^◌, ◌∷◌, [], ◌++◌, length, vec_capacity, take, drop};
-ghost use Rattle.dbus_types.specs.Types.{STRING, SIGNATURE};
+ghost use Rattle.dbus_texts.specs.Types.{STRING, SIGNATURE};
 ghost use Rattle.dbus_value_model.specs.Appending.{with_padding, with_value};
 ghost use Rattle.dbus_value_model.specs.Bytes.{num};
 ghost use Rattle.dbus_value_model.specs.Values.{TextValue};

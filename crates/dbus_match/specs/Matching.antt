@@ -2,7 +2,7 @@
 -- D-Bus Specification, "Match Rules"; the owners of well-known names are a list that the caller hands in.
 use Rattle.std.specs.Prelude.{◌≡◌, ℕ, ◌⊎◌, Option, Some, None, List, [], ◌∷◌, ◌++◌, map, string_bytes, ◌==◌, if◌then◌else◌}
 use Rattle.std.specs.List.{AllByRecursion}
-use Rattle.dbus_types.specs.Types.{STRING, OBJECT_PATH}
+use Rattle.dbus_texts.specs.Types.{STRING, OBJECT_PATH}
 use Rattle.dbus_value_model.specs.Values.{ValueTree, TextValue}
 use Rattle.dbus_message.specs.Messages.{MessageTree}
 use Rattle.dbus_message.specs.Lookups.{field_value, body_value}

@@ -2,8 +2,8 @@
 #![tactic(auto)]
 
 ghost use Rattle.std.specs.Prelude.{◌≡◌, ◌↔◌, IsTrue};
-ghost use Rattle.dbus_types.specs.declared.text_kind.TextKind.TheVariants as kinds;
-ghost use Rattle.dbus_types.specs.Kinds.{IsKind};
+ghost use Rattle.dbus_texts.specs.declared.text_kind.TextKind.TheVariants as kinds;
+ghost use Rattle.dbus_texts.specs.Kinds.{IsKind};
 ghost use Rattle.dbus_match.specs.Keys.{IsTypeName, IsBoolName};
 
 use dbus_types::{check_bus_name, check_interface, check_member, check_path};

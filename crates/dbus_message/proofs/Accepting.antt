@@ -1,10 +1,10 @@
 -- Parts that are valid within limits, and in which each array of bytes is `Bytes`, have no case of fault.
 use Rattle.std.proofs.Common.{◌≡◌, inl, inr, ℕ, zero, suc, ◌+◌, ◌<◌, List, [], ◌∷◌, ◌++◌, ◌&&◌, ◌||◌, Bool, true, false, length, map, None, IsTrue, if◌then◌else◌, eqb, refl, sym, ap, subst, ◌∙◌, arith}
 use Rattle.std.proofs.lemmas.Bool.{ne_eqb, eqb-true, and_parts}
-use Rattle.dbus_types.specs.Types.{UINT32, NumberType, TextType, VariantType, ArrayType, StructType, EntryType, NoTypes, TypeTrees, AreComplete, sigs}
-use Rattle.dbus_types.specs.Kinds.{IsKind}
-use Rattle.dbus_types.specs.declared.text_kind.TextKind.TheVariants as kinds
-use Rattle.dbus_types.proofs.KindFacts.{sigs_same}
+use Rattle.dbus_texts.specs.Types.{UINT32, NumberType, TextType, VariantType, ArrayType, StructType, EntryType, NoTypes, TypeTrees, AreComplete, sigs}
+use Rattle.dbus_texts.specs.Kinds.{IsKind}
+use Rattle.dbus_texts.specs.declared.text_kind.TextKind.TheVariants as kinds
+use Rattle.dbus_texts.proofs.KindFacts.{sigs_same}
 use Rattle.dbus_value_model.specs.declared.limits.Limits.{Limits}
 use Rattle.dbus_value_model.specs.declared.order.Order.TheVariants.{Little}
 use Rattle.dbus_value_model.specs.Forming.{IsNamed}

@@ -3,7 +3,7 @@ use Rattle.std.proofs.Common.{◌≡◌, Option, ℕ, zero, suc, ◌+◌, ◌<�
 use Rattle.std.proofs.lemmas.Bool.{lt-ltb, le-ltb, eq-eqb}
 use Rattle.std.proofs.lemmas.List.{drop_more, drop_all, length-append}
 use Rattle.dbus_types.specs.SigTypes.{type_tree, type_trees_of}
-use Rattle.dbus_types.specs.Types.{TypeTree, TypeTrees, NoTypes, MoreTypes, IsSingleType, AreComplete, sig, sigs}
+use Rattle.dbus_texts.specs.Types.{TypeTree, TypeTrees, NoTypes, MoreTypes, IsSingleType, AreComplete, sig, sigs}
 use Rattle.dbus_types.specs.declared.sig_type.SigType.{SigType}
 use Rattle.dbus_value_model.specs.Specification.{bounds_with}
 use Rattle.dbus_value_model.specs.declared.limits.Limits.{Limits}

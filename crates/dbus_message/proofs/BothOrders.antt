@@ -1,6 +1,6 @@
 -- A message that is valid and within the limits in one byte order is so in the other.
 use Rattle.std.proofs.Common.{◌≡◌, ℕ, ◌+◌, ◌≤◌, List, length, refl, sym, ap, subst}
-use Rattle.dbus_types.specs.Types.{sig}
+use Rattle.dbus_texts.specs.Types.{sig}
 use Rattle.dbus_value_model.specs.declared.limits.Limits.{Limits}
 use Rattle.dbus_value_model.specs.declared.order.Order.{Order}
 use Rattle.dbus_value_model.specs.declared.order.Order.TheVariants.{Little, Big}

@@ -2,7 +2,7 @@
 use Rattle.std.proofs.Common.{◌≡◌, ℕ, zero, suc, ◌+◌, ◌-◌, ◌<◌, ◌≤◌, List, ◌∷◌, ◌++◌, length, take, drop, map, refl, sym, ap, ◌∙◌, arith, append_assoc}
 use Rattle.std.proofs.lemmas.List.{length-append, take_at, drop_at}
 use Rattle.std.specs.Coded.{×_prop, Unit-prop, le_prop}
-use Rattle.dbus_types.specs.Types.{STRING, OBJECT_PATH, SIGNATURE}
+use Rattle.dbus_texts.specs.Types.{STRING, OBJECT_PATH, SIGNATURE}
 use Rattle.dbus_value_model.specs.declared.order.Order.{Order}
 use Rattle.dbus_value_model.specs.Appending.{with_padding, with_values}
 use Rattle.dbus_value_model.specs.ShortSignatures.{HasShortSignatures, HaveShortSignatures}

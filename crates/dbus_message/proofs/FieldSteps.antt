@@ -1,12 +1,12 @@
 -- Steps of reading a field's value.
 use Rattle.std.proofs.Common.{◌≡◌, ℕ, ◌+◌, ◌-◌, ◌<◌, ◌≤◌, List, drop, IsUtf8, Some, None, refl, sym, ap, ◌∙◌, arith}
 use Rattle.std.proofs.lemmas.Bool.{lt-ltb, le-ltb}
-use Rattle.dbus_types.specs.Kinds.{IsKind}
-use Rattle.dbus_types.specs.ComputedKinds.{type_spelled}
-use Rattle.dbus_types.specs.Types.{TypeTree, sig}
-use Rattle.dbus_types.specs.declared.text_kind.TextKind.{TextKind}
-use Rattle.dbus_types.specs.declared.text_kind.TextKind.TheVariants as kinds
-use Rattle.dbus_types.proofs.KindFacts.{text_utf8}
+use Rattle.dbus_texts.specs.Kinds.{IsKind}
+use Rattle.dbus_texts.specs.ComputedKinds.{type_spelled}
+use Rattle.dbus_texts.specs.Types.{TypeTree, sig}
+use Rattle.dbus_texts.specs.declared.text_kind.TextKind.{TextKind}
+use Rattle.dbus_texts.specs.declared.text_kind.TextKind.TheVariants as kinds
+use Rattle.dbus_texts.proofs.KindFacts.{text_utf8}
 use Rattle.dbus_value_model.specs.Specification.{bounds_of}
 use Rattle.dbus_value_model.specs.declared.limits.Limits.{Limits}
 use Rattle.dbus_value_model.specs.declared.order.Order.{Order}

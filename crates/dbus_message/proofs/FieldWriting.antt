@@ -1,7 +1,7 @@
 -- What is written of a message, one part behind another.
 use Rattle.std.proofs.Common.{◌≡◌, ℕ, zero, suc, ◌+◌, ◌-◌, ◌<◌, ◌≤◌, List, [], ◌∷◌, ◌++◌, length, get_or, take, drop, map, refl, sym, ap, subst, ◌∙◌, arith, append_assoc}
 use Rattle.std.proofs.lemmas.List.{length-append, length-replicate, drop_more, drop_all, take_at, drop_at}
-use Rattle.dbus_types.specs.Types.{BYTE, sig}
+use Rattle.dbus_texts.specs.Types.{BYTE, sig}
 use Rattle.dbus_value_model.specs.declared.order.Order.{Order}
 use Rattle.dbus_value_model.specs.Appending.{with_padding, with_value, with_values}
 use Rattle.dbus_value_model.specs.ShortSignatures.{HasShortSignatures, HaveShortSignatures}

@@ -2,10 +2,10 @@
 use Rattle.std.proofs.Common.{◌≡◌, ℕ, zero, suc, ◌+◌, ◌-◌, ◌<◌, ◌≤◌, List, ◌∷◌, ◌++◌, length, false, ltb, eqb, ◌&&◌, None, refl, sym, ap, subst, ◌∙◌, arith, inl, inr, append_assoc}
 use Rattle.std.proofs.lemmas.Bool.{ltb-false, le-ltb, eqb-false, ne_eqb}
 use Rattle.std.proofs.lemmas.List.{length-append, length-replicate}
-use Rattle.dbus_types.specs.Types.{BYTE, UINT32, STRING, TypeTree, NumberType, TextType, VariantType, NoTypes, MoreTypes, sig, IsSingleType}
-use Rattle.dbus_types.proofs.KindFacts.{shaped_of}
+use Rattle.dbus_texts.specs.Types.{BYTE, UINT32, STRING, TypeTree, NumberType, TextType, VariantType, NoTypes, MoreTypes, sig, IsSingleType}
+use Rattle.dbus_texts.proofs.KindFacts.{shaped_of}
 use Rattle.dbus_value_model.specs.WantedTexts.{WantedText, IsWanted}
-use Rattle.dbus_types.specs.ComputedKinds.{type_spelled}
+use Rattle.dbus_texts.specs.ComputedKinds.{type_spelled}
 use Rattle.dbus_value_model.specs.declared.limits.Bounds.{Bounds}
 use Rattle.dbus_value_model.specs.declared.order.Order.{Order}
 use Rattle.dbus_value_model.specs.Bytes.{num, gap_to, pad}

@@ -1,8 +1,8 @@
 -- From what getting a value answers to what reading gives.
 use Rattle.std.proofs.Common.{◌≡◌, ℕ, suc, ◌+◌, ◌<◌, ◌≤◌, List, [], ◌∷◌, length, get_or, drop, false, refl, sym, ap, subst, ◌∙◌, arith}
 use Rattle.std.proofs.lemmas.List.{get_or-drop, length-drop, length-append}
-use Rattle.dbus_types.specs.Types.{TypeTree, IsSingleType, IsShaped}
-use Rattle.dbus_types.proofs.KindFacts.{shaped_of}
+use Rattle.dbus_texts.specs.Types.{TypeTree, IsSingleType, IsShaped}
+use Rattle.dbus_texts.proofs.KindFacts.{shaped_of}
 use Rattle.dbus_value_model.specs.declared.limits.Bounds.{Bounds}
 use Rattle.dbus_value_model.specs.declared.order.Order.{Order}
 use Rattle.dbus_value_model.specs.declared.fault.Fault.{Fault}

@@ -1,6 +1,6 @@
 -- Fields of which no case of fault holds are those of a message, and well formed.
 use Rattle.std.proofs.Common.{◌≡◌, inl, inr, ℕ, zero, suc, ◌<◌, List, [], ◌∷◌, ◌++◌, ◌&&◌, ◌||◌, Bool, true, false, map, Option, Some, None, if◌then◌else◌, eqb, refl, sym, ap, subst, ◌∙◌, arith}
-use Rattle.dbus_types.specs.Types.{NumberCode, TextCode, UINT32, STRING, NumberType, TextType, VariantType, ArrayType, StructType, EntryType, IsSingleType}
+use Rattle.dbus_texts.specs.Types.{NumberCode, TextCode, UINT32, STRING, NumberType, TextType, VariantType, ArrayType, StructType, EntryType, IsSingleType}
 use Rattle.dbus_value_model.specs.Forming.{IsUniform, AreUniform, IsNamed, AreNamed}
 use Rattle.dbus_value_model.specs.Ranges.{HoldNumbers}
 use Rattle.dbus_value_model.specs.Values.{ValueTree, NumberValue, TextValue, VariantValue, ArrayValue, StructValue, EntryValue, type_of, value_trees, AllOf}

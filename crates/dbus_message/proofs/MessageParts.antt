@@ -1,14 +1,14 @@
 -- A message: what its items pass is a message that is spelled, and its reader agrees.
 use Rattle.std.proofs.Common.{◌≡◌, ℕ, ◌+◌, ◌≤◌, List, [], ◌∷◌, ◌++◌, Bool, true, false, cond, ltb, eqb, Option, Some, None, refl, sym, ap, subst, ◌∙◌, inl, inr, arith}
 use Rattle.std.proofs.lemmas.Bool.{ltb-false, le-ltb, eqb-true}
-use Rattle.dbus_types.specs.Types.{BYTE, UINT32, STRING, OBJECT_PATH, SIGNATURE, TypeTree, NumberType, TextType, VariantType, ArrayType, StructType, EntryType, TypeTrees, NoTypes, MoreTypes, sig, sigs, IsSingleType, IsShaped, AreShaped}
+use Rattle.dbus_texts.specs.Types.{BYTE, UINT32, STRING, OBJECT_PATH, SIGNATURE, TypeTree, NumberType, TextType, VariantType, ArrayType, StructType, EntryType, TypeTrees, NoTypes, MoreTypes, sig, sigs, IsSingleType, IsShaped, AreShaped}
 use Rattle.dbus_value_model.specs.declared.limits.Limits.{Limits}
 use Rattle.dbus_value_model.specs.declared.limits.Bounds.{Bounds}
 use Rattle.dbus_value_model.specs.Specification.{bounds_of, bounds_with}
 use Rattle.dbus_value_model.specs.WantedTexts.{WantedText, IsWanted}
-use Rattle.dbus_types.specs.ComputedKinds.{types_spelled}
-use Rattle.dbus_types.specs.Kinds.{IsKind}
-use Rattle.dbus_types.specs.declared.text_kind.TextKind.TheVariants as kinds
+use Rattle.dbus_texts.specs.ComputedKinds.{types_spelled}
+use Rattle.dbus_texts.specs.Kinds.{IsKind}
+use Rattle.dbus_texts.specs.declared.text_kind.TextKind.TheVariants as kinds
 use Rattle.dbus_value_model.specs.declared.order.Order.{Order}
 use Rattle.dbus_value_model.specs.declared.order.Order.TheVariants.{Little, Big}
 use Rattle.dbus_value_model.specs.Bytes.{gap_to}
@@ -121,7 +121,7 @@ signature_value : (inner : ℕ) (v : ValueTree) → type_of v ≡ TextType SIGNA
 signature_value inner (NumberValue k n) e h = absurd cc
 signature_value inner (TextValue k t) e h =
     let same : k ≡ SIGNATURE = cc in
-    subst (λ (u : Rattle.dbus_types.specs.Types.TextCode). IsWanted (Rattle.dbus_value_model.specs.WantedTexts.kind_of u) t) same h.0
+    subst (λ (u : Rattle.dbus_texts.specs.Types.TextCode). IsWanted (Rattle.dbus_value_model.specs.WantedTexts.kind_of u) t) same h.0
 signature_value inner (VariantValue x) e h = absurd cc
 signature_value inner (ArrayValue t xs) e h = absurd cc
 signature_value inner (StructValue xs) e h = absurd cc

@@ -1,7 +1,7 @@
 -- Parts of which no case of fault holds have each array of bytes as `Bytes`.
 use Rattle.std.proofs.Common.{◌≡◌, ℕ, ◌+◌, Bool, true, false, List, [], ◌∷◌, None, IsTrue, refl, sym, subst, rules}
 use Rattle.std.proofs.lemmas.Bool.{and_from}
-use Rattle.dbus_types.specs.Types.{IsBasic}
+use Rattle.dbus_texts.specs.Types.{IsBasic}
 use Rattle.dbus_value_model.specs.PackedBytes.{keeps_bytes, keep_bytes}
 use Rattle.dbus_value_model.specs.Values.{ValueTree, type_of}
 use Rattle.dbus_value_model.specs.ValueViews.{value_tree}

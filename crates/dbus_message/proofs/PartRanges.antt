@@ -1,7 +1,7 @@
 -- What is within a message's limit has texts whose lengths fit.
 use Rattle.std.proofs.Common.{ℕ, ◌+◌, ◌≤◌, List, [], ◌∷◌, ◌++◌, length, arith}
 use Rattle.std.proofs.lemmas.List.{length-append}
-use Rattle.dbus_types.specs.Types.{TypeTree, TextCode, STRING, OBJECT_PATH, SIGNATURE, sig}
+use Rattle.dbus_texts.specs.Types.{TypeTree, TextCode, STRING, OBJECT_PATH, SIGNATURE, sig}
 use Rattle.dbus_types.specs.Alignments.{length_width, alignment_of}
 use Rattle.dbus_value_model.specs.Bytes.{gap_to, num, pad}
 use Rattle.dbus_value_model.specs.declared.order.Order.TheVariants.{Little}

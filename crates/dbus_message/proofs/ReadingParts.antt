@@ -1,6 +1,6 @@
 -- A message read in parts is read as a whole.
 use Rattle.std.proofs.Common.{◌≡◌, ℕ, zero, suc, ◌+◌, ◌-◌, List, [], ◌∷◌, Bool, true, false, cond, ltb, refl, ap, ◌∙◌, arith}
-use Rattle.dbus_types.specs.Types.{TypeTree}
+use Rattle.dbus_texts.specs.Types.{TypeTree}
 use Rattle.dbus_value_model.specs.Specification.{bounds_of}
 use Rattle.dbus_value_model.specs.declared.limits.Limits.{Limits}
 use Rattle.dbus_value_model.specs.declared.order.Order.{Order}

@@ -1,7 +1,7 @@
 -- The signature of the body, in fields that were read.
 use Rattle.std.proofs.Common.{◌≡◌, ℕ, suc, ◌+◌, ◌-◌, ◌<◌, List, [], sym, ◌∙◌, arith}
-use Rattle.dbus_types.specs.Kinds.{IsKind}
-use Rattle.dbus_types.specs.declared.text_kind.TextKind.TheVariants.{Signature}
+use Rattle.dbus_texts.specs.Kinds.{IsKind}
+use Rattle.dbus_texts.specs.declared.text_kind.TextKind.TheVariants.{Signature}
 use Rattle.dbus_value_model.specs.declared.limits.Limits.{Limits}
 use Rattle.dbus_value_model.specs.declared.order.Order.{Order}
 use Rattle.dbus_value_model.specs.Bytes.{IsBytes}

@@ -1,8 +1,8 @@
 -- What the items of a message pass, from the first byte on, is a message that is spelled.
 use Rattle.std.proofs.Common.{◌≡◌, ℕ, zero, suc, ◌+◌, ◌-◌, ◌^◌, ◌<◌, ◌≤◌, ◌↔◌, List, [], ◌∷◌, ◌++◌, length, map, None, refl, sym, ap, subst, ◌∙◌, arith, append_assoc}
 use Rattle.std.proofs.lemmas.List.{length-append, length-replicate}
-use Rattle.dbus_types.specs.Types.{TypeTrees, sigs, AreShaped}
-use Rattle.dbus_types.specs.ComputedKinds.{types_spelled}
+use Rattle.dbus_texts.specs.Types.{TypeTrees, sigs, AreShaped}
+use Rattle.dbus_texts.specs.ComputedKinds.{types_spelled}
 use Rattle.dbus_value_model.specs.declared.limits.Limits.{Limits}
 use Rattle.dbus_value_model.specs.declared.limits.Bounds.{Bounds}
 use Rattle.dbus_value_model.specs.Specification.{bounds_of, bounds_with}

@@ -19,7 +19,7 @@ use Rattle.dbus_value_model.specs.Bytes.{gap_to}
 use Rattle.dbus_value_model.specs.Forming.{NestsWithin, NestWithin}
 use Rattle.dbus_value_model.specs.Spelling.{contents_start, ended_text, spelling, IsWithinLimits, AreWithinLimits}
 use Rattle.dbus_value_model.specs.Values.{ValueTree, ValueTrees, NumberValue, TextValue, VariantValue, ArrayValue, StructValue, EntryValue, NoValues, MoreValues, type_of, IsWellFormed, AreWellFormed}
-use Rattle.dbus_types.specs.Types.{sig}
+use Rattle.dbus_texts.specs.Types.{sig}
 
 mutual
   pub nests_wider : (room more : ℕ) (v : ValueTree) → room ≤ more → NestsWithin room v → NestsWithin more v

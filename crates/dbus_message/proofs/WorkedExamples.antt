@@ -1,8 +1,8 @@
 -- Worked examples of the wire format, computed by the plain reader that stands beside the definitions: the outcome of each list of bytes.
 -- D-Bus Specification, "Message Format"; docs/WIRE-FORMAT.md.
 use Rattle.std.proofs.Common.{◌≡◌, ℕ, List, [], ◌∷◌, refl}
-use Rattle.dbus_types.specs.ComputedKinds as computed
-use Rattle.dbus_types.specs.ComputedKinds.{type_spelled, types_spelled, parse, parses}
+use Rattle.dbus_texts.specs.ComputedKinds as computed
+use Rattle.dbus_texts.specs.ComputedKinds.{type_spelled, types_spelled, parse, parses}
 use Rattle.dbus_value_model.specs.WantedTexts.{is_kind, break_at}
 use Rattle.dbus_value_model.specs.Specification.{specification}
 use Rattle.dbus_value_model.specs.declared.order.Order.{Order}

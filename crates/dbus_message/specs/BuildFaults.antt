@@ -1,7 +1,7 @@
 -- Why parts make no message: the cases, and which of them is the first that holds.
 -- D-Bus Specification, "Message Format", "Header Fields" and "Invalid Protocol and Spec Extensions".
 use Rattle.std.specs.Prelude.{◌≡◌, ◌⊎◌, ℕ, ◌+◌, ◌<◌, List, [], ◌∷◌, ◌++◌, length, true, false, ◌&&◌, if◌then◌else◌, Option, Some, None, Result, Ok, Err}
-use Rattle.dbus_types.specs.Types.{UINT32, STRING, TypeTree, NumberType, TextType, sigs}
+use Rattle.dbus_texts.specs.Types.{UINT32, STRING, TypeTree, NumberType, TextType, sigs}
 use Rattle.dbus_value_model.specs.declared.order.Order.TheVariants.{Little}
 use Rattle.dbus_value_model.specs.declared.fault.Reason.TheVariants as reasons
 use Rattle.dbus_value_model.specs.declared.limits.Limits.{Limits}

@@ -1,8 +1,8 @@
 -- Reading a message in the parts in which the code reads it.
 -- D-Bus Specification, "Message Format", "Header Fields".
 use Rattle.std.specs.Prelude.{ℕ, ◌-◌, List, Option}
-use Rattle.dbus_types.specs.Types.{TypeTree, TypeTrees}
-use Rattle.dbus_types.specs.ComputedKinds.{types_spelled}
+use Rattle.dbus_texts.specs.Types.{TypeTree, TypeTrees}
+use Rattle.dbus_texts.specs.ComputedKinds.{types_spelled}
 use Rattle.dbus_value_model.specs.Specification.{bounds_of, bounds_with}
 use Rattle.dbus_value_model.specs.declared.limits.Limits.{Limits}
 use Rattle.dbus_value_model.specs.declared.order.Order.{Order}

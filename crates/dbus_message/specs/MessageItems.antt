@@ -1,7 +1,7 @@
 -- The items of a message, in their order, and so its faults: the fixed header, the header fields, their padding, the body.
 -- D-Bus Specification, "Message Format" and "Header Fields"; docs/WIRE-FORMAT.md, "Messages" and "Faults".
 use Rattle.std.specs.Prelude.{◌≡◌, ℕ, ◌+◌, ◌-◌, List, ◌∷◌, false, ◌&&◌, if◌then◌else◌, nat_lt, nat_eq, Option, Some, None}
-use Rattle.dbus_types.specs.Types.{UINT32, STRING, TypeTree, NumberType, TextType, TypeTrees, sig, sigs, AreShaped}
+use Rattle.dbus_texts.specs.Types.{UINT32, STRING, TypeTree, NumberType, TextType, TypeTrees, sig, sigs, AreShaped}
 use Rattle.dbus_value_model.specs.declared.limits.Limits.{Limits}
 use Rattle.dbus_value_model.specs.declared.limits.Bounds.{Bounds}
 use Rattle.dbus_value_model.specs.Specification.{bounds_of, bounds_with}
@@ -16,7 +16,7 @@ use Rattle.dbus_value_model.specs.Gives.{no_row}
 use Rattle.dbus_value_model.specs.ValueItems.{text_row, opened, value, fields}
 use Rattle.dbus_message.specs.Messages.{FieldTree, MessageTree, order_byte, field_type, field_struct, Want, Anything, OfType, Name, Serial, want, is_known, has_code, IsField, lacks, required, body_signature, body_fds}
 use Rattle.dbus_value_model.specs.declared.fault.Reason.TheVariants as reasons
-use Rattle.dbus_types.specs.declared.text_kind.TextKind.TheVariants as kinds
+use Rattle.dbus_texts.specs.declared.text_kind.TextKind.TheVariants as kinds
 
 abbrev pub not_zero_row : Reason → ℕ → ℕ → Option Reason
 not_zero_row why p n = if nat_eq n 0 then Some why else None

@@ -2,8 +2,8 @@
 -- from the relations to the code: no public contract names it.
 -- D-Bus Specification, "Message Format".
 use Rattle.std.specs.Prelude.{ℕ, ◌+◌, ◌-◌, List, [], ◌∷◌, if◌then◌else◌, nat_eq}
-use Rattle.dbus_types.specs.Types.{UINT32, STRING, TypeTree, TypeTrees}
-use Rattle.dbus_types.specs.ComputedKinds.{types_spelled}
+use Rattle.dbus_texts.specs.Types.{UINT32, STRING, TypeTree, TypeTrees}
+use Rattle.dbus_texts.specs.ComputedKinds.{types_spelled}
 use Rattle.dbus_value_model.specs.Specification.{bounds_of, bounds_with}
 use Rattle.dbus_value_model.specs.declared.limits.Limits.{Limits}
 use Rattle.dbus_value_model.specs.declared.limits.Bounds.{Bounds}

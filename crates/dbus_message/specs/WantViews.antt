@@ -1,6 +1,6 @@
 -- What is wanted of a field's value, as the code names it.
 -- D-Bus Specification, "Header Fields".
-use Rattle.dbus_types.specs.Types.{UINT32, OBJECT_PATH, SIGNATURE, NumberType, TextType}
+use Rattle.dbus_texts.specs.Types.{UINT32, OBJECT_PATH, SIGNATURE, NumberType, TextType}
 use Rattle.dbus_value_model.specs.WantedTexts.{Of}
 use Rattle.dbus_message.specs.Messages.{Want, Anything, OfType, Name, Serial}
 use Rattle.dbus_message.specs.declared.field_table.Wanted.{Wanted}

@@ -2,10 +2,10 @@
 #![tactic(auto)]
 
 ghost use Rattle.std.specs.Prelude.{◌≡◌, ℕ, List, drop, IfOk};
-ghost use Rattle.dbus_types.specs.ComputedKinds.{types_spelled};
-ghost use Rattle.dbus_types.specs.Kinds.{IsKind};
+ghost use Rattle.dbus_texts.specs.ComputedKinds.{types_spelled};
+ghost use Rattle.dbus_texts.specs.Kinds.{IsKind};
 ghost use Rattle.dbus_types.specs.SigTypes.{type_trees_of};
-ghost use Rattle.dbus_types.specs.declared.text_kind.TextKind.TheVariants.{Signature};
+ghost use Rattle.dbus_texts.specs.declared.text_kind.TextKind.TheVariants.{Signature};
 ghost use Rattle.dbus_value_model.specs.Specification.{specification};
 ghost use Rattle.dbus_value_model.specs.Gives.{Gives};
 ghost use Rattle.dbus_value_model.specs.Reading.{judge};

@@ -2,7 +2,7 @@
 #![tactic(auto)]
 
 ghost use Rattle.std.specs.Prelude.{◌≡◌, ◌↔◌, None, IsTrue, IfOk};
-ghost use Rattle.dbus_types.specs.Types.{sigs};
+ghost use Rattle.dbus_texts.specs.Types.{sigs};
 ghost use Rattle.dbus_value_model.specs.Values.{types_of};
 ghost use Rattle.dbus_value_model.specs.ValueViews.{value_trees_of};
 ghost use Rattle.dbus_message.specs.BuildFaults.{IsSound, IsFirstUnsound};

@@ -2,10 +2,10 @@
 #![tactic(auto)]
 
 ghost use Rattle.std.specs.Prelude.{◌≡◌, ◌+◌, ◌-◌, ◌≤◌, ◌<◌, length, take, drop, IsTrue, IfOk};
-ghost use Rattle.dbus_types.specs.ComputedKinds.{type_spelled};
+ghost use Rattle.dbus_texts.specs.ComputedKinds.{type_spelled};
 ghost use Rattle.dbus_types.specs.SigTypes.{type_tree};
-ghost use Rattle.dbus_types.specs.Types.{IsSingleType, sig};
-ghost use Rattle.dbus_types.specs.declared.text_kind.TextKind.TheVariants.{Single};
+ghost use Rattle.dbus_texts.specs.Types.{IsSingleType, sig};
+ghost use Rattle.dbus_texts.specs.declared.text_kind.TextKind.TheVariants.{Single};
 ghost use Rattle.dbus_value_model.specs.declared.order.Order.{Order};
 ghost use Rattle.dbus_value_model.specs.Specification.{bounds_with};
 ghost use Rattle.dbus_value_model.specs.declared.limits.Limits.{Limits};

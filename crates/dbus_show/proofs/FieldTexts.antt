@@ -2,12 +2,12 @@
 use Rattle.std.proofs.Common.{◌≡◌, ◌≢◌, ℕ, suc, Bool, true, false, eqb, cond, IsTrue, List, [], ◌∷◌, ◌++◌, ⊎_elim, length, map, codes, decimal, refl, sym, subst, arith}
 use Rattle.std.specs.List.{flat_map, AllByRecursion}
 use Rattle.hex.specs.Hex.{encode_lower}
-use Rattle.dbus_types.specs.Types.{UINT32, TextCode, STRING, OBJECT_PATH, SIGNATURE, NumberType, TextType}
-use Rattle.dbus_types.specs.declared.text_kind.TextKind.{TextKind}
-use Rattle.dbus_types.specs.declared.text_kind.TextKind.TheVariants as kinds
-use Rattle.dbus_types.specs.Kinds.{IsKind}
-use Rattle.dbus_types.specs.Names.{is_word, is_word_start, is_dashed, is_dashed_start, IsElement, each_behind, IsPath, IsJoined, IsInterface}
-use Rattle.dbus_types.specs.Signatures.{IsSignature}
+use Rattle.dbus_texts.specs.Types.{UINT32, TextCode, STRING, OBJECT_PATH, SIGNATURE, NumberType, TextType}
+use Rattle.dbus_texts.specs.declared.text_kind.TextKind.{TextKind}
+use Rattle.dbus_texts.specs.declared.text_kind.TextKind.TheVariants as kinds
+use Rattle.dbus_texts.specs.Kinds.{IsKind}
+use Rattle.dbus_texts.specs.Names.{is_word, is_word_start, is_dashed, is_dashed_start, IsElement, each_behind, IsPath, IsJoined, IsInterface}
+use Rattle.dbus_texts.specs.Signatures.{IsSignature}
 use Rattle.dbus_value_model.specs.WantedTexts.{Of, IsWanted, kind_of}
 use Rattle.dbus_value_model.specs.declared.order.Order.{Order}
 use Rattle.dbus_value_model.specs.declared.order.Order.TheVariants.{Little, Big}

@@ -3,7 +3,7 @@
 use Rattle.std.specs.Prelude.{ℕ, List, [], ◌∷◌, ◌++◌, codes, decimal, nat_eq, if◌then◌else◌}
 use Rattle.std.specs.List.{concat, flat_map}
 use Rattle.hex.specs.Hex.{encode_lower}
-use Rattle.dbus_types.specs.Types.{UINT32}
+use Rattle.dbus_texts.specs.Types.{UINT32}
 use Rattle.dbus_value_model.specs.declared.order.Order.{Order}
 use Rattle.dbus_value_model.specs.Values.{ValueTree, NumberValue, TextValue}
 use Rattle.dbus_message.specs.Messages.{FieldTree, MessageTree, order_byte, is_known}

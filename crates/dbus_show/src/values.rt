@@ -3,7 +3,7 @@
 
 ghost use Rattle.std.specs.Prelude.{◌≡◌, ◌++◌, codes, OnOk, string_bytes, true};
 ghost use Rattle.hex.specs.Hex.{encode_lower};
-ghost use Rattle.dbus_types.specs.Types.{BYTE, NumberType, is_plain, sig};
+ghost use Rattle.dbus_texts.specs.Types.{BYTE, NumberType, is_plain, sig};
 ghost use Rattle.dbus_types.specs.SigTypes.{type_tree};
 ghost use Rattle.dbus_value_model.specs.Values.{ArrayValue, StructValue, type_of};
 ghost use Rattle.dbus_value_model.specs.ValueViews.{value_tree, value_trees_of, byte_values};

@@ -1,12 +1,12 @@
 -- A list of bytes begins with at most one type.
 use Rattle.std.proofs.Common.{◌≡◌, ℕ, ◌+◌, true, false, Some, List, [], ◌∷◌, ◌++◌, ◌⊎◌, ⊎_elim, inl, inr, length, sym, ap, ◌∙◌, arith, append_assoc}
 use Rattle.std.proofs.lemmas.Bool.{false≢true}
-use Rattle.dbus_types.specs.Types.{TypeTree, TypeTrees, NumberType, TextType, VariantType, ArrayType, StructType, EntryType, number_code, text_code, sig, sigs}
-use Rattle.dbus_types.specs.SignatureScans.{is_type_code}
+use Rattle.dbus_texts.specs.Types.{TypeTree, TypeTrees, NumberType, TextType, VariantType, ArrayType, StructType, EntryType, number_code, text_code, sig, sigs}
+use Rattle.dbus_texts.specs.SignatureScans.{is_type_code}
 use Rattle.dbus_types.specs.TypeReads.{StartsType, StartsFields}
-use Rattle.dbus_types.specs.ComputedKinds.{parse, parses}
-use Rattle.dbus_types.proofs.Codes.{number_is_code, text_is_code}
-use Rattle.dbus_types.proofs.TypeTexts.{parse_sig, parses_sig}
+use Rattle.dbus_texts.specs.ComputedKinds.{parse}
+use Rattle.dbus_texts.proofs.Codes.{number_is_code, text_is_code}
+use Rattle.dbus_texts.proofs.TypeTexts.{parse_sig}
 
 pair_same : {X Y : Type 0} (p q : X × Y) → Some p ≡ Some q → (p.0 ≡ q.0) × (p.1 ≡ q.1)
 pair_same {X = X} {Y = Y} p q e =
@@ -17,11 +17,6 @@ pub text_same : (t u : TypeTree) (r s : List ℕ) → sig t ++ r ≡ sig u ++ s 
 text_same t u r s e =
     let n = length (sig t) + length (sig u) in
     pair_same (t, r) (u, s) (sym (parse_sig t n r (omega arith)) ∙ ap (parse n) e ∙ parse_sig u n s (omega arith))
-
-pub texts_same : (ts us : TypeTrees) (r s : List ℕ) → sigs ts ++ 41 ∷ r ≡ sigs us ++ 41 ∷ s → (ts ≡ us) × (r ≡ s)
-texts_same ts us r s e =
-    let n = length (sigs ts) + length (sigs us) + 1 in
-    pair_same (ts, r) (us, s) (sym (parses_sig ts n r (omega arith)) ∙ ap (parses n) e ∙ parses_sig us n s (omega arith))
 
 -- an entry's text before what follows
 pub entry_spelled : (x y r : List ℕ) → (x ++ (y ++ 125 ∷ [])) ++ r ≡ x ++ (y ++ 125 ∷ r)

@@ -4,12 +4,12 @@ use Rattle.std.specs.declared.sync.Arc.{Arc}
 use Rattle.std.proofs.lemmas.List.{take_all}
 use Rattle.dbus_types.specs.declared.sig_type.SigType as ty
 use Rattle.dbus_types.specs.declared.sig_type.SigType.{SigType}
-use Rattle.dbus_types.specs.Types.{TypeTrees, ArrayType, StructType, EntryType, NoTypes, MoreTypes, sig, sigs, IsComplete, AreComplete, IsSingleType, AreSignatureTypes}
-use Rattle.dbus_types.specs.Signatures.{IsSignature, IsSingle}
+use Rattle.dbus_texts.specs.Types.{TypeTrees, StructType, EntryType, NoTypes, MoreTypes, sig, sigs, IsComplete, AreComplete, IsSingleType}
+use Rattle.dbus_texts.specs.Signatures.{IsSignature, IsSingle}
 use Rattle.dbus_types.specs.SigTypes.{type_tree, type_trees_of}
 use Rattle.dbus_types.specs.TypeReads.{StartsType, StartsFields, ReadsType, ReadsFields}
-use Rattle.dbus_types.proofs.TypeTexts.{sig_positive}
-use Rattle.dbus_types.proofs.TypeViews.{type_tree-Array, type_tree-Struct, type_tree-Entry}
+use Rattle.dbus_texts.proofs.TypeTexts.{sig_positive}
+use Rattle.dbus_types.proofs.TypeViews.{type_tree-Struct, type_tree-Entry}
 use Rattle.dbus_types.proofs.Fronts.{text_same, StartsPair, not_empty, entry_spelled}
 
 pub first_of_list : (w : List ℕ) → 0 < length w → (b : ℕ) × (c : List ℕ) × (w ≡ b ∷ c)
@@ -53,10 +53,6 @@ sig_starts w l h =
     let f = first_of_list w l in
     sig_go w f.0 f.1 h.0 f.2 h.2
 
--- a single signature
-pub single_starts_type : (w : List ℕ) → IsSingle w → StartsType w
-single_starts_type w h = record { tree = h.0; rest = []; spelled = h.2 ∙ sym (append-nil (sig h.0)) }
-
 module _ {A : Type 0} where
   pub reads_shorter : (w : List ℕ) (t : SigType A) (r : List ℕ) → ReadsType w t r → length r < length w
   reads_shorter w t r h =
@@ -94,11 +90,6 @@ module _ {A : Type 0} where
       ap (λ v. sigs (type_trees_of ts) ++ v) q ∙ sym (append_assoc (sigs (type_trees_of ts)) (sig (type_tree t)) more) ∙ ap (λ v. v ++ more) (sym (texts_push ts t)) ∙ ap (λ v. sigs (type_trees_of v) ++ more) (sym e)
 
   -- a type made from those inside it
-  pub reads_array : (w c : List ℕ) (b : ℕ) (p : Arc (SigType A) A) (x : SigType A) (r : List ℕ) → w ≡ b ∷ c → b ≡ 97 → p.value ≡ x → ReadsType c x r → ReadsType w (ty.Array p) r
-  reads_array w c b p x r e n same h =
-      let whole : w ≡ sig (ArrayType (type_tree p.value)) ++ r = e ∙ ap (λ y. y ∷ c) n ∙ ap (λ y. 97 ∷ y) (h.spelled ∙ ap (λ y. sig (type_tree y) ++ r) (sym same)) in
-      record { spelled = subst (λ t. w ≡ sig t ++ r) (sym (type_tree-Array p)) whole }
-
   pub reads_struct : (w c : List ℕ) (b : ℕ) (p : Arc (Vec (SigType A) A) A) (v : Vec (SigType A) A) (r : List ℕ) → w ≡ b ∷ c → b ≡ 40 → p.value ≡ v → ReadsFields c v.items r → ReadsType w (ty.Struct p) r
   reads_struct w c b p v r e n same h =
       let tail : c ≡ (sigs (type_trees_of v.items) ++ 41 ∷ []) ++ r = h.spelled ∙ sym (append_assoc (sigs (type_trees_of v.items)) (41 ∷ []) r) in
@@ -134,13 +125,6 @@ module _ {A : Type 0} where
   complete_push (u ∷ ts) t h k = (h.0, complete_push ts t h.1 k)
 
   -- what the parsers answer
-  pub signature_whole : (w : List ℕ) (ts : List (SigType A)) (r : List ℕ) → length w ≤ 255 → length r ≡ 0 → AreComplete (type_trees_of ts) 0 0 → w ≡ sigs (type_trees_of ts) ++ r → AreSignatureTypes (type_trees_of ts) × (sigs (type_trees_of ts) ≡ w)
-  signature_whole w ts [] l n h e =
-      let same : sigs (type_trees_of ts) ≡ w = sym (e ∙ append-nil (sigs (type_trees_of ts))) in
-      let short : length (sigs (type_trees_of ts)) < 256 = omega (arith, ap length same) in
-      ((h, short), same)
-  signature_whole w ts (b ∷ r) l n h e = absurd (omega arith)
-
   pub single_whole : (w : List ℕ) (t : SigType A) (more : List ℕ) → length w ≤ 255 → IsSingle w → ReadsType w t more → IsSingleType (type_tree t) × (sig (type_tree t) ≡ w)
   single_whole w t more l h r =
       let z = text_same h.0 (type_tree t) [] more (append-nil (sig h.0) ∙ sym h.2 ∙ r.spelled) in

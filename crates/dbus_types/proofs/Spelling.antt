@@ -4,10 +4,10 @@ use Rattle.std.specs.declared.sync.Arc.{Arc}
 use Rattle.std.proofs.lemmas.List.{take_more}
 use Rattle.dbus_types.specs.declared.sig_type.SigType as ty
 use Rattle.dbus_types.specs.declared.sig_type.SigType.{SigType}
-use Rattle.dbus_types.specs.Types.{TypeTrees, sig, sigs, AreComplete, AreSignatureTypes}
-use Rattle.dbus_types.specs.Signatures.{IsSignature}
+use Rattle.dbus_texts.specs.Types.{TypeTrees, sig, sigs, AreComplete, AreSignatureTypes}
+use Rattle.dbus_texts.specs.Signatures.{IsSignature}
 use Rattle.dbus_types.specs.SigTypes.{type_tree, type_trees_of}
-use Rattle.dbus_types.proofs.TypeTexts.{sigs_same}
+use Rattle.dbus_texts.proofs.TypeTexts.{sigs_same}
 use Rattle.dbus_types.proofs.TypeViews.{type_tree-Struct, type_tree-Entry}
 use Rattle.dbus_types.proofs.Parsing.{texts_push}
 

@@ -1,7 +1,7 @@
 -- The tree of each case of a `SigType`.
 use Rattle.std.proofs.Common.{◌≡◌, Vec, rules}
 use Rattle.std.specs.declared.sync.Arc.{Arc}
-use Rattle.dbus_types.specs.Types.{NumberType, TextType, VariantType, ArrayType, StructType, EntryType, BYTE, BOOLEAN, INT16, UINT16, INT32, UINT32, INT64, UINT64, DOUBLE, UNIX_FD, STRING, OBJECT_PATH, SIGNATURE}
+use Rattle.dbus_texts.specs.Types.{NumberType, TextType, VariantType, ArrayType, StructType, EntryType, BYTE, BOOLEAN, INT16, UINT16, INT32, UINT32, INT64, UINT64, DOUBLE, UNIX_FD, STRING, OBJECT_PATH, SIGNATURE}
 use Rattle.dbus_types.specs.SigTypes.{type_tree, type_trees_of}
 use Rattle.dbus_types.specs.declared.sig_type.SigType as ty
 use Rattle.dbus_types.specs.declared.sig_type.SigType.{SigType, the_lemmas}

@@ -1,7 +1,7 @@
 -- Where values of a type begin, and how many bytes a number and a text's length have.
 -- D-Bus Specification, "Marshaling (Wire Format)", "Summary of D-Bus marshaling".
 use Rattle.std.specs.Prelude.{ℕ}
-use Rattle.dbus_types.specs.Types.{NumberCode, BYTE, BOOLEAN, INT16, UINT16, INT32, UINT32, INT64, UINT64, DOUBLE, UNIX_FD, TextCode, STRING, OBJECT_PATH, SIGNATURE, TypeTree, NumberType, TextType, VariantType, ArrayType, StructType, EntryType}
+use Rattle.dbus_texts.specs.Types.{NumberCode, BYTE, BOOLEAN, INT16, UINT16, INT32, UINT32, INT64, UINT64, DOUBLE, UNIX_FD, TextCode, STRING, OBJECT_PATH, SIGNATURE, TypeTree, NumberType, TextType, VariantType, ArrayType, StructType, EntryType}
 
 -- how many bytes a number has, which is also its alignment
 abbrev pub width : NumberCode → ℕ

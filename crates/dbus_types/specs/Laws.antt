@@ -1,29 +1,10 @@
--- Laws of the kinds of text and of types.
--- D-Bus Specification, "Type System", "Valid Object Paths", "Valid Names" and "Valid Signatures".
-use Rattle.std.specs.Prelude.{◌≡◌, ◌≢◌, ◌↔◌, ℕ, List, ◌++◌, IsTrue, IsUtf8}
-use Rattle.std.specs.List.{AllByRecursion}
-use Rattle.dbus_types.specs.declared.text_kind.TextKind.{TextKind}
-use Rattle.dbus_types.specs.declared.text_kind.TextKind.TheVariants.{Text, Signature, Single}
-use Rattle.dbus_types.specs.Types.{TypeTree, TypeTrees, sig, sigs, IsSingleType, AreSignatureTypes}
-use Rattle.dbus_types.specs.Utf8.{IsText}
-use Rattle.dbus_types.specs.Kinds.{IsKind, IsBreak}
-use Rattle.dbus_types.specs.ComputedKinds.{is_kind, break_at, IsName, type_spelled, types_spelled}
-
--- a text is of a kind exactly where the slow function says so
-abbrev pub KindsAreComputed : Type 0
-KindsAreComputed = (k : TextKind) (t : List ℕ) → IsTrue (is_kind k t) ↔ IsKind k t
-
--- a text has one break, which the slow function gives
-abbrev pub BreaksAreComputed : Type 0
-BreaksAreComputed = (k : TextKind) (t : List ℕ) (i : ℕ) → IsBreak k t i ↔ (i ≡ break_at k t)
-
--- the texts of kind Text are UTF-8 without a zero byte
-abbrev pub TextsAreUtf8 : Type 0
-TextsAreUtf8 = (t : List ℕ) → IsText t ↔ (IsUtf8 t × AllByRecursion (λ b. b ≢ 0) t)
-
--- names are texts
-abbrev pub NamesAreTexts : Type 0
-NamesAreTexts = (k : TextKind) (t : List ℕ) → IsName k → IsKind k t → IsKind Text t
+-- Laws of types and the texts that spell them.
+-- D-Bus Specification, "Type System" and "Valid Signatures".
+use Rattle.std.specs.Prelude.{◌≡◌, ℕ, List, ◌++◌}
+use Rattle.dbus_texts.specs.declared.text_kind.TextKind.TheVariants.{Signature, Single}
+use Rattle.dbus_texts.specs.Types.{TypeTree, TypeTrees, sig, sigs, IsSingleType, AreSignatureTypes}
+use Rattle.dbus_texts.specs.Kinds.{IsKind}
+use Rattle.dbus_texts.specs.ComputedKinds.{type_spelled, types_spelled}
 
 -- a text of kind Single spells one type, and each such type has one such text
 abbrev pub SinglesSpellTypes : Type 0

@@ -2,13 +2,13 @@
 -- D-Bus Specification, "Type System" ("Valid Signatures").
 use Rattle.std.specs.Prelude.{◌≡◌, ℕ, ◌<◌, ◌≤◌, List, length, Result, Ok, Err, Vec, String, string_bytes}
 use Rattle.dbus_types.specs.declared.sig_type.SigType.{SigType}
-use Rattle.dbus_types.specs.declared.check.SigFault.{SigFault}
-use Rattle.dbus_types.specs.declared.check.SigFault.TheVariants as faults
-use Rattle.dbus_types.specs.declared.text_kind.TextKind.{TextKind}
-use Rattle.dbus_types.specs.declared.text_kind.TextKind.TheVariants.{Signature, Single}
-use Rattle.dbus_types.specs.Types.{TypeTrees, sig, sigs, IsSingleType, AreSignatureTypes}
+use Rattle.dbus_texts.specs.declared.check.SigFault.{SigFault}
+use Rattle.dbus_texts.specs.declared.check.SigFault.TheVariants as faults
+use Rattle.dbus_texts.specs.declared.text_kind.TextKind.{TextKind}
+use Rattle.dbus_texts.specs.declared.text_kind.TextKind.TheVariants.{Signature, Single}
+use Rattle.dbus_texts.specs.Types.{TypeTrees, sig, sigs, IsSingleType, AreSignatureTypes}
 use Rattle.dbus_types.specs.SigTypes.{type_tree, type_trees_of}
-use Rattle.dbus_types.specs.Kinds.{IsOfKind, IsBreak}
+use Rattle.dbus_texts.specs.Kinds.{IsOfKind, IsBreak}
 
 -- why the text is refused: want of memory says nothing of it
 abbrev pub IsRefusal : TextKind → List ℕ → SigFault → Type 0

@@ -1,6 +1,6 @@
 -- The tree that a `SigType` stands for.
 use Rattle.std.specs.Prelude.{List, map}
-use Rattle.dbus_types.specs.Types.{TypeTree, TypeTrees, NumberType, TextType, VariantType, ArrayType, StructType, EntryType, BYTE, BOOLEAN, INT16, UINT16, INT32, UINT32, INT64, UINT64, DOUBLE, UNIX_FD, STRING, OBJECT_PATH, SIGNATURE, type_trees}
+use Rattle.dbus_texts.specs.Types.{TypeTree, TypeTrees, NumberType, TextType, VariantType, ArrayType, StructType, EntryType, BYTE, BOOLEAN, INT16, UINT16, INT32, UINT32, INT64, UINT64, DOUBLE, UNIX_FD, STRING, OBJECT_PATH, SIGNATURE, type_trees}
 use Rattle.dbus_types.specs.declared.sig_type.SigType.{SigType}
 use Rattle.dbus_types.specs.declared.sig_type.SigType.TheOpen.{SigType-F}
 use Rattle.dbus_types.specs.declared.sig_type.SigType.TheFolds.{fold-SigType}

@@ -2,7 +2,7 @@
 -- D-Bus Specification, "Type System" ("Valid Signatures").
 use Rattle.std.specs.Prelude.{◌≡◌, ℕ, List, ◌∷◌, ◌++◌}
 use Rattle.dbus_types.specs.declared.sig_type.SigType.{SigType}
-use Rattle.dbus_types.specs.Types.{TypeTree, TypeTrees, sig, sigs}
+use Rattle.dbus_texts.specs.Types.{TypeTree, TypeTrees, sig, sigs}
 use Rattle.dbus_types.specs.SigTypes.{type_tree, type_trees_of}
 
 -- some type stands at the front of w

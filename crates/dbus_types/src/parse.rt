@@ -2,16 +2,16 @@
 #![tactic(auto)]
 
 ghost use Rattle.std.specs.Prelude.{◌≡◌, IfOk};
-ghost use Rattle.dbus_types.specs.declared.text_kind.TextKind.TheVariants.{Signature, Single};
-ghost use Rattle.dbus_types.specs.Kinds.{IsKind};
+ghost use Rattle.dbus_texts.specs.declared.text_kind.TextKind.TheVariants.{Signature, Single};
+ghost use Rattle.dbus_texts.specs.Kinds.{IsKind};
 ghost use Rattle.dbus_types.specs.SigTypes.{type_tree, type_trees_of};
-ghost use Rattle.dbus_types.specs.Types.{AreSignatureTypes, IsSingleType, sig, sigs};
+ghost use Rattle.dbus_texts.specs.Types.{AreSignatureTypes, IsSingleType, sig, sigs};
 ghost use Rattle.dbus_types.specs.TypeReads.{StartsType, StartsFields, ReadsType, ReadsFields};
 ghost use Rattle.dbus_types.specs.Parses.{IsParse, IsSingleParse};
 
-use crate::check::{SigFault, check_signature, check_single};
 use crate::sig_type::SigType;
 use crate::type_codes::plain_type;
+use dbus_texts::{SigFault, check_signature, check_single};
 use std::alloc::{AllocError, Allocator};
 use std::sync::Arc;
 

@@ -3,7 +3,7 @@
 
 ghost use Rattle.std.specs.Prelude.{◌≡◌, ◌↔◌, ◌≤◌, length, min, IsTrue, false, true};
 ghost use Rattle.dbus_types.specs.SigTypes.{type_tree, type_trees_of};
-ghost use Rattle.dbus_types.specs.Types.{sig, sigs, is_byte, IsBasic, IsComplete, AreComplete, IsSingleType};
+ghost use Rattle.dbus_texts.specs.Types.{sig, sigs, is_byte, IsBasic, IsComplete, AreComplete, IsSingleType};
 ghost use Rattle.dbus_types.specs.Alignments.{alignment_of};
 
 use crate::sig_type::SigType;

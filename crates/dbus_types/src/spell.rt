@@ -2,13 +2,13 @@
 #![tactic(auto)]
 
 ghost use Rattle.std.specs.Prelude.{◌≡◌, ◌<◌, ◌++◌, ◌∷◌, [], OnOk, string_bytes};
-ghost use Rattle.dbus_types.specs.Types.{sig, sigs};
+ghost use Rattle.dbus_texts.specs.Types.{sig, sigs};
 ghost use Rattle.dbus_types.specs.SigTypes.{type_tree, type_trees_of};
 ghost use Rattle.dbus_types.specs.Parses.{IsSignatureText};
 
-use crate::check::{SigFault, check_signature};
 use crate::sig_type::SigType;
 use crate::type_codes::type_code;
+use dbus_texts::{SigFault, check_signature};
 use std::alloc::{AllocError, Allocator};
 
 fn push_code<A: Allocator + Copy>(out: &mut String<A>, code: u8) -> Result<(), AllocError>

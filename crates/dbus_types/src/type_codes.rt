@@ -1,13 +1,13 @@
 //! The codes of types in a signature. D-Bus Specification, "Summary of types".
 //!
-//! Which code each type has, which type each code spells, and which bytes are codes: no other table has the code of a
-//! type without parts. Those of the containers, `a`, `(` with `)` and `{` with `}`, stand also where these are read and written.
+//! Which code each type has, and which type each code spells; which bytes are codes stands in `dbus_texts`. No other table
+//! has the code of a type without parts. Those of the containers, `a`, `(` with `)` and `{` with `}`, stand also where these are read and written.
 #![tactic(auto)]
 
 ghost use Rattle.std.specs.Prelude.{◌≡◌, ◌∷◌, [], get_or, MatchOption, false};
-ghost use Rattle.dbus_types.specs.Types.{sig};
+ghost use Rattle.dbus_texts.specs.Types.{sig};
 ghost use Rattle.dbus_types.specs.SigTypes.{type_tree};
-ghost use Rattle.dbus_types.specs.SignatureScans.{is_basic_code, is_type_code};
+ghost use Rattle.dbus_texts.specs.SignatureScans.{is_type_code};
 
 use crate::sig_type::SigType;
 use std::alloc::Allocator;
@@ -60,21 +60,4 @@ pub fn plain_type<A: Allocator>(byte: u8) -> Option<SigType<A>>
         b'v' => Some(SigType::Variant),
         _ => None,
     }
-}
-
-/// Whether the byte spells a basic type.
-pub fn is_basic_code(byte: u8) -> bool
-    ensures { result ≡ is_basic_code byte }
-{
-    matches!(
-        byte,
-        b'y' | b'b' | b'n' | b'q' | b'i' | b'u' | b'x' | b't' | b'd' | b'h' | b's' | b'o' | b'g'
-    )
-}
-
-/// Whether the byte alone spells a complete type.
-pub fn is_type_code(byte: u8) -> bool
-    ensures { result ≡ is_type_code byte }
-{
-    is_basic_code(byte) || byte == b'v'
 }

@@ -1,13 +1,13 @@
 -- What the items use of the texts that are wanted.
 use Rattle.std.proofs.Common.{sym, ◌∙◌, subst, zero, take, inl, inr, ◌≡◌, ℕ, suc, ◌<◌, ◌≤◌, List, [], ◌∷◌, ◌++◌, length, Bool, true, false, eqb, cond, refl, ap, arith}
 use Rattle.std.proofs.lemmas.Bool.{cases_lt, and_parts, and_from, eqb-true, eq-eqb}
-use Rattle.dbus_types.specs.Types.{TypeTree, TypeTrees, sig, sigs, IsSingleType, AreShaped}
-use Rattle.dbus_types.specs.Prefixes.{IsPrefixIn, IsBreakIn}
-use Rattle.dbus_types.specs.ComputedKinds.{type_spelled, types_spelled}
-use Rattle.dbus_types.specs.declared.text_kind.TextKind.{TextKind}
-use Rattle.dbus_types.specs.declared.text_kind.TextKind.TheVariants as kinds
-use Rattle.dbus_types.specs.ComputedKinds as computed
-use Rattle.dbus_types.proofs.KindFacts as facts
+use Rattle.dbus_texts.specs.Types.{TypeTree, TypeTrees, sig, sigs, IsSingleType, AreShaped}
+use Rattle.dbus_texts.specs.Prefixes.{IsPrefixIn, IsBreakIn}
+use Rattle.dbus_texts.specs.ComputedKinds.{type_spelled, types_spelled}
+use Rattle.dbus_texts.specs.declared.text_kind.TextKind.{TextKind}
+use Rattle.dbus_texts.specs.declared.text_kind.TextKind.TheVariants as kinds
+use Rattle.dbus_texts.specs.ComputedKinds as computed
+use Rattle.dbus_texts.proofs.KindFacts as facts
 use Rattle.dbus_value_model.specs.WantedTexts.{WantedText, Of, Only, IsWanted, IsBreakOf, is_kind, break_at, same_text, alike, IsName}
 
 alike_le : (u t : List ℕ) → alike u t ≤ length t

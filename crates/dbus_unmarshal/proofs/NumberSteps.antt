@@ -1,7 +1,7 @@
 -- Steps of reading a value that is one number.
 use Rattle.std.proofs.Common.{◌≡◌, ℕ, zero, suc, ◌<◌, ◌≤◌, List, Option, None, Some, cond, eqb, refl, ap, ◌∙◌, arith}
 use Rattle.std.proofs.lemmas.Bool.{lt-ltb, le-ltb}
-use Rattle.dbus_types.specs.Types.{BYTE, BOOLEAN, UNIX_FD}
+use Rattle.dbus_texts.specs.Types.{BYTE, BOOLEAN, UNIX_FD}
 use Rattle.dbus_value_model.specs.declared.order.Order.{Order}
 use Rattle.dbus_value_model.specs.declared.fault.Reason.TheVariants as reasons
 use Rattle.dbus_value_model.specs.declared.stop.Stop.{Stop}

@@ -2,9 +2,9 @@
 use Rattle.std.proofs.Common.{◌≡◌, ℕ, zero, suc, ◌+◌, ◌-◌, ◌^◌, ◌<◌, ◌≤◌, ◌⊎◌, List, [], ◌∷◌, ◌++◌, length, take, drop, replicate, Bool, true, false, cond, ltb, eqb, Option, Some, None, refl, sym, ap, subst, ◌∙◌, arith, inl, inr, append_assoc}
 use Rattle.std.proofs.lemmas.Bool.{ltb-true, ltb-false, lt-ltb, le-ltb, cases_lt, eqb-true, eq-eqb}
 use Rattle.std.proofs.lemmas.List.{take_at, drop_at, take-append-drop, length-append, length-take}
-use Rattle.dbus_types.specs.Types.{TypeTree, sig, IsSingleType}
+use Rattle.dbus_texts.specs.Types.{TypeTree, sig, IsSingleType}
 use Rattle.dbus_value_model.specs.WantedTexts.{WantedText, IsWanted, is_kind, break_at, Of}
-use Rattle.dbus_types.specs.ComputedKinds.{type_spelled}
+use Rattle.dbus_texts.specs.ComputedKinds.{type_spelled}
 use Rattle.dbus_value_model.specs.Bytes.{IsBytes, num, gap_to, pad}
 use Rattle.dbus_value_model.specs.declared.order.Order.{Order}
 use Rattle.dbus_value_model.specs.Items.{Item, fault, PaddingFault, padding_overruns, not_zero, NumberFault, number_overruns, number_refused, TextFault, text_reason}
@@ -17,7 +17,7 @@ use Rattle.dbus_value_model.proofs.Numbers.{IsBytes-front, length-num, number_of
 use Rattle.dbus_unmarshal.proofs.KindLaws.{break_is, break_more, break_whole, is_not_wanted, is_wanted, not_wanted, one_break, single_text, text_single, wanted_is}
 use Rattle.dbus_unmarshal.proofs.Agreement.{Agrees}
 use Rattle.dbus_value_model.specs.declared.fault.Reason.TheVariants as reasons
-use Rattle.dbus_types.specs.declared.text_kind.TextKind.TheVariants as kinds
+use Rattle.dbus_texts.specs.declared.text_kind.TextKind.TheVariants as kinds
 
 -- ---- choices
 

@@ -2,10 +2,10 @@
 use Rattle.std.proofs.Common.{◌≡◌, ℕ, suc, ◌+◌, ◌-◌, ◌<◌, ◌≤◌, List, [], ◌∷◌, length, take, drop, Bool, true, false, cond, eqb, refl, sym, ap, subst, ◌∙◌, arith}
 use Rattle.std.proofs.lemmas.Bool.{lt-ltb, le-ltb, eqb-true}
 use Rattle.std.proofs.lemmas.List.{drop_all, drop_more, drop-drop, length-drop, length-take}
-use Rattle.dbus_types.specs.Types.{TypeTree, sig, IsSingleType}
-use Rattle.dbus_types.specs.ComputedKinds.{type_spelled}
-use Rattle.dbus_types.specs.Kinds.{IsKind}
-use Rattle.dbus_types.specs.declared.text_kind.TextKind.TheVariants as kinds
+use Rattle.dbus_texts.specs.Types.{TypeTree, sig, IsSingleType}
+use Rattle.dbus_texts.specs.ComputedKinds.{type_spelled}
+use Rattle.dbus_texts.specs.Kinds.{IsKind}
+use Rattle.dbus_texts.specs.declared.text_kind.TextKind.TheVariants as kinds
 use Rattle.dbus_value_model.specs.WantedTexts.{WantedText, Of, Only, IsWanted, IsBreakOf, break_at, alike}
 use Rattle.dbus_value_model.specs.Items.{fault, text_reason}
 use Rattle.dbus_value_model.specs.Reading.{Done, Faulty, Partial, text, signature}

@@ -1,9 +1,9 @@
 -- A wanted value and its reader agree.
 use Rattle.std.proofs.Common.{ℕ, zero, suc, ◌+◌, ◌<◌, ◌↔◌, List, length, Bool, true, false, refl, sym, subst, arith}
 use Rattle.std.proofs.lemmas.List.{length-append}
-use Rattle.dbus_types.specs.Types.{NumberCode, BYTE, BOOLEAN, INT16, UINT16, INT32, UINT32, INT64, UINT64, DOUBLE, UNIX_FD, TextCode, TypeTree, NumberType, TextType, VariantType, ArrayType, StructType, EntryType, TypeTrees, NoTypes, MoreTypes, IsShaped, AreShaped, IsBasic}
+use Rattle.dbus_texts.specs.Types.{NumberCode, BYTE, BOOLEAN, INT16, UINT16, INT32, UINT32, INT64, UINT64, DOUBLE, UNIX_FD, TextCode, TypeTree, NumberType, TextType, VariantType, ArrayType, StructType, EntryType, TypeTrees, NoTypes, MoreTypes, IsShaped, AreShaped, IsBasic}
 use Rattle.dbus_types.specs.Alignments.{width, length_width, alignment_of}
-use Rattle.dbus_types.proofs.KindFacts.{shaped_of}
+use Rattle.dbus_texts.proofs.KindFacts.{shaped_of}
 use Rattle.dbus_value_model.specs.WantedTexts.{kind_of, Of}
 use Rattle.dbus_value_model.specs.declared.limits.Bounds.{Bounds}
 use Rattle.dbus_value_model.specs.declared.order.Order.{Order}
@@ -22,7 +22,7 @@ use Rattle.dbus_unmarshal.proofs.OwnItems.{Agrees-pure, Agrees-refuse, Agrees-pa
 use Rattle.dbus_unmarshal.proofs.Contents.{Moves, Agrees-contents}
 use Rattle.dbus_unmarshal.proofs.Composition.{number_to, number_from, text_to, text_from, variant_to, variant_from, array_to, array_from, struct_to, struct_from, entry_to, entry_from}
 use Rattle.dbus_value_model.specs.declared.fault.Reason.TheVariants as reasons
-use Rattle.dbus_types.specs.declared.text_kind.TextKind.TheVariants as kinds
+use Rattle.dbus_texts.specs.declared.text_kind.TextKind.TheVariants as kinds
 
 -- ---- a value of a complete type has at least one byte
 

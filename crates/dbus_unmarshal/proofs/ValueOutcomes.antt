@@ -1,6 +1,6 @@
 -- The laws.
 use Rattle.std.proofs.Common.{◌≡◌, ℕ, ◌+◌, ◌≤◌, List, ◌++◌, length, None, refl, ap, subst, ◌∙◌, arith, inl, inr, append_assoc}
-use Rattle.dbus_types.specs.Types.{TypeTree, TypeTrees, IsShaped, AreShaped}
+use Rattle.dbus_texts.specs.Types.{TypeTree, TypeTrees, IsShaped, AreShaped}
 use Rattle.dbus_value_model.specs.declared.limits.Bounds.{Bounds}
 use Rattle.dbus_value_model.specs.declared.order.Order.{Order}
 use Rattle.dbus_value_model.specs.Bytes.{IsBytes}

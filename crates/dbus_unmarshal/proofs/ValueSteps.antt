@@ -2,8 +2,8 @@
 use Rattle.std.proofs.Common.{◌≡◌, ℕ, zero, suc, ◌+◌, ◌-◌, ◌<◌, ◌≤◌, List, [], ◌∷◌, ◌++◌, length, get_or, drop, Option, None, true, false, cond, ltb, refl, ap, ◌∙◌, sym, subst, arith, append_assoc}
 use Rattle.std.proofs.lemmas.Bool.{lt-ltb, le-ltb, eq-eqb}
 use Rattle.std.proofs.lemmas.List.{append-nil, at_drop_more, at_drop_all, length-append, length-drop, get_or-drop}
-use Rattle.dbus_types.specs.Types.{NumberCode, TextCode, TypeTree, NumberType, TextType, VariantType, ArrayType, StructType, EntryType, TypeTrees, NoTypes, MoreTypes, sig, sigs, IsShaped, AreShaped, IsSingleType}
-use Rattle.dbus_types.proofs.KindFacts.{shaped_of}
+use Rattle.dbus_texts.specs.Types.{NumberCode, TextCode, TypeTree, NumberType, TextType, VariantType, ArrayType, StructType, EntryType, TypeTrees, NoTypes, MoreTypes, sig, sigs, IsShaped, AreShaped, IsSingleType}
+use Rattle.dbus_texts.proofs.KindFacts.{shaped_of}
 use Rattle.dbus_types.specs.SigTypes.{type_tree, type_trees_of}
 use Rattle.dbus_types.specs.declared.sig_type.SigType.{SigType}
 use Rattle.dbus_value_model.specs.declared.limits.Bounds.{Bounds}

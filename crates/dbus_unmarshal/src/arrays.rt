@@ -2,7 +2,7 @@
 #![tactic(auto)]
 
 ghost use Rattle.std.specs.Prelude.{◌≢◌, ◌≡◌, ℕ, ◌+◌, ◌≤◌, length, drop, map, IfOk, IfErr};
-ghost use Rattle.dbus_types.specs.Types.{NumberType, BYTE};
+ghost use Rattle.dbus_texts.specs.Types.{NumberType, BYTE};
 ghost use Rattle.dbus_types.specs.SigTypes.{type_tree};
 ghost use Rattle.dbus_value_model.specs.declared.limits.Bounds.{Bounds};
 ghost use Rattle.dbus_value_model.specs.declared.order.Order.{Order};

@@ -2,7 +2,7 @@
 #![tactic(auto, using(crate::proofs::NumberSteps::numbers), unfolding(dbus_value_model::specs::ValueReaders::number_value))]
 
 ghost use Rattle.std.specs.Prelude.{◌≢◌, ◌≤◌, length, drop, None, IsTrue, IfOk, IfErr};
-ghost use Rattle.dbus_types.specs.Types.{BYTE, BOOLEAN, INT16, UINT16, INT32, UINT32, INT64, UINT64, DOUBLE, UNIX_FD};
+ghost use Rattle.dbus_texts.specs.Types.{BYTE, BOOLEAN, INT16, UINT16, INT32, UINT32, INT64, UINT64, DOUBLE, UNIX_FD};
 ghost use Rattle.dbus_value_model.specs.declared.order.Order.{Order};
 ghost use Rattle.dbus_value_model.specs.PackedBytes.{keeps_bytes};
 ghost use Rattle.dbus_value_model.specs.ValueReaders.{number_value};

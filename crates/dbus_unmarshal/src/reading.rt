@@ -2,7 +2,7 @@
 #![tactic(auto)]
 
 ghost use Rattle.std.specs.Prelude.{◌≡◌, ℕ, ◌+◌, ◌-◌, ◌≤◌, ◌<◌, ◌^◌, length, drop, map, true, false, IsTrue, IfOk};
-ghost use Rattle.dbus_types.specs.Types.{IsShaped, AreShaped, IsSingleType};
+ghost use Rattle.dbus_texts.specs.Types.{IsShaped, AreShaped, IsSingleType};
 ghost use Rattle.dbus_types.specs.SigTypes.{type_tree, type_trees_of};
 ghost use Rattle.dbus_value_model.specs.ValueViews.{value_tree, value_trees_of};
 ghost use Rattle.dbus_value_model.specs.PackedBytes.{keeps_bytes, keep_bytes, KeepsBytes};

@@ -2,7 +2,7 @@
 #![tactic(auto, using(crate::proofs::StringSteps::strings), unfolding(dbus_value_model::specs::ValueReaders::text_value))]
 
 ghost use Rattle.std.specs.Prelude.{◌≡◌, ◌≤◌, length, drop, IsTrue, IfOk};
-ghost use Rattle.dbus_types.specs.Types.{STRING, OBJECT_PATH, SIGNATURE};
+ghost use Rattle.dbus_texts.specs.Types.{STRING, OBJECT_PATH, SIGNATURE};
 ghost use Rattle.dbus_value_model.specs.declared.order.Order.{Order};
 ghost use Rattle.dbus_value_model.specs.PackedBytes.{keeps_bytes};
 ghost use Rattle.dbus_value_model.specs.ValueReaders.{text_value};

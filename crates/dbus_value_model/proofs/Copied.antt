@@ -1,7 +1,7 @@
 -- What a copy of a value has in common with it, level by level.
 use Rattle.std.proofs.Common.{◌≡◌, ℕ, ◌+◌, ◌<◌, false, List, [], ◌∷◌, ◌++◌, length, get_or, take, map, Vec, sym, ap, rules, ◌∙◌}
 use Rattle.std.proofs.lemmas.List.{map_push, map_more}
-use Rattle.dbus_types.specs.Types.{TypeTree}
+use Rattle.dbus_texts.specs.Types.{TypeTree}
 use Rattle.dbus_types.specs.SigTypes.{type_tree}
 use Rattle.dbus_types.specs.declared.sig_type.SigType.{SigType}
 use Rattle.dbus_value_model.specs.PackedBytes.{packing, joined}

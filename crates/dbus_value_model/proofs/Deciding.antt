@@ -1,9 +1,9 @@
 -- What is decided of a value, level by level and along a list.
 use Rattle.std.proofs.Common.{◌≡◌, ℕ, zero, suc, ◌+◌, ◌-◌, ◌<◌, Bool, true, false, List, [], ◌∷◌, length, get_or, drop, Vec, sym, subst, arith, Option, None, Some, refl, not, IsTrue}
 use Rattle.std.specs.Option.{is_some}
-use Rattle.dbus_types.specs.declared.text_kind.TextKind.{TextKind}
-use Rattle.dbus_types.specs.Kinds.{IsKind}
-use Rattle.dbus_types.specs.Verdicts.{IsTextBreak}
+use Rattle.dbus_texts.specs.declared.text_kind.TextKind.{TextKind}
+use Rattle.dbus_texts.specs.Kinds.{IsKind}
+use Rattle.dbus_texts.specs.Verdicts.{IsTextBreak}
 use Rattle.std.proofs.lemmas.Bool.{false≢true}
 use Rattle.std.proofs.lemmas.List.{drop_more}
 use Rattle.dbus_types.specs.declared.sig_type.SigType.{SigType}

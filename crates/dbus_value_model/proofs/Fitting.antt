@@ -2,7 +2,7 @@
 use Rattle.std.proofs.Common.{◌≡◌, ℕ, zero, suc, ◌+◌, ◌<◌, Bool, false, ◌&&◌, not, List, [], ◌∷◌, ◌++◌, length, get_or, drop, Vec, refl, sym, subst, arith, rules, ◌↔◌, IsTrue, Result, Ok, Err, IfOk}
 use Rattle.std.proofs.lemmas.Bool.{and_parts, and_from}
 use Rattle.std.proofs.lemmas.List.{drop_more}
-use Rattle.dbus_types.specs.Types.{TypeTree, NumberType, BYTE, is_byte}
+use Rattle.dbus_texts.specs.Types.{TypeTree, NumberType, BYTE, is_byte}
 use Rattle.dbus_types.specs.SigTypes.{type_tree}
 use Rattle.dbus_types.specs.declared.sig_type.SigType.{SigType, the_lemmas as type_lemmas}
 use Rattle.dbus_types.specs.declared.sig_type.SigType.TheVariants as types

@@ -2,7 +2,7 @@
 use Rattle.std.proofs.Common.{◌≡◌, ℕ, zero, suc, ◌+◌, ◌<◌, Bool, List, [], ◌∷◌, length, get_or, drop, Vec, refl, sym, ap, ◌∙◌, arith, rules, ◌↔◌, IsTrue}
 use Rattle.std.specs.declared.sync.Arc.{Arc}
 use Rattle.std.proofs.lemmas.List.{drop_more}
-use Rattle.dbus_types.specs.Types.{StructType, NoTypes, MoreTypes}
+use Rattle.dbus_texts.specs.Types.{StructType, NoTypes, MoreTypes}
 use Rattle.dbus_types.specs.SigTypes.{type_tree, type_trees_of}
 use Rattle.dbus_types.specs.declared.sig_type.SigType.{SigType, Struct, Entry, the_lemmas}
 use Rattle.dbus_types.proofs.TypeViews.{type_tree-Struct}

@@ -1,6 +1,6 @@
 -- The signatures of a value are short where it is well formed, and where its types and texts are.
 use Rattle.std.proofs.Common.{◌≡◌, ℕ, zero, suc, ◌∷◌, [], Vec, arith}
-use Rattle.dbus_types.specs.Types.{STRING, OBJECT_PATH, SIGNATURE}
+use Rattle.dbus_texts.specs.Types.{STRING, OBJECT_PATH, SIGNATURE}
 use Rattle.dbus_types.specs.declared.sig_type.SigType.{SigType}
 use Rattle.dbus_value_model.specs.declared.value.Value as values
 use Rattle.dbus_value_model.specs.declared.value.Value.{Value}

@@ -1,6 +1,6 @@
 -- The types of a value's parts, where the whole's type is one that a signature spells.
 use Rattle.std.proofs.Common.{ℕ, ◌+◌, ◌<◌, ◌≤◌, Bool, true, false, [], ◌∷◌, ◌++◌, length, length-append, sym, subst, arith}
-use Rattle.dbus_types.specs.Types.{TypeTree, TypeTrees, NumberType, TextType, VariantType, ArrayType, StructType, EntryType, NoTypes, MoreTypes, sig, sigs, IsBasic, IsComplete, AreComplete, IsSingleType}
+use Rattle.dbus_texts.specs.Types.{TypeTree, TypeTrees, NumberType, TextType, VariantType, ArrayType, StructType, EntryType, NoTypes, MoreTypes, sig, sigs, IsBasic, IsComplete, AreComplete, IsSingleType}
 use Rattle.dbus_value_model.specs.Forming.{IsUniform, AreUniform, IsItemType, HasTypedParts, AreTypedParts, AreTypedItems, WholesSpeakForParts}
 use Rattle.dbus_value_model.specs.Values.{ValueTree, ValueTrees, NumberValue, TextValue, VariantValue, ArrayValue, StructValue, EntryValue, NoValues, MoreValues, type_of, types_of, AllOf}
 

@@ -1,7 +1,7 @@
 -- Worked examples of values: their spellings by the definitions, and the outcome of some bytes by the plain reader beside them.
 -- D-Bus Specification, "Marshaling (Wire Format)".
 use Rattle.std.proofs.Common.{◌≡◌, ℕ, List, [], ◌∷◌, Option, None, Some, refl}
-use Rattle.dbus_types.specs.Types.{NumberType, EntryType, BYTE, UINT16, INT64, UINT64, UNIX_FD, ArrayType}
+use Rattle.dbus_texts.specs.Types.{NumberType, EntryType, BYTE, UINT16, INT64, UINT64, UNIX_FD, ArrayType}
 use Rattle.dbus_value_model.specs.declared.order.Order.TheVariants.{Little, Big}
 use Rattle.dbus_value_model.specs.declared.fault.Reason.TheVariants as reasons
 use Rattle.dbus_value_model.specs.Values.{ValueTree, NoValues, MoreValues, NumberValue, VariantValue, ArrayValue, StructValue, EntryValue}

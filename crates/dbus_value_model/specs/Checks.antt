@@ -1,7 +1,7 @@
 -- Which values are well formed, and which case is answered where one is not.
 -- D-Bus Specification, "Type System", "Valid Signatures", "Message Protocol" for the limit on nesting.
 use Rattle.std.specs.Prelude.{ℕ, ◌-◌, Result, Ok, Err, IsTrue}
-use Rattle.dbus_types.specs.Types.{IsSingleType}
+use Rattle.dbus_texts.specs.Types.{IsSingleType}
 use Rattle.dbus_value_model.specs.Values.{type_of}
 use Rattle.dbus_value_model.specs.Forming.{NestsWithin, IsUniform, IsNamed}
 use Rattle.dbus_value_model.specs.PackedBytes.{keeps_bytes}

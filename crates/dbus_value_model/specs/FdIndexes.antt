@@ -1,7 +1,7 @@
 -- Indexes of file descriptors, and the values whose indexes are all below a number.
 -- D-Bus Specification, "Basic types" for UNIX_FD, "Header Fields" for UNIX_FDS.
 use Rattle.std.specs.Prelude.{◌≡◌, ◌⊎◌, ℕ, ◌+◌, ◌<◌, Option, Some, None, IfSome}
-use Rattle.dbus_types.specs.Types.{NumberCode, UNIX_FD}
+use Rattle.dbus_texts.specs.Types.{NumberCode, UNIX_FD}
 use Rattle.dbus_value_model.specs.Values.{ValueTree, ValueTrees, NumberValue, TextValue, VariantValue, ArrayValue, StructValue, EntryValue, NoValues, MoreValues}
 use Rattle.dbus_value_model.specs.declared.fd_rule.FdRule.{FdRule}
 use Rattle.dbus_value_model.specs.declared.fd_rule.FdRule.TheVariants.{Any, BelowCount}

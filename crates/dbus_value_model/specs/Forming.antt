@@ -1,7 +1,7 @@
 -- When a value is well formed, by its parts: how deep it nests, whether its types fit together, its texts, and its numbers.
 -- D-Bus Specification, "Type System", "Valid Signatures", "Message Protocol" for the limit on nesting.
 use Rattle.std.specs.Prelude.{ℕ, zero, suc, ◌^◌, ◌<◌, length, ◌↔◌}
-use Rattle.dbus_types.specs.Types.{TypeTree, NumberType, TextType, VariantType, ArrayType, StructType, EntryType, IsBasic, IsSingleType}
+use Rattle.dbus_texts.specs.Types.{TypeTree, NumberType, TextType, VariantType, ArrayType, StructType, EntryType, IsBasic, IsSingleType}
 use Rattle.dbus_types.specs.Alignments.{length_width}
 use Rattle.dbus_value_model.specs.WantedTexts.{IsWanted, kind_of}
 use Rattle.dbus_value_model.specs.Values.{ValueTree, ValueTrees, NumberValue, TextValue, VariantValue, ArrayValue, StructValue, EntryValue, NoValues, MoreValues, type_of, AllOf, IsNumber, IsWellFormed}

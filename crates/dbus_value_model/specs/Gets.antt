@@ -1,7 +1,7 @@
 -- What getting a value from bytes answers.
 -- D-Bus Specification, "Marshaling (Wire Format)".
 use Rattle.std.specs.Prelude.{ℕ, List, drop, Result, Ok, Err}
-use Rattle.dbus_types.specs.Types.{TypeTree}
+use Rattle.dbus_texts.specs.Types.{TypeTree}
 use Rattle.dbus_value_model.specs.declared.limits.Bounds.{Bounds}
 use Rattle.dbus_value_model.specs.declared.order.Order.{Order}
 use Rattle.dbus_value_model.specs.declared.fault.Fault.{Fault}

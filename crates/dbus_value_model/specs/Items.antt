@@ -2,14 +2,14 @@
 -- one item alone stands here; a row says which bytes are there, as the front of all that are.
 -- D-Bus Specification, "Marshaling (Wire Format)"; docs/WIRE-FORMAT.md, "Faults".
 use Rattle.std.specs.Prelude.{◌≡◌, ℕ, suc, ◌+◌, ◌<◌, ◌≤◌, ◌^◌, ◌⊎◌, List, [], ◌∷◌, ◌++◌, length, replicate, Option, Some, None}
-use Rattle.dbus_types.specs.Types.{TypeTree, sig, IsSingleType}
+use Rattle.dbus_texts.specs.Types.{TypeTree, sig, IsSingleType}
 use Rattle.dbus_value_model.specs.WantedTexts.{WantedText, IsWanted, IsBreakOf, Of, Only}
 use Rattle.dbus_value_model.specs.declared.order.Order.{Order}
 use Rattle.dbus_value_model.specs.Bytes.{num, gap_to, pad}
 use Rattle.dbus_value_model.specs.declared.fault.Fault.{Fault}
 use Rattle.dbus_value_model.specs.declared.fault.Reason.{Reason}
 use Rattle.dbus_value_model.specs.declared.fault.Reason.TheVariants as reasons
-use Rattle.dbus_types.specs.declared.text_kind.TextKind.TheVariants as kinds
+use Rattle.dbus_texts.specs.declared.text_kind.TextKind.TheVariants as kinds
 
 abbrev pub fault : ℕ → Reason → Fault
 fault p r = record { at = p; reason = r }

@@ -1,7 +1,7 @@
 -- Where values end, however far: what a measure has to know of an offset, and what it answers.
 -- D-Bus Specification, "Marshaling (Wire Format)" for the arrays' limit, "Message Protocol" for the message's.
 use Rattle.std.specs.Prelude.{◌≡◌, ℕ, ◌+◌, ◌%◌, ◌<◌, ◌≤◌, ◌↔◌, length, Option, Some, None, nat_lt, if◌then◌else◌}
-use Rattle.dbus_types.specs.Types.{BYTE}
+use Rattle.dbus_texts.specs.Types.{BYTE}
 use Rattle.dbus_value_model.specs.declared.order.Order.{Order}
 use Rattle.dbus_value_model.specs.declared.limits.TheConstants.{MESSAGE_LIMIT}
 use Rattle.dbus_value_model.specs.declared.limits.Limits.{Limits}

@@ -3,10 +3,10 @@
 -- values and messages are read; `get` and `decode` say the relations.
 -- D-Bus Specification, "Marshaling (Wire Format)".
 use Rattle.std.specs.Prelude.{ℕ, zero, suc, ◌+◌, ◌*◌, List, [], ◌∷◌, length, take, drop, reverse, if◌then◌else◌, nat_lt, nat_eq, Option, Some, None}
-use Rattle.dbus_types.specs.Types.{TypeTree, NumberType, TextType, VariantType, ArrayType, StructType, EntryType, TypeTrees, NoTypes, MoreTypes}
+use Rattle.dbus_texts.specs.Types.{TypeTree, NumberType, TextType, VariantType, ArrayType, StructType, EntryType, TypeTrees, NoTypes, MoreTypes}
 use Rattle.dbus_types.specs.Alignments.{width, length_width, alignment_of}
 use Rattle.dbus_value_model.specs.WantedTexts.{WantedText, kind_of, is_kind, break_at, Of}
-use Rattle.dbus_types.specs.ComputedKinds.{type_spelled}
+use Rattle.dbus_texts.specs.ComputedKinds.{type_spelled}
 use Rattle.dbus_value_model.specs.declared.limits.Bounds.{Bounds}
 use Rattle.dbus_value_model.specs.declared.order.Order.{Order}
 use Rattle.dbus_value_model.specs.declared.order.Order.TheVariants.{Little, Big}
@@ -17,7 +17,7 @@ use Rattle.dbus_value_model.specs.declared.fault.Fault.{Fault}
 use Rattle.dbus_value_model.specs.Items.{fault, text_reason}
 use Rattle.dbus_value_model.specs.ValueItems.{number_row, text_row, array_row}
 use Rattle.dbus_value_model.specs.declared.fault.Reason.TheVariants as reasons
-use Rattle.dbus_types.specs.declared.text_kind.TextKind.TheVariants as kinds
+use Rattle.dbus_texts.specs.declared.text_kind.TextKind.TheVariants as kinds
 
 pub data Outcome (A : Type 0) : Type 0 where
   Done : A → ℕ → List ℕ → Outcome A

@@ -2,7 +2,7 @@
 -- those of the types of variants.
 -- D-Bus Specification, "Valid Signatures".
 use Rattle.std.specs.Prelude.{ℕ, ◌<◌, length}
-use Rattle.dbus_types.specs.Types.{TextCode, STRING, OBJECT_PATH, SIGNATURE, sig}
+use Rattle.dbus_texts.specs.Types.{TextCode, STRING, OBJECT_PATH, SIGNATURE, sig}
 use Rattle.dbus_value_model.specs.Values.{ValueTree, ValueTrees, NoValues, MoreValues, NumberValue, TextValue, VariantValue, ArrayValue, StructValue, EntryValue, type_of}
 
 -- a text's length fits into the number before it, where that is one byte

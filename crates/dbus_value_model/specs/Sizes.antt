@@ -2,7 +2,7 @@
 -- of its contents, or that of the message, so many from its first byte.
 -- D-Bus Specification, "Marshaling (Wire Format)" for the items and the arrays' limit, "Message Protocol" for the message's.
 use Rattle.std.specs.Prelude.{ℕ, ◌+◌, min, Bool, false, length, Option, Some, None, Result, Ok, Err, nat_eq, nat_lt, if◌then◌else◌}
-use Rattle.dbus_types.specs.Types.{sig}
+use Rattle.dbus_texts.specs.Types.{sig}
 use Rattle.dbus_types.specs.Alignments.{width, length_width, alignment_of}
 use Rattle.dbus_value_model.specs.declared.limits.Limits.{Limits}
 use Rattle.dbus_value_model.specs.declared.value_fault.ValueFault.{ValueFault}

@@ -1,7 +1,7 @@
 -- The one spelling of each value at an offset: the marshalling relation of one value.
 -- D-Bus Specification, "Marshaling (Wire Format)".
 use Rattle.std.specs.Prelude.{◌≡◌, ℕ, ◌+◌, ◌≤◌, List, [], ◌∷◌, ◌++◌, length}
-use Rattle.dbus_types.specs.Types.{TypeTree, sig}
+use Rattle.dbus_texts.specs.Types.{TypeTree, sig}
 use Rattle.dbus_types.specs.Alignments.{width, length_width, alignment_of}
 use Rattle.dbus_value_model.specs.declared.order.Order.{Order}
 use Rattle.dbus_value_model.specs.declared.limits.Bounds.{Bounds}

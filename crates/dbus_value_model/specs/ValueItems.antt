@@ -1,7 +1,7 @@
 -- The items of a value of each type, in their order, and so its faults: the table of types read aloud.
 -- D-Bus Specification, "Marshaling (Wire Format)"; docs/WIRE-FORMAT.md, "Types" and "Faults".
 use Rattle.std.specs.Prelude.{ℕ, zero, suc, ◌+◌, if◌then◌else◌, nat_lt, Option, Some, None}
-use Rattle.dbus_types.specs.Types.{NumberCode, BYTE, BOOLEAN, INT16, UINT16, INT32, UINT32, INT64, UINT64, DOUBLE, UNIX_FD, TypeTree, NumberType, TextType, VariantType, ArrayType, StructType, EntryType, TypeTrees, NoTypes, MoreTypes}
+use Rattle.dbus_texts.specs.Types.{NumberCode, BYTE, BOOLEAN, INT16, UINT16, INT32, UINT32, INT64, UINT64, DOUBLE, UNIX_FD, TypeTree, NumberType, TextType, VariantType, ArrayType, StructType, EntryType, TypeTrees, NoTypes, MoreTypes}
 use Rattle.dbus_types.specs.Alignments.{width, length_width, alignment_of}
 use Rattle.dbus_value_model.specs.WantedTexts.{kind_of, Of}
 use Rattle.dbus_value_model.specs.declared.limits.Bounds.{Bounds}
@@ -12,7 +12,7 @@ use Rattle.dbus_value_model.specs.Spelling.{Spelled}
 use Rattle.dbus_value_model.specs.Items.{Item, ◌>>=◌, ◌>>◌, pure, refuse, padding, number, text, nul, signature, contents}
 use Rattle.dbus_value_model.specs.declared.fault.Reason.{Reason}
 use Rattle.dbus_value_model.specs.declared.fault.Reason.TheVariants as reasons
-use Rattle.dbus_types.specs.declared.text_kind.TextKind.TheVariants as kinds
+use Rattle.dbus_texts.specs.declared.text_kind.TextKind.TheVariants as kinds
 
 -- an index of a descriptor: below the number fds, where there is one
 abbrev pub index_row : Option ℕ → ℕ → Option Reason

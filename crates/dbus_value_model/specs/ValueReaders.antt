@@ -1,9 +1,9 @@
 -- The computed reading of a value, one definition for each function of the code that reads one.
 -- D-Bus Specification, "Marshaling (Wire Format)".
 use Rattle.std.specs.Prelude.{ℕ, ◌-◌, Option}
-use Rattle.dbus_types.specs.Types.{NumberCode, TextCode, TypeTree, TypeTrees}
+use Rattle.dbus_texts.specs.Types.{NumberCode, TextCode, TypeTree, TypeTrees}
 use Rattle.dbus_types.specs.Alignments.{width, length_width, alignment_of}
-use Rattle.dbus_types.specs.declared.text_kind.TextKind.TheVariants.{Single}
+use Rattle.dbus_texts.specs.declared.text_kind.TextKind.TheVariants.{Single}
 use Rattle.dbus_value_model.specs.WantedTexts.{kind_of, Of}
 use Rattle.dbus_value_model.specs.declared.limits.Bounds.{Bounds}
 use Rattle.dbus_value_model.specs.declared.order.Order.{Order}

@@ -1,12 +1,12 @@
 -- The texts that may stand at a place: those of a kind, or one alone.
 -- D-Bus Specification, "Valid Signatures", "Valid Object Paths", "Valid Names"; "Header Fields" for the one signature of a field.
 use Rattle.std.specs.Prelude.{◌≡◌, ℕ, suc, List, [], ◌∷◌, Bool, true, false, ◌&&◌, nat_eq, if◌then◌else◌}
-use Rattle.dbus_types.specs.Types.{TextCode, STRING, OBJECT_PATH, SIGNATURE}
-use Rattle.dbus_types.specs.declared.text_kind.TextKind.{TextKind}
-use Rattle.dbus_types.specs.declared.text_kind.TextKind.TheVariants as kinds
-use Rattle.dbus_types.specs.Prefixes.{IsBreakIn}
-use Rattle.dbus_types.specs.Kinds.{IsKind, IsBreak}
-use Rattle.dbus_types.specs.ComputedKinds as computed
+use Rattle.dbus_texts.specs.Types.{TextCode, STRING, OBJECT_PATH, SIGNATURE}
+use Rattle.dbus_texts.specs.declared.text_kind.TextKind.{TextKind}
+use Rattle.dbus_texts.specs.declared.text_kind.TextKind.TheVariants as kinds
+use Rattle.dbus_texts.specs.Prefixes.{IsBreakIn}
+use Rattle.dbus_texts.specs.Kinds.{IsKind, IsBreak}
+use Rattle.dbus_texts.specs.ComputedKinds as computed
 
 pub data WantedText : Type 0 where
   Of : TextKind → WantedText

@@ -2,7 +2,7 @@
 #![tactic(auto)]
 
 ghost use Rattle.std.specs.Prelude.{◌≡◌, ◌↔◌, IsTrue, IfOk};
-ghost use Rattle.dbus_types.specs.Types.{IsSingleType};
+ghost use Rattle.dbus_texts.specs.Types.{IsSingleType};
 ghost use Rattle.dbus_types.specs.SigTypes.{type_tree};
 ghost use Rattle.dbus_value_model.specs.Values.{AllOf, type_of as tree_type};
 ghost use Rattle.dbus_value_model.specs.Forming.{IsUniform, AreUniform};

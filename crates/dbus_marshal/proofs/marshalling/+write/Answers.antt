@@ -1,6 +1,6 @@
 use Rattle.std.proofs.Common.{◌≡◌, ◌+◌, ◌++◌, ◌∷◌, [], ◌-◌, length, drop, vec_capacity, refl, sym, ap, ◌∙◌, arith, rules}
 use Rattle.std.specs.Prelude.{string_bytes}
-use Rattle.dbus_types.specs.Types.{sig, STRING, SIGNATURE}
+use Rattle.dbus_texts.specs.Types.{sig, STRING, SIGNATURE}
 use Rattle.dbus_types.specs.Alignments.{alignment_of}
 use Rattle.dbus_types.specs.SigTypes.{type_tree}
 use Rattle.dbus_value_model.specs.Appending.{with_padding, with_value, with_values}

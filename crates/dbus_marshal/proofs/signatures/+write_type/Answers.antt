@@ -1,5 +1,5 @@
 use Rattle.std.proofs.Common.{◌+◌, ◌++◌, ◌∷◌, [], drop, vec_capacity, arith}
-use Rattle.dbus_types.specs.Types.{sig, sigs}
+use Rattle.dbus_texts.specs.Types.{sig, sigs}
 use Rattle.dbus_types.specs.SigTypes.{type_tree, type_trees_of}
 use Rattle.dbus_marshal.proofs.Joining.{length_join, join_assoc, join_around, join_two, first_fits, step_joined}
 use Rattle.dbus_marshal.proofs.Measuring.{below_most}

@@ -1,5 +1,5 @@
 use Rattle.std.proofs.Common.{◌≡◌, ◌≤◌, ◌++◌, drop, vec_capacity}
-use Rattle.dbus_types.specs.Types.{sigs}
+use Rattle.dbus_texts.specs.Types.{sigs}
 use Rattle.dbus_types.specs.SigTypes.{type_trees_of}
 use Rattle.dbus_marshal.proofs.signatures.+write_type.Given as goal
 

@@ -1,5 +1,5 @@
 use Rattle.std.proofs.Common.{◌+◌, ◌++◌, ◌∷◌, [], drop, vec_capacity, arith}
-use Rattle.dbus_types.specs.Types.{sig, sigs}
+use Rattle.dbus_texts.specs.Types.{sig, sigs}
 use Rattle.dbus_types.specs.SigTypes.{type_tree}
 use Rattle.dbus_value_model.specs.Values.{type_of, types_of}
 use Rattle.dbus_value_model.specs.ValueViews.{value_tree, value_trees_of}

@@ -1,5 +1,5 @@
 use Rattle.std.proofs.Common.{sym, ap, ◌∙◌}
-use Rattle.dbus_types.specs.ComputedKinds.{types_spelled}
+use Rattle.dbus_texts.specs.ComputedKinds.{types_spelled}
 use Rattle.dbus_types.specs.SigTypes.{type_trees_of}
 use Rattle.dbus_unmarshal.proofs.KindLaws.{spelled_sigs}
 use Rattle.dbus_message.proofs.BodyLoop.{each_single}

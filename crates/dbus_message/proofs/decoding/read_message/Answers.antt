@@ -1,5 +1,5 @@
 use Rattle.std.proofs.Common.{◌≡◌, ◌+◌, drop, refl, arith}
-use Rattle.dbus_types.specs.ComputedKinds.{types_spelled}
+use Rattle.dbus_texts.specs.ComputedKinds.{types_spelled}
 use Rattle.dbus_types.specs.SigTypes.{type_trees_of}
 use Rattle.dbus_value_model.specs.Reading.{Done, judge, padding}
 use Rattle.dbus_unmarshal.proofs.ReadSteps.{stops_after}

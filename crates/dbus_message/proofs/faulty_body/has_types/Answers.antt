@@ -3,7 +3,7 @@ use Rattle.std.proofs.lemmas.Bool.{false≢true}
 use Rattle.std.proofs.lemmas.Bool.Decides.{Decides-eqb}
 use Rattle.std.proofs.lemmas.List.{length-append}
 use Rattle.std.proofs.lemmas.Slice.Eq.{slice_eq-Decides}
-use Rattle.dbus_types.specs.Types.{sig, sigs}
+use Rattle.dbus_texts.specs.Types.{sig, sigs}
 use Rattle.dbus_value_model.specs.Values.{type_of, types_of}
 use Rattle.dbus_value_model.specs.ValueViews.{value_tree, value_trees_of}
 use Rattle.dbus_message.proofs.FaultyBody.{sound_from, types_from, no_types_from, spelled_on, spelled_past, spelled_whole}

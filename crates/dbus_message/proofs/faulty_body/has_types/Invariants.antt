@@ -1,5 +1,5 @@
 use Rattle.std.proofs.Common.{◌≡◌, ◌++◌, ◌≤◌, None, drop, length, vec_capacity}
-use Rattle.dbus_types.specs.Types.{sigs}
+use Rattle.dbus_texts.specs.Types.{sigs}
 use Rattle.dbus_value_model.specs.Values.{types_of}
 use Rattle.dbus_value_model.specs.ValueViews.{value_trees_of}
 use Rattle.dbus_message.specs.BuildFaults.{IsFirstUnsound}

@@ -1,6 +1,6 @@
 use Rattle.std.proofs.Common.{drop, ◌≡◌, refl}
 use Rattle.dbus_types.specs.SigTypes.{type_tree}
-use Rattle.dbus_types.specs.declared.text_kind.TextKind.TheVariants.{Single}
+use Rattle.dbus_texts.specs.declared.text_kind.TextKind.TheVariants.{Single}
 use Rattle.dbus_value_model.specs.WantedTexts.{Of}
 use Rattle.dbus_value_model.specs.Reading.{Done}
 use Rattle.dbus_message.specs.HeaderReading.{wanted_signature}

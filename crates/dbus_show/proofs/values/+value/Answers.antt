@@ -1,6 +1,6 @@
 use Rattle.std.proofs.Common.{arith, rules, ◌≡◌, ◌++◌, ◌∷◌, [], ap, sym, ◌∙◌, string_bytes, lit<, false, refl, take, ◌+◌}
 use Rattle.std.proofs.lemmas.List.{take_more}
-use Rattle.dbus_types.specs.Types.{sig, is_byte}
+use Rattle.dbus_texts.specs.Types.{sig, is_byte}
 use Rattle.dbus_types.specs.SigTypes.{type_tree}
 use Rattle.dbus_value_model.specs.Values.{ArrayValue, StructValue}
 use Rattle.dbus_value_model.specs.ValueViews.{value_tree, value_trees_of}

@@ -1,6 +1,6 @@
 use Rattle.std.proofs.Common.{◌++◌, ◌∷◌, [], ap, sym, ◌∙◌, string_bytes}
 use Rattle.hex.specs.Hex.{encode_lower}
-use Rattle.dbus_types.specs.Types.{BYTE, NumberType}
+use Rattle.dbus_texts.specs.Types.{BYTE, NumberType}
 use Rattle.dbus_value_model.specs.Values.{ArrayValue}
 use Rattle.dbus_value_model.specs.ValueViews.{byte_values}
 use Rattle.dbus_show.specs.ShownValues.{value_text}

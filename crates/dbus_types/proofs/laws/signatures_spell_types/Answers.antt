@@ -1,6 +1,6 @@
-use Rattle.dbus_types.specs.declared.text_kind.TextKind.TheVariants.{Signature}
-use Rattle.dbus_types.specs.Types.{sigs}
-use Rattle.dbus_types.proofs.KindFacts.{kind_is, is_kind_of, signature_text_is, text_signature, spelled_sigs}
+use Rattle.dbus_texts.specs.declared.text_kind.TextKind.TheVariants.{Signature}
+use Rattle.dbus_texts.specs.Types.{sigs}
+use Rattle.dbus_texts.proofs.KindFacts.{kind_is, is_kind_of, signature_text_is, text_signature, spelled_sigs}
 use Rattle.dbus_types.proofs.laws.signatures_spell_types.Goals as goal
 
 pub returns : goal.returns

@@ -1,6 +1,6 @@
-use Rattle.dbus_types.specs.declared.text_kind.TextKind.TheVariants.{Single}
-use Rattle.dbus_types.specs.Types.{sig}
-use Rattle.dbus_types.proofs.KindFacts.{kind_is, is_kind_of, single_text, text_single}
+use Rattle.dbus_texts.specs.declared.text_kind.TextKind.TheVariants.{Single}
+use Rattle.dbus_texts.specs.Types.{sig}
+use Rattle.dbus_texts.proofs.KindFacts.{kind_is, is_kind_of, single_text, text_single}
 use Rattle.dbus_types.proofs.laws.singles_spell_types.Goals as goal
 
 pub returns : goal.returns

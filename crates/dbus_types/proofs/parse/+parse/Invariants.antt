@@ -1,5 +1,5 @@
 use Rattle.std.proofs.Common.{◌≡◌, ◌++◌, length, ◌+◌, ◌*◌, ◌≤◌}
-use Rattle.dbus_types.specs.Types.{sigs}
+use Rattle.dbus_texts.specs.Types.{sigs}
 use Rattle.dbus_types.specs.SigTypes.{type_trees_of}
 use Rattle.dbus_types.specs.TypeReads.{StartsFields}
 use Rattle.dbus_types.proofs.parse.+parse.Given as goal

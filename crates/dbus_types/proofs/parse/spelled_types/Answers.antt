@@ -1,6 +1,6 @@
 use Rattle.std.proofs.Common.{sym, subst, ◌∙◌, arith, length, ◌<◌}
 use Rattle.std.proofs.lemmas.Bool.{eqb-false}
-use Rattle.dbus_types.specs.Types.{AreComplete}
+use Rattle.dbus_texts.specs.Types.{AreComplete}
 use Rattle.dbus_types.specs.SigTypes.{type_trees_of}
 use Rattle.dbus_types.proofs.Parsing.{sig_starts, sig_step, reads_shorter, complete_push, spelled_push}
 use Rattle.dbus_types.proofs.parse.spelled_types.Goals as goal

@@ -1,6 +1,6 @@
 use Rattle.std.proofs.Common.{◌≡◌, ◌++◌, length}
-use Rattle.dbus_types.specs.Types.{sigs, AreComplete}
-use Rattle.dbus_types.specs.Signatures.{IsSignature}
+use Rattle.dbus_texts.specs.Types.{sigs, AreComplete}
+use Rattle.dbus_texts.specs.Signatures.{IsSignature}
 use Rattle.dbus_types.specs.SigTypes.{type_trees_of}
 use Rattle.dbus_types.proofs.parse.spelled_types.Given as goal
 

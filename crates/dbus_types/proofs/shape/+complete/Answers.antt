@@ -1,6 +1,6 @@
 use Rattle.std.proofs.Common.{◌+◌, ◌<◌, length, arith, sym, ap, ◌∙◌, subst, ◌↔◌, IsTrue, false, refl}
 use Rattle.std.proofs.lemmas.Bool.{false≢true, eqb-false}
-use Rattle.dbus_types.specs.Types.{IsComplete, AreComplete}
+use Rattle.dbus_texts.specs.Types.{IsComplete, AreComplete}
 use Rattle.dbus_types.specs.SigTypes.{type_tree, type_trees_of}
 use Rattle.dbus_types.proofs.Shapes.{by_fields, fails_at, complete_more}
 use Rattle.dbus_types.proofs.shape.+complete.Goals as goal

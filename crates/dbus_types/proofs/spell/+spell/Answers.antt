@@ -1,7 +1,7 @@
 use Rattle.std.proofs.Common.{string_bytes, ◌++◌, ap, ◌∙◌}
 use Rattle.std.proofs.lemmas.Result.{on_ok_weaker}
 use Rattle.dbus_types.specs.SigTypes.{type_trees_of, type_tree}
-use Rattle.dbus_types.specs.Types.{sigs, sig}
+use Rattle.dbus_texts.specs.Types.{sigs, sig}
 use Rattle.dbus_types.proofs.Spelling.{struct_text, entry_text, one_text_more}
 use Rattle.dbus_types.proofs.spell.+spell.Goals as goal
 

@@ -2,7 +2,7 @@ use Rattle.std.proofs.Common.{rules, ℕ, ◌≡◌, ◌≤◌, ◌<◌, ◌+◌
 use Rattle.std.proofs.lemmas.Result.{err_from_is_err_and}
 use Rattle.std.proofs.lemmas.Bool.{and_from}
 use Rattle.std.proofs.lemmas.List.{map_push, length_push}
-use Rattle.dbus_types.specs.Types.{BYTE, BOOLEAN, INT16, UINT16, INT32, UINT32, INT64, UINT64, DOUBLE, UNIX_FD, STRING, OBJECT_PATH, SIGNATURE, sig, TypeTree, NumberType, is_byte}
+use Rattle.dbus_texts.specs.Types.{BYTE, BOOLEAN, INT16, UINT16, INT32, UINT32, INT64, UINT64, DOUBLE, UNIX_FD, STRING, OBJECT_PATH, SIGNATURE, sig, TypeTree, NumberType, is_byte}
 use Rattle.dbus_types.specs.SigTypes.{type_tree, type_trees_of}
 use Rattle.dbus_types.proofs.TypeViews as types
 use Rattle.dbus_value_model.specs.Values.{ArrayValue}

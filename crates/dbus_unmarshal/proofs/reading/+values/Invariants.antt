@@ -1,5 +1,5 @@
 use Rattle.std.proofs.Common.{◌≡◌, ◌+◌, ◌-◌, ◌*◌, ◌≤◌, [], length, drop, map, IsTrue}
-use Rattle.dbus_types.specs.Types.{sig, sigs}
+use Rattle.dbus_texts.specs.Types.{sig, sigs}
 use Rattle.dbus_types.specs.SigTypes.{type_tree, type_trees_of}
 use Rattle.dbus_value_model.specs.PackedBytes.{keep_bytes}
 use Rattle.dbus_value_model.specs.ValueViews.{value_tree}

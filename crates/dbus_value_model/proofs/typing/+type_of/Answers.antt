@@ -1,6 +1,6 @@
 use Rattle.std.proofs.Common.{take_all, ◌≡◌, ◌++◌, ◌∷◌, [], map, take, sym, ap, ◌∙◌, rules}
 use Rattle.std.proofs.lemmas.List.{map_push, map_more}
-use Rattle.dbus_types.specs.Types.{StructType}
+use Rattle.dbus_texts.specs.Types.{StructType}
 use Rattle.dbus_types.specs.SigTypes.{type_tree, type_trees_of}
 use Rattle.dbus_value_model.specs.Values.{StructValue, type_of as tree_type}
 use Rattle.dbus_value_model.specs.ValueViews.{value_tree, value_trees_of}

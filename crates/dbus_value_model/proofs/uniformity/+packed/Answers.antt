@@ -1,6 +1,6 @@
 use Rattle.std.proofs.Common.{◌≡◌, ◌&&◌, not, refl, sym, ap, subst, ◌∙◌, IsTrue, arith}
 use Rattle.std.proofs.lemmas.Bool.{false≢true, and_parts, and_from}
-use Rattle.dbus_types.specs.Types.{is_byte}
+use Rattle.dbus_texts.specs.Types.{is_byte}
 use Rattle.dbus_types.specs.SigTypes.{type_tree}
 use Rattle.dbus_value_model.specs.PackedBytes.{keeps_bytes, keep_bytes}
 use Rattle.dbus_value_model.specs.declared.value.Value.{the_lemmas}

@@ -1,0 +1,93 @@
+-- The types that one byte spells.
+use Rattle.std.proofs.Common.{◌≡◌, ℕ, Bool, true, false, ◌||◌, eqb, List, [], ◌∷◌, length, get_or, append-nil, arith, ◌⊎◌, ⊎_elim, inl, inr, refl, sym, ap, ◌∙◌}
+use Rattle.std.proofs.lemmas.Bool.{eqb-true}
+use Rattle.dbus_texts.specs.Types.{TypeTree, NumberCode, BYTE, BOOLEAN, INT16, UINT16, INT32, UINT32, INT64, UINT64, DOUBLE, UNIX_FD, TextCode, STRING, OBJECT_PATH, SIGNATURE, NumberType, TextType, VariantType, ArrayType, StructType, EntryType, NoTypes, MoreTypes, number_code, text_code, sig, IsBasic, IsComplete}
+use Rattle.dbus_texts.specs.Signatures.{IsSignature, IsSingle}
+use Rattle.dbus_texts.specs.SignatureScans.{is_basic_code, is_type_code}
+
+pub number_is_basic : (n : NumberCode) → is_basic_code (number_code n) ≡ true
+number_is_basic BYTE = refl
+number_is_basic BOOLEAN = refl
+number_is_basic INT16 = refl
+number_is_basic UINT16 = refl
+number_is_basic INT32 = refl
+number_is_basic UINT32 = refl
+number_is_basic INT64 = refl
+number_is_basic UINT64 = refl
+number_is_basic DOUBLE = refl
+number_is_basic UNIX_FD = refl
+
+pub text_is_basic : (t : TextCode) → is_basic_code (text_code t) ≡ true
+text_is_basic STRING = refl
+text_is_basic OBJECT_PATH = refl
+text_is_basic SIGNATURE = refl
+
+pub basic_is_code : (b : ℕ) → is_basic_code b ≡ true → is_type_code b ≡ true
+basic_is_code b e = ap (λ x. x || eqb b 118) e
+
+pub number_is_code : (n : NumberCode) → is_type_code (number_code n) ≡ true
+number_is_code n = basic_is_code (number_code n) (number_is_basic n)
+
+pub text_is_code : (t : TextCode) → is_type_code (text_code t) ≡ true
+text_is_code t = basic_is_code (text_code t) (text_is_basic t)
+
+pub either : (x y : Bool) → (x || y) ≡ true → (x ≡ true) ⊎ (y ≡ true)
+either true y e = inl refl
+either false y e = inr e
+
+-- a basic type that the byte spells
+abbrev pub Basic : ℕ → Type 0
+Basic b = (t : TypeTree) × (sig t ≡ b ∷ []) × IsBasic t
+
+basic_at : (b n : ℕ) (t : TypeTree) → sig t ≡ n ∷ [] → IsBasic t → eqb b n ≡ true → Basic b
+basic_at b n t e h q = (t, e ∙ ap (λ x. x ∷ []) (sym (eqb-true b n q)), h)
+
+or_basic : (b n : ℕ) (t : TypeTree) (others : Bool) → (others ≡ true → Basic b) → sig t ≡ n ∷ [] → IsBasic t → (others || eqb b n) ≡ true → Basic b
+or_basic b n t others f e h q = ⊎_elim f (λ w. basic_at b n t e h w) (either others (eqb b n) q)
+
+pub basic_type : (b : ℕ) → is_basic_code b ≡ true → Basic b
+basic_type b =
+    or_basic b 103 (TextType SIGNATURE) _
+    (or_basic b 111 (TextType OBJECT_PATH) _
+    (or_basic b 115 (TextType STRING) _
+    (or_basic b 104 (NumberType UNIX_FD) _
+    (or_basic b 100 (NumberType DOUBLE) _
+    (or_basic b 116 (NumberType UINT64) _
+    (or_basic b 120 (NumberType INT64) _
+    (or_basic b 117 (NumberType UINT32) _
+    (or_basic b 105 (NumberType INT32) _
+    (or_basic b 113 (NumberType UINT16) _
+    (or_basic b 110 (NumberType INT16) _
+    (or_basic b 98 (NumberType BOOLEAN) _
+    (basic_at b 121 (NumberType BYTE) refl tt)
+    refl tt) refl tt) refl tt) refl tt) refl tt) refl tt) refl tt) refl tt) refl tt) refl tt) refl tt) refl tt
+
+basic_complete : (t : TypeTree) → IsBasic t → (inside : Bool) (arrays structs : ℕ) → IsComplete t inside arrays structs
+basic_complete (NumberType n) h inside a s = tt
+basic_complete (TextType n) h inside a s = tt
+basic_complete VariantType h inside a s = tt
+basic_complete (ArrayType t) h inside a s = absurd h
+basic_complete (StructType ts) h inside a s = absurd h
+basic_complete (EntryType k v) h inside a s = absurd h
+
+-- a complete type that the byte spells
+abbrev pub Coded : ℕ → Type 0
+Coded b = (t : TypeTree) × (sig t ≡ b ∷ []) × ((inside : Bool) (arrays structs : ℕ) → IsComplete t inside arrays structs)
+
+pub code_type : (b : ℕ) → is_type_code b ≡ true → Coded b
+code_type b e =
+    ⊎_elim
+    (λ w. let t = basic_type b w in (t.0, t.1, λ inside a s. basic_complete t.0 t.2 inside a s))
+    (λ w. (VariantType, ap (λ x. x ∷ []) (sym (eqb-true b 118 w)), λ inside a s. tt))
+    (either (is_basic_code b) (eqb b 118) e)
+
+one_byte : (w : List ℕ) → length w ≡ 1 → w ≡ get_or w 0 0 ∷ []
+one_byte [] e = absurd (omega (arith, e))
+one_byte (b ∷ []) e = refl
+one_byte (b ∷ c ∷ w) e = absurd (omega (arith, e))
+
+pub coded_single : (w : List ℕ) → length w ≡ 1 → is_type_code (get_or w 0 0) ≡ true → IsSingle w
+coded_single w one e = let t = code_type (get_or w 0 0) e in (t.0, t.2 false 0 0, one_byte w one ∙ sym t.1)
+
+pub coded_signature : (w : List ℕ) → length w ≡ 1 → is_type_code (get_or w 0 0) ≡ true → IsSignature w
+coded_signature w one e = let t = code_type (get_or w 0 0) e in (MoreTypes t.0 NoTypes, (t.2 false 0 0, tt), one_byte w one ∙ sym t.1 ∙ sym (append-nil (sig t.0)))

@@ -1,0 +1,275 @@
+-- The steps of a name.
+use Rattle.std.proofs.Common.{◌≡◌, ℕ, Bool, true, false, eqb, List, [], ◌∷◌, ◌++◌, ◌⊎◌, ⊎_elim, inl, inr, refl, sym, ap, ◌∙◌, subst, IsTrue, append-nil}
+use Rattle.std.specs.List.{AllByRecursion}
+use Rattle.std.proofs.lemmas.Bool.{cond_both, eqb-true, eqb-false, false≢true}
+use Rattle.dbus_texts.specs.declared.names.Letters.{Letters}
+use Rattle.dbus_texts.specs.declared.names.Letters.TheVariants.{Word, Name, Unique, WellKnown}
+use Rattle.dbus_texts.specs.declared.names.Tail.{Tail}
+use Rattle.dbus_texts.specs.declared.names.Tail.TheVariants.{Alone, Needed, Free}
+use Rattle.dbus_texts.specs.declared.names.Place.{Place}
+use Rattle.dbus_texts.specs.declared.names.Place.TheVariants.{PathStart, Root, BusStart, First, More}
+use Rattle.dbus_texts.specs.declared.names.NameScan.{NameScan}
+use Rattle.dbus_texts.specs.Prefixes.{IsStep, Moves}
+use Rattle.dbus_texts.specs.Names.{is_word, is_dashed, is_dashed_start, IsElement, each_behind, IsPath, IsJoined, IsBusName, IsMember, IsInterface}
+use Rattle.dbus_texts.specs.NameScans.{begins, goes_on, separator, MayFollow, Elements, GoesOn, name_rest, name_rest_at, name_state, past_separator, name_next_at, name_next, may_end, name_end_at}
+
+-- a letter may begin each element, and no separator stands in one
+a_begins : (l : Letters) → begins l 97 ≡ true
+a_begins Word = refl
+a_begins Name = refl
+a_begins Unique = refl
+a_begins WellKnown = refl
+
+apart : (l : Letters) → goes_on l (separator l) ≡ false
+apart Word = refl
+apart Name = refl
+apart Unique = refl
+apart WellKnown = refl
+
+a_only : (l : Letters) → IsElement (begins l) (goes_on l) (97 ∷ [])
+a_only l = (a_begins l, tt)
+
+-- something may always follow
+elements_some : (l : Letters) (t : Tail) → (c : List ℕ) × Elements l t c
+elements_some l Alone = (97 ∷ [], record { first = 97 ∷ []; others = []; first_is = a_only l; others_are = tt; follow = tt; spelled = refl })
+elements_some l Needed = (97 ∷ separator l ∷ 97 ∷ [], record { first = 97 ∷ []; others = (97 ∷ []) ∷ []; first_is = a_only l; others_are = (a_only l, tt); follow = tt; spelled = refl })
+elements_some l Free = (97 ∷ [], record { first = 97 ∷ []; others = []; first_is = a_only l; others_are = tt; follow = tt; spelled = refl })
+
+goes_on_some : (l : Letters) (t : Tail) → (c : List ℕ) × GoesOn l t c
+goes_on_some l Alone = ([], record { run = []; others = []; run_is = tt; others_are = tt; follow = tt; spelled = refl })
+goes_on_some l Needed = (separator l ∷ 97 ∷ [], record { run = []; others = (97 ∷ []) ∷ []; run_is = tt; others_are = (a_only l, tt); follow = tt; spelled = refl })
+goes_on_some l Free = ([], record { run = []; others = []; run_is = tt; others_are = tt; follow = tt; spelled = refl })
+
+-- the first byte of elements
+elements_at : (l : Letters) (t : Tail) (b : ℕ) (c first : List ℕ) (others : List (List ℕ)) → IsElement (begins l) (goes_on l) first → AllByRecursion (IsElement (begins l) (goes_on l)) others → MayFollow t others → b ∷ c ≡ first ++ each_behind (separator l) others → (begins l b ≡ true) × GoesOn l t c
+elements_at l t b c [] others f o m e = absurd f
+elements_at l t b c (x ∷ run) others f o m e =
+    let same : b ≡ x = cc in
+    (subst (λ y. begins l y ≡ true) (sym same) f.0, record { run = run; others = others; run_is = f.1; others_are = o; follow = m; spelled = cc })
+
+elements_head : (l : Letters) (t : Tail) (b : ℕ) (c : List ℕ) → Elements l t (b ∷ c) → (begins l b ≡ true) × GoesOn l t c
+elements_head l t b c h = elements_at l t b c h.first h.others h.first_is h.others_are h.follow h.spelled
+
+elements_from : (l : Letters) (t : Tail) (b : ℕ) (c : List ℕ) → begins l b ≡ true → GoesOn l t c → Elements l t (b ∷ c)
+elements_from l t b c e h = record { first = b ∷ h.run; others = h.others; first_is = (e, h.run_is); others_are = h.others_are; follow = h.follow; spelled = ap (λ x. b ∷ x) h.spelled }
+
+elements_move : (l : Letters) (t : Tail) (b : ℕ) → begins l b ≡ true → Moves (Elements l t) b (GoesOn l t)
+elements_move l t b e = record { to = λ c h. (elements_head l t b c h).1; from = λ c h. elements_from l t b c e h; some = goes_on_some l t }
+
+-- the next byte within an element, or after it
+abbrev MayGo : Tail → Type 0
+MayGo Alone = ⊥
+MayGo Needed = Unit {0}
+MayGo Free = Unit {0}
+
+may_go : (t : Tail) (e : List ℕ) (es : List (List ℕ)) → MayFollow t (e ∷ es) → MayGo t
+may_go Alone e es h = h
+may_go Needed e es h = tt
+may_go Free e es h = tt
+
+goes_on_at : (l : Letters) (t : Tail) (b : ℕ) (c run : List ℕ) (others : List (List ℕ)) → AllByRecursion (λ x. IsTrue (goes_on l x)) run → AllByRecursion (IsElement (begins l) (goes_on l)) others → MayFollow t others → b ∷ c ≡ run ++ each_behind (separator l) others → ((goes_on l b ≡ true) × GoesOn l t c) ⊎ ((b ≡ separator l) × MayGo t × Elements l Free c)
+goes_on_at l t b c [] [] r o m e = cc
+goes_on_at l t b c [] (f ∷ others) r o m e =
+    inr (cc, may_go t f others m, record { first = f; others = others; first_is = o.0; others_are = o.1; follow = tt; spelled = cc })
+goes_on_at l t b c (x ∷ run) others r o m e =
+    let same : b ≡ x = cc in
+    inl (subst (λ y. goes_on l y ≡ true) (sym same) r.0, record { run = run; others = others; run_is = r.1; others_are = o; follow = m; spelled = cc })
+
+goes_on_head : (l : Letters) (t : Tail) (b : ℕ) (c : List ℕ) → GoesOn l t (b ∷ c) → ((goes_on l b ≡ true) × GoesOn l t c) ⊎ ((b ≡ separator l) × MayGo t × Elements l Free c)
+goes_on_head l t b c h = goes_on_at l t b c h.run h.others h.run_is h.others_are h.follow h.spelled
+
+-- a byte of the element
+goes_on_more : (l : Letters) (t : Tail) (b : ℕ) → goes_on l b ≡ true → Moves (GoesOn l t) b (GoesOn l t)
+goes_on_more l t b e =
+    record {
+      to = λ c h. ⊎_elim (λ w. w.1) (λ w. absurd (false≢true (sym (ap (goes_on l) w.0 ∙ apart l) ∙ e))) (goes_on_head l t b c h);
+      from = λ c h. record { run = b ∷ h.run; others = h.others; run_is = (e, h.run_is); others_are = h.others_are; follow = h.follow; spelled = ap (λ x. b ∷ x) h.spelled };
+      some = goes_on_some l t;
+    }
+
+-- a separator
+follow_one : (t : Tail) → MayGo t → (e : List ℕ) (es : List (List ℕ)) → MayFollow t (e ∷ es)
+follow_one Alone h e es = h
+follow_one Needed h e es = tt
+follow_one Free h e es = tt
+
+goes_on_separator : (l : Letters) (t : Tail) (b : ℕ) → MayGo t → goes_on l b ≡ false → b ≡ separator l → Moves (GoesOn l t) b (Elements l Free)
+goes_on_separator l t b g n e =
+    record {
+      to = λ c h. ⊎_elim (λ w. absurd (false≢true (sym n ∙ w.0))) (λ w. w.2) (goes_on_head l t b c h);
+      from = λ c h. record { run = []; others = h.first ∷ h.others; run_is = tt; others_are = (h.first_is, h.others_are); follow = follow_one t g h.first h.others; spelled = cc (e, h.spelled) };
+      some = elements_some l Free;
+    }
+
+goes_on_past : (l : Letters) (t : Tail) (b : ℕ) → goes_on l b ≡ false → b ≡ separator l → IsStep name_rest (name_state More l t) b (past_separator t l)
+goes_on_past l Alone b n e = λ c h. ⊎_elim (λ w. false≢true (sym n ∙ w.0)) (λ w. w.1) (goes_on_head l Alone b c h)
+goes_on_past l Needed b n e = goes_on_separator l Needed b tt n e
+goes_on_past l Free b n e = goes_on_separator l Free b tt n e
+
+-- the start of a path
+path_at : (b : ℕ) (c : List ℕ) → IsPath (b ∷ c) → (b ≡ 47) × ((c ≡ []) ⊎ Elements Word Free c)
+path_at b c h =
+    ⊎_elim
+    (λ e. (cc, inl cc))
+    (λ w. (cc, inr (record { first = w.0; others = w.1; first_is = w.2.0; others_are = w.2.1; follow = tt; spelled = cc })))
+    h
+
+path_from : (b : ℕ) (c : List ℕ) → b ≡ 47 → (c ≡ []) ⊎ Elements Word Free c → IsPath (b ∷ c)
+path_from b c e h =
+    ⊎_elim
+    (λ n. inl cc)
+    (λ w. inr (w.first, w.others, (w.first_is, w.others_are), cc (e, w.spelled)))
+    h
+
+-- the start of a bus name
+joined_elements : (l : Letters) (c : List ℕ) → separator l ≡ 46 → IsJoined (begins l) (goes_on l) c → Elements l Needed c
+joined_elements l c e h = record { first = h.0; others = h.1 ∷ h.2; first_is = h.3.0; others_are = h.3.1; follow = tt; spelled = subst (λ s. c ≡ h.0 ++ each_behind s (h.1 ∷ h.2)) (sym e) h.4 }
+
+elements_joined_at : (l : Letters) (c first : List ℕ) (others : List (List ℕ)) → separator l ≡ 46 → IsElement (begins l) (goes_on l) first → AllByRecursion (IsElement (begins l) (goes_on l)) others → MayFollow Needed others → c ≡ first ++ each_behind (separator l) others → IsJoined (begins l) (goes_on l) c
+elements_joined_at l c first [] s f o m e = absurd m
+elements_joined_at l c first (g ∷ others) s f o m e = (first, g, others, (f, o), subst (λ x. c ≡ first ++ each_behind x (g ∷ others)) s e)
+
+elements_joined : (l : Letters) (c : List ℕ) → separator l ≡ 46 → Elements l Needed c → IsJoined (begins l) (goes_on l) c
+elements_joined l c e h = elements_joined_at l c h.first h.others e h.first_is h.others_are h.follow h.spelled
+
+bus_at : (b : ℕ) (c : List ℕ) → IsBusName (b ∷ c) → ((b ≡ 58) × Elements Unique Needed c) ⊎ ((is_dashed_start b ≡ true) × GoesOn WellKnown Needed c)
+bus_at b c h =
+    ⊎_elim
+    (λ w. let same : w.0 ≡ c = cc in inl (cc, joined_elements Unique c refl (subst (λ v. IsJoined is_dashed is_dashed v) same w.1)))
+    (λ w. inr (elements_head WellKnown Needed b c (joined_elements WellKnown (b ∷ c) refl w)))
+    h
+
+bus_unique : (b : ℕ) → b ≡ 58 → Moves IsBusName b (Elements Unique Needed)
+bus_unique b e =
+    record {
+      to = λ c h. ⊎_elim (λ w. w.1) (λ w. absurd (false≢true (sym (ap is_dashed_start e) ∙ w.0))) (bus_at b c h);
+      from = λ c h. inl (c, elements_joined Unique c refl h, ap (λ x. x ∷ c) e);
+      some = elements_some Unique Needed;
+    }
+
+bus_known : (b : ℕ) → (b ≡ 58 → ⊥) → is_dashed_start b ≡ true → Moves IsBusName b (GoesOn WellKnown Needed)
+bus_known b n e =
+    record {
+      to = λ c h. ⊎_elim (λ w. absurd (n w.0)) (λ w. w.1) (bus_at b c h);
+      from = λ c h. inr (elements_joined WellKnown (b ∷ c) refl (elements_from WellKnown Needed b c e h));
+      some = goes_on_some WellKnown Needed;
+    }
+
+-- each step, and the end
+pub name_moves_at : (p : Place) (l : Letters) (t : Tail) (b : ℕ) → IsStep name_rest (name_state p l t) b (name_next_at p l t b)
+name_moves_at PathStart l t b =
+    cond_both (eqb b 47) _ _ (IsStep name_rest (name_state PathStart l t) b)
+    (λ e. let at : b ≡ 47 = eqb-true b 47 e in record { to = λ c h. (path_at b c h).1; from = λ c h. path_from b c at h; some = ([], inl refl) })
+    (λ e. λ c h. eqb-false b 47 e (path_at b c h).0)
+name_moves_at Root l t b =
+    cond_both (is_word b) _ _ (IsStep name_rest (name_state Root l t) b)
+    (λ e. record {
+      to = λ c h. ⊎_elim (λ n. cc) (λ w. (elements_head Word Free b c w).1) h;
+      from = λ c h. inr (elements_from Word Free b c e h);
+      some = goes_on_some Word Free;
+    })
+    (λ e. λ c h. ⊎_elim (λ n. cc) (λ w. false≢true (sym e ∙ (elements_head Word Free b c w).0)) h)
+name_moves_at BusStart l t b =
+    cond_both (eqb b 58) _ _ (IsStep name_rest (name_state BusStart l t) b)
+    (λ e. bus_unique b (eqb-true b 58 e))
+    (λ n. cond_both (is_dashed_start b) _ _ (IsStep name_rest (name_state BusStart l t) b)
+    (λ e. bus_known b (eqb-false b 58 n) e)
+    (λ e. λ c h. ⊎_elim (λ w. eqb-false b 58 n w.0) (λ w. false≢true (sym e ∙ w.0)) (bus_at b c h)))
+name_moves_at First l t b =
+    cond_both (begins l b) _ _ (IsStep name_rest (name_state First l t) b)
+    (λ e. elements_move l t b e)
+    (λ e. λ c h. false≢true (sym e ∙ (elements_head l t b c h).0))
+name_moves_at More l t b =
+    cond_both (goes_on l b) _ _ (IsStep name_rest (name_state More l t) b)
+    (λ e. goes_on_more l t b e)
+    (λ n. cond_both (eqb b (separator l)) _ _ (IsStep name_rest (name_state More l t) b)
+    (λ e. goes_on_past l t b n (eqb-true b (separator l) e))
+    (λ e. λ c h. ⊎_elim (λ w. false≢true (sym n ∙ w.0)) (λ w. eqb-false b (separator l) e w.0) (goes_on_head l t b c h)))
+
+pub name_moves : (s : NameScan) (b : ℕ) → IsStep name_rest s b (name_next s b)
+name_moves s b = name_moves_at s.place s.letters s.tail b
+
+elements_nil_at : (l : Letters) (t : Tail) (first : List ℕ) (others : List (List ℕ)) → IsElement (begins l) (goes_on l) first → [] ≡ first ++ each_behind (separator l) others → ⊥
+elements_nil_at l t [] others f e = f
+elements_nil_at l t (x ∷ first) others f e = cc
+
+goes_on_nil_at : (l : Letters) (t : Tail) (run : List ℕ) (others : List (List ℕ)) → MayFollow t others → [] ≡ run ++ each_behind (separator l) others → may_end t ≡ true
+goes_on_nil_at l Alone run others m e = refl
+goes_on_nil_at l Needed [] [] m e = absurd m
+goes_on_nil_at l Needed [] (f ∷ others) m e = cc
+goes_on_nil_at l Needed (x ∷ run) others m e = cc
+goes_on_nil_at l Free run others m e = refl
+
+goes_on_end : (l : Letters) (t : Tail) → may_end t ≡ true → GoesOn l t []
+goes_on_end l Alone e = record { run = []; others = []; run_is = tt; others_are = tt; follow = tt; spelled = refl }
+goes_on_end l Needed e = absurd (false≢true e)
+goes_on_end l Free e = record { run = []; others = []; run_is = tt; others_are = tt; follow = tt; spelled = refl }
+
+joined_nil_at : (start more : ℕ → Bool) (e : List ℕ) (f : List ℕ) (es : List (List ℕ)) → IsElement start more e → [] ≡ e ++ each_behind 46 (f ∷ es) → ⊥
+joined_nil_at start more [] f es h e = h
+joined_nil_at start more (x ∷ run) f es h e = cc
+
+path_nil : IsPath [] → ⊥
+path_nil h = ⊎_elim (λ e. cc) (λ w. cc) h
+
+bus_nil : IsBusName [] → ⊥
+bus_nil h = ⊎_elim (λ w. cc) (λ w. joined_nil_at is_dashed_start is_dashed w.0 w.1 w.2 w.3.0 w.4) h
+
+pub name_ended_at : (p : Place) (l : Letters) (t : Tail) → name_rest_at p l t [] → name_end_at p l t ≡ true
+name_ended_at PathStart l t h = absurd (path_nil h)
+name_ended_at Root l t h = refl
+name_ended_at BusStart l t h = absurd (bus_nil h)
+name_ended_at First l t h = absurd (elements_nil_at l t h.first h.others h.first_is h.spelled)
+name_ended_at More l t h = goes_on_nil_at l t h.run h.others h.follow h.spelled
+
+pub name_ends_at : (p : Place) (l : Letters) (t : Tail) → name_end_at p l t ≡ true → name_rest_at p l t []
+name_ends_at PathStart l t e = absurd (false≢true e)
+name_ends_at Root l t e = inl refl
+name_ends_at BusStart l t e = absurd (false≢true e)
+name_ends_at First l t e = absurd (false≢true e)
+name_ends_at More l t e = goes_on_end l t e
+
+-- where each kind begins
+pub member_elements : (c : List ℕ) → IsMember c → Elements Name Alone c
+member_elements c h = record { first = c; others = []; first_is = h; others_are = tt; follow = tt; spelled = sym (append-nil c) }
+
+elements_member_at : (c first : List ℕ) (others : List (List ℕ)) → IsElement (begins Name) (goes_on Name) first → MayFollow Alone others → c ≡ first ++ each_behind 46 others → IsMember c
+elements_member_at c first [] f m e = subst IsMember (sym (e ∙ append-nil first)) f
+elements_member_at c first (g ∷ others) f m e = absurd m
+
+pub elements_member : (c : List ℕ) → Elements Name Alone c → IsMember c
+elements_member c h = elements_member_at c h.first h.others h.first_is h.follow h.spelled
+
+pub interface_elements : (c : List ℕ) → IsInterface c → Elements Name Needed c
+interface_elements c h = joined_elements Name c refl h
+
+pub elements_interface : (c : List ℕ) → Elements Name Needed c → IsInterface c
+elements_interface c h = elements_joined Name c refl h
+
+pub path_some : (c : List ℕ) × IsPath c
+path_some = (47 ∷ [], inl refl)
+
+pub bus_some : (c : List ℕ) × IsBusName c
+bus_some =
+    let w = elements_some WellKnown Needed in
+    (w.0, inr (elements_joined WellKnown w.0 refl w.1))
+
+pub member_some : (c : List ℕ) × IsMember c
+member_some =
+    let w = elements_some Name Alone in
+    (w.0, elements_member w.0 w.1)
+
+pub interface_some : (c : List ℕ) × IsInterface c
+interface_some =
+    let w = elements_some Name Needed in
+    (w.0, elements_interface w.0 w.1)
+
+name_some_at : (p : Place) (l : Letters) (t : Tail) → (c : List ℕ) × name_rest_at p l t c
+name_some_at PathStart l t = path_some
+name_some_at Root l t = ([], inl refl)
+name_some_at BusStart l t = bus_some
+name_some_at First l t = elements_some l t
+name_some_at More l t = goes_on_some l t
+
+pub name_some : (s : NameScan) → (c : List ℕ) × name_rest s c
+name_some s = name_some_at s.place s.letters s.tail

@@ -1,0 +1,134 @@
+-- The types that a text spells, read back.
+use Rattle.std.proofs.Common.{◌≡◌, ℕ, zero, suc, ◌+◌, ◌<◌, ◌≤◌, Bool, true, false, List, [], ◌∷◌, ◌++◌, length, eqb, Some, refl, sym, ap, ◌∙◌, arith, append_assoc, length-append, append-nil}
+use Rattle.std.proofs.lemmas.Bool.{false≢true}
+use Rattle.dbus_texts.specs.Types.{TypeTree, NumberType, TextType, VariantType, ArrayType, StructType, EntryType, TypeTrees, NoTypes, MoreTypes, NumberCode, BYTE, BOOLEAN, INT16, UINT16, INT32, UINT32, INT64, UINT64, DOUBLE, UNIX_FD, TextCode, STRING, OBJECT_PATH, SIGNATURE, number_code, text_code, sig, sigs, IsComplete, AreComplete, IsShaped, AreShaped}
+use Rattle.dbus_texts.specs.ComputedKinds.{opening, OneCode, parse, parses, type_spelled, types_spelled}
+
+opening_number : (k : NumberCode) → opening (number_code k) ≡ OneCode (NumberType k)
+opening_number BYTE = refl
+opening_number BOOLEAN = refl
+opening_number INT16 = refl
+opening_number UINT16 = refl
+opening_number INT32 = refl
+opening_number UINT32 = refl
+opening_number INT64 = refl
+opening_number UINT64 = refl
+opening_number DOUBLE = refl
+opening_number UNIX_FD = refl
+
+opening_text : (k : TextCode) → opening (text_code k) ≡ OneCode (TextType k)
+opening_text STRING = refl
+opening_text OBJECT_PATH = refl
+opening_text SIGNATURE = refl
+
+-- no type begins with a closing parenthesis
+begins : (t : TypeTree) → (c : ℕ) × (s : List ℕ) × (sig t ≡ c ∷ s) × (eqb c 41 ≡ false)
+begins (NumberType BYTE) = (_, _, refl, refl)
+begins (NumberType BOOLEAN) = (_, _, refl, refl)
+begins (NumberType INT16) = (_, _, refl, refl)
+begins (NumberType UINT16) = (_, _, refl, refl)
+begins (NumberType INT32) = (_, _, refl, refl)
+begins (NumberType UINT32) = (_, _, refl, refl)
+begins (NumberType INT64) = (_, _, refl, refl)
+begins (NumberType UINT64) = (_, _, refl, refl)
+begins (NumberType DOUBLE) = (_, _, refl, refl)
+begins (NumberType UNIX_FD) = (_, _, refl, refl)
+begins (TextType STRING) = (_, _, refl, refl)
+begins (TextType OBJECT_PATH) = (_, _, refl, refl)
+begins (TextType SIGNATURE) = (_, _, refl, refl)
+begins VariantType = (_, _, refl, refl)
+begins (ArrayType t) = (_, _, refl, refl)
+begins (StructType ts) = (_, _, refl, refl)
+begins (EntryType k v) = (_, _, refl, refl)
+
+parses_more : (turns : ℕ) (s u w r : List ℕ) (t : TypeTree) (ts : TypeTrees) (c : ℕ) → s ≡ c ∷ u → eqb c 41 ≡ false → parse turns s ≡ Some (t, w) → parses turns w ≡ Some (ts, r) → parses (suc turns) s ≡ Some (MoreTypes t ts, r)
+unfolding parses
+parses_more turns s u w r t ts c is other first more =
+    let at : parse turns (c ∷ u) ≡ Some (t, w) = rw is at first in
+    rw (is, other, at, more) refl
+
+parses_none : (turns : ℕ) (r : List ℕ) → parses (suc turns) (41 ∷ r) ≡ Some (NoTypes, r)
+unfolding parses
+parses_none turns r = refl
+
+parse_alone : (turns c : ℕ) (s : List ℕ) (t : TypeTree) → opening c ≡ OneCode t → parse (suc turns) (c ∷ s) ≡ Some (t, s)
+unfolding parse
+parse_alone turns c s t e = rw (e, parse) refl
+
+parse_array : (turns : ℕ) (s r : List ℕ) (t : TypeTree) → parse turns s ≡ Some (t, r) → parse (suc turns) (97 ∷ s) ≡ Some (ArrayType t, r)
+unfolding parse
+parse_array turns s r t e = rw e refl
+
+parse_struct : (turns : ℕ) (s r : List ℕ) (ts : TypeTrees) → parses turns s ≡ Some (ts, r) → parse (suc turns) (40 ∷ s) ≡ Some (StructType ts, r)
+unfolding parse
+parse_struct turns s r ts e = rw e refl
+
+parse_entry : (turns : ℕ) (s u r : List ℕ) (k v : TypeTree) → parse turns s ≡ Some (k, u) → parse turns u ≡ Some (v, 125 ∷ r) → parse (suc turns) (123 ∷ s) ≡ Some (EntryType k v, r)
+unfolding parse
+parse_entry turns s u r k v e d = rw (e, d) refl
+
+pub sig_positive : (t : TypeTree) → 0 < length (sig t)
+sig_positive t = let w = begins t in rw w.2 (omega arith)
+
+mutual
+  pub parse_sig : (t : TypeTree) (turns : ℕ) (r : List ℕ) → length (sig t) ≤ turns → parse turns (sig t ++ r) ≡ Some (t, r)
+  parse_sig (NumberType k) zero r h = absurd (omega arith)
+  parse_sig (NumberType k) (suc turns) r h = parse_alone turns (number_code k) r (NumberType k) (opening_number k)
+  parse_sig (TextType k) zero r h = absurd (omega arith)
+  parse_sig (TextType k) (suc turns) r h = parse_alone turns (text_code k) r (TextType k) (opening_text k)
+  parse_sig VariantType zero r h = absurd (omega arith)
+  parse_sig VariantType (suc turns) r h = parse_alone turns 118 r VariantType refl
+  parse_sig (ArrayType t) zero r h = absurd (omega arith)
+  parse_sig (ArrayType t) (suc turns) r h = parse_array turns (sig t ++ r) r t (parse_sig t turns r (omega arith))
+  parse_sig (StructType ts) zero r h = absurd (omega arith)
+  parse_sig (StructType ts) (suc turns) r h =
+      let e : (sigs ts ++ 41 ∷ []) ++ r ≡ sigs ts ++ 41 ∷ r = append_assoc (sigs ts) (41 ∷ []) r in
+      rw e (parse_struct turns (sigs ts ++ 41 ∷ r) r ts (parses_sig ts turns r (omega (arith, length-append (sigs ts) (41 ∷ [])))))
+  parse_sig (EntryType k v) zero r h = absurd (omega arith)
+  parse_sig (EntryType k v) (suc turns) r h =
+      let e : (sig k ++ (sig v ++ 125 ∷ [])) ++ r ≡ sig k ++ (sig v ++ 125 ∷ r) = append_assoc (sig k) (sig v ++ 125 ∷ []) r ∙ ap (λ w. sig k ++ w) (append_assoc (sig v) (125 ∷ []) r) in
+      rw e (parse_entry turns (sig k ++ (sig v ++ 125 ∷ r)) (sig v ++ 125 ∷ r) r k v
+      (parse_sig k turns (sig v ++ 125 ∷ r) (omega (arith, length-append (sig k) (sig v ++ 125 ∷ []), length-append (sig v) (125 ∷ []))))
+      (parse_sig v turns (125 ∷ r) (omega (arith, length-append (sig k) (sig v ++ 125 ∷ []), length-append (sig v) (125 ∷ [])))))
+
+  pub parses_sig : (ts : TypeTrees) (turns : ℕ) (r : List ℕ) → length (sigs ts) + 1 ≤ turns → parses turns (sigs ts ++ 41 ∷ r) ≡ Some (ts, r)
+  parses_sig NoTypes zero r h = absurd (omega arith)
+  parses_sig NoTypes (suc turns) r h = parses_none turns r
+  parses_sig (MoreTypes t ts) zero r h = absurd (omega arith)
+  parses_sig (MoreTypes t ts) (suc turns) r h =
+      let w = begins t in
+      let one : parse turns (sig t ++ (sigs ts ++ 41 ∷ r)) ≡ Some (t, sigs ts ++ 41 ∷ r) = parse_sig t turns (sigs ts ++ 41 ∷ r) (omega (arith, length-append (sig t) (sigs ts))) in
+      let more = parses_sig ts turns r (omega (arith, length-append (sig t) (sigs ts), sig_positive t)) in
+      let e : (sig t ++ sigs ts) ++ 41 ∷ r ≡ sig t ++ (sigs ts ++ 41 ∷ r) = append_assoc (sig t) (sigs ts) (41 ∷ r) in
+      rw e (parses_more turns (sig t ++ (sigs ts ++ 41 ∷ r)) (w.1 ++ (sigs ts ++ 41 ∷ r)) (sigs ts ++ 41 ∷ r) r t ts w.0 (ap (λ (u : List ℕ). u ++ (sigs ts ++ 41 ∷ r)) w.2) w.3 one more)
+
+pub spelled_sig : (t : TypeTree) → type_spelled (sig t) ≡ t
+unfolding type_spelled
+spelled_sig t =
+    let e : parse (length (sig t)) (sig t) ≡ Some (t, []) = rw append-nil at (parse_sig t (length (sig t)) [] (omega arith)) in
+    rw (e, type_spelled) refl
+
+pub spelled_sigs : (ts : TypeTrees) → types_spelled (sigs ts) ≡ ts
+unfolding types_spelled
+spelled_sigs ts =
+    let e : parses (suc (length (sigs ts))) (sigs ts ++ 41 ∷ []) ≡ Some (ts, []) = parses_sig ts (suc (length (sigs ts))) [] (omega arith) in
+    rw (e, types_spelled) refl
+
+pub sigs_same : (ts us : TypeTrees) → sigs ts ≡ sigs us → ts ≡ us
+sigs_same ts us e = sym (spelled_sigs ts) ∙ ap types_spelled e ∙ spelled_sigs us
+
+-- a complete type is shaped well, whatever is open around it
+mutual
+  pub shaped_of : (t : TypeTree) (inside : Bool) (arrays structs : ℕ) → IsComplete t inside arrays structs → IsShaped inside t
+  shaped_of (NumberType n) inside a s h = tt
+  shaped_of (TextType n) inside a s h = tt
+  shaped_of VariantType inside a s h = tt
+  shaped_of (ArrayType t) inside a s h = shaped_of t true (a + 1) s h.1
+  shaped_of (StructType NoTypes) inside a s h = h.1
+  shaped_of (StructType (MoreTypes t ts)) inside a s h = (shaped_of t false a (s + 1) h.2.0, are_shaped_of ts a (s + 1) h.2.1)
+  shaped_of (EntryType k v) true a s h = (h.1, shaped_of v false a s h.2)
+  shaped_of (EntryType k v) false a s h = absurd (false≢true h.0)
+
+  pub are_shaped_of : (ts : TypeTrees) (arrays structs : ℕ) → AreComplete ts arrays structs → AreShaped ts
+  are_shaped_of NoTypes a s h = tt
+  are_shaped_of (MoreTypes t ts) a s h = (shaped_of t false a s h.0, are_shaped_of ts a s h.1)

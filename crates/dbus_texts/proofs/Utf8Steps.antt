@@ -1,0 +1,343 @@
+-- The steps of a text.
+use Rattle.std.proofs.Common.{◌≡◌, ◌≢◌, ℕ, ◌+◌, ◌-◌, ◌*◌, ◌/◌, ◌%◌, ◌<◌, ◌≤◌, true, false, cond, eqb, leb, Option, Some, None, List, [], ◌∷◌, ◌++◌, ◌⊎◌, ⊎_elim, inl, inr, refl, sym, ap, ◌∙◌, subst, arith, encode_utf8_all, MatchOption}
+use Rattle.std.specs.List.{AllByRecursion}
+use Rattle.std.specs.Int.{is_in_range, IsInRange}
+use Rattle.std.specs.Char.{IsScalar}
+use Rattle.std.proofs.Math.Utf8.{encode, scalar_cases}
+use Rattle.std.proofs.lemmas.Bool.{cond_both, eqb-true, lt-ltb, le-ltb, le-leb, leb-true, false≢true, and_parts, and_from, ne_eqb, and_right, lt-leb, cases_lt}
+use Rattle.dbus_texts.specs.declared.utf8.Utf8Place.{Utf8Place}
+use Rattle.dbus_texts.specs.declared.utf8.Utf8Place.TheVariants.{Free, Last, LastTwo, LastThree, AfterE0, AfterEd, AfterF0, AfterF4}
+use Rattle.dbus_texts.specs.Prefixes.{IsStep}
+use Rattle.dbus_texts.specs.Utf8.{IsTextChar, IsText}
+use Rattle.dbus_texts.specs.Utf8Scans.{Behind, text_rest, lead, text_next, text_end}
+
+-- the four forms of a character
+encode_1 : (x : ℕ) → x < 128 → encode x ≡ x ∷ []
+unfolding encode
+encode_1 x h = rw (lt-ltb x 128 h)
+
+encode_2 : (x : ℕ) → 128 ≤ x → x < 2048 → encode x ≡ (192 + x / 64) ∷ (128 + x % 64) ∷ []
+unfolding encode
+encode_2 x l h = rw (le-ltb x 128 l, lt-ltb x 2048 h)
+
+encode_3 : (x : ℕ) → 2048 ≤ x → x < 65536 → encode x ≡ (224 + x / 4096) ∷ (128 + (x / 64) % 64) ∷ (128 + x % 64) ∷ []
+unfolding encode
+encode_3 x l h =
+    let k : 128 ≤ x = omega arith in
+    rw (le-ltb x 128 k, le-ltb x 2048 l, lt-ltb x 65536 h)
+
+encode_4 : (x : ℕ) → 65536 ≤ x → encode x ≡ (240 + x / 262144) ∷ (128 + (x / 4096) % 64) ∷ (128 + (x / 64) % 64) ∷ (128 + x % 64) ∷ []
+unfolding encode
+encode_4 x l =
+    let k : 128 ≤ x = omega arith in
+    let m : 2048 ≤ x = omega arith in
+    rw (le-ltb x 128 k, le-ltb x 2048 m, le-ltb x 65536 l)
+
+scalar_low : (x : ℕ) → x < 55296 → IsScalar x
+scalar_low x h = rw (lt-ltb x 55296 h)
+
+scalar_high : (x : ℕ) → 57344 ≤ x → x < 1114112 → IsScalar x
+scalar_high x l h =
+    let k : 55296 ≤ x = omega arith in
+    rw (le-ltb x 55296 k, le-leb 57344 x l, lt-ltb x 1114112 h)
+
+-- tests of a range
+in_range : (low high b : ℕ) → is_in_range low high b ≡ true → IsInRange low high b
+in_range low high b e =
+    let p = and_parts (leb low b) (leb b high) e in
+    (leb-true low b p.0, leb-true b high p.1)
+
+pub in_range_is : (low high b : ℕ) → low ≤ b → b ≤ high → is_in_range low high b ≡ true
+in_range_is low high b l h = and_from (leb low b) (leb b high) (le-leb low b l) (le-leb b high h)
+
+out_above : (low high b : ℕ) → high < b → is_in_range low high b ≡ false
+out_above low high b h = and_right (leb low b) (leb b high) (lt-leb b high h)
+
+-- what a first byte says
+abbrev Leads : Utf8Place → ℕ → Type 0
+Leads Free b = (1 ≤ b) × (b ≤ 127)
+Leads Last b = (194 ≤ b) × (b ≤ 223)
+Leads LastTwo b = ((225 ≤ b) × (b ≤ 236)) ⊎ ((238 ≤ b) × (b ≤ 239))
+Leads LastThree b = (241 ≤ b) × (b ≤ 243)
+Leads AfterE0 b = b ≡ 224
+Leads AfterEd b = b ≡ 237
+Leads AfterF0 b = b ≡ 240
+Leads AfterF4 b = b ≡ 244
+
+lead_means : (b : ℕ) → MatchOption (lead b) (Unit {0}) (λ p. Leads p b)
+lead_means b =
+    let P : Option Utf8Place → Type 0 = λ o. MatchOption o (Unit {0}) (λ p. Leads p b) in
+    cond_both (is_in_range 1 127 b) _ _ P (λ e. in_range 1 127 b e)
+    (λ n1. cond_both (is_in_range 194 223 b) _ _ P (λ e. in_range 194 223 b e)
+    (λ n2. cond_both (eqb b 224) _ _ P (λ e. eqb-true b 224 e)
+    (λ n3. cond_both (is_in_range 225 236 b) _ _ P (λ e. inl (in_range 225 236 b e))
+    (λ n4. cond_both (eqb b 237) _ _ P (λ e. eqb-true b 237 e)
+    (λ n5. cond_both (is_in_range 238 239 b) _ _ P (λ e. inr (in_range 238 239 b e))
+    (λ n6. cond_both (eqb b 240) _ _ P (λ e. eqb-true b 240 e)
+    (λ n7. cond_both (is_in_range 241 243 b) _ _ P (λ e. in_range 241 243 b e)
+    (λ n8. cond_both (eqb b 244) _ _ P (λ e. eqb-true b 244 e) (λ n9. tt)))))))))
+
+lead_is_free : (b : ℕ) → 1 ≤ b → b ≤ 127 → lead b ≡ Some Free
+lead_is_free b l h = rw (in_range_is 1 127 b l h)
+
+lead_is_last : (b : ℕ) → 194 ≤ b → b ≤ 223 → lead b ≡ Some Last
+lead_is_last b l h =
+    let a : 127 < b = omega arith in
+    rw (out_above 1 127 b a, in_range_is 194 223 b l h)
+
+lead_is_two : (b : ℕ) → 225 ≤ b → b ≤ 236 → lead b ≡ Some LastTwo
+lead_is_two b l h =
+    let a : 127 < b = omega arith in
+    let a2 : 223 < b = omega arith in
+    let a3 : b ≢ 224 = omega arith in
+    rw (out_above 1 127 b a, out_above 194 223 b a2, ne_eqb b 224 a3, in_range_is 225 236 b l h)
+
+lead_is_two_more : (b : ℕ) → 238 ≤ b → b ≤ 239 → lead b ≡ Some LastTwo
+lead_is_two_more b l h =
+    let a : 127 < b = omega arith in
+    let a2 : 223 < b = omega arith in
+    let a3 : b ≢ 224 = omega arith in
+    let a4 : 236 < b = omega arith in
+    let a5 : b ≢ 237 = omega arith in
+    rw (out_above 1 127 b a, out_above 194 223 b a2, ne_eqb b 224 a3, out_above 225 236 b a4, ne_eqb b 237 a5, in_range_is 238 239 b l h)
+
+lead_is_three : (b : ℕ) → 241 ≤ b → b ≤ 243 → lead b ≡ Some LastThree
+lead_is_three b l h =
+    let a : 127 < b = omega arith in
+    let a2 : 223 < b = omega arith in
+    let a3 : b ≢ 224 = omega arith in
+    let a4 : 236 < b = omega arith in
+    let a5 : b ≢ 237 = omega arith in
+    let a6 : 239 < b = omega arith in
+    let a7 : b ≢ 240 = omega arith in
+    rw (out_above 1 127 b a, out_above 194 223 b a2, ne_eqb b 224 a3, out_above 225 236 b a4, ne_eqb b 237 a5, out_above 238 239 b a6, ne_eqb b 240 a7, in_range_is 241 243 b l h)
+
+lead_at : (p : Utf8Place) (n b : ℕ) → b ≡ n → lead n ≡ Some p → lead b ≡ Some p
+lead_at p n b e h = ap lead e ∙ h
+
+-- a character's first byte, and what it leaves
+record Led (b : ℕ) (c : List ℕ) : Type 0 where
+  place : Utf8Place
+  leads : lead b ≡ Some place
+  follows : text_rest place c
+
+led_1 : (x b : ℕ) (c r : List ℕ) → x ≢ 0 → x < 128 → IsText r → b ∷ c ≡ x ∷ r → Led b c
+led_1 x b c r z h t e =
+    let same : b ≡ x = cc in
+    let rest : r ≡ c = cc in
+    record { place = Free; leads = lead_is_free b (omega arith) (omega arith); follows = subst (λ v. IsText v) rest t }
+
+led_2 : (x b : ℕ) (c r : List ℕ) → 128 ≤ x → x < 2048 → IsText r → b ∷ c ≡ (192 + x / 64) ∷ (128 + x % 64) ∷ r → Led b c
+led_2 x b c r l h t e =
+    let same : b ≡ 192 + x / 64 = cc in
+    let rest : (128 + x % 64) ∷ r ≡ c = cc in
+    let f : text_rest Last ((128 + x % 64) ∷ r) = ((omega arith, omega arith), t) in
+    record { place = Last; leads = lead_is_last b (omega arith) (omega arith); follows = subst (λ v. text_rest Last v) rest f }
+
+-- three bytes, by where the first is
+led_e0 : (x b : ℕ) (c r : List ℕ) → 2048 ≤ x → x < 4096 → IsText r → b ∷ c ≡ (224 + x / 4096) ∷ (128 + (x / 64) % 64) ∷ (128 + x % 64) ∷ r → Led b c
+led_e0 x b c r l h t e =
+    let same : b ≡ 224 + x / 4096 = cc in
+    let rest : (128 + (x / 64) % 64) ∷ (128 + x % 64) ∷ r ≡ c = cc in
+    let f : text_rest AfterE0 ((128 + (x / 64) % 64) ∷ (128 + x % 64) ∷ r) = ((omega arith, omega arith), ((omega arith, omega arith), t)) in
+    record { place = AfterE0; leads = lead_at AfterE0 224 b (omega arith) refl; follows = subst (λ v. text_rest AfterE0 v) rest f }
+
+led_ed : (x b : ℕ) (c r : List ℕ) → 53248 ≤ x → x < 55296 → IsText r → b ∷ c ≡ (224 + x / 4096) ∷ (128 + (x / 64) % 64) ∷ (128 + x % 64) ∷ r → Led b c
+led_ed x b c r l h t e =
+    let same : b ≡ 224 + x / 4096 = cc in
+    let rest : (128 + (x / 64) % 64) ∷ (128 + x % 64) ∷ r ≡ c = cc in
+    let f : text_rest AfterEd ((128 + (x / 64) % 64) ∷ (128 + x % 64) ∷ r) = ((omega arith, omega arith), ((omega arith, omega arith), t)) in
+    record { place = AfterEd; leads = lead_at AfterEd 237 b (omega arith) refl; follows = subst (λ v. text_rest AfterEd v) rest f }
+
+led_3 : (x b : ℕ) (c r : List ℕ) → lead (224 + x / 4096) ≡ Some LastTwo → IsText r → b ∷ c ≡ (224 + x / 4096) ∷ (128 + (x / 64) % 64) ∷ (128 + x % 64) ∷ r → Led b c
+led_3 x b c r i t e =
+    let same : b ≡ 224 + x / 4096 = cc in
+    let rest : (128 + (x / 64) % 64) ∷ (128 + x % 64) ∷ r ≡ c = cc in
+    let f : text_rest LastTwo ((128 + (x / 64) % 64) ∷ (128 + x % 64) ∷ r) = ((omega arith, omega arith), ((omega arith, omega arith), t)) in
+    record { place = LastTwo; leads = lead_at LastTwo (224 + x / 4096) b same i; follows = subst (λ v. text_rest LastTwo v) rest f }
+
+-- four bytes
+led_f0 : (x b : ℕ) (c r : List ℕ) → 65536 ≤ x → x < 262144 → IsText r → b ∷ c ≡ (240 + x / 262144) ∷ (128 + (x / 4096) % 64) ∷ (128 + (x / 64) % 64) ∷ (128 + x % 64) ∷ r → Led b c
+led_f0 x b c r l h t e =
+    let same : b ≡ 240 + x / 262144 = cc in
+    let rest : (128 + (x / 4096) % 64) ∷ (128 + (x / 64) % 64) ∷ (128 + x % 64) ∷ r ≡ c = cc in
+    let f : text_rest AfterF0 ((128 + (x / 4096) % 64) ∷ (128 + (x / 64) % 64) ∷ (128 + x % 64) ∷ r) = ((omega arith, omega arith), ((omega arith, omega arith), ((omega arith, omega arith), t))) in
+    record { place = AfterF0; leads = lead_at AfterF0 240 b (omega arith) refl; follows = subst (λ v. text_rest AfterF0 v) rest f }
+
+led_f4 : (x b : ℕ) (c r : List ℕ) → 1048576 ≤ x → x < 1114112 → IsText r → b ∷ c ≡ (240 + x / 262144) ∷ (128 + (x / 4096) % 64) ∷ (128 + (x / 64) % 64) ∷ (128 + x % 64) ∷ r → Led b c
+led_f4 x b c r l h t e =
+    let same : b ≡ 240 + x / 262144 = cc in
+    let rest : (128 + (x / 4096) % 64) ∷ (128 + (x / 64) % 64) ∷ (128 + x % 64) ∷ r ≡ c = cc in
+    let f : text_rest AfterF4 ((128 + (x / 4096) % 64) ∷ (128 + (x / 64) % 64) ∷ (128 + x % 64) ∷ r) = ((omega arith, omega arith), ((omega arith, omega arith), ((omega arith, omega arith), t))) in
+    record { place = AfterF4; leads = lead_at AfterF4 244 b (omega arith) refl; follows = subst (λ v. text_rest AfterF4 v) rest f }
+
+led_4 : (x b : ℕ) (c r : List ℕ) → 262144 ≤ x → x < 1048576 → IsText r → b ∷ c ≡ (240 + x / 262144) ∷ (128 + (x / 4096) % 64) ∷ (128 + (x / 64) % 64) ∷ (128 + x % 64) ∷ r → Led b c
+led_4 x b c r l h t e =
+    let same : b ≡ 240 + x / 262144 = cc in
+    let rest : (128 + (x / 4096) % 64) ∷ (128 + (x / 64) % 64) ∷ (128 + x % 64) ∷ r ≡ c = cc in
+    let f : text_rest LastThree ((128 + (x / 4096) % 64) ∷ (128 + (x / 64) % 64) ∷ (128 + x % 64) ∷ r) = ((omega arith, omega arith), ((omega arith, omega arith), ((omega arith, omega arith), t))) in
+    record { place = LastThree; leads = lead_is_three b (omega arith) (omega arith); follows = subst (λ v. text_rest LastThree v) rest f }
+
+char_led : (x b : ℕ) (c r : List ℕ) → IsTextChar x → IsText r → b ∷ c ≡ encode x ++ r → Led b c
+char_led x b c r h t e =
+    ⊎_elim (λ k. led_1 x b c r h.1 k t (e ∙ ap (λ v. v ++ r) (encode_1 x k)))
+    (λ l1. ⊎_elim (λ k. led_2 x b c r l1 k t (e ∙ ap (λ v. v ++ r) (encode_2 x l1 k)))
+    (λ l2. ⊎_elim (λ k. wide l2 k (e ∙ ap (λ v. v ++ r) (encode_3 x l2 k)))
+    (λ l3. wider l3 (e ∙ ap (λ v. v ++ r) (encode_4 x l3)))
+    (cases_lt x 65536)) (cases_lt x 2048)) (cases_lt x 128)
+  where
+    wide : 2048 ≤ x → x < 65536 → b ∷ c ≡ (224 + x / 4096) ∷ (128 + (x / 64) % 64) ∷ (128 + x % 64) ∷ r → Led b c
+    wide l2 k e' =
+        ⊎_elim (λ m. led_e0 x b c r l2 m t e')
+        (λ g1. ⊎_elim (λ m. led_3 x b c r (lead_is_two (224 + x / 4096) (omega arith) (omega arith)) t e')
+        (λ g2. ⊎_elim (λ m. led_ed x b c r g2 m t e')
+        (λ g3. led_3 x b c r (lead_is_two_more (224 + x / 4096) (⊎_elim (λ s. absurd (omega arith)) (λ s. omega arith) (scalar_cases x h.0)) (omega arith)) t e')
+        (cases_lt x 55296)) (cases_lt x 53248)) (cases_lt x 4096)
+
+    wider : 65536 ≤ x → b ∷ c ≡ (240 + x / 262144) ∷ (128 + (x / 4096) % 64) ∷ (128 + (x / 64) % 64) ∷ (128 + x % 64) ∷ r → Led b c
+    wider l3 e' =
+        ⊎_elim (λ m. led_f0 x b c r l3 m t e')
+        (λ g1. ⊎_elim (λ m. led_4 x b c r g1 m t e')
+        (λ g2. led_f4 x b c r g2 (⊎_elim (λ s. absurd (omega arith)) (λ s. s.1) (scalar_cases x h.0)) t e')
+        (cases_lt x 1048576)) (cases_lt x 262144)
+
+text_led_at : (cs : List ℕ) (b : ℕ) (c : List ℕ) → AllByRecursion IsTextChar cs → b ∷ c ≡ encode_utf8_all cs → Led b c
+text_led_at [] b c a e = cc
+text_led_at (x ∷ cs) b c a e = char_led x b c (encode_utf8_all cs) a.0 (cs, a.1, refl) e
+
+text_led : (b : ℕ) (c : List ℕ) → IsText (b ∷ c) → Led b c
+text_led b c h = text_led_at h.0 b c h.1 h.2
+
+-- a character before a text
+text_cons : (x : ℕ) (w r : List ℕ) → IsTextChar x → w ≡ encode x ++ r → IsText r → IsText w
+text_cons x w r h e t = (x ∷ t.0, (h, t.1), e ∙ ap (λ v. encode x ++ v) t.2)
+
+back_free : (b : ℕ) (c : List ℕ) → 1 ≤ b → b ≤ 127 → IsText c → IsText (b ∷ c)
+back_free b c l h t = text_cons b (b ∷ c) c (scalar_low b (omega arith), omega arith) (ap (λ v. v ++ c) (sym (encode_1 b (omega arith)))) t
+
+back_last : (b : ℕ) (c : List ℕ) → 194 ≤ b → b ≤ 223 → text_rest Last c → IsText (b ∷ c)
+back_last b [] l h t = absurd t
+back_last b (i ∷ c) l h t =
+    let x = (b - 192) * 64 + (i - 128) in
+    let f : (128 ≤ x) × (x < 2048) = (omega arith, omega arith) in
+    let e0 : 192 + x / 64 ≡ b = omega arith in
+    let e1 : 128 + x % 64 ≡ i = omega arith in
+    let e : b ∷ i ∷ c ≡ ((192 + x / 64) ∷ (128 + x % 64) ∷ []) ++ c = cc in
+    text_cons x (b ∷ i ∷ c) c (scalar_low x (omega arith), omega arith) (e ∙ ap (λ v. v ++ c) (sym (encode_2 x f.0 f.1))) t.1
+
+back_3 : (b i j : ℕ) (c : List ℕ) → 224 ≤ b → b ≤ 239 → IsInRange 128 191 i → IsInRange 128 191 j → 2048 ≤ (b - 224) * 4096 + (i - 128) * 64 + (j - 128) → IsScalar ((b - 224) * 4096 + (i - 128) * 64 + (j - 128)) → IsText c → IsText (b ∷ i ∷ j ∷ c)
+back_3 b i j c l h ri rj low s t =
+    let x = (b - 224) * 4096 + (i - 128) * 64 + (j - 128) in
+    let f : x < 65536 = omega arith in
+    let e0 : 224 + x / 4096 ≡ b = omega arith in
+    let e1 : 128 + (x / 64) % 64 ≡ i = omega arith in
+    let e2 : 128 + x % 64 ≡ j = omega arith in
+    let e : b ∷ i ∷ j ∷ c ≡ ((224 + x / 4096) ∷ (128 + (x / 64) % 64) ∷ (128 + x % 64) ∷ []) ++ c = cc in
+    text_cons x (b ∷ i ∷ j ∷ c) c (s, omega arith) (e ∙ ap (λ v. v ++ c) (sym (encode_3 x low f))) t
+
+back_4 : (b i j k : ℕ) (c : List ℕ) → 240 ≤ b → b ≤ 244 → IsInRange 128 191 i → IsInRange 128 191 j → IsInRange 128 191 k → 65536 ≤ (b - 240) * 262144 + (i - 128) * 4096 + (j - 128) * 64 + (k - 128) → (b - 240) * 262144 + (i - 128) * 4096 + (j - 128) * 64 + (k - 128) < 1114112 → IsText c → IsText (b ∷ i ∷ j ∷ k ∷ c)
+back_4 b i j k c l h ri rj rk low high t =
+    let x = (b - 240) * 262144 + (i - 128) * 4096 + (j - 128) * 64 + (k - 128) in
+    let e0 : 240 + x / 262144 ≡ b = omega arith in
+    let e1 : 128 + (x / 4096) % 64 ≡ i = omega arith in
+    let e2 : 128 + (x / 64) % 64 ≡ j = omega arith in
+    let e3 : 128 + x % 64 ≡ k = omega arith in
+    let e : b ∷ i ∷ j ∷ k ∷ c ≡ ((240 + x / 262144) ∷ (128 + (x / 4096) % 64) ∷ (128 + (x / 64) % 64) ∷ (128 + x % 64) ∷ []) ++ c = cc in
+    text_cons x (b ∷ i ∷ j ∷ k ∷ c) c (scalar_high x (omega arith) high, omega arith) (e ∙ ap (λ v. v ++ c) (sym (encode_4 x low))) t
+
+-- three bytes after one that begins them
+abbrev Trailing : ℕ → ℕ → ℕ → (List ℕ → Type 0) → List ℕ → Type 0
+Trailing low high b R c = Behind low high R c
+
+back_two : (low high b : ℕ) (c : List ℕ) → 224 ≤ b → b ≤ 239 → ((i j : ℕ) → IsInRange low high i → IsInRange 128 191 j → IsInRange 128 191 i × (2048 ≤ (b - 224) * 4096 + (i - 128) * 64 + (j - 128)) × IsScalar ((b - 224) * 4096 + (i - 128) * 64 + (j - 128))) → Behind low high (Behind 128 191 IsText) c → IsText (b ∷ c)
+back_two low high b [] l h f t = absurd t
+back_two low high b (i ∷ []) l h f t = absurd t.1
+back_two low high b (i ∷ j ∷ c) l h f t =
+    let g = f i j t.0 t.1.0 in
+    back_3 b i j c l h g.0 t.1.0 g.1 g.2 t.1.1
+
+back_three : (low high b : ℕ) (c : List ℕ) → 240 ≤ b → b ≤ 244 → ((i j k : ℕ) → IsInRange low high i → IsInRange 128 191 j → IsInRange 128 191 k → IsInRange 128 191 i × (65536 ≤ (b - 240) * 262144 + (i - 128) * 4096 + (j - 128) * 64 + (k - 128)) × ((b - 240) * 262144 + (i - 128) * 4096 + (j - 128) * 64 + (k - 128) < 1114112)) → Behind low high (Behind 128 191 (Behind 128 191 IsText)) c → IsText (b ∷ c)
+back_three low high b [] l h f t = absurd t
+back_three low high b (i ∷ []) l h f t = absurd t.1
+back_three low high b (i ∷ j ∷ []) l h f t = absurd t.1.1
+back_three low high b (i ∷ j ∷ k ∷ c) l h f t =
+    let g = f i j k t.0 t.1.0 t.1.1.0 in
+    back_4 b i j k c l h g.0 t.1.0 t.1.1.0 g.1 g.2 t.1.1.1
+
+back : (p : Utf8Place) (b : ℕ) (c : List ℕ) → Leads p b → text_rest p c → IsText (b ∷ c)
+back Free b c h t = back_free b c h.0 h.1 t
+back Last b c h t = back_last b c h.0 h.1 t
+back LastTwo b c h t =
+    ⊎_elim
+    (λ w. back_two 128 191 b c (omega arith) (omega arith) (λ i j ri rj. let x = (b - 224) * 4096 + (i - 128) * 64 + (j - 128) in (ri, omega arith, scalar_low x (omega arith))) t)
+    (λ w. back_two 128 191 b c (omega arith) (omega arith) (λ i j ri rj. let x = (b - 224) * 4096 + (i - 128) * 64 + (j - 128) in (ri, omega arith, scalar_high x (omega arith) (omega arith))) t)
+    h
+back LastThree b c h t = back_three 128 191 b c (omega arith) (omega arith) (λ i j k ri rj rk. (ri, omega arith, omega arith)) t
+back AfterE0 b c h t = back_two 160 191 b c (omega arith) (omega arith) (λ i j ri rj. let x = (b - 224) * 4096 + (i - 128) * 64 + (j - 128) in ((omega arith, omega arith), omega arith, scalar_low x (omega arith))) t
+back AfterEd b c h t = back_two 128 159 b c (omega arith) (omega arith) (λ i j ri rj. let x = (b - 224) * 4096 + (i - 128) * 64 + (j - 128) in ((omega arith, omega arith), omega arith, scalar_low x (omega arith))) t
+back AfterF0 b c h t = back_three 144 191 b c (omega arith) (omega arith) (λ i j k ri rj rk. ((omega arith, omega arith), omega arith, omega arith)) t
+back AfterF4 b c h t = back_three 128 143 b c (omega arith) (omega arith) (λ i j k ri rj rk. ((omega arith, omega arith), omega arith, omega arith)) t
+
+-- something may always follow
+nil_text : IsText []
+nil_text = ([], tt, refl)
+
+pub rest_some : (p : Utf8Place) → (c : List ℕ) × text_rest p c
+rest_some Free = ([], nil_text)
+rest_some Last = (128 ∷ [], ((omega arith, omega arith), nil_text))
+rest_some LastTwo = (128 ∷ 128 ∷ [], ((omega arith, omega arith), ((omega arith, omega arith), nil_text)))
+rest_some LastThree = (128 ∷ 128 ∷ 128 ∷ [], ((omega arith, omega arith), ((omega arith, omega arith), ((omega arith, omega arith), nil_text))))
+rest_some AfterE0 = (160 ∷ 128 ∷ [], ((omega arith, omega arith), ((omega arith, omega arith), nil_text)))
+rest_some AfterEd = (128 ∷ 128 ∷ [], ((omega arith, omega arith), ((omega arith, omega arith), nil_text)))
+rest_some AfterF0 = (144 ∷ 128 ∷ 128 ∷ [], ((omega arith, omega arith), ((omega arith, omega arith), ((omega arith, omega arith), nil_text))))
+rest_some AfterF4 = (128 ∷ 128 ∷ 128 ∷ [], ((omega arith, omega arith), ((omega arith, omega arith), ((omega arith, omega arith), nil_text))))
+
+-- a first byte
+free_moves : (b : ℕ) (o : Option Utf8Place) → lead b ≡ o → IsStep text_rest Free b o
+free_moves b None e = λ c h. let l = text_led b c h in let w = l.leads in cc
+free_moves b (Some p) e =
+    record {
+      to = λ c h. let l = text_led b c h in let q = l.leads in let same : l.place ≡ p = cc in subst (λ s. text_rest s c) same l.follows;
+      from = λ c h. back p b c (subst (λ o. MatchOption o (Unit {0}) (λ s. Leads s b)) e (lead_means b)) h;
+      some = rest_some p;
+    }
+
+-- a byte after the first
+behind_moves : (p q : Utf8Place) (low high b : ℕ) → ((c : List ℕ) → text_rest p (b ∷ c) → IsInRange low high b × text_rest q c) → ((c : List ℕ) → IsInRange low high b → text_rest q c → text_rest p (b ∷ c)) → IsStep text_rest p b (cond (is_in_range low high b) (Some q) None)
+behind_moves p q low high b to from =
+    cond_both (is_in_range low high b) _ _ (IsStep text_rest p b)
+    (λ e. record { to = λ c h. (to c h).1; from = λ c h. from c (in_range low high b e) h; some = rest_some q })
+    (λ e. λ c h. let r = (to c h).0 in false≢true (sym e ∙ in_range_is low high b r.0 r.1))
+
+pub text_moves : (p : Utf8Place) (b : ℕ) → IsStep text_rest p b (text_next p b)
+text_moves Free b = free_moves b (lead b) refl
+text_moves Last b = behind_moves Last Free 128 191 b (λ c h. h) (λ c r h. (r, h))
+text_moves LastTwo b = behind_moves LastTwo Last 128 191 b (λ c h. h) (λ c r h. (r, h))
+text_moves LastThree b = behind_moves LastThree LastTwo 128 191 b (λ c h. h) (λ c r h. (r, h))
+text_moves AfterE0 b = behind_moves AfterE0 Last 160 191 b (λ c h. h) (λ c r h. (r, h))
+text_moves AfterEd b = behind_moves AfterEd Last 128 159 b (λ c h. h) (λ c r h. (r, h))
+text_moves AfterF0 b = behind_moves AfterF0 LastTwo 144 191 b (λ c h. h) (λ c r h. (r, h))
+text_moves AfterF4 b = behind_moves AfterF4 LastTwo 128 143 b (λ c h. h) (λ c r h. (r, h))
+
+pub text_ended : (p : Utf8Place) → text_rest p [] → text_end p ≡ true
+text_ended Free h = refl
+text_ended Last h = absurd h
+text_ended LastTwo h = absurd h
+text_ended LastThree h = absurd h
+text_ended AfterE0 h = absurd h
+text_ended AfterEd h = absurd h
+text_ended AfterF0 h = absurd h
+text_ended AfterF4 h = absurd h
+
+pub text_ends : (p : Utf8Place) → text_end p ≡ true → text_rest p []
+text_ends Free e = nil_text
+text_ends Last e = absurd (false≢true e)
+text_ends LastTwo e = absurd (false≢true e)
+text_ends LastThree e = absurd (false≢true e)
+text_ends AfterE0 e = absurd (false≢true e)
+text_ends AfterEd e = absurd (false≢true e)
+text_ends AfterF0 e = absurd (false≢true e)
+text_ends AfterF4 e = absurd (false≢true e)
+
+pub text_some : (c : List ℕ) × IsText c
+text_some = ([], nil_text)

@@ -1,0 +1,33 @@
+use Rattle.std.proofs.Common.{◌≡◌, Some, sym, subst, length, ◌-◌, rules}
+use Rattle.dbus_texts.proofs.FrameBounds.{AreBounded-take, AreBounded-innermost}
+use Rattle.dbus_texts.proofs.signature.SigScan.step.Goals as goal
+use Rattle.dbus_texts.specs.Frames.{AreBounded}
+use Rattle.dbus_texts.specs.SignatureScans.{innermost}
+
+pub invariant_of-self-clause-bounded : goal.invariant_of-self-clause-bounded
+invariant_of-self-clause-bounded c =
+    let x = c.args.self.now in
+    subst (λ fs. AreBounded 0 fs) (sym c.pop.ensures.rest) (AreBounded-take 0 (length x.frames.items - 1) x.frames.items x.bounded)
+
+pub invariant_of-self-then-byte-eq41-clause-bounded : goal.invariant_of-self-then-byte-eq41-clause-bounded
+invariant_of-self-then-byte-eq41-clause-bounded c =
+    let x = c.args.self.now in
+    subst (λ fs. AreBounded 0 fs) (sym c.pop-then-byte-eq41.ensures.rest) (AreBounded-take 0 (length x.frames.items - 1) x.frames.items x.bounded)
+
+pub begin-requires-in-Some-clause-arrays_in : goal.begin-requires-in-Some-clause-arrays_in
+begin-requires-in-Some-clause-arrays_in c =
+    let x = c.args.self.now in
+    let e : innermost x.frames.items ≡ Some c.in-Some.frame = search rules in
+    (AreBounded-innermost x.frames.items c.in-Some.frame x.bounded e).1.0
+
+pub begin-requires-in-Some-clause-structs_in : goal.begin-requires-in-Some-clause-structs_in
+begin-requires-in-Some-clause-structs_in c =
+    let x = c.args.self.now in
+    let e : innermost x.frames.items ≡ Some c.in-Some.frame = search rules in
+    (AreBounded-innermost x.frames.items c.in-Some.frame x.bounded e).1.1
+
+pub begin-requires-in-Some-clause-room : goal.begin-requires-in-Some-clause-room
+begin-requires-in-Some-clause-room c =
+    let x = c.args.self.now in
+    let e : innermost x.frames.items ≡ Some c.in-Some.frame = search rules in
+    (AreBounded-innermost x.frames.items c.in-Some.frame x.bounded e).0

@@ -1,0 +1,15 @@
+pub mod Types
+pub mod Prefixes
+pub mod Names
+pub mod NameScans
+pub mod Utf8
+pub mod Utf8Scans
+pub mod Signatures
+pub mod SignatureScans
+pub mod Frames
+pub mod SigViews
+pub mod Kinds
+pub mod Scans
+pub mod Verdicts
+pub mod ComputedKinds
+pub mod Laws

@@ -1,0 +1,194 @@
+//! Checks of whole texts.
+#![tactic(auto)]
+
+ghost use Rattle.std.specs.Prelude.{◌≡◌, ◌↔◌, ℕ, List, ◌∷◌, IsTrue};
+ghost use Rattle.dbus_texts.specs.declared.text_kind.TextKind.TheVariants.{Path, Interface, Member, ErrorName, BusName, Signature, Single};
+ghost use Rattle.dbus_texts.specs.declared.check.SigFault.TheVariants.{Memory};
+ghost use Rattle.dbus_texts.specs.Kinds.{IsBreak, IsOfKind};
+ghost use Rattle.dbus_texts.specs.Verdicts.{IsBreakOf, IsTextBreak, IsVerdict, IsPathVerdict, IsSigVerdict};
+
+use crate::scan::ScanState;
+use crate::text_kind::TextKind;
+use crate::type_codes::is_type_code;
+use std::alloc::{AllocError, AllocFailed};
+
+/// Why a text is not the name that is wanted.
+#[derive(Clone, Copy, PartialEq, Eq, Debug)]
+pub enum NameFault {
+    /// It has more than 255 bytes. This comes before `Bad`.
+    TooLong,
+    /// It breaks at `at`, which is the length of its longest front with which some such name begins.
+    Bad { at: usize },
+}
+
+/// Why a text, or the text of some types, is no signature.
+#[derive(Clone, Copy, PartialEq, Eq, Debug)]
+pub enum SigFault {
+    /// A growth of memory was refused.
+    Memory,
+    /// It has more than 255 bytes. This comes before `Bad`.
+    TooLong,
+    /// It breaks at `at`, which is the length of its longest front with which some signature begins.
+    Bad { at: usize },
+}
+
+impl From<AllocError> for SigFault {
+    ghost from_gives = { λ _ e. e ≡ Memory };
+
+    fn from(_: AllocError) -> Self {
+        SigFault::Memory
+    }
+}
+
+impl<T: Drop> From<AllocFailed<T>> for SigFault {
+    ghost from_gives = { λ _ e. e ≡ Memory };
+
+    fn from(_: AllocFailed<T>) -> Self {
+        SigFault::Memory
+    }
+}
+
+/// The most bytes of a name or a signature.
+const LONGEST: usize = 255;
+
+/// Whether one byte is there, for a signature, and spells a type: so are most signatures of variants.
+#[tactic(auto, using(crate::proofs::Codes::coded_signature, crate::proofs::Codes::coded_single))]
+fn is_one_code(kind: TextKind, text: &[u8]) -> bool
+    ensures { IsTrue result → IsOfKind kind text.now }
+{
+    match kind {
+        TextKind::Signature | TextKind::Single => text.len() == 1 && is_type_code(text[0]),
+        _ => false,
+    }
+}
+
+/// Where a text breaks that is not of the kind, limits on length aside.
+fn break_of(kind: TextKind, text: &[u8]) -> Option<usize>
+    ensures { IsBreakOf kind text.now result }
+{
+    if is_one_code(kind, text) {
+        return None;
+    }
+    ScanState::of_kind(kind).break_of(text)
+}
+
+/// The length of the text's longest front with which some text of the kind begins, limits on length
+/// lifted. This is the text's length where all of it begins some text of the kind.
+pub fn first_break(kind: TextKind, text: &[u8]) -> usize
+    ensures { IsBreak kind text.now result }
+{
+    match break_of(kind, text) {
+        None => text.len(),
+        Some(at) => at,
+    }
+}
+
+/// Where a text breaks that is not of the kind: at the length of its longest front with which some text of
+/// the kind begins, limits on length lifted. `None` where the text is of the kind.
+pub fn text_break(kind: TextKind, text: &[u8]) -> Option<usize>
+    ensures { IsTextBreak kind text.now result }
+{
+    match break_of(kind, text) {
+        None if kind.is_limited() && text.len() > LONGEST => Some(text.len()),
+        found => found,
+    }
+}
+
+fn check_name(kind: TextKind, text: &[u8]) -> Result<(), NameFault>
+    ensures { IsVerdict kind text.now result }
+{
+    if text.len() > LONGEST {
+        return Err(NameFault::TooLong);
+    }
+    match break_of(kind, text) {
+        None => Ok(()),
+        Some(at) => Err(NameFault::Bad { at }),
+    }
+}
+
+fn check_types(kind: TextKind, text: &[u8]) -> Result<(), SigFault>
+    ensures { IsSigVerdict kind text.now result }
+{
+    if text.len() > LONGEST {
+        return Err(SigFault::TooLong);
+    }
+    match break_of(kind, text) {
+        None => Ok(()),
+        Some(at) => Err(SigFault::Bad { at }),
+    }
+}
+
+/// Whether the text is an object path: `/`, or elements of `[A-Za-z0-9_]`, each behind a `/`.
+///
+/// Else `Bad` at its break; `TooLong` never comes. D-Bus Specification, "Valid Object Paths".
+pub fn check_path(text: &[u8]) -> Result<(), NameFault>
+    ensures { IsPathVerdict Path text.now result }
+{
+    match break_of(TextKind::Path, text) {
+        None => Ok(()),
+        Some(at) => Err(NameFault::Bad { at }),
+    }
+}
+
+/// Whether the text is an interface name: two or more elements joined by `.`.
+///
+/// Else `TooLong` over 255 bytes, else `Bad` at its break. D-Bus Specification, "Interface names".
+pub fn check_interface(text: &[u8]) -> Result<(), NameFault>
+    ensures { IsVerdict Interface text.now result }
+{
+    check_name(TextKind::Interface, text)
+}
+
+/// Whether the text is a member name: one element, which begins with no digit.
+///
+/// Else `TooLong` over 255 bytes, else `Bad` at its break. D-Bus Specification, "Member names".
+pub fn check_member(text: &[u8]) -> Result<(), NameFault>
+    ensures { IsVerdict Member text.now result }
+{
+    check_name(TextKind::Member, text)
+}
+
+/// Whether the text is an error name, which is made as an interface name is.
+///
+/// Else `TooLong` over 255 bytes, else `Bad` at its break. D-Bus Specification, "Error names".
+pub fn check_error_name(text: &[u8]) -> Result<(), NameFault>
+    ensures { IsVerdict ErrorName text.now result }
+{
+    check_name(TextKind::ErrorName, text)
+}
+
+/// Whether the text is a bus name: unique, which begins with `:`, or well-known.
+///
+/// Else `TooLong` over 255 bytes, else `Bad` at its break. D-Bus Specification, "Bus names".
+pub fn check_bus_name(text: &[u8]) -> Result<(), NameFault>
+    ensures { IsVerdict BusName text.now result }
+{
+    check_name(TextKind::BusName, text)
+}
+
+/// Whether the text is a signature: zero or more complete types.
+///
+/// Else `TooLong` over 255 bytes, else `Bad` at its break; `Memory` never comes. D-Bus Specification,
+/// "Valid Signatures".
+pub fn check_signature(text: &[u8]) -> Result<(), SigFault>
+    ensures { IsSigVerdict Signature text.now result }
+{
+    check_types(TextKind::Signature, text)
+}
+
+/// Whether the text is a signature of exactly one complete type.
+///
+/// Else `TooLong` over 255 bytes, else `Bad` at its break; `Memory` never comes. D-Bus Specification,
+/// "Valid Signatures".
+pub fn check_single(text: &[u8]) -> Result<(), SigFault>
+    ensures { IsSigVerdict Single text.now result }
+{
+    check_types(TextKind::Single, text)
+}
+
+/// Whether a bus name is unique: it begins with `:`. D-Bus Specification, "Bus names".
+pub fn is_unique(name: &[u8]) -> bool
+    ensures { IsTrue result ↔ ((rest : List ℕ) × (name.now ≡ 58 ∷ rest)) }
+{
+    matches!(name, [b':', ..])
+}

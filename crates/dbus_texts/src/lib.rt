@@ -1,0 +1,20 @@
+//! Texts, names and signatures of the D-Bus wire format: which bytes are of each kind, and where others break.
+#![tactic(auto)]
+
+mod ascii;
+mod check;
+mod laws;
+mod names;
+mod scan;
+mod signature;
+mod text_kind;
+mod type_codes;
+mod utf8;
+
+pub use check::{
+    NameFault, SigFault, check_bus_name, check_error_name, check_interface, check_member,
+    check_path, check_signature, check_single, first_break, is_unique, text_break,
+};
+pub use laws::{breaks_are_computed, kinds_are_computed, names_are_texts, texts_are_utf8};
+pub use scan::TextScan;
+pub use text_kind::TextKind;

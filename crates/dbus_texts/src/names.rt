@@ -1,0 +1,209 @@
+//! The scan of object paths and names.
+#![tactic(auto)]
+
+ghost use Rattle.std.specs.Prelude.{◌≡◌, ℕ, ◌≤◌, ◌<◌, length, true, get_or};
+ghost use Rattle.dbus_texts.specs.Names.{is_word, is_dashed_start};
+ghost use Rattle.dbus_texts.specs.NameScans.{begins, goes_on, separator, name_next, name_end, name_rest};
+
+/// Which bytes an element may have.
+#[derive(Clone, Copy, PartialEq, Eq, Debug)]
+pub enum Letters {
+    /// `[A-Za-z0-9_]`: elements of an object path, between `/`.
+    Word,
+    /// The same, but no digit first: elements of an interface or member name, between `.`.
+    Name,
+    /// `[A-Za-z0-9_-]`: elements of a unique bus name, between `.`.
+    Unique,
+    /// The same, but no digit first: elements of a well-known bus name, between `.`.
+    WellKnown,
+}
+
+/// How many elements may follow the one under way.
+#[derive(Clone, Copy, PartialEq, Eq, Debug)]
+pub enum Tail {
+    /// None.
+    Alone,
+    /// One or more.
+    Needed,
+    /// Any number.
+    Free,
+}
+
+/// Where in a name the scan stands.
+#[derive(Clone, Copy, PartialEq, Eq, Debug)]
+pub enum Place {
+    /// Before an object path.
+    PathStart,
+    /// Behind the first `/` of an object path.
+    Root,
+    /// Before a bus name.
+    BusStart,
+    /// Before the first byte of an element.
+    First,
+    /// Within an element, or behind it.
+    More,
+}
+
+/// What is wanted of a name from here on.
+#[derive(Clone, Copy, PartialEq, Eq, Debug)]
+pub struct NameScan {
+    pub place: Place,
+    pub letters: Letters,
+    pub tail: Tail,
+}
+
+/// `[A-Za-z0-9_]`, of which small letters are asked for first, since most are.
+fn is_word(byte: u8) -> bool
+    ensures { result ≡ is_word byte }
+{
+    byte.is_ascii_lowercase() || byte.is_ascii_alphanumeric() || byte == b'_'
+}
+
+/// `[A-Za-z_-]`
+fn is_dashed_start(byte: u8) -> bool
+    ensures { result ≡ is_dashed_start byte }
+{
+    byte.is_ascii_alphabetic() || byte == b'_' || byte == b'-'
+}
+
+impl Letters {
+    /// Whether an element may begin with the byte.
+    fn begins(self, byte: u8) -> bool
+        ensures { result ≡ begins self byte }
+    {
+        match self {
+            Letters::Word => is_word(byte),
+            Letters::Name => byte.is_ascii_alphabetic() || byte == b'_',
+            Letters::Unique => is_word(byte) || byte == b'-',
+            Letters::WellKnown => is_dashed_start(byte),
+        }
+    }
+
+    /// Whether an element may go on with the byte.
+    fn goes_on(self, byte: u8) -> bool
+        ensures { result ≡ goes_on self byte }
+    {
+        match self {
+            Letters::Word | Letters::Name => is_word(byte),
+            Letters::Unique | Letters::WellKnown => is_word(byte) || byte == b'-',
+        }
+    }
+
+    /// The place behind the bytes, from a place on, with which an element may go on.
+    fn run_end(self, text: &[u8], at: usize) -> usize
+        requires { at ≤ length text.now }
+        ensures range { (at ≤ result) × (result ≤ length text.now) }
+        ensures run { (i : ℕ) → at ≤ i → i < result → goes_on self (get_or text.now i 0) ≡ true }
+    {
+        let mut end = at;
+        match self {
+            Letters::Word | Letters::Name => {
+                while end < text.len() && is_word(text[end]) {
+                    end += 1;
+                }
+            }
+            Letters::Unique | Letters::WellKnown => {
+                while end < text.len() && (is_word(text[end]) || text[end] == b'-') {
+                    end += 1;
+                }
+            }
+        }
+        end
+    }
+
+    /// The byte between elements.
+    fn separator(self) -> u8
+        ensures { result ≡ separator self }
+    {
+        match self {
+            Letters::Word => b'/',
+            _ => b'.',
+        }
+    }
+}
+
+impl NameScan {
+    ghost use Rattle.dbus_texts.specs.Prefixes.{IsBreakFrom};
+
+    /// What is wanted after one byte more, if it may stand here.
+    pub fn next(self, byte: u8) -> Option<NameScan>
+        ensures { result ≡ name_next self byte }
+    {
+        match self.place {
+            Place::PathStart => (byte == b'/').then_some(NameScan {
+                place: Place::Root,
+                letters: Letters::Word,
+                tail: Tail::Free,
+            }),
+            Place::Root => is_word(byte).then_some(NameScan {
+                place: Place::More,
+                letters: Letters::Word,
+                tail: Tail::Free,
+            }),
+            Place::BusStart => {
+                if byte == b':' {
+                    return Some(NameScan {
+                        place: Place::First,
+                        letters: Letters::Unique,
+                        tail: Tail::Needed,
+                    });
+                }
+                is_dashed_start(byte).then_some(NameScan {
+                    place: Place::More,
+                    letters: Letters::WellKnown,
+                    tail: Tail::Needed,
+                })
+            }
+            Place::First => self.letters.begins(byte).then_some(NameScan {
+                place: Place::More,
+                ..self
+            }),
+            Place::More => {
+                if self.letters.goes_on(byte) {
+                    return Some(self);
+                }
+                if byte != self.letters.separator() {
+                    return None;
+                }
+                match self.tail {
+                    Tail::Alone => None,
+                    Tail::Needed | Tail::Free => Some(NameScan {
+                        place: Place::First,
+                        tail: Tail::Free,
+                        ..self
+                    }),
+                }
+            }
+        }
+    }
+
+    /// Whether the name may end here.
+    pub fn end(self) -> bool
+        ensures { result ≡ name_end self }
+    {
+        match self.place {
+            Place::Root => true,
+            Place::More => self.tail != Tail::Needed,
+            _ => false,
+        }
+    }
+
+    /// Where a name breaks that goes on from here, or `None` where it may go on so and end.
+    pub fn break_of(self, text: &[u8]) -> Option<usize>
+        ensures { IsBreakFrom (name_rest self) text.now result }
+    {
+        let mut scan = self;
+        let mut at = 0;
+        while at < text.len() {
+            match scan.next(text[at]) {
+                Some(next) => scan = next,
+                None => return Some(at),
+            }
+            at += 1;
+            if let Place::More = scan.place {
+                at = scan.letters.run_end(text, at);
+            }
+        }
+        if scan.end() { None } else { Some(text.len()) }
+    }
+}

@@ -1,0 +1,167 @@
+//! The scan of a text of any kind.
+#![tactic(auto)]
+
+ghost use Rattle.std.specs.Prelude.{◌≡◌, ◌↔◌, ℕ, List, [], ◌∷◌, ◌++◌, IsTrue, IsFalse};
+ghost use Rattle.dbus_texts.specs.NameScans.{name_state};
+
+use crate::names::{Letters, NameScan, Place, Tail};
+use crate::signature::SigScan;
+use crate::text_kind::TextKind;
+use crate::utf8::Utf8Place;
+
+/// What is wanted of a text from here on.
+#[derive(Debug, Drop)]
+pub enum ScanState {
+    InText(Utf8Place),
+    InName(NameScan),
+    InSignature(SigScan),
+}
+
+impl ScanState {
+    ghost use Rattle.dbus_texts.specs.Kinds.{IsOfKind};
+    ghost use Rattle.dbus_texts.specs.Prefixes.{IsQuotient, IsBreakFrom};
+    ghost use Rattle.dbus_texts.specs.Scans.{Steps, state_rest};
+
+    /// The state before any byte of a text of the kind.
+    pub fn of_kind(kind: TextKind) -> Self
+        ensures { IsQuotient (IsOfKind kind) [] (state_rest result) }
+    {
+        match kind {
+            TextKind::Text => ScanState::InText(Utf8Place::Free),
+            TextKind::Path => {
+                ScanState::InName(name_scan(Place::PathStart, Letters::Word, Tail::Free))
+            }
+            TextKind::Interface | TextKind::ErrorName => {
+                ScanState::InName(name_scan(Place::First, Letters::Name, Tail::Needed))
+            }
+            TextKind::Member => {
+                ScanState::InName(name_scan(Place::First, Letters::Name, Tail::Alone))
+            }
+            TextKind::BusName => {
+                ScanState::InName(name_scan(Place::BusStart, Letters::Unique, Tail::Needed))
+            }
+            TextKind::Signature => ScanState::InSignature(SigScan::new(false)),
+            TextKind::Single => ScanState::InSignature(SigScan::new(true)),
+        }
+    }
+
+    /// Takes one byte more, if it may stand here; else changes nothing.
+    fn step(&mut self, byte: u8) -> bool
+        ensures { Steps self.old byte result self.new }
+    {
+        match self {
+            ScanState::InText(place) => match place.next(byte) {
+                Some(next) => {
+                    *place = next;
+                    true
+                }
+                None => false,
+            },
+            ScanState::InName(name) => match name.next(byte) {
+                Some(next) => {
+                    *name = next;
+                    true
+                }
+                None => false,
+            },
+            ScanState::InSignature(signature) => signature.step(byte),
+        }
+    }
+
+    /// Whether the text may end here.
+    fn end(&self) -> bool
+        ensures { IsTrue result ↔ state_rest self.now [] }
+    {
+        match self {
+            ScanState::InText(place) => place.end(),
+            ScanState::InName(name) => name.end(),
+            ScanState::InSignature(signature) => signature.end(),
+        }
+    }
+
+    /// Where a text breaks that goes on from here, or `None` where it may go on so and end.
+    pub fn break_of(self, text: &[u8]) -> Option<usize>
+        ensures { IsBreakFrom (state_rest self) text.now result }
+    {
+        match self {
+            ScanState::InText(place) => place.break_of(text),
+            ScanState::InName(name) => name.break_of(text),
+            ScanState::InSignature(signature) => signature.break_of(text),
+        }
+    }
+}
+
+const fn name_scan(place: Place, letters: Letters, tail: Tail) -> NameScan
+    ensures { result ≡ name_state place letters tail }
+{
+    NameScan {
+        place,
+        letters,
+        tail,
+    }
+}
+
+/// Reads a text of a kind byte by byte, in fixed room.
+///
+/// It holds no byte of the text. D-Bus Specification, "Basic types", "Valid Object Paths", "Valid
+/// Names" and "Valid Signatures".
+#[derive(Debug, Drop)]
+pub struct TextScan {
+    kind: TextKind,
+    state: ScanState,
+    /// How many bytes were taken, or 256 where they are more.
+    length: u16,
+}
+
+impl TextScan {
+    ghost use Rattle.dbus_texts.specs.Scans.{Stands, kind_of};
+    ghost use Rattle.dbus_texts.specs.Kinds.{IsOfKind, IsKind, IsPrefixOf};
+
+    /// A scan that has read nothing.
+    pub fn new(kind: TextKind) -> Self
+        ensures kind { kind_of result ≡ kind }
+        ensures stands { Stands result [] }
+    {
+        TextScan {
+            kind,
+            state: ScanState::of_kind(kind),
+            length: 0,
+        }
+    }
+
+    /// Takes one byte more, where some text of the kind begins with the text so far and this byte.
+    ///
+    /// The limit of 255 bytes that some kinds have is left to [`TextScan::end`]. On `false` the scan
+    /// is unchanged.
+    pub fn step(&mut self, byte: u8) -> bool
+        ensures kind { kind_of self.new ≡ kind_of self.old }
+        ensures prefix { (w : List ℕ) → Stands self.old w → (IsTrue result ↔ IsPrefixOf (kind_of self.old) (w ++ byte ∷ [])) }
+        ensures stands { (w : List ℕ) → Stands self.old w → IsTrue result → Stands self.new (w ++ byte ∷ []) }
+        ensures unchanged { IsFalse result → self.new ≡ self.old }
+    {
+        if !self.state.step(byte) {
+            return false;
+        }
+        if self.length < 256 {
+            self.length += 1;
+        }
+        true
+    }
+
+    /// Whether the text so far is one of the kind, its limit of 255 bytes included.
+    pub fn end(&self) -> bool
+        ensures { (w : List ℕ) → Stands self.now w → (IsTrue result ↔ IsKind (kind_of self.now) w) }
+    {
+        if self.length > 255 && self.kind.is_limited() {
+            return false;
+        }
+        self.may_end()
+    }
+
+    /// Whether the text so far is one of the kind, its limit of 255 bytes aside.
+    fn may_end(&self) -> bool
+        ensures { (w : List ℕ) → Stands self.now w → (IsTrue result ↔ IsOfKind (kind_of self.now) w) }
+    {
+        self.state.end()
+    }
+}

@@ -1,6 +1,0 @@
-use Rattle.std.proofs.Common.{arith}
-use Rattle.dbus_types.proofs.PlainBlocks.{plain_of_mask}
-use Rattle.dbus_types.proofs.ascii.is_plain_short.Goals as goal
-
-pub returns : goal.returns
-returns c = plain_of_mask 16 c.args.block (omega arith) c.fits-block.0 c.fits-block.1

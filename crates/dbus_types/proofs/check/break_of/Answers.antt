@@ -1,7 +1,0 @@
-use Rattle.dbus_types.specs.Kinds.{IsOfKind}
-use Rattle.dbus_types.specs.Scans.{state_rest}
-use Rattle.dbus_types.proofs.Breaks.{break_from}
-use Rattle.dbus_types.proofs.check.break_of.Goals as goal
-
-pub returns : goal.returns
-returns c = break_from (IsOfKind c.args.kind) (state_rest c.of_kind.result) c.args.text.now c.break_of.result c.of_kind.ensures c.break_of.ensures
