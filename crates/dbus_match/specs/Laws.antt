@@ -2,7 +2,7 @@
 -- rule spells it; and of each message it is decided whether a rule matches it.
 -- D-Bus Specification, "Match Rules".
 use Rattle.std.specs.Prelude.{◌≡◌, ◌⊎◌, ℕ, List}
-use Rattle.dbus_message.specs.Messages.{MessageTree}
+use Rattle.dbus_message_model.specs.Messages.{MessageTree}
 use Rattle.dbus_match.specs.declared.fault.RuleReason.{RuleReason}
 use Rattle.dbus_match.specs.Rules.{Pair, IsRule, SpellsRule, canonical}
 use Rattle.dbus_match.specs.Faults.{IsFault}

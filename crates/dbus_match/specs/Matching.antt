@@ -4,8 +4,8 @@ use Rattle.std.specs.Prelude.{◌≡◌, ℕ, ◌⊎◌, Option, Some, None, Lis
 use Rattle.std.specs.List.{AllByRecursion}
 use Rattle.dbus_texts.specs.Types.{STRING, OBJECT_PATH}
 use Rattle.dbus_value_model.specs.Values.{ValueTree, TextValue}
-use Rattle.dbus_message.specs.Messages.{MessageTree}
-use Rattle.dbus_message.specs.Lookups.{field_value, body_value}
+use Rattle.dbus_message_model.specs.Messages.{MessageTree}
+use Rattle.dbus_message_model.specs.Lookups.{field_value, body_value}
 use Rattle.dbus_match.specs.declared.key.Key.{Key}
 use Rattle.dbus_match.specs.declared.key.Key.TheVariants.{MessageType, Sender, Interface, Member, Path, PathNamespace, Destination, Arg, ArgPath, Arg0Namespace, Eavesdrop}
 use Rattle.dbus_match.specs.declared.owner.Owner.{Owner}

@@ -2,8 +2,8 @@
 #![tactic(auto)]
 
 ghost use Rattle.std.specs.Prelude.{◌≡◌, ◌⊎◌, ◌↔◌, ℕ, Some, None, IsTrue, string_bytes};
-ghost use Rattle.dbus_message.specs.Lookups.{body_value};
-ghost use Rattle.dbus_message.specs.MessageViews.{message_tree};
+ghost use Rattle.dbus_message_model.specs.Lookups.{body_value};
+ghost use Rattle.dbus_message_model.specs.MessageViews.{message_tree};
 ghost use Rattle.dbus_match.specs.RuleViews.{rule_pairs};
 ghost use Rattle.dbus_match.specs.Matching.{HasField, HoldsAt, IsInNamespace, IsOwned, IsThere, IsWithin, Matches, PathsMeet, ownerships, string_of, string_or_path_of, type_name};
 

@@ -2,8 +2,9 @@
 //! function's contract is a law; it does nothing when it runs.
 #![tactic(auto)]
 
-ghost use Rattle.dbus_message.specs.OutcomeLaws.{OneMessage, OneLength, SomeOutcome, OneOutcome, OneWhole, OneFault, WholeForGood, RefusedForGood, WiderLimits, WiderWhole, ValidWithin, KeptParts};
-ghost use Rattle.dbus_message.specs.StatedLaws.{StatedHolds, WholeStates, OneStated, SomeStated};
+ghost use Rattle.dbus_decode.specs.OutcomeLaws.{OneMessage, OneLength, SomeOutcome, OneOutcome, OneWhole, OneFault, WholeForGood, RefusedForGood, WiderWhole};
+ghost use Rattle.dbus_message_model.specs.LimitLaws.{WiderLimits, ValidWithin, KeptParts};
+ghost use Rattle.dbus_decode.specs.StatedLaws.{StatedHolds, WholeStates, OneStated, SomeStated};
 
 use std::alloc::Allocator;
 

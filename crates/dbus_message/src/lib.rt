@@ -1,36 +1,14 @@
-//! Messages of the D-Bus wire format: their parts, decoding and encoding.
+//! Messages of the D-Bus wire format: what they are, and how they are encoded and decoded. D-Bus Specification, "Message
+//! Protocol".
+//!
+//! One name for three crates: the messages, how they are made of their parts and the relation that spells them
+//! (`dbus_message_model`), decoding (`dbus_decode`) and encoding (`dbus_encode`); and the laws that join them.
 #![tactic(auto)]
 
-mod answer;
-mod build_fault;
-mod building;
-mod decoding;
-mod depth;
-mod encoding;
-mod faulty_body;
-mod faulty_fields;
-mod field_table;
-mod field_value;
-mod fixed_header;
-mod header_field;
-mod known_fields;
 pub mod laws;
-mod lookups;
-mod message;
-mod message_size;
-mod opening;
-mod parts;
-mod read_body;
-mod read_fields;
-mod stated;
-mod within;
 
-pub use answer::Answer;
-pub use build_fault::BuildFault;
-pub use decoding::{decode, decode_within};
-pub use encoding::{encode, encode_into};
-pub use header_field::HeaderField;
-pub use lookups::{arg, field};
-pub use message::Message;
-pub use parts::Parts;
-pub use stated::{FIXED_HEADER_LENGTH, stated_length, stated_length_within};
+pub use dbus_decode::{
+    Answer, FIXED_HEADER_LENGTH, decode, decode_within, stated_length, stated_length_within,
+};
+pub use dbus_encode::{encode, encode_into};
+pub use dbus_message_model::{BuildFault, HeaderField, Message, Parts, arg, field};

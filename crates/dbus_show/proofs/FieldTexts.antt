@@ -12,8 +12,8 @@ use Rattle.dbus_value_model.specs.WantedTexts.{Of, IsWanted, kind_of}
 use Rattle.dbus_value_model.specs.declared.order.Order.{Order}
 use Rattle.dbus_value_model.specs.declared.order.Order.TheVariants.{Little, Big}
 use Rattle.dbus_value_model.specs.Values.{ValueTree, NumberValue, TextValue, value_trees, IsWellFormed, AreWellFormed}
-use Rattle.dbus_message.specs.Messages.{FieldTree, MessageTree, order_byte, is_known, field_struct, Want, OfType, Name, Serial, want, is_particular, Suits, AreFields}
-use Rattle.dbus_message.proofs.Widening.{widest_valid}
+use Rattle.dbus_message_model.specs.Messages.{FieldTree, MessageTree, order_byte, is_known, field_struct, Want, OfType, Name, Serial, want, is_particular, Suits, AreFields}
+use Rattle.dbus_message_model.proofs.Widening.{widest_valid}
 use Rattle.dbus_show.specs.Laws.{line_feeds, OneForEachLine}
 use Rattle.dbus_show.specs.ShownValues.{value_text, value_texts}
 use Rattle.dbus_show.specs.ShownMessages.{kind_text, field_name, bare, field_value, field_text, header_line, body_line}

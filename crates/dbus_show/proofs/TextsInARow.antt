@@ -4,8 +4,8 @@ use Rattle.std.specs.List.{flat_map}
 use Rattle.std.proofs.lemmas.List.Concat.{flat_map-append}
 use Rattle.dbus_value_model.specs.ValueViews.{value_tree, value_trees_of}
 use Rattle.dbus_value_model.specs.declared.value.Value.{Value}
-use Rattle.dbus_message.specs.PartsViews.{field_tree, field_trees}
-use Rattle.dbus_message.specs.declared.header_field.HeaderField.{HeaderField}
+use Rattle.dbus_message_model.specs.PartsViews.{field_tree, field_trees}
+use Rattle.dbus_message_model.specs.declared.header_field.HeaderField.{HeaderField}
 use Rattle.dbus_show.specs.ShownValues.{value_text, value_texts}
 use Rattle.dbus_show.specs.ShownMessages.{field_text, body_line}
 use Rattle.dbus_show.proofs.ItemTexts.{texts_push}

@@ -6,7 +6,7 @@ use Rattle.hex.specs.Hex.{encode_lower}
 use Rattle.dbus_texts.specs.Types.{UINT32}
 use Rattle.dbus_value_model.specs.declared.order.Order.{Order}
 use Rattle.dbus_value_model.specs.Values.{ValueTree, NumberValue, TextValue}
-use Rattle.dbus_message.specs.Messages.{FieldTree, MessageTree, order_byte, is_known}
+use Rattle.dbus_message_model.specs.Messages.{FieldTree, MessageTree, order_byte, is_known}
 use Rattle.dbus_show.specs.ShownValues.{value_text, value_texts}
 
 -- a message type's name, or `kind` and its number where it has none

@@ -4,8 +4,8 @@
 ghost use Rattle.std.specs.Prelude.{◌≡◌, ◌++◌, OnOk, string_bytes};
 ghost use Rattle.std.specs.List.{flat_map};
 ghost use Rattle.dbus_value_model.specs.ValueViews.{value_tree};
-ghost use Rattle.dbus_message.specs.Messages.{is_known as is_known_code};
-ghost use Rattle.dbus_message.specs.PartsViews.{field_tree, field_trees};
+ghost use Rattle.dbus_message_model.specs.Messages.{is_known as is_known_code};
+ghost use Rattle.dbus_message_model.specs.PartsViews.{field_tree, field_trees};
 ghost use Rattle.dbus_show.specs.ShownMessages.{bare, field_name, field_text, field_value};
 
 use crate::values::write_value;

@@ -4,9 +4,9 @@
 ghost use Rattle.std.specs.Prelude.{◌≡◌, ◌++◌, ◌∷◌, [], OnOk, IfOk, IfErr, string_bytes};
 ghost use Rattle.std.specs.List.{flat_map};
 ghost use Rattle.dbus_value_model.specs.ValueViews.{value_tree, value_trees_of};
-ghost use Rattle.dbus_message.specs.Messages.{order_byte};
-ghost use Rattle.dbus_message.specs.PartsViews.{parts_tree};
-ghost use Rattle.dbus_message.specs.MessageViews.{message_tree};
+ghost use Rattle.dbus_message_model.specs.Messages.{order_byte};
+ghost use Rattle.dbus_message_model.specs.PartsViews.{parts_tree};
+ghost use Rattle.dbus_message_model.specs.MessageViews.{message_tree};
 ghost use Rattle.dbus_show.specs.ShownValues.{value_text, value_texts};
 ghost use Rattle.dbus_show.specs.ShownMessages.{kind_text, header_line, body_line, message_text};
 

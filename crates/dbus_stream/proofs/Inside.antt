@@ -2,11 +2,11 @@
 use Rattle.std.proofs.Common.{ℕ, List, Ok, Err, Result, length}
 use Rattle.dbus_value_model.specs.declared.fault.Refusal.{Refusal}
 use Rattle.dbus_value_model.specs.declared.limits.Limits.{Limits}
-use Rattle.dbus_message.specs.declared.answer.Answer.{Answer}
-use Rattle.dbus_message.specs.declared.answer.Answer.TheVariants.{Whole, Partial}
-use Rattle.dbus_message.specs.Decodes.{Decodes}
-use Rattle.dbus_message.specs.MessageViews.{message_tree}
-use Rattle.dbus_message.proofs.OutcomeLaws.{whole_inside}
+use Rattle.dbus_decode.specs.declared.answer.Answer.{Answer}
+use Rattle.dbus_decode.specs.declared.answer.Answer.TheVariants.{Whole, Partial}
+use Rattle.dbus_decode.specs.Decodes.{Decodes}
+use Rattle.dbus_message_model.specs.MessageViews.{message_tree}
+use Rattle.dbus_decode.proofs.OutcomeLaws.{whole_inside}
 use Rattle.dbus_stream.specs.Decoded.{IsInside}
 
 pub inside_of : {A : Type 0} (limits : Limits) (b : List ℕ) (result : Result (Answer A) Refusal) → Decodes limits b result → IsInside (length b) result

@@ -1,8 +1,8 @@
 -- When the bytes that a reader keeps begin with no whole message.
 use Rattle.std.proofs.Common.{◌≡◌, ℕ, ◌<◌, ◌≤◌, List, [], ◌++◌, length, ap, subst, ◌∙◌, arith, append-nil}
 use Rattle.dbus_value_model.specs.declared.limits.Limits.{Limits}
-use Rattle.dbus_message.specs.MessageOutcomes.{IsWhole, IsPartial}
-use Rattle.dbus_message.proofs.OutcomeLaws.{one_outcome, whole_inside}
+use Rattle.dbus_decode.specs.MessageOutcomes.{IsWhole, IsPartial}
+use Rattle.dbus_decode.proofs.OutcomeLaws.{one_outcome, whole_inside}
 use Rattle.dbus_stream.specs.Stated.{NoneEndsBefore, BeginsWithNone}
 
 -- too little is held for any message that begins so

@@ -5,9 +5,9 @@ use Rattle.std.proofs.KnownBytes.{Consumes-nil, Consumes-trans, Consumes-kept}
 use Rattle.dbus_value_model.specs.declared.order.Order.{Order}
 use Rattle.dbus_value_model.specs.declared.fault.Fault.{Fault}
 use Rattle.dbus_value_model.specs.declared.limits.Limits.{Limits}
-use Rattle.dbus_message.specs.declared.message.Message.{Message}
-use Rattle.dbus_message.specs.MessageOutcomes.{IsWhole, IsRefused, IsPartial}
-use Rattle.dbus_message.specs.MessageViews.{message_tree}
+use Rattle.dbus_message_model.specs.declared.message.Message.{Message}
+use Rattle.dbus_decode.specs.MessageOutcomes.{IsWhole, IsRefused, IsPartial}
+use Rattle.dbus_message_model.specs.MessageViews.{message_tree}
 use Rattle.dbus_stream.specs.declared.message_reader.MessageReader.{MessageReader}
 use Rattle.dbus_stream.specs.declared.read_fault.ReadFault.{ReadFault}
 use Rattle.dbus_stream.specs.declared.read_fault.ReadFault.TheVariants.{Memory, Format, Device, TooManyReads}

@@ -6,10 +6,10 @@ use Rattle.std.proofs.Math.Seq.{drop-append-add, drop-length}
 use Rattle.dbus_value_model.specs.declared.order.Order.{Order}
 use Rattle.dbus_value_model.specs.declared.fault.Fault.{Fault}
 use Rattle.dbus_value_model.specs.declared.limits.Limits.{Limits}
-use Rattle.dbus_message.specs.declared.message.Message.{Message}
-use Rattle.dbus_message.specs.MessageViews.{message_tree}
-use Rattle.dbus_message.specs.MessageOutcomes.{IsWhole, IsRefused, IsPartial}
-use Rattle.dbus_message.proofs.OutcomeLaws.{whole_for_good, refused_for_good, whole_inside, nothing_partial}
+use Rattle.dbus_message_model.specs.declared.message.Message.{Message}
+use Rattle.dbus_message_model.specs.MessageViews.{message_tree}
+use Rattle.dbus_decode.specs.MessageOutcomes.{IsWhole, IsRefused, IsPartial}
+use Rattle.dbus_decode.proofs.OutcomeLaws.{whole_for_good, refused_for_good, whole_inside, nothing_partial}
 use Rattle.dbus_stream.specs.declared.stream_fault.StreamFault.TheVariants.{Memory, Format}
 use Rattle.dbus_stream.specs.Cut.{Item, BeginWith, IsOutcome}
 use Rattle.dbus_stream.specs.CutterState.{CutterState, fresh}

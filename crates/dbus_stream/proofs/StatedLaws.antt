@@ -1,9 +1,9 @@
 -- A message ends where the first of its bytes say.
 use Rattle.std.proofs.Common.{ℕ, ◌<◌, ◌≤◌, List, ◌++◌, length, arith}
 use Rattle.dbus_value_model.specs.declared.limits.Limits.{Limits}
-use Rattle.dbus_message.specs.MessageOutcomes.{IsPartial}
-use Rattle.dbus_message.specs.StatedLengths.{StatesLength}
-use Rattle.dbus_message.proofs.StatedLengths.{stated_holds, whole_states}
+use Rattle.dbus_decode.specs.MessageOutcomes.{IsPartial}
+use Rattle.dbus_decode.specs.StatedLengths.{StatesLength}
+use Rattle.dbus_decode.proofs.StatedLengths.{stated_holds, whole_states}
 use Rattle.dbus_stream.specs.Stated.{NoneEndsBefore}
 use Rattle.dbus_stream.proofs.WholeLaws.{whole_past}
 

@@ -2,9 +2,9 @@
 use Rattle.std.specs.Prelude.{◌≡◌, ℕ, ◌+◌, List, ◌++◌, length, Option, None, Some, Result, Ok, Err}
 use Rattle.dbus_value_model.specs.declared.order.Order.{Order}
 use Rattle.dbus_value_model.specs.declared.fault.Fault.{Fault}
-use Rattle.dbus_message.specs.declared.message.Message.{Message}
-use Rattle.dbus_message.specs.MessageViews.{message_tree}
-use Rattle.dbus_message.specs.MessageOutcomes.{IsWhole, IsRefused, IsPartial}
+use Rattle.dbus_message_model.specs.declared.message.Message.{Message}
+use Rattle.dbus_message_model.specs.MessageViews.{message_tree}
+use Rattle.dbus_decode.specs.MessageOutcomes.{IsWhole, IsRefused, IsPartial}
 use Rattle.dbus_stream.specs.CutterState.{CutterState, fresh}
 use Rattle.dbus_stream.specs.declared.stream_fault.StreamFault.{StreamFault}
 use Rattle.dbus_stream.specs.declared.stream_fault.StreamFault.TheVariants.{Memory, Format}

@@ -8,14 +8,14 @@ use Rattle.dbus_value_model.specs.declared.fault.Fault.{Fault}
 use Rattle.dbus_value_model.specs.declared.limits.Limits.{Limits}
 use Rattle.dbus_value_model.specs.declared.fault.Refusal.{Refusal}
 use Rattle.dbus_value_model.specs.declared.fault.Refusal.TheVariants.{Memory, Format}
-use Rattle.dbus_message.specs.declared.answer.Answer.{Answer}
-use Rattle.dbus_message.specs.declared.answer.Answer.TheVariants.{Whole, Partial}
-use Rattle.dbus_message.specs.declared.message.Message.{Message}
-use Rattle.dbus_message.specs.Messages.{MessageTree, message_bytes}
-use Rattle.dbus_message.specs.MessageViews.{message_tree}
-use Rattle.dbus_message.specs.MessageOutcomes.{IsRefused}
-use Rattle.dbus_message.specs.ValidMessages.{IsValidMessage}
-use Rattle.dbus_message.specs.Decodes.{Decodes}
+use Rattle.dbus_decode.specs.declared.answer.Answer.{Answer}
+use Rattle.dbus_decode.specs.declared.answer.Answer.TheVariants.{Whole, Partial}
+use Rattle.dbus_message_model.specs.declared.message.Message.{Message}
+use Rattle.dbus_message_model.specs.Messages.{MessageTree, message_bytes}
+use Rattle.dbus_message_model.specs.MessageViews.{message_tree}
+use Rattle.dbus_decode.specs.MessageOutcomes.{IsRefused}
+use Rattle.dbus_message_model.specs.ValidMessages.{IsValidMessage}
+use Rattle.dbus_decode.specs.Decodes.{Decodes}
 use Rattle.dbus_stream.specs.Cut.{Item, BeginWith}
 use Rattle.dbus_stream.specs.CutterState.{CutterState, fresh}
 use Rattle.dbus_stream.specs.Cutting.{TakeAnswer}

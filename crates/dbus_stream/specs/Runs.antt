@@ -2,7 +2,7 @@
 use Rattle.std.specs.Prelude.{◌≡◌, ◌⊎◌, ℕ, ◌+◌, List, [], ◌∷◌, ◌++◌, drop, Option, None, Some, Ok, Err}
 use Rattle.dbus_value_model.specs.declared.fault.Fault.{Fault}
 use Rattle.dbus_value_model.specs.declared.limits.Limits.{Limits}
-use Rattle.dbus_message.specs.MessageViews.{message_tree}
+use Rattle.dbus_message_model.specs.MessageViews.{message_tree}
 use Rattle.dbus_stream.specs.Cut.{Item, BeginWith, Outcome, Ended, Unfinished, Refused, IsCut}
 use Rattle.dbus_stream.specs.CutterState.{CutterState}
 use Rattle.dbus_stream.specs.Cutting.{TakeAnswer, Takes}

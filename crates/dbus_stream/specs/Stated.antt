@@ -2,8 +2,8 @@
 use Rattle.std.specs.Prelude.{ℕ, ◌≤◌, List, ◌++◌}
 use Rattle.dbus_value_model.specs.declared.order.Order.{Order}
 use Rattle.dbus_value_model.specs.declared.limits.Limits.{Limits}
-use Rattle.dbus_message.specs.Messages.{MessageTree}
-use Rattle.dbus_message.specs.MessageOutcomes.{IsWhole}
+use Rattle.dbus_message_model.specs.Messages.{MessageTree}
+use Rattle.dbus_decode.specs.MessageOutcomes.{IsWhole}
 
 -- no message that begins with these bytes has fewer than this many
 abbrev pub NoneEndsBefore : Limits → List ℕ → ℕ → Type 0

@@ -2,7 +2,7 @@
 ghost use Rattle.std.specs.Prelude.{◌≡◌, ◌<◌, ◌≤◌, [], length, None, Some, Ok, Err, IfOk};
 ghost use Rattle.dbus_value_model.specs.Specification.{specification};
 ghost use Rattle.dbus_value_model.specs.declared.fault.Fault.{Fault};
-ghost use Rattle.dbus_message.specs.MessageOutcomes.{IsPartial};
+ghost use Rattle.dbus_decode.specs.MessageOutcomes.{IsPartial};
 ghost use Rattle.dbus_stream.specs.Cut.{truncated};
 ghost use Rattle.dbus_stream.specs.CutterState.{fresh};
 ghost use Rattle.dbus_stream.specs.Cutting.{Takes};
@@ -25,7 +25,7 @@ pub struct Cutter<A: Allocator = Global> {
 }
 
 impl<A: Allocator> Model for Cutter<A> {
-    ghost use Rattle.dbus_message.specs.MessageOutcomes.{IsPartial};
+    ghost use Rattle.dbus_decode.specs.MessageOutcomes.{IsPartial};
     ghost use Rattle.dbus_stream.specs.CutterState.{CutterState};
 
     ghost Value = { CutterState };

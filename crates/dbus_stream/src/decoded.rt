@@ -1,6 +1,6 @@
 //! One decoding, with how far it went.
 ghost use Rattle.std.specs.Prelude.{length};
-ghost use Rattle.dbus_message.specs.Decodes.{Decodes};
+ghost use Rattle.dbus_decode.specs.Decodes.{Decodes};
 ghost use Rattle.dbus_stream.specs.Decoded.{IsInside};
 
 use dbus_message::{Answer, decode_within};

@@ -1,6 +1,6 @@
 //! When a reader that keeps the front of a message decodes again.
 ghost use Rattle.std.specs.Prelude.{◌≤◌, ◌<◌, ◌^◌, length};
-ghost use Rattle.dbus_message.specs.MessageOutcomes.{IsPartial};
+ghost use Rattle.dbus_decode.specs.MessageOutcomes.{IsPartial};
 ghost use Rattle.dbus_stream.specs.Stated.{NoneEndsBefore};
 
 use dbus_message::{FIXED_HEADER_LENGTH, stated_length_within};

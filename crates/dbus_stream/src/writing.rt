@@ -1,7 +1,7 @@
 //! Bytes and messages to a sink.
 ghost use Rattle.std.specs.Prelude.{◌≡◌};
-ghost use Rattle.dbus_message.specs.Messages.{message_bytes};
-ghost use Rattle.dbus_message.specs.MessageViews.{message_tree};
+ghost use Rattle.dbus_message_model.specs.Messages.{message_bytes};
+ghost use Rattle.dbus_message_model.specs.MessageViews.{message_tree};
 ghost use Rattle.dbus_stream.specs.Write.{WritesAll, WritesMessage};
 
 use crate::sink::Sink;

@@ -3,10 +3,10 @@ use Rattle.std.proofs.Common.{◌≡◌, ℕ, ◌+◌, List, [], ◌∷◌, ◌+
 use Rattle.dbus_value_model.specs.declared.order.Order.{Order}
 use Rattle.dbus_value_model.specs.declared.fault.Fault.{Fault}
 use Rattle.dbus_value_model.specs.declared.limits.Limits.{Limits}
-use Rattle.dbus_message.specs.declared.message.Message.{Message}
-use Rattle.dbus_message.specs.MessageViews.{message_tree}
-use Rattle.dbus_message.specs.MessageOutcomes.{IsWhole, IsPartial}
-use Rattle.dbus_message.proofs.OutcomeLaws.{one_outcome}
+use Rattle.dbus_message_model.specs.declared.message.Message.{Message}
+use Rattle.dbus_message_model.specs.MessageViews.{message_tree}
+use Rattle.dbus_decode.specs.MessageOutcomes.{IsWhole, IsPartial}
+use Rattle.dbus_decode.proofs.OutcomeLaws.{one_outcome}
 use Rattle.dbus_stream.specs.Device.{one_more}
 use Rattle.dbus_stream.specs.Cut.{Item, BeginWith}
 use Rattle.dbus_stream.specs.Stated.{BeginsWithNone}

@@ -2,7 +2,7 @@
 use Rattle.std.proofs.Common.{◌≡◌, ℕ, suc, ◌+◌, List, [], ◌∷◌, ◌++◌, Option, length, refl, sym, ap, ◌∙◌, subst, arith, append_assoc, append-nil, inl, inr}
 use Rattle.dbus_value_model.specs.declared.order.Order.{Order}
 use Rattle.dbus_value_model.specs.declared.fault.Fault.{Fault}
-use Rattle.dbus_message.specs.Messages.{MessageTree}
+use Rattle.dbus_message_model.specs.Messages.{MessageTree}
 use Rattle.dbus_stream.specs.Cut.{Item, sizes}
 use Rattle.dbus_match.specs.Rules.{Pair}
 use Rattle.dbus_match.specs.RuleViews.{rule_pairs}

@@ -2,7 +2,7 @@
 use Rattle.std.proofs.Common.{◌≡◌, ℕ, ◌+◌, inl, inr, List, [], ◌∷◌, ◌++◌, length, Option, refl, sym, ap, ◌∙◌}
 use Rattle.dbus_value_model.specs.declared.fault.Fault.{Fault}
 use Rattle.dbus_value_model.specs.declared.order.Order.{Order}
-use Rattle.dbus_message.specs.Messages.{MessageTree, message_bytes}
+use Rattle.dbus_message_model.specs.Messages.{MessageTree, message_bytes}
 use Rattle.dbus_stream.specs.Cut.{Item, sizes}
 use Rattle.dbus_show.specs.ShownMessages.{message_text}
 use Rattle.dbus_match.specs.Rules.{Pair}

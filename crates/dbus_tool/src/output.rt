@@ -1,7 +1,7 @@
 //! What a command writes of one message.
 ghost use Rattle.std.specs.Prelude.{◌≡◌, ℕ, List};
-ghost use Rattle.dbus_message.specs.Messages.{message_bytes};
-ghost use Rattle.dbus_message.specs.MessageViews.{message_tree};
+ghost use Rattle.dbus_message_model.specs.Messages.{message_bytes};
+ghost use Rattle.dbus_message_model.specs.MessageViews.{message_tree};
 ghost use Rattle.dbus_show.specs.ShownMessages.{message_text};
 ghost use Rattle.dbus_match.specs.RuleViews.{rule_pairs};
 ghost use Rattle.dbus_tool.specs.Gathering.{GathersOrNot};

@@ -4,11 +4,9 @@ use Rattle.std.proofs.lemmas.Bool.{cases_lt, and_parts, and_from, eqb-true, eq-e
 use Rattle.dbus_texts.specs.Types.{TypeTree, TypeTrees, sig, sigs, IsSingleType, AreShaped}
 use Rattle.dbus_texts.specs.Prefixes.{IsPrefixIn, IsBreakIn}
 use Rattle.dbus_texts.specs.ComputedKinds.{type_spelled, types_spelled}
-use Rattle.dbus_texts.specs.declared.text_kind.TextKind.{TextKind}
 use Rattle.dbus_texts.specs.declared.text_kind.TextKind.TheVariants as kinds
-use Rattle.dbus_texts.specs.ComputedKinds as computed
 use Rattle.dbus_texts.proofs.KindFacts as facts
-use Rattle.dbus_value_model.specs.WantedTexts.{WantedText, Of, Only, IsWanted, IsBreakOf, is_kind, break_at, same_text, alike, IsName}
+use Rattle.dbus_value_model.specs.WantedTexts.{WantedText, Of, Only, IsWanted, IsBreakOf, is_kind, break_at, same_text, alike}
 
 alike_le : (u t : List ℕ) → alike u t ≤ length t
 alike_le [] t = omega arith
@@ -74,24 +72,6 @@ signature_text t h =
 
 pub text_signature : (ts : TypeTrees) → types_spelled (sigs ts) ≡ ts
 text_signature ts = facts.spelled_sigs ts
-
-as_text : (k : TextKind) (t : List ℕ) → computed.IsName k → IsWanted (Of k) t → IsWanted (Of kinds.Text) t
-as_text k t n h = facts.kind_is kinds.Text t (facts.name_is_text k t n (facts.is_kind_of k t h))
-
--- a name is a text
-pub name_is_text : (k : WantedText) (t : List ℕ) → IsName k → IsWanted k t → IsWanted (Of kinds.Text) t
-name_is_text (Of k) t n h = name_kind_is_text k t n h
-  where
-    name_kind_is_text : (k : TextKind) (t : List ℕ) → IsName (Of k) → IsWanted (Of k) t → IsWanted (Of kinds.Text) t
-    name_kind_is_text kinds.Text t n h = h
-    name_kind_is_text kinds.Path t n h = absurd n
-    name_kind_is_text kinds.Signature t n h = absurd n
-    name_kind_is_text kinds.Single t n h = absurd n
-    name_kind_is_text kinds.Interface t n h = as_text kinds.Interface t tt h
-    name_kind_is_text kinds.Member t n h = as_text kinds.Member t tt h
-    name_kind_is_text kinds.ErrorName t n h = as_text kinds.ErrorName t tt h
-    name_kind_is_text kinds.BusName t n h = as_text kinds.BusName t tt h
-name_is_text (Only u) t n h = absurd n
 
 pub only_is : (u t : List ℕ) → IsWanted (Only u) t → u ≡ t
 only_is u t h = sym h

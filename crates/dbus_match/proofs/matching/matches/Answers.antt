@@ -1,6 +1,6 @@
 use Rattle.std.proofs.Common.{rules, sym, ◌∙◌}
 use Rattle.std.proofs.lemmas.Bool.{false≢true}
-use Rattle.dbus_message.specs.MessageViews.{message_tree}
+use Rattle.dbus_message_model.specs.MessageViews.{message_tree}
 use Rattle.dbus_match.specs.Matching.{HoldsAt, ownerships}
 use Rattle.dbus_match.specs.Rules.{Pair}
 use Rattle.dbus_match.proofs.MatchingLists.{holds_at, one_holds}

@@ -1,4 +1,4 @@
-use Rattle.dbus_message.proofs.Accepting.{kept_parts}
+use Rattle.dbus_message_model.proofs.Accepting.{kept_parts}
 use Rattle.dbus_message.proofs.laws.kept_parts.Goals as goal
 
 pub returns : goal.returns

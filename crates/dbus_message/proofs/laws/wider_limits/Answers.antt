@@ -1,4 +1,4 @@
-use Rattle.dbus_message.proofs.Widening.{wider_limits}
+use Rattle.dbus_message_model.proofs.Widening.{wider_limits}
 use Rattle.dbus_message.proofs.laws.wider_limits.Goals as goal
 
 pub returns : goal.returns

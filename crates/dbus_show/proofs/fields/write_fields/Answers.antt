@@ -1,6 +1,6 @@
 use Rattle.std.proofs.Common.{◌++◌, ap, ◌∙◌, string_bytes}
 use Rattle.std.specs.List.{flat_map}
-use Rattle.dbus_message.specs.PartsViews.{field_tree, field_trees}
+use Rattle.dbus_message_model.specs.PartsViews.{field_tree, field_trees}
 use Rattle.dbus_show.specs.ShownMessages.{field_text}
 use Rattle.dbus_show.proofs.Appending.{one_more}
 use Rattle.dbus_show.proofs.TextsInARow.{fields_push}

@@ -1,6 +1,6 @@
 use Rattle.std.proofs.Common.{◌≡◌, ◌++◌, string_bytes, take}
 use Rattle.std.specs.List.{flat_map}
-use Rattle.dbus_message.specs.PartsViews.{field_trees}
+use Rattle.dbus_message_model.specs.PartsViews.{field_trees}
 use Rattle.dbus_show.specs.ShownMessages.{field_text}
 use Rattle.dbus_show.proofs.fields.write_fields.Given as goal
 

@@ -2,7 +2,7 @@ use Rattle.std.proofs.Common.{◌≡◌, ◌++◌, ◌∷◌, [], ap, ◌∙◌,
 use Rattle.std.specs.Fmt.{decimal}
 use Rattle.std.specs.List.{flat_map}
 use Rattle.hex.specs.Hex.{encode_lower}
-use Rattle.dbus_message.specs.PartsViews.{field_trees, parts_tree}
+use Rattle.dbus_message_model.specs.PartsViews.{field_trees, parts_tree}
 use Rattle.dbus_show.specs.ShownMessages.{field_text, kind_text, header_line}
 use Rattle.dbus_show.proofs.Appending.{behind_five, last_push}
 use Rattle.dbus_show.proofs.show.write_header.Goals as goal

@@ -1,5 +1,5 @@
 use Rattle.std.proofs.Common.{arith, inl, inr}
-use Rattle.dbus_message.proofs.OutcomeLaws.{one_outcome}
+use Rattle.dbus_decode.proofs.OutcomeLaws.{one_outcome}
 use Rattle.dbus_stream.proofs.StatedLaws.{header_first, in_time}
 use Rattle.dbus_stream.proofs.looking.next_look.Goals as goal
 

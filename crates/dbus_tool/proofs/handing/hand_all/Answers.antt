@@ -1,6 +1,6 @@
 use Rattle.std.proofs.Common.{◌≡◌, ◌≤◌, ◌<◌, ◌^◌, ◌++◌, ℕ, None, arith, refl, sym, ap, ◌∙◌, subst}
-use Rattle.dbus_message.specs.MessageViews.{message_tree}
-use Rattle.dbus_message.proofs.OutcomeLaws.{whole_inside}
+use Rattle.dbus_message_model.specs.MessageViews.{message_tree}
+use Rattle.dbus_decode.proofs.OutcomeLaws.{whole_inside}
 use Rattle.dbus_stream.specs.Reader.{limits_of, done_of, most_reads_of, source_of, kept}
 use Rattle.dbus_stream.specs.Next.{GivesMessage}
 use Rattle.dbus_tool.specs.Counting.{stopped_by}

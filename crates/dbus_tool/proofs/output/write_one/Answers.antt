@@ -1,5 +1,5 @@
 use Rattle.std.proofs.Common.{refl}
-use Rattle.dbus_message.specs.MessageViews.{message_tree}
+use Rattle.dbus_message_model.specs.MessageViews.{message_tree}
 use Rattle.dbus_show.specs.ShownMessages.{message_text}
 use Rattle.dbus_tool.proofs.output.write_one.Goals as goal
 

@@ -1,11 +1,11 @@
 use Rattle.std.proofs.Common.{◌≡◌, ◌+◌, ◌-◌, ◌<◌, ℕ, List, ◌++◌, None, length, arith, rules, subst, sym, ap, ◌∙◌}
 use Rattle.dbus_value_model.specs.declared.order.Order.{Order}
 use Rattle.dbus_value_model.specs.declared.limits.Limits.{Limits}
-use Rattle.dbus_message.specs.Messages.{MessageTree}
-use Rattle.dbus_message.specs.MessageOutcomes.{IsWhole, IsPartial}
-use Rattle.dbus_message.specs.MessageViews.{message_tree}
+use Rattle.dbus_message_model.specs.Messages.{MessageTree}
+use Rattle.dbus_decode.specs.MessageOutcomes.{IsWhole, IsPartial}
+use Rattle.dbus_message_model.specs.MessageViews.{message_tree}
 use Rattle.dbus_stream.specs.CutterState.{CutterState}
-use Rattle.dbus_message.proofs.OutcomeLaws.{nothing_partial}
+use Rattle.dbus_decode.proofs.OutcomeLaws.{nothing_partial}
 use Rattle.dbus_stream.proofs.WholeLaws.{whole_past}
 use Rattle.dbus_stream.proofs.cutter.Cutter.take.Goals as goal
 use Rattle.dbus_stream.proofs.cutter.Cutter.take.Goals.{In-Ok-Whole}

@@ -1,6 +1,6 @@
 use Rattle.std.proofs.Common.{subst, sym}
-use Rattle.dbus_message.specs.MessageOutcomes.{IsPartial}
-use Rattle.dbus_message.proofs.OutcomeLaws.{nothing_partial}
+use Rattle.dbus_decode.specs.MessageOutcomes.{IsPartial}
+use Rattle.dbus_decode.proofs.OutcomeLaws.{nothing_partial}
 use Rattle.dbus_stream.proofs.cutter.Cutter.within.Goals as goal
 
 pub invariant_of-result : goal.invariant_of-result

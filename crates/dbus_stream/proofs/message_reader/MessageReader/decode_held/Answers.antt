@@ -1,9 +1,9 @@
 use Rattle.std.proofs.Common.{◌≤◌, ◌++◌, List, ℕ, length, refl, sym, ap, subst, ◌∙◌}
 use Rattle.std.specs.List.{slice_range}
 use Rattle.std.proofs.lemmas.List.{drop-append-le}
-use Rattle.dbus_message.specs.MessageOutcomes.{IsWhole, IsRefused}
-use Rattle.dbus_message.specs.MessageViews.{message_tree}
-use Rattle.dbus_message.proofs.OutcomeLaws.{whole_for_good, refused_for_good, whole_inside}
+use Rattle.dbus_decode.specs.MessageOutcomes.{IsWhole, IsRefused}
+use Rattle.dbus_message_model.specs.MessageViews.{message_tree}
+use Rattle.dbus_decode.proofs.OutcomeLaws.{whole_for_good, refused_for_good, whole_inside}
 use Rattle.dbus_stream.proofs.message_reader.MessageReader.decode_held.Goals as goal
 
 pub returns-in-Ok-Whole-clause-decodes : goal.returns-in-Ok-Whole-clause-decodes

@@ -1,7 +1,7 @@
 use Rattle.std.proofs.Common.{◌≡◌, ◌≤◌, None, Some, Ok, Err, refl, ap, arith, sym, subst, ◌∙◌}
 use Rattle.std.specs.Prelude.{Option}
 use Rattle.dbus_value_model.specs.declared.order.Order.{Order}
-use Rattle.dbus_message.specs.declared.message.Message.{Message}
+use Rattle.dbus_message_model.specs.declared.message.Message.{Message}
 use Rattle.dbus_stream.specs.Stated.{BeginsWithNone}
 use Rattle.dbus_stream.specs.Reader.{limits_of, kept, source_of, stopped_of}
 use Rattle.dbus_stream.specs.Steps.{TakesKept}

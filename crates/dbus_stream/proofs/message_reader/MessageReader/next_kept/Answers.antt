@@ -1,6 +1,6 @@
 use Rattle.std.specs.Prelude.{Option}
 use Rattle.dbus_value_model.specs.declared.order.Order.{Order}
-use Rattle.dbus_message.specs.declared.message.Message.{Message}
+use Rattle.dbus_message_model.specs.declared.message.Message.{Message}
 use Rattle.dbus_stream.specs.Reader.{source_of, stopped_of}
 use Rattle.dbus_stream.proofs.NextSteps.{lasts, answers_kept, kept_counts}
 use Rattle.dbus_stream.proofs.message_reader.MessageReader.next_kept.Goals as goal

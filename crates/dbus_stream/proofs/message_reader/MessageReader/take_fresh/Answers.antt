@@ -1,9 +1,9 @@
 use Rattle.std.proofs.Common.{◌≡◌, ◌+◌, ◌≤◌, ◌++◌, arith, refl, sym, ap, subst, ◌∙◌, List, ℕ, drop, [], rules, append-nil}
 use Rattle.std.proofs.lemmas.Grind.{common_steps}
 use Rattle.std.specs.List.{slice_range}
-use Rattle.dbus_message.specs.MessageOutcomes.{IsWhole, IsPartial}
-use Rattle.dbus_message.specs.MessageViews.{message_tree}
-use Rattle.dbus_message.proofs.OutcomeLaws.{whole_inside}
+use Rattle.dbus_decode.specs.MessageOutcomes.{IsWhole, IsPartial}
+use Rattle.dbus_message_model.specs.MessageViews.{message_tree}
+use Rattle.dbus_decode.proofs.OutcomeLaws.{whole_inside}
 use Rattle.dbus_stream.proofs.Lists.{left_of, no_part}
 use Rattle.dbus_stream.proofs.KeptLaws.{partial_has_none}
 use Rattle.dbus_stream.proofs.message_reader.MessageReader.take_fresh.Goals as goal

@@ -1,0 +1,10 @@
+pub mod MessageItems
+pub mod MessageReading
+pub mod MessageLaws
+pub mod MessageOutcomes
+pub mod Decodes
+pub mod OutcomeLaws
+pub mod HeaderReading
+pub mod PackedAnswers
+pub mod StatedLengths
+pub mod StatedLaws

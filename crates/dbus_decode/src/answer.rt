@@ -1,0 +1,22 @@
+//! What decoding answers.
+#![tactic(auto)]
+
+use dbus_message_model::Message;
+use dbus_value_model::Order;
+use std::alloc::{Allocator, Global};
+
+/// What bytes gave that are not refused.
+#[derive(Debug, Drop)]
+pub enum Answer<A: Allocator = Global> {
+    /// The bytes begin with a message.
+    Whole {
+        /// The order of its numbers' bytes.
+        order: Order,
+        /// The message.
+        message: Message<A>,
+        /// How many bytes it has. Those behind it were not looked at.
+        used: usize,
+    },
+    /// Neither a message nor a fault: more bytes are wanted.
+    Partial,
+}

@@ -1,0 +1,2 @@
+pub mod FieldWriting
+pub mod Encoded

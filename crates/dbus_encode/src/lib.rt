@@ -1,0 +1,6 @@
+//! Messages of the D-Bus wire format encoded.
+#![tactic(auto)]
+
+mod encoding;
+
+pub use encoding::{encode, encode_into};

@@ -1,7 +1,0 @@
-use Rattle.std.proofs.Common.{◌≡◌, drop}
-use Rattle.dbus_message.specs.Messages.{fd_count}
-use Rattle.dbus_message.specs.PartsViews.{field_trees}
-use Rattle.dbus_message.proofs.known_fields.fd_count.Given as goal
-
-abbrev pub invariant-loop-field : goal.invariant-loop-field
-invariant-loop-field g l = fd_count (field_trees (drop l.field-index l.fields)) ≡ fd_count (field_trees l.fields)

@@ -1,7 +1,0 @@
-use Rattle.std.proofs.Common.{◌≡◌, drop}
-use Rattle.dbus_message.specs.Messages.{has_code}
-use Rattle.dbus_message.specs.PartsViews.{field_trees}
-use Rattle.dbus_message.proofs.known_fields.has_field.Given as goal
-
-abbrev pub invariant-loop-field : goal.invariant-loop-field
-invariant-loop-field g l = has_code l.code (field_trees (drop l.field-index l.fields)) ≡ has_code l.code (field_trees l.fields)

@@ -1,7 +1,0 @@
-use Rattle.std.proofs.Common.{◌≡◌, drop}
-use Rattle.dbus_message.specs.Lookups.{field_value}
-use Rattle.dbus_message.specs.PartsViews.{field_trees}
-use Rattle.dbus_message.proofs.lookups.field.Given as goal
-
-abbrev pub invariant-loop-field : goal.invariant-loop-field
-invariant-loop-field g l = field_value l.code (field_trees (drop l.field-index l.field-items)) ≡ field_value l.code (field_trees l.field-items)

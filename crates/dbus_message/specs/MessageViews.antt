@@ -1,8 +1,0 @@
--- The tree that a `Message` stands for.
--- D-Bus Specification, "Message Format".
-use Rattle.dbus_message.specs.Messages.{MessageTree}
-use Rattle.dbus_message.specs.PartsViews.{parts_tree}
-use Rattle.dbus_message.specs.declared.message.Message.{Message}
-
-abbrev pub message_tree : {A : Type 0} → Message A → MessageTree
-message_tree m = parts_tree m.parts

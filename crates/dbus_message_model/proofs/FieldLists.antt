@@ -1,0 +1,54 @@
+-- Going over a list of header fields.
+use Rattle.std.proofs.Common.{◌≡◌, ℕ, zero, suc, ◌+◌, ◌<◌, ◌≤◌, List, [], ◌∷◌, length, get_or, drop, true, false, Some, IsTrue, refl, sym, ap, subst, ◌∙◌, arith}
+use Rattle.std.proofs.lemmas.Bool.{and_parts, eq-eqb, ne_eqb}
+use Rattle.std.proofs.lemmas.List.{drop_more, drop_all}
+use Rattle.dbus_message_model.specs.Lookups.{field_value}
+use Rattle.dbus_message_model.specs.Messages.{has_code, text_in, body_signature, number_in, fd_count}
+use Rattle.dbus_value_model.specs.PackedBytes.{keeps_bytes, keep_bytes}
+use Rattle.dbus_value_model.specs.ValueViews.{value_tree}
+use Rattle.dbus_message_model.specs.PackedParts.{field_values}
+use Rattle.dbus_message_model.specs.PartsViews.{field_tree, field_trees}
+use Rattle.dbus_message_model.specs.declared.header_field.HeaderField.{HeaderField}
+
+module _ {A : Type 0} (fields : List (HeaderField A)) (i : ℕ) where
+  -- the fields from i on
+  pub fields_from : (f : HeaderField A) → i < length fields → f ≡ get_or fields i f → field_trees (drop i fields) ≡ field_tree f ∷ field_trees (drop (i + 1) fields)
+  fields_from f h is = ap field_trees (drop_more fields i f h) ∙ ap (λ (u : HeaderField A). field_tree u ∷ field_trees (drop (i + 1) fields)) (sym is)
+
+  pub no_fields_from : length fields ≤ i → field_trees (drop i fields) ≡ []
+  no_fields_from h = ap field_trees (drop_all i fields h)
+
+  pub has_here : (c : ℕ) (f : HeaderField A) → i < length fields → f ≡ get_or fields i f → f.code ≡ c → has_code c (field_trees (drop i fields)) ≡ true
+  has_here c f h is e = rw (fields_from f h is, eq-eqb f.code c e) refl
+
+  pub has_later : (c : ℕ) (f : HeaderField A) → i < length fields → f ≡ get_or fields i f → (f.code ≡ c → ⊥) → has_code c (field_trees (drop i fields)) ≡ has_code c (field_trees (drop (i + 1) fields))
+  has_later c f h is e = rw (fields_from f h is, ne_eqb f.code c e) refl
+
+  pub has_no_more : (c : ℕ) → length fields ≤ i → has_code c (field_trees (drop i fields)) ≡ false
+  has_no_more c h = rw (no_fields_from h) refl
+
+  -- the SIGNATURE field stands at i, or behind it
+  pub signature_here : (f : HeaderField A) → i < length fields → f ≡ get_or fields i f → f.code ≡ 8 → body_signature (field_trees (drop i fields)) ≡ text_in (value_tree f.value)
+  signature_here f h is e = rw (fields_from f h is, eq-eqb f.code 8 e) refl
+
+  pub signature_later : (f : HeaderField A) → i < length fields → f ≡ get_or fields i f → (f.code ≡ 8 → ⊥) → body_signature (field_trees (drop i fields)) ≡ body_signature (field_trees (drop (i + 1) fields))
+  signature_later f h is e = rw (fields_from f h is, ne_eqb f.code 8 e) refl
+
+  -- the UNIX_FDS field stands at i, or behind it
+  pub count_here : (f : HeaderField A) → i < length fields → f ≡ get_or fields i f → f.code ≡ 9 → fd_count (field_trees (drop i fields)) ≡ number_in (value_tree f.value)
+  count_here f h is e = rw (fields_from f h is, eq-eqb f.code 9 e) refl
+
+  pub count_later : (f : HeaderField A) → i < length fields → f ≡ get_or fields i f → (f.code ≡ 9 → ⊥) → fd_count (field_trees (drop i fields)) ≡ fd_count (field_trees (drop (i + 1) fields))
+  count_later f h is e = rw (fields_from f h is, ne_eqb f.code 9 e) refl
+
+  -- the first field of a code stands at i
+  pub value_here : (c : ℕ) (f : HeaderField A) → i < length fields → f ≡ get_or fields i f → f.code ≡ c → field_value c (field_trees (drop i fields)) ≡ Some (value_tree f.value)
+  value_here c f h is e = rw (fields_from f h is, eq-eqb f.code c e) refl
+
+field_kept_at : {A : Type 0} (fields : List (HeaderField A)) (i : ℕ) (d : HeaderField A) → i < length fields → IsTrue (keep_bytes (field_values fields)) → IsTrue (keeps_bytes (get_or fields i d).value)
+field_kept_at [] i d h kept = absurd (omega arith)
+field_kept_at (f ∷ fields) zero d h kept = (and_parts _ _ kept).0
+field_kept_at (f ∷ fields) (suc i) d h kept = field_kept_at fields i d (omega arith) (and_parts _ _ kept).1
+
+pub field_kept : {A : Type 0} (fields : List (HeaderField A)) (i : ℕ) (f : HeaderField A) → i < length fields → f ≡ get_or fields i f → IsTrue (keep_bytes (field_values fields)) → IsTrue (keeps_bytes f.value)
+field_kept fields i f h is kept = subst (λ (u : HeaderField _). IsTrue (keeps_bytes u.value)) (sym is) (field_kept_at fields i f h kept)

@@ -1,0 +1,44 @@
+-- A valid message has short signatures.
+use Rattle.std.proofs.Common.{ℕ, zero, suc, List, map}
+use Rattle.std.specs.Coded.{×_prop, Unit-prop, le_prop}
+use Rattle.dbus_texts.specs.Types.{STRING, OBJECT_PATH, SIGNATURE}
+use Rattle.dbus_value_model.specs.ShortSignatures.{HasShortSignatures, HaveShortSignatures}
+use Rattle.dbus_value_model.specs.Values.{ValueTree, ValueTrees, NoValues, MoreValues, NumberValue, TextValue, VariantValue, ArrayValue, StructValue, EntryValue, value_trees, IsWellFormed, AreWellFormed}
+use Rattle.dbus_message_model.specs.Messages.{FieldTree, field_struct, field_array}
+
+mutual
+  pub short_of : (room : ℕ) (v : ValueTree) → IsWellFormed room v → HasShortSignatures v
+  short_of room (NumberValue k n) h = tt
+  short_of room (TextValue STRING t) h = tt
+  short_of room (TextValue OBJECT_PATH t) h = tt
+  short_of room (TextValue SIGNATURE t) h = h.1
+  short_of zero (VariantValue x) h = absurd h
+  short_of (suc room) (VariantValue x) h = (h.0.1, short_of room x h.1)
+  short_of zero (ArrayValue t xs) h = absurd h
+  short_of (suc room) (ArrayValue t xs) h = short_all room xs h.1
+  short_of zero (StructValue xs) h = absurd h
+  short_of (suc room) (StructValue xs) h = short_all room xs h
+  short_of room (EntryValue k v) h = (short_of room k h.0, short_of room v h.1)
+
+  pub short_all : (room : ℕ) (vs : ValueTrees) → AreWellFormed room vs → HaveShortSignatures vs
+  short_all room NoValues h = tt
+  short_all room (MoreValues x xs) h = (short_of room x h.0, short_all room xs h.1)
+
+mutual
+  pub short_prop : (v : ValueTree) → IsProp (HasShortSignatures v)
+  short_prop (NumberValue k n) = Unit-prop
+  short_prop (TextValue STRING t) = Unit-prop
+  short_prop (TextValue OBJECT_PATH t) = Unit-prop
+  short_prop (TextValue SIGNATURE t) = le_prop
+  short_prop (VariantValue x) = ×_prop le_prop (short_prop x)
+  short_prop (ArrayValue t xs) = shorts_prop xs
+  short_prop (StructValue xs) = shorts_prop xs
+  short_prop (EntryValue k v) = ×_prop (short_prop k) (short_prop v)
+
+  pub shorts_prop : (vs : ValueTrees) → IsProp (HaveShortSignatures vs)
+  shorts_prop NoValues = Unit-prop
+  shorts_prop (MoreValues x xs) = ×_prop (short_prop x) (shorts_prop xs)
+
+-- the fields' structs too
+pub short_fields : (room : ℕ) (fs : List FieldTree) → IsWellFormed (suc room) (field_array fs) → HaveShortSignatures (value_trees (map field_struct fs))
+short_fields room fs h = short_all room (value_trees (map field_struct fs)) h.1

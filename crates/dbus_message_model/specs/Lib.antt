@@ -1,0 +1,13 @@
+pub mod Messages
+pub mod PartsViews
+pub mod ValidMessages
+pub mod MessageViews
+pub mod Lookups
+pub mod WantViews
+pub mod SingleTypes
+pub mod MissingFields
+pub mod BuildFaults
+pub mod MessageSizes
+pub mod PackedParts
+pub mod PackedMessages
+pub mod LimitLaws

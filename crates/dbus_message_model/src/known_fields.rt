@@ -1,0 +1,105 @@
+//! What a message's fields are looked up for.
+#![tactic(auto)]
+
+ghost use Rattle.std.specs.Prelude.{◌≡◌, ◌&&◌};
+ghost use Rattle.dbus_value_model.specs.ValueViews.{value_tree};
+ghost use Rattle.dbus_message_model.specs.MissingFields.{IsMissing};
+ghost use Rattle.dbus_message_model.specs.Messages.{has_code, is_known, lacks, required, text_in, body_signature, number_in, fd_count};
+ghost use Rattle.dbus_message_model.specs.PartsViews.{field_trees};
+
+use crate::field_table::{
+    ERROR_NAME, INTERFACE, MEMBER, PATH, REPLY_SERIAL, SIGNATURE, UNIX_FDS, is_known,
+};
+use crate::header_field::HeaderField;
+use dbus_value_model::Value;
+use std::alloc::Allocator;
+
+/// Whether a field of the code is there.
+#[tactic(auto, using(crate::proofs::FieldLists::has_here, crate::proofs::FieldLists::has_no_more))]
+pub(crate) fn has_field<A: Allocator>(fields: &[HeaderField<A>], code: u8) -> bool
+    ensures { result ≡ has_code code (field_trees fields.now) }
+{
+    for field in fields {
+        if field.code == code {
+            return true;
+        }
+    }
+    false
+}
+
+/// Whether a code is a known field's and stands among these.
+pub fn is_again<A: Allocator>(before: &[HeaderField<A>], code: u8) -> bool
+    ensures { result ≡ (is_known code && has_code code (field_trees before.now)) }
+{
+    is_known(code) && has_field(before, code)
+}
+
+/// The codes of the fields that a message of the type has. D-Bus Specification, "Header Fields".
+fn required(kind: u8) -> &'static [u8]
+    ensures { result.now ≡ required kind }
+{
+    match kind {
+        1 => &[PATH, MEMBER],
+        2 => &[REPLY_SERIAL],
+        3 => &[ERROR_NAME, REPLY_SERIAL],
+        4 => &[PATH, INTERFACE, MEMBER],
+        _ => &[],
+    }
+}
+
+/// The lowest code that the message type requires and that is missing.
+pub fn missing_field<A: Allocator>(kind: u8, fields: &[HeaderField<A>]) -> Option<u8>
+    ensures { IsMissing (lacks (required kind) (field_trees fields.now)) result }
+{
+    for code in required(kind) {
+        if !has_field(fields, *code) {
+            return Some(*code);
+        }
+    }
+    None
+}
+
+/// The text that a value is, or nothing.
+pub(crate) fn text_in<A: Allocator>(value: &Value<A>) -> &[u8]
+    ensures { result.now ≡ text_in (value_tree value.now) }
+{
+    match value {
+        Value::Str(text) | Value::Path(text) | Value::Sig(text) => text.as_bytes(),
+        _ => &[],
+    }
+}
+
+/// The signature of the body: the text of the first SIGNATURE field, or nothing.
+pub fn body_signature<A: Allocator>(fields: &[HeaderField<A>]) -> &[u8]
+    ensures { result.now ≡ body_signature (field_trees fields.now) }
+{
+    for field in fields {
+        if field.code == SIGNATURE {
+            return text_in(&field.value);
+        }
+    }
+    &[]
+}
+
+/// The number that a value of four bytes is, or 0.
+fn number_in<A: Allocator>(value: &Value<A>) -> u32
+    ensures { result ≡ number_in (value_tree value.now) }
+{
+    match value {
+        Value::U32(n) => *n,
+        _ => 0,
+    }
+}
+
+/// How many descriptors come with the message: the number of the first UNIX_FDS field, or 0. D-Bus Specification, "Header
+/// Fields".
+pub fn fd_count<A: Allocator>(fields: &[HeaderField<A>]) -> u32
+    ensures { result ≡ fd_count (field_trees fields.now) }
+{
+    for field in fields {
+        if field.code == UNIX_FDS {
+            return number_in(&field.value);
+        }
+    }
+    0
+}

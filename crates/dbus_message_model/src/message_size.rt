@@ -1,0 +1,60 @@
+//! How many bytes parts are spelled by.
+#![tactic(auto)]
+
+ghost use Rattle.std.specs.Prelude.{◌≤◌, ◌+◌, map};
+ghost use Rattle.dbus_value_model.specs.ShortSignatures.{HasShortSignatures, HaveShortSignatures};
+ghost use Rattle.dbus_value_model.specs.Values.{value_trees};
+ghost use Rattle.dbus_message_model.specs.Messages.{field_struct};
+ghost use Rattle.dbus_message_model.specs.MessageSizes.{IsFieldEnd, AreFieldEnds, HoldTheirNumbers};
+ghost use Rattle.dbus_message_model.specs.PartsViews.{field_tree, field_trees, parts_tree};
+
+use crate::header_field::HeaderField;
+use crate::parts::Parts;
+use dbus_marshal::measure_coded;
+use dbus_value_model::{Limits, read_all_numbers, read_numbers};
+use std::alloc::Allocator;
+
+/// Where a field ends that begins at `at`, or nothing where an array in it is too long, or the field array with it, whose
+/// contents begin at 16.
+fn field_end<A: Allocator>(field: &HeaderField<A>, at: u64, limits: Limits) -> Option<u64>
+    requires start { at ≤ 16 + limits.array }
+    requires signed { HasShortSignatures (field_struct (field_tree field.now)) }
+    ensures { IsFieldEnd limits (field_tree field.now) at result }
+{
+    match measure_coded(&field.value, at, limits) {
+        None => None,
+        Some(end) => {
+            if end > 16 + u64::from(limits.array) {
+                return None;
+            }
+            Some(end)
+        }
+    }
+}
+
+/// Where the fields end, the first of which begins at 16, or nothing where the field array or an array in it is too long.
+pub fn fields_end<A: Allocator>(fields: &[HeaderField<A>], limits: Limits) -> Option<u64>
+    requires signed { HaveShortSignatures (value_trees (map field_struct (field_trees fields.now))) }
+    ensures { AreFieldEnds limits (field_trees fields.now) 16 result }
+{
+    let mut at = 16;
+    for field in fields {
+        match field_end(field, at, limits) {
+            Some(end) => at = end,
+            None => return None,
+        }
+    }
+    Some(at)
+}
+
+/// Reads each number of the parts, which shows that it is in the range of its type.
+pub fn read_parts<A: Allocator>(parts: &Parts<A>)
+    ensures { HoldTheirNumbers (parts_tree parts.now) }
+{
+    for field in &parts.fields {
+        let _code = field.code;
+        read_numbers(&field.value);
+    }
+    read_all_numbers(&parts.body);
+    let (_kind, _flags, _serial) = (parts.kind, parts.flags, parts.serial);
+}
