@@ -6,7 +6,7 @@ pub mod OutcomeLaws
 pub mod NumberRows
 pub mod FixedItems
 pub mod ReadingParts
-pub mod GetReads
+pub mod ReadMoves
 pub mod FieldSteps
 pub mod FieldLoop
 pub mod BodyLoop

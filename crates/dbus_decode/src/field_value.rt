@@ -22,10 +22,9 @@ ghost use Rattle.dbus_message_model.specs.Messages.{Name, OfType, Anything, Seri
 use crate::fixed_header::read_serial;
 use dbus_message_model::field_table::{Wanted, want};
 use dbus_types::{SigType, TextKind};
-use dbus_unmarshal::get_within;
 use dbus_unmarshal::items::{read_length, read_nul, read_padding, read_short_length, read_u32};
 use dbus_unmarshal::texts::{copy_text, read_only, read_signature, read_text};
-use dbus_value_model::{Got, Limits, Order, Reason, Refusal, Stop, Value, refuse};
+use dbus_value_model::{Limits, Order, Reason, Stop, Value, refuse};
 use std::alloc::Allocator;
 
 /// The most bytes that a name in a header field has.
@@ -55,12 +54,9 @@ pub fn read_value<A: Allocator + Copy>(
     ensures moves { IfOk result (λ x. (at < x.1) × (x.1 ≤ end) × (x.1 ≤ length bytes.now)) }
     ensures packed { IfOk result (λ x. IsTrue (keeps_bytes x.0)) }
 {
-    match get_within(alloc, bytes, at, end, order, wanted, depth, limits, fds) {
-        Ok(Got::Done(value, next)) => Ok((value, next)),
-        Ok(Got::Partial) => Err(Stop::Partial),
-        Err(Refusal::Memory) => Err(Stop::Memory),
-        Err(Refusal::Format(fault)) => Err(Stop::Refused(fault)),
-    }
+    let room = limits.depth - depth;
+    let bounds = limits.bounds_with(fds);
+    dbus_unmarshal::read_value(alloc, bytes, at, end, order, wanted, room, bounds)
 }
 
 /// The one signature that a known field has, in its variant. Gives the place behind it.

@@ -9,4 +9,4 @@ mod reading;
 mod text_values;
 pub mod texts;
 
-pub use reading::{get, get_within};
+pub use reading::{get, get_within, read_value};

@@ -99,9 +99,14 @@ pub fn get_within<A: Allocator + Copy>(
     }
 }
 
-/// A value, where `room` more containers may be opened.
+/// The value of a type that stands at a place, where `room` more containers may be opened, and the place behind it: what
+/// [`get_within`] answers, for a reader that goes on with a [`Stop`] of its own.
+///
+/// `bytes` begin at the message's first byte; the value ends at or before `end`. `Stop::Refused` has the first fault,
+/// `Stop::Partial` comes where the bytes end within the value and show none, `Stop::Memory` where a growth was refused.
+/// D-Bus Specification, "Marshaling (Wire Format)".
 #[cycle(values)]
-fn read_value<A: Allocator + Copy>(
+pub fn read_value<A: Allocator + Copy>(
     alloc: A,
     bytes: &[u8],
     at: usize,

@@ -1,7 +1,7 @@
 use Rattle.std.proofs.Common.{drop, arith}
 use Rattle.dbus_message_model.specs.PartsViews.{parts_tree}
 use Rattle.dbus_decode.proofs.Decoded.{whole_read, valid_read, size_read, refused_read, partial_read}
-use Rattle.dbus_decode.proofs.GetReads.{bytes_from}
+use Rattle.dbus_decode.proofs.ReadMoves.{bytes_from}
 use Rattle.dbus_message_model.proofs.Widening.{widest_valid}
 use Rattle.dbus_decode.proofs.decoding.decode_within.Goals as goal
 

@@ -7,7 +7,7 @@ use Rattle.dbus_decode.specs.HeaderReading.{message_read, body_read}
 use Rattle.dbus_message_model.specs.Messages.{lacks, required, body_signature, body_fds}
 use Rattle.dbus_message_model.specs.PartsViews.{parts_tree, field_trees}
 use Rattle.dbus_decode.proofs.FixedItems.{exits}
-use Rattle.dbus_decode.proofs.GetReads.{bytes_at}
+use Rattle.dbus_decode.proofs.ReadMoves.{bytes_at}
 use Rattle.dbus_decode.proofs.SignedFields.{signed_fields}
 use Rattle.dbus_decode.proofs.decoding.read_message.Goals as goal
 

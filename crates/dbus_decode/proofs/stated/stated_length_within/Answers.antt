@@ -1,5 +1,5 @@
 use Rattle.std.proofs.Common.{drop, arith}
-use Rattle.dbus_decode.proofs.GetReads.{bytes_from}
+use Rattle.dbus_decode.proofs.ReadMoves.{bytes_from}
 use Rattle.dbus_decode.proofs.StatedLengths.{header_states, header_refused, header_faulty, header_partial, header_short}
 use Rattle.dbus_decode.proofs.stated.stated_length_within.Goals as goal
 
