@@ -54,9 +54,6 @@ some_row why p n h = rw (ne_eqb n 0 h) refl
 pub other_version : (p n : ℕ) → (n ≡ 1 → ⊥) → version_row p n ≡ Some reasons.Version
 other_version p n h = rw (ne_eqb n 1 h) refl
 
-pub version_one : (p : ℕ) → version_row p 1 ≡ None
-version_one p = refl
-
 pub long_fields : (limits : Limits) (body p n : ℕ) → limits.array < n → fields_row limits body p n ≡ Some reasons.ArrayTooLong
 long_fields limits body p n h = rw (lt-ltb _ _ h) refl
 

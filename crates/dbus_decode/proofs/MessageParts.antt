@@ -110,10 +110,6 @@ Agrees-byte_order = record {
 
 -- ---- the signature of the body
 
--- a text that is the signatures of some types
-abbrev pub SpellsTypes : List ℕ → Type 0
-SpellsTypes text = AreShaped (types_spelled text) × (sigs (types_spelled text) ≡ text)
-
 no_types : IsKind kinds.Signature []
 no_types = ((NoTypes, tt, refl), omega arith)
 
@@ -145,7 +141,8 @@ module _ (bounds : Bounds) (order : Order) (room end : ℕ) where
 
 -- ---- agreement
 
-Agrees-types : (text : List ℕ) → SpellsTypes text → Agrees (types_of_text text) (reads.types_of_text text)
+-- the text is the signatures of some types
+Agrees-types : (text : List ℕ) → AreShaped (types_spelled text) × (sigs (types_spelled text) ≡ text) → Agrees (types_of_text text) (reads.types_of_text text)
 Agrees-types text ok = record {
   reads = λ o s ts q r bytes e. let same : types_spelled text ≡ ts = cc in (ap sigs (sym same) ∙ ok.1, subst AreShaped same ok.0, cc, cc);
   passes = λ o s ts q r h. let same : types_spelled text ≡ ts = ap types_spelled (sym h.0) ∙ spelled_sigs ts in rw (same, h.2, h.3) refl;

@@ -21,9 +21,6 @@ module _ {A : Type 0} (values : List (Value A)) (i : ℕ) where
   pub unsound_later : (v : Value A) (n : ℕ) (r : Option ℕ) → i < length values → v ≡ get_or values i v → IsSound v → IsFirstUnsound (n + 1) (drop (i + 1) values) r → IsFirstUnsound n (drop i values) r
   unsound_later v n r h is p w = subst (λ (vs : List (Value A)). IsFirstUnsound n vs r) (sym (from v h is)) (inr (p, w))
 
-  pub unsound_none : (n : ℕ) → length values ≤ i → IsFirstUnsound n (drop i values) None
-  unsound_none n h = subst (λ (vs : List (Value A)). IsFirstUnsound n vs None) (sym (drop_all i values h)) refl
-
   pub sound_from : (v : Value A) (n : ℕ) → i < length values → v ≡ get_or values i v → IsFirstUnsound n (drop i values) None → IsSound v × IsFirstUnsound (n + 1) (drop (i + 1) values) None
   sound_from v n h is w = none_unsound n v (drop (i + 1) values) (subst (λ (vs : List (Value A)). IsFirstUnsound n vs None) (from v h is) w)
 

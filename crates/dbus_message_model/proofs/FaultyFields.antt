@@ -1,6 +1,6 @@
 -- Going over a list of header fields for the first that is at fault.
 use Rattle.std.proofs.Common.{◌≡◌, inl, inr, ℕ, ◌+◌, ◌<◌, ◌≤◌, List, [], ◌∷◌, ◌++◌, length, get_or, take, drop, Bool, true, false, ◌&&◌, Option, Some, None, refl, sym, ap, subst, ◌∙◌}
-use Rattle.std.proofs.lemmas.List.{map_push, take_more, drop_more, drop_all}
+use Rattle.std.proofs.lemmas.List.{map_push, take_more, drop_more}
 use Rattle.dbus_message_model.specs.Messages.{FieldTree, has_code, is_known}
 use Rattle.dbus_message_model.specs.BuildFaults.{IsFirstWithout, IsFirstUnsoundField, HoldsSound, twice}
 use Rattle.dbus_message_model.specs.PartsViews.{field_tree, field_trees}
@@ -35,6 +35,3 @@ module _ {A : Type 0} (fields : List (HeaderField A)) (i : ℕ) where
 
   pub unsound_field_later : (f : HeaderField A) (r : Option ℕ) → i < length fields → f ≡ get_or fields i f → HoldsSound f → IsFirstUnsoundField (drop (i + 1) fields) r → IsFirstUnsoundField (drop i fields) r
   unsound_field_later f r h is p w = subst (λ (fs : List (HeaderField A)). IsFirstUnsoundField fs r) (sym (drop_more fields i f h ∙ ap (λ (u : HeaderField A). u ∷ drop (i + 1) fields) (sym is))) (inr (p, w))
-
-  pub unsound_field_none : length fields ≤ i → IsFirstUnsoundField (drop i fields) None
-  unsound_field_none h = subst (λ (fs : List (HeaderField A)). IsFirstUnsoundField fs None) (sym (drop_all i fields h)) refl

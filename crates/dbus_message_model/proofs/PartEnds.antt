@@ -8,12 +8,10 @@ use Rattle.dbus_value_model.specs.declared.limits.TheConstants.{MESSAGE_LIMIT}
 use Rattle.dbus_value_model.specs.Specification.{specification}
 use Rattle.dbus_value_model.specs.declared.order.Order.TheVariants.{Little}
 use Rattle.dbus_value_model.specs.Measures.{capped, IsMeasured, AreMeasured}
-use Rattle.dbus_value_model.specs.Ranges.{HoldsNumbers}
 use Rattle.dbus_value_model.specs.Spelling.{spelling, spellings, AreWithinLimits}
 use Rattle.dbus_value_model.specs.Values.{ValueTree, ValueTrees, NoValues, MoreValues, value_trees}
-use Rattle.dbus_value_model.specs.ValueViews.{value_tree}
 use Rattle.dbus_message_model.specs.Messages.{FieldTree, field_struct}
-use Rattle.dbus_message_model.specs.MessageSizes.{IsFieldEnd, AreFieldEnds, HoldFieldNumbers}
+use Rattle.dbus_message_model.specs.MessageSizes.{IsFieldEnd, AreFieldEnds}
 use Rattle.dbus_message_model.specs.PartsViews.{field_tree, field_trees}
 use Rattle.dbus_message_model.specs.declared.header_field.HeaderField.{HeaderField}
 use Rattle.dbus_message_model.proofs.FieldLists.{fields_from, no_fields_from}
@@ -104,12 +102,3 @@ module _ (limits : Limits) where
 
   pub body_kept : (vs : ValueTrees) (at e : ℕ) → at ≤ 24 + limits.array → AreMeasured limits.array vs at (Some e) → AreWithinLimits limits.array Little at vs
   body_kept vs at e near h = (h.from Little at (capped-near at (omega (arith, limits.array_in, limits.message_in)))).0
-
--- ---- numbers
-
-module _ {A : Type 0} (fields : List (HeaderField A)) (i : ℕ) where
-  pub fields_hold_from : (f : HeaderField A) → i < length fields → f ≡ get_or fields i f → f.code < 256 → HoldsNumbers (value_tree f.value) → HoldFieldNumbers (field_trees (drop (i + 1) fields)) → HoldFieldNumbers (field_trees (drop i fields))
-  fields_hold_from f h is c v rest = subst HoldFieldNumbers (sym (fields_from fields i f h is)) ((c, v), rest)
-
-  pub no_fields_hold : length fields ≤ i → HoldFieldNumbers (field_trees (drop i fields))
-  no_fields_hold h = subst HoldFieldNumbers (sym (no_fields_from fields i h)) tt

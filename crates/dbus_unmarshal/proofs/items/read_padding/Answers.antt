@@ -1,4 +1,4 @@
-use Rattle.std.proofs.Common.{◌≡◌, ◌+◌, ◌-◌, arith, sym, ◌∙◌, refl}
+use Rattle.std.proofs.Common.{◌≡◌, ◌+◌, ◌-◌, arith, sym, ◌∙◌}
 use Rattle.dbus_unmarshal.proofs.ReadSteps.{goes_on_zeros, ends_zeros, breaks_zeros, padding_is, padding_overruns, zeros_done}
 use Rattle.dbus_unmarshal.proofs.items.read_padding.Goals as goal
 
