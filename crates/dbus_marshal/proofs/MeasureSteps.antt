@@ -20,6 +20,7 @@ use Rattle.dbus_value_model.specs.ValueViews.{value_tree, value_trees_of, byte_v
 use Rattle.dbus_marshal.proofs.Capping.{capped-near, capped-far, capped-bound, capped-same, capped-onward, capped-step, onward-from, rest-of}
 use Rattle.dbus_marshal.proofs.Lengths.{length-number, length-ended, length-text, length-variant, length-struct, length-entry, length-array, length-more, length-none}
 use Rattle.dbus_marshal.proofs.Periods.{gap-of_4, gap-of_8, gap-of_number, gap-of_text, gap-of_type, lengths-period, are_within-period}
+use Rattle.dbus_value_model.specs.declared.value.DictEntry.{DictEntry}
 use Rattle.dbus_value_model.proofs.ValueRows.{tree-Byte, tree-Bool, tree-I16, tree-U16, tree-I32, tree-U32, tree-I64, tree-U64, tree-Double, tree-Str, tree-Path, tree-Sig, tree-Fd, tree-Bytes, tree-Array, tree-Struct, tree-Entry, tree-Variant}
 
 all-short : (bs : List ℕ) → HaveShortSignatures (byte_values bs)
@@ -288,12 +289,12 @@ module _ (limits : Limits) where
   pub measured-Struct : {A : Type 0} (at p : ℕ) (r : Option ℕ) (vs : Vec (Value A) A) → p ≡ capped (at + gap_to 8 at) → AreMeasured limits.array (value_trees_of vs.items) p r → IsMeasured limits.array (value_tree {A = A} (Struct vs)) at r
   measured-Struct at p r vs is inner = subst (MeasuredTo at r) (sym (tree-Struct vs)) (measured-struct (value_trees_of vs.items) at p r is inner)
 
-  pub measured-Entry : {A : Type 0} (at p q : ℕ) (r : Option ℕ) (k v : Box (Value A) A) → p ≡ capped (at + gap_to 8 at) → IsMeasured limits.array (value_tree k.value) p (Some q) → IsMeasured limits.array (value_tree v.value) q r →
-      IsMeasured limits.array (value_tree {A = A} (Entry k v)) at r
-  measured-Entry at p q r k v is key held = subst (MeasuredTo at r) (sym (tree-Entry k v)) (measured-entry (value_tree k.value) (value_tree v.value) at p q r is key held)
+  pub measured-Entry : {A : Type 0} (at p q : ℕ) (r : Option ℕ) (e : Box (DictEntry A) A) → p ≡ capped (at + gap_to 8 at) → IsMeasured limits.array (value_tree e.value.key) p (Some q) → IsMeasured limits.array (value_tree e.value.value) q r →
+      IsMeasured limits.array (value_tree {A = A} (Entry e)) at r
+  measured-Entry at p q r e is key held = subst (MeasuredTo at r) (sym (tree-Entry e)) (measured-entry (value_tree e.value.key) (value_tree e.value.value) at p q r is key held)
 
-  pub measured-Entry_key : {A : Type 0} (at p : ℕ) (k v : Box (Value A) A) → p ≡ capped (at + gap_to 8 at) → IsMeasured limits.array (value_tree k.value) p None → IsMeasured limits.array (value_tree {A = A} (Entry k v)) at None
-  measured-Entry_key at p k v is key = subst (MeasuredTo at None) (sym (tree-Entry k v)) (measured-key (value_tree k.value) (value_tree v.value) at p is key)
+  pub measured-Entry_key : {A : Type 0} (at p : ℕ) (e : Box (DictEntry A) A) → p ≡ capped (at + gap_to 8 at) → IsMeasured limits.array (value_tree e.value.key) p None → IsMeasured limits.array (value_tree {A = A} (Entry e)) at None
+  measured-Entry_key at p e is key = subst (MeasuredTo at None) (sym (tree-Entry e)) (measured-key (value_tree e.value.key) (value_tree e.value.value) at p is key)
 
   pub measured-Variant : {A : Type 0} (at p : ℕ) (r : Option ℕ) (v : Box (Value A) A) → p ≡ capped (at + (gap_to 1 at + (1 + (length (sig (type_of (value_tree v.value))) + 1)))) → IsMeasured limits.array (value_tree v.value) p r →
       IsMeasured limits.array (value_tree {A = A} (Variant v)) at r

@@ -8,6 +8,7 @@ use Rattle.dbus_value_model.specs.Values.{type_of}
 use Rattle.dbus_value_model.specs.ShortSignatures.{HasShortSignatures, HaveShortSignatures}
 use Rattle.dbus_value_model.specs.ValueViews.{value_tree, value_trees_of}
 use Rattle.dbus_value_model.specs.declared.value.Value.{Value, Sig, Array, Struct, Entry, Variant}
+use Rattle.dbus_value_model.specs.declared.value.DictEntry.{DictEntry}
 use Rattle.dbus_value_model.proofs.ValueRows.{tree-Sig, tree-Array, tree-Struct, tree-Entry, tree-Variant}
 
 pub short-Sig : {A : Type 0} (s : String A) → HasShortSignatures (value_tree {A = A} (Sig s)) → length (string_bytes s) < 256
@@ -19,8 +20,8 @@ short-Array t vs h = subst HasShortSignatures (tree-Array t vs) h
 pub short-Struct : {A : Type 0} (vs : Vec (Value A) A) → HasShortSignatures (value_tree {A = A} (Struct vs)) → HaveShortSignatures (value_trees_of vs.items)
 short-Struct vs h = subst HasShortSignatures (tree-Struct vs) h
 
-pub short-Entry : {A : Type 0} (k v : Box (Value A) A) → HasShortSignatures (value_tree {A = A} (Entry k v)) → HasShortSignatures (value_tree k.value) × HasShortSignatures (value_tree v.value)
-short-Entry k v h = subst HasShortSignatures (tree-Entry k v) h
+pub short-Entry : {A : Type 0} (e : Box (DictEntry A) A) → HasShortSignatures (value_tree {A = A} (Entry e)) → HasShortSignatures (value_tree e.value.key) × HasShortSignatures (value_tree e.value.value)
+short-Entry e h = subst HasShortSignatures (tree-Entry e) h
 
 pub short-Variant : {A : Type 0} (v : Box (Value A) A) → HasShortSignatures (value_tree {A = A} (Variant v)) → (length (sig (type_of (value_tree v.value))) < 256) × HasShortSignatures (value_tree v.value)
 short-Variant v h = subst HasShortSignatures (tree-Variant v) h

@@ -18,6 +18,7 @@ use Rattle.dbus_value_model.specs.ValueViews.{value_tree, value_trees_of, byte_v
 use Rattle.dbus_value_model.specs.declared.value.Value.{Value, Byte, Bool as BoolOf, I16, U16, I32, U32, I64, U64, Double, Str, Path, Sig, Fd, Bytes, Array, Struct, Entry, Variant}
 use Rattle.dbus_value_model.specs.declared.value_fault.ValueFault.{ValueFault}
 use Rattle.dbus_value_model.specs.declared.value_fault.ValueFault.TheVariants.{ArrayTooLong, TooLong}
+use Rattle.dbus_value_model.specs.declared.value.DictEntry.{DictEntry}
 use Rattle.dbus_value_model.proofs.ValueRows.{tree-Byte, tree-Bool, tree-I16, tree-U16, tree-I32, tree-U32, tree-I64, tree-U64, tree-Double, tree-Str, tree-Path, tree-Sig, tree-Fd, tree-Bytes, tree-Array, tree-Struct, tree-Entry, tree-Variant}
 
 module _ (limits : Limits) where
@@ -100,8 +101,8 @@ module _ (limits : Limits) where
   pub sized-Struct : {A : Type 0} (b : Option ℕ) (o : ℕ) (vs : Vec (Value A) A) → sized limits (value_tree {A = A} (Struct vs)) b o ≡ and_then (padding limits b 8 o) (sizes limits (value_trees_of vs.items) b)
   sized-Struct b o vs = ap (size_of b o) (tree-Struct vs)
 
-  pub sized-Entry : {A : Type 0} (b : Option ℕ) (o : ℕ) (k v : Box (Value A) A) → sized limits (value_tree {A = A} (Entry k v)) b o ≡ and_then (padding limits b 8 o) (sized limits (value_tree k.value) b ⊳ sized limits (value_tree v.value) b)
-  sized-Entry b o k v = ap (size_of b o) (tree-Entry k v)
+  pub sized-Entry : {A : Type 0} (b : Option ℕ) (o : ℕ) (e : Box (DictEntry A) A) → sized limits (value_tree {A = A} (Entry e)) b o ≡ and_then (padding limits b 8 o) (sized limits (value_tree e.value.key) b ⊳ sized limits (value_tree e.value.value) b)
+  sized-Entry b o e = ap (size_of b o) (tree-Entry e)
 
   -- a text's items, before its byte more
   pub sized_text : (b : Option ℕ) (o w n : ℕ) → and_then (and_then (padding limits b w o) (item limits b w)) (item limits b n ⊳ item limits b 1) ≡ and_then (padding limits b w o) (item limits b w ⊳ item limits b n ⊳ item limits b 1)
@@ -143,6 +144,12 @@ module _ (limits : Limits) where
 
   pub sized_struct : {A : Type 0} (b : Option ℕ) (o p : ℕ) (vs : Vec (Value A) A) → Ok p ≡ padding limits b 8 o → sizes limits (value_trees_of vs.items) b p ≡ sized limits (value_tree {A = A} (Struct vs)) b o
   sized_struct b o p vs e = sym (sized-Struct b o vs ∙ ap (λ (r : Result ℕ ValueFault). and_then r (sizes limits (value_trees_of vs.items) b)) (sym e))
+
+  pub sized_entry : {A : Type 0} (b : Option ℕ) (o p q : ℕ) (e : Box (DictEntry A) A) → Ok p ≡ padding limits b 8 o → Ok q ≡ sized limits (value_tree e.value.key) b p →
+      sized limits (value_tree e.value.value) b q ≡ sized limits (value_tree {A = A} (Entry e)) b o
+  sized_entry b o p q e padded key =
+      let held = sized limits (value_tree e.value.value) b in
+      sym (sized-Entry b o e ∙ ap (λ (r : Result ℕ ValueFault). and_then r (sized limits (value_tree e.value.key) b ⊳ held)) (sym padded) ∙ ap (λ (r : Result ℕ ValueFault). and_then r held) (sym key))
 
   pub sized_variant : {A : Type 0} (b : Option ℕ) (o : ℕ) (v : Box (Value A) A) (r : Result ℕ ValueFault) → r ≡ and_then (padding limits b 1 o) (item limits b 1 ⊳ item limits b (length (sig (type_of (value_tree v.value)))) ⊳ item limits b 1) →
       and_then r (sized limits (value_tree v.value) b) ≡ sized limits (value_tree {A = A} (Variant v)) b o

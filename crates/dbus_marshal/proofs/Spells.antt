@@ -13,6 +13,7 @@ use Rattle.dbus_value_model.specs.Spelling.{spelling, spellings}
 use Rattle.dbus_value_model.specs.Appending.{with_padding, with_value, with_values}
 use Rattle.dbus_value_model.specs.ValueViews.{value_tree, value_trees_of, byte_values}
 use Rattle.dbus_value_model.specs.declared.value.Value.{Value, Byte, Bool as BoolOf, I16, U16, I32, U32, I64, U64, Double, Str, Path, Sig, Fd, Bytes, Array, Struct, Entry, Variant}
+use Rattle.dbus_value_model.specs.declared.value.DictEntry.{DictEntry}
 use Rattle.dbus_value_model.proofs.ValueRows.{tree-Byte, tree-Bool, tree-I16, tree-U16, tree-I32, tree-U32, tree-I64, tree-U64, tree-Double, tree-Str, tree-Path, tree-Sig, tree-Fd, tree-Bytes, tree-Array, tree-Struct, tree-Entry, tree-Variant}
 use Rattle.dbus_value_model.proofs.Numbers.{length-num}
 use Rattle.dbus_marshal.proofs.Written.{written_number, written_path, written_variant, written_struct, written_entry, written_none, written_more, num_1, no_padding, no_gap}
@@ -70,8 +71,8 @@ writes-Array order t vs front = ap (writing order front) (tree-Array t vs)
 pub writes-Struct : {A : Type 0} (order : Order) (vs : Vec (Value A) A) (front : List ℕ) → with_value order (value_tree {A = A} (Struct vs)) front ≡ with_values order (value_trees_of vs.items) (with_padding 8 front)
 writes-Struct order vs front = ap (writing order front) (tree-Struct vs) ∙ written_struct order (value_trees_of vs.items) front
 
-pub writes-Entry : {A : Type 0} (order : Order) (k v : Box (Value A) A) (front : List ℕ) → with_value order (value_tree {A = A} (Entry k v)) front ≡ with_value order (value_tree v.value) (with_value order (value_tree k.value) (with_padding 8 front))
-writes-Entry order k v front = ap (writing order front) (tree-Entry k v) ∙ written_entry order (value_tree k.value) (value_tree v.value) front
+pub writes-Entry : {A : Type 0} (order : Order) (e : Box (DictEntry A) A) (front : List ℕ) → with_value order (value_tree {A = A} (Entry e)) front ≡ with_value order (value_tree e.value.value) (with_value order (value_tree e.value.key) (with_padding 8 front))
+writes-Entry order e front = ap (writing order front) (tree-Entry e) ∙ written_entry order (value_tree e.value.key) (value_tree e.value.value) front
 
 pub writes-Variant : {A : Type 0} (order : Order) (v : Box (Value A) A) (front : List ℕ) →
     with_value order (value_tree {A = A} (Variant v)) front

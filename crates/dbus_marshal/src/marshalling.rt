@@ -99,10 +99,10 @@ pub fn write_value<A: Allocator>(out: &mut Vec<u8, A>, order: Order, value: &Val
             write_padding(out, 8);
             write_values(out, order, fields);
         }
-        Value::Entry(key, value) => {
+        Value::Entry(entry) => {
             write_padding(out, 8);
-            write_value(out, order, key);
-            write_value(out, order, value);
+            write_value(out, order, &entry.key);
+            write_value(out, order, &entry.value);
         }
         Value::Variant(inner) => {
             write_variant_signature(out, inner);

@@ -126,9 +126,9 @@ fn measure_value<A: Allocator>(value: &Value<A>, at: u64, limits: Limits) -> Opt
             Some(cap(start - origin + end))
         }
         Value::Struct(fields) => measure_values(fields, boundary(8, at), limits),
-        Value::Entry(key, value) => {
-            let behind_key = measure_value(key, boundary(8, at), limits)?;
-            measure_value(value, behind_key, limits)
+        Value::Entry(entry) => {
+            let behind_key = measure_value(&entry.key, boundary(8, at), limits)?;
+            measure_value(&entry.value, behind_key, limits)
         }
         Value::Variant(inner) => measure_value(inner, text(1, signature_length(inner), at), limits),
     }

@@ -53,7 +53,7 @@ pub fn signature_length<A: Allocator>(value: &Value<A>) -> usize
         Value::Bytes(_) => 2,
         Value::Array(element, _) => 1 + type_length(element),
         Value::Struct(fields) => 2 + signatures_length(fields),
-        Value::Entry(key, value) => 2 + signature_length(key) + signature_length(value),
+        Value::Entry(entry) => 2 + signature_length(&entry.key) + signature_length(&entry.value),
         _ => 1,
     }
 }
@@ -130,10 +130,10 @@ pub fn write_type_of<A: Allocator>(out: &mut Vec<u8, A>, value: &Value<A>)
             write_types_of(out, fields);
             write_byte(out, b')');
         }
-        Value::Entry(key, value) => {
+        Value::Entry(entry) => {
             write_byte(out, b'{');
-            write_type_of(out, key);
-            write_type_of(out, value);
+            write_type_of(out, &entry.key);
+            write_type_of(out, &entry.value);
             write_byte(out, b'}');
         }
         _ => match plain_type_of(value) {

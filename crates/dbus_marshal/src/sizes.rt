@@ -196,10 +196,10 @@ fn size_value<A: Allocator>(
             let offset = padding(limits, bound, 8, offset)?;
             size_values(fields, bound, offset, limits)
         }
-        Value::Entry(key, value) => {
+        Value::Entry(entry) => {
             let offset = padding(limits, bound, 8, offset)?;
-            let offset = size_value(key, bound, offset, limits)?;
-            size_value(value, bound, offset, limits)
+            let offset = size_value(&entry.key, bound, offset, limits)?;
+            size_value(&entry.value, bound, offset, limits)
         }
         Value::Variant(inner) => {
             let offset = text(limits, bound, 1, signature_length(inner), offset)?;

@@ -28,11 +28,11 @@ pub fn write_value<A: Allocator + Copy>(
         Value::Bytes(bytes) => write_bytes(out, bytes),
         Value::Array(element, items) => write_array(out, items, element),
         Value::Struct(fields) => write_struct(out, fields),
-        Value::Entry(key, value) => {
+        Value::Entry(entry) => {
             out.push('{')?;
-            write_value(out, key)?;
+            write_value(out, &entry.key)?;
             out.push_str(", ")?;
-            write_value(out, value)?;
+            write_value(out, &entry.value)?;
             out.push('}')
         }
         Value::Variant(inner) => {

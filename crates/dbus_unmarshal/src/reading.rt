@@ -21,7 +21,9 @@ use crate::number_values::{
 use crate::text_values::{get_path, get_sig, get_str};
 use crate::texts::read_signature;
 use dbus_types::SigType;
-use dbus_value_model::{Bounds, Got, Limits, Order, Reason, Refusal, Stop, Value, refuse};
+use dbus_value_model::{
+    Bounds, DictEntry, Got, Limits, Order, Reason, Refusal, Stop, Value, refuse,
+};
 use std::alloc::Allocator;
 
 /// The value of a type that stands at a place, and the place behind it, as [`get_within`] says under the limits of the
@@ -350,5 +352,6 @@ fn read_entry<A: Allocator + Copy>(
     let start = read_padding(bytes, at, end, 8)?;
     let (k, behind) = read_value(alloc, bytes, start, end, order, key, room, bounds)?;
     let (v, next) = read_value(alloc, bytes, behind, end, order, value, room, bounds)?;
-    Ok((Value::Entry(Box::new(alloc, k)?, Box::new(alloc, v)?), next))
+    let entry = DictEntry { key: k, value: v };
+    Ok((Value::Entry(Box::new(alloc, entry)?), next))
 }

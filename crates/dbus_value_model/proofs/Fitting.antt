@@ -45,6 +45,11 @@ pub beside : {E : Type 0} (r : Result Bool E) (P Q : Type 0) → Q → IfOk r (�
 beside (Ok b) P Q q h = (λ e. (h.0 e, q), λ k. h.1 k.0)
 beside (Err e) P Q q h = tt
 
+-- the same, where the fact stands first
+pub behind : {E : Type 0} (r : Result Bool E) (P Q : Type 0) → P → IfOk r (λ b. IsTrue b ↔ Q) → IfOk r (λ b. IsTrue b ↔ (P × Q))
+behind (Ok b) P Q p h = (λ e. (p, h.0 e), λ k. h.1 k.1)
+behind (Err e) P Q p h = tt
+
 -- ---- arrays of BYTE
 
 pub keeps-Array : {A : Type 0} (t : SigType A) (vs : Vec (Value A) A) → keeps_bytes {A = A} (Array t vs) ≡ (not (is_byte (type_tree t)) && keep_bytes vs.items)

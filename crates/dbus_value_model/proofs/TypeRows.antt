@@ -2,13 +2,14 @@
 use Rattle.std.proofs.Common.{◌≡◌, ℕ, ◌+◌, ◌<◌, ◌≤◌, List, [], ◌∷◌, ◌++◌, length, get_or, drop, map, Vec, Box, refl, ap, ◌∙◌, sym, arith}
 use Rattle.std.specs.declared.sync.Arc.{Arc}
 use Rattle.std.proofs.lemmas.List.{at_drop_more, at_drop_all, length-append}
-use Rattle.dbus_texts.specs.Types.{TypeTree, StructType, MoreTypes, type_trees, sig, sigs}
+use Rattle.dbus_texts.specs.Types.{TypeTree, StructType, EntryType, MoreTypes, type_trees, sig, sigs}
 use Rattle.dbus_types.specs.SigTypes.{type_tree, type_trees_of}
 use Rattle.dbus_types.specs.declared.sig_type.SigType.{SigType, Array, Struct, Entry}
 use Rattle.dbus_types.proofs.TypeViews.{type_tree-Array, type_tree-Struct, type_tree-Entry}
 use Rattle.dbus_value_model.specs.Values.{ValueTree, StructValue, type_of, types_of}
 use Rattle.dbus_value_model.specs.ValueViews.{value_tree, value_trees_of}
 use Rattle.dbus_value_model.specs.declared.value.Value.{Value, Bytes, Array as ArrayOf, Struct as StructOf, Entry as EntryOf}
+use Rattle.dbus_value_model.specs.declared.value.DictEntry.{DictEntry}
 use Rattle.dbus_value_model.proofs.ValueRows.{tree-Bytes, tree-Array, tree-Struct, tree-Entry}
 
 pub sig-Array : {A : Type 0} (t : Arc (SigType A) A) → sig (type_tree {A = A} (Array t)) ≡ 97 ∷ sig (type_tree t.value)
@@ -63,8 +64,8 @@ type-Array t vs = ap (λ (v : ValueTree). sig (type_of v)) (tree-Array t vs)
 pub type-Struct : {A : Type 0} (vs : Vec (Value A) A) → sig (type_of (value_tree {A = A} (StructOf vs))) ≡ 40 ∷ (sigs (types_of (value_trees_of vs.items)) ++ 41 ∷ [])
 type-Struct vs = ap (λ (v : ValueTree). sig (type_of v)) (tree-Struct vs)
 
-pub type-Entry : {A : Type 0} (k v : Box (Value A) A) → sig (type_of (value_tree {A = A} (EntryOf k v))) ≡ 123 ∷ (sig (type_of (value_tree k.value)) ++ (sig (type_of (value_tree v.value)) ++ 125 ∷ []))
-type-Entry k v = ap (λ (v : ValueTree). sig (type_of v)) (tree-Entry k v)
+pub type-Entry : {A : Type 0} (e : Box (DictEntry A) A) → sig (type_of (value_tree {A = A} (EntryOf e))) ≡ 123 ∷ (sig (type_of (value_tree e.value.key)) ++ (sig (type_of (value_tree e.value.value)) ++ 125 ∷ []))
+type-Entry e = ap (λ (v : ValueTree). sig (type_of v)) (tree-Entry e)
 
 pub types_more : {A : Type 0} (vs : List (Value A)) (i : ℕ) (v : Value A) → i < length vs → v ≡ get_or vs i v →
     sigs (types_of (value_trees_of (drop i vs))) ≡ sig (type_of (value_tree v)) ++ sigs (types_of (value_trees_of (drop (i + 1) vs)))
@@ -83,12 +84,12 @@ value_length-Array t vs = ap length (type-Array t vs) ∙ omega arith
 pub value_length-Struct : {A : Type 0} (vs : Vec (Value A) A) → length (sig (type_of (value_tree {A = A} (StructOf vs)))) ≡ 2 + length (sigs (types_of (value_trees_of vs.items)))
 value_length-Struct vs = ap length (type-Struct vs) ∙ omega (arith, length_within 40 41 (sigs (types_of (value_trees_of vs.items))))
 
-pub value_length-Entry : {A : Type 0} (k v : Box (Value A) A) →
-    length (sig (type_of (value_tree {A = A} (EntryOf k v)))) ≡ 2 + length (sig (type_of (value_tree k.value))) + length (sig (type_of (value_tree v.value)))
-value_length-Entry k v =
-    let a = sig (type_of (value_tree k.value)) in
-    let b = sig (type_of (value_tree v.value)) in
-    ap length (type-Entry k v) ∙ omega (arith, length-append a (b ++ 125 ∷ []), length-append b (125 ∷ []))
+pub value_length-Entry : {A : Type 0} (e : Box (DictEntry A) A) →
+    length (sig (type_of (value_tree {A = A} (EntryOf e)))) ≡ 2 + length (sig (type_of (value_tree e.value.key))) + length (sig (type_of (value_tree e.value.value)))
+value_length-Entry e =
+    let a = sig (type_of (value_tree e.value.key)) in
+    let b = sig (type_of (value_tree e.value.value)) in
+    ap length (type-Entry e) ∙ omega (arith, length-append a (b ++ 125 ∷ []), length-append b (125 ∷ []))
 
 pub value_length_more : {A : Type 0} (vs : List (Value A)) (i : ℕ) (v : Value A) → i < length vs → v ≡ get_or vs i v →
     length (sigs (types_of (value_trees_of (drop i vs)))) ≡ length (sig (type_of (value_tree v))) + length (sigs (types_of (value_trees_of (drop (i + 1) vs))))
@@ -106,3 +107,10 @@ types_of-trees (v ∷ vs) = ap (MoreTypes (type_of (value_tree v))) (types_of-tr
 pub struct_type : {A : Type 0} (ts : List (SigType A)) (vs : List (Value A)) → map type_tree ts ≡ map (λ v. type_of (value_tree v)) vs →
     StructType (type_trees_of ts) ≡ type_of (StructValue (value_trees_of vs))
 struct_type ts vs e = ap (λ (l : List TypeTree). StructType (type_trees l)) e ∙ ap StructType (sym (types_of-trees vs))
+
+same_entries : (k l u v : TypeTree) → k ≡ l → u ≡ v → EntryType k u ≡ EntryType l v
+same_entries k l u v e f = cc
+
+pub entry_type : {A : Type 0} (k v : Arc (SigType A) A) (e : Box (DictEntry A) A) → type_tree k.value ≡ type_of (value_tree e.value.key) → type_tree v.value ≡ type_of (value_tree e.value.value) →
+    type_tree {A = A} (Entry k v) ≡ type_of (value_tree {A = A} (EntryOf e))
+entry_type k v e key held = type_tree-Entry k v ∙ same_entries _ _ _ _ key held ∙ ap type_of (sym (tree-Entry e))

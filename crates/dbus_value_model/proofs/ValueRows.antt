@@ -8,6 +8,7 @@ use Rattle.dbus_types.specs.declared.sig_type.SigType.{SigType}
 use Rattle.dbus_value_model.specs.Values.{NumberValue, TextValue, VariantValue, ArrayValue, StructValue, EntryValue}
 use Rattle.dbus_value_model.specs.ValueViews.{value_tree, value_trees_of, byte_values}
 use Rattle.dbus_value_model.specs.declared.value.Value.{Value, Byte, Bool as BoolOf, I16, U16, I32, U32, I64, U64, Double, Str, Path, Sig, Fd, Bytes, Array, Struct, Entry, Variant, the_lemmas}
+use Rattle.dbus_value_model.specs.declared.value.DictEntry.{DictEntry}
 
 pub tree-Byte : (A : Type 0) (n : ℕ) → value_tree {A = A} (Byte n) ≡ NumberValue BYTE n
 tree-Byte A n = search (rules, the_lemmas)
@@ -57,8 +58,8 @@ tree-Array t vs = search (rules, the_lemmas)
 pub tree-Struct : {A : Type 0} (vs : Vec (Value A) A) → value_tree {A = A} (Struct vs) ≡ StructValue (value_trees_of vs.items)
 tree-Struct vs = search (rules, the_lemmas)
 
-pub tree-Entry : {A : Type 0} (k v : Box (Value A) A) → value_tree {A = A} (Entry k v) ≡ EntryValue (value_tree k.value) (value_tree v.value)
-tree-Entry k v = search (rules, the_lemmas)
+pub tree-Entry : {A : Type 0} (e : Box (DictEntry A) A) → value_tree {A = A} (Entry e) ≡ EntryValue (value_tree e.value.key) (value_tree e.value.value)
+tree-Entry e = search (rules, the_lemmas)
 
 pub tree-Variant : {A : Type 0} (v : Box (Value A) A) → value_tree {A = A} (Variant v) ≡ VariantValue (value_tree v.value)
 tree-Variant v = search (rules, the_lemmas)

@@ -6,7 +6,7 @@ use Rattle.dbus_texts.specs.Types.{NumberType, BYTE, BOOLEAN, INT16, UINT16, INT
 use Rattle.dbus_types.specs.SigTypes.{type_tree}
 use Rattle.dbus_value_model.specs.Values.{ValueTree, ValueTrees, NumberValue, TextValue, VariantValue, ArrayValue, StructValue, EntryValue, value_trees}
 use Rattle.dbus_value_model.specs.declared.value.Value.{Value}
-use Rattle.dbus_value_model.specs.declared.value.Value.TheOpen.{Value-F}
+use Rattle.dbus_value_model.specs.declared.value.Value.TheOpen.{Value-F, DictEntry-F}
 use Rattle.dbus_value_model.specs.declared.value.Value.TheFolds.{fold-Value}
 
 -- bytes as an array's elements
@@ -14,7 +14,7 @@ abbrev pub byte_values : List ℕ → ValueTrees
 byte_values bytes = value_trees (map (NumberValue BYTE) bytes)
 
 -- one level, with each value inside already seen
-abbrev pub value_step : {A : Type 0} → Value-F A ValueTree → ValueTree
+abbrev pub value_step : {A : Type 0} → Value-F A ValueTree ValueTree → ValueTree
 value_step (Value-F.Byte n) = NumberValue BYTE n
 value_step (Value-F.Bool b) = NumberValue BOOLEAN (if b then 1 else 0)
 value_step (Value-F.I16 z) = NumberValue INT16 (cast_unsigned w16 z)
@@ -31,11 +31,14 @@ value_step (Value-F.Fd n) = NumberValue UNIX_FD n
 value_step (Value-F.Bytes bytes) = ArrayValue (NumberType BYTE) (byte_values bytes.items)
 value_step (Value-F.Array t vs) = ArrayValue (type_tree t) (value_trees vs.items)
 value_step (Value-F.Struct vs) = StructValue (value_trees vs.items)
-value_step (Value-F.Entry k v) = EntryValue k.value v.value
+value_step (Value-F.Entry e) = e.value
 value_step (Value-F.Variant v) = VariantValue v.value
 
+abbrev pub entry_step : {A : Type 0} → DictEntry-F A ValueTree ValueTree → ValueTree
+entry_step e = EntryValue e.key e.value
+
 abbrev pub value_tree : {A : Type 0} → Value A → ValueTree
-value_tree {A} = fold-Value A ValueTree value_step
+value_tree {A} = fold-Value A ValueTree ValueTree value_step entry_step
 
 abbrev pub value_trees_of : {A : Type 0} → List (Value A) → ValueTrees
 value_trees_of vs = value_trees (map value_tree vs)

@@ -74,7 +74,7 @@ pub fn nests_within<A: Allocator>(value: &Value<A>, room: u8) -> bool
         Value::Bytes(_) => 0 < room,
         Value::Array(_, items) => 0 < room && nest_within(items, room - 1),
         Value::Struct(fields) => 0 < room && nest_within(fields, room - 1),
-        Value::Entry(key, value) => nests_within(key, room) && nests_within(value, room),
+        Value::Entry(entry) => nests_within(&entry.key, room) && nests_within(&entry.value, room),
         Value::Variant(inner) => 0 < room && nests_within(inner, room - 1),
         _ => true,
     }
@@ -105,7 +105,7 @@ pub fn is_named<A: Allocator>(value: &Value<A>) -> bool
         Value::Bytes(_) => true,
         Value::Array(_, items) => are_named(items),
         Value::Struct(fields) => are_named(fields),
-        Value::Entry(key, value) => is_named(key) && is_named(value),
+        Value::Entry(entry) => is_named(&entry.key) && is_named(&entry.value),
         Value::Variant(inner) => is_named(inner),
         _ => true,
     }

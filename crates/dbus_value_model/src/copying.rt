@@ -5,7 +5,7 @@ ghost use Rattle.std.specs.Prelude.{◌≡◌, map, IfOk};
 ghost use Rattle.dbus_value_model.specs.PackedBytes.{packing};
 ghost use Rattle.dbus_value_model.specs.ValueViews.{value_tree};
 
-use crate::value::Value;
+use crate::value::{DictEntry, Value};
 use std::alloc::{AllocError, Allocator};
 use std::string::String;
 
@@ -37,10 +37,10 @@ pub fn copy<A: Allocator + Copy>(alloc: A, value: &Value<A>) -> Result<Value<A>,
             Ok(Value::Array(element.clone()?, items))
         }
         Value::Struct(fields) => Ok(Value::Struct(copy_all(alloc, fields)?)),
-        Value::Entry(key, value) => {
-            let key = copy(alloc, key)?;
-            let value = copy(alloc, value)?;
-            Ok(Value::Entry(Box::new(alloc, key)?, Box::new(alloc, value)?))
+        Value::Entry(entry) => {
+            let key = copy(alloc, &entry.key)?;
+            let value = copy(alloc, &entry.value)?;
+            Ok(Value::Entry(Box::new(alloc, DictEntry { key, value })?))
         }
         Value::Variant(inner) => {
             let inner = copy(alloc, inner)?;

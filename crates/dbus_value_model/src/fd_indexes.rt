@@ -36,7 +36,7 @@ fn is_below<A: Allocator>(value: &Value<A>, limit: u32) -> bool
         Value::Bytes(_) => true,
         Value::Array(_, items) => are_below(items, limit),
         Value::Struct(fields) => are_below(fields, limit),
-        Value::Entry(key, value) => is_below(key, limit) && is_below(value, limit),
+        Value::Entry(entry) => is_below(&entry.key, limit) && is_below(&entry.value, limit),
         Value::Variant(inner) => is_below(inner, limit),
         _ => true,
     }

@@ -33,5 +33,5 @@ pub use ranges::{read_all_numbers, read_numbers};
 pub use stop::{Stop, refuse};
 pub use typing::{plain_type_of, type_of};
 pub use uniformity::is_typed;
-pub use value::Value;
+pub use value::{DictEntry, Value};
 pub use value_fault::ValueFault;

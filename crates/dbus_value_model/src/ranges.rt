@@ -42,9 +42,9 @@ pub fn read_numbers<A: Allocator>(value: &Value<A>)
         Value::Bytes(bytes) => read_bytes(bytes),
         Value::Array(_, items) => read_all_numbers(items),
         Value::Struct(fields) => read_all_numbers(fields),
-        Value::Entry(key, value) => {
-            read_numbers(key);
-            read_numbers(value);
+        Value::Entry(entry) => {
+            read_numbers(&entry.key);
+            read_numbers(&entry.value);
         }
         Value::Variant(inner) => read_numbers(inner),
     }

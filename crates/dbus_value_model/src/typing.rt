@@ -33,7 +33,7 @@ pub fn plain_type_of<A: Allocator>(value: &Value<A>) -> Option<SigType<A>>
         Value::Sig(_) => Some(SigType::Sig),
         Value::Fd(_) => Some(SigType::Fd),
         Value::Variant(_) => Some(SigType::Variant),
-        Value::Bytes(_) | Value::Array(_, _) | Value::Struct(_) | Value::Entry(_, _) => None,
+        Value::Bytes(_) | Value::Array(_, _) | Value::Struct(_) | Value::Entry(_) => None,
     }
 }
 
@@ -52,9 +52,9 @@ pub fn type_of<A: Allocator + Copy>(alloc: A, value: &Value<A>) -> Result<SigTyp
             let types = types_of(alloc, fields)?;
             Ok(SigType::Struct(Arc::new(alloc, types)?))
         }
-        Value::Entry(key, value) => {
-            let key = type_of(alloc, key)?;
-            let value = type_of(alloc, value)?;
+        Value::Entry(entry) => {
+            let key = type_of(alloc, &entry.key)?;
+            let value = type_of(alloc, &entry.value)?;
             Ok(SigType::Entry(Arc::new(alloc, key)?, Arc::new(alloc, value)?))
         }
         _ => match plain_type_of(value) {

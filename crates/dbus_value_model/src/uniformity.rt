@@ -78,11 +78,11 @@ fn is_uniform<A: Allocator + Copy>(alloc: A, value: &Value<A>) -> Result<bool, A
             all_of(alloc, element, items)
         }
         Value::Struct(fields) => are_uniform(alloc, fields),
-        Value::Entry(key, value) => {
-            if !is_uniform(alloc, key)? {
+        Value::Entry(entry) => {
+            if !is_uniform(alloc, &entry.key)? {
                 return Ok(false);
             }
-            is_uniform(alloc, value)
+            is_uniform(alloc, &entry.value)
         }
         Value::Variant(inner) => {
             if !has_single_type(alloc, inner)? {
@@ -114,7 +114,7 @@ fn has_packed_bytes<A: Allocator>(value: &Value<A>) -> bool
     match value {
         Value::Array(element, items) => have_packed_bytes(items) && !is_byte(element),
         Value::Struct(fields) => have_packed_bytes(fields),
-        Value::Entry(key, value) => has_packed_bytes(key) && has_packed_bytes(value),
+        Value::Entry(entry) => has_packed_bytes(&entry.key) && has_packed_bytes(&entry.value),
         Value::Variant(inner) => has_packed_bytes(inner),
         _ => true,
     }

@@ -5,6 +5,7 @@ use dbus_types::SigType;
 use std::alloc::{Allocator, Global};
 
 /// A value. D-Bus Specification, "Type System".
+#[cycle(value)]
 #[derive(Debug, Drop)]
 pub enum Value<A: Allocator = Global> {
     /// BYTE.
@@ -39,8 +40,18 @@ pub enum Value<A: Allocator = Global> {
     Array(SigType<A>, Vec<Value<A>, A>),
     /// A struct's fields.
     Struct(Vec<Value<A>, A>),
-    /// A dict entry's key and value.
-    Entry(Box<Value<A>, A>, Box<Value<A>, A>),
+    /// A dict entry.
+    Entry(Box<DictEntry<A>, A>),
     /// A value that carries its type.
     Variant(Box<Value<A>, A>),
+}
+
+/// A dict entry: a key and the value that it stands for. D-Bus Specification, "Type System".
+#[cycle(value)]
+#[derive(Debug, Drop)]
+pub struct DictEntry<A: Allocator = Global> {
+    /// The key.
+    pub key: Value<A>,
+    /// The value.
+    pub value: Value<A>,
 }

@@ -2,7 +2,7 @@
 
 use crate::examples::value_of;
 use dbus_types::SigType;
-use dbus_value_model::{Order, Value, ValueFault, check_value, copy};
+use dbus_value_model::{DictEntry, Order, Value, ValueFault, check_value, copy};
 use std::alloc::{AllocError, Allocator};
 use std::test::*;
 
@@ -54,8 +54,11 @@ fn other_item<A: Allocator + Copy>(alloc: A) -> Result<Value<A>, AllocError> {
 }
 
 fn lone_entry<A: Allocator + Copy>(alloc: A) -> Result<Value<A>, AllocError> {
-    let key = Box::new(alloc, Value::Byte(1))?;
-    Ok(Value::Entry(key, Box::new(alloc, Value::Byte(2))?))
+    let entry = DictEntry {
+        key: Value::Byte(1),
+        value: Value::Byte(2),
+    };
+    Ok(Value::Entry(Box::new(alloc, entry)?))
 }
 
 fn make<A: Allocator + Copy>(alloc: A, what: Made) -> Result<Value<A>, AllocError> {

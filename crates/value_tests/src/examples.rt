@@ -62,13 +62,13 @@ pub const EXAMPLES: &[(&str, &[u8], &[u8], &str)] = &[
         "a{yy}",
         b"\x0a\0\0\0\0\0\0\0\x01\x02\0\0\0\0\0\0\x01\x03",
         b"\0\0\0\x0a\0\0\0\0\x01\x02\0\0\0\0\0\0\x01\x03",
-        "Array(Entry(Byte, Byte), [Entry(Byte(1), Byte(2)), Entry(Byte(1), Byte(3))])",
+        "Array(Entry(Byte, Byte), [Entry(DictEntry { key: Byte(1), value: Byte(2) }), Entry(DictEntry { key: Byte(1), value: Byte(3) })])",
     ),
     (
         "a{ny}",
         b"\x03\0\0\0\0\0\0\0\xfe\xff\x05",
         b"\0\0\0\x03\0\0\0\0\xff\xfe\x05",
-        "Array(Entry(I16, Byte), [Entry(I16(-2), Byte(5))])",
+        "Array(Entry(I16, Byte), [Entry(DictEntry { key: I16(-2), value: Byte(5) })])",
     ),
     (
         "(yq)",

@@ -156,23 +156,23 @@ pub write_value-write_padding-requires-in-Entry-clause-space : goal.write_value-
 write_value-write_padding-requires-in-Entry-clause-space g t c =
     let order = c.args.order in
     let padded = with_padding 8 c.args.out.now.items in
-    let k = value_tree c.in-Entry.key.value in
-    let space = rw (c.in-Entry.is, writes-Entry order c.in-Entry.key c.in-Entry.value c.args.out.now.items) at c.requires.space in
-    omega (arith, space, length_value order k padded, length_value order (value_tree c.in-Entry.value.value) (with_value order k padded))
+    let k = value_tree c.in-Entry.entry.value.key in
+    let space = rw (c.in-Entry.is, writes-Entry order c.in-Entry.entry c.args.out.now.items) at c.requires.space in
+    omega (arith, space, length_value order k padded, length_value order (value_tree c.in-Entry.entry.value.value) (with_value order k padded))
 
 pub write_value-write_value-requires : goal.write_value-write_value-requires
 write_value-write_value-requires g t c κs within =
     let is = c.in-Entry.is in
     let there = c.deref-in-Entry.ensures in
     let order = c.args.order in
-    let k = value_tree c.in-Entry.key.value in
+    let k = value_tree c.in-Entry.entry.value.key in
     let padded = with_padding 8 c.args.out.now.items in
     let measure = rw is at c.decreases in
-    let writes = writes-Entry order c.in-Entry.key c.in-Entry.value c.args.out.now.items in
+    let writes = writes-Entry order c.in-Entry.entry c.args.out.now.items in
     let space = rw (is, writes) at c.requires.space in
     let fits = rw (is, writes) at c.requires.fits in
-    let short = short-Entry c.in-Entry.key c.in-Entry.value (rw is at c.requires.signed) in
-    let grows = length_value order (value_tree c.in-Entry.value.value) (with_value order k padded) in
+    let short = short-Entry c.in-Entry.entry (rw is at c.requires.signed) in
+    let grows = length_value order (value_tree c.in-Entry.entry.value.value) (with_value order k padded) in
     let wrote = c.write_padding-in-Entry.ensures.written in
     (rw (there, ← measure) (grind (arith, the_lemmas)), (within, (rw (there, wrote) (omega (arith, space, grows, c.write_padding-in-Entry.ensures.room)), (rw (there, wrote) (omega (arith, fits, grows)), rw there short.0))))
 
@@ -181,10 +181,10 @@ write_value-write_value-requires-in-Entry g t c κs within =
     let is = c.in-Entry.is in
     let there = c.deref-in-Entry-2.ensures in
     let measure = rw is at c.decreases in
-    let writes = writes-Entry c.args.order c.in-Entry.key c.in-Entry.value c.args.out.now.items in
+    let writes = writes-Entry c.args.order c.in-Entry.entry c.args.out.now.items in
     let space = rw (is, writes) at c.requires.space in
     let fits = rw (is, writes) at c.requires.fits in
-    let short = short-Entry c.in-Entry.key c.in-Entry.value (rw is at c.requires.signed) in
+    let short = short-Entry c.in-Entry.entry (rw is at c.requires.signed) in
     let wrote = rw (c.deref-in-Entry.ensures, c.write_padding-in-Entry.ensures.written) at c.write_value.ensures.written in
     (rw (there, ← measure) (grind (arith, the_lemmas)), (within, (rw (there, wrote) (omega (arith, space, c.write_padding-in-Entry.ensures.room, c.write_value.ensures.room)), (rw (there, wrote) fits, rw there short.1))))
 
@@ -192,7 +192,7 @@ pub write_value-returns-in-Entry-clause-written : goal.write_value-returns-in-En
 write_value-returns-in-Entry-clause-written g t c =
     let key = rw (c.deref-in-Entry.ensures, c.write_padding-in-Entry.ensures.written) at c.write_value.ensures.written in
     let both = rw (c.deref-in-Entry-2.ensures, key) at c.write_value-in-Entry.ensures.written in
-    rw c.in-Entry.is (both ∙ sym (writes-Entry c.args.order c.in-Entry.key c.in-Entry.value c.args.out.now.items))
+    rw c.in-Entry.is (both ∙ sym (writes-Entry c.args.order c.in-Entry.entry c.args.out.now.items))
 
 pub write_value-write_signature-requires-clause-space : goal.write_value-write_signature-requires-clause-space
 write_value-write_signature-requires-clause-space g t c =

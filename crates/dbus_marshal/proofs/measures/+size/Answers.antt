@@ -50,7 +50,7 @@ pub measure_value-returns-in_err-behind_key-in-Entry-clause-exact :
 measure_value-returns-in_err-behind_key-in-Entry-clause-exact g t c =
     let key = rw c.deref-in-Entry.ensures at c.in_err-behind_key-in-Entry.ensures.exact in
     rw (c.from_residual-in_err-behind_key-in-Entry.ensures, c.in-Entry.is)
-    (measured-Entry_key c.args.limits c.args.at c.boundary-in-Entry.result c.in-Entry.key c.in-Entry.value c.boundary-in-Entry.ensures.exact key)
+    (measured-Entry_key c.args.limits c.args.at c.boundary-in-Entry.result c.in-Entry.entry c.boundary-in-Entry.ensures.exact key)
 
 pub measure_value-returns-else-len-from-clause-exact :
     goal.measure_value-returns-else-len-from-clause-exact
@@ -79,7 +79,7 @@ measure_value-returns-in_ok-behind_key-in-Entry-clause-exact g t c =
     let key = rw c.deref-in-Entry.ensures at c.in_ok-behind_key-in-Entry.ensures.exact in
     let held = rw c.deref-in-Entry-2.ensures at c.measure_value-in-Entry.ensures.exact in
     rw c.in-Entry.is
-    (measured-Entry c.args.limits c.args.at c.boundary-in-Entry.result c.in_ok-behind_key-in-Entry.behind_key c.measure_value-in-Entry.result c.in-Entry.key c.in-Entry.value c.boundary-in-Entry.ensures.exact key held)
+    (measured-Entry c.args.limits c.args.at c.boundary-in-Entry.result c.in_ok-behind_key-in-Entry.behind_key c.measure_value-in-Entry.result c.in-Entry.entry c.boundary-in-Entry.ensures.exact key held)
 
 pub measure_value-returns-in-Variant-clause-exact : goal.measure_value-returns-in-Variant-clause-exact
 measure_value-returns-in-Variant-clause-exact g t c =

@@ -27,20 +27,20 @@ pub signature_length-overflow_add-result-in-Entry : goal.signature_length-overfl
 signature_length-overflow_add-result-in-Entry g t c =
     let short = rw c.in-Entry.is at c.requires in
     let key = rw c.deref-in-Entry.ensures at c.signature_length.ensures in
-    omega (arith, short, key, value_length-Entry c.in-Entry.key c.in-Entry.value)
+    omega (arith, short, key, value_length-Entry c.in-Entry.entry)
 
 pub signature_length-overflow_add-result-in-Entry-2 : goal.signature_length-overflow_add-result-in-Entry-2
 signature_length-overflow_add-result-in-Entry-2 g t c =
     let short = rw c.in-Entry.is at c.requires in
     let key = rw c.deref-in-Entry.ensures at c.signature_length.ensures in
     let held = rw c.deref-in-Entry-2.ensures at c.signature_length-in-Entry.ensures in
-    omega (arith, short, key, held, value_length-Entry c.in-Entry.key c.in-Entry.value)
+    omega (arith, short, key, held, value_length-Entry c.in-Entry.entry)
 
 pub signature_length-returns-in-Entry : goal.signature_length-returns-in-Entry
 signature_length-returns-in-Entry g t c =
     let key = rw c.deref-in-Entry.ensures at c.signature_length.ensures in
     let held = rw c.deref-in-Entry-2.ensures at c.signature_length-in-Entry.ensures in
-    rw c.in-Entry.is (omega (arith, key, held, value_length-Entry c.in-Entry.key c.in-Entry.value))
+    rw c.in-Entry.is (omega (arith, key, held, value_length-Entry c.in-Entry.entry))
 
 pub signatures_length-signature_length-len-requires : goal.signatures_length-signature_length-len-requires
 signatures_length-signature_length-len-requires g t c κs within =

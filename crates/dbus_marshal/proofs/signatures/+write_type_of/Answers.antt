@@ -23,9 +23,9 @@ write_type_of-write_byte-requires-in-Entry-2 g t c =
     let key = rw c.deref-in-Entry.ensures at c.write_type_of.ensures.written in
     let held = rw c.deref-in-Entry-2.ensures at c.write_type_of-in-Entry.ensures.written in
     let l1 = length_join c.args.out.now.items (123 ∷ []) c.write_byte-in-Entry.new.out.items c.write_byte-in-Entry.ensures.written in
-    let l2 = length_join c.write_byte-in-Entry.new.out.items (sig (type_of (value_tree c.in-Entry.key.value))) c.write_type_of.new.out.items key in
-    let l3 = length_join c.write_type_of.new.out.items (sig (type_of (value_tree c.in-Entry.value.value))) c.write_type_of-in-Entry.new.out.items held in
-    record { space = omega (arith, space, l1, l2, l3, value_length-Entry c.in-Entry.key c.in-Entry.value, c.write_byte-in-Entry.ensures.room, c.write_type_of.ensures.room, c.write_type_of-in-Entry.ensures.room) }
+    let l2 = length_join c.write_byte-in-Entry.new.out.items (sig (type_of (value_tree c.in-Entry.entry.value.key))) c.write_type_of.new.out.items key in
+    let l3 = length_join c.write_type_of.new.out.items (sig (type_of (value_tree c.in-Entry.entry.value.value))) c.write_type_of-in-Entry.new.out.items held in
+    record { space = omega (arith, space, l1, l2, l3, value_length-Entry c.in-Entry.entry, c.write_byte-in-Entry.ensures.room, c.write_type_of.ensures.room, c.write_type_of-in-Entry.ensures.room) }
 
 pub write_type_of-returns-in-Array-clause-written : goal.write_type_of-returns-in-Array-clause-written
 write_type_of-returns-in-Array-clause-written g t c =
@@ -44,8 +44,8 @@ pub write_type_of-returns-in-Entry-clause-written : goal.write_type_of-returns-i
 write_type_of-returns-in-Entry-clause-written g t c =
     let key = rw c.deref-in-Entry.ensures at c.write_type_of.ensures.written in
     let held = rw c.deref-in-Entry-2.ensures at c.write_type_of-in-Entry.ensures.written in
-    rw (c.in-Entry.is, type-Entry c.in-Entry.key c.in-Entry.value)
-    (join_two c.args.out.now.items (sig (type_of (value_tree c.in-Entry.key.value))) (sig (type_of (value_tree c.in-Entry.value.value))) c.write_byte-in-Entry.new.out.items c.write_type_of.new.out.items
+    rw (c.in-Entry.is, type-Entry c.in-Entry.entry)
+    (join_two c.args.out.now.items (sig (type_of (value_tree c.in-Entry.entry.value.key))) (sig (type_of (value_tree c.in-Entry.entry.value.value))) c.write_byte-in-Entry.new.out.items c.write_type_of.new.out.items
     c.write_type_of-in-Entry.new.out.items c.write_byte-in-Entry-2.new.out.items 123 125 c.write_byte-in-Entry.ensures.written key held c.write_byte-in-Entry-2.ensures.written)
 
 pub write_types_of-write_type_of-requires : goal.write_types_of-write_type_of-requires

@@ -2,7 +2,7 @@ use Rattle.std.proofs.Common.{Ok, Err, ◌∙◌, arith, rules}
 use Rattle.std.proofs.lemmas.Result.{err_from_is_err_and}
 use Rattle.dbus_value_model.specs.declared.value.Value.{the_lemmas}
 use Rattle.dbus_marshal.proofs.Measuring.{below_most}
-use Rattle.dbus_marshal.proofs.Sizing.{sized_bytes, sized_array, sized_struct, sized_variant, sizes_step, sizes_stop}
+use Rattle.dbus_marshal.proofs.Sizing.{sized_bytes, sized_array, sized_struct, sized_entry, sized_variant, sizes_step, sizes_stop}
 use Rattle.dbus_marshal.proofs.Signing.{short-Array, short-Struct, short_more}
 use Rattle.dbus_marshal.proofs.sizes.+size.Goals as goal
 
@@ -78,3 +78,9 @@ pub size_value-returns-in_ok-offset-in-Struct-clause-exact : goal.size_value-ret
 size_value-returns-in_ok-offset-in-Struct-clause-exact g t c =
     let fields = rw c.deref-in-Struct.ensures.value at c.size_values-in-Struct.ensures.exact in
     rw c.in-Struct.is (fields ∙ sized_struct c.args.limits c.args.bound c.args.offset c.in_ok-offset-in-Struct.offset c.in-Struct.fields c.in_ok-offset-in-Struct.ensures.exact)
+
+pub size_value-returns-in_ok-offset-in-Entry-2-clause-exact : goal.size_value-returns-in_ok-offset-in-Entry-2-clause-exact
+size_value-returns-in_ok-offset-in-Entry-2-clause-exact g t c =
+    let key = rw c.deref-in-Entry.ensures at c.in_ok-offset-in-Entry-2.ensures.exact in
+    let held = rw c.deref-in-Entry-2.ensures at c.size_value-in-Entry.ensures.exact in
+    rw c.in-Entry.is (held ∙ sized_entry c.args.limits c.args.bound c.args.offset c.in_ok-offset-in-Entry.offset c.in_ok-offset-in-Entry-2.offset c.in-Entry.entry c.in_ok-offset-in-Entry.ensures.exact key)

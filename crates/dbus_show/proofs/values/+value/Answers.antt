@@ -36,13 +36,13 @@ write_value-returns-in_ok-write_value-in-Entry-2 g t c =
     let b2 = string_bytes c.write_value.new.out in
     let b3 = string_bytes c.push_str.new.self in
     let b4 = string_bytes c.write_value-in-Entry.new.out in
-    let key = value_text (value_tree c.in-Entry.key.value) in
-    let value = value_text (value_tree c.in-Entry.value.value) in
+    let key = value_text (value_tree c.in-Entry.entry.value.key) in
+    let value = value_text (value_tree c.in-Entry.entry.value.value) in
     let e1 : b1 ≡ b0 ++ 123 ∷ [] = pushed b0 b1 123 (lit< tt) c.in_ok-push-in-Entry.ensures.bytes in
-    let e2 : b2 ≡ b1 ++ key = c.in_ok-write_value-in-Entry.ensures ∙ ap (λ v. b1 ++ value_text (value_tree v)) c.deref-in-Entry.ensures in
+    let e2 : b2 ≡ b1 ++ key = c.in_ok-write_value-in-Entry.ensures ∙ ap (λ v. b1 ++ value_text (value_tree v.key)) c.deref-in-Entry.ensures in
     let e3 : b3 ≡ b2 ++ 44 ∷ 32 ∷ [] = c.in_ok-push_str-in-Entry.ensures.bytes in
-    let e4 : b4 ≡ b3 ++ value = c.in_ok-write_value-in-Entry-2.ensures ∙ ap (λ v. b3 ++ value_text (value_tree v)) c.deref-in-Entry-2.ensures in
-    let whole : value_text (value_tree c.args.value.now) ≡ 123 ∷ (key ++ (44 ∷ 32 ∷ (value ++ 125 ∷ []))) = ap (λ v. value_text (value_tree v)) c.in-Entry.is ∙ ap value_text (tree-Entry c.in-Entry.key c.in-Entry.value) in
+    let e4 : b4 ≡ b3 ++ value = c.in_ok-write_value-in-Entry-2.ensures ∙ ap (λ v. b3 ++ value_text (value_tree v.value)) c.deref-in-Entry-2.ensures in
+    let whole : value_text (value_tree c.args.value.now) ≡ 123 ∷ (key ++ (44 ∷ 32 ∷ (value ++ 125 ∷ []))) = ap (λ v. value_text (value_tree v)) c.in-Entry.is ∙ ap value_text (tree-Entry c.in-Entry.entry) in
     last_push c.push-in-Entry.result b4 (string_bytes c.push-in-Entry.new.self) 125 (b0 ++ value_text (value_tree c.args.value.now)) (lit< tt) c.push-in-Entry.ensures.bytes
     (behind_four b0 b1 b2 b3 b4 (123 ∷ []) key (44 ∷ 32 ∷ []) value (125 ∷ []) e1 e2 e3 e4 ∙ ap (λ s. b0 ++ s) (sym whole))
 

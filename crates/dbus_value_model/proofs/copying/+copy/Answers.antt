@@ -1,7 +1,7 @@
-use Rattle.std.proofs.Common.{◌≡◌, ◌++◌, ◌∷◌, [], rules}
+use Rattle.std.proofs.Common.{◌≡◌, ◌++◌, ◌∷◌, [], ap, ◌∙◌, rules}
 use Rattle.dbus_value_model.specs.PackedBytes.{packing}
 use Rattle.dbus_value_model.specs.ValueViews.{value_tree}
-use Rattle.dbus_value_model.proofs.Copied.{array_equal, array_same_bytes, struct_equal, struct_same_bytes, more_copied}
+use Rattle.dbus_value_model.proofs.Copied.{array_equal, array_same_bytes, struct_equal, struct_same_bytes, entry_equal, entry_same_bytes, more_copied}
 use Rattle.dbus_value_model.proofs.copying.+copy.Goals as goal
 
 pub copy-returns-in_ok-clone-in-Array-clause-equal : goal.copy-returns-in_ok-clone-in-Array-clause-equal
@@ -19,6 +19,20 @@ copy-returns-in_ok-copy_all-in-Struct-clause-equal g t c =
 pub copy-returns-in_ok-copy_all-in-Struct-clause-same_bytes : goal.copy-returns-in_ok-copy_all-in-Struct-clause-same_bytes
 copy-returns-in_ok-copy_all-in-Struct-clause-same_bytes g t c =
     rw c.in-Struct.is (struct_same_bytes c.in_ok-copy_all-in-Struct.field-0 c.in-Struct.fields (rw (← c.deref-in-Struct.ensures.value) c.in_ok-copy_all-in-Struct.ensures.same_bytes))
+
+pub copy-returns-in_ok-new-in-Entry-clause-equal : goal.copy-returns-in_ok-new-in-Entry-clause-equal
+copy-returns-in_ok-new-in-Entry-clause-equal g t c =
+    let made = c.in_ok-new-in-Entry.ensures.ok in
+    let key = ap (λ e. value_tree e.key) made ∙ c.in_ok-key-in-Entry.ensures.equal ∙ ap (λ e. value_tree e.key) c.deref-in-Entry.ensures in
+    let held = ap (λ e. value_tree e.value) made ∙ c.in_ok-value-in-Entry.ensures.equal ∙ ap (λ e. value_tree e.value) c.deref-in-Entry-2.ensures in
+    rw c.in-Entry.is (entry_equal c.in_ok-new-in-Entry.field-0 c.in-Entry.entry key held)
+
+pub copy-returns-in_ok-new-in-Entry-clause-same_bytes : goal.copy-returns-in_ok-new-in-Entry-clause-same_bytes
+copy-returns-in_ok-new-in-Entry-clause-same_bytes g t c =
+    let made = c.in_ok-new-in-Entry.ensures.ok in
+    let key = ap (λ e. packing e.key) made ∙ c.in_ok-key-in-Entry.ensures.same_bytes ∙ ap (λ e. packing e.key) c.deref-in-Entry.ensures in
+    let held = ap (λ e. packing e.value) made ∙ c.in_ok-value-in-Entry.ensures.same_bytes ∙ ap (λ e. packing e.value) c.deref-in-Entry-2.ensures in
+    rw c.in-Entry.is (entry_same_bytes c.in_ok-new-in-Entry.field-0 c.in-Entry.entry key held)
 
 pub copy_all-loop-value-preserved : goal.copy_all-loop-value-preserved
 copy_all-loop-value-preserved g t c =

@@ -6,7 +6,7 @@ use Rattle.dbus_value_model.specs.Values.{StructValue, type_of as tree_type}
 use Rattle.dbus_value_model.specs.ValueViews.{value_tree, value_trees_of}
 use Rattle.dbus_types.proofs.TypeViews.{type_tree-Struct}
 use Rattle.dbus_value_model.proofs.ValueRows.{tree-Struct}
-use Rattle.dbus_value_model.proofs.TypeRows.{struct_type}
+use Rattle.dbus_value_model.proofs.TypeRows.{struct_type, entry_type}
 use Rattle.dbus_value_model.proofs.typing.+type_of.Goals as goal
 
 pub type_of-returns-in_ok-new-in-Struct : goal.type_of-returns-in_ok-new-in-Struct
@@ -17,6 +17,12 @@ type_of-returns-in_ok-new-in-Struct g t c =
     type_tree-Struct made ∙ ap (λ v. StructType (type_trees_of v.items)) c.in_ok-new-in-Struct.ensures.ok ∙ struct_type types.items c.deref.result.now c.in_ok-types-in-Struct.ensures
     ∙ ap (λ vs. tree_type (StructValue (value_trees_of vs))) c.deref.ensures.value
     ∙ ap tree_type (sym (tree-Struct fields)) ∙ ap (λ v. tree_type (value_tree v)) (sym c.in-Struct.is)
+
+pub type_of-returns-in_ok-new-in-Entry-2 : goal.type_of-returns-in_ok-new-in-Entry-2
+type_of-returns-in_ok-new-in-Entry-2 g t c =
+    let key = ap type_tree c.in_ok-new-in-Entry.ensures.ok ∙ c.in_ok-key-in-Entry.ensures ∙ ap (λ e. tree_type (value_tree e.key)) c.deref-in-Entry.ensures in
+    let held = ap type_tree c.in_ok-new-in-Entry-2.ensures.ok ∙ c.in_ok-value-in-Entry.ensures ∙ ap (λ e. tree_type (value_tree e.value)) c.deref-in-Entry-2.ensures in
+    rw c.in-Entry.is (entry_type c.in_ok-new-in-Entry.field-0 c.in_ok-new-in-Entry-2.field-0 c.in-Entry.entry key held)
 
 pub types_of-loop-value-preserved : goal.types_of-loop-value-preserved
 types_of-loop-value-preserved g t c =
