@@ -8,6 +8,6 @@
 pub use dbus_marshal::{put, put_within, size_after, size_after_within};
 pub use dbus_unmarshal::{get, get_within, laws};
 pub use dbus_value_model::{
-    ARRAY_LIMIT, DEPTH_LIMIT, Fault, FdRule, Got, Limits, MESSAGE_LIMIT, Order, Reason, Refusal,
-    Value, ValueFault, check_value, check_value_within, copy, plain_type_of, type_of,
+    ARRAY_LIMIT, DEPTH_LIMIT, DictEntry, Fault, FdRule, Got, Limits, MESSAGE_LIMIT, Order, Reason,
+    Refusal, Value, ValueFault, check_value, check_value_within, copy, plain_type_of, type_of,
 };
