@@ -1,8 +1,9 @@
 //! What an array has besides its elements' own reading.
 #![tactic(auto)]
 
-ghost use Rattle.std.specs.Prelude.{◌≢◌, ◌≡◌, ℕ, ◌+◌, ◌≤◌, length, drop, map, IfOk, IfErr};
-ghost use Rattle.dbus_texts.specs.Types.{NumberType, BYTE};
+ghost use Rattle.std.specs.Prelude.{◌≢◌, ◌≡◌, ℕ, ◌+◌, ◌/◌, ◌≤◌, length, drop, map, IfOk, IfErr};
+ghost use Rattle.dbus_texts.specs.Types.{NumberCode, NumberType, BYTE};
+ghost use Rattle.dbus_types.specs.Alignments.{width};
 ghost use Rattle.dbus_types.specs.SigTypes.{type_tree};
 ghost use Rattle.dbus_value_model.specs.declared.limits.Bounds.{Bounds};
 ghost use Rattle.dbus_value_model.specs.declared.order.Order.{Order};
@@ -63,4 +64,24 @@ pub fn read_bytes<A: Allocator>(
         return Err(Stop::Partial);
     }
     Ok(Vec::from_slice(alloc, &rest[..n])?)
+}
+
+/// How many elements room is made for before the first is read, where so many of their bytes are there.
+///
+/// Of numbers it is as many as the bytes hold. Of any other type it is a guess, and never more than the bytes allow: a
+/// variant has 4 bytes or more and a signature 2, and other elements are mostly long.
+pub fn first_room<A: Allocator>(item: &SigType<A>, there: usize) -> usize
+    ensures numbers { (k : NumberCode) → type_tree item.now ≡ NumberType k → result ≡ there / width k }
+    ensures within { result ≤ there }
+{
+    match item {
+        SigType::Sig => there / 2,
+        SigType::Variant => there / 8 + there.min(1),
+        SigType::Str
+        | SigType::Path
+        | SigType::Array(_)
+        | SigType::Struct(_)
+        | SigType::Entry(_, _) => there / 64 + there.min(1),
+        _ => there / usize::from(alignment(item)),
+    }
 }

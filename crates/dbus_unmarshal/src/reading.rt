@@ -13,7 +13,7 @@ ghost use Rattle.dbus_value_model.specs.Gets.{Gets};
 ghost use Rattle.dbus_value_model.specs.Specification.{specification, bounds_of, bounds_with};
 ghost use Rattle.dbus_value_model.specs.declared.limits.TheConstants.{DEPTH_LIMIT};
 
-use crate::arrays::{read_bytes, read_frame};
+use crate::arrays::{first_room, read_bytes, read_frame};
 use crate::items::{read_nul, read_padding, read_short_length};
 use crate::number_values::{
     get_bool, get_byte, get_double, get_fd, get_i16, get_i32, get_i64, get_u16, get_u32, get_u64,
@@ -264,7 +264,9 @@ fn read_items<A: Allocator + Copy>(
     ensures packed { IfOk result (λ x. IsTrue (keep_bytes x.items)) }
 {
     let end = at + n;
-    let mut values = Vec::new(alloc);
+    // A length that is stated takes no memory for bytes that are not there.
+    let there = n.min(bytes.len() - at);
+    let mut values = Vec::with_capacity(alloc, first_room(item, there))?;
     let mut place = at;
     while place < end {
         let (value, next) = read_value(alloc, bytes, place, end, order, item, room, bounds)?;

@@ -154,7 +154,7 @@ read_entry-read_value-requires-2 g t c =
 
 pub read_items-returns-in_err-value-clause-gives : goal.read_items-returns-in_err-value-clause-gives
 read_items-returns-in_err-value-clause-gives g t c =
-    let p = err_from_is_err_and c.from_residual.result c.from_residual.ensures.1 in
+    let p = err_from_is_err_and c.from_residual-in_err-value.result c.from_residual-in_err-value.ensures.1 in
     let more : c.args.n - length c.loop-place.values.items ≡ suc (c.args.n - length c.loop-place.values.items - 1) = omega arith in
     rw (p.1, p.2, ← c.loop-place.invariant.so_far) (stops_in (value c.args.bounds c.args.order c.args.room (c.args.at + c.args.n) (type_tree c.args.item.now)) (c.args.at + c.args.n) (map value_tree c.loop-place.values.items) (c.args.n - length c.loop-place.values.items) (c.args.n - length c.loop-place.values.items - 1) c.loop-place.place (drop c.loop-place.place c.args.bytes.now) _ more c.loop-place-test.true c.in_err-value.ensures.gives)
 
@@ -221,4 +221,4 @@ read_fields-returns-clause-gives g t c =
 pub read_items-loop-place-init : goal.read_items-loop-place-init
 read_items-loop-place-init g t c =
     let all : c.args.n - 0 ≡ c.args.n = omega arith in
-    rw c.new-values.ensures.items (record { at_most = omega arith; inside = c.requires.inside; taken = omega arith; packed = refl; so_far = rw all (front_none _) })
+    rw c.in_ok-values.ensures.items (record { at_most = omega arith; inside = c.requires.inside; taken = omega arith; packed = refl; so_far = rw all (front_none _) })
