@@ -1,8 +1,11 @@
 pub mod Codes
 mod Quotients
+mod ByteLanes
 mod PlainBlocks
-mod NameRuns
 mod NameSteps
+mod WordBlocks
+mod LinkedBlocks
+mod WholeNames
 mod Utf8Steps
 mod SignatureSteps
 mod FrameBounds

@@ -20,7 +20,7 @@ a_begins Name = refl
 a_begins Unique = refl
 a_begins WellKnown = refl
 
-apart : (l : Letters) → goes_on l (separator l) ≡ false
+pub apart : (l : Letters) → goes_on l (separator l) ≡ false
 apart Word = refl
 apart Name = refl
 apart Unique = refl
@@ -53,11 +53,11 @@ elements_head l t b c h = elements_at l t b c h.first h.others h.first_is h.othe
 elements_from : (l : Letters) (t : Tail) (b : ℕ) (c : List ℕ) → begins l b ≡ true → GoesOn l t c → Elements l t (b ∷ c)
 elements_from l t b c e h = record { first = b ∷ h.run; others = h.others; first_is = (e, h.run_is); others_are = h.others_are; follow = h.follow; spelled = ap (λ x. b ∷ x) h.spelled }
 
-elements_move : (l : Letters) (t : Tail) (b : ℕ) → begins l b ≡ true → Moves (Elements l t) b (GoesOn l t)
+pub elements_move : (l : Letters) (t : Tail) (b : ℕ) → begins l b ≡ true → Moves (Elements l t) b (GoesOn l t)
 elements_move l t b e = record { to = λ c h. (elements_head l t b c h).1; from = λ c h. elements_from l t b c e h; some = goes_on_some l t }
 
 -- the next byte within an element, or after it
-abbrev MayGo : Tail → Type 0
+abbrev pub MayGo : Tail → Type 0
 MayGo Alone = ⊥
 MayGo Needed = Unit {0}
 MayGo Free = Unit {0}
@@ -79,7 +79,7 @@ goes_on_head : (l : Letters) (t : Tail) (b : ℕ) (c : List ℕ) → GoesOn l t 
 goes_on_head l t b c h = goes_on_at l t b c h.run h.others h.run_is h.others_are h.follow h.spelled
 
 -- a byte of the element
-goes_on_more : (l : Letters) (t : Tail) (b : ℕ) → goes_on l b ≡ true → Moves (GoesOn l t) b (GoesOn l t)
+pub goes_on_more : (l : Letters) (t : Tail) (b : ℕ) → goes_on l b ≡ true → Moves (GoesOn l t) b (GoesOn l t)
 goes_on_more l t b e =
     record {
       to = λ c h. ⊎_elim (λ w. w.1) (λ w. absurd (false≢true (sym (ap (goes_on l) w.0 ∙ apart l) ∙ e))) (goes_on_head l t b c h);
@@ -93,7 +93,7 @@ follow_one Alone h e es = h
 follow_one Needed h e es = tt
 follow_one Free h e es = tt
 
-goes_on_separator : (l : Letters) (t : Tail) (b : ℕ) → MayGo t → goes_on l b ≡ false → b ≡ separator l → Moves (GoesOn l t) b (Elements l Free)
+pub goes_on_separator : (l : Letters) (t : Tail) (b : ℕ) → MayGo t → goes_on l b ≡ false → b ≡ separator l → Moves (GoesOn l t) b (Elements l Free)
 goes_on_separator l t b g n e =
     record {
       to = λ c h. ⊎_elim (λ w. absurd (false≢true (sym n ∙ w.0))) (λ w. w.2) (goes_on_head l t b c h);
@@ -114,7 +114,7 @@ path_at b c h =
     (λ w. (cc, inr (record { first = w.0; others = w.1; first_is = w.2.0; others_are = w.2.1; follow = tt; spelled = cc })))
     h
 
-path_from : (b : ℕ) (c : List ℕ) → b ≡ 47 → (c ≡ []) ⊎ Elements Word Free c → IsPath (b ∷ c)
+pub path_from : (b : ℕ) (c : List ℕ) → b ≡ 47 → (c ≡ []) ⊎ Elements Word Free c → IsPath (b ∷ c)
 path_from b c e h =
     ⊎_elim
     (λ n. inl cc)
@@ -129,7 +129,7 @@ elements_joined_at : (l : Letters) (c first : List ℕ) (others : List (List ℕ
 elements_joined_at l c first [] s f o m e = absurd m
 elements_joined_at l c first (g ∷ others) s f o m e = (first, g, others, (f, o), subst (λ x. c ≡ first ++ each_behind x (g ∷ others)) s e)
 
-elements_joined : (l : Letters) (c : List ℕ) → separator l ≡ 46 → Elements l Needed c → IsJoined (begins l) (goes_on l) c
+pub elements_joined : (l : Letters) (c : List ℕ) → separator l ≡ 46 → Elements l Needed c → IsJoined (begins l) (goes_on l) c
 elements_joined l c e h = elements_joined_at l c h.first h.others e h.first_is h.others_are h.follow h.spelled
 
 bus_at : (b : ℕ) (c : List ℕ) → IsBusName (b ∷ c) → ((b ≡ 58) × Elements Unique Needed c) ⊎ ((is_dashed_start b ≡ true) × GoesOn WellKnown Needed c)
@@ -200,7 +200,7 @@ goes_on_nil_at l Needed [] (f ∷ others) m e = cc
 goes_on_nil_at l Needed (x ∷ run) others m e = cc
 goes_on_nil_at l Free run others m e = refl
 
-goes_on_end : (l : Letters) (t : Tail) → may_end t ≡ true → GoesOn l t []
+pub goes_on_end : (l : Letters) (t : Tail) → may_end t ≡ true → GoesOn l t []
 goes_on_end l Alone e = record { run = []; others = []; run_is = tt; others_are = tt; follow = tt; spelled = refl }
 goes_on_end l Needed e = absurd (false≢true e)
 goes_on_end l Free e = record { run = []; others = []; run_is = tt; others_are = tt; follow = tt; spelled = refl }

@@ -1,13 +1,11 @@
 -- Blocks in which each byte is from 1 to 127.
-use Rattle.std.proofs.Common.{◌≡◌, ℕ, ◌+◌, ◌-◌, ◌%◌, ◌^◌, ◌<◌, ◌≤◌, Bool, true, false, cond, eqb, leb, List, [], ◌∷◌, ◌++◌, map, length, replicate, refl, sym, ap, ◌∙◌, arith, w8, Fits, leb-false, eqb-true}
+use Rattle.std.proofs.Common.{◌≡◌, ℕ, ◌%◌, ◌^◌, ◌<◌, ◌≤◌, Bool, true, false, cond, eqb, leb, List, [], ◌∷◌, ◌++◌, map, length, replicate, refl, sym, ap, ◌∙◌, arith, w8, Fits, leb-false, eqb-true}
 use Rattle.std.specs.List.{AllByRecursion}
 use Rattle.std.specs.Int.{IsInRange}
 use Rattle.std.proofs.lemmas.Simd.{length-zip2, mask_l-mod}
 use Rattle.std.proofs.lemmas.List.{length-map, length-replicate}
+use Rattle.dbus_texts.proofs.ByteLanes.{less}
 use lib.Lanes.{zip2, mask_l, top, Each1}
-
-abbrev less : ℕ → ℕ → ℕ
-less a b = (a + (2 ^ 8 - b)) % 2 ^ 8
 
 abbrev at_least : ℕ → ℕ → ℕ
 at_least a b = cond (leb a b) 255 0

@@ -2,6 +2,7 @@ pub mod Types
 pub mod Prefixes
 pub mod Names
 pub mod NameScans
+pub mod Neighbours
 pub mod Utf8
 pub mod Utf8Scans
 pub mod Signatures

@@ -10,6 +10,7 @@ ghost use Rattle.dbus_texts.specs.Verdicts.{IsBreakOf, IsTextBreak, IsVerdict, I
 use crate::scan::ScanState;
 use crate::text_kind::TextKind;
 use crate::type_codes::is_type_code;
+use crate::whole_names::is_name;
 use std::alloc::{AllocError, AllocFailed};
 
 /// Why a text is not the name that is wanted.
@@ -66,7 +67,7 @@ fn is_one_code(kind: TextKind, text: &[u8]) -> bool
 fn break_of(kind: TextKind, text: &[u8]) -> Option<usize>
     ensures { IsBreakOf kind text.now result }
 {
-    if is_one_code(kind, text) {
+    if is_one_code(kind, text) || is_name(kind, text) {
         return None;
     }
     ScanState::of_kind(kind).break_of(text)

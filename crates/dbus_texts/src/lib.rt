@@ -4,12 +4,15 @@
 mod ascii;
 mod check;
 mod laws;
+mod name_blocks;
+mod name_bytes;
 mod names;
 mod scan;
 mod signature;
 mod text_kind;
 mod type_codes;
 mod utf8;
+mod whole_names;
 
 pub use check::{
     NameFault, SigFault, check_bus_name, check_error_name, check_interface, check_member,

@@ -1,7 +1,7 @@
 //! The scan of object paths and names.
 #![tactic(auto)]
 
-ghost use Rattle.std.specs.Prelude.{◌≡◌, ℕ, ◌≤◌, ◌<◌, length, true, get_or};
+ghost use Rattle.std.specs.Prelude.{◌≡◌};
 ghost use Rattle.dbus_texts.specs.Names.{is_word, is_dashed_start};
 ghost use Rattle.dbus_texts.specs.NameScans.{begins, goes_on, separator, name_next, name_end, name_rest};
 
@@ -53,7 +53,7 @@ pub struct NameScan {
 }
 
 /// `[A-Za-z0-9_]`, of which small letters are asked for first, since most are.
-fn is_word(byte: u8) -> bool
+pub fn is_word(byte: u8) -> bool
     ensures { result ≡ is_word byte }
 {
     byte.is_ascii_lowercase() || byte.is_ascii_alphanumeric() || byte == b'_'
@@ -68,7 +68,7 @@ fn is_dashed_start(byte: u8) -> bool
 
 impl Letters {
     /// Whether an element may begin with the byte.
-    fn begins(self, byte: u8) -> bool
+    pub fn begins(self, byte: u8) -> bool
         ensures { result ≡ begins self byte }
     {
         match self {
@@ -80,7 +80,7 @@ impl Letters {
     }
 
     /// Whether an element may go on with the byte.
-    fn goes_on(self, byte: u8) -> bool
+    pub fn goes_on(self, byte: u8) -> bool
         ensures { result ≡ goes_on self byte }
     {
         match self {
@@ -89,30 +89,8 @@ impl Letters {
         }
     }
 
-    /// The place behind the bytes, from a place on, with which an element may go on.
-    fn run_end(self, text: &[u8], at: usize) -> usize
-        requires { at ≤ length text.now }
-        ensures range { (at ≤ result) × (result ≤ length text.now) }
-        ensures run { (i : ℕ) → at ≤ i → i < result → goes_on self (get_or text.now i 0) ≡ true }
-    {
-        let mut end = at;
-        match self {
-            Letters::Word | Letters::Name => {
-                while end < text.len() && is_word(text[end]) {
-                    end += 1;
-                }
-            }
-            Letters::Unique | Letters::WellKnown => {
-                while end < text.len() && (is_word(text[end]) || text[end] == b'-') {
-                    end += 1;
-                }
-            }
-        }
-        end
-    }
-
     /// The byte between elements.
-    fn separator(self) -> u8
+    pub fn separator(self) -> u8
         ensures { result ≡ separator self }
     {
         match self {
@@ -193,15 +171,10 @@ impl NameScan {
         ensures { IsBreakFrom (name_rest self) text.now result }
     {
         let mut scan = self;
-        let mut at = 0;
-        while at < text.len() {
-            match scan.next(text[at]) {
+        for (i, byte) in text.iter().enumerate() {
+            match scan.next(*byte) {
                 Some(next) => scan = next,
-                None => return Some(at),
-            }
-            at += 1;
-            if let Place::More = scan.place {
-                at = scan.letters.run_end(text, at);
+                None => return Some(i),
             }
         }
         if scan.end() { None } else { Some(text.len()) }

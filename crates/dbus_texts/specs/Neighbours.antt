@@ -1,0 +1,33 @@
+-- Which bytes may stand side by side in a name.
+-- D-Bus Specification, "Valid Object Paths" and "Valid Names".
+use Rattle.std.specs.Prelude.{ℕ, ◌+◌, ◌<◌, Bool, not, ◌&&◌, ◌||◌, ◌==◌, List, length, get_or, IsTrue}
+use Rattle.dbus_texts.specs.declared.names.Letters.{Letters}
+use Rattle.dbus_texts.specs.declared.names.Letters.TheVariants.{Word, Name, Unique, WellKnown}
+use Rattle.dbus_texts.specs.Names.{is_word}
+use Rattle.dbus_texts.specs.NameScans.{begins, goes_on, separator}
+
+-- whether b may stand behind a
+abbrev pub may_follow : Letters → ℕ → ℕ → Bool
+may_follow l a b = (goes_on l b || b == separator l) && (not (a == separator l) || begins l b)
+
+-- each byte may stand behind the one before it
+abbrev pub AreLinked : Letters → List ℕ → Type 0
+AreLinked l w = (i : ℕ) → i + 1 < length w → IsTrue (may_follow l (get_or w i 0) (get_or w (i + 1) 0))
+
+-- each byte is `[A-Za-z0-9_]`
+abbrev pub AreWords : List ℕ → Type 0
+AreWords w = (i : ℕ) → i < length w → IsTrue (is_word (get_or w i 0))
+
+-- `-`, 45, where an element may have it, else `_`, 95, which each may have
+abbrev pub extra : Letters → ℕ
+extra Word = 95
+extra Name = 95
+extra Unique = 45
+extra WellKnown = 45
+
+-- how many digits may begin an element
+abbrev pub first_digits : Letters → ℕ
+first_digits Word = 10
+first_digits Name = 0
+first_digits Unique = 10
+first_digits WellKnown = 0
