@@ -1,0 +1,270 @@
+-- Which type begins with a code, what it opens, and a frame that is pushed.
+use Rattle.std.proofs.Common.{◌≡◌, ℕ, zero, suc, ◌+◌, ◌*◌, ◌<◌, ◌≤◌, List, [], ◌∷◌, ◌++◌, length, reverse, Bool, true, false, refl, sym, ap, subst, ◌∙◌, arith, append_assoc}
+use Rattle.std.proofs.lemmas.List.{reverse-append, length-append, length-reverse, append-nil}
+use Rattle.std.specs.Prelude.{◌⊎◌}
+use Rattle.std.proofs.Common.{inl, inr}
+use Rattle.dbus_types.specs.Types.{NumberCode, BYTE, BOOLEAN, INT16, UINT16, INT32, UINT32, INT64, UINT64, DOUBLE, UNIX_FD, TextCode, STRING, OBJECT_PATH, SIGNATURE, TypeTree, NumberType, TextType, VariantType, ArrayType, StructType, EntryType, TypeTrees, NoTypes, MoreTypes, number_code, text_code, sig, sigs, IsShaped, AreShaped, IsBasic}
+use Rattle.dbus_types.specs.Alignments.{alignment_of}
+use Rattle.dbus_value_checker.specs.declared.values.Values.{Values}
+use Rattle.dbus_value_checker.specs.declared.values.Frame.{Frame}
+use Rattle.dbus_value_checker.specs.Codes.{code_alignment}
+use Rattle.dbus_value_checker.specs.Suspended.{Work, Parts, ANumber, ALength, AnArray, own_of, opened_by, Opened, Closed, AHead}
+use Rattle.dbus_value_checker.specs.Frames.{extra, Framed, AreFrames}
+use Rattle.dbus_value_checker.specs.Denotations.{HasFrames}
+use Rattle.dbus_value_checker.specs.Moves.{Pushed}
+
+-- ---- codes
+
+abbrev pub first : TypeTree → ℕ
+first (NumberType k) = number_code k
+first (TextType k) = text_code k
+first VariantType = 118
+first (ArrayType t) = 97
+first (StructType ts) = 40
+first (EntryType k v) = 123
+
+abbrev pub rest : TypeTree → List ℕ
+rest (NumberType k) = []
+rest (TextType k) = []
+rest VariantType = []
+rest (ArrayType t) = sig t
+rest (StructType ts) = sigs ts ++ 41 ∷ []
+rest (EntryType k v) = sig k ++ (sig v ++ 125 ∷ [])
+
+pub first_is : (t : TypeTree) → sig t ≡ first t ∷ rest t
+first_is (NumberType k) = refl
+first_is (TextType k) = refl
+first_is VariantType = refl
+first_is (ArrayType t) = refl
+first_is (StructType ts) = refl
+first_is (EntryType k v) = refl
+
+pub number_alignment : (k : NumberCode) → code_alignment (number_code k) ≡ alignment_of (NumberType k)
+number_alignment BYTE = refl
+number_alignment BOOLEAN = refl
+number_alignment INT16 = refl
+number_alignment UINT16 = refl
+number_alignment INT32 = refl
+number_alignment UINT32 = refl
+number_alignment INT64 = refl
+number_alignment UINT64 = refl
+number_alignment DOUBLE = refl
+number_alignment UNIX_FD = refl
+
+pub text_alignment : (k : TextCode) → code_alignment (text_code k) ≡ alignment_of (TextType k)
+text_alignment STRING = refl
+text_alignment OBJECT_PATH = refl
+text_alignment SIGNATURE = refl
+
+pub first_alignment : (t : TypeTree) → code_alignment (first t) ≡ alignment_of t
+first_alignment (NumberType k) = number_alignment k
+first_alignment (TextType k) = text_alignment k
+first_alignment VariantType = refl
+first_alignment (ArrayType t) = refl
+first_alignment (StructType ts) = refl
+first_alignment (EntryType k v) = refl
+
+-- a number's code is none of the others
+pub number_not : (k : NumberCode) (c : ℕ) → number_code k ≡ c → (c ≡ 97 → ⊥) × ((c ≡ 40 → ⊥) × ((c ≡ 123 → ⊥) × (c ≡ 115 → ⊥)))
+number_not BYTE c e = (λ h. omega arith, (λ h. omega arith, (λ h. omega arith, λ h. omega arith)))
+number_not BOOLEAN c e = (λ h. omega arith, (λ h. omega arith, (λ h. omega arith, λ h. omega arith)))
+number_not INT16 c e = (λ h. omega arith, (λ h. omega arith, (λ h. omega arith, λ h. omega arith)))
+number_not UINT16 c e = (λ h. omega arith, (λ h. omega arith, (λ h. omega arith, λ h. omega arith)))
+number_not INT32 c e = (λ h. omega arith, (λ h. omega arith, (λ h. omega arith, λ h. omega arith)))
+number_not UINT32 c e = (λ h. omega arith, (λ h. omega arith, (λ h. omega arith, λ h. omega arith)))
+number_not INT64 c e = (λ h. omega arith, (λ h. omega arith, (λ h. omega arith, λ h. omega arith)))
+number_not UINT64 c e = (λ h. omega arith, (λ h. omega arith, (λ h. omega arith, λ h. omega arith)))
+number_not DOUBLE c e = (λ h. omega arith, (λ h. omega arith, (λ h. omega arith, λ h. omega arith)))
+number_not UNIX_FD c e = (λ h. omega arith, (λ h. omega arith, (λ h. omega arith, λ h. omega arith)))
+
+pub text_not : (k : TextCode) (c : ℕ) → text_code k ≡ c → (c ≡ 97 → ⊥) × ((c ≡ 40 → ⊥) × (c ≡ 123 → ⊥))
+text_not STRING c e = (λ h. omega arith, (λ h. omega arith, λ h. omega arith))
+text_not OBJECT_PATH c e = (λ h. omega arith, (λ h. omega arith, λ h. omega arith))
+text_not SIGNATURE c e = (λ h. omega arith, (λ h. omega arith, λ h. omega arith))
+
+pub array_of : (t : TypeTree) → first t ≡ 97 → (u : TypeTree) × (t ≡ ArrayType u)
+array_of (NumberType k) e = absurd ((number_not k 97 e).0 refl)
+array_of (TextType k) e = absurd ((text_not k 97 e).0 refl)
+array_of VariantType e = absurd (omega arith)
+array_of (ArrayType u) e = (u, refl)
+array_of (StructType ts) e = absurd (omega arith)
+array_of (EntryType k v) e = absurd (omega arith)
+
+pub struct_of : (t : TypeTree) → first t ≡ 40 → (ts : TypeTrees) × (t ≡ StructType ts)
+struct_of (NumberType k) e = absurd ((number_not k 40 e).1.0 refl)
+struct_of (TextType k) e = absurd ((text_not k 40 e).1.0 refl)
+struct_of VariantType e = absurd (omega arith)
+struct_of (ArrayType u) e = absurd (omega arith)
+struct_of (StructType ts) e = (ts, refl)
+struct_of (EntryType k v) e = absurd (omega arith)
+
+pub entry_of : (t : TypeTree) → first t ≡ 123 → (k : TypeTree) × ((v : TypeTree) × (t ≡ EntryType k v))
+entry_of (NumberType k) e = absurd ((number_not k 123 e).1.1.0 refl)
+entry_of (TextType k) e = absurd ((text_not k 123 e).1.1 refl)
+entry_of VariantType e = absurd (omega arith)
+entry_of (ArrayType u) e = absurd (omega arith)
+entry_of (StructType ts) e = absurd (omega arith)
+entry_of (EntryType k v) e = (k, (v, refl))
+
+pub number_no_text : (k : NumberCode) (c : ℕ) → number_code k ≡ c → (c ≡ 103) ⊎ ((c ≡ 111) ⊎ (c ≡ 115)) → ⊥
+number_no_text BYTE c e h = elim h [ inl a ↦ omega arith | inr b ↦ elim b [ inl a ↦ omega arith | inr a ↦ omega arith ] ]
+number_no_text BOOLEAN c e h = elim h [ inl a ↦ omega arith | inr b ↦ elim b [ inl a ↦ omega arith | inr a ↦ omega arith ] ]
+number_no_text INT16 c e h = elim h [ inl a ↦ omega arith | inr b ↦ elim b [ inl a ↦ omega arith | inr a ↦ omega arith ] ]
+number_no_text UINT16 c e h = elim h [ inl a ↦ omega arith | inr b ↦ elim b [ inl a ↦ omega arith | inr a ↦ omega arith ] ]
+number_no_text INT32 c e h = elim h [ inl a ↦ omega arith | inr b ↦ elim b [ inl a ↦ omega arith | inr a ↦ omega arith ] ]
+number_no_text UINT32 c e h = elim h [ inl a ↦ omega arith | inr b ↦ elim b [ inl a ↦ omega arith | inr a ↦ omega arith ] ]
+number_no_text INT64 c e h = elim h [ inl a ↦ omega arith | inr b ↦ elim b [ inl a ↦ omega arith | inr a ↦ omega arith ] ]
+number_no_text UINT64 c e h = elim h [ inl a ↦ omega arith | inr b ↦ elim b [ inl a ↦ omega arith | inr a ↦ omega arith ] ]
+number_no_text DOUBLE c e h = elim h [ inl a ↦ omega arith | inr b ↦ elim b [ inl a ↦ omega arith | inr a ↦ omega arith ] ]
+number_no_text UNIX_FD c e h = elim h [ inl a ↦ omega arith | inr b ↦ elim b [ inl a ↦ omega arith | inr a ↦ omega arith ] ]
+
+pub text_of : (t : TypeTree) (c : ℕ) → first t ≡ c → (c ≡ 103) ⊎ ((c ≡ 111) ⊎ (c ≡ 115)) → (k : TextCode) × (t ≡ TextType k)
+text_of (NumberType k) c e h = absurd (number_no_text k c e h)
+text_of (TextType k) c e h = (k, refl)
+text_of VariantType c e h = absurd (elim h [ inl a ↦ omega arith | inr b ↦ elim b [ inl a ↦ omega arith | inr a ↦ omega arith ] ])
+text_of (ArrayType u) c e h = absurd (elim h [ inl a ↦ omega arith | inr b ↦ elim b [ inl a ↦ omega arith | inr a ↦ omega arith ] ])
+text_of (StructType ts) c e h = absurd (elim h [ inl a ↦ omega arith | inr b ↦ elim b [ inl a ↦ omega arith | inr a ↦ omega arith ] ])
+text_of (EntryType k v) c e h = absurd (elim h [ inl a ↦ omega arith | inr b ↦ elim b [ inl a ↦ omega arith | inr a ↦ omega arith ] ])
+
+pub number_type : (t : TypeTree) (c : ℕ) → first t ≡ c → (c ≡ 97 → ⊥) → (c ≡ 40 → ⊥) → (c ≡ 123 → ⊥) → (c ≡ 103 → ⊥) → (c ≡ 111 → ⊥) → (c ≡ 115 → ⊥) → (c ≡ 118 → ⊥) → (k : NumberCode) × (t ≡ NumberType k)
+number_type (NumberType k) c e n1 n2 n3 n4 n5 n6 n7 = (k, refl)
+number_type (TextType STRING) c e n1 n2 n3 n4 n5 n6 n7 = absurd (n6 (sym e))
+number_type (TextType OBJECT_PATH) c e n1 n2 n3 n4 n5 n6 n7 = absurd (n5 (sym e))
+number_type (TextType SIGNATURE) c e n1 n2 n3 n4 n5 n6 n7 = absurd (n4 (sym e))
+number_type VariantType c e n1 n2 n3 n4 n5 n6 n7 = absurd (n7 (sym e))
+number_type (ArrayType u) c e n1 n2 n3 n4 n5 n6 n7 = absurd (n1 (sym e))
+number_type (StructType ts) c e n1 n2 n3 n4 n5 n6 n7 = absurd (n2 (sym e))
+number_type (EntryType k v) c e n1 n2 n3 n4 n5 n6 n7 = absurd (n3 (sym e))
+
+-- ---- what is opened, and which types are complete
+
+pub own_text : (room : ℕ) (t : TypeTree) (k : TextCode) → t ≡ TextType k → own_of room t ≡ AHead (ALength k)
+own_text zero t k e = rw e refl
+own_text (suc room) t k e = rw e refl
+
+pub opened_text : (room end : ℕ) (t : TypeTree) (k : TextCode) → t ≡ TextType k → opened_by room end t ≡ []
+opened_text zero end t k e = rw e refl
+opened_text (suc room) end t k e = rw e refl
+
+pub own_number : (room : ℕ) (t : TypeTree) (k : NumberCode) → t ≡ NumberType k → own_of room t ≡ AHead (ANumber k)
+own_number zero t k e = rw e refl
+own_number (suc room) t k e = rw e refl
+
+pub opened_number : (room end : ℕ) (t : TypeTree) (k : NumberCode) → t ≡ NumberType k → opened_by room end t ≡ []
+opened_number zero end t k e = rw e refl
+opened_number (suc room) end t k e = rw e refl
+
+pub own_array : (room inner : ℕ) (t u : TypeTree) → t ≡ ArrayType u → room ≡ suc inner → own_of room t ≡ AHead (AnArray inner u)
+own_array room inner t u e d = rw (e, d) refl
+
+pub own_deep_array : (room : ℕ) (t u : TypeTree) → t ≡ ArrayType u → room ≡ 0 → own_of room t ≡ Closed
+own_deep_array room t u e d = rw (e, d) refl
+
+pub own_deep_struct : (room : ℕ) (t : TypeTree) (ts : TypeTrees) → t ≡ StructType ts → room ≡ 0 → own_of room t ≡ Closed
+own_deep_struct room t ts e d = rw (e, d) refl
+
+pub own_struct : (room inner : ℕ) (t : TypeTree) (ts : TypeTrees) → t ≡ StructType ts → room ≡ suc inner → own_of room t ≡ Opened
+own_struct room inner t ts e d = rw (e, d) refl
+
+pub opened_array : (room end : ℕ) (t u : TypeTree) → t ≡ ArrayType u → opened_by room end t ≡ []
+opened_array room end t u e = rw e (opened_nothing room end u)
+  where
+    opened_nothing : (room end : ℕ) (u : TypeTree) → opened_by room end (ArrayType u) ≡ []
+    opened_nothing zero end u = refl
+    opened_nothing (suc room) end u = refl
+
+pub opened_deep_struct : (room end : ℕ) (t : TypeTree) (ts : TypeTrees) → t ≡ StructType ts → room ≡ 0 → opened_by room end t ≡ []
+opened_deep_struct room end t ts e d = rw (e, d) refl
+
+pub opened_struct : (room inner end : ℕ) (t : TypeTree) (ts : TypeTrees) → t ≡ StructType ts → room ≡ suc inner → opened_by room end t ≡ Parts inner end ts ∷ []
+opened_struct room inner end t ts e d = rw (e, d) refl
+
+pub array_complete : (b : Bool) (t u : TypeTree) → t ≡ ArrayType u → IsShaped b t → IsShaped true u
+array_complete b t u e h = complete_inside b u (subst (λ (v : TypeTree). IsShaped b v) e h)
+  where
+    complete_inside : (b : Bool) (u : TypeTree) → IsShaped b (ArrayType u) → IsShaped true u
+    complete_inside true u h = h
+    complete_inside false u h = h
+
+pub struct_complete : (b : Bool) (t : TypeTree) (ts : TypeTrees) → t ≡ StructType ts → IsShaped b t → AreShaped ts
+struct_complete b t ts e h = complete_parts b ts (subst (λ (v : TypeTree). IsShaped b v) e h)
+  where
+    complete_parts : (b : Bool) (ts : TypeTrees) → IsShaped b (StructType ts) → AreShaped ts
+    complete_parts true NoTypes h = absurd h
+    complete_parts false NoTypes h = absurd h
+    complete_parts true (MoreTypes t ts) h = h
+    complete_parts false (MoreTypes t ts) h = h
+
+pub own_entry : (room : ℕ) (t k v : TypeTree) → t ≡ EntryType k v → own_of room t ≡ Opened
+own_entry room t k v e = rw e (entry_opens room k v)
+  where
+    entry_opens : (room : ℕ) (k v : TypeTree) → own_of room (EntryType k v) ≡ Opened
+    entry_opens zero k v = refl
+    entry_opens (suc room) k v = refl
+
+pub opened_entry : (room end : ℕ) (t k v : TypeTree) → t ≡ EntryType k v → opened_by room end t ≡ Parts room end (MoreTypes k (MoreTypes v NoTypes)) ∷ []
+opened_entry room end t k v e = rw e (entry_opened room end k v)
+  where
+    entry_opened : (room end : ℕ) (k v : TypeTree) → opened_by room end (EntryType k v) ≡ Parts room end (MoreTypes k (MoreTypes v NoTypes)) ∷ []
+    entry_opened zero end k v = refl
+    entry_opened (suc room) end k v = refl
+
+pub entry_text : (k v : TypeTree) → sig (EntryType k v) ≡ 123 ∷ (sigs (MoreTypes k (MoreTypes v NoTypes)) ++ 125 ∷ [])
+entry_text k v = simp (append_assoc, append-nil)
+
+pub entry_complete : (b : Bool) (t k v : TypeTree) → t ≡ EntryType k v → IsShaped b t → (b ≡ true) × AreShaped (MoreTypes k (MoreTypes v NoTypes))
+entry_complete b t k v e h = complete_pair b k v (subst (λ (u : TypeTree). IsShaped b u) e h)
+  where
+    basic_complete : (k : TypeTree) → IsBasic k → IsShaped false k
+    basic_complete (NumberType n) h = tt
+    basic_complete (TextType n) h = tt
+    basic_complete VariantType h = tt
+    basic_complete (ArrayType u) h = absurd h
+    basic_complete (StructType ts) h = absurd h
+    basic_complete (EntryType k v) h = absurd h
+
+    complete_pair : (b : Bool) (k v : TypeTree) → IsShaped b (EntryType k v) → (b ≡ true) × AreShaped (MoreTypes k (MoreTypes v NoTypes))
+    complete_pair true k v h = (refl, (basic_complete k h.0, (h.1, tt)))
+    complete_pair false k v h = absurd h
+
+pub sigs_some : (t : TypeTree) (ts : TypeTrees) → 0 < length (sigs (MoreTypes t ts))
+sigs_some t ts = let e = ap (λ (l : List ℕ). length l) (first_is t) in omega (arith, e, length-append (sig t) (sigs ts))
+
+pub parts_some : (b : Bool) (t : TypeTree) (ts : TypeTrees) → t ≡ StructType ts → IsShaped b t → 0 < length (sigs ts)
+parts_some b t ts e h = some_in b ts (subst (λ (u : TypeTree). IsShaped b u) e h)
+  where
+    some_in : (b : Bool) (ts : TypeTrees) → IsShaped b (StructType ts) → 0 < length (sigs ts)
+    some_in true NoTypes h = absurd h
+    some_in false NoTypes h = absurd h
+    some_in true (MoreTypes t ts) h = sigs_some t ts
+    some_in false (MoreTypes t ts) h = sigs_some t ts
+
+-- ---- a frame is pushed
+
+-- what is known of the innermost frame
+pub record Inner (x : Values) : Type 0 where
+  pub low : x.offset ≤ x.inner.end
+  pub high : x.inner.top ≤ length x.text.items
+  pub stop : x.inner.stop ≤ x.inner.top
+  pub pos : x.inner.pos ≤ x.inner.stop
+  pub count : length x.frames.items + extra x.inner.array + 2 * x.inner.room ≤ 128
+  pub room : x.inner.top + 255 * x.inner.room ≤ 255 * 65
+
+pub inner_of : (x : Values) (reach : ℕ) (ws : List Work) → HasFrames reach x ws → Inner x
+inner_of x reach [] h = absurd h
+inner_of x reach (w ∷ ws) h = record { low = h.0.low_is; high = h.0.high_is; stop = h.0.stop_is; pos = h.0.pos_is; count = omega (arith, h.0.count_is, length-reverse x.frames.items); room = h.0.room_is }
+
+pub within : (reach low high next more bottom : ℕ) (text : List ℕ) (f : Frame) (fs : List Frame) (ws : List Work) → next ≤ f.end → f.top ≤ more → AreFrames reach low high bottom text (f ∷ fs) ws → AreFrames reach next more bottom text (f ∷ fs) ws
+within reach low high next more bottom text f fs [] le top h = h
+within reach low high next more bottom text f fs (w ∷ ws) le top h = (record { low_is = le; high_is = top; stop_is = h.0.stop_is; pos_is = h.0.pos_is; count_is = h.0.count_is; room_is = h.0.room_is; is = h.0.is }, h.1)
+
+pub pushed_frames : (x y : Values) (f : Frame) (reach : ℕ) (v : Work) (ws : List Work) → Pushed x y f → HasFrames reach x ws
+    → Framed reach x.offset (length x.text.items) (suc (length x.frames.items)) x.text.items f v → f.end ≤ x.inner.end → x.inner.top ≤ f.top → HasFrames reach y (v ∷ ws)
+pushed_frames x y f reach v ws p h framed end top =
+    let back : reverse y.frames.items ≡ x.inner ∷ reverse x.frames.items = ap (λ (fs : List Frame). reverse fs) p.frames ∙ reverse-append x.frames.items (x.inner ∷ []) in
+    let n : suc (length x.frames.items) ≡ length (x.inner ∷ reverse x.frames.items) = ap suc (sym (length-reverse x.frames.items)) in
+    let here : AreFrames reach x.offset (length x.text.items) x.end x.text.items (f ∷ (x.inner ∷ reverse x.frames.items)) (v ∷ ws) = (
+      subst (λ (k : ℕ). Framed reach x.offset (length x.text.items) k x.text.items f v) n framed,
+      within reach x.offset (length x.text.items) f.end f.top x.end x.text.items x.inner (reverse x.frames.items) ws end top h,
+    ) in
+    rw (p.offset, p.end, p.text, p.inner, back) here

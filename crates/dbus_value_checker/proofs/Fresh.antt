@@ -1,0 +1,38 @@
+-- Values that are wanted, before any byte of them.
+use Rattle.std.proofs.Common.{◌≡◌, ℕ, ◌<◌, ◌≤◌, List, [], ◌∷◌, length, reverse, false, refl, ap, ◌∙◌, arith}
+use Rattle.std.proofs.lemmas.List.{take_all}
+use Rattle.dbus_types.specs.Types.{TypeTrees, sigs, AreShaped}
+use Rattle.dbus_value_checker.specs.declared.values.Values.{Values}
+use Rattle.dbus_value_checker.specs.declared.values.Frame.{Frame}
+use Rattle.dbus_value_checker.specs.Suspended.{On, Parts, Work}
+use Rattle.dbus_value_checker.specs.Frames.{slice, AreFrames}
+use Rattle.dbus_value_checker.specs.Denotations.{Goes}
+use Rattle.dbus_value_checker.specs.Moves.{values_on}
+
+-- a state whose only frame is that of these types
+pub begun_goes : (x : Values) (types : List ℕ) (room : ℕ) (ts : TypeTrees) (last : On)
+    → x.frames.items ≡ [] → x.text.items ≡ types → x.inner ≡ record { array = false; pos = 0; stop = length types; top = length types; end = x.end; room = room }
+    → x.offset ≤ x.end → x.end < 4294967296 → room ≤ 64 → length types ≤ 255 → types ≡ sigs ts → AreShaped ts
+    → Goes x (values_on x.bounds x.order room x.end ts last x.offset)
+begun_goes x types room ts last none text inner at_most near few short spelled complete =
+    let w : Work = Parts room x.end ts in
+    let begun : Frame = record { array = false; pos = 0; stop = length types; top = length types; end = x.end; room = room } in
+    let back : reverse x.frames.items ≡ [] = ap (λ (fs : List Frame). reverse fs) none in
+    let whole : slice types 0 (length types) ≡ sigs ts = take_all (length types) types (omega arith) ∙ spelled in
+    let here : AreFrames x.offset x.offset (length types) x.end types (begun ∷ []) (w ∷ []) = (
+      record {
+        low_is = at_most;
+        high_is = omega arith;
+        stop_is = omega arith;
+        pos_is = omega arith;
+        count_is = omega arith;
+        room_is = omega arith;
+        is = record { parts = refl; room_is = refl; end_is = refl; types = whole; complete = complete };
+      },
+      (omega arith, near),
+    ) in
+    record {
+      ws = w ∷ [];
+      frames = rw (back, text, inner) here;
+      same = λ c. refl;
+    }

@@ -1,0 +1,14 @@
+pub mod Suspension
+pub mod Runs
+pub mod CodeLaws
+pub mod Slices
+pub mod Reach
+pub mod Entering
+pub mod Nexts
+pub mod FrontSteps
+pub mod Readies
+pub mod TextSteps
+pub mod Variants
+pub mod Moving
+pub mod Fresh
+pub mod ByteRuns

@@ -1,0 +1,90 @@
+-- Calls one behind another.
+use Rattle.std.proofs.Common.{◌≡◌, ℕ, ◌+◌, ◌≤◌, List, ◌++◌, length, take, drop, Ok, Err, sym, ap, ◌∙◌, arith}
+use Rattle.std.proofs.lemmas.List.{length-drop, take-append-drop}
+use Rattle.dbus_value_model.specs.Reading.{Outcome, Faulty}
+use Rattle.dbus_value_model.specs.declared.fault.Fault.{Fault}
+use Rattle.dbus_value_model.specs.declared.stop.Stop.{Stop}
+use Rattle.dbus_value_model.specs.declared.stop.Stop.TheVariants as stops
+use Rattle.dbus_value_checker.specs.declared.values.Values.{Values}
+use Rattle.dbus_value_checker.specs.declared.values.Doing.{Doing}
+use Rattle.dbus_value_checker.specs.declared.values.Doing.TheVariants as doing
+use Rattle.dbus_value_checker.specs.Suspended.{On}
+use Rattle.std.proofs.Common.{suc, ◌<◌}
+use Rattle.dbus_types.specs.Types.{sig}
+use Rattle.dbus_value_checker.proofs.Slices.{slice_room}
+use Rattle.dbus_value_checker.proofs.Entering.{first_is, inner_of}
+use Rattle.dbus_value_checker.specs.Denotations.{Answer, denotes, Denotes, Wants, after_piece}
+use Rattle.dbus_value_checker.specs.Moves.{Moves, Opens, wide}
+use Rattle.dbus_value_checker.proofs.FrontSteps.{take-both, split-at}
+
+-- the same answers
+denotes_at : (x : Values) (d : Doing) (last : On) (f g : List ℕ → Outcome (Unit {0})) → ((c : List ℕ) → f c ≡ g c) → denotes d x (record { last = last; to = f }) → denotes d x (record { last = last; to = g })
+denotes_at x (doing.Wanted pos stop) last f g e h = record { ws = h.ws; type = h.type; frames = h.frames; text = h.text; complete = h.complete; pos_is = h.pos_is; stop_is = h.stop_is; same = λ c. h.same c ∙ e c }
+denotes_at x (doing.Text code left) last f g e h = (h.0, record { ws = h.1.ws; kind = h.1.kind; size = h.1.size; start = h.1.start; bytes = h.1.bytes; frames = h.1.frames; kind_is = h.1.kind_is; scans = h.1.scans; stands = h.1.stands; offset = h.1.offset; left_is = h.1.left_is; fits = h.1.fits; same = λ c. h.1.same c ∙ e c })
+denotes_at x doing.Bytes last f g e h = record { ws = h.ws; turns = h.turns; room = h.room; stop = h.stop; frames = h.frames; more = h.more; same = λ c. h.same c ∙ e c }
+denotes_at x doing.Nul last f g e h = record { ws = h.ws; frames = h.frames; fits = h.fits; same = λ c. h.same c ∙ e c }
+denotes_at x doing.Over last f g e h = (h.0, h.1, λ c. h.2 c ∙ e c)
+
+pub denotes_same : (x : Values) (last : On) (f g : List ℕ → Outcome (Unit {0})) → ((c : List ℕ) → f c ≡ g c) → Denotes x (record { last = last; to = f }) → Denotes x (record { last = last; to = g })
+denotes_same x last f g e h = denotes_at x x.doing last f g e h
+
+-- a call behind n bytes that were taken
+module _ (x y : Values) (s : List ℕ) (n : ℕ) (there : n ≤ length s) (answer : Answer) where
+  pub behind_ok : (m : ℕ) → Moves x (drop n s) (Ok m) y (after_piece answer (take n s)) → Moves x s (Ok (n + m)) y answer
+  behind_ok m h =
+      let le = h.0 in
+      let d = length-drop n s in
+      (omega arith, denotes_same y answer.last (λ c. answer.to (take n s ++ (take m (drop n s) ++ c))) (λ c. answer.to (take (n + m) s ++ c)) (λ c. ap answer.to (sym (take-both n m s c there))) h.1)
+
+  pub behind_err : (e : Stop) → Moves x (drop n s) (Err e) y (after_piece answer (take n s)) → Moves x s (Err e) y answer
+  behind_err stops.Memory h = absurd h
+  behind_err stops.Partial h = (h.0, ap answer.to (sym (take-append-drop n s)) ∙ h.1)
+  behind_err (stops.Refused f) h = λ c. ap answer.to (split-at n s c) ∙ h c
+
+-- a container that was not opened
+pub opens_err : (x y : Values) (s : List ℕ) (e : Stop) (answer : Answer) → Opens (Err e) y answer → Moves x s (Err e) y answer
+opens_err x y s stops.Memory answer h = absurd h
+opens_err x y s stops.Partial answer h = absurd h
+opens_err x y s (stops.Refused f) answer h = λ c. h (s ++ c)
+
+-- nor was one after n bytes
+pub opens_after : (x y : Values) (s : List ℕ) (n : ℕ) (e : Stop) (answer : Answer) → Opens (Err e) y (after_piece answer (take n s)) → Moves x s (Err e) y answer
+opens_after x y s n stops.Memory answer h = absurd h
+opens_after x y s n stops.Partial answer h = absurd h
+opens_after x y s n (stops.Refused f) answer h = λ c. ap answer.to (split-at n s c) ∙ h (drop n s ++ c)
+
+-- a type has a code
+pub wants_code : (x : Values) (pos stop : ℕ) (answer : Answer) → Wants x pos stop answer → pos < length x.text.items
+wants_code x pos stop answer w =
+    let i = inner_of x (suc x.offset) w.ws w.frames in
+    let r = slice_room x.text.items pos stop (sig w.type) w.pos_is w.text in
+    let n = ap length (first_is w.type) in
+    let a = i.high in
+    let b = w.stop_is in
+    omega arith
+
+-- ---- a run
+
+-- one call more
+pub run_on : (x y : Values) (s : List ℕ) (n m : ℕ) (answer : Answer) → n ≤ length s → Moves x (drop n s) (Ok m) y (after_piece answer (take n s)) → (n + m ≤ length s) × Denotes y (after_piece answer (take (n + m) s))
+run_on x y s n m answer le h = behind_ok x y s n le answer m h
+
+pub wants_wide : (x : Values) (answer : Answer) → Denotes x answer → wide x.doing ≤ length x.text.items
+wants_wide x answer h = wide_at x x.doing answer h
+  where
+    wide_at : (x : Values) (d : Doing) (answer : Answer) → denotes d x answer → wide d ≤ length x.text.items
+    wide_at x (doing.Wanted pos stop) answer w = let i = inner_of x (suc x.offset) w.ws w.frames in let a = i.high in let b = w.stop_is in omega arith
+    wide_at x (doing.Text code left) answer h = omega arith
+    wide_at x doing.Bytes answer h = omega arith
+    wide_at x doing.Nul answer h = omega arith
+    wide_at x doing.Over answer h = omega arith
+
+-- a fault within a run
+pub run_refused : (x y : Values) (s : List ℕ) (n : ℕ) (answer : Answer) (f : Fault) → Moves x (drop n s) (Err (stops.Refused f)) y (after_piece answer (take n s)) → (c : List ℕ) → answer.to (s ++ c) ≡ Faulty f
+run_refused x y s n answer f h c = ap answer.to (split-at n s c) ∙ h c
+
+-- a container's opening does not wait for bytes
+pub opens_at_once : (y : Values) (e : Stop) (answer : Answer) → Opens (Err e) y answer → e ≡ stops.Partial → ⊥
+opens_at_once y stops.Memory answer h is = h
+opens_at_once y stops.Partial answer h is = h
+opens_at_once y (stops.Refused f) answer h is = absurd cc

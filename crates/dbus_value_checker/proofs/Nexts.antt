@@ -1,0 +1,187 @@
+-- What is wanted next.
+use Rattle.std.proofs.Common.{◌≡◌, ℕ, zero, suc, ◌+◌, ◌<◌, ◌≤◌, List, [], ◌∷◌, ◌++◌, length, reverse, Bool, true, false, refl, sym, ap, subst, ◌∙◌, arith}
+use Rattle.std.specs.Prelude.{◌⊎◌}
+use Rattle.std.proofs.Common.{inl, inr}
+use Rattle.std.proofs.lemmas.List.{length-append, reverse-append}
+use Rattle.dbus_types.specs.Types.{NoTypes, MoreTypes, sig, sigs, IsShaped}
+use Rattle.dbus_value_model.specs.Reading.{value}
+use Rattle.dbus_value_checker.specs.declared.values.Values.{Values}
+use Rattle.dbus_value_checker.specs.declared.values.Frame.{Frame}
+use Rattle.dbus_value_checker.specs.declared.values.Doing.TheVariants as rust
+use Rattle.dbus_value_checker.specs.Codes.{skipped}
+use Rattle.dbus_value_checker.specs.Suspended.{onward, Work, Parts, Elements}
+use Rattle.dbus_value_checker.specs.Frames.{slice, AreFrames}
+use Rattle.dbus_value_checker.specs.Denotations.{Answer, rest_of, HasFrames, Goes, Wants}
+use Rattle.dbus_value_checker.proofs.Suspension.{parts_more, elements_more, elements_none}
+use Rattle.dbus_value_checker.proofs.Entering.{sigs_some, within}
+use Rattle.dbus_value_checker.proofs.CodeLaws.{skipped_type}
+use Rattle.dbus_value_checker.proofs.Reach.{frames_reach}
+use Rattle.dbus_value_checker.proofs.Slices.{slice_room, slice_whole, slice_behind, slice_first}
+
+pub low_of : (reach low high bottom : ℕ) (text : List ℕ) (f : Frame) (fs : List Frame) (ws : List Work) → AreFrames reach low high bottom text (f ∷ fs) ws → low ≤ f.end
+low_of reach low high bottom text f fs [] h = absurd h
+low_of reach low high bottom text f fs (w ∷ ws) h = h.0.low_is
+
+-- ---- an array goes on
+
+false_true : (b : Bool) → b ≡ false → b ≡ true → ⊥
+false_true b e d = cc
+
+next_element_at : (x : Values) (answer : Answer) (ws : List Work) → HasFrames x.offset x ws → ((c : List ℕ) → rest_of answer x ws x.offset c ≡ answer.to c) → x.inner.array ≡ true → x.offset < x.inner.end → Wants x x.inner.pos x.inner.stop answer
+next_element_at x answer [] h same a lt = absurd h
+next_element_at x answer (Parts room end ts ∷ ws) h same a lt = absurd (false_true x.inner.array h.0.is.parts a)
+next_element_at x answer (Elements zero room end t ∷ ws) h same a lt = absurd (let n = h.0.is.turns_is in omega arith)
+next_element_at x answer (Elements (suc turns) room end t ∷ ws) h same a lt =
+    let is = h.0.is in
+    let n = is.turns_is in
+    let e = is.end_is in
+    record {
+      ws = Elements turns room end t ∷ ws;
+      type = t;
+      frames = (
+        record {
+          low_is = h.0.low_is;
+          high_is = h.0.high_is;
+          stop_is = h.0.stop_is;
+          pos_is = h.0.pos_is;
+          count_is = h.0.count_is;
+          room_is = h.0.room_is;
+          is = record { elements = is.elements; room_is = is.room_is; end_is = is.end_is; type = is.type; complete = is.complete; turns_is = omega arith };
+        },
+        frames_reach x.offset (suc x.offset) x.inner.end x.inner.top x.end x.text.items (reverse x.frames.items) ws (omega arith) h.1,
+      );
+      text = is.type;
+      complete = subst (λ (b : Bool). IsShaped b t) (sym a) is.complete;
+      pos_is = h.0.pos_is;
+      stop_is = h.0.stop_is;
+      same = λ c.
+          subst (λ (r : ℕ). onward (value x.bounds x.order r x.inner.end t) (rest_of answer x (Elements turns room end t ∷ ws)) x.offset c ≡ answer.to c) (sym is.room_is)
+          (subst (λ (m : ℕ). onward (value x.bounds x.order room m t) (rest_of answer x (Elements turns room end t ∷ ws)) x.offset c ≡ answer.to c) (sym is.end_is)
+          (sym (elements_more x.bounds x.order turns room end t (rest_of answer x ws) x.offset c (omega arith)) ∙ same c));
+    }
+
+pub next_element : (x : Values) (answer : Answer) → Goes x answer → x.inner.array ≡ true → x.offset < x.inner.end → Wants x x.inner.pos x.inner.stop answer
+next_element x answer g a lt = next_element_at x answer g.ws g.frames g.same a lt
+
+-- ---- a part is wanted
+
+pub next_part_at : (x : Values) (answer : Answer) (ws : List Work) (q : ℕ) → q ≡ x.inner.pos + skipped 0 (slice x.text.items x.inner.pos x.inner.stop) → HasFrames (suc x.offset) x ws
+    → ((c : List ℕ) → rest_of answer x ws x.offset c ≡ answer.to c) → x.inner.array ≡ false → x.inner.pos < x.inner.stop → x.inner.stop ≤ length x.text.items
+    → Wants (record x { inner = record x.inner { pos = q } }) x.inner.pos q answer
+next_part_at x answer [] q is h same a lt le = absurd h
+next_part_at x answer (Elements turns room end t ∷ ws) q is h same a lt le = absurd (false_true x.inner.array a h.0.is.elements)
+next_part_at x answer (Parts room end NoTypes ∷ ws) q is h same a lt le =
+    let n = slice_whole x.text.items x.inner.pos x.inner.stop [] (omega arith) le h.0.is.types in
+    absurd (omega arith)
+next_part_at x answer (Parts room end (MoreTypes t ts) ∷ ws) q is h same a lt le =
+    let f = h.0.is in
+    let skip : q ≡ x.inner.pos + length (sig t) = is ∙ ap (λ (s : List ℕ). x.inner.pos + skipped 0 s) f.types ∙ ap (λ (n : ℕ). x.inner.pos + n) (skipped_type t (sigs ts)) in
+    let room_in : x.inner.pos + length (sig t ++ sigs ts) ≤ x.inner.stop = slice_room x.text.items x.inner.pos x.inner.stop (sig t ++ sigs ts) h.0.pos_is f.types in
+    let n : length (sig t ++ sigs ts) ≡ length (sig t) + length (sigs ts) = length-append (sig t) (sigs ts) in
+    let top = h.0.stop_is in
+    record {
+      ws = Parts room end ts ∷ ws;
+      type = t;
+      frames = (
+        record {
+          low_is = h.0.low_is;
+          high_is = h.0.high_is;
+          stop_is = h.0.stop_is;
+          pos_is = omega arith;
+          count_is = h.0.count_is;
+          room_is = h.0.room_is;
+          is = record { parts = f.parts; room_is = f.room_is; end_is = f.end_is; types = subst (λ (p : ℕ). slice x.text.items p x.inner.stop ≡ sigs ts) (sym skip) (slice_behind x.text.items x.inner.pos x.inner.stop (sig t) (sigs ts) f.types); complete = f.complete.1 };
+        },
+        h.1,
+      );
+      text = subst (λ (p : ℕ). slice x.text.items x.inner.pos p ≡ sig t) (sym skip) (slice_first x.text.items x.inner.pos x.inner.stop (sig t) (sigs ts) h.0.pos_is f.types);
+      complete = subst (λ (b : Bool). IsShaped b t) (sym a) f.complete.0;
+      pos_is = omega arith;
+      stop_is = omega arith;
+      same = λ c.
+          subst (λ (r : ℕ). onward (value x.bounds x.order r x.inner.end t) (rest_of answer x (Parts room end ts ∷ ws)) x.offset c ≡ answer.to c) (sym f.room_is)
+          (subst (λ (m : ℕ). onward (value x.bounds x.order room m t) (rest_of answer x (Parts room end ts ∷ ws)) x.offset c ≡ answer.to c) (sym f.end_is)
+          (sym (parts_more x.bounds x.order room end t ts (rest_of answer x ws) x.offset c) ∙ same c));
+    }
+
+pub next_part : (x : Values) (answer : Answer) (q : ℕ) → q ≡ x.inner.pos + skipped 0 (slice x.text.items x.inner.pos x.inner.stop) → Goes x answer → x.inner.array ≡ false → x.inner.pos < x.inner.stop → x.inner.stop ≤ length x.text.items
+    → Wants (record x { inner = record x.inner { pos = q } }) x.inner.pos q answer
+next_part x answer q is g a lt le =
+    next_part_at x answer g.ws q is (frames_reach x.offset (suc x.offset) x.offset (length x.text.items) x.end x.text.items (x.inner ∷ reverse x.frames.items) g.ws (omega arith) g.frames) g.same a lt le
+
+-- ---- nothing more is wanted of the innermost container
+
+top_of : (reach low high bottom : ℕ) (text : List ℕ) (f : Frame) (fs : List Frame) (ws : List Work) → AreFrames reach low high bottom text (f ∷ fs) ws → f.top ≤ high
+top_of reach low high bottom text f fs [] h = absurd h
+top_of reach low high bottom text f fs (w ∷ ws) h = h.0.high_is
+
+empty_reverse : (fs : List Frame) → length fs ≡ 0 → reverse fs ≡ []
+empty_reverse [] e = refl
+empty_reverse (f ∷ fs) e = absurd (omega arith)
+
+abbrev pub IsOver : Values → Type 0
+IsOver x = ((x.inner.array ≡ true) × (x.inner.end ≤ x.offset)) ⊎ ((x.inner.array ≡ false) × (x.inner.stop ≤ x.inner.pos))
+
+over_at : (x : Values) (answer : Answer) (w : Work) (ws : List Work) → HasFrames x.offset x (w ∷ ws) → ((c : List ℕ) → rest_of answer x (w ∷ ws) x.offset c ≡ answer.to c) → IsOver x → (c : List ℕ) → rest_of answer x ws x.offset c ≡ answer.to c
+over_at x answer (Parts room end NoTypes) ws h same over c = same c
+over_at x answer (Parts room end (MoreTypes t ts)) ws h same over c = elim over [
+  | inl o ↦ absurd (false_true x.inner.array h.0.is.parts o.0)
+  | inr o ↦
+      let r = slice_room x.text.items x.inner.pos x.inner.stop (sig t ++ sigs ts) h.0.pos_is h.0.is.types in
+      let n = sigs_some t ts in
+      let le = o.1 in
+      absurd (omega arith)
+]
+over_at x answer (Elements turns room end t) ws h same over c = elim over [
+  | inl o ↦
+      let le = o.1 in
+      let low = h.0.low_is in
+      let e = h.0.is.end_is in
+      let at : x.offset ≡ end = omega arith in
+      sym (elements_none x.bounds x.order turns room end t (rest_of answer x ws) x.offset c at) ∙ same c
+  | inr o ↦ absurd (false_true x.inner.array o.0 h.0.is.elements)
+]
+
+pub record Popped (x y : Values) (f : Frame) : Type 0 where
+  pub bounds : y.bounds ≡ x.bounds
+  pub order : y.order ≡ x.order
+  pub end : y.end ≡ x.end
+  pub offset : y.offset ≡ x.offset
+  pub text : y.text.items ≡ x.text.items
+  pub inner : y.inner ≡ f
+  pub frames : x.frames.items ≡ y.frames.items ++ f ∷ []
+
+popped_at : (x y : Values) (f : Frame) (answer : Answer) (ws : List Work) → HasFrames x.offset x ws → ((c : List ℕ) → rest_of answer x ws x.offset c ≡ answer.to c) → IsOver x → Popped x y f → Goes y answer
+popped_at x y f answer [] h same over p = absurd h
+popped_at x y f answer (w ∷ ws) h same over p =
+    let back : reverse x.frames.items ≡ f ∷ reverse y.frames.items = ap (λ (fs : List Frame). reverse fs) p.frames ∙ reverse-append y.frames.items (f ∷ []) in
+    let tail : AreFrames x.offset x.inner.end x.inner.top x.end x.text.items (f ∷ reverse y.frames.items) ws = subst (λ (fs : List Frame). AreFrames x.offset x.inner.end x.inner.top x.end x.text.items fs ws) back h.1 in
+    let low = h.0.low_is in
+    let high = h.0.high_is in
+    let below = low_of x.offset x.inner.end x.inner.top x.end x.text.items f (reverse y.frames.items) ws tail in
+    let top = top_of x.offset x.inner.end x.inner.top x.end x.text.items f (reverse y.frames.items) ws tail in
+    let here : AreFrames x.offset x.offset (length x.text.items) x.end x.text.items (f ∷ reverse y.frames.items) ws =
+    within x.offset x.inner.end x.inner.top x.offset (length x.text.items) x.end x.text.items f (reverse y.frames.items) ws (omega arith) (omega arith) tail in
+    record {
+      ws = ws;
+      frames = rw (p.offset, p.end, p.text, p.inner) here;
+      same = rw (p.offset, p.bounds, p.order) (over_at x answer w ws h same over);
+    }
+
+pub next_popped : (x y : Values) (f : Frame) (answer : Answer) → Goes x answer → IsOver x → Popped x y f → Goes y answer
+next_popped x y f answer g over p = popped_at x y f answer g.ws g.frames g.same over p
+
+last_at : (x : Values) (answer : Answer) (ws : List Work) (fs : List Frame) → fs ≡ reverse x.frames.items → AreFrames x.offset x.offset (length x.text.items) x.end x.text.items (x.inner ∷ fs) ws → ((c : List ℕ) → rest_of answer x ws x.offset c ≡ answer.to c) → HasFrames x.offset x ws → IsOver x → fs ≡ []
+    → (x.offset ≤ x.end) × (x.end < 4294967296) × ((c : List ℕ) → answer.last x.offset c ≡ answer.to c)
+last_at x answer [] fs e h same g over none = absurd h
+last_at x answer (w ∷ []) [] e h same g over none = ((let a = h.0.low_is in let b = h.1.0 in omega arith), h.1.1, over_at x answer w [] g same over)
+last_at x answer (w ∷ (v ∷ ws)) [] e h same g over none = absurd h.1
+last_at x answer (w ∷ ws) (f ∷ fs) e h same g over none = absurd cc
+
+pub next_last : (x : Values) (answer : Answer) → Goes x answer → IsOver x → length x.frames.items ≡ 0 → (x.offset ≤ x.end) × (x.end < 4294967296) × ((c : List ℕ) → answer.last x.offset c ≡ answer.to c)
+next_last x answer g over none =
+    last_at x answer g.ws (reverse x.frames.items) refl g.frames g.same g.frames over (empty_reverse x.frames.items none)
+
+-- the type that is wanted is noted
+pub wants_doing : (x : Values) (pos stop p s : ℕ) (answer : Answer) → Wants x pos stop answer → Wants (record x { doing = rust.Wanted p s }) pos stop answer
+wants_doing x pos stop p s answer w = record { ws = w.ws; type = w.type; frames = w.frames; text = w.text; complete = w.complete; pos_is = w.pos_is; stop_is = w.stop_is; same = w.same }

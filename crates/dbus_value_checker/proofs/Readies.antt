@@ -1,0 +1,405 @@
+-- A value whose padding is there.
+use Rattle.std.proofs.Common.{◌≡◌, ℕ, suc, ◌+◌, ◌-◌, ◌*◌, ◌<◌, ◌≤◌, List, [], ◌∷◌, ◌++◌, length, reverse, take, drop, get_or, true, false, Ok, Err, refl, sym, ap, subst, ◌∙◌, arith, inl, inr}
+use Rattle.std.specs.Prelude.{◌⊎◌}
+use Rattle.std.proofs.lemmas.List.{take-append-drop, length-drop}
+use Rattle.dbus_types.specs.Types.{NumberCode, TextCode, TypeTree, NumberType, TextType, VariantType, ArrayType, TypeTrees, NoTypes, MoreTypes, number_code, text_code, sig, sigs, AreShaped}
+use Rattle.dbus_types.specs.Alignments.{width, length_width, alignment_of}
+use Rattle.dbus_types.specs.declared.scan.TextScan.{TextScan}
+use Rattle.dbus_types.specs.Scans.{Stands}
+use Rattle.dbus_types.specs.Scans as scans
+use Rattle.dbus_value_model.specs.WantedTexts.{Of, kind_of}
+use Rattle.dbus_value_model.specs.declared.fault.Reason.TheVariants as reasons
+use Rattle.dbus_value_model.specs.declared.fault.Fault.{Fault}
+use Rattle.dbus_value_model.specs.declared.stop.Stop.{Stop}
+use Rattle.dbus_value_model.specs.declared.stop.Stop.TheVariants as stops
+use Rattle.dbus_value_model.specs.Items.{fault}
+use Rattle.dbus_value_model.specs.ValueItems.{number_row, text_row, array_row}
+use Rattle.dbus_value_model.specs.ValueReaders.{array_frame}
+use Rattle.dbus_value_model.specs.Reading.{Reader, Outcome, Done, Faulty, Partial, after, padding, number, text, nul, value}
+use Rattle.dbus_value_checker.specs.declared.values.Values.{Values}
+use Rattle.dbus_value_checker.specs.declared.values.Frame.{Frame}
+use Rattle.dbus_value_checker.specs.Codes.{code_alignment, IsNumberCode}
+use Rattle.dbus_value_checker.specs.Suspended.{On, onward, done, Work, Parts, Elements, elements, work, works, ANumber, ALength, AnArray, AVariant, head, head_width, head_row, tail, own, own_of, opened_by, Opened, Closed, AHead}
+use Rattle.dbus_value_checker.specs.Fronts.{Fronts}
+use Rattle.dbus_value_checker.specs.Frames.{slice, Framed, extra}
+use Rattle.dbus_value_checker.specs.Denotations.{Answer, rest_of, HasFrames, Goes, Wants, Ready, Texts, Nuls, after_piece}
+use Rattle.dbus_value_checker.specs.Moves.{Moves, Pushed, Enters}
+use Rattle.dbus_value_checker.proofs.Suspension.{works_as, value_begins, after_after, after_same}
+use Rattle.dbus_value_checker.proofs.FrontSteps.{take-both, split-at}
+use Rattle.dbus_value_checker.proofs.Slices.{slice_head, slice_room, slice_behind, slice_inner}
+use Rattle.dbus_value_checker.specs.Suspended as suspended
+use Rattle.dbus_value_checker.proofs.Reach.{frames_reach, frames_small, end_small}
+use Rattle.dbus_value_checker.proofs.Entering.{first, rest, first_is, first_alignment, array_of, struct_of, entry_of, text_of, number_type, own_text, opened_text, own_number, opened_number, own_array, opened_array, own_deep_array, own_struct, opened_struct, own_deep_struct, opened_deep_struct, own_entry, opened_entry, array_complete, struct_complete, entry_complete, entry_text, parts_some, sigs_some, pushed_frames, inner_of, within}
+use Rattle.dbus_value_checker.proofs.Nexts.{next_part_at}
+
+-- ---- what follows the front
+
+module _ {X A : Type 0} (view : X → A × ℕ) (o : ℕ) (s : List ℕ) (run : Reader A) (next : A → On) (answer : List ℕ → Outcome (Unit {0})) (same : (c : List ℕ) → after (run o c) next ≡ answer c) where
+  pub front_taken : (x : X) → Fronts view o s (Ok x) run → (c : List ℕ) → next (view x).0 (o + (view x).1) c ≡ answer (take (view x).1 s ++ c)
+  front_taken x h c = sym (ap (λ (r : Outcome A). after r next) (h.1 c)) ∙ same (take (view x).1 s ++ c)
+
+  pub front_waits : Fronts view o s (Err stops.Partial) run → answer s ≡ Partial
+  front_waits h = sym (same s) ∙ ap (λ (r : Outcome A). after r next) h
+
+  pub front_refused : (f : Fault) → Fronts view o s (Err (stops.Refused f)) run → (c : List ℕ) → answer (s ++ c) ≡ Faulty f
+  front_refused f h c = sym (same (s ++ c)) ∙ ap (λ (r : Outcome A). after r next) (h c)
+
+-- ---- the padding of a value
+
+module _ (x : Values) (pos stop : ℕ) (answer : Answer) (w : Wants x pos stop answer) (code : ℕ) (there : get_or x.text.items pos 0 ≡ code) where
+  pub code_first : first w.type ≡ code
+  code_first = sym (slice_head x.text.items pos stop (first w.type) (rest w.type) w.pos_is (w.text ∙ first_is w.type)) ∙ there
+
+  wants_low : x.offset ≤ x.inner.end
+  wants_low = (inner_of x (suc x.offset) w.ws w.frames).low
+
+  pub wants_place : (x.offset ≤ x.inner.end) × (x.offset < 4294967296) × (stop ≤ length x.text.items)
+  wants_place = (wants_low, frames_small (suc x.offset) x.offset (length x.text.items) x.end x.text.items (x.inner ∷ reverse x.frames.items) w.ws w.frames, (let i = inner_of x (suc x.offset) w.ws w.frames in let a = i.high in let b = w.stop_is in omega arith))
+
+  module _ (other : code ≡ 118 → ⊥) (a : ℕ) (a_is : a ≡ code_alignment code) where
+    abbrev behind : Unit {0} → On
+    behind z = own x.bounds x.order x.inner.end (own_of x.inner.room w.type) (works x.bounds x.order (rest_of answer x w.ws) (opened_by x.inner.room x.inner.end w.type))
+
+    padded_same : (c : List ℕ) → after (padding a x.inner.end x.offset c) behind ≡ answer.to c
+    padded_same c =
+        let not_variant : w.type ≡ VariantType → ⊥ = λ h. other (sym code_first ∙ ap first h) in
+        let is : alignment_of w.type ≡ a = sym (first_alignment w.type) ∙ ap code_alignment code_first ∙ sym a_is in
+        subst (λ (b : ℕ). after (padding b x.inner.end x.offset c) behind ≡ answer.to c) is
+        (sym (value_begins x.bounds x.order x.inner.room x.inner.end w.type x.offset c (rest_of answer x w.ws) not_variant) ∙ w.same c)
+
+    pub wants_ready : (s : List ℕ) (n : ℕ) → Fronts (λ (n : ℕ). (tt, n)) x.offset s (Ok n) (padding a x.inner.end) → x.offset + n ≤ x.inner.end → Ready x pos stop n (after_piece answer (take n s))
+    wants_ready s n h fits = record {
+      ws = w.ws;
+      type = w.type;
+      frames = w.frames;
+      text = w.text;
+      complete = w.complete;
+      pos_is = w.pos_is;
+      stop_is = w.stop_is;
+      fits = fits;
+      same = front_taken (λ (n : ℕ). (tt, n)) x.offset s (padding a x.inner.end) behind answer.to padded_same n h;
+    }
+
+    pub wants_waits : (s : List ℕ) → Fronts (λ (n : ℕ). (tt, n)) x.offset s (Err stops.Partial) (padding a x.inner.end) → answer.to s ≡ Partial
+    wants_waits s h = front_waits (λ (n : ℕ). (tt, n)) x.offset s (padding a x.inner.end) behind answer.to padded_same h
+
+    pub wants_refused : (s : List ℕ) (f : Fault) → Fronts (λ (n : ℕ). (tt, n)) x.offset s (Err (stops.Refused f)) (padding a x.inner.end) → (c : List ℕ) → answer.to (s ++ c) ≡ Faulty f
+    wants_refused s f h = front_refused (λ (n : ℕ). (tt, n)) x.offset s (padding a x.inner.end) behind answer.to padded_same f h
+
+    pub wants_stops : (s : List ℕ) (e : Stop) → Fronts (λ (n : ℕ). (tt, n)) x.offset s (Err e) (padding a x.inner.end) → Moves x s (Err e) x answer
+    wants_stops s stops.Memory h = absurd h
+    wants_stops s stops.Partial h = (refl, wants_waits s h)
+    wants_stops s (stops.Refused f) h = wants_refused s f h
+
+-- ---- what stands behind the padding
+
+-- what is left where the value was read up to n bytes further
+pub onto : {A : Type 0} (run : Reader A) (next : On) (o q : ℕ) (s c : List ℕ) → onward run done o s ≡ Done tt q c → onward run next o s ≡ next q c
+onto run next o q s c h = onto_at (run o s) next q c h
+  where
+    onto_at : {A : Type 0} (r : Outcome A) (next : On) (q : ℕ) (c : List ℕ) → after r (λ x. done) ≡ Done tt q c → after r (λ x. next) ≡ next q c
+    onto_at (Done x p t) next q c h = let e : p ≡ q = cc in let f : t ≡ c = cc in rw (e, f) refl
+    onto_at (Faulty f) next q c h = absurd cc
+    onto_at Partial next q c h = absurd cc
+
+pub onto_partial : {A : Type 0} (run : Reader A) (next : On) (o : ℕ) (s : List ℕ) → onward run done o s ≡ Partial → onward run next o s ≡ Partial
+onto_partial run next o s h = partial_at (run o s) next h
+  where
+    partial_at : {A : Type 0} (r : Outcome A) (next : On) → after r (λ x. done) ≡ Partial → after r (λ x. next) ≡ Partial
+    partial_at (Done x p t) next h = absurd cc
+    partial_at (Faulty f) next h = absurd cc
+    partial_at Partial next h = refl
+
+pub onto_faulty : {A : Type 0} (run : Reader A) (next : On) (o : ℕ) (s : List ℕ) (f : Fault) → onward run done o s ≡ Faulty f → onward run next o s ≡ Faulty f
+onto_faulty run next o s f h = faulty_at (run o s) next f h
+  where
+    faulty_at : {A : Type 0} (r : Outcome A) (next : On) (f : Fault) → after r (λ x. done) ≡ Faulty f → after r (λ x. next) ≡ Faulty f
+    faulty_at (Done x p t) next f h = absurd cc
+    faulty_at (Faulty g) next f h = h
+    faulty_at Partial next f h = absurd cc
+
+module _ (x : Values) (pos stop n : ℕ) (answer : Answer) (r : Ready x pos stop n answer) (code : ℕ) (there : get_or x.text.items pos 0 ≡ code) where
+  pub ready_first : first r.type ≡ code
+  ready_first = sym (slice_head x.text.items pos stop (first r.type) (rest r.type) r.pos_is (r.text ∙ first_is r.type)) ∙ there
+
+  pub ready_place : (x.offset ≤ x.inner.end) × (x.offset + n ≤ x.inner.end) × (x.inner.end < 4294967296) × (stop ≤ length x.text.items)
+  ready_place =
+      let i = inner_of x (suc x.offset) r.ws r.frames in
+      (i.low, r.fits, end_small (suc x.offset) x.offset (length x.text.items) x.end x.text.items x.inner (reverse x.frames.items) r.ws r.frames, (let a = i.high in let b = r.stop_is in omega arith))
+
+  -- the same, where it is known what it opens
+  ready_as : (o : suspended.Own) (us : List Work) → own_of x.inner.room r.type ≡ o → opened_by x.inner.room x.inner.end r.type ≡ us → (c : List ℕ) → own x.bounds x.order x.inner.end o (works x.bounds x.order (rest_of answer x r.ws) us) (x.offset + n) c ≡ answer.to c
+  ready_as o us e d c =
+      subst (λ (p : suspended.Own). own x.bounds x.order x.inner.end p (works x.bounds x.order (rest_of answer x r.ws) us) (x.offset + n) c ≡ answer.to c) e
+      (subst (λ (vs : List Work). own x.bounds x.order x.inner.end (own_of x.inner.room r.type) (works x.bounds x.order (rest_of answer x r.ws) vs) (x.offset + n) c ≡ answer.to c) d (r.same c))
+
+  -- further by at least one byte
+  further : (q : ℕ) → x.offset < q → q ≤ x.inner.end → HasFrames q (record x { offset = q }) r.ws
+  further q lt le =
+      within q x.offset (length x.text.items) q (length x.text.items) x.end x.text.items x.inner (reverse x.frames.items) r.ws le (inner_of x (suc x.offset) r.ws r.frames).high
+      (frames_reach (suc x.offset) q x.offset (length x.text.items) x.end x.text.items (x.inner ∷ reverse x.frames.items) r.ws (omega arith) r.frames)
+
+  -- a number
+  module _ (is : IsNumberCode code) where
+    pub ready_number : (k : NumberCode) × (r.type ≡ NumberType k)
+    ready_number = number_type r.type code ready_first is.array is.struct is.entry is.signature is.path is.string is.variant
+
+    pub number_is : number_code ready_number.0 ≡ code
+    number_is = ap first (sym ready_number.1) ∙ ready_first
+
+    abbrev run : Reader ℕ
+    run = number x.order (width ready_number.0) x.inner.end (number_row x.bounds.fds ready_number.0)
+
+    number_same : (c : List ℕ) → onward run (rest_of answer x r.ws) (x.offset + n) c ≡ answer.to c
+    number_same c = ready_as (AHead (ANumber ready_number.0)) [] (own_number x.inner.room r.type ready_number.0 ready_number.1) (opened_number x.inner.room x.inner.end r.type ready_number.0 ready_number.1) c
+
+    pub number_goes : (s : List ℕ) (w : ℕ) → Fronts (λ (m : ℕ). (tt, m)) (x.offset + n) s (Ok w) (onward run done) → 0 < w → x.offset + n + w ≤ x.inner.end → Goes (record x { offset = x.offset + n + w }) (after_piece answer (take w s))
+    number_goes s w h some fits = record {
+      ws = r.ws;
+      frames = further (x.offset + n + w) (omega arith) fits;
+      same = λ c. sym (onto run (rest_of answer x r.ws) (x.offset + n) (x.offset + n + w) (take w s ++ c) c (h.1 c)) ∙ number_same (take w s ++ c);
+    }
+
+    pub number_stops : (s : List ℕ) (e : Stop) → Fronts (λ (m : ℕ). (tt, m)) (x.offset + n) s (Err e) (onward run done) → Moves x s (Err e) x answer
+    number_stops s stops.Memory h = absurd h
+    number_stops s stops.Partial h = (refl, sym (number_same s) ∙ onto_partial run (rest_of answer x r.ws) (x.offset + n) s h)
+    number_stops s (stops.Refused f) h = λ c. sym (number_same (s ++ c)) ∙ onto_faulty run (rest_of answer x r.ws) (x.offset + n) (s ++ c) f (h c)
+
+  -- ---- a struct or an entry
+
+  arrived : HasFrames (suc (x.offset + n)) (record x { offset = x.offset + n }) r.ws
+  arrived =
+      within (suc (x.offset + n)) x.offset (length x.text.items) (x.offset + n) (length x.text.items) x.end x.text.items x.inner (reverse x.frames.items) r.ws r.fits (inner_of x (suc x.offset) r.ws r.frames).high
+      (frames_reach (suc x.offset) (suc (x.offset + n)) x.offset (length x.text.items) x.end x.text.items (x.inner ∷ reverse x.frames.items) r.ws (omega arith) r.frames)
+
+  module _ (inner : ℕ) where
+    abbrev f : Frame
+    f = record { array = false; pos = pos + 1; stop = stop - 1; top = x.inner.top; end = x.inner.end; room = inner }
+
+    abbrev z : Values
+    z = record x { offset = x.offset + n }
+
+    parts_wanted : (ts : TypeTrees) → slice x.text.items (pos + 1) (stop - 1) ≡ sigs ts → AreShaped ts → 0 < length (sigs ts) → (pos + 1 + length (sigs ts) ≡ stop - 1) → suc (length x.frames.items) + 2 * inner ≤ 128 → inner ≤ x.inner.room
+        → ((c : List ℕ) → work x.bounds x.order (Parts inner x.inner.end ts) (rest_of answer x r.ws) (x.offset + n) c ≡ answer.to c)
+        → Enters x pos stop n inner answer
+    parts_wanted ts types complete some size count less same y p q q_is =
+        let i = inner_of x (suc x.offset) r.ws r.frames in
+        let w : Work = Parts inner x.inner.end ts in
+        let framed : Framed (suc (x.offset + n)) (x.offset + n) (length x.text.items) (suc (length x.frames.items)) x.text.items f w = record {
+          low_is = r.fits;
+          high_is = i.high;
+          stop_is = (let a = r.stop_is in omega arith);
+          pos_is = omega arith;
+          count_is = omega arith;
+          room_is = (let a = i.room in omega arith);
+          is = record { parts = refl; room_is = refl; end_is = refl; types = types; complete = complete };
+        } in
+        let frames = pushed_frames z y f (suc (x.offset + n)) w r.ws p arrived framed (omega arith) (omega arith) in
+        let at : y.offset ≡ x.offset + n = p.offset in
+        let in_pos : y.inner.pos ≡ pos + 1 = ap (λ (g : Frame). g.pos) p.inner in
+        let in_stop : y.inner.stop ≡ stop - 1 = ap (λ (g : Frame). g.stop) p.inner in
+        let size_is : length y.text.items ≡ length x.text.items = ap length p.text in
+        next_part_at y answer (w ∷ r.ws) q q_is (subst (λ (k : ℕ). HasFrames (suc k) y (w ∷ r.ws)) (sym at) frames)
+        (λ c. subst (λ (k : ℕ). works y.bounds y.order answer.last (w ∷ r.ws) k c ≡ answer.to c) (sym at) (works_as y.bounds x.bounds y.order x.order p.bounds p.order answer.last (w ∷ r.ws) (x.offset + n) c (answer.to c) (same c)))
+        (ap (λ (g : Frame). g.array) p.inner) (omega arith) (let a = i.high in let b = r.stop_is in omega arith)
+
+    -- a struct
+    pub struct_opens : code ≡ 40 → x.inner.room ≡ suc inner → Enters x pos stop n inner answer
+    struct_opens is room =
+        let u = struct_of r.type (ready_first ∙ is) in
+        let text : slice x.text.items pos stop ≡ 40 ∷ (sigs u.0 ++ 41 ∷ []) = r.text ∙ ap sig u.1 in
+        let i = inner_of x (suc x.offset) r.ws r.frames in
+        let inside = slice_inner x.text.items pos stop 40 41 (sigs u.0) r.pos_is ready_place.3 text in
+        parts_wanted u.0 inside.0 (struct_complete x.inner.array r.type u.0 u.1 r.complete) (parts_some x.inner.array r.type u.0 u.1 r.complete) inside.1 (let a = i.count in omega arith) (omega arith)
+        (ready_as Opened (Parts inner x.inner.end u.0 ∷ []) (own_struct x.inner.room inner r.type u.0 u.1 room) (opened_struct x.inner.room inner x.inner.end r.type u.0 u.1 room))
+
+    -- an entry, which takes no room
+    pub entry_opens : code ≡ 123 → inner ≡ x.inner.room → Enters x pos stop n inner answer
+    entry_opens is room =
+        let u = entry_of r.type (ready_first ∙ is) in
+        let ts : TypeTrees = MoreTypes u.0 (MoreTypes u.1.0 NoTypes) in
+        let text : slice x.text.items pos stop ≡ 123 ∷ (sigs ts ++ 125 ∷ []) = r.text ∙ ap sig u.1.1 ∙ entry_text u.0 u.1.0 in
+        let i = inner_of x (suc x.offset) r.ws r.frames in
+        let inside = slice_inner x.text.items pos stop 123 125 (sigs ts) r.pos_is ready_place.3 text in
+        let c = entry_complete x.inner.array r.type u.0 u.1.0 u.1.1 r.complete in
+        let one : extra x.inner.array ≡ 1 = ap extra c.0 in
+        parts_wanted ts inside.0 c.1 (sigs_some u.0 (MoreTypes u.1.0 NoTypes)) inside.1 (let a = i.count in omega arith) (omega arith)
+        (subst (λ (k : ℕ). (c : List ℕ) → work x.bounds x.order (Parts k x.inner.end ts) (rest_of answer x r.ws) (x.offset + n) c ≡ answer.to c) (sym room)
+        (ready_as Opened (Parts x.inner.room x.inner.end ts ∷ []) (own_entry x.inner.room r.type u.0 u.1.0 u.1.1) (opened_entry x.inner.room x.inner.end r.type u.0 u.1.0 u.1.1)))
+
+  -- no room is left
+  pub deep_struct : code ≡ 40 → x.inner.room ≡ 0 → (c : List ℕ) → answer.to c ≡ Faulty (fault (x.offset + n) reasons.TooDeep)
+  deep_struct is room c =
+      let u = struct_of r.type (ready_first ∙ is) in
+      sym (ready_as Closed [] (own_deep_struct x.inner.room r.type u.0 u.1 room) (opened_deep_struct x.inner.room x.inner.end r.type u.0 u.1 room) c)
+
+  -- there is room for a struct's frame and for an entry's
+  pub bracket_fits : (code ≡ 40) × (0 < x.inner.room) ⊎ (code ≡ 123) → (length x.frames.items < 128) × (pos + 1 ≤ stop - 1) × (1 ≤ stop)
+  bracket_fits h = elim h [
+    | inl h ↦
+        let u = struct_of r.type (ready_first ∙ h.0) in
+        let text : slice x.text.items pos stop ≡ 40 ∷ (sigs u.0 ++ 41 ∷ []) = r.text ∙ ap sig u.1 in
+        let i = inner_of x (suc x.offset) r.ws r.frames in
+        let inside = slice_inner x.text.items pos stop 40 41 (sigs u.0) r.pos_is ready_place.3 text in
+        let size = inside.1 in
+        let some = h.1 in
+        ((let a = i.count in omega arith), omega arith, omega arith)
+    | inr h ↦
+        let u = entry_of r.type (ready_first ∙ h) in
+        let ts : TypeTrees = MoreTypes u.0 (MoreTypes u.1.0 NoTypes) in
+        let text : slice x.text.items pos stop ≡ 123 ∷ (sigs ts ++ 125 ∷ []) = r.text ∙ ap sig u.1.1 ∙ entry_text u.0 u.1.0 in
+        let i = inner_of x (suc x.offset) r.ws r.frames in
+        let inside = slice_inner x.text.items pos stop 123 125 (sigs ts) r.pos_is ready_place.3 text in
+        let size = inside.1 in
+        let c = entry_complete x.inner.array r.type u.0 u.1.0 u.1.1 r.complete in
+        let one : extra x.inner.array ≡ 1 = ap extra c.0 in
+        ((let a = i.count in omega arith), omega arith, omega arith)
+  ]
+
+  -- ---- an array
+
+  module _ (is : code ≡ 97) where
+    pub ready_array : (u : TypeTree) × (r.type ≡ ArrayType u)
+    ready_array = array_of r.type (ready_first ∙ is)
+
+    array_text : slice x.text.items pos stop ≡ 97 ∷ sig ready_array.0
+    array_text = r.text ∙ ap sig ready_array.1
+
+    element_text : slice x.text.items (pos + 1) stop ≡ sig ready_array.0
+    element_text = slice_behind x.text.items pos stop (97 ∷ []) (sig ready_array.0) array_text
+
+    pub element_there : (pos + 1 < stop) × (pos + 1 < length x.text.items)
+    element_there =
+        let room = slice_room x.text.items pos stop (97 ∷ sig ready_array.0) r.pos_is array_text in
+        let some = ap length (first_is ready_array.0) in
+        let p = ready_place in
+        let le = p.3 in
+        (omega arith, omega arith)
+
+    pub element_code : (c : ℕ) → get_or x.text.items (pos + 1) 0 ≡ c → code_alignment c ≡ alignment_of ready_array.0
+    element_code c e =
+        let le = element_there.0 in
+        let h = slice_head x.text.items (pos + 1) stop (first ready_array.0) (rest ready_array.0) (omega arith) (element_text ∙ first_is ready_array.0) in
+        ap code_alignment (sym e ∙ h) ∙ first_alignment ready_array.0
+
+    pub deep_array : x.inner.room ≡ 0 → (c : List ℕ) → answer.to c ≡ Faulty (fault (x.offset + n) reasons.TooDeep)
+    deep_array room c = sym (ready_as Closed [] (own_deep_array x.inner.room r.type ready_array.0 ready_array.1 room) (opened_array x.inner.room x.inner.end r.type ready_array.0 ready_array.1) c)
+
+    module _ (inner : ℕ) (room : x.inner.room ≡ suc inner) where
+      abbrev frame : Reader ℕ
+      frame = array_frame x.bounds x.order x.inner.end ready_array.0
+
+      abbrev fill : ℕ → On
+      fill size q v = elements size (q + size) (value x.bounds x.order inner (q + size) ready_array.0) (rest_of answer x r.ws) q v
+
+      array_same : (c : List ℕ) → after (frame (x.offset + n) c) fill ≡ answer.to c
+      unfolding array_frame
+      array_same c =
+          after_after (number x.order 4 x.inner.end (array_row x.bounds ready_array.0 x.inner.end) (x.offset + n) c) _ fill
+          ∙ after_same (number x.order 4 x.inner.end (array_row x.bounds ready_array.0 x.inner.end) (x.offset + n) c) _ _ (λ size p u. after_after (padding (alignment_of ready_array.0) x.inner.end p u) _ fill)
+          ∙ ready_as (AHead (AnArray inner ready_array.0)) [] (own_array x.inner.room inner r.type ready_array.0 ready_array.1 room) (opened_array x.inner.room x.inner.end r.type ready_array.0 ready_array.1) c
+
+      pub array_stops : (s : List ℕ) (e : Stop) → Fronts (λ (m : ℕ × ℕ). m) (x.offset + n) s (Err e) frame → Moves x s (Err e) x answer
+      array_stops s stops.Memory h = absurd h
+      array_stops s stops.Partial h = (refl, front_waits (λ (m : ℕ × ℕ). m) (x.offset + n) s frame fill answer.to array_same h)
+      array_stops s (stops.Refused f) h = front_refused (λ (m : ℕ × ℕ). m) (x.offset + n) s frame fill answer.to array_same f h
+
+      pub array_goes : (y : Values) (s : List ℕ) (size k : ℕ) → Fronts (λ (m : ℕ × ℕ). m) (x.offset + n) s (Ok (size, k)) frame → 4 ≤ k → x.offset + n + k + size ≤ x.inner.end
+          → Pushed (record x { offset = x.offset + n + k }) y (record { array = true; pos = pos + 1; stop = stop; top = x.inner.top; end = x.offset + n + k + size; room = inner })
+          → Goes y (after_piece answer (take k s))
+      array_goes y s size k h some fits p =
+          let q = x.offset + n + k in
+          let i = inner_of x (suc x.offset) r.ws r.frames in
+          let w : Work = Elements size inner (q + size) ready_array.0 in
+          let g : Frame = record { array = true; pos = pos + 1; stop = stop; top = x.inner.top; end = q + size; room = inner } in
+          let z : Values = record x { offset = q } in
+          let some_code = element_there.0 in
+          let framed : Framed q q (length x.text.items) (suc (length x.frames.items)) x.text.items g w = record {
+            low_is = omega arith;
+            high_is = i.high;
+            stop_is = r.stop_is;
+            pos_is = omega arith;
+            count_is = (let a = i.count in omega arith);
+            room_is = (let a = i.room in omega arith);
+            is = record { elements = refl; room_is = refl; end_is = refl; type = element_text; complete = array_complete x.inner.array r.type ready_array.0 ready_array.1 r.complete; turns_is = omega arith };
+          } in
+          let frames = pushed_frames z y g q w r.ws p (further q (omega arith) (omega arith)) framed fits (omega arith) in
+          record {
+            ws = w ∷ r.ws;
+            frames = subst (λ (o : ℕ). HasFrames o y (w ∷ r.ws)) (sym p.offset) frames;
+            same = λ c. subst (λ (o : ℕ). works y.bounds y.order answer.last (w ∷ r.ws) o c ≡ answer.to (take k s ++ c)) (sym p.offset)
+                (works_as y.bounds x.bounds y.order x.order p.bounds p.order answer.last (w ∷ r.ws) q c (answer.to (take k s ++ c))
+                (front_taken (λ (m : ℕ × ℕ). m) (x.offset + n) s frame fill answer.to array_same (size, k) h c));
+          }
+
+  -- ---- a text
+
+  module _ (is : (code ≡ 103) ⊎ ((code ≡ 111) ⊎ (code ≡ 115))) where
+    pub ready_text : (k : TextCode) × (r.type ≡ TextType k)
+    ready_text = text_of r.type code ready_first is
+
+    pub text_is : text_code ready_text.0 ≡ code
+    text_is = ap first (sym ready_text.1) ∙ ready_first
+
+    abbrev sized : Reader ℕ
+    sized = number x.order (length_width ready_text.0) x.inner.end (text_row x.inner.end)
+
+    abbrev lettered : ℕ → On
+    lettered size p u = after (text (kind_of ready_text.0) size p u) (λ t. onward nul (rest_of answer x r.ws))
+
+    sized_same : (c : List ℕ) → after (sized (x.offset + n) c) lettered ≡ answer.to c
+    sized_same c = ready_as (AHead (ALength ready_text.0)) [] (own_text x.inner.room r.type ready_text.0 ready_text.1) (opened_text x.inner.room x.inner.end r.type ready_text.0 ready_text.1) c
+
+    pub text_stops : (s : List ℕ) (e : Stop) → Fronts (λ (m : ℕ × ℕ). m) (x.offset + n) s (Err e) sized → Moves x s (Err e) x answer
+    text_stops s stops.Memory h = absurd h
+    text_stops s stops.Partial h = (refl, front_waits (λ (m : ℕ × ℕ). m) (x.offset + n) s sized lettered answer.to sized_same h)
+    text_stops s (stops.Refused f) h = front_refused (λ (m : ℕ × ℕ). m) (x.offset + n) s sized lettered answer.to sized_same f h
+
+    pub text_starts : (scan : TextScan) (s : List ℕ) (size k : ℕ) → Fronts (λ (m : ℕ × ℕ). m) (x.offset + n) s (Ok (size, k)) sized → 0 < k → x.offset + n + k + size + 1 ≤ x.inner.end
+        → Of (scans.kind_of scan) ≡ kind_of ready_text.0 → Stands scan [] → Texts (record x { offset = x.offset + n + k; scan = scan }) code size (after_piece answer (take k s))
+    text_starts scan s size k h some fits scans_is stands = record {
+      ws = r.ws;
+      kind = ready_text.0;
+      size = size;
+      start = x.offset + n + k;
+      bytes = [];
+      frames = further (x.offset + n + k) (omega arith) (omega arith);
+      kind_is = text_is;
+      scans = scans_is;
+      stands = stands;
+      offset = omega arith;
+      left_is = omega arith;
+      fits = fits;
+      same = front_taken (λ (m : ℕ × ℕ). m) (x.offset + n) s sized lettered answer.to sized_same (size, k) h;
+    }
+
+    -- all of the text is there
+    module _ (s : List ℕ) (size k : ℕ) (h : Fronts (λ (m : ℕ × ℕ). m) (x.offset + n) s (Ok (size, k)) sized) (some : 0 < k) (fits : x.offset + n + k + size + 1 ≤ x.inner.end) where
+      letters_same : (c : List ℕ) → after (text (kind_of ready_text.0) size (x.offset + n + k) c) (λ t. onward nul (rest_of answer x r.ws)) ≡ answer.to (take k s ++ c)
+      letters_same = front_taken (λ (m : ℕ × ℕ). m) (x.offset + n) s sized lettered answer.to sized_same (size, k) h
+
+      abbrev named : Unit {0} → List ℕ × ℕ
+      named u = (take size (drop k s), size)
+
+      pub text_whole : Fronts named (x.offset + n + k) (drop k s) (Ok tt) (text (kind_of ready_text.0) size) → (k + size ≤ length s) × Nuls (record x { offset = x.offset + n + k + size }) (after_piece answer (take (k + size) s))
+      text_whole f =
+          let le = h.0 in
+          let more = f.0 in
+          let d = length-drop k s in (
+            omega arith,
+            record {
+              ws = r.ws;
+              frames = further (x.offset + n + k + size) (omega arith) (omega arith);
+              fits = fits;
+              same = λ c.
+                  front_taken named (x.offset + n + k) (drop k s) (text (kind_of ready_text.0) size) (λ t. onward nul (rest_of answer x r.ws)) (λ c. answer.to (take k s ++ c)) letters_same tt f c
+                  ∙ ap answer.to (sym (take-both k size s c le));
+            },
+          )
+
+      pub text_whole_stops : (e : Stop) → Fronts named (x.offset + n + k) (drop k s) (Err e) (text (kind_of ready_text.0) size) → Moves x s (Err e) x answer
+      text_whole_stops stops.Memory f = absurd f
+      text_whole_stops stops.Partial f =
+          (refl, ap answer.to (sym (take-append-drop k s)) ∙ front_waits named (x.offset + n + k) (drop k s) (text (kind_of ready_text.0) size) (λ t. onward nul (rest_of answer x r.ws)) (λ c. answer.to (take k s ++ c)) letters_same f)
+      text_whole_stops (stops.Refused g) f = λ c.
+          ap answer.to (split-at k s c) ∙ front_refused named (x.offset + n + k) (drop k s) (text (kind_of ready_text.0) size) (λ t. onward nul (rest_of answer x r.ws)) (λ c. answer.to (take k s ++ c)) letters_same g f c

@@ -1,0 +1,261 @@
+-- A suspended reading, one item and one byte further.
+use Rattle.std.proofs.Common.{◌≡◌, ℕ, zero, suc, ◌+◌, ◌-◌, ◌<◌, ◌≤◌, List, [], ◌∷◌, ◌++◌, length, take, drop, Bool, true, false, cond, eqb, ltb, Option, Some, None, refl, sym, ap, ◌∙◌, arith}
+use Rattle.std.proofs.lemmas.Bool.{lt-ltb, le-ltb, eq-eqb}
+use Rattle.std.proofs.lemmas.List.{take_at, drop_at, take_all, length-append}
+use Rattle.std.proofs.Math.Seq.{take-append-add}
+use Rattle.dbus_types.specs.Types.{NumberCode, TextCode, TypeTree, NumberType, TextType, VariantType, ArrayType, StructType, EntryType, TypeTrees, NoTypes, MoreTypes}
+use Rattle.dbus_types.specs.Alignments.{width, length_width, alignment_of}
+use Rattle.dbus_types.specs.ComputedKinds.{type_spelled}
+use Rattle.dbus_types.specs.declared.text_kind.TextKind.TheVariants as kinds
+use Rattle.dbus_value_model.specs.WantedTexts.{WantedText, kind_of, is_kind, break_at, Of}
+use Rattle.dbus_value_model.specs.declared.limits.Bounds.{Bounds}
+use Rattle.dbus_value_model.specs.declared.order.Order.{Order}
+use Rattle.dbus_value_model.specs.Bytes.{gap_to}
+use Rattle.dbus_value_model.specs.Values.{ValueTree, VariantValue}
+use Rattle.dbus_value_model.specs.declared.fault.Reason.{Reason}
+use Rattle.dbus_value_model.specs.declared.fault.Reason.TheVariants as reasons
+use Rattle.dbus_value_model.specs.Items.{fault, text_reason}
+use Rattle.dbus_value_model.specs.ValueItems.{number_row, text_row, array_row}
+use Rattle.dbus_value_model.specs.Reading.{Reader, Outcome, Done, Faulty, Partial, after, zeros, padding, judged, number_of, number, text, nul, up_to, contents, fields, items, signature, value, nowhere}
+use Rattle.dbus_unmarshal.proofs.KindLaws.{break_more, computed_whole}
+use Rattle.dbus_value_checker.specs.Suspended.{On, onward, Work, Parts, Elements, elements, work, works, Head, head_width, head_row, tail, head, own, own_of, opened_by, held_on}
+
+pub after_after : {A B C : Type 0} (r : Outcome A) (f : A → Reader B) (g : B → Reader C) → after (after r f) g ≡ after r (λ x o s. after (f x o s) g)
+after_after (Done x p t) f g = refl
+after_after (Faulty e) f g = refl
+after_after Partial f g = refl
+
+pub after_same : {A B : Type 0} (r : Outcome A) (f g : A → Reader B) → ((x : A) (p : ℕ) (t : List ℕ) → f x p t ≡ g x p t) → after r f ≡ after r g
+after_same (Done x p t) f g h = h x p t
+after_same (Faulty e) f g h = refl
+after_same Partial f g h = refl
+
+-- ---- containers
+
+-- the contents of an array, with what follows them
+at_stop : (w : Bool) (next : On) (o : ℕ) (s : List ℕ) → (let none : List ValueTree = [] in after (cond w (Done none o s) Partial) (λ vs. next)) ≡ cond w (next o s) Partial
+at_stop true next o s = refl
+at_stop false next o s = refl
+
+at_turn : (w : Bool) (turns end : ℕ) (part : Reader ValueTree) (before : List ValueTree) (next : On) (o : ℕ) (s : List ℕ) (r : Outcome ValueTree)
+    → ((v : ValueTree) (p : ℕ) (t : List ℕ) → after (up_to turns end (λ before. part) (v ∷ before) p t) (λ vs. next) ≡ elements turns end part next p t)
+    → (let none : List ValueTree = [] in after (cond w (after r (λ v p t. after (up_to turns end (λ before. part) (v ∷ before) p t) (λ vs p t. Done (v ∷ vs) p t))) (cond (eqb o end) (Done none o s) Partial)) (λ vs. next))
+    ≡ cond w (after r (λ v. elements turns end part next)) (cond (eqb o end) (next o s) Partial)
+at_turn true turns end part before next o s (Done v p t) ih = after_after (up_to turns end (λ before. part) (v ∷ before) p t) (λ vs p t. Done (v ∷ vs) p t) (λ vs. next) ∙ ih v p t
+at_turn true turns end part before next o s (Faulty f) ih = refl
+at_turn true turns end part before next o s Partial ih = refl
+at_turn false turns end part before next o s r ih = at_stop (eqb o end) next o s
+
+pub elements_up_to : (turns end : ℕ) (part : Reader ValueTree) (before : List ValueTree) (next : On) (o : ℕ) (s : List ℕ) → after (up_to turns end (λ before. part) before o s) (λ vs. next) ≡ elements turns end part next o s
+elements_up_to zero end part before next o s = at_stop (eqb o end) next o s
+elements_up_to (suc turns) end part before next o s =
+    at_turn (ltb o end) turns end part before next o s (part o s) (λ v p t. elements_up_to turns end part (v ∷ before) next p t)
+
+-- of the same limits and byte order
+pub works_as : (a b : Bounds) (n m : Order) → a ≡ b → n ≡ m → (last : On) (ws : List Work) (q : ℕ) (c : List ℕ) (r : Outcome (Unit {0})) → works b m last ws q c ≡ r → works a n last ws q c ≡ r
+works_as a b n m e d last ws q c r h = rw (e, d) h
+
+-- no part is wanted any more
+pub parts_none : (bounds : Bounds) (order : Order) (room end : ℕ) (next : On) (o : ℕ) (s : List ℕ) → work bounds order (Parts room end NoTypes) next o s ≡ next o s
+parts_none bounds order room end next o s = refl
+
+pub parts_more : (bounds : Bounds) (order : Order) (room end : ℕ) (t : TypeTree) (ts : TypeTrees) (next : On) (o : ℕ) (s : List ℕ) → work bounds order (Parts room end (MoreTypes t ts)) next o s ≡ onward (value bounds order room end t) (work bounds order (Parts room end ts) next) o s
+parts_more bounds order room end t ts next o s =
+    after_after (value bounds order room end t o s) _ (λ xs. next)
+    ∙ after_same (value bounds order room end t o s) _ _ (λ v p u. after_after (fields (value bounds order room end) ts p u) _ (λ xs. next))
+
+pub elements_none : (bounds : Bounds) (order : Order) (turns room end : ℕ) (t : TypeTree) (next : On) (o : ℕ) (s : List ℕ) → o ≡ end → work bounds order (Elements turns room end t) next o s ≡ next o s
+elements_none bounds order zero room end t next o s h = rw (eq-eqb _ _ h) refl
+elements_none bounds order (suc turns) room end t next o s h = let le : end ≤ o = omega arith in rw (le-ltb _ _ le, eq-eqb _ _ h) refl
+
+pub elements_more : (bounds : Bounds) (order : Order) (turns room end : ℕ) (t : TypeTree) (next : On) (o : ℕ) (s : List ℕ) → o < end → work bounds order (Elements (suc turns) room end t) next o s ≡ onward (value bounds order room end t) (work bounds order (Elements turns room end t) next) o s
+elements_more bounds order turns room end t next o s h = rw (lt-ltb _ _ h) refl
+
+-- ---- padding
+
+pub padding_overrun : {A : Type 0} (a end o : ℕ) (s : List ℕ) (next : Unit {0} → Reader A) → end < o + gap_to a o → after (padding a end o s) next ≡ Faulty (fault o reasons.Overrun)
+unfolding padding
+padding_overrun a end o s next h = rw (lt-ltb _ _ h, padding) refl
+
+pub padding_zeros : {A : Type 0} (a end o : ℕ) (s : List ℕ) (next : Unit {0} → Reader A) → o + gap_to a o ≤ end → after (padding a end o s) next ≡ after (zeros (gap_to a o) o s) next
+unfolding padding
+padding_zeros a end o s next h = rw (le-ltb _ _ h, padding) refl
+
+-- behind the zeros the offset is known
+pub zeros_place : {A : Type 0} (k o : ℕ) (s : List ℕ) (next : ℕ → Reader A) → after (zeros k o s) (λ x p. next p p) ≡ after (zeros k o s) (λ x. next (o + k))
+zeros_place zero o s next = let e : o + 0 ≡ o = omega arith in ap (λ (p : ℕ). next p o s) (sym e)
+zeros_place (suc k) o [] next = refl
+zeros_place (suc k) o (zero ∷ s) next = let e : suc o + k ≡ o + suc k = omega arith in zeros_place k (suc o) s next ∙ ap (λ (p : ℕ). after (zeros k (suc o) s) (λ x. next p)) e
+zeros_place (suc k) o (suc b ∷ s) next = refl
+
+-- ---- a value begins
+
+bound : {A : Type 0} {B : Type 0} (run : Reader A) (f : A → Reader B) (next : On) (o : ℕ) (s : List ℕ) → after (after (run o s) f) (λ x. next) ≡ after (run o s) (λ x. onward (f x) next)
+bound run f next o s = after_after (run o s) f (λ x. next)
+
+abbrev pub inside : Bounds → Order → ℕ → ℕ → TypeTree → Reader ValueTree
+inside bounds order zero = nowhere
+inside bounds order (suc inner) = value bounds order inner
+
+pub value_items : (bounds : Bounds) (order : Order) (room end : ℕ) (t : TypeTree) (o : ℕ) (s : List ℕ) → value bounds order room end t o s ≡ items bounds order room (inside bounds order room) end t o s
+unfolding value
+value_items bounds order zero end t o s = refl
+value_items bounds order (suc room) end t o s = refl
+
+-- the items of a value, from its padding on
+abbrev behind_padding : (bounds : Bounds) (order : Order) (room end : ℕ) (t : TypeTree) (next : On) → On
+behind_padding bounds order room end t next = own bounds order end (own_of room t) (works bounds order next (opened_by room end t))
+
+number_begins : (bounds : Bounds) (order : Order) (room end : ℕ) (k : NumberCode) (o : ℕ) (s : List ℕ) (next : On) → after (items bounds order room (inside bounds order room) end (NumberType k) o s) (λ x. next) ≡ after (padding (width k) end o s) (λ x. own bounds order end (own_of room (NumberType k)) next)
+number_begins bounds order room end k o s next =
+    bound (padding (width k) end) _ next o s
+    ∙ after_same (padding (width k) end o s) _ _ (λ x p u. bound (number order (width k) end (number_row bounds.fds k)) _ next p u)
+
+text_begins : (bounds : Bounds) (order : Order) (room end : ℕ) (k : TextCode) (o : ℕ) (s : List ℕ) (next : On) → after (items bounds order room (inside bounds order room) end (TextType k) o s) (λ x. next) ≡ after (padding (length_width k) end o s) (λ x. own bounds order end (own_of room (TextType k)) next)
+text_begins bounds order room end k o s next =
+    bound (padding (length_width k) end) _ next o s
+    ∙ after_same (padding (length_width k) end o s) _ _ (λ x p u. bound (number order (length_width k) end (text_row end)) _ next p u
+    ∙ after_same (number order (length_width k) end (text_row end) p u) _ _ (λ n q v. bound (text (kind_of k) n) _ next q v
+    ∙ after_same (text (kind_of k) n q v) _ _ (λ t q v. bound nul _ next q v)))
+
+array_begins : (bounds : Bounds) (order : Order) (room end : ℕ) (t : TypeTree) (o : ℕ) (s : List ℕ) (next : On) → after (items bounds order room (inside bounds order room) end (ArrayType t) o s) (λ x. next) ≡ after (padding 4 end o s) (λ x. own bounds order end (own_of room (ArrayType t)) next)
+array_begins bounds order zero end t o s next = bound (padding 4 end) _ next o s
+array_begins bounds order (suc inner) end t o s next =
+    bound (padding 4 end) _ next o s
+    ∙ after_same (padding 4 end o s) _ _ (λ x p u. bound (number order 4 end (array_row bounds t end)) _ next p u
+    ∙ after_same (number order 4 end (array_row bounds t end) p u) _ _ (λ n q v. bound (padding (alignment_of t) end) _ next q v
+    ∙ after_same (padding (alignment_of t) end q v) _ _ (λ x q v. bound (contents n (λ e before. value bounds order inner e t)) _ next q v
+    ∙ elements_up_to n (q + n) (value bounds order inner (q + n) t) [] next q v)))
+
+struct_begins : (bounds : Bounds) (order : Order) (room end : ℕ) (ts : TypeTrees) (o : ℕ) (s : List ℕ) (next : On) → after (items bounds order room (inside bounds order room) end (StructType ts) o s) (λ x. next) ≡ after (padding 8 end o s) (λ x. own bounds order end (own_of room (StructType ts)) (works bounds order next (opened_by room end (StructType ts))))
+struct_begins bounds order zero end ts o s next = bound (padding 8 end) _ next o s
+struct_begins bounds order (suc inner) end ts o s next =
+    bound (padding 8 end) _ next o s
+    ∙ after_same (padding 8 end o s) _ _ (λ x p u. bound (fields (value bounds order inner end) ts) _ next p u)
+
+pair : (bounds : Bounds) (order : Order) (room end : ℕ) (k v : TypeTree) (o : ℕ) (s : List ℕ) (next : On)
+    → after (items bounds order room (inside bounds order room) end k o s) (λ x p u. after (items bounds order room (inside bounds order room) end v p u) (λ y. next)) ≡ work bounds order (Parts room end (MoreTypes k (MoreTypes v NoTypes))) next o s
+pair bounds order room end k v o s next =
+    let one = parts_more bounds order room end k (MoreTypes v NoTypes) next o s in
+    let two = after_same (value bounds order room end k o s) _ _ (λ x p u. parts_more bounds order room end v NoTypes next p u) in
+    let here = ap (λ (r : Outcome ValueTree). after r (λ x p u. after (value bounds order room end v p u) (λ y. next))) (value_items bounds order room end k o s) in
+    let there = after_same (items bounds order room (inside bounds order room) end k o s) (λ x p u. after (value bounds order room end v p u) (λ y. next)) (λ x p u. after (items bounds order room (inside bounds order room) end v p u) (λ y. next))
+    (λ x p u. ap (λ (r : Outcome ValueTree). after r (λ y. next)) (value_items bounds order room end v p u)) in
+    sym (one ∙ two ∙ here ∙ there)
+
+entry_begins : (bounds : Bounds) (order : Order) (room end : ℕ) (k v : TypeTree) (o : ℕ) (s : List ℕ) (next : On) → after (items bounds order room (inside bounds order room) end (EntryType k v) o s) (λ x. next) ≡ after (padding 8 end o s) (λ x. work bounds order (Parts room end (MoreTypes k (MoreTypes v NoTypes))) next)
+entry_begins bounds order room end k v o s next =
+    bound (padding 8 end) _ next o s
+    ∙ after_same (padding 8 end o s) _ _ (λ x p u. bound (items bounds order room (inside bounds order room) end k) _ next p u
+    ∙ after_same (items bounds order room (inside bounds order room) end k p u) _ _ (λ y q v'. bound (items bounds order room (inside bounds order room) end v) _ next q v')
+    ∙ pair bounds order room end k v p u next)
+
+abbrev held_value : Bounds → Order → ℕ → ℕ → TypeTree → Reader ValueTree
+held_value bounds order inner end held o s = after (nul o s) (λ x o s. after (value bounds order inner end held o s) (λ v. Done (VariantValue v)))
+
+held_begins : (bounds : Bounds) (order : Order) (inner end : ℕ) (held : TypeTree) (o : ℕ) (s : List ℕ) (next : On) → after (held_value bounds order inner end held o s) (λ v. next) ≡ held_on bounds order inner end next held o s
+held_begins bounds order inner end held o s next =
+    after_after (nul o s) (λ x o s. after (value bounds order inner end held o s) (λ v. Done (VariantValue v))) (λ v. next)
+    ∙ after_same (nul o s) _ _ (λ x q v. after_after (value bounds order inner end held q v) (λ v. Done (VariantValue v)) (λ v. next))
+
+signature_begins : (bounds : Bounds) (order : Order) (inner end n : ℕ) (o : ℕ) (s : List ℕ) (next : On) → after (after (signature (Of kinds.Single) n o s) (held_value bounds order inner end)) (λ v. next) ≡ after (text (Of kinds.Single) n o s) (λ t. held_on bounds order inner end next (type_spelled t))
+signature_begins bounds order inner end n o s next =
+    after_after (signature (Of kinds.Single) n o s) (held_value bounds order inner end) (λ v. next)
+    ∙ after_after (text (Of kinds.Single) n o s) (λ t. Done (type_spelled t)) (λ held o s. after (held_value bounds order inner end held o s) (λ v. next))
+    ∙ after_same (text (Of kinds.Single) n o s) _ _ (λ t q v. held_begins bounds order inner end (type_spelled t) q v next)
+
+variant_begins_at : (bounds : Bounds) (order : Order) (room end : ℕ) (o : ℕ) (s : List ℕ) (next : On) → after (items bounds order room (inside bounds order room) end VariantType o s) (λ x. next) ≡ own bounds order end (own_of room VariantType) next o s
+variant_begins_at bounds order zero end o s next = refl
+variant_begins_at bounds order (suc inner) end o s next =
+    bound (number order 1 end (text_row end)) _ next o s
+    ∙ after_same (number order 1 end (text_row end) o s) _ _ (λ n p u. signature_begins bounds order inner end n p u next)
+
+-- The law of a value: it begins with its padding, or is a variant, and goes on with its own item and the containers that it opens.
+pub value_begins : (bounds : Bounds) (order : Order) (room end : ℕ) (t : TypeTree) (o : ℕ) (s : List ℕ) (next : On) → (t ≡ VariantType → ⊥) → onward (value bounds order room end t) next o s ≡ after (padding (alignment_of t) end o s) (λ x. own bounds order end (own_of room t) (works bounds order next (opened_by room end t)))
+value_begins bounds order room end (NumberType k) o s next h = ap (λ (r : Outcome ValueTree). after r (λ x. next)) (value_items bounds order room end (NumberType k) o s) ∙ number_begins bounds order room end k o s next
+value_begins bounds order room end (TextType k) o s next h = ap (λ (r : Outcome ValueTree). after r (λ x. next)) (value_items bounds order room end (TextType k) o s) ∙ text_begins bounds order room end k o s next
+value_begins bounds order room end VariantType o s next h = absurd (h refl)
+value_begins bounds order room end (ArrayType t) o s next h = ap (λ (r : Outcome ValueTree). after r (λ x. next)) (value_items bounds order room end (ArrayType t) o s) ∙ array_begins bounds order room end t o s next
+value_begins bounds order zero end (StructType ts) o s next h = ap (λ (r : Outcome ValueTree). after r (λ x. next)) (value_items bounds order zero end (StructType ts) o s) ∙ struct_begins bounds order zero end ts o s next
+value_begins bounds order (suc room) end (StructType ts) o s next h = ap (λ (r : Outcome ValueTree). after r (λ x. next)) (value_items bounds order (suc room) end (StructType ts) o s) ∙ struct_begins bounds order (suc room) end ts o s next
+value_begins bounds order room end (EntryType k v) o s next h = ap (λ (r : Outcome ValueTree). after r (λ x. next)) (value_items bounds order room end (EntryType k v) o s) ∙ entry_begins bounds order room end k v o s next
+
+pub variant_begins : (bounds : Bounds) (order : Order) (room end : ℕ) (o : ℕ) (s : List ℕ) (next : On) → onward (value bounds order room end VariantType) next o s ≡ own bounds order end (own_of room VariantType) next o s
+variant_begins bounds order room end o s next = ap (λ (r : Outcome ValueTree). after r (λ x. next)) (value_items bounds order room end VariantType o s) ∙ variant_begins_at bounds order room end o s next
+
+-- ---- a number
+
+module _ (order : Order) (w end : ℕ) (row : ℕ → ℕ → Option Reason) where
+  pub number_waits : (p : ℕ) (got : List ℕ) → length got < w → p + w ≤ end → number order w end row p got ≡ Partial
+  unfolding number
+  number_waits p got short fits = rw (le-ltb _ _ fits, lt-ltb _ _ short, number) refl
+
+  pub number_over : (p : ℕ) (s : List ℕ) → end < p + w → number order w end row p s ≡ Faulty (fault p reasons.Overrun)
+  unfolding number
+  number_over p s over = rw (lt-ltb _ _ over, number) refl
+
+  pub number_read : (p : ℕ) (got c : List ℕ) → length got ≡ w → p + w ≤ end → number order w end row p (got ++ c) ≡ judged (row (p + w) (number_of order got)) (number_of order got) p (p + w) c
+  unfolding number
+  number_read p got c whole fits =
+      let long : w ≤ length (got ++ c) = omega (arith, length-append got c) in
+      let at : take w (got ++ c) ≡ got = take_at got c w whole in
+      let behind : drop w (got ++ c) ≡ c = drop_at got c w whole in
+      rw (le-ltb _ _ fits, le-ltb _ _ long, at, behind, number) refl
+
+-- ---- a text
+
+take-front : (xs ys : List ℕ) (n : ℕ) → length xs ≤ n → take n (xs ++ ys) ≡ xs ++ take (n - length xs) ys
+take-front xs ys n h =
+    let e : length xs + (n - length xs) ≡ n = omega arith in
+    ap (λ (m : ℕ). take m (xs ++ ys)) (sym e) ∙ take-append-add xs ys (n - length xs)
+
+module _ (k : WantedText) (n p : ℕ) where
+  pub text_waits : (given : List ℕ) → length given < n → break_at k given ≡ length given → text k n p given ≡ Partial
+  unfolding text
+  text_waits given short whole =
+      let all : take n given ≡ given = take_all n given (omega arith) in
+      let le : length given ≤ break_at k given = omega arith in
+      rw (all, le-ltb _ _ le, lt-ltb _ _ short, text) refl
+
+  -- a text that is broken stays broken
+  pub text_breaks : (given c : List ℕ) → length given ≤ n → break_at k given < length given → text k n p (given ++ c) ≡ Faulty (fault (p + break_at k given) (text_reason k))
+  unfolding text
+  text_breaks given c fits broken =
+      let front : take n (given ++ c) ≡ given ++ take (n - length given) c = take-front given c n fits in
+      let same : break_at k (given ++ take (n - length given) c) ≡ break_at k given = break_more k given (take (n - length given) c) broken in
+      let long : break_at k given < length (given ++ take (n - length given) c) = omega (arith, length-append given (take (n - length given) c)) in
+      rw (front, same, lt-ltb _ _ long, text) refl
+
+  text_at : (given c : List ℕ) → length given ≡ n → break_at k given ≡ length given → (w : Bool) → is_kind k given ≡ w → text k n p (given ++ c) ≡ cond w (Done given (p + n) c) (Faulty (fault (p + break_at k given) (text_reason k)))
+  unfolding text
+  text_at given c len whole w is =
+      let at : take n (given ++ c) ≡ given = take_at given c n len in
+      let behind : drop n (given ++ c) ≡ c = drop_at given c n len in
+      let le : length given ≤ break_at k given = omega arith in
+      let long : n ≤ length (given ++ c) = omega (arith, length-append given c) in
+      rw (at, behind, le-ltb _ _ le, le-ltb _ _ long, is, text) refl
+
+  pub text_ends : (given c : List ℕ) → length given ≡ n → is_kind k given ≡ true → text k n p (given ++ c) ≡ Done given (p + n) c
+  text_ends given c len is = text_at given c len (computed_whole k given is) true is
+
+  pub text_not : (given c : List ℕ) → length given ≡ n → break_at k given ≡ length given → is_kind k given ≡ false → text k n p (given ++ c) ≡ Faulty (fault (p + break_at k given) (text_reason k))
+  text_not given c len whole is = text_at given c len whole false is
+
+-- ---- heads
+
+module _ (bounds : Bounds) (order : Order) (end : ℕ) where
+  pub head_waits : (h : Head) (next : On) (p : ℕ) (got : List ℕ) → length got < head_width h → p + head_width h ≤ end → head bounds order end h next p got ≡ Partial
+  head_waits h next p got short fits = ap (λ (r : Outcome ℕ). after r (tail bounds order end h next)) (number_waits order (head_width h) end (head_row bounds end h) p got short fits)
+
+  pub head_over : (h : Head) (next : On) (p : ℕ) (s : List ℕ) → end < p + head_width h → head bounds order end h next p s ≡ Faulty (fault p reasons.Overrun)
+  head_over h next p s over = ap (λ (r : Outcome ℕ). after r (tail bounds order end h next)) (number_over order (head_width h) end (head_row bounds end h) p s over)
+
+  pub head_refused : (h : Head) (next : On) (p : ℕ) (got c : List ℕ) (why : Reason) → length got ≡ head_width h → p + head_width h ≤ end → head_row bounds end h (p + head_width h) (number_of order got) ≡ Some why → head bounds order end h next p (got ++ c) ≡ Faulty (fault p why)
+  head_refused h next p got c why whole fits row =
+      ap (λ (r : Outcome ℕ). after r (tail bounds order end h next)) (number_read order (head_width h) end (head_row bounds end h) p got c whole fits
+      ∙ ap (λ (j : Option Reason). judged j (number_of order got) p (p + head_width h) c) row)
+
+  pub head_passed : (h : Head) (next : On) (p : ℕ) (got c : List ℕ) → length got ≡ head_width h → p + head_width h ≤ end → head_row bounds end h (p + head_width h) (number_of order got) ≡ None → head bounds order end h next p (got ++ c) ≡ tail bounds order end h next (number_of order got) (p + head_width h) c
+  head_passed h next p got c whole fits row =
+      ap (λ (r : Outcome ℕ). after r (tail bounds order end h next)) (number_read order (head_width h) end (head_row bounds end h) p got c whole fits
+      ∙ ap (λ (j : Option Reason). judged j (number_of order got) p (p + head_width h) c) row)

@@ -1,0 +1,188 @@
+-- Texts, whose bytes come in pieces.
+use Rattle.std.proofs.Common.{◌≡◌, ℕ, zero, suc, ◌+◌, ◌<◌, ◌≤◌, List, [], ◌∷◌, ◌++◌, length, reverse, take, drop, get_or, true, false, refl, sym, ap, subst, ◌∙◌, arith, append_assoc}
+use Rattle.std.proofs.lemmas.List.{append-nil, take_more, take_all, take-append-drop, length-append, length-take}
+use Rattle.dbus_types.specs.declared.text_kind.TextKind.{TextKind}
+use Rattle.dbus_types.specs.declared.scan.TextScan.{TextScan}
+use Rattle.dbus_types.specs.Kinds.{IsKind, IsPrefixOf}
+use Rattle.dbus_types.specs.Scans.{Stands}
+use Rattle.dbus_types.specs.Scans as scans
+use Rattle.dbus_value_model.specs.WantedTexts.{WantedText, Of, kind_of, is_kind, break_at}
+use Rattle.dbus_value_model.specs.declared.fault.Reason.{Reason}
+use Rattle.dbus_value_model.specs.declared.fault.Reason.TheVariants as reasons
+use Rattle.dbus_value_model.specs.Items.{fault, text_reason}
+use Rattle.dbus_value_model.specs.Reading.{Outcome, Faulty, Partial, after, text, nul}
+use Rattle.dbus_value_checker.specs.declared.values.Values.{Values}
+use Rattle.dbus_value_checker.specs.declared.values.Doing.{Doing}
+use Rattle.dbus_value_checker.specs.Suspended.{onward, Work}
+use Rattle.dbus_value_checker.specs.Denotations.{Answer, rest_of, HasFrames, Goes, Texts, Nuls, after_piece}
+use Rattle.dbus_value_checker.proofs.Suspension.{text_waits, text_breaks, text_ends, text_not}
+use Rattle.dbus_value_checker.proofs.Reach.{frames_reach, frames_small}
+use Rattle.dbus_value_checker.proofs.Entering.{inner_of, within}
+use Rattle.dbus_unmarshal.proofs.KindLaws.{break_is, one_break, is_wanted, is_not_wanted}
+
+pub take_one : (s : List ℕ) (n : ℕ) (w : List ℕ) → n < length s → (w ++ take n s) ++ get_or s n 0 ∷ [] ≡ w ++ take (n + 1) s
+take_one s n w h = append_assoc w (take n s) (get_or s n 0 ∷ []) ∙ ap (λ (t : List ℕ). w ++ t) (sym (take_more s n 0 h))
+
+-- where a scan stands, a text of its kind may begin so
+pub stands_prefix : (x : TextScan) (w : List ℕ) → Stands x w → IsPrefixOf (scans.kind_of x) w
+stands_prefix x w h = (h.quotient.some.0, h.quotient.from h.quotient.some.0 h.quotient.some.1)
+
+pub prefix_break : (k : TextKind) (w : List ℕ) → IsPrefixOf k w → break_at (Of k) w ≡ length w
+prefix_break k w h =
+    let all : take (length w) w ≡ w = take_all (length w) w (omega arith) in
+    one_break (Of k) w (break_at (Of k) w) (length w) (break_is (Of k) w) (record { within = omega arith; front = subst (λ (t : List ℕ). IsPrefixOf k t) (sym all) h; longest = λ m l le p. absurd (omega arith) })
+
+take_front : (n : ℕ) (s : List ℕ) (b : ℕ) → n ≡ length s → take n (s ++ b ∷ []) ≡ s
+take_front zero [] b h = refl
+take_front zero (a ∷ s) b h = absurd (omega arith)
+take_front (suc n) [] b h = absurd (omega arith)
+take_front (suc n) (a ∷ s) b h = ap (λ (t : List ℕ). a ∷ t) (take_front n s b (omega arith))
+
+-- a text that may begin so, but not with one byte more
+pub one_byte_breaks : (k : TextKind) (w : List ℕ) (b : ℕ) → IsPrefixOf k w → (IsPrefixOf k (w ++ b ∷ []) → ⊥) → break_at (Of k) (w ++ b ∷ []) ≡ length w
+one_byte_breaks k w b h unlike =
+    let size : length (w ++ b ∷ []) ≡ length w + 1 = length-append w (b ∷ []) in
+    let front : take (length w) (w ++ b ∷ []) ≡ w = take_front (length w) w b refl in
+    one_break (Of k) (w ++ b ∷ []) (break_at (Of k) (w ++ b ∷ [])) (length w) (break_is (Of k) (w ++ b ∷ []))
+    (record {
+      within = omega arith;
+      front = subst (λ (t : List ℕ). IsPrefixOf k t) (sym front) h;
+      longest = λ m l le p.
+          let whole : take m (w ++ b ∷ []) ≡ w ++ b ∷ [] = take_all m (w ++ b ∷ []) (omega arith) in
+          unlike (subst (λ (t : List ℕ). IsPrefixOf k t) whole p);
+    })
+
+-- ---- a text that is under way
+
+moved_on : (x : Values) (ws : List Work) (q : ℕ) → HasFrames x.offset x ws → x.offset ≤ q → q ≤ x.inner.end → HasFrames q (record x { offset = q }) ws
+moved_on x ws q h le fits =
+    within q x.offset (length x.text.items) q (length x.text.items) x.end x.text.items x.inner (reverse x.frames.items) ws fits (inner_of x x.offset ws h).high
+    (frames_reach x.offset q x.offset (length x.text.items) x.end x.text.items (x.inner ∷ reverse x.frames.items) ws le h)
+
+module _ (x : Values) (code left : ℕ) (answer : Answer) (t : Texts x code left answer) where
+  pub texts_small : (x.offset < 4294967296) × (x.offset + left + 1 ≤ x.inner.end) × (x.inner.end < 4294967296)
+  texts_small = (frames_small x.offset x.offset (length x.text.items) x.end x.text.items (x.inner ∷ reverse x.frames.items) t.ws t.frames, t.fits, ends_small x x.offset t.ws t.frames)
+    where
+      ends_small : (x : Values) (reach : ℕ) (ws : List Work) → HasFrames reach x ws → x.inner.end < 4294967296
+      ends_small x reach [] h = absurd h
+      ends_small x reach (w ∷ ws) h = frames_small reach x.inner.end x.inner.top x.end x.text.items (reverse x.frames.items) ws h.1
+
+  so_far : break_at (kind_of t.kind) t.bytes ≡ length t.bytes
+  so_far = ap (λ (k : WantedText). break_at k t.bytes) (sym t.scans) ∙ prefix_break (scans.kind_of x.scan) t.bytes (stands_prefix x.scan t.bytes t.stands)
+
+  -- more bytes of it are there
+  pub texts_on : (y : TextScan) (s : List ℕ) (m less : ℕ) → scans.kind_of y ≡ scans.kind_of x.scan → Stands y (t.bytes ++ take m s) → m ≤ length s → m + less ≡ left → Texts (record x { offset = x.offset + m; scan = y }) code less (after_piece answer (take m s))
+  texts_on y s m less kind stands le less_is =
+      let size : length (take m s) ≡ m = omega (arith, length-take m s) in
+      let more : length (t.bytes ++ take m s) ≡ length t.bytes + length (take m s) = length-append t.bytes (take m s) in
+      record {
+        ws = t.ws;
+        kind = t.kind;
+        size = t.size;
+        start = t.start;
+        bytes = t.bytes ++ take m s;
+        frames = moved_on x t.ws (x.offset + m) t.frames (omega arith) (let f = t.fits in omega arith);
+        kind_is = t.kind_is;
+        scans = ap Of kind ∙ t.scans;
+        stands = stands;
+        offset = (let p = t.offset in omega arith);
+        left_is = (let l = t.left_is in omega arith);
+        fits = (let f = t.fits in omega arith);
+        same = λ c. ap (λ (w : List ℕ). after (text (kind_of t.kind) t.size t.start w) (λ u. onward nul (rest_of answer x t.ws))) (append_assoc t.bytes (take m s) c) ∙ t.same (take m s ++ c);
+      }
+
+  -- no byte of it is there
+  pub texts_wait : 0 < left → answer.to [] ≡ Partial
+  texts_wait some =
+      let l = t.left_is in
+      sym (t.same []) ∙ ap (λ (w : List ℕ). after (text (kind_of t.kind) t.size t.start w) (λ u. onward nul (rest_of answer x t.ws))) (append-nil t.bytes)
+      ∙ ap (λ (r : Outcome (List ℕ)). after r (λ u. onward nul (rest_of answer x t.ws))) (text_waits (kind_of t.kind) t.size t.start t.bytes (omega arith) so_far)
+
+  -- m bytes of it are there, and the next may not stand there
+  pub texts_break : (y : TextScan) (s : List ℕ) (m : ℕ) (why : Reason) → scans.kind_of y ≡ scans.kind_of x.scan → Stands y (t.bytes ++ take m s) → m < length s → m < left → (IsPrefixOf (scans.kind_of x.scan) (t.bytes ++ take (m + 1) s) → ⊥) → text_reason (kind_of t.kind) ≡ why
+      → (c : List ℕ) → answer.to (s ++ c) ≡ Faulty (fault (x.offset + m) why)
+  texts_break y s m why kind stands lt less unlike reason c =
+      let k = scans.kind_of x.scan in
+      let w = t.bytes ++ take m s in
+      let b = get_or s m 0 in
+      let grown : w ++ b ∷ [] ≡ t.bytes ++ take (m + 1) s = take_one s m t.bytes lt in
+      let begins : IsPrefixOf k w = subst (λ (j : TextKind). IsPrefixOf j w) kind (stands_prefix y w stands) in
+      let broken : break_at (Of k) (w ++ b ∷ []) ≡ length w = one_byte_breaks k w b begins (λ p. unlike (subst (λ (u : List ℕ). IsPrefixOf k u) grown p)) in
+      let at : break_at (kind_of t.kind) (w ++ b ∷ []) ≡ length w = ap (λ (j : WantedText). break_at j (w ++ b ∷ [])) (sym t.scans) ∙ broken in
+      let size : length (take m s) ≡ m = omega (arith, length-take m s) in
+      let more : length w ≡ length t.bytes + length (take m s) = length-append t.bytes (take m s) in
+      let last : length (w ++ b ∷ []) ≡ length w + 1 = length-append w (b ∷ []) in
+      let l = t.left_is in
+      let p = t.offset in
+      let split : t.bytes ++ (s ++ c) ≡ (w ++ b ∷ []) ++ (drop (m + 1) s ++ c) =
+      ap (λ (u : List ℕ). t.bytes ++ u) (ap (λ (u : List ℕ). u ++ c) (sym (take-append-drop (m + 1) s)) ∙ append_assoc (take (m + 1) s) (drop (m + 1) s) c)
+      ∙ sym (append_assoc t.bytes (take (m + 1) s) (drop (m + 1) s ++ c)) ∙ ap (λ (u : List ℕ). u ++ (drop (m + 1) s ++ c)) (sym grown) in
+      let offset : t.start + break_at (kind_of t.kind) (w ++ b ∷ []) ≡ x.offset + m = omega arith in
+      sym (t.same (s ++ c))
+      ∙ ap (λ (u : List ℕ). after (text (kind_of t.kind) t.size t.start u) (λ z. onward nul (rest_of answer x t.ws))) split
+      ∙ ap (λ (r : Outcome (List ℕ)). after r (λ z. onward nul (rest_of answer x t.ws))) (text_breaks (kind_of t.kind) t.size t.start (w ++ b ∷ []) (drop (m + 1) s ++ c) (omega arith) (omega arith))
+      ∙ ap (λ (q : ℕ). Faulty (fault q (text_reason (kind_of t.kind)))) offset ∙ ap (λ (r : Reason). Faulty (fault (x.offset + m) r)) reason
+
+  -- all of it is there
+  module _ (none : left ≡ 0) where
+    whole : length t.bytes ≡ t.size
+    whole = let l = t.left_is in omega arith
+
+    pub texts_end : IsKind (scans.kind_of x.scan) t.bytes → Nuls x answer
+    texts_end h =
+        let is : is_kind (kind_of t.kind) t.bytes ≡ true = ap (λ (k : WantedText). is_kind k t.bytes) (sym t.scans) ∙ is_wanted (Of (scans.kind_of x.scan)) t.bytes h in
+        let p = t.offset in
+        let w = whole in
+        let at : t.start + t.size ≡ x.offset = omega arith in
+        record {
+          ws = t.ws;
+          frames = t.frames;
+          fits = (let f = t.fits in omega arith);
+          same = λ c. subst (λ (q : ℕ). onward nul (rest_of answer x t.ws) q c ≡ answer.to c) at
+              (sym (ap (λ (r : Outcome (List ℕ)). after r (λ u. onward nul (rest_of answer x t.ws))) (text_ends (kind_of t.kind) t.size t.start t.bytes c whole is)) ∙ t.same c);
+        }
+
+    pub texts_unlike : (why : Reason) → (IsKind (scans.kind_of x.scan) t.bytes → ⊥) → text_reason (kind_of t.kind) ≡ why → (c : List ℕ) → answer.to c ≡ Faulty (fault x.offset why)
+    texts_unlike why unlike reason c =
+        let is : is_kind (kind_of t.kind) t.bytes ≡ false = ap (λ (k : WantedText). is_kind k t.bytes) (sym t.scans) ∙ is_not_wanted (Of (scans.kind_of x.scan)) t.bytes unlike in
+        let p = t.offset in
+        let w = whole in
+        let b = so_far in
+        let at : t.start + break_at (kind_of t.kind) t.bytes ≡ x.offset = omega arith in
+        sym (t.same c) ∙ ap (λ (r : Outcome (List ℕ)). after r (λ u. onward nul (rest_of answer x t.ws))) (text_not (kind_of t.kind) t.size t.start t.bytes c whole so_far is)
+        ∙ ap (λ (q : ℕ). Faulty (fault q (text_reason (kind_of t.kind)))) at ∙ ap (λ (r : Reason). Faulty (fault x.offset r)) reason
+
+-- ---- the zero behind it
+
+module _ (x : Values) (answer : Answer) (u : Nuls x answer) where
+  pub nuls_wait : answer.to [] ≡ Partial
+  nuls_wait = sym (u.same [])
+
+  pub nuls_refused : (b : ℕ) (s : List ℕ) → (b ≡ 0 → ⊥) → (c : List ℕ) → answer.to ((b ∷ s) ++ c) ≡ Faulty (fault x.offset reasons.Nul)
+  nuls_refused zero s h c = absurd (h refl)
+  nuls_refused (suc b) s h c = sym (u.same (suc b ∷ (s ++ c)))
+
+  pub nuls_pass : (s : List ℕ) → take 1 s ≡ 0 ∷ [] → Goes (record x { offset = x.offset + 1 }) (after_piece answer (take 1 s))
+  nuls_pass s e = record {
+    ws = u.ws;
+    frames = moved_on x u.ws (x.offset + 1) u.frames (omega arith) u.fits;
+    same = λ c. u.same (0 ∷ c) ∙ ap (λ (t : List ℕ). answer.to (t ++ c)) (sym e);
+  }
+
+  pub nuls_small : x.offset < 4294967296
+  nuls_small = frames_small x.offset x.offset (length x.text.items) x.end x.text.items (x.inner ∷ reverse x.frames.items) u.ws u.frames
+
+pub one_zero : (s : List ℕ) → (length s ≡ 0 → ⊥) → get_or s 0 0 ≡ 0 → (take 1 s ≡ 0 ∷ []) × (1 ≤ length s)
+one_zero [] h e = absurd (h refl)
+one_zero (b ∷ s) h e = (ap (λ (a : ℕ). a ∷ []) e, omega arith)
+
+pub empty_list : (s : List ℕ) → length s ≡ 0 → s ≡ []
+empty_list [] h = refl
+empty_list (b ∷ s) h = absurd (omega arith)
+
+-- what is under way is noted
+pub texts_doing : (x : Values) (d : Doing) (code left : ℕ) (answer : Answer) → Texts x code left answer → Texts (record x { doing = d }) code left answer
+texts_doing x d code left answer t = record { ws = t.ws; kind = t.kind; size = t.size; start = t.start; bytes = t.bytes; frames = t.frames; kind_is = t.kind_is; scans = t.scans; stands = t.stands; offset = t.offset; left_is = t.left_is; fits = t.fits; same = t.same }
+
+pub nuls_doing : (x : Values) (d : Doing) (answer : Answer) → Nuls x answer → Nuls (record x { doing = d }) answer
+nuls_doing x d answer u = record { ws = u.ws; frames = u.frames; fits = u.fits; same = u.same }

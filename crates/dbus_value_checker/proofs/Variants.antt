@@ -1,0 +1,171 @@
+-- A variant's signature is noted behind those that are in use.
+use Rattle.std.proofs.Common.{◌≡◌, ℕ, suc, ◌+◌, ◌*◌, ◌<◌, ◌≤◌, List, [], ◌∷◌, ◌++◌, length, reverse, take, drop, get_or, false, Ok, Err, refl, sym, ap, subst, ◌∙◌, arith}
+use Rattle.std.proofs.lemmas.List.{reverse-append, length-append, length-reverse, length-take, take-take, take_at, drop_at, take_all, append-nil}
+use Rattle.dbus_types.specs.Types.{NumberCode, BYTE, BOOLEAN, INT16, UINT16, INT32, UINT32, INT64, UINT64, DOUBLE, UNIX_FD, STRING, OBJECT_PATH, SIGNATURE, TypeTree, NumberType, TextType, VariantType, ArrayType, StructType, EntryType, NoTypes, MoreTypes, number_code, sig, sigs}
+use Rattle.dbus_types.specs.ComputedKinds.{type_spelled}
+use Rattle.dbus_types.specs.Kinds.{IsKind}
+use Rattle.dbus_types.specs.declared.text_kind.TextKind.TheVariants as kinds
+use Rattle.dbus_types.proofs.KindFacts.{shaped_of}
+use Rattle.dbus_unmarshal.proofs.KindLaws.{single_text}
+use Rattle.dbus_value_model.specs.WantedTexts.{Of}
+use Rattle.dbus_value_model.specs.declared.fault.Reason.TheVariants as reasons
+use Rattle.dbus_value_model.specs.declared.stop.Stop.{Stop}
+use Rattle.dbus_value_model.specs.declared.stop.Stop.TheVariants as stops
+use Rattle.dbus_value_model.specs.Items.{fault}
+use Rattle.dbus_value_model.specs.ValueItems.{text_row}
+use Rattle.dbus_value_model.specs.Reading.{Reader, Faulty, after, number, text, nul, value}
+use Rattle.dbus_value_checker.specs.declared.values.Values.{Values}
+use Rattle.dbus_value_checker.specs.declared.values.Frame.{Frame}
+use Rattle.dbus_value_checker.specs.Suspended.{On, onward, Work, Parts, Elements, works, held_text, own, own_of}
+use Rattle.dbus_value_checker.specs.Fronts.{Fronts}
+use Rattle.dbus_value_checker.specs.Frames.{slice, IsFrame, Framed, AreFrames}
+use Rattle.dbus_value_checker.specs.Denotations.{Answer, rest_of, Goes, Wants, after_piece}
+use Rattle.dbus_value_checker.specs.Moves.{Moves}
+use Rattle.dbus_value_checker.proofs.Suspension.{works_as, variant_begins, after_after, after_same, parts_more}
+use Rattle.dbus_value_checker.proofs.Reach.{frames_reach, end_small}
+use Rattle.dbus_value_checker.proofs.Entering.{first, inner_of, within}
+use Rattle.dbus_value_checker.proofs.Readies.{front_taken, front_waits, front_refused, code_first}
+
+-- ---- the signatures in use stay as they are
+
+slice_same : (a b : List ℕ) (pos stop top : ℕ) → stop ≤ top → take top a ≡ take top b → slice a pos stop ≡ slice b pos stop
+slice_same a b pos stop top h e = ap (drop pos) (sym (take-take stop top a h) ∙ ap (take stop) e ∙ take-take stop top b h)
+
+frame_same : (reach : ℕ) (a b : List ℕ) (f : Frame) (w : Work) → slice a f.pos f.stop ≡ slice b f.pos f.stop → IsFrame reach a f w → IsFrame reach b f w
+frame_same reach a b f (Parts room end ts) e h = record { parts = h.parts; room_is = h.room_is; end_is = h.end_is; types = sym e ∙ h.types; complete = h.complete }
+frame_same reach a b f (Elements turns room end t) e h = record { elements = h.elements; room_is = h.room_is; end_is = h.end_is; type = sym e ∙ h.type; complete = h.complete; turns_is = h.turns_is }
+
+shorter : (a b : List ℕ) (m n : ℕ) → m ≤ n → take n a ≡ take n b → take m a ≡ take m b
+shorter a b m n h e = sym (take-take m n a h) ∙ ap (take m) e ∙ take-take m n b h
+
+frames_same : (reach low high bottom : ℕ) (a b : List ℕ) (fs : List Frame) (ws : List Work) → take high a ≡ take high b → AreFrames reach low high bottom a fs ws → AreFrames reach low high bottom b fs ws
+frames_same reach low high bottom a b [] [] e h = h
+frames_same reach low high bottom a b (f ∷ fs) (w ∷ ws) e h = (
+  record {
+    low_is = h.0.low_is;
+    high_is = h.0.high_is;
+    stop_is = h.0.stop_is;
+    pos_is = h.0.pos_is;
+    count_is = h.0.count_is;
+    room_is = h.0.room_is;
+    is = frame_same reach a b f w (slice_same a b f.pos f.stop f.top h.0.stop_is (shorter a b f.top high h.0.high_is e)) h.0.is;
+  },
+  frames_same reach f.end f.top bottom a b fs ws (shorter a b f.top high h.0.high_is e) h.1,
+)
+frames_same reach low high bottom a b [] (w ∷ ws) e h = absurd h
+frames_same reach low high bottom a b (f ∷ fs) [] e h = absurd h
+
+-- ---- a variant that is wanted
+
+number_variant : (k : NumberCode) → number_code k ≡ 118 → ⊥
+number_variant BYTE e = omega arith
+number_variant BOOLEAN e = omega arith
+number_variant INT16 e = omega arith
+number_variant UINT16 e = omega arith
+number_variant INT32 e = omega arith
+number_variant UINT32 e = omega arith
+number_variant INT64 e = omega arith
+number_variant UINT64 e = omega arith
+number_variant DOUBLE e = omega arith
+number_variant UNIX_FD e = omega arith
+
+variant_of : (t : TypeTree) → first t ≡ 118 → t ≡ VariantType
+variant_of (NumberType k) e = absurd (number_variant k e)
+variant_of (TextType STRING) e = absurd (omega arith)
+variant_of (TextType OBJECT_PATH) e = absurd (omega arith)
+variant_of (TextType SIGNATURE) e = absurd (omega arith)
+variant_of VariantType e = refl
+variant_of (ArrayType t) e = absurd (omega arith)
+variant_of (StructType ts) e = absurd (omega arith)
+variant_of (EntryType k v) e = absurd (omega arith)
+
+module _ (x : Values) (pos stop : ℕ) (answer : Answer) (w : Wants x pos stop answer) (there : get_or x.text.items pos 0 ≡ 118) where
+  variant_same : (c : List ℕ) → own x.bounds x.order x.inner.end (own_of x.inner.room VariantType) (rest_of answer x w.ws) x.offset c ≡ answer.to c
+  variant_same c =
+      let e = variant_of w.type (code_first x pos stop answer w 118 there) in
+      sym (variant_begins x.bounds x.order x.inner.room x.inner.end x.offset c (rest_of answer x w.ws))
+      ∙ subst (λ (t : TypeTree). onward (value x.bounds x.order x.inner.room x.inner.end t) (rest_of answer x w.ws) x.offset c ≡ answer.to c) e (w.same c)
+
+  pub variant_deep : x.inner.room ≡ 0 → (c : List ℕ) → answer.to c ≡ Faulty (fault x.offset reasons.TooDeep)
+  variant_deep none c = sym (subst (λ (r : ℕ). own x.bounds x.order x.inner.end (own_of r VariantType) (rest_of answer x w.ws) x.offset c ≡ answer.to c) none (variant_same c))
+
+  pub variant_known : (x.offset ≤ x.inner.end) × (x.inner.end < 4294967296) × (length x.frames.items + 2 * x.inner.room ≤ 128) × (x.inner.top ≤ length x.text.items) × (x.inner.top + 255 * x.inner.room ≤ 16575)
+  variant_known =
+      let i = inner_of x (suc x.offset) w.ws w.frames in
+      (i.low, end_small (suc x.offset) x.offset (length x.text.items) x.end x.text.items x.inner (reverse x.frames.items) w.ws w.frames, (let a = i.count in omega arith), i.high, (let a = i.room in omega arith))
+
+  module _ (inner : ℕ) (room : x.inner.room ≡ suc inner) where
+    abbrev read : Reader (List ℕ)
+    read = held_text x.order x.inner.end
+
+    abbrev held : List ℕ → On
+    held t = onward (value x.bounds x.order inner x.inner.end (type_spelled t)) (rest_of answer x w.ws)
+
+    held_same : (c : List ℕ) → after (read x.offset c) held ≡ answer.to c
+    held_same c =
+        let rest = rest_of answer x w.ws in
+        after_after (number x.order 1 x.inner.end (text_row x.inner.end) x.offset c) _ held
+        ∙ after_same (number x.order 1 x.inner.end (text_row x.inner.end) x.offset c) _ _ (λ n p u.
+        after_after (text (Of kinds.Single) n p u) _ held
+        ∙ after_same (text (Of kinds.Single) n p u) _ _ (λ t q v. after_after (nul q v) _ held))
+        ∙ subst (λ (r : ℕ). own x.bounds x.order x.inner.end (own_of r VariantType) rest x.offset c ≡ answer.to c) room (variant_same c)
+
+    pub variant_stops : (s : List ℕ) (e : Stop) → Fronts (λ (n : ℕ). (take n (drop 1 s), n + 2)) x.offset s (Err e) read → Moves x s (Err e) x answer
+    variant_stops s stops.Memory h = absurd h
+    variant_stops s stops.Partial h = (refl, front_waits (λ (n : ℕ). (take n (drop 1 s), n + 2)) x.offset s read held answer.to held_same h)
+    variant_stops s (stops.Refused f) h = front_refused (λ (n : ℕ). (take n (drop 1 s), n + 2)) x.offset s read held answer.to held_same f h
+
+    module _ (s : List ℕ) (n : ℕ) (front : Fronts (λ (n : ℕ). (take n (drop 1 s), n + 2)) x.offset s (Ok n) read) (fits : x.offset + n + 2 ≤ x.inner.end) (kind : IsKind kinds.Single (take n (drop 1 s))) (size : length (take n (drop 1 s)) ≡ n) where
+      t : List ℕ
+      t = take n (drop 1 s)
+
+      pub variant_goes : (y : Values) → y.bounds ≡ x.bounds → y.order ≡ x.order → y.end ≡ x.end → y.offset ≡ x.offset + (n + 2) → y.text.items ≡ take x.inner.top x.text.items ++ take n (drop 1 s) → y.frames.items ≡ x.frames.items ++ x.inner ∷ []
+          → y.inner ≡ record { array = false; pos = x.inner.top; stop = x.inner.top + n; top = x.inner.top + n; end = x.inner.end; room = inner } → Goes y (after_piece answer (take (n + 2) s))
+      unfolding t
+      variant_goes y bounds order end offset text_is frames_are inner_is =
+          let i = inner_of x (suc x.offset) w.ws w.frames in
+          let q = x.offset + (n + 2) in
+          let g : Frame = record { array = false; pos = x.inner.top; stop = x.inner.top + n; top = x.inner.top + n; end = x.inner.end; room = inner } in
+          let single = single_text t kind in
+          let work_is : Work = Parts inner x.inner.end (MoreTypes (type_spelled t) NoTypes) in
+          let old = x.text.items in
+          let new = take x.inner.top old ++ t in
+          let high = i.high in
+          let front_size : length (take x.inner.top old) ≡ x.inner.top = omega (arith, length-take x.inner.top old) in
+          let whole_size : length new ≡ x.inner.top + n = omega (arith, length-append (take x.inner.top old) t, size) in
+          let few : n ≤ 255 = omega (arith, kind.1, size) in
+          let all : take (x.inner.top + n) new ≡ new = take_all (x.inner.top + n) new (omega arith) in
+          let sig_there : slice new x.inner.top (x.inner.top + n) ≡ sigs (MoreTypes (type_spelled t) NoTypes) =
+          ap (drop x.inner.top) all ∙ drop_at (take x.inner.top old) t x.inner.top front_size ∙ sym single.1 ∙ sym (append-nil (sig (type_spelled t))) in
+          let kept : take x.inner.top old ≡ take x.inner.top new = sym (take_at (take x.inner.top old) t x.inner.top front_size) in
+          let back : reverse y.frames.items ≡ x.inner ∷ reverse x.frames.items = ap (λ (fs : List Frame). reverse fs) frames_are ∙ reverse-append x.frames.items (x.inner ∷ []) in
+          let count : suc (length x.frames.items) ≡ length (x.inner ∷ reverse x.frames.items) = ap suc (sym (length-reverse x.frames.items)) in
+          let framed : Framed q q (length new) (suc (length x.frames.items)) new g work_is = record {
+            low_is = omega arith;
+            high_is = omega arith;
+            stop_is = omega arith;
+            pos_is = omega arith;
+            count_is = (let a = i.count in omega arith);
+            room_is = (let a = i.room in omega arith);
+            is = record { parts = refl; room_is = refl; end_is = refl; types = sig_there; complete = (shaped_of (type_spelled t) false 0 0 single.0.0, tt) };
+          } in
+          let below : AreFrames q x.inner.end (x.inner.top + n) x.end new (x.inner ∷ reverse x.frames.items) w.ws =
+          within q x.offset x.inner.top x.inner.end (x.inner.top + n) x.end new x.inner (reverse x.frames.items) w.ws (omega arith) (omega arith)
+          (frames_same q x.offset x.inner.top x.end old new (x.inner ∷ reverse x.frames.items) w.ws kept
+          (within q x.offset (length old) x.offset x.inner.top x.end old x.inner (reverse x.frames.items) w.ws i.low (omega arith)
+          (frames_reach (suc x.offset) q x.offset (length old) x.end old (x.inner ∷ reverse x.frames.items) w.ws (omega arith) w.frames))) in
+          let here : AreFrames q q (length new) x.end new (g ∷ (x.inner ∷ reverse x.frames.items)) (work_is ∷ w.ws) =
+          (subst (λ (k : ℕ). Framed q q (length new) k new g work_is) count framed, below) in
+          record {
+            ws = work_is ∷ w.ws;
+            frames =
+                subst (λ (o : ℕ). AreFrames o o (length y.text.items) y.end y.text.items (y.inner ∷ reverse y.frames.items) (work_is ∷ w.ws)) (sym offset)
+                (subst (λ (u : List ℕ). AreFrames q q (length u) y.end u (y.inner ∷ reverse y.frames.items) (work_is ∷ w.ws)) (sym text_is)
+                (subst (λ (e : ℕ). AreFrames q q (length new) e new (y.inner ∷ reverse y.frames.items) (work_is ∷ w.ws)) (sym end)
+                (subst (λ (f : Frame). AreFrames q q (length new) x.end new (f ∷ reverse y.frames.items) (work_is ∷ w.ws)) (sym inner_is)
+                (subst (λ (fs : List Frame). AreFrames q q (length new) x.end new (g ∷ fs) (work_is ∷ w.ws)) (sym back) here))));
+            same = λ c. subst (λ (o : ℕ). works y.bounds y.order answer.last (work_is ∷ w.ws) o c ≡ answer.to (take (n + 2) s ++ c)) (sym offset)
+                (works_as y.bounds x.bounds y.order x.order bounds order answer.last (work_is ∷ w.ws) q c (answer.to (take (n + 2) s ++ c))
+                (parts_more x.bounds x.order inner x.inner.end (type_spelled t) NoTypes (rest_of answer x w.ws) q c
+                ∙ front_taken (λ (n : ℕ). (take n (drop 1 s), n + 2)) x.offset s read held answer.to held_same n front c));
+          }

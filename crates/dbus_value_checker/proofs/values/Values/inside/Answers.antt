@@ -1,0 +1,14 @@
+use Rattle.std.proofs.Common.{false, ◌+◌, ◌-◌, refl, sym, subst}
+use Rattle.dbus_value_checker.specs.declared.values.Values.{Values}
+use Rattle.dbus_value_checker.specs.Denotations.{Wants}
+use Rattle.dbus_value_checker.proofs.Nexts.{wants_doing}
+use Rattle.dbus_value_checker.proofs.values.Values.inside.Goals as goal
+
+pub returns-clause-opens : goal.returns-clause-opens
+returns-clause-opens c = λ answer h.
+    let x = c.args.self.now in
+    let y : Values = record x { offset = x.offset + c.args.n; inner = record { array = false; pos = c.args.pos + 1; stop = c.args.stop - 1; top = x.inner.top; end = x.inner.end; room = c.args.room }; frames = c.push.new.self } in
+    let q = c.part-until.result in
+    wants_doing c.part-until.new.self y.inner.pos q y.inner.pos q answer
+    (subst (λ (z : Values). Wants z y.inner.pos q answer) (sym c.part-until.ensures.moved)
+    (h y (record { bounds = refl; order = refl; end = refl; offset = refl; text = refl; inner = refl; frames = c.push.ensures.items }) q c.part-until.ensures.value))

@@ -1,0 +1,52 @@
+use Rattle.std.proofs.Common.{◌≡◌, ℕ, false, ◌+◌, ◌-◌, ◌++◌, List, length, take, drop, arith, refl, ap, ◌∙◌}
+use Rattle.std.proofs.lemmas.List.{length-take, length-drop}
+use Rattle.dbus_value_checker.specs.declared.values.Values.{Values}
+use Rattle.dbus_value_checker.specs.Denotations.{after_piece}
+use Rattle.dbus_value_checker.proofs.Variants.{variant_deep, variant_known, variant_stops, variant_goes}
+use Rattle.dbus_value_checker.proofs.values.Values.variant.Goals as goal
+
+pub returns-then-room-eq0-clause-moves : goal.returns-then-room-eq0-clause-moves
+returns-then-room-eq0-clause-moves c = λ answer w. rw c.refuse.ensures (λ s. variant_deep c.args.self.now c.args.pos c.args.stop answer w c.requires.code c.if-room-eq0.true _)
+
+pub variant_front-requires-clause-near : goal.variant_front-requires-clause-near
+variant_front-requires-clause-near c = (variant_known c.args.self.now c.args.pos c.args.stop c.requires.valid.0 c.requires.valid.1 c.requires.code).1
+
+pub returns-in-Err-clause-moves : goal.returns-in-Err-clause-moves
+returns-in-Err-clause-moves c = λ answer w.
+    variant_stops c.args.self.now c.args.pos c.args.stop answer w c.requires.code (c.args.self.now.inner.room - 1) (omega arith) c.args.bytes.now c.in-Err.stop (c.in-Err.ensures.gives c.args.self.now.order)
+
+pub next-requires : goal.next-requires
+next-requires c =
+    let x = c.args.self.now in
+    let answer = c.requires.valid.0 in
+    let w = c.requires.valid.1 in
+    let n = c.in-Ok.size in
+    let m = c.in-Ok.ensures.moves in
+    let long = m.0 in
+    let s = c.args.bytes.now in
+    let size : length (take n (drop 1 s)) ≡ n = omega (arith, length-take n (drop 1 s), length-drop 1 s) in
+    let taken = c.front.ensures ∙ ap (take n) c.rest_after.ensures in
+    let text = c.in-Ok-try_extend_from_slice.ensures.ok ∙ ap (λ (t : List ℕ). t ++ c.front.result.now) c.truncate.ensures.items ∙ ap (λ (t : List ℕ). take x.inner.top x.text.items ++ t) taken in
+    let y : Values = record x { offset = x.offset + (n + 2); text = c.try_extend_from_slice.new.self; frames = c.push.new.self; inner = record { array = false; pos = x.inner.top; stop = x.inner.top + n; top = x.inner.top + n; end = x.inner.end; room = x.inner.room - 1 } } in
+    record {
+      valid = (
+        after_piece answer (take (n + 2) s),
+        variant_goes x c.args.pos c.args.stop answer w c.requires.code (x.inner.room - 1) (omega arith) s n (c.in-Ok.ensures.gives x.order) m.1 m.2 size y refl refl refl refl text c.push.ensures.items refl,
+      );
+    }
+
+pub returns-in-Ok-try_extend_from_slice-clause-moves : goal.returns-in-Ok-try_extend_from_slice-clause-moves
+returns-in-Ok-try_extend_from_slice-clause-moves c = λ answer w.
+    let x = c.args.self.now in
+    let n = c.in-Ok.size in
+    let m = c.in-Ok.ensures.moves in
+    let long = m.0 in
+    let s = c.args.bytes.now in
+    let size : length (take n (drop 1 s)) ≡ n = omega (arith, length-take n (drop 1 s), length-drop 1 s) in
+    let taken = c.front.ensures ∙ ap (take n) c.rest_after.ensures in
+    let text = c.in-Ok-try_extend_from_slice.ensures.ok ∙ ap (λ (t : List ℕ). t ++ c.front.result.now) c.truncate.ensures.items ∙ ap (λ (t : List ℕ). take x.inner.top x.text.items ++ t) taken in
+    let y : Values = record x { offset = x.offset + (n + 2); text = c.try_extend_from_slice.new.self; frames = c.push.new.self; inner = record { array = false; pos = x.inner.top; stop = x.inner.top + n; top = x.inner.top + n; end = x.inner.end; room = x.inner.room - 1 } } in (
+      long,
+      c.next.ensures (after_piece answer (take (n + 2) s))
+          (variant_goes x c.args.pos c.args.stop answer w c.requires.code (x.inner.room - 1) (omega arith) s n (c.in-Ok.ensures.gives x.order) m.1 m.2 size y refl refl refl refl text c.push.ensures.items refl),
+    )

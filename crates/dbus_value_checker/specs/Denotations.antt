@@ -1,0 +1,100 @@
+-- What the fields of `Values` stand for: what they answer to the bytes still to come.
+use Rattle.std.specs.Prelude.{◌≡◌, ℕ, suc, ◌+◌, ◌<◌, ◌≤◌, List, ◌∷◌, ◌++◌, length, reverse}
+use Rattle.dbus_types.specs.Types.{BYTE, NumberType, TextCode, TypeTree, text_code, sig, IsShaped}
+use Rattle.dbus_types.specs.Scans.{Stands}
+use Rattle.dbus_types.specs.Scans as scans
+use Rattle.dbus_value_model.specs.WantedTexts.{kind_of, Of}
+use Rattle.dbus_value_model.specs.Reading.{Outcome, after, text, nul, value}
+use Rattle.dbus_value_checker.specs.declared.values.Values.{Values}
+use Rattle.dbus_value_checker.specs.declared.values.Doing.{Doing}
+use Rattle.dbus_value_checker.specs.declared.values.Doing.TheVariants as doing
+use Rattle.dbus_value_checker.specs.Suspended.{On, onward, Work, Elements, works, own, own_of, opened_by}
+use Rattle.dbus_value_checker.specs.Frames.{slice, AreFrames}
+
+-- what is read after the values, and what is answered to the bytes still to come
+pub record Answer : Type 0 where
+  pub last : On
+  pub to : List ℕ → Outcome (Unit {0})
+
+-- what is answered once the bytes w were taken
+abbrev pub after_piece : Answer → List ℕ → Answer
+after_piece answer w = record { last = answer.last; to = λ c. answer.to (w ++ c) }
+
+abbrev pub rest_of : Answer → Values → List Work → On
+rest_of answer x ws = works x.bounds x.order answer.last ws
+
+abbrev pub HasFrames : ℕ → Values → List Work → Type 0
+HasFrames reach x ws = AreFrames reach x.offset (length x.text.items) x.end x.text.items (x.inner ∷ reverse x.frames.items) ws
+
+-- the containers go on
+pub record Goes (x : Values) (answer : Answer) : Type 0 where
+  pub ws : List Work
+  pub frames : HasFrames x.offset x ws
+  pub same : (c : List ℕ) → rest_of answer x ws x.offset c ≡ answer.to c
+
+-- a value of the type that stands there is wanted
+pub record Wants (x : Values) (pos stop : ℕ) (answer : Answer) : Type 0 where
+  pub ws : List Work
+  pub type : TypeTree
+  pub frames : HasFrames (suc x.offset) x ws
+  pub text : slice x.text.items pos stop ≡ sig type
+  pub complete : IsShaped (x.inner.array) type
+  pub pos_is : pos ≤ stop
+  pub stop_is : stop ≤ x.inner.top
+  pub same : (c : List ℕ) → onward (value x.bounds x.order x.inner.room x.inner.end type) (rest_of answer x ws) x.offset c ≡ answer.to c
+
+-- a value of the type that stands there is wanted, and so many bytes of padding before it are there
+pub record Ready (x : Values) (pos stop n : ℕ) (answer : Answer) : Type 0 where
+  pub ws : List Work
+  pub type : TypeTree
+  pub frames : HasFrames (suc x.offset) x ws
+  pub text : slice x.text.items pos stop ≡ sig type
+  pub complete : IsShaped (x.inner.array) type
+  pub pos_is : pos ≤ stop
+  pub stop_is : stop ≤ x.inner.top
+  pub fits : x.offset + n ≤ x.inner.end
+  pub same : (c : List ℕ) → own x.bounds x.order x.inner.end (own_of x.inner.room type) (works x.bounds x.order (rest_of answer x ws) (opened_by x.inner.room x.inner.end type)) (x.offset + n) c ≡ answer.to c
+
+-- so many bytes of a text of a type are wanted
+pub record Texts (x : Values) (code left : ℕ) (answer : Answer) : Type 0 where
+  pub ws : List Work
+  pub kind : TextCode
+  pub size : ℕ
+  pub start : ℕ
+  pub bytes : List ℕ
+  pub frames : HasFrames x.offset x ws
+  pub kind_is : text_code kind ≡ code
+  pub scans : Of (scans.kind_of x.scan) ≡ kind_of kind
+  pub stands : Stands x.scan bytes
+  pub offset : start + length bytes ≡ x.offset
+  pub left_is : length bytes + left ≡ size
+  pub fits : x.offset + left + 1 ≤ x.inner.end
+  pub same : (c : List ℕ) → after (text (kind_of kind) size start (bytes ++ c)) (λ t. onward nul (rest_of answer x ws)) ≡ answer.to c
+
+-- the zero behind a text is wanted
+pub record Nuls (x : Values) (answer : Answer) : Type 0 where
+  pub ws : List Work
+  pub frames : HasFrames x.offset x ws
+  pub fits : x.offset + 1 ≤ x.inner.end
+  pub same : (c : List ℕ) → onward nul (rest_of answer x ws) x.offset c ≡ answer.to c
+
+-- the innermost container is an array of BYTE that goes on
+pub record Bytes (x : Values) (answer : Answer) : Type 0 where
+  pub ws : List Work
+  pub turns : ℕ
+  pub room : ℕ
+  pub stop : ℕ
+  pub frames : HasFrames x.offset x (Elements turns room stop (NumberType BYTE) ∷ ws)
+  pub more : x.offset < x.inner.end
+  pub same : (c : List ℕ) → rest_of answer x (Elements turns room stop (NumberType BYTE) ∷ ws) x.offset c ≡ answer.to c
+
+abbrev pub denotes : Doing → Values → Answer → Type 0
+denotes (doing.Wanted pos stop) x answer = Wants x pos stop answer
+denotes (doing.Text code left) x answer = (0 < left) × Texts x code left answer
+denotes doing.Bytes x answer = Bytes x answer
+denotes doing.Nul x answer = Nuls x answer
+denotes doing.Over x answer = (x.offset ≤ x.end) × (x.end < 4294967296) × ((c : List ℕ) → answer.last x.offset c ≡ answer.to c)
+
+-- the fields stand for this answer
+abbrev pub Denotes : Values → Answer → Type 0
+Denotes x answer = denotes x.doing x answer

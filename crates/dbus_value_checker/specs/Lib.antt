@@ -1,0 +1,6 @@
+pub mod Suspended
+pub mod Codes
+pub mod Fronts
+pub mod Frames
+pub mod Denotations
+pub mod Moves

@@ -1,0 +1,80 @@
+-- What a call makes of `Values`.
+use Rattle.std.specs.Prelude.{◌≡◌, ℕ, ◌+◌, ◌-◌, ◌≤◌, List, [], ◌∷◌, ◌++◌, length, take, false, Result, Ok, Err}
+use Rattle.dbus_types.specs.Types.{TypeTrees}
+use Rattle.dbus_value_model.specs.declared.limits.Bounds.{Bounds}
+use Rattle.dbus_value_model.specs.declared.order.Order.{Order}
+use Rattle.dbus_value_model.specs.declared.fault.Fault.{Fault}
+use Rattle.dbus_value_model.specs.declared.stop.Stop.{Stop}
+use Rattle.dbus_value_model.specs.declared.stop.Stop.TheVariants as stops
+use Rattle.dbus_value_model.specs.Reading.{Faulty, Partial, value, fields}
+use Rattle.dbus_value_checker.specs.declared.values.Values.{Values}
+use Rattle.dbus_value_checker.specs.declared.values.Frame.{Frame}
+use Rattle.dbus_value_checker.specs.declared.values.Doing.{Doing}
+use Rattle.dbus_value_checker.specs.declared.values.Doing.TheVariants as doing
+use Rattle.dbus_value_checker.specs.Codes.{skipped}
+use Rattle.dbus_value_checker.specs.Suspended.{On, onward}
+use Rattle.dbus_value_checker.specs.Frames.{slice}
+use Rattle.dbus_value_checker.specs.Denotations.{Answer, after_piece, Wants, Denotes}
+
+-- a call that was handed the bytes s: it took so many; or they end within what is wanted, and nothing changed; or a fault shows
+abbrev pub Moves : Values → List ℕ → Result ℕ Stop → Values → Answer → Type 0
+Moves old s (Ok n) new answer = (n ≤ length s) × Denotes new (after_piece answer (take n s))
+Moves old s (Err stops.Memory) new answer = ⊥
+Moves old s (Err stops.Partial) new answer = (new ≡ old) × (answer.to s ≡ Partial)
+Moves old s (Err (stops.Refused f)) new answer = (c : List ℕ) → answer.to (s ++ c) ≡ Faulty f
+
+-- a container was opened, or a fault shows
+abbrev pub Opens : Result (Unit {0}) Stop → Values → Answer → Type 0
+Opens (Ok x) new answer = Denotes new answer
+Opens (Err stops.Memory) new answer = ⊥
+Opens (Err stops.Partial) new answer = ⊥
+Opens (Err (stops.Refused f)) new answer = (c : List ℕ) → answer.to c ≡ Faulty f
+
+-- a frame was pushed
+pub record Pushed (x y : Values) (f : Frame) : Type 0 where
+  pub bounds : y.bounds ≡ x.bounds
+  pub order : y.order ≡ x.order
+  pub end : y.end ≡ x.end
+  pub offset : y.offset ≡ x.offset
+  pub text : y.text.items ≡ x.text.items
+  pub inner : y.inner ≡ f
+  pub frames : y.frames.items ≡ x.frames.items ++ x.inner ∷ []
+
+-- once a frame is pushed for what stands within the brackets at pos, n bytes further, its first part is wanted
+abbrev pub Enters : Values → (pos stop n room : ℕ) → Answer → Type 0
+Enters x pos stop n room answer =
+    (y : Values) → Pushed (record x { offset = x.offset + n }) y (record { array = false; pos = pos + 1; stop = stop - 1; top = x.inner.top; end = x.inner.end; room = room })
+    → (q : ℕ) → q ≡ y.inner.pos + skipped 0 (slice y.text.items y.inner.pos y.inner.stop) → Wants (record y { inner = record y.inner { pos = q } }) y.inner.pos q answer
+
+-- something is wanted still
+abbrev pub IsLive : Doing → Type 0
+IsLive (doing.Wanted pos stop) = Unit {0}
+IsLive (doing.Text code left) = Unit {0}
+IsLive doing.Bytes = Unit {0}
+IsLive doing.Nul = Unit {0}
+IsLive doing.Over = ⊥
+
+-- values of these types, from a offset on, and then the last
+abbrev pub values_on : Bounds → Order → (room end : ℕ) → TypeTrees → On → ℕ → Answer
+values_on bounds order room end ts last offset = record { last = last; to = onward (fields (value bounds order room end) ts) last offset }
+
+-- nothing is wanted, and then the last
+abbrev pub nothing_on : On → ℕ → Answer
+nothing_on last o = record { last = last; to = last o }
+
+-- up to where the bytes are taken
+abbrev pub offset_of : Values → ℕ
+offset_of x = x.offset
+
+-- how many bytes the wanted type has
+abbrev pub wide : Doing → ℕ
+wide (doing.Wanted pos stop) = stop - pos
+wide (doing.Text code left) = 0
+wide doing.Bytes = 0
+wide doing.Nul = 0
+wide doing.Over = 0
+
+-- A run over the bytes s: it took so many, and where something is wanted still, it is not whole in the others; or a fault shows.
+abbrev pub Runs : List ℕ → Result ℕ Fault → Values → Answer → Type 0
+Runs s (Ok n) new answer = (n ≤ length s) × Denotes new (after_piece answer (take n s)) × (IsLive new.doing → answer.to s ≡ Partial)
+Runs s (Err f) new answer = (c : List ℕ) → answer.to (s ++ c) ≡ Faulty f

@@ -1,0 +1,121 @@
+-- A reading that is suspended: what is wanted from here on, and what it answers to the bytes that come.
+-- D-Bus Specification, "Marshaling (Wire Format)".
+use Rattle.std.specs.Prelude.{ℕ, zero, suc, ◌+◌, List, [], ◌∷◌, Option, nat_lt, nat_eq, if◌then◌else◌}
+use Rattle.dbus_types.specs.Types.{NumberCode, TextCode, TypeTree, NumberType, TextType, VariantType, ArrayType, StructType, EntryType, TypeTrees, NoTypes, MoreTypes}
+use Rattle.dbus_types.specs.Alignments.{width, length_width, alignment_of}
+use Rattle.dbus_types.specs.ComputedKinds.{type_spelled}
+use Rattle.dbus_types.specs.declared.text_kind.TextKind.TheVariants as kinds
+use Rattle.dbus_value_model.specs.WantedTexts.{kind_of, Of}
+use Rattle.dbus_value_model.specs.declared.limits.Bounds.{Bounds}
+use Rattle.dbus_value_model.specs.declared.order.Order.{Order}
+use Rattle.dbus_value_model.specs.Values.{ValueTree}
+use Rattle.dbus_value_model.specs.declared.fault.Reason.{Reason}
+use Rattle.dbus_value_model.specs.declared.fault.Reason.TheVariants as reasons
+use Rattle.dbus_value_model.specs.Items.{fault}
+use Rattle.dbus_value_model.specs.ValueItems.{number_row, text_row, array_row}
+use Rattle.dbus_value_model.specs.Reading.{Reader, Outcome, Done, Faulty, Partial, after, padding, number, text, nul, fields, value}
+
+-- what is read from here on; the values are forgotten
+abbrev pub On : Type 0
+On = ℕ → List ℕ → Outcome (Unit {0})
+
+-- a reader, whose value is forgotten, and what is read after it
+abbrev pub onward : {A : Type 0} → Reader A → On → On
+onward run next o s = after (run o s) (λ x. next)
+
+-- no more is wanted
+abbrev pub done : On
+done o s = Done tt o s
+
+-- ---- containers
+
+-- one that is open: the types of the parts that are still wanted, or an array with at most so many elements to come
+pub data Work : Type 0 where
+  Parts : (room end : ℕ) → TypeTrees → Work
+  Elements : (turns room end : ℕ) → TypeTree → Work
+
+abbrev pub elements : ℕ → ℕ → Reader ValueTree → On → On
+elements zero end part next o s = if nat_eq o end then next o s else Partial
+elements (suc turns) end part next o s =
+    if nat_lt o end then after (part o s) (λ v. elements turns end part next) else if nat_eq o end then next o s else Partial
+
+abbrev pub work : Bounds → Order → Work → On → On
+work bounds order (Parts room end ts) next = onward (fields (value bounds order room end) ts) next
+work bounds order (Elements turns room end t) next = elements turns end (value bounds order room end t) next
+
+-- the innermost first
+abbrev pub works : Bounds → Order → On → List Work → On
+works bounds order last [] = last
+works bounds order last (w ∷ ws) = work bounds order w (works bounds order last ws)
+
+-- ---- items
+
+-- an item that begins with a number; inner is the room within the container that it opens
+pub data Head : Type 0 where
+  ANumber : NumberCode → Head
+  ALength : TextCode → Head
+  AnArray : (inner : ℕ) → TypeTree → Head
+  AVariant : (inner : ℕ) → Head
+
+abbrev pub head_width : Head → ℕ
+head_width (ANumber k) = width k
+head_width (ALength k) = length_width k
+head_width (AnArray inner t) = 4
+head_width (AVariant inner) = 1
+
+abbrev pub head_row : Bounds → ℕ → Head → ℕ → ℕ → Option Reason
+head_row bounds end (ANumber k) = number_row bounds.fds k
+head_row bounds end (ALength k) = text_row end
+head_row bounds end (AnArray inner t) = array_row bounds t end
+head_row bounds end (AVariant inner) = text_row end
+
+-- a variant's value, after its signature
+abbrev pub held_on : Bounds → Order → ℕ → ℕ → On → TypeTree → On
+held_on bounds order inner end next t = onward nul (onward (value bounds order inner end t) next)
+
+-- the signature of a variant's value
+abbrev pub held_text : Order → ℕ → Reader (List ℕ)
+held_text order end o s = after (number order 1 end (text_row end) o s) (λ n p u. after (text (Of kinds.Single) n p u) (λ t q v. after (nul q v) (λ z. Done t)))
+
+-- what stands after the number n
+abbrev pub tail : Bounds → Order → ℕ → Head → On → ℕ → On
+tail bounds order end (ANumber k) next n = next
+tail bounds order end (ALength k) next n = λ p u. after (text (kind_of k) n p u) (λ t. onward nul next)
+tail bounds order end (AnArray inner t) next n = λ p u. after (padding (alignment_of t) end p u) (λ x q v. elements n (q + n) (value bounds order inner (q + n) t) next q v)
+tail bounds order end (AVariant inner) next n = λ p u. after (text (Of kinds.Single) n p u) (λ held. held_on bounds order inner end next (type_spelled held))
+
+abbrev pub head : Bounds → Order → ℕ → Head → On → On
+head bounds order end h next o s = after (number order (head_width h) end (head_row bounds end h) o s) (tail bounds order end h next)
+
+-- what stands after a padding: such an item; nothing, and the containers go on; or a container too many
+pub data Own : Type 0 where
+  AHead : Head → Own
+  Opened : Own
+  Closed : Own
+
+abbrev pub own : Bounds → Order → ℕ → Own → On → On
+own bounds order end (AHead h) next = head bounds order end h next
+own bounds order end Opened next = next
+own bounds order end Closed next = λ o s. Faulty (fault o reasons.TooDeep)
+
+-- a value's
+abbrev pub own_of : ℕ → TypeTree → Own
+own_of room (NumberType k) = AHead (ANumber k)
+own_of room (TextType k) = AHead (ALength k)
+own_of zero VariantType = Closed
+own_of (suc inner) VariantType = AHead (AVariant inner)
+own_of zero (ArrayType t) = Closed
+own_of (suc inner) (ArrayType t) = AHead (AnArray inner t)
+own_of zero (StructType ts) = Closed
+own_of (suc inner) (StructType ts) = Opened
+own_of room (EntryType k v) = Opened
+
+-- the containers that it opens at once
+abbrev pub opened_by : ℕ → ℕ → TypeTree → List Work
+opened_by room end (NumberType k) = []
+opened_by room end (TextType k) = []
+opened_by room end VariantType = []
+opened_by room end (ArrayType t) = []
+opened_by zero end (StructType ts) = []
+opened_by (suc inner) end (StructType ts) = Parts inner end ts ∷ []
+opened_by room end (EntryType k v) = Parts room end (MoreTypes k (MoreTypes v NoTypes)) ∷ []

@@ -1,0 +1,108 @@
+//! The containers that are open: which value is wanted next, and how a container is entered and left.
+#![tactic(auto)]
+
+ghost use Rattle.std.specs.Prelude.{◌≡◌, ◌+◌, ◌-◌, ◌<◌, ◌≤◌, ◌^◌, length, slice_index, IfOk};
+
+use crate::codes::skip;
+use crate::values::{Doing, Frame, Values};
+use dbus_value_model::{Reason, Stop, refuse};
+
+impl Values {
+    ghost use Rattle.dbus_value_checker.specs.Codes.{skipped};
+    ghost use Rattle.dbus_value_checker.specs.Frames.{slice};
+    ghost use Rattle.dbus_value_checker.specs.Denotations.{Answer, Denotes, Goes, Ready};
+    ghost use Rattle.dbus_value_checker.specs.Moves.{Opens, Enters, wide};
+
+    /// The type of the next part is no longer wanted: where it ends.
+    pub(crate) fn part(&mut self) -> usize
+        requires pos { self.old.inner.pos ≤ self.old.inner.stop }
+        requires stop { self.old.inner.stop ≤ length self.old.text.items }
+        ensures value { result ≡ self.old.inner.pos + skipped 0 (slice self.old.text.items self.old.inner.pos self.old.inner.stop) }
+        ensures moved { self.new ≡ record self.old { inner = record self.old.inner { pos = result } } }
+        ensures within { result ≤ self.old.inner.stop }
+    {
+        let stop = skip(&self.text.as_slice()[..self.inner.stop], self.inner.pos);
+        self.inner.pos = stop;
+        stop
+    }
+
+    /// The innermost container goes on, or is at its end, and then the one around it.
+    pub(crate) fn next(&mut self)
+        requires valid { (answer : Answer) × Goes self.old answer }
+        ensures { (answer : Answer) → Goes self.old answer → Denotes self.new answer }
+    {
+        loop {
+            if self.inner.array {
+                if self.offset < self.inner.end {
+                    if self.text.as_slice()[self.inner.pos] == b'y' {
+                        self.doing = Doing::Bytes;
+                        return;
+                    }
+                    self.doing = Doing::Wanted(self.inner.pos, self.inner.stop);
+                    return;
+                }
+            } else if self.inner.pos < self.inner.stop {
+                let pos = self.inner.pos;
+                let stop = self.part();
+                self.doing = Doing::Wanted(pos, stop);
+                return;
+            }
+            match self.frames.pop() {
+                Some(frame) => self.inner = frame,
+                None => {
+                    self.doing = Doing::Over;
+                    return;
+                }
+            }
+        }
+    }
+
+    /// What stands within the brackets at `pos`, n bytes further.
+    pub(crate) fn inside(&mut self, pos: usize, stop: usize, n: usize, room: u8)
+        requires near { self.old.offset + n < 2 ^ 63 }
+        requires few { length self.old.frames.items < 128 }
+        requires some { pos + 1 ≤ stop - 1 }
+        requires there { stop ≤ length self.old.text.items }
+        ensures opens { (answer : Answer) → Enters self.old pos stop n room answer → Denotes self.new answer }
+        ensures narrower { wide self.new.doing < stop - pos }
+    {
+        self.offset += n;
+        self.frames.push(self.inner);
+        self.inner = Frame {
+            array: false,
+            pos: pos + 1,
+            stop: stop - 1,
+            top: self.inner.top,
+            end: self.inner.end,
+            room,
+        };
+        let first = self.inner.pos;
+        let until = self.part();
+        self.doing = Doing::Wanted(first, until);
+    }
+
+    /// A struct, whose padding of n bytes is there.
+    pub(crate) fn open_struct(&mut self, pos: usize, stop: usize, n: usize) -> Result<(), Stop>
+        requires valid { (answer : Answer) × Ready self.old pos stop n answer }
+        requires code { slice_index self.old.text.items pos ≡ 40 }
+        ensures opens { (answer : Answer) → Ready self.old pos stop n answer → Opens result self.new answer }
+        ensures narrower { IfOk result (λ _. wide self.new.doing < stop - pos) }
+    {
+        let room = self.inner.room;
+        if room == 0 {
+            return refuse(self.offset + n, Reason::TooDeep);
+        }
+        self.inside(pos, stop, n, room - 1);
+        Ok(())
+    }
+
+    /// A dict entry, whose padding of n bytes is there.
+    pub(crate) fn open_entry(&mut self, pos: usize, stop: usize, n: usize)
+        requires valid { (answer : Answer) × Ready self.old pos stop n answer }
+        requires code { slice_index self.old.text.items pos ≡ 123 }
+        ensures opens { (answer : Answer) → Ready self.old pos stop n answer → Denotes self.new answer }
+        ensures narrower { wide self.new.doing < stop - pos }
+    {
+        self.inside(pos, stop, n, self.inner.room);
+    }
+}

@@ -1,0 +1,317 @@
+//! The items that stand at the front of some bytes.
+//!
+//! The bytes begin at the offset `offset` of a message, and more may follow them. Each call says how many bytes the item has;
+//! `Partial` where the bytes end within it; or `Refused` with its fault, as soon as they show it. None takes memory.
+#![tactic(auto)]
+
+ghost use Rattle.std.specs.Prelude.{◌≡◌, ◌+◌, ◌<◌, ◌≤◌, ◌^◌, ℕ, length, take, drop, IfOk, IfErr};
+ghost use Rattle.dbus_value_model.specs.Bytes.{gap_to};
+ghost use Rattle.dbus_types.specs.Types.{NumberCode, TextCode, TypeTree, number_code, text_code};
+ghost use Rattle.dbus_types.specs.Alignments.{width, length_width, alignment_of};
+ghost use Rattle.dbus_value_model.specs.Reading.{padding, number, text, nul};
+ghost use Rattle.dbus_types.specs.Kinds.{IsKind};
+ghost use Rattle.dbus_types.specs.declared.text_kind.TextKind.TheVariants.{Single};
+ghost use Rattle.dbus_value_model.specs.declared.order.Order.{Order};
+ghost use Rattle.dbus_value_model.specs.WantedTexts.{Of};
+ghost use Rattle.dbus_value_model.specs.Items.{text_reason};
+ghost use Rattle.dbus_value_model.specs.ValueItems.{number_row, text_row, array_row};
+ghost use Rattle.dbus_value_model.specs.ValueReaders.{array_frame};
+ghost use Rattle.dbus_value_checker.specs.Codes.{code_width, code_alignment};
+ghost use Rattle.dbus_value_model.specs.declared.stop.Stop.TheVariants.{Partial};
+ghost use Rattle.dbus_value_checker.specs.Fronts.{Fronts};
+ghost use Rattle.dbus_value_checker.specs.Fronts.{IsThere, IsWord, IsByte};
+ghost use Rattle.dbus_value_checker.specs.Suspended.{onward, done, held_text};
+
+use crate::codes::{alignment, gap};
+use dbus_types::{TextKind, text_break};
+use dbus_value_model::{Bounds, Order, Reason, Stop, refuse};
+
+/// The bytes after the first n.
+pub fn rest_after(bytes: &[u8], n: usize) -> &[u8]
+    requires { n ≤ length bytes.now }
+    ensures { result.now ≡ drop n bytes.now }
+{
+    &bytes[n..]
+}
+
+/// The first n bytes, or those that are there.
+pub fn front(bytes: &[u8], n: usize) -> &[u8]
+    ensures { result.now ≡ take n bytes.now }
+{
+    if n < bytes.len() { &bytes[..n] } else { bytes }
+}
+
+/// The zeros up to the next multiple of `alignment`.
+///
+/// `Overrun` at `offset` where they end past the end; else `Padding` at the first byte that is not 0.
+pub fn padding(bytes: &[u8], offset: usize, end: usize, alignment: u8) -> Result<usize, Stop>
+    requires some { 0 < alignment }
+    requires few { alignment ≤ 8 }
+    requires at_most { offset ≤ end }
+    ensures gives { Fronts (λ n. (tt, n)) offset bytes.now result (padding alignment end) }
+    ensures moves { IfOk result (λ n. (n ≡ gap_to alignment offset) × (offset + n ≤ end) × (n ≤ length bytes.now) × (n < 8)) }
+    ensures short { IfErr result (λ e. e ≡ Partial → length bytes.now < 8) }
+{
+    let zeros = gap(alignment, offset);
+    if end - offset < zeros {
+        return refuse(offset, Reason::Overrun);
+    }
+    for i in 0..zeros {
+        if i >= bytes.len() {
+            return Err(Stop::Partial);
+        }
+        if bytes[i] != 0 {
+            return refuse(offset + i, Reason::Padding);
+        }
+    }
+    Ok(zeros)
+}
+
+/// A number of so many bytes, whatever it is.
+///
+/// `Overrun` at `offset` where it ends past the end.
+pub fn fixed(bytes: &[u8], offset: usize, end: usize, width: usize) -> Result<(), Stop>
+    requires at_most { offset ≤ end }
+    ensures { IsThere width offset end bytes.now result }
+{
+    if end - offset < width {
+        return refuse(offset, Reason::Overrun);
+    }
+    if bytes.len() < width {
+        return Err(Stop::Partial);
+    }
+    Ok(())
+}
+
+/// A number of four bytes.
+///
+/// `Overrun` at `offset` where it ends past the end.
+pub fn word(bytes: &[u8], offset: usize, end: usize, order: Order) -> Result<u32, Stop>
+    requires at_most { offset ≤ end }
+    ensures { IsWord order offset end bytes.now result }
+{
+    match fixed(bytes, offset, end, 4) {
+        Ok(()) => Ok(order.u32_at(bytes, 0)),
+        Err(stop) => Err(stop),
+    }
+}
+
+/// A number of one byte.
+///
+/// `Overrun` at `offset` where it ends past the end.
+pub fn byte(bytes: &[u8], offset: usize, end: usize) -> Result<u8, Stop>
+    requires at_most { offset ≤ end }
+    ensures { IsByte offset end bytes.now result }
+{
+    match fixed(bytes, offset, end, 1) {
+        Ok(()) => Ok(bytes[0]),
+        Err(stop) => Err(stop),
+    }
+}
+
+/// How many bytes a number has whose type has this code.
+fn code_width(code: u8) -> usize
+    ensures value { result ≡ code_width code }
+    ensures some { 0 < result }
+    ensures few { result ≤ 8 }
+{
+    match code {
+        b'y' => 1,
+        b'n' | b'q' => 2,
+        b'x' | b't' | b'd' => 8,
+        _ => 4,
+    }
+}
+
+/// The row of the fault table that a number of the type that has this code meets: that of BOOLEAN or of UNIX_FD.
+fn row_of(code: u8, n: u32, fds: Option<u32>) -> Option<Reason>
+    ensures { (k : NumberCode) (p : ℕ) → number_code k ≡ code → result ≡ number_row fds k p n }
+{
+    if code == b'b' {
+        return if n > 1 { Some(Reason::Bool) } else { None };
+    }
+    if code == b'h' {
+        return match fds {
+            Some(limit) if n >= limit => Some(Reason::FdIndex),
+            _ => None,
+        };
+    }
+    None
+}
+
+/// A number of the type that has this code.
+///
+/// `Overrun` at `offset` where it ends past the end; `Bool` there where it is a BOOLEAN and neither 0 nor 1; `FdIndex` there
+/// where it is a UNIX_FD and not below `fds`, if that is something.
+pub fn number_front(
+    code: u8,
+    bytes: &[u8],
+    offset: usize,
+    end: usize,
+    order: Order,
+    fds: Option<u32>,
+) -> Result<usize, Stop>
+    requires at_most { offset ≤ end }
+    ensures gives { (k : NumberCode) → number_code k ≡ code → Fronts (λ n. (tt, n)) offset bytes.now result (onward (number order (width k) end (number_row fds k)) done) }
+    ensures moves { IfOk result (λ n. (0 < n) × (n ≤ length bytes.now) × (offset + n ≤ end)) }
+    ensures short { IfErr result (λ e. e ≡ Partial → length bytes.now < 8) }
+{
+    if code == b'b' || code == b'h' {
+        return match word(bytes, offset, end, order) {
+            Ok(n) => match row_of(code, n, fds) {
+                Some(reason) => refuse(offset, reason),
+                None => Ok(4),
+            },
+            Err(stop) => Err(stop),
+        };
+    }
+    let width = code_width(code);
+    match fixed(bytes, offset, end, width) {
+        Ok(()) => Ok(width),
+        Err(stop) => Err(stop),
+    }
+}
+
+/// The length of a text of the type that has this code, and how many bytes the length has.
+///
+/// `Overrun` at `offset` where the length, the text or the zero behind it ends past the end.
+pub fn length_front(
+    code: u8,
+    bytes: &[u8],
+    offset: usize,
+    end: usize,
+    order: Order,
+) -> Result<(usize, usize), Stop>
+    requires at_most { offset ≤ end }
+    ensures gives { (k : TextCode) → text_code k ≡ code → Fronts (λ x. x) offset bytes.now result (number order (length_width k) end (text_row end)) }
+    ensures moves { IfOk result (λ x. (0 < x.1) × (x.1 ≤ length bytes.now) × (offset + x.1 + x.0 + 1 ≤ end)) }
+    ensures short { IfErr result (λ e. e ≡ Partial → length bytes.now < 4) }
+{
+    if code == b'g' {
+        return match byte(bytes, offset, end) {
+            Ok(n) => {
+                let n = n as usize;
+                if end - (offset + 1) <= n {
+                    refuse(offset, Reason::Overrun)
+                } else {
+                    Ok((n, 1))
+                }
+            }
+            Err(stop) => Err(stop),
+        };
+    }
+    match word(bytes, offset, end, order) {
+        Ok(n) => {
+            let n = n as usize;
+            if end - (offset + 4) <= n {
+                refuse(offset, Reason::Overrun)
+            } else {
+                Ok((n, 4))
+            }
+        }
+        Err(stop) => Err(stop),
+    }
+}
+
+/// How many bytes the elements of an array have, whose type begins with this code, and how many its length and the padding
+/// behind that have.
+///
+/// `ArrayTooLong` at `offset` where they are over the limit; else `Overrun` there where they end past the end; and the faults
+/// of the padding.
+pub fn array_front(
+    code: u8,
+    bytes: &[u8],
+    offset: usize,
+    end: usize,
+    order: Order,
+    bounds: Bounds,
+) -> Result<(usize, usize), Stop>
+    requires at_most { offset ≤ end }
+    requires near { end < 4294967296 }
+    ensures gives { (t : TypeTree) → code_alignment code ≡ alignment_of t → Fronts (λ x. x) offset bytes.now result (array_frame bounds order end t) }
+    ensures moves { IfOk result (λ x. (4 ≤ x.1) × (x.1 ≤ length bytes.now) × (offset + x.1 + x.0 ≤ end)) }
+    ensures short { IfErr result (λ e. e ≡ Partial → length bytes.now < 12) }
+{
+    let n = match word(bytes, offset, end, order) {
+        Ok(n) => n,
+        Err(stop) => return Err(stop),
+    };
+    if n > bounds.array {
+        return refuse(offset, Reason::ArrayTooLong);
+    }
+    let n = n as usize;
+    let boundary = alignment(code);
+    if end - (offset + 4) < gap(boundary, offset + 4) + n {
+        return refuse(offset, Reason::Overrun);
+    }
+    match padding(rest_after(bytes, 4), offset + 4, end, boundary) {
+        Ok(zeros) => Ok((n, 4 + zeros)),
+        Err(stop) => Err(stop),
+    }
+}
+
+/// A text of n bytes of a kind.
+///
+/// Else the fault `reason` at the text's break.
+pub fn text_front(
+    kind: TextKind,
+    n: usize,
+    bytes: &[u8],
+    offset: usize,
+    reason: Reason,
+) -> Result<(), Stop>
+    requires near { offset + n < 2 ^ 63 }
+    requires reason { text_reason (Of kind) ≡ reason }
+    ensures gives { Fronts (λ _. (take n bytes.now, n)) offset bytes.now result (text (Of kind) n) }
+    ensures kind { IfOk result (λ _. IsKind kind (take n bytes.now)) }
+    ensures short { IfErr result (λ e. e ≡ Partial → length bytes.now < n) }
+{
+    let given = front(bytes, n);
+    match text_break(kind, given) {
+        None if given.len() < n => Err(Stop::Partial),
+        None => Ok(()),
+        Some(i) if i < given.len() => refuse(offset + i, reason),
+        Some(_) if given.len() < n => Err(Stop::Partial),
+        Some(i) => refuse(offset + i, reason),
+    }
+}
+
+/// The zero behind a text: `Nul` where the byte is not 0.
+pub fn nul_front(bytes: &[u8], offset: usize) -> Result<(), Stop>
+    ensures gives { Fronts (λ _. (tt, 1)) offset bytes.now result nul }
+    ensures short { IfErr result (λ e. e ≡ Partial → length bytes.now < 1) }
+{
+    if bytes.is_empty() {
+        return Err(Stop::Partial);
+    }
+    if bytes[0] != 0 {
+        return refuse(offset, Reason::Nul);
+    }
+    Ok(())
+}
+
+/// The signature of a variant's value, with its length and the zero behind it: how many bytes it has.
+pub fn variant_front(bytes: &[u8], offset: usize, end: usize) -> Result<usize, Stop>
+    requires at_most { offset ≤ end }
+    requires near { end < 4294967296 }
+    ensures gives { (order : Order) → Fronts (λ n. (take n (drop 1 bytes.now), n + 2)) offset bytes.now result (held_text order end) }
+    ensures moves { IfOk result (λ n. (n + 2 ≤ length bytes.now) × (offset + n + 2 ≤ end) × IsKind Single (take n (drop 1 bytes.now))) }
+    ensures short { IfErr result (λ e. e ≡ Partial → length bytes.now < 257) }
+{
+    let n = match byte(bytes, offset, end) {
+        Ok(n) => n as usize,
+        Err(stop) => return Err(stop),
+    };
+    if end - (offset + 1) <= n {
+        return refuse(offset, Reason::Overrun);
+    }
+    let rest = rest_after(bytes, 1);
+    match text_front(TextKind::Single, n, rest, offset + 1, Reason::Signature) {
+        Ok(()) => {}
+        Err(stop) => return Err(stop),
+    }
+    match nul_front(rest_after(rest, n), offset + 1 + n) {
+        Ok(()) => Ok(n),
+        Err(stop) => Err(stop),
+    }
+}

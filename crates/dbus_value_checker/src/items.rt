@@ -1,0 +1,194 @@
+//! The fronts of values, taken one by one.
+#![tactic(auto)]
+
+ghost use Rattle.std.specs.Prelude.{◌≡◌, ◌≢◌, ◌-◌, ◌<◌, length, slice_index, IfOk, IfErr, ◌⊎◌};
+
+use crate::codes::alignment;
+use crate::fronts::{array_front, front, number_front, padding, rest_after, variant_front};
+use crate::values::{Frame, Values};
+use dbus_value_model::{Reason, Stop, refuse};
+
+impl Values {
+    ghost use Rattle.dbus_value_checker.specs.Codes.{IsNumberCode};
+    ghost use Rattle.dbus_value_checker.specs.Denotations.{Answer, Wants, Ready, Bytes};
+    ghost use Rattle.dbus_value_checker.specs.Moves.{Moves, wide};
+    ghost use Rattle.dbus_value_model.specs.declared.stop.Stop.TheVariants.{Partial};
+
+    /// A number, whose padding of n bytes is there.
+    pub(crate) fn number(
+        &mut self,
+        pos: usize,
+        stop: usize,
+        n: usize,
+        code: u8,
+        bytes: &[u8],
+    ) -> Result<usize, Stop>
+        requires valid { (answer : Answer) × Ready self.old pos stop n answer }
+        requires code { slice_index self.old.text.items pos ≡ code }
+        requires alone { IsNumberCode code }
+        ensures moves { (answer : Answer) → Ready self.old pos stop n answer → Moves self.old bytes.now result self.new answer }
+        ensures some { IfOk result (λ n. 0 < n) }
+        ensures short { IfErr result (λ e. e ≡ Partial → length bytes.now < 8) }
+    {
+        let at = self.offset + n;
+        match number_front(code, bytes, at, self.inner.end, self.order, self.bounds.fds) {
+            Ok(width) => {
+                self.offset = at + width;
+                self.next();
+                Ok(width)
+            }
+            Err(stop) => Err(stop),
+        }
+    }
+
+    /// An array, whose padding of n bytes is there.
+    pub(crate) fn array(
+        &mut self,
+        pos: usize,
+        stop: usize,
+        n: usize,
+        bytes: &[u8],
+    ) -> Result<usize, Stop>
+        requires valid { (answer : Answer) × Ready self.old pos stop n answer }
+        requires code { slice_index self.old.text.items pos ≡ 97 }
+        ensures moves { (answer : Answer) → Ready self.old pos stop n answer → Moves self.old bytes.now result self.new answer }
+        ensures some { IfOk result (λ n. 0 < n) }
+        ensures short { IfErr result (λ e. e ≡ Partial → length bytes.now < 12) }
+    {
+        let at = self.offset + n;
+        let room = self.inner.room;
+        if room == 0 {
+            return refuse(at, Reason::TooDeep);
+        }
+        let code = self.text.as_slice()[pos + 1];
+        match array_front(code, bytes, at, self.inner.end, self.order, self.bounds) {
+            Ok((size, taken)) => {
+                self.offset = at + taken;
+                self.frames.push(self.inner);
+                self.inner = Frame {
+                    array: true,
+                    pos: pos + 1,
+                    stop,
+                    top: self.inner.top,
+                    end: self.offset + size,
+                    room: room - 1,
+                };
+                self.next();
+                Ok(taken)
+            }
+            Err(stop) => Err(stop),
+        }
+    }
+
+    /// Elements of an array of BYTE: as many as are there.
+    pub(crate) fn bytes(&mut self, bytes: &[u8]) -> Result<usize, Stop>
+        requires valid { (answer : Answer) × Bytes self.old answer }
+        ensures moves { (answer : Answer) → Bytes self.old answer → Moves self.old bytes.now result self.new answer }
+        ensures some { IfOk result (λ n. 0 < n) }
+        ensures short { IfErr result (λ e. e ≡ Partial → length bytes.now < 1) }
+    {
+        if bytes.is_empty() {
+            return Err(Stop::Partial);
+        }
+        let n = front(bytes, self.inner.end - self.offset).len();
+        self.offset += n;
+        self.next();
+        Ok(n)
+    }
+
+    /// A variant: its value's type is noted, and is wanted.
+    pub(crate) fn variant(&mut self, pos: usize, stop: usize, bytes: &[u8]) -> Result<usize, Stop>
+        requires valid { (answer : Answer) × Wants self.old pos stop answer }
+        requires code { slice_index self.old.text.items pos ≡ 118 }
+        ensures moves { (answer : Answer) → Wants self.old pos stop answer → Moves self.old bytes.now result self.new answer }
+        ensures some { IfOk result (λ n. 0 < n) }
+        ensures short { IfErr result (λ e. e ≡ Partial → length bytes.now < 257) }
+    {
+        let room = self.inner.room;
+        if room == 0 {
+            return refuse(self.offset, Reason::TooDeep);
+        }
+        match variant_front(bytes, self.offset, self.inner.end) {
+            Ok(size) => {
+                let top = self.inner.top;
+                self.text.truncate(top);
+                match self
+                    .text
+                    .try_extend_from_slice(front(rest_after(bytes, 1), size))
+                {
+                    Ok(()) => {}
+                    // There is room for it.
+                    Err(_) => return Err(Stop::Memory),
+                }
+                self.frames.push(self.inner);
+                self.inner = Frame {
+                    array: false,
+                    pos: top,
+                    stop: top + size,
+                    top: top + size,
+                    end: self.inner.end,
+                    room: room - 1,
+                };
+                self.offset += size + 2;
+                self.next();
+                Ok(size + 2)
+            }
+            Err(stop) => Err(stop),
+        }
+    }
+
+    /// A value other than a variant, whose padding of n bytes is there.
+    pub(crate) fn item(
+        &mut self,
+        pos: usize,
+        stop: usize,
+        n: usize,
+        code: u8,
+        bytes: &[u8],
+    ) -> Result<usize, Stop>
+        requires valid { (answer : Answer) × Ready self.old pos stop n answer }
+        requires code { slice_index self.old.text.items pos ≡ code }
+        requires other { code ≢ 118 }
+        ensures moves { (answer : Answer) → Ready self.old pos stop n answer → Moves self.old bytes.now result self.new answer }
+        ensures further { IfOk result (λ n. (0 < n) ⊎ (wide self.new.doing < stop - pos)) }
+        ensures short { IfErr result (λ e. e ≡ Partial → length bytes.now < 12) }
+    {
+        if code == b'{' {
+            self.open_entry(pos, stop, n);
+            return Ok(0);
+        }
+        if code == b'(' {
+            return match self.open_struct(pos, stop, n) {
+                Ok(()) => Ok(0),
+                Err(stop) => Err(stop),
+            };
+        }
+        if code == b'a' {
+            return self.array(pos, stop, n, bytes);
+        }
+        if code == b's' || code == b'o' || code == b'g' {
+            return self.string(pos, stop, n, code, bytes);
+        }
+        self.number(pos, stop, n, code, bytes)
+    }
+
+    /// The value that is wanted: its front, where all of it is there.
+    pub(crate) fn value(&mut self, pos: usize, stop: usize, bytes: &[u8]) -> Result<usize, Stop>
+        requires valid { (answer : Answer) × Wants self.old pos stop answer }
+        ensures moves { (answer : Answer) → Wants self.old pos stop answer → Moves self.old bytes.now result self.new answer }
+        ensures further { IfOk result (λ n. (0 < n) ⊎ (wide self.new.doing < stop - pos)) }
+        ensures short { IfErr result (λ e. e ≡ Partial → length bytes.now < 257) }
+    {
+        let code = self.text.as_slice()[pos];
+        if code == b'v' {
+            return self.variant(pos, stop, bytes);
+        }
+        match padding(bytes, self.offset, self.inner.end, alignment(code)) {
+            Ok(n) => match self.item(pos, stop, n, code, rest_after(bytes, n)) {
+                Ok(more) => Ok(n + more),
+                Err(stop) => Err(stop),
+            },
+            Err(stop) => Err(stop),
+        }
+    }
+}

@@ -1,0 +1,148 @@
+//! Texts, whose bytes may come in pieces.
+#![tactic(auto)]
+
+ghost use Rattle.std.specs.Prelude.{◌≡◌, ◌≢◌, ◌<◌, length, slice_index, IfOk, IfErr, ◌⊎◌};
+ghost use Rattle.dbus_types.specs.Types.{TextCode, text_code};
+ghost use Rattle.dbus_value_model.specs.WantedTexts.{Of};
+ghost use Rattle.dbus_value_model.specs.WantedTexts as wanted;
+ghost use Rattle.dbus_value_model.specs.Items.{text_reason};
+
+use crate::fronts::{front, length_front, rest_after, text_front};
+use crate::scans::scan_on;
+use crate::values::{Doing, Values};
+use dbus_types::{TextKind, TextScan};
+use dbus_value_model::{Reason, Stop, refuse};
+
+/// The kind of the texts of the type that has this code.
+pub fn kind_of_code(code: u8) -> TextKind
+    ensures { (k : TextCode) → text_code k ≡ code → Of result ≡ wanted.kind_of k }
+{
+    match code {
+        b's' => TextKind::Text,
+        b'o' => TextKind::Path,
+        _ => TextKind::Signature,
+    }
+}
+
+/// What is wrong with a text that is none of the type that has this code.
+pub fn reason_of_code(code: u8) -> Reason
+    ensures { (k : TextCode) → text_code k ≡ code → text_reason (wanted.kind_of k) ≡ result }
+{
+    match code {
+        b's' => Reason::Text,
+        b'o' => Reason::Path,
+        _ => Reason::Signature,
+    }
+}
+
+impl Values {
+    ghost use Rattle.dbus_value_checker.specs.Denotations.{Answer, Ready, Texts, Nuls};
+    ghost use Rattle.dbus_value_checker.specs.Moves.{Moves, Opens};
+    ghost use Rattle.dbus_value_model.specs.declared.stop.Stop.TheVariants.{Partial};
+
+    /// So many bytes of a text are still wanted. Where none are, the text is judged whole.
+    fn text_on(&mut self, code: u8, left: usize) -> Result<(), Stop>
+        requires valid { (answer : Answer) × Texts self.old code left answer }
+        ensures opens { (answer : Answer) → Texts self.old code left answer → Opens result self.new answer }
+        ensures decided { IfErr result (λ e. e ≢ Partial) }
+    {
+        if left > 0 {
+            self.doing = Doing::Text(code, left);
+            return Ok(());
+        }
+        if self.scan.end() {
+            self.doing = Doing::Nul;
+            return Ok(());
+        }
+        refuse(self.offset, reason_of_code(code))
+    }
+
+    /// A text, whose padding of n bytes is there: its length.
+    pub(crate) fn string(
+        &mut self,
+        pos: usize,
+        stop: usize,
+        n: usize,
+        code: u8,
+        bytes: &[u8],
+    ) -> Result<usize, Stop>
+        requires valid { (answer : Answer) × Ready self.old pos stop n answer }
+        requires code { slice_index self.old.text.items pos ≡ code }
+        requires text { (code ≡ 103) ⊎ ((code ≡ 111) ⊎ (code ≡ 115)) }
+        ensures moves { (answer : Answer) → Ready self.old pos stop n answer → Moves self.old bytes.now result self.new answer }
+        ensures some { IfOk result (λ n. 0 < n) }
+        ensures short { IfErr result (λ e. e ≡ Partial → length bytes.now < 4) }
+    {
+        let at = self.offset + n;
+        match length_front(code, bytes, at, self.inner.end, self.order) {
+            Ok((size, width)) => {
+                let rest = rest_after(bytes, width);
+                if rest.len() > size {
+                    // All of it is there, and the zero behind it.
+                    return match text_front(
+                        kind_of_code(code),
+                        size,
+                        rest,
+                        at + width,
+                        reason_of_code(code),
+                    ) {
+                        Ok(()) => {
+                            self.offset = at + width + size;
+                            self.doing = Doing::Nul;
+                            Ok(width + size)
+                        }
+                        Err(stop) => Err(stop),
+                    };
+                }
+                self.offset = at + width;
+                self.scan = TextScan::new(kind_of_code(code));
+                match self.text_on(code, size) {
+                    Ok(()) => Ok(width),
+                    Err(stop) => Err(stop),
+                }
+            }
+            Err(stop) => Err(stop),
+        }
+    }
+
+    /// More bytes of a text.
+    pub(crate) fn text(&mut self, code: u8, left: usize, bytes: &[u8]) -> Result<usize, Stop>
+        requires valid { (answer : Answer) × Texts self.old code left answer }
+        requires more { 0 < left }
+        ensures moves { (answer : Answer) → Texts self.old code left answer → Moves self.old bytes.now result self.new answer }
+        ensures some { IfOk result (λ n. 0 < n) }
+        ensures short { IfErr result (λ e. e ≡ Partial → length bytes.now < 1) }
+    {
+        if bytes.is_empty() {
+            return Err(Stop::Partial);
+        }
+        let given = front(bytes, left);
+        let taken = scan_on(&mut self.scan, given);
+        if taken < given.len() {
+            return refuse(self.offset + taken, reason_of_code(code));
+        }
+        self.offset += taken;
+        match self.text_on(code, left - taken) {
+            Ok(()) => Ok(taken),
+            Err(stop) => Err(stop),
+        }
+    }
+
+    /// The zero behind a text.
+    pub(crate) fn nul(&mut self, bytes: &[u8]) -> Result<usize, Stop>
+        requires valid { (answer : Answer) × Nuls self.old answer }
+        ensures moves { (answer : Answer) → Nuls self.old answer → Moves self.old bytes.now result self.new answer }
+        ensures some { IfOk result (λ n. 0 < n) }
+        ensures short { IfErr result (λ e. e ≡ Partial → length bytes.now < 1) }
+    {
+        if bytes.is_empty() {
+            return Err(Stop::Partial);
+        }
+        if bytes[0] != 0 {
+            return refuse(self.offset, Reason::Nul);
+        }
+        self.offset += 1;
+        self.next();
+        Ok(1)
+    }
+}

@@ -1,0 +1,171 @@
+//! Values that are wanted: what is noted of them between pieces.
+#![tactic(auto)]
+
+ghost use Rattle.std.specs.Prelude.{◌≡◌, ◌+◌, ◌*◌, ◌<◌, ◌≤◌, ℕ, length, drop, IfOk, IfErr, ◌⊎◌, ◌↔◌, IsTrue};
+
+use crate::fronts::rest_after;
+use arrayvec::ArrayVec;
+use dbus_types::{TextKind, TextScan};
+use dbus_value_model::{Bounds, Fault, Limits, Order, Stop};
+
+/// An open container: where in the signatures the types of its parts stand, and its end.
+#[derive(Clone, Copy, Default)]
+pub struct Frame {
+    /// Whether it is an array, whose one type stands for all of its elements.
+    pub(crate) array: bool,
+    /// Where the next type begins.
+    pub(crate) pos: usize,
+    /// Where its types end.
+    pub(crate) stop: usize,
+    /// How many bytes of signatures are in use.
+    pub(crate) top: usize,
+    /// The offset where it ends.
+    pub(crate) end: usize,
+    /// How many containers may be opened in it.
+    pub(crate) room: u8,
+}
+
+/// What is wanted next.
+#[derive(Clone, Copy)]
+pub enum Doing {
+    /// A value of the type that stands there in the signatures.
+    Wanted(usize, usize),
+    /// Elements of an array of BYTE.
+    Bytes,
+    /// So many bytes of a text of a type.
+    Text(u8, usize),
+    /// The zero behind a text.
+    Nul,
+    /// No more values.
+    Over,
+}
+
+/// Values that are wanted, up to an end.
+#[derive(Drop)]
+pub struct Values {
+    pub(crate) bounds: Bounds,
+    pub(crate) order: Order,
+    pub(crate) end: usize,
+    pub(crate) offset: usize,
+    pub(crate) inner: Frame,
+    pub(crate) frames: ArrayVec<Frame, 128>,
+    pub(crate) text: ArrayVec<u8, 16640>,
+    pub(crate) scan: TextScan,
+    pub(crate) doing: Doing,
+}
+
+impl Values {
+    ghost use Rattle.dbus_value_checker.specs.Denotations.{Answer, Denotes};
+    ghost use Rattle.dbus_value_checker.specs.Moves.{Moves, Runs, IsLive, offset_of, wide, values_on, nothing_on};
+    ghost use Rattle.dbus_value_model.specs.declared.stop.Stop.TheVariants.{Partial};
+    ghost use Rattle.dbus_value_checker.specs.Suspended.{On};
+    ghost use Rattle.dbus_types.specs.Types.{TypeTrees, sigs, AreShaped};
+
+    /// Nothing is wanted, at the first byte of a message.
+    pub fn new() -> Values
+        ensures { (last : On) → Denotes result (nothing_on last 0) }
+    {
+        Values {
+            bounds: Limits::specification().bounds(),
+            order: Order::Little,
+            end: 0,
+            offset: 0,
+            inner: Frame::default(),
+            frames: ArrayVec::new(),
+            text: ArrayVec::new(),
+            scan: TextScan::new(TextKind::Text),
+            doing: Doing::Over,
+        }
+    }
+
+    /// Wants values of the types that this signature spells: from a offset of a message up to its end, with room for so many
+    /// open containers. Whatever was wanted before is forgotten.
+    pub fn begin(
+        &mut self,
+        bounds: Bounds,
+        order: Order,
+        offset: usize,
+        end: usize,
+        types: &[u8],
+        room: u8,
+    )
+        requires at_most { offset ≤ end }
+        requires near { end < 4294967296 }
+        requires few { room ≤ 64 }
+        requires short { length types.now ≤ 255 }
+        requires types { (ts : TypeTrees) × ((types.now ≡ sigs ts) × AreShaped ts) }
+        ensures { (ts : TypeTrees) (last : On) → types.now ≡ sigs ts → AreShaped ts → Denotes self.new (values_on bounds order room end ts last offset) }
+    {
+        self.bounds = bounds;
+        self.order = order;
+        self.offset = offset;
+        self.end = end;
+        self.frames.clear();
+        self.text.clear();
+        match self.text.try_extend_from_slice(types) {
+            Ok(()) => {}
+            // There is room for it.
+            Err(_) => return,
+        }
+        let stop = types.len();
+        self.inner = Frame {
+            array: false,
+            pos: 0,
+            stop,
+            top: stop,
+            end,
+            room,
+        };
+        self.next();
+    }
+
+    /// What is wanted next, where all of it is there.
+    fn step(&mut self, bytes: &[u8]) -> Result<usize, Stop>
+        requires valid { (answer : Answer) × Denotes self.old answer }
+        requires live { IsLive self.old.doing }
+        ensures moves { (answer : Answer) → Denotes self.old answer → Moves self.old bytes.now result self.new answer }
+        ensures further { IfOk result (λ n. (0 < n) ⊎ (wide self.new.doing < wide self.old.doing)) }
+        ensures short { IfErr result (λ e. e ≡ Partial → length bytes.now < 257) }
+    {
+        match self.doing {
+            Doing::Wanted(pos, stop) => self.value(pos, stop, bytes),
+            Doing::Text(code, left) => self.text(code, left, bytes),
+            Doing::Bytes => self.bytes(bytes),
+            Doing::Nul => self.nul(bytes),
+            Doing::Over => Ok(0),
+        }
+    }
+
+    /// Whether something is wanted still.
+    pub fn is_live(&self) -> bool
+        ensures { IsTrue result ↔ IsLive self.now.doing }
+    {
+        !matches!(self.doing, Doing::Over)
+    }
+
+    /// The offset up to which the bytes are taken.
+    pub fn offset(&self) -> usize
+        ensures { result ≡ offset_of self.now }
+    {
+        self.offset
+    }
+
+    /// Takes what is wanted, as far as it is there whole: how many bytes. What is left of them, where something is
+    /// wanted still, is the front of an item.
+    pub fn run(&mut self, bytes: &[u8]) -> Result<usize, Fault>
+        requires valid { (answer : Answer) × Denotes self.old answer }
+        ensures runs { (answer : Answer) → Denotes self.old answer → Runs bytes.now result self.new answer }
+        ensures short { IfOk result (λ n. IsLive self.new.doing → length bytes.now < n + 257) }
+    {
+        let mut n = 0;
+        while self.is_live() {
+            match self.step(rest_after(bytes, n)) {
+                Ok(more) => n += more,
+                // Nothing takes memory.
+                Err(Stop::Partial | Stop::Memory) => return Ok(n),
+                Err(Stop::Refused(fault)) => return Err(fault),
+            }
+        }
+        Ok(n)
+    }
+}
