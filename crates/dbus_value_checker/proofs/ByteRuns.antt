@@ -12,8 +12,8 @@ use Rattle.dbus_value_checker.specs.Denotations.{Answer, rest_of, HasFrames, Goe
 use Rattle.dbus_value_checker.proofs.Suspension.{elements_more, value_begins, padding_zeros, head_waits}
 use Rattle.dbus_value_checker.proofs.Runs.{no_gap, bytes_run}
 use Rattle.dbus_value_checker.proofs.Slices.{slice_head, slice_room}
-use Rattle.dbus_value_checker.proofs.Reach.{frames_reach, frames_small}
-use Rattle.dbus_value_checker.proofs.Entering.{first, rest, first_is, number_type}
+use Rattle.dbus_value_checker.proofs.FrameLaws.{frames_reach, frames_small}
+use Rattle.dbus_value_checker.proofs.TypeCodes.{first, rest, first_is, number_type}
 
 byte_code : (k : NumberCode) → number_code k ≡ 121 → k ≡ BYTE
 byte_code BYTE e = refl

@@ -223,7 +223,7 @@ module _ (order : Order) (end o : ℕ) (s : List ℕ) (k : TextCode) where
       let row : text_row end (o + w) n ≡ Some reasons.Overrun = rw (lt-ltb end (o + w + n + 1) past) refl in
       λ c. subst (λ (v : ℕ). number order v end (text_row end) o (s ++ c) ≡ Faulty (fault o reasons.Overrun)) (sym w_is) (number_refused order w end (text_row end) o s n there low n_is reasons.Overrun row c)
 
--- ---- an array's length and the padding behind it
+-- ---- an array's length and the padding after it
 
 pub take-both : (i j : ℕ) (s c : List ℕ) → i ≤ length s → take (i + j) s ++ c ≡ take i s ++ (take j (drop i s) ++ c)
 take-both zero j s c h = let e : 0 + j ≡ j = omega arith in ap (λ (k : ℕ). take k s ++ c) e
@@ -285,7 +285,7 @@ module _ (bounds : Bounds) (order : Order) (end o : ℕ) (s : List ℕ) (t : Typ
             let shows : padding (alignment_of t) end (o + 4) (drop 4 s ++ c) ≡ Faulty f = subst (λ (b : ℕ). padding b end (o + 4) (drop 4 s ++ c) ≡ Faulty f) boundary (h c) in
             rw (split-at 4 s c, number_taken order 4 end (array_row bounds t end) o s n there low n_is row_none (drop 4 s ++ c), shows) refl
 
--- ---- one front behind another
+-- ---- one front after another
 
 module _ {A B : Type 0} (run : Reader A) (o : ℕ) (s : List ℕ) (n : ℕ) (a : A) (there : n ≤ length s) (taken : (c : List ℕ) → run o (take n s ++ c) ≡ Done a (o + n) c) (next : A → Reader B) where
   pub both_taken : (m : ℕ) (b : B) → ((c : List ℕ) → next a (o + n) (take m (drop n s) ++ c) ≡ Done b (o + n + m) c) → (c : List ℕ) → after (run o (take (n + m) s ++ c)) next ≡ Done b (o + (n + m)) c
@@ -372,7 +372,7 @@ module _ (order : Order) (end o : ℕ) (s : List ℕ) where
       first_taken : (c : List ℕ) → numbered o (take 1 s ++ c) ≡ Done n (o + 1) c
       first_taken = number_taken order 1 end (text_row end) o s n there low is (rw (le-ltb end (o + 1 + n + 1) fits) refl)
 
-      -- what stops within the text and the zero behind it
+      -- what stops within the text and the zero after it
       rest_stops : (e : Stop) → Fronts seen (o + 1) (drop 1 s) (Err e) (named n) → Fronts seen o s (Err e) (held_text order end)
       rest_stops stops.Memory h = absurd h
       rest_stops stops.Partial h = both_waits numbered o s 1 n there first_taken named h

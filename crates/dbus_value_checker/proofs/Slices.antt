@@ -14,8 +14,8 @@ slice_whole text pos stop a h le e =
     let n : length (slice text pos stop) ≡ length a = ap length e in
     omega (arith, n, length-drop pos (take stop text), length-take stop text)
 
-pub slice_behind : (text : List ℕ) (pos stop : ℕ) (a b : List ℕ) → slice text pos stop ≡ a ++ b → slice text (pos + length a) stop ≡ b
-slice_behind text pos stop a b e = sym (drop-drop (length a) pos (take stop text)) ∙ ap (λ (l : List ℕ). drop (length a) l) e ∙ drop_at a b (length a) refl
+pub slice_after : (text : List ℕ) (pos stop : ℕ) (a b : List ℕ) → slice text pos stop ≡ a ++ b → slice text (pos + length a) stop ≡ b
+slice_after text pos stop a b e = sym (drop-drop (length a) pos (take stop text)) ∙ ap (λ (l : List ℕ). drop (length a) l) e ∙ drop_at a b (length a) refl
 
 pub slice_first : (text : List ℕ) (pos stop : ℕ) (a b : List ℕ) → pos ≤ stop → slice text pos stop ≡ a ++ b → slice text pos (pos + length a) ≡ a
 slice_first text pos stop a b h e =
@@ -27,10 +27,10 @@ slice_first text pos stop a b h e =
 -- the text within two brackets
 pub slice_inner : (text : List ℕ) (pos stop c d : ℕ) (a : List ℕ) → pos ≤ stop → stop ≤ length text → slice text pos stop ≡ c ∷ (a ++ d ∷ []) → (slice text (pos + 1) (stop - 1) ≡ a) × (pos + 1 + length a ≡ stop - 1) × (pos + 2 + length a ≡ stop)
 slice_inner text pos stop c d a h le e =
-    let behind : slice text (pos + 1) stop ≡ a ++ d ∷ [] = slice_behind text pos stop (c ∷ []) (a ++ d ∷ []) e in
+    let left : slice text (pos + 1) stop ≡ a ++ d ∷ [] = slice_after text pos stop (c ∷ []) (a ++ d ∷ []) e in
     let whole : pos + length (c ∷ (a ++ d ∷ [])) ≡ stop = slice_whole text pos stop (c ∷ (a ++ d ∷ [])) h le e in
     let n : length (a ++ d ∷ []) ≡ length a + 1 = length-append a (d ∷ []) in
-    let first = slice_first text (pos + 1) stop a (d ∷ []) (omega arith) behind in
+    let first = slice_first text (pos + 1) stop a (d ∷ []) (omega arith) left in
     let at : pos + 1 + length a ≡ stop - 1 = omega arith in
     (subst (λ (k : ℕ). slice text (pos + 1) k ≡ a) at first, at, omega arith)
 

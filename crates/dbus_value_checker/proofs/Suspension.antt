@@ -81,12 +81,12 @@ pub padding_zeros : {A : Type 0} (a end o : ℕ) (s : List ℕ) (next : Unit {0}
 unfolding padding
 padding_zeros a end o s next h = rw (le-ltb _ _ h, padding) refl
 
--- behind the zeros the offset is known
-pub zeros_place : {A : Type 0} (k o : ℕ) (s : List ℕ) (next : ℕ → Reader A) → after (zeros k o s) (λ x p. next p p) ≡ after (zeros k o s) (λ x. next (o + k))
-zeros_place zero o s next = let e : o + 0 ≡ o = omega arith in ap (λ (p : ℕ). next p o s) (sym e)
-zeros_place (suc k) o [] next = refl
-zeros_place (suc k) o (zero ∷ s) next = let e : suc o + k ≡ o + suc k = omega arith in zeros_place k (suc o) s next ∙ ap (λ (p : ℕ). after (zeros k (suc o) s) (λ x. next p)) e
-zeros_place (suc k) o (suc b ∷ s) next = refl
+-- after the zeros the offset is known
+pub zeros_offset : {A : Type 0} (k o : ℕ) (s : List ℕ) (next : ℕ → Reader A) → after (zeros k o s) (λ x p. next p p) ≡ after (zeros k o s) (λ x. next (o + k))
+zeros_offset zero o s next = let e : o + 0 ≡ o = omega arith in ap (λ (p : ℕ). next p o s) (sym e)
+zeros_offset (suc k) o [] next = refl
+zeros_offset (suc k) o (zero ∷ s) next = let e : suc o + k ≡ o + suc k = omega arith in zeros_offset k (suc o) s next ∙ ap (λ (p : ℕ). after (zeros k (suc o) s) (λ x. next p)) e
+zeros_offset (suc k) o (suc b ∷ s) next = refl
 
 -- ---- a value begins
 
@@ -103,8 +103,8 @@ value_items bounds order zero end t o s = refl
 value_items bounds order (suc room) end t o s = refl
 
 -- the items of a value, from its padding on
-abbrev behind_padding : (bounds : Bounds) (order : Order) (room end : ℕ) (t : TypeTree) (next : On) → On
-behind_padding bounds order room end t next = own bounds order end (own_of room t) (works bounds order next (opened_by room end t))
+abbrev after_padding : (bounds : Bounds) (order : Order) (room end : ℕ) (t : TypeTree) (next : On) → On
+after_padding bounds order room end t next = own bounds order end (own_of room t) (works bounds order next (opened_by room end t))
 
 number_begins : (bounds : Bounds) (order : Order) (room end : ℕ) (k : NumberCode) (o : ℕ) (s : List ℕ) (next : On) → after (items bounds order room (inside bounds order room) end (NumberType k) o s) (λ x. next) ≡ after (padding (width k) end o s) (λ x. own bounds order end (own_of room (NumberType k)) next)
 number_begins bounds order room end k o s next =
@@ -199,8 +199,8 @@ module _ (order : Order) (w end : ℕ) (row : ℕ → ℕ → Option Reason) whe
   number_read p got c whole fits =
       let long : w ≤ length (got ++ c) = omega (arith, length-append got c) in
       let at : take w (got ++ c) ≡ got = take_at got c w whole in
-      let behind : drop w (got ++ c) ≡ c = drop_at got c w whole in
-      rw (le-ltb _ _ fits, le-ltb _ _ long, at, behind, number) refl
+      let left : drop w (got ++ c) ≡ c = drop_at got c w whole in
+      rw (le-ltb _ _ fits, le-ltb _ _ long, at, left, number) refl
 
 -- ---- a text
 
@@ -230,10 +230,10 @@ module _ (k : WantedText) (n p : ℕ) where
   unfolding text
   text_at given c len whole w is =
       let at : take n (given ++ c) ≡ given = take_at given c n len in
-      let behind : drop n (given ++ c) ≡ c = drop_at given c n len in
+      let left : drop n (given ++ c) ≡ c = drop_at given c n len in
       let le : length given ≤ break_at k given = omega arith in
       let long : n ≤ length (given ++ c) = omega (arith, length-append given c) in
-      rw (at, behind, le-ltb _ _ le, le-ltb _ _ long, is, text) refl
+      rw (at, left, le-ltb _ _ le, le-ltb _ _ long, is, text) refl
 
   pub text_ends : (given c : List ℕ) → length given ≡ n → is_kind k given ≡ true → text k n p (given ++ c) ≡ Done given (p + n) c
   text_ends given c len is = text_at given c len (computed_whole k given is) true is

@@ -16,8 +16,7 @@ use Rattle.dbus_value_checker.specs.declared.values.Doing.{Doing}
 use Rattle.dbus_value_checker.specs.Suspended.{onward, Work}
 use Rattle.dbus_value_checker.specs.Denotations.{Answer, rest_of, HasFrames, Goes, Texts, Nuls, after_piece}
 use Rattle.dbus_value_checker.proofs.Suspension.{text_waits, text_breaks, text_ends, text_not}
-use Rattle.dbus_value_checker.proofs.Reach.{frames_reach, frames_small}
-use Rattle.dbus_value_checker.proofs.Entering.{inner_of, within}
+use Rattle.dbus_value_checker.proofs.FrameLaws.{frames_reach, frames_small, inner_of, within}
 use Rattle.dbus_unmarshal.proofs.KindLaws.{break_is, one_break, is_wanted, is_not_wanted}
 
 pub take_one : (s : List ℕ) (n : ℕ) (w : List ℕ) → n < length s → (w ++ take n s) ++ get_or s n 0 ∷ [] ≡ w ++ take (n + 1) s
@@ -152,7 +151,7 @@ module _ (x : Values) (code left : ℕ) (answer : Answer) (t : Texts x code left
         sym (t.same c) ∙ ap (λ (r : Outcome (List ℕ)). after r (λ u. onward nul (rest_of answer x t.ws))) (text_not (kind_of t.kind) t.size t.start t.bytes c whole so_far is)
         ∙ ap (λ (q : ℕ). Faulty (fault q (text_reason (kind_of t.kind)))) at ∙ ap (λ (r : Reason). Faulty (fault x.offset r)) reason
 
--- ---- the zero behind it
+-- ---- the zero after it
 
 module _ (x : Values) (answer : Answer) (u : Nuls x answer) where
   pub nuls_wait : answer.to [] ≡ Partial

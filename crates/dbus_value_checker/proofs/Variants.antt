@@ -1,4 +1,4 @@
--- A variant's signature is noted behind those that are in use.
+-- A variant's signature is noted after those that are in use.
 use Rattle.std.proofs.Common.{◌≡◌, ℕ, suc, ◌+◌, ◌*◌, ◌<◌, ◌≤◌, List, [], ◌∷◌, ◌++◌, length, reverse, take, drop, get_or, false, Ok, Err, refl, sym, ap, subst, ◌∙◌, arith}
 use Rattle.std.proofs.lemmas.List.{reverse-append, length-append, length-reverse, length-take, take-take, take_at, drop_at, take_all, append-nil}
 use Rattle.dbus_types.specs.Types.{NumberCode, BYTE, BOOLEAN, INT16, UINT16, INT32, UINT32, INT64, UINT64, DOUBLE, UNIX_FD, STRING, OBJECT_PATH, SIGNATURE, TypeTree, NumberType, TextType, VariantType, ArrayType, StructType, EntryType, NoTypes, MoreTypes, number_code, sig, sigs}
@@ -22,9 +22,9 @@ use Rattle.dbus_value_checker.specs.Frames.{slice, IsFrame, Framed, AreFrames}
 use Rattle.dbus_value_checker.specs.Denotations.{Answer, rest_of, Goes, Wants, after_piece}
 use Rattle.dbus_value_checker.specs.Moves.{Moves}
 use Rattle.dbus_value_checker.proofs.Suspension.{works_as, variant_begins, after_after, after_same, parts_more}
-use Rattle.dbus_value_checker.proofs.Reach.{frames_reach, end_small}
-use Rattle.dbus_value_checker.proofs.Entering.{first, inner_of, within}
-use Rattle.dbus_value_checker.proofs.Readies.{front_taken, front_waits, front_refused, code_first}
+use Rattle.dbus_value_checker.proofs.FrameLaws.{frames_reach, end_small, inner_of, within}
+use Rattle.dbus_value_checker.proofs.TypeCodes.{first}
+use Rattle.dbus_value_checker.proofs.PaddedValues.{front_taken, front_waits, front_refused, code_first}
 
 -- ---- the signatures in use stay as they are
 

@@ -71,7 +71,7 @@ pub record Texts (x : Values) (code left : ℕ) (answer : Answer) : Type 0 where
   pub fits : x.offset + left + 1 ≤ x.inner.end
   pub same : (c : List ℕ) → after (text (kind_of kind) size start (bytes ++ c)) (λ t. onward nul (rest_of answer x ws)) ≡ answer.to c
 
--- the zero behind a text is wanted
+-- the zero after a text is wanted
 pub record Nuls (x : Values) (answer : Answer) : Type 0 where
   pub ws : List Work
   pub frames : HasFrames x.offset x ws

@@ -54,7 +54,7 @@ IsLive doing.Bytes = Unit {0}
 IsLive doing.Nul = Unit {0}
 IsLive doing.Over = ⊥
 
--- values of these types, from a offset on, and then the last
+-- values of these types, from an offset on, and then the last
 abbrev pub values_on : Bounds → Order → (room end : ℕ) → TypeTrees → On → ℕ → Answer
 values_on bounds order room end ts last offset = record { last = last; to = onward (fields (value bounds order room end) ts) last offset }
 

@@ -174,7 +174,7 @@ pub fn number_front(
 
 /// The length of a text of the type that has this code, and how many bytes the length has.
 ///
-/// `Overrun` at `offset` where the length, the text or the zero behind it ends past the end.
+/// `Overrun` at `offset` where the length, the text or the zero after it ends past the end.
 pub fn length_front(
     code: u8,
     bytes: &[u8],
@@ -214,7 +214,7 @@ pub fn length_front(
 }
 
 /// How many bytes the elements of an array have, whose type begins with this code, and how many its length and the padding
-/// behind that have.
+/// after that have.
 ///
 /// `ArrayTooLong` at `offset` where they are over the limit; else `Overrun` there where they end past the end; and the faults
 /// of the padding.
@@ -276,7 +276,7 @@ pub fn text_front(
     }
 }
 
-/// The zero behind a text: `Nul` where the byte is not 0.
+/// The zero after a text: `Nul` where the byte is not 0.
 pub fn nul_front(bytes: &[u8], offset: usize) -> Result<(), Stop>
     ensures gives { Fronts (λ _. (tt, 1)) offset bytes.now result nul }
     ensures short { IfErr result (λ e. e ≡ Partial → length bytes.now < 1) }
@@ -290,7 +290,7 @@ pub fn nul_front(bytes: &[u8], offset: usize) -> Result<(), Stop>
     Ok(())
 }
 
-/// The signature of a variant's value, with its length and the zero behind it: how many bytes it has.
+/// The signature of a variant's value, with its length and the zero after it: how many bytes it has.
 pub fn variant_front(bytes: &[u8], offset: usize, end: usize) -> Result<usize, Stop>
     requires at_most { offset ≤ end }
     requires near { end < 4294967296 }

@@ -6,10 +6,14 @@
 
 mod codes;
 mod frames;
-pub mod fronts;
+mod fronts;
 mod items;
 mod scans;
 mod texts;
 mod values;
 
-pub use values::{Doing, Frame, Values};
+pub use fronts::{
+    array_front, byte, fixed, front, length_front, nul_front, number_front, padding, rest_after,
+    text_front, variant_front, word,
+};
+pub use values::Values;

@@ -78,7 +78,7 @@ impl Values {
             Ok((size, width)) => {
                 let rest = rest_after(bytes, width);
                 if rest.len() > size {
-                    // All of it is there, and the zero behind it.
+                    // All of it is there, and the zero after it.
                     return match text_front(
                         kind_of_code(code),
                         size,
@@ -128,7 +128,7 @@ impl Values {
         }
     }
 
-    /// The zero behind a text.
+    /// The zero after a text.
     pub(crate) fn nul(&mut self, bytes: &[u8]) -> Result<usize, Stop>
         requires valid { (answer : Answer) × Nuls self.old answer }
         ensures moves { (answer : Answer) → Nuls self.old answer → Moves self.old bytes.now result self.new answer }

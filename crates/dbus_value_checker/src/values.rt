@@ -10,7 +10,7 @@ use dbus_value_model::{Bounds, Fault, Limits, Order, Stop};
 
 /// An open container: where in the signatures the types of its parts stand, and its end.
 #[derive(Clone, Copy, Default)]
-pub struct Frame {
+pub(crate) struct Frame {
     /// Whether it is an array, whose one type stands for all of its elements.
     pub(crate) array: bool,
     /// Where the next type begins.
@@ -27,14 +27,14 @@ pub struct Frame {
 
 /// What is wanted next.
 #[derive(Clone, Copy)]
-pub enum Doing {
+pub(crate) enum Doing {
     /// A value of the type that stands there in the signatures.
     Wanted(usize, usize),
     /// Elements of an array of BYTE.
     Bytes,
     /// So many bytes of a text of a type.
     Text(u8, usize),
-    /// The zero behind a text.
+    /// The zero after a text.
     Nul,
     /// No more values.
     Over,
@@ -78,7 +78,7 @@ impl Values {
         }
     }
 
-    /// Wants values of the types that this signature spells: from a offset of a message up to its end, with room for so many
+    /// Wants values of the types that this signature spells: from an offset of a message up to its end, with room for so many
     /// open containers. Whatever was wanted before is forgotten.
     pub fn begin(
         &mut self,

@@ -1,12 +1,12 @@
 use Rattle.std.proofs.Common.{ℕ, true, ◌+◌, ◌-◌, length, take, arith, refl, sym, ap, get_or, List}
 use Rattle.dbus_value_checker.specs.declared.values.Values.{Values}
 use Rattle.dbus_value_checker.specs.Denotations.{after_piece}
-use Rattle.dbus_value_checker.proofs.Readies.{ready_place, ready_array, element_there, element_code, deep_array, array_stops, array_goes}
+use Rattle.dbus_value_checker.proofs.PaddedValues.{ready_offset, ready_array, element_there, element_code, deep_array, array_stops, array_goes}
 use Rattle.dbus_value_checker.proofs.values.Values.array.Goals as goal
 
 pub overflow_add-at : goal.overflow_add-at
 overflow_add-at c =
-    let p = ready_place c.args.self.now c.args.pos c.args.stop c.args.n c.requires.valid.0 c.requires.valid.1 97 c.requires.code in
+    let p = ready_offset c.args.self.now c.args.pos c.args.stop c.args.n c.requires.valid.0 c.requires.valid.1 97 c.requires.code in
     let a = p.1 in let b = p.2 in omega arith
 
 pub returns-then-room-eq0-clause-moves : goal.returns-then-room-eq0-clause-moves
@@ -21,7 +21,7 @@ bounds-as_slice-pos c =
 
 pub array_front-requires-clause-near : goal.array_front-requires-clause-near
 array_front-requires-clause-near c =
-    let p = ready_place c.args.self.now c.args.pos c.args.stop c.args.n c.requires.valid.0 c.requires.valid.1 97 c.requires.code in
+    let p = ready_offset c.args.self.now c.args.pos c.args.stop c.args.n c.requires.valid.0 c.requires.valid.1 97 c.requires.code in
     p.2
 
 pub next-requires : goal.next-requires

@@ -2,7 +2,7 @@ use Rattle.std.proofs.Common.{ℕ, List, ◌++◌, length, refl, false, ap, ◌�
 use Rattle.dbus_value_checker.specs.declared.values.Values.{Values}
 use Rattle.dbus_value_checker.specs.Suspended.{done}
 use Rattle.dbus_value_checker.specs.Moves.{values_on}
-use Rattle.dbus_value_checker.proofs.Fresh.{begun_goes}
+use Rattle.dbus_value_checker.proofs.FirstFrame.{begun_goes}
 use Rattle.dbus_value_checker.proofs.values.Values.begin.Goals as goal
 
 pub next-requires : goal.next-requires

@@ -1,7 +1,7 @@
 use Rattle.std.proofs.Common.{false, ◌+◌, ◌-◌, refl, sym, subst}
 use Rattle.dbus_value_checker.specs.declared.values.Values.{Values}
 use Rattle.dbus_value_checker.specs.Denotations.{Wants}
-use Rattle.dbus_value_checker.proofs.Nexts.{wants_doing}
+use Rattle.dbus_value_checker.proofs.NextValues.{wants_doing}
 use Rattle.dbus_value_checker.proofs.values.Values.inside.Goals as goal
 
 pub returns-clause-opens : goal.returns-clause-opens

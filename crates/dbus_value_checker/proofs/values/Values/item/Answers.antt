@@ -1,4 +1,4 @@
-use Rattle.dbus_value_checker.proofs.Moving.{opens_err, opens_at_once}
+use Rattle.dbus_value_checker.proofs.Calls.{opens_err, opens_at_once}
 use Rattle.dbus_value_checker.proofs.values.Values.item.Goals as goal
 
 pub returns-in-Err-clause-moves : goal.returns-in-Err-clause-moves

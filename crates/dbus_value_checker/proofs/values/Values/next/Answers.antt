@@ -3,8 +3,8 @@ use Rattle.dbus_value_checker.proofs.ByteRuns.{bytes_begin}
 use Rattle.std.proofs.Common.{◌≡◌, ℕ, ◌≤◌, length, arith, refl, sym, subst, inl, inr}
 use Rattle.dbus_value_checker.specs.declared.values.Values.{Values}
 use Rattle.dbus_value_checker.specs.Denotations.{Wants}
-use Rattle.dbus_value_checker.proofs.Entering.{inner_of}
-use Rattle.dbus_value_checker.proofs.Nexts.{IsOver, next_element, next_part, next_popped, next_last, wants_doing}
+use Rattle.dbus_value_checker.proofs.FrameLaws.{inner_of}
+use Rattle.dbus_value_checker.proofs.NextValues.{IsOver, next_element, next_part, next_popped, next_last, wants_doing}
 use Rattle.dbus_value_checker.proofs.values.Values.next.Goals.{then-self+else-self-2, else-self+else-self-3}
 use Rattle.dbus_value_checker.proofs.values.Values.next.Goals as goal
 

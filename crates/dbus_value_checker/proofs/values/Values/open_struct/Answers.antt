@@ -1,15 +1,15 @@
 use Rattle.std.proofs.Common.{◌-◌, arith, refl, inl}
-use Rattle.dbus_value_checker.proofs.Readies.{ready_place, bracket_fits, struct_opens, deep_struct}
+use Rattle.dbus_value_checker.proofs.PaddedValues.{ready_offset, bracket_fits, struct_opens, deep_struct}
 use Rattle.dbus_value_checker.proofs.values.Values.open_struct.Goals as goal
 
 pub overflow_add-self : goal.overflow_add-self
 overflow_add-self c =
-    let p = ready_place c.args.self.now c.args.pos c.args.stop c.args.n c.requires.valid.0 c.requires.valid.1 40 c.requires.code in
+    let p = ready_offset c.args.self.now c.args.pos c.args.stop c.args.n c.requires.valid.0 c.requires.valid.1 40 c.requires.code in
     let a = p.1 in let b = p.2 in omega arith
 
 pub inside-requires : goal.inside-requires
 inside-requires c =
-    let p = ready_place c.args.self.now c.args.pos c.args.stop c.args.n c.requires.valid.0 c.requires.valid.1 40 c.requires.code in
+    let p = ready_offset c.args.self.now c.args.pos c.args.stop c.args.n c.requires.valid.0 c.requires.valid.1 40 c.requires.code in
     let f = bracket_fits c.args.self.now c.args.pos c.args.stop c.args.n c.requires.valid.0 c.requires.valid.1 40 c.requires.code (inl (refl, omega arith)) in
     let a = p.1 in let b = p.2 in
     record { near = omega arith; few = f.0; some = f.1; there = p.3 }

@@ -3,7 +3,7 @@ use Rattle.dbus_value_model.specs.declared.stop.Stop.{Stop}
 use Rattle.dbus_value_model.specs.declared.stop.Stop.TheVariants as stops
 use Rattle.dbus_value_checker.specs.Moves.{Moves}
 use Rattle.dbus_value_checker.specs.Denotations.{after_piece}
-use Rattle.dbus_value_checker.proofs.Moving.{run_on, run_refused}
+use Rattle.dbus_value_checker.proofs.Calls.{run_on, run_refused}
 use Rattle.dbus_value_checker.proofs.values.Values.run.Goals as goal
 
 pub loop-self-preserved : goal.loop-self-preserved

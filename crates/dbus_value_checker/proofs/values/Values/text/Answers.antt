@@ -6,7 +6,7 @@ use Rattle.dbus_types.specs.Kinds.{IsPrefixOf}
 use Rattle.dbus_value_model.specs.Reading.{Partial}
 use Rattle.dbus_value_checker.specs.Denotations.{after_piece}
 use Rattle.dbus_value_checker.proofs.TextSteps.{texts_small, texts_on, texts_wait, texts_break, empty_list}
-use Rattle.dbus_value_checker.proofs.Moving.{opens_after}
+use Rattle.dbus_value_checker.proofs.Calls.{opens_after}
 use Rattle.dbus_value_checker.proofs.values.Values.text.Goals as goal
 
 pub returns-then-is_empty-clause-moves : goal.returns-then-is_empty-clause-moves

@@ -2,8 +2,8 @@ use Rattle.std.proofs.Common.{ℕ, List, length, take, get_or, Ok, Err, arith, a
 use Rattle.std.proofs.lemmas.List.{length-drop}
 use Rattle.dbus_value_checker.specs.Denotations.{after_piece}
 use Rattle.dbus_value_checker.specs.Moves.{Moves}
-use Rattle.dbus_value_checker.proofs.Readies.{wants_place, wants_ready, wants_stops}
-use Rattle.dbus_value_checker.proofs.Moving.{wants_code, behind_ok, behind_err}
+use Rattle.dbus_value_checker.proofs.PaddedValues.{wants_offset, wants_ready, wants_stops}
+use Rattle.dbus_value_checker.proofs.Calls.{wants_code, after_ok, after_err}
 use Rattle.dbus_value_checker.proofs.values.Values.value.Goals as goal
 
 pub bounds-as_slice-pos : goal.bounds-as_slice-pos
@@ -16,7 +16,7 @@ pub variant-requires-clause-valid : goal.variant-requires-clause-valid
 variant-requires-clause-valid c = c.requires.valid
 
 pub padding-requires-clause-at_most : goal.padding-requires-clause-at_most
-padding-requires-clause-at_most c = (wants_place c.args.self.now c.args.pos c.args.stop c.requires.valid.0 c.requires.valid.1 (get_or c.as_slice.result.now c.args.pos 0) (sym (ap (λ (t : List ℕ). get_or t c.args.pos 0) c.as_slice.ensures.value))).0
+padding-requires-clause-at_most c = (wants_offset c.args.self.now c.args.pos c.args.stop c.requires.valid.0 c.requires.valid.1 (get_or c.as_slice.result.now c.args.pos 0) (sym (ap (λ (t : List ℕ). get_or t c.args.pos 0) c.as_slice.ensures.value))).0
 
 pub item-requires-clause-valid : goal.item-requires-clause-valid
 item-requires-clause-valid c =
@@ -38,7 +38,7 @@ returns-in-Ok-item-clause-moves c = λ answer w.
     let there = sym (ap (λ (t : List ℕ). get_or t c.args.pos 0) c.as_slice.ensures.value) in
     let m = c.in-Ok.ensures.moves in
     let r = wants_ready x c.args.pos c.args.stop answer w code there c.if-code-eq118.false c.alignment.result c.alignment.ensures.value s n c.in-Ok.ensures.gives m.1 in
-    behind_ok x c.item.new.self s n m.2 answer c.in-Ok-item.more
+    after_ok x c.item.new.self s n m.2 answer c.in-Ok-item.more
     (subst (λ (u : List ℕ). Moves x u (Ok c.in-Ok-item.more) c.item.new.self (after_piece answer (take n s))) c.rest_after.ensures (c.in-Ok-item.ensures.moves (after_piece answer (take n s)) r))
 
 pub returns-in-Err-item-clause-moves : goal.returns-in-Err-item-clause-moves
@@ -50,7 +50,7 @@ returns-in-Err-item-clause-moves c = λ answer w.
     let there = sym (ap (λ (t : List ℕ). get_or t c.args.pos 0) c.as_slice.ensures.value) in
     let m = c.in-Ok.ensures.moves in
     let r = wants_ready x c.args.pos c.args.stop answer w code there c.if-code-eq118.false c.alignment.result c.alignment.ensures.value s n c.in-Ok.ensures.gives m.1 in
-    behind_err x c.item.new.self s n m.2 answer c.in-Err-item.stop
+    after_err x c.item.new.self s n m.2 answer c.in-Err-item.stop
     (subst (λ (u : List ℕ). Moves x u (Err c.in-Err-item.stop) c.item.new.self (after_piece answer (take n s))) c.rest_after.ensures (c.in-Err-item.ensures.moves (after_piece answer (take n s)) r))
 
 pub returns-in-Err-clause-moves : goal.returns-in-Err-clause-moves
@@ -70,7 +70,7 @@ overflow_add-result c =
     let there = sym (ap (λ (t : List ℕ). get_or t c.args.pos 0) c.as_slice.ensures.value) in
     let m = c.in-Ok.ensures.moves in
     let r = wants_ready x c.args.pos c.args.stop answer c.requires.valid.1 code there c.if-code-eq118.false c.alignment.result c.alignment.ensures.value s n c.in-Ok.ensures.gives m.1 in
-    let b = (behind_ok x c.item.new.self s n m.2 answer c.in-Ok-item.more
+    let b = (after_ok x c.item.new.self s n m.2 answer c.in-Ok-item.more
     (subst (λ (u : List ℕ). Moves x u (Ok c.in-Ok-item.more) c.item.new.self (after_piece answer (take n s))) c.rest_after.ensures (c.in-Ok-item.ensures.moves (after_piece answer (take n s)) r))).0 in
     omega arith
 

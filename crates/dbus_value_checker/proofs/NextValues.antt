@@ -13,10 +13,10 @@ use Rattle.dbus_value_checker.specs.Suspended.{onward, Work, Parts, Elements}
 use Rattle.dbus_value_checker.specs.Frames.{slice, AreFrames}
 use Rattle.dbus_value_checker.specs.Denotations.{Answer, rest_of, HasFrames, Goes, Wants}
 use Rattle.dbus_value_checker.proofs.Suspension.{parts_more, elements_more, elements_none}
-use Rattle.dbus_value_checker.proofs.Entering.{sigs_some, within}
+use Rattle.dbus_value_checker.proofs.FrameLaws.{within, frames_reach}
+use Rattle.dbus_value_checker.proofs.TypeCodes.{sigs_some}
 use Rattle.dbus_value_checker.proofs.CodeLaws.{skipped_type}
-use Rattle.dbus_value_checker.proofs.Reach.{frames_reach}
-use Rattle.dbus_value_checker.proofs.Slices.{slice_room, slice_whole, slice_behind, slice_first}
+use Rattle.dbus_value_checker.proofs.Slices.{slice_room, slice_whole, slice_after, slice_first}
 
 pub low_of : (reach low high bottom : ℕ) (text : List ℕ) (f : Frame) (fs : List Frame) (ws : List Work) → AreFrames reach low high bottom text (f ∷ fs) ws → low ≤ f.end
 low_of reach low high bottom text f fs [] h = absurd h
@@ -90,7 +90,7 @@ next_part_at x answer (Parts room end (MoreTypes t ts) ∷ ws) q is h same a lt 
           pos_is = omega arith;
           count_is = h.0.count_is;
           room_is = h.0.room_is;
-          is = record { parts = f.parts; room_is = f.room_is; end_is = f.end_is; types = subst (λ (p : ℕ). slice x.text.items p x.inner.stop ≡ sigs ts) (sym skip) (slice_behind x.text.items x.inner.pos x.inner.stop (sig t) (sigs ts) f.types); complete = f.complete.1 };
+          is = record { parts = f.parts; room_is = f.room_is; end_is = f.end_is; types = subst (λ (p : ℕ). slice x.text.items p x.inner.stop ≡ sigs ts) (sym skip) (slice_after x.text.items x.inner.pos x.inner.stop (sig t) (sigs ts) f.types); complete = f.complete.1 };
         },
         h.1,
       );

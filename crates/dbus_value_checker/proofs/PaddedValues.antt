@@ -26,11 +26,11 @@ use Rattle.dbus_value_checker.specs.Denotations.{Answer, rest_of, HasFrames, Goe
 use Rattle.dbus_value_checker.specs.Moves.{Moves, Pushed, Enters}
 use Rattle.dbus_value_checker.proofs.Suspension.{works_as, value_begins, after_after, after_same}
 use Rattle.dbus_value_checker.proofs.FrontSteps.{take-both, split-at}
-use Rattle.dbus_value_checker.proofs.Slices.{slice_head, slice_room, slice_behind, slice_inner}
+use Rattle.dbus_value_checker.proofs.Slices.{slice_head, slice_room, slice_after, slice_inner}
 use Rattle.dbus_value_checker.specs.Suspended as suspended
-use Rattle.dbus_value_checker.proofs.Reach.{frames_reach, frames_small, end_small}
-use Rattle.dbus_value_checker.proofs.Entering.{first, rest, first_is, first_alignment, array_of, struct_of, entry_of, text_of, number_type, own_text, opened_text, own_number, opened_number, own_array, opened_array, own_deep_array, own_struct, opened_struct, own_deep_struct, opened_deep_struct, own_entry, opened_entry, array_complete, struct_complete, entry_complete, entry_text, parts_some, sigs_some, pushed_frames, inner_of, within}
-use Rattle.dbus_value_checker.proofs.Nexts.{next_part_at}
+use Rattle.dbus_value_checker.proofs.FrameLaws.{frames_reach, frames_small, end_small, pushed_frames, inner_of, within}
+use Rattle.dbus_value_checker.proofs.TypeCodes.{first, rest, first_is, first_alignment, array_of, struct_of, entry_of, text_of, number_type, own_text, opened_text, own_number, opened_number, own_array, opened_array, own_deep_array, own_struct, opened_struct, own_deep_struct, opened_deep_struct, own_entry, opened_entry, array_complete, struct_complete, entry_complete, entry_text, parts_some, sigs_some}
+use Rattle.dbus_value_checker.proofs.NextValues.{next_part_at}
 
 -- ---- what follows the front
 
@@ -53,18 +53,18 @@ module _ (x : Values) (pos stop : ℕ) (answer : Answer) (w : Wants x pos stop a
   wants_low : x.offset ≤ x.inner.end
   wants_low = (inner_of x (suc x.offset) w.ws w.frames).low
 
-  pub wants_place : (x.offset ≤ x.inner.end) × (x.offset < 4294967296) × (stop ≤ length x.text.items)
-  wants_place = (wants_low, frames_small (suc x.offset) x.offset (length x.text.items) x.end x.text.items (x.inner ∷ reverse x.frames.items) w.ws w.frames, (let i = inner_of x (suc x.offset) w.ws w.frames in let a = i.high in let b = w.stop_is in omega arith))
+  pub wants_offset : (x.offset ≤ x.inner.end) × (x.offset < 4294967296) × (stop ≤ length x.text.items)
+  wants_offset = (wants_low, frames_small (suc x.offset) x.offset (length x.text.items) x.end x.text.items (x.inner ∷ reverse x.frames.items) w.ws w.frames, (let i = inner_of x (suc x.offset) w.ws w.frames in let a = i.high in let b = w.stop_is in omega arith))
 
   module _ (other : code ≡ 118 → ⊥) (a : ℕ) (a_is : a ≡ code_alignment code) where
-    abbrev behind : Unit {0} → On
-    behind z = own x.bounds x.order x.inner.end (own_of x.inner.room w.type) (works x.bounds x.order (rest_of answer x w.ws) (opened_by x.inner.room x.inner.end w.type))
+    abbrev begun : Unit {0} → On
+    begun z = own x.bounds x.order x.inner.end (own_of x.inner.room w.type) (works x.bounds x.order (rest_of answer x w.ws) (opened_by x.inner.room x.inner.end w.type))
 
-    padded_same : (c : List ℕ) → after (padding a x.inner.end x.offset c) behind ≡ answer.to c
+    padded_same : (c : List ℕ) → after (padding a x.inner.end x.offset c) begun ≡ answer.to c
     padded_same c =
         let not_variant : w.type ≡ VariantType → ⊥ = λ h. other (sym code_first ∙ ap first h) in
         let is : alignment_of w.type ≡ a = sym (first_alignment w.type) ∙ ap code_alignment code_first ∙ sym a_is in
-        subst (λ (b : ℕ). after (padding b x.inner.end x.offset c) behind ≡ answer.to c) is
+        subst (λ (b : ℕ). after (padding b x.inner.end x.offset c) begun ≡ answer.to c) is
         (sym (value_begins x.bounds x.order x.inner.room x.inner.end w.type x.offset c (rest_of answer x w.ws) not_variant) ∙ w.same c)
 
     pub wants_ready : (s : List ℕ) (n : ℕ) → Fronts (λ (n : ℕ). (tt, n)) x.offset s (Ok n) (padding a x.inner.end) → x.offset + n ≤ x.inner.end → Ready x pos stop n (after_piece answer (take n s))
@@ -77,21 +77,21 @@ module _ (x : Values) (pos stop : ℕ) (answer : Answer) (w : Wants x pos stop a
       pos_is = w.pos_is;
       stop_is = w.stop_is;
       fits = fits;
-      same = front_taken (λ (n : ℕ). (tt, n)) x.offset s (padding a x.inner.end) behind answer.to padded_same n h;
+      same = front_taken (λ (n : ℕ). (tt, n)) x.offset s (padding a x.inner.end) begun answer.to padded_same n h;
     }
 
     pub wants_waits : (s : List ℕ) → Fronts (λ (n : ℕ). (tt, n)) x.offset s (Err stops.Partial) (padding a x.inner.end) → answer.to s ≡ Partial
-    wants_waits s h = front_waits (λ (n : ℕ). (tt, n)) x.offset s (padding a x.inner.end) behind answer.to padded_same h
+    wants_waits s h = front_waits (λ (n : ℕ). (tt, n)) x.offset s (padding a x.inner.end) begun answer.to padded_same h
 
     pub wants_refused : (s : List ℕ) (f : Fault) → Fronts (λ (n : ℕ). (tt, n)) x.offset s (Err (stops.Refused f)) (padding a x.inner.end) → (c : List ℕ) → answer.to (s ++ c) ≡ Faulty f
-    wants_refused s f h = front_refused (λ (n : ℕ). (tt, n)) x.offset s (padding a x.inner.end) behind answer.to padded_same f h
+    wants_refused s f h = front_refused (λ (n : ℕ). (tt, n)) x.offset s (padding a x.inner.end) begun answer.to padded_same f h
 
     pub wants_stops : (s : List ℕ) (e : Stop) → Fronts (λ (n : ℕ). (tt, n)) x.offset s (Err e) (padding a x.inner.end) → Moves x s (Err e) x answer
     wants_stops s stops.Memory h = absurd h
     wants_stops s stops.Partial h = (refl, wants_waits s h)
     wants_stops s (stops.Refused f) h = wants_refused s f h
 
--- ---- what stands behind the padding
+-- ---- what stands after the padding
 
 -- what is left where the value was read up to n bytes further
 pub onto : {A : Type 0} (run : Reader A) (next : On) (o q : ℕ) (s c : List ℕ) → onward run done o s ≡ Done tt q c → onward run next o s ≡ next q c
@@ -122,8 +122,8 @@ module _ (x : Values) (pos stop n : ℕ) (answer : Answer) (r : Ready x pos stop
   pub ready_first : first r.type ≡ code
   ready_first = sym (slice_head x.text.items pos stop (first r.type) (rest r.type) r.pos_is (r.text ∙ first_is r.type)) ∙ there
 
-  pub ready_place : (x.offset ≤ x.inner.end) × (x.offset + n ≤ x.inner.end) × (x.inner.end < 4294967296) × (stop ≤ length x.text.items)
-  ready_place =
+  pub ready_offset : (x.offset ≤ x.inner.end) × (x.offset + n ≤ x.inner.end) × (x.inner.end < 4294967296) × (stop ≤ length x.text.items)
+  ready_offset =
       let i = inner_of x (suc x.offset) r.ws r.frames in
       (i.low, r.fits, end_small (suc x.offset) x.offset (length x.text.items) x.end x.text.items x.inner (reverse x.frames.items) r.ws r.frames, (let a = i.high in let b = r.stop_is in omega arith))
 
@@ -209,7 +209,7 @@ module _ (x : Values) (pos stop n : ℕ) (answer : Answer) (r : Ready x pos stop
         let u = struct_of r.type (ready_first ∙ is) in
         let text : slice x.text.items pos stop ≡ 40 ∷ (sigs u.0 ++ 41 ∷ []) = r.text ∙ ap sig u.1 in
         let i = inner_of x (suc x.offset) r.ws r.frames in
-        let inside = slice_inner x.text.items pos stop 40 41 (sigs u.0) r.pos_is ready_place.3 text in
+        let inside = slice_inner x.text.items pos stop 40 41 (sigs u.0) r.pos_is ready_offset.3 text in
         parts_wanted u.0 inside.0 (struct_complete x.inner.array r.type u.0 u.1 r.complete) (parts_some x.inner.array r.type u.0 u.1 r.complete) inside.1 (let a = i.count in omega arith) (omega arith)
         (ready_as Opened (Parts inner x.inner.end u.0 ∷ []) (own_struct x.inner.room inner r.type u.0 u.1 room) (opened_struct x.inner.room inner x.inner.end r.type u.0 u.1 room))
 
@@ -220,7 +220,7 @@ module _ (x : Values) (pos stop n : ℕ) (answer : Answer) (r : Ready x pos stop
         let ts : TypeTrees = MoreTypes u.0 (MoreTypes u.1.0 NoTypes) in
         let text : slice x.text.items pos stop ≡ 123 ∷ (sigs ts ++ 125 ∷ []) = r.text ∙ ap sig u.1.1 ∙ entry_text u.0 u.1.0 in
         let i = inner_of x (suc x.offset) r.ws r.frames in
-        let inside = slice_inner x.text.items pos stop 123 125 (sigs ts) r.pos_is ready_place.3 text in
+        let inside = slice_inner x.text.items pos stop 123 125 (sigs ts) r.pos_is ready_offset.3 text in
         let c = entry_complete x.inner.array r.type u.0 u.1.0 u.1.1 r.complete in
         let one : extra x.inner.array ≡ 1 = ap extra c.0 in
         parts_wanted ts inside.0 c.1 (sigs_some u.0 (MoreTypes u.1.0 NoTypes)) inside.1 (let a = i.count in omega arith) (omega arith)
@@ -240,7 +240,7 @@ module _ (x : Values) (pos stop n : ℕ) (answer : Answer) (r : Ready x pos stop
         let u = struct_of r.type (ready_first ∙ h.0) in
         let text : slice x.text.items pos stop ≡ 40 ∷ (sigs u.0 ++ 41 ∷ []) = r.text ∙ ap sig u.1 in
         let i = inner_of x (suc x.offset) r.ws r.frames in
-        let inside = slice_inner x.text.items pos stop 40 41 (sigs u.0) r.pos_is ready_place.3 text in
+        let inside = slice_inner x.text.items pos stop 40 41 (sigs u.0) r.pos_is ready_offset.3 text in
         let size = inside.1 in
         let some = h.1 in
         ((let a = i.count in omega arith), omega arith, omega arith)
@@ -249,7 +249,7 @@ module _ (x : Values) (pos stop n : ℕ) (answer : Answer) (r : Ready x pos stop
         let ts : TypeTrees = MoreTypes u.0 (MoreTypes u.1.0 NoTypes) in
         let text : slice x.text.items pos stop ≡ 123 ∷ (sigs ts ++ 125 ∷ []) = r.text ∙ ap sig u.1.1 ∙ entry_text u.0 u.1.0 in
         let i = inner_of x (suc x.offset) r.ws r.frames in
-        let inside = slice_inner x.text.items pos stop 123 125 (sigs ts) r.pos_is ready_place.3 text in
+        let inside = slice_inner x.text.items pos stop 123 125 (sigs ts) r.pos_is ready_offset.3 text in
         let size = inside.1 in
         let c = entry_complete x.inner.array r.type u.0 u.1.0 u.1.1 r.complete in
         let one : extra x.inner.array ≡ 1 = ap extra c.0 in
@@ -266,13 +266,13 @@ module _ (x : Values) (pos stop n : ℕ) (answer : Answer) (r : Ready x pos stop
     array_text = r.text ∙ ap sig ready_array.1
 
     element_text : slice x.text.items (pos + 1) stop ≡ sig ready_array.0
-    element_text = slice_behind x.text.items pos stop (97 ∷ []) (sig ready_array.0) array_text
+    element_text = slice_after x.text.items pos stop (97 ∷ []) (sig ready_array.0) array_text
 
     pub element_there : (pos + 1 < stop) × (pos + 1 < length x.text.items)
     element_there =
         let room = slice_room x.text.items pos stop (97 ∷ sig ready_array.0) r.pos_is array_text in
         let some = ap length (first_is ready_array.0) in
-        let p = ready_place in
+        let p = ready_offset in
         let le = p.3 in
         (omega arith, omega arith)
 

@@ -1,4 +1,4 @@
--- Which type begins with a code, what it opens, and a frame that is pushed.
+-- Which type begins with a code, what it opens, and which types are complete in it.
 use Rattle.std.proofs.Common.{◌≡◌, ℕ, zero, suc, ◌+◌, ◌*◌, ◌<◌, ◌≤◌, List, [], ◌∷◌, ◌++◌, length, reverse, Bool, true, false, refl, sym, ap, subst, ◌∙◌, arith, append_assoc}
 use Rattle.std.proofs.lemmas.List.{reverse-append, length-append, length-reverse, append-nil}
 use Rattle.std.specs.Prelude.{◌⊎◌}
@@ -238,33 +238,3 @@ parts_some b t ts e h = some_in b ts (subst (λ (u : TypeTree). IsShaped b u) e 
     some_in false NoTypes h = absurd h
     some_in true (MoreTypes t ts) h = sigs_some t ts
     some_in false (MoreTypes t ts) h = sigs_some t ts
-
--- ---- a frame is pushed
-
--- what is known of the innermost frame
-pub record Inner (x : Values) : Type 0 where
-  pub low : x.offset ≤ x.inner.end
-  pub high : x.inner.top ≤ length x.text.items
-  pub stop : x.inner.stop ≤ x.inner.top
-  pub pos : x.inner.pos ≤ x.inner.stop
-  pub count : length x.frames.items + extra x.inner.array + 2 * x.inner.room ≤ 128
-  pub room : x.inner.top + 255 * x.inner.room ≤ 255 * 65
-
-pub inner_of : (x : Values) (reach : ℕ) (ws : List Work) → HasFrames reach x ws → Inner x
-inner_of x reach [] h = absurd h
-inner_of x reach (w ∷ ws) h = record { low = h.0.low_is; high = h.0.high_is; stop = h.0.stop_is; pos = h.0.pos_is; count = omega (arith, h.0.count_is, length-reverse x.frames.items); room = h.0.room_is }
-
-pub within : (reach low high next more bottom : ℕ) (text : List ℕ) (f : Frame) (fs : List Frame) (ws : List Work) → next ≤ f.end → f.top ≤ more → AreFrames reach low high bottom text (f ∷ fs) ws → AreFrames reach next more bottom text (f ∷ fs) ws
-within reach low high next more bottom text f fs [] le top h = h
-within reach low high next more bottom text f fs (w ∷ ws) le top h = (record { low_is = le; high_is = top; stop_is = h.0.stop_is; pos_is = h.0.pos_is; count_is = h.0.count_is; room_is = h.0.room_is; is = h.0.is }, h.1)
-
-pub pushed_frames : (x y : Values) (f : Frame) (reach : ℕ) (v : Work) (ws : List Work) → Pushed x y f → HasFrames reach x ws
-    → Framed reach x.offset (length x.text.items) (suc (length x.frames.items)) x.text.items f v → f.end ≤ x.inner.end → x.inner.top ≤ f.top → HasFrames reach y (v ∷ ws)
-pushed_frames x y f reach v ws p h framed end top =
-    let back : reverse y.frames.items ≡ x.inner ∷ reverse x.frames.items = ap (λ (fs : List Frame). reverse fs) p.frames ∙ reverse-append x.frames.items (x.inner ∷ []) in
-    let n : suc (length x.frames.items) ≡ length (x.inner ∷ reverse x.frames.items) = ap suc (sym (length-reverse x.frames.items)) in
-    let here : AreFrames reach x.offset (length x.text.items) x.end x.text.items (f ∷ (x.inner ∷ reverse x.frames.items)) (v ∷ ws) = (
-      subst (λ (k : ℕ). Framed reach x.offset (length x.text.items) k x.text.items f v) n framed,
-      within reach x.offset (length x.text.items) f.end f.top x.end x.text.items x.inner (reverse x.frames.items) ws end top h,
-    ) in
-    rw (p.offset, p.end, p.text, p.inner, back) here

@@ -1,4 +1,4 @@
--- Calls one behind another.
+-- Calls one after another.
 use Rattle.std.proofs.Common.{◌≡◌, ℕ, ◌+◌, ◌≤◌, List, ◌++◌, length, take, drop, Ok, Err, sym, ap, ◌∙◌, arith}
 use Rattle.std.proofs.lemmas.List.{length-drop, take-append-drop}
 use Rattle.dbus_value_model.specs.Reading.{Outcome, Faulty}
@@ -12,7 +12,8 @@ use Rattle.dbus_value_checker.specs.Suspended.{On}
 use Rattle.std.proofs.Common.{suc, ◌<◌}
 use Rattle.dbus_types.specs.Types.{sig}
 use Rattle.dbus_value_checker.proofs.Slices.{slice_room}
-use Rattle.dbus_value_checker.proofs.Entering.{first_is, inner_of}
+use Rattle.dbus_value_checker.proofs.FrameLaws.{inner_of}
+use Rattle.dbus_value_checker.proofs.TypeCodes.{first_is}
 use Rattle.dbus_value_checker.specs.Denotations.{Answer, denotes, Denotes, Wants, after_piece}
 use Rattle.dbus_value_checker.specs.Moves.{Moves, Opens, wide}
 use Rattle.dbus_value_checker.proofs.FrontSteps.{take-both, split-at}
@@ -28,18 +29,18 @@ denotes_at x doing.Over last f g e h = (h.0, h.1, λ c. h.2 c ∙ e c)
 pub denotes_same : (x : Values) (last : On) (f g : List ℕ → Outcome (Unit {0})) → ((c : List ℕ) → f c ≡ g c) → Denotes x (record { last = last; to = f }) → Denotes x (record { last = last; to = g })
 denotes_same x last f g e h = denotes_at x x.doing last f g e h
 
--- a call behind n bytes that were taken
+-- a call after n bytes that were taken
 module _ (x y : Values) (s : List ℕ) (n : ℕ) (there : n ≤ length s) (answer : Answer) where
-  pub behind_ok : (m : ℕ) → Moves x (drop n s) (Ok m) y (after_piece answer (take n s)) → Moves x s (Ok (n + m)) y answer
-  behind_ok m h =
+  pub after_ok : (m : ℕ) → Moves x (drop n s) (Ok m) y (after_piece answer (take n s)) → Moves x s (Ok (n + m)) y answer
+  after_ok m h =
       let le = h.0 in
       let d = length-drop n s in
       (omega arith, denotes_same y answer.last (λ c. answer.to (take n s ++ (take m (drop n s) ++ c))) (λ c. answer.to (take (n + m) s ++ c)) (λ c. ap answer.to (sym (take-both n m s c there))) h.1)
 
-  pub behind_err : (e : Stop) → Moves x (drop n s) (Err e) y (after_piece answer (take n s)) → Moves x s (Err e) y answer
-  behind_err stops.Memory h = absurd h
-  behind_err stops.Partial h = (h.0, ap answer.to (sym (take-append-drop n s)) ∙ h.1)
-  behind_err (stops.Refused f) h = λ c. ap answer.to (split-at n s c) ∙ h c
+  pub after_err : (e : Stop) → Moves x (drop n s) (Err e) y (after_piece answer (take n s)) → Moves x s (Err e) y answer
+  after_err stops.Memory h = absurd h
+  after_err stops.Partial h = (h.0, ap answer.to (sym (take-append-drop n s)) ∙ h.1)
+  after_err (stops.Refused f) h = λ c. ap answer.to (split-at n s c) ∙ h c
 
 -- a container that was not opened
 pub opens_err : (x y : Values) (s : List ℕ) (e : Stop) (answer : Answer) → Opens (Err e) y answer → Moves x s (Err e) y answer
@@ -67,7 +68,7 @@ wants_code x pos stop answer w =
 
 -- one call more
 pub run_on : (x y : Values) (s : List ℕ) (n m : ℕ) (answer : Answer) → n ≤ length s → Moves x (drop n s) (Ok m) y (after_piece answer (take n s)) → (n + m ≤ length s) × Denotes y (after_piece answer (take (n + m) s))
-run_on x y s n m answer le h = behind_ok x y s n le answer m h
+run_on x y s n m answer le h = after_ok x y s n le answer m h
 
 pub wants_wide : (x : Values) (answer : Answer) → Denotes x answer → wide x.doing ≤ length x.text.items
 wants_wide x answer h = wide_at x x.doing answer h

@@ -1,0 +1,69 @@
+-- Frames: what is known of the innermost one, bounds on their ends, and one that is pushed.
+use Rattle.std.proofs.Common.{ℕ, ◌<◌, ◌≤◌, List, [], ◌∷◌, arith, ◌≡◌, zero, suc, ◌+◌, ◌*◌, ◌++◌, length, reverse, Bool, true, false, refl, sym, ap, subst, ◌∙◌, append_assoc, inl, inr}
+use Rattle.dbus_value_checker.specs.declared.values.Frame.{Frame}
+use Rattle.dbus_value_checker.specs.Suspended.{Work, Parts, Elements, ANumber, ALength, AnArray, own_of, opened_by, Opened, Closed, AHead}
+use Rattle.dbus_value_checker.specs.Frames.{IsFrame, AreFrames, extra, Framed}
+use Rattle.std.proofs.lemmas.List.{reverse-append, length-append, length-reverse, append-nil}
+use Rattle.std.specs.Prelude.{◌⊎◌}
+use Rattle.dbus_types.specs.Types.{NumberCode, BYTE, BOOLEAN, INT16, UINT16, INT32, UINT32, INT64, UINT64, DOUBLE, UNIX_FD, TextCode, STRING, OBJECT_PATH, SIGNATURE, TypeTree, NumberType, TextType, VariantType, ArrayType, StructType, EntryType, TypeTrees, NoTypes, MoreTypes, number_code, text_code, sig, sigs, IsShaped, AreShaped, IsBasic}
+use Rattle.dbus_types.specs.Alignments.{alignment_of}
+use Rattle.dbus_value_checker.specs.declared.values.Values.{Values}
+use Rattle.dbus_value_checker.specs.Codes.{code_alignment}
+use Rattle.dbus_value_checker.specs.Denotations.{HasFrames}
+use Rattle.dbus_value_checker.specs.Moves.{Pushed}
+
+-- turns that reach further are enough too
+pub IsFrame-reach : (reach more : ℕ) (text : List ℕ) (f : Frame) (w : Work) → reach ≤ more → IsFrame reach text f w → IsFrame more text f w
+IsFrame-reach reach more text f (Parts room end ts) le h = h
+IsFrame-reach reach more text f (Elements turns room end t) le h = record { elements = h.elements; room_is = h.room_is; end_is = h.end_is; type = h.type; complete = h.complete; turns_is = let t = h.turns_is in omega arith }
+
+pub frames_reach : (reach more low high bottom : ℕ) (text : List ℕ) (fs : List Frame) (ws : List Work) → reach ≤ more → AreFrames reach low high bottom text fs ws → AreFrames more low high bottom text fs ws
+frames_reach reach more low high bottom text [] [] le h = h
+frames_reach reach more low high bottom text (f ∷ fs) (w ∷ ws) le h = (
+  record { low_is = h.0.low_is; high_is = h.0.high_is; stop_is = h.0.stop_is; pos_is = h.0.pos_is; count_is = h.0.count_is; room_is = h.0.room_is; is = IsFrame-reach reach more text f w le h.0.is },
+  frames_reach reach more f.end f.top bottom text fs ws le h.1,
+)
+frames_reach reach more low high bottom text [] (w ∷ ws) le h = absurd h
+frames_reach reach more low high bottom text (f ∷ fs) [] le h = absurd h
+
+-- no offset is far
+pub frames_small : (reach low high bottom : ℕ) (text : List ℕ) (fs : List Frame) (ws : List Work) → AreFrames reach low high bottom text fs ws → low < 4294967296
+frames_small reach low high bottom text [] [] h = let a = h.0 in let b = h.1 in omega arith
+frames_small reach low high bottom text (f ∷ fs) (w ∷ ws) h = let a = h.0.low_is in let b = frames_small reach f.end f.top bottom text fs ws h.1 in omega arith
+frames_small reach low high bottom text [] (w ∷ ws) h = absurd h
+frames_small reach low high bottom text (f ∷ fs) [] h = absurd h
+
+-- nor is an end
+pub end_small : (reach low high bottom : ℕ) (text : List ℕ) (f : Frame) (fs : List Frame) (ws : List Work) → AreFrames reach low high bottom text (f ∷ fs) ws → f.end < 4294967296
+end_small reach low high bottom text f fs [] h = absurd h
+end_small reach low high bottom text f fs (w ∷ ws) h = frames_small reach f.end f.top bottom text fs ws h.1
+
+-- ---- a frame is pushed
+
+-- what is known of the innermost frame
+pub record Inner (x : Values) : Type 0 where
+  pub low : x.offset ≤ x.inner.end
+  pub high : x.inner.top ≤ length x.text.items
+  pub stop : x.inner.stop ≤ x.inner.top
+  pub pos : x.inner.pos ≤ x.inner.stop
+  pub count : length x.frames.items + extra x.inner.array + 2 * x.inner.room ≤ 128
+  pub room : x.inner.top + 255 * x.inner.room ≤ 255 * 65
+
+pub inner_of : (x : Values) (reach : ℕ) (ws : List Work) → HasFrames reach x ws → Inner x
+inner_of x reach [] h = absurd h
+inner_of x reach (w ∷ ws) h = record { low = h.0.low_is; high = h.0.high_is; stop = h.0.stop_is; pos = h.0.pos_is; count = omega (arith, h.0.count_is, length-reverse x.frames.items); room = h.0.room_is }
+
+pub within : (reach low high next more bottom : ℕ) (text : List ℕ) (f : Frame) (fs : List Frame) (ws : List Work) → next ≤ f.end → f.top ≤ more → AreFrames reach low high bottom text (f ∷ fs) ws → AreFrames reach next more bottom text (f ∷ fs) ws
+within reach low high next more bottom text f fs [] le top h = h
+within reach low high next more bottom text f fs (w ∷ ws) le top h = (record { low_is = le; high_is = top; stop_is = h.0.stop_is; pos_is = h.0.pos_is; count_is = h.0.count_is; room_is = h.0.room_is; is = h.0.is }, h.1)
+
+pub pushed_frames : (x y : Values) (f : Frame) (reach : ℕ) (v : Work) (ws : List Work) → Pushed x y f → HasFrames reach x ws
+    → Framed reach x.offset (length x.text.items) (suc (length x.frames.items)) x.text.items f v → f.end ≤ x.inner.end → x.inner.top ≤ f.top → HasFrames reach y (v ∷ ws)
+pushed_frames x y f reach v ws p h framed end top =
+    let back : reverse y.frames.items ≡ x.inner ∷ reverse x.frames.items = ap (λ (fs : List Frame). reverse fs) p.frames ∙ reverse-append x.frames.items (x.inner ∷ []) in
+    let n : suc (length x.frames.items) ≡ length (x.inner ∷ reverse x.frames.items) = ap suc (sym (length-reverse x.frames.items)) in
+    let here : AreFrames reach x.offset (length x.text.items) x.end x.text.items (f ∷ (x.inner ∷ reverse x.frames.items)) (v ∷ ws) = (
+      subst (λ (k : ℕ). Framed reach x.offset (length x.text.items) k x.text.items f v) n framed,
+      within reach x.offset (length x.text.items) f.end f.top x.end x.text.items x.inner (reverse x.frames.items) ws end top h,
+    ) in
+    rw (p.offset, p.end, p.text, p.inner, back) here
