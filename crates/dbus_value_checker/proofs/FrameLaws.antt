@@ -1,14 +1,10 @@
 -- Frames: what is known of the innermost one, bounds on their ends, and one that is pushed.
-use Rattle.std.proofs.Common.{ℕ, ◌<◌, ◌≤◌, List, [], ◌∷◌, arith, ◌≡◌, zero, suc, ◌+◌, ◌*◌, ◌++◌, length, reverse, Bool, true, false, refl, sym, ap, subst, ◌∙◌, append_assoc, inl, inr}
+use Rattle.std.proofs.Common.{ℕ, ◌<◌, ◌≤◌, List, [], ◌∷◌, arith, ◌≡◌, suc, ◌+◌, ◌*◌, length, reverse, sym, ap, subst, ◌∙◌}
 use Rattle.dbus_value_checker.specs.declared.values.Frame.{Frame}
-use Rattle.dbus_value_checker.specs.Suspended.{Work, Parts, Elements, ANumber, ALength, AnArray, own_of, opened_by, Opened, Closed, AHead}
+use Rattle.dbus_value_checker.specs.Suspended.{Work, Parts, Elements}
 use Rattle.dbus_value_checker.specs.Frames.{IsFrame, AreFrames, extra, Framed}
-use Rattle.std.proofs.lemmas.List.{reverse-append, length-append, length-reverse, append-nil}
-use Rattle.std.specs.Prelude.{◌⊎◌}
-use Rattle.dbus_types.specs.Types.{NumberCode, BYTE, BOOLEAN, INT16, UINT16, INT32, UINT32, INT64, UINT64, DOUBLE, UNIX_FD, TextCode, STRING, OBJECT_PATH, SIGNATURE, TypeTree, NumberType, TextType, VariantType, ArrayType, StructType, EntryType, TypeTrees, NoTypes, MoreTypes, number_code, text_code, sig, sigs, IsShaped, AreShaped, IsBasic}
-use Rattle.dbus_types.specs.Alignments.{alignment_of}
+use Rattle.std.proofs.lemmas.List.{reverse-append, length-reverse}
 use Rattle.dbus_value_checker.specs.declared.values.Values.{Values}
-use Rattle.dbus_value_checker.specs.Codes.{code_alignment}
 use Rattle.dbus_value_checker.specs.Denotations.{HasFrames}
 use Rattle.dbus_value_checker.specs.Moves.{Pushed}
 

@@ -9,6 +9,6 @@ pub mod NextValues
 pub mod PaddedValues
 pub mod Variants
 pub mod TextSteps
-pub mod Runs
-pub mod ByteRuns
+pub mod NumberRuns
+pub mod ArrayRuns
 pub mod Calls

@@ -1,17 +1,12 @@
 -- Which type begins with a code, what it opens, and which types are complete in it.
-use Rattle.std.proofs.Common.{◌≡◌, ℕ, zero, suc, ◌+◌, ◌*◌, ◌<◌, ◌≤◌, List, [], ◌∷◌, ◌++◌, length, reverse, Bool, true, false, refl, sym, ap, subst, ◌∙◌, arith, append_assoc}
-use Rattle.std.proofs.lemmas.List.{reverse-append, length-append, length-reverse, append-nil}
+use Rattle.std.proofs.Common.{◌≡◌, ℕ, zero, suc, ◌<◌, List, [], ◌∷◌, ◌++◌, length, Bool, true, false, refl, sym, ap, subst, arith, append_assoc}
+use Rattle.std.proofs.lemmas.List.{length-append, append-nil}
 use Rattle.std.specs.Prelude.{◌⊎◌}
 use Rattle.std.proofs.Common.{inl, inr}
 use Rattle.dbus_types.specs.Types.{NumberCode, BYTE, BOOLEAN, INT16, UINT16, INT32, UINT32, INT64, UINT64, DOUBLE, UNIX_FD, TextCode, STRING, OBJECT_PATH, SIGNATURE, TypeTree, NumberType, TextType, VariantType, ArrayType, StructType, EntryType, TypeTrees, NoTypes, MoreTypes, number_code, text_code, sig, sigs, IsShaped, AreShaped, IsBasic}
 use Rattle.dbus_types.specs.Alignments.{alignment_of}
-use Rattle.dbus_value_checker.specs.declared.values.Values.{Values}
-use Rattle.dbus_value_checker.specs.declared.values.Frame.{Frame}
 use Rattle.dbus_value_checker.specs.Codes.{code_alignment}
-use Rattle.dbus_value_checker.specs.Suspended.{Work, Parts, ANumber, ALength, AnArray, own_of, opened_by, Opened, Closed, AHead}
-use Rattle.dbus_value_checker.specs.Frames.{extra, Framed, AreFrames}
-use Rattle.dbus_value_checker.specs.Denotations.{HasFrames}
-use Rattle.dbus_value_checker.specs.Moves.{Pushed}
+use Rattle.dbus_value_checker.specs.Suspended.{Parts, ANumber, ALength, AnArray, own_of, opened_by, Opened, Closed, AHead}
 
 -- ---- codes
 

@@ -1,9 +1,12 @@
 -- What the fields of `Values` stand for: what they answer to the bytes still to come.
-use Rattle.std.specs.Prelude.{◌≡◌, ℕ, suc, ◌+◌, ◌<◌, ◌≤◌, List, ◌∷◌, ◌++◌, length, reverse}
-use Rattle.dbus_types.specs.Types.{BYTE, NumberType, TextCode, TypeTree, text_code, sig, IsShaped}
+use Rattle.std.specs.Prelude.{◌≡◌, ℕ, suc, ◌+◌, ◌<◌, ◌≤◌, List, ◌∷◌, ◌++◌, length, reverse, Option, None}
+use Rattle.dbus_types.specs.Types.{NumberCode, NumberType, TextCode, TypeTree, text_code, sig, IsShaped}
+use Rattle.dbus_types.specs.Alignments.{width}
 use Rattle.dbus_types.specs.Scans.{Stands}
 use Rattle.dbus_types.specs.Scans as scans
 use Rattle.dbus_value_model.specs.WantedTexts.{kind_of, Of}
+use Rattle.dbus_value_model.specs.Bytes.{gap_to}
+use Rattle.dbus_value_model.specs.ValueItems.{number_row}
 use Rattle.dbus_value_model.specs.Reading.{Outcome, after, text, nul, value}
 use Rattle.dbus_value_checker.specs.declared.values.Values.{Values}
 use Rattle.dbus_value_checker.specs.declared.values.Doing.{Doing}
@@ -78,20 +81,24 @@ pub record Nuls (x : Values) (answer : Answer) : Type 0 where
   pub fits : x.offset + 1 ≤ x.inner.end
   pub same : (c : List ℕ) → onward nul (rest_of answer x ws) x.offset c ≡ answer.to c
 
--- the innermost container is an array of BYTE that goes on
-pub record Bytes (x : Values) (answer : Answer) : Type 0 where
+-- the innermost container is an array that goes on, and its next element is a whole number of w bytes, any of which may stand there
+pub record Numbers (x : Values) (w : ℕ) (answer : Answer) : Type 0 where
   pub ws : List Work
+  pub code : NumberCode
   pub turns : ℕ
   pub room : ℕ
   pub stop : ℕ
-  pub frames : HasFrames x.offset x (Elements turns room stop (NumberType BYTE) ∷ ws)
-  pub more : x.offset < x.inner.end
-  pub same : (c : List ℕ) → rest_of answer x (Elements turns room stop (NumberType BYTE) ∷ ws) x.offset c ≡ answer.to c
+  pub width_is : width code ≡ w
+  pub plain : (fds : Option ℕ) (p n : ℕ) → number_row fds code p n ≡ None
+  pub frames : HasFrames x.offset x (Elements turns room stop (NumberType code) ∷ ws)
+  pub aligned : gap_to w x.offset ≡ 0
+  pub more : x.offset + w ≤ x.inner.end
+  pub same : (c : List ℕ) → rest_of answer x (Elements turns room stop (NumberType code) ∷ ws) x.offset c ≡ answer.to c
 
 abbrev pub denotes : Doing → Values → Answer → Type 0
 denotes (doing.Wanted pos stop) x answer = Wants x pos stop answer
 denotes (doing.Text code left) x answer = (0 < left) × Texts x code left answer
-denotes doing.Bytes x answer = Bytes x answer
+denotes (doing.Numbers w) x answer = Numbers x w answer
 denotes doing.Nul x answer = Nuls x answer
 denotes doing.Over x answer = (x.offset ≤ x.end) × (x.end < 4294967296) × ((c : List ℕ) → answer.last x.offset c ≡ answer.to c)
 

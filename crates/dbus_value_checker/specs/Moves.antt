@@ -50,7 +50,7 @@ Enters x pos stop n room answer =
 abbrev pub IsLive : Doing → Type 0
 IsLive (doing.Wanted pos stop) = Unit {0}
 IsLive (doing.Text code left) = Unit {0}
-IsLive doing.Bytes = Unit {0}
+IsLive (doing.Numbers w) = Unit {0}
 IsLive doing.Nul = Unit {0}
 IsLive doing.Over = ⊥
 
@@ -70,7 +70,7 @@ offset_of x = x.offset
 abbrev pub wide : Doing → ℕ
 wide (doing.Wanted pos stop) = stop - pos
 wide (doing.Text code left) = 0
-wide doing.Bytes = 0
+wide (doing.Numbers w) = 0
 wide doing.Nul = 0
 wide doing.Over = 0
 

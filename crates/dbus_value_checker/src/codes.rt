@@ -3,7 +3,7 @@
 
 ghost use Rattle.std.specs.Prelude.{◌≡◌, ◌+◌, ◌<◌, ◌≤◌, length, drop};
 ghost use Rattle.dbus_value_model.specs.Bytes.{gap_to};
-ghost use Rattle.dbus_value_checker.specs.Codes.{skipped, code_alignment};
+ghost use Rattle.dbus_value_checker.specs.Codes.{skipped, code_alignment, plain_width};
 
 use dbus_value_model::padding_length;
 
@@ -43,6 +43,20 @@ pub fn alignment(code: u8) -> u8
         b'n' | b'q' => 2,
         b'x' | b't' | b'd' | b'(' | b'{' => 8,
         _ => 4,
+    }
+}
+
+/// How many bytes a number has of a type that has this code, if every number of the type may stand; else 0.
+pub fn plain_width(code: u8) -> u8
+    ensures value { result ≡ plain_width code }
+    ensures few { result ≤ 8 }
+{
+    match code {
+        b'y' => 1,
+        b'n' | b'q' => 2,
+        b'i' | b'u' => 4,
+        b'x' | b't' | b'd' => 8,
+        _ => 0,
     }
 }
 

@@ -1,16 +1,16 @@
 //! The containers that are open: which value is wanted next, and how a container is entered and left.
 #![tactic(auto)]
 
-ghost use Rattle.std.specs.Prelude.{◌≡◌, ◌+◌, ◌-◌, ◌<◌, ◌≤◌, ◌^◌, length, slice_index, IfOk};
+ghost use Rattle.std.specs.Prelude.{◌≡◌, ◌+◌, ◌-◌, ◌<◌, ◌≤◌, ◌^◌, length, slice_index, true, IfOk};
 
-use crate::codes::skip;
+use crate::codes::{gap, plain_width, skip};
 use crate::values::{Doing, Frame, Values};
 use dbus_value_model::{Reason, Stop, refuse};
 
 impl Values {
     ghost use Rattle.dbus_value_checker.specs.Codes.{skipped};
     ghost use Rattle.dbus_value_checker.specs.Frames.{slice};
-    ghost use Rattle.dbus_value_checker.specs.Denotations.{Answer, Denotes, Goes, Ready};
+    ghost use Rattle.dbus_value_checker.specs.Denotations.{Answer, Denotes, Goes, Ready, denotes};
     ghost use Rattle.dbus_value_checker.specs.Moves.{Opens, Enters, wide};
 
     /// The type of the next part is no longer wanted: where it ends.
@@ -26,6 +26,23 @@ impl Values {
         stop
     }
 
+    /// What is wanted of an array that goes on: numbers, of which none need be looked at, or one element.
+    fn element(&self) -> Doing
+        requires valid { (answer : Answer) × Goes self.now answer }
+        requires array { self.now.inner.array ≡ true }
+        requires more { self.now.offset < self.now.inner.end }
+        ensures { (answer : Answer) → Goes self.now answer → denotes result (record self.now { doing = result }) answer }
+    {
+        let width = plain_width(self.text.as_slice()[self.inner.pos]);
+        if width == 0
+            || gap(width, self.offset) > 0
+            || self.inner.end - self.offset < usize::from(width)
+        {
+            return Doing::Wanted(self.inner.pos, self.inner.stop);
+        }
+        Doing::Numbers(usize::from(width))
+    }
+
     /// The innermost container goes on, or is at its end, and then the one around it.
     pub(crate) fn next(&mut self)
         requires valid { (answer : Answer) × Goes self.old answer }
@@ -34,11 +51,7 @@ impl Values {
         loop {
             if self.inner.array {
                 if self.offset < self.inner.end {
-                    if self.text.as_slice()[self.inner.pos] == b'y' {
-                        self.doing = Doing::Bytes;
-                        return;
-                    }
-                    self.doing = Doing::Wanted(self.inner.pos, self.inner.stop);
+                    self.doing = self.element();
                     return;
                 }
             } else if self.inner.pos < self.inner.stop {

@@ -10,7 +10,7 @@ use dbus_value_model::{Reason, Stop, refuse};
 
 impl Values {
     ghost use Rattle.dbus_value_checker.specs.Codes.{IsNumberCode};
-    ghost use Rattle.dbus_value_checker.specs.Denotations.{Answer, Wants, Ready, Bytes};
+    ghost use Rattle.dbus_value_checker.specs.Denotations.{Answer, Wants, Ready, Numbers};
     ghost use Rattle.dbus_value_checker.specs.Moves.{Moves, wide};
     ghost use Rattle.dbus_value_model.specs.declared.stop.Stop.TheVariants.{Partial};
 
@@ -80,20 +80,21 @@ impl Values {
         }
     }
 
-    /// Elements of an array of BYTE: as many as are there.
-    pub(crate) fn bytes(&mut self, bytes: &[u8]) -> Result<usize, Stop>
-        requires valid { (answer : Answer) × Bytes self.old answer }
-        ensures moves { (answer : Answer) → Bytes self.old answer → Moves self.old bytes.now result self.new answer }
+    /// Numbers of an array, of so many bytes each: as many whole ones as are there.
+    pub(crate) fn numbers(&mut self, width: usize, bytes: &[u8]) -> Result<usize, Stop>
+        requires valid { (answer : Answer) × Numbers self.old width answer }
+        ensures moves { (answer : Answer) → Numbers self.old width answer → Moves self.old bytes.now result self.new answer }
         ensures some { IfOk result (λ n. 0 < n) }
-        ensures short { IfErr result (λ e. e ≡ Partial → length bytes.now < 1) }
+        ensures short { IfErr result (λ e. e ≡ Partial → length bytes.now < 8) }
     {
-        if bytes.is_empty() {
+        let there = front(bytes, self.inner.end - self.offset).len();
+        let whole = there - there % width;
+        if whole == 0 {
             return Err(Stop::Partial);
         }
-        let n = front(bytes, self.inner.end - self.offset).len();
-        self.offset += n;
+        self.offset += whole;
         self.next();
-        Ok(n)
+        Ok(whole)
     }
 
     /// A variant: its value's type is noted, and is wanted.

@@ -30,8 +30,8 @@ pub(crate) struct Frame {
 pub(crate) enum Doing {
     /// A value of the type that stands there in the signatures.
     Wanted(usize, usize),
-    /// Elements of an array of BYTE.
-    Bytes,
+    /// Elements of an array of numbers of so many bytes, any of which may stand there.
+    Numbers(usize),
     /// So many bytes of a text of a type.
     Text(u8, usize),
     /// The zero after a text.
@@ -130,7 +130,7 @@ impl Values {
         match self.doing {
             Doing::Wanted(pos, stop) => self.value(pos, stop, bytes),
             Doing::Text(code, left) => self.text(code, left, bytes),
-            Doing::Bytes => self.bytes(bytes),
+            Doing::Numbers(width) => self.numbers(width, bytes),
             Doing::Nul => self.nul(bytes),
             Doing::Over => Ok(0),
         }

@@ -1,10 +1,8 @@
-use Rattle.std.proofs.Common.{List, get_or, ap, ◌∙◌}
-use Rattle.dbus_value_checker.proofs.ByteRuns.{bytes_begin}
-use Rattle.std.proofs.Common.{◌≡◌, ℕ, ◌≤◌, length, arith, refl, sym, subst, inl, inr}
+use Rattle.std.proofs.Common.{◌≡◌, ◌≤◌, length, arith, refl, sym, subst, inl, inr}
 use Rattle.dbus_value_checker.specs.declared.values.Values.{Values}
 use Rattle.dbus_value_checker.specs.Denotations.{Wants}
 use Rattle.dbus_value_checker.proofs.FrameLaws.{inner_of}
-use Rattle.dbus_value_checker.proofs.NextValues.{IsOver, next_element, next_part, next_popped, next_last, wants_doing}
+use Rattle.dbus_value_checker.proofs.NextValues.{IsOver, next_part, next_popped, next_last, wants_doing}
 use Rattle.dbus_value_checker.proofs.values.Values.next.Goals.{then-self+else-self-2, else-self+else-self-3}
 use Rattle.dbus_value_checker.proofs.values.Values.next.Goals as goal
 
@@ -19,9 +17,7 @@ loop-self-preserved c =
     }
 
 pub returns-then-self-2 : goal.returns-then-self-2
-returns-then-self-2 c = λ answer g.
-    let x = c.loop-self.self in
-    wants_doing x x.inner.pos x.inner.stop x.inner.pos x.inner.stop answer (next_element x answer (c.loop-self.invariant.goes answer g) c.if-self.true c.if-self-2.true)
+returns-then-self-2 c = λ answer g. c.element-self.ensures answer (c.loop-self.invariant.goes answer g)
 
 pub returns-then-self-3 : goal.returns-then-self-3
 returns-then-self-3 c = λ answer g.
@@ -39,9 +35,3 @@ returns-in-None c = λ answer g.
     let over : IsOver x = elim c.if-self.branch [ then-self+else-self-2 w ↦ inl (w.if-self.true, w.if-self-2.false) | else-self+else-self-3 w ↦ inr (w.if-self.false, w.if-self-3.false) ] in
     let none : length x.frames.items ≡ 0 = grind arith in
     next_last x answer (c.loop-self.invariant.goes answer g) over none
-
-pub returns-then-as_slice-self-eq121 : goal.returns-then-as_slice-self-eq121
-returns-then-as_slice-self-eq121 c = λ answer g.
-    let x = c.loop-self.self in
-    bytes_begin x _ answer (c.loop-self.invariant.goes answer g) c.if-self.true c.if-self-2.true
-    (sym (ap (λ (t : List ℕ). get_or t x.inner.pos 0) c.as_slice.ensures.value) ∙ c.if-as_slice-self-eq121.true)

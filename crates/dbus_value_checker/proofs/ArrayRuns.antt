@@ -1,0 +1,111 @@
+-- Arrays of numbers that go on.
+use Rattle.std.proofs.Common.{◌≡◌, ℕ, suc, ◌+◌, ◌-◌, ◌*◌, ◌%◌, ◌<◌, ◌≤◌, List, [], ◌∷◌, ◌++◌, length, reverse, take, get_or, true, false, Bool, sym, ap, subst, ◌∙◌, arith}
+use Rattle.std.proofs.lemmas.List.{length-take}
+use Rattle.dbus_types.specs.Types.{TypeTree, NumberType, sig}
+use Rattle.dbus_types.specs.Alignments.{width}
+use Rattle.dbus_value_model.specs.Bytes.{gap_to}
+use Rattle.dbus_value_checker.specs.Codes.{plain_width}
+use Rattle.dbus_value_model.specs.Reading.{Partial}
+use Rattle.dbus_value_checker.specs.declared.values.Values.{Values}
+use Rattle.dbus_value_checker.specs.declared.values.Doing.{Doing}
+use Rattle.dbus_value_checker.specs.Suspended.{Work, Parts, Elements, work}
+use Rattle.dbus_value_checker.specs.Denotations.{Answer, rest_of, HasFrames, Goes, Numbers, after_piece}
+use Rattle.dbus_value_checker.proofs.NumberRuns.{width_some, whole_numbers, plain_type, numbers_wait, numbers_run}
+use Rattle.dbus_value_checker.proofs.Slices.{slice_head, slice_room}
+use Rattle.dbus_value_checker.proofs.FrameLaws.{frames_reach, frames_small}
+use Rattle.dbus_value_checker.proofs.TypeCodes.{first, rest, first_is}
+
+differ : (b : Bool) → b ≡ false → b ≡ true → ⊥
+differ b e d = cc
+
+-- an array's type has a code
+element_at : (x : Values) (ws : List Work) → HasFrames x.offset x ws → x.inner.array ≡ true → x.inner.pos < length x.text.items
+element_at x [] h a = absurd h
+element_at x (Parts room end ts ∷ ws) h a = absurd (differ x.inner.array h.0.is.parts a)
+element_at x (Elements turns room end t ∷ ws) h a =
+    let r = slice_room x.text.items x.inner.pos x.inner.stop (sig t) h.0.pos_is h.0.is.type in
+    let n = ap length (first_is t) in
+    let s = h.0.stop_is in
+    let p = h.0.high_is in
+    omega arith
+
+pub element_code : (x : Values) (answer : Answer) → Goes x answer → x.inner.array ≡ true → x.inner.pos < length x.text.items
+element_code x answer g a = element_at x g.ws g.frames a
+
+numbers_at : (x : Values) (d : Doing) (answer : Answer) (c w : ℕ) (ws : List Work) → HasFrames x.offset x ws → ((s : List ℕ) → rest_of answer x ws x.offset s ≡ answer.to s) → x.inner.array ≡ true → get_or x.text.items x.inner.pos 0 ≡ c
+    → w ≡ plain_width c → 0 < w → gap_to w x.offset ≡ 0 → x.offset + w ≤ x.inner.end → Numbers (record x { doing = d }) w answer
+numbers_at x d answer c w [] h same a code is some aligned fits = absurd h
+numbers_at x d answer c w (Parts room end ts ∷ ws) h same a code is some aligned fits = absurd (differ x.inner.array h.0.is.parts a)
+numbers_at x d answer c w (Elements turns room end t ∷ ws) h same a code is some aligned fits =
+    let there = slice_head x.text.items x.inner.pos x.inner.stop (first t) (rest t) h.0.pos_is (h.0.is.type ∙ first_is t) in
+    let k = plain_type t c w (sym there ∙ code) is some in
+    record {
+      ws = ws;
+      code = k.0;
+      turns = turns;
+      room = room;
+      stop = end;
+      width_is = k.1.1;
+      plain = k.1.2;
+      frames = subst (λ (u : TypeTree). HasFrames x.offset x (Elements turns room end u ∷ ws)) k.1.0 h;
+      aligned = aligned;
+      more = fits;
+      same = λ s. subst (λ (u : TypeTree). rest_of answer x (Elements turns room end u ∷ ws) x.offset s ≡ answer.to s) k.1.0 (same s);
+    }
+
+pub numbers_begin : (x : Values) (d : Doing) (answer : Answer) (c w : ℕ) → Goes x answer → x.inner.array ≡ true → get_or x.text.items x.inner.pos 0 ≡ c → w ≡ plain_width c → 0 < w → gap_to w x.offset ≡ 0 → x.offset + w ≤ x.inner.end → Numbers (record x { doing = d }) w answer
+numbers_begin x d answer c w g a code is some aligned fits = numbers_at x d answer c w g.ws g.frames g.same a code is some aligned fits
+
+module _ (x : Values) (w : ℕ) (answer : Answer) (b : Numbers x w answer) where
+  pub numbers_small : (x.offset + w ≤ x.inner.end) × (x.inner.end < 4294967296) × (0 < w)
+  numbers_small = (b.more, frames_small x.offset x.inner.end x.inner.top x.end x.text.items (reverse x.frames.items) b.ws b.frames.1, (let some = width_some b.code in let e = b.width_is in omega arith))
+
+  some_turns : b.turns ≡ suc (b.turns - 1)
+  some_turns = let t = b.frames.0.is.turns_is in let m = b.more in let some = numbers_small.2 in omega arith
+
+  aligned_to : gap_to (width b.code) x.offset ≡ 0
+  aligned_to = ap (λ (v : ℕ). gap_to v x.offset) b.width_is ∙ b.aligned
+
+  -- the bytes end within a number
+  pub numbers_lack : (s : List ℕ) → length s < w → answer.to s ≡ Partial
+  numbers_lack s short =
+      let e = b.frames.0.is.end_is in
+      let m = b.more in
+      let v = b.width_is in
+      sym (b.same s) ∙ ap (λ (k : ℕ). work x.bounds x.order (Elements k b.room b.stop (NumberType b.code)) (rest_of answer x b.ws) x.offset s) some_turns
+      ∙ numbers_wait x.bounds x.order b.code b.plain b.room b.stop (rest_of answer x b.ws) (b.turns - 1) x.offset s aligned_to (omega arith) (omega arith)
+
+  -- the bytes of whole numbers are taken
+  pub numbers_go : (s : List ℕ) (there n : ℕ) → n ≡ there - there % w → there ≤ length s → x.offset + there ≤ x.inner.end → Goes (record x { offset = x.offset + n }) (after_piece answer (take n s))
+  numbers_go s there n n_is le fits =
+      let h = b.frames.0 in
+      let t = h.is.turns_is in
+      let e = h.is.end_is in
+      let whole = whole_numbers b.code there in
+      let m = whole.0 in
+      let is : n ≡ m * width b.code = n_is ∙ ap (λ (v : ℕ). there - there % v) (sym b.width_is) ∙ whole.1.0 in
+      let few : n ≤ there = omega arith in
+      let some : m ≤ m * width b.code = whole.1.1 in
+      let size : length (take n s) ≡ m * width b.code = omega (arith, length-take n s) in
+      let turns : m + (b.turns - m) ≡ b.turns = omega arith in
+      let at : x.offset + m * width b.code ≡ x.offset + n = omega arith in
+      let rest_on = rest_of answer x b.ws in
+      record {
+        ws = Elements (b.turns - m) b.room b.stop (NumberType b.code) ∷ b.ws;
+        frames = (
+          record {
+            low_is = omega arith;
+            high_is = h.high_is;
+            stop_is = h.stop_is;
+            pos_is = h.pos_is;
+            count_is = h.count_is;
+            room_is = h.room_is;
+            is = record { elements = h.is.elements; room_is = h.is.room_is; end_is = h.is.end_is; type = h.is.type; complete = h.is.complete; turns_is = omega arith };
+          },
+          frames_reach x.offset (x.offset + n) x.inner.end x.inner.top x.end x.text.items (reverse x.frames.items) b.ws (omega arith) b.frames.1,
+        );
+        same = λ c.
+            subst (λ (q : ℕ). work x.bounds x.order (Elements (b.turns - m) b.room b.stop (NumberType b.code)) rest_on q c ≡ answer.to (take n s ++ c)) at
+            (sym (numbers_run x.bounds x.order b.code b.plain b.room b.stop rest_on m (b.turns - m) x.offset (take n s) c size (omega arith) aligned_to)
+            ∙ ap (λ (k : ℕ). work x.bounds x.order (Elements k b.room b.stop (NumberType b.code)) rest_on x.offset (take n s ++ c)) turns ∙ b.same (take n s ++ c));
+      }
