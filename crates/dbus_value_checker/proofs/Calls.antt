@@ -15,7 +15,7 @@ use Rattle.dbus_value_checker.proofs.Slices.{slice_room}
 use Rattle.dbus_value_checker.proofs.FrameLaws.{inner_of}
 use Rattle.dbus_value_checker.proofs.TypeCodes.{first_is}
 use Rattle.dbus_value_checker.specs.Denotations.{Answer, denotes, Denotes, Wants, after_piece}
-use Rattle.dbus_value_checker.specs.Moves.{Moves, Opens, wide}
+use Rattle.dbus_value_checker.specs.Moves.{Moves, Opens, IsLive, offset_of, wide}
 use Rattle.dbus_value_checker.proofs.FrontSteps.{take-both, split-at}
 
 -- the same answers
@@ -89,3 +89,14 @@ pub opens_at_once : (y : Values) (e : Stop) (answer : Answer) → Opens (Err e) 
 opens_at_once y stops.Memory answer h is = h
 opens_at_once y stops.Partial answer h is = h
 opens_at_once y (stops.Refused f) answer h is = absurd cc
+
+-- once nothing is wanted any more, the last is read from here on
+pub over_last : (x : Values) (answer : Answer) → Denotes x answer → (IsLive x.doing → ⊥) → (c : List ℕ) → answer.last (offset_of x) c ≡ answer.to c
+over_last x answer h over c = over_at x x.doing answer h over c
+  where
+    over_at : (x : Values) (d : Doing) (answer : Answer) → denotes d x answer → (IsLive d → ⊥) → (c : List ℕ) → answer.last (offset_of x) c ≡ answer.to c
+    over_at x (doing.Wanted pos stop) answer h over c = absurd (over tt)
+    over_at x (doing.Text code left) answer h over c = absurd (over tt)
+    over_at x (doing.Numbers w) answer h over c = absurd (over tt)
+    over_at x doing.Nul answer h over c = absurd (over tt)
+    over_at x doing.Over answer h over c = h.2 c

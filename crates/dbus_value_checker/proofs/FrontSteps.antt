@@ -23,13 +23,25 @@ use Rattle.dbus_value_model.specs.declared.stop.Stop.{Stop}
 use Rattle.dbus_value_model.specs.declared.stop.Stop.TheVariants as stops
 use Rattle.dbus_value_checker.specs.Codes.{code_width}
 use Rattle.dbus_value_checker.specs.Fronts.{Fronts, Lack}
-use Rattle.dbus_value_checker.specs.Suspended.{onward, done, held_text}
+use Rattle.dbus_value_checker.specs.Suspended.{On, onward, done, held_text}
 use Rattle.dbus_value_model.specs.Items.{text_reason}
 use Rattle.dbus_types.specs.declared.text_kind.TextKind.TheVariants as kinds
 use Rattle.dbus_value_model.specs.Reading.{text, nul}
 use Rattle.dbus_value_model.specs.WantedTexts.{WantedText, Of, IsWanted, IsBreakOf, break_at}
 use Rattle.dbus_unmarshal.proofs.KindLaws.{break_le, break_is, one_break, break_whole, is_wanted, is_not_wanted}
 use Rattle.dbus_value_checker.proofs.Suspension.{number_waits, number_over, number_read, text_waits, text_breaks, text_ends, text_not}
+
+-- ---- what is read after a front
+
+module _ {X A : Type 0} (view : X → A × ℕ) (o : ℕ) (s : List ℕ) (run : Reader A) (next : A → On) (answer : List ℕ → Outcome (Unit {0})) (same : (c : List ℕ) → after (run o c) next ≡ answer c) where
+  pub front_taken : (x : X) → Fronts view o s (Ok x) run → (c : List ℕ) → next (view x).0 (o + (view x).1) c ≡ answer (take (view x).1 s ++ c)
+  front_taken x h c = sym (ap (λ (r : Outcome A). after r next) (h.1 c)) ∙ same (take (view x).1 s ++ c)
+
+  pub front_waits : Fronts view o s (Err stops.Partial) run → answer s ≡ Partial
+  front_waits h = sym (same s) ∙ ap (λ (r : Outcome A). after r next) h
+
+  pub front_refused : (f : Fault) → Fronts view o s (Err (stops.Refused f)) run → (c : List ℕ) → answer (s ++ c) ≡ Faulty f
+  front_refused f h c = sym (same (s ++ c)) ∙ ap (λ (r : Outcome A). after r next) (h c)
 
 -- ---- padding
 

@@ -25,24 +25,12 @@ use Rattle.dbus_value_checker.specs.Frames.{slice, Framed, extra}
 use Rattle.dbus_value_checker.specs.Denotations.{Answer, rest_of, HasFrames, Goes, Wants, Ready, Texts, Nuls, after_piece}
 use Rattle.dbus_value_checker.specs.Moves.{Moves, Pushed, Enters}
 use Rattle.dbus_value_checker.proofs.Suspension.{works_as, value_begins, after_after, after_same}
-use Rattle.dbus_value_checker.proofs.FrontSteps.{take-both, split-at}
+use Rattle.dbus_value_checker.proofs.FrontSteps.{front_taken, front_waits, front_refused, take-both, split-at}
 use Rattle.dbus_value_checker.proofs.Slices.{slice_head, slice_room, slice_after, slice_inner}
 use Rattle.dbus_value_checker.specs.Suspended as suspended
 use Rattle.dbus_value_checker.proofs.FrameLaws.{frames_reach, frames_small, end_small, pushed_frames, inner_of, within}
 use Rattle.dbus_value_checker.proofs.TypeCodes.{first, rest, first_is, first_alignment, array_of, struct_of, entry_of, text_of, number_type, own_text, opened_text, own_number, opened_number, own_array, opened_array, own_deep_array, own_struct, opened_struct, own_deep_struct, opened_deep_struct, own_entry, opened_entry, array_complete, struct_complete, entry_complete, entry_text, parts_some, sigs_some}
 use Rattle.dbus_value_checker.proofs.NextValues.{next_part_at}
-
--- ---- what follows the front
-
-module _ {X A : Type 0} (view : X → A × ℕ) (o : ℕ) (s : List ℕ) (run : Reader A) (next : A → On) (answer : List ℕ → Outcome (Unit {0})) (same : (c : List ℕ) → after (run o c) next ≡ answer c) where
-  pub front_taken : (x : X) → Fronts view o s (Ok x) run → (c : List ℕ) → next (view x).0 (o + (view x).1) c ≡ answer (take (view x).1 s ++ c)
-  front_taken x h c = sym (ap (λ (r : Outcome A). after r next) (h.1 c)) ∙ same (take (view x).1 s ++ c)
-
-  pub front_waits : Fronts view o s (Err stops.Partial) run → answer s ≡ Partial
-  front_waits h = sym (same s) ∙ ap (λ (r : Outcome A). after r next) h
-
-  pub front_refused : (f : Fault) → Fronts view o s (Err (stops.Refused f)) run → (c : List ℕ) → answer (s ++ c) ≡ Faulty f
-  front_refused f h c = sym (same (s ++ c)) ∙ ap (λ (r : Outcome A). after r next) (h c)
 
 -- ---- the padding of a value
 

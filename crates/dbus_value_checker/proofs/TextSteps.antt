@@ -8,13 +8,18 @@ use Rattle.dbus_types.specs.Scans.{Stands}
 use Rattle.dbus_types.specs.Scans as scans
 use Rattle.dbus_value_model.specs.WantedTexts.{WantedText, Of, kind_of, is_kind, break_at}
 use Rattle.dbus_value_model.specs.declared.fault.Reason.{Reason}
-use Rattle.dbus_value_model.specs.declared.fault.Reason.TheVariants as reasons
 use Rattle.dbus_value_model.specs.Items.{fault, text_reason}
 use Rattle.dbus_value_model.specs.Reading.{Outcome, Faulty, Partial, after, text, nul}
 use Rattle.dbus_value_checker.specs.declared.values.Values.{Values}
 use Rattle.dbus_value_checker.specs.declared.values.Doing.{Doing}
 use Rattle.dbus_value_checker.specs.Suspended.{onward, Work}
 use Rattle.dbus_value_checker.specs.Denotations.{Answer, rest_of, HasFrames, Goes, Texts, Nuls, after_piece}
+use Rattle.dbus_value_model.specs.declared.stop.Stop.{Stop}
+use Rattle.dbus_value_model.specs.declared.stop.Stop.TheVariants as stops
+use Rattle.dbus_value_checker.specs.Fronts.{Fronts}
+use Rattle.dbus_value_checker.specs.Moves.{Moves}
+use Rattle.dbus_value_checker.proofs.FrontSteps.{front_taken, front_waits, front_refused}
+use Rattle.std.proofs.Common.{Ok, Err}
 use Rattle.dbus_value_checker.proofs.Suspension.{text_waits, text_breaks, text_ends, text_not}
 use Rattle.dbus_value_checker.proofs.FrameLaws.{frames_reach, frames_small, inner_of, within}
 use Rattle.dbus_unmarshal.proofs.KindLaws.{break_is, one_break, is_wanted, is_not_wanted}
@@ -154,26 +159,23 @@ module _ (x : Values) (code left : ℕ) (answer : Answer) (t : Texts x code left
 -- ---- the zero after it
 
 module _ (x : Values) (answer : Answer) (u : Nuls x answer) where
-  pub nuls_wait : answer.to [] ≡ Partial
-  nuls_wait = sym (u.same [])
+  abbrev seen : Unit {0} → Unit {0} × ℕ
+  seen z = (tt, 1)
 
-  pub nuls_refused : (b : ℕ) (s : List ℕ) → (b ≡ 0 → ⊥) → (c : List ℕ) → answer.to ((b ∷ s) ++ c) ≡ Faulty (fault x.offset reasons.Nul)
-  nuls_refused zero s h c = absurd (h refl)
-  nuls_refused (suc b) s h c = sym (u.same (suc b ∷ (s ++ c)))
-
-  pub nuls_pass : (s : List ℕ) → take 1 s ≡ 0 ∷ [] → Goes (record x { offset = x.offset + 1 }) (after_piece answer (take 1 s))
-  nuls_pass s e = record {
+  pub nuls_pass : (s : List ℕ) → Fronts seen x.offset s (Ok tt) nul → Goes (record x { offset = x.offset + 1 }) (after_piece answer (take 1 s))
+  nuls_pass s h = record {
     ws = u.ws;
     frames = moved_on x u.ws (x.offset + 1) u.frames (omega arith) u.fits;
-    same = λ c. u.same (0 ∷ c) ∙ ap (λ (t : List ℕ). answer.to (t ++ c)) (sym e);
+    same = front_taken seen x.offset s nul (λ z. rest_of answer x u.ws) answer.to u.same tt h;
   }
+
+  pub nuls_stops : (s : List ℕ) (e : Stop) → Fronts seen x.offset s (Err e) nul → Moves x s (Err e) x answer
+  nuls_stops s stops.Memory h = absurd h
+  nuls_stops s stops.Partial h = (refl, front_waits seen x.offset s nul (λ z. rest_of answer x u.ws) answer.to u.same h)
+  nuls_stops s (stops.Refused f) h = front_refused seen x.offset s nul (λ z. rest_of answer x u.ws) answer.to u.same f h
 
   pub nuls_small : x.offset < 4294967296
   nuls_small = frames_small x.offset x.offset (length x.text.items) x.end x.text.items (x.inner ∷ reverse x.frames.items) u.ws u.frames
-
-pub one_zero : (s : List ℕ) → (length s ≡ 0 → ⊥) → get_or s 0 0 ≡ 0 → (take 1 s ≡ 0 ∷ []) × (1 ≤ length s)
-one_zero [] h e = absurd (h refl)
-one_zero (b ∷ s) h e = (ap (λ (a : ℕ). a ∷ []) e, omega arith)
 
 pub empty_list : (s : List ℕ) → length s ≡ 0 → s ≡ []
 empty_list [] h = refl

@@ -24,7 +24,8 @@ use Rattle.dbus_value_checker.specs.Moves.{Moves}
 use Rattle.dbus_value_checker.proofs.Suspension.{works_as, variant_begins, after_after, after_same, parts_more}
 use Rattle.dbus_value_checker.proofs.FrameLaws.{frames_reach, end_small, inner_of, within}
 use Rattle.dbus_value_checker.proofs.TypeCodes.{first}
-use Rattle.dbus_value_checker.proofs.PaddedValues.{front_taken, front_waits, front_refused, code_first}
+use Rattle.dbus_value_checker.proofs.FrontSteps.{front_taken, front_waits, front_refused}
+use Rattle.dbus_value_checker.proofs.PaddedValues.{code_first}
 
 -- ---- the signatures in use stay as they are
 

@@ -1,4 +1,5 @@
-//! Types as texts: where a type ends, and where its values begin.
+//! Types as texts: where a type's text ends, where its values begin, and which numbers need no look.
+//! D-Bus Specification, "Valid Signatures", "Summary of D-Bus marshaling".
 #![tactic(auto)]
 
 ghost use Rattle.std.specs.Prelude.{◌≡◌, ◌+◌, ◌<◌, ◌≤◌, length, drop};
@@ -7,7 +8,7 @@ ghost use Rattle.dbus_value_checker.specs.Codes.{skipped, code_alignment, plain_
 
 use dbus_value_model::padding_length;
 
-/// Where the complete type that begins at `pos` ends.
+/// Where the complete type that begins at `pos` ends, or the end of the text where none does.
 pub fn skip(text: &[u8], pos: usize) -> usize
     requires { pos ≤ length text.now }
     ensures offset { result ≡ pos + skipped 0 (drop pos text.now) }

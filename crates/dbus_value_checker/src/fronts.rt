@@ -1,7 +1,10 @@
-//! The items that stand at the front of some bytes.
+//! Fronts: items at the front of some bytes, each of them short.
+//! D-Bus Specification, "Marshaling (Wire Format)".
 //!
-//! The bytes begin at the offset `offset` of a message, and more may follow them. Each call says how many bytes the item has;
-//! `Partial` where the bytes end within it; or `Refused` with its fault, as soon as they show it. None takes memory.
+//! `bytes` are those of a message from `offset` on, as far as they are there; `offset` counts from the message's first byte,
+//! and an item is to end at or before `end`. Each call gives what the item says and how many bytes it has, once all of them
+//! are there; `Partial` where the bytes end within it and show no fault; `Refused` with its first fault, whatever bytes
+//! follow. None takes memory, so none answers `Memory`.
 #![tactic(auto)]
 
 ghost use Rattle.std.specs.Prelude.{◌≡◌, ◌+◌, ◌<◌, ◌≤◌, ◌^◌, ℕ, length, take, drop, IfOk, IfErr};
@@ -18,8 +21,7 @@ ghost use Rattle.dbus_value_model.specs.ValueItems.{number_row, text_row, array_
 ghost use Rattle.dbus_value_model.specs.ValueReaders.{array_frame};
 ghost use Rattle.dbus_value_checker.specs.Codes.{code_width, code_alignment};
 ghost use Rattle.dbus_value_model.specs.declared.stop.Stop.TheVariants.{Partial};
-ghost use Rattle.dbus_value_checker.specs.Fronts.{Fronts};
-ghost use Rattle.dbus_value_checker.specs.Fronts.{IsThere, IsWord, IsByte};
+ghost use Rattle.dbus_value_checker.specs.Fronts.{Fronts, IsThere, IsWord, IsByte};
 ghost use Rattle.dbus_value_checker.specs.Suspended.{onward, done, held_text};
 
 use crate::codes::{alignment, gap};
@@ -41,7 +43,7 @@ pub fn front(bytes: &[u8], n: usize) -> &[u8]
     if n < bytes.len() { &bytes[..n] } else { bytes }
 }
 
-/// The zeros up to the next multiple of `alignment`.
+/// The zeros up to the next multiple of `alignment`: how many.
 ///
 /// `Overrun` at `offset` where they end past the end; else `Padding` at the first byte that is not 0.
 pub fn padding(bytes: &[u8], offset: usize, end: usize, alignment: u8) -> Result<usize, Stop>
@@ -67,7 +69,7 @@ pub fn padding(bytes: &[u8], offset: usize, end: usize, alignment: u8) -> Result
     Ok(zeros)
 }
 
-/// A number of so many bytes, whatever it is.
+/// A number of `width` bytes, whatever it is.
 ///
 /// `Overrun` at `offset` where it ends past the end.
 pub fn fixed(bytes: &[u8], offset: usize, end: usize, width: usize) -> Result<(), Stop>
@@ -139,10 +141,10 @@ fn row_of(code: u8, n: u32, fds: Option<u32>) -> Option<Reason>
     None
 }
 
-/// A number of the type that has this code.
+/// A number of the type that has this code: how many bytes it has. Its padding is taken already.
 ///
 /// `Overrun` at `offset` where it ends past the end; `Bool` there where it is a BOOLEAN and neither 0 nor 1; `FdIndex` there
-/// where it is a UNIX_FD and not below `fds`, if that is something.
+/// where it is a UNIX_FD and not below `fds`, if that is something. D-Bus Specification, "Basic types".
 pub fn number_front(
     code: u8,
     bytes: &[u8],
@@ -172,7 +174,8 @@ pub fn number_front(
     }
 }
 
-/// The length of a text of the type that has this code, and how many bytes the length has.
+/// The length of a text of the type that has this code, and how many bytes the length has: one for a SIGNATURE, else four.
+/// Its padding is taken already.
 ///
 /// `Overrun` at `offset` where the length, the text or the zero after it ends past the end.
 pub fn length_front(
@@ -213,11 +216,11 @@ pub fn length_front(
     }
 }
 
-/// How many bytes the elements of an array have, whose type begins with this code, and how many its length and the padding
-/// after that have.
+/// How many bytes the elements of an array have, whose type begins with this code, and how many bytes stand before them: those
+/// of the length and of the padding after it. The padding before the length is taken already.
 ///
-/// `ArrayTooLong` at `offset` where they are over the limit; else `Overrun` there where they end past the end; and the faults
-/// of the padding.
+/// `ArrayTooLong` at `offset` where they are over the bounds' array; else `Overrun` there where they end past the end; else
+/// the faults of the padding.
 pub fn array_front(
     code: u8,
     bytes: &[u8],
@@ -227,7 +230,7 @@ pub fn array_front(
     bounds: Bounds,
 ) -> Result<(usize, usize), Stop>
     requires at_most { offset ≤ end }
-    requires near { end < 4294967296 }
+    requires near { end < 2 ^ 32 }
     ensures gives { (t : TypeTree) → code_alignment code ≡ alignment_of t → Fronts (λ x. x) offset bytes.now result (array_frame bounds order end t) }
     ensures moves { IfOk result (λ x. (4 ≤ x.1) × (x.1 ≤ length bytes.now) × (offset + x.1 + x.0 ≤ end)) }
     ensures short { IfErr result (λ e. e ≡ Partial → length bytes.now < 12) }
@@ -250,9 +253,10 @@ pub fn array_front(
     }
 }
 
-/// A text of n bytes of a kind.
+/// A text of n bytes of a kind, whose length is taken already.
 ///
-/// Else the fault `reason` at the text's break.
+/// The fault `reason` where the text breaks: at the first byte that no text of the kind goes on with, or after its last byte
+/// where it may not end there.
 pub fn text_front(
     kind: TextKind,
     n: usize,
@@ -276,7 +280,9 @@ pub fn text_front(
     }
 }
 
-/// The zero after a text: `Nul` where the byte is not 0.
+/// The zero after a text.
+///
+/// `Nul` at `offset` where the byte is not 0.
 pub fn nul_front(bytes: &[u8], offset: usize) -> Result<(), Stop>
     ensures gives { Fronts (λ _. (tt, 1)) offset bytes.now result nul }
     ensures short { IfErr result (λ e. e ≡ Partial → length bytes.now < 1) }
@@ -290,10 +296,13 @@ pub fn nul_front(bytes: &[u8], offset: usize) -> Result<(), Stop>
     Ok(())
 }
 
-/// The signature of a variant's value, with its length and the zero after it: how many bytes it has.
+/// The signature of a variant's value, with its length before it and the zero after it: how many bytes the signature has.
+///
+/// `Overrun` at `offset` where the length, the signature or the zero ends past the end; else `Signature` where the signature
+/// breaks, or is not of one complete type; else `Nul` at the byte after it that is not 0. D-Bus Specification, "Variant".
 pub fn variant_front(bytes: &[u8], offset: usize, end: usize) -> Result<usize, Stop>
     requires at_most { offset ≤ end }
-    requires near { end < 4294967296 }
+    requires near { end < 2 ^ 32 }
     ensures gives { (order : Order) → Fronts (λ n. (take n (drop 1 bytes.now), n + 2)) offset bytes.now result (held_text order end) }
     ensures moves { IfOk result (λ n. (n + 2 ≤ length bytes.now) × (offset + n + 2 ≤ end) × IsKind Single (take n (drop 1 bytes.now))) }
     ensures short { IfErr result (λ e. e ≡ Partial → length bytes.now < 257) }

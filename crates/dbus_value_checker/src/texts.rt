@@ -7,7 +7,7 @@ ghost use Rattle.dbus_value_model.specs.WantedTexts.{Of};
 ghost use Rattle.dbus_value_model.specs.WantedTexts as wanted;
 ghost use Rattle.dbus_value_model.specs.Items.{text_reason};
 
-use crate::fronts::{front, length_front, rest_after, text_front};
+use crate::fronts::{front, length_front, nul_front, rest_after, text_front};
 use crate::scans::scan_on;
 use crate::values::{Doing, Values};
 use dbus_types::{TextKind, TextScan};
@@ -135,14 +135,13 @@ impl Values {
         ensures some { IfOk result (λ n. 0 < n) }
         ensures short { IfErr result (λ e. e ≡ Partial → length bytes.now < 1) }
     {
-        if bytes.is_empty() {
-            return Err(Stop::Partial);
+        match nul_front(bytes, self.offset) {
+            Ok(()) => {
+                self.offset += 1;
+                self.next();
+                Ok(1)
+            }
+            Err(stop) => Err(stop),
         }
-        if bytes[0] != 0 {
-            return refuse(self.offset, Reason::Nul);
-        }
-        self.offset += 1;
-        self.next();
-        Ok(1)
     }
 }

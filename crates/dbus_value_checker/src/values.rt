@@ -1,14 +1,14 @@
 //! Values that are wanted: what is noted of them between pieces.
 #![tactic(auto)]
 
-ghost use Rattle.std.specs.Prelude.{◌≡◌, ◌+◌, ◌*◌, ◌<◌, ◌≤◌, ℕ, length, drop, IfOk, IfErr, ◌⊎◌, ◌↔◌, IsTrue};
+ghost use Rattle.std.specs.Prelude.{◌≡◌, ◌+◌, ◌*◌, ◌<◌, ◌≤◌, ◌^◌, ℕ, length, drop, IfOk, IfErr, ◌⊎◌, ◌↔◌, IsTrue};
 
 use crate::fronts::rest_after;
 use arrayvec::ArrayVec;
 use dbus_types::{TextKind, TextScan};
 use dbus_value_model::{Bounds, Fault, Limits, Order, Stop};
 
-/// An open container: where in the signatures the types of its parts stand, and its end.
+/// An open container: where the types of its parts stand in the signatures, and where it ends.
 #[derive(Clone, Copy, Default)]
 pub(crate) struct Frame {
     /// Whether it is an array, whose one type stands for all of its elements.
@@ -17,7 +17,7 @@ pub(crate) struct Frame {
     pub(crate) pos: usize,
     /// Where its types end.
     pub(crate) stop: usize,
-    /// How many bytes of signatures are in use.
+    /// How many bytes of the signatures it and the containers around it use.
     pub(crate) top: usize,
     /// The offset where it ends.
     pub(crate) end: usize,
@@ -28,11 +28,11 @@ pub(crate) struct Frame {
 /// What is wanted next.
 #[derive(Clone, Copy)]
 pub(crate) enum Doing {
-    /// A value of the type that stands there in the signatures.
+    /// A value of the type that stands there in the signatures, from the first place up to the second.
     Wanted(usize, usize),
     /// Elements of an array of numbers of so many bytes, any of which may stand there.
     Numbers(usize),
-    /// So many bytes of a text of a type.
+    /// Bytes of a text of the type that has this code, so many.
     Text(u8, usize),
     /// The zero after a text.
     Nul,
@@ -40,16 +40,26 @@ pub(crate) enum Doing {
     Over,
 }
 
-/// Values that are wanted, up to an end.
+/// Values that are checked as their bytes come, up to an end. It has a fixed size, about 22,000 bytes, takes no memory, and
+/// holds no byte of what it took but the signatures of the variants that are open.
+///
+/// [`Values::begin`] says which values are wanted, [`Values::run`] takes their bytes in pieces of any length, and
+/// [`Values::is_live`] says whether more of them are wanted.
 #[derive(Drop)]
 pub struct Values {
     pub(crate) bounds: Bounds,
     pub(crate) order: Order,
+    /// The offset where the values end at the latest.
     pub(crate) end: usize,
+    /// The offset up to which the bytes are taken.
     pub(crate) offset: usize,
+    /// The innermost container, or the values themselves.
     pub(crate) inner: Frame,
+    /// Those around it, the outermost first: 64 containers, and in each array a dict entry, which takes no room.
     pub(crate) frames: ArrayVec<Frame, 128>,
+    /// The signatures: that of the values, then those of the variants that are open, each at most 255 bytes.
     pub(crate) text: ArrayVec<u8, 16640>,
+    /// A text that is under way.
     pub(crate) scan: TextScan,
     pub(crate) doing: Doing,
 }
@@ -61,7 +71,7 @@ impl Values {
     ghost use Rattle.dbus_value_checker.specs.Suspended.{On};
     ghost use Rattle.dbus_types.specs.Types.{TypeTrees, sigs, AreShaped};
 
-    /// Nothing is wanted, at the first byte of a message.
+    /// Nothing is wanted, and no byte is taken.
     pub fn new() -> Values
         ensures { (last : On) → Denotes result (nothing_on last 0) }
     {
@@ -78,8 +88,8 @@ impl Values {
         }
     }
 
-    /// Wants values of the types that this signature spells: from an offset of a message up to its end, with room for so many
-    /// open containers. Whatever was wanted before is forgotten.
+    /// Wants values of the types that a signature spells, from an offset of a message up to an end. `room` containers may be
+    /// open at once in them, and they keep the bounds. Whatever was wanted before is forgotten.
     pub fn begin(
         &mut self,
         bounds: Bounds,
@@ -90,7 +100,7 @@ impl Values {
         room: u8,
     )
         requires at_most { offset ≤ end }
-        requires near { end < 4294967296 }
+        requires near { end < 2 ^ 32 }
         requires few { room ≤ 64 }
         requires short { length types.now ≤ 255 }
         requires types { (ts : TypeTrees) × ((types.now ≡ sigs ts) × AreShaped ts) }
@@ -150,8 +160,11 @@ impl Values {
         self.offset
     }
 
-    /// Takes what is wanted, as far as it is there whole: how many bytes. What is left of them, where something is
-    /// wanted still, is the front of an item.
+    /// Takes what is wanted as far as it is there whole: how many bytes. Where something is wanted still, what is left of the
+    /// bytes, fewer than 257, is the front of an item: they are to be handed again, with more after them.
+    ///
+    /// A fault comes as soon as the bytes show it, whatever bytes follow; nothing is said of the values after it, and they are
+    /// to begin again. D-Bus Specification, "Marshaling (Wire Format)".
     pub fn run(&mut self, bytes: &[u8]) -> Result<usize, Fault>
         requires valid { (answer : Answer) × Denotes self.old answer }
         ensures runs { (answer : Answer) → Denotes self.old answer → Runs bytes.now result self.new answer }

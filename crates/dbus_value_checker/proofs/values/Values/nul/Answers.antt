@@ -1,6 +1,6 @@
 use Rattle.std.proofs.Common.{take, arith}
 use Rattle.dbus_value_checker.specs.Denotations.{after_piece}
-use Rattle.dbus_value_checker.proofs.TextSteps.{nuls_small, nuls_pass, one_zero}
+use Rattle.dbus_value_checker.proofs.TextSteps.{nuls_small, nuls_pass, nuls_stops}
 use Rattle.dbus_value_checker.proofs.values.Values.nul.Goals as goal
 
 pub overflow_add-self : goal.overflow_add-self
@@ -8,10 +8,11 @@ overflow_add-self c = let k = nuls_small c.args.self.now c.requires.valid.0 c.re
 
 pub next-requires : goal.next-requires
 next-requires c =
-    let z = one_zero c.args.bytes.now (λ e. grind arith) c.if-bytes-ne0.false in
-    record { valid = (after_piece c.requires.valid.0 (take 1 c.args.bytes.now), nuls_pass c.args.self.now c.requires.valid.0 c.requires.valid.1 c.args.bytes.now z.0) }
+    record { valid = (after_piece c.requires.valid.0 (take 1 c.args.bytes.now), nuls_pass c.args.self.now c.requires.valid.0 c.requires.valid.1 c.args.bytes.now c.in-Ok.ensures.gives) }
 
-pub returns-clause-moves : goal.returns-clause-moves
-returns-clause-moves c = λ answer u.
-    let z = one_zero c.args.bytes.now (λ e. grind arith) c.if-bytes-ne0.false in
-    (z.1, c.next.ensures (after_piece answer (take 1 c.args.bytes.now)) (nuls_pass c.args.self.now answer u c.args.bytes.now z.0))
+pub returns-in-Ok-clause-moves : goal.returns-in-Ok-clause-moves
+returns-in-Ok-clause-moves c = λ answer u.
+    (c.in-Ok.ensures.gives.0, c.next.ensures (after_piece answer (take 1 c.args.bytes.now)) (nuls_pass c.args.self.now answer u c.args.bytes.now c.in-Ok.ensures.gives))
+
+pub returns-in-Err-clause-moves : goal.returns-in-Err-clause-moves
+returns-in-Err-clause-moves c = λ answer u. nuls_stops c.args.self.now answer u c.args.bytes.now c.in-Err.stop c.in-Err.ensures.gives
