@@ -1,7 +1,7 @@
 -- Arrays of numbers that go on.
 use Rattle.std.proofs.Common.{◌≡◌, ℕ, suc, ◌+◌, ◌-◌, ◌*◌, ◌%◌, ◌<◌, ◌≤◌, List, [], ◌∷◌, ◌++◌, length, reverse, take, get_or, true, false, Bool, sym, ap, subst, ◌∙◌, arith}
 use Rattle.std.proofs.lemmas.List.{length-take}
-use Rattle.dbus_types.specs.Types.{TypeTree, NumberType, sig}
+use Rattle.dbus_texts.specs.Types.{TypeTree, NumberType, sig}
 use Rattle.dbus_types.specs.Alignments.{width}
 use Rattle.dbus_value_model.specs.Bytes.{gap_to}
 use Rattle.dbus_value_checker.specs.Codes.{plain_width}

@@ -1,7 +1,7 @@
 -- Values that are wanted, before any byte of them.
 use Rattle.std.proofs.Common.{◌≡◌, ℕ, ◌<◌, ◌≤◌, List, [], ◌∷◌, length, reverse, false, refl, ap, ◌∙◌, arith}
 use Rattle.std.proofs.lemmas.List.{take_all}
-use Rattle.dbus_types.specs.Types.{TypeTrees, sigs, AreShaped}
+use Rattle.dbus_texts.specs.Types.{TypeTrees, sigs, AreShaped}
 use Rattle.dbus_value_checker.specs.declared.values.Values.{Values}
 use Rattle.dbus_value_checker.specs.declared.values.Frame.{Frame}
 use Rattle.dbus_value_checker.specs.Suspended.{On, Parts, Work}

@@ -13,11 +13,11 @@ use Rattle.dbus_value_model.specs.Bytes.{gap_to}
 use Rattle.dbus_value_model.specs.Items.{fault}
 use Rattle.dbus_value_model.specs.Reading.{Reader, Outcome, Done, Faulty, Partial, after, zeros, padding, number, number_of, judged}
 use Rattle.std.proofs.Common.{Ok, Err}
-use Rattle.dbus_types.specs.Types.{NumberCode, BYTE, BOOLEAN, INT16, UINT16, INT32, UINT32, INT64, UINT64, DOUBLE, UNIX_FD, TextCode, STRING, OBJECT_PATH, SIGNATURE, number_code, text_code}
+use Rattle.dbus_texts.specs.Types.{NumberCode, BYTE, BOOLEAN, INT16, UINT16, INT32, UINT32, INT64, UINT64, DOUBLE, UNIX_FD, TextCode, STRING, OBJECT_PATH, SIGNATURE, number_code, text_code}
 use Rattle.dbus_types.specs.Alignments.{width, length_width, alignment_of}
 use Rattle.dbus_value_model.specs.ValueItems.{number_row, index_row, text_row, array_row}
 use Rattle.dbus_value_model.specs.ValueReaders.{array_frame}
-use Rattle.dbus_types.specs.Types.{TypeTree}
+use Rattle.dbus_texts.specs.Types.{TypeTree}
 use Rattle.dbus_value_checker.specs.Codes.{code_alignment}
 use Rattle.dbus_value_model.specs.declared.stop.Stop.{Stop}
 use Rattle.dbus_value_model.specs.declared.stop.Stop.TheVariants as stops
@@ -25,7 +25,7 @@ use Rattle.dbus_value_checker.specs.Codes.{code_width}
 use Rattle.dbus_value_checker.specs.Fronts.{Fronts, Lack}
 use Rattle.dbus_value_checker.specs.Suspended.{On, onward, done, held_text}
 use Rattle.dbus_value_model.specs.Items.{text_reason}
-use Rattle.dbus_types.specs.declared.text_kind.TextKind.TheVariants as kinds
+use Rattle.dbus_texts.specs.declared.text_kind.TextKind.TheVariants as kinds
 use Rattle.dbus_value_model.specs.Reading.{text, nul}
 use Rattle.dbus_value_model.specs.WantedTexts.{WantedText, Of, IsWanted, IsBreakOf, break_at}
 use Rattle.dbus_unmarshal.proofs.KindLaws.{break_le, break_is, one_break, break_whole, is_wanted, is_not_wanted}

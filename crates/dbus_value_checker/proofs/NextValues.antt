@@ -3,7 +3,7 @@ use Rattle.std.proofs.Common.{◌≡◌, ℕ, zero, suc, ◌+◌, ◌<◌, ◌�
 use Rattle.std.specs.Prelude.{◌⊎◌}
 use Rattle.std.proofs.Common.{inl, inr}
 use Rattle.std.proofs.lemmas.List.{length-append, reverse-append}
-use Rattle.dbus_types.specs.Types.{NoTypes, MoreTypes, sig, sigs, IsShaped}
+use Rattle.dbus_texts.specs.Types.{NoTypes, MoreTypes, sig, sigs, IsShaped}
 use Rattle.dbus_value_model.specs.Reading.{value}
 use Rattle.dbus_value_checker.specs.declared.values.Values.{Values}
 use Rattle.dbus_value_checker.specs.declared.values.Frame.{Frame}

@@ -2,11 +2,11 @@
 use Rattle.std.proofs.Common.{◌≡◌, ℕ, suc, ◌+◌, ◌-◌, ◌*◌, ◌<◌, ◌≤◌, List, [], ◌∷◌, ◌++◌, length, reverse, take, drop, get_or, true, false, Ok, Err, refl, sym, ap, subst, ◌∙◌, arith, inl, inr}
 use Rattle.std.specs.Prelude.{◌⊎◌}
 use Rattle.std.proofs.lemmas.List.{take-append-drop, length-drop}
-use Rattle.dbus_types.specs.Types.{NumberCode, TextCode, TypeTree, NumberType, TextType, VariantType, ArrayType, TypeTrees, NoTypes, MoreTypes, number_code, text_code, sig, sigs, AreShaped}
+use Rattle.dbus_texts.specs.Types.{NumberCode, TextCode, TypeTree, NumberType, TextType, VariantType, ArrayType, TypeTrees, NoTypes, MoreTypes, number_code, text_code, sig, sigs, AreShaped}
 use Rattle.dbus_types.specs.Alignments.{width, length_width, alignment_of}
-use Rattle.dbus_types.specs.declared.scan.TextScan.{TextScan}
-use Rattle.dbus_types.specs.Scans.{Stands}
-use Rattle.dbus_types.specs.Scans as scans
+use Rattle.dbus_texts.specs.declared.scan.TextScan.{TextScan}
+use Rattle.dbus_texts.specs.Scans.{Stands}
+use Rattle.dbus_texts.specs.Scans as scans
 use Rattle.dbus_value_model.specs.WantedTexts.{Of, kind_of}
 use Rattle.dbus_value_model.specs.declared.fault.Reason.TheVariants as reasons
 use Rattle.dbus_value_model.specs.declared.fault.Fault.{Fault}

@@ -1,11 +1,11 @@
 -- Texts, whose bytes come in pieces.
 use Rattle.std.proofs.Common.{◌≡◌, ℕ, zero, suc, ◌+◌, ◌<◌, ◌≤◌, List, [], ◌∷◌, ◌++◌, length, reverse, take, drop, get_or, true, false, refl, sym, ap, subst, ◌∙◌, arith, append_assoc}
 use Rattle.std.proofs.lemmas.List.{append-nil, take_more, take_all, take-append-drop, length-append, length-take}
-use Rattle.dbus_types.specs.declared.text_kind.TextKind.{TextKind}
-use Rattle.dbus_types.specs.declared.scan.TextScan.{TextScan}
-use Rattle.dbus_types.specs.Kinds.{IsKind, IsPrefixOf}
-use Rattle.dbus_types.specs.Scans.{Stands}
-use Rattle.dbus_types.specs.Scans as scans
+use Rattle.dbus_texts.specs.declared.text_kind.TextKind.{TextKind}
+use Rattle.dbus_texts.specs.declared.scan.TextScan.{TextScan}
+use Rattle.dbus_texts.specs.Kinds.{IsKind, IsPrefixOf}
+use Rattle.dbus_texts.specs.Scans.{Stands}
+use Rattle.dbus_texts.specs.Scans as scans
 use Rattle.dbus_value_model.specs.WantedTexts.{WantedText, Of, kind_of, is_kind, break_at}
 use Rattle.dbus_value_model.specs.declared.fault.Reason.{Reason}
 use Rattle.dbus_value_model.specs.Items.{fault, text_reason}

@@ -1,9 +1,9 @@
 -- What the fields of `Values` stand for: what they answer to the bytes still to come.
 use Rattle.std.specs.Prelude.{◌≡◌, ℕ, suc, ◌+◌, ◌<◌, ◌≤◌, List, ◌∷◌, ◌++◌, length, reverse, Option, None}
-use Rattle.dbus_types.specs.Types.{NumberCode, NumberType, TextCode, TypeTree, text_code, sig, IsShaped}
+use Rattle.dbus_texts.specs.Types.{NumberCode, NumberType, TextCode, TypeTree, text_code, sig, IsShaped}
 use Rattle.dbus_types.specs.Alignments.{width}
-use Rattle.dbus_types.specs.Scans.{Stands}
-use Rattle.dbus_types.specs.Scans as scans
+use Rattle.dbus_texts.specs.Scans.{Stands}
+use Rattle.dbus_texts.specs.Scans as scans
 use Rattle.dbus_value_model.specs.WantedTexts.{kind_of, Of}
 use Rattle.dbus_value_model.specs.Bytes.{gap_to}
 use Rattle.dbus_value_model.specs.ValueItems.{number_row}

@@ -1,6 +1,6 @@
 -- What the frames of `Values` stand for: the containers that are open.
 use Rattle.std.specs.Prelude.{◌≡◌, ℕ, ◌+◌, ◌*◌, ◌<◌, ◌≤◌, List, [], ◌∷◌, length, take, drop, Bool, true, false}
-use Rattle.dbus_types.specs.Types.{TypeTree, TypeTrees, sig, sigs, IsShaped, AreShaped}
+use Rattle.dbus_texts.specs.Types.{TypeTree, TypeTrees, sig, sigs, IsShaped, AreShaped}
 use Rattle.dbus_value_checker.specs.declared.values.Frame.{Frame}
 use Rattle.dbus_value_checker.specs.Suspended.{Work, Parts, Elements}
 

@@ -1,6 +1,6 @@
 -- What a call makes of `Values`.
 use Rattle.std.specs.Prelude.{◌≡◌, ℕ, ◌+◌, ◌-◌, ◌≤◌, List, [], ◌∷◌, ◌++◌, length, take, false, Result, Ok, Err}
-use Rattle.dbus_types.specs.Types.{TypeTrees}
+use Rattle.dbus_texts.specs.Types.{TypeTrees}
 use Rattle.dbus_value_model.specs.declared.limits.Bounds.{Bounds}
 use Rattle.dbus_value_model.specs.declared.order.Order.{Order}
 use Rattle.dbus_value_model.specs.declared.fault.Fault.{Fault}

@@ -1,10 +1,10 @@
 -- A reading that is suspended: what is wanted from here on, and what it answers to the bytes that come.
 -- D-Bus Specification, "Marshaling (Wire Format)".
 use Rattle.std.specs.Prelude.{ℕ, zero, suc, ◌+◌, List, [], ◌∷◌, Option, nat_lt, nat_eq, if◌then◌else◌}
-use Rattle.dbus_types.specs.Types.{NumberCode, TextCode, TypeTree, NumberType, TextType, VariantType, ArrayType, StructType, EntryType, TypeTrees, NoTypes, MoreTypes}
+use Rattle.dbus_texts.specs.Types.{NumberCode, TextCode, TypeTree, NumberType, TextType, VariantType, ArrayType, StructType, EntryType, TypeTrees, NoTypes, MoreTypes}
 use Rattle.dbus_types.specs.Alignments.{width, length_width, alignment_of}
-use Rattle.dbus_types.specs.ComputedKinds.{type_spelled}
-use Rattle.dbus_types.specs.declared.text_kind.TextKind.TheVariants as kinds
+use Rattle.dbus_texts.specs.ComputedKinds.{type_spelled}
+use Rattle.dbus_texts.specs.declared.text_kind.TextKind.TheVariants as kinds
 use Rattle.dbus_value_model.specs.WantedTexts.{kind_of, Of}
 use Rattle.dbus_value_model.specs.declared.limits.Bounds.{Bounds}
 use Rattle.dbus_value_model.specs.declared.order.Order.{Order}

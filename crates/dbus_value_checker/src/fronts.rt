@@ -9,11 +9,11 @@
 
 ghost use Rattle.std.specs.Prelude.{◌≡◌, ◌+◌, ◌<◌, ◌≤◌, ◌^◌, ℕ, length, take, drop, IfOk, IfErr};
 ghost use Rattle.dbus_value_model.specs.Bytes.{gap_to};
-ghost use Rattle.dbus_types.specs.Types.{NumberCode, TextCode, TypeTree, number_code, text_code};
+ghost use Rattle.dbus_texts.specs.Types.{NumberCode, TextCode, TypeTree, number_code, text_code};
 ghost use Rattle.dbus_types.specs.Alignments.{width, length_width, alignment_of};
 ghost use Rattle.dbus_value_model.specs.Reading.{padding, number, text, nul};
-ghost use Rattle.dbus_types.specs.Kinds.{IsKind};
-ghost use Rattle.dbus_types.specs.declared.text_kind.TextKind.TheVariants.{Single};
+ghost use Rattle.dbus_texts.specs.Kinds.{IsKind};
+ghost use Rattle.dbus_texts.specs.declared.text_kind.TextKind.TheVariants.{Single};
 ghost use Rattle.dbus_value_model.specs.declared.order.Order.{Order};
 ghost use Rattle.dbus_value_model.specs.WantedTexts.{Of};
 ghost use Rattle.dbus_value_model.specs.Items.{text_reason};

@@ -2,8 +2,8 @@
 #![tactic(auto)]
 
 ghost use Rattle.std.specs.Prelude.{◌≡◌, ◌+◌, ◌<◌, ◌≤◌, ◌++◌, ℕ, List, length, take};
-ghost use Rattle.dbus_types.specs.Scans.{Stands, kind_of};
-ghost use Rattle.dbus_types.specs.Kinds.{IsPrefixOf};
+ghost use Rattle.dbus_texts.specs.Scans.{Stands, kind_of};
+ghost use Rattle.dbus_texts.specs.Kinds.{IsPrefixOf};
 
 use dbus_types::TextScan;
 

@@ -2,7 +2,7 @@
 #![tactic(auto)]
 
 ghost use Rattle.std.specs.Prelude.{◌≡◌, ◌≢◌, ◌<◌, length, slice_index, IfOk, IfErr, ◌⊎◌};
-ghost use Rattle.dbus_types.specs.Types.{TextCode, text_code};
+ghost use Rattle.dbus_texts.specs.Types.{TextCode, text_code};
 ghost use Rattle.dbus_value_model.specs.WantedTexts.{Of};
 ghost use Rattle.dbus_value_model.specs.WantedTexts as wanted;
 ghost use Rattle.dbus_value_model.specs.Items.{text_reason};

@@ -69,7 +69,7 @@ impl Values {
     ghost use Rattle.dbus_value_checker.specs.Moves.{Moves, Runs, IsLive, offset_of, wide, values_on, nothing_on};
     ghost use Rattle.dbus_value_model.specs.declared.stop.Stop.TheVariants.{Partial};
     ghost use Rattle.dbus_value_checker.specs.Suspended.{On};
-    ghost use Rattle.dbus_types.specs.Types.{TypeTrees, sigs, AreShaped};
+    ghost use Rattle.dbus_texts.specs.Types.{TypeTrees, sigs, AreShaped};
 
     /// Nothing is wanted, and no byte is taken.
     pub fn new() -> Values

@@ -1,7 +1,7 @@
 use Rattle.std.proofs.Common.{◌++◌, ◌∷◌, [], ℕ, List, take, get_or, arith, sym, subst, ◌∙◌}
-use Rattle.dbus_types.specs.declared.text_kind.TextKind.{TextKind}
-use Rattle.dbus_types.specs.Scans.{Stands, kind_of}
-use Rattle.dbus_types.specs.Kinds.{IsPrefixOf}
+use Rattle.dbus_texts.specs.declared.text_kind.TextKind.{TextKind}
+use Rattle.dbus_texts.specs.Scans.{Stands, kind_of}
+use Rattle.dbus_texts.specs.Kinds.{IsPrefixOf}
 use Rattle.dbus_value_checker.proofs.TextSteps.{take_one}
 use Rattle.dbus_value_checker.proofs.scans.scan_on.Goals as goal
 

@@ -1,5 +1,5 @@
 use Rattle.std.proofs.Common.{◌≡◌, ◌≤◌, ◌-◌, ◌++◌, ℕ, List, length, take}
-use Rattle.dbus_types.specs.Scans.{Stands, kind_of}
+use Rattle.dbus_texts.specs.Scans.{Stands, kind_of}
 use Rattle.dbus_value_checker.proofs.scans.scan_on.Given as goal
 
 abbrev pub invariant-loop-n : goal.invariant-loop-n

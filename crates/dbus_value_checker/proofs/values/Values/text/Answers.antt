@@ -1,8 +1,8 @@
 use Rattle.std.proofs.Common.{◌≡◌, ℕ, ◌+◌, ◌-◌, ◌<◌, ◌≤◌, List, length, take, arith, refl, ap, sym, subst, ◌∙◌}
 use Rattle.std.proofs.Common.{[], ◌++◌}
 use Rattle.std.proofs.lemmas.List.{length-take, take-take}
-use Rattle.dbus_types.specs.Scans.{Stands, kind_of}
-use Rattle.dbus_types.specs.Kinds.{IsPrefixOf}
+use Rattle.dbus_texts.specs.Scans.{Stands, kind_of}
+use Rattle.dbus_texts.specs.Kinds.{IsPrefixOf}
 use Rattle.dbus_value_model.specs.Reading.{Partial}
 use Rattle.dbus_value_checker.specs.Denotations.{after_piece}
 use Rattle.dbus_value_checker.proofs.TextSteps.{texts_small, texts_on, texts_wait, texts_break, empty_list}
