@@ -1,4 +1,5 @@
-//! Tests of types, of values, of how values are written and read, and of the allocator that refuses growths.
+//! Tests of types, of values, of how values are written and read, of the memory that they take, and of the allocator that
+//! refuses growths.
 #![tactic(auto)]
 
 #[cfg(test)]
@@ -17,6 +18,8 @@ mod growths;
 mod limits;
 #[cfg(test)]
 mod measures;
+#[cfg(test)]
+mod memory;
 #[cfg(test)]
 mod reading;
 #[cfg(test)]

@@ -3,7 +3,8 @@
 use dbus_types::{SigFault, parse_single};
 use dbus_unmarshal::{get, get_within};
 use dbus_value_model::{Fault, Got, Limits, Order, Refusal};
-use std::alloc::Allocator;
+use refusing_alloc::Refusing;
+use std::alloc::{Allocator, Global};
 
 /// What is asked for: a value of a type, that is to end at `end` at the latest, with `depth` containers open around it.
 #[derive(Clone, Copy)]
@@ -73,5 +74,21 @@ pub fn read_within<A: Allocator + Copy>(
         }
         Err(SigFault::Memory) => Answer::Memory,
         _ => Answer::NotAsked,
+    }
+}
+
+/// The growths that reading a value takes, its type being read already; nothing where the bytes are refused.
+pub fn growths_of_reading(
+    alloc: Global,
+    signature: &str,
+    bytes: &[u8],
+    end: usize,
+) -> Result<Option<u64>, SigFault> {
+    let heap = Refusing::none(alloc);
+    let wanted = parse_single(&heap, signature.as_bytes())?;
+    heap.refuse_none();
+    match get(&heap, bytes, 0, end, Order::Little, &wanted, 0) {
+        Ok(_) => Ok(Some(heap.growths())),
+        Err(_) => Ok(None),
     }
 }
