@@ -1,6 +1,6 @@
 -- Items at the front of some bytes.
 use Rattle.std.proofs.Common.{◌≡◌, ℕ, zero, suc, ◌+◌, ◌<◌, ◌≤◌, List, [], ◌∷◌, ◌++◌, length, get_or, take, drop, replicate, Option, Some, None, refl, sym, ap, subst, ◌∙◌, arith, append_assoc, inl, inr}
-use Rattle.std.specs.Prelude.{◌⊎◌, if◌then◌else◌, nat_lt}
+use Rattle.std.specs.Prelude.{◌⊎◌}
 use Rattle.std.proofs.lemmas.Bool.{lt-ltb, le-ltb}
 use Rattle.std.proofs.lemmas.List.{take_more, take_all, drop_more, take-append-drop, length-take, length-drop}
 use Rattle.dbus_value_model.specs.declared.limits.Bounds.{Bounds}
@@ -15,7 +15,7 @@ use Rattle.dbus_value_model.specs.Reading.{Reader, Outcome, Done, Faulty, Partia
 use Rattle.std.proofs.Common.{Ok, Err}
 use Rattle.dbus_texts.specs.Types.{NumberCode, BYTE, BOOLEAN, INT16, UINT16, INT32, UINT32, INT64, UINT64, DOUBLE, UNIX_FD, TextCode, STRING, OBJECT_PATH, SIGNATURE, number_code, text_code}
 use Rattle.dbus_types.specs.Alignments.{width, length_width, alignment_of}
-use Rattle.dbus_value_model.specs.ValueItems.{number_row, index_row, text_row, array_row}
+use Rattle.dbus_value_model.specs.ValueItems.{number_row, text_row, array_row}
 use Rattle.dbus_value_model.specs.ValueReaders.{array_frame}
 use Rattle.dbus_texts.specs.Types.{TypeTree}
 use Rattle.dbus_value_checker.specs.Codes.{code_alignment}
@@ -139,31 +139,7 @@ number_width UNIX_FD c e = ap code_width (sym e)
 pub word_width : (c : ℕ) → (c ≡ 98) ⊎ (c ≡ 104) → 4 ≡ code_width c
 word_width c h = elim h [ inl e ↦ rw e refl | inr e ↦ rw e refl ]
 
--- a BOOLEAN, an index, and all others
-pub bool_row : (fds : Option ℕ) (k : NumberCode) (c n p : ℕ) → number_code k ≡ c → c ≡ 98 → number_row fds k p n ≡ (if nat_lt n 2 then None else Some reasons.Bool)
-bool_row fds BYTE c n p e d = absurd (omega arith)
-bool_row fds BOOLEAN c n p e d = refl
-bool_row fds INT16 c n p e d = absurd (omega arith)
-bool_row fds UINT16 c n p e d = absurd (omega arith)
-bool_row fds INT32 c n p e d = absurd (omega arith)
-bool_row fds UINT32 c n p e d = absurd (omega arith)
-bool_row fds INT64 c n p e d = absurd (omega arith)
-bool_row fds UINT64 c n p e d = absurd (omega arith)
-bool_row fds DOUBLE c n p e d = absurd (omega arith)
-bool_row fds UNIX_FD c n p e d = absurd (omega arith)
-
-pub fd_row : (fds : Option ℕ) (k : NumberCode) (c n p : ℕ) → number_code k ≡ c → c ≡ 104 → number_row fds k p n ≡ index_row fds n
-fd_row fds BYTE c n p e d = absurd (omega arith)
-fd_row fds BOOLEAN c n p e d = absurd (omega arith)
-fd_row fds INT16 c n p e d = absurd (omega arith)
-fd_row fds UINT16 c n p e d = absurd (omega arith)
-fd_row fds INT32 c n p e d = absurd (omega arith)
-fd_row fds UINT32 c n p e d = absurd (omega arith)
-fd_row fds INT64 c n p e d = absurd (omega arith)
-fd_row fds UINT64 c n p e d = absurd (omega arith)
-fd_row fds DOUBLE c n p e d = absurd (omega arith)
-fd_row fds UNIX_FD c n p e d = refl
-
+-- neither a BOOLEAN nor an index
 pub plain_row : (fds : Option ℕ) (k : NumberCode) (c n p : ℕ) → number_code k ≡ c → (c ≡ 98 → ⊥) → (c ≡ 104 → ⊥) → number_row fds k p n ≡ None
 plain_row fds BYTE c n p e b f = refl
 plain_row fds BOOLEAN c n p e b f = absurd (b (sym e))

@@ -1,5 +1,5 @@
 -- A suspended reading, one item and one byte further.
-use Rattle.std.proofs.Common.{◌≡◌, ℕ, zero, suc, ◌+◌, ◌-◌, ◌<◌, ◌≤◌, List, [], ◌∷◌, ◌++◌, length, take, drop, Bool, true, false, cond, eqb, ltb, Option, Some, None, refl, sym, ap, ◌∙◌, arith}
+use Rattle.std.proofs.Common.{◌≡◌, ℕ, zero, suc, ◌+◌, ◌-◌, ◌<◌, ◌≤◌, List, [], ◌∷◌, ◌++◌, length, take, drop, Bool, true, false, cond, eqb, ltb, Option, None, refl, sym, ap, ◌∙◌, arith}
 use Rattle.std.proofs.lemmas.Bool.{lt-ltb, le-ltb, eq-eqb}
 use Rattle.std.proofs.lemmas.List.{take_at, drop_at, take_all, length-append}
 use Rattle.std.proofs.Math.Seq.{take-append-add}
@@ -55,10 +55,6 @@ elements_up_to (suc turns) end part before next o s =
 pub works_as : (a b : Bounds) (n m : Order) → a ≡ b → n ≡ m → (last : On) (ws : List Work) (q : ℕ) (c : List ℕ) (r : Outcome (Unit {0})) → works b m last ws q c ≡ r → works a n last ws q c ≡ r
 works_as a b n m e d last ws q c r h = rw (e, d) h
 
--- no part is wanted any more
-pub parts_none : (bounds : Bounds) (order : Order) (room end : ℕ) (next : On) (o : ℕ) (s : List ℕ) → work bounds order (Parts room end NoTypes) next o s ≡ next o s
-parts_none bounds order room end next o s = refl
-
 pub parts_more : (bounds : Bounds) (order : Order) (room end : ℕ) (t : TypeTree) (ts : TypeTrees) (next : On) (o : ℕ) (s : List ℕ) → work bounds order (Parts room end (MoreTypes t ts)) next o s ≡ onward (value bounds order room end t) (work bounds order (Parts room end ts) next) o s
 parts_more bounds order room end t ts next o s =
     after_after (value bounds order room end t o s) _ (λ xs. next)
@@ -73,20 +69,9 @@ elements_more bounds order turns room end t next o s h = rw (lt-ltb _ _ h) refl
 
 -- ---- padding
 
-pub padding_overrun : {A : Type 0} (a end o : ℕ) (s : List ℕ) (next : Unit {0} → Reader A) → end < o + gap_to a o → after (padding a end o s) next ≡ Faulty (fault o reasons.Overrun)
-unfolding padding
-padding_overrun a end o s next h = rw (lt-ltb _ _ h, padding) refl
-
 pub padding_zeros : {A : Type 0} (a end o : ℕ) (s : List ℕ) (next : Unit {0} → Reader A) → o + gap_to a o ≤ end → after (padding a end o s) next ≡ after (zeros (gap_to a o) o s) next
 unfolding padding
 padding_zeros a end o s next h = rw (le-ltb _ _ h, padding) refl
-
--- after the zeros the offset is known
-pub zeros_offset : {A : Type 0} (k o : ℕ) (s : List ℕ) (next : ℕ → Reader A) → after (zeros k o s) (λ x p. next p p) ≡ after (zeros k o s) (λ x. next (o + k))
-zeros_offset zero o s next = let e : o + 0 ≡ o = omega arith in ap (λ (p : ℕ). next p o s) (sym e)
-zeros_offset (suc k) o [] next = refl
-zeros_offset (suc k) o (zero ∷ s) next = let e : suc o + k ≡ o + suc k = omega arith in zeros_offset k (suc o) s next ∙ ap (λ (p : ℕ). after (zeros k (suc o) s) (λ x. next p)) e
-zeros_offset (suc k) o (suc b ∷ s) next = refl
 
 -- ---- a value begins
 
@@ -101,10 +86,6 @@ pub value_items : (bounds : Bounds) (order : Order) (room end : ℕ) (t : TypeTr
 unfolding value
 value_items bounds order zero end t o s = refl
 value_items bounds order (suc room) end t o s = refl
-
--- the items of a value, from its padding on
-abbrev after_padding : (bounds : Bounds) (order : Order) (room end : ℕ) (t : TypeTree) (next : On) → On
-after_padding bounds order room end t next = own bounds order end (own_of room t) (works bounds order next (opened_by room end t))
 
 number_begins : (bounds : Bounds) (order : Order) (room end : ℕ) (k : NumberCode) (o : ℕ) (s : List ℕ) (next : On) → after (items bounds order room (inside bounds order room) end (NumberType k) o s) (λ x. next) ≡ after (padding (width k) end o s) (λ x. own bounds order end (own_of room (NumberType k)) next)
 number_begins bounds order room end k o s next =
@@ -246,14 +227,6 @@ module _ (k : WantedText) (n p : ℕ) where
 module _ (bounds : Bounds) (order : Order) (end : ℕ) where
   pub head_waits : (h : Head) (next : On) (p : ℕ) (got : List ℕ) → length got < head_width h → p + head_width h ≤ end → head bounds order end h next p got ≡ Partial
   head_waits h next p got short fits = ap (λ (r : Outcome ℕ). after r (tail bounds order end h next)) (number_waits order (head_width h) end (head_row bounds end h) p got short fits)
-
-  pub head_over : (h : Head) (next : On) (p : ℕ) (s : List ℕ) → end < p + head_width h → head bounds order end h next p s ≡ Faulty (fault p reasons.Overrun)
-  head_over h next p s over = ap (λ (r : Outcome ℕ). after r (tail bounds order end h next)) (number_over order (head_width h) end (head_row bounds end h) p s over)
-
-  pub head_refused : (h : Head) (next : On) (p : ℕ) (got c : List ℕ) (why : Reason) → length got ≡ head_width h → p + head_width h ≤ end → head_row bounds end h (p + head_width h) (number_of order got) ≡ Some why → head bounds order end h next p (got ++ c) ≡ Faulty (fault p why)
-  head_refused h next p got c why whole fits row =
-      ap (λ (r : Outcome ℕ). after r (tail bounds order end h next)) (number_read order (head_width h) end (head_row bounds end h) p got c whole fits
-      ∙ ap (λ (j : Option Reason). judged j (number_of order got) p (p + head_width h) c) row)
 
   pub head_passed : (h : Head) (next : On) (p : ℕ) (got c : List ℕ) → length got ≡ head_width h → p + head_width h ≤ end → head_row bounds end h (p + head_width h) (number_of order got) ≡ None → head bounds order end h next p (got ++ c) ≡ tail bounds order end h next (number_of order got) (p + head_width h) c
   head_passed h next p got c whole fits row =
