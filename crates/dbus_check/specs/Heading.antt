@@ -1,0 +1,79 @@
+-- Reading a message on, from its header's fields: of the fields that were read, little is kept.
+-- D-Bus Specification, "Message Format", "Header Fields".
+use Rattle.std.specs.Prelude.{ℕ, zero, suc, ◌+◌, ◌-◌, List, [], ◌∷◌, Bool, false, ◌||◌, ◌&&◌, if◌then◌else◌, nat_lt, nat_eq, Option, Some, None}
+use Rattle.dbus_types.specs.ComputedKinds.{types_spelled}
+use Rattle.dbus_value_model.specs.FdIndexes.{index_limit}
+use Rattle.dbus_value_model.specs.Specification.{bounds_with}
+use Rattle.dbus_value_model.specs.declared.limits.Limits.{Limits}
+use Rattle.dbus_value_model.specs.declared.order.Order.{Order}
+use Rattle.dbus_value_model.specs.declared.fault.Reason.{Reason}
+use Rattle.dbus_value_model.specs.declared.fault.Reason.TheVariants as reasons
+use Rattle.dbus_value_model.specs.Values.{ValueTree}
+use Rattle.dbus_value_model.specs.Reading.{Partial, after, padding, number, judge, fields, value, ends}
+use Rattle.dbus_message.specs.Messages.{want, is_known, required, text_in, number_in}
+use Rattle.dbus_message.specs.MessageReading.{opening}
+use Rattle.dbus_message.specs.HeaderReading.{wanted_value, message_read}
+use Rattle.dbus_value_checker.specs.Suspended.{On, onward, done}
+
+-- whether a code stands among those seen
+abbrev pub has : ℕ → List ℕ → Bool
+has c [] = false
+has c (x ∷ xs) = nat_eq x c || has c xs
+
+-- the rows of a field's code, behind fields of these codes
+abbrev pub seen_row : List ℕ → ℕ → ℕ → Option Reason
+seen_row codes p n =
+    if nat_eq n 0 then Some reasons.FieldCode else if is_known n && has n codes then Some reasons.FieldTwice else None
+
+-- the lowest of some codes that is missing
+abbrev pub missing : List ℕ → List ℕ → Option Reason
+missing [] codes = None
+missing (c ∷ cs) codes = if has c codes then missing cs codes else Some (reasons.FieldMissing c)
+
+-- what is kept of the fields that were read: their codes, the body's signature, and how many descriptors come with the message
+pub record Kept : Type 0 where
+  pub codes : List ℕ
+  pub text : List ℕ
+  pub count : ℕ
+
+abbrev pub nothing : Kept
+nothing = record { codes = []; text = []; count = 0 }
+
+-- the same behind one field more
+abbrev pub kept_of : Kept → ℕ → ValueTree → Kept
+kept_of kept code v = record {
+  codes = code ∷ kept.codes;
+  text = if has 8 kept.codes then kept.text else if nat_eq code 8 then text_in v else [];
+  count = if has 9 kept.codes then kept.count else if nat_eq code 9 then number_in v else 0;
+}
+
+-- the body, with the header's word for its length
+abbrev pub body_on : Limits → Order → ℕ → Kept → On
+body_on limits order body kept o s =
+    onward (fields (value (bounds_with limits (index_limit limits.fds kept.count)) order limits.depth (o + body)) (types_spelled kept.text)) (onward (ends (o + body)) done) o s
+
+-- behind the fields
+abbrev pub behind_fields : Limits → Order → ℕ → ℕ → Kept → On
+behind_fields limits order kind body kept =
+    onward (judge (missing (required kind) kept.codes)) (λ o. onward (padding 8 (o + 8)) (body_on limits order body kept) o)
+
+-- behind a field's code
+abbrev pub field_value_on : Limits → Order → ℕ → Kept → (Kept → On) → ℕ → On
+field_value_on limits order end kept more code =
+    onward (opening (limits.depth - 2)) (λ o s. after (wanted_value limits order end (want code) o s) (λ v. more (kept_of kept code v)))
+
+-- one field, and then more of them
+abbrev pub field_on : Limits → Order → ℕ → Kept → (Kept → On) → On
+field_on limits order end kept more =
+    onward (padding 8 end) (onward (opening (limits.depth - 1)) (λ o s. after (number order 1 end (seen_row kept.codes) o s) (field_value_on limits order end kept more)))
+
+-- the fields, with at most so many to come
+abbrev pub fields_on : Limits → Order → (kind body turns end : ℕ) → Kept → On
+fields_on limits order kind body zero end kept o s = if nat_eq o end then behind_fields limits order kind body kept o s else Partial
+fields_on limits order kind body (suc turns) end kept o s =
+    if nat_lt o end then field_on limits order end kept (fields_on limits order kind body turns end) o s
+    else if nat_eq o end then behind_fields limits order kind body kept o s else Partial
+
+-- a message, from its first byte on
+abbrev pub message_on : Limits → On
+message_on limits = onward (message_read limits) done

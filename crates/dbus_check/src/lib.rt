@@ -1,0 +1,10 @@
+//! A checker of messages, of fixed size.
+#![tactic(auto)]
+
+mod field_fronts;
+mod seen;
+
+pub use field_fronts::{
+    code_front, count_front, name_front, only_front, serial_front, signature_front,
+};
+pub use seen::Seen;
