@@ -12,4 +12,5 @@ mod stated;
 
 pub use answer::Answer;
 pub use decoding::{decode, decode_within};
+pub use fixed_header::{FixedHeader, read_fixed_header};
 pub use stated::{FIXED_HEADER_LENGTH, stated_length, stated_length_within};

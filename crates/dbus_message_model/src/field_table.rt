@@ -70,7 +70,7 @@ pub fn want(code: u8) -> Wanted
 }
 
 /// Whether a field of this code is known.
-pub(crate) fn is_known(code: u8) -> bool
+pub fn is_known(code: u8) -> bool
     ensures { result ≡ is_known code }
 {
     !matches!(want(code), Wanted::Anything)

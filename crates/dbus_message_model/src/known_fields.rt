@@ -35,7 +35,7 @@ pub fn is_again<A: Allocator>(before: &[HeaderField<A>], code: u8) -> bool
 }
 
 /// The codes of the fields that a message of the type has. D-Bus Specification, "Header Fields".
-fn required(kind: u8) -> &'static [u8]
+pub fn required(kind: u8) -> &'static [u8]
     ensures { result.now ≡ required kind }
 {
     match kind {
