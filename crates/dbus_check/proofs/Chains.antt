@@ -10,12 +10,12 @@ use Rattle.dbus_value_checker.specs.Fronts.{Fronts}
 use Rattle.dbus_value_checker.specs.Suspended.{onward, done}
 use Rattle.dbus_value_checker.proofs.FrontSteps.{both_taken, both_waits, both_refused}
 
--- readers that answer alike
-pub fronts_same : {X A : Type 0} (v : X → A × ℕ) (o : ℕ) (s : List ℕ) (r : Result X Stop) (run other : Reader A) → ((o : ℕ) (s : List ℕ) → run o s ≡ other o s) → Fronts v o s r run → Fronts v o s r other
-fronts_same v o s (Ok x) run other same h = (h.0, λ c. sym (same o (take (v x).1 s ++ c)) ∙ h.1 c)
+-- readers that answer alike there
+pub fronts_same : {X A : Type 0} (v : X → A × ℕ) (o : ℕ) (s : List ℕ) (r : Result X Stop) (run other : Reader A) → ((s : List ℕ) → run o s ≡ other o s) → Fronts v o s r run → Fronts v o s r other
+fronts_same v o s (Ok x) run other same h = (h.0, λ c. sym (same (take (v x).1 s ++ c)) ∙ h.1 c)
 fronts_same v o s (Err stops.Memory) run other same h = absurd h
-fronts_same v o s (Err stops.Partial) run other same h = sym (same o s) ∙ h
-fronts_same v o s (Err (stops.Refused f)) run other same h = λ c. sym (same o (s ++ c)) ∙ h c
+fronts_same v o s (Err stops.Partial) run other same h = sym (same s) ∙ h
+fronts_same v o s (Err (stops.Refused f)) run other same h = λ c. sym (same (s ++ c)) ∙ h c
 
 -- the first stops
 pub first_err : {X A Y B : Type 0} (v : X → A × ℕ) (w : Y → B × ℕ) (o : ℕ) (s : List ℕ) (run : Reader A) (next : A → Reader B) (e : Stop)

@@ -11,7 +11,7 @@ use Rattle.dbus_value_model.specs.declared.order.Order.{Order}
 use Rattle.dbus_value_model.specs.declared.fault.Reason.TheVariants as reasons
 use Rattle.dbus_value_model.specs.Values.{ValueTree, NumberValue, TextValue}
 use Rattle.dbus_value_model.specs.ValueItems.{text_row, number_row}
-use Rattle.dbus_value_model.specs.Reading.{after, pure, padding, number, text, nul, signature, value}
+use Rattle.dbus_value_model.specs.Reading.{Reader, after, pure, padding, number, text, nul, signature, value}
 use Rattle.dbus_message.specs.Messages.{Want, Name, Serial, want}
 use Rattle.dbus_message.specs.MessageItems.{kind_wanted, name_row, not_zero_row}
 use Rattle.dbus_message.specs.MessageReading.{opening, value_wanted}
@@ -35,7 +35,7 @@ field_begins limits order end kept more o s =
 
 module _ (order : Order) (end : ℕ) where
   -- the signature's length, its text and the zero behind it
-  signature_is : (k : WantedText) (next : TypeTree → On) (o : ℕ) (s : List ℕ) → after (wanted_signature order end k o s) next ≡ after (short_text order end k o s) (λ t. next (type_spelled t))
+  signature_is : (k : WantedText) {B : Type 0} (next : TypeTree → Reader B) (o : ℕ) (s : List ℕ) → after (wanted_signature order end k o s) next ≡ after (short_text order end k o s) (λ t. next (type_spelled t))
   unfolding wanted_signature counted_text
   signature_is k next o s =
       after_after (number order 1 end (text_row end) o s) _ next
@@ -49,7 +49,7 @@ module _ (order : Order) (end : ℕ) where
 
   module _ (limits : Limits) where
     -- its signature, and then its value
-    pub value_begins : (w : Want) (next : ValueTree → On) (o : ℕ) (s : List ℕ)
+    pub value_begins : (w : Want) {B : Type 0} (next : ValueTree → Reader B) (o : ℕ) (s : List ℕ)
         → after (wanted_value limits order end w o s) next
         ≡ after (short_text order end (kind_wanted w) o s) (λ t p u. after (value_wanted (bounds_of limits) order (limits.depth - 3) end w (type_spelled t) p u) next)
     unfolding wanted_value
@@ -58,7 +58,7 @@ module _ (order : Order) (end : ℕ) where
         ∙ signature_is (kind_wanted w) (λ held p u. after (value_wanted (bounds_of limits) order (limits.depth - 3) end w held p u) next) o s
 
   -- a name
-  pub name_begins : (bounds : Bounds) (inner : ℕ) (k : WantedText) (held : TypeTree) (next : ValueTree → On) (o : ℕ) (s : List ℕ)
+  pub name_begins : (bounds : Bounds) (inner : ℕ) (k : WantedText) (held : TypeTree) {B : Type 0} (next : ValueTree → Reader B) (o : ℕ) (s : List ℕ)
       → after (value_wanted bounds order inner end (Name k) held o s) next ≡ after (name_text order end k o s) (λ t. next (TextValue STRING t))
   unfolding name_text counted_text
   name_begins bounds inner k held next o s =
@@ -72,7 +72,7 @@ module _ (order : Order) (end : ℕ) where
       ∙ same_after (text k n q v) _ _ (λ t q v. after_after (nul q v) _ (λ t. next (TextValue STRING t))))))
 
   -- a REPLY_SERIAL
-  pub serial_begins : (bounds : Bounds) (inner : ℕ) (held : TypeTree) (next : ValueTree → On) (o : ℕ) (s : List ℕ)
+  pub serial_begins : (bounds : Bounds) (inner : ℕ) (held : TypeTree) {B : Type 0} (next : ValueTree → Reader B) (o : ℕ) (s : List ℕ)
       → after (value_wanted bounds order inner end Serial held o s) next ≡ after (padded_number order end (not_zero_row reasons.ZeroSerial) o s) (λ n. next (NumberValue UINT32 n))
   unfolding padded_number
   serial_begins bounds inner held next o s =
@@ -81,7 +81,7 @@ module _ (order : Order) (end : ℕ) where
       ∙ sym (after_after (padding 4 end o s) _ (λ n. next (NumberValue UINT32 n)))
 
   -- how many descriptors come with the message
-  pub count_begins : (bounds : Bounds) (room : ℕ) (next : ValueTree → On) (o : ℕ) (s : List ℕ)
+  pub count_begins : (bounds : Bounds) (room : ℕ) {B : Type 0} (next : ValueTree → Reader B) (o : ℕ) (s : List ℕ)
       → after (value bounds order room end (NumberType UINT32) o s) next ≡ after (padded_number order end (number_row bounds.fds UINT32) o s) (λ n. next (NumberValue UINT32 n))
   unfolding padded_number value
   count_begins bounds zero next o s =
@@ -94,7 +94,7 @@ module _ (order : Order) (end : ℕ) where
       ∙ sym (after_after (padding 4 end o s) _ (λ n. next (NumberValue UINT32 n)))
 
   -- the body's signature
-  text_is : (next : ValueTree → On) (o : ℕ) (s : List ℕ)
+  text_is : {B : Type 0} (next : ValueTree → Reader B) (o : ℕ) (s : List ℕ)
       → after (after (number order 1 end (text_row end) o s) (λ n p u. after (text (Of kinds.Signature) n p u) (λ t q v. after (nul q v) (λ _. pure (TextValue SIGNATURE t))))) next
       ≡ after (short_text order end (Of kinds.Signature) o s) (λ t. next (TextValue SIGNATURE t))
   unfolding counted_text
@@ -106,7 +106,7 @@ module _ (order : Order) (end : ℕ) where
       ∙ same_after (number order 1 end (text_row end) o s) _ _ (λ n q v. after_after (text (Of kinds.Signature) n q v) _ (λ t. next (TextValue SIGNATURE t))
       ∙ same_after (text (Of kinds.Signature) n q v) _ _ (λ t q v. after_after (nul q v) _ (λ t. next (TextValue SIGNATURE t)))))
 
-  pub body_signature_begins : (bounds : Bounds) (room : ℕ) (next : ValueTree → On) (o : ℕ) (s : List ℕ)
+  pub body_signature_begins : (bounds : Bounds) (room : ℕ) {B : Type 0} (next : ValueTree → Reader B) (o : ℕ) (s : List ℕ)
       → after (value bounds order room end (TextType SIGNATURE) o s) next
       ≡ after (padding 1 end o s) (λ _ p u. after (short_text order end (Of kinds.Signature) p u) (λ t. next (TextValue SIGNATURE t)))
   unfolding value

@@ -149,7 +149,7 @@ module _ (limits : Limits) (order : Order) (end : ℕ) (codes : List ℕ) (o : �
       pub code_stops : (e : Stop) → Fronts single (o + n) (drop n s) (Err e) (number order 1 end (seen_row codes)) → Fronts coded o s (Err e) (field_code limits order end codes)
       unfolding field_code
       code_stops e h = then_err zeros coded coded o s (padding 8 end) (λ _. with_struct) n first e
-          (fronts_same coded (o + n) (drop n s) (Err e) with_code with_struct same_struct (first_err single coded (o + n) (drop n s) read with_variant e h))
+          (fronts_same coded (o + n) (drop n s) (Err e) with_code with_struct (same_struct (o + n)) (first_err single coded (o + n) (drop n s) read with_variant e h))
 
       module _ (code : ℕ) (second : Fronts single (o + n) (drop n s) (Ok code) (number order 1 end (seen_row codes))) where
         pub variant_too_deep : limits.depth < 3 → Fronts coded o s (Err (stops.Refused (fault (o + n + 1) reasons.TooDeep))) (field_code limits order end codes)
@@ -157,7 +157,7 @@ module _ (limits : Limits) (order : Order) (end : ℕ) (codes : List ℕ) (o : �
         variant_too_deep h =
             let e = stops.Refused (fault (o + n + 1) reasons.TooDeep) in
             then_err zeros coded coded o s (padding 8 end) (λ _. with_struct) n first e
-            (fronts_same coded (o + n) (drop n s) (Err e) with_code with_struct same_struct
+            (fronts_same coded (o + n) (drop n s) (Err e) with_code with_struct (same_struct (o + n))
             (then_err single coded coded (o + n) (drop n s) read with_variant code second e
             (λ c. opening_refuses (limits.depth - 2) (λ _. pure code) (o + n + 1) (drop 1 (drop n s) ++ c) (omega (arith, h)))))
 
@@ -167,8 +167,8 @@ module _ (limits : Limits) (order : Order) (end : ℕ) (codes : List ℕ) (o : �
             let passes : (p : ℕ) (u : List ℕ) → after (read p u) (λ a. pure a) ≡ with_code p u =
             (λ p u. same_after (read p u) (λ a. pure a) with_variant (λ a p u. sym (opening_passes (limits.depth - 2) (λ _. pure a) p u (omega (arith, h))))) in
             then_ok zeros coded coded o s (padding 8 end) (λ _. with_struct) n first (code, 1)
-            (fronts_same coded (o + n) (drop n s) (Ok (code, 1)) with_code with_struct same_struct
-            (fronts_same coded (o + n) (drop n s) (Ok (code, 1)) (λ p u. after (read p u) (λ a. pure a)) with_code passes
+            (fronts_same coded (o + n) (drop n s) (Ok (code, 1)) with_code with_struct (same_struct (o + n))
+            (fronts_same coded (o + n) (drop n s) (Ok (code, 1)) (λ p u. after (read p u) (λ a. pure a)) with_code (passes (o + n))
             (front_as single coded (λ a. a) (o + n) (drop n s) read code second (code, 1) refl refl)))
             (code, n + 1) refl refl
 

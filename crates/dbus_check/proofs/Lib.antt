@@ -6,3 +6,4 @@ pub mod Chains
 pub mod FieldSteps
 pub mod SeenSteps
 pub mod OnlySteps
+pub mod ValueSteps

@@ -6,7 +6,7 @@ use Rattle.dbus_value_model.specs.declared.order.Order.{Order}
 use Rattle.dbus_value_model.specs.declared.fault.Reason.{Reason}
 use Rattle.dbus_value_model.specs.ValueItems.{text_row}
 use Rattle.dbus_value_model.specs.WantedTexts.{WantedText}
-use Rattle.dbus_value_model.specs.Reading.{Reader, ◌>>=◌, ◌>>◌, pure, padding, number, text, nul}
+use Rattle.dbus_value_model.specs.Reading.{Reader, after, ◌>>=◌, ◌>>◌, pure, padding, number, text, nul}
 use Rattle.dbus_message.specs.MessageItems.{name_row}
 use Rattle.dbus_message.specs.MessageReading.{opening}
 use Rattle.dbus_check.specs.Heading.{seen_row}
@@ -43,3 +43,11 @@ unfoldable pub padded_number : Order → ℕ → (ℕ → ℕ → Option Reason)
 padded_number order end row = do
   padding 4 end
   number order 4 end row
+
+-- what was read is seen in another light
+abbrev pub seen_as : {A B : Type 0} → (A → B) → Reader A → Reader B
+seen_as g run o s = after (run o s) (λ a. pure (g a))
+
+-- it is forgotten
+abbrev pub nothing_of : {A : Type 0} → A → Unit {0}
+nothing_of a = tt

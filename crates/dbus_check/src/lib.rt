@@ -2,9 +2,11 @@
 #![tactic(auto)]
 
 mod field_fronts;
+mod field_values;
 mod seen;
 
 pub use field_fronts::{
     code_front, count_front, name_front, only_front, serial_front, signature_front,
 };
+pub use field_values::{count_field, name_field, serial_field, text_field};
 pub use seen::Seen;

@@ -1,0 +1,107 @@
+//! The values of the known fields that stand at the front of some bytes, each behind its signature.
+//!
+//! The bytes begin at the offset `offset` of a message, and more may follow them. Each call says how many bytes the signature and
+//! the value have; `Partial` where the bytes end within them; or `Refused` with their fault, as soon as they show it. None takes
+//! memory.
+#![tactic(auto)]
+
+ghost use Rattle.std.specs.Prelude.{◌≡◌, ◌+◌, ◌<◌, ◌≤◌, length, take, drop, IfOk, IfErr};
+ghost use Rattle.dbus_types.specs.Kinds.{IsKind};
+ghost use Rattle.dbus_types.specs.Types.{UINT32, SIGNATURE, NumberType, TextType};
+ghost use Rattle.dbus_types.specs.declared.text_kind.TextKind.TheVariants.{Signature};
+ghost use Rattle.dbus_value_model.specs.WantedTexts.{Of};
+ghost use Rattle.dbus_value_model.specs.declared.limits.Limits.{Limits};
+ghost use Rattle.dbus_value_model.specs.declared.order.Order.{Order};
+ghost use Rattle.dbus_value_model.specs.declared.stop.Stop.TheVariants.{Partial};
+ghost use Rattle.dbus_message.specs.HeaderReading.{wanted_value};
+ghost use Rattle.dbus_message.specs.Messages.{Name, OfType, Serial, number_in, text_in};
+ghost use Rattle.dbus_value_checker.specs.Fronts.{Fronts};
+ghost use Rattle.dbus_check.specs.Fields.{seen_as, nothing_of};
+
+use crate::field_fronts::{count_front, name_front, only_front, serial_front, signature_front};
+use dbus_types::TextKind;
+use dbus_value_checker::rest_after;
+use dbus_value_model::{Order, Stop};
+
+/// A name of a kind.
+pub fn name_field(
+    kind: TextKind,
+    bytes: &[u8],
+    offset: usize,
+    end: usize,
+    order: Order,
+) -> Result<usize, Stop>
+    requires at_most { offset ≤ end }
+    requires near { end < 4294967296 }
+    ensures gives { (limits : Limits) → Fronts (λ n. (tt, n)) offset bytes.now result (seen_as nothing_of (wanted_value limits order end (Name (Of kind)))) }
+    ensures moves { IfOk result (λ n. (n ≤ length bytes.now) × (offset + n ≤ end)) }
+    ensures short { IfErr result (λ e. e ≡ Partial → length bytes.now < 270) }
+{
+    match only_front(b's', bytes, offset, end) {
+        Ok(()) => {}
+        Err(stop) => return Err(stop),
+    }
+    match name_front(kind, rest_after(bytes, 3), offset + 3, end, order) {
+        Ok(n) => Ok(n + 3),
+        Err(stop) => Err(stop),
+    }
+}
+
+/// A REPLY_SERIAL.
+pub fn serial_field(bytes: &[u8], offset: usize, end: usize, order: Order) -> Result<usize, Stop>
+    requires at_most { offset ≤ end }
+    requires near { end < 4294967296 }
+    ensures gives { (limits : Limits) → Fronts (λ n. (tt, n)) offset bytes.now result (seen_as nothing_of (wanted_value limits order end Serial)) }
+    ensures moves { IfOk result (λ n. (n ≤ length bytes.now) × (offset + n ≤ end)) }
+    ensures short { IfErr result (λ e. e ≡ Partial → length bytes.now < 270) }
+{
+    match only_front(b'u', bytes, offset, end) {
+        Ok(()) => {}
+        Err(stop) => return Err(stop),
+    }
+    match serial_front(rest_after(bytes, 3), offset + 3, end, order) {
+        Ok(n) => Ok(n + 3),
+        Err(stop) => Err(stop),
+    }
+}
+
+/// How many descriptors come with the message.
+pub fn count_field(
+    bytes: &[u8],
+    offset: usize,
+    end: usize,
+    order: Order,
+) -> Result<(u32, usize), Stop>
+    requires at_most { offset ≤ end }
+    requires near { end < 4294967296 }
+    ensures gives { (limits : Limits) → Fronts (λ x. x) offset bytes.now result (seen_as number_in (wanted_value limits order end (OfType (NumberType UINT32)))) }
+    ensures moves { IfOk result (λ x. (x.1 ≤ length bytes.now) × (offset + x.1 ≤ end)) }
+    ensures short { IfErr result (λ e. e ≡ Partial → length bytes.now < 270) }
+{
+    match only_front(b'u', bytes, offset, end) {
+        Ok(()) => {}
+        Err(stop) => return Err(stop),
+    }
+    match count_front(rest_after(bytes, 3), offset + 3, end, order) {
+        Ok((count, n)) => Ok((count, n + 3)),
+        Err(stop) => Err(stop),
+    }
+}
+
+/// The body's signature: how many bytes its text has, which stands behind the first four, and a zero behind it.
+pub fn text_field(bytes: &[u8], offset: usize, end: usize) -> Result<usize, Stop>
+    requires at_most { offset ≤ end }
+    requires near { end < 4294967296 }
+    ensures gives { (limits : Limits) (order : Order) → Fronts (λ n. (take n (drop 4 bytes.now), n + 5)) offset bytes.now result (seen_as text_in (wanted_value limits order end (OfType (TextType SIGNATURE)))) }
+    ensures moves { IfOk result (λ n. (n < 256) × (n + 5 ≤ length bytes.now) × (offset + n + 5 ≤ end) × IsKind Signature (take n (drop 4 bytes.now))) }
+    ensures short { IfErr result (λ e. e ≡ Partial → length bytes.now < 270) }
+{
+    match only_front(b'g', bytes, offset, end) {
+        Ok(()) => {}
+        Err(stop) => return Err(stop),
+    }
+    match signature_front(TextKind::Signature, rest_after(bytes, 3), offset + 3, end) {
+        Ok(n) => Ok(n),
+        Err(stop) => Err(stop),
+    }
+}
