@@ -7,3 +7,4 @@ pub mod FieldSteps
 pub mod SeenSteps
 pub mod OnlySteps
 pub mod ValueSteps
+pub mod Stages

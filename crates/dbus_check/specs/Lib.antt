@@ -1,3 +1,4 @@
 pub mod Heading
 pub mod Fields
 pub mod Seen
+pub mod Progress

@@ -3,6 +3,7 @@
 
 mod field_fronts;
 mod field_values;
+mod progress;
 mod seen;
 
 pub use field_fronts::{

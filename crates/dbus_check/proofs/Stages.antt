@@ -1,0 +1,109 @@
+-- A message under way, stage by stage.
+use Rattle.std.proofs.Common.{◌≡◌, ◌≢◌, ℕ, zero, suc, ◌+◌, ◌-◌, ◌<◌, ◌≤◌, List, [], ◌∷◌, ◌++◌, length, take, drop, Bool, true, false, cond, eqb, ltb, Option, Some, None, Result, Ok, Err, refl, sym, ap, subst, ◌∙◌, arith}
+use Rattle.std.proofs.Math.Path.{fun_ext}
+use Rattle.std.proofs.lemmas.Bool.{le-ltb, eq-eqb}
+use Rattle.std.proofs.lemmas.List.{append-nil, take_all, drop_all, length-take, take-append-drop}
+use Rattle.dbus_types.specs.ComputedKinds.{types_spelled}
+use Rattle.dbus_types.specs.Kinds.{IsKind}
+use Rattle.dbus_types.specs.Types.{TypeTrees, NoTypes, sigs, AreShaped}
+use Rattle.dbus_types.specs.declared.text_kind.TextKind.TheVariants as kinds
+use Rattle.dbus_unmarshal.proofs.KindLaws.{signature_text}
+use Rattle.dbus_value_model.specs.FdIndexes.{index_limit}
+use Rattle.dbus_value_model.specs.Specification.{bounds_with}
+use Rattle.dbus_value_model.specs.declared.limits.Bounds.{Bounds}
+use Rattle.dbus_value_model.specs.declared.limits.Limits.{Limits}
+use Rattle.dbus_value_model.specs.declared.order.Order.{Order}
+use Rattle.dbus_value_model.specs.declared.fault.Fault.{Fault}
+use Rattle.dbus_value_model.specs.declared.fault.Reason.{Reason}
+use Rattle.dbus_value_model.specs.declared.stop.Stop.{Stop}
+use Rattle.dbus_value_model.specs.declared.stop.Stop.TheVariants as stops
+use Rattle.dbus_value_model.specs.Gives.{Stops}
+use Rattle.dbus_value_model.specs.Items.{fault}
+use Rattle.dbus_value_model.specs.Reading.{Outcome, Done, Faulty, Partial, after, judge, padding, fields, value, ends}
+use Rattle.dbus_message.specs.Messages.{required}
+use Rattle.dbus_message.specs.HeaderReading.{fixed_header}
+use Rattle.dbus_message.specs.declared.fixed_header.FixedHeader.{FixedHeader}
+use Rattle.dbus_value_checker.specs.Fronts.{Fronts}
+use Rattle.dbus_value_checker.specs.Suspended.{On, onward, done}
+use Rattle.dbus_value_checker.specs.Denotations as values
+use Rattle.dbus_value_checker.specs.Moves.{values_on}
+use Rattle.dbus_value_checker.specs.declared.values.Values.{Values}
+use Rattle.dbus_check.specs.Heading.{Kept, missing, body_on, behind_fields, fields_on, message_on}
+use Rattle.dbus_check.specs.Progress.{To, Moves}
+use Rattle.dbus_check.specs.declared.progress.Progress.{Progress}
+use Rattle.dbus_check.proofs.Heading.{behind_fixed, message_on_is}
+use Rattle.dbus_check.proofs.Lasts.{lasts_fixed, sized_fixed}
+use Rattle.dbus_value_checker.proofs.FrontSteps.{split-at}
+
+-- the empty text is a signature
+pub no_signature : IsKind kinds.Signature []
+no_signature = ((NoTypes, tt, refl), omega arith)
+
+-- ---- the fixed header
+
+module _ (limits : Limits) (s : List ℕ) where
+  few : length (take 16 s) ≤ 16
+  few = omega (arith, length-take 16 s)
+
+  pub header_taken : (h : FixedHeader) → fixed_header limits 0 (take 16 s) ≡ Done h 16 (drop 16 (take 16 s)) → (c : List ℕ) → message_on limits 0 (take 16 s ++ c) ≡ behind_fixed limits h 16 c
+  header_taken h e c =
+      message_on_is limits 0 (take 16 s ++ c)
+      ∙ ap (λ (r : Outcome FixedHeader). after r (behind_fixed limits)) ((lasts_fixed limits).reads 0 (take 16 s) h 16 (drop 16 (take 16 s)) e c)
+      ∙ ap (λ (t : List ℕ). behind_fixed limits h 16 (t ++ c)) (drop_all 16 (take 16 s) few)
+
+  pub header_short : fixed_header limits 0 (take 16 s) ≡ Partial → length s < 16
+  header_short e = let h = (sized_fixed limits).waits 0 (take 16 s) e in omega (arith, length-take 16 s, h)
+
+  pub header_stops : (e : Stop) → e ≢ stops.Memory → Stops e (fixed_header limits 0 (take 16 s)) → (x : Progress) (to : To) → ((c : List ℕ) → message_on limits 0 c ≡ to c) → Moves x s (Err e) x to
+  header_stops stops.Memory not h x to same = absurd (not refl)
+  header_stops stops.Partial not h x to same =
+      let short = header_short h in
+      let all : take 16 s ≡ s = take_all 16 s (omega arith) in
+      (refl, sym (same s) ∙ message_on_is limits 0 s ∙ ap (λ (t : List ℕ). after (fixed_header limits 0 t) (behind_fixed limits)) (sym all) ∙ ap (λ (r : Outcome FixedHeader). after r (behind_fixed limits)) h)
+  header_stops (stops.Refused f) not h x to same = λ c.
+      sym (same (s ++ c)) ∙ ap (message_on limits 0) (split-at 16 s c) ∙ message_on_is limits 0 (take 16 s ++ (drop 16 s ++ c))
+      ∙ ap (λ (r : Outcome FixedHeader). after r (behind_fixed limits)) ((lasts_fixed limits).refuses 0 (take 16 s) f h (drop 16 s ++ c))
+
+-- ---- behind the fields
+
+module _ (limits : Limits) (order : Order) (kind body : ℕ) (kept : Kept) where
+  pub fields_over : (turns end o : ℕ) (c : List ℕ) → o ≡ end → fields_on limits order kind body turns end kept o c ≡ behind_fields limits order kind body kept o c
+  fields_over zero end o c e = rw (eq-eqb o end e) refl
+  fields_over (suc turns) end o c e = let le : end ≤ o = omega arith in rw (le-ltb _ _ le, eq-eqb o end e) refl
+
+  pub lacks_field : (why : Reason) (o : ℕ) (c : List ℕ) → missing (required kind) kept.codes ≡ Some why → behind_fields limits order kind body kept o c ≡ Faulty (fault o why)
+  lacks_field why o c e = ap (λ (r : Option Reason). after (judge r o c) (λ _ o. onward (padding 8 (o + 8)) (body_on limits order body kept) o)) e
+
+  pub lacks_none : (o : ℕ) (c : List ℕ) → missing (required kind) kept.codes ≡ None → behind_fields limits order kind body kept o c ≡ onward (padding 8 (o + 8)) (body_on limits order body kept) o c
+  lacks_none o c e = ap (λ (r : Option Reason). after (judge r o c) (λ _ o. onward (padding 8 (o + 8)) (body_on limits order body kept) o)) e
+
+  -- ---- the padding before the body
+
+  pub padding_taken : (o : ℕ) (s : List ℕ) (n : ℕ) → Fronts (λ (n : ℕ). (tt, n)) o s (Ok n) (padding 8 (o + 8)) → (c : List ℕ) → onward (padding 8 (o + 8)) (body_on limits order body kept) o (take n s ++ c) ≡ body_on limits order body kept (o + n) c
+  padding_taken o s n h c = ap (λ (r : Outcome (Unit {0})). after r (λ _. body_on limits order body kept)) (h.1 c)
+
+  pub padding_stops : (e : Stop) (o : ℕ) (s : List ℕ) → Fronts (λ (n : ℕ). (tt, n)) o s (Err e) (padding 8 (o + 8)) → (x : Progress) (to : To) → ((c : List ℕ) → onward (padding 8 (o + 8)) (body_on limits order body kept) o c ≡ to c) → Moves x s (Err e) x to
+  padding_stops stops.Memory o s h x to same = absurd h
+  padding_stops stops.Partial o s h x to same = (refl, sym (same s) ∙ ap (λ (r : Outcome (Unit {0})). after r (λ _. body_on limits order body kept)) h)
+  padding_stops (stops.Refused f) o s h x to same = λ c. sym (same (s ++ c)) ∙ ap (λ (r : Outcome (Unit {0})). after r (λ _. body_on limits order body kept)) (h c)
+
+-- ---- the body
+
+pub signature_types : (t : List ℕ) → IsKind kinds.Signature t → (ts : TypeTrees) × ((t ≡ sigs ts) × AreShaped ts)
+signature_types t h = let w = signature_text t h in (types_spelled t, (sym w.1, w.0))
+
+-- another word for the same answer
+pub denotes_same : (x : Values) (last : On) (to other : To) → ((c : List ℕ) → to c ≡ other c) → values.Denotes x (record { last = last; to = to }) → values.Denotes x (record { last = last; to = other })
+denotes_same x last to other same h = subst (λ (t : To). values.Denotes x (record { last = last; to = t })) (fun_ext same) h
+
+pub body_begins : (limits : Limits) (order : Order) (body : ℕ) (kept : Kept) (x : Values) (bounds : Bounds) (end o : ℕ) (text : List ℕ)
+    → bounds ≡ bounds_with limits (index_limit limits.fds kept.count) → end ≡ o + body → text ≡ kept.text → IsKind kinds.Signature kept.text
+    → ((ts : TypeTrees) (last : On) → text ≡ sigs ts → AreShaped ts → values.Denotes x (values_on bounds order limits.depth end ts last o))
+    → (to : To) → ((c : List ℕ) → body_on limits order body kept o c ≡ to c) → values.Denotes x (record { last = onward (ends end) done; to = to })
+body_begins limits order body kept x bounds end o text bounds_is end_is text_is signature begun to same =
+    let w = signature_text kept.text signature in
+    denotes_same x (onward (ends end) done) _ to
+    (λ c. ap (λ (b : Bounds). onward (fields (value b order limits.depth end) (types_spelled kept.text)) (onward (ends end) done) o c) bounds_is
+    ∙ ap (λ (e : ℕ). onward (fields (value (bounds_with limits (index_limit limits.fds kept.count)) order limits.depth e) (types_spelled kept.text)) (onward (ends e) done) o c) end_is
+    ∙ same c)
+    (begun (types_spelled kept.text) (onward (ends end) done) (text_is ∙ sym w.1) w.0)

@@ -1,0 +1,45 @@
+use Rattle.std.proofs.Common.{◌≡◌, ℕ, ◌+◌, ◌<◌, ◌≤◌, List, [], length, take, drop, refl, sym, ap, subst, ◌∙◌, arith}
+use Rattle.std.proofs.lemmas.List.{length-take}
+use Rattle.dbus_value_model.specs.declared.stop.Stop.{Stop}
+use Rattle.dbus_value_model.specs.Gives.{Stops}
+use Rattle.dbus_value_model.specs.Reading.{Done}
+use Rattle.dbus_message.specs.HeaderReading.{fixed_header}
+use Rattle.dbus_check.specs.Heading.{nothing}
+use Rattle.dbus_check.proofs.Stages.{no_signature, header_taken, header_stops, header_short}
+use Rattle.dbus_check.proofs.progress.Progress.header.Goals as goal
+
+pub returns-in-Ok-clause-moves : goal.returns-in-Ok-clause-moves
+returns-in-Ok-clause-moves c = λ to same.
+    let s = c.args.bytes.now in
+    let x = c.args.self.now in
+    let h = c.in-Ok.header in
+    let front = c.front.ensures in
+    let there = c.in-Ok.ensures.there in
+    let size = there.1 in
+    let fits = there.2 in
+    let most = x.limits.message_in in
+    let l = ap length front in
+    let t = length-take 16 s in
+    let read : fixed_header x.limits 0 (take 16 s) ≡ Done h 16 (drop 16 (take 16 s)) = subst (λ (u : List ℕ). fixed_header x.limits 0 u ≡ Done h 16 (drop 16 u)) front c.in-Ok.ensures.gives in (
+      omega arith,
+      record {
+        kept = nothing;
+        turns = h.fields;
+        keeps = record { sees = c.none-self.ensures; text = c.clear.ensures; signature = no_signature; count = refl; no_text = λ e. refl; no_count = λ e. refl };
+        low = omega arith;
+        turns_is = omega arith;
+        near = omega (arith, fits, most);
+        same = λ c. sym (header_taken x.limits s h read c) ∙ same (_);
+      },
+    )
+
+pub returns-in-Err-clause-moves : goal.returns-in-Err-clause-moves
+returns-in-Err-clause-moves c = λ to same.
+    header_stops c.args.self.now.limits c.args.bytes.now c.in-Err.stop c.in-Err.ensures.no_memory
+    (subst (λ (u : List ℕ). Stops c.in-Err.stop (fixed_header c.args.self.now.limits 0 u)) c.front.ensures c.in-Err.ensures.gives) c.args.self.now to same
+
+pub returns-in-Err-clause-short : goal.returns-in-Err-clause-short
+returns-in-Err-clause-short c = λ e.
+    header_short c.args.self.now.limits c.args.bytes.now
+    (subst (λ (stop : Stop). Stops stop (fixed_header c.args.self.now.limits 0 (take 16 c.args.bytes.now))) e
+    (subst (λ (u : List ℕ). Stops c.in-Err.stop (fixed_header c.args.self.now.limits 0 u)) c.front.ensures c.in-Err.ensures.gives))

@@ -1,0 +1,22 @@
+use Rattle.std.proofs.Common.{◌≡◌, ℕ, ◌+◌, List, length, take, Some, sym, ap, ◌∙◌, refl}
+use Rattle.dbus_value_model.specs.FdIndexes.{index_limit}
+use Rattle.dbus_value_model.specs.Specification.{bounds_with}
+use Rattle.dbus_check.proofs.Stages.{padding_taken, signature_types, body_begins}
+use Rattle.dbus_check.proofs.progress.Progress.padding.Goals as goal
+
+pub begin-requires-clause-types : goal.begin-requires-clause-types
+begin-requires-clause-types c =
+    let w = c.requires.valid.1 in
+    let t = signature_types w.kept.text w.keeps.signature in
+    (t.0, (c.as_slice.ensures.value ∙ w.keeps.text ∙ t.1.0, t.1.1))
+
+pub returns-in-Ok-clause-moves : goal.returns-in-Ok-clause-moves
+returns-in-Ok-clause-moves c = λ to w.
+    let x = c.args.self.now in
+    let s = c.args.bytes.now in
+    let n = c.in-Ok.zeros in (
+      c.in-Ok.ensures.moves.2,
+      body_begins x.limits x.order x.body w.kept c.begin.new.self c.bounds_with.result (x.offset + n + x.body) (x.offset + n) c.as_slice.result.now
+          (c.bounds_with.ensures ∙ ap (bounds_with x.limits) (c.index_limit-fds.ensures ∙ ap (index_limit x.limits.fds) w.keeps.count)) refl (c.as_slice.ensures.value ∙ w.keeps.text) w.keeps.signature
+          c.begin.ensures _ (λ t. sym (padding_taken x.limits x.order x.kind x.body w.kept x.offset s n c.in-Ok.ensures.gives t) ∙ w.same (_)),
+    )

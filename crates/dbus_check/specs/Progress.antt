@@ -1,0 +1,75 @@
+-- What the fields of `Progress` stand for: what they answer to the bytes still to come.
+-- D-Bus Specification, "Message Format".
+use Rattle.std.specs.Prelude.{◌≡◌, ℕ, ◌+◌, ◌<◌, ◌≤◌, List, [], length, take, ◌++◌, false, Result, Ok, Err}
+use Rattle.dbus_types.specs.Kinds.{IsKind}
+use Rattle.dbus_types.specs.declared.text_kind.TextKind.TheVariants as kinds
+use Rattle.dbus_value_model.specs.declared.fault.Fault.{Fault}
+use Rattle.dbus_value_model.specs.declared.stop.Stop.{Stop}
+use Rattle.dbus_value_model.specs.declared.stop.Stop.TheVariants as stops
+use Rattle.dbus_value_model.specs.Reading.{Outcome, Done, Faulty, Partial, padding, ends}
+use Rattle.dbus_value_checker.specs.Suspended.{On, onward, done}
+use Rattle.dbus_value_checker.specs.Denotations as values
+use Rattle.dbus_value_checker.specs.Moves.{offset_of}
+use Rattle.dbus_check.specs.Heading.{Kept, has, body_on, fields_on, message_on}
+use Rattle.dbus_check.specs.Seen.{Sees}
+use Rattle.dbus_check.specs.declared.progress.Progress.{Progress}
+use Rattle.dbus_check.specs.declared.progress.Stage.{Stage}
+use Rattle.dbus_check.specs.declared.progress.Stage.TheVariants as stage
+
+-- what is answered to the bytes still to come
+abbrev pub To : Type 0
+To = List ℕ → Outcome (Unit {0})
+
+-- what is noted of the fields that were read is what is kept of them
+pub record Keeps (x : Progress) (kept : Kept) : Type 0 where
+  pub sees : Sees x.seen kept.codes
+  pub text : x.signature.items ≡ kept.text
+  pub signature : IsKind kinds.Signature kept.text
+  pub count : x.fds ≡ kept.count
+  pub no_text : has 8 kept.codes ≡ false → kept.text ≡ []
+  pub no_count : has 9 kept.codes ≡ false → kept.count ≡ 0
+
+-- from here on fields are wanted, or what stands behind them
+pub record WantsFields (x : Progress) (to : To) : Type 0 where
+  pub kept : Kept
+  pub turns : ℕ
+  pub keeps : Keeps x kept
+  pub low : x.offset ≤ x.end
+  pub turns_is : x.end ≤ x.offset + turns
+  pub near : x.end + 8 + x.body < 4294967296
+  pub same : (c : List ℕ) → fields_on x.limits x.order x.kind x.body turns x.end kept x.offset c ≡ to c
+
+-- the fields are over, and none is missing
+pub record WantsPadding (x : Progress) (to : To) : Type 0 where
+  pub kept : Kept
+  pub keeps : Keeps x kept
+  pub near : x.offset + 8 + x.body < 4294967296
+  pub same : (c : List ℕ) → onward (padding 8 (x.offset + 8)) (body_on x.limits x.order x.body kept) x.offset c ≡ to c
+
+abbrev pub denotes : Stage → Progress → To → Type 0
+denotes stage.Header x to = (c : List ℕ) → message_on x.limits 0 c ≡ to c
+denotes stage.Fields x to = WantsFields x to
+denotes stage.Padding x to = WantsPadding x to
+denotes stage.Body x to = values.Denotes x.values (record { last = onward (ends x.end) done; to = to })
+
+-- the fields stand for this answer
+abbrev pub Denotes : Progress → To → Type 0
+Denotes x to = denotes x.stage x to
+
+-- what is answered once the bytes w were taken
+abbrev pub after_bytes : To → List ℕ → To
+after_bytes to w = λ c. to (w ++ c)
+
+-- a call that was handed the bytes s: it took so many; or they end within what is wanted, and nothing changed; or a fault shows
+abbrev pub Moves : Progress → List ℕ → Result ℕ Stop → Progress → To → Type 0
+Moves old s (Ok n) new to = (n ≤ length s) × Denotes new (after_bytes to (take n s))
+Moves old s (Err stops.Memory) new to = ⊥
+Moves old s (Err stops.Partial) new to = (new ≡ old) × (to s ≡ Partial)
+Moves old s (Err (stops.Refused f)) new to = (c : List ℕ) → to (s ++ c) ≡ Faulty f
+
+-- a call that needs no byte
+abbrev pub Turns : Result (Unit {0}) Stop → Progress → To → Type 0
+Turns (Ok x) new to = Denotes new to
+Turns (Err stops.Memory) new to = ⊥
+Turns (Err stops.Partial) new to = ⊥
+Turns (Err (stops.Refused f)) new to = (c : List ℕ) → to c ≡ Faulty f
