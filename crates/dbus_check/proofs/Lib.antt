@@ -8,3 +8,4 @@ pub mod SeenSteps
 pub mod OnlySteps
 pub mod ValueSteps
 pub mod Stages
+pub mod PassedFields

@@ -1,16 +1,18 @@
 -- What the fields of `Progress` stand for: what they answer to the bytes still to come.
 -- D-Bus Specification, "Message Format".
-use Rattle.std.specs.Prelude.{◌≡◌, ℕ, ◌+◌, ◌<◌, ◌≤◌, List, [], length, take, ◌++◌, false, Result, Ok, Err}
+use Rattle.std.specs.Prelude.{◌≡◌, ℕ, ◌+◌, ◌<◌, ◌≤◌, List, [], length, take, ◌++◌, ◌&&◌, false, Result, Ok, Err}
 use Rattle.dbus_types.specs.Kinds.{IsKind}
 use Rattle.dbus_types.specs.declared.text_kind.TextKind.TheVariants as kinds
 use Rattle.dbus_value_model.specs.declared.fault.Fault.{Fault}
 use Rattle.dbus_value_model.specs.declared.stop.Stop.{Stop}
 use Rattle.dbus_value_model.specs.declared.stop.Stop.TheVariants as stops
-use Rattle.dbus_value_model.specs.Reading.{Outcome, Done, Faulty, Partial, padding, ends}
+use Rattle.dbus_value_model.specs.Reading.{Outcome, Faulty, Partial, after, padding, ends}
 use Rattle.dbus_value_checker.specs.Suspended.{On, onward, done}
 use Rattle.dbus_value_checker.specs.Denotations as values
 use Rattle.dbus_value_checker.specs.Moves.{offset_of}
-use Rattle.dbus_check.specs.Heading.{Kept, has, body_on, fields_on, message_on}
+use Rattle.dbus_message.specs.HeaderReading.{wanted_value}
+use Rattle.dbus_message.specs.Messages.{is_known, want}
+use Rattle.dbus_check.specs.Heading.{Kept, kept_of, has, body_on, fields_on, message_on}
 use Rattle.dbus_check.specs.Seen.{Sees}
 use Rattle.dbus_check.specs.declared.progress.Progress.{Progress}
 use Rattle.dbus_check.specs.declared.progress.Stage.{Stage}
@@ -73,3 +75,21 @@ Turns (Ok x) new to = Denotes new to
 Turns (Err stops.Memory) new to = ⊥
 Turns (Err stops.Partial) new to = ⊥
 Turns (Err (stops.Refused f)) new to = (c : List ℕ) → to c ≡ Faulty f
+
+-- the value of a field of this code is wanted, n bytes further
+pub record WantsValue (x : Progress) (code n : ℕ) (to : To) : Type 0 where
+  pub kept : Kept
+  pub turns : ℕ
+  pub keeps : Keeps x kept
+  pub once : is_known code && has code kept.codes ≡ false
+  pub low : x.offset + n ≤ x.end
+  pub turns_is : x.end ≤ x.offset + n + turns
+  pub near : x.end + 8 + x.body < 4294967296
+  pub same : (c : List ℕ) → after (wanted_value x.limits x.order x.end (want code) (x.offset + n) c) (λ v. fields_on x.limits x.order x.kind x.body turns x.end (kept_of kept code v)) ≡ to c
+
+-- a field's value was passed, in so many bytes; or they end within it; or a fault shows
+abbrev pub Passes : Progress → List ℕ → Result ℕ Stop → Progress → To → Type 0
+Passes old s (Ok m) new to = (m ≤ length s) × WantsFields new (after_bytes to (take m s))
+Passes old s (Err stops.Memory) new to = ⊥
+Passes old s (Err stops.Partial) new to = (new ≡ old) × (to s ≡ Partial)
+Passes old s (Err (stops.Refused f)) new to = (c : List ℕ) → to (s ++ c) ≡ Faulty f

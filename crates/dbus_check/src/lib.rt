@@ -2,6 +2,7 @@
 #![tactic(auto)]
 
 mod field_fronts;
+mod field_stage;
 mod field_values;
 mod progress;
 mod seen;

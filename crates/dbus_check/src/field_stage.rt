@@ -1,0 +1,102 @@
+//! The fields of a message under way whose values are read in one go.
+#![tactic(auto)]
+
+ghost use Rattle.std.specs.Prelude.{◌≡◌, ◌+◌, ◌<◌, ◌≤◌, length, drop, IfOk, IfErr};
+ghost use Rattle.dbus_types.specs.Types.{UINT32, SIGNATURE, NumberType, TextType};
+ghost use Rattle.dbus_value_model.specs.WantedTexts.{Of};
+ghost use Rattle.dbus_value_model.specs.declared.stop.Stop.TheVariants.{Partial};
+ghost use Rattle.dbus_message.specs.Messages.{Name, OfType, Serial, want};
+
+use crate::field_values::{count_field, name_field, serial_field, text_field};
+use crate::progress::Progress;
+use dbus_types::TextKind;
+use dbus_value_checker::{front, rest_after};
+use dbus_value_model::Stop;
+
+impl Progress {
+    ghost use Rattle.dbus_check.specs.Progress.{To, WantsValue, Passes};
+
+    /// A name, n bytes further.
+    pub(crate) fn name(
+        &mut self,
+        kind: TextKind,
+        code: u8,
+        n: usize,
+        bytes: &[u8],
+    ) -> Result<usize, Stop>
+        requires valid { (to : To) × WantsValue self.old code n to }
+        requires wanted { Name (Of kind) ≡ want code }
+        ensures passes { (to : To) → WantsValue self.old code n to → Passes self.old bytes.now result self.new to }
+        ensures short { IfErr result (λ e. e ≡ Partial → length bytes.now < 270) }
+    {
+        match name_field(kind, bytes, self.offset + n, self.end, self.order) {
+            Ok(size) => {
+                self.seen.note(code);
+                self.offset += n + size;
+                Ok(size)
+            }
+            Err(stop) => Err(stop),
+        }
+    }
+
+    /// A REPLY_SERIAL, n bytes further.
+    pub(crate) fn serial(&mut self, code: u8, n: usize, bytes: &[u8]) -> Result<usize, Stop>
+        requires valid { (to : To) × WantsValue self.old code n to }
+        requires wanted { Serial ≡ want code }
+        ensures passes { (to : To) → WantsValue self.old code n to → Passes self.old bytes.now result self.new to }
+        ensures short { IfErr result (λ e. e ≡ Partial → length bytes.now < 270) }
+    {
+        match serial_field(bytes, self.offset + n, self.end, self.order) {
+            Ok(size) => {
+                self.seen.note(code);
+                self.offset += n + size;
+                Ok(size)
+            }
+            Err(stop) => Err(stop),
+        }
+    }
+
+    /// How many descriptors come with the message, n bytes further.
+    pub(crate) fn count(&mut self, code: u8, n: usize, bytes: &[u8]) -> Result<usize, Stop>
+        requires valid { (to : To) × WantsValue self.old code n to }
+        requires wanted { OfType (NumberType UINT32) ≡ want code }
+        ensures passes { (to : To) → WantsValue self.old code n to → Passes self.old bytes.now result self.new to }
+        ensures short { IfErr result (λ e. e ≡ Partial → length bytes.now < 270) }
+    {
+        match count_field(bytes, self.offset + n, self.end, self.order) {
+            Ok((count, size)) => {
+                self.fds = count;
+                self.seen.note(code);
+                self.offset += n + size;
+                Ok(size)
+            }
+            Err(stop) => Err(stop),
+        }
+    }
+
+    /// The body's signature, n bytes further: it is noted.
+    pub(crate) fn types(&mut self, code: u8, n: usize, bytes: &[u8]) -> Result<usize, Stop>
+        requires valid { (to : To) × WantsValue self.old code n to }
+        requires wanted { OfType (TextType SIGNATURE) ≡ want code }
+        ensures passes { (to : To) → WantsValue self.old code n to → Passes self.old bytes.now result self.new to }
+        ensures short { IfErr result (λ e. e ≡ Partial → length bytes.now < 270) }
+    {
+        match text_field(bytes, self.offset + n, self.end) {
+            Ok(size) => {
+                self.signature.clear();
+                match self
+                    .signature
+                    .try_extend_from_slice(front(rest_after(bytes, 4), size))
+                {
+                    Ok(()) => {}
+                    // There is room for it.
+                    Err(_) => return Err(Stop::Memory),
+                }
+                self.seen.note(code);
+                self.offset += n + size + 5;
+                Ok(size + 5)
+            }
+            Err(stop) => Err(stop),
+        }
+    }
+}
