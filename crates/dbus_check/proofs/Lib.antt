@@ -9,3 +9,4 @@ pub mod OnlySteps
 pub mod ValueSteps
 pub mod Stages
 pub mod PassedFields
+pub mod NextFields

@@ -5,7 +5,9 @@ use Rattle.std.proofs.lemmas.Bool.{le-ltb, eq-eqb}
 use Rattle.std.proofs.lemmas.List.{append-nil, take_all, drop_all, length-take, take-append-drop}
 use Rattle.dbus_types.specs.ComputedKinds.{types_spelled}
 use Rattle.dbus_types.specs.Kinds.{IsKind}
-use Rattle.dbus_types.specs.Types.{TypeTrees, NoTypes, sigs, AreShaped}
+use Rattle.dbus_types.proofs.KindFacts.{shaped_of}
+use Rattle.dbus_types.specs.Types.{TypeTree, TypeTrees, NoTypes, MoreTypes, IsSingleType, sig, sigs, AreShaped}
+use Rattle.dbus_value_checker.proofs.Suspension.{parts_more}
 use Rattle.dbus_types.specs.declared.text_kind.TextKind.TheVariants as kinds
 use Rattle.dbus_unmarshal.proofs.KindLaws.{signature_text}
 use Rattle.dbus_value_model.specs.FdIndexes.{index_limit}
@@ -107,3 +109,13 @@ body_begins limits order body kept x bounds end o text bounds_is end_is text_is 
     ∙ ap (λ (e : ℕ). onward (fields (value (bounds_with limits (index_limit limits.fds kept.count)) order limits.depth e) (types_spelled kept.text)) (onward (ends e) done) o c) end_is
     ∙ same c)
     (begun (types_spelled kept.text) (onward (ends end) done) (text_is ∙ sym w.1) w.0)
+
+-- ---- the value of a field
+
+pub held_types : (t : TypeTree) (types : List ℕ) → types ≡ sig t → IsSingleType t → (types ≡ sigs (MoreTypes t NoTypes)) × AreShaped (MoreTypes t NoTypes)
+held_types t types is single = (is ∙ sym (append-nil (sig t)), (shaped_of t false 0 0 single.0, tt))
+
+pub held_begins : (x : Values) (bounds : Bounds) (order : Order) (room end o : ℕ) (t : TypeTree) (last : On)
+    → values.Denotes x (values_on bounds order room end (MoreTypes t NoTypes) last o) → (to : To) → ((c : List ℕ) → onward (value bounds order room end t) last o c ≡ to c) → values.Denotes x (record { last = last; to = to })
+held_begins x bounds order room end o t last begun to same =
+    denotes_same x last _ to (λ c. parts_more bounds order room end t NoTypes last o c ∙ same c) begun

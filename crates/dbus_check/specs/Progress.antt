@@ -1,12 +1,14 @@
 -- What the fields of `Progress` stand for: what they answer to the bytes still to come.
 -- D-Bus Specification, "Message Format".
-use Rattle.std.specs.Prelude.{◌≡◌, ℕ, ◌+◌, ◌<◌, ◌≤◌, List, [], length, take, ◌++◌, ◌&&◌, false, Result, Ok, Err}
+use Rattle.std.specs.Prelude.{◌≡◌, ℕ, ◌+◌, ◌-◌, ◌<◌, ◌≤◌, List, [], ◌∷◌, length, take, ◌++◌, ◌&&◌, false, Result, Ok, Err}
 use Rattle.dbus_types.specs.Kinds.{IsKind}
+use Rattle.dbus_types.specs.Types.{TypeTree}
 use Rattle.dbus_types.specs.declared.text_kind.TextKind.TheVariants as kinds
 use Rattle.dbus_value_model.specs.declared.fault.Fault.{Fault}
+use Rattle.dbus_value_model.specs.Specification.{bounds_of}
 use Rattle.dbus_value_model.specs.declared.stop.Stop.{Stop}
 use Rattle.dbus_value_model.specs.declared.stop.Stop.TheVariants as stops
-use Rattle.dbus_value_model.specs.Reading.{Outcome, Faulty, Partial, after, padding, ends}
+use Rattle.dbus_value_model.specs.Reading.{Outcome, Faulty, Partial, after, padding, ends, value}
 use Rattle.dbus_value_checker.specs.Suspended.{On, onward, done}
 use Rattle.dbus_value_checker.specs.Denotations as values
 use Rattle.dbus_value_checker.specs.Moves.{offset_of}
@@ -48,9 +50,19 @@ pub record WantsPadding (x : Progress) (to : To) : Type 0 where
   pub near : x.offset + 8 + x.body < 4294967296
   pub same : (c : List ℕ) → onward (padding 8 (x.offset + 8)) (body_on x.limits x.order x.body kept) x.offset c ≡ to c
 
+-- a field's value is under way, which began at the offset; behind it come fields
+pub record WantsMore (x : Progress) (to : To) : Type 0 where
+  pub kept : Kept
+  pub turns : ℕ
+  pub keeps : Keeps x kept
+  pub turns_is : x.end ≤ x.offset + turns
+  pub near : x.end + 8 + x.body < 4294967296
+  pub value : values.Denotes x.values (record { last = fields_on x.limits x.order x.kind x.body turns x.end kept; to = to })
+
 abbrev pub denotes : Stage → Progress → To → Type 0
 denotes stage.Header x to = (c : List ℕ) → message_on x.limits 0 c ≡ to c
 denotes stage.Fields x to = WantsFields x to
+denotes stage.Value x to = WantsMore x to
 denotes stage.Padding x to = WantsPadding x to
 denotes stage.Body x to = values.Denotes x.values (record { last = onward (ends x.end) done; to = to })
 
@@ -93,3 +105,20 @@ Passes old s (Ok m) new to = (m ≤ length s) × WantsFields new (after_bytes to
 Passes old s (Err stops.Memory) new to = ⊥
 Passes old s (Err stops.Partial) new to = (new ≡ old) × (to s ≡ Partial)
 Passes old s (Err (stops.Refused f)) new to = (c : List ℕ) → to (s ++ c) ≡ Faulty f
+
+-- a field's code was read, and what stands before it; the state is as it was
+abbrev pub Coded : Progress → List ℕ → Result (ℕ × ℕ) Stop → To → Type 0
+Coded x s (Ok y) to = (y.1 ≤ length s) × WantsValue x y.0 y.1 (after_bytes to (take y.1 s))
+Coded x s (Err stops.Memory) to = ⊥
+Coded x s (Err stops.Partial) to = to s ≡ Partial
+Coded x s (Err (stops.Refused f)) to = (c : List ℕ) → to (s ++ c) ≡ Faulty f
+
+-- a value of a type is wanted, n bytes further, whose field has this code
+pub record WantsHeld (x : Progress) (code n : ℕ) (t : TypeTree) (to : To) : Type 0 where
+  pub kept : Kept
+  pub turns : ℕ
+  pub keeps : Keeps x kept
+  pub low : x.offset + n ≤ x.end
+  pub turns_is : x.end ≤ x.offset + n + turns
+  pub near : x.end + 8 + x.body < 4294967296
+  pub same : (c : List ℕ) → onward (value (bounds_of x.limits) x.order (x.limits.depth - 3) x.end t) (fields_on x.limits x.order x.kind x.body turns x.end (record { codes = code ∷ kept.codes; text = kept.text; count = kept.count })) (x.offset + n) c ≡ to c

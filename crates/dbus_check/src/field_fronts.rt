@@ -4,7 +4,7 @@
 //! `Partial` where the bytes end within it; or `Refused` with its fault, as soon as they show it. None takes memory.
 #![tactic(auto)]
 
-ghost use Rattle.std.specs.Prelude.{◌≡◌, ◌+◌, ◌<◌, ◌≤◌, [], ◌∷◌, ℕ, List, length, take, drop, IfOk, IfErr, None};
+ghost use Rattle.std.specs.Prelude.{◌&&◌, false, ◌≡◌, ◌+◌, ◌<◌, ◌≤◌, [], ◌∷◌, ℕ, List, length, take, drop, IfOk, IfErr, None};
 ghost use Rattle.dbus_types.specs.Types.{UINT32};
 ghost use Rattle.dbus_types.specs.Kinds.{IsKind};
 ghost use Rattle.dbus_value_model.specs.declared.fault.Reason.TheVariants as reasons;
@@ -15,9 +15,11 @@ ghost use Rattle.dbus_value_model.specs.Reading.{number, text};
 ghost use Rattle.dbus_value_model.specs.ValueItems.{number_row, text_row};
 ghost use Rattle.dbus_value_model.specs.WantedTexts.{Of, Only};
 ghost use Rattle.dbus_message.specs.MessageItems.{name_row, not_zero_row};
+ghost use Rattle.dbus_message.specs.Messages.{is_known};
 ghost use Rattle.dbus_value_checker.specs.Fronts.{Fronts};
 ghost use Rattle.dbus_value_checker.specs.Suspended.{onward, done};
 ghost use Rattle.dbus_check.specs.Fields.{field_code, counted_text, short_text, name_text, padded_number};
+ghost use Rattle.dbus_check.specs.Heading.{has};
 ghost use Rattle.dbus_check.specs.Seen.{Sees};
 
 use crate::seen::Seen;
@@ -57,6 +59,7 @@ pub fn code_front(
     requires at_most { offset ≤ end }
     ensures gives { (order : Order) (codes : List ℕ) → Sees seen.now codes → Fronts (λ x. x) offset bytes.now result (field_code limits order end codes) }
     ensures moves { IfOk result (λ x. (0 < x.0) × (0 < x.1) × (x.1 ≤ length bytes.now) × (offset + x.1 ≤ end) × (3 ≤ limits.depth)) }
+    ensures once { IfOk result (λ x. (codes : List ℕ) → Sees seen.now codes → (is_known x.0 && has x.0 codes) ≡ false) }
     ensures short { IfErr result (λ e. e ≡ Partial → length bytes.now < 8) }
 {
     let zeros = match padding(bytes, offset, end, 8) {

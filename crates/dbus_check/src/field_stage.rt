@@ -1,20 +1,54 @@
 //! The fields of a message under way whose values are read in one go.
 #![tactic(auto)]
 
-ghost use Rattle.std.specs.Prelude.{◌≡◌, ◌+◌, ◌<◌, ◌≤◌, length, drop, IfOk, IfErr};
-ghost use Rattle.dbus_types.specs.Types.{UINT32, SIGNATURE, NumberType, TextType};
+ghost use Rattle.std.specs.Prelude.{ℕ, ◌≡◌, ◌+◌, ◌<◌, ◌≤◌, length, drop, IfOk, IfErr};
+ghost use Rattle.dbus_types.specs.Types.{UINT32, SIGNATURE, TypeTree, NumberType, TextType, IsSingleType, sig};
 ghost use Rattle.dbus_value_model.specs.WantedTexts.{Of};
 ghost use Rattle.dbus_value_model.specs.declared.stop.Stop.TheVariants.{Partial};
 ghost use Rattle.dbus_message.specs.Messages.{Name, OfType, Serial, want};
 
+use crate::field_fronts::code_front;
 use crate::field_values::{count_field, name_field, serial_field, text_field};
-use crate::progress::Progress;
+use crate::progress::{Progress, Stage};
 use dbus_types::TextKind;
 use dbus_value_checker::{front, rest_after};
 use dbus_value_model::Stop;
 
+/// How many containers are open around a field's value: the field array, the field and its variant.
+const FIELD_DEPTH: u8 = 3;
+
 impl Progress {
-    ghost use Rattle.dbus_check.specs.Progress.{To, WantsValue, Passes};
+    ghost use Rattle.dbus_check.specs.Progress.{To, Denotes, WantsFields, WantsValue, WantsHeld, Coded, Passes};
+
+    /// The code of the next field, with its padding: how many bytes these have.
+    pub(crate) fn code(&self, bytes: &[u8]) -> Result<(u8, usize), Stop>
+        requires valid { (to : To) × WantsFields self.now to }
+        requires more { self.now.offset < self.now.end }
+        ensures coded { (to : To) → WantsFields self.now to → Coded self.now bytes.now result to }
+        ensures some { IfOk result (λ x. (0 < x.0) × (0 < x.1)) }
+        ensures short { IfErr result (λ e. e ≡ Partial → length bytes.now < 8) }
+    {
+        code_front(bytes, self.offset, self.end, self.limits, &self.seen)
+    }
+
+    /// A value of the type that these bytes spell is wanted, n bytes further: the stage of values.
+    pub(crate) fn hold(&mut self, code: u8, n: usize, types: &[u8])
+        requires valid { (to : To) × (t : TypeTree) × (WantsHeld self.old code n t to × (types.now ≡ sig t) × IsSingleType t) }
+        requires deep { 3 ≤ self.old.limits.depth }
+        ensures { (to : To) (t : TypeTree) → WantsHeld self.old code n t to → types.now ≡ sig t → IsSingleType t → Denotes self.new to }
+    {
+        self.seen.note(code);
+        self.offset += n;
+        self.values.begin(
+            self.limits.bounds(),
+            self.order,
+            self.offset,
+            self.end,
+            types,
+            self.limits.depth - FIELD_DEPTH,
+        );
+        self.stage = Stage::Value;
+    }
 
     /// A name, n bytes further.
     pub(crate) fn name(

@@ -17,6 +17,8 @@ pub(crate) enum Stage {
     Header,
     /// A field, or what stands behind the fields.
     Fields,
+    /// The value of a field.
+    Value,
     /// The padding before the body.
     Padding,
     /// The body's values.

@@ -56,3 +56,6 @@ returns-clause-gives c = λ order codes sees.
     let again = sym (c.is_again.ensures codes sees) ∙ c.if-is_again.false in
     code_there c.args.limits order c.args.end codes c.args.offset c.args.bytes.now n c.in-Ok.ensures.gives c.if-limits-lt2.false code
     (subst (λ (t : List ℕ). Fronts (λ (n : ℕ). (n, 1)) (c.args.offset + n) t (Ok code) (number order 1 c.args.end (seen_row codes))) c.rest_after.ensures (h.0, number_taken order 1 c.args.end (seen_row codes) (c.args.offset + n) c.rest_after.result.now c.in-Ok-byte.code h.0 h.1 (h.2 order) (code_new codes (c.args.offset + n + 1) c.in-Ok-byte.code c.if-code-eq0.false again))) c.if-limits-lt3.false
+
+pub returns-clause-once : goal.returns-clause-once
+returns-clause-once c = λ codes sees. sym (c.is_again.ensures codes sees) ∙ c.if-is_again.false

@@ -1,0 +1,40 @@
+use Rattle.std.proofs.Common.{◌≡◌, ℕ, ◌+◌, ◌-◌, ◌<◌, ◌≤◌, List, ◌∷◌, length, sym, ap, ◌∙◌, subst, arith}
+use Rattle.dbus_types.specs.Types.{NoTypes, MoreTypes}
+use Rattle.dbus_value_model.specs.Specification.{bounds_of}
+use Rattle.dbus_value_model.specs.declared.limits.Bounds.{Bounds}
+use Rattle.dbus_value_checker.specs.Denotations as values
+use Rattle.dbus_value_checker.specs.Moves.{values_on}
+use Rattle.dbus_check.specs.Heading.{fields_on}
+use Rattle.dbus_check.proofs.PassedFields.{the_kept, not_before}
+use Rattle.dbus_check.proofs.Stages.{held_types, held_begins}
+use Rattle.dbus_check.proofs.progress.Progress.hold.Goals as goal
+
+pub begin-requires-clause-types : goal.begin-requires-clause-types
+begin-requires-clause-types c =
+    let v = c.requires.valid in
+    (MoreTypes v.1 NoTypes, held_types v.1 c.args.types.now v.2.1 v.2.2)
+
+pub returns : goal.returns
+returns c = λ to t w is single.
+    let x = c.args.self.now in
+    let held = held_types t c.args.types.now is single in
+    let kept = the_kept (c.args.code ∷ w.kept.codes) w.kept.text w.kept.count in
+    let last = fields_on x.limits x.order x.kind x.body w.turns x.end kept in
+    let room = x.limits.depth - 3 in
+    record {
+      kept = kept;
+      turns = w.turns;
+      keeps = record {
+        sees = c.note.ensures w.kept.codes w.keeps.sees;
+        text = w.keeps.text;
+        signature = w.keeps.signature;
+        count = w.keeps.count;
+        no_text = λ h. w.keeps.no_text (not_before 8 c.args.code w.kept.codes h).0;
+        no_count = λ h. w.keeps.no_count (not_before 9 c.args.code w.kept.codes h).0;
+      };
+      turns_is = w.turns_is;
+      near = w.near;
+      value = held_begins c.begin.new.self (bounds_of x.limits) x.order room x.end (x.offset + c.args.n) t last
+        (subst (λ (b : Bounds). values.Denotes c.begin.new.self (values_on b x.order room x.end (MoreTypes t NoTypes) last (x.offset + c.args.n))) c.bounds.ensures
+          (c.begin.ensures (MoreTypes t NoTypes) last held.0 held.1)) to w.same;
+    }
