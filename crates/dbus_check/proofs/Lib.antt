@@ -9,4 +9,5 @@ pub mod OnlySteps
 pub mod ValueSteps
 pub mod Stages
 pub mod PassedFields
+pub mod HeldValues
 pub mod NextFields

@@ -51,17 +51,19 @@ module _ (x : Progress) (to : To) (w : WantsFields x to) (more : x.offset < x.en
       let some = moves.0 in
       let low = moves.1 in
       let a = w.turns_is in
-      let b = left.1 in
-      (h.0, record {
-        kept = w.kept;
-        turns = turns;
-        keeps = w.keeps;
-        once = once;
-        low = low;
-        turns_is = omega (arith, a, b, some);
-        near = w.near;
-        same = λ c. sym (ap (λ (r : Outcome ℕ). after r value_run) (h.1 c)) ∙ law (take y.1 s ++ c);
-      })
+      let b = left.1 in (
+        h.0,
+        record {
+          kept = w.kept;
+          turns = turns;
+          keeps = w.keeps;
+          once = once;
+          low = low;
+          turns_is = omega (arith, a, b, some);
+          near = w.near;
+          same = λ c. sym (ap (λ (r : Outcome ℕ). after r value_run) (h.1 c)) ∙ law (take y.1 s ++ c);
+        },
+      )
   field_coded (Err stops.Memory) h moves once = absurd h
   field_coded (Err stops.Partial) h moves once = sym (law s) ∙ ap (λ (r : Outcome ℕ). after r value_run) h
   field_coded (Err (stops.Refused f)) h moves once = λ c. sym (law (s ++ c)) ∙ ap (λ (r : Outcome ℕ). after r value_run) (h c)

@@ -2,12 +2,12 @@
 #![tactic(auto)]
 
 ghost use Rattle.std.specs.Prelude.{ℕ, ◌≡◌, ◌+◌, ◌<◌, ◌≤◌, length, drop, IfOk, IfErr};
-ghost use Rattle.dbus_types.specs.Types.{UINT32, SIGNATURE, TypeTree, NumberType, TextType, IsSingleType, sig};
+ghost use Rattle.dbus_types.specs.Types.{UINT32, OBJECT_PATH, SIGNATURE, TypeTree, NumberType, TextType, IsSingleType, sig};
 ghost use Rattle.dbus_value_model.specs.WantedTexts.{Of};
 ghost use Rattle.dbus_value_model.specs.declared.stop.Stop.TheVariants.{Partial};
-ghost use Rattle.dbus_message.specs.Messages.{Name, OfType, Serial, want};
+ghost use Rattle.dbus_message.specs.Messages.{Anything, Name, OfType, Serial, want};
 
-use crate::field_fronts::code_front;
+use crate::field_fronts::{code_front, only_front, signature_front};
 use crate::field_values::{count_field, name_field, serial_field, text_field};
 use crate::progress::{Progress, Stage};
 use dbus_types::TextKind;
@@ -18,7 +18,7 @@ use dbus_value_model::Stop;
 const FIELD_DEPTH: u8 = 3;
 
 impl Progress {
-    ghost use Rattle.dbus_check.specs.Progress.{To, Denotes, WantsFields, WantsValue, WantsHeld, Coded, Passes};
+    ghost use Rattle.dbus_check.specs.Progress.{To, Denotes, WantsFields, WantsValue, WantsHeld, Coded, Moves, Passes};
 
     /// The code of the next field, with its padding: how many bytes these have.
     pub(crate) fn code(&self, bytes: &[u8]) -> Result<(u8, usize), Stop>
@@ -48,6 +48,40 @@ impl Progress {
             self.limits.depth - FIELD_DEPTH,
         );
         self.stage = Stage::Value;
+    }
+
+    /// The signature of an OBJECT_PATH, n bytes further: the text is wanted next.
+    pub(crate) fn path(&mut self, code: u8, n: usize, bytes: &[u8]) -> Result<usize, Stop>
+        requires valid { (to : To) × WantsValue self.old code n to }
+        requires wanted { OfType (TextType OBJECT_PATH) ≡ want code }
+        requires deep { 3 ≤ self.old.limits.depth }
+        ensures moves { (to : To) → WantsValue self.old code n to → Moves self.old bytes.now result self.new to }
+        ensures short { IfErr result (λ e. e ≡ Partial → length bytes.now < 257) }
+    {
+        match only_front(b'o', bytes, self.offset + n, self.end) {
+            Ok(()) => {
+                self.hold(code, n + 3, b"o");
+                Ok(3)
+            }
+            Err(stop) => Err(stop),
+        }
+    }
+
+    /// The signature of a value of any type, n bytes further: the value is wanted next.
+    pub(crate) fn anything(&mut self, code: u8, n: usize, bytes: &[u8]) -> Result<usize, Stop>
+        requires valid { (to : To) × WantsValue self.old code n to }
+        requires wanted { Anything ≡ want code }
+        requires deep { 3 ≤ self.old.limits.depth }
+        ensures moves { (to : To) → WantsValue self.old code n to → Moves self.old bytes.now result self.new to }
+        ensures short { IfErr result (λ e. e ≡ Partial → length bytes.now < 257) }
+    {
+        match signature_front(TextKind::Single, bytes, self.offset + n, self.end) {
+            Ok(size) => {
+                self.hold(code, n + size + 2, front(rest_after(bytes, 1), size));
+                Ok(size + 2)
+            }
+            Err(stop) => Err(stop),
+        }
     }
 
     /// A name, n bytes further.

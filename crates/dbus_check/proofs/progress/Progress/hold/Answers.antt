@@ -35,6 +35,6 @@ returns c = λ to t w is single.
       turns_is = w.turns_is;
       near = w.near;
       value = held_begins c.begin.new.self (bounds_of x.limits) x.order room x.end (x.offset + c.args.n) t last
-        (subst (λ (b : Bounds). values.Denotes c.begin.new.self (values_on b x.order room x.end (MoreTypes t NoTypes) last (x.offset + c.args.n))) c.bounds.ensures
+          (subst (λ (b : Bounds). values.Denotes c.begin.new.self (values_on b x.order room x.end (MoreTypes t NoTypes) last (x.offset + c.args.n))) c.bounds.ensures
           (c.begin.ensures (MoreTypes t NoTypes) last held.0 held.1)) to w.same;
     }

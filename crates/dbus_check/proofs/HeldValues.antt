@@ -1,0 +1,73 @@
+-- Fields whose values are under way once their signatures are read.
+use Rattle.std.proofs.Common.{◌≡◌, ℕ, ◌+◌, ◌-◌, ◌<◌, ◌≤◌, List, [], ◌∷◌, ◌++◌, length, take, Result, Ok, Err, refl, sym, ap, ◌∙◌, arith}
+use Rattle.dbus_types.specs.Types.{TypeTree, OBJECT_PATH, SIGNATURE, UINT32, NumberType, TextType}
+use Rattle.dbus_types.specs.ComputedKinds.{type_spelled}
+use Rattle.dbus_value_model.specs.WantedTexts.{WantedText}
+use Rattle.dbus_value_model.specs.Specification.{bounds_of}
+use Rattle.dbus_value_model.specs.declared.stop.Stop.{Stop}
+use Rattle.dbus_value_model.specs.declared.stop.Stop.TheVariants as stops
+use Rattle.dbus_value_model.specs.Values.{ValueTree}
+use Rattle.dbus_value_model.specs.Reading.{Reader, Outcome, Done, Faulty, Partial, after, value}
+use Rattle.dbus_message.specs.HeaderReading.{wanted_value}
+use Rattle.dbus_message.specs.MessageItems.{kind_wanted}
+use Rattle.dbus_message.specs.MessageReading.{value_wanted}
+use Rattle.dbus_message.specs.Messages.{Want, Anything, OfType, want}
+use Rattle.dbus_message.proofs.ReadingParts.{same_after}
+use Rattle.dbus_value_checker.specs.Fronts.{Fronts}
+use Rattle.dbus_value_checker.specs.Suspended.{On}
+use Rattle.dbus_check.specs.Fields.{short_text}
+use Rattle.dbus_check.specs.Heading.{Kept, kept_of, fields_on}
+use Rattle.dbus_check.specs.Progress.{To, WantsValue, WantsHeld, Moves, after_bytes}
+use Rattle.dbus_check.specs.declared.progress.Progress.{Progress}
+use Rattle.dbus_check.proofs.FieldLaws.{value_begins}
+use Rattle.dbus_check.proofs.PassedFields.{the_kept, kept_plain}
+
+pub path_plain : (code : ℕ) → OfType (TextType OBJECT_PATH) ≡ want code → (code ≡ 8 → ⊥) × (code ≡ 9 → ⊥)
+path_plain code h = ((λ e. let d : OfType (TextType OBJECT_PATH) ≡ OfType (TextType SIGNATURE) = h ∙ ap want e in absurd cc), (λ e. let d : OfType (TextType OBJECT_PATH) ≡ OfType (NumberType UINT32) = h ∙ ap want e in absurd cc))
+
+pub any_plain : (code : ℕ) → Anything ≡ want code → (code ≡ 8 → ⊥) × (code ≡ 9 → ⊥)
+any_plain code h = ((λ e. let d : Anything ≡ OfType (TextType SIGNATURE) = h ∙ ap want e in absurd cc), (λ e. let d : Anything ≡ OfType (NumberType UINT32) = h ∙ ap want e in absurd cc))
+
+module _ (x : Progress) (code n : ℕ) (to : To) (w : WantsValue x code n to) (wanted : Want) (is : wanted ≡ want code) (plain : (code ≡ 8 → ⊥) × (code ≡ 9 → ⊥)) (s : List ℕ)
+    (free : (t : TypeTree) → value_wanted (bounds_of x.limits) x.order (x.limits.depth - 3) x.end wanted t ≡ value (bounds_of x.limits) x.order (x.limits.depth - 3) x.end t) where
+  abbrev more : Kept → On
+  more = fields_on x.limits x.order x.kind x.body w.turns x.end
+
+  abbrev kept : Kept
+  kept = the_kept (code ∷ w.kept.codes) w.kept.text w.kept.count
+
+  abbrev held_run : List ℕ → On
+  held_run t p u = after (value_wanted (bounds_of x.limits) x.order (x.limits.depth - 3) x.end wanted (type_spelled t) p u) (λ v. more (kept_of w.kept code v))
+
+  law : (c : List ℕ) → after (short_text x.order x.end (kind_wanted wanted) (x.offset + n) c) held_run ≡ to c
+  law c =
+      sym (value_begins x.order x.end x.limits wanted (λ v. more (kept_of w.kept code v)) (x.offset + n) c)
+      ∙ ap (λ (u : Want). after (wanted_value x.limits x.order x.end u (x.offset + n) c) (λ v. more (kept_of w.kept code v))) is
+      ∙ w.same c
+
+  pub held_stops : {X : Type 0} (view : X → List ℕ × ℕ) (e : Stop) → Fronts view (x.offset + n) s (Err e) (short_text x.order x.end (kind_wanted wanted)) → Moves x s (Err e) x to
+  held_stops view stops.Memory h = absurd h
+  held_stops view stops.Partial h = (refl, sym (law s) ∙ ap (λ (r : Outcome (List ℕ)). after r held_run) h)
+  held_stops view (stops.Refused f) h = λ c. sym (law (s ++ c)) ∙ ap (λ (r : Outcome (List ℕ)). after r held_run) (h c)
+
+  pub held_there : {X : Type 0} (view : X → List ℕ × ℕ) (y : X) → Fronts view (x.offset + n) s (Ok y) (short_text x.order x.end (kind_wanted wanted)) → (k : ℕ) → k ≡ n + (view y).1 → x.offset + n + (view y).1 ≤ x.end
+      → WantsHeld x code k (type_spelled (view y).0) (after_bytes to (take (view y).1 s))
+  held_there view y h k k_is low =
+      let t = type_spelled (view y).0 in
+      let a = w.turns_is in
+      let e : x.offset + k ≡ x.offset + n + (view y).1 = omega (arith, k_is) in
+      record {
+        kept = w.kept;
+        turns = w.turns;
+        keeps = w.keeps;
+        low = omega (arith, k_is, low);
+        turns_is = omega (arith, a, k_is);
+        near = w.near;
+        same = λ c.
+            ap (λ (p : ℕ). after (value (bounds_of x.limits) x.order (x.limits.depth - 3) x.end t p c) (λ _. more kept)) e
+            ∙ ap (λ (run : Reader ValueTree). after (run (x.offset + n + (view y).1) c) (λ _. more kept)) (sym (free t))
+            ∙ same_after (value_wanted (bounds_of x.limits) x.order (x.limits.depth - 3) x.end wanted t (x.offset + n + (view y).1) c) (λ _. more kept) (λ v. more (kept_of w.kept code v))
+            (λ v p u. ap (λ (k : Kept). more k p u) (sym (kept_plain w.kept code w.keeps.no_text w.keeps.no_count v plain.0 plain.1)))
+            ∙ sym (ap (λ (r : Outcome (List ℕ)). after r held_run) (h.1 c))
+            ∙ law (take (view y).1 s ++ c);
+      }
