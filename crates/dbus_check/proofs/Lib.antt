@@ -10,4 +10,5 @@ pub mod ValueSteps
 pub mod Stages
 pub mod PassedFields
 pub mod HeldValues
+pub mod WholeFields
 pub mod NextFields

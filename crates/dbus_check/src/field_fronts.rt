@@ -60,6 +60,7 @@ pub fn code_front(
     ensures gives { (order : Order) (codes : List ℕ) → Sees seen.now codes → Fronts (λ x. x) offset bytes.now result (field_code limits order end codes) }
     ensures moves { IfOk result (λ x. (0 < x.0) × (0 < x.1) × (x.1 ≤ length bytes.now) × (offset + x.1 ≤ end) × (3 ≤ limits.depth)) }
     ensures once { IfOk result (λ x. (codes : List ℕ) → Sees seen.now codes → (is_known x.0 && has x.0 codes) ≡ false) }
+    ensures few { IfOk result (λ x. x.1 ≤ 8) }
     ensures short { IfErr result (λ e. e ≡ Partial → length bytes.now < 8) }
 {
     let zeros = match padding(bytes, offset, end, 8) {

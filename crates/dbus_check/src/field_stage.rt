@@ -10,6 +10,7 @@ ghost use Rattle.dbus_message.specs.Messages.{Anything, Name, OfType, Serial, wa
 use crate::field_fronts::{code_front, only_front, signature_front};
 use crate::field_values::{count_field, name_field, serial_field, text_field};
 use crate::progress::{Progress, Stage};
+use dbus_message::{Wanted, want};
 use dbus_types::TextKind;
 use dbus_value_checker::{front, rest_after};
 use dbus_value_model::Stop;
@@ -18,6 +19,7 @@ use dbus_value_model::Stop;
 const FIELD_DEPTH: u8 = 3;
 
 impl Progress {
+    ghost use Rattle.dbus_check.specs.declared.progress.Stage.TheVariants.{Fields};
     ghost use Rattle.dbus_check.specs.Progress.{To, Denotes, WantsFields, WantsValue, WantsHeld, Coded, Moves, Passes};
 
     /// The code of the next field, with its padding: how many bytes these have.
@@ -25,7 +27,8 @@ impl Progress {
         requires valid { (to : To) × WantsFields self.now to }
         requires more { self.now.offset < self.now.end }
         ensures coded { (to : To) → WantsFields self.now to → Coded self.now bytes.now result to }
-        ensures some { IfOk result (λ x. (0 < x.0) × (0 < x.1)) }
+        ensures some { IfOk result (λ x. (0 < x.1) × (x.1 ≤ length bytes.now) × (3 ≤ self.now.limits.depth)) }
+        ensures few { IfOk result (λ x. x.1 ≤ 8) }
         ensures short { IfErr result (λ e. e ≡ Partial → length bytes.now < 8) }
     {
         code_front(bytes, self.offset, self.end, self.limits, &self.seen)
@@ -56,6 +59,7 @@ impl Progress {
         requires wanted { OfType (TextType OBJECT_PATH) ≡ want code }
         requires deep { 3 ≤ self.old.limits.depth }
         ensures moves { (to : To) → WantsValue self.old code n to → Moves self.old bytes.now result self.new to }
+        ensures few { IfOk result (λ m. m < 4294967296) }
         ensures short { IfErr result (λ e. e ≡ Partial → length bytes.now < 257) }
     {
         match only_front(b'o', bytes, self.offset + n, self.end) {
@@ -73,6 +77,7 @@ impl Progress {
         requires wanted { Anything ≡ want code }
         requires deep { 3 ≤ self.old.limits.depth }
         ensures moves { (to : To) → WantsValue self.old code n to → Moves self.old bytes.now result self.new to }
+        ensures few { IfOk result (λ m. m < 4294967296) }
         ensures short { IfErr result (λ e. e ≡ Partial → length bytes.now < 257) }
     {
         match signature_front(TextKind::Single, bytes, self.offset + n, self.end) {
@@ -94,7 +99,9 @@ impl Progress {
     ) -> Result<usize, Stop>
         requires valid { (to : To) × WantsValue self.old code n to }
         requires wanted { Name (Of kind) ≡ want code }
+        ensures stage { self.new.stage ≡ self.old.stage }
         ensures passes { (to : To) → WantsValue self.old code n to → Passes self.old bytes.now result self.new to }
+        ensures few { IfOk result (λ m. m < 4294967296) }
         ensures short { IfErr result (λ e. e ≡ Partial → length bytes.now < 270) }
     {
         match name_field(kind, bytes, self.offset + n, self.end, self.order) {
@@ -111,7 +118,9 @@ impl Progress {
     pub(crate) fn serial(&mut self, code: u8, n: usize, bytes: &[u8]) -> Result<usize, Stop>
         requires valid { (to : To) × WantsValue self.old code n to }
         requires wanted { Serial ≡ want code }
+        ensures stage { self.new.stage ≡ self.old.stage }
         ensures passes { (to : To) → WantsValue self.old code n to → Passes self.old bytes.now result self.new to }
+        ensures few { IfOk result (λ m. m < 4294967296) }
         ensures short { IfErr result (λ e. e ≡ Partial → length bytes.now < 270) }
     {
         match serial_field(bytes, self.offset + n, self.end, self.order) {
@@ -128,7 +137,9 @@ impl Progress {
     pub(crate) fn count(&mut self, code: u8, n: usize, bytes: &[u8]) -> Result<usize, Stop>
         requires valid { (to : To) × WantsValue self.old code n to }
         requires wanted { OfType (NumberType UINT32) ≡ want code }
+        ensures stage { self.new.stage ≡ self.old.stage }
         ensures passes { (to : To) → WantsValue self.old code n to → Passes self.old bytes.now result self.new to }
+        ensures few { IfOk result (λ m. m < 4294967296) }
         ensures short { IfErr result (λ e. e ≡ Partial → length bytes.now < 270) }
     {
         match count_field(bytes, self.offset + n, self.end, self.order) {
@@ -146,7 +157,9 @@ impl Progress {
     pub(crate) fn types(&mut self, code: u8, n: usize, bytes: &[u8]) -> Result<usize, Stop>
         requires valid { (to : To) × WantsValue self.old code n to }
         requires wanted { OfType (TextType SIGNATURE) ≡ want code }
+        ensures stage { self.new.stage ≡ self.old.stage }
         ensures passes { (to : To) → WantsValue self.old code n to → Passes self.old bytes.now result self.new to }
+        ensures few { IfOk result (λ m. m < 4294967296) }
         ensures short { IfErr result (λ e. e ≡ Partial → length bytes.now < 270) }
     {
         match text_field(bytes, self.offset + n, self.end) {
@@ -164,6 +177,44 @@ impl Progress {
                 self.offset += n + size + 5;
                 Ok(size + 5)
             }
+            Err(stop) => Err(stop),
+        }
+    }
+
+    /// The value of a field of this code, n bytes further: all of it, or what is read before it goes on by itself.
+    fn value(&mut self, code: u8, n: usize, bytes: &[u8]) -> Result<usize, Stop>
+        requires valid { (to : To) × WantsValue self.old code n to }
+        requires deep { 3 ≤ self.old.limits.depth }
+        requires stage { self.old.stage ≡ Fields }
+        ensures moves { (to : To) → WantsValue self.old code n to → Moves self.old bytes.now result self.new to }
+        ensures few { IfOk result (λ m. m < 4294967296) }
+        ensures short { IfErr result (λ e. e ≡ Partial → length bytes.now < 270) }
+    {
+        match want(code) {
+            Wanted::Anything => self.anything(code, n, bytes),
+            Wanted::Path => self.path(code, n, bytes),
+            Wanted::Name(kind) => self.name(kind, code, n, bytes),
+            Wanted::Serial => self.serial(code, n, bytes),
+            Wanted::Signature => self.types(code, n, bytes),
+            Wanted::Number => self.count(code, n, bytes),
+        }
+    }
+
+    /// The next field: all of it, or what stands before a value that goes on by itself.
+    pub(crate) fn field(&mut self, bytes: &[u8]) -> Result<usize, Stop>
+        requires valid { (to : To) × WantsFields self.old to }
+        requires more { self.old.offset < self.old.end }
+        requires stage { self.old.stage ≡ Fields }
+        ensures moves { (to : To) → WantsFields self.old to → Moves self.old bytes.now result self.new to }
+        ensures some { IfOk result (λ n. 0 < n) }
+        ensures short { IfErr result (λ e. e ≡ Partial → length bytes.now < 288) }
+    {
+        let (code, n) = match self.code(bytes) {
+            Ok(coded) => coded,
+            Err(stop) => return Err(stop),
+        };
+        match self.value(code, n, rest_after(bytes, n)) {
+            Ok(size) => Ok(n + size),
             Err(stop) => Err(stop),
         }
     }
