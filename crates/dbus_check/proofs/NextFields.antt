@@ -1,20 +1,19 @@
 -- The next field of a message under way.
-use Rattle.std.proofs.Common.{◌≡◌, ℕ, zero, suc, ◌+◌, ◌-◌, ◌<◌, ◌≤◌, List, [], ◌∷◌, ◌++◌, length, take, false, ◌&&◌, Result, Ok, Err, refl, sym, ap, ◌∙◌, arith}
+use Rattle.std.proofs.Common.{◌≡◌, ℕ, zero, suc, ◌+◌, ◌<◌, ◌≤◌, List, ◌++◌, take, false, ◌&&◌, Result, Ok, Err, refl, sym, ap, ◌∙◌, arith}
 use Rattle.std.specs.Prelude.{IfOk}
 use Rattle.std.proofs.lemmas.Bool.{lt-ltb}
 use Rattle.dbus_value_model.specs.declared.limits.Limits.{Limits}
 use Rattle.dbus_value_model.specs.declared.order.Order.{Order}
 use Rattle.dbus_value_model.specs.declared.stop.Stop.{Stop}
 use Rattle.dbus_value_model.specs.declared.stop.Stop.TheVariants as stops
-use Rattle.dbus_value_model.specs.Reading.{Reader, Outcome, Done, Faulty, Partial, after}
+use Rattle.dbus_value_model.specs.Reading.{Reader, Outcome, after}
 use Rattle.dbus_message.specs.HeaderReading.{wanted_value}
 use Rattle.dbus_message.specs.Messages.{want, is_known}
 use Rattle.dbus_value_checker.specs.Fronts.{Fronts}
 use Rattle.dbus_value_checker.specs.Suspended.{On}
 use Rattle.dbus_check.specs.Fields.{field_code}
 use Rattle.dbus_check.specs.Heading.{Kept, kept_of, has, field_on, fields_on}
-use Rattle.dbus_check.specs.Progress.{To, WantsFields, WantsValue, Coded}
-use Rattle.dbus_check.specs.Seen.{Sees}
+use Rattle.dbus_check.specs.Progress.{To, WantsFields, Coded}
 use Rattle.dbus_check.specs.declared.progress.Progress.{Progress}
 use Rattle.dbus_check.proofs.FieldLaws.{field_begins}
 

@@ -1,22 +1,19 @@
 -- Fields whose values are read in one go.
-use Rattle.std.proofs.Common.{◌≡◌, ℕ, zero, suc, ◌+◌, ◌-◌, ◌<◌, ◌≤◌, List, [], ◌∷◌, ◌++◌, length, take, drop, Bool, true, false, ◌||◌, ◌&&◌, cond, eqb, Result, Ok, Err, refl, sym, ap, subst, ◌∙◌, arith}
+use Rattle.std.proofs.Common.{◌≡◌, ℕ, ◌+◌, List, [], ◌∷◌, ◌++◌, take, Bool, true, false, ◌||◌, ◌&&◌, cond, eqb, Ok, Err, refl, sym, ap, ◌∙◌, arith}
 use Rattle.std.proofs.lemmas.Bool.{eq-eqb, ne_eqb, eqb-true}
 use Rattle.dbus_types.specs.Types.{UINT32, SIGNATURE, NumberType, TextType}
 use Rattle.dbus_value_model.specs.WantedTexts.{WantedText}
-use Rattle.dbus_value_model.specs.declared.limits.Limits.{Limits}
-use Rattle.dbus_value_model.specs.declared.order.Order.{Order}
 use Rattle.dbus_value_model.specs.declared.stop.Stop.{Stop}
 use Rattle.dbus_value_model.specs.declared.stop.Stop.TheVariants as stops
 use Rattle.dbus_value_model.specs.Values.{ValueTree}
-use Rattle.dbus_value_model.specs.Reading.{Reader, Outcome, Done, Faulty, Partial, after, pure}
-use Rattle.dbus_message.specs.HeaderReading.{wanted_value}
+use Rattle.dbus_value_model.specs.Reading.{Reader, Outcome, after, pure}
 use Rattle.dbus_message.specs.Messages.{Want, Name, OfType, Serial, want, is_known, text_in, number_in}
 use Rattle.dbus_message.proofs.ReadingParts.{after_after, same_after}
 use Rattle.dbus_value_checker.specs.Fronts.{Fronts}
 use Rattle.dbus_value_checker.specs.Suspended.{On}
 use Rattle.dbus_check.specs.Fields.{seen_as}
-use Rattle.dbus_check.specs.Heading.{Kept, kept_of, has, fields_on}
-use Rattle.dbus_check.specs.Progress.{To, Keeps, WantsValue, Passes}
+use Rattle.dbus_check.specs.Heading.{Kept, kept_of, has}
+use Rattle.dbus_check.specs.Progress.{To, Passes}
 use Rattle.dbus_check.specs.declared.progress.Progress.{Progress}
 
 -- ---- a value is passed

@@ -1,8 +1,8 @@
 -- A message under way, stage by stage.
-use Rattle.std.proofs.Common.{◌≡◌, ◌≢◌, ℕ, zero, suc, ◌+◌, ◌-◌, ◌<◌, ◌≤◌, List, [], ◌∷◌, ◌++◌, length, take, drop, Bool, true, false, cond, eqb, ltb, Option, Some, None, Result, Ok, Err, refl, sym, ap, subst, ◌∙◌, arith}
+use Rattle.std.proofs.Common.{◌≡◌, ◌≢◌, ℕ, zero, suc, ◌+◌, ◌<◌, ◌≤◌, List, [], ◌++◌, length, take, drop, false, Option, Some, None, Ok, Err, refl, sym, ap, subst, ◌∙◌, arith}
 use Rattle.std.proofs.Math.Path.{fun_ext}
 use Rattle.std.proofs.lemmas.Bool.{le-ltb, eq-eqb}
-use Rattle.std.proofs.lemmas.List.{append-nil, take_all, drop_all, length-take, take-append-drop}
+use Rattle.std.proofs.lemmas.List.{append-nil, take_all, drop_all, length-take}
 use Rattle.dbus_types.specs.ComputedKinds.{types_spelled}
 use Rattle.dbus_types.specs.Kinds.{IsKind}
 use Rattle.dbus_types.proofs.KindFacts.{shaped_of}
@@ -15,7 +15,6 @@ use Rattle.dbus_value_model.specs.Specification.{bounds_with}
 use Rattle.dbus_value_model.specs.declared.limits.Bounds.{Bounds}
 use Rattle.dbus_value_model.specs.declared.limits.Limits.{Limits}
 use Rattle.dbus_value_model.specs.declared.order.Order.{Order}
-use Rattle.dbus_value_model.specs.declared.fault.Fault.{Fault}
 use Rattle.dbus_value_model.specs.declared.fault.Reason.{Reason}
 use Rattle.dbus_value_model.specs.declared.stop.Stop.{Stop}
 use Rattle.dbus_value_model.specs.declared.stop.Stop.TheVariants as stops

@@ -1,6 +1,6 @@
 -- The values of the known fields, each behind its signature.
-use Rattle.std.proofs.Common.{◌≡◌, ℕ, ◌+◌, ◌-◌, ◌≤◌, List, [], ◌∷◌, length, take, drop, None, Ok, Err, refl, sym, ap, ◌∙◌, arith}
-use Rattle.dbus_types.specs.Types.{UINT32, STRING, SIGNATURE, TypeTree, NumberType, TextType, sig}
+use Rattle.std.proofs.Common.{◌≡◌, ℕ, ◌+◌, ◌-◌, ◌≤◌, List, [], ◌∷◌, drop, None, Ok, Err, refl, sym, ap, ◌∙◌}
+use Rattle.dbus_types.specs.Types.{UINT32, SIGNATURE, TypeTree, NumberType, TextType}
 use Rattle.dbus_types.specs.ComputedKinds.{type_spelled}
 use Rattle.dbus_types.specs.declared.text_kind.TextKind.TheVariants as kinds
 use Rattle.dbus_value_model.specs.Specification.{bounds_of}
@@ -9,7 +9,7 @@ use Rattle.dbus_value_model.specs.declared.limits.Limits.{Limits}
 use Rattle.dbus_value_model.specs.declared.order.Order.{Order}
 use Rattle.dbus_value_model.specs.declared.fault.Reason.TheVariants as reasons
 use Rattle.dbus_value_model.specs.declared.stop.Stop.{Stop}
-use Rattle.dbus_value_model.specs.Values.{ValueTree, NumberValue, TextValue}
+use Rattle.dbus_value_model.specs.Values.{ValueTree}
 use Rattle.dbus_value_model.specs.ValueItems.{number_row}
 use Rattle.dbus_value_model.specs.Reading.{Reader, Outcome, Done, after, pure, padding, value}
 use Rattle.dbus_unmarshal.proofs.KindLaws.{spelled_sig}
@@ -18,12 +18,11 @@ use Rattle.dbus_message.specs.HeaderReading.{wanted_value}
 use Rattle.dbus_message.specs.MessageItems.{not_zero_row, kind_wanted}
 use Rattle.dbus_message.specs.MessageReading.{value_wanted}
 use Rattle.dbus_message.specs.Messages.{Want, Name, OfType, Serial, number_in, text_in}
-use Rattle.dbus_message.proofs.ReadingParts.{after_after, same_after}
 use Rattle.dbus_value_checker.specs.Fronts.{Fronts}
 use Rattle.dbus_value_checker.specs.Suspended.{onward, done}
 use Rattle.dbus_check.specs.Fields.{short_text, name_text, padded_number, seen_as, nothing_of}
 use Rattle.dbus_check.proofs.FieldLaws.{value_begins, name_begins, serial_begins, count_begins, body_signature_begins}
-use Rattle.dbus_check.proofs.Chains.{fronts_same, first_err, then_err, then_ok, front_as}
+use Rattle.dbus_check.proofs.Chains.{fronts_same, first_err, then_err, then_ok}
 
 module _ {B : Type 0} (limits : Limits) (order : Order) (end : ℕ) (w : Want) (g : ValueTree → B) (code : ℕ) (only : kind_wanted w ≡ Only (code ∷ [])) (inner : Reader B) (o : ℕ) (s : List ℕ) where
   abbrev signed : Unit {0} → List ℕ × ℕ

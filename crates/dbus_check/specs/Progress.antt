@@ -4,14 +4,12 @@ use Rattle.std.specs.Prelude.{◌≡◌, ℕ, ◌+◌, ◌-◌, ◌<◌, ◌≤�
 use Rattle.dbus_types.specs.Kinds.{IsKind}
 use Rattle.dbus_types.specs.Types.{TypeTree}
 use Rattle.dbus_types.specs.declared.text_kind.TextKind.TheVariants as kinds
-use Rattle.dbus_value_model.specs.declared.fault.Fault.{Fault}
 use Rattle.dbus_value_model.specs.Specification.{bounds_of}
 use Rattle.dbus_value_model.specs.declared.stop.Stop.{Stop}
 use Rattle.dbus_value_model.specs.declared.stop.Stop.TheVariants as stops
 use Rattle.dbus_value_model.specs.Reading.{Outcome, Faulty, Partial, after, padding, ends, value}
-use Rattle.dbus_value_checker.specs.Suspended.{On, onward, done}
+use Rattle.dbus_value_checker.specs.Suspended.{onward, done}
 use Rattle.dbus_value_checker.specs.Denotations as values
-use Rattle.dbus_value_checker.specs.Moves.{offset_of}
 use Rattle.dbus_message.specs.HeaderReading.{wanted_value}
 use Rattle.dbus_message.specs.Messages.{is_known, want}
 use Rattle.dbus_check.specs.Heading.{Kept, kept_of, has, body_on, fields_on, message_on}

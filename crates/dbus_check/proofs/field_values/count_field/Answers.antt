@@ -1,17 +1,11 @@
-use Rattle.std.proofs.Common.{◌≡◌, ℕ, ◌+◌, ◌-◌, ◌<◌, ◌≤◌, List, [], ◌∷◌, length, take, drop, Ok, Err, None, refl, sym, ap, subst, ◌∙◌, arith}
-use Rattle.std.proofs.lemmas.List.{length-drop, drop-drop}
-use Rattle.dbus_types.specs.Types.{UINT32, SIGNATURE, NumberType, TextType}
-use Rattle.dbus_types.specs.Kinds.{IsKind}
-use Rattle.dbus_types.specs.declared.text_kind.TextKind.TheVariants as kinds
-use Rattle.dbus_value_model.specs.declared.fault.Reason.TheVariants as reasons
+use Rattle.std.proofs.Common.{ℕ, ◌+◌, List, length, Ok, Err, None, refl, ap, subst, arith}
+use Rattle.std.proofs.lemmas.List.{length-drop}
+use Rattle.dbus_types.specs.Types.{UINT32, NumberType}
 use Rattle.dbus_value_model.specs.ValueItems.{number_row}
-use Rattle.dbus_value_model.specs.WantedTexts.{Of}
-use Rattle.dbus_message.specs.MessageItems.{not_zero_row}
-use Rattle.dbus_message.specs.Messages.{Name, OfType, Serial, number_in, text_in}
+use Rattle.dbus_message.specs.Messages.{OfType, number_in}
 use Rattle.dbus_value_checker.specs.Fronts.{Fronts}
-use Rattle.dbus_value_checker.specs.Suspended.{onward, done}
-use Rattle.dbus_check.specs.Fields.{short_text, name_text, padded_number, nothing_of}
-use Rattle.dbus_check.proofs.ValueSteps.{signature_stops, value_stops, value_there, name_is, serial_is, count_is, text_is}
+use Rattle.dbus_check.specs.Fields.{padded_number}
+use Rattle.dbus_check.proofs.ValueSteps.{signature_stops, value_stops, value_there, count_is}
 use Rattle.dbus_check.proofs.field_values.count_field.Goals as goal
 
 pub returns-in-Err-clause-gives : goal.returns-in-Err-clause-gives

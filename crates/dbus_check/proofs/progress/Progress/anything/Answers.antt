@@ -1,11 +1,10 @@
-use Rattle.std.proofs.Common.{◌≡◌, ℕ, ◌+◌, ◌-◌, ◌<◌, ◌≤◌, List, [], ◌∷◌, length, take, drop, Ok, Err, refl, sym, ap, subst, ◌∙◌, arith}
-use Rattle.std.proofs.lemmas.List.{length-drop}
-use Rattle.dbus_types.specs.Types.{OBJECT_PATH, TextType, IsSingleType, sig}
+use Rattle.std.proofs.Common.{◌≡◌, ℕ, ◌+◌, take, drop, refl, sym, ap, ◌∙◌, arith}
+use Rattle.dbus_types.specs.Types.{sig}
 use Rattle.dbus_types.specs.ComputedKinds.{type_spelled}
-use Rattle.dbus_unmarshal.proofs.KindLaws.{single_text, spelled_sig}
-use Rattle.dbus_message.specs.Messages.{Anything, OfType}
-use Rattle.dbus_check.specs.Progress.{Denotes, WantsHeld, after_bytes}
-use Rattle.dbus_check.proofs.HeldValues.{path_plain, any_plain, held_stops, held_there}
+use Rattle.dbus_unmarshal.proofs.KindLaws.{single_text}
+use Rattle.dbus_message.specs.Messages.{Anything}
+use Rattle.dbus_check.specs.Progress.{after_bytes}
+use Rattle.dbus_check.proofs.HeldValues.{any_plain, held_stops, held_there}
 use Rattle.dbus_check.proofs.progress.Progress.anything.Goals as goal
 
 pub hold-requires-clause-valid : goal.hold-requires-clause-valid

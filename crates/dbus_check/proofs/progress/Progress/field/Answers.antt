@@ -1,4 +1,4 @@
-use Rattle.std.proofs.Common.{◌≡◌, ℕ, ◌+◌, ◌<◌, ◌≤◌, List, length, take, drop, Ok, Err, ap, subst, arith}
+use Rattle.std.proofs.Common.{ℕ, List, length, take, Ok, Err, ap, subst, arith}
 use Rattle.std.proofs.lemmas.List.{length-drop}
 use Rattle.dbus_check.specs.Progress.{Moves, after_bytes}
 use Rattle.dbus_check.proofs.WholeFields.{both_move, second_stops, coded_stops}

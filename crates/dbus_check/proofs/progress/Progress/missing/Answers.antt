@@ -1,4 +1,4 @@
-use Rattle.std.proofs.Common.{◌≡◌, ℕ, List, Some, sym, ◌∙◌}
+use Rattle.std.proofs.Common.{sym, ◌∙◌}
 use Rattle.dbus_value_model.specs.declared.fault.Reason.TheVariants as reasons
 use Rattle.dbus_check.proofs.Stages.{fields_over, lacks_field, lacks_none}
 use Rattle.dbus_check.proofs.progress.Progress.missing.Goals as goal

@@ -1,4 +1,4 @@
-use Rattle.std.proofs.Common.{◌≡◌, ℕ, ◌+◌, List, length, take, Some, sym, ap, ◌∙◌, refl}
+use Rattle.std.proofs.Common.{◌+◌, sym, ap, ◌∙◌, refl}
 use Rattle.dbus_value_model.specs.FdIndexes.{index_limit}
 use Rattle.dbus_value_model.specs.Specification.{bounds_with}
 use Rattle.dbus_check.proofs.Stages.{padding_taken, signature_types, body_begins}

@@ -1,11 +1,10 @@
-use Rattle.std.proofs.Common.{◌≡◌, ℕ, ◌+◌, ◌-◌, ◌<◌, ◌≤◌, List, [], ◌∷◌, length, take, drop, Ok, Err, refl, sym, ap, subst, ◌∙◌, arith}
-use Rattle.std.proofs.lemmas.List.{length-drop}
+use Rattle.std.proofs.Common.{◌≡◌, ◌+◌, [], ◌∷◌, take, refl, subst, arith}
 use Rattle.dbus_types.specs.Types.{OBJECT_PATH, TextType, IsSingleType, sig}
 use Rattle.dbus_types.specs.ComputedKinds.{type_spelled}
-use Rattle.dbus_unmarshal.proofs.KindLaws.{single_text, spelled_sig}
-use Rattle.dbus_message.specs.Messages.{Anything, OfType}
-use Rattle.dbus_check.specs.Progress.{Denotes, WantsHeld, after_bytes}
-use Rattle.dbus_check.proofs.HeldValues.{path_plain, any_plain, held_stops, held_there}
+use Rattle.dbus_unmarshal.proofs.KindLaws.{spelled_sig}
+use Rattle.dbus_message.specs.Messages.{OfType}
+use Rattle.dbus_check.specs.Progress.{WantsHeld, after_bytes}
+use Rattle.dbus_check.proofs.HeldValues.{path_plain, held_stops, held_there}
 use Rattle.dbus_check.proofs.progress.Progress.path.Goals as goal
 
 pub hold-requires-clause-valid : goal.hold-requires-clause-valid

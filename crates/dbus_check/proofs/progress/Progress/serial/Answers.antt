@@ -1,13 +1,10 @@
 use Rattle.std.proofs.Common.{◌≡◌, ℕ, ◌+◌, ◌-◌, ◌<◌, ◌≤◌, List, [], ◌∷◌, length, take, drop, true, false, refl, sym, ap, subst, ◌∙◌, arith}
-use Rattle.dbus_types.specs.Types.{UINT32, SIGNATURE, NumberType, TextType}
-use Rattle.dbus_value_model.specs.WantedTexts.{Of}
-use Rattle.dbus_value_model.specs.declared.stop.Stop.TheVariants as stops
 use Rattle.dbus_message.specs.HeaderReading.{wanted_value}
-use Rattle.dbus_message.specs.Messages.{Want, Name, OfType, Serial, want, text_in, number_in}
+use Rattle.dbus_message.specs.Messages.{Want, want}
 use Rattle.dbus_value_checker.specs.Fronts.{Fronts}
 use Rattle.dbus_check.specs.Fields.{seen_as, nothing_of}
-use Rattle.dbus_check.specs.Heading.{Kept, kept_of, fields_on}
-use Rattle.dbus_check.proofs.PassedFields.{value_taken, value_stops, signature_code, count_code, name_plain, serial_plain, the_kept, kept_plain, kept_text, kept_count, not_before}
+use Rattle.dbus_check.specs.Heading.{kept_of, fields_on}
+use Rattle.dbus_check.proofs.PassedFields.{value_taken, value_stops, serial_plain, the_kept, kept_plain, not_before}
 use Rattle.dbus_check.proofs.progress.Progress.serial.Goals as goal
 
 pub returns-in-Ok-clause-passes : goal.returns-in-Ok-clause-passes

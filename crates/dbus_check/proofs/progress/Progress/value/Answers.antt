@@ -1,4 +1,4 @@
-use Rattle.std.proofs.Common.{◌≡◌, ◌∙◌}
+use Rattle.std.proofs.Common.{◌∙◌}
 use Rattle.dbus_check.proofs.WholeFields.{passed_moves}
 use Rattle.dbus_check.proofs.progress.Progress.value.Goals as goal
 
