@@ -1,8 +1,8 @@
 -- A field, by what its code asks of its value.
 use Rattle.std.proofs.Common.{◌≡◌, ℕ, zero, suc, ◌-◌, List, sym, ◌∙◌}
-use Rattle.dbus_types.specs.Types.{UINT32, STRING, SIGNATURE, TypeTree, NumberType, TextType}
-use Rattle.dbus_types.specs.ComputedKinds.{type_spelled}
-use Rattle.dbus_types.specs.declared.text_kind.TextKind.TheVariants as kinds
+use Rattle.dbus_texts.specs.Types.{UINT32, STRING, SIGNATURE, TypeTree, NumberType, TextType}
+use Rattle.dbus_texts.specs.ComputedKinds.{type_spelled}
+use Rattle.dbus_texts.specs.declared.text_kind.TextKind.TheVariants as kinds
 use Rattle.dbus_value_model.specs.WantedTexts.{WantedText, Of}
 use Rattle.dbus_value_model.specs.Specification.{bounds_of}
 use Rattle.dbus_value_model.specs.declared.limits.Limits.{Limits}
@@ -12,11 +12,11 @@ use Rattle.dbus_value_model.specs.declared.fault.Reason.TheVariants as reasons
 use Rattle.dbus_value_model.specs.Values.{ValueTree, NumberValue, TextValue}
 use Rattle.dbus_value_model.specs.ValueItems.{text_row, number_row}
 use Rattle.dbus_value_model.specs.Reading.{Reader, after, pure, padding, number, text, nul, signature, value}
-use Rattle.dbus_message.specs.Messages.{Want, Name, Serial, want}
-use Rattle.dbus_message.specs.MessageItems.{kind_wanted, name_row, not_zero_row}
-use Rattle.dbus_message.specs.MessageReading.{opening, value_wanted}
-use Rattle.dbus_message.specs.HeaderReading.{wanted_signature, wanted_value}
-use Rattle.dbus_message.proofs.ReadingParts.{after_after, same_after}
+use Rattle.dbus_message_model.specs.Messages.{Want, Name, Serial, want}
+use Rattle.dbus_decode.specs.MessageItems.{kind_wanted, name_row, not_zero_row}
+use Rattle.dbus_decode.specs.MessageReading.{opening, value_wanted}
+use Rattle.dbus_decode.specs.HeaderReading.{wanted_signature, wanted_value}
+use Rattle.dbus_decode.proofs.ReadingParts.{after_after, same_after}
 use Rattle.dbus_value_checker.specs.Suspended.{On}
 use Rattle.dbus_check.specs.Heading.{seen_row, Kept, kept_of, field_on}
 use Rattle.dbus_check.specs.Fields.{field_code, counted_text, short_text, name_text, padded_number}

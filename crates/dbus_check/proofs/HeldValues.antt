@@ -1,17 +1,17 @@
 -- Fields whose values are under way once their signatures are read.
 use Rattle.std.proofs.Common.{◌≡◌, ℕ, ◌+◌, ◌-◌, ◌≤◌, List, ◌∷◌, ◌++◌, take, Ok, Err, refl, sym, ap, ◌∙◌, arith}
-use Rattle.dbus_types.specs.Types.{TypeTree, OBJECT_PATH, SIGNATURE, UINT32, NumberType, TextType}
-use Rattle.dbus_types.specs.ComputedKinds.{type_spelled}
+use Rattle.dbus_texts.specs.Types.{TypeTree, OBJECT_PATH, SIGNATURE, UINT32, NumberType, TextType}
+use Rattle.dbus_texts.specs.ComputedKinds.{type_spelled}
 use Rattle.dbus_value_model.specs.Specification.{bounds_of}
 use Rattle.dbus_value_model.specs.declared.stop.Stop.{Stop}
 use Rattle.dbus_value_model.specs.declared.stop.Stop.TheVariants as stops
 use Rattle.dbus_value_model.specs.Values.{ValueTree}
 use Rattle.dbus_value_model.specs.Reading.{Reader, Outcome, after, value}
-use Rattle.dbus_message.specs.HeaderReading.{wanted_value}
-use Rattle.dbus_message.specs.MessageItems.{kind_wanted}
-use Rattle.dbus_message.specs.MessageReading.{value_wanted}
-use Rattle.dbus_message.specs.Messages.{Want, Anything, OfType, want}
-use Rattle.dbus_message.proofs.ReadingParts.{same_after}
+use Rattle.dbus_decode.specs.HeaderReading.{wanted_value}
+use Rattle.dbus_decode.specs.MessageItems.{kind_wanted}
+use Rattle.dbus_decode.specs.MessageReading.{value_wanted}
+use Rattle.dbus_message_model.specs.Messages.{Want, Anything, OfType, want}
+use Rattle.dbus_decode.proofs.ReadingParts.{same_after}
 use Rattle.dbus_value_checker.specs.Fronts.{Fronts}
 use Rattle.dbus_value_checker.specs.Suspended.{On}
 use Rattle.dbus_check.specs.Fields.{short_text}

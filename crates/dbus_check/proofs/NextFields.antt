@@ -7,8 +7,8 @@ use Rattle.dbus_value_model.specs.declared.order.Order.{Order}
 use Rattle.dbus_value_model.specs.declared.stop.Stop.{Stop}
 use Rattle.dbus_value_model.specs.declared.stop.Stop.TheVariants as stops
 use Rattle.dbus_value_model.specs.Reading.{Reader, Outcome, after}
-use Rattle.dbus_message.specs.HeaderReading.{wanted_value}
-use Rattle.dbus_message.specs.Messages.{want, is_known}
+use Rattle.dbus_decode.specs.HeaderReading.{wanted_value}
+use Rattle.dbus_message_model.specs.Messages.{want, is_known}
 use Rattle.dbus_value_checker.specs.Fronts.{Fronts}
 use Rattle.dbus_value_checker.specs.Suspended.{On}
 use Rattle.dbus_check.specs.Fields.{field_code}

@@ -1,14 +1,14 @@
 -- Fields whose values are read in one go.
 use Rattle.std.proofs.Common.{◌≡◌, ℕ, ◌+◌, List, [], ◌∷◌, ◌++◌, take, Bool, true, false, ◌||◌, ◌&&◌, cond, eqb, Ok, Err, refl, sym, ap, ◌∙◌, arith}
 use Rattle.std.proofs.lemmas.Bool.{eq-eqb, ne_eqb, eqb-true}
-use Rattle.dbus_types.specs.Types.{UINT32, SIGNATURE, NumberType, TextType}
+use Rattle.dbus_texts.specs.Types.{UINT32, SIGNATURE, NumberType, TextType}
 use Rattle.dbus_value_model.specs.WantedTexts.{WantedText}
 use Rattle.dbus_value_model.specs.declared.stop.Stop.{Stop}
 use Rattle.dbus_value_model.specs.declared.stop.Stop.TheVariants as stops
 use Rattle.dbus_value_model.specs.Values.{ValueTree}
 use Rattle.dbus_value_model.specs.Reading.{Reader, Outcome, after, pure}
-use Rattle.dbus_message.specs.Messages.{Want, Name, OfType, Serial, want, is_known, text_in, number_in}
-use Rattle.dbus_message.proofs.ReadingParts.{after_after, same_after}
+use Rattle.dbus_message_model.specs.Messages.{Want, Name, OfType, Serial, want, is_known, text_in, number_in}
+use Rattle.dbus_decode.proofs.ReadingParts.{after_after, same_after}
 use Rattle.dbus_value_checker.specs.Fronts.{Fronts}
 use Rattle.dbus_value_checker.specs.Suspended.{On}
 use Rattle.dbus_check.specs.Fields.{seen_as}

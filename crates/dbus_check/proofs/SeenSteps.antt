@@ -2,7 +2,7 @@
 use Rattle.std.proofs.Common.{◌≡◌, ℕ, ◌+◌, ◌<◌, List, [], ◌∷◌, length, get_or, drop, Bool, true, false, cond, eqb, Some, refl, sym, ap, subst, ◌∙◌}
 use Rattle.std.proofs.lemmas.List.{drop_more}
 use Rattle.dbus_value_model.specs.declared.fault.Reason.TheVariants as reasons
-use Rattle.dbus_message.specs.Messages.{is_known, required}
+use Rattle.dbus_message_model.specs.Messages.{is_known, required}
 use Rattle.dbus_check.specs.Heading.{has, missing}
 
 abbrev pub AreKnown : List ℕ → Type 0

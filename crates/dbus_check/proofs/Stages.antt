@@ -3,12 +3,12 @@ use Rattle.std.proofs.Common.{◌≡◌, ◌≢◌, ℕ, zero, suc, ◌+◌, ◌
 use Rattle.std.proofs.Math.Path.{fun_ext}
 use Rattle.std.proofs.lemmas.Bool.{le-ltb, eq-eqb}
 use Rattle.std.proofs.lemmas.List.{append-nil, take_all, drop_all, length-take}
-use Rattle.dbus_types.specs.ComputedKinds.{types_spelled}
-use Rattle.dbus_types.specs.Kinds.{IsKind}
-use Rattle.dbus_types.proofs.KindFacts.{shaped_of}
-use Rattle.dbus_types.specs.Types.{TypeTree, TypeTrees, NoTypes, MoreTypes, IsSingleType, sig, sigs, AreShaped}
+use Rattle.dbus_texts.specs.ComputedKinds.{types_spelled}
+use Rattle.dbus_texts.specs.Kinds.{IsKind}
+use Rattle.dbus_texts.proofs.KindFacts.{shaped_of}
+use Rattle.dbus_texts.specs.Types.{TypeTree, TypeTrees, NoTypes, MoreTypes, IsSingleType, sig, sigs, AreShaped}
 use Rattle.dbus_value_checker.proofs.Suspension.{parts_more}
-use Rattle.dbus_types.specs.declared.text_kind.TextKind.TheVariants as kinds
+use Rattle.dbus_texts.specs.declared.text_kind.TextKind.TheVariants as kinds
 use Rattle.dbus_unmarshal.proofs.KindLaws.{signature_text}
 use Rattle.dbus_value_model.specs.FdIndexes.{index_limit}
 use Rattle.dbus_value_model.specs.Specification.{bounds_with}
@@ -21,9 +21,9 @@ use Rattle.dbus_value_model.specs.declared.stop.Stop.TheVariants as stops
 use Rattle.dbus_value_model.specs.Gives.{Stops}
 use Rattle.dbus_value_model.specs.Items.{fault}
 use Rattle.dbus_value_model.specs.Reading.{Outcome, Done, Faulty, Partial, after, judge, padding, fields, value, ends}
-use Rattle.dbus_message.specs.Messages.{required}
-use Rattle.dbus_message.specs.HeaderReading.{fixed_header}
-use Rattle.dbus_message.specs.declared.fixed_header.FixedHeader.{FixedHeader}
+use Rattle.dbus_message_model.specs.Messages.{required}
+use Rattle.dbus_decode.specs.HeaderReading.{fixed_header}
+use Rattle.dbus_decode.specs.declared.fixed_header.FixedHeader.{FixedHeader}
 use Rattle.dbus_value_checker.specs.Fronts.{Fronts}
 use Rattle.dbus_value_checker.specs.Suspended.{On, onward, done}
 use Rattle.dbus_value_checker.specs.Denotations as values

@@ -1,8 +1,8 @@
 -- The values of the known fields, each behind its signature.
 use Rattle.std.proofs.Common.{◌≡◌, ℕ, ◌+◌, ◌-◌, ◌≤◌, List, [], ◌∷◌, drop, None, Ok, Err, refl, sym, ap, ◌∙◌}
-use Rattle.dbus_types.specs.Types.{UINT32, SIGNATURE, TypeTree, NumberType, TextType}
-use Rattle.dbus_types.specs.ComputedKinds.{type_spelled}
-use Rattle.dbus_types.specs.declared.text_kind.TextKind.TheVariants as kinds
+use Rattle.dbus_texts.specs.Types.{UINT32, SIGNATURE, TypeTree, NumberType, TextType}
+use Rattle.dbus_texts.specs.ComputedKinds.{type_spelled}
+use Rattle.dbus_texts.specs.declared.text_kind.TextKind.TheVariants as kinds
 use Rattle.dbus_value_model.specs.Specification.{bounds_of}
 use Rattle.dbus_value_model.specs.WantedTexts.{WantedText, Of, Only}
 use Rattle.dbus_value_model.specs.declared.limits.Limits.{Limits}
@@ -14,10 +14,10 @@ use Rattle.dbus_value_model.specs.ValueItems.{number_row}
 use Rattle.dbus_value_model.specs.Reading.{Reader, Outcome, Done, after, pure, padding, value}
 use Rattle.dbus_unmarshal.proofs.KindLaws.{spelled_sig}
 use Rattle.dbus_unmarshal.proofs.NumberSteps.{no_padding}
-use Rattle.dbus_message.specs.HeaderReading.{wanted_value}
-use Rattle.dbus_message.specs.MessageItems.{not_zero_row, kind_wanted}
-use Rattle.dbus_message.specs.MessageReading.{value_wanted}
-use Rattle.dbus_message.specs.Messages.{Want, Name, OfType, Serial, number_in, text_in}
+use Rattle.dbus_decode.specs.HeaderReading.{wanted_value}
+use Rattle.dbus_decode.specs.MessageItems.{not_zero_row, kind_wanted}
+use Rattle.dbus_decode.specs.MessageReading.{value_wanted}
+use Rattle.dbus_message_model.specs.Messages.{Want, Name, OfType, Serial, number_in, text_in}
 use Rattle.dbus_value_checker.specs.Fronts.{Fronts}
 use Rattle.dbus_value_checker.specs.Suspended.{onward, done}
 use Rattle.dbus_check.specs.Fields.{short_text, name_text, padded_number, seen_as, nothing_of}

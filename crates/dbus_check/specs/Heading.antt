@@ -1,7 +1,7 @@
 -- Reading a message on, from its header's fields: of the fields that were read, little is kept.
 -- D-Bus Specification, "Message Format", "Header Fields".
 use Rattle.std.specs.Prelude.{ℕ, zero, suc, ◌+◌, ◌-◌, List, [], ◌∷◌, Bool, false, ◌||◌, ◌&&◌, if◌then◌else◌, nat_lt, nat_eq, Option, Some, None}
-use Rattle.dbus_types.specs.ComputedKinds.{types_spelled}
+use Rattle.dbus_texts.specs.ComputedKinds.{types_spelled}
 use Rattle.dbus_value_model.specs.FdIndexes.{index_limit}
 use Rattle.dbus_value_model.specs.Specification.{bounds_with}
 use Rattle.dbus_value_model.specs.declared.limits.Limits.{Limits}
@@ -10,9 +10,9 @@ use Rattle.dbus_value_model.specs.declared.fault.Reason.{Reason}
 use Rattle.dbus_value_model.specs.declared.fault.Reason.TheVariants as reasons
 use Rattle.dbus_value_model.specs.Values.{ValueTree}
 use Rattle.dbus_value_model.specs.Reading.{Partial, after, padding, number, judge, fields, value, ends}
-use Rattle.dbus_message.specs.Messages.{want, is_known, required, text_in, number_in}
-use Rattle.dbus_message.specs.MessageReading.{opening}
-use Rattle.dbus_message.specs.HeaderReading.{wanted_value, message_read}
+use Rattle.dbus_message_model.specs.Messages.{want, is_known, required, text_in, number_in}
+use Rattle.dbus_decode.specs.MessageReading.{opening}
+use Rattle.dbus_decode.specs.HeaderReading.{wanted_value, message_read}
 use Rattle.dbus_value_checker.specs.Suspended.{On, onward, done}
 
 -- whether a code stands among those seen

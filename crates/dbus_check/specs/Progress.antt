@@ -1,17 +1,17 @@
 -- What the fields of `Progress` stand for: what they answer to the bytes still to come.
 -- D-Bus Specification, "Message Format".
 use Rattle.std.specs.Prelude.{◌≡◌, ℕ, ◌+◌, ◌-◌, ◌<◌, ◌≤◌, List, [], ◌∷◌, length, take, ◌++◌, ◌&&◌, false, Result, Ok, Err}
-use Rattle.dbus_types.specs.Kinds.{IsKind}
-use Rattle.dbus_types.specs.Types.{TypeTree}
-use Rattle.dbus_types.specs.declared.text_kind.TextKind.TheVariants as kinds
+use Rattle.dbus_texts.specs.Kinds.{IsKind}
+use Rattle.dbus_texts.specs.Types.{TypeTree}
+use Rattle.dbus_texts.specs.declared.text_kind.TextKind.TheVariants as kinds
 use Rattle.dbus_value_model.specs.Specification.{bounds_of}
 use Rattle.dbus_value_model.specs.declared.stop.Stop.{Stop}
 use Rattle.dbus_value_model.specs.declared.stop.Stop.TheVariants as stops
 use Rattle.dbus_value_model.specs.Reading.{Outcome, Faulty, Partial, after, padding, ends, value}
 use Rattle.dbus_value_checker.specs.Suspended.{onward, done}
 use Rattle.dbus_value_checker.specs.Denotations as values
-use Rattle.dbus_message.specs.HeaderReading.{wanted_value}
-use Rattle.dbus_message.specs.Messages.{is_known, want}
+use Rattle.dbus_decode.specs.HeaderReading.{wanted_value}
+use Rattle.dbus_message_model.specs.Messages.{is_known, want}
 use Rattle.dbus_check.specs.Heading.{Kept, kept_of, has, body_on, fields_on, message_on}
 use Rattle.dbus_check.specs.Seen.{Sees}
 use Rattle.dbus_check.specs.declared.progress.Progress.{Progress}

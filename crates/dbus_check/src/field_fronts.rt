@@ -5,8 +5,8 @@
 #![tactic(auto)]
 
 ghost use Rattle.std.specs.Prelude.{◌&&◌, false, ◌≡◌, ◌+◌, ◌<◌, ◌≤◌, [], ◌∷◌, ℕ, List, length, take, drop, IfOk, IfErr, None};
-ghost use Rattle.dbus_types.specs.Types.{UINT32};
-ghost use Rattle.dbus_types.specs.Kinds.{IsKind};
+ghost use Rattle.dbus_texts.specs.Types.{UINT32};
+ghost use Rattle.dbus_texts.specs.Kinds.{IsKind};
 ghost use Rattle.dbus_value_model.specs.declared.fault.Reason.TheVariants as reasons;
 ghost use Rattle.dbus_value_model.specs.declared.order.Order.{Order};
 ghost use Rattle.dbus_value_model.specs.declared.stop.Stop.TheVariants.{Partial};
@@ -14,8 +14,8 @@ ghost use Rattle.dbus_value_model.specs.Items.{text_reason};
 ghost use Rattle.dbus_value_model.specs.Reading.{number, text};
 ghost use Rattle.dbus_value_model.specs.ValueItems.{number_row, text_row};
 ghost use Rattle.dbus_value_model.specs.WantedTexts.{Of, Only};
-ghost use Rattle.dbus_message.specs.MessageItems.{name_row, not_zero_row};
-ghost use Rattle.dbus_message.specs.Messages.{is_known};
+ghost use Rattle.dbus_decode.specs.MessageItems.{name_row, not_zero_row};
+ghost use Rattle.dbus_message_model.specs.Messages.{is_known};
 ghost use Rattle.dbus_value_checker.specs.Fronts.{Fronts};
 ghost use Rattle.dbus_value_checker.specs.Suspended.{onward, done};
 ghost use Rattle.dbus_check.specs.Fields.{field_code, counted_text, short_text, name_text, padded_number};
@@ -23,27 +23,11 @@ ghost use Rattle.dbus_check.specs.Heading.{has};
 ghost use Rattle.dbus_check.specs.Seen.{Sees};
 
 use crate::seen::Seen;
+use dbus_decode::NAME_LIMIT;
 use dbus_types::TextKind;
+use dbus_unmarshal::texts::text_reason;
 use dbus_value_checker::{byte, front, nul_front, padding, rest_after, text_front, word};
 use dbus_value_model::{Limits, Order, Reason, Stop, refuse};
-
-/// The most bytes that a name in a header field has.
-const NAME_LIMIT: u32 = 255;
-
-/// The reason of a name that is none of its kind.
-fn reason_of(kind: TextKind) -> Reason
-    ensures { text_reason (Of kind) ≡ result }
-{
-    match kind {
-        TextKind::Text => Reason::Text,
-        TextKind::Path => Reason::Path,
-        TextKind::Interface => Reason::Interface,
-        TextKind::Member => Reason::Member,
-        TextKind::ErrorName => Reason::ErrorName,
-        TextKind::BusName => Reason::BusName,
-        TextKind::Signature | TextKind::Single => Reason::Signature,
-    }
-}
 
 /// A field's padding and code.
 ///
@@ -227,7 +211,7 @@ fn name_text_front(
         Err(stop) => return Err(stop),
     };
     let rest = rest_after(bytes, 4);
-    match text_front(kind, n, rest, offset + 4, reason_of(kind)) {
+    match text_front(kind, n, rest, offset + 4, text_reason(kind)) {
         Ok(()) => {}
         Err(stop) => return Err(stop),
     }

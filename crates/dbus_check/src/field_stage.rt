@@ -2,21 +2,19 @@
 #![tactic(auto)]
 
 ghost use Rattle.std.specs.Prelude.{ℕ, ◌≡◌, ◌+◌, ◌<◌, ◌≤◌, length, drop, IfOk, IfErr};
-ghost use Rattle.dbus_types.specs.Types.{UINT32, OBJECT_PATH, SIGNATURE, TypeTree, NumberType, TextType, IsSingleType, sig};
+ghost use Rattle.dbus_texts.specs.Types.{UINT32, OBJECT_PATH, SIGNATURE, TypeTree, NumberType, TextType, IsSingleType, sig};
 ghost use Rattle.dbus_value_model.specs.WantedTexts.{Of};
 ghost use Rattle.dbus_value_model.specs.declared.stop.Stop.TheVariants.{Partial};
-ghost use Rattle.dbus_message.specs.Messages.{Anything, Name, OfType, Serial, want};
+ghost use Rattle.dbus_message_model.specs.Messages.{Anything, Name, OfType, Serial, want};
 
 use crate::field_fronts::{code_front, only_front, signature_front};
 use crate::field_values::{count_field, name_field, serial_field, text_field};
 use crate::progress::{Progress, Stage};
-use dbus_message::{Wanted, want};
+use dbus_decode::FIELD_DEPTH;
+use dbus_message_model::field_table::{Wanted, want};
 use dbus_types::TextKind;
 use dbus_value_checker::{front, rest_after};
 use dbus_value_model::Stop;
-
-/// How many containers are open around a field's value: the field array, the field and its variant.
-const FIELD_DEPTH: u8 = 3;
 
 impl Progress {
     ghost use Rattle.dbus_check.specs.declared.progress.Stage.TheVariants.{Fields};

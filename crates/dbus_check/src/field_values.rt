@@ -6,15 +6,15 @@
 #![tactic(auto)]
 
 ghost use Rattle.std.specs.Prelude.{◌≡◌, ◌+◌, ◌<◌, ◌≤◌, length, take, drop, IfOk, IfErr};
-ghost use Rattle.dbus_types.specs.Kinds.{IsKind};
-ghost use Rattle.dbus_types.specs.Types.{UINT32, SIGNATURE, NumberType, TextType};
-ghost use Rattle.dbus_types.specs.declared.text_kind.TextKind.TheVariants.{Signature};
+ghost use Rattle.dbus_texts.specs.Kinds.{IsKind};
+ghost use Rattle.dbus_texts.specs.Types.{UINT32, SIGNATURE, NumberType, TextType};
+ghost use Rattle.dbus_texts.specs.declared.text_kind.TextKind.TheVariants.{Signature};
 ghost use Rattle.dbus_value_model.specs.WantedTexts.{Of};
 ghost use Rattle.dbus_value_model.specs.declared.limits.Limits.{Limits};
 ghost use Rattle.dbus_value_model.specs.declared.order.Order.{Order};
 ghost use Rattle.dbus_value_model.specs.declared.stop.Stop.TheVariants.{Partial};
-ghost use Rattle.dbus_message.specs.HeaderReading.{wanted_value};
-ghost use Rattle.dbus_message.specs.Messages.{Name, OfType, Serial, number_in, text_in};
+ghost use Rattle.dbus_decode.specs.HeaderReading.{wanted_value};
+ghost use Rattle.dbus_message_model.specs.Messages.{Name, OfType, Serial, number_in, text_in};
 ghost use Rattle.dbus_value_checker.specs.Fronts.{Fronts};
 ghost use Rattle.dbus_check.specs.Fields.{seen_as, nothing_of};
 

@@ -2,11 +2,12 @@
 #![tactic(auto)]
 
 ghost use Rattle.std.specs.Prelude.{◌≡◌, ◌∷◌, ◌&&◌, [], ℕ, List, true};
-ghost use Rattle.dbus_message.specs.Messages.{is_known, required};
-ghost use Rattle.dbus_message.specs.MissingFields.{IsMissing};
+ghost use Rattle.dbus_message_model.specs.Messages.{is_known, required};
+ghost use Rattle.dbus_message_model.specs.MissingFields.{IsMissing};
 ghost use Rattle.dbus_check.specs.Heading.{has, missing};
 
-use dbus_message::{is_known, required};
+use dbus_message_model::field_table::is_known;
+use dbus_message_model::known_fields::required;
 
 /// Which of the known fields were seen, by their codes.
 #[derive(Clone, Copy)]

@@ -28,7 +28,7 @@ use dbus_value_model::{Limits, Order, Reason, Stop, Value, refuse};
 use std::alloc::Allocator;
 
 /// The most bytes that a name in a header field has.
-const NAME_LIMIT: u32 = 255;
+pub const NAME_LIMIT: u32 = 255;
 
 /// How many containers are open around a field's value: the field array, the field and its variant.
 pub const FIELD_DEPTH: u8 = 3;

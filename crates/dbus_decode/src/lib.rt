@@ -12,5 +12,6 @@ mod stated;
 
 pub use answer::Answer;
 pub use decoding::{decode, decode_within};
+pub use field_value::{FIELD_DEPTH, NAME_LIMIT};
 pub use fixed_header::{FixedHeader, read_fixed_header};
 pub use stated::{FIXED_HEADER_LENGTH, stated_length, stated_length_within};

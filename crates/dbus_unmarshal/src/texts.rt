@@ -21,7 +21,7 @@ use dbus_value_model::{Reason, Stop, refuse};
 use std::alloc::{AllocError, Allocator};
 
 /// The reason of a text that is not of the kind that is wanted.
-pub(crate) fn text_reason(kind: TextKind) -> Reason
+pub fn text_reason(kind: TextKind) -> Reason
     ensures { result ≡ text_reason (Of kind) }
 {
     match kind {

@@ -1,6 +1,6 @@
 use Rattle.std.proofs.Common.{ℕ, ◌+◌, ◌<◌, List, length, Ok, Err, None, refl, ap, subst, arith}
 use Rattle.std.proofs.lemmas.List.{length-drop}
-use Rattle.dbus_types.specs.Types.{UINT32}
+use Rattle.dbus_texts.specs.Types.{UINT32}
 use Rattle.dbus_value_model.specs.Reading.{number}
 use Rattle.dbus_value_model.specs.ValueItems.{number_row}
 use Rattle.dbus_value_checker.specs.Fronts.{Fronts}

@@ -1,8 +1,8 @@
 use Rattle.std.proofs.Common.{ℕ, ◌+◌, List, length, Ok, Err, None, refl, ap, subst, arith}
 use Rattle.std.proofs.lemmas.List.{length-drop}
-use Rattle.dbus_types.specs.Types.{UINT32, NumberType}
+use Rattle.dbus_texts.specs.Types.{UINT32, NumberType}
 use Rattle.dbus_value_model.specs.ValueItems.{number_row}
-use Rattle.dbus_message.specs.Messages.{OfType, number_in}
+use Rattle.dbus_message_model.specs.Messages.{OfType, number_in}
 use Rattle.dbus_value_checker.specs.Fronts.{Fronts}
 use Rattle.dbus_check.specs.Fields.{padded_number}
 use Rattle.dbus_check.proofs.ValueSteps.{signature_stops, value_stops, value_there, count_is}

@@ -1,7 +1,7 @@
 use Rattle.std.proofs.Common.{ℕ, ◌+◌, List, length, Ok, Err, refl, ap, subst, arith}
 use Rattle.std.proofs.lemmas.List.{length-drop}
 use Rattle.dbus_value_model.specs.WantedTexts.{Of}
-use Rattle.dbus_message.specs.Messages.{Name}
+use Rattle.dbus_message_model.specs.Messages.{Name}
 use Rattle.dbus_value_checker.specs.Fronts.{Fronts}
 use Rattle.dbus_value_checker.specs.Suspended.{onward, done}
 use Rattle.dbus_check.specs.Fields.{name_text, nothing_of}

@@ -1,10 +1,10 @@
 use Rattle.std.proofs.Common.{◌≡◌, ℕ, ◌+◌, List, length, take, drop, Ok, Err, refl, sym, ap, subst, ◌∙◌, arith}
 use Rattle.std.proofs.lemmas.List.{length-drop, drop-drop}
-use Rattle.dbus_types.specs.Types.{SIGNATURE, TextType}
-use Rattle.dbus_types.specs.Kinds.{IsKind}
-use Rattle.dbus_types.specs.declared.text_kind.TextKind.TheVariants as kinds
+use Rattle.dbus_texts.specs.Types.{SIGNATURE, TextType}
+use Rattle.dbus_texts.specs.Kinds.{IsKind}
+use Rattle.dbus_texts.specs.declared.text_kind.TextKind.TheVariants as kinds
 use Rattle.dbus_value_model.specs.WantedTexts.{Of}
-use Rattle.dbus_message.specs.Messages.{OfType, text_in}
+use Rattle.dbus_message_model.specs.Messages.{OfType, text_in}
 use Rattle.dbus_value_checker.specs.Fronts.{Fronts}
 use Rattle.dbus_check.specs.Fields.{short_text}
 use Rattle.dbus_check.proofs.ValueSteps.{signature_stops, value_stops, value_there, text_is}

@@ -1,5 +1,5 @@
 use Rattle.std.proofs.Common.{◌≡◌, ℕ, ◌+◌, ◌<◌, ◌≤◌, List, length, ◌&&◌, false}
-use Rattle.dbus_message.specs.Messages.{is_known}
+use Rattle.dbus_message_model.specs.Messages.{is_known}
 use Rattle.dbus_check.specs.Heading.{has}
 use Rattle.dbus_check.specs.Seen.{Sees}
 use Rattle.dbus_check.proofs.NextFields.{field_coded, less}

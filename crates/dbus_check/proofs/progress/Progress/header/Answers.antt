@@ -3,7 +3,7 @@ use Rattle.std.proofs.lemmas.List.{length-take}
 use Rattle.dbus_value_model.specs.declared.stop.Stop.{Stop}
 use Rattle.dbus_value_model.specs.Gives.{Stops}
 use Rattle.dbus_value_model.specs.Reading.{Done}
-use Rattle.dbus_message.specs.HeaderReading.{fixed_header}
+use Rattle.dbus_decode.specs.HeaderReading.{fixed_header}
 use Rattle.dbus_check.specs.Heading.{nothing}
 use Rattle.dbus_check.proofs.Stages.{no_signature, header_taken, header_stops, header_short}
 use Rattle.dbus_check.proofs.progress.Progress.header.Goals as goal

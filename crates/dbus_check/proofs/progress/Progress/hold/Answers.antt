@@ -1,5 +1,5 @@
 use Rattle.std.proofs.Common.{◌+◌, ◌-◌, ◌∷◌, subst}
-use Rattle.dbus_types.specs.Types.{NoTypes, MoreTypes}
+use Rattle.dbus_texts.specs.Types.{NoTypes, MoreTypes}
 use Rattle.dbus_value_model.specs.Specification.{bounds_of}
 use Rattle.dbus_value_model.specs.declared.limits.Bounds.{Bounds}
 use Rattle.dbus_value_checker.specs.Denotations as values

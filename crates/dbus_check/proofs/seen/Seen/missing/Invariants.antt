@@ -1,5 +1,5 @@
 use Rattle.std.proofs.Common.{◌≡◌, ℕ, List, drop}
-use Rattle.dbus_message.specs.Messages.{required}
+use Rattle.dbus_message_model.specs.Messages.{required}
 use Rattle.dbus_check.specs.Heading.{missing}
 use Rattle.dbus_check.specs.Seen.{Sees}
 use Rattle.dbus_check.proofs.SeenSteps.{AreKnown}
