@@ -10,6 +10,7 @@ mod Utf8Steps
 mod SignatureSteps
 mod FrameBounds
 mod ScanSteps
+mod PlainRuns
 mod Breaks
 mod Runs
 pub mod TypeTexts

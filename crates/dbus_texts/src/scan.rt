@@ -1,9 +1,12 @@
 //! The scan of a text of any kind.
 #![tactic(auto)]
 
-ghost use Rattle.std.specs.Prelude.{◌≡◌, ◌↔◌, ℕ, List, [], ◌∷◌, ◌++◌, IsTrue, IsFalse};
+ghost use Rattle.std.specs.Prelude.{◌≡◌, ◌↔◌, ℕ, ◌+◌, ◌<◌, ◌≤◌, List, [], ◌∷◌, ◌++◌, length, take, IsTrue, IsFalse};
+ghost use Rattle.dbus_texts.specs.declared.scan.ScanState.TheVariants.{InText};
+ghost use Rattle.dbus_texts.specs.declared.utf8.Utf8Place.TheVariants.{Free};
 ghost use Rattle.dbus_texts.specs.NameScans.{name_state};
 
+use crate::ascii::plain_front;
 use crate::names::{Letters, NameScan, Place, Tail};
 use crate::signature::SigScan;
 use crate::text_kind::TextKind;
@@ -66,6 +69,13 @@ impl ScanState {
             },
             ScanState::InSignature(signature) => signature.step(byte),
         }
+    }
+
+    /// Whether the scan stands between the characters of a text.
+    fn is_between_characters(&self) -> bool
+        ensures { IsTrue result → self.now ≡ InText Free }
+    {
+        matches!(self, ScanState::InText(Utf8Place::Free))
     }
 
     /// Whether the text may end here.
@@ -146,6 +156,40 @@ impl TextScan {
             self.length += 1;
         }
         true
+    }
+
+    /// Takes as many of the bytes as the text may go on with, and says how many: all of them, or those before the first
+    /// byte that [`TextScan::step`] refuses.
+    ///
+    /// As there, the limit of 255 bytes is left to [`TextScan::end`].
+    pub fn take(&mut self, bytes: &[u8]) -> usize
+        ensures within { result ≤ length bytes.now }
+        ensures kind { kind_of self.new ≡ kind_of self.old }
+        ensures stands { (w : List ℕ) → Stands self.old w → Stands self.new (w ++ take result bytes.now) }
+        ensures breaks { result < length bytes.now → (w : List ℕ) → Stands self.old w → IsPrefixOf (kind_of self.old) (w ++ take (result + 1) bytes.now) → ⊥ }
+    {
+        let mut count = self.take_plain(bytes);
+        while count < bytes.len() {
+            if !self.step(bytes[count]) {
+                return count;
+            }
+            count += 1;
+        }
+        count
+    }
+
+    /// Takes the ASCII that the bytes begin with, where the scan stands between the characters of a text; else no byte.
+    fn take_plain(&mut self, bytes: &[u8]) -> usize
+        ensures within { result ≤ length bytes.now }
+        ensures kind { kind_of self.new ≡ kind_of self.old }
+        ensures stands { (w : List ℕ) → Stands self.old w → Stands self.new (w ++ take result bytes.now) }
+    {
+        if !self.state.is_between_characters() {
+            return 0;
+        }
+        let plain = plain_front(bytes);
+        self.length = self.length.saturating_add(plain.min(256) as u16).min(256);
+        plain
     }
 
     /// Whether the text so far is one of the kind, its limit of 255 bytes included.

@@ -1,26 +1,21 @@
-use Rattle.std.proofs.Common.{◌≡◌, ◌↔◌, ℕ, ◌-◌, Bool, true, false, Some, not, eqb, List, [], length, ◌∷◌, ◌++◌, take, drop, refl, sym, ap, ◌∙◌, subst, arith, length-drop, take-append-drop, IsTrue, IsUtf8}
+use Rattle.std.proofs.Common.{◌≡◌, ◌↔◌, ℕ, ◌-◌, Bool, true, false, not, eqb, List, [], length, ◌∷◌, ◌++◌, take, drop, refl, sym, ap, ◌∙◌, subst, arith, length-drop, take-append-drop, IsTrue, IsUtf8}
 use Rattle.std.specs.List.{AllByRecursion, list_any}
 use Rattle.std.specs.Int.{IsInRange}
 use Rattle.std.proofs.lemmas.Bool.{false≢true, eqb-true}
 use Rattle.std.proofs.lemmas.List.{take_all}
 use Rattle.dbus_texts.specs.declared.utf8.Utf8Place.TheVariants.{Free}
-use Rattle.dbus_texts.specs.Prefixes.{Moves}
 use Rattle.dbus_texts.specs.Utf8.{IsText}
-use Rattle.dbus_texts.specs.Utf8Scans.{lead, text_rest, text_next}
-use Rattle.dbus_texts.proofs.ScanSteps.{step_some}
-use Rattle.dbus_texts.proofs.Utf8Steps.{in_range_is, text_moves, text_ends}
+use Rattle.dbus_texts.proofs.PlainRuns.{plain_moves}
+use Rattle.dbus_texts.proofs.Utf8Steps.{text_ends}
 use Rattle.dbus_texts.proofs.TextUtf8.{no_zero, a_zero}
 use Rattle.dbus_texts.proofs.KindFacts.{text_utf8, utf8_text}
 use Rattle.dbus_texts.proofs.utf8.is_text.Goals as goal
 
 -- a front of ASCII without a zero byte changes nothing
-plain_leads : (b : ℕ) → IsInRange 1 127 b → Some Free ≡ lead b
-plain_leads b h = rw (in_range_is 1 127 b h.0 h.1) refl
-
 text_behind : (u v : List ℕ) → AllByRecursion (IsInRange 1 127) u → IsText v ↔ IsText (u ++ v)
 text_behind [] v h = (λ t. t, λ t. t)
 text_behind (b ∷ u) v h =
-    let m : Moves IsText b IsText = step_some text_rest (text_rest Free) b (text_next Free b) Free (text_moves Free b) (plain_leads b h.0) in
+    let m = plain_moves b h.0 in
     let i = text_behind u v h.1 in
     (λ t. m.from (u ++ v) (i.0 t), λ t. i.1 (m.to (u ++ v) t))
 
