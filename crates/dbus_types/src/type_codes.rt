@@ -1,7 +1,8 @@
 //! The codes of types in a signature. D-Bus Specification, "Summary of types".
 //!
-//! Which code each type has, and which type each code spells; which bytes are codes stands in `dbus_texts`. No other table
-//! has the code of a type without parts. Those of the containers, `a`, `(` with `)` and `{` with `}`, stand also where these are read and written.
+//! Which code each type has, and which type each code spells; `dbus_texts` says which bytes are codes. No other table has
+//! the code of a type without parts. Those of the containers, `a`, `(` with `)` and `{` with `}`, stand also where these
+//! are read and written.
 #![tactic(auto)]
 
 ghost use Rattle.std.specs.Prelude.{◌≡◌, ◌∷◌, [], get_or, MatchOption, false};
