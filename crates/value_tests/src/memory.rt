@@ -20,6 +20,9 @@ const ORDINARY: usize = 12;
 // Eight BYTEs have the bytes of one struct, and the tree has a value for each of these nine.
 const DENSE: usize = 64;
 
+// A struct has no bytes of its own: 32 structs, one within the other, stand over the 8 bytes of one.
+const NESTED: usize = 240;
+
 // An array: its signature; the padding behind its length; its first element; each other one, with the padding before it; and
 // how many times its bytes its tree takes at most.
 type Shape = (
@@ -90,6 +93,13 @@ const SHAPES: &[Shape] = &[
         b"\x01\x02\x03\x04\x05\x06\x07\x08",
         b"\x01\x02\x03\x04\x05\x06\x07\x08",
         DENSE,
+    ),
+    (
+        "a((((((((((((((((((((((((((((((((y))))))))))))))))))))))))))))))))",
+        b"\0\0\0\0",
+        b"\x01",
+        b"\0\0\0\0\0\0\0\x01",
+        NESTED,
     ),
     ("ay", b"", b"\x07", b"\x07", 1),
     ("au", b"", b"\x07\0\0\0", b"\x07\0\0\0", 14),
