@@ -7,8 +7,10 @@
 
 PREFIX ?= /usr/local
 PROGRAM = crates/dbus_wire/out/dbus_wire
+INSTALLED = bin/dbus-wire share/man/man1/dbus-wire.1 share/bash-completion/completions/dbus-wire \
+	share/zsh/site-functions/_dbus-wire share/fish/vendor_completions.d/dbus-wire.fish
 
-.PHONY: run build test gate-times bench install
+.PHONY: run build test gate-times bench install uninstall
 
 run:
 	@echo "dbus-wire as it is, built without its proofs (make build proves it):"
@@ -31,6 +33,11 @@ install: build
 	install -D -m 755 $(PROGRAM) $(DESTDIR)$(PREFIX)/bin/dbus-wire
 	install -D -m 644 man/dbus-wire.1 $(DESTDIR)$(PREFIX)/share/man/man1/dbus-wire.1
 	install -D -m 644 completions/dbus-wire.bash $(DESTDIR)$(PREFIX)/share/bash-completion/completions/dbus-wire
+	install -D -m 644 completions/_dbus-wire $(DESTDIR)$(PREFIX)/share/zsh/site-functions/_dbus-wire
+	install -D -m 644 completions/dbus-wire.fish $(DESTDIR)$(PREFIX)/share/fish/vendor_completions.d/dbus-wire.fish
+
+uninstall:
+	rm -f $(addprefix $(DESTDIR)$(PREFIX)/,$(INSTALLED))
 
 # A library is proved once those that it stands on are, and so beside those that it does not stand on: from each line
 # `NAME: DEP DEP ..` of crates.txt a rule `lib-NAME: lib-DEP lib-DEP ..`. The kit's own libraries are proved already.

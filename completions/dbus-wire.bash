@@ -5,6 +5,8 @@ _dbus_wire() {
     local commands='show check swap filter help'
     local options='--max-message --max-array --max-depth --fds -h --help'
     COMPREPLY=()
+    # A redirection names a file, which bash completes.
+    [[ $option == [\<\>]* ]] && return
     if ((COMP_CWORD == 1)); then
         COMPREPLY=($(compgen -W "$commands -h --help" -- "$word"))
         return
@@ -50,4 +52,4 @@ _dbus_wire() {
     esac
 }
 
-complete -F _dbus_wire dbus-wire
+complete -o default -F _dbus_wire dbus-wire

@@ -8,7 +8,6 @@ mod codes;
 mod frames;
 mod fronts;
 mod items;
-mod scans;
 mod texts;
 mod values;
 

@@ -8,7 +8,6 @@ ghost use Rattle.dbus_value_model.specs.WantedTexts as wanted;
 ghost use Rattle.dbus_value_model.specs.Items.{text_reason};
 
 use crate::fronts::{front, length_front, nul_front, rest_after, text_front};
-use crate::scans::scan_on;
 use crate::values::{Doing, Values};
 use dbus_types::{TextKind, TextScan};
 use dbus_value_model::{Reason, Stop, refuse};
@@ -117,7 +116,7 @@ impl Values {
             return Err(Stop::Partial);
         }
         let given = front(bytes, left);
-        let taken = scan_on(&mut self.scan, given);
+        let taken = self.scan.take(given);
         if taken < given.len() {
             return refuse(self.offset + taken, reason_of_code(code));
         }

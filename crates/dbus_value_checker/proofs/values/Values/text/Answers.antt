@@ -19,7 +19,7 @@ overflow_add-self c =
     let k = texts_small c.args.self.now c.args.code c.args.left c.requires.valid.0 c.requires.valid.1 in
     let a = k.1 in let b = k.2 in
     let g = ap length c.front-given.ensures ∙ length-take c.args.left c.args.bytes.now in
-    let w = c.scan_on-taken.ensures.within in
+    let w = c.take-taken.ensures.within in
     omega arith
 
 pub overflow_add-self-2 : goal.overflow_add-self-2
@@ -27,53 +27,53 @@ overflow_add-self-2 c =
     let k = texts_small c.args.self.now c.args.code c.args.left c.requires.valid.0 c.requires.valid.1 in
     let a = k.1 in let b = k.2 in
     let g = ap length c.front-given.ensures ∙ length-take c.args.left c.args.bytes.now in
-    let w = c.scan_on-taken.ensures.within in
+    let w = c.take-taken.ensures.within in
     omega arith
 
 pub returns-then-taken-given-clause-moves : goal.returns-then-taken-given-clause-moves
 returns-then-taken-given-clause-moves c = λ answer t.
     let s = c.args.bytes.now in
-    let m = c.scan_on-taken.result in
+    let m = c.take-taken.result in
     let g : length c.front-given.result.now ≡ _ = ap length c.front-given.ensures ∙ length-take c.args.left s in
     let less : m < length c.front-given.result.now = c.if-taken-given.true in
     let fits : m ≤ c.args.left = omega arith in
     let fits_more : m + 1 ≤ c.args.left = omega arith in
-    let stands = subst (λ (u : List ℕ). Stands c.scan_on-taken.new.scan (t.bytes ++ u)) (ap (take m) c.front-given.ensures ∙ take-take m c.args.left s fits) (c.scan_on-taken.ensures.stands t.bytes t.stands) in
-    let unlike = subst (λ (u : List ℕ). IsPrefixOf (kind_of c.args.self.now.scan) (t.bytes ++ u) → ⊥) (ap (take (m + 1)) c.front-given.ensures ∙ take-take (m + 1) c.args.left s fits_more) (c.scan_on-taken.ensures.breaks less t.bytes t.stands) in
-    rw c.refuse.ensures (texts_break c.args.self.now c.args.code c.args.left answer t c.scan_on-taken.new.scan s m c.reason_of_code.result c.scan_on-taken.ensures.kind stands (omega arith) (omega arith) unlike (c.reason_of_code.ensures t.kind t.kind_is))
+    let stands = subst (λ (u : List ℕ). Stands c.take-taken.new.self (t.bytes ++ u)) (ap (take m) c.front-given.ensures ∙ take-take m c.args.left s fits) (c.take-taken.ensures.stands t.bytes t.stands) in
+    let unlike = subst (λ (u : List ℕ). IsPrefixOf (kind_of c.args.self.now.scan) (t.bytes ++ u) → ⊥) (ap (take (m + 1)) c.front-given.ensures ∙ take-take (m + 1) c.args.left s fits_more) (c.take-taken.ensures.breaks less t.bytes t.stands) in
+    rw c.refuse.ensures (texts_break c.args.self.now c.args.code c.args.left answer t c.take-taken.new.self s m c.reason_of_code.result c.take-taken.ensures.kind stands (omega arith) (omega arith) unlike (c.reason_of_code.ensures t.kind t.kind_is))
 
 pub text_on-requires : goal.text_on-requires
 text_on-requires c =
     let s = c.args.bytes.now in
     let answer = c.requires.valid.0 in
     let t = c.requires.valid.1 in
-    let m = c.scan_on-taken.result in
+    let m = c.take-taken.result in
     let g : length c.front-given.result.now ≡ _ = ap length c.front-given.ensures ∙ length-take c.args.left s in
-    let w = c.scan_on-taken.ensures.within in
+    let w = c.take-taken.ensures.within in
     let fits : m ≤ c.args.left = omega arith in
-    let stands = subst (λ (u : List ℕ). Stands c.scan_on-taken.new.scan (t.bytes ++ u)) (ap (take m) c.front-given.ensures ∙ take-take m c.args.left s fits) (c.scan_on-taken.ensures.stands t.bytes t.stands) in
-    record { valid = (after_piece answer (take m s), texts_on c.args.self.now c.args.code c.args.left answer t c.scan_on-taken.new.scan s m (c.args.left - m) c.scan_on-taken.ensures.kind stands (omega arith) (omega arith)) }
+    let stands = subst (λ (u : List ℕ). Stands c.take-taken.new.self (t.bytes ++ u)) (ap (take m) c.front-given.ensures ∙ take-take m c.args.left s fits) (c.take-taken.ensures.stands t.bytes t.stands) in
+    record { valid = (after_piece answer (take m s), texts_on c.args.self.now c.args.code c.args.left answer t c.take-taken.new.self s m (c.args.left - m) c.take-taken.ensures.kind stands (omega arith) (omega arith)) }
 
 pub returns-in-Ok-clause-moves : goal.returns-in-Ok-clause-moves
 returns-in-Ok-clause-moves c = λ answer t.
     let s = c.args.bytes.now in
-    let m = c.scan_on-taken.result in
+    let m = c.take-taken.result in
     let g : length c.front-given.result.now ≡ _ = ap length c.front-given.ensures ∙ length-take c.args.left s in
-    let w = c.scan_on-taken.ensures.within in
+    let w = c.take-taken.ensures.within in
     let fits : m ≤ c.args.left = omega arith in
-    let stands = subst (λ (u : List ℕ). Stands c.scan_on-taken.new.scan (t.bytes ++ u)) (ap (take m) c.front-given.ensures ∙ take-take m c.args.left s fits) (c.scan_on-taken.ensures.stands t.bytes t.stands) in
-    (omega arith, c.in-Ok.ensures.opens (after_piece answer (take m s)) (texts_on c.args.self.now c.args.code c.args.left answer t c.scan_on-taken.new.scan s m (c.args.left - m) c.scan_on-taken.ensures.kind stands (omega arith) (omega arith)))
+    let stands = subst (λ (u : List ℕ). Stands c.take-taken.new.self (t.bytes ++ u)) (ap (take m) c.front-given.ensures ∙ take-take m c.args.left s fits) (c.take-taken.ensures.stands t.bytes t.stands) in
+    (omega arith, c.in-Ok.ensures.opens (after_piece answer (take m s)) (texts_on c.args.self.now c.args.code c.args.left answer t c.take-taken.new.self s m (c.args.left - m) c.take-taken.ensures.kind stands (omega arith) (omega arith)))
 
 pub returns-in-Err-clause-moves : goal.returns-in-Err-clause-moves
 returns-in-Err-clause-moves c = λ answer t.
     let s = c.args.bytes.now in
-    let m = c.scan_on-taken.result in
+    let m = c.take-taken.result in
     let g : length c.front-given.result.now ≡ _ = ap length c.front-given.ensures ∙ length-take c.args.left s in
-    let w = c.scan_on-taken.ensures.within in
+    let w = c.take-taken.ensures.within in
     let fits : m ≤ c.args.left = omega arith in
-    let stands = subst (λ (u : List ℕ). Stands c.scan_on-taken.new.scan (t.bytes ++ u)) (ap (take m) c.front-given.ensures ∙ take-take m c.args.left s fits) (c.scan_on-taken.ensures.stands t.bytes t.stands) in
+    let stands = subst (λ (u : List ℕ). Stands c.take-taken.new.self (t.bytes ++ u)) (ap (take m) c.front-given.ensures ∙ take-take m c.args.left s fits) (c.take-taken.ensures.stands t.bytes t.stands) in
     opens_after c.args.self.now c.text_on.new.self s m c.in-Err.stop answer
-    (c.in-Err.ensures.opens (after_piece answer (take m s)) (texts_on c.args.self.now c.args.code c.args.left answer t c.scan_on-taken.new.scan s m (c.args.left - m) c.scan_on-taken.ensures.kind stands (omega arith) (omega arith)))
+    (c.in-Err.ensures.opens (after_piece answer (take m s)) (texts_on c.args.self.now c.args.code c.args.left answer t c.take-taken.new.self s m (c.args.left - m) c.take-taken.ensures.kind stands (omega arith) (omega arith)))
 
 pub returns-in-Err-clause-short : goal.returns-in-Err-clause-short
 returns-in-Err-clause-short c = λ e. absurd (c.in-Err.ensures.decided e)

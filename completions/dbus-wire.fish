@@ -1,0 +1,20 @@
+# The completion of dbus-wire's commands and options, for fish.
+
+set -l commands show check swap filter help
+
+complete -c dbus-wire -n "not __fish_seen_subcommand_from $commands" -f
+complete -c dbus-wire -n "not __fish_seen_subcommand_from $commands" -a show -d 'Write each message as text'
+complete -c dbus-wire -n "not __fish_seen_subcommand_from $commands" -a check -d 'Say whether the whole input is messages'
+complete -c dbus-wire -n "not __fish_seen_subcommand_from $commands" -a swap -d 'Write each message in another byte order'
+complete -c dbus-wire -n "not __fish_seen_subcommand_from $commands" -a filter -d 'Write the messages that match a rule'
+complete -c dbus-wire -n "not __fish_seen_subcommand_from $commands" -a help -d 'Write the help'
+complete -c dbus-wire -s h -l help -f -d 'Write the help'
+complete -c dbus-wire -n '__fish_seen_subcommand_from help' -f -a 'show check swap filter help'
+complete -c dbus-wire -n '__fish_seen_subcommand_from swap' -l to -x -a 'l B' -d 'The byte order to write'
+complete -c dbus-wire -n '__fish_seen_subcommand_from filter' -f -a 'type= sender= interface= member= path= path_namespace= destination='
+for command in show check swap filter
+    complete -c dbus-wire -n "__fish_seen_subcommand_from $command" -l max-message -x -d 'Most bytes of a message'
+    complete -c dbus-wire -n "__fish_seen_subcommand_from $command" -l max-array -x -d 'Most bytes of an array'
+    complete -c dbus-wire -n "__fish_seen_subcommand_from $command" -l max-depth -x -d 'Most containers open at once'
+    complete -c dbus-wire -n "__fish_seen_subcommand_from $command" -l fds -x -a 'any below-count' -d 'Which indexes of descriptors are allowed'
+end
