@@ -12,3 +12,9 @@ pub mod PassedFields
 pub mod HeldValues
 pub mod WholeFields
 pub mod NextFields
+pub mod Advances
+pub mod Underway
+pub mod ValueStages
+pub mod PieceSteps
+pub mod CheckSteps
+pub mod StageSteps

@@ -7,7 +7,6 @@ use Rattle.dbus_texts.specs.ComputedKinds.{types_spelled}
 use Rattle.dbus_texts.specs.Kinds.{IsKind}
 use Rattle.dbus_texts.proofs.KindFacts.{shaped_of}
 use Rattle.dbus_texts.specs.Types.{TypeTree, TypeTrees, NoTypes, MoreTypes, IsSingleType, sig, sigs, AreShaped}
-use Rattle.dbus_value_checker.proofs.Suspension.{parts_more}
 use Rattle.dbus_texts.specs.declared.text_kind.TextKind.TheVariants as kinds
 use Rattle.dbus_unmarshal.proofs.KindLaws.{signature_text}
 use Rattle.dbus_value_model.specs.FdIndexes.{index_limit}
@@ -30,7 +29,7 @@ use Rattle.dbus_value_checker.specs.Denotations as values
 use Rattle.dbus_value_checker.specs.Moves.{values_on}
 use Rattle.dbus_value_checker.specs.declared.values.Values.{Values}
 use Rattle.dbus_check.specs.Heading.{Kept, missing, body_on, behind_fields, fields_on, message_on}
-use Rattle.dbus_check.specs.Progress.{To, Moves}
+use Rattle.dbus_check.specs.Progress.{To, Moves, Under}
 use Rattle.dbus_check.specs.declared.progress.Progress.{Progress}
 use Rattle.dbus_check.proofs.Heading.{behind_fixed, message_on_is}
 use Rattle.dbus_check.proofs.Lasts.{lasts_fixed, sized_fixed}
@@ -97,24 +96,20 @@ signature_types t h = let w = signature_text t h in (types_spelled t, (sym w.1, 
 pub denotes_same : (x : Values) (last : On) (to other : To) → ((c : List ℕ) → to c ≡ other c) → values.Denotes x (record { last = last; to = to }) → values.Denotes x (record { last = last; to = other })
 denotes_same x last to other same h = subst (λ (t : To). values.Denotes x (record { last = last; to = t })) (fun_ext same) h
 
-pub body_begins : (limits : Limits) (order : Order) (body : ℕ) (kept : Kept) (x : Values) (bounds : Bounds) (end o : ℕ) (text : List ℕ)
-    → bounds ≡ bounds_with limits (index_limit limits.fds kept.count) → end ≡ o + body → text ≡ kept.text → IsKind kinds.Signature kept.text
-    → ((ts : TypeTrees) (last : On) → text ≡ sigs ts → AreShaped ts → values.Denotes x (values_on bounds order limits.depth end ts last o))
-    → (to : To) → ((c : List ℕ) → body_on limits order body kept o c ≡ to c) → values.Denotes x (record { last = onward (ends end) done; to = to })
-body_begins limits order body kept x bounds end o text bounds_is end_is text_is signature begun to same =
-    let w = signature_text kept.text signature in
-    denotes_same x (onward (ends end) done) _ to
-    (λ c. ap (λ (b : Bounds). onward (fields (value b order limits.depth end) (types_spelled kept.text)) (onward (ends end) done) o c) bounds_is
-    ∙ ap (λ (e : ℕ). onward (fields (value (bounds_with limits (index_limit limits.fds kept.count)) order limits.depth e) (types_spelled kept.text)) (onward (ends e) done) o c) end_is
-    ∙ same c)
-    (begun (types_spelled kept.text) (onward (ends end) done) (text_is ∙ sym w.1) w.0)
+module _ (limits : Limits) (order : Order) (body : ℕ) (kept : Kept) (bounds : Bounds) (end o : ℕ) (bounds_is : bounds ≡ bounds_with limits (index_limit limits.fds kept.count)) (end_is : end ≡ o + body) where
+  pub body_begins : (c : List ℕ) → onward (fields (value bounds order limits.depth end) (types_spelled kept.text)) (onward (ends end) done) o c ≡ body_on limits order body kept o c
+  body_begins c =
+      ap (λ (b : Bounds). onward (fields (value b order limits.depth end) (types_spelled kept.text)) (onward (ends end) done) o c) bounds_is
+      ∙ ap (λ (e : ℕ). onward (fields (value (bounds_with limits (index_limit limits.fds kept.count)) order limits.depth e) (types_spelled kept.text)) (onward (ends e) done) o c) end_is
+
+  pub body_under : (x : Values) (text : List ℕ) → text ≡ kept.text → IsKind kinds.Signature kept.text
+      → ((ts : TypeTrees) (last : On) → text ≡ sigs ts → AreShaped ts → values.Denotes x (values_on bounds order limits.depth end ts last o))
+      → Under x bounds order limits.depth end (types_spelled kept.text) o []
+  body_under x text text_is signature begun =
+      let w = signature_text kept.text signature in
+      record { complete = w.0; bytes = tt; low = omega (arith, end_is); value = λ last. begun (types_spelled kept.text) last (text_is ∙ sym w.1) w.0 }
 
 -- ---- the value of a field
 
 pub held_types : (t : TypeTree) (types : List ℕ) → types ≡ sig t → IsSingleType t → (types ≡ sigs (MoreTypes t NoTypes)) × AreShaped (MoreTypes t NoTypes)
 held_types t types is single = (is ∙ sym (append-nil (sig t)), (shaped_of t false 0 0 single.0, tt))
-
-pub held_begins : (x : Values) (bounds : Bounds) (order : Order) (room end o : ℕ) (t : TypeTree) (last : On)
-    → values.Denotes x (values_on bounds order room end (MoreTypes t NoTypes) last o) → (to : To) → ((c : List ℕ) → onward (value bounds order room end t) last o c ≡ to c) → values.Denotes x (record { last = last; to = to })
-held_begins x bounds order room end o t last begun to same =
-    denotes_same x last _ to (λ c. parts_more bounds order room end t NoTypes last o c ∙ same c) begun

@@ -2,14 +2,19 @@
 -- D-Bus Specification, "Message Format".
 use Rattle.std.specs.Prelude.{◌≡◌, ℕ, ◌+◌, ◌-◌, ◌<◌, ◌≤◌, List, [], ◌∷◌, length, take, ◌++◌, ◌&&◌, false, Result, Ok, Err}
 use Rattle.dbus_texts.specs.Kinds.{IsKind}
-use Rattle.dbus_texts.specs.Types.{TypeTree}
+use Rattle.dbus_texts.specs.Types.{TypeTree, TypeTrees, AreShaped}
 use Rattle.dbus_texts.specs.declared.text_kind.TextKind.TheVariants as kinds
+use Rattle.dbus_value_model.specs.Bytes.{IsBytes}
 use Rattle.dbus_value_model.specs.Specification.{bounds_of}
+use Rattle.dbus_value_model.specs.declared.limits.Bounds.{Bounds}
+use Rattle.dbus_value_model.specs.declared.fault.Fault.{Fault}
+use Rattle.dbus_value_model.specs.declared.order.Order.{Order}
 use Rattle.dbus_value_model.specs.declared.stop.Stop.{Stop}
 use Rattle.dbus_value_model.specs.declared.stop.Stop.TheVariants as stops
-use Rattle.dbus_value_model.specs.Reading.{Outcome, Faulty, Partial, after, padding, ends, value}
-use Rattle.dbus_value_checker.specs.Suspended.{onward, done}
+use Rattle.dbus_value_model.specs.Reading.{Outcome, Done, Faulty, Partial, after, padding, ends, fields, value}
+use Rattle.dbus_value_checker.specs.Suspended.{On, onward, done}
 use Rattle.dbus_value_checker.specs.Denotations as values
+use Rattle.dbus_value_checker.specs.declared.values.Values.{Values}
 use Rattle.dbus_decode.specs.HeaderReading.{wanted_value}
 use Rattle.dbus_message_model.specs.Messages.{is_known, want}
 use Rattle.dbus_check.specs.Heading.{Kept, kept_of, has, body_on, fields_on, message_on}
@@ -48,21 +53,41 @@ pub record WantsPadding (x : Progress) (to : To) : Type 0 where
   pub near : x.offset + 8 + x.body < 4294967296
   pub same : (c : List ℕ) → onward (padding 8 (x.offset + 8)) (body_on x.limits x.order x.body kept) x.offset c ≡ to c
 
+-- values of these types are under way, which began at the offset start, and these bytes of them were taken
+pub record Under (x : Values) (bounds : Bounds) (order : Order) (room end : ℕ) (types : TypeTrees) (start : ℕ) (given : List ℕ) : Type 0 where
+  pub complete : AreShaped types
+  pub bytes : IsBytes given
+  pub low : start ≤ end
+  pub value : (last : On) → values.Denotes x (record { last = last; to = λ c. onward (fields (value bounds order room end) types) last start (given ++ c) })
+
 -- a field's value is under way, which began at the offset; behind it come fields
 pub record WantsMore (x : Progress) (to : To) : Type 0 where
   pub kept : Kept
   pub turns : ℕ
+  pub types : TypeTrees
+  pub given : List ℕ
   pub keeps : Keeps x kept
   pub turns_is : x.end ≤ x.offset + turns
   pub near : x.end + 8 + x.body < 4294967296
-  pub value : values.Denotes x.values (record { last = fields_on x.limits x.order x.kind x.body turns x.end kept; to = to })
+  pub under : Under x.values (bounds_of x.limits) x.order (x.limits.depth - 3) x.end types x.offset given
+  pub same : (c : List ℕ) → onward (fields (value (bounds_of x.limits) x.order (x.limits.depth - 3) x.end) types) (fields_on x.limits x.order x.kind x.body turns x.end kept) x.offset (given ++ c) ≡ to c
+
+-- the body is under way, which began at the offset start
+pub record WantsBody (x : Progress) (to : To) : Type 0 where
+  pub bounds : Bounds
+  pub types : TypeTrees
+  pub start : ℕ
+  pub given : List ℕ
+  pub under : Under x.values bounds x.order x.limits.depth x.end types start given
+  pub same : (c : List ℕ) → onward (fields (value bounds x.order x.limits.depth x.end) types) (onward (ends x.end) done) start (given ++ c) ≡ to c
 
 abbrev pub denotes : Stage → Progress → To → Type 0
 denotes stage.Header x to = (c : List ℕ) → message_on x.limits 0 c ≡ to c
 denotes stage.Fields x to = WantsFields x to
 denotes stage.Value x to = WantsMore x to
 denotes stage.Padding x to = WantsPadding x to
-denotes stage.Body x to = values.Denotes x.values (record { last = onward (ends x.end) done; to = to })
+denotes stage.Body x to = WantsBody x to
+denotes stage.Done x to = (c : List ℕ) → to c ≡ Done tt x.end c
 
 -- the fields stand for this answer
 abbrev pub Denotes : Progress → To → Type 0
@@ -85,6 +110,36 @@ Turns (Ok x) new to = Denotes new to
 Turns (Err stops.Memory) new to = ⊥
 Turns (Err stops.Partial) new to = ⊥
 Turns (Err (stops.Refused f)) new to = (c : List ℕ) → to c ≡ Faulty f
+
+-- a step that was handed the bytes s: the same, but where they end within what is wanted, some of what is noted may have changed
+abbrev pub Steps : List ℕ → Result ℕ Stop → Progress → To → Type 0
+Steps s (Ok n) new to = (n ≤ length s) × Denotes new (after_bytes to (take n s))
+Steps s (Err stops.Memory) new to = ⊥
+Steps s (Err stops.Partial) new to = Denotes new to × (to s ≡ Partial)
+Steps s (Err (stops.Refused f)) new to = (c : List ℕ) → to (s ++ c) ≡ Faulty f
+
+-- something is wanted still
+abbrev pub IsLive : Stage → Type 0
+IsLive stage.Header = Unit {0}
+IsLive stage.Fields = Unit {0}
+IsLive stage.Value = Unit {0}
+IsLive stage.Padding = Unit {0}
+IsLive stage.Body = Unit {0}
+IsLive stage.Done = ⊥
+
+-- how many stages are still to come, at the most, where no byte is taken
+abbrev pub rank : Stage → ℕ
+rank stage.Header = 5
+rank stage.Value = 4
+rank stage.Fields = 3
+rank stage.Padding = 2
+rank stage.Body = 1
+rank stage.Done = 0
+
+-- A run over the bytes s: it took so many, and where something is wanted still, it is not whole in the others; or a fault shows.
+abbrev pub Runs : List ℕ → Result ℕ Fault → Progress → To → Type 0
+Runs s (Ok n) new to = (n ≤ length s) × Denotes new (after_bytes to (take n s)) × (IsLive new.stage → to s ≡ Partial)
+Runs s (Err f) new to = (c : List ℕ) → to (s ++ c) ≡ Faulty f
 
 -- the value of a field of this code is wanted, n bytes further
 pub record WantsValue (x : Progress) (code n : ℕ) (to : To) : Type 0 where

@@ -1,7 +1,7 @@
 //! How far a message is read: what is noted of it between fronts, in fixed room.
 #![tactic(auto)]
 
-ghost use Rattle.std.specs.Prelude.{◌≡◌, ◌+◌, ◌<◌, ◌≤◌, ℕ, List, length, take, IfOk, IfErr};
+ghost use Rattle.std.specs.Prelude.{◌≡◌, ◌≢◌, ◌+◌, ◌<◌, ◌≤◌, ℕ, List, length, take, IfOk, IfErr};
 ghost use Rattle.dbus_value_model.specs.declared.stop.Stop.TheVariants.{Partial};
 
 use crate::seen::Seen;
@@ -23,6 +23,8 @@ pub(crate) enum Stage {
     Padding,
     /// The body's values.
     Body,
+    /// Nothing: it is whole.
+    Done,
 }
 
 /// A message that is under way.
@@ -53,12 +55,41 @@ pub(crate) struct Progress {
 }
 
 impl Progress {
-    ghost use Rattle.dbus_check.specs.Progress.{To, WantsFields, WantsPadding, Moves, Turns};
+    ghost use Rattle.dbus_check.specs.Progress.{To, Denotes, WantsFields, WantsPadding, Moves, Turns};
     ghost use Rattle.dbus_check.specs.Heading.{message_on};
+    ghost use Rattle.dbus_check.specs.declared.progress.Stage.TheVariants.{Padding, Body};
+
+    /// A message that keeps these limits, before its first byte.
+    pub(crate) fn new(limits: Limits) -> Progress
+        ensures { Denotes result (message_on limits 0) }
+    {
+        Progress {
+            limits,
+            stage: Stage::Header,
+            order: Order::Little,
+            kind: 0,
+            body: 0,
+            offset: 0,
+            end: 0,
+            fds: 0,
+            seen: Seen::none(),
+            signature: ArrayVec::new(),
+            values: Values::new(),
+        }
+    }
+
+    /// Begins again with a message that keeps these limits.
+    pub(crate) fn restart(&mut self, limits: Limits)
+        ensures { Denotes self.new (message_on limits 0) }
+    {
+        self.limits = limits;
+        self.stage = Stage::Header;
+    }
 
     /// The items that have fixed places.
     pub(crate) fn header(&mut self, bytes: &[u8]) -> Result<usize, Stop>
         ensures moves { (to : To) → ((c : List ℕ) → message_on self.old.limits 0 c ≡ to c) → Moves self.old bytes.now result self.new to }
+        ensures some { IfOk result (λ n. 0 < n) }
         ensures short { IfErr result (λ e. e ≡ Partial → length bytes.now < 16) }
     {
         match read_fixed_header(front(bytes, 16), self.limits) {
@@ -81,7 +112,9 @@ impl Progress {
     /// That no required field is missing, once the fields are over: `FieldMissing` with the lowest code that is.
     pub(crate) fn missing(&mut self) -> Result<(), Stop>
         requires over { self.old.offset ≡ self.old.end }
-        ensures { (to : To) → WantsFields self.old to → Turns result self.new to }
+        ensures turns { (to : To) → WantsFields self.old to → Turns result self.new to }
+        ensures stage { IfOk result (λ _. self.new.stage ≡ Padding) }
+        ensures decided { IfErr result (λ e. e ≢ Partial) }
     {
         match self.seen.missing(self.kind) {
             Some(code) => refuse(self.offset, Reason::FieldMissing(code)),
@@ -96,6 +129,7 @@ impl Progress {
     pub(crate) fn padding(&mut self, bytes: &[u8]) -> Result<usize, Stop>
         requires valid { (to : To) × WantsPadding self.old to }
         ensures moves { (to : To) → WantsPadding self.old to → Moves self.old bytes.now result self.new to }
+        ensures stage { IfOk result (λ _. self.new.stage ≡ Body) }
         ensures short { IfErr result (λ e. e ≡ Partial → length bytes.now < 8) }
     {
         match padding(bytes, self.offset, self.offset + 8, 8) {

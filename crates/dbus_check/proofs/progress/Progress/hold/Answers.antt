@@ -1,4 +1,4 @@
-use Rattle.std.proofs.Common.{◌+◌, ◌-◌, ◌∷◌, subst}
+use Rattle.std.proofs.Common.{◌+◌, ◌-◌, [], ◌∷◌, subst, ◌∙◌}
 use Rattle.dbus_texts.specs.Types.{NoTypes, MoreTypes}
 use Rattle.dbus_value_model.specs.Specification.{bounds_of}
 use Rattle.dbus_value_model.specs.declared.limits.Bounds.{Bounds}
@@ -6,7 +6,8 @@ use Rattle.dbus_value_checker.specs.Denotations as values
 use Rattle.dbus_value_checker.specs.Moves.{values_on}
 use Rattle.dbus_check.specs.Heading.{fields_on}
 use Rattle.dbus_check.proofs.PassedFields.{the_kept, not_before}
-use Rattle.dbus_check.proofs.Stages.{held_types, held_begins}
+use Rattle.dbus_value_checker.proofs.Suspension.{parts_more}
+use Rattle.dbus_check.proofs.Stages.{held_types}
 use Rattle.dbus_check.proofs.progress.Progress.hold.Goals as goal
 
 pub begin-requires-clause-types : goal.begin-requires-clause-types
@@ -34,7 +35,15 @@ returns c = λ to t w is single.
       };
       turns_is = w.turns_is;
       near = w.near;
-      value = held_begins c.begin.new.self (bounds_of x.limits) x.order room x.end (x.offset + c.args.n) t last
-          (subst (λ (b : Bounds). values.Denotes c.begin.new.self (values_on b x.order room x.end (MoreTypes t NoTypes) last (x.offset + c.args.n))) c.bounds.ensures
-          (c.begin.ensures (MoreTypes t NoTypes) last held.0 held.1)) to w.same;
+      types = MoreTypes t NoTypes;
+      given = [];
+      under = record {
+        complete = held.1;
+        bytes = tt;
+        low = w.low;
+        value = λ last.
+            subst (λ (b : Bounds). values.Denotes c.begin.new.self (values_on b x.order room x.end (MoreTypes t NoTypes) last (x.offset + c.args.n))) c.bounds.ensures
+            (c.begin.ensures (MoreTypes t NoTypes) last held.0 held.1);
+      };
+      same = λ u. parts_more (bounds_of x.limits) x.order room x.end t NoTypes last (x.offset + c.args.n) u ∙ w.same u;
     }

@@ -1,0 +1,85 @@
+-- What a checker answers of all bytes that it was handed, by what it does with a piece.
+use Rattle.std.proofs.Common.{◌≡◌, ℕ, List, ◌++◌, take, Option, Some, None, Result, Ok, Err, sym, ap, subst, ◌∙◌, arith, append_assoc}
+use Rattle.std.proofs.lemmas.List.{take_all, take-append-drop}
+use Rattle.dbus_value_model.specs.Bytes.{IsBytes}
+use Rattle.dbus_value_model.specs.Reading.{Faulty}
+use Rattle.dbus_value_model.specs.declared.fault.Fault.{Fault}
+use Rattle.dbus_value_model.specs.declared.limits.Limits.{Limits}
+use Rattle.dbus_value_model.proofs.Numbers.{IsBytes-append, IsBytes-front}
+use Rattle.dbus_check.specs.Checks.{CheckerState, StandsBehind, Stands, Takes}
+use Rattle.dbus_check.specs.declared.check.Check.TheVariants as check
+use Rattle.dbus_check.specs.declared.pieces.Pieces.{Pieces}
+use Rattle.dbus_check.specs.Heading.{message_on}
+use Rattle.dbus_check.specs.Pieces.{Holds, Fed, IsLive}
+use Rattle.dbus_check.specs.Progress.{To, after_bytes}
+use Rattle.dbus_check.proofs.Outcomes.{done_is, refused_is, partial_is}
+use Rattle.dbus_check.proofs.PieceSteps.{whole_answers}
+
+module _ (limits : Limits) (p : Pieces) (w piece : List ℕ) (bytes : IsBytes w) (more : IsBytes piece) where
+  both : IsBytes (w ++ piece)
+  both = IsBytes-append w piece bytes more
+
+  -- the message goes on behind the piece
+  pub fed_partial : (n : ℕ) → Fed piece (Ok n) p (after_bytes (message_on limits 0) w) → IsLive p
+      → Takes limits w piece check.Partial × Stands (record { limits = limits; pieces = p; refused = None }) (w ++ piece)
+  fed_partial n fed live =
+      let f = fed.2 live in
+      let all : take n piece ≡ piece = let e = f.0 in take_all n piece (omega (arith, e)) in
+      let h = fed.1 in (
+        partial_is limits w piece both f.1,
+        record {
+          bytes = both;
+          behind = record { from = h.from; denotes = h.denotes; same = λ c. h.same c ∙ ap (λ (t : List ℕ). message_on limits 0 (w ++ (t ++ c))) all ∙ ap (message_on limits 0) (sym (append_assoc w piece c)); few = h.few; waits = h.waits };
+        },
+      )
+
+  -- it ends in the piece
+  pub fed_done : (n : ℕ) → Fed piece (Ok n) p (after_bytes (message_on limits 0) w) → (IsLive p → ⊥)
+      → Takes limits w piece (check.Done n) × Stands (record { limits = limits; pieces = p; refused = None }) (w ++ take n piece)
+  fed_done n fed over =
+      let h = fed.1 in
+      let whole = done_is limits w piece both n p.progress.end fed.0 (λ c. ap (message_on limits 0) (append_assoc w (take n piece) c) ∙ whole_answers p (after_bytes (after_bytes (message_on limits 0) w) (take n piece)) over h c) in (
+        (fed.0, whole.0, whole.1, whole.2),
+        record {
+          bytes = IsBytes-append w (take n piece) bytes (IsBytes-front piece (take n piece) _ (sym (take-append-drop n piece)) more);
+          behind = record { from = h.from; denotes = h.denotes; same = λ c. h.same c ∙ ap (message_on limits 0) (sym (append_assoc w (take n piece) c)); few = h.few; waits = h.waits };
+        },
+      )
+
+  -- it shows a fault
+  pub fed_refused : (f : Fault) → ((c : List ℕ) → message_on limits 0 (w ++ (piece ++ c)) ≡ Faulty f)
+      → Takes limits w piece (check.Refused f) × Stands (record { limits = limits; pieces = p; refused = Some f }) (w ++ piece)
+  fed_refused f fed =
+      let law : (c : List ℕ) → message_on limits 0 ((w ++ piece) ++ c) ≡ Faulty f = λ c. ap (message_on limits 0) (append_assoc w piece c) ∙ fed c in
+      (refused_is limits w piece both f law, record { bytes = both; behind = law })
+
+-- ---- a checker that is handed a piece
+
+module _ (x : CheckerState) (w piece : List ℕ) (more : IsBytes piece) (h : Stands x w) where
+  -- after a fault
+  pub stays_refused : (f : Fault) → x.refused ≡ Some f → Takes x.limits w piece (check.Refused f) × Stands x (w ++ piece)
+  stays_refused f is =
+      let law = subst (λ (r : Option Fault). StandsBehind x w r) is h.behind in
+      let told = fed_refused x.limits x.pieces w piece h.bytes more f (λ c. law (piece ++ c)) in
+      (told.0, subst (λ (r : Option Fault). Stands (record { limits = x.limits; pieces = x.pieces; refused = r }) (w ++ piece)) (sym is) told.1)
+
+  -- before one
+  module _ (none : x.refused ≡ None) (p : Pieces) where
+    abbrev Feeds : Result ℕ Fault → Type 0
+    Feeds r = (to : To) → Holds x.pieces to → Fed piece r p to
+
+    holds : Holds x.pieces (after_bytes (message_on x.limits 0) w)
+    holds = subst (λ (r : Option Fault). StandsBehind x w r) none h.behind
+
+    pub took_partial : (n : ℕ) → Feeds (Ok n) → IsLive p → Takes x.limits w piece check.Partial × Stands (record x { pieces = p }) (w ++ piece)
+    took_partial n fed live =
+        let told = fed_partial x.limits p w piece h.bytes more n (fed (after_bytes (message_on x.limits 0) w) holds) live in
+        (told.0, subst (λ (r : Option Fault). Stands (record { limits = x.limits; pieces = p; refused = r }) (w ++ piece)) (sym none) told.1)
+
+    pub took_done : (n : ℕ) → Feeds (Ok n) → (IsLive p → ⊥) → Takes x.limits w piece (check.Done n) × Stands (record x { pieces = p }) (w ++ take n piece)
+    took_done n fed over =
+        let told = fed_done x.limits p w piece h.bytes more n (fed (after_bytes (message_on x.limits 0) w) holds) over in
+        (told.0, subst (λ (r : Option Fault). Stands (record { limits = x.limits; pieces = p; refused = r }) (w ++ take n piece)) (sym none) told.1)
+
+    pub took_refused : (f : Fault) → Feeds (Err f) → Takes x.limits w piece (check.Refused f) × Stands (record x { pieces = p; refused = Some f }) (w ++ piece)
+    took_refused f fed = fed_refused x.limits p w piece h.bytes more f (fed (after_bytes (message_on x.limits 0) w) holds)

@@ -1,0 +1,47 @@
+-- What a checker answers of all bytes that it was handed.
+-- D-Bus Specification, "Message Protocol".
+use Rattle.std.specs.Prelude.{◌≡◌, ℕ, ◌+◌, ◌≤◌, List, ◌++◌, length, take, Option, Some, None}
+use Rattle.dbus_value_model.specs.Bytes.{IsBytes}
+use Rattle.dbus_value_model.specs.Reading.{Faulty}
+use Rattle.dbus_value_model.specs.declared.fault.Fault.{Fault}
+use Rattle.dbus_value_model.specs.declared.limits.Limits.{Limits}
+use Rattle.dbus_value_model.specs.declared.order.Order.{Order}
+use Rattle.dbus_message_model.specs.Messages.{MessageTree}
+use Rattle.dbus_decode.specs.MessageOutcomes.{IsWhole, IsRefused, IsPartial}
+use Rattle.dbus_check.specs.declared.check.Check.{Check}
+use Rattle.dbus_check.specs.declared.check.Check.TheVariants as check
+use Rattle.dbus_check.specs.declared.pieces.Pieces.{Pieces}
+use Rattle.dbus_check.specs.Heading.{message_on}
+use Rattle.dbus_check.specs.Pieces.{Holds}
+use Rattle.dbus_check.specs.Progress.{after_bytes}
+
+-- a checker: the limits of its message, what is noted of that, and the fault that it stays with
+pub record CheckerState : Type 0 where
+  pub limits : Limits
+  pub pieces : Pieces
+  pub refused : Option Fault
+
+abbrev pub limits_of : CheckerState → Limits
+limits_of x = x.limits
+
+-- what is noted goes on behind these bytes, or their fault stays whatever follows
+abbrev pub StandsBehind : CheckerState → List ℕ → Option Fault → Type 0
+StandsBehind x w None = Holds x.pieces (after_bytes (message_on x.limits 0) w)
+StandsBehind x w (Some f) = (c : List ℕ) → message_on x.limits 0 (w ++ c) ≡ Faulty f
+
+-- w is all that the checker took since it was made or began again: the bytes of the message under way
+pub record Stands (x : CheckerState) (w : List ℕ) : Type 0 where
+  pub bytes : IsBytes w
+  pub behind : StandsBehind x w x.refused
+
+-- the bytes of the piece that are taken: up to the message's end
+abbrev pub taken : List ℕ → Check → List ℕ
+taken piece check.Partial = piece
+taken piece (check.Done n) = take n piece
+taken piece (check.Refused f) = piece
+
+-- what is answered to a piece behind the bytes w: the outcome of all of them under the limits
+abbrev pub Takes : Limits → List ℕ → List ℕ → Check → Type 0
+Takes limits w piece check.Partial = IsPartial limits (w ++ piece)
+Takes limits w piece (check.Done n) = (n ≤ length piece) × (order : Order) × (m : MessageTree) × IsWhole limits (w ++ piece) order m (length w + n)
+Takes limits w piece (check.Refused f) = IsRefused limits (w ++ piece) f
