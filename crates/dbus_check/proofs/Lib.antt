@@ -18,3 +18,4 @@ pub mod ValueStages
 pub mod PieceSteps
 pub mod CheckSteps
 pub mod StageSteps
+pub mod ExactAnswers

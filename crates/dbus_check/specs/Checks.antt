@@ -45,3 +45,9 @@ abbrev pub Takes : Limits → List ℕ → List ℕ → Check → Type 0
 Takes limits w piece check.Partial = IsPartial limits (w ++ piece)
 Takes limits w piece (check.Done n) = (n ≤ length piece) × (order : Order) × (m : MessageTree) × IsWhole limits (w ++ piece) order m (length w + n)
 Takes limits w piece (check.Refused f) = IsRefused limits (w ++ piece) f
+
+-- and no other answer is one of that outcome
+pub record IsExact (limits : Limits) (w piece : List ℕ) (answer : Check) : Type 0 where
+  pub whole : (order : Order) (m : MessageTree) (n : ℕ) → IsWhole limits (w ++ piece) order m (length w + n) → answer ≡ check.Done n
+  pub refused : (f : Fault) → IsRefused limits (w ++ piece) f → answer ≡ check.Refused f
+  pub partial : IsPartial limits (w ++ piece) → answer ≡ check.Partial

@@ -38,7 +38,7 @@ impl Model for Checker {
 }
 
 impl Checker {
-    ghost use Rattle.dbus_check.specs.Checks.{Stands, Takes, limits_of, taken};
+    ghost use Rattle.dbus_check.specs.Checks.{Stands, Takes, IsExact, limits_of, taken};
 
     /// A checker as [`Checker::within`] makes it, under the limits of the specification.
     pub fn new() -> Self
@@ -70,6 +70,7 @@ impl Checker {
     /// After `Done` each call answers `Done(0)`, after `Refused` the same fault, until [`Checker::restart`].
     pub fn take(&mut self, piece: &[u8]) -> Check
         ensures answers { (w : List ℕ) → Stands self.old w → Takes (limits_of self.old) w piece.now result }
+        ensures exact { (w : List ℕ) → Stands self.old w → IsExact (limits_of self.old) w piece.now result }
         ensures stands { (w : List ℕ) → Stands self.old w → Stands self.new (w ++ taken piece.now result) }
         ensures limits { limits_of self.new ≡ limits_of self.old }
     {

@@ -3,6 +3,7 @@ use Rattle.dbus_decode.proofs.ReadMoves.{bytes_from}
 use Rattle.dbus_check.specs.Checks.{CheckerState, Stands, Takes}
 use Rattle.dbus_check.specs.declared.check.Check.TheVariants as check
 use Rattle.dbus_check.proofs.CheckSteps.{stays_refused, took_partial, took_done, took_refused}
+use Rattle.dbus_check.proofs.ExactAnswers.{takes_exact}
 use Rattle.dbus_check.proofs.checker.Checker.take.Goals as goal
 
 pub returns-in-Some-clause-answers : goal.returns-in-Some-clause-answers
@@ -110,3 +111,15 @@ returns-in-Err-clause-stands c = λ w stands.
     let more = bytes_from piece (λ k. omega (arith, c.type_inv.piece k)) in
     let h : Stands x w = subst (λ (y : CheckerState). Stands y w) (sym c.self.view_is) stands in
     (took_refused x w piece more h c.in_default.is c.take.new.self c.in-Err.fault c.in-Err.ensures).1
+
+pub returns-in-Some-clause-exact : goal.returns-in-Some-clause-exact
+returns-in-Some-clause-exact c = λ w stands. takes_exact c.args.self.now.limits w c.args.piece.now (check.Refused c.in-Some.fault) (returns-in-Some-clause-answers c w stands)
+
+pub returns-then-is_live-clause-exact : goal.returns-then-is_live-clause-exact
+returns-then-is_live-clause-exact c = λ w stands. takes_exact c.args.self.now.limits w c.args.piece.now check.Partial (returns-then-is_live-clause-answers c w stands)
+
+pub returns-else-is_live-clause-exact : goal.returns-else-is_live-clause-exact
+returns-else-is_live-clause-exact c = λ w stands. takes_exact c.args.self.now.limits w c.args.piece.now (check.Done c.in-Ok.n) (returns-else-is_live-clause-answers c w stands)
+
+pub returns-in-Err-clause-exact : goal.returns-in-Err-clause-exact
+returns-in-Err-clause-exact c = λ w stands. takes_exact c.args.self.now.limits w c.args.piece.now (check.Refused c.in-Err.fault) (returns-in-Err-clause-answers c w stands)
