@@ -3,8 +3,8 @@ pub mod WriteSteps
 pub mod NextSteps
 pub mod CutLaws
 pub mod WholeLaws
-pub mod StatedLaws
+pub mod CutterSteps
 pub mod Inside
-pub mod KeptLaws
+pub mod DecodedOne
 pub mod RunLaws
 pub mod HeadlineLaws

@@ -1,7 +1,8 @@
 -- Lists of bytes that are kept in parts.
-use Rattle.std.proofs.Common.{◌≡◌, ◌+◌, ◌-◌, ◌≤◌, ℕ, List, [], ◌++◌, take, drop, arith, sym, ap, ◌∙◌, append_assoc, take-append-drop}
+use Rattle.std.proofs.Common.{◌≡◌, ◌+◌, ◌-◌, ◌≤◌, ℕ, List, [], ◌++◌, length, take, drop, arith, refl, sym, ap, ◌∙◌, append_assoc, take-append-drop}
 use Rattle.std.specs.List.{slice_range}
-use Rattle.std.proofs.lemmas.List.{drop-take, drop-drop, take-take}
+use Rattle.std.proofs.Math.Nat.{min-le_left}
+use Rattle.std.proofs.lemmas.List.{drop-take, drop-drop, take-take, drop_at, length-take}
 
 -- what is left of a part, where some of it was taken
 pub left_of : (buffer : List ℕ) (start end taken : ℕ) → start + taken ≤ end
@@ -36,3 +37,13 @@ pub no_part : (buffer : List ℕ) (start end : ℕ) → start ≡ end → slice_
 no_part buffer start end same =
     let none : end - start ≡ 0 = omega (arith, same) in
     ap (λ k. take k (drop start buffer)) none
+
+-- a part has at most so many bytes
+pub part_fits : (buffer : List ℕ) (start end : ℕ) → length (slice_range buffer start end) ≤ end - start
+part_fits buffer start end = let e = length-take (end - start) (drop start buffer) in rw e (min-le_left (end - start) (length (drop start buffer)))
+
+-- what is left behind a message that ends in the part after the bytes held
+pub left_after : (held buffer : List ℕ) (start end taken : ℕ) → start + taken ≤ end
+    → slice_range buffer (start + taken) end ≡ drop (length held + taken) (held ++ slice_range buffer start end)
+left_after held buffer start end taken within =
+    sym (left_of buffer start end taken within) ∙ (ap (drop taken) (sym (drop_at held (slice_range buffer start end) (length held) refl)) ∙ drop-drop taken (length held) (held ++ slice_range buffer start end))

@@ -12,7 +12,6 @@ use Rattle.dbus_stream.specs.declared.message_reader.MessageReader.{MessageReade
 use Rattle.dbus_stream.specs.declared.read_fault.ReadFault.{ReadFault}
 use Rattle.dbus_stream.specs.declared.read_fault.ReadFault.TheVariants.{Memory, Format, Device, TooManyReads}
 use Rattle.dbus_stream.specs.Device.{one_more}
-use Rattle.dbus_stream.specs.Stated.{BeginsWithNone}
 use Rattle.dbus_stream.specs.Reader.{limits_of, kept, source_of, done_of, reads_of, most_reads_of, is_ended, stopped_of}
 use Rattle.dbus_stream.specs.Lasting.{is_lasting}
 use Rattle.dbus_stream.specs.Next.{NextAnswers, KeptAnswers, DeviceCounts, Reads, RisesBy, KeepsAll, GivesMessage, IsCutShort, ReadsNothing}
@@ -36,8 +35,8 @@ short_of_kept here there w v fault e k s = subst (λ limits. IsCutShort limits w
 refused_of_kept : (here there : Limits) (w v : List ℕ) (fault : Fault) → here ≡ there → v ≡ w → IsRefused here v fault → IsRefused there w fault
 refused_of_kept here there w v fault e k r = subst (λ limits. IsRefused limits w fault) e (subst (λ l. IsRefused here l fault) k r)
 
-none_of_kept : (here there : Limits) (w v : List ℕ) → here ≡ there → v ≡ w → BeginsWithNone here v → BeginsWithNone there w
-none_of_kept here there w v e k b = subst (λ limits. BeginsWithNone limits w) e (subst (λ l. BeginsWithNone here l) k b)
+partial_of_kept : (here there : Limits) (w v : List ℕ) → here ≡ there → v ≡ w → IsPartial here v → IsPartial there w
+partial_of_kept here there w v e k b = subst (λ limits. IsPartial limits w) e (subst (λ l. IsPartial here l) k b)
 
 -- a fault that is answered for good is none of the device
 pub lasts : (T : Type 0) (failures : ℕ) (stopped : Option ReadFault) (fault : ReadFault) → stopped ≡ Some fault → is_lasting stopped ≡ true
@@ -61,6 +60,7 @@ module _ {R A : Type 0} (left : R → Option (List ℕ)) (calls failures : R →
     last = [];
     before = [];
     joined = refl;
+    last_fits = omega arith;
     needed = λ some. absurd (omega (arith, some));
     reads = omega arith;
     called = ap (λ k. k % 2 ^ 64) (omega arith);
@@ -88,6 +88,7 @@ module _ {R A : Type 0} (left : R → Option (List ℕ)) (calls failures : R →
     last = r.last;
     before = r.before;
     joined = r.joined;
+    last_fits = r.last_fits;
     needed = r.needed;
     reads = n.reads ∙ r.reads;
     called = subst (λ s. RisesBy r.count (calls (source_of old)) (calls s)) (sym n.source) r.called;
@@ -140,17 +141,11 @@ module _ {R A : Type 0} (left : R → Option (List ℕ)) (calls failures : R →
 
   answers_finished : (w : List ℕ) (old mid new : MessageReader R A) (res : Result (Option (Order × Message A)) ReadFault) → limits_of mid ≡ limits_of old → kept mid ≡ w
       → done_of mid ≡ done_of old → is_ended new ≡ true → Finishes mid new res → NextAnswers w old new res
-  answers_finished w old mid new (Ok (Some given)) s k d e f = gives_kept w old mid new given s k d f
+  answers_finished w old mid new (Ok (Some given)) s k d e f = absurd f
   answers_finished w old mid new (Ok None) s k d e f = (sym k ∙ f.1, e, keeps_kept w old mid new k d f.0.keeps, f.0.unstopped)
-  answers_finished w old mid new (Err Memory) s k d e f = (keeps_kept w old mid new k d f.keeps, f.unstopped)
-  answers_finished w old mid new (Err (Format fault)) s k d e f = (
-    keeps_kept w old mid new k d f.0.keeps,
-    f.0.stopped,
-    elim f.1 [
-      | inl refused ↦ inl (refused_of_kept _ _ w (kept mid) fault s k refused)
-      | inr short ↦ inr (short_of_kept _ _ w (kept mid) fault s k short, e)
-    ],
-  )
+  answers_finished w old mid new (Err Memory) s k d e f = absurd f
+  answers_finished w old mid new (Err (Format fault)) s k d e f =
+      (keeps_kept w old mid new k d f.0.keeps, f.0.stopped, inr (short_of_kept _ _ w (kept mid) fault s k f.1, e))
   answers_finished w old mid new (Err Device) s k d e f = absurd f
   answers_finished w old mid new (Err TooManyReads) s k d e f = absurd f
 
@@ -163,11 +158,9 @@ module _ {R A : Type 0} (left : R → Option (List ℕ)) (calls failures : R →
 
   answers_given_up : (w : List ℕ) (old mid new : MessageReader R A) (res : Result (Option (Order × Message A)) ReadFault) → limits_of mid ≡ limits_of old → kept mid ≡ w
       → done_of mid ≡ done_of old → reads_of new ≡ most_reads_of new → GivesUp mid new res → NextAnswers w old new res
-  answers_given_up w old mid new (Ok (Some given)) s k d e f = gives_kept w old mid new given s k d f
-  answers_given_up w old mid new (Ok None) s k d e f = absurd f
-  answers_given_up w old mid new (Err Memory) s k d e f = (keeps_kept w old mid new k d f.keeps, f.unstopped)
-  answers_given_up w old mid new (Err (Format fault)) s k d e f =
-      (keeps_kept w old mid new k d f.0.keeps, f.0.stopped, inl (refused_of_kept _ _ w (kept mid) fault s k f.1))
+  answers_given_up w old mid new (Ok given) s k d e f = absurd f
+  answers_given_up w old mid new (Err Memory) s k d e f = absurd f
+  answers_given_up w old mid new (Err (Format fault)) s k d e f = absurd f
   answers_given_up w old mid new (Err Device) s k d e f = absurd f
   answers_given_up w old mid new (Err TooManyReads) s k d e f =
       (keeps_kept w old mid new k d f.0.keeps, f.0.stopped, subst (λ limits. IsPartial limits w) s (subst (λ l. IsPartial (limits_of mid) l) k f.1), e)
@@ -180,11 +173,11 @@ module _ {R A : Type 0} (left : R → Option (List ℕ)) (calls failures : R →
       (unread old mid new h.reads n, λ _. answers_given_up (kept old ++ h.reads.bytes) old mid new res h.reads.limits h.kept h.done (n.reads ∙ (e ∙ sym n.most_reads)) f)
 
   -- a read that failed
-  pub failed_read : (old mid new : MessageReader R A) → HasRead left calls failures old mid → BeginsWithNone (limits_of mid) (kept mid) → is_ended mid ≡ false → FillsNone left mid new
+  pub failed_read : (old mid new : MessageReader R A) → HasRead left calls failures old mid → IsPartial (limits_of mid) (kept mid) → is_ended mid ≡ false → FillsNone left mid new
       → reads_of new ≡ reads_of mid + 1 → calls (source_of new) ≡ one_more (calls (source_of mid)) → most_reads_of new ≡ most_reads_of mid → limits_of new ≡ limits_of mid
       → done_of new ≡ done_of mid → stopped_of new ≡ stopped_of mid
       → (r : Reads left calls old new) × (stopped_of old ≡ None → NextAnswers (kept old ++ r.bytes) old new (Err Device))
-  failed_read old mid new h none open_ f more called most_reads limits done stopped = (
+  failed_read old mid new h part_of open_ f more called most_reads limits done stopped = (
     record {
       bytes = h.reads.bytes;
       count = h.reads.count + 1;
@@ -192,7 +185,8 @@ module _ {R A : Type 0} (left : R → Option (List ℕ)) (calls failures : R →
       last = [];
       before = h.reads.bytes;
       joined = sym (append-nil h.reads.bytes);
-      needed = λ some. none_of_kept _ _ _ _ h.reads.limits h.kept none;
+      last_fits = omega arith;
+      needed = λ some. partial_of_kept _ _ _ _ h.reads.limits h.kept part_of;
       reads = omega (arith, more, h.reads.reads);
       called = RisesBy-more h.reads.count _ _ _ h.reads.called called;
       most_reads = most_reads ∙ h.reads.most_reads;
@@ -200,15 +194,15 @@ module _ {R A : Type 0} (left : R → Option (List ℕ)) (calls failures : R →
       settled = λ e. absurd (both_ways (is_ended mid) (h.reads.settled e).2 open_);
       at_end = λ _ t. absurd (both_ways (is_ended mid) (sym f.ended ∙ t) open_);
     },
-    λ _. (record { kept = f.kept ∙ h.kept; done = done ∙ h.done }, stopped ∙ h.unstopped, none_of_kept _ _ _ _ h.reads.limits h.kept none),
+    λ _. (record { kept = f.kept ∙ h.kept; done = done ∙ h.done }, stopped ∙ h.unstopped, partial_of_kept _ _ _ _ h.reads.limits h.kept part_of),
   )
 
   -- a read that gave bytes, or the end
-  pub filled : (old mid new : MessageReader R A) (more_bytes : List ℕ) → HasRead left calls failures old mid → BeginsWithNone (limits_of mid) (kept mid) → is_ended mid ≡ false
+  pub filled : (old mid new : MessageReader R A) (more_bytes : List ℕ) → HasRead left calls failures old mid → IsPartial (limits_of mid) (kept mid) → is_ended mid ≡ false
       → FillsBy left more_bytes mid new → failures (source_of new) ≡ failures (source_of mid)
       → reads_of new ≡ reads_of mid + 1 → calls (source_of new) ≡ one_more (calls (source_of mid)) → most_reads_of new ≡ most_reads_of mid → limits_of new ≡ limits_of mid
       → done_of new ≡ done_of mid → stopped_of new ≡ stopped_of mid → HasRead left calls failures old new
-  filled old mid new more_bytes h none open_ f failed more called most_reads limits done stopped = record {
+  filled old mid new more_bytes h part_of open_ f failed more called most_reads limits done stopped = record {
     reads = record {
       bytes = h.reads.bytes ++ more_bytes;
       count = h.reads.count + 1;
@@ -216,7 +210,8 @@ module _ {R A : Type 0} (left : R → Option (List ℕ)) (calls failures : R →
       last = more_bytes;
       before = h.reads.bytes;
       joined = refl;
-      needed = λ some. none_of_kept _ _ _ _ h.reads.limits h.kept none;
+      last_fits = f.few;
+      needed = λ some. partial_of_kept _ _ _ _ h.reads.limits h.kept part_of;
       reads = omega (arith, more, h.reads.reads);
       called = RisesBy-more h.reads.count _ _ _ h.reads.called called;
       most_reads = most_reads ∙ h.reads.most_reads;
@@ -234,7 +229,7 @@ module _ {R A : Type 0} where
   -- what comes of the bytes that are kept is the answer
   pub answers_kept : (old new : MessageReader R A) (res : Result (Option (Order × Message A)) ReadFault) → TakesKept old new res → KeptAnswers old new res
   answers_kept old new (Ok (Some given)) t = t
-  answers_kept old new (Ok None) t = (t.0.keeps, t.0.unstopped, subst (λ l. BeginsWithNone (limits_of old) l) t.0.keeps.kept t.2)
+  answers_kept old new (Ok None) t = (t.0.keeps, t.0.unstopped, subst (λ l. IsPartial (limits_of old) l) t.0.keeps.kept t.2)
   answers_kept old new (Err Memory) t = (t.keeps, t.unstopped)
   answers_kept old new (Err (Format fault)) t = (t.0.keeps, t.0.stopped, t.1)
   answers_kept old new (Err Device) t = absurd t

@@ -8,7 +8,7 @@ use Rattle.dbus_decode.specs.MessageOutcomes.{IsWhole, IsPartial}
 use Rattle.dbus_decode.proofs.OutcomeLaws.{one_outcome, whole_bytes, whole_valid, valid_whole}
 
 -- a message that ends within the first of the bytes is one of these alone
-whole_within : (limits : Limits) (b c : List ℕ) (order : Order) (m : MessageTree) (n : ℕ) → n ≤ length b → IsWhole limits (b ++ c) order m n → IsWhole limits b order m n
+pub whole_within : (limits : Limits) (b c : List ℕ) (order : Order) (m : MessageTree) (n : ℕ) → n ≤ length b → IsWhole limits (b ++ c) order m n → IsWhole limits b order m n
 whole_within limits b c order m n fits w =
     let bytes = whole_bytes limits (b ++ c) order m n w in
     let front : message_bytes order m ≡ take n b = sym bytes.0 ∙ take-append-le n b c fits in

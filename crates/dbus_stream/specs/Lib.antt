@@ -9,6 +9,7 @@ pub mod Next
 pub mod Steps
 pub mod StreamLaws
 pub mod CutterState
+pub mod Checked
 pub mod Cutting
 pub mod Decoded
 pub mod Runs

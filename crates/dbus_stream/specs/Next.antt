@@ -1,5 +1,5 @@
 -- What a reader of messages answers by its limits, where it was not stopped before. w is what was kept and then what was read.
-use Rattle.std.specs.Prelude.{◌≡◌, ◌≢◌, ◌⊎◌, ℕ, ◌+◌, ◌^◌, ◌%◌, ◌<◌, List, [], ◌++◌, true, false, drop, Option, None, Some, Result, Ok, Err}
+use Rattle.std.specs.Prelude.{◌≡◌, ◌≢◌, ◌⊎◌, ℕ, ◌+◌, ◌^◌, ◌%◌, ◌<◌, ◌≤◌, List, [], ◌++◌, true, false, length, drop, Option, None, Some, Result, Ok, Err}
 use Rattle.std.specs.Io.KnownBytes.{Consumes, IsAtEnd}
 use Rattle.dbus_value_model.specs.declared.order.Order.{Order}
 use Rattle.dbus_value_model.specs.declared.fault.Fault.{Fault}
@@ -11,7 +11,6 @@ use Rattle.dbus_stream.specs.declared.message_reader.MessageReader.{MessageReade
 use Rattle.dbus_stream.specs.declared.read_fault.ReadFault.{ReadFault}
 use Rattle.dbus_stream.specs.declared.read_fault.ReadFault.TheVariants.{Memory, Format, Device, TooManyReads}
 use Rattle.dbus_stream.specs.Cut.{truncated}
-use Rattle.dbus_stream.specs.Stated.{BeginsWithNone}
 use Rattle.dbus_stream.specs.Reader.{limits_of, kept, source_of, done_of, reads_of, most_reads_of, is_ended, stopped_of}
 
 -- a count, modulo 2^64, rises by k
@@ -23,11 +22,12 @@ pub record Reads {R A : Type 0} (left : R → Option (List ℕ)) (calls : R → 
   pub bytes : List ℕ
   pub count : ℕ
   pub consumed : Consumes (left (source_of old)) (left (source_of new)) bytes
-  -- the last read gave these, and was made where no whole message was kept
+  -- the last read gave these, at most a buffer's, and was made where neither a whole message nor a fault was kept
   pub last : List ℕ
   pub before : List ℕ
   pub joined : bytes ≡ before ++ last
-  pub needed : 0 < count → BeginsWithNone (limits_of old) (kept old ++ before)
+  pub last_fits : length last ≤ 4096
+  pub needed : 0 < count → IsPartial (limits_of old) (kept old ++ before)
   pub reads : reads_of new ≡ reads_of old + count
   pub called : RisesBy count (calls (source_of old)) (calls (source_of new))
   pub most_reads : most_reads_of new ≡ most_reads_of old
@@ -68,13 +68,13 @@ NextAnswers w old new (Ok None) = (w ≡ []) × (is_ended new ≡ true) × Keeps
 NextAnswers w old new (Err Memory) = KeepsAll w old new × (stopped_of new ≡ None)
 NextAnswers w old new (Err (Format fault)) = KeepsAll w old new × (stopped_of new ≡ Some (Format fault))
     × (IsRefused (limits_of old) w fault ⊎ (IsCutShort (limits_of old) w fault × (is_ended new ≡ true)))
-NextAnswers w old new (Err Device) = KeepsAll w old new × (stopped_of new ≡ None) × BeginsWithNone (limits_of old) w
+NextAnswers w old new (Err Device) = KeepsAll w old new × (stopped_of new ≡ None) × IsPartial (limits_of old) w
 NextAnswers w old new (Err TooManyReads) = KeepsAll w old new × (stopped_of new ≡ Some TooManyReads) × IsPartial (limits_of old) w × (reads_of new ≡ most_reads_of new)
 
 -- what it answers out of what is kept alone
 abbrev pub KeptAnswers : {R A : Type 0} → MessageReader R A → MessageReader R A → Result (Option (Order × Message A)) ReadFault → Type 0
 KeptAnswers old new (Ok (Some given)) = GivesMessage (kept old) given old new
-KeptAnswers old new (Ok None) = KeepsAll (kept old) old new × (stopped_of new ≡ None) × BeginsWithNone (limits_of old) (kept old)
+KeptAnswers old new (Ok None) = KeepsAll (kept old) old new × (stopped_of new ≡ None) × IsPartial (limits_of old) (kept old)
 KeptAnswers old new (Err Memory) = KeepsAll (kept old) old new × (stopped_of new ≡ None)
 KeptAnswers old new (Err (Format fault)) = KeepsAll (kept old) old new × (stopped_of new ≡ Some (Format fault)) × IsRefused (limits_of old) (kept old) fault
 KeptAnswers old new (Err Device) = ⊥

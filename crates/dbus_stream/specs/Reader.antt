@@ -6,11 +6,11 @@ use Rattle.dbus_stream.specs.declared.read_fault.ReadFault.{ReadFault}
 
 -- the limits that its messages keep
 abbrev pub limits_of : {R A : Type 0} → MessageReader R A → Limits
-limits_of r = r.limits
+limits_of r = r.cutter.limits
 
 -- the bytes that were read and not yet given
 abbrev pub kept : {R A : Type 0} → MessageReader R A → List ℕ
-kept r = r.held.items ++ slice_range r.buffer r.start r.end
+kept r = r.cutter.held ++ slice_range r.buffer r.start r.end
 
 -- the device below
 abbrev pub source_of : {R A : Type 0} → MessageReader R A → R

@@ -1,5 +1,5 @@
 -- The steps of a reader of messages: what is kept is decoded, and more is read.
-use Rattle.std.specs.Prelude.{◌≡◌, ◌⊎◌, ◌<◌, ℕ, List, [], ◌++◌, true, nat_eq, length, Option, None, Some, Result, Ok, Err}
+use Rattle.std.specs.Prelude.{◌≡◌, ◌≤◌, ℕ, List, [], ◌++◌, true, nat_eq, length, Option, None, Some, Result, Ok, Err}
 use Rattle.std.specs.Io.KnownBytes.{Consumes, IsAtEnd, Keeps}
 use Rattle.std.specs.declared.alloc.AllocError.{AllocError}
 use Rattle.dbus_value_model.specs.declared.order.Order.{Order}
@@ -10,21 +10,11 @@ use Rattle.dbus_stream.specs.declared.read_fault.ReadFault.{ReadFault}
 use Rattle.dbus_stream.specs.declared.read_fault.ReadFault.TheVariants.{Memory, Format, Device, TooManyReads}
 use Rattle.dbus_stream.specs.declared.device_fault.DeviceFault.{DeviceFault}
 use Rattle.dbus_stream.specs.Reader.{limits_of, kept, source_of, is_ended, stopped_of}
-use Rattle.dbus_stream.specs.Stated.{BeginsWithNone}
 use Rattle.dbus_stream.specs.Next.{KeepsAll, GivesMessage, IsCutShort}
 
 -- the buffer has nothing left
 abbrev pub IsDrained : {R A : Type 0} → MessageReader R A → Type 0
 IsDrained r = r.start ≡ r.end
-
--- less is held than is wanted to decode it again
-abbrev pub IsUnlooked : {R A : Type 0} → MessageReader R A → Type 0
-IsUnlooked r = length r.held.items < r.wanted
-
--- the buffer is as it was
-pub record SameBuffer {R A : Type 0} (old new : MessageReader R A) : Type 0 where
-  pub start : new.start ≡ old.start
-  pub end : new.end ≡ old.end
 
 -- nothing was given, and all is kept
 pub record KeepsOn {R A : Type 0} (old new : MessageReader R A) : Type 0 where
@@ -39,56 +29,33 @@ pub record Refuses {R A : Type 0} (fault : ReadFault) (old new : MessageReader R
 -- what comes of the bytes that are kept
 abbrev pub TakesKept : {R A : Type 0} → MessageReader R A → MessageReader R A → Result (Option (Order × Message A)) ReadFault → Type 0
 TakesKept old new (Ok (Some given)) = GivesMessage (kept old) given old new
-TakesKept old new (Ok None) = KeepsOn old new × IsDrained new × BeginsWithNone (limits_of old) (kept new)
+TakesKept old new (Ok None) = KeepsOn old new × IsDrained new × IsPartial (limits_of old) (kept new)
 TakesKept old new (Err Memory) = KeepsOn old new
 TakesKept old new (Err (Format fault)) = Refuses (Format fault) old new × IsRefused (limits_of old) (kept old) fault
 TakesKept old new (Err Device) = ⊥
 TakesKept old new (Err TooManyReads) = ⊥
 
--- the same, where what is held may be too little to look at
-abbrev pub Looks : {R A : Type 0} → MessageReader R A → MessageReader R A → Result (Option (Order × Message A)) ReadFault → Type 0
-Looks old new (Ok (Some given)) = GivesMessage (kept old) given old new
-Looks old new (Ok None) = KeepsOn old new × IsUnlooked new × SameBuffer old new
-Looks old new (Err Memory) = KeepsOn old new
-Looks old new (Err (Format fault)) = Refuses (Format fault) old new × IsRefused (limits_of old) (kept old) fault
-Looks old new (Err Device) = ⊥
-Looks old new (Err TooManyReads) = ⊥
-
--- the same of what is held, which is looked at
-abbrev pub Decodes : {R A : Type 0} → MessageReader R A → MessageReader R A → Result (Option (Order × Message A)) ReadFault → Type 0
-Decodes old new (Ok (Some given)) = GivesMessage (kept old) given old new
-Decodes old new (Ok None) = KeepsOn old new × IsUnlooked new × SameBuffer old new × (new.held.items ≡ old.held.items) × IsPartial (limits_of old) old.held.items
-Decodes old new (Err Memory) = KeepsOn old new
-Decodes old new (Err (Format fault)) = Refuses (Format fault) old new × IsRefused (limits_of old) (kept old) fault
-Decodes old new (Err Device) = ⊥
-Decodes old new (Err TooManyReads) = ⊥
-
--- some of the buffer is held now
-abbrev pub Gathers : {R A : Type 0} → MessageReader R A → MessageReader R A → Result (Unit {0}) AllocError → Type 0
-Gathers old new (Ok x) = KeepsOn old new × (new.end ≡ old.end) × (old.start < new.start)
-Gathers old new (Err e) = KeepsOn old new
-
 -- what the end of the input comes to
 abbrev pub Finishes : {R A : Type 0} → MessageReader R A → MessageReader R A → Result (Option (Order × Message A)) ReadFault → Type 0
-Finishes old new (Ok (Some given)) = GivesMessage (kept old) given old new
+Finishes old new (Ok (Some given)) = ⊥
 Finishes old new (Ok None) = KeepsOn old new × (kept old ≡ [])
-Finishes old new (Err Memory) = KeepsOn old new
-Finishes old new (Err (Format fault)) = Refuses (Format fault) old new × (IsRefused (limits_of old) (kept old) fault ⊎ IsCutShort (limits_of old) (kept old) fault)
+Finishes old new (Err Memory) = ⊥
+Finishes old new (Err (Format fault)) = Refuses (Format fault) old new × IsCutShort (limits_of old) (kept old) fault
 Finishes old new (Err Device) = ⊥
 Finishes old new (Err TooManyReads) = ⊥
 
 -- what it comes to that no more reads may be made
 abbrev pub GivesUp : {R A : Type 0} → MessageReader R A → MessageReader R A → Result (Option (Order × Message A)) ReadFault → Type 0
-GivesUp old new (Ok (Some given)) = GivesMessage (kept old) given old new
-GivesUp old new (Ok None) = ⊥
-GivesUp old new (Err Memory) = KeepsOn old new
-GivesUp old new (Err (Format fault)) = Refuses (Format fault) old new × IsRefused (limits_of old) (kept old) fault
+GivesUp old new (Ok given) = ⊥
+GivesUp old new (Err Memory) = ⊥
+GivesUp old new (Err (Format fault)) = ⊥
 GivesUp old new (Err Device) = ⊥
 GivesUp old new (Err TooManyReads) = Refuses TooManyReads old new × IsPartial (limits_of old) (kept old)
 
 -- what a read adds to the bytes that are kept
 pub record FillsBy {R A : Type 0} (left : R → Option (List ℕ)) (bytes : List ℕ) (old new : MessageReader R A) : Type 0 where
   pub consumed : Consumes (left (source_of old)) (left (source_of new)) bytes
+  pub few : length bytes ≤ 4096
   pub kept : kept new ≡ kept old ++ bytes
   pub ended : is_ended new ≡ nat_eq (length bytes) 0
   pub at_end : is_ended new ≡ true → IsAtEnd (left (source_of new))

@@ -7,7 +7,6 @@ mod device_fault;
 mod from_read;
 mod from_write;
 pub mod laws;
-mod looking;
 mod message_reader;
 mod read_fault;
 mod sink;

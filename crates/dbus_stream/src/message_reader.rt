@@ -1,16 +1,15 @@
 //! Messages from a source.
-ghost use Rattle.std.specs.Prelude.{◌≡◌, ◌≤◌, ◌<◌, ◌+◌, ◌*◌, ◌-◌, ◌^◌, ℕ, [], ◌++◌, length, false, true, None, Some, Ok, Err, drop};
+ghost use Rattle.std.specs.Prelude.{◌≡◌, ◌≤◌, ◌<◌, ◌+◌, ◌*◌, ◌-◌, ◌^◌, ℕ, [], ◌++◌, length, true, None, Some};
 ghost use Rattle.dbus_stream.specs.Lasting.{is_lasting};
-ghost use Rattle.dbus_stream.specs.Stated.{NoneEndsBefore};
 
-use crate::decoded::decoded;
+use crate::cutter::Cutter;
 use crate::device_fault::DeviceFault;
-use crate::looking::next_look;
 use crate::read_fault::ReadFault;
 use crate::source::Source;
-use dbus_message::{Answer, Message};
-use dbus_value::{Fault, Limits, Order, Reason, Refusal};
-use std::alloc::{AllocError, Allocator, Global};
+use crate::stream_fault::StreamFault;
+use dbus_message::Message;
+use dbus_value::{Fault, Limits, Order, Reason};
+use std::alloc::{Allocator, Global};
 
 // How many reads a reader makes in its life, where no number is handed in.
 const MOST_READS: u64 = 1 << 32;
@@ -21,13 +20,9 @@ const MOST_READS: u64 = 1 << 32;
 /// limits of its messages, and how many reads it makes at most in its life, are those that it was made with.
 #[derive(Drop)]
 pub struct MessageReader<R, A: Allocator = Global> {
-    alloc: A,
-    limits: Limits,
     source: R,
-    // The bytes of the message under way that came by earlier reads.
-    held: Vec<u8, A>,
-    // How many bytes are held when they are decoded again.
-    wanted: usize,
+    // Cuts the messages. It holds the bytes of the message under way that came by earlier reads.
+    cutter: Cutter<A>,
     // What the last read gave, and which of it is left.
     buffer: [u8; 4096],
     start: usize,
@@ -42,8 +37,8 @@ pub struct MessageReader<R, A: Allocator = Global> {
     ghost few_reads: { reads ≤ most_reads },
     ghost low_most: { most_reads ≤ 2 ^ 32 },
     ghost lasting: { is_lasting stopped ≡ true },
-    ghost patient: { NoneEndsBefore limits held.items wanted },
-    ghost counted: { done + length held.items + (end - start) ≤ 4096 * reads },
+    ghost unfaulted: { stopped ≡ None → cutter.fault ≡ None },
+    ghost counted: { done + length cutter.held + (end - start) ≤ 4096 * reads },
 }
 
 impl<R: Source, A: Allocator + Copy> MessageReader<R, A> {
@@ -52,7 +47,8 @@ impl<R: Source, A: Allocator + Copy> MessageReader<R, A> {
     ghost use Rattle.dbus_stream.specs.declared.read_fault.ReadFault.{ReadFault};
     ghost use Rattle.dbus_stream.specs.Reader.{limits_of, kept, source_of, done_of, reads_of, most_reads_of, is_ended, stopped_of, IsNewReader};
     ghost use Rattle.dbus_stream.specs.Next.{NextAnswers, KeptAnswers, DeviceCounts, Reads, ReadsNothing};
-    ghost use Rattle.dbus_stream.specs.Steps.{TakesKept, Looks, Decodes, Gathers, IsDrained, IsUnlooked, Fills, Finishes, GivesUp};
+    ghost use Rattle.dbus_stream.specs.Steps.{TakesKept, IsDrained, Fills, Finishes, GivesUp};
+    ghost use Rattle.dbus_decode.specs.MessageOutcomes.{IsPartial};
     ghost use Rattle.dbus_stream.specs.Device.{ReadCounts, one_more};
 
     /// A reader as [`MessageReader::within`] makes it, of at most 2^32 reads and under the limits of the specification.
@@ -77,11 +73,8 @@ impl<R: Source, A: Allocator + Copy> MessageReader<R, A> {
         ensures { IsNewReader source reads limits result }
     {
         MessageReader {
-            alloc,
-            limits,
             source,
-            held: Vec::new(alloc),
-            wanted: 0,
+            cutter: Cutter::within(alloc, limits),
             buffer: [0; 4096],
             start: 0,
             end: 0,
@@ -171,19 +164,16 @@ impl<R: Source, A: Allocator + Copy> MessageReader<R, A> {
     fn finish(&mut self) -> Result<Option<(Order, Message<A>)>, ReadFault>
         requires drained { IsDrained self.old }
         requires open { stopped_of self.old ≡ None }
+        requires partial { IsPartial (limits_of self.old) (kept self.old) }
         ensures finishes { Finishes self.old self.new result }
         ensures unread { ReadsNothing self.old self.new }
     {
-        if self.held.is_empty() {
+        let held = self.cutter.held();
+        if held == 0 {
             return Ok(None);
         }
-        match self.decode_held() {
-            Ok(None) => {}
-            Ok(Some(given)) => return Ok(Some(given)),
-            Err(fault) => return Err(fault),
-        }
         let fault = ReadFault::Format(Fault {
-            at: self.held.len() as u64,
+            at: held as u64,
             reason: Reason::Truncated,
         });
         self.stopped = Some(fault);
@@ -192,16 +182,11 @@ impl<R: Source, A: Allocator + Copy> MessageReader<R, A> {
 
     // What it comes to that no more reads may be made.
     fn give_up(&mut self) -> Result<Option<(Order, Message<A>)>, ReadFault>
-        requires drained { IsDrained self.old }
         requires open { stopped_of self.old ≡ None }
+        requires partial { IsPartial (limits_of self.old) (kept self.old) }
         ensures gives_up { GivesUp self.old self.new result }
         ensures unread { ReadsNothing self.old self.new }
     {
-        match self.decode_held() {
-            Ok(None) => {}
-            Ok(Some(given)) => return Ok(Some(given)),
-            Err(fault) => return Err(fault),
-        }
         self.stopped = Some(ReadFault::TooManyReads);
         Err(ReadFault::TooManyReads)
     }
@@ -212,119 +197,24 @@ impl<R: Source, A: Allocator + Copy> MessageReader<R, A> {
         ensures takes { TakesKept self.old self.new result }
         ensures unread { ReadsNothing self.old self.new }
     {
-        if self.held.is_empty() {
-            return self.take_fresh();
-        }
-        'gathering: loop {
-            match self.look() {
-                Ok(None) => {}
-                Ok(Some(given)) => return Ok(Some(given)),
-                Err(fault) => return Err(fault),
-            }
-            if self.start == self.end {
-                return Ok(None);
-            }
-            match self.gather() {
-                Ok(()) => {}
-                Err(_) => return Err(ReadFault::Memory),
-            }
-        }
-    }
-
-    // A message out of the buffer, where nothing is held. Where there is none yet, its rest is held.
-    fn take_fresh(&mut self) -> Result<Option<(Order, Message<A>)>, ReadFault>
-        requires open { stopped_of self.old ≡ None }
-        requires nothing { self.old.held.items ≡ [] }
-        ensures takes { TakesKept self.old self.new result }
-        ensures unread { ReadsNothing self.old self.new }
-    {
+        let before = self.cutter.held();
         let buffer: &[u8] = &self.buffer;
-        let fresh = &buffer[self.start..self.end];
-        match decoded(self.alloc, fresh, self.limits) {
-            Ok(
-                Answer::Whole {
-                    order,
-                    message,
-                    used,
-                },
-            ) => {
-                self.start += used;
-                self.done += used as u64;
-                Ok(Some((order, message)))
+        match self.cutter.take(&buffer[self.start..self.end]) {
+            Ok((count, Some(given))) => {
+                self.start += count;
+                self.done += (before + count) as u64;
+                Ok(Some(given))
             }
-            Ok(Answer::Partial) => {
-                if self.held.extend_from_slice(fresh).is_err() {
-                    return Err(ReadFault::Memory);
-                }
-                self.wanted = next_look(fresh, self.limits);
+            Ok((_, None)) => {
                 self.start = self.end;
                 Ok(None)
             }
-            Err(Refusal::Memory) => Err(ReadFault::Memory),
-            Err(Refusal::Format(fault)) => {
+            Err(StreamFault::Memory) => Err(ReadFault::Memory),
+            Err(StreamFault::Format(fault)) => {
                 self.stopped = Some(ReadFault::Format(fault));
                 Err(ReadFault::Format(fault))
             }
         }
-    }
-
-    // A message out of what is held, where enough is.
-    fn look(&mut self) -> Result<Option<(Order, Message<A>)>, ReadFault>
-        requires { stopped_of self.old ≡ None }
-        ensures looks { Looks self.old self.new result }
-        ensures unread { ReadsNothing self.old self.new }
-    {
-        if self.held.len() < self.wanted {
-            return Ok(None);
-        }
-        self.decode_held()
-    }
-
-    // A message out of what is held.
-    fn decode_held(&mut self) -> Result<Option<(Order, Message<A>)>, ReadFault>
-        requires { stopped_of self.old ≡ None }
-        ensures decodes { Decodes self.old self.new result }
-        ensures unread { ReadsNothing self.old self.new }
-    {
-        match decoded(self.alloc, self.held.as_slice(), self.limits) {
-            Ok(
-                Answer::Whole {
-                    order,
-                    message,
-                    used,
-                },
-            ) => {
-                drop_front(&mut self.held, used);
-                self.wanted = 0;
-                self.done += used as u64;
-                Ok(Some((order, message)))
-            }
-            Ok(Answer::Partial) => {
-                self.wanted = next_look(self.held.as_slice(), self.limits);
-                Ok(None)
-            }
-            Err(Refusal::Memory) => Err(ReadFault::Memory),
-            Err(Refusal::Format(fault)) => {
-                self.stopped = Some(ReadFault::Format(fault));
-                Err(ReadFault::Format(fault))
-            }
-        }
-    }
-
-    // Holds more of the buffer, up to what is wanted.
-    fn gather(&mut self) -> Result<(), AllocError>
-        requires open { stopped_of self.old ≡ None }
-        requires unlooked { IsUnlooked self.old }
-        requires more { self.old.start < self.old.end }
-        ensures gathers { Gathers self.old self.new result }
-        ensures unread { ReadsNothing self.old self.new }
-    {
-        let count = (self.wanted - self.held.len()).min(self.end - self.start);
-        let buffer: &[u8] = &self.buffer;
-        self.held
-            .extend_from_slice(&buffer[self.start..self.start + count])?;
-        self.start += count;
-        Ok(())
     }
 
     // One more read, into the buffer, which has nothing left.
@@ -349,18 +239,4 @@ impl<R: Source, A: Allocator + Copy> MessageReader<R, A> {
         self.ended = count == 0;
         Ok(())
     }
-}
-
-// Takes the first bytes away.
-fn drop_front<A: Allocator>(bytes: &mut Vec<u8, A>, count: usize)
-    requires { count ≤ length bytes.old.items }
-    ensures { bytes.new.items ≡ drop count bytes.old.items }
-{
-    let left = bytes.len() - count;
-    if left == 0 {
-        bytes.clear();
-        return;
-    }
-    bytes.as_mut_slice().rotate_left(count);
-    bytes.truncate(left);
 }

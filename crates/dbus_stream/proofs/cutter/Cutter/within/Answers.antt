@@ -1,7 +1,14 @@
-use Rattle.std.proofs.Common.{subst, sym}
+use Rattle.std.proofs.Common.{List, ℕ, subst, sym}
 use Rattle.dbus_decode.specs.MessageOutcomes.{IsPartial}
 use Rattle.dbus_decode.proofs.OutcomeLaws.{nothing_partial}
+use Rattle.dbus_check.specs.Checks.{Stands}
 use Rattle.dbus_stream.proofs.cutter.Cutter.within.Goals as goal
 
 pub invariant_of-result : goal.invariant_of-result
-invariant_of-result g c = subst (λ l. IsPartial c.args.limits l) (sym c.new.ensures.items) (nothing_partial c.args.limits)
+invariant_of-result g c =
+    let none = sym c.new.ensures.items in
+    record {
+      partial = subst (λ l. IsPartial c.args.limits l) none (nothing_partial c.args.limits);
+      same_limits = c.within.ensures.limits;
+      stands = λ _. subst (λ (l : List ℕ). Stands c.within.result l) none c.within.ensures.stands;
+    }

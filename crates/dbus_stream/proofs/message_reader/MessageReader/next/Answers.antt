@@ -2,7 +2,7 @@ use Rattle.std.proofs.Common.{◌≡◌, ◌≤◌, None, Some, Ok, Err, refl, a
 use Rattle.std.specs.Prelude.{Option}
 use Rattle.dbus_value_model.specs.declared.order.Order.{Order}
 use Rattle.dbus_message_model.specs.declared.message.Message.{Message}
-use Rattle.dbus_stream.specs.Stated.{BeginsWithNone}
+use Rattle.dbus_decode.specs.MessageOutcomes.{IsPartial}
 use Rattle.dbus_stream.specs.Reader.{limits_of, kept, source_of, stopped_of}
 use Rattle.dbus_stream.specs.Steps.{TakesKept}
 use Rattle.dbus_stream.proofs.NextSteps.{HasRead, lasts, starts, begins, holds_all, given, finished, gave_up, failed_read, filled}
@@ -35,12 +35,12 @@ returns-in-Err-clause-read g c =
 
 -- all of what is kept is held
 held : (g : _) (c : In-Ok-None g) → HasRead g.R.Source.left g.R.Source.calls g.R.Source.failures c.args.self.now c.take_kept.new.self
-    × BeginsWithNone (limits_of c.take_kept.new.self) (kept c.take_kept.new.self)
+    × IsPartial (limits_of c.take_kept.new.self) (kept c.take_kept.new.self)
 held g c =
     let takes : TakesKept c.reading.self c.take_kept.new.self (Ok None) = rw c.in-Ok-None.field-0-is at c.in-Ok-None.ensures.takes in
     let unread = c.take_kept.ensures.unread in (
       holds_all g.R.Source.left g.R.Source.calls g.R.Source.failures c.args.self.now c.reading.self c.take_kept.new.self c.reading.invariant.0 takes.0 unread,
-      subst (λ limits. BeginsWithNone limits (kept c.take_kept.new.self)) (sym unread.limits) takes.2,
+      subst (λ limits. IsPartial limits (kept c.take_kept.new.self)) (sym unread.limits) takes.2,
     )
 
 pub returns-then-self-clause-read : goal.returns-then-self-clause-read
