@@ -3,7 +3,7 @@
 
 mod ascii;
 mod check;
-mod laws;
+pub mod laws;
 mod name_blocks;
 mod name_bytes;
 mod names;
@@ -18,6 +18,5 @@ pub use check::{
     NameFault, SigFault, check_bus_name, check_error_name, check_interface, check_member,
     check_path, check_signature, check_single, first_break, is_unique, text_break,
 };
-pub use laws::{breaks_are_computed, kinds_are_computed, names_are_texts, texts_are_utf8};
 pub use scan::TextScan;
 pub use text_kind::TextKind;

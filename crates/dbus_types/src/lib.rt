@@ -2,7 +2,7 @@
 #![tactic(auto)]
 
 mod copy;
-mod laws;
+pub mod laws;
 mod parse;
 mod shape;
 mod sig_type;
@@ -10,11 +10,9 @@ mod spell;
 mod type_codes;
 
 pub use dbus_texts::{
-    NameFault, SigFault, TextKind, TextScan, breaks_are_computed, check_bus_name, check_error_name,
-    check_interface, check_member, check_path, check_signature, check_single, first_break,
-    is_unique, kinds_are_computed, names_are_texts, text_break, texts_are_utf8,
+    NameFault, SigFault, TextKind, TextScan, check_bus_name, check_error_name, check_interface,
+    check_member, check_path, check_signature, check_single, first_break, is_unique, text_break,
 };
-pub use laws::{no_type_begins_another, signatures_spell_types, singles_spell_types};
 pub use parse::{parse_signature, parse_single, spelled_type, spelled_types};
 pub use shape::{alignment, is_byte, type_ok};
 pub use sig_type::SigType;
