@@ -1,5 +1,6 @@
 pub mod TypeViews
 mod Fronts
+mod FrontSteps
 mod Parsing
 mod Spelling
 mod Shapes

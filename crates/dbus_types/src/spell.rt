@@ -1,10 +1,11 @@
 //! The signature that spells types.
 #![tactic(auto)]
 
-ghost use Rattle.std.specs.Prelude.{◌≡◌, ◌<◌, ◌++◌, ◌∷◌, [], OnOk, string_bytes};
+ghost use Rattle.std.specs.Prelude.{◌≡◌, ◌<◌, ◌++◌, ◌∷◌, [], OnOk, OnErr, string_bytes};
 ghost use Rattle.dbus_texts.specs.Types.{sig, sigs};
 ghost use Rattle.dbus_types.specs.SigTypes.{type_tree, type_trees_of};
 ghost use Rattle.dbus_types.specs.Parses.{IsSignatureText};
+ghost use Rattle.dbus_types.specs.Fronts.{AppendsFront};
 
 use crate::sig_type::SigType;
 use crate::type_codes::type_code;
@@ -13,21 +14,23 @@ use std::alloc::{AllocError, Allocator};
 
 fn push_code<A: Allocator + Copy>(out: &mut String<A>, code: u8) -> Result<(), AllocError>
     requires { code < 128 }
-    ensures { OnOk result (string_bytes out.new ≡ string_bytes out.old ++ code ∷ []) }
+    ensures written { OnOk result (string_bytes out.new ≡ string_bytes out.old ++ code ∷ []) }
+    ensures unchanged { OnErr result (string_bytes out.new ≡ string_bytes out.old) }
 {
     out.push(char::from(code))
 }
 
 /// Appends the text of a type, one code for each basic type. D-Bus Specification, "Type System".
 ///
-/// `AllocError` comes only where a growth was refused: then a front of the text may stand behind what was there. Types that
-/// spell no signature have a text too.
+/// `AllocError` comes only where a growth was refused: then a front of the text stands behind what was there, which may be
+/// none of it. Types that spell no signature have a text too.
 #[cycle(spell)]
 pub fn push_type<A: Allocator + Copy>(
     out: &mut String<A>,
     ty: &SigType<A>,
 ) -> Result<(), AllocError>
-    ensures { OnOk result (string_bytes out.new ≡ string_bytes out.old ++ sig (type_tree ty.now)) }
+    ensures written { OnOk result (string_bytes out.new ≡ string_bytes out.old ++ sig (type_tree ty.now)) }
+    ensures front { OnErr result (AppendsFront (string_bytes out.old) (string_bytes out.new) (sig (type_tree ty.now))) }
 {
     match ty {
         SigType::Array(element) => {
@@ -55,7 +58,8 @@ fn push_types<A: Allocator + Copy>(
     out: &mut String<A>,
     types: &[SigType<A>],
 ) -> Result<(), AllocError>
-    ensures { OnOk result (string_bytes out.new ≡ string_bytes out.old ++ sigs (type_trees_of types.now)) }
+    ensures written { OnOk result (string_bytes out.new ≡ string_bytes out.old ++ sigs (type_trees_of types.now)) }
+    ensures front { OnErr result (AppendsFront (string_bytes out.old) (string_bytes out.new) (sigs (type_trees_of types.now))) }
 {
     for ty in types {
         push_type(out, ty)?;

@@ -86,7 +86,7 @@ write_array-returns g t c =
     let whole : value_text (ArrayValue (type_tree c.args.element.now) vs) ≡ 97 ∷ (t ++ (58 ∷ 91 ∷ (items ++ 93 ∷ []))) = rw other refl in
     last_push c.push-4.result b5 (string_bytes c.push-4.new.self) 93 (b0 ++ value_text (ArrayValue (type_tree c.args.element.now) vs)) (lit< tt) c.push-4.ensures.bytes
     (behind_two b3 b4 b5 (91 ∷ []) items (93 ∷ []) e4 c.in_ok-write_items.ensures
-    ∙ behind_three b0 b1 b2 b3 (97 ∷ []) t (58 ∷ []) (91 ∷ (items ++ 93 ∷ [])) e1 c.in_ok-push_type.ensures e3 ∙ ap (λ s. b0 ++ s) (sym whole))
+    ∙ behind_three b0 b1 b2 b3 (97 ∷ []) t (58 ∷ []) (91 ∷ (items ++ 93 ∷ [])) e1 c.in_ok-push_type.ensures.written e3 ∙ ap (λ s. b0 ++ s) (sym whole))
 
 pub write_items-loop-item-preserved : goal.write_items-loop-item-preserved
 write_items-loop-item-preserved g t c =
