@@ -3,6 +3,7 @@ use Rattle.std.proofs.Common.{◌≡◌, ℕ, ◌+◌, ◌≤◌, List, [], ◌�
 use Rattle.std.proofs.lemmas.List.{drop_more}
 use Rattle.std.specs.Int.{w16, w32, w64, from_le_bytes, from_be_bytes}
 use Rattle.dbus_value_model.specs.declared.order.Order.TheVariants.{Little, Big}
+use Rattle.dbus_value_model.specs.Bytes.{sum_of_places}
 use Rattle.dbus_value_model.specs.Reading.{number_of}
 
 little_2 : (s : List ℕ) → length s ≡ 2 → from_le_bytes w16 s ≡ number_of Little s
@@ -72,3 +73,23 @@ little_at_8 bytes at h = little_8 (get_or bytes at 0 ∷ get_or bytes (at + 1) 0
 
 pub big_at_8 : (bytes : List ℕ) (at : ℕ) → at + 8 ≤ length bytes → from_be_bytes w64 (get_or bytes at 0 ∷ get_or bytes (at + 1) 0 ∷ get_or bytes (at + 2) 0 ∷ get_or bytes (at + 3) 0 ∷ get_or bytes (at + 4) 0 ∷ get_or bytes (at + 5) 0 ∷ get_or bytes (at + 6) 0 ∷ get_or bytes (at + 7) 0 ∷ []) ≡ number_of Big (take 8 (drop at bytes))
 big_at_8 bytes at h = big_8 (get_or bytes at 0 ∷ get_or bytes (at + 1) 0 ∷ get_or bytes (at + 2) 0 ∷ get_or bytes (at + 3) 0 ∷ get_or bytes (at + 4) 0 ∷ get_or bytes (at + 5) 0 ∷ get_or bytes (at + 6) 0 ∷ get_or bytes (at + 7) 0 ∷ []) refl ∙ ap (number_of Big) (sym (bytes_at_8 bytes at h))
+
+-- ---- the same as a sum of the places
+
+pub little_places_2 : (bytes : List ℕ) (at : ℕ) → from_le_bytes w16 (get_or bytes at 0 ∷ get_or bytes (at + 1) 0 ∷ []) ≡ sum_of_places Little 2 at bytes
+little_places_2 bytes at = let e : at + 0 ≡ at = omega arith in rw e (omega arith)
+
+pub big_places_2 : (bytes : List ℕ) (at : ℕ) → from_be_bytes w16 (get_or bytes at 0 ∷ get_or bytes (at + 1) 0 ∷ []) ≡ sum_of_places Big 2 at bytes
+big_places_2 bytes at = let e : at + 0 ≡ at = omega arith in rw e (omega arith)
+
+pub little_places_4 : (bytes : List ℕ) (at : ℕ) → from_le_bytes w32 (get_or bytes at 0 ∷ get_or bytes (at + 1) 0 ∷ get_or bytes (at + 2) 0 ∷ get_or bytes (at + 3) 0 ∷ []) ≡ sum_of_places Little 4 at bytes
+little_places_4 bytes at = let e : at + 0 ≡ at = omega arith in rw e (omega arith)
+
+pub big_places_4 : (bytes : List ℕ) (at : ℕ) → from_be_bytes w32 (get_or bytes at 0 ∷ get_or bytes (at + 1) 0 ∷ get_or bytes (at + 2) 0 ∷ get_or bytes (at + 3) 0 ∷ []) ≡ sum_of_places Big 4 at bytes
+big_places_4 bytes at = let e : at + 0 ≡ at = omega arith in rw e (omega arith)
+
+pub little_places_8 : (bytes : List ℕ) (at : ℕ) → from_le_bytes w64 (get_or bytes at 0 ∷ get_or bytes (at + 1) 0 ∷ get_or bytes (at + 2) 0 ∷ get_or bytes (at + 3) 0 ∷ get_or bytes (at + 4) 0 ∷ get_or bytes (at + 5) 0 ∷ get_or bytes (at + 6) 0 ∷ get_or bytes (at + 7) 0 ∷ []) ≡ sum_of_places Little 8 at bytes
+little_places_8 bytes at = let e : at + 0 ≡ at = omega arith in rw e (omega arith)
+
+pub big_places_8 : (bytes : List ℕ) (at : ℕ) → from_be_bytes w64 (get_or bytes at 0 ∷ get_or bytes (at + 1) 0 ∷ get_or bytes (at + 2) 0 ∷ get_or bytes (at + 3) 0 ∷ get_or bytes (at + 4) 0 ∷ get_or bytes (at + 5) 0 ∷ get_or bytes (at + 6) 0 ∷ get_or bytes (at + 7) 0 ∷ []) ≡ sum_of_places Big 8 at bytes
+big_places_8 bytes at = let e : at + 0 ≡ at = omega arith in rw e (omega arith)

@@ -1,6 +1,7 @@
 -- Bytes, padding, and numbers as bytes in either order.
 -- D-Bus Specification, "Marshaling (Wire Format)".
-use Rattle.std.specs.Prelude.{ℕ, suc, zero, ◌-◌, ◌/◌, ◌%◌, ◌<◌, List, [], ◌∷◌, reverse, replicate}
+use Rattle.std.specs.Prelude.{ℕ, suc, zero, ◌+◌, ◌-◌, ◌*◌, ◌/◌, ◌%◌, ◌^◌, ◌<◌, List, [], ◌∷◌, reverse, replicate, slice_index, sum_by}
+use Rattle.std.specs.List.{range_with_len}
 use Rattle.dbus_value_model.specs.declared.order.Order.{Order}
 use Rattle.dbus_value_model.specs.declared.order.Order.TheVariants.{Little, Big}
 
@@ -26,3 +27,12 @@ low_first (suc w) n = n % 256 ∷ low_first w (n / 256)
 unfoldable pub num : Order → ℕ → ℕ → List ℕ
 num Little w n = low_first w n
 num Big w n = reverse (low_first w n)
+
+-- the place of byte k of w bytes: 0 is the lowest
+abbrev pub place_of : Order → ℕ → ℕ → ℕ
+place_of Little w k = k
+place_of Big w k = w - 1 - k
+
+-- the number of the w bytes from `at` on: each byte times 256 to the power of its place
+abbrev pub sum_of_places : Order → ℕ → ℕ → List ℕ → ℕ
+sum_of_places order w at bytes = sum_by (λ k. slice_index bytes (at + k) * 256 ^ place_of order w k) (range_with_len 0 w)

@@ -10,4 +10,4 @@ pub returns-then-bytes-at-lt2-clause-gives : goal.returns-then-bytes-at-lt2-clau
 returns-then-bytes-at-lt2-clause-gives c = number_partial c.args.order 2 c.args.end no_row c.args.at c.args.bytes.now (omega arith) (omega arith) (omega arith)
 
 pub returns-clause-gives : goal.returns-clause-gives
-returns-clause-gives c = number_done c.args.order 2 c.args.end no_row c.args.at c.args.bytes.now (omega arith) c.u16_at.result (omega arith) c.u16_at.ensures refl
+returns-clause-gives c = number_done c.args.order 2 c.args.end no_row c.args.at c.args.bytes.now (omega arith) c.u16_at.result (omega arith) c.u16_at.ensures.spelled refl

@@ -10,4 +10,4 @@ pub returns-then-bytes-at-lt4-clause-gives : goal.returns-then-bytes-at-lt4-clau
 returns-then-bytes-at-lt4-clause-gives c = number_partial c.args.order 4 c.args.end no_row c.args.at c.args.bytes.now (omega arith) (omega arith) (omega arith)
 
 pub returns-clause-gives : goal.returns-clause-gives
-returns-clause-gives c = number_done c.args.order 4 c.args.end no_row c.args.at c.args.bytes.now (omega arith) c.u32_at.result (omega arith) c.u32_at.ensures refl
+returns-clause-gives c = number_done c.args.order 4 c.args.end no_row c.args.at c.args.bytes.now (omega arith) c.u32_at.result (omega arith) c.u32_at.ensures.spelled refl

@@ -10,4 +10,4 @@ pub returns-then-bytes-at-lt8-clause-gives : goal.returns-then-bytes-at-lt8-clau
 returns-then-bytes-at-lt8-clause-gives c = number_partial c.args.order 8 c.args.end no_row c.args.at c.args.bytes.now (omega arith) (omega arith) (omega arith)
 
 pub returns-clause-gives : goal.returns-clause-gives
-returns-clause-gives c = number_done c.args.order 8 c.args.end no_row c.args.at c.args.bytes.now (omega arith) c.u64_at.result (omega arith) c.u64_at.ensures refl
+returns-clause-gives c = number_done c.args.order 8 c.args.end no_row c.args.at c.args.bytes.now (omega arith) c.u64_at.result (omega arith) c.u64_at.ensures.spelled refl
