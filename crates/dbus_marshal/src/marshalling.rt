@@ -36,6 +36,7 @@ pub fn put<A: Allocator>(
     ensures refused { MatchResult (sized specification (value_tree value.now) None (length out.old.items))
         (λ _. IsOkUnless result ValueFault.Memory)
         (λ f. result ≡ Err f) }
+    ensures small { result ≡ Err ValueFault.Memory → vec_capacity out.old < length (with_value order (value_tree value.now) out.old.items) }
 {
     put_within(out, order, value, Limits::specification())
 }
@@ -45,7 +46,7 @@ pub fn put<A: Allocator>(
 ///
 /// Of the value it asks only that each signature in it has at most 255 bytes, as is so where it is well formed. It is
 /// refused exactly where `size_after_within` refuses it at this offset, and with that fault; else only by `Memory`, where
-/// a growth was refused. A refusal leaves the vector's bytes as they were.
+/// the vector's capacity did not do and its growth was refused. A refusal leaves the vector's bytes as they were.
 #[tactic(auto, using(crate::proofs::SizeLaws::put_needs))]
 pub fn put_within<A: Allocator>(
     out: &mut Vec<u8, A>,
@@ -60,6 +61,7 @@ pub fn put_within<A: Allocator>(
     ensures refused { MatchResult (sized limits (value_tree value.now) None (length out.old.items))
         (λ _. IsOkUnless result ValueFault.Memory)
         (λ f. result ≡ Err f) }
+    ensures small { result ≡ Err ValueFault.Memory → vec_capacity out.old < length (with_value order (value_tree value.now) out.old.items) }
 {
     let start = out.len();
     let end = size_after_within(value, start as u64, limits)?;
