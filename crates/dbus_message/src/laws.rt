@@ -2,6 +2,7 @@
 //! function's contract is a law; it does nothing when it runs.
 #![tactic(auto)]
 
+ghost use Rattle.dbus_decode.specs.MessageLaws.{ReadsMessages, ReadsMessageFaults};
 ghost use Rattle.dbus_decode.specs.OutcomeLaws.{OneMessage, OneLength, SomeOutcome, OneOutcome, OneWhole, OneFault, WholeForGood, RefusedForGood, WiderWhole};
 ghost use Rattle.dbus_message_model.specs.LimitLaws.{WiderLimits, ValidWithin, KeptParts};
 ghost use Rattle.dbus_decode.specs.StatedLaws.{StatedHolds, WholeStates, OneStated, SomeStated};
@@ -87,4 +88,14 @@ pub fn valid_within()
 /// `Message::new_within` finds no fault in the parts of a message exactly where `Message::within` says that it keeps the limits.
 pub fn kept_parts<A: Allocator>()
     ensures { KeptParts A }
+{}
+
+/// The plain reader gives a message exactly where the bytes begin with its spelling.
+pub fn reads_messages()
+    ensures { ReadsMessages }
+{}
+
+/// The plain reader gives a fault exactly where the bytes are refused with it.
+pub fn reads_message_faults()
+    ensures { ReadsMessageFaults }
 {}

@@ -2,7 +2,7 @@
 //! when it runs. D-Bus Specification, "Marshaling (Wire Format)".
 #![tactic(auto)]
 
-ghost use Rattle.dbus_value_model.specs.Laws.{OneValue, OneOutcome, NotBoth, OneFault, RefusedForGood, DoneForGood, LeastPadding, NumberIsPlaceSum};
+ghost use Rattle.dbus_value_model.specs.Laws.{OneValue, OneOutcome, NotBoth, OneFault, RefusedForGood, DoneForGood, LeastPadding, NumberIsPlaceSum, ReadsSpelled, ReadsFaults};
 
 /// At one order, depth and offset a value has one spelling, and of two values of one type neither's spelling begins the
 /// other's.
@@ -43,4 +43,14 @@ pub fn least_padding()
 /// A number in so many bytes is the sum of its places, in either order.
 pub fn number_is_place_sum()
     ensures { NumberIsPlaceSum }
+{}
+
+/// The plain reader gives a value exactly where the bytes spell it.
+pub fn reads_spelled()
+    ensures { ReadsSpelled }
+{}
+
+/// The plain reader gives a fault exactly where the wanted value shows it.
+pub fn reads_faults()
+    ensures { ReadsFaults }
 {}

@@ -1,0 +1,5 @@
+use Rattle.dbus_decode.proofs.MessageOutcomes.{reads_messages}
+use Rattle.dbus_message.proofs.laws.reads_messages.Goals as goal
+
+pub returns : goal.returns
+returns c = reads_messages
