@@ -32,7 +32,7 @@ use Rattle.dbus_message_model.proofs.FaultyBody.{none_unsound}
 use Rattle.dbus_message_model.proofs.FaultyFields.{not_both}
 use Rattle.dbus_message_model.proofs.JudgedFields.{AreJudged, judged_all, rest_without, rest_unsound, formed_fields, fields_hold, are_fields}
 use Rattle.dbus_message_model.proofs.PartEnds.{body_past, body_long, body_ends, body_kept}
-use Rattle.dbus_message_model.proofs.PartRanges.{ranged_of, all_ranged_of}
+use Rattle.dbus_value_model.proofs.PartRanges.{ranged_of, all_ranged_of}
 use Rattle.dbus_value_model.proofs.ShortLaws.{all_short_of}
 use Rattle.dbus_message_model.proofs.MessageLengths.{message_length}
 use Rattle.dbus_message_model.proofs.Widening.{nests_wider, nest_wider, within_wider, are_within_wider}

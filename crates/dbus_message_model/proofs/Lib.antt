@@ -11,7 +11,6 @@ pub mod BodyValues
 pub mod FaultyFields
 pub mod FaultyBody
 pub mod Nesting
-pub mod PartRanges
 pub mod JudgedFields
 pub mod PartEnds
 pub mod Built

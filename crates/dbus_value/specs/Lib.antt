@@ -22,3 +22,4 @@ pub use Rattle.dbus_value_model.specs.PackedBytes
 pub use Rattle.dbus_value_model.specs.Checks
 pub use Rattle.dbus_value_model.specs.Ranges
 pub use Rattle.dbus_value_model.specs.Specification
+pub use Rattle.dbus_value_model.specs.RoundTrip

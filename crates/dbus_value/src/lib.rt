@@ -1,13 +1,18 @@
 //! Values of the D-Bus wire format: what they are, which of them are well formed, and how they are written and read.
 //! D-Bus Specification, "Type System" and "Marshaling (Wire Format)".
 //!
-//! One name for three crates: the values and the relation that spells them (`dbus_value_model`), writing
-//! (`dbus_marshal`) and reading, with its laws (`dbus_unmarshal`).
+//! One name for three crates, each with its laws: the values and the relation that spells them (`dbus_value_model`), writing
+//! (`dbus_marshal`) and reading (`dbus_unmarshal`); and the law that joins writing and reading.
 #![tactic(auto)]
 
-pub use dbus_marshal::{put, put_within, size_after, size_after_within};
+pub mod round_trip_laws;
+
+pub use dbus_marshal::{
+    measure_laws, put, put_within, size_after, size_after_within, size_laws,
+};
 pub use dbus_unmarshal::{get, get_within, laws};
 pub use dbus_value_model::{
     ARRAY_LIMIT, DEPTH_LIMIT, DictEntry, Fault, FdRule, Got, Limits, MESSAGE_LIMIT, Order, Reason,
-    Refusal, Value, ValueFault, check_value, check_value_within, copy, plain_type_of, type_of,
+    Refusal, Value, ValueFault, check_laws, check_value, check_value_within, copy, plain_type_of,
+    type_of,
 };

@@ -13,3 +13,4 @@ pub mod TypeParts
 pub mod RangeSteps
 pub mod Indexes
 pub mod ShortLaws
+pub mod PartRanges

@@ -22,3 +22,4 @@ pub mod PackedBytes
 pub mod Checks
 pub mod Ranges
 pub mod Specification
+pub mod RoundTrip

@@ -1,0 +1,43 @@
+-- What was written is read back: the law that joins writing and reading.
+-- D-Bus Specification, "Marshaling (Wire Format)".
+use Rattle.std.specs.Prelude.{◌≡◌, ℕ, ◌≤◌, List, ◌++◌, length, Option, None, Result, Ok, Err}
+use Rattle.dbus_texts.specs.Types.{IsSingleType}
+use Rattle.dbus_value_model.specs.declared.limits.Limits.{Limits}
+use Rattle.dbus_value_model.specs.declared.order.Order.{Order}
+use Rattle.dbus_value_model.specs.declared.fault.Refusal.{Refusal}
+use Rattle.dbus_value_model.specs.declared.fault.Refusal.TheVariants.{Memory, Format}
+use Rattle.dbus_value_model.specs.declared.got.Got.{Got}
+use Rattle.dbus_value_model.specs.declared.got.Got.TheVariants.{Done, Partial}
+use Rattle.dbus_value_model.specs.FdIndexes.{AreIndexesBelow}
+use Rattle.dbus_value_model.specs.Forming.{NestsWithin, IsUniform, IsNamed}
+use Rattle.dbus_value_model.specs.Gets.{Gets}
+use Rattle.dbus_value_model.specs.Ranges.{HoldsNumbers}
+use Rattle.dbus_value_model.specs.Sizes.{sized}
+use Rattle.dbus_value_model.specs.Specification.{bounds_with}
+use Rattle.dbus_value_model.specs.Spelling.{spelling}
+use Rattle.dbus_value_model.specs.Values.{ValueTree, type_of}
+use Rattle.dbus_value_model.specs.ValueViews.{value_tree}
+
+-- what passes a check where room more containers may be opened, with indexes of descriptors below fds. No `Value` holds a
+-- number that is out of its range.
+pub record PassesCheck (room : ℕ) (fds : Option ℕ) (v : ValueTree) : Type 0 where
+  pub single : IsSingleType (type_of v)
+  pub nests : NestsWithin room v
+  pub uniform : IsUniform v
+  pub named : IsNamed v
+  pub numbers : HoldsNumbers v
+  pub indexes : AreIndexesBelow fds v
+
+-- getting a value answered v, up to the place e, or that a growth was refused
+abbrev pub GivesBack : {A : Type 0} → ValueTree → ℕ → Result (Got A) Refusal → Type 0
+GivesBack v e (Ok (Done w q)) = (value_tree w ≡ v) × (q ≡ e)
+GivesBack v e (Ok Partial) = ⊥
+GivesBack v e (Err Memory) = Unit {0}
+GivesBack v e (Err (Format f)) = ⊥
+
+-- Behind any bytes, in either order and whatever follows: getting a value of its type where one was put gives it back.
+abbrev pub WrittenIsRead : Type 0 → Type 0
+WrittenIsRead A = (limits : Limits) (fds : Option ℕ) (order : Order) (room end e : ℕ) (v : ValueTree) (front more : List ℕ) (read : Result (Got A) Refusal)
+    → PassesCheck room fds v → length front ≤ limits.message → sized limits v None (length front) ≡ Ok e → e ≤ end
+    → Gets (bounds_with limits fds) order room end (type_of v) (length front) (front ++ spelling order (length front) v ++ more) read
+    → GivesBack v e read
