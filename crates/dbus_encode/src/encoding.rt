@@ -115,8 +115,8 @@ pub fn encode<A: Allocator + Copy>(
 
 /// Encodes a message as [`encode`] does, into a vector in place of what that holds.
 ///
-/// Memory is taken where the vector has too little, and at most once; the error is that it was refused, and then the
-/// vector holds what it held.
+/// Memory is taken where the vector's capacity does not do, and at most once; the error is that it was refused there, and
+/// then the vector holds what it held.
 pub fn encode_into<A: Allocator>(
     out: &mut Vec<u8, A>,
     message: &Message<A>,
@@ -124,6 +124,7 @@ pub fn encode_into<A: Allocator>(
 ) -> Result<(), AllocError>
     ensures written { OnOk result (out.new.items ≡ message_bytes order (message_tree message.now)) }
     ensures unchanged { OnErr result (out.new.items ≡ out.old.items) }
+    ensures small { OnErr result (vec_capacity out.old < length (message_bytes order (message_tree message.now))) }
 {
     let size = message.size();
     if out.capacity() < size {
