@@ -30,7 +30,7 @@ same_head : (a b : ℕ) (v w : List ℕ) → a ≡ b → Either (v ≡ w) → Ei
 same_head a b v w e (inl h) = inl (cc (e, h))
 same_head a b v w e (inr h) = inr (λ g. h (cc g))
 
-same : (v w : List ℕ) → Either (v ≡ w)
+pub same : (v w : List ℕ) → Either (v ≡ w)
 same [] [] = inl refl
 same [] (b ∷ w) = inr (λ h. absurd cc)
 same (a ∷ v) [] = inr (λ h. absurd cc)

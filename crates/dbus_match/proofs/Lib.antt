@@ -29,3 +29,5 @@ pub mod Escapes
 pub mod RuleTexts
 pub mod RuleVerdicts
 pub mod MatchingLists
+pub mod PairChoices
+pub mod SomeReading

@@ -1,4 +1,4 @@
--- The laws of rules: a text spells at most one rule, or has at most one fault, and never both; the canonical text of a
+-- The laws of rules: a text spells one rule or has one fault, and never both; the canonical text of a
 -- rule spells it; and of each message it is decided whether a rule matches it.
 -- D-Bus Specification, "Match Rules".
 use Rattle.std.specs.Prelude.{◌≡◌, ◌⊎◌, ℕ, List}
@@ -19,6 +19,10 @@ CanonicalSpells = (r : List Pair) → IsRule r → SpellsRule (canonical r) r
 -- a text has at most one fault, at one place
 abbrev pub OneFault : Type 0
 OneFault = (w : List ℕ) (r s : RuleReason) (m n : ℕ) → IsFault w r m → IsFault w s n → (r ≡ s) × (m ≡ n)
+
+-- each text spells a rule or has a fault
+abbrev pub SomeReading : Type 0
+SomeReading = (w : List ℕ) → ((r : List Pair) × SpellsRule w r) ⊎ ((reason : RuleReason) × (at : ℕ) × IsFault w reason at)
 
 -- no text spells a rule and has a fault
 abbrev pub NotBoth : Type 0

@@ -1,7 +1,7 @@
 //! The laws of rules. Each function does nothing: its contract is the law.
 #![tactic(auto)]
 
-ghost use Rattle.dbus_match.specs.Laws.{CanonicalSpells, Decided, NotBoth, OneFault, OneRule};
+ghost use Rattle.dbus_match.specs.Laws.{CanonicalSpells, Decided, NotBoth, OneFault, OneRule, SomeReading};
 
 /// A text spells at most one rule.
 pub fn one_rule()
@@ -16,6 +16,11 @@ pub fn canonical_spells()
 /// A text has at most one fault, at one place.
 pub fn one_fault()
     ensures { OneFault }
+{}
+
+/// Each text spells a rule or has a fault.
+pub fn some_reading()
+    ensures { SomeReading }
 {}
 
 /// No text spells a rule and has a fault.
