@@ -76,7 +76,7 @@ module _ {R A : Type 0} (left : R → Option (List ℕ)) (calls failures : R →
     gives_behind old mid new g0 g1 w0 w1 (Err (Reader fault)) n k g =
         let both = both_behind old mid new (Err fault) n k g.0 g.1 in
         (both.0, both.1, subst (λ (x : ℕ). DeviceCounts {T = Option (Order × Message A)} x (failures (source_of new)) (Err fault)) (ap failures n.source) g.2, g.3)
-    gives_behind old mid new g0 g1 w0 w1 (Err Writer) n k g = (reads_behind old mid new n k g.0, g.1)
+    gives_behind old mid new g0 g1 w0 w1 (Err Writer) n k g = (reads_behind old mid new n k g.0, g.1, g.2 ∙ ap failures n.source)
 
     -- a message that is kept
     pub gives_kept : (old new : MessageReader R A) (given : Order × Message A) (g : List ℕ) (w : W) → KeptAnswers old new (Ok (Some given)) → ReadsNothing old new
@@ -95,4 +95,4 @@ module _ {R A : Type 0} (left : R → Option (List ℕ)) (calls failures : R →
     -- what is gathered was not written, and nothing was read
     pub gives_unwritten : (old : MessageReader R A) (g0 g1 : List ℕ) (w0 w1 : W) → Breaks held write_failures [] g0 w0 w1
         → GivesNext left calls failures held write_failures old old g0 g1 w0 w1 (Err Writer)
-    gives_unwritten old g0 g1 w0 w1 b = (unread left calls failures old old old (starts left calls failures old) (record { source = refl; reads = refl; most_reads = refl; limits = refl; ended = refl }), b)
+    gives_unwritten old g0 g1 w0 w1 b = (unread left calls failures old old old (starts left calls failures old) (record { source = refl; reads = refl; most_reads = refl; limits = refl; ended = refl }), b, refl)

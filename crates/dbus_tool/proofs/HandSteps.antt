@@ -79,27 +79,29 @@ module _ {R A W : Type 0} (left : R → Option (List ℕ)) (calls failures : R �
 
   -- the input ended
   pub hands_ended : (count : ℕ) (old mid new : MessageReader R A) (g0 g1 g2 : List ℕ) (w0 w1 w2 : W) (h : HasHanded count old mid g0 g1 w0 w1) (r : Reads left calls mid new)
-      → NextAnswers {A = A} (kept mid ++ r.bytes) mid new (Ok None) → Passes held write_failures [] g1 g2 w1 w2
+      → NextAnswers {A = A} (kept mid ++ r.bytes) mid new (Ok None) → failures (source_of new) ≡ failures (source_of mid) → Passes held write_failures [] g1 g2 w1 w2
       → HandsAll left calls failures held write_failures limits most command (record { count = count; size = done_of new; fault = None }) (source_of old) (source_of new) g0 g2 w0 w2
-  hands_ended count old mid new g0 g1 g2 w0 w1 w2 h r answer p =
+  hands_ended count old mid new g0 g1 g2 w0 w1 w2 h r answer same p =
       let all = counts_ended left calls failures limits most old mid new count h.counted r h.count_is answer in
       record {
         counts = all.0;
         out = h.out;
         output = subst (λ l. IsOutputOfAll command 1 l h.out) (sym all.1) h.output;
         passes = passes_nothing held write_failures h.out g0 g1 g2 w0 w1 w2 h.passes p;
+        failed = same ∙ h.counted.failed;
       }
 
   hands_refused : (count : ℕ) (old mid new : MessageReader R A) (g0 g1 g2 : List ℕ) (w0 w1 w2 : W) (fault : Fault) (h : HasHanded count old mid g0 g1 w0 w1)
-      (r : Reads left calls mid new) → NextAnswers {A = A} (kept mid ++ r.bytes) mid new (Err (read.Format fault)) → Passes held write_failures [] g1 g2 w1 w2
+      (r : Reads left calls mid new) → NextAnswers {A = A} (kept mid ++ r.bytes) mid new (Err (read.Format fault)) → failures (source_of new) ≡ failures (source_of mid) → Passes held write_failures [] g1 g2 w1 w2
       → HandsAll left calls failures held write_failures limits most command (record { count = count; size = done_of new; fault = Some fault }) (source_of old) (source_of new) g0 g2 w0 w2
-  hands_refused count old mid new g0 g1 g2 w0 w1 w2 fault h r answer p =
+  hands_refused count old mid new g0 g1 g2 w0 w1 w2 fault h r answer same p =
       let all = counts_refused left calls failures limits most old mid new count fault h.counted r h.count_is answer in
       record {
         counts = all.0;
         out = h.out;
         output = subst (λ l. IsOutputOfAll command 1 l h.out) (sym all.1) h.output;
         passes = passes_nothing held write_failures h.out g0 g1 g2 w0 w1 w2 h.passes p;
+        failed = same ∙ h.counted.failed;
       }
 
   -- no more messages are handed on
@@ -126,39 +128,40 @@ module _ {R A W : Type 0} (left : R → Option (List ℕ)) (calls failures : R �
       (r : Reads left calls mid new) → NextAnswers {A = A} (kept mid ++ r.bytes) mid new (Err fault)
       → DeviceCounts {T = Option (Order × Message A)} (failures (source_of mid)) (failures (source_of new)) (Err fault) → Passes held write_failures [] g1 g2 w1 w2
       → Hands left calls failures held write_failures limits most command (source_of old) (source_of new) g0 g2 w0 w2 (ended_by count (done_of new) fault)
-  hands_faulted (read.Format fault) count old mid new g0 g1 g2 w0 w1 w2 h r answer counts p = hands_refused count old mid new g0 g1 g2 w0 w1 w2 fault h r answer p
+  hands_faulted (read.Format fault) count old mid new g0 g1 g2 w0 w1 w2 h r answer counts p = hands_refused count old mid new g0 g1 g2 w0 w1 w2 fault h r answer counts p
   hands_faulted read.Memory count old mid new g0 g1 g2 w0 w1 w2 h r answer counts p =
-      hands_some Memory count old mid new g0 g1 g2 w0 w1 w2 h r tt (passes_nothing held write_failures h.out g0 g1 g2 w0 w1 w2 h.passes p) tt
+      hands_some Memory count old mid new g0 g1 g2 w0 w1 w2 h r tt (passes_nothing held write_failures h.out g0 g1 g2 w0 w1 w2 h.passes p) (counts ∙ h.counted.failed)
   hands_faulted read.Device count old mid new g0 g1 g2 w0 w1 w2 h r answer counts p =
       hands_some ReadFailed count old mid new g0 g1 g2 w0 w1 w2 h r (subst (λ w. BeginsWithNone w (kept mid ++ r.bytes)) h.counted.limits_are answer.2) (passes_nothing held write_failures h.out g0 g1 g2 w0 w1 w2 h.passes p) (counts.0 ∙ ap one_more h.counted.failed)
   hands_faulted read.TooManyReads count old mid new g0 g1 g2 w0 w1 w2 h r answer counts p =
       hands_some TooManyReads count old mid new g0 g1 g2 w0 w1 w2 h r (partial_none limits (kept mid ++ r.bytes) (subst (λ w. IsPartial w (kept mid ++ r.bytes)) h.counted.limits_are answer.2)) (passes_nothing held write_failures h.out g0 g1 g2 w0 w1 w2 h.passes p)
-      (called_all left calls failures limits most old mid new h.counted r answer.3)
+      (counts ∙ h.counted.failed, called_all left calls failures limits most old mid new h.counted r answer.3)
 
   -- what is gathered was not written
   hands_unwritten : (count : ℕ) (old mid new : MessageReader R A) (g0 g1 g2 : List ℕ) (w0 w1 w2 : W) (h : HasHanded count old mid g0 g1 w0 w1) (r : Reads left calls mid new)
-      → Breaks held write_failures [] g1 w1 w2 → HandsSome left calls failures held write_failures limits most command WriteFailed (source_of old) (source_of new) g0 g2 w0 w2
-  hands_unwritten count old mid new g0 g1 g2 w0 w1 w2 h r b =
-      hands_some WriteFailed count old mid new g0 g1 g2 w0 w1 w2 h r tt (breaks_nothing held write_failures h.out g0 g1 w0 w1 w2 h.passes b) tt
+      → Breaks held write_failures [] g1 w1 w2 → failures (source_of new) ≡ failures (source_of mid) → HandsSome left calls failures held write_failures limits most command WriteFailed (source_of old) (source_of new) g0 g2 w0 w2
+  hands_unwritten count old mid new g0 g1 g2 w0 w1 w2 h r b same =
+      hands_some WriteFailed count old mid new g0 g1 g2 w0 w1 w2 h r tt (breaks_nothing held write_failures h.out g0 g1 w0 w1 w2 h.passes b) (same ∙ h.counted.failed)
 
   -- there is no next message
   pub hands_stopped : (stop : Stop) (count : ℕ) (old mid new : MessageReader R A) (g0 g1 g2 : List ℕ) (w0 w1 w2 : W) (h : HasHanded count old mid g0 g1 w0 w1)
       → GivesNext left calls failures held write_failures mid new g1 g2 w1 w2 (Err stop)
       → Hands left calls failures held write_failures limits most command (source_of old) (source_of new) g0 g2 w0 w2 (stopped_by count (done_of new) stop)
   hands_stopped (Reader fault) count old mid new g0 g1 g2 w0 w1 w2 h given = hands_faulted fault count old mid new g0 g1 g2 w0 w1 w2 h given.0 given.1 given.2 given.3
-  hands_stopped Writer count old mid new g0 g1 g2 w0 w1 w2 h given = hands_unwritten count old mid new g0 g1 g2 w0 w1 w2 h given.0 given.1
+  hands_stopped Writer count old mid new g0 g1 g2 w0 w1 w2 h given = hands_unwritten count old mid new g0 g1 g2 w0 w1 w2 h given.0 given.1 given.2
 
   -- a message was not written
   pub hands_not : (cause : Cause) (count : ℕ) (old mid new : MessageReader R A) (given : Order × Message A) (g0 g1 g2 g3 : List ℕ) (w0 w1 w2 w3 : W)
-      (h : HasHanded count old mid g0 g1 w0 w1) (r : Reads left calls mid new) → GivesMessage (kept mid ++ r.bytes) given mid new → Passes held write_failures [] g1 g2 w1 w2
+      (h : HasHanded count old mid g0 g1 w0 w1) (r : Reads left calls mid new) → GivesMessage (kept mid ++ r.bytes) given mid new
+      → failures (source_of new) ≡ failures (source_of mid) → Passes held write_failures [] g1 g2 w1 w2
       → HandsOne held write_failures command given.0 (message_tree given.1) (count + 1) g2 g3 w2 w3 (Err cause)
       → HandsSome left calls failures held write_failures limits most command cause (source_of old) (source_of new) g0 g3 w0 w3
-  hands_not Memory count old mid new given g0 g1 g2 g3 w0 w1 w2 w3 h r gives p one =
+  hands_not Memory count old mid new given g0 g1 g2 g3 w0 w1 w2 w3 h r gives same p one =
       let before = passes_nothing held write_failures h.out g0 g1 g2 w0 w1 w2 h.passes p in
-      hands_some Memory count old mid new g0 g1 g3 w0 w1 w3 h r tt (passes_nothing held write_failures h.out g0 g2 g3 w0 w2 w3 before one.2) tt
-  hands_not ReadFailed count old mid new given g0 g1 g2 g3 w0 w1 w2 w3 h r gives p one = absurd one.2
-  hands_not TooManyReads count old mid new given g0 g1 g2 g3 w0 w1 w2 w3 h r gives p one = absurd one.2
-  hands_not WriteFailed count old mid new given g0 g1 g2 g3 w0 w1 w2 w3 h r gives p one =
+      hands_some Memory count old mid new g0 g1 g3 w0 w1 w3 h r tt (passes_nothing held write_failures h.out g0 g2 g3 w0 w2 w3 before one.2) (same ∙ h.counted.failed)
+  hands_not ReadFailed count old mid new given g0 g1 g2 g3 w0 w1 w2 w3 h r gives same p one = absurd one.2
+  hands_not TooManyReads count old mid new given g0 g1 g2 g3 w0 w1 w2 w3 h r gives same p one = absurd one.2
+  hands_not WriteFailed count old mid new given g0 g1 g2 g3 w0 w1 w2 w3 h r gives same p one =
       let m = more_read left calls failures limits most old mid new h.counted r in
       let item : Item = record { order = given.0; message = message_tree given.1; size = gives.size } in
       let number : count + 1 ≡ 1 + length h.counted.items = omega (arith, h.count_is) in
@@ -174,5 +177,5 @@ module _ {R A W : Type 0} (left : R → Option (List ℕ)) (calls failures : R �
         all = tt;
         output = output_last command 1 h.counted.items item h.out one.0 h.output (subst (λ n. IsOutputOf command given.0 (message_tree given.1) n one.0) number one.1);
         leaves = breaks_behind held write_failures h.out one.0 g0 g2 w0 w2 w3 (passes_nothing held write_failures h.out g0 g1 g2 w0 w1 w2 h.passes p) one.2;
-        caused = tt;
+        caused = same ∙ h.counted.failed;
       }

@@ -52,7 +52,7 @@ module _ {R W E : Type 0} (left : R → Option (List ℕ)) (calls read_failures 
   closed : (counted : Counted) (g1 : List ℕ) (r0 r1 : R) (w0 w1 w2 : W) (e0 e1 : E) (end : ExitStatus)
       → HandsAll left calls read_failures held write_failures limits most command counted r0 r1 [] g1 w0 w1
       → Wrote held write_failures w1 (g1 ++ last_line command counted.count counted.size counted.fault) w2
-      → Appends (second_held e0) (second_held e1) (second_output command counted.size counted.fault) → end ≡ status_of counted.fault
+      → Wrote second_held second_failures e0 (second_output command counted.size counted.fault) e1 → end ≡ status_of counted.fault
       → Answers left calls read_failures held write_failures second_held second_failures limits most command r0 r1 w0 w2 e0 e1 end
   closed counted g1 r0 r1 w0 w1 w2 e0 e1 end a wrote second s =
       let line = last_line command counted.count counted.size counted.fault in
@@ -70,8 +70,11 @@ module _ {R W E : Type 0} (left : R → Option (List ℕ)) (calls read_failures 
         output = record { written = a.out; each = a.output; joined = ap (λ l. a.out ++ l) (last_is counted [] g1 r0 r1 w0 w1 a) };
         first = subst (λ l. Appends (held w0) (held w2) l) (joined_is a.out g1 a.passes.written line a.passes.joined)
             (Appends-trans _ _ _ _ _ a.passes.appended wrote.appended);
-        second = subst (λ l. Appends (second_held e0) (second_held e1) l) second_is second;
+        second = subst (λ l. Appends (second_held e0) (second_held e1) l) second_is second.appended;
         status_is = s ∙ ap status_of a.counts.fault_is;
+        read_failed = a.failed;
+        first_failed = wrote.failed ∙ a.passes.failed;
+        second_failed = second.failed;
       }
 
   -- what was written of the last line says how much was written of all
@@ -91,19 +94,19 @@ module _ {R W E : Type 0} (left : R → Option (List ℕ)) (calls read_failures 
       (front.0, ap (λ l. a.out ++ l) (sym (last_is counted [] g1 r0 r1 w0 w1 a)) ∙ joined) here
 
   -- a cause that a write has
-  first_cause : (r0 r1 : R) (w0 w1 w2 : W) (e0 e1 : E) (cause : Cause) → write_failures w1 ≡ write_failures w0 → IsWriteCause held write_failures w1 w2 cause
+  first_cause : (r0 r1 : R) (w0 w1 w2 : W) (e0 e1 : E) (cause : Cause) → read_failures r1 ≡ read_failures r0 → write_failures w1 ≡ write_failures w0 → IsWriteCause held write_failures w1 w2 cause
       → IsCause left calls read_failures held write_failures second_held second_failures limits most command r0 r1 w0 w2 e0 e1 cause
-  first_cause r0 r1 w0 w1 w2 e0 e1 Memory same c = tt
-  first_cause r0 r1 w0 w1 w2 e0 e1 ReadFailed same c = absurd c
-  first_cause r0 r1 w0 w1 w2 e0 e1 WriteFailed same c = inl (c ∙ ap one_more same)
-  first_cause r0 r1 w0 w1 w2 e0 e1 TooManyReads same c = absurd c
+  first_cause r0 r1 w0 w1 w2 e0 e1 Memory read same c = read
+  first_cause r0 r1 w0 w1 w2 e0 e1 ReadFailed read same c = absurd c
+  first_cause r0 r1 w0 w1 w2 e0 e1 WriteFailed read same c = (read, inl (c ∙ ap one_more same))
+  first_cause r0 r1 w0 w1 w2 e0 e1 TooManyReads read same c = absurd c
 
-  second_cause : (r0 r1 : R) (w0 w1 : W) (e0 e1 : E) (cause : Cause) → IsWriteCause second_held second_failures e0 e1 cause
+  second_cause : (r0 r1 : R) (w0 w1 : W) (e0 e1 : E) (cause : Cause) → read_failures r1 ≡ read_failures r0 → IsWriteCause second_held second_failures e0 e1 cause
       → IsCause left calls read_failures held write_failures second_held second_failures limits most command r0 r1 w0 w1 e0 e1 cause
-  second_cause r0 r1 w0 w1 e0 e1 Memory c = tt
-  second_cause r0 r1 w0 w1 e0 e1 ReadFailed c = absurd c
-  second_cause r0 r1 w0 w1 e0 e1 WriteFailed c = inr c
-  second_cause r0 r1 w0 w1 e0 e1 TooManyReads c = absurd c
+  second_cause r0 r1 w0 w1 e0 e1 Memory read c = read
+  second_cause r0 r1 w0 w1 e0 e1 ReadFailed read c = absurd c
+  second_cause r0 r1 w0 w1 e0 e1 WriteFailed read c = (read, inr c)
+  second_cause r0 r1 w0 w1 e0 e1 TooManyReads read c = absurd c
 
   before_write : {V : Type 0} (bytes written : List ℕ) (w0 w1 : W) (h : V → Option (List ℕ)) (f : V → ℕ) (v0 v1 : V) (cause : Cause) → IsWriteCause h f v0 v1 cause
       → WritesBefore left calls read_failures held write_failures second_held second_failures limits most command cause bytes written w0 w1
@@ -140,7 +143,7 @@ module _ {R W E : Type 0} (left : R → Option (List ℕ)) (calls read_failures 
         failed = f.failed;
         cause = f.cause;
         fails = not_closed counted f.cause g1 (g1 ++ last_line command counted.count counted.size counted.fault) r0 r1 w0 w1 w2 e0 e1 second_held second_failures e0 e1 a
-            c.first.appended ([], sym (append-nil (g1 ++ last_line command counted.count counted.size counted.fault))) f.caused (second_cause r0 r1 w0 w2 e0 e1 f.cause f.caused);
+            c.first.appended ([], sym (append-nil (g1 ++ last_line command counted.count counted.size counted.fault))) f.caused (second_cause r0 r1 w0 w2 e0 e1 f.cause a.failed f.caused);
         told = f.told;
       })
     ]
@@ -148,7 +151,7 @@ module _ {R W E : Type 0} (left : R → Option (List ℕ)) (calls read_failures 
       failed = n.failed;
       cause = n.cause;
       fails = not_closed counted n.cause g1 n.first.written r0 r1 w0 w1 w2 e0 e1 held write_failures w1 w2 a n.first.appended n.first.front n.first.caused
-          (first_cause r0 r1 w0 w1 w2 e0 e1 n.cause a.passes.failed n.first.caused);
+          (first_cause r0 r1 w0 w1 w2 e0 e1 n.cause a.failed a.passes.failed n.first.caused);
       told = n.told;
     })
   ]
@@ -181,7 +184,7 @@ module _ {R W E : Type 0} (left : R → Option (List ℕ)) (calls read_failures 
         appended = Appends-trans _ _ _ _ _ s.leaves.appended q.appended;
         front = some_front Memory s.out (s.leaves.written ++ q.written) g1 r0 r1 w0 w1 s done.0;
         before = tt;
-        caused = tt;
+        caused = s.caused;
       }
   gave_up ReadFailed g1 r0 r1 w0 w1 w2 e0 e1 s q =
       let done = rest_written s.out g1 w0 w1 w2 s.leaves q in
@@ -201,7 +204,7 @@ module _ {R W E : Type 0} (left : R → Option (List ℕ)) (calls read_failures 
     appended = subst (λ (w : W). Appends (held w0) (held w) s.leaves.written) (sym q) s.leaves.appended;
     front = some_front WriteFailed s.out s.leaves.written g1 r0 r1 w0 w1 s s.leaves.front;
     before = tt;
-    caused = inl (ap write_failures q ∙ s.leaves.failed);
+    caused = (s.caused, inl (ap write_failures q ∙ s.leaves.failed));
   }
   gave_up TooManyReads g1 r0 r1 w0 w1 w2 e0 e1 s q =
       let done = rest_written s.out g1 w0 w1 w2 s.leaves q in

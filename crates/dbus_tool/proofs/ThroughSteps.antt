@@ -35,6 +35,7 @@ module _ {Q R W : Type 0} (now : Q → R) (left : R → Option (List ℕ)) (call
     out = a.out;
     output = a.output;
     passes = a.passes;
+    failed = a.failed;
   }
   hands_through command old new g0 g1 w0 w1 (Err cause) s = record {
     bytes = s.bytes;

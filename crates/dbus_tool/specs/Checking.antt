@@ -60,13 +60,17 @@ module _ {R W E : Type 0} (left : R → Option (List ℕ)) (calls read_failures 
     pub first : Appends (held first_old) (held first_new) out
     pub second : Appends (second_held second_old) (second_held second_new) (second_output command (sizes items) (fault_at_end rest outcome))
     pub status_is : end ≡ status_of (fault_at_end rest outcome)
+    -- no read and no write failed
+    pub read_failed : read_failures new ≡ read_failures old
+    pub first_failed : write_failures first_new ≡ write_failures first_old
+    pub second_failed : second_failures second_new ≡ second_failures second_old
 
-  -- why a command gives up
+  -- why a command gives up: the first cause, so that no other has it where a read failed, though a write failed behind it
   abbrev pub IsCause : R → R → W → W → E → E → Cause → Type 0
-  IsCause r0 r1 w0 w1 e0 e1 Memory = Unit {0}
+  IsCause r0 r1 w0 w1 e0 e1 Memory = read_failures r1 ≡ read_failures r0
   IsCause r0 r1 w0 w1 e0 e1 ReadFailed = read_failures r1 ≡ one_more (read_failures r0)
-  IsCause r0 r1 w0 w1 e0 e1 WriteFailed = (write_failures w1 ≡ one_more (write_failures w0)) ⊎ (second_failures e1 ≡ one_more (second_failures e0))
-  IsCause r0 r1 w0 w1 e0 e1 TooManyReads = RisesBy most (calls r0) (calls r1)
+  IsCause r0 r1 w0 w1 e0 e1 WriteFailed = (read_failures r1 ≡ read_failures r0) × ((write_failures w1 ≡ one_more (write_failures w0)) ⊎ (second_failures e1 ≡ one_more (second_failures e0)))
+  IsCause r0 r1 w0 w1 e0 e1 TooManyReads = (read_failures r1 ≡ read_failures r0) × RisesBy most (calls r0) (calls r1)
 
   -- where reading was given up, and no write failed, all messages that were read were written
   abbrev pub WritesBefore : Cause → List ℕ → List ℕ → W → W → Type 0

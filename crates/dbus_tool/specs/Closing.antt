@@ -23,7 +23,7 @@ module _ {E : Type 0} (held : E → Option (List ℕ)) (failures : E → ℕ) wh
 
   -- the second writer got this line
   abbrev pub TellsSecond : List ℕ → Option Fault → E → E → ExitStatus → Type 0
-  TellsSecond line fault old new end = (Appends (held old) (held new) line × (end ≡ status_of fault)) ⊎ FailsSecond end old new
+  TellsSecond line fault old new end = (Wrote held failures old line new × (end ≡ status_of fault)) ⊎ FailsSecond end old new
 
 module _ {W E : Type 0} (held : W → Option (List ℕ)) (write_failures : W → ℕ) (second_held : E → Option (List ℕ)) (second_failures : E → ℕ) where
   -- the first writer got what was gathered and then its last line, and the second what is told there

@@ -48,16 +48,16 @@ module _ {R W : Type 0} (left : R → Option (List ℕ)) (calls read_failures : 
       × (read_failures (source_of new) ≡ read_failures (source_of old)) × Passes held write_failures [] g0 g1 w0 w1
   GivesNext {A} old new g0 g1 w0 w1 (Err (Reader fault)) = (r : Reads left calls old new) × NextAnswers {A = A} (kept old ++ r.bytes) old new (Err fault)
       × DeviceCounts {T = Option (Order × Message A)} (read_failures (source_of old)) (read_failures (source_of new)) (Err fault) × Passes held write_failures [] g0 g1 w0 w1
-  GivesNext old new g0 g1 w0 w1 (Err Writer) = Reads left calls old new × Breaks held write_failures [] g0 w0 w1
+  GivesNext old new g0 g1 w0 w1 (Err Writer) = Reads left calls old new × Breaks held write_failures [] g0 w0 w1 × (read_failures (source_of new) ≡ read_failures (source_of old))
 
 module _ {R W : Type 0} (left : R → Option (List ℕ)) (calls read_failures : R → ℕ) (held : W → Option (List ℕ)) (write_failures : W → ℕ)
     (limits : Limits) (most : ℕ) where
-  -- why no more messages are handed to a command, where no write failed
+  -- why no more messages are handed to a command, as far as the reader shows it
   abbrev pub IsReadCause : R → R → Cause → Type 0
-  IsReadCause old new Memory = Unit {0}
+  IsReadCause old new Memory = read_failures new ≡ read_failures old
   IsReadCause old new ReadFailed = read_failures new ≡ one_more (read_failures old)
-  IsReadCause old new WriteFailed = Unit {0}
-  IsReadCause old new TooManyReads = RisesBy most (calls old) (calls new)
+  IsReadCause old new WriteFailed = read_failures new ≡ read_failures old
+  IsReadCause old new TooManyReads = (read_failures new ≡ read_failures old) × RisesBy most (calls old) (calls new)
 
   -- all messages of what was read were handed to the command, up to the end of the input or a fault
   pub record HandsAll (command : Command) (counted : Counted) (old new : R) (g0 g1 : List ℕ) (w0 w1 : W) : Type 0 where
@@ -65,6 +65,7 @@ module _ {R W : Type 0} (left : R → Option (List ℕ)) (calls read_failures : 
     pub out : List ℕ
     pub output : IsOutputOfAll command 1 counts.items out
     pub passes : Passes held write_failures out g0 g1 w0 w1
+    pub failed : read_failures new ≡ read_failures old
 
   -- some of the first messages of what was read were handed to the command
   pub record HandsSome (command : Command) (cause : Cause) (old new : R) (g0 g1 : List ℕ) (w0 w1 : W) : Type 0 where

@@ -67,8 +67,9 @@ pub fn run_reads<A: Allocator + Copy, R: Source, W: Sink, E: Sink>(
 /// goes out before each read and before the status is given. The run holds at most the bytes of one message and of one
 /// read, one message, room for the longest output of a message so far, and what is gathered.
 ///
-/// `Done`, `Refused`: all was written, and the status says which. `Failed`: a read failed, a write to either writer
-/// failed or took none of its bytes, as many reads were made as may be, or a growth was refused. It is never `Usage`.
+/// `Done`, `Refused`: all was written, no read and no write failed, and the status says which. `Failed`: a read failed, a
+/// write to either writer failed or took none of its bytes, as many reads were made as may be, or a growth was refused. It
+/// is never `Usage`.
 pub fn run_within<A: Allocator + Copy, R: Source, W: Sink, E: Sink>(
     alloc: A,
     command: Command,

@@ -43,7 +43,7 @@ returns-in-Err-write_one-clause-hands g c =
     let given = rw c.in-Ok-Some.field-0-is at c.in-Ok-Some.ensures.gives in
     hands_not g.R.Source.left g.R.Source.calls g.R.Source.failures g.W.Sink.held g.W.Sink.failures (limits_of c.args.messages.now) (most_reads_of c.args.messages.now) c.args.command.now c.in-Err-write_one.cause c.messages.count c.args.messages.now c.messages.messages c.next_message.new.messages c.in-Ok-Some.given
     c.args.gathered.now.items c.messages.gathered.items c.next_message.new.gathered.items c.write_one.new.gathered.items
-    c.args.first.now c.messages.first c.next_message.new.first c.write_one.new.first c.messages.invariant.0 given.0 given.1 given.3 c.in-Err-write_one.ensures
+    c.args.first.now c.messages.first c.next_message.new.first c.write_one.new.first c.messages.invariant.0 given.0 given.1 given.2 given.3 c.in-Err-write_one.ensures
 
 pub returns-in-Ok-None-clause-hands : goal.returns-in-Ok-None-clause-hands
 returns-in-Ok-None-clause-hands g c =
@@ -51,7 +51,7 @@ returns-in-Ok-None-clause-hands g c =
     subst (λ (n : ℕ). HandsAll g.R.Source.left g.R.Source.calls g.R.Source.failures g.W.Sink.held g.W.Sink.failures (limits_of c.args.messages.now) (most_reads_of c.args.messages.now) c.args.command.now (record { count = c.messages.count; size = n; fault = None })
     (source_of c.args.messages.now) (source_of c.next_message.new.messages) c.args.gathered.now.items c.next_message.new.gathered.items c.args.first.now c.next_message.new.first) (sym c.done.ensures)
     (hands_ended g.R.Source.left g.R.Source.calls g.R.Source.failures g.W.Sink.held g.W.Sink.failures (limits_of c.args.messages.now) (most_reads_of c.args.messages.now) c.args.command.now c.messages.count c.args.messages.now c.messages.messages c.next_message.new.messages
-    c.args.gathered.now.items c.messages.gathered.items c.next_message.new.gathered.items c.args.first.now c.messages.first c.next_message.new.first c.messages.invariant.0 given.0 given.1 given.3)
+    c.args.gathered.now.items c.messages.gathered.items c.next_message.new.gathered.items c.args.first.now c.messages.first c.next_message.new.first c.messages.invariant.0 given.0 given.1 given.2 given.3)
 
 pub returns-in-Err-clause-hands : goal.returns-in-Err-clause-hands
 returns-in-Err-clause-hands g c =
