@@ -3,7 +3,6 @@ pub mod Device
 pub mod From
 pub mod Write
 pub mod Cut
-pub mod Stated
 pub mod Reader
 pub mod Next
 pub mod Steps

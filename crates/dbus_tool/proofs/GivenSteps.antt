@@ -5,7 +5,6 @@ use Rattle.dbus_value_model.specs.declared.order.Order.{Order}
 use Rattle.dbus_message_model.specs.declared.message.Message.{Message}
 use Rattle.dbus_message_model.specs.MessageViews.{message_tree}
 use Rattle.dbus_decode.specs.MessageOutcomes.{IsWhole, IsRefused, IsPartial}
-use Rattle.dbus_stream.specs.Stated.{BeginsWithNone}
 use Rattle.dbus_stream.specs.Next.{RisesBy, Reads, ReadsNothing, KeepsAll, IsCutShort, NextAnswers, KeptAnswers, DeviceCounts}
 use Rattle.dbus_stream.specs.Reader.{limits_of, kept, source_of, is_ended}
 use Rattle.dbus_stream.specs.declared.message_reader.MessageReader.{MessageReader}
@@ -28,8 +27,9 @@ module _ {R A : Type 0} (left : R → Option (List ℕ)) (calls failures : R →
     last = r.last;
     before = r.before;
     joined = r.joined;
-    needed = λ some. subst (λ l. BeginsWithNone (limits_of old) (l ++ r.before)) k.kept
-        (subst (λ limits. BeginsWithNone limits (kept mid ++ r.before)) n.limits (r.needed some));
+    last_fits = r.last_fits;
+    needed = λ some. subst (λ l. IsPartial (limits_of old) (l ++ r.before)) k.kept
+        (subst (λ limits. IsPartial limits (kept mid ++ r.before)) n.limits (r.needed some));
     reads = r.reads ∙ ap (λ x. x + r.count) n.reads;
     called = subst (λ (s : R). RisesBy r.count (calls s) (calls (source_of new))) n.source r.called;
     most_reads = r.most_reads ∙ n.most_reads;
@@ -57,7 +57,7 @@ module _ {R A : Type 0} (left : R → Option (List ℕ)) (calls failures : R →
     a.1,
     subst (λ limits. IsRefused limits w fault ⊎ (IsCutShort limits w fault × (is_ended new ≡ true))) same a.2,
   )
-  answers_behind w old mid new (Err read.Device) same k a = (keeps_behind w old mid new k a.0, a.1, subst (λ limits. BeginsWithNone limits w) same a.2)
+  answers_behind w old mid new (Err read.Device) same k a = (keeps_behind w old mid new k a.0, a.1, subst (λ limits. IsPartial limits w) same a.2)
   answers_behind w old mid new (Err read.TooManyReads) same k a = (keeps_behind w old mid new k a.0, a.1, subst (λ limits. IsPartial limits w) same a.2, a.3)
 
   both_behind : (old mid new : MessageReader R A) (res : Result (Option (Order × Message A)) ReadFault) → ReadsNothing old mid → KeepsAll (kept old) old mid

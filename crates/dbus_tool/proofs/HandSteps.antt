@@ -6,10 +6,8 @@ use Rattle.dbus_value_model.specs.declared.limits.Limits.{Limits}
 use Rattle.dbus_message_model.specs.declared.message.Message.{Message}
 use Rattle.dbus_message_model.specs.MessageViews.{message_tree}
 use Rattle.dbus_decode.specs.MessageOutcomes.{IsWhole, IsPartial}
-use Rattle.dbus_decode.proofs.OutcomeLaws.{one_outcome}
 use Rattle.dbus_stream.specs.Device.{one_more}
 use Rattle.dbus_stream.specs.Cut.{Item, BeginWith}
-use Rattle.dbus_stream.specs.Stated.{BeginsWithNone}
 use Rattle.dbus_stream.specs.Next.{Reads, NextAnswers, GivesMessage, DeviceCounts}
 use Rattle.dbus_stream.specs.Reader.{limits_of, kept, source_of, done_of, most_reads_of}
 use Rattle.dbus_stream.specs.declared.message_reader.MessageReader.{MessageReader}
@@ -28,9 +26,6 @@ use Rattle.dbus_tool.specs.declared.ending.Stop.TheVariants.{Reader, Writer}
 use Rattle.dbus_tool.proofs.GatherSteps.{passes_none, passes_both, passes_nothing, breaks_behind, breaks_nothing}
 use Rattle.dbus_tool.proofs.OutputSteps.{output_last}
 use Rattle.dbus_tool.proofs.CountSteps.{HasCounted, counts_none, counts_more, counts_ended, counts_refused, more_read, called_all}
-
-partial_none : (limits : Limits) (w : List ℕ) → IsPartial limits w → BeginsWithNone limits w
-partial_none limits w p = λ order message n whole. (one_outcome limits w).1 order message n whole p
 
 module _ {R A W : Type 0} (left : R → Option (List ℕ)) (calls failures : R → ℕ) (held : W → Option (List ℕ)) (write_failures : W → ℕ) (limits : Limits) (most : ℕ)
     (command : Command) where
@@ -132,9 +127,9 @@ module _ {R A W : Type 0} (left : R → Option (List ℕ)) (calls failures : R �
   hands_faulted read.Memory count old mid new g0 g1 g2 w0 w1 w2 h r answer counts p =
       hands_some Memory count old mid new g0 g1 g2 w0 w1 w2 h r tt (passes_nothing held write_failures h.out g0 g1 g2 w0 w1 w2 h.passes p) (counts ∙ h.counted.failed)
   hands_faulted read.Device count old mid new g0 g1 g2 w0 w1 w2 h r answer counts p =
-      hands_some ReadFailed count old mid new g0 g1 g2 w0 w1 w2 h r (subst (λ w. BeginsWithNone w (kept mid ++ r.bytes)) h.counted.limits_are answer.2) (passes_nothing held write_failures h.out g0 g1 g2 w0 w1 w2 h.passes p) (counts.0 ∙ ap one_more h.counted.failed)
+      hands_some ReadFailed count old mid new g0 g1 g2 w0 w1 w2 h r (subst (λ w. IsPartial w (kept mid ++ r.bytes)) h.counted.limits_are answer.2) (passes_nothing held write_failures h.out g0 g1 g2 w0 w1 w2 h.passes p) (counts.0 ∙ ap one_more h.counted.failed)
   hands_faulted read.TooManyReads count old mid new g0 g1 g2 w0 w1 w2 h r answer counts p =
-      hands_some TooManyReads count old mid new g0 g1 g2 w0 w1 w2 h r (partial_none limits (kept mid ++ r.bytes) (subst (λ w. IsPartial w (kept mid ++ r.bytes)) h.counted.limits_are answer.2)) (passes_nothing held write_failures h.out g0 g1 g2 w0 w1 w2 h.passes p)
+      hands_some TooManyReads count old mid new g0 g1 g2 w0 w1 w2 h r (subst (λ w. IsPartial w (kept mid ++ r.bytes)) h.counted.limits_are answer.2) (passes_nothing held write_failures h.out g0 g1 g2 w0 w1 w2 h.passes p)
       (counts ∙ h.counted.failed, called_all left calls failures limits most old mid new h.counted r answer.3)
 
   -- what is gathered was not written

@@ -194,7 +194,7 @@ module _ {R W E : Type 0} (left : R → Option (List ℕ)) (calls read_failures 
         consumed = s.consumed;
         appended = Appends-trans _ _ _ _ _ s.leaves.appended q.appended;
         front = some_front ReadFailed s.out (s.leaves.written ++ q.written) g1 r0 r1 w0 w1 s done.0;
-        before = λ same. record { items = s.items; rest = s.rest; messages = s.messages; none = s.all; output = subst (λ l. IsOutputOfAll command 1 s.items l) (sym (done.1 same)) s.output };
+        before = λ same. record { items = s.items; rest = s.rest; messages = s.messages; partial = s.all; output = subst (λ l. IsOutputOfAll command 1 s.items l) (sym (done.1 same)) s.output };
         caused = s.caused;
       }
   gave_up WriteFailed g1 r0 r1 w0 w1 w2 e0 e1 s q = record {
@@ -214,6 +214,6 @@ module _ {R W E : Type 0} (left : R → Option (List ℕ)) (calls read_failures 
         consumed = s.consumed;
         appended = Appends-trans _ _ _ _ _ s.leaves.appended q.appended;
         front = some_front TooManyReads s.out (s.leaves.written ++ q.written) g1 r0 r1 w0 w1 s done.0;
-        before = λ same. record { items = s.items; rest = s.rest; messages = s.messages; none = s.all; output = subst (λ l. IsOutputOfAll command 1 s.items l) (sym (done.1 same)) s.output };
+        before = λ same. record { items = s.items; rest = s.rest; messages = s.messages; partial = s.all; output = subst (λ l. IsOutputOfAll command 1 s.items l) (sym (done.1 same)) s.output };
         caused = s.caused;
       }

@@ -4,11 +4,11 @@ use Rattle.std.specs.Prelude.{◌≡◌, ◌⊎◌, ℕ, List, Option, Result, O
 use Rattle.std.specs.Io.KnownBytes.{Appends, Consumes, IsAtEnd}
 use Rattle.dbus_value_model.specs.declared.fault.Fault.{Fault}
 use Rattle.dbus_value_model.specs.declared.limits.Limits.{Limits}
+use Rattle.dbus_decode.specs.MessageOutcomes.{IsPartial}
 use Rattle.dbus_stream.specs.Device.{one_more}
 use Rattle.dbus_stream.specs.Next.{RisesBy}
 use Rattle.dbus_stream.specs.Write.{Wrote}
 use Rattle.dbus_stream.specs.Cut.{Item, BeginWith, IsCut, Outcome, Refused, fault_at_end, sizes}
-use Rattle.dbus_stream.specs.Stated.{BeginsWithNone}
 use Rattle.dbus_command.specs.declared.command.Command.{Command}
 use Rattle.dbus_tool.specs.Output.{IsOutputOfAll, IsFirstOutput, second_output, status_of, IsFrontOf}
 use Rattle.dbus_tool.specs.declared.ending.ExitStatus.{ExitStatus}
@@ -40,7 +40,7 @@ pub record WritesMessages (limits : Limits) (command : Command) (bytes written :
   pub items : List Item
   pub rest : List ℕ
   pub messages : BeginWith limits bytes items rest
-  pub none : BeginsWithNone limits rest
+  pub partial : IsPartial limits rest
   pub output : IsOutputOfAll command 1 items written
 
 module _ {R W E : Type 0} (left : R → Option (List ℕ)) (calls read_failures : R → ℕ) (held : W → Option (List ℕ)) (write_failures : W → ℕ)

@@ -6,11 +6,11 @@ use Rattle.dbus_value_model.specs.declared.limits.Limits.{Limits}
 use Rattle.dbus_value_model.specs.declared.order.Order.{Order}
 use Rattle.dbus_message_model.specs.declared.message.Message.{Message}
 use Rattle.dbus_message_model.specs.Messages.{MessageTree}
+use Rattle.dbus_decode.specs.MessageOutcomes.{IsPartial}
 use Rattle.dbus_stream.specs.Device.{one_more}
 use Rattle.dbus_stream.specs.Cut.{Item, BeginWith}
 use Rattle.dbus_stream.specs.Next.{RisesBy, Reads, NextAnswers, DeviceCounts}
 use Rattle.dbus_stream.specs.Reader.{kept, source_of}
-use Rattle.dbus_stream.specs.Stated.{BeginsWithNone}
 use Rattle.dbus_stream.specs.declared.message_reader.MessageReader.{MessageReader}
 use Rattle.dbus_command.specs.declared.command.Command.{Command}
 use Rattle.dbus_match.specs.Rules.{Pair}
@@ -34,12 +34,12 @@ module _ {W : Type 0} (held : W → Option (List ℕ)) (failures : W → ℕ) wh
   HandsOne command order message n g0 g1 old new result =
       (out : List ℕ) × IsOutputOf command order message n out × GathersOrNot held failures out g0 g1 old new result
 
--- where reading was given up, no further message was read
+-- where reading was given up, what is left is no message and no fault, as far as it goes
 abbrev pub AreAll : Limits → Cause → List ℕ → Type 0
 AreAll limits Memory rest = Unit {0}
-AreAll limits ReadFailed rest = BeginsWithNone limits rest
+AreAll limits ReadFailed rest = IsPartial limits rest
 AreAll limits WriteFailed rest = Unit {0}
-AreAll limits TooManyReads rest = BeginsWithNone limits rest
+AreAll limits TooManyReads rest = IsPartial limits rest
 
 module _ {R W : Type 0} (left : R → Option (List ℕ)) (calls read_failures : R → ℕ) (held : W → Option (List ℕ)) (write_failures : W → ℕ) where
   -- the next message of a reader, where what is gathered may have been written before
