@@ -48,8 +48,8 @@ module _ {A : Type 0} (bounds : Bounds) (order : Order) (room end : ℕ) (v : Va
   back (Ok (Done w q)) h =
       let agrees = Agrees-value bounds order room end true (type_of v) (single_shaped (type_of v) checked.single) in
       let same = agreed_value (faults.value bounds order room end (type_of v)) (reading.value bounds order room end (type_of v)) agrees at (drop at bytes) (value_tree w) q (drop q bytes) v e more
-          ((value_inside bounds order room end (type_of v) at (drop at bytes) (value_tree w) q (drop q bytes)).1 h)
-          ((value_inside bounds order room end (type_of v) at (drop at bytes) v e more).1 spelled) in
+      ((value_inside bounds order room end (type_of v) at (drop at bytes) (value_tree w) q (drop q bytes)).1 h)
+      ((value_inside bounds order room end (type_of v) at (drop at bytes) v e more).1 spelled) in
       (same.0, same.1)
   back (Ok Partial) h = h.not_spelled v e more spelled
   back (Err Memory) h = tt

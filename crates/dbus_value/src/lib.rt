@@ -7,9 +7,7 @@
 
 pub mod round_trip_laws;
 
-pub use dbus_marshal::{
-    measure_laws, put, put_within, size_after, size_after_within, size_laws,
-};
+pub use dbus_marshal::{measure_laws, put, put_within, size_after, size_after_within, size_laws};
 pub use dbus_unmarshal::{get, get_within, laws};
 pub use dbus_value_model::{
     ARRAY_LIMIT, DEPTH_LIMIT, DictEntry, Fault, FdRule, Got, Limits, MESSAGE_LIMIT, Order, Reason,
