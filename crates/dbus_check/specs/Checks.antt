@@ -46,7 +46,7 @@ Takes limits w piece check.Partial = IsPartial limits (w ++ piece)
 Takes limits w piece (check.Done n) = (n ≤ length piece) × (order : Order) × (m : MessageTree) × IsWhole limits (w ++ piece) order m (length w + n)
 Takes limits w piece (check.Refused f) = IsRefused limits (w ++ piece) f
 
--- and no other answer is one of that outcome
+-- each outcome of all of them under the limits has one answer
 pub record IsExact (limits : Limits) (w piece : List ℕ) (answer : Check) : Type 0 where
   pub whole : (order : Order) (m : MessageTree) (n : ℕ) → IsWhole limits (w ++ piece) order m (length w + n) → answer ≡ check.Done n
   pub refused : (f : Fault) → IsRefused limits (w ++ piece) f → answer ≡ check.Refused f
