@@ -1,0 +1,6 @@
+mod TypeEnds
+mod TypeCodes
+mod ItemSteps
+mod NumberArrays
+mod ValueSteps
+mod Spelled

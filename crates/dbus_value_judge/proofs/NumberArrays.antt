@@ -1,0 +1,104 @@
+-- Arrays of numbers of which every one may stand: passed over by their length.
+use Rattle.std.proofs.Common.{◌≡◌, ℕ, zero, suc, ◌+◌, ◌*◌, ◌/◌, ◌%◌, ◌<◌, ◌≤◌, List, [], ◌∷◌, length, drop, Option, refl, sym, ap, subst, ◌∙◌, arith}
+use Rattle.std.proofs.Math.Nat.{suc-mul, zero-mul}
+use Rattle.std.proofs.lemmas.Bool.{lt-ltb, le-ltb, eq-eqb}
+use Rattle.dbus_texts.specs.Types.{NumberCode, BYTE, BOOLEAN, INT16, UINT16, INT32, UINT32, INT64, UINT64, DOUBLE, UNIX_FD, TypeTree, NumberType}
+use Rattle.dbus_types.specs.Alignments.{width}
+use Rattle.dbus_value_model.specs.declared.limits.Bounds.{Bounds}
+use Rattle.dbus_value_model.specs.declared.order.Order.{Order}
+use Rattle.dbus_value_model.specs.Bytes.{gap_to}
+use Rattle.dbus_value_model.specs.Values.{ValueTree}
+use Rattle.dbus_value_model.specs.Reading.{Done, padding, up_to, contents, value}
+use Rattle.dbus_unmarshal.proofs.ReadSteps.{padding_is}
+use Rattle.dbus_unmarshal.proofs.ValueSteps.{value_number}
+use Rattle.dbus_value_judge.specs.Endings.{EndsAt, IsFree}
+use Rattle.dbus_value_judge.proofs.ItemSteps.{free_ends}
+use Rattle.dbus_value_judge.proofs.TypeCodes.{FreeType}
+
+some_bytes : (k : NumberCode) → 0 < width k
+some_bytes BYTE = omega arith
+some_bytes BOOLEAN = omega arith
+some_bytes INT16 = omega arith
+some_bytes UINT16 = omega arith
+some_bytes INT32 = omega arith
+some_bytes UINT32 = omega arith
+some_bytes INT64 = omega arith
+some_bytes UINT64 = omega arith
+some_bytes DOUBLE = omega arith
+some_bytes UNIX_FD = omega arith
+
+-- a number ends at a boundary of its own
+stays_aligned : (k : NumberCode) (o : ℕ) → gap_to (width k) o ≡ 0 → gap_to (width k) (o + width k) ≡ 0
+unfolding gap_to
+stays_aligned BYTE o h = omega arith
+stays_aligned BOOLEAN o h = omega arith
+stays_aligned INT16 o h = omega arith
+stays_aligned UINT16 o h = omega arith
+stays_aligned INT32 o h = omega arith
+stays_aligned UINT32 o h = omega arith
+stays_aligned INT64 o h = omega arith
+stays_aligned UINT64 o h = omega arith
+stays_aligned DOUBLE o h = omega arith
+stays_aligned UNIX_FD o h = omega arith
+
+-- padding ends at one
+comes_aligned : (k : NumberCode) (o : ℕ) → gap_to (width k) (o + gap_to (width k) o) ≡ 0
+unfolding gap_to
+comes_aligned BYTE o = omega arith
+comes_aligned BOOLEAN o = omega arith
+comes_aligned INT16 o = omega arith
+comes_aligned UINT16 o = omega arith
+comes_aligned INT32 o = omega arith
+comes_aligned UINT32 o = omega arith
+comes_aligned INT64 o = omega arith
+comes_aligned UINT64 o = omega arith
+comes_aligned DOUBLE o = omega arith
+comes_aligned UNIX_FD o = omega arith
+
+-- so many bytes are those of whole numbers
+whole : (k : NumberCode) (n : ℕ) → n % width k ≡ 0 → (m : ℕ) × (n ≡ m * width k) × (m ≤ n)
+whole BYTE n e = (n, omega arith, omega arith)
+whole BOOLEAN n e = (n / 4, omega arith, omega arith)
+whole INT16 n e = (n / 2, omega arith, omega arith)
+whole UINT16 n e = (n / 2, omega arith, omega arith)
+whole INT32 n e = (n / 4, omega arith, omega arith)
+whole UINT32 n e = (n / 4, omega arith, omega arith)
+whole INT64 n e = (n / 8, omega arith, omega arith)
+whole UINT64 n e = (n / 8, omega arith, omega arith)
+whole DOUBLE n e = (n / 8, omega arith, omega arith)
+whole UNIX_FD n e = (n / 4, omega arith, omega arith)
+
+module _ (bounds : Bounds) (order : Order) (room end : ℕ) (k : NumberCode) (free : (fds : Option ℕ) → IsFree fds k) (bytes : List ℕ) (inside : end ≤ length bytes) where
+  number_here : (p : ℕ) → gap_to (width k) p ≡ 0 → p + width k ≤ end → EndsAt bytes (p + width k) (value bounds order room end (NumberType k) p (drop p bytes))
+  number_here p aligned fits =
+      let padded : padding (width k) end p (drop p bytes) ≡ Done tt p (drop p bytes) = padding_is (width k) end p 0 (drop p bytes) aligned (omega arith) in
+      let read = free_ends bounds.fds order end k p p bytes (width k) refl (free bounds.fds) padded fits inside in
+      (read.0, value_number bounds order room end k p (drop p bytes) ∙ read.1)
+
+  run : (m turns p : ℕ) (before : List ValueTree) → m ≤ turns → end ≡ p + m * width k → gap_to (width k) p ≡ 0
+      → EndsAt bytes end (up_to turns end (λ before. value bounds order room end (NumberType k)) before p (drop p bytes))
+  run zero zero p before few e aligned =
+      let here : p ≡ end = omega (arith, zero-mul (width k)) in
+      ([], rw (eq-eqb p end here) (ap (λ (q : ℕ). Done [] q (drop q bytes)) here))
+  run zero (suc turns) p before few e aligned =
+      let here : p ≡ end = omega (arith, zero-mul (width k)) in
+      ([], rw (le-ltb p end (omega arith), eq-eqb p end here) (ap (λ (q : ℕ). Done [] q (drop q bytes)) here))
+  run (suc m) zero p before few e aligned = absurd (omega arith)
+  run (suc m) (suc turns) p before few e aligned =
+      let w = width k in
+      let more = suc-mul m w in
+      let some = some_bytes k in
+      let one = number_here p aligned (omega arith) in
+      let others = run m turns (p + w) (one.0 ∷ before) (omega arith) (omega arith) (stays_aligned k p aligned) in
+      (one.0 ∷ others.0, rw (lt-ltb p end (omega arith), one.1, others.1) refl)
+
+-- the elements of an array whose length is that of whole numbers
+pub free_elements_end : (bounds : Bounds) (order : Order) (room : ℕ) (t : TypeTree) (w n at first : ℕ) (bytes : List ℕ) → FreeType t w → n % w ≡ 0 → first ≡ at + gap_to w at → first + n ≤ length bytes
+    → EndsAt bytes (first + n) (contents n (λ end before. value bounds order room end t) first (drop first bytes))
+free_elements_end bounds order room t w n at first bytes free even is inside =
+    let k = free.code in
+    let all = whole k n (subst (λ (v : ℕ). n % v ≡ 0) (sym free.wide) even) in
+    let aligned : gap_to (width k) first ≡ 0 = ap (gap_to (width k)) (is ∙ ap (λ (v : ℕ). at + gap_to v at) (sym free.wide)) ∙ comes_aligned k at in
+    let end : first + n ≡ first + all.0 * width k = ap (λ (v : ℕ). first + v) all.1 in
+    subst (λ (u : TypeTree). EndsAt bytes (first + n) (contents n (λ end before. value bounds order room end u) first (drop first bytes))) (sym free.is)
+    (run bounds order room (first + n) k free.free bytes inside all.0 n first [] all.2 end aligned)

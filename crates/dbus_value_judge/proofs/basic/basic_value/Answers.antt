@@ -1,0 +1,27 @@
+use Rattle.std.proofs.Common.{refl, sym, ap, ◌∙◌}
+use Rattle.std.proofs.lemmas.Option.{IfSome_then}
+use Rattle.dbus_texts.specs.Types.{BOOLEAN, UNIX_FD, STRING, OBJECT_PATH, SIGNATURE}
+use Rattle.dbus_value_judge.specs.Codes.{free_width}
+use Rattle.dbus_value_judge.proofs.TypeCodes.{free_is, text_is, boolean_is, descriptor_is}
+use Rattle.dbus_value_judge.proofs.ValueSteps.{as_number, as_text}
+use Rattle.dbus_value_judge.proofs.basic.basic_value.Goals as goal
+
+pub returns-then-width-gt0-clause-gives : goal.returns-then-width-gt0-clause-gives
+returns-then-width-gt0-clause-gives c = IfSome_then c.free_number.result c.free_number.ensures.gives (λ q h room t e.
+    let free = free_is t c.free_width-width.result c.if-width-gt0.true (c.free_width-width.ensures.value ∙ ap free_width (sym e)) in
+    as_number c.args.bounds c.args.order room c.args.end c.args.at q c.args.bytes.now t free.code free.is (h c.args.bounds.fds c.args.order free.code free.wide (free.free c.args.bounds.fds)))
+
+pub returns-then-code-eq115-clause-gives : goal.returns-then-code-eq115-clause-gives
+returns-then-code-eq115-clause-gives c = IfSome_then c.long_text.result c.long_text.ensures.gives (λ q h room t e. as_text c.args.bounds c.args.order room c.args.end c.args.at q c.args.bytes.now t STRING (text_is t STRING (e ∙ c.if-code-eq115.true)) (h STRING refl refl))
+
+pub returns-then-code-eq111-clause-gives : goal.returns-then-code-eq111-clause-gives
+returns-then-code-eq111-clause-gives c = IfSome_then c.long_text-then-code-eq111.result c.long_text-then-code-eq111.ensures.gives (λ q h room t e. as_text c.args.bounds c.args.order room c.args.end c.args.at q c.args.bytes.now t OBJECT_PATH (text_is t OBJECT_PATH (e ∙ c.if-code-eq111.true)) (h OBJECT_PATH refl refl))
+
+pub returns-then-code-eq103-clause-gives : goal.returns-then-code-eq103-clause-gives
+returns-then-code-eq103-clause-gives c = IfSome_then c.signature.result c.signature.ensures.gives (λ q h room t e. as_text c.args.bounds c.args.order room c.args.end c.args.at q c.args.bytes.now t SIGNATURE (text_is t SIGNATURE (e ∙ c.if-code-eq103.true)) (h c.args.order))
+
+pub returns-then-code-eq98-clause-gives : goal.returns-then-code-eq98-clause-gives
+returns-then-code-eq98-clause-gives c = IfSome_then c.boolean.result c.boolean.ensures.gives (λ q h room t e. as_number c.args.bounds c.args.order room c.args.end c.args.at q c.args.bytes.now t BOOLEAN (boolean_is t (e ∙ c.if-code-eq98.true)) (h c.args.bounds.fds))
+
+pub returns-then-code-eq104-clause-gives : goal.returns-then-code-eq104-clause-gives
+returns-then-code-eq104-clause-gives c = IfSome_then c.descriptor.result c.descriptor.ensures.gives (λ q h room t e. as_number c.args.bounds c.args.order room c.args.end c.args.at q c.args.bytes.now t UNIX_FD (descriptor_is t (e ∙ c.if-code-eq104.true)) h)

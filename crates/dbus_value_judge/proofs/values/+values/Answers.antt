@@ -1,0 +1,104 @@
+use Rattle.std.proofs.Common.{◌≡◌, ℕ, suc, ◌+◌, ◌-◌, ◌%◌, ◌<◌, true, arith, sym, ap, subst, ◌∙◌}
+use Rattle.std.proofs.lemmas.Option.{IfSome_then}
+use Rattle.dbus_texts.specs.Types.{TypeTree, NoTypes, MoreTypes, IsShaped}
+use Rattle.dbus_types.specs.Alignments.{alignment_of}
+use Rattle.dbus_value_model.specs.Bytes.{gap_to}
+use Rattle.dbus_value_model.specs.Reading.{value}
+use Rattle.dbus_value_judge.specs.Codes.{code_boundary, free_width}
+use Rattle.dbus_value_judge.proofs.TypeCodes.{code_is, boundary_is, free_is, variant_is, array_is, struct_is, entry_is, struct_shaped, entry_shaped}
+use Rattle.dbus_value_judge.proofs.NumberArrays.{free_elements_end}
+use Rattle.dbus_value_judge.proofs.ValueSteps.{less_left, left_ends, leads_all, leads_on, leads_end, variant_ends, array_ends, struct_ends, entry_ends, as_variant, as_array, as_struct, as_entry}
+use Rattle.dbus_value_judge.proofs.values.+values.Goals as goal
+
+pub all_values-loop-pos-preserved : goal.all_values-loop-pos-preserved
+all_values-loop-pos-preserved t c =
+    let moves = c.in_ok-place.ensures.moves in
+    record {
+      begun = omega (arith, moves.0);
+      at_most = moves.1;
+      within = c.type_end-next.ensures.within;
+      left = λ ts e shaped.
+          less_left (value c.args.bounds c.args.order c.args.room c.args.end) c.args.bytes.now c.args.types.now ts c.args.at c.loop-pos.place c.loop-pos.pos c.type_end-next.result c.in_ok-place.place c.loop-pos-test.true c.type_end-next.ensures.value
+          (c.loop-pos.invariant.left ts e shaped) c.in_ok-place.ensures.gives;
+    }
+
+pub all_values-returns-clause-gives : goal.all_values-returns-clause-gives
+all_values-returns-clause-gives t c = λ ts e shaped.
+    left_ends (value c.args.bounds c.args.order c.args.room c.args.end) c.args.bytes.now c.args.types.now ts c.args.at c.loop-pos.place c.loop-pos.pos c.loop-pos-test.false (c.loop-pos.invariant.left ts e shaped)
+
+pub array-returns-then-n-from-eq0-clause-gives : goal.array-returns-then-n-from-eq0-clause-gives
+array-returns-then-n-from-eq0-clause-gives t c = λ u e shaped.
+    let code = code_is u c.args.types.now e in
+    let bounded = c.boundary.ensures.value ∙ ap code_boundary (sym code) ∙ boundary_is u in
+    let free = free_is u c.free_width-width.result c.if-width-gt0.true (c.free_width-width.ensures.value ∙ ap free_width (sym code)) in
+    let even : c.in_ok-n.n % c.free_width-width.result ≡ 0 = subst (λ (w : ℕ). c.in_ok-n.n % w ≡ 0) c.from.ensures c.if-n-from-eq0.true in
+    let wide : c.boundary.result ≡ c.free_width-width.result = bounded ∙ ap alignment_of free.is ∙ free.wide in
+    let begins = c.in_ok-n.ensures.begins ∙ ap (λ (w : ℕ). c.in_ok-start.start + 4 + gap_to w (c.in_ok-start.start + 4)) wide in
+    array_ends c.args.bounds c.args.order c.args.room c.args.end c.args.at c.args.bytes.now c.in_ok-start.start u c.in_ok-start.ensures.gives (omega arith) c.in_ok-n.n c.in_ok-n.first (c.in_ok-n.first + c.in_ok-n.n) (c.in_ok-n.ensures.gives u bounded)
+    (free_elements_end c.args.bounds c.args.order (c.args.room - 1) u c.free_width-width.result c.in_ok-n.n (c.in_ok-start.start + 4) c.in_ok-n.first c.args.bytes.now free even begins (omega (arith, c.in_ok-n.ensures.fits)))
+
+pub array-returns-clause-gives : goal.array-returns-clause-gives
+array-returns-clause-gives t c = IfSome_then c.elements.result c.elements.ensures.gives (λ q h u e shaped.
+    let code = code_is u c.args.types.now e in
+    let bounded = c.boundary.ensures.value ∙ ap code_boundary (sym code) ∙ boundary_is u in
+    array_ends c.args.bounds c.args.order c.args.room c.args.end c.args.at c.args.bytes.now c.in_ok-start.start u c.in_ok-start.ensures.gives (omega arith) c.in_ok-n.n c.in_ok-n.first q (c.in_ok-n.ensures.gives u bounded) (h u e shaped))
+
+pub elements-returns-then-place-end-clause-gives : goal.elements-returns-then-place-end-clause-gives
+elements-returns-then-place-end-clause-gives t c = λ u e shaped.
+    leads_end (value c.args.bounds c.args.order c.args.room (c.args.at + c.args.n) u) c.args.bytes.now c.args.n (c.args.at + c.args.n) c.args.at (c.args.n - c.loop-turn._turn) c.loop-turn.place (c.loop-turn.invariant.leads u e shaped) c.if-place-end.true
+
+pub elements-returns-then-place-end-2-clause-gives : goal.elements-returns-then-place-end-2-clause-gives
+elements-returns-then-place-end-2-clause-gives t c = λ u e shaped.
+    leads_end (value c.args.bounds c.args.order c.args.room (c.args.at + c.args.n) u) c.args.bytes.now c.args.n (c.args.at + c.args.n) c.args.at (c.args.n - c.loop-turn._turn) c.loop-turn.place (c.loop-turn.invariant.leads u e shaped) c.if-place-end-2.true
+
+pub elements-loop-turn-init : goal.elements-loop-turn-init
+elements-loop-turn-init t c =
+    record {
+      at_most = omega arith;
+      leads = λ u e shaped. leads_all (value c.args.bounds c.args.order c.args.room (c.args.at + c.args.n) u) c.args.bytes.now c.args.n (c.args.at + c.args.n) c.args.at (c.args.n - 0) (omega arith);
+    }
+
+pub elements-loop-turn-preserved : goal.elements-loop-turn-preserved
+elements-loop-turn-preserved t c =
+    let lt : c.loop-turn.place < c.args.at + c.args.n = omega (arith, c.if-place-end.false) in
+    let more : c.args.n - c.loop-turn._turn ≡ suc (c.args.n - (c.loop-turn._turn + 1)) = omega arith in
+    record {
+      at_most = c.in_ok-place.ensures.moves.1;
+      leads = λ u e shaped.
+          leads_on (value c.args.bounds c.args.order c.args.room (c.args.at + c.args.n) u) c.args.bytes.now c.args.n (c.args.at + c.args.n) c.args.at (c.args.n - c.loop-turn._turn) (c.args.n - (c.loop-turn._turn + 1)) c.loop-turn.place c.in_ok-place.place
+          (c.loop-turn.invariant.leads u e shaped) more lt (c.in_ok-place.ensures.gives u e shaped);
+    }
+
+pub entry-returns-clause-gives : goal.entry-returns-clause-gives
+entry-returns-clause-gives t c = IfSome_then c.all_values.result c.all_values.ensures.gives (λ q h k v e shaped.
+    entry_ends c.args.bounds c.args.order c.args.room c.args.end c.args.at c.args.bytes.now c.in_ok-start.start k v c.in_ok-start.ensures.gives q (h (MoreTypes k (MoreTypes v NoTypes)) e shaped))
+
+pub structure-returns-clause-gives : goal.structure-returns-clause-gives
+structure-returns-clause-gives t c = IfSome_then c.all_values.result c.all_values.ensures.gives (λ q h ts e shaped.
+    struct_ends c.args.bounds c.args.order c.args.room c.args.end c.args.at c.args.bytes.now c.in_ok-start.start ts c.in_ok-start.ensures.gives (omega arith) q (h ts e shaped))
+
+pub variant-returns-clause-gives : goal.variant-returns-clause-gives
+variant-returns-clause-gives t c = IfSome_then c.one_value.result c.one_value.ensures.gives (λ q h.
+    variant_ends c.args.bounds c.args.order c.args.room c.args.end c.args.at c.args.bytes.now (omega arith) c.in_ok-n.n q (c.in_ok-n.ensures.measures c.args.order) c.in_ok-n.ensures.text (c.args.at + 1 + c.in_ok-n.n - (c.args.at + 1)) (omega arith) h)
+
+pub one_value-returns-then-code-eq118-clause-gives : goal.one_value-returns-then-code-eq118-clause-gives
+one_value-returns-then-code-eq118-clause-gives t c = IfSome_then c.variant.result c.variant.ensures.gives (λ q h u e shaped.
+    as_variant c.args.bounds c.args.order c.args.room c.args.end c.args.at q c.args.bytes.now u (variant_is u (code_is u c.args.types.now e ∙ c.if-code-eq118.true)) h)
+
+pub one_value-returns-then-code-eq97-clause-gives : goal.one_value-returns-then-code-eq97-clause-gives
+one_value-returns-then-code-eq97-clause-gives t c = IfSome_then c.array.result c.array.ensures.gives (λ q h u e shaped.
+    let w = array_is u c.args.types.now e c.if-code-eq97.true in
+    as_array c.args.bounds c.args.order c.args.room c.args.end c.args.at q c.args.bytes.now u w.0 w.1 (h w.0 w.2 (subst (λ (v : TypeTree). IsShaped true v) w.1 shaped)))
+
+pub one_value-returns-then-types-gt1-clause-gives : goal.one_value-returns-then-types-gt1-clause-gives
+one_value-returns-then-types-gt1-clause-gives t c = IfSome_then c.structure.result c.structure.ensures.gives (λ q h u e shaped.
+    let w = struct_is u c.args.types.now e c.if-code-eq40.true in
+    as_struct c.args.bounds c.args.order c.args.room c.args.end c.args.at q c.args.bytes.now u w.0 w.1 (h w.0 w.2 (struct_shaped w.0 (subst (λ (v : TypeTree). IsShaped true v) w.1 shaped))))
+
+pub one_value-returns-then-types-gt1-2-clause-gives : goal.one_value-returns-then-types-gt1-2-clause-gives
+one_value-returns-then-types-gt1-2-clause-gives t c = IfSome_then c.entry.result c.entry.ensures.gives (λ q h u e shaped.
+    let w = entry_is u c.args.types.now e c.if-code-eq123.true in
+    as_entry c.args.bounds c.args.order c.args.room c.args.end c.args.at q c.args.bytes.now u w.0 w.1 w.2 (h w.0 w.1 w.3 (entry_shaped w.0 w.1 (subst (λ (v : TypeTree). IsShaped true v) w.2 shaped))))
+
+pub one_value-returns-clause-gives : goal.one_value-returns-clause-gives
+one_value-returns-clause-gives t c = IfSome_then c.basic_value.result c.basic_value.ensures.gives (λ q h u e shaped. h c.args.room u (code_is u c.args.types.now e))

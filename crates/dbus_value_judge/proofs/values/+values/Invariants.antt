@@ -1,0 +1,45 @@
+use Rattle.std.proofs.Common.{◌≡◌, ◌+◌, ◌-◌, ◌*◌, ◌≤◌, length, true}
+use Rattle.dbus_texts.specs.Types.{TypeTree, TypeTrees, sig, sigs, IsShaped, AreShaped}
+use Rattle.dbus_value_model.specs.Reading.{value}
+use Rattle.dbus_value_judge.proofs.ValueSteps.{Left, LeadsTo}
+use Rattle.dbus_value_judge.proofs.values.+values.Given as goal
+
+-- a container takes one of the room, or bytes of its type, and a variant's own type has at most 255 bytes
+
+abbrev pub decreases-one_value : goal.decreases-one_value
+decreases-one_value l = 4 * (256 * l.room + length l.types.now)
+
+abbrev pub decreases-all_values : goal.decreases-all_values
+decreases-all_values l = 4 * (256 * l.room + length l.types.now) + 1
+
+abbrev pub decreases-variant : goal.decreases-variant
+decreases-variant l = 4 * (256 * l.room) + 1
+
+abbrev pub decreases-array : goal.decreases-array
+decreases-array l = 4 * (256 * l.room + length l.types.now) + 3
+
+abbrev pub decreases-elements : goal.decreases-elements
+decreases-elements l = 4 * (256 * l.room + length l.types.now) + 1
+
+abbrev pub decreases-structure : goal.decreases-structure
+decreases-structure l = 4 * (256 * l.room + length l.types.now) + 3
+
+abbrev pub decreases-entry : goal.decreases-entry
+decreases-entry l = 4 * (256 * l.room + length l.types.now) + 3
+
+abbrev pub invariant-all_values-loop-pos : goal.invariant-all_values-loop-pos
+invariant-all_values-loop-pos l = record {
+  begun : l.fn.at ≤ l.place;
+  at_most : l.place ≤ l.end;
+  within : l.pos ≤ length l.types;
+  left : (ts : TypeTrees) → sigs ts ≡ l.types → AreShaped ts → Left (value l.bounds l.order l.room l.end) l.bytes l.types ts l.fn.at l.place l.pos;
+}
+
+abbrev pub decreases-all_values-loop-pos : goal.decreases-all_values-loop-pos
+decreases-all_values-loop-pos l = length l.types - l.pos
+
+abbrev pub invariant-elements-loop-turn : goal.invariant-elements-loop-turn
+invariant-elements-loop-turn l = record {
+  at_most : l.place ≤ l.end;
+  leads : (t : TypeTree) → sig t ≡ l.types → IsShaped true t → LeadsTo (value l.bounds l.order l.room l.end t) l.bytes l.n (l.n - l._turn) l.end l.fn.at l.place;
+}

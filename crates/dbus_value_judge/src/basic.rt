@@ -1,0 +1,50 @@
+//! Values of basic types. D-Bus Specification, "Basic types".
+#![tactic(auto)]
+
+ghost use Rattle.std.specs.Prelude.{◌≡◌, ℕ, ◌+◌, ◌≤◌, length, drop, IfSome};
+ghost use Rattle.dbus_texts.specs.Types.{TypeTree};
+ghost use Rattle.dbus_value_model.specs.Reading.{value};
+ghost use Rattle.dbus_value_judge.specs.Codes.{first_code};
+ghost use Rattle.dbus_value_judge.specs.Endings.{EndsAt};
+
+use crate::codes::free_width;
+use crate::numbers::{boolean, descriptor, free_number};
+use crate::texts::{long_text, signature};
+use dbus_types::TextKind;
+use dbus_value_model::{Bounds, Order};
+
+/// A value of the basic type that has this code: the offset after it. None for all other codes.
+pub(crate) fn basic_value(
+    bytes: &[u8],
+    at: usize,
+    end: usize,
+    order: Order,
+    code: u8,
+    bounds: Bounds,
+) -> Option<usize>
+    requires at_most { at ≤ end }
+    requires inside { end ≤ length bytes.now }
+    ensures gives { IfSome result (λ q. (room : ℕ) (t : TypeTree) → first_code t ≡ code → EndsAt bytes.now q (value bounds order room end t at (drop at bytes.now))) }
+    ensures moves { IfSome result (λ q. (at ≤ q) × (q ≤ end)) }
+{
+    let width = free_width(code);
+    if width > 0 {
+        return free_number(bytes, at, end, width);
+    }
+    if code == b's' {
+        return long_text(bytes, at, end, order, TextKind::Text);
+    }
+    if code == b'o' {
+        return long_text(bytes, at, end, order, TextKind::Path);
+    }
+    if code == b'g' {
+        return signature(bytes, at, end);
+    }
+    if code == b'b' {
+        return boolean(bytes, at, end, order);
+    }
+    if code == b'h' {
+        return descriptor(bytes, at, end, order, bounds.fds);
+    }
+    None
+}

@@ -1,0 +1,34 @@
+//! Values judged.
+#![tactic(auto)]
+
+ghost use Rattle.std.specs.Prelude.{◌≡◌, ◌≤◌, length, IfSome};
+ghost use Rattle.dbus_texts.specs.Types.{TypeTrees, sigs, AreShaped};
+ghost use Rattle.dbus_value_judge.specs.Endings.{AreSpelledTo};
+
+use crate::values::all_values;
+use dbus_value_model::{Bounds, Order};
+
+/// The offset after values of the types that a signature spells, where they are found good.
+///
+/// `bytes` begin at the message's first byte, from which padding counts; the values begin at `at` and end at or before `end`,
+/// and `room` containers may be open at once in them. Some(after) says that from `at` up to `after` the bytes spell values of
+/// exactly those types, within the bounds: no array has more bytes than they allow, and each index of a file descriptor is
+/// below their number, if there is one. None says nothing. Of `types` that are no complete types nothing is said either. No
+/// memory is taken.
+/// D-Bus Specification, "Marshaling (Wire Format)".
+pub fn judge_values(
+    bytes: &[u8],
+    at: usize,
+    end: usize,
+    order: Order,
+    types: &[u8],
+    room: u8,
+    bounds: Bounds,
+) -> Option<usize>
+    requires at_most { at ≤ end }
+    requires inside { end ≤ length bytes.now }
+    ensures spelled { IfSome result (λ after. (ts : TypeTrees) → sigs ts ≡ types.now → AreShaped ts → AreSpelledTo bounds order room end ts at bytes.now after) }
+    ensures moves { IfSome result (λ after. (at ≤ after) × (after ≤ end)) }
+{
+    all_values(bytes, at, end, order, types, room, bounds)
+}

@@ -1,0 +1,17 @@
+//! Values judged fast: whether bytes spell values of given types, and where these end.
+//!
+//! Only a yes says something. A no comes of bytes that are at fault, and may come of others: who wants the place and the reason
+//! of a fault, or to be sure that there is one, asks a reader or a checker. So nothing is noted on the way, no memory is taken,
+//! and a signature's bytes are followed where they stand.
+#![tactic(auto)]
+
+mod arrays;
+mod basic;
+mod codes;
+mod items;
+mod judging;
+mod numbers;
+mod texts;
+mod values;
+
+pub use judging::judge_values;
