@@ -3,4 +3,4 @@ mod TypeCodes
 mod ItemSteps
 mod NumberArrays
 mod ValueSteps
-mod Spelled
+pub mod Spelled

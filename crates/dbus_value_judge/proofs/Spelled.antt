@@ -1,14 +1,15 @@
 -- What is read whole is spelled.
-use Rattle.std.proofs.Common.{ℕ, ◌≤◌, List, drop, get_or, ◌<◌}
-use Rattle.dbus_texts.specs.Types.{TypeTrees, AreShaped}
+use Rattle.std.proofs.Common.{ℕ, ◌≤◌, List, drop, get_or, ◌<◌, true, subst}
+use Rattle.dbus_texts.specs.Types.{TypeTree, TypeTrees, IsShaped, AreShaped}
 use Rattle.dbus_value_model.specs.declared.limits.Bounds.{Bounds}
 use Rattle.dbus_value_model.specs.declared.order.Order.{Order}
 use Rattle.dbus_value_model.specs.ValueItems as faults
 use Rattle.dbus_value_model.specs.Reading as reading
-use Rattle.dbus_unmarshal.proofs.Composition.{fields_to}
+use Rattle.dbus_unmarshal.proofs.Composition.{fields_from, fields_to}
 use Rattle.dbus_unmarshal.proofs.ValueItemLaws.{Agrees-value, value_inside, agrees_fields}
+use Rattle.dbus_unmarshal.proofs.ValueOutcomes.{reads_spelled}
 use Rattle.dbus_unmarshal.proofs.ValueSteps.{bytes_at}
-use Rattle.dbus_value_judge.specs.Endings.{EndsAt, AreSpelledTo}
+use Rattle.dbus_value_judge.specs.Endings.{EndsAt, IsSpelledTo, AreSpelledTo}
 
 pub spelled_to : (bounds : Bounds) (order : Order) (room end : ℕ) (ts : TypeTrees) (at after : ℕ) (bytes : List ℕ) → AreShaped ts → at ≤ end → ((i : ℕ) → get_or bytes i 0 < 256)
     → EndsAt bytes after (reading.fields (reading.value bounds order room end) ts at (drop at bytes)) → AreSpelledTo bounds order room end ts at bytes after
@@ -18,3 +19,22 @@ spelled_to bounds order room end ts at after bytes shaped le are read =
     let passed = agrees.reads at (drop at bytes) read.0 after (drop after bytes) (bytes_at bytes at are) read.1 in
     let w = fields_to bounds order room part (λ e t o s v q r. (value_inside bounds order room e t o s v q r).0) (λ e t o s v q r. (value_inside bounds order room e t o s v q r).1) end ts at (drop at bytes) read.0 after (drop after bytes) passed in
     (read.0, record { types = w.0; spelled = w.1; bound = w.2 le })
+
+pub value_spelled_to : (bounds : Bounds) (order : Order) (room end : ℕ) (t : TypeTree) (at after : ℕ) (bytes : List ℕ) → IsShaped true t → ((i : ℕ) → get_or bytes i 0 < 256)
+    → EndsAt bytes after (reading.value bounds order room end t at (drop at bytes)) → IsSpelledTo bounds order room end t at bytes after
+value_spelled_to bounds order room end t at after bytes shaped are read =
+    (read.0, (reads_spelled bounds order room end true t at (drop at bytes) read.0 after (drop after bytes) shaped (bytes_at bytes at are)).0 read.1)
+
+-- and what is spelled is read
+pub spelled_read : (bounds : Bounds) (order : Order) (room end : ℕ) (ts : TypeTrees) (at after : ℕ) (bytes : List ℕ) → AreShaped ts
+    → AreSpelledTo bounds order room end ts at bytes after → EndsAt bytes after (reading.fields (reading.value bounds order room end) ts at (drop at bytes))
+spelled_read bounds order room end ts at after bytes shaped w =
+    let part = faults.value bounds order room in
+    let agrees = agrees_fields bounds order room part (reading.value bounds order room) (value_inside bounds order room) (λ e b t h. Agrees-value bounds order room e b t h) end ts shaped in
+    let passed = fields_from bounds order room part (λ e t o s v q r. (value_inside bounds order room e t o s v q r).0) (λ e t o s v q r. (value_inside bounds order room e t o s v q r).1) end w.0 at (drop at bytes) after (drop after bytes) w.1.bound w.1.spelled in
+    (w.0, agrees.passes at (drop at bytes) w.0 after (drop after bytes) (subst (λ (u : TypeTrees). (faults.fields (part end) u).Passed at (drop at bytes) w.0 after (drop after bytes)) w.1.types passed))
+
+pub value_spelled_read : (bounds : Bounds) (order : Order) (room end : ℕ) (t : TypeTree) (at after : ℕ) (bytes : List ℕ) → IsShaped true t → ((i : ℕ) → get_or bytes i 0 < 256)
+    → IsSpelledTo bounds order room end t at bytes after → EndsAt bytes after (reading.value bounds order room end t at (drop at bytes))
+value_spelled_read bounds order room end t at after bytes shaped are w =
+    (w.0, (reads_spelled bounds order room end true t at (drop at bytes) w.0 after (drop after bytes) shaped (bytes_at bytes at are)).1 w.1)

@@ -1,13 +1,14 @@
 -- What is read of the bytes of a message, and where it ends; its value is forgotten.
 -- D-Bus Specification, "Marshaling (Wire Format)".
 use Rattle.std.specs.Prelude.{◌≡◌, ℕ, ◌+◌, List, take, drop, Option, None}
-use Rattle.dbus_texts.specs.Types.{NumberCode, TypeTrees}
+use Rattle.dbus_texts.specs.Types.{NumberCode, TypeTree, TypeTrees}
 use Rattle.dbus_texts.specs.Kinds.{IsKind}
 use Rattle.dbus_texts.specs.declared.text_kind.TextKind.{TextKind}
 use Rattle.dbus_value_model.specs.declared.limits.Bounds.{Bounds}
 use Rattle.dbus_value_model.specs.declared.order.Order.{Order}
 use Rattle.dbus_value_model.specs.Outcomes.{IsDone}
-use Rattle.dbus_value_model.specs.Values.{ValueTrees}
+use Rattle.dbus_value_model.specs.Spelling.{Spelled}
+use Rattle.dbus_value_model.specs.Values.{ValueTree, ValueTrees}
 use Rattle.dbus_value_model.specs.ValueItems.{number_row}
 use Rattle.dbus_value_model.specs.WantedTexts.{Of}
 use Rattle.dbus_value_model.specs.Reading.{Outcome, Done, text, nul}
@@ -25,6 +26,10 @@ pub record EndedText (kind : TextKind) (n start : ℕ) (bytes : List ℕ) : Type
   pub is_text : text (Of kind) n start (drop start bytes) ≡ Done (take n (drop start bytes)) (start + n) (drop (start + n) bytes)
   pub is_ended : nul (start + n) (drop (start + n) bytes) ≡ Done tt (start + n + 1) (drop (start + n + 1) bytes)
   pub is_kind : IsKind kind (take n (drop start bytes))
+
+-- a value of the type is spelled from one offset up to another
+abbrev pub IsSpelledTo : Bounds → Order → (room end : ℕ) → TypeTree → (offset : ℕ) → List ℕ → (after : ℕ) → Type 0
+IsSpelledTo bounds order room end t offset bytes after = (v : ValueTree) × Spelled bounds order room end t offset (drop offset bytes) v after (drop after bytes)
 
 -- values of these types, one after another, are spelled from one offset up to another
 abbrev pub AreSpelledTo : Bounds → Order → (room end : ℕ) → TypeTrees → (offset : ℕ) → List ℕ → (after : ℕ) → Type 0

@@ -1,11 +1,11 @@
 //! Values judged.
 #![tactic(auto)]
 
-ghost use Rattle.std.specs.Prelude.{◌≡◌, ◌≤◌, length, IfSome};
-ghost use Rattle.dbus_texts.specs.Types.{TypeTrees, sigs, AreShaped};
-ghost use Rattle.dbus_value_judge.specs.Endings.{AreSpelledTo};
+ghost use Rattle.std.specs.Prelude.{◌≡◌, ◌≤◌, length, true, IfSome};
+ghost use Rattle.dbus_texts.specs.Types.{TypeTree, TypeTrees, sig, sigs, IsShaped, AreShaped};
+ghost use Rattle.dbus_value_judge.specs.Endings.{IsSpelledTo, AreSpelledTo};
 
-use crate::values::all_values;
+use crate::values::{all_values, one_value};
 use dbus_value_model::{Bounds, Order};
 
 /// The offset after values of the types that a signature spells, where they are found good.
@@ -31,4 +31,24 @@ pub fn judge_values(
     ensures moves { IfSome result (λ after. (at ≤ after) × (after ≤ end)) }
 {
     all_values(bytes, at, end, order, types, room, bounds)
+}
+
+/// The offset after a value of the one type that a signature spells, where it is found good: as [`judge_values`] says of several.
+/// It may be a dict entry, as an array's element is.
+/// D-Bus Specification, "Marshaling (Wire Format)".
+pub fn judge_value(
+    bytes: &[u8],
+    at: usize,
+    end: usize,
+    order: Order,
+    types: &[u8],
+    room: u8,
+    bounds: Bounds,
+) -> Option<usize>
+    requires at_most { at ≤ end }
+    requires inside { end ≤ length bytes.now }
+    ensures spelled { IfSome result (λ after. (t : TypeTree) → sig t ≡ types.now → IsShaped true t → IsSpelledTo bounds order room end t at bytes.now after) }
+    ensures moves { IfSome result (λ after. (at ≤ after) × (after ≤ end)) }
+{
+    one_value(bytes, at, end, order, types, room, bounds)
 }

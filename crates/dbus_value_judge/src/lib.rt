@@ -14,4 +14,4 @@ mod numbers;
 mod texts;
 mod values;
 
-pub use judging::judge_values;
+pub use judging::{judge_value, judge_values};

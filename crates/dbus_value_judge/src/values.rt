@@ -21,7 +21,7 @@ use dbus_value_model::{Bounds, Order};
 
 /// A value of the one type that `types` spell.
 #[cycle(values)]
-fn one_value(
+pub(crate) fn one_value(
     bytes: &[u8],
     at: usize,
     end: usize,

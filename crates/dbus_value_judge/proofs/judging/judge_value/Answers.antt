@@ -1,0 +1,8 @@
+use Rattle.std.proofs.Common.{arith}
+use Rattle.std.proofs.lemmas.Option.{IfSome_then}
+use Rattle.dbus_value_judge.proofs.Spelled.{value_spelled_to}
+use Rattle.dbus_value_judge.proofs.judging.judge_value.Goals as goal
+
+pub returns-clause-spelled : goal.returns-clause-spelled
+returns-clause-spelled c = IfSome_then c.one_value.result c.one_value.ensures.gives (λ q h t e shaped.
+    value_spelled_to c.args.bounds c.args.order c.args.room c.args.end t c.args.at q c.args.bytes.now shaped (λ i. omega (arith, c.type_inv.bytes i)) (h t e shaped))
