@@ -17,7 +17,7 @@ use dbus_value_model::Order;
 
 /// The zeros up to the next multiple of `boundary`: the offset after them.
 #[inline]
-pub(crate) fn padding(bytes: &[u8], at: usize, end: usize, boundary: u8) -> Option<usize>
+pub fn padding(bytes: &[u8], at: usize, end: usize, boundary: u8) -> Option<usize>
     requires some { 0 < boundary }
     requires at_most { at ≤ end }
     requires inside { end ≤ length bytes.now }
@@ -38,7 +38,7 @@ pub(crate) fn padding(bytes: &[u8], at: usize, end: usize, boundary: u8) -> Opti
 
 /// A number of four bytes.
 #[inline]
-pub(crate) fn word(bytes: &[u8], at: usize, end: usize, order: Order) -> Option<u32>
+pub fn word(bytes: &[u8], at: usize, end: usize, order: Order) -> Option<u32>
     requires at_most { at ≤ end }
     requires inside { end ≤ length bytes.now }
     ensures gives { IfSome result (λ n. number order 4 end no_row at (drop at bytes.now) ≡ Done n (at + 4) (drop (at + 4) bytes.now)) }
@@ -65,7 +65,7 @@ pub(crate) fn byte(bytes: &[u8], at: usize, end: usize) -> Option<u8>
 }
 
 /// Whether n bytes are a text of a kind, and a zero stands after it.
-pub(crate) fn is_ended_text(bytes: &[u8], start: usize, n: usize, kind: TextKind) -> bool
+pub fn is_ended_text(bytes: &[u8], start: usize, n: usize, kind: TextKind) -> bool
     requires { start + n < length bytes.now }
     ensures { IsTrue result → EndedText kind n start bytes.now }
 {

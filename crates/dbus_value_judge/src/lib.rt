@@ -14,4 +14,6 @@ mod numbers;
 mod texts;
 mod values;
 
+pub use items::{is_ended_text, padding, word};
 pub use judging::{judge_value, judge_values};
+pub use texts::short_text;

@@ -41,7 +41,7 @@ pub(crate) fn long_text(
 }
 
 /// A text whose length has one byte, that of a SIGNATURE or of a variant: how many bytes it has.
-pub(crate) fn short_text(bytes: &[u8], at: usize, end: usize, kind: TextKind) -> Option<usize>
+pub fn short_text(bytes: &[u8], at: usize, end: usize, kind: TextKind) -> Option<usize>
     requires at_most { at ≤ end }
     requires inside { end ≤ length bytes.now }
     ensures measures { IfSome result (λ n. (order : Order) → number order 1 end (text_row end) at (drop at bytes.now) ≡ Done n (at + 1) (drop (at + 1) bytes.now)) }

@@ -1,0 +1,41 @@
+//! Header fields. D-Bus Specification, "Header Fields".
+#![tactic(auto)]
+
+ghost use Rattle.std.specs.Prelude.{◌≡◌, ◌+◌, ◌≤◌, ◌<◌, List, length, IfSome, false, ◌&&◌};
+ghost use Rattle.dbus_decode.specs.declared.field_value.TheConstants.{FIELD_DEPTH};
+ghost use Rattle.dbus_message_model.specs.Messages.{FieldTree, is_known, has_code};
+ghost use Rattle.dbus_judge.specs.Held.{IsHeldField};
+
+use crate::field_values::{Held, judge_field_value};
+use dbus_decode::FIELD_DEPTH;
+use dbus_value_judge::padding;
+use dbus_value_model::{Limits, Order};
+
+/// A header field, where it is found good: its code, and where its value stands.
+///
+/// `bytes` begin at the message's first byte, from which offsets count; the field begins at `at` and ends at or before `end`, up
+/// to which the bytes are there. Some says that the bytes from `at` on are a field of that code, behind any fields among which the
+/// code does not stand, or any at all where it is not known. None says nothing. The field array is open around it.
+pub fn judge_field(
+    bytes: &[u8],
+    at: usize,
+    end: usize,
+    order: Order,
+    limits: Limits,
+) -> Option<(u8, Held)>
+    requires opened { FIELD_DEPTH ≤ limits.depth }
+    requires at_most { at ≤ end }
+    requires inside { end ≤ length bytes.now }
+    ensures { IfSome result (λ f. (before : List FieldTree) → is_known f.0 && has_code f.0 before ≡ false → IsHeldField limits order end before at bytes.now f.0 f.1) }
+{
+    let start = padding(bytes, at, end, 8)?;
+    if start == end {
+        return None;
+    }
+    let code = bytes[start];
+    if code == 0 {
+        return None;
+    }
+    let held = judge_field_value(bytes, start + 1, end, order, code, limits)?;
+    Some((code, held))
+}
