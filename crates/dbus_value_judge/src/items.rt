@@ -1,7 +1,8 @@
 //! Items of values, passed over.
 //!
 //! `bytes` begin at the message's first byte, from which offsets count. An item begins at `at` and is to end at or before `end`,
-//! up to which the bytes are there. D-Bus Specification, "Marshaling (Wire Format)".
+//! up to which the bytes are there. A call answers nothing where it does not find the item good, and that says nothing.
+//! D-Bus Specification, "Marshaling (Wire Format)".
 #![tactic(auto)]
 
 ghost use Rattle.std.specs.Prelude.{◌≡◌, ℕ, ◌+◌, ◌<◌, ◌≤◌, length, take, drop, IfSome, IsTrue};
