@@ -61,7 +61,8 @@ fn letter(bytes: &[u8], at: usize, end: usize, wanted: u8) -> Option<usize>
 fn name(bytes: &[u8], at: usize, end: usize, order: Order, kind: TextKind) -> Option<Held>
     requires at_most { at ≤ end }
     requires inside { end ≤ length bytes.now }
-    ensures { IfSome result (λ h. (limits : Limits) → IsHeld limits order end (Name (Of kind)) at bytes.now h) }
+    ensures held { IfSome result (λ h. (limits : Limits) → IsHeld limits order end (Name (Of kind)) at bytes.now h) }
+    ensures moves { IfSome result (λ h. (at ≤ h.after) × (h.after ≤ end)) }
 {
     let signed = letter(bytes, at, end, b's')?;
     let place = padding(bytes, signed, end, 4)?;
@@ -89,7 +90,8 @@ fn name(bytes: &[u8], at: usize, end: usize, order: Order, kind: TextKind) -> Op
 fn path(bytes: &[u8], at: usize, end: usize, order: Order) -> Option<Held>
     requires at_most { at ≤ end }
     requires inside { end ≤ length bytes.now }
-    ensures { IfSome result (λ h. (limits : Limits) → IsHeld limits order end (OfType (TextType OBJECT_PATH)) at bytes.now h) }
+    ensures held { IfSome result (λ h. (limits : Limits) → IsHeld limits order end (OfType (TextType OBJECT_PATH)) at bytes.now h) }
+    ensures moves { IfSome result (λ h. (at ≤ h.after) × (h.after ≤ end)) }
 {
     let signed = letter(bytes, at, end, b'o')?;
     let place = padding(bytes, signed, end, 4)?;
@@ -114,7 +116,8 @@ fn path(bytes: &[u8], at: usize, end: usize, order: Order) -> Option<Held>
 fn signature(bytes: &[u8], at: usize, end: usize, order: Order) -> Option<Held>
     requires at_most { at ≤ end }
     requires inside { end ≤ length bytes.now }
-    ensures { IfSome result (λ h. (limits : Limits) → IsHeld limits order end (OfType (TextType SIGNATURE)) at bytes.now h) }
+    ensures held { IfSome result (λ h. (limits : Limits) → IsHeld limits order end (OfType (TextType SIGNATURE)) at bytes.now h) }
+    ensures moves { IfSome result (λ h. (at ≤ h.after) × (h.after ≤ end)) }
 {
     let signed = letter(bytes, at, end, b'g')?;
     let length = short_text(bytes, signed, end, TextKind::Signature)?;
@@ -131,7 +134,8 @@ fn signature(bytes: &[u8], at: usize, end: usize, order: Order) -> Option<Held>
 fn number(bytes: &[u8], at: usize, end: usize, order: Order) -> Option<Held>
     requires at_most { at ≤ end }
     requires inside { end ≤ length bytes.now }
-    ensures { IfSome result (λ h. (limits : Limits) → IsHeld limits order end (OfType (NumberType UINT32)) at bytes.now h) }
+    ensures held { IfSome result (λ h. (limits : Limits) → IsHeld limits order end (OfType (NumberType UINT32)) at bytes.now h) }
+    ensures moves { IfSome result (λ h. (at ≤ h.after) × (h.after ≤ end)) }
 {
     let signed = letter(bytes, at, end, b'u')?;
     let place = padding(bytes, signed, end, 4)?;
@@ -148,7 +152,8 @@ fn number(bytes: &[u8], at: usize, end: usize, order: Order) -> Option<Held>
 fn serial(bytes: &[u8], at: usize, end: usize, order: Order) -> Option<Held>
     requires at_most { at ≤ end }
     requires inside { end ≤ length bytes.now }
-    ensures { IfSome result (λ h. (limits : Limits) → IsHeld limits order end Serial at bytes.now h) }
+    ensures held { IfSome result (λ h. (limits : Limits) → IsHeld limits order end Serial at bytes.now h) }
+    ensures moves { IfSome result (λ h. (at ≤ h.after) × (h.after ≤ end)) }
 {
     let signed = letter(bytes, at, end, b'u')?;
     let place = padding(bytes, signed, end, 4)?;
@@ -169,7 +174,8 @@ fn anything(bytes: &[u8], at: usize, end: usize, order: Order, limits: Limits) -
     requires opened { FIELD_DEPTH ≤ limits.depth }
     requires at_most { at ≤ end }
     requires inside { end ≤ length bytes.now }
-    ensures { IfSome result (λ h. IsHeld limits order end Anything at bytes.now h) }
+    ensures held { IfSome result (λ h. IsHeld limits order end Anything at bytes.now h) }
+    ensures moves { IfSome result (λ h. (at ≤ h.after) × (h.after ≤ end)) }
 {
     let n = short_text(bytes, at, end, TextKind::Single)?;
     let first = at + 1;
@@ -208,7 +214,8 @@ pub fn judge_field_value(
     requires opened { FIELD_DEPTH ≤ limits.depth }
     requires at_most { at ≤ end }
     requires inside { end ≤ length bytes.now }
-    ensures { IfSome result (λ h. IsHeld limits order end (want code) at bytes.now h) }
+    ensures held { IfSome result (λ h. IsHeld limits order end (want code) at bytes.now h) }
+    ensures moves { IfSome result (λ h. (at ≤ h.after) × (h.after ≤ end)) }
 {
     match want(code) {
         Wanted::Anything => anything(bytes, at, end, order, limits),

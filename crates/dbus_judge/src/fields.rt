@@ -26,7 +26,8 @@ pub fn judge_field(
     requires opened { FIELD_DEPTH ≤ limits.depth }
     requires at_most { at ≤ end }
     requires inside { end ≤ length bytes.now }
-    ensures { IfSome result (λ f. (before : List FieldTree) → is_known f.0 && has_code f.0 before ≡ false → IsHeldField limits order end before at bytes.now f.0 f.1) }
+    ensures field { IfSome result (λ f. (before : List FieldTree) → is_known f.0 && has_code f.0 before ≡ false → IsHeldField limits order end before at bytes.now f.0 f.1) }
+    ensures moves { IfSome result (λ f. (at < f.1.after) × (f.1.after ≤ end)) }
 {
     let start = padding(bytes, at, end, 8)?;
     if start == end {
