@@ -1,5 +1,5 @@
 -- What becomes of the decoding of one message's bytes.
-use Rattle.std.proofs.Common.{◌≡◌, ℕ, List, Ok, Err, Result, length, subst}
+use Rattle.std.proofs.Common.{ℕ, List, Ok, Err, Result, length, subst}
 use Rattle.dbus_value_model.specs.declared.fault.Refusal.{Refusal}
 use Rattle.dbus_value_model.specs.declared.fault.Refusal.TheVariants as refusals
 use Rattle.dbus_value_model.specs.declared.limits.Limits.{Limits}

@@ -1,6 +1,7 @@
 pub mod Lists
 pub mod WriteSteps
 pub mod NextSteps
+pub mod CheckNextSteps
 pub mod CutLaws
 pub mod WholeLaws
 pub mod CutterSteps

@@ -17,3 +17,8 @@ pub record IsChecked (limits : Limits) (held : List ℕ) (fault : Option Fault) 
 -- the bytes are a message
 abbrev pub IsOneMessage : Limits → List ℕ → Type 0
 IsOneMessage limits bytes = (order : Order) × (m : MessageTree) × IsWhole limits bytes order m (length bytes)
+
+-- a checker was handed these bytes of the message under way, so many
+pub record HasTaken (checker : Checker) (taken : ℕ) (held : List ℕ) : Type 0 where
+  pub stands : Stands checker held
+  pub size : taken ≡ length held

@@ -9,6 +9,9 @@ pub mod Steps
 pub mod StreamLaws
 pub mod CutterState
 pub mod Checked
+pub mod CheckReading
+pub mod CheckNext
+pub mod CheckReadSteps
 pub mod Cutting
 pub mod Decoded
 pub mod Runs

@@ -1,7 +1,6 @@
 -- The steps of a reader of messages: what is kept is decoded, and more is read.
 use Rattle.std.specs.Prelude.{◌≡◌, ◌≤◌, ℕ, List, [], ◌++◌, true, nat_eq, length, Option, None, Some, Result, Ok, Err}
 use Rattle.std.specs.Io.KnownBytes.{Consumes, IsAtEnd, Keeps}
-use Rattle.std.specs.declared.alloc.AllocError.{AllocError}
 use Rattle.dbus_value_model.specs.declared.order.Order.{Order}
 use Rattle.dbus_message_model.specs.declared.message.Message.{Message}
 use Rattle.dbus_decode.specs.MessageOutcomes.{IsRefused, IsPartial}

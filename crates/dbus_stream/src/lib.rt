@@ -1,6 +1,7 @@
 //! Devices that bytes come from and go to, and streams of D-Bus messages over them.
 #![tactic(auto)]
 
+mod check_reader;
 mod cutter;
 mod decoded;
 mod device_fault;
@@ -15,6 +16,7 @@ mod stream_fault;
 mod write_fault;
 mod writing;
 
+pub use check_reader::CheckReader;
 pub use cutter::Cutter;
 pub use device_fault::DeviceFault;
 pub use from_read::FromRead;

@@ -1,4 +1,4 @@
-use Rattle.std.proofs.Common.{◌≡◌, List, ℕ, None, Some, subst, sym, ap}
+use Rattle.std.proofs.Common.{◌≡◌, List, ℕ, subst, ap}
 use Rattle.std.specs.Prelude.{IfSome}
 use Rattle.dbus_decode.specs.MessageOutcomes.{IsPartial}
 use Rattle.dbus_stream.specs.CutterState.{CutterState}

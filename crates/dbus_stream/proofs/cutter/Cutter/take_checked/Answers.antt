@@ -1,10 +1,10 @@
-use Rattle.std.proofs.Common.{◌≡◌, ◌+◌, ◌≤◌, ℕ, List, ◌++◌, length, None, refl, sym, ap, subst, ◌∙◌}
+use Rattle.std.proofs.Common.{◌+◌, ◌≤◌, ℕ, List, ◌++◌, length, refl, sym, ap, subst, ◌∙◌}
 use Rattle.dbus_value_model.specs.declared.order.Order.{Order}
 use Rattle.dbus_message_model.specs.Messages.{MessageTree}
 use Rattle.dbus_message_model.specs.MessageViews.{message_tree}
 use Rattle.dbus_decode.specs.MessageOutcomes.{IsWhole, IsPartial}
 use Rattle.dbus_decode.proofs.OutcomeLaws.{nothing_partial}
-use Rattle.dbus_check.specs.Checks.{Stands, Takes, limits_of}
+use Rattle.dbus_check.specs.Checks.{Stands, Takes}
 use Rattle.dbus_stream.specs.CutterState.{CutterState}
 use Rattle.dbus_stream.proofs.CutterSteps.{one_message, begins_with}
 use Rattle.dbus_stream.proofs.cutter.Cutter.take_checked.Goals as goal
