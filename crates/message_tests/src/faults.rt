@@ -50,9 +50,9 @@ const ARRAY: &[u8] =
 const VARIANT: &[u8] =
     b"l\x05\x00\x01\x04\x00\x00\x00\x01\x00\x00\x00\x07\x00\x00\x00\x08\x01g\x00\x01v\x00\x00\x01y\x00\x07";
 
-// A whole message; the bytes changed in it from an offset on, in either order; the place and reason of the fault that
-// they make; and the least number of bytes that decides it.
-const CHANGES: &[(&[u8], u8, &[u8], &[u8], u64, Reason, usize)] = &[
+/// A whole message; the bytes changed in it from an offset on, in either order; the place and reason of the fault that
+/// they make; and the least number of bytes that decides it.
+pub const CHANGES: &[(&[u8], u8, &[u8], &[u8], u64, Reason, usize)] = &[
     (REPLY, 0, b"m", b"m", 0, Reason::ByteOrder, 1),
     (REPLY, 1, b"\0", b"\0", 1, Reason::Kind, 2),
     (REPLY, 3, b"\x02", b"\x02", 3, Reason::Version, 4),
@@ -213,8 +213,8 @@ const CHANGES: &[(&[u8], u8, &[u8], &[u8], u64, Reason, usize)] = &[
     ),
 ];
 
-// Bytes, and where and why they are refused; nothing where more bytes are wanted.
-const JUDGED: &[(&[u8], Option<(u64, Reason)>)] = &[
+/// Bytes, and where and why they are refused; nothing where more bytes are wanted.
+pub const JUDGED: &[(&[u8], Option<(u64, Reason)>)] = &[
     // Lengths with which the message is at its limit or over it.
     (
         b"\x6c\x02\x01\x01\xff\xff\xff\xff\x01\x00\x00\x00\x08\x00\x00\x00",
@@ -305,8 +305,8 @@ const JUDGED: &[(&[u8], Option<(u64, Reason)>)] = &[
     ),
 ];
 
-// Replies up to their body, which is a BYTE within 64 variants, in either order.
-const DEEPEST: &[(Order, &[u8])] = &[
+/// Replies up to their body, which is a BYTE within 64 variants, in either order.
+pub const DEEPEST: &[(Order, &[u8])] = &[
     (
         Order::Little,
         b"\x6c\x02\x00\x01\xc1\x00\x00\x00\x01\x00\x00\x00\x0f\x00\x00\x00\x05\x01\x75\x00\x01\x00\x00\x00\x08\x01\x67\x00\x01\x76\x00\x00",
@@ -317,14 +317,14 @@ const DEEPEST: &[(Order, &[u8])] = &[
     ),
 ];
 
-// The same with 65 variants.
-const DEEPER: &[&[u8]] = &[
+/// The same with 65 variants.
+pub const DEEPER: &[&[u8]] = &[
     b"\x6c\x02\x00\x01\xc4\x00\x00\x00\x01\x00\x00\x00\x0f\x00\x00\x00\x05\x01\x75\x00\x01\x00\x00\x00\x08\x01\x67\x00\x01\x76\x00\x00",
     b"\x42\x02\x00\x01\x00\x00\x00\xc4\x00\x00\x00\x01\x00\x00\x00\x0f\x05\x01\x75\x00\x00\x00\x00\x01\x08\x01\x67\x00\x01\x76\x00\x00",
 ];
 
-// The bytes with some of them changed from an offset on, or fewer where they do not reach so far.
-fn changed(alloc: Global, bytes: &[u8], from: u8, put: &[u8]) -> Result<Vec<u8>, AllocError> {
+/// The bytes with some of them changed from an offset on, or fewer where they do not reach so far.
+pub fn changed(alloc: Global, bytes: &[u8], from: u8, put: &[u8]) -> Result<Vec<u8>, AllocError> {
     let mut all = Vec::new(alloc);
     for (n, byte) in bytes.iter().enumerate() {
         let at = n.checked_sub(usize::from(from));
@@ -337,8 +337,8 @@ fn changed(alloc: Global, bytes: &[u8], from: u8, put: &[u8]) -> Result<Vec<u8>,
     Ok(all)
 }
 
-// These bytes and the body behind them: a BYTE in a variant, within that many variants more.
-fn nested(alloc: Global, front: &[u8], count: usize) -> Result<Vec<u8>, AllocError> {
+/// These bytes and the body behind them: a BYTE in a variant, within that many variants more.
+pub fn nested(alloc: Global, front: &[u8], count: usize) -> Result<Vec<u8>, AllocError> {
     let mut all = Vec::from_slice(alloc, front)?;
     for _ in 0..count {
         all.extend_from_slice(b"\x01v\x00")?;
@@ -356,8 +356,8 @@ fn decides(rt: &impl Abort, alloc: Global, row: usize, bytes: &[u8], fault: Faul
     }
 }
 
-// The big-endian bytes of the message that a row's little-endian bytes are.
-fn turned(rt: &impl Abort, alloc: Global, row: usize, bytes: &[u8]) -> Result<Vec<u8>, Fail> {
+/// The big-endian bytes of the message that a row's little-endian bytes are.
+pub fn turned(rt: &impl Abort, alloc: Global, row: usize, bytes: &[u8]) -> Result<Vec<u8>, Fail> {
     let message = whole(rt, alloc, row, bytes, Order::Little)?;
     bytes_of(rt, alloc, row, &message, Order::Big)
 }

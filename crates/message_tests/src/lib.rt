@@ -1,10 +1,13 @@
-//! Tests of `dbus_message`: messages decoded, encoded and built of their parts, stated lengths, limits that are handed in, each fault, and each growth refused.
+//! Tests of `dbus_message` and `dbus_check`: messages decoded, checked in pieces, encoded and built of their parts, stated
+//! lengths, limits that are handed in, each fault, and each growth refused.
 #![tactic(auto)]
 
 #[cfg(test)]
 mod answers;
 #[cfg(test)]
 mod building;
+#[cfg(test)]
+mod checking;
 #[cfg(test)]
 mod faults;
 #[cfg(test)]

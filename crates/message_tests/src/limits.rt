@@ -16,15 +16,16 @@ const BARE: &[u8] = b"\x6c\x05\0\x01\0\0\0\0\x01\0\0\0\0\0\0\0";
 const INDEXED: &[u8] =
     b"\x6c\x02\0\x01\x04\0\0\0\x01\0\0\0\x18\0\0\0\x05\x01u\0\x01\0\0\0\x08\x01g\0\x01h\0\0\x09\x01u\0\x01\0\0\0\0\0\0\0";
 
-// A message; limits on messages, arrays and open containers, and the rule on indexes; and the fault under them, with how many
-// bytes show it, or none.
-type Row = (
+/// A message; limits on messages, arrays and open containers, and the rule on indexes; and the fault under them, with how many
+/// bytes show it, or none.
+pub type Row = (
     &'static [u8],
     (u32, u32, u8, FdRule),
     Option<(u64, Reason, usize)>,
 );
 
-const ROWS: &[Row] = &[
+/// Messages under limits.
+pub const ROWS: &[Row] = &[
     (REPLY, (24, 8, 3, FdRule::Any), None),
     (
         REPLY,

@@ -38,8 +38,8 @@ const UNKNOWN_FIELDS: &[u8] =
 const BIG_UNKNOWN_FIELDS: &[u8] =
     b"\x42\x05\x00\x01\x00\x00\x00\x00\x00\x00\x00\x01\x00\x00\x00\x0d\x0a\x01\x79\x00\x05\x00\x00\x00\x0a\x01\x79\x00\x06\x00\x00\x00";
 
-// A message in each order; its type, flags and serial, and how many fields and values it has.
-const MESSAGES: &[(&[u8], &[u8], (u8, u8, u32, usize, usize))] = &[
+/// A message in each order; its type, flags and serial, and how many fields and values it has.
+pub const MESSAGES: &[(&[u8], &[u8], (u8, u8, u32, usize, usize))] = &[
     (REPLY, BIG_REPLY, (2, 1, 1, 1, 0)),
     (TEXTS, BIG_TEXTS, (2, 0, 1, 2, 2)),
     (UNKNOWN_TYPE, BIG_UNKNOWN_TYPE, (5, 0, 1, 0, 0)),
