@@ -156,3 +156,78 @@ fn take_with_each_growth_refused(rt: HostRuntime) -> Result<(), Fail> {
     }
     panic!(rt; "each growth is refused")
 }
+
+// Of this piece the cutter takes all and gives no message; it holds so many bytes then, and asked for one growth at most.
+fn takes_by_one_growth<'a>(
+    rt: &impl Abort,
+    heap: &'a Refusing,
+    cutter: &mut Cutter<&'a Refusing>,
+    piece: &[u8],
+    held: usize,
+) -> Result<(), Fail> {
+    heap.refuse_from_nth(2);
+    takes(rt, heap, cutter, piece, piece.len(), b"", held)?;
+    assert!(rt; heap.growths() <= 1, "at {held}");
+    Ok(())
+}
+
+// All bytes of the signal but the last, in every split in two.
+#[test]
+fn a_piece_within_a_message_takes_one_growth(rt: HostRuntime) -> Result<(), Fail> {
+    let (most, _) = SIGNAL.split_at(95);
+    for n in 0..most.len() {
+        let heap = Refusing::none(rt.alloc());
+        let mut cutter = Cutter::new(&heap);
+        let (front, rest) = most.split_at(n);
+        takes_by_one_growth(&rt, &heap, &mut cutter, front, n)?;
+        takes_by_one_growth(&rt, &heap, &mut cutter, rest, 95)?;
+    }
+    Ok(())
+}
+
+// The call with this piece, made again and again, each time with its next growth refused: each is refused memory and changes
+// nothing that is held, and the one that meets no refusal takes the piece and gives this message, or none.
+fn takes_in_the_end<'a>(
+    rt: &impl Abort,
+    heap: &'a Refusing,
+    cutter: &mut Cutter<&'a Refusing>,
+    piece: &[u8],
+    message: &[u8],
+) -> Result<(), Fail> {
+    let before = cutter.held();
+    for n in 1..100 {
+        heap.refuse_nth(n);
+        match cutter.take(piece) {
+            Err(StreamFault::Memory) => {
+                assert_eq!(rt; heap.refusals(), 1, "at {n}");
+                assert_eq!(rt; cutter.held(), before, "at {n}");
+            }
+            Ok((taken, given)) => {
+                assert_eq!(rt; heap.refusals(), 0, "at {n}");
+                assert_eq!(rt; taken, piece.len(), "at {n}");
+                heap.refuse_none();
+                assert!(rt; is_spelled(heap, given, message)?, "at {n}");
+                return Ok(());
+            }
+            Err(StreamFault::Format(fault)) => panic!(rt; "{fault:?} at {n}"),
+        }
+    }
+    panic!(rt; "each growth is refused")
+}
+
+// The signal in pieces of each size, with each growth of each call refused, also those that decode it at its end.
+#[test]
+fn a_call_that_is_refused_memory_is_made_again(rt: HostRuntime) -> Result<(), Fail> {
+    for size in 1..97usize {
+        let heap = Refusing::none(rt.alloc());
+        let mut cutter = Cutter::new(&heap);
+        let mut left = SIGNAL.len();
+        for piece in SIGNAL.chunks(size) {
+            left = left.saturating_sub(piece.len());
+            let message = if left == 0 { SIGNAL } else { b"".as_slice() };
+            takes_in_the_end(&rt, &heap, &mut cutter, piece, message)?;
+        }
+        assert_eq!(rt; cutter.held(), 0, "at {size}");
+    }
+    Ok(())
+}

@@ -185,6 +185,49 @@ fn gives_a_message_at_once(rt: HostRuntime) -> Result<(), Fail> {
     reads(&rt, source, script.as_slice(), [5060, 5061, 1])
 }
 
+// Fronts of messages whose stated length is 4,096, and the place, the reason and the deciding byte's number of their fault.
+const FAULTY: &[(&[u8], u64, Reason, u64)] = &[
+    (
+        b"l\x02\0\x01\xe8\x0f\0\0\x01\0\0\0\x08\0\0\0\0\x01u\0",
+        16,
+        Reason::FieldCode,
+        17,
+    ),
+    (
+        b"l\x02\0\x01\xe8\x0f\0\0\x01\0\0\0\x08\0\0\0\x05\x01u\0\0\0\0\0",
+        20,
+        Reason::ZeroSerial,
+        24,
+    ),
+    (
+        b"l\x02\0\x01\xe0\x0f\0\0\x01\0\0\0\x0f\0\0\0\x05\x01u\0\x01\0\0\0\x08\x01g\0\x01s\0\0\xdb\x0f\0\0a\xff",
+        37,
+        Reason::Text,
+        38,
+    ),
+];
+
+// A fault is answered at the read that brings its deciding byte, however long the message is.
+#[test]
+fn answers_a_fault_at_once(rt: HostRuntime) -> Result<(), Fail> {
+    for (front, at, reason, calls) in FAULTY {
+        let mut bytes = joined(rt.alloc(), &[front])?;
+        bytes.resize(4096, 0)?;
+        let fault = Fails(ReadFault::Format(Fault {
+            at: *at,
+            reason: *reason,
+        }));
+        let source = Pieces::new(bytes.as_slice(), 1, 0);
+        reads(
+            &rt,
+            source,
+            [(Next, fault), (Next, fault)].as_slice(),
+            [0, *calls, 0],
+        )?;
+    }
+    Ok(())
+}
+
 // The one message of these bytes, where each read in turn fails, the last of which finds their end.
 fn each_read_fails(rt: &(impl Abort + AllocGlobal), bytes: &[u8]) -> Result<(), Fail> {
     let size = bytes.len() as u64;
