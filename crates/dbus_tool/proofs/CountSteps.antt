@@ -18,17 +18,17 @@ use Rattle.dbus_stream.proofs.CutLaws.{BeginWith-last, BeginWith-more}
 use Rattle.dbus_stream.proofs.NextSteps.{both_ways}
 use Rattle.dbus_tool.specs.Counting.{IsFresh, CountsAll}
 
-RisesBy-both : (j k total a b c : ℕ) → RisesBy j a b → RisesBy k b c → total ≡ j + k → RisesBy total a c
+pub RisesBy-both : (j k total a b c : ℕ) → RisesBy j a b → RisesBy k b c → total ≡ j + k → RisesBy total a c
 RisesBy-both j k total a b c p q e = omega (arith, p, q, e)
 
-RisesBy-none : (k a : ℕ) → k ≡ 0 → RisesBy k a a
+pub RisesBy-none : (k a : ℕ) → k ≡ 0 → RisesBy k a a
 RisesBy-none k a e = omega (arith, e)
 
-sizes-last : (items : List Item) (item : Item) → sizes (items ++ item ∷ []) ≡ sizes items + item.size
+pub sizes-last : (items : List Item) (item : Item) → sizes (items ++ item ∷ []) ≡ sizes items + item.size
 sizes-last [] item = omega arith
 sizes-last (x ∷ items) item = omega (arith, sizes-last items item)
 
-length-last : (items : List Item) (item : Item) → length (items ++ item ∷ []) ≡ length items + 1
+pub length-last : (items : List Item) (item : Item) → length (items ++ item ∷ []) ≡ length items + 1
 length-last [] item = omega arith
 length-last (x ∷ items) item = omega (arith, length-last items item)
 

@@ -2,6 +2,8 @@ pub mod OutputSteps
 pub mod Outputs
 pub mod GatherSteps
 pub mod CountSteps
+pub mod TallySteps
+pub mod TalliedHands
 pub mod GivenSteps
 pub mod HandSteps
 pub mod ThroughSteps

@@ -4,6 +4,7 @@ pub mod Output
 pub mod Laws
 pub mod Gathering
 pub mod Counting
+pub mod Tallying
 pub mod Handing
 pub mod Checking
 pub mod Running

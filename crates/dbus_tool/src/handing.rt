@@ -101,7 +101,7 @@ fn stopped_by(count: u64, size: u64, stop: Stop) -> Result<Counted, Cause>
 }
 
 // What a fault of the reader behind these messages comes to.
-fn ended_by(count: u64, size: u64, fault: ReadFault) -> Result<Counted, Cause>
+pub(crate) fn ended_by(count: u64, size: u64, fault: ReadFault) -> Result<Counted, Cause>
     ensures { result ≡ ended_by count size fault }
 {
     match fault {

@@ -2,6 +2,7 @@
 #![tactic(auto)]
 
 mod closing;
+mod counting;
 mod ending;
 mod failing;
 mod gathering;

@@ -6,7 +6,7 @@ ghost use Rattle.dbus_tool.specs.Running.{Runs};
 use crate::closing::{break_off, close};
 use crate::ending::ExitStatus;
 use crate::gathering::Gathered;
-use crate::handing::hand_over;
+use crate::counting::count_or_hand;
 use dbus_command::Command;
 use dbus_stream::{Sink, Source};
 use dbus_value::Limits;
@@ -101,7 +101,7 @@ fn run_command<A: Allocator + Copy, R: Source, W: Sink, E: Sink>(
         reader.old reader.new first.old first.new second.old second.new result }
 {
     let mut gathered = Gathered::new();
-    match hand_over(alloc, command, limits, reads, reader, &mut gathered, first) {
+    match count_or_hand(alloc, command, limits, reads, reader, &mut gathered, first) {
         Ok(counted) => close(alloc, command, counted, &mut gathered, first, second),
         Err(cause) => break_off(cause, &mut gathered, first, second),
     }

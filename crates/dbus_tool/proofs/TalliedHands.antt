@@ -1,0 +1,55 @@
+-- Counting the messages is all that `check` does with each of them.
+use Rattle.std.proofs.Common.{ℕ, ◌+◌, List, [], ◌∷◌, Option, Result, Ok, Err, refl}
+use Rattle.dbus_value_model.specs.declared.limits.Limits.{Limits}
+use Rattle.dbus_stream.specs.Cut.{Item}
+use Rattle.dbus_command.specs.declared.command.Command.TheVariants.{Check}
+use Rattle.dbus_tool.specs.Output.{IsOutputOfAll}
+use Rattle.dbus_tool.specs.Handing.{Hands}
+use Rattle.dbus_tool.specs.Tallying.{Tallies}
+use Rattle.dbus_tool.specs.declared.ending.Cause.{Cause}
+use Rattle.dbus_tool.specs.declared.ending.Cause.TheVariants.{Memory, ReadFailed, WriteFailed, TooManyReads}
+use Rattle.dbus_tool.specs.declared.ending.Counted.{Counted}
+use Rattle.dbus_tool.proofs.GatherSteps.{passes_none}
+
+-- `check` writes nothing of a message
+no_output : (n : ℕ) (items : List Item) → IsOutputOfAll Check n items []
+no_output n [] = refl
+no_output n (item ∷ items) = ([], [], refl, refl, no_output (n + 1) items)
+
+module _ {R W : Type 0} (left : R → Option (List ℕ)) (calls failures : R → ℕ) (held : W → Option (List ℕ)) (write_failures : W → ℕ)
+    (limits : Limits) (most : ℕ) where
+  pub hands_tallied : (old new : R) (g : List ℕ) (w : W) (res : Result Counted Cause) → Tallies left calls failures limits most old new res
+      → Hands left calls failures held write_failures limits most Check old new g g w w res
+  hands_tallied old new g w (Ok counted) t = record {
+    counts = t.counts;
+    out = [];
+    output = no_output 1 t.counts.items;
+    passes = passes_none held write_failures g w;
+    failed = t.failed;
+  }
+  hands_tallied old new g w (Err Memory) t = absurd t.caused
+  hands_tallied old new g w (Err ReadFailed) t = record {
+    bytes = t.bytes;
+    items = t.items;
+    rest = t.rest;
+    out = [];
+    consumed = t.consumed;
+    messages = t.messages;
+    all = t.partial;
+    output = no_output 1 t.items;
+    leaves = passes_none held write_failures g w;
+    caused = t.caused;
+  }
+  hands_tallied old new g w (Err WriteFailed) t = absurd t.caused
+  hands_tallied old new g w (Err TooManyReads) t = record {
+    bytes = t.bytes;
+    items = t.items;
+    rest = t.rest;
+    out = [];
+    consumed = t.consumed;
+    messages = t.messages;
+    all = t.partial;
+    output = no_output 1 t.items;
+    leaves = passes_none held write_failures g w;
+    caused = t.caused;
+  }
