@@ -60,14 +60,14 @@ fn growths_met(
 }
 
 // Words, the input, how the run ends, and what is written on the first writer and on the second. The run meets more
-// growths than this. The line of a refusal takes memory too, on either writer.
+// growths than this; `check` takes memory for its line alone. The line of a refusal takes memory too, on either writer.
 const RUNS: &[(&[&str], &[&[u8]], ExitStatus, &[&[u8]], &[u8], u64)] = &[
     (SHOW, ALL, DONE, TEXTS, b"", 10),
-    (CHECK, ALL, DONE, &[b"ok 3 messages 144 bytes\n"], b"", 10),
+    (CHECK, ALL, DONE, &[b"ok 3 messages 144 bytes\n"], b"", 0),
     (TO_LITTLE, ALL, DONE, &[RETURN, SIGNAL, RETURN], b"", 10),
     (RETURNS, ALL, DONE, &[RETURN, BIG_RETURN], b"", 10),
     (SHOW, CUT, REFUSED, &[RETURN_TEXT], TRUNCATED, 3),
-    (CHECK, CUT, REFUSED, &[TRUNCATED], b"", 3),
+    (CHECK, CUT, REFUSED, &[TRUNCATED], b"", 0),
     (TO_LITTLE, CUT, REFUSED, &[RETURN], TRUNCATED, 3),
     (RETURNS, CUT, REFUSED, &[RETURN], TRUNCATED, 3),
 ];
@@ -108,10 +108,13 @@ fn growths_of(rt: &(impl Abort + AllocGlobal), words: &[&str], copies: usize) ->
     Ok(heap.growths())
 }
 
-// A message like those before takes no memory but what reading it takes, as `check` reads it.
+// A message like those before takes no memory but what reading it takes, as a rule that nothing matches has it read; and
+// `check` takes none for it.
 #[test]
 fn further_messages_take_no_more_memory(rt: HostRuntime) -> Result<(), Fail> {
-    let read = growths_of(&rt, CHECK, 9)?.saturating_sub(growths_of(&rt, CHECK, 2)?);
+    assert_eq!(rt; growths_of(&rt, CHECK, 9)?, growths_of(&rt, CHECK, 2)?);
+    let unmatched = &["filter", "type='error'"];
+    let read = growths_of(&rt, unmatched, 9)?.saturating_sub(growths_of(&rt, unmatched, 2)?);
     for words in [SHOW, TO_LITTLE, &["filter", ""]] {
         let few = growths_of(&rt, words, 2)?;
         let many = growths_of(&rt, words, 9)?;
