@@ -1,1 +1,3 @@
 mod HeldSteps
+mod SeenSteps
+mod FieldTurns

@@ -63,6 +63,7 @@ fn name(bytes: &[u8], at: usize, end: usize, order: Order, kind: TextKind) -> Op
     requires inside { end ≤ length bytes.now }
     ensures held { IfSome result (λ h. (limits : Limits) → IsHeld limits order end (Name (Of kind)) at bytes.now h) }
     ensures moves { IfSome result (λ h. (at ≤ h.after) × (h.after ≤ end)) }
+    ensures within { IfSome result (λ h. h.start + h.length ≤ h.after) }
 {
     let signed = letter(bytes, at, end, b's')?;
     let place = padding(bytes, signed, end, 4)?;
@@ -92,6 +93,7 @@ fn path(bytes: &[u8], at: usize, end: usize, order: Order) -> Option<Held>
     requires inside { end ≤ length bytes.now }
     ensures held { IfSome result (λ h. (limits : Limits) → IsHeld limits order end (OfType (TextType OBJECT_PATH)) at bytes.now h) }
     ensures moves { IfSome result (λ h. (at ≤ h.after) × (h.after ≤ end)) }
+    ensures within { IfSome result (λ h. h.start + h.length ≤ h.after) }
 {
     let signed = letter(bytes, at, end, b'o')?;
     let place = padding(bytes, signed, end, 4)?;
@@ -118,6 +120,7 @@ fn signature(bytes: &[u8], at: usize, end: usize, order: Order) -> Option<Held>
     requires inside { end ≤ length bytes.now }
     ensures held { IfSome result (λ h. (limits : Limits) → IsHeld limits order end (OfType (TextType SIGNATURE)) at bytes.now h) }
     ensures moves { IfSome result (λ h. (at ≤ h.after) × (h.after ≤ end)) }
+    ensures within { IfSome result (λ h. h.start + h.length ≤ h.after) }
 {
     let signed = letter(bytes, at, end, b'g')?;
     let length = short_text(bytes, signed, end, TextKind::Signature)?;
@@ -136,6 +139,7 @@ fn number(bytes: &[u8], at: usize, end: usize, order: Order) -> Option<Held>
     requires inside { end ≤ length bytes.now }
     ensures held { IfSome result (λ h. (limits : Limits) → IsHeld limits order end (OfType (NumberType UINT32)) at bytes.now h) }
     ensures moves { IfSome result (λ h. (at ≤ h.after) × (h.after ≤ end)) }
+    ensures within { IfSome result (λ h. h.start + h.length ≤ h.after) }
 {
     let signed = letter(bytes, at, end, b'u')?;
     let place = padding(bytes, signed, end, 4)?;
@@ -154,6 +158,7 @@ fn serial(bytes: &[u8], at: usize, end: usize, order: Order) -> Option<Held>
     requires inside { end ≤ length bytes.now }
     ensures held { IfSome result (λ h. (limits : Limits) → IsHeld limits order end Serial at bytes.now h) }
     ensures moves { IfSome result (λ h. (at ≤ h.after) × (h.after ≤ end)) }
+    ensures within { IfSome result (λ h. h.start + h.length ≤ h.after) }
 {
     let signed = letter(bytes, at, end, b'u')?;
     let place = padding(bytes, signed, end, 4)?;
@@ -176,6 +181,7 @@ fn anything(bytes: &[u8], at: usize, end: usize, order: Order, limits: Limits) -
     requires inside { end ≤ length bytes.now }
     ensures held { IfSome result (λ h. IsHeld limits order end Anything at bytes.now h) }
     ensures moves { IfSome result (λ h. (at ≤ h.after) × (h.after ≤ end)) }
+    ensures within { IfSome result (λ h. h.start + h.length ≤ h.after) }
 {
     let n = short_text(bytes, at, end, TextKind::Single)?;
     let first = at + 1;
@@ -216,6 +222,7 @@ pub fn judge_field_value(
     requires inside { end ≤ length bytes.now }
     ensures held { IfSome result (λ h. IsHeld limits order end (want code) at bytes.now h) }
     ensures moves { IfSome result (λ h. (at ≤ h.after) × (h.after ≤ end)) }
+    ensures within { IfSome result (λ h. h.start + h.length ≤ h.after) }
 {
     match want(code) {
         Wanted::Anything => anything(bytes, at, end, order, limits),

@@ -1,12 +1,16 @@
 //! Header fields. D-Bus Specification, "Header Fields".
 #![tactic(auto)]
 
-ghost use Rattle.std.specs.Prelude.{◌≡◌, ◌+◌, ◌≤◌, ◌<◌, List, length, IfSome, false, ◌&&◌};
+ghost use Rattle.std.specs.Prelude.{◌≡◌, ◌+◌, ◌≤◌, ◌<◌, List, length, drop, IfSome, false, ◌&&◌};
+ghost use Rattle.dbus_value_model.specs.Reading.{Done};
 ghost use Rattle.dbus_decode.specs.declared.field_value.TheConstants.{FIELD_DEPTH};
+ghost use Rattle.dbus_decode.specs.HeaderReading.{fields_read};
 ghost use Rattle.dbus_message_model.specs.Messages.{FieldTree, is_known, has_code};
 ghost use Rattle.dbus_judge.specs.Held.{IsHeldField};
+ghost use Rattle.dbus_judge.specs.Seen.{AreNoted};
 
 use crate::field_values::{Held, judge_field_value};
+use crate::seen::Seen;
 use dbus_decode::FIELD_DEPTH;
 use dbus_value_judge::padding;
 use dbus_value_model::{Limits, Order};
@@ -28,6 +32,7 @@ pub fn judge_field(
     requires inside { end ≤ length bytes.now }
     ensures field { IfSome result (λ f. (before : List FieldTree) → is_known f.0 && has_code f.0 before ≡ false → IsHeldField limits order end before at bytes.now f.0 f.1) }
     ensures moves { IfSome result (λ f. (at < f.1.after) × (f.1.after ≤ end)) }
+    ensures within { IfSome result (λ f. f.1.start + f.1.length ≤ f.1.after) }
 {
     let start = padding(bytes, at, end, 8)?;
     if start == end {
@@ -39,4 +44,32 @@ pub fn judge_field(
     }
     let held = judge_field_value(bytes, start + 1, end, order, code, limits)?;
     Some((code, held))
+}
+
+/// The fields whose array has n bytes, where they are found good: where the values of the known ones stand.
+///
+/// `bytes` begin at the message's first byte, from which offsets count; the fields begin at `at`, and the bytes are there up to
+/// their end. Some says that these n bytes are fields, none of a code 0 and no two of one known code. None says nothing. The field
+/// array is open around them.
+pub fn judge_fields(bytes: &[u8], at: usize, n: usize, order: Order, limits: Limits) -> Option<Seen>
+    requires opened { FIELD_DEPTH ≤ limits.depth }
+    requires inside { at + n ≤ length bytes.now }
+    ensures { IfSome result (λ seen. (fs : List FieldTree) × (fields_read limits order n at (drop at bytes.now) ≡ Done fs (at + n) (drop (at + n) bytes.now)) × AreNoted fs bytes.now seen) }
+{
+    let end = at + n;
+    let mut seen = Seen::none();
+    let mut place = at;
+    // A field has at least one byte.
+    for _turn in 0..n {
+        if place == end {
+            return Some(seen);
+        }
+        let (code, held) = judge_field(bytes, place, end, order, limits)?;
+        if seen.has(code) {
+            return None;
+        }
+        seen.note(code, held);
+        place = held.after;
+    }
+    if place == end { Some(seen) } else { None }
 }

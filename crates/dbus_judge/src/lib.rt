@@ -3,6 +3,8 @@
 
 mod field_values;
 mod fields;
+mod seen;
 
 pub use field_values::{Held, judge_field_value};
-pub use fields::judge_field;
+pub use fields::{judge_field, judge_fields};
+pub use seen::Seen;

@@ -1,0 +1,97 @@
+-- The known fields that were seen, as the code notes them.
+use Rattle.std.proofs.Common.{◌≡◌, ℕ, eqb, true, false, Bool, cond, ◌&&◌, ◌||◌, ◌+◌, ◌<◌, ◌≤◌, List, [], ◌∷◌, ◌++◌, length, drop, get_or, set, Option, Some, None, refl, sym, ap, subst, ◌∙◌, inl, inr, arith}
+use Rattle.std.specs.Option.{is_some}
+use Rattle.std.proofs.lemmas.Bool.{cases_lt, eqb-true, eqb-false, ne_eqb, or_parts}
+use Rattle.std.proofs.lemmas.List.{drop_more, get_or-set_same, get_or-set_other}
+use Rattle.dbus_value_model.specs.declared.fault.Reason.TheVariants as reasons
+use Rattle.dbus_value_model.specs.Values.{ValueTree}
+use Rattle.dbus_message_model.specs.Messages.{FieldTree, Want, want, is_known, has_code, lacks}
+use Rattle.dbus_message_model.specs.Lookups.{field_value}
+use Rattle.dbus_judge.specs.declared.field_values.Held.{Held}
+use Rattle.dbus_judge.specs.declared.seen.Seen.{Seen}
+use Rattle.dbus_judge.specs.Held.{IsNoted}
+use Rattle.dbus_judge.specs.Seen.{IsNotedOf, AreNoted}
+
+-- ---- codes among fields
+
+value_has : (c : ℕ) (fs : List FieldTree) → is_some (field_value c fs) ≡ has_code c fs
+value_has c [] = refl
+value_has c (f ∷ fs) = elim (eqb f.code c) as (λ b. is_some (cond b (Some f.value) (field_value c fs)) ≡ (b || has_code c fs)) [ true ↦ refl | false ↦ value_has c fs ]
+
+value_last : (c : ℕ) (fs : List FieldTree) (f : FieldTree) → has_code c fs ≡ false → eqb f.code c ≡ true → field_value c (fs ++ f ∷ []) ≡ Some f.value
+value_last c [] f none is = rw is refl
+value_last c (g ∷ fs) f none is =
+    let parts = or_parts (eqb g.code c) (has_code c fs) none in
+    ap (λ (b : Bool). cond b (Some g.value) (field_value c (fs ++ f ∷ []))) parts.0 ∙ value_last c fs f parts.1 is
+
+value_other : (c : ℕ) (fs : List FieldTree) (f : FieldTree) → eqb f.code c ≡ false → field_value c (fs ++ f ∷ []) ≡ field_value c fs
+value_other c [] f other = rw other refl
+value_other c (g ∷ fs) f other = ap (λ (v : Option ValueTree). cond (eqb g.code c) (Some g.value) v) (value_other c fs f other)
+
+unknown : (c : ℕ) → 10 ≤ c → is_known c ≡ false
+unknown c h =
+    let a : eqb c 1 ≡ false = ne_eqb c 1 (omega arith) in
+    let b : eqb c 2 ≡ false = ne_eqb c 2 (omega arith) in
+    let d : eqb c 3 ≡ false = ne_eqb c 3 (omega arith) in
+    let e : eqb c 4 ≡ false = ne_eqb c 4 (omega arith) in
+    let f : eqb c 5 ≡ false = ne_eqb c 5 (omega arith) in
+    let g : eqb c 6 ≡ false = ne_eqb c 6 (omega arith) in
+    let i : eqb c 7 ≡ false = ne_eqb c 7 (omega arith) in
+    let j : eqb c 8 ≡ false = ne_eqb c 8 (omega arith) in
+    let k : eqb c 9 ≡ false = ne_eqb c 9 (omega arith) in
+    rw (a, b, d, e, f, g, i, j, k) refl
+
+known_below : (c : ℕ) → is_known c ≡ true → c < 10
+known_below c known = elim (cases_lt c 10) [ inl h ↦ h | inr h ↦ let no = unknown c h in absurd cc ]
+
+-- ---- what is noted
+
+as_noted : (w : Want) (v : Option ValueTree) (bytes : List ℕ) (h : Option Held) → IsNotedOf w v bytes h → is_some h ≡ is_some v
+as_noted w None bytes None n = refl
+as_noted w None bytes (Some h) n = absurd n
+as_noted w (Some v) bytes None n = absurd n
+as_noted w (Some v) bytes (Some h) n = refl
+
+module _ (fs : List FieldTree) (bytes : List ℕ) (seen : Seen) (noted : AreNoted fs bytes seen) where
+  pub has_noted : (c : ℕ) → is_known c ≡ true → is_some (get_or seen.held c None) ≡ has_code c fs
+  has_noted c known = as_noted (want c) (field_value c fs) bytes (get_or seen.held c None) (noted c known) ∙ value_has c fs
+
+  module _ (new : Seen) (code : ℕ) (v : ValueTree) (h : Held) (alone : is_known code && has_code code fs ≡ false) (is : IsNoted (want code) v bytes h) (fits : h.start + h.length ≤ length bytes) where
+    alone_in : is_known code ≡ true → has_code code fs ≡ false
+    alone_in known = ap (λ (b : Bool). b && has_code code fs) (sym known) ∙ alone
+
+    other_kept : (c : ℕ) → is_known c ≡ true → eqb code c ≡ false → get_or new.held c None ≡ get_or seen.held c None
+        → IsNotedOf (want c) (field_value c (fs ++ (record { code = code; value = v }) ∷ [])) bytes (get_or new.held c None)
+    other_kept c known other kept = rw (kept, value_other c fs (record { code = code; value = v }) other) (noted c known)
+
+    new_noted : (c : ℕ) → is_known c ≡ true → eqb code c ≡ true → get_or new.held code None ≡ Some h
+        → IsNotedOf (want c) (field_value c (fs ++ (record { code = code; value = v }) ∷ [])) bytes (get_or new.held c None)
+    new_noted c known same put =
+        let there : code ≡ c = eqb-true code c same in
+        let none : has_code c fs ≡ false = subst (λ (k : ℕ). has_code k fs ≡ false) there (alone_in (subst (λ (k : ℕ). is_known k ≡ true) (sym there) known)) in
+        let slot : get_or new.held c None ≡ Some h = subst (λ (k : ℕ). get_or new.held k None ≡ Some h) there put in
+        rw (slot, value_last c fs (record { code = code; value = v }) none same) (subst (λ (k : ℕ). IsNoted (want k) v bytes h) there is, fits)
+
+    module _ (ten : length seen.held ≡ 10) where
+      put_noted : code < 10 → new.held ≡ set seen.held code (Some h) → (c : ℕ) → is_known c ≡ true → (same : Bool) → eqb code c ≡ same
+          → IsNotedOf (want c) (field_value c (fs ++ (record { code = code; value = v }) ∷ [])) bytes (get_or new.held c None)
+      put_noted lt put c known true e =
+          new_noted c known e (ap (λ (l : List (Option Held)). get_or l code None) put ∙ get_or-set_same seen.held code (Some h) None (omega arith))
+      put_noted lt put c known false e =
+          let ne = eqb-false code c e in
+          other_kept c known e (ap (λ (l : List (Option Held)). get_or l c None) put ∙ get_or-set_other seen.held code c (Some h) None (λ same. ne (sym same)))
+
+      pub noted_more : code < 10 → new.held ≡ set seen.held code (Some h) → AreNoted (fs ++ (record { code = code; value = v }) ∷ []) bytes new
+      noted_more lt put = λ c known. put_noted lt put c known (eqb code c) refl
+
+    -- a field that is not known
+    pub noted_past : 10 ≤ code → new.held ≡ seen.held → AreNoted (fs ++ (record { code = code; value = v }) ∷ []) bytes new
+    noted_past le same = λ c known.
+        let below = known_below c known in
+        other_kept c known (ne_eqb code c (omega arith)) (ap (λ (l : List (Option Held)). get_or l c None) same)
+
+-- ---- the fields that are required
+
+module _ (items : List ℕ) (i : ℕ) (here : i < length items) (fs : List FieldTree) where
+  pub lacks_later : has_code (get_or items i 0) fs ≡ true → lacks (drop (i + 1) items) fs ≡ lacks (drop i items) fs
+  lacks_later h = sym (ap (λ (l : List ℕ). lacks l fs) (drop_more items i 0 here) ∙ ap (λ (b : Bool). cond b (lacks (drop (i + 1) items) fs) (Some (reasons.FieldMissing (get_or items i 0)))) h)

@@ -1,0 +1,22 @@
+use Rattle.std.proofs.Common.{◌≡◌, ◌&&◌, false, ◌+◌, ◌-◌, ◌≤◌, length, suc, sym, ◌∙◌, arith}
+use Rattle.dbus_message_model.specs.Messages.{is_known, has_code}
+use Rattle.dbus_judge.proofs.FieldTurns.{none_left, one_left}
+use Rattle.dbus_judge.proofs.fields.judge_fields.Goals as goal
+
+pub loop-turn-init : goal.loop-turn-init
+loop-turn-init c = record {
+  at_most = omega arith;
+  left = none_left c.args.limits c.args.order c.args.bytes.now c.args.at c.args.n c.none-seen.result (c.none-seen.ensures c.args.bytes.now);
+}
+
+pub loop-turn-preserved : goal.loop-turn-preserved
+loop-turn-preserved c =
+    let more : c.args.n - c.loop-turn._turn ≡ suc (c.args.n - (c.loop-turn._turn + 1)) = omega arith in
+    let left = c.loop-turn.invariant.left in
+    let alone : is_known c.in_ok-code.code && has_code c.in_ok-code.code left.front ≡ false = sym (c.has.ensures c.args.bytes.now left.front left.noted) ∙ c.if-has.false in
+    let fits : c.in_ok-code.held.start + c.in_ok-code.held.length ≤ length c.args.bytes.now = omega (arith, c.in_ok-code.ensures.within, c.in_ok-code.ensures.moves, c.requires.inside) in
+    record {
+      at_most = c.in_ok-code.ensures.moves.1;
+      left = one_left c.args.limits c.args.order c.args.bytes.now c.args.at c.args.n (c.args.n - c.loop-turn._turn) (c.args.n - (c.loop-turn._turn + 1)) c.loop-turn.place c.in_ok-code.code c.in_ok-code.held c.loop-turn.seen c.note.new.self left
+          more (omega (arith, c.if-place-end.false)) alone c.in_ok-code.ensures.field (λ v is. c.note.ensures c.args.bytes.now left.front v left.noted alone is fits);
+    }

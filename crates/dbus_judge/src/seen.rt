@@ -1,0 +1,70 @@
+//! The known fields that were seen, and where their values stand. D-Bus Specification, "Header Fields".
+#![tactic(auto)]
+
+ghost use Rattle.std.specs.Prelude.{◌≡◌, ◌+◌, ◌≤◌, ◌++◌, ◌∷◌, [], ◌&&◌, ℕ, List, length, true, false, None, slice_index_or};
+ghost use Rattle.dbus_value_model.specs.Values.{ValueTree};
+ghost use Rattle.dbus_message_model.specs.Messages.{FieldTree, want, is_known, has_code, lacks, required};
+ghost use Rattle.dbus_judge.specs.Held.{IsNoted};
+
+use crate::field_values::Held;
+use dbus_message_model::field_table::is_known;
+use dbus_message_model::known_fields::required;
+
+/// Where the values of the known fields stand, each by its code. D-Bus Specification, "Header Fields".
+#[derive(Clone, Copy)]
+pub struct Seen {
+    /// Of each code the value of the field that was seen, if one was: the codes of the known fields are 1 to 9.
+    pub held: [Option<Held>; 10],
+}
+
+impl Seen {
+    ghost use Rattle.dbus_judge.specs.Seen.{AreNoted};
+
+    /// None.
+    pub(crate) fn none() -> Seen
+        ensures { (bytes : List ℕ) → AreNoted [] bytes result }
+    {
+        Seen { held: [None; 10] }
+    }
+
+    /// Where the value of the field of a code stands, if it was seen.
+    pub fn get(&self, code: u8) -> Option<Held>
+        ensures { result ≡ slice_index_or self.now.held code None }
+    {
+        let at = usize::from(code);
+        if at < self.held.len() {
+            self.held[at]
+        } else {
+            None
+        }
+    }
+
+    /// Whether a code is a known field's that was seen.
+    pub(crate) fn has(&self, code: u8) -> bool
+        ensures { (bytes : List ℕ) (fs : List FieldTree) → AreNoted fs bytes self.now → result ≡ (is_known code && has_code code fs) }
+    {
+        is_known(code) && self.get(code).is_some()
+    }
+
+    /// The value of a field of a code is seen, and none of that code was if it is known.
+    pub(crate) fn note(&mut self, code: u8, held: Held)
+        ensures { (bytes : List ℕ) (fs : List FieldTree) (v : ValueTree) → AreNoted fs bytes self.old → is_known code && has_code code fs ≡ false → IsNoted (want code) v bytes held → held.start + held.length ≤ length bytes → AreNoted (fs ++ (record { code = code; value = v }) ∷ []) bytes self.new }
+    {
+        let at = usize::from(code);
+        if at < self.held.len() {
+            self.held[at] = Some(held);
+        }
+    }
+
+    /// Whether every field was seen that a message of the type has.
+    pub(crate) fn has_required(&self, kind: u8) -> bool
+        ensures { (bytes : List ℕ) (fs : List FieldTree) → AreNoted fs bytes self.now → result ≡ true → lacks (required kind) fs ≡ None }
+    {
+        for code in required(kind) {
+            if !self.has(*code) {
+                return false;
+            }
+        }
+        true
+    }
+}
