@@ -1,3 +1,6 @@
 mod HeldSteps
 mod SeenSteps
 mod FieldTurns
+mod BodySteps
+mod BodyPlaces
+mod WholeSteps

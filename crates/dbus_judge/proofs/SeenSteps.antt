@@ -1,11 +1,11 @@
 -- The known fields that were seen, as the code notes them.
-use Rattle.std.proofs.Common.{◌≡◌, ℕ, eqb, true, false, Bool, cond, ◌&&◌, ◌||◌, ◌+◌, ◌<◌, ◌≤◌, List, [], ◌∷◌, ◌++◌, length, drop, get_or, set, Option, Some, None, refl, sym, ap, subst, ◌∙◌, inl, inr, arith}
+use Rattle.std.proofs.Common.{take, ◌≡◌, ℕ, eqb, true, false, Bool, cond, ◌&&◌, ◌||◌, ◌+◌, ◌<◌, ◌≤◌, List, [], ◌∷◌, ◌++◌, length, drop, get_or, set, Option, Some, None, refl, sym, ap, subst, ◌∙◌, inl, inr, arith}
 use Rattle.std.specs.Option.{is_some}
 use Rattle.std.proofs.lemmas.Bool.{cases_lt, eqb-true, eqb-false, ne_eqb, or_parts}
 use Rattle.std.proofs.lemmas.List.{drop_more, get_or-set_same, get_or-set_other}
 use Rattle.dbus_value_model.specs.declared.fault.Reason.TheVariants as reasons
 use Rattle.dbus_value_model.specs.Values.{ValueTree}
-use Rattle.dbus_message_model.specs.Messages.{FieldTree, Want, want, is_known, has_code, lacks}
+use Rattle.dbus_message_model.specs.Messages.{FieldTree, Want, want, is_known, has_code, lacks, text_in, number_in, body_signature, fd_count}
 use Rattle.dbus_message_model.specs.Lookups.{field_value}
 use Rattle.dbus_judge.specs.declared.field_values.Held.{Held}
 use Rattle.dbus_judge.specs.declared.seen.Seen.{Seen}
@@ -95,3 +95,53 @@ module _ (fs : List FieldTree) (bytes : List ℕ) (seen : Seen) (noted : AreNote
 module _ (items : List ℕ) (i : ℕ) (here : i < length items) (fs : List FieldTree) where
   pub lacks_later : has_code (get_or items i 0) fs ≡ true → lacks (drop (i + 1) items) fs ≡ lacks (drop i items) fs
   lacks_later h = sym (ap (λ (l : List ℕ). lacks l fs) (drop_more items i 0 here) ∙ ap (λ (b : Bool). cond b (lacks (drop (i + 1) items) fs) (Some (reasons.FieldMissing (get_or items i 0)))) h)
+
+-- ---- the signature and the descriptors
+
+abbrev text_of : Option ValueTree → List ℕ
+text_of None = []
+text_of (Some v) = text_in v
+
+abbrev number_of : Option ValueTree → ℕ
+number_of None = 0
+number_of (Some v) = number_in v
+
+signature_of : (fs : List FieldTree) → body_signature fs ≡ text_of (field_value 8 fs)
+signature_of [] = refl
+signature_of (f ∷ fs) = elim (eqb f.code 8) as (λ b. cond b (text_in f.value) (body_signature fs) ≡ text_of (cond b (Some f.value) (field_value 8 fs))) [ true ↦ refl | false ↦ signature_of fs ]
+
+count_of : (fs : List FieldTree) → fd_count fs ≡ number_of (field_value 9 fs)
+count_of [] = refl
+count_of (f ∷ fs) = elim (eqb f.code 9) as (λ b. cond b (number_in f.value) (fd_count fs) ≡ number_of (cond b (Some f.value) (field_value 9 fs))) [ true ↦ refl | false ↦ count_of fs ]
+
+module _ (bytes : List ℕ) (h : Held) where
+  seen_text : (v : Option ValueTree) → IsNotedOf (want 8) v bytes (Some h) → (text_of v ≡ take h.length (drop h.start bytes)) × (h.start + h.length ≤ length bytes)
+  seen_text None n = absurd n
+  seen_text (Some v) n = (n.0.0, n.1)
+
+  seen_number : (v : Option ValueTree) → IsNotedOf (want 9) v bytes (Some h) → number_of v ≡ h.number
+  seen_number None n = absurd n
+  seen_number (Some v) n = n.0.1
+
+unseen_text : (bytes : List ℕ) (v : Option ValueTree) → IsNotedOf (want 8) v bytes None → text_of v ≡ []
+unseen_text bytes None n = refl
+unseen_text bytes (Some v) n = absurd n
+
+unseen_number : (bytes : List ℕ) (v : Option ValueTree) → IsNotedOf (want 9) v bytes None → number_of v ≡ 0
+unseen_number bytes None n = refl
+unseen_number bytes (Some v) n = absurd n
+
+module _ (fs : List FieldTree) (bytes : List ℕ) (seen : Seen) (noted : AreNoted fs bytes seen) where
+  pub signature_there : (h : Held) → get_or seen.held 8 None ≡ Some h → (body_signature fs ≡ take h.length (drop h.start bytes)) × (h.start + h.length ≤ length bytes)
+  signature_there h is =
+      let w = seen_text bytes h (field_value 8 fs) (subst (λ (x : Option Held). IsNotedOf (want 8) (field_value 8 fs) bytes x) is (noted 8 refl)) in
+      (signature_of fs ∙ w.0, w.1)
+
+  pub signature_absent : get_or seen.held 8 None ≡ None → body_signature fs ≡ []
+  signature_absent is = signature_of fs ∙ unseen_text bytes (field_value 8 fs) (subst (λ (x : Option Held). IsNotedOf (want 8) (field_value 8 fs) bytes x) is (noted 8 refl))
+
+  pub count_there : (h : Held) → get_or seen.held 9 None ≡ Some h → fd_count fs ≡ h.number
+  count_there h is = count_of fs ∙ seen_number bytes h (field_value 9 fs) (subst (λ (x : Option Held). IsNotedOf (want 9) (field_value 9 fs) bytes x) is (noted 9 refl))
+
+  pub count_absent : get_or seen.held 9 None ≡ None → fd_count fs ≡ 0
+  count_absent is = count_of fs ∙ unseen_number bytes (field_value 9 fs) (subst (λ (x : Option Held). IsNotedOf (want 9) (field_value 9 fs) bytes x) is (noted 9 refl))

@@ -3,12 +3,18 @@
 
 ghost use Rattle.std.specs.Prelude.{◌≡◌, ◌+◌, ◌≤◌, ◌++◌, ◌∷◌, [], ◌&&◌, ℕ, List, length, true, false, None, slice_index_or};
 ghost use Rattle.dbus_value_model.specs.Values.{ValueTree};
-ghost use Rattle.dbus_message_model.specs.Messages.{FieldTree, want, is_known, has_code, lacks, required};
+ghost use Rattle.dbus_message_model.specs.Messages.{FieldTree, want, is_known, has_code, lacks, required, body_signature, fd_count};
 ghost use Rattle.dbus_judge.specs.Held.{IsNoted};
 
 use crate::field_values::Held;
 use dbus_message_model::field_table::is_known;
 use dbus_message_model::known_fields::required;
+
+/// The code of the field that has the types of the body's values.
+const SIGNATURE: u8 = 8;
+
+/// The code of the field that has the number of the file descriptors.
+const UNIX_FDS: u8 = 9;
 
 /// Where the values of the known fields stand, each by its code. D-Bus Specification, "Header Fields".
 #[derive(Clone, Copy)]
@@ -66,5 +72,26 @@ impl Seen {
             }
         }
         true
+    }
+
+    /// The types of the body's values: the text of the SIGNATURE field in the bytes, or nothing where that was not seen.
+    pub fn signature<'a>(&self, bytes: &'a [u8]) -> &'a [u8]
+        requires noted { (fs : List FieldTree) × AreNoted fs bytes.now self.now }
+        ensures { (fs : List FieldTree) → AreNoted fs bytes.now self.now → result.now ≡ body_signature fs }
+    {
+        match self.get(SIGNATURE) {
+            Some(held) => &bytes[held.start..held.start + held.length],
+            None => &[],
+        }
+    }
+
+    /// How many file descriptors come with the message: the number of the UNIX_FDS field, or 0 where that was not seen.
+    pub fn fd_count(&self) -> u32
+        ensures { (bytes : List ℕ) (fs : List FieldTree) → AreNoted fs bytes self.now → result ≡ fd_count fs }
+    {
+        match self.get(UNIX_FDS) {
+            Some(held) => held.number,
+            None => 0,
+        }
     }
 }

@@ -1,0 +1,79 @@
+-- A message, from its parts as the code passes them over.
+use Rattle.std.proofs.Common.{◌≡◌, ℕ, suc, ◌+◌, ◌-◌, ◌<◌, ◌≤◌, List, [], drop, get_or, None, refl, sym, ◌∙◌, arith}
+use Rattle.dbus_texts.specs.Kinds.{IsKind}
+use Rattle.dbus_texts.specs.ComputedKinds.{types_spelled}
+use Rattle.dbus_texts.specs.declared.text_kind.TextKind.TheVariants.{Signature}
+use Rattle.dbus_value_model.specs.declared.limits.Limits.{Limits}
+use Rattle.dbus_value_model.specs.declared.order.Order.{Order}
+use Rattle.dbus_value_model.specs.Bytes.{IsBytes, gap_to}
+use Rattle.dbus_value_model.specs.Items.{Sequence}
+use Rattle.dbus_value_model.specs.Specification.{bounds_of}
+use Rattle.dbus_value_model.specs.Values.{ValueTrees}
+use Rattle.dbus_value_model.specs.Reading.{Done, padding}
+use Rattle.dbus_unmarshal.proofs.Contents.{Agrees-contents}
+use Rattle.dbus_unmarshal.proofs.ReadSteps.{padding_is}
+use Rattle.dbus_message_model.specs.Messages.{FieldTree, MessageTree, lacks, required, body_signature, body_fds}
+use Rattle.dbus_decode.specs.declared.fixed_header.FixedHeader.{FixedHeader}
+use Rattle.dbus_decode.specs.HeaderReading.{fixed_header, fields_read, body_read, message_read}
+use Rattle.dbus_decode.specs.MessageItems.{field}
+use Rattle.dbus_decode.specs.MessageReading as reads
+use Rattle.dbus_decode.specs.MessageOutcomes.{IsWhole}
+use Rattle.dbus_decode.proofs.Decoded.{whole_read}
+use Rattle.dbus_decode.proofs.Fields.{Agrees-field, field_moves}
+use Rattle.dbus_decode.proofs.MessageParts.{field_signature}
+use Rattle.dbus_decode.proofs.ReadingParts.{fields_are}
+use Rattle.dbus_decode.proofs.ReadMoves.{bytes_from, bytes_at}
+use Rattle.dbus_judge.specs.declared.seen.Seen.{Seen}
+use Rattle.dbus_judge.specs.Judging.{IsJudged}
+use Rattle.dbus_judge.specs.Seen.{AreNoted}
+use Rattle.dbus_judge.proofs.BodyPlaces.{body_begins, body_there}
+
+-- ---- the padding behind the fields
+
+-- the bytes may go on behind it
+pub padded_to : (end o q : ℕ) (bytes : List ℕ) → q ≡ o + gap_to 8 o → q ≤ end → padding 8 end o (drop o bytes) ≡ Done tt q (drop q bytes) → padding 8 (o + 8) o (drop o bytes) ≡ Done tt q (drop q bytes)
+unfolding gap_to
+padded_to end o q bytes is le read =
+    padding_is 8 (o + 8) o (gap_to 8 o) (drop o bytes) refl (omega arith) ∙ sym (padding_is 8 end o (gap_to 8 o) (drop o bytes) refl (omega (arith, is, le))) ∙ read
+
+-- ---- the fields
+
+-- fields that were read passed, one behind another
+pub in_sequence : (limits : Limits) (order : Order) (n o : ℕ) (s : List ℕ) (fs : List FieldTree) (q : ℕ) (r : List ℕ) → 0 < limits.depth → IsBytes s → fields_read limits order n o s ≡ Done fs q r
+    → Sequence (field (bounds_of limits) order (limits.depth - 1) (o + n)) [] fs o s q r
+in_sequence limits order n o s fs q r opened are e =
+    let room = limits.depth - 1 in
+    let deep : limits.depth ≡ suc room = omega (arith, opened) in
+    let agrees = Agrees-contents n (field (bounds_of limits) order room) (reads.field (bounds_of limits) order room) (λ end before. Agrees-field (bounds_of limits) order room end before) (λ end before. field_moves (bounds_of limits) order room end before) in
+    (agrees.reads o s fs q r are (sym (fields_are limits order room deep n o s) ∙ e)).0
+
+module _ (limits : Limits) (bytes : List ℕ) (are : (i : ℕ) → get_or bytes i 0 < 256) (h : FixedHeader) (opened : 0 < limits.depth) (fs : List FieldTree) (fielded : fields_read limits h.order h.fields 16 (drop 16 bytes) ≡ Done fs (16 + h.fields) (drop (16 + h.fields) bytes)) where
+  sequence : Sequence (field (bounds_of limits) h.order (limits.depth - 1) (16 + h.fields)) [] fs 16 (drop 16 bytes) (16 + h.fields) (drop (16 + h.fields) bytes)
+  sequence = in_sequence limits h.order h.fields 16 (drop 16 bytes) fs (16 + h.fields) (drop (16 + h.fields) bytes) opened (bytes_at bytes 16 are) fielded
+
+  pub signed : IsKind Signature (body_signature fs)
+  signed = field_signature (bounds_of limits) h.order (limits.depth - 1) (16 + h.fields) fs [] 16 (drop 16 bytes) (16 + h.fields) (drop (16 + h.fields) bytes) sequence
+
+  module _ (headed : fixed_header limits 0 bytes ≡ Done h 16 (drop 16 bytes)) (none : lacks (required h.kind) fs ≡ None) (start : ℕ) (padded : padding 8 (16 + h.fields + 8) (16 + h.fields) (drop (16 + h.fields) bytes) ≡ Done tt start (drop start bytes)) where
+    module _ (vs : ValueTrees) (read : body_read limits (body_fds limits fs) h.order (types_spelled (body_signature fs)) (start + h.body) start (drop start bytes) ≡ Done vs (start + h.body) (drop (start + h.body) bytes)) where
+      abbrev made : MessageTree
+      made = record { kind = h.kind; flags = h.flags; serial = h.serial; fields = fs; body = vs }
+
+      message_done : message_read limits 0 bytes ≡ Done (h.order, made) (start + h.body) (drop (start + h.body) bytes)
+      unfolding message_read
+      message_done = rw (headed, fielded, none, padded, read) refl
+
+      whole : IsWhole limits bytes h.order made (start + h.body)
+      whole = whole_read limits bytes (bytes_from bytes are) h.order made (start + h.body) (drop (start + h.body) bytes) message_done
+
+      pub is_judged : (seen : Seen) → AreNoted fs bytes seen → start ≡ 16 + h.fields + gap_to 8 (16 + h.fields)
+          → IsJudged limits bytes (record { length = start + h.body; order = h.order; kind = h.kind; flags = h.flags; serial = h.serial; fields = seen; body = start })
+      is_judged seen noted behind =
+          let begins = body_begins (bounds_of limits) h.order (limits.depth - 1) h.fields start fs (drop 16 bytes) (drop (16 + h.fields) bytes) sequence behind in
+          record {
+            message = made;
+            whole = whole;
+            parts = (refl, refl, refl);
+            fields = noted;
+            body = (begins, body_there h.order made limits bytes (start + h.body) start whole begins);
+          }

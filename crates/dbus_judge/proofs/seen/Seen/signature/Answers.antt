@@ -1,0 +1,12 @@
+use Rattle.std.proofs.Common.{ℕ, ◌≡◌, ◌+◌, ◌-◌, take, drop, sym, ap, ◌∙◌, arith}
+use Rattle.dbus_judge.proofs.SeenSteps.{signature_there, signature_absent}
+use Rattle.dbus_judge.proofs.seen.Seen.signature.Goals as goal
+
+pub returns-in-Some : goal.returns-in-Some
+returns-in-Some c = λ fs noted.
+    let h = c.in-Some.held in
+    let long : h.start + h.length - h.start ≡ h.length = omega arith in
+    ap (λ (m : ℕ). take m (drop h.start c.args.bytes.now)) long ∙ sym (signature_there fs c.args.bytes.now c.args.self.now noted h (sym c.in-Some.ensures)).0
+
+pub returns-in-None : goal.returns-in-None
+returns-in-None c = λ fs noted. sym (signature_absent fs c.args.bytes.now c.args.self.now noted (sym c.in-None.ensures))

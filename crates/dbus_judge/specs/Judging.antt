@@ -1,0 +1,16 @@
+-- What is said of bytes that begin with a message.
+-- D-Bus Specification, "Message Format".
+use Rattle.std.specs.Prelude.{◌≡◌, ℕ, ◌-◌, List, take, drop}
+use Rattle.dbus_value_model.specs.declared.limits.Limits.{Limits}
+use Rattle.dbus_message_model.specs.Messages.{MessageTree, body_start, body_bytes}
+use Rattle.dbus_decode.specs.MessageOutcomes.{IsWhole}
+use Rattle.dbus_judge.specs.declared.judging.Judged.{Judged}
+use Rattle.dbus_judge.specs.Seen.{AreNoted}
+
+-- they begin with a message: its length and order, its parts, where the values of its known fields stand, and where its body does
+pub record IsJudged (limits : Limits) (bytes : List ℕ) (j : Judged) : Type 0 where
+  pub message : MessageTree
+  pub whole : IsWhole limits bytes j.order message j.length
+  pub parts : (message.kind ≡ j.kind) × (message.flags ≡ j.flags) × (message.serial ≡ j.serial)
+  pub fields : AreNoted message.fields bytes j.fields
+  pub body : (body_start j.order message.fields ≡ j.body) × (body_bytes j.order message ≡ take (j.length - j.body) (drop j.body bytes))

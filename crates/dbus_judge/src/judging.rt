@@ -1,0 +1,98 @@
+//! Messages judged. D-Bus Specification, "Message Format".
+#![tactic(auto)]
+
+ghost use Rattle.std.specs.Prelude.{◌≡◌, ◌≤◌, List, length, drop, true, IfSome};
+ghost use Rattle.dbus_texts.specs.ComputedKinds.{types_spelled};
+ghost use Rattle.dbus_texts.specs.Kinds.{IsKind};
+ghost use Rattle.dbus_texts.specs.declared.text_kind.TextKind.TheVariants.{Signature};
+ghost use Rattle.dbus_message_model.specs.Messages.{FieldTree, body_signature, body_fds};
+ghost use Rattle.dbus_decode.specs.HeaderReading.{body_read};
+ghost use Rattle.dbus_value_judge.specs.Endings.{EndsAt};
+ghost use Rattle.dbus_judge.specs.Judging.{IsJudged};
+ghost use Rattle.dbus_judge.specs.Seen.{AreNoted};
+
+use crate::fields::judge_fields;
+use crate::seen::Seen;
+use dbus_decode::{FIELD_DEPTH, read_fixed_header};
+use dbus_value_judge::{judge_values, padding};
+use dbus_value_model::{Limits, Order};
+
+/// What is said of a message that some bytes begin with. D-Bus Specification, "Message Format".
+#[derive(Clone, Copy)]
+pub struct Judged {
+    /// How many bytes the message has.
+    pub length: usize,
+    /// The order of its numbers' bytes.
+    pub order: Order,
+    /// The message type.
+    pub kind: u8,
+    /// The flags.
+    pub flags: u8,
+    /// The serial.
+    pub serial: u32,
+    /// Where the values of its known fields stand.
+    pub fields: Seen,
+    /// The offset of its body, which ends where the message does.
+    pub body: usize,
+}
+
+/// Whether from `at` up to `end` the bytes are found to be a body of the types that the SIGNATURE field says.
+fn is_body(bytes: &[u8], at: usize, end: usize, order: Order, seen: &Seen, limits: Limits) -> bool
+    requires at_most { at ≤ end }
+    requires inside { end ≤ length bytes.now }
+    requires noted { (fs : List FieldTree) × AreNoted fs bytes.now seen.now }
+    ensures { result ≡ true → (fs : List FieldTree) → AreNoted fs bytes.now seen.now → IsKind Signature (body_signature fs) → EndsAt bytes.now end (body_read limits (body_fds limits fs) order (types_spelled (body_signature fs)) end at (drop at bytes.now)) }
+{
+    let types = seen.signature(bytes);
+    let fds = limits.fds.index_limit(seen.fd_count());
+    let bounds = limits.bounds_with(fds);
+    match judge_values(bytes, at, end, order, types, limits.depth, bounds) {
+        Some(after) => after == end,
+        None => false,
+    }
+}
+
+/// The message that the bytes begin with, where it is found good under the limits, and where its parts stand.
+///
+/// Some says that the bytes begin with a whole message, of the length that is answered: its order, type, flags and serial, where
+/// the value of each of its known fields stands, and where its body begins. Offsets count from the first of the bytes. None says
+/// nothing: it comes of bytes that are at fault or too few, and may come of others, as under limits whose depth is below 3. No
+/// memory is taken.
+/// D-Bus Specification, "Message Format".
+pub fn judge(bytes: &[u8], limits: Limits) -> Option<Judged>
+    ensures { IfSome result (λ j. IsJudged limits bytes.now j) }
+{
+    if limits.depth < FIELD_DEPTH {
+        return None;
+    }
+    let header = match read_fixed_header(bytes, limits) {
+        Ok(header) => header,
+        Err(_) => return None,
+    };
+    let n = header.fields as usize;
+    if bytes.len() - 16 < n {
+        return None;
+    }
+    let seen = judge_fields(bytes, 16, n, header.order, limits)?;
+    if !seen.has_required(header.kind) {
+        return None;
+    }
+    let start = padding(bytes, 16 + n, bytes.len(), 8)?;
+    let size = header.body as usize;
+    if bytes.len() - start < size {
+        return None;
+    }
+    let end = start + size;
+    if !is_body(bytes, start, end, header.order, &seen, limits) {
+        return None;
+    }
+    Some(Judged {
+        length: end,
+        order: header.order,
+        kind: header.kind,
+        flags: header.flags,
+        serial: header.serial,
+        fields: seen,
+        body: start,
+    })
+}
