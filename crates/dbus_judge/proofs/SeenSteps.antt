@@ -5,12 +5,13 @@ use Rattle.std.proofs.lemmas.Bool.{cases_lt, eqb-true, eqb-false, ne_eqb, or_par
 use Rattle.std.proofs.lemmas.List.{drop_more, get_or-set_same, get_or-set_other}
 use Rattle.dbus_value_model.specs.declared.fault.Reason.TheVariants as reasons
 use Rattle.dbus_value_model.specs.Values.{ValueTree}
-use Rattle.dbus_message_model.specs.Messages.{FieldTree, Want, want, is_known, has_code, lacks, text_in, number_in, body_signature, fd_count}
+use Rattle.dbus_message_model.specs.Messages.{FieldTree, Want, Anything, OfType, Name, Serial, want, is_particular, is_known, has_code, lacks, text_in, number_in, body_signature, fd_count}
 use Rattle.dbus_message_model.specs.Lookups.{field_value}
 use Rattle.dbus_judge.specs.declared.field_values.Held.{Held}
+use Rattle.dbus_judge.specs.declared.seen.Place.{Place}
 use Rattle.dbus_judge.specs.declared.seen.Seen.{Seen}
 use Rattle.dbus_judge.specs.Held.{IsNoted}
-use Rattle.dbus_judge.specs.Seen.{IsNotedOf, AreNoted}
+use Rattle.dbus_judge.specs.Seen.{StandsAt, IsNotedOf, AreNoted}
 
 -- ---- codes among fields
 
@@ -46,49 +47,56 @@ known_below c known = elim (cases_lt c 10) [ inl h ↦ h | inr h ↦ let no = un
 
 -- ---- what is noted
 
-as_noted : (w : Want) (v : Option ValueTree) (bytes : List ℕ) (h : Option Held) → IsNotedOf w v bytes h → is_some h ≡ is_some v
-as_noted w None bytes None n = refl
-as_noted w None bytes (Some h) n = absurd n
-as_noted w (Some v) bytes None n = absurd n
-as_noted w (Some v) bytes (Some h) n = refl
+as_noted : (v : Option ValueTree) (bytes : List ℕ) (p : Option Place) → IsNotedOf v bytes p → is_some p ≡ is_some v
+as_noted None bytes None n = refl
+as_noted None bytes (Some p) n = absurd n
+as_noted (Some v) bytes None n = absurd n
+as_noted (Some v) bytes (Some p) n = refl
+
+abbrev place_of : Held → Place
+place_of h = record { start = h.start; length = h.length; number = h.number }
+
+stands : (w : Want) (v : ValueTree) (bytes : List ℕ) (h : Held) → is_particular w ≡ true → IsNoted w v bytes h → h.start + h.length ≤ length bytes → StandsAt v bytes (place_of h)
+stands Anything v bytes h known is fits = absurd cc
+stands (OfType t) v bytes h known is fits = record { text = is.0; inside = fits; number = is.1 }
+stands (Name k) v bytes h known is fits = record { text = is.0; inside = fits; number = is.1 }
+stands Serial v bytes h known is fits = record { text = is.0; inside = fits; number = is.1 }
 
 module _ (fs : List FieldTree) (bytes : List ℕ) (seen : Seen) (noted : AreNoted fs bytes seen) where
-  pub has_noted : (c : ℕ) → is_known c ≡ true → is_some (get_or seen.held c None) ≡ has_code c fs
-  has_noted c known = as_noted (want c) (field_value c fs) bytes (get_or seen.held c None) (noted c known) ∙ value_has c fs
+  pub has_noted : (c : ℕ) → is_known c ≡ true → is_some (get_or seen.places c None) ≡ has_code c fs
+  has_noted c known = as_noted (field_value c fs) bytes (get_or seen.places c None) (noted c known) ∙ value_has c fs
 
   module _ (new : Seen) (code : ℕ) (v : ValueTree) (h : Held) (alone : is_known code && has_code code fs ≡ false) (is : IsNoted (want code) v bytes h) (fits : h.start + h.length ≤ length bytes) where
-    alone_in : is_known code ≡ true → has_code code fs ≡ false
-    alone_in known = ap (λ (b : Bool). b && has_code code fs) (sym known) ∙ alone
-
-    other_kept : (c : ℕ) → is_known c ≡ true → eqb code c ≡ false → get_or new.held c None ≡ get_or seen.held c None
-        → IsNotedOf (want c) (field_value c (fs ++ (record { code = code; value = v }) ∷ [])) bytes (get_or new.held c None)
+    other_kept : (c : ℕ) → is_known c ≡ true → eqb code c ≡ false → get_or new.places c None ≡ get_or seen.places c None
+        → IsNotedOf (field_value c (fs ++ (record { code = code; value = v }) ∷ [])) bytes (get_or new.places c None)
     other_kept c known other kept = rw (kept, value_other c fs (record { code = code; value = v }) other) (noted c known)
 
-    new_noted : (c : ℕ) → is_known c ≡ true → eqb code c ≡ true → get_or new.held code None ≡ Some h
-        → IsNotedOf (want c) (field_value c (fs ++ (record { code = code; value = v }) ∷ [])) bytes (get_or new.held c None)
+    new_noted : (c : ℕ) → is_known c ≡ true → eqb code c ≡ true → get_or new.places code None ≡ Some (place_of h)
+        → IsNotedOf (field_value c (fs ++ (record { code = code; value = v }) ∷ [])) bytes (get_or new.places c None)
     new_noted c known same put =
         let there : code ≡ c = eqb-true code c same in
-        let none : has_code c fs ≡ false = subst (λ (k : ℕ). has_code k fs ≡ false) there (alone_in (subst (λ (k : ℕ). is_known k ≡ true) (sym there) known)) in
-        let slot : get_or new.held c None ≡ Some h = subst (λ (k : ℕ). get_or new.held k None ≡ Some h) there put in
-        rw (slot, value_last c fs (record { code = code; value = v }) none same) (subst (λ (k : ℕ). IsNoted (want k) v bytes h) there is, fits)
+        let is_one : is_known code ≡ true = subst (λ (k : ℕ). is_known k ≡ true) (sym there) known in
+        let none : has_code c fs ≡ false = subst (λ (k : ℕ). has_code k fs ≡ false) there (ap (λ (b : Bool). b && has_code code fs) (sym is_one) ∙ alone) in
+        let slot : get_or new.places c None ≡ Some (place_of h) = subst (λ (k : ℕ). get_or new.places k None ≡ Some (place_of h)) there put in
+        rw (slot, value_last c fs (record { code = code; value = v }) none same) (stands (want code) v bytes h is_one is fits)
 
-    module _ (ten : length seen.held ≡ 10) where
-      put_noted : code < 10 → new.held ≡ set seen.held code (Some h) → (c : ℕ) → is_known c ≡ true → (same : Bool) → eqb code c ≡ same
-          → IsNotedOf (want c) (field_value c (fs ++ (record { code = code; value = v }) ∷ [])) bytes (get_or new.held c None)
+    module _ (ten : length seen.places ≡ 10) where
+      put_noted : code < 10 → new.places ≡ set seen.places code (Some (place_of h)) → (c : ℕ) → is_known c ≡ true → (same : Bool) → eqb code c ≡ same
+          → IsNotedOf (field_value c (fs ++ (record { code = code; value = v }) ∷ [])) bytes (get_or new.places c None)
       put_noted lt put c known true e =
-          new_noted c known e (ap (λ (l : List (Option Held)). get_or l code None) put ∙ get_or-set_same seen.held code (Some h) None (omega arith))
+          new_noted c known e (ap (λ (l : List (Option Place)). get_or l code None) put ∙ get_or-set_same seen.places code (Some (place_of h)) None (omega arith))
       put_noted lt put c known false e =
           let ne = eqb-false code c e in
-          other_kept c known e (ap (λ (l : List (Option Held)). get_or l c None) put ∙ get_or-set_other seen.held code c (Some h) None (λ same. ne (sym same)))
+          other_kept c known e (ap (λ (l : List (Option Place)). get_or l c None) put ∙ get_or-set_other seen.places code c (Some (place_of h)) None (λ same. ne (sym same)))
 
-      pub noted_more : code < 10 → new.held ≡ set seen.held code (Some h) → AreNoted (fs ++ (record { code = code; value = v }) ∷ []) bytes new
+      pub noted_more : code < 10 → new.places ≡ set seen.places code (Some (place_of h)) → AreNoted (fs ++ (record { code = code; value = v }) ∷ []) bytes new
       noted_more lt put = λ c known. put_noted lt put c known (eqb code c) refl
 
     -- a field that is not known
-    pub noted_past : 10 ≤ code → new.held ≡ seen.held → AreNoted (fs ++ (record { code = code; value = v }) ∷ []) bytes new
+    pub noted_past : 10 ≤ code → new.places ≡ seen.places → AreNoted (fs ++ (record { code = code; value = v }) ∷ []) bytes new
     noted_past le same = λ c known.
         let below = known_below c known in
-        other_kept c known (ne_eqb code c (omega arith)) (ap (λ (l : List (Option Held)). get_or l c None) same)
+        other_kept c known (ne_eqb code c (omega arith)) (ap (λ (l : List (Option Place)). get_or l c None) same)
 
 -- ---- the fields that are required
 
@@ -114,34 +122,30 @@ count_of : (fs : List FieldTree) → fd_count fs ≡ number_of (field_value 9 fs
 count_of [] = refl
 count_of (f ∷ fs) = elim (eqb f.code 9) as (λ b. cond b (number_in f.value) (fd_count fs) ≡ number_of (cond b (Some f.value) (field_value 9 fs))) [ true ↦ refl | false ↦ count_of fs ]
 
-module _ (bytes : List ℕ) (h : Held) where
-  seen_text : (v : Option ValueTree) → IsNotedOf (want 8) v bytes (Some h) → (text_of v ≡ take h.length (drop h.start bytes)) × (h.start + h.length ≤ length bytes)
-  seen_text None n = absurd n
-  seen_text (Some v) n = (n.0.0, n.1)
+module _ (bytes : List ℕ) where
+  seen_text : (p : Place) (v : Option ValueTree) → IsNotedOf v bytes (Some p) → (text_of v ≡ take p.length (drop p.start bytes)) × (p.start + p.length ≤ length bytes)
+  seen_text p None n = absurd n
+  seen_text p (Some v) n = (n.text, n.inside)
 
-  seen_number : (v : Option ValueTree) → IsNotedOf (want 9) v bytes (Some h) → number_of v ≡ h.number
-  seen_number None n = absurd n
-  seen_number (Some v) n = n.0.1
+  seen_number : (p : Place) (v : Option ValueTree) → IsNotedOf v bytes (Some p) → number_of v ≡ p.number
+  seen_number p None n = absurd n
+  seen_number p (Some v) n = n.number
 
-unseen_text : (bytes : List ℕ) (v : Option ValueTree) → IsNotedOf (want 8) v bytes None → text_of v ≡ []
-unseen_text bytes None n = refl
-unseen_text bytes (Some v) n = absurd n
-
-unseen_number : (bytes : List ℕ) (v : Option ValueTree) → IsNotedOf (want 9) v bytes None → number_of v ≡ 0
-unseen_number bytes None n = refl
-unseen_number bytes (Some v) n = absurd n
+  unseen : (v : Option ValueTree) → IsNotedOf v bytes None → v ≡ None
+  unseen None n = refl
+  unseen (Some v) n = absurd n
 
 module _ (fs : List FieldTree) (bytes : List ℕ) (seen : Seen) (noted : AreNoted fs bytes seen) where
-  pub signature_there : (h : Held) → get_or seen.held 8 None ≡ Some h → (body_signature fs ≡ take h.length (drop h.start bytes)) × (h.start + h.length ≤ length bytes)
-  signature_there h is =
-      let w = seen_text bytes h (field_value 8 fs) (subst (λ (x : Option Held). IsNotedOf (want 8) (field_value 8 fs) bytes x) is (noted 8 refl)) in
+  pub signature_there : (p : Place) → get_or seen.places 8 None ≡ Some p → (body_signature fs ≡ take p.length (drop p.start bytes)) × (p.start + p.length ≤ length bytes)
+  signature_there p is =
+      let w = seen_text bytes p (field_value 8 fs) (subst (λ (x : Option Place). IsNotedOf (field_value 8 fs) bytes x) is (noted 8 refl)) in
       (signature_of fs ∙ w.0, w.1)
 
-  pub signature_absent : get_or seen.held 8 None ≡ None → body_signature fs ≡ []
-  signature_absent is = signature_of fs ∙ unseen_text bytes (field_value 8 fs) (subst (λ (x : Option Held). IsNotedOf (want 8) (field_value 8 fs) bytes x) is (noted 8 refl))
+  pub signature_absent : get_or seen.places 8 None ≡ None → body_signature fs ≡ []
+  signature_absent is = signature_of fs ∙ ap text_of (unseen bytes (field_value 8 fs) (subst (λ (x : Option Place). IsNotedOf (field_value 8 fs) bytes x) is (noted 8 refl)))
 
-  pub count_there : (h : Held) → get_or seen.held 9 None ≡ Some h → fd_count fs ≡ h.number
-  count_there h is = count_of fs ∙ seen_number bytes h (field_value 9 fs) (subst (λ (x : Option Held). IsNotedOf (want 9) (field_value 9 fs) bytes x) is (noted 9 refl))
+  pub count_there : (p : Place) → get_or seen.places 9 None ≡ Some p → fd_count fs ≡ p.number
+  count_there p is = count_of fs ∙ seen_number bytes p (field_value 9 fs) (subst (λ (x : Option Place). IsNotedOf (field_value 9 fs) bytes x) is (noted 9 refl))
 
-  pub count_absent : get_or seen.held 9 None ≡ None → fd_count fs ≡ 0
-  count_absent is = count_of fs ∙ unseen_number bytes (field_value 9 fs) (subst (λ (x : Option Held). IsNotedOf (want 9) (field_value 9 fs) bytes x) is (noted 9 refl))
+  pub count_absent : get_or seen.places 9 None ≡ None → fd_count fs ≡ 0
+  count_absent is = count_of fs ∙ ap number_of (unseen bytes (field_value 9 fs) (subst (λ (x : Option Place). IsNotedOf (field_value 9 fs) bytes x) is (noted 9 refl)))

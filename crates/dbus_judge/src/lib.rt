@@ -9,4 +9,4 @@ mod seen;
 pub use field_values::{Held, judge_field_value};
 pub use fields::{judge_field, judge_fields};
 pub use judging::{Judged, judge};
-pub use seen::Seen;
+pub use seen::{Place, Seen};

@@ -16,11 +16,22 @@ const SIGNATURE: u8 = 8;
 /// The code of the field that has the number of the file descriptors.
 const UNIX_FDS: u8 = 9;
 
+/// Where the value of a known field stands.
+#[derive(Clone, Copy)]
+pub struct Place {
+    /// The offset of its text, or 0 where it is no text.
+    pub start: usize,
+    /// How many bytes its text has, or 0.
+    pub length: usize,
+    /// Its number, or 0 where it is no UINT32.
+    pub number: u32,
+}
+
 /// Where the values of the known fields stand, each by its code. D-Bus Specification, "Header Fields".
 #[derive(Clone, Copy)]
 pub struct Seen {
     /// Of each code the value of the field that was seen, if one was: the codes of the known fields are 1 to 9.
-    pub held: [Option<Held>; 10],
+    pub places: [Option<Place>; 10],
 }
 
 impl Seen {
@@ -30,16 +41,16 @@ impl Seen {
     pub(crate) fn none() -> Seen
         ensures { (bytes : List ℕ) → AreNoted [] bytes result }
     {
-        Seen { held: [None; 10] }
+        Seen { places: [None; 10] }
     }
 
     /// Where the value of the field of a code stands, if it was seen.
-    pub fn get(&self, code: u8) -> Option<Held>
-        ensures { result ≡ slice_index_or self.now.held code None }
+    pub fn get(&self, code: u8) -> Option<Place>
+        ensures { result ≡ slice_index_or self.now.places code None }
     {
         let at = usize::from(code);
-        if at < self.held.len() {
-            self.held[at]
+        if at < self.places.len() {
+            self.places[at]
         } else {
             None
         }
@@ -57,8 +68,12 @@ impl Seen {
         ensures { (bytes : List ℕ) (fs : List FieldTree) (v : ValueTree) → AreNoted fs bytes self.old → is_known code && has_code code fs ≡ false → IsNoted (want code) v bytes held → held.start + held.length ≤ length bytes → AreNoted (fs ++ (record { code = code; value = v }) ∷ []) bytes self.new }
     {
         let at = usize::from(code);
-        if at < self.held.len() {
-            self.held[at] = Some(held);
+        if at < self.places.len() {
+            self.places[at] = Some(Place {
+                start: held.start,
+                length: held.length,
+                number: held.number,
+            });
         }
     }
 
@@ -80,7 +95,7 @@ impl Seen {
         ensures { (fs : List FieldTree) → AreNoted fs bytes.now self.now → result.now ≡ body_signature fs }
     {
         match self.get(SIGNATURE) {
-            Some(held) => &bytes[held.start..held.start + held.length],
+            Some(place) => &bytes[place.start..place.start + place.length],
             None => &[],
         }
     }
@@ -90,7 +105,7 @@ impl Seen {
         ensures { (bytes : List ℕ) (fs : List FieldTree) → AreNoted fs bytes self.now → result ≡ fd_count fs }
     {
         match self.get(UNIX_FDS) {
-            Some(held) => held.number,
+            Some(place) => place.number,
             None => 0,
         }
     }

@@ -4,9 +4,9 @@ use Rattle.dbus_judge.proofs.seen.Seen.signature.Goals as goal
 
 pub returns-in-Some : goal.returns-in-Some
 returns-in-Some c = λ fs noted.
-    let h = c.in-Some.held in
-    let long : h.start + h.length - h.start ≡ h.length = omega arith in
-    ap (λ (m : ℕ). take m (drop h.start c.args.bytes.now)) long ∙ sym (signature_there fs c.args.bytes.now c.args.self.now noted h (sym c.in-Some.ensures)).0
+    let p = c.in-Some.place in
+    let long : p.start + p.length - p.start ≡ p.length = omega arith in
+    ap (λ (m : ℕ). take m (drop p.start c.args.bytes.now)) long ∙ sym (signature_there fs c.args.bytes.now c.args.self.now noted p (sym c.in-Some.ensures)).0
 
 pub returns-in-None : goal.returns-in-None
 returns-in-None c = λ fs noted. sym (signature_absent fs c.args.bytes.now c.args.self.now noted (sym c.in-None.ensures))
