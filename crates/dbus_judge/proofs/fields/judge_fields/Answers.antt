@@ -1,6 +1,6 @@
 use Rattle.std.proofs.Common.{◌≡◌, ◌&&◌, false, ◌+◌, ◌-◌, ◌≤◌, length, suc, sym, ◌∙◌, arith}
 use Rattle.dbus_message_model.specs.Messages.{is_known, has_code}
-use Rattle.dbus_judge.proofs.FieldTurns.{none_left, one_left}
+use Rattle.dbus_judge.proofs.FieldTurns.{none_left, one_left, left_ends}
 use Rattle.dbus_judge.proofs.fields.judge_fields.Goals as goal
 
 pub loop-turn-init : goal.loop-turn-init
@@ -20,3 +20,11 @@ loop-turn-preserved c =
       left = one_left c.args.limits c.args.order c.args.bytes.now c.args.at c.args.n (c.args.n - c.loop-turn._turn) (c.args.n - (c.loop-turn._turn + 1)) c.loop-turn.place c.in_ok-code.code c.in_ok-code.held c.loop-turn.seen c.note.new.self left
           more (omega (arith, c.if-place-end.false)) alone c.in_ok-code.ensures.field (λ v is. c.note.ensures c.args.bytes.now left.front v left.noted alone is fits);
     }
+
+pub returns-then-place-end : goal.returns-then-place-end
+returns-then-place-end c =
+    left_ends c.args.limits c.args.order c.args.bytes.now c.args.at c.args.n (c.args.n - c.loop-turn._turn) c.loop-turn.place c.loop-turn.seen c.loop-turn.invariant.left c.if-place-end.true
+
+pub returns-then-place-end-2 : goal.returns-then-place-end-2
+returns-then-place-end-2 c =
+    left_ends c.args.limits c.args.order c.args.bytes.now c.args.at c.args.n (c.args.n - c.loop-turn._turn) c.loop-turn.place c.loop-turn.seen c.loop-turn.invariant.left c.if-place-end-2.true
