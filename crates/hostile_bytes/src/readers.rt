@@ -1,0 +1,137 @@
+//! The readers of messages, and what each answers of the same bytes.
+
+use crate::answer::Answer;
+use dbus_check::{Check, Checker};
+use dbus_message::decode;
+use dbus_stream::{Cutter, StreamFault};
+use dbus_value::Refusal;
+use std::alloc::Global;
+
+// A reader that answers as decoding does.
+#[derive(Clone, Copy)]
+enum Reader {
+    // A checker, that is handed the bytes at once.
+    Whole,
+    // A checker, that is handed them in two pieces.
+    Checker,
+    // A cutter, that is handed them in two pieces.
+    Cutter,
+}
+
+// All of them.
+const READERS: [Reader; 3] = [Reader::Whole, Reader::Checker, Reader::Cutter];
+
+/// What decoding answers.
+pub(crate) fn decoded(alloc: Global, bytes: &[u8]) -> Answer {
+    match decode(alloc, bytes) {
+        Ok(dbus_message::Answer::Whole { used, .. }) => Answer::Whole(used),
+        Ok(dbus_message::Answer::Partial) => Answer::Partial,
+        Err(Refusal::Format(fault)) => Answer::Refused(fault),
+        Err(Refusal::Memory) => Answer::Other,
+    }
+}
+
+// What a checker answers of a piece, before which it was handed so many bytes.
+fn checked(checker: &mut Checker, before: usize, piece: &[u8]) -> Answer {
+    match checker.take(piece) {
+        Check::Done(count) => Answer::Whole(before.saturating_add(count)),
+        Check::Refused(fault) => Answer::Refused(fault),
+        Check::Partial => Answer::Partial,
+    }
+}
+
+// What a cutter answers of a piece, before which it was handed so many bytes. Where more are wanted it holds all of them.
+fn cut(cutter: &mut Cutter, before: usize, piece: &[u8]) -> Answer {
+    match cutter.take(piece) {
+        Ok((count, Some(_))) => Answer::Whole(before.saturating_add(count)),
+        Ok((_, None)) if cutter.held() == before.saturating_add(piece.len()) => Answer::Partial,
+        Err(StreamFault::Format(fault)) => Answer::Refused(fault),
+        _ => Answer::Other,
+    }
+}
+
+// What a checker answers of the first bytes and, where more are wanted, of the others.
+fn checked_in_two(checker: &mut Checker, front: &[u8], rest: &[u8]) -> Answer {
+    checker.restart();
+    match checked(checker, 0, front) {
+        Answer::Partial => checked(checker, front.len(), rest),
+        answer => answer,
+    }
+}
+
+// What a cutter answers of them.
+fn cut_in_two(alloc: Global, front: &[u8], rest: &[u8]) -> Answer {
+    let mut cutter = Cutter::new(alloc);
+    match cut(&mut cutter, 0, front) {
+        Answer::Partial => cut(&mut cutter, front.len(), rest),
+        answer => answer,
+    }
+}
+
+/// What readers work with.
+#[derive(Drop)]
+pub(crate) struct Readers {
+    /// Allocates what is read.
+    pub(crate) alloc: Global,
+    /// It begins again with each message.
+    pub(crate) checker: Checker,
+}
+
+impl Readers {
+    // How many answers of a checker are another, in every split in two.
+    fn checker_differs(&mut self, bytes: &[u8], right: Answer) -> u64 {
+        let mut count = 0u64;
+        for n in 0..bytes.len() + 1 {
+            let (front, rest) = bytes.split_at(n);
+            if checked_in_two(&mut self.checker, front, rest) != right {
+                count = count.saturating_add(1);
+            }
+        }
+        count
+    }
+
+    // How many answers of a cutter are another, in every split in two.
+    fn cutter_differs(&self, bytes: &[u8], right: Answer) -> u64 {
+        let mut count = 0u64;
+        for n in 0..bytes.len() + 1 {
+            let (front, rest) = bytes.split_at(n);
+            if cut_in_two(self.alloc, front, rest) != right {
+                count = count.saturating_add(1);
+            }
+        }
+        count
+    }
+
+    // How many answers of a checker are another, that is handed all bytes at once.
+    fn whole_differs(&mut self, bytes: &[u8], right: Answer) -> u64 {
+        self.checker.restart();
+        u64::from(checked(&mut self.checker, 0, bytes) != right)
+    }
+
+    /// How many answers of all readers are another than this.
+    pub(crate) fn differing(&mut self, bytes: &[u8], right: Answer) -> u64 {
+        let mut count = 0u64;
+        for reader in READERS {
+            let differs = match reader {
+                Reader::Whole => self.whole_differs(bytes, right),
+                Reader::Checker => self.checker_differs(bytes, right),
+                Reader::Cutter => self.cutter_differs(bytes, right),
+            };
+            count = count.saturating_add(differs);
+        }
+        count
+    }
+
+    /// How many of a message's proper prefixes are partial for decoding, for a checker and for a cutter.
+    pub(crate) fn partial_prefixes(&mut self, message: &[u8]) -> u64 {
+        let mut count = 0u64;
+        for n in 0..message.len() {
+            let front = &message[..n];
+            let is_partial = decoded(self.alloc, front) == Answer::Partial;
+            if is_partial && self.differing(front, Answer::Partial) == 0 {
+                count = count.saturating_add(1);
+            }
+        }
+        count
+    }
+}
