@@ -1,5 +1,5 @@
-//! Tests of `dbus_message` and `dbus_check`: messages decoded, checked in pieces, encoded and built of their parts, stated
-//! lengths, limits that are handed in, each fault, and each growth refused.
+//! Tests of `dbus_message`, `dbus_check` and `dbus_judge`: messages decoded, checked in pieces, judged, encoded and built of
+//! their parts, stated lengths, limits that are handed in, each fault, and each growth refused.
 #![tactic(auto)]
 
 #[cfg(test)]
@@ -12,6 +12,8 @@ mod checking;
 mod faults;
 #[cfg(test)]
 mod growths;
+#[cfg(test)]
+mod judging;
 #[cfg(test)]
 mod limits;
 #[cfg(test)]
