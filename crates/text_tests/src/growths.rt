@@ -3,11 +3,14 @@
 
 use crate::lines::Sender::{Client, Server};
 use crate::lines::{Sender, cut, written_again};
+use crate::machines::{client_receive, client_start, server_receive};
 use crate::samples::{OK_LINE, client_end, did, server_end};
 use crate::shown::{SIGNAL, SIGNAL_TEXT, message_of};
 use dbus_auth::Status;
-use dbus_auth_lines::{LineCutter, LineFault, TextFault};
-use dbus_match::{RuleFault, parse_rule, rule_text};
+use dbus_auth_lines::{
+    LineCutter, LineFault, TextFault, client_text, read_client, read_server, server_text,
+};
+use dbus_match::{RuleFault, RuleReason, parse_rule, rule_text};
 use dbus_message::Message;
 use dbus_show::{show_into, show_message};
 use dbus_value::Order;
@@ -21,14 +24,26 @@ use std::test::Fail;
 enum Call {
     /// A line is read and written again as this text.
     Line(Sender, &'static [u8], &'static [u8]),
+    /// A line is read.
+    LineRead(Sender, &'static [u8], &'static [u8]),
+    /// A line that was read is written as this text.
+    LineText(Sender, &'static [u8], &'static [u8]),
+    /// A cutter that was handed some bytes takes others, and gives this.
+    Cut(&'static [u8], &'static [u8], Result<(usize, Option<usize>), LineFault>),
+    /// A server's machine, which offers ANONYMOUS, answers this text to a line.
+    ServerReceive(&'static [u8], &'static [u8]),
+    /// A client's machine starts.
+    MachineStart,
+    /// A client's machine that started answers this text to a line.
+    ClientReceive(&'static [u8], &'static [u8]),
     /// A server's end takes the byte 0 and a line.
     ServerTake,
     /// A client's end starts.
-    ClientStart,
+    EndStart,
     /// A client's end takes a line.
     ClientTake,
-    /// A rule is read.
-    RuleRead,
+    /// A rule is read, or has this fault.
+    RuleRead(&'static str, Option<RuleFault>),
     /// A rule is written.
     RuleText,
     /// A message is shown.
@@ -63,10 +78,70 @@ const CALLS: &[(Call, u64)] = &[
         1,
     ),
     (Call::Line(Server, b"DATA", b"DATA\r\n"), 1),
+    (
+        Call::LineRead(
+            Client,
+            b"AUTH EXTERNAL 31303030",
+            b"AUTH EXTERNAL 31303030\r\n",
+        ),
+        2,
+    ),
+    (Call::LineRead(Client, b"BEGIN", b"BEGIN\r\n"), 0),
+    (
+        Call::LineRead(
+            Server,
+            b"REJECTED EXTERNAL ANONYMOUS",
+            b"REJECTED EXTERNAL ANONYMOUS\r\n",
+        ),
+        2,
+    ),
+    (Call::LineRead(Server, b"DATA 00", b"DATA 00\r\n"), 1),
+    (
+        Call::LineText(
+            Client,
+            b"AUTH EXTERNAL 31303030",
+            b"AUTH EXTERNAL 31303030\r\n",
+        ),
+        1,
+    ),
+    (
+        Call::LineText(
+            Server,
+            b"REJECTED EXTERNAL ANONYMOUS",
+            b"REJECTED EXTERNAL ANONYMOUS\r\n",
+        ),
+        1,
+    ),
+    (Call::Cut(b"", b"BEGIN\r\nl", Ok((7, Some(5)))), 1),
+    (Call::Cut(b"", b"BEG", Ok((3, None))), 1),
+    (Call::Cut(b"BEG", b"IN\r\nl", Ok((4, Some(5)))), 1),
+    (
+        Call::Cut(b"BEG", b"IN\n", Err(LineFault::BadByte { at: 5 })),
+        0,
+    ),
+    (
+        Call::ServerReceive(b"AUTH", b"REJECTED EXTERNAL ANONYMOUS\r\n"),
+        2,
+    ),
+    (Call::MachineStart, 1),
+    (
+        Call::ClientReceive(b"REJECTED EXTERNAL ANONYMOUS", b"AUTH ANONYMOUS 78\r\n"),
+        1,
+    ),
     (Call::ServerTake, 1),
-    (Call::ClientStart, 1),
+    (Call::EndStart, 1),
     (Call::ClientTake, 1),
-    (Call::RuleRead, 2),
+    (Call::RuleRead(RULE, None), 2),
+    (
+        Call::RuleRead(
+            "type='signal',arg0='it'\\''s',arg64='x'",
+            Some(RuleFault::Bad {
+                at: 29,
+                reason: RuleReason::KeyName,
+            }),
+        ),
+        1,
+    ),
     (Call::RuleText, 1),
     (Call::Show, 1),
     (Call::ShowInto, 1),
@@ -99,16 +174,23 @@ fn growths_of(rt: &(impl Abort + AllocGlobal), row: usize, call: Call) -> Result
     Err(Fail::new("the call asks for too many growths"))
 }
 
-/// Whether the call answered want of memory, with its `n`th growth refused. A call of an end, or into a kept string, is
-/// then made again.
+/// Whether the call answered want of memory, with its `n`th growth refused. It is then made again, and answers as if nothing
+/// had been; where none is refused, so does the first.
 fn is_refused(rt: &impl Abort, heap: &Refusing, n: u64, call: Call) -> Result<bool, Fail> {
     match call {
-        Call::Line(sender, line, want) => Ok(line_again(rt, heap, n, sender, line, want)),
+        Call::Line(sender, line, want) => line_again(rt, heap, n, sender, line, want),
+        Call::LineRead(sender, line, want) => line_read(rt, heap, n, sender, line, want),
+        Call::LineText(Client, line, want) => client_line(rt, heap, n, line, want),
+        Call::LineText(Server, line, want) => server_line(rt, heap, n, line, want),
+        Call::Cut(front, rest, want) => Ok(line_cut(rt, heap, n, front, rest, want)),
+        Call::ServerReceive(line, want) => server_receive(rt, heap, n, line, want),
+        Call::MachineStart => client_start(rt, heap, n, b"AUTH EXTERNAL 31303030\r\n"),
+        Call::ClientReceive(line, want) => client_receive(rt, heap, n, line, want),
         Call::ServerTake => server_take(rt, heap, n),
-        Call::ClientStart => client_start(rt, heap, n),
+        Call::EndStart => end_start(rt, heap, n),
         Call::ClientTake => client_take(rt, heap, n),
-        Call::RuleRead => Ok(rule_read(rt, heap, n)),
-        Call::RuleText => rule_written(heap, n),
+        Call::RuleRead(text, want) => Ok(rule_read(rt, heap, n, text, want)),
+        Call::RuleText => rule_written(rt, heap, n),
         Call::Show => show(rt, heap, n),
         Call::ShowInto => show_kept(rt, heap, n),
     }
@@ -121,18 +203,99 @@ fn line_again(
     sender: Sender,
     line: &[u8],
     want: &[u8],
-) -> bool {
+) -> Result<bool, Fail> {
     heap.refuse_nth(n);
     match written_again(heap, sender, line) {
         Ok(text) => {
             assert_eq!(rt; text.as_slice(), want);
-            false
+            Ok(false)
         }
         Err(fault) => {
             assert_eq!(rt; fault, TextFault::Memory);
-            true
+            is_written(rt, written_again(heap, sender, line), want)
         }
     }
+}
+
+/// The text is this.
+fn is_written(
+    rt: &impl Abort,
+    text: Result<Vec<u8, &Refusing>, TextFault>,
+    want: &[u8],
+) -> Result<bool, Fail> {
+    assert_eq!(rt; text?.as_slice(), want);
+    Ok(true)
+}
+
+fn line_read(
+    rt: &impl Abort,
+    heap: &Refusing,
+    n: u64,
+    sender: Sender,
+    line: &[u8],
+    want: &[u8],
+) -> Result<bool, Fail> {
+    heap.refuse_nth(n);
+    let is_read = match sender {
+        Client => read_client(heap, line).is_ok(),
+        Server => read_server(heap, line).is_ok(),
+    };
+    if is_read {
+        return Ok(false);
+    }
+    is_written(rt, written_again(heap, sender, line), want)
+}
+
+fn client_line(
+    rt: &impl Abort,
+    heap: &Refusing,
+    n: u64,
+    line: &[u8],
+    want: &[u8],
+) -> Result<bool, Fail> {
+    let line = read_client(heap, line)?;
+    heap.refuse_nth(n);
+    match client_text(heap, &line) {
+        Err(TextFault::Memory) => is_written(rt, client_text(heap, &line), want),
+        text => Ok(!is_written(rt, text, want)?),
+    }
+}
+
+fn server_line(
+    rt: &impl Abort,
+    heap: &Refusing,
+    n: u64,
+    line: &[u8],
+    want: &[u8],
+) -> Result<bool, Fail> {
+    let line = read_server(heap, line)?;
+    heap.refuse_nth(n);
+    match server_text(heap, &line) {
+        Err(TextFault::Memory) => is_written(rt, server_text(heap, &line), want),
+        text => Ok(!is_written(rt, text, want)?),
+    }
+}
+
+fn line_cut(
+    rt: &impl Abort,
+    heap: &Refusing,
+    n: u64,
+    front: &[u8],
+    rest: &[u8],
+    want: Result<(usize, Option<usize>), LineFault>,
+) -> bool {
+    let mut cutter = LineCutter::new(heap);
+    assert_eq!(rt; cut(&mut cutter, front), Ok((front.len(), None)));
+    heap.refuse_nth(n);
+    let first = cut(&mut cutter, rest);
+    let refused = first == Err(LineFault::Memory);
+    let last = if refused {
+        cut(&mut cutter, rest)
+    } else {
+        first
+    };
+    assert_eq!(rt; last, want);
+    refused
 }
 
 fn server_take(rt: &impl Abort, heap: &Refusing, n: u64) -> Result<bool, Fail> {
@@ -153,7 +316,7 @@ fn server_take(rt: &impl Abort, heap: &Refusing, n: u64) -> Result<bool, Fail> {
     }
 }
 
-fn client_start(rt: &impl Abort, heap: &Refusing, n: u64) -> Result<bool, Fail> {
+fn end_start(rt: &impl Abort, heap: &Refusing, n: u64) -> Result<bool, Fail> {
     let mut end = client_end(heap, Some(1000), Some(b"x"))?;
     heap.refuse_nth(n);
     match end.start() {
@@ -194,21 +357,37 @@ fn client_take(rt: &impl Abort, heap: &Refusing, n: u64) -> Result<bool, Fail> {
 /// The text of a rule.
 const RULE: &str = "type='signal',arg0='it'\\''s',arg63path='/a',";
 
-fn rule_read(rt: &impl Abort, heap: &Refusing, n: u64) -> bool {
+/// The text that it is written as.
+const RULE_TEXT: &str = "type='signal',arg0='it'\\''s',arg63path='/a'";
+
+fn rule_read(
+    rt: &impl Abort,
+    heap: &Refusing,
+    n: u64,
+    text: &str,
+    want: Option<RuleFault>,
+) -> bool {
     heap.refuse_nth(n);
-    match parse_rule(heap, RULE) {
-        Ok(_) => false,
-        Err(fault) => {
-            assert_eq!(rt; fault, RuleFault::Memory);
-            true
-        }
-    }
+    let first = parse_rule(heap, text).err();
+    let refused = first == Some(RuleFault::Memory);
+    let last = if refused {
+        parse_rule(heap, text).err()
+    } else {
+        first
+    };
+    assert_eq!(rt; last, want);
+    refused
 }
 
-fn rule_written(heap: &Refusing, n: u64) -> Result<bool, Fail> {
+fn rule_written(rt: &impl Abort, heap: &Refusing, n: u64) -> Result<bool, Fail> {
     let rule = parse_rule(heap, RULE)?;
     heap.refuse_nth(n);
-    Ok(rule_text(heap, &rule).is_err())
+    let refused = match rule_text(heap, &rule) {
+        Ok(_) => return Ok(false),
+        Err(AllocError) => true,
+    };
+    assert_eq!(rt; rule_text(heap, &rule)?.as_str(), RULE_TEXT);
+    Ok(refused)
 }
 
 fn show(rt: &impl Abort, heap: &Refusing, n: u64) -> Result<bool, Fail> {
@@ -219,7 +398,13 @@ fn show(rt: &impl Abort, heap: &Refusing, n: u64) -> Result<bool, Fail> {
             assert_eq!(rt; text.as_str(), SIGNAL_TEXT);
             Ok(false)
         }
-        Err(AllocError) => Ok(true),
+        Err(AllocError) => {
+            assert_eq!(rt;
+                show_message(heap, order, &message, 1)?.as_str(),
+                SIGNAL_TEXT
+            );
+            Ok(true)
+        }
     }
 }
 

@@ -8,6 +8,8 @@ mod handshake;
 #[cfg(test)]
 mod lines;
 #[cfg(test)]
+mod machines;
+#[cfg(test)]
 mod rules;
 #[cfg(test)]
 mod samples;

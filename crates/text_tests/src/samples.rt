@@ -58,7 +58,8 @@ pub fn client_end<A: Allocator + Copy>(
     }
 }
 
-fn mechanisms<A: Allocator + Copy>(
+/// The mechanisms of such a client.
+pub fn mechanisms<A: Allocator + Copy>(
     alloc: A,
     user: Option<u32>,
     trace: Option<&[u8]>,
