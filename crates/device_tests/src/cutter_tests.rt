@@ -231,3 +231,29 @@ fn a_call_that_is_refused_memory_is_made_again(rt: HostRuntime) -> Result<(), Fa
     }
     Ok(())
 }
+
+// A fault is answered with each growth refused too, in every split in two, and stays.
+#[test]
+fn a_fault_never_becomes_want_of_memory(rt: HostRuntime) -> Result<(), Fail> {
+    let fault = StreamFault::Format(Fault {
+        at: 16,
+        reason: Reason::FieldMissing(5),
+    });
+    for n in 0..BARE.len() {
+        let heap = Refusing::none(rt.alloc());
+        let mut cutter = Cutter::new(&heap);
+        let (front, rest) = BARE.split_at(n);
+        takes(&rt, &heap, &mut cutter, front, n, b"", n)?;
+        heap.refuse_from_nth(1);
+        for piece in [rest, rest, b"", RETURN] {
+            assert!(rt; is_fault(&mut cutter, piece, fault), "at {n}");
+        }
+        assert_eq!(rt; heap.growths(), 0, "at {n}");
+    }
+    Ok(())
+}
+
+// Whether the cutter answers this fault.
+fn is_fault<A: Allocator + Copy>(cutter: &mut Cutter<A>, piece: &[u8], fault: StreamFault) -> bool {
+    matches!(cutter.take(piece), Err(found) if found == fault)
+}

@@ -1,8 +1,10 @@
 //! Runs over devices that fail: what came before is written, and the failure is told where that can be.
 
 use crate::captures::*;
-use crate::running::{BY_ONE, CHECK, Device, SHOW, TO_BIG, assert_end, ran_words};
+use crate::growth_tests::RUNS;
+use crate::running::{BY_ONE, CHECK, Device, End, SHOW, TO_BIG, assert_end, ran_words};
 use dbus_tool::ExitStatus;
+use std::process::Abort;
 use std::test::Fail;
 
 // More than a run moves at once, and none fails.
@@ -104,6 +106,87 @@ fn devices_that_fail(rt: HostRuntime) -> Result<(), Fail> {
         let (end, failures, _) = ran_words(rt.alloc(), row.words, input.as_slice(), row.devices)?;
         assert_end(&rt, n, &end, ExitStatus::Failed, row.first, row.second);
         assert_eq!(rt; failures, row.failures, "at {n}");
+    }
+    Ok(())
+}
+
+// Which of the three devices fails.
+#[derive(Clone, Copy)]
+enum Place {
+    Reader,
+    First,
+    Second,
+}
+
+const PLACES: [Place; 3] = [Place::Reader, Place::First, Place::Second];
+
+// Devices that move one byte a call, of which one fails in its call of this number; and how often each fails then.
+fn failing_at(place: Place, n: u64) -> ([Device; 3], [u64; 3]) {
+    match place {
+        Place::Reader => ([(1, n), BY_ONE, BY_ONE], [1, 0, 0]),
+        Place::First => ([BY_ONE, (1, n), BY_ONE], [0, 1, 0]),
+        Place::Second => ([BY_ONE, BY_ONE, (1, n)], [0, 0, 1]),
+    }
+}
+
+// The first so many bytes, or all.
+fn front(bytes: &[u8], n: usize) -> &[u8] {
+    &bytes[..n.min(bytes.len())]
+}
+
+// The run failed in the nth call of a device: what the writers then hold, of what they would hold. A write that failed wrote
+// nothing, and those before it one byte each; of a read that failed, what was written came before.
+fn failed(rt: &impl Abort, n: usize, end: &End, place: Place, whole: (&[u8], &[u8])) {
+    let before = n.saturating_sub(1);
+    let (first, second) = match place {
+        Place::Reader => (front(whole.0, end.first.len()), b"read failed\n".as_slice()),
+        Place::First => (front(whole.0, before), b"write failed\n".as_slice()),
+        Place::Second => (whole.0, front(whole.1, before)),
+    };
+    assert_end(rt, n, end, ExitStatus::Failed, first, second);
+}
+
+// How many calls a device has in a run that ends so, each of which failed in turn.
+fn calls_of(
+    rt: &(impl Abort + AllocGlobal),
+    words: &[&str],
+    bytes: &[u8],
+    place: Place,
+    whole: (ExitStatus, &[u8], &[u8]),
+) -> Result<usize, Fail> {
+    let (status, first, second) = whole;
+    for n in 1..1000usize {
+        let (devices, failures) = failing_at(place, n as u64);
+        let (end, found, _) = ran_words(rt.alloc(), words, bytes, devices)?;
+        if found == [0; 3] {
+            assert_end(rt, n, &end, status, first, second);
+            return Ok(n - 1);
+        }
+        assert_eq!(rt; found, failures, "at {n}");
+        failed(rt, n, &end, place, (first, second));
+    }
+    Err(Fail::new("each call fails"))
+}
+
+// Each command with each read and each write failed in turn. A reader of one byte a read has a read for each byte, and one that
+// finds the end; a writer has a write for each byte.
+#[test]
+fn each_read_and_each_write_fails(rt: HostRuntime) -> Result<(), Fail> {
+    for (words, input, status, first, second, _) in RUNS {
+        let bytes = joined(rt.alloc(), input)?;
+        let first = joined(rt.alloc(), first)?;
+        let whole = (*status, first.as_slice(), *second);
+        for place in PLACES {
+            let calls = match place {
+                Place::Reader => bytes.len().saturating_add(1),
+                Place::First => first.len(),
+                Place::Second => second.len(),
+            };
+            assert_eq!(rt;
+                calls_of(&rt, words, bytes.as_slice(), place, whole)?,
+                calls
+            );
+        }
     }
     Ok(())
 }

@@ -59,9 +59,9 @@ fn growths_met(
     Err(Fail::new("each growth is refused"))
 }
 
-// Words, the input, how the run ends, and what is written on the first writer and on the second. The run meets more
-// growths than this; `check` takes memory for its line alone. The line of a refusal takes memory too, on either writer.
-const RUNS: &[(&[&str], &[&[u8]], ExitStatus, &[&[u8]], &[u8], u64)] = &[
+/// Words, the input, how the run ends, and what is written on the first writer and on the second. The run meets more
+/// growths than this; `check` takes memory for its line alone. The line of a refusal takes memory too, on either writer.
+pub(crate) const RUNS: &[(&[&str], &[&[u8]], ExitStatus, &[&[u8]], &[u8], u64)] = &[
     (SHOW, ALL, DONE, TEXTS, b"", 10),
     (CHECK, ALL, DONE, &[b"ok 3 messages 144 bytes\n"], b"", 0),
     (TO_LITTLE, ALL, DONE, &[RETURN, SIGNAL, RETURN], b"", 10),

@@ -4,6 +4,8 @@
 #[cfg(test)]
 mod captures;
 #[cfg(test)]
+mod check_reader_tests;
+#[cfg(test)]
 mod command_tests;
 #[cfg(test)]
 mod cutter_tests;

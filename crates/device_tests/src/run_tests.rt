@@ -194,6 +194,9 @@ const FEW_READS: &[(&[&str], u32, ExitStatus, &[u8], &[u8])] = &[
     (CHECK, 0, ExitStatus::Failed, b"", TOO_MANY),
     (CHECK, 2, ExitStatus::Failed, b"", TOO_MANY),
     (SHOW, 24, ExitStatus::Failed, RETURN_TEXT, TOO_MANY),
+    (TO_BIG, 24, ExitStatus::Failed, BIG_RETURN, TOO_MANY),
+    (&["filter", ""], 24, ExitStatus::Failed, RETURN, TOO_MANY),
+    (TO_BIG, 25, ExitStatus::Done, BIG_RETURN, b""),
     (
         CHECK,
         25,
