@@ -1,17 +1,19 @@
 -- Arrays of numbers of which every one may stand: passed over by their length.
-use Rattle.std.proofs.Common.{◌≡◌, ℕ, zero, suc, ◌+◌, ◌*◌, ◌/◌, ◌%◌, ◌<◌, ◌≤◌, List, [], ◌∷◌, length, drop, Option, refl, sym, ap, subst, ◌∙◌, arith}
+use Rattle.std.proofs.Common.{◌≡◌, ℕ, zero, suc, ◌+◌, ◌*◌, ◌/◌, ◌%◌, ◌<◌, ◌≤◌, List, [], ◌∷◌, length, drop, Option, ltb, eqb, true, false, inl, inr, ◌-◌, refl, sym, ap, subst, ◌∙◌, arith}
 use Rattle.std.proofs.Math.Nat.{suc-mul, zero-mul}
-use Rattle.std.proofs.lemmas.Bool.{lt-ltb, le-ltb, eq-eqb}
+use Rattle.std.proofs.lemmas.Bool.{lt-ltb, le-ltb, eq-eqb, ne_eqb, cases_lt}
 use Rattle.dbus_texts.specs.Types.{NumberCode, BYTE, BOOLEAN, INT16, UINT16, INT32, UINT32, INT64, UINT64, DOUBLE, UNIX_FD, TypeTree, NumberType}
 use Rattle.dbus_types.specs.Alignments.{width}
 use Rattle.dbus_value_model.specs.declared.limits.Bounds.{Bounds}
 use Rattle.dbus_value_model.specs.declared.order.Order.{Order}
 use Rattle.dbus_value_model.specs.Bytes.{gap_to}
 use Rattle.dbus_value_model.specs.Values.{ValueTree}
-use Rattle.dbus_value_model.specs.Reading.{Done, padding, up_to, contents, value}
+use Rattle.dbus_value_model.specs.Reading.{Reader, Done, after, pure, padding, up_to, contents, value}
 use Rattle.dbus_unmarshal.proofs.ReadSteps.{padding_is}
 use Rattle.dbus_unmarshal.proofs.ValueSteps.{value_number}
-use Rattle.dbus_value_judge.specs.Endings.{EndsAt, IsFree}
+use Rattle.dbus_value_judge.specs.Endings.{EndsAt, IsNotRead, IsFree}
+use Rattle.dbus_value_judge.proofs.ReadParts.{not_partial, not_same, not_first, not_second}
+use Rattle.dbus_value_judge.proofs.ItemRefusals.{number_short}
 use Rattle.dbus_value_judge.proofs.ItemSteps.{free_ends}
 use Rattle.dbus_value_judge.proofs.TypeCodes.{FreeType}
 
@@ -102,3 +104,69 @@ free_elements_end bounds order room t w n at first bytes free even is inside =
     let end : first + n ≡ first + all.0 * width k = ap (λ (v : ℕ). first + v) all.1 in
     subst (λ (u : TypeTree). EndsAt bytes (first + n) (contents n (λ end before. value bounds order room end u) first (drop first bytes))) (sym free.is)
     (run bounds order room (first + n) k free.free bytes inside all.0 n first [] all.2 end aligned)
+
+-- ---- a length that is not that of whole numbers
+
+less_whole : (k : NumberCode) (n : ℕ) → width k ≤ n → (n - width k) % width k ≡ 0 → n % width k ≡ 0
+less_whole BYTE n h e = omega arith
+less_whole BOOLEAN n h e = omega arith
+less_whole INT16 n h e = omega arith
+less_whole UINT16 n h e = omega arith
+less_whole INT32 n h e = omega arith
+less_whole UINT32 n h e = omega arith
+less_whole INT64 n h e = omega arith
+less_whole UINT64 n h e = omega arith
+less_whole DOUBLE n h e = omega arith
+less_whole UNIX_FD n h e = omega arith
+
+none_whole : (k : NumberCode) (n : ℕ) → n ≡ 0 → n % width k ≡ 0
+none_whole BYTE n e = omega arith
+none_whole BOOLEAN n e = omega arith
+none_whole INT16 n e = omega arith
+none_whole UINT16 n e = omega arith
+none_whole INT32 n e = omega arith
+none_whole UINT32 n e = omega arith
+none_whole INT64 n e = omega arith
+none_whole UINT64 n e = omega arith
+none_whole DOUBLE n e = omega arith
+none_whole UNIX_FD n e = omega arith
+
+module _ (bounds : Bounds) (order : Order) (room end : ℕ) (k : NumberCode) (free : (fds : Option ℕ) → IsFree fds k) (bytes : List ℕ) (inside : end ≤ length bytes) where
+  number_past : (p : ℕ) → gap_to (width k) p ≡ 0 → p ≤ end → end < p + width k → IsNotRead (value bounds order room end (NumberType k) p (drop p bytes))
+  number_past p aligned le short =
+      let padded : padding (width k) end p (drop p bytes) ≡ Done tt p (drop p bytes) = padding_is (width k) end p 0 (drop p bytes) aligned (omega arith) in
+      not_same (value bounds order room end (NumberType k) p (drop p bytes)) _ (value_number bounds order room end k p (drop p bytes)) (number_short bounds.fds order end k p bytes (width k) refl p padded short)
+
+  uneven_run : (turns p : ℕ) (before : List ValueTree) → p ≤ end → gap_to (width k) p ≡ 0 → ((end - p) % width k ≡ 0 → ⊥) → IsNotRead (up_to turns end (λ before. value bounds order room end (NumberType k)) before p (drop p bytes))
+  uneven_run zero p before le aligned uneven =
+      let other : eqb p end ≡ false = ne_eqb p end (λ e. uneven (none_whole k (end - p) (omega arith))) in
+      not_partial (up_to zero end (λ before. value bounds order room end (NumberType k)) before p (drop p bytes)) (rw other refl)
+  uneven_run (suc turns) p before le aligned uneven =
+      let part : List ValueTree → Reader ValueTree = λ before. value bounds order room end (NumberType k) in
+      let more : p < end = elim (cases_lt p end) [ inl h ↦ h | inr h ↦ absurd (uneven (none_whole k (end - p) (omega arith))) ] in
+      let on : ltb p end ≡ true = lt-ltb _ _ more in
+      let go : up_to (suc turns) end part before p (drop p bytes) ≡ after (value bounds order room end (NumberType k) p (drop p bytes)) (λ v q t. after (up_to turns end part (v ∷ before) q t) (λ vs. pure (v ∷ vs))) = rw on refl in
+      not_same (up_to (suc turns) end part before p (drop p bytes)) _ go (
+      elim (cases_lt end (p + width k)) [
+        | inl short ↦ not_first (value bounds order room end (NumberType k) p (drop p bytes)) _ (number_past p aligned le short)
+        | inr fits ↦
+            let one = number_here bounds order room end k free bytes inside p aligned fits in
+            let some = some_bytes k in
+            let rest = uneven_run turns (p + width k) (one.0 ∷ before) fits (stays_aligned k p aligned) (λ e. uneven (less_whole k (end - p) (omega arith) (subst (λ (n : ℕ). n % width k ≡ 0) (sooner end p (width k)) e))) in
+            not_second (value bounds order room end (NumberType k) p (drop p bytes)) _ one.0 (p + width k) (drop (p + width k) bytes) one.1 (not_first (up_to turns end part (one.0 ∷ before) (p + width k) (drop (p + width k) bytes)) _ rest)
+      ]
+      )
+    where
+      sooner : (end p w : ℕ) → end - (p + w) ≡ end - p - w
+      sooner end p w = omega arith
+
+-- there are no elements of an array whose length is not that of whole numbers
+pub uneven_elements : (bounds : Bounds) (order : Order) (room : ℕ) (t : TypeTree) (w n at first : ℕ) (bytes : List ℕ) → FreeType t w → (n % w ≡ 0 → ⊥) → first ≡ at + gap_to w at → first + n ≤ length bytes
+    → IsNotRead (contents n (λ end before. value bounds order room end t) first (drop first bytes))
+uneven_elements bounds order room t w n at first bytes free uneven is inside =
+    let k = free.code in
+    let aligned : gap_to (width k) first ≡ 0 = ap (gap_to (width k)) (is ∙ ap (λ (v : ℕ). at + gap_to v at) (sym free.wide)) ∙ comes_aligned k at in
+    let size : first + n - first ≡ n = omega arith in
+    let odd : (first + n - first) % width k ≡ 0 → ⊥ = λ e. uneven (subst (λ (v : ℕ). n % v ≡ 0) free.wide (ap (λ (m : ℕ). m % width k) (sym size) ∙ e)) in
+    subst (λ (u : TypeTree). IsNotRead (contents n (λ end before. value bounds order room end u) first (drop first bytes))) (sym free.is)
+    (uneven_run bounds order room (first + n) k free.free bytes inside n first [] (omega arith) aligned odd)

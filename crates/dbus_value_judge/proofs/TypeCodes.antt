@@ -30,6 +30,10 @@ code_is t s e = ap (λ (l : List ℕ). get_or l 0 0) (sym (begins t) ∙ e)
 rest_is : (t : TypeTree) (s : List ℕ) → sig t ≡ s → after_code t ≡ drop 1 s
 rest_is t s e = ap (λ (l : List ℕ). drop 1 l) (sym (begins t) ∙ e)
 
+-- each type has a text
+pub no_text_of : (t : TypeTree) (s : List ℕ) → sig t ≡ s → length s ≡ 0 → ⊥
+no_text_of t s e none = absurd (omega (arith, none, ap (λ (l : List ℕ). length l) (sym e ∙ begins t)))
+
 pub boundary_is : (t : TypeTree) → code_boundary (first_code t) ≡ alignment_of t
 boundary_is (NumberType BYTE) = refl
 boundary_is (NumberType BOOLEAN) = refl

@@ -1,5 +1,6 @@
 -- Values of any type, as the code passes them over.
-use Rattle.std.proofs.Common.{◌≡◌, ℕ, suc, ◌+◌, ◌-◌, ◌<◌, ◌≤◌, List, [], ◌∷◌, length, take, drop, true, refl, sym, ap, subst, ◌∙◌, arith}
+use Rattle.std.proofs.Common.{◌≡◌, ℕ, suc, ◌+◌, ◌-◌, ◌<◌, ◌≤◌, List, [], ◌∷◌, length, take, drop, true, false, ltb, eqb, refl, sym, ap, subst, ◌∙◌, arith}
+use Rattle.std.proofs.lemmas.Bool.{lt-ltb, ne_eqb}
 use Rattle.std.proofs.lemmas.List.{length-append, length-drop, take_at, drop_at, drop-drop}
 use Rattle.dbus_texts.specs.Types.{NumberCode, TextCode, TypeTree, NumberType, TextType, VariantType, ArrayType, StructType, EntryType, TypeTrees, NoTypes, MoreTypes, sig, sigs, IsShaped, AreShaped}
 use Rattle.dbus_texts.specs.ComputedKinds.{type_spelled}
@@ -9,54 +10,76 @@ use Rattle.dbus_value_model.specs.declared.limits.Bounds.{Bounds}
 use Rattle.dbus_value_model.specs.declared.order.Order.{Order}
 use Rattle.dbus_value_model.specs.Values.{ValueTree, NoValues, MoreValues, VariantValue, ArrayValue, StructValue, EntryValue, value_trees}
 use Rattle.dbus_value_model.specs.ValueItems.{text_row}
-use Rattle.dbus_value_model.specs.Reading.{Reader, Outcome, Done, padding, number, up_to, contents, fields, value}
+use Rattle.dbus_value_model.specs.Reading.{Reader, Done, Partial, after, pure, padding, number, up_to, contents, fields, value}
 use Rattle.dbus_value_model.specs.ValueReaders.{number_value, text_value, variant_value, held_value, array_frame, array_value, struct_value, entry_value}
 use Rattle.dbus_unmarshal.proofs.Agreement.{after_done}
 use Rattle.dbus_unmarshal.proofs.KindLaws.{single_text}
 use Rattle.dbus_unmarshal.proofs.ValueSteps.{value_number, value_text, value_variant, value_array, value_struct, value_entry, variant_opens, array_opens, open_done, struct_done, with_front, front_none, goes_on_at, ends_in, shaped_inside, single_shaped}
 use Rattle.dbus_value_judge.specs.Codes.{type_length}
-use Rattle.dbus_value_judge.specs.Endings.{EndsAt, EndedText}
+use Rattle.dbus_value_judge.specs.Endings.{EndsAt, IsNotRead, EndedText}
+use Rattle.dbus_value_judge.proofs.ReadParts.{not_partial, not_same, not_first, not_second, done_at}
 use Rattle.dbus_value_judge.proofs.TypeEnds.{type_ends}
 
 -- ---- values of some types, one after another
 
--- the types us are left, and values of them to any end make values of all
+-- the types us are left, and values of them to any end make values of all; where none are read, none of all are
 pub record Left (part : TypeTree → Reader ValueTree) (bytes types : List ℕ) (ts : TypeTrees) (at place pos : ℕ) : Type 0 where
   pub us : TypeTrees
   pub text : sigs us ≡ drop pos types
   pub shaped : AreShaped us
   pub leads : (q : ℕ) → EndsAt bytes q (fields part us place (drop place bytes)) → EndsAt bytes q (fields part ts at (drop at bytes))
+  pub lacks : IsNotRead (fields part us place (drop place bytes)) → IsNotRead (fields part ts at (drop at bytes))
 
 module _ (part : TypeTree → Reader ValueTree) (bytes types : List ℕ) (ts : TypeTrees) (at : ℕ) where
   pub all_left : sigs ts ≡ types → AreShaped ts → Left part bytes types ts at at 0
-  all_left e h = record { us = ts; text = e; shaped = h; leads = λ q read. read }
+  all_left e h = record { us = ts; text = e; shaped = h; leads = λ q read. read; lacks = λ unread. unread }
 
   one_more : (place q : ℕ) (t : TypeTree) (us : TypeTrees) → EndsAt bytes q (part t place (drop place bytes)) → (z : ℕ) → EndsAt bytes z (fields part us q (drop q bytes)) → EndsAt bytes z (fields part (MoreTypes t us) place (drop place bytes))
   one_more place q t us one z others = (MoreValues one.0 others.0, rw (one.1, others.1) refl)
 
-  module _ (place pos next q : ℕ) (lt : pos < length types) (is : next ≡ pos + type_length 0 (drop pos types)) where
-    more_left : (us : TypeTrees) → sigs us ≡ drop pos types → AreShaped us
-        → ((q : ℕ) → EndsAt bytes q (fields part us place (drop place bytes)) → EndsAt bytes q (fields part ts at (drop at bytes)))
-        → ((t : TypeTree) → sig t ≡ take (next - pos) (drop pos types) → IsShaped true t → EndsAt bytes q (part t place (drop place bytes)))
-        → Left part bytes types ts at q next
-    more_left NoTypes text shaped leads gives = absurd (omega (arith, ap length text, length-drop pos types))
-    more_left (MoreTypes t us) text shaped leads gives =
+  none_more : (place q : ℕ) (t : TypeTree) (us : TypeTrees) → EndsAt bytes q (part t place (drop place bytes)) → IsNotRead (fields part us q (drop q bytes)) → IsNotRead (fields part (MoreTypes t us) place (drop place bytes))
+  none_more place q t us one unread = not_second (part t place (drop place bytes)) _ one.0 q (drop q bytes) one.1 (not_first (fields part us q (drop q bytes)) _ unread)
+
+  module _ (place pos next : ℕ) (lt : pos < length types) (is : next ≡ pos + type_length 0 (drop pos types)) where
+    -- the type at the front of those that are left
+    front_is : (t : TypeTree) (us : TypeTrees) → sigs (MoreTypes t us) ≡ drop pos types → (sig t ≡ take (next - pos) (drop pos types)) × (sigs us ≡ drop next types)
+    front_is t us text =
         let n : type_length 0 (drop pos types) ≡ length (sig t) = ap (type_length 0) (sym text) ∙ type_ends t (sigs us) in
         let long : next - pos ≡ length (sig t) = omega arith in
         let front : take (length (sig t)) (drop pos types) ≡ sig t = ap (take (length (sig t))) (sym text) ∙ take_at (sig t) (sigs us) (length (sig t)) refl in
         let here : sig t ≡ take (next - pos) (drop pos types) = sym front ∙ ap (λ (m : ℕ). take m (drop pos types)) (sym long) in
         let there : next ≡ pos + length (sig t) = is ∙ ap (λ (m : ℕ). pos + m) n in
         let rest : drop (length (sig t)) (drop pos types) ≡ sigs us = ap (drop (length (sig t))) (sym text) ∙ drop_at (sig t) (sigs us) (length (sig t)) refl in
-        let behind : sigs us ≡ drop next types = sym rest ∙ drop-drop (length (sig t)) pos types ∙ ap (λ (m : ℕ). drop m types) (sym there) in
+        (here, sym rest ∙ drop-drop (length (sig t)) pos types ∙ ap (λ (m : ℕ). drop m types) (sym there))
+
+    more_left : (q : ℕ) (us : TypeTrees) → sigs us ≡ drop pos types → AreShaped us
+        → ((z : ℕ) → EndsAt bytes z (fields part us place (drop place bytes)) → EndsAt bytes z (fields part ts at (drop at bytes)))
+        → (IsNotRead (fields part us place (drop place bytes)) → IsNotRead (fields part ts at (drop at bytes)))
+        → ((t : TypeTree) → sig t ≡ take (next - pos) (drop pos types) → IsShaped true t → EndsAt bytes q (part t place (drop place bytes)))
+        → Left part bytes types ts at q next
+    more_left q NoTypes text shaped leads lacks gives = absurd (omega (arith, ap length text, length-drop pos types))
+    more_left q (MoreTypes t us) text shaped leads lacks gives =
+        let w = front_is t us text in
+        let one = gives t w.0 (shaped_inside t shaped.0) in
         record {
           us = us;
-          text = behind;
+          text = w.1;
           shaped = shaped.1;
-          leads = λ z read. leads z (one_more place q t us (gives t here (shaped_inside t shaped.0)) z read);
+          leads = λ z read. leads z (one_more place q t us one z read);
+          lacks = λ unread. lacks (none_more place q t us one unread);
         }
 
-    pub less_left : Left part bytes types ts at place pos → ((t : TypeTree) → sig t ≡ take (next - pos) (drop pos types) → IsShaped true t → EndsAt bytes q (part t place (drop place bytes))) → Left part bytes types ts at q next
-    less_left left gives = more_left left.us left.text left.shaped left.leads gives
+    pub less_left : (q : ℕ) → Left part bytes types ts at place pos → ((t : TypeTree) → sig t ≡ take (next - pos) (drop pos types) → IsShaped true t → EndsAt bytes q (part t place (drop place bytes))) → Left part bytes types ts at q next
+    less_left q left gives = more_left q left.us left.text left.shaped left.leads left.lacks gives
+
+    no_front : (us : TypeTrees) → sigs us ≡ drop pos types → AreShaped us
+        → ((t : TypeTree) → sig t ≡ take (next - pos) (drop pos types) → IsShaped true t → IsNotRead (part t place (drop place bytes)))
+        → IsNotRead (fields part us place (drop place bytes))
+    no_front NoTypes text shaped none = absurd (omega (arith, ap length text, length-drop pos types))
+    no_front (MoreTypes t us) text shaped none = not_first (part t place (drop place bytes)) _ (none t (front_is t us text).0 (shaped_inside t shaped.0))
+
+    pub left_unread : Left part bytes types ts at place pos → ((t : TypeTree) → sig t ≡ take (next - pos) (drop pos types) → IsShaped true t → IsNotRead (part t place (drop place bytes))) → IsNotRead (fields part ts at (drop at bytes))
+    left_unread left none = left.lacks (no_front left.us left.text left.shaped none)
 
   none_left : (place pos : ℕ) (us : TypeTrees) → length types ≤ pos → sigs us ≡ drop pos types
       → ((q : ℕ) → EndsAt bytes q (fields part us place (drop place bytes)) → EndsAt bytes q (fields part ts at (drop at bytes))) → EndsAt bytes place (fields part ts at (drop at bytes))
@@ -91,10 +114,35 @@ module _ (part : Reader ValueTree) (bytes : List ℕ) (n end at : ℕ) where
       let read = sym (front_none (up_to turns end (λ before. part) [] place (drop place bytes))) ∙ ends_in part end [] turns place (drop place bytes) here in
       leads end ([], read ∙ ap (λ (q : ℕ). Done [] q (drop q bytes)) here)
 
--- ---- containers
+-- where no elements are read from a place on, in so many turns, the elements are not
+abbrev pub LacksAll : Reader ValueTree → List ℕ → (n turns end at place : ℕ) → Type 0
+LacksAll part bytes n turns end at place = IsNotRead (up_to turns end (λ before. part) [] place (drop place bytes)) → IsNotRead (up_to n end (λ before. part) [] at (drop at bytes))
 
-done_at : {A : Type 0} (read : Outcome A) (x : A) (p q : ℕ) (u r : List ℕ) → read ≡ Done x p u → p ≡ q → u ≡ r → read ≡ Done x q r
-done_at read x p q u r e a b = cc
+module _ (part : Reader ValueTree) (bytes : List ℕ) (n end at : ℕ) where
+  pub lacks_all : (turns : ℕ) → turns ≡ n → LacksAll part bytes n turns end at at
+  lacks_all turns e = λ unread. subst (λ (k : ℕ). IsNotRead (up_to k end (λ before. part) [] at (drop at bytes))) e unread
+
+  pub lacks_on : (turns rest place q : ℕ) → LacksAll part bytes n turns end at place → turns ≡ suc rest → place < end → EndsAt bytes q (part place (drop place bytes)) → LacksAll part bytes n rest end at q
+  lacks_on turns rest place q lacks more lt one = λ unread.
+      lacks (not_same (up_to turns end (λ before. part) [] place (drop place bytes)) (with_front (one.0 ∷ []) (up_to rest end (λ before. part) [] q (drop q bytes)))
+      (sym (front_none (up_to turns end (λ before. part) [] place (drop place bytes))) ∙ goes_on_at part end [] turns rest place (drop place bytes) one.0 q (drop q bytes) more lt one.1)
+      (not_first (up_to rest end (λ before. part) [] q (drop q bytes)) _ unread))
+
+  -- an element is not read
+  pub lacks_element : (turns rest place : ℕ) → LacksAll part bytes n turns end at place → turns ≡ suc rest → place < end → IsNotRead (part place (drop place bytes)) → IsNotRead (up_to n end (λ before. part) [] at (drop at bytes))
+  lacks_element turns rest place lacks more lt unread =
+      let before : ltb place end ≡ true = lt-ltb _ _ lt in
+      let run : up_to (suc rest) end (λ before. part) [] place (drop place bytes) ≡ after (part place (drop place bytes)) (λ v p t. after (up_to rest end (λ before. part) (v ∷ []) p t) (λ vs. pure (v ∷ vs))) = rw before refl in
+      lacks (not_same (up_to turns end (λ before. part) [] place (drop place bytes)) _ (ap (λ (k : ℕ). up_to k end (λ before. part) [] place (drop place bytes)) more ∙ run) (not_first (part place (drop place bytes)) _ unread))
+
+  -- they end elsewhere
+  pub lacks_end : (turns place : ℕ) → LacksAll part bytes n turns end at place → turns ≡ 0 → (place ≡ end → ⊥) → IsNotRead (up_to n end (λ before. part) [] at (drop at bytes))
+  lacks_end turns place lacks over elsewhere =
+      let other : eqb place end ≡ false = ne_eqb place end elsewhere in
+      let run : up_to 0 end (λ before. part) [] place (drop place bytes) ≡ Partial = rw other refl in
+      lacks (not_partial (up_to turns end (λ before. part) [] place (drop place bytes)) (ap (λ (k : ℕ). up_to k end (λ before. part) [] place (drop place bytes)) over ∙ run))
+
+-- ---- containers
 
 module _ (bounds : Bounds) (order : Order) (room end at : ℕ) (bytes : List ℕ) where
   pub variant_ends : 0 < room → (n q : ℕ) → number order 1 end (text_row end) at (drop at bytes) ≡ Done n (at + 1) (drop (at + 1) bytes) → EndedText Single n (at + 1) bytes
@@ -136,7 +184,7 @@ module _ (bounds : Bounds) (order : Order) (room end at : ℕ) (bytes : List ℕ
         let done = entry_done k v padded one.0 last.0 one.1 last.1 one.2 last.2 one.3 last.3 in
         let place : last.1 ≡ q = cc (last.4, two.4) in
         let rest : last.2 ≡ drop q bytes = cc (last.4, two.4) in
-        (EntryValue one.0 last.0, done_at (entry_value bounds order room end k v at (drop at bytes)) (EntryValue one.0 last.0) last.1 q last.2 (drop q bytes) done place rest)
+        (EntryValue one.0 last.0, done_at (entry_value bounds order room end k v at (drop at bytes)) (EntryValue one.0 last.0) last.1 last.2 q (drop q bytes) done place rest)
 
 -- ---- a value is read as one of its type
 

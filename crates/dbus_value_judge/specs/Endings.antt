@@ -17,6 +17,10 @@ use Rattle.dbus_value_model.specs.Reading.{Outcome, Done, text, nul}
 abbrev pub EndsAt : {A : Type 0} → List ℕ → ℕ → Outcome A → Type 0
 EndsAt {A} bytes q read = (x : A) × (read ≡ Done x q (drop q bytes))
 
+-- it is not read whole: a fault shows, or bytes are wanting
+abbrev pub IsNotRead : {A : Type 0} → Outcome A → Type 0
+IsNotRead {A} read = (x : A) (q : ℕ) (rest : List ℕ) → read ≡ Done x q rest → ⊥
+
 -- every number may stand
 abbrev pub IsFree : Option ℕ → NumberCode → Type 0
 IsFree fds k = (p n : ℕ) → number_row fds k p n ≡ None
@@ -34,3 +38,11 @@ IsSpelledTo bounds order room end t offset bytes after = (v : ValueTree) × Spel
 -- values of these types, one after another, are spelled from one offset up to another
 abbrev pub AreSpelledTo : Bounds → Order → (room end : ℕ) → TypeTrees → (offset : ℕ) → List ℕ → (after : ℕ) → Type 0
 AreSpelledTo bounds order room end ts offset bytes after = (vs : ValueTrees) × IsDone bounds order room end ts offset (drop offset bytes) vs after (drop after bytes)
+
+-- no value of the type is spelled there
+abbrev pub IsNotSpelled : Bounds → Order → (room end : ℕ) → TypeTree → (offset : ℕ) → List ℕ → Type 0
+IsNotSpelled bounds order room end t offset bytes = (after : ℕ) → IsSpelledTo bounds order room end t offset bytes after → ⊥
+
+-- no values of these types, one after another, are spelled there
+abbrev pub AreNotSpelled : Bounds → Order → (room end : ℕ) → TypeTrees → (offset : ℕ) → List ℕ → Type 0
+AreNotSpelled bounds order room end ts offset bytes = (after : ℕ) → AreSpelledTo bounds order room end ts offset bytes after → ⊥

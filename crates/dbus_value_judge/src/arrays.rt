@@ -1,12 +1,13 @@
 //! What an array has besides its elements. D-Bus Specification, "Marshaling (Wire Format)".
 #![tactic(auto)]
 
-ghost use Rattle.std.specs.Prelude.{◌≡◌, ◌+◌, ◌<◌, ◌≤◌, length, drop, IfSome};
+ghost use Rattle.std.specs.Prelude.{◌≡◌, ◌+◌, ◌<◌, ◌≤◌, length, drop, None, IfSome};
 ghost use Rattle.dbus_texts.specs.Types.{TypeTree};
 ghost use Rattle.dbus_types.specs.Alignments.{alignment_of};
 ghost use Rattle.dbus_value_model.specs.Bytes.{gap_to};
 ghost use Rattle.dbus_value_model.specs.Reading.{Done};
 ghost use Rattle.dbus_value_model.specs.ValueReaders.{array_frame};
+ghost use Rattle.dbus_value_judge.specs.Endings.{IsNotRead};
 
 use crate::items::{padding, word};
 use dbus_value_model::{Bounds, Order};
@@ -25,6 +26,7 @@ pub(crate) fn frame(
     requires at_most { at ≤ end }
     requires inside { end ≤ length bytes.now }
     ensures gives { IfSome result (λ x. (t : TypeTree) → boundary ≡ alignment_of t → array_frame bounds order end t at (drop at bytes.now) ≡ Done x.0 x.1 (drop x.1 bytes.now)) }
+    ensures none { result ≡ None → (t : TypeTree) → boundary ≡ alignment_of t → IsNotRead (array_frame bounds order end t at (drop at bytes.now)) }
     ensures fits { IfSome result (λ x. (at ≤ x.1) × (x.1 + x.0 ≤ end)) }
     ensures begins { IfSome result (λ x. x.1 ≡ at + 4 + gap_to boundary (at + 4)) }
 {

@@ -1,11 +1,11 @@
 //! Values of basic types. D-Bus Specification, "Basic types".
 #![tactic(auto)]
 
-ghost use Rattle.std.specs.Prelude.{◌≡◌, ℕ, ◌+◌, ◌≤◌, length, drop, IfSome};
-ghost use Rattle.dbus_texts.specs.Types.{TypeTree};
+ghost use Rattle.std.specs.Prelude.{◌≡◌, ℕ, ◌+◌, ◌≤◌, length, drop, None, IfSome};
+ghost use Rattle.dbus_texts.specs.Types.{TypeTree, IsBasic};
 ghost use Rattle.dbus_value_model.specs.Reading.{value};
 ghost use Rattle.dbus_value_judge.specs.Codes.{first_code};
-ghost use Rattle.dbus_value_judge.specs.Endings.{EndsAt};
+ghost use Rattle.dbus_value_judge.specs.Endings.{EndsAt, IsNotRead};
 
 use crate::codes::free_width;
 use crate::numbers::{boolean, descriptor, free_number};
@@ -13,7 +13,7 @@ use crate::texts::{long_text, signature};
 use dbus_types::TextKind;
 use dbus_value_model::{Bounds, Order};
 
-/// A value of the basic type that has this code: the offset after it. None for all other codes.
+/// A value of the basic type that has this code: the offset after it. Of all other codes None says nothing.
 pub(crate) fn basic_value(
     bytes: &[u8],
     at: usize,
@@ -25,6 +25,7 @@ pub(crate) fn basic_value(
     requires at_most { at ≤ end }
     requires inside { end ≤ length bytes.now }
     ensures gives { IfSome result (λ q. (room : ℕ) (t : TypeTree) → first_code t ≡ code → EndsAt bytes.now q (value bounds order room end t at (drop at bytes.now))) }
+    ensures none { result ≡ None → (room : ℕ) (t : TypeTree) → first_code t ≡ code → IsBasic t → IsNotRead (value bounds order room end t at (drop at bytes.now)) }
     ensures moves { IfSome result (λ q. (at ≤ q) × (q ≤ end)) }
 {
     let width = free_width(code);

@@ -1,20 +1,20 @@
 //! Values judged.
 #![tactic(auto)]
 
-ghost use Rattle.std.specs.Prelude.{◌≡◌, ◌≤◌, length, true, IfSome};
+ghost use Rattle.std.specs.Prelude.{◌≡◌, ◌≤◌, length, true, None, IfSome};
 ghost use Rattle.dbus_texts.specs.Types.{TypeTree, TypeTrees, sig, sigs, IsShaped, AreShaped};
-ghost use Rattle.dbus_value_judge.specs.Endings.{IsSpelledTo, AreSpelledTo};
+ghost use Rattle.dbus_value_judge.specs.Endings.{IsSpelledTo, AreSpelledTo, IsNotSpelled, AreNotSpelled};
 
 use crate::values::{all_values, one_value};
 use dbus_value_model::{Bounds, Order};
 
-/// The offset after values of the types that a signature spells, where they are found good.
+/// The offset after values of the types that a signature spells, if the bytes spell such values.
 ///
 /// `bytes` begin at the message's first byte, from which padding counts; the values begin at `at` and end at or before `end`,
 /// and `room` containers may be open at once in them. Some(after) says that from `at` up to `after` the bytes spell values of
 /// exactly those types, within the bounds: no array has more bytes than they allow, and each index of a file descriptor is
-/// below their number, if there is one. None says nothing. Of `types` that are no complete types nothing is said either. No
-/// memory is taken.
+/// below their number, if there is one. None says that no such values begin at `at`: the bytes there are at fault, or the values
+/// do not end at or before `end`. Of `types` that are no complete types nothing is said. No memory is taken.
 /// D-Bus Specification, "Marshaling (Wire Format)".
 pub fn judge_values(
     bytes: &[u8],
@@ -28,12 +28,13 @@ pub fn judge_values(
     requires at_most { at ≤ end }
     requires inside { end ≤ length bytes.now }
     ensures spelled { IfSome result (λ after. (ts : TypeTrees) → sigs ts ≡ types.now → AreShaped ts → AreSpelledTo bounds order room end ts at bytes.now after) }
+    ensures none { result ≡ None → (ts : TypeTrees) → sigs ts ≡ types.now → AreShaped ts → AreNotSpelled bounds order room end ts at bytes.now }
     ensures moves { IfSome result (λ after. (at ≤ after) × (after ≤ end)) }
 {
     all_values(bytes, at, end, order, types, room, bounds)
 }
 
-/// The offset after a value of the one type that a signature spells, where it is found good: as [`judge_values`] says of several.
+/// The offset after a value of the one type that a signature spells, if the bytes spell one: as [`judge_values`] says of several.
 /// It may be a dict entry, as an array's element is.
 /// D-Bus Specification, "Marshaling (Wire Format)".
 pub fn judge_value(
@@ -48,6 +49,7 @@ pub fn judge_value(
     requires at_most { at ≤ end }
     requires inside { end ≤ length bytes.now }
     ensures spelled { IfSome result (λ after. (t : TypeTree) → sig t ≡ types.now → IsShaped true t → IsSpelledTo bounds order room end t at bytes.now after) }
+    ensures none { result ≡ None → (t : TypeTree) → sig t ≡ types.now → IsShaped true t → IsNotSpelled bounds order room end t at bytes.now }
     ensures moves { IfSome result (λ after. (at ≤ after) × (after ≤ end)) }
 {
     one_value(bytes, at, end, order, types, room, bounds)

@@ -1,8 +1,8 @@
 //! Values judged fast: whether bytes spell values of given types, and where these end.
 //!
-//! Only a yes says something. A no comes of bytes that are at fault, and may come of others: who wants the place and the reason
-//! of a fault, or to be sure that there is one, asks a reader or a checker. So nothing is noted on the way, no memory is taken,
-//! and a signature's bytes are followed where they stand.
+//! A yes says that they do, and a no that they do not: the bytes are at fault, or they are too few. Who wants to know which, and
+//! the place and the reason of a fault, asks a reader or a checker. So nothing is noted on the way, no memory is taken, and a
+//! signature's bytes are followed where they stand.
 #![tactic(auto)]
 
 mod arrays;

@@ -1,12 +1,12 @@
 //! Values that are one number. D-Bus Specification, "Basic types", "Marshaling (Wire Format)".
 #![tactic(auto)]
 
-ghost use Rattle.std.specs.Prelude.{◌≡◌, ℕ, ◌+◌, ◌<◌, ◌≤◌, length, drop, Option, IfSome};
+ghost use Rattle.std.specs.Prelude.{◌≡◌, ℕ, ◌+◌, ◌<◌, ◌≤◌, length, drop, Option, None, IfSome};
 ghost use Rattle.dbus_texts.specs.Types.{NumberCode, BOOLEAN, UNIX_FD};
 ghost use Rattle.dbus_types.specs.Alignments.{width};
 ghost use Rattle.dbus_value_model.specs.declared.order.Order.{Order};
 ghost use Rattle.dbus_value_model.specs.ValueReaders.{number_value};
-ghost use Rattle.dbus_value_judge.specs.Endings.{EndsAt, IsFree};
+ghost use Rattle.dbus_value_judge.specs.Endings.{EndsAt, IsFree, IsNotRead};
 
 use crate::items::{padding, word};
 use dbus_value_model::Order;
@@ -17,6 +17,7 @@ pub(crate) fn free_number(bytes: &[u8], at: usize, end: usize, size: u8) -> Opti
     requires at_most { at ≤ end }
     requires inside { end ≤ length bytes.now }
     ensures gives { IfSome result (λ q. (fds : Option ℕ) (order : Order) (k : NumberCode) → width k ≡ size → IsFree fds k → EndsAt bytes.now q (number_value fds order end k at (drop at bytes.now))) }
+    ensures none { result ≡ None → (fds : Option ℕ) (order : Order) (k : NumberCode) → width k ≡ size → IsNotRead (number_value fds order end k at (drop at bytes.now)) }
     ensures moves { IfSome result (λ q. (at ≤ q) × (q ≤ end)) }
 {
     let start = padding(bytes, at, end, size)?;
@@ -32,6 +33,7 @@ pub(crate) fn boolean(bytes: &[u8], at: usize, end: usize, order: Order) -> Opti
     requires at_most { at ≤ end }
     requires inside { end ≤ length bytes.now }
     ensures gives { IfSome result (λ q. (fds : Option ℕ) → EndsAt bytes.now q (number_value fds order end BOOLEAN at (drop at bytes.now))) }
+    ensures none { result ≡ None → (fds : Option ℕ) → IsNotRead (number_value fds order end BOOLEAN at (drop at bytes.now)) }
     ensures moves { IfSome result (λ q. (at ≤ q) × (q ≤ end)) }
 {
     let start = padding(bytes, at, end, 4)?;
@@ -53,6 +55,7 @@ pub(crate) fn descriptor(
     requires at_most { at ≤ end }
     requires inside { end ≤ length bytes.now }
     ensures gives { IfSome result (λ q. EndsAt bytes.now q (number_value fds order end UNIX_FD at (drop at bytes.now))) }
+    ensures none { result ≡ None → IsNotRead (number_value fds order end UNIX_FD at (drop at bytes.now)) }
     ensures moves { IfSome result (λ q. (at ≤ q) × (q ≤ end)) }
 {
     let start = padding(bytes, at, end, 4)?;

@@ -1,15 +1,16 @@
 //! Values of any type, along the bytes of their signature.
 //!
 //! `bytes` begin at the message's first byte, from which offsets count. A value begins at `at` and is to end at or before `end`,
-//! up to which the bytes are there; `room` containers may be opened in it. Each call gives the offset after what it judged.
+//! up to which the bytes are there; `room` containers may be opened in it. Each call gives the offset after what
+//! it judged, or None where the bytes do not begin with it.
 //! D-Bus Specification, "Marshaling (Wire Format)".
 #![tactic(auto)]
 
-ghost use Rattle.std.specs.Prelude.{◌≡◌, ℕ, ◌+◌, ◌<◌, ◌≤◌, ◌^◌, length, drop, true, IfSome};
+ghost use Rattle.std.specs.Prelude.{◌≡◌, ℕ, ◌+◌, ◌<◌, ◌≤◌, ◌^◌, length, drop, true, None, IfSome};
 ghost use Rattle.dbus_texts.specs.Types.{TypeTree, TypeTrees, NoTypes, MoreTypes, sig, sigs, IsShaped, AreShaped};
 ghost use Rattle.dbus_value_model.specs.Reading.{value, fields, contents};
 ghost use Rattle.dbus_value_model.specs.ValueReaders.{variant_value, array_value, struct_value, entry_value};
-ghost use Rattle.dbus_value_judge.specs.Endings.{EndsAt};
+ghost use Rattle.dbus_value_judge.specs.Endings.{EndsAt, IsNotRead};
 
 use crate::arrays::frame;
 use crate::basic::basic_value;
@@ -33,6 +34,7 @@ pub(crate) fn one_value(
     requires at_most { at ≤ end }
     requires inside { end ≤ length bytes.now }
     ensures gives { IfSome result (λ q. (t : TypeTree) → sig t ≡ types.now → IsShaped true t → EndsAt bytes.now q (value bounds order room end t at (drop at bytes.now))) }
+    ensures none { result ≡ None → (t : TypeTree) → sig t ≡ types.now → IsShaped true t → IsNotRead (value bounds order room end t at (drop at bytes.now)) }
     ensures moves { IfSome result (λ q. (at ≤ q) × (q ≤ end)) }
 {
     if types.is_empty() {
@@ -70,6 +72,7 @@ pub(crate) fn all_values(
     requires at_most { at ≤ end }
     requires inside { end ≤ length bytes.now }
     ensures gives { IfSome result (λ q. (ts : TypeTrees) → sigs ts ≡ types.now → AreShaped ts → EndsAt bytes.now q (fields (value bounds order room end) ts at (drop at bytes.now))) }
+    ensures none { result ≡ None → (ts : TypeTrees) → sigs ts ≡ types.now → AreShaped ts → IsNotRead (fields (value bounds order room end) ts at (drop at bytes.now)) }
     ensures moves { IfSome result (λ q. (at ≤ q) × (q ≤ end)) }
 {
     let mut place = at;
@@ -96,6 +99,7 @@ fn variant(
     requires at_most { at ≤ end }
     requires inside { end ≤ length bytes.now }
     ensures gives { IfSome result (λ q. EndsAt bytes.now q (variant_value bounds order room end at (drop at bytes.now))) }
+    ensures none { result ≡ None → IsNotRead (variant_value bounds order room end at (drop at bytes.now)) }
     ensures moves { IfSome result (λ q. (at ≤ q) × (q ≤ end)) }
 {
     if room == 0 {
@@ -121,6 +125,7 @@ fn array(
     requires at_most { at ≤ end }
     requires inside { end ≤ length bytes.now }
     ensures gives { IfSome result (λ q. (t : TypeTree) → sig t ≡ types.now → IsShaped true t → EndsAt bytes.now q (array_value bounds order room end t at (drop at bytes.now))) }
+    ensures none { result ≡ None → (t : TypeTree) → sig t ≡ types.now → IsShaped true t → IsNotRead (array_value bounds order room end t at (drop at bytes.now)) }
     ensures moves { IfSome result (λ q. (at ≤ q) × (q ≤ end)) }
 {
     if room == 0 || types.is_empty() {
@@ -153,6 +158,7 @@ fn elements(
 ) -> Option<usize>
     requires { at + n ≤ length bytes.now }
     ensures gives { IfSome result (λ q. (t : TypeTree) → sig t ≡ types.now → IsShaped true t → EndsAt bytes.now q (contents n (λ end before. value bounds order room end t) at (drop at bytes.now))) }
+    ensures none { result ≡ None → (t : TypeTree) → sig t ≡ types.now → IsShaped true t → IsNotRead (contents n (λ end before. value bounds order room end t) at (drop at bytes.now)) }
     ensures ends { IfSome result (λ q. q ≡ at + n) }
 {
     let end = at + n;
@@ -181,6 +187,7 @@ fn structure(
     requires at_most { at ≤ end }
     requires inside { end ≤ length bytes.now }
     ensures gives { IfSome result (λ q. (ts : TypeTrees) → sigs ts ≡ types.now → AreShaped ts → EndsAt bytes.now q (struct_value bounds order room end ts at (drop at bytes.now))) }
+    ensures none { result ≡ None → (ts : TypeTrees) → sigs ts ≡ types.now → AreShaped ts → IsNotRead (struct_value bounds order room end ts at (drop at bytes.now)) }
     ensures moves { IfSome result (λ q. (at ≤ q) × (q ≤ end)) }
 {
     if room == 0 {
@@ -204,6 +211,7 @@ fn entry(
     requires at_most { at ≤ end }
     requires inside { end ≤ length bytes.now }
     ensures gives { IfSome result (λ q. (k v : TypeTree) → sigs (MoreTypes k (MoreTypes v NoTypes)) ≡ types.now → AreShaped (MoreTypes k (MoreTypes v NoTypes)) → EndsAt bytes.now q (entry_value bounds order room end k v at (drop at bytes.now))) }
+    ensures none { result ≡ None → (k v : TypeTree) → sigs (MoreTypes k (MoreTypes v NoTypes)) ≡ types.now → AreShaped (MoreTypes k (MoreTypes v NoTypes)) → IsNotRead (entry_value bounds order room end k v at (drop at bytes.now)) }
     ensures moves { IfSome result (λ q. (at ≤ q) × (q ≤ end)) }
 {
     let start = padding(bytes, at, end, 8)?;

@@ -1,8 +1,13 @@
-use Rattle.std.proofs.Common.{arith}
+use Rattle.std.proofs.Common.{drop, arith}
 use Rattle.std.proofs.lemmas.Option.{IfSome_then}
-use Rattle.dbus_value_judge.proofs.Spelled.{spelled_to}
+use Rattle.dbus_value_judge.proofs.Spelled.{spelled_to, spelled_read}
 use Rattle.dbus_value_judge.proofs.judging.judge_values.Goals as goal
 
 pub returns-clause-spelled : goal.returns-clause-spelled
 returns-clause-spelled c = IfSome_then c.all_values.result c.all_values.ensures.gives (λ q h ts e shaped.
     spelled_to c.args.bounds c.args.order c.args.room c.args.end ts c.args.at q c.args.bytes.now shaped c.requires.at_most (λ i. omega (arith, c.type_inv.bytes i)) (h ts e shaped))
+
+pub returns-clause-none : goal.returns-clause-none
+returns-clause-none c = λ none ts e shaped after spelled.
+    let read = spelled_read c.args.bounds c.args.order c.args.room c.args.end ts c.args.at after c.args.bytes.now shaped spelled in
+    c.all_values.ensures.none none ts e shaped read.0 after (drop after c.args.bytes.now) read.1

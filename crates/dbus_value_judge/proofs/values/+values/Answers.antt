@@ -1,13 +1,16 @@
-use Rattle.std.proofs.Common.{◌≡◌, ℕ, suc, ◌+◌, ◌-◌, ◌%◌, ◌<◌, true, arith, sym, ap, subst, ◌∙◌}
+use Rattle.std.proofs.Common.{◌≡◌, ℕ, suc, ◌+◌, ◌-◌, ◌%◌, ◌<◌, length, true, arith, sym, ap, subst, ◌∙◌}
+use Rattle.std.proofs.lemmas.Bool.{eqb-true}
 use Rattle.std.proofs.lemmas.Option.{IfSome_then}
 use Rattle.dbus_texts.specs.Types.{TypeTree, NoTypes, MoreTypes, IsShaped}
 use Rattle.dbus_types.specs.Alignments.{alignment_of}
 use Rattle.dbus_value_model.specs.Bytes.{gap_to}
 use Rattle.dbus_value_model.specs.Reading.{value}
 use Rattle.dbus_value_judge.specs.Codes.{code_boundary, free_width}
-use Rattle.dbus_value_judge.proofs.TypeCodes.{code_is, boundary_is, free_is, variant_is, array_is, struct_is, entry_is, struct_shaped, entry_shaped}
-use Rattle.dbus_value_judge.proofs.NumberArrays.{free_elements_end}
-use Rattle.dbus_value_judge.proofs.ValueSteps.{less_left, left_ends, leads_all, leads_on, leads_end, variant_ends, array_ends, struct_ends, entry_ends, as_variant, as_array, as_struct, as_entry}
+use Rattle.dbus_value_judge.proofs.TypeCodes.{no_text_of, code_is, boundary_is, free_is, variant_is, array_is, struct_is, entry_is, struct_shaped, entry_shaped}
+use Rattle.dbus_value_judge.proofs.NumberArrays.{free_elements_end, uneven_elements}
+use Rattle.dbus_value_judge.proofs.ValueRefusals.{no_variant, no_array, no_struct, no_entry, variant_too_deep, variant_unsigned, variant_unheld, array_too_deep, array_unpadded, array_unframed, array_unfilled, struct_too_deep, struct_unpadded, struct_unfilled, entry_unpadded, entry_unfilled}
+use Rattle.dbus_value_judge.proofs.ValueSteps.{less_left, left_unread, left_ends, lacks_all, lacks_on, lacks_element, lacks_end, leads_all, leads_on, leads_end, variant_ends, array_ends, struct_ends, entry_ends, as_variant, as_array, as_struct, as_entry}
+use Rattle.dbus_value_judge.proofs.values.+values.Goals.{array-then-room-eq0-via-then-room-eq0, array-then-room-eq0-via-else-room-eq0+then-is_empty}
 use Rattle.dbus_value_judge.proofs.values.+values.Goals as goal
 
 pub all_values-loop-pos-preserved : goal.all_values-loop-pos-preserved
@@ -18,7 +21,7 @@ all_values-loop-pos-preserved t c =
       at_most = moves.1;
       within = c.type_end-next.ensures.within;
       left = λ ts e shaped.
-          less_left (value c.args.bounds c.args.order c.args.room c.args.end) c.args.bytes.now c.args.types.now ts c.args.at c.loop-pos.place c.loop-pos.pos c.type_end-next.result c.in_ok-place.place c.loop-pos-test.true c.type_end-next.ensures.value
+          less_left (value c.args.bounds c.args.order c.args.room c.args.end) c.args.bytes.now c.args.types.now ts c.args.at c.loop-pos.place c.loop-pos.pos c.type_end-next.result c.loop-pos-test.true c.type_end-next.ensures.value c.in_ok-place.place
           (c.loop-pos.invariant.left ts e shaped) c.in_ok-place.ensures.gives;
     }
 
@@ -56,6 +59,7 @@ elements-loop-turn-init t c =
     record {
       at_most = omega arith;
       leads = λ u e shaped. leads_all (value c.args.bounds c.args.order c.args.room (c.args.at + c.args.n) u) c.args.bytes.now c.args.n (c.args.at + c.args.n) c.args.at (c.args.n - 0) (omega arith);
+      lacks = λ u e shaped. lacks_all (value c.args.bounds c.args.order c.args.room (c.args.at + c.args.n) u) c.args.bytes.now c.args.n (c.args.at + c.args.n) c.args.at (c.args.n - 0) (omega arith);
     }
 
 pub elements-loop-turn-preserved : goal.elements-loop-turn-preserved
@@ -67,6 +71,9 @@ elements-loop-turn-preserved t c =
       leads = λ u e shaped.
           leads_on (value c.args.bounds c.args.order c.args.room (c.args.at + c.args.n) u) c.args.bytes.now c.args.n (c.args.at + c.args.n) c.args.at (c.args.n - c.loop-turn._turn) (c.args.n - (c.loop-turn._turn + 1)) c.loop-turn.place c.in_ok-place.place
           (c.loop-turn.invariant.leads u e shaped) more lt (c.in_ok-place.ensures.gives u e shaped);
+      lacks = λ u e shaped.
+          lacks_on (value c.args.bounds c.args.order c.args.room (c.args.at + c.args.n) u) c.args.bytes.now c.args.n (c.args.at + c.args.n) c.args.at (c.args.n - c.loop-turn._turn) (c.args.n - (c.loop-turn._turn + 1)) c.loop-turn.place c.in_ok-place.place
+          (c.loop-turn.invariant.lacks u e shaped) more lt (c.in_ok-place.ensures.gives u e shaped);
     }
 
 pub entry-returns-clause-gives : goal.entry-returns-clause-gives
@@ -102,3 +109,97 @@ one_value-returns-then-types-gt1-2-clause-gives t c = IfSome_then c.entry.result
 
 pub one_value-returns-clause-gives : goal.one_value-returns-clause-gives
 one_value-returns-clause-gives t c = IfSome_then c.basic_value.result c.basic_value.ensures.gives (λ q h u e shaped. h c.args.room u (code_is u c.args.types.now e))
+
+-- ---- what is not there
+
+pub all_values-returns-in_err-place-clause-none : goal.all_values-returns-in_err-place-clause-none
+all_values-returns-in_err-place-clause-none t c = λ none ts e shaped.
+    left_unread (value c.args.bounds c.args.order c.args.room c.args.end) c.args.bytes.now c.args.types.now ts c.args.at c.loop-pos.place c.loop-pos.pos c.type_end-next.result c.loop-pos-test.true c.type_end-next.ensures.value
+    (c.loop-pos.invariant.left ts e shaped) (c.one_value.ensures.none c.in_err-place.was)
+
+pub array-returns-then-room-eq0-clause-none : goal.array-returns-then-room-eq0-clause-none
+array-returns-then-room-eq0-clause-none t c = λ none u e shaped.
+    elim c.then-room-eq0.branch [
+      | array-then-room-eq0-via-then-room-eq0 w ↦ array_too_deep c.args.bounds c.args.order c.args.room c.args.end c.args.at c.args.bytes.now u w.if-room-eq0.true
+      | array-then-room-eq0-via-else-room-eq0+then-is_empty w ↦ absurd (no_text_of u c.args.types.now e (eqb-true (length c.args.types.now) 0 (sym w.is_empty.ensures ∙ w.if-is_empty.true)))
+    ]
+
+pub array-returns-in_err-start-clause-none : goal.array-returns-in_err-start-clause-none
+array-returns-in_err-start-clause-none t c = λ none u e shaped. array_unpadded c.args.bounds c.args.order c.args.room c.args.end c.args.at c.args.bytes.now u (c.padding.ensures.none c.in_err-start.was)
+
+pub array-returns-in_err-n-clause-none : goal.array-returns-in_err-n-clause-none
+array-returns-in_err-n-clause-none t c = λ none u e shaped.
+    let bounded = c.boundary.ensures.value ∙ ap code_boundary (sym (code_is u c.args.types.now e)) ∙ boundary_is u in
+    array_unframed c.args.bounds c.args.order c.args.room c.args.end c.args.at c.args.bytes.now u c.in_ok-start.start c.in_ok-start.ensures.gives (c.frame.ensures.none c.in_err-n.was u bounded)
+
+pub array-returns-else-n-from-eq0-clause-none : goal.array-returns-else-n-from-eq0-clause-none
+array-returns-else-n-from-eq0-clause-none t c = λ none u e shaped.
+    let code = code_is u c.args.types.now e in
+    let bounded = c.boundary.ensures.value ∙ ap code_boundary (sym code) ∙ boundary_is u in
+    let free = free_is u c.free_width-width.result c.if-width-gt0.true (c.free_width-width.ensures.value ∙ ap free_width (sym code)) in
+    let wide : c.boundary.result ≡ c.free_width-width.result = bounded ∙ ap alignment_of free.is ∙ free.wide in
+    let begins = c.in_ok-n.ensures.begins ∙ ap (λ (w : ℕ). c.in_ok-start.start + 4 + gap_to w (c.in_ok-start.start + 4)) wide in
+    array_unfilled c.args.bounds c.args.order c.args.room c.args.end c.args.at c.args.bytes.now u c.in_ok-start.start c.in_ok-start.ensures.gives c.in_ok-n.n c.in_ok-n.first (c.in_ok-n.ensures.gives u bounded)
+    (uneven_elements c.args.bounds c.args.order (c.args.room - 1) u c.free_width-width.result c.in_ok-n.n (c.in_ok-start.start + 4) c.in_ok-n.first c.args.bytes.now free (λ even. c.if-n-from-eq0.false (subst (λ (w : ℕ). c.in_ok-n.n % w ≡ 0) (sym c.from.ensures) even)) begins (omega (arith, c.in_ok-n.ensures.fits)))
+
+pub array-returns-clause-none : goal.array-returns-clause-none
+array-returns-clause-none t c = λ none u e shaped.
+    let bounded = c.boundary.ensures.value ∙ ap code_boundary (sym (code_is u c.args.types.now e)) ∙ boundary_is u in
+    array_unfilled c.args.bounds c.args.order c.args.room c.args.end c.args.at c.args.bytes.now u c.in_ok-start.start c.in_ok-start.ensures.gives c.in_ok-n.n c.in_ok-n.first (c.in_ok-n.ensures.gives u bounded) (c.elements.ensures.none none u e shaped)
+
+pub elements-returns-in_err-place-clause-none : goal.elements-returns-in_err-place-clause-none
+elements-returns-in_err-place-clause-none t c = λ none u e shaped.
+    let lt : c.loop-turn.place < c.args.at + c.args.n = omega (arith, c.if-place-end.false) in
+    let more : c.args.n - c.loop-turn._turn ≡ suc (c.args.n - (c.loop-turn._turn + 1)) = omega arith in
+    lacks_element (value c.args.bounds c.args.order c.args.room (c.args.at + c.args.n) u) c.args.bytes.now c.args.n (c.args.at + c.args.n) c.args.at (c.args.n - c.loop-turn._turn) (c.args.n - (c.loop-turn._turn + 1)) c.loop-turn.place
+    (c.loop-turn.invariant.lacks u e shaped) more lt (c.one_value.ensures.none c.in_err-place.was u e shaped)
+
+pub elements-returns-else-place-end-2-clause-none : goal.elements-returns-else-place-end-2-clause-none
+elements-returns-else-place-end-2-clause-none t c = λ none u e shaped.
+    lacks_end (value c.args.bounds c.args.order c.args.room (c.args.at + c.args.n) u) c.args.bytes.now c.args.n (c.args.at + c.args.n) c.args.at (c.args.n - c.loop-turn._turn) c.loop-turn.place (c.loop-turn.invariant.lacks u e shaped) (omega arith) c.if-place-end-2.false
+
+pub entry-returns-in_err-start-clause-none : goal.entry-returns-in_err-start-clause-none
+entry-returns-in_err-start-clause-none t c = λ none k v e shaped. entry_unpadded c.args.bounds c.args.order c.args.room c.args.end c.args.at c.args.bytes.now k v (c.padding.ensures.none c.in_err-start.was)
+
+pub entry-returns-clause-none : goal.entry-returns-clause-none
+entry-returns-clause-none t c = λ none k v e shaped.
+    entry_unfilled c.args.bounds c.args.order c.args.room c.args.end c.args.at c.args.bytes.now k v c.in_ok-start.start c.in_ok-start.ensures.gives (c.all_values.ensures.none none (MoreTypes k (MoreTypes v NoTypes)) e shaped)
+
+pub structure-returns-then-room-eq0-clause-none : goal.structure-returns-then-room-eq0-clause-none
+structure-returns-then-room-eq0-clause-none t c = λ none ts e shaped. struct_too_deep c.args.bounds c.args.order c.args.room c.args.end c.args.at c.args.bytes.now ts c.if-room-eq0.true
+
+pub structure-returns-in_err-start-clause-none : goal.structure-returns-in_err-start-clause-none
+structure-returns-in_err-start-clause-none t c = λ none ts e shaped. struct_unpadded c.args.bounds c.args.order c.args.room c.args.end c.args.at c.args.bytes.now ts (c.padding.ensures.none c.in_err-start.was)
+
+pub structure-returns-clause-none : goal.structure-returns-clause-none
+structure-returns-clause-none t c = λ none ts e shaped.
+    struct_unfilled c.args.bounds c.args.order c.args.room c.args.end c.args.at c.args.bytes.now ts c.in_ok-start.start c.in_ok-start.ensures.gives (c.all_values.ensures.none none ts e shaped)
+
+pub variant-returns-then-room-eq0-clause-none : goal.variant-returns-then-room-eq0-clause-none
+variant-returns-then-room-eq0-clause-none t c = λ none. variant_too_deep c.args.bounds c.args.order c.args.room c.args.end c.args.at c.args.bytes.now c.if-room-eq0.true
+
+pub variant-returns-in_err-n-clause-none : goal.variant-returns-in_err-n-clause-none
+variant-returns-in_err-n-clause-none t c = λ none. variant_unsigned c.args.bounds c.args.order c.args.room c.args.end c.args.at c.args.bytes.now (c.short_text.ensures.none c.in_err-n.was c.args.order)
+
+pub variant-returns-clause-none : goal.variant-returns-clause-none
+variant-returns-clause-none t c = λ none.
+    variant_unheld c.args.bounds c.args.order c.args.room c.args.end c.args.at c.args.bytes.now c.in_ok-n.n (c.in_ok-n.ensures.measures c.args.order) c.in_ok-n.ensures.text (c.args.at + 1 + c.in_ok-n.n - (c.args.at + 1)) (omega arith) (c.one_value.ensures.none none)
+
+pub one_value-returns-then-code-eq118-clause-none : goal.one_value-returns-then-code-eq118-clause-none
+one_value-returns-then-code-eq118-clause-none t c = λ none u e shaped.
+    no_variant c.args.bounds c.args.order c.args.room c.args.end c.args.at c.args.bytes.now u (variant_is u (code_is u c.args.types.now e ∙ c.if-code-eq118.true)) (c.variant.ensures.none none)
+
+pub one_value-returns-then-code-eq97-clause-none : goal.one_value-returns-then-code-eq97-clause-none
+one_value-returns-then-code-eq97-clause-none t c = λ none u e shaped.
+    let w = array_is u c.args.types.now e c.if-code-eq97.true in
+    no_array c.args.bounds c.args.order c.args.room c.args.end c.args.at c.args.bytes.now u w.0 w.1 (c.array.ensures.none none w.0 w.2 (subst (λ (v : TypeTree). IsShaped true v) w.1 shaped))
+
+pub one_value-returns-then-types-gt1-clause-none : goal.one_value-returns-then-types-gt1-clause-none
+one_value-returns-then-types-gt1-clause-none t c = λ none u e shaped.
+    let w = struct_is u c.args.types.now e c.if-code-eq40.true in
+    no_struct c.args.bounds c.args.order c.args.room c.args.end c.args.at c.args.bytes.now u w.0 w.1 (c.structure.ensures.none none w.0 w.2 (struct_shaped w.0 (subst (λ (v : TypeTree). IsShaped true v) w.1 shaped)))
+
+pub one_value-returns-then-types-gt1-2-clause-none : goal.one_value-returns-then-types-gt1-2-clause-none
+one_value-returns-then-types-gt1-2-clause-none t c = λ none u e shaped.
+    let w = entry_is u c.args.types.now e c.if-code-eq123.true in
+    no_entry c.args.bounds c.args.order c.args.room c.args.end c.args.at c.args.bytes.now u w.0 w.1 w.2 (c.entry.ensures.none none w.0 w.1 w.3 (entry_shaped w.0 w.1 (subst (λ (v : TypeTree). IsShaped true v) w.2 shaped)))
