@@ -101,7 +101,7 @@ signature_held limits order end at signed n bytes found le measured ended =
 
 -- ---- any value
 
-single_read : (order : Order) (end at n : ℕ) (bytes : List ℕ) → number order 1 end (text_row end) at (drop at bytes) ≡ Done n (at + 1) (drop (at + 1) bytes) → EndedText Single n (at + 1) bytes
+pub single_read : (order : Order) (end at n : ℕ) (bytes : List ℕ) → number order 1 end (text_row end) at (drop at bytes) ≡ Done n (at + 1) (drop (at + 1) bytes) → EndedText Single n (at + 1) bytes
     → wanted_signature order end (Of Single) at (drop at bytes) ≡ Done (type_spelled (take n (drop (at + 1) bytes))) (at + 1 + n + 1) (drop (at + 1 + n + 1) bytes)
 unfolding wanted_signature
 single_read order end at n bytes measured ended = rw (measured, ended.is_text, ended.is_ended) refl

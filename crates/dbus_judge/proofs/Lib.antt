@@ -1,6 +1,9 @@
 mod HeldSteps
+mod HeldRefusals
 mod SeenSteps
 mod FieldTurns
+mod FieldRefusals
 mod BodySteps
 mod BodyPlaces
 mod WholeSteps
+mod WholeRefusals

@@ -1,11 +1,11 @@
 -- The known fields that were seen, as the code notes them.
-use Rattle.std.proofs.Common.{take, ◌≡◌, ℕ, eqb, true, false, Bool, cond, ◌&&◌, ◌||◌, ◌+◌, ◌<◌, ◌≤◌, List, [], ◌∷◌, ◌++◌, length, drop, get_or, set, Option, Some, None, refl, sym, ap, subst, ◌∙◌, inl, inr, arith}
+use Rattle.std.proofs.Common.{take, ◌≡◌, ℕ, zero, suc, eqb, true, false, Bool, cond, ◌&&◌, ◌||◌, ◌+◌, ◌<◌, ◌≤◌, List, [], ◌∷◌, ◌++◌, length, drop, get_or, set, Option, Some, None, refl, sym, ap, subst, ◌∙◌, inl, inr, arith}
 use Rattle.std.specs.Option.{is_some}
 use Rattle.std.proofs.lemmas.Bool.{cases_lt, eqb-true, eqb-false, ne_eqb, or_parts}
 use Rattle.std.proofs.lemmas.List.{drop_more, get_or-set_same, get_or-set_other}
 use Rattle.dbus_value_model.specs.declared.fault.Reason.TheVariants as reasons
 use Rattle.dbus_value_model.specs.Values.{ValueTree}
-use Rattle.dbus_message_model.specs.Messages.{FieldTree, Want, Anything, OfType, Name, Serial, want, is_particular, is_known, has_code, lacks, text_in, number_in, body_signature, fd_count}
+use Rattle.dbus_message_model.specs.Messages.{FieldTree, Want, Anything, OfType, Name, Serial, want, is_particular, is_known, has_code, lacks, required, text_in, number_in, body_signature, fd_count}
 use Rattle.dbus_message_model.specs.Lookups.{field_value}
 use Rattle.dbus_judge.specs.declared.field_values.Held.{Held}
 use Rattle.dbus_judge.specs.declared.seen.Place.{Place}
@@ -103,6 +103,34 @@ module _ (fs : List FieldTree) (bytes : List ℕ) (seen : Seen) (noted : AreNote
 module _ (items : List ℕ) (i : ℕ) (here : i < length items) (fs : List FieldTree) where
   pub lacks_later : has_code (get_or items i 0) fs ≡ true → lacks (drop (i + 1) items) fs ≡ lacks (drop i items) fs
   lacks_later h = sym (ap (λ (l : List ℕ). lacks l fs) (drop_more items i 0 here) ∙ ap (λ (b : Bool). cond b (lacks (drop (i + 1) items) fs) (Some (reasons.FieldMissing (get_or items i 0)))) h)
+
+-- every code that is required is a known field's
+abbrev AreKnown : List ℕ → Type 0
+AreKnown [] = Unit {0}
+AreKnown (c ∷ cs) = (is_known c ≡ true) × AreKnown cs
+
+either_known : (b : Bool) (x y : List ℕ) → AreKnown x → AreKnown y → AreKnown (cond b x y)
+either_known true x y p q = p
+either_known false x y p q = q
+
+required_known : (kind : ℕ) → AreKnown (required kind)
+required_known kind =
+    either_known (eqb kind 1) _ _ (refl, (refl, tt)) (either_known (eqb kind 2) _ _ (refl, tt) (either_known (eqb kind 3) _ _ (refl, (refl, tt)) (either_known (eqb kind 4) _ _ (refl, (refl, (refl, tt))) tt)))
+
+known_at : (items : List ℕ) (i : ℕ) → AreKnown items → i < length items → is_known (get_or items i 0) ≡ true
+known_at [] i known here = absurd (omega arith)
+known_at (c ∷ items) zero known here = known.0
+known_at (c ∷ items) (suc i) known here = known_at items i known.1 (omega arith)
+
+-- one of them that was not seen is lacked
+pub lacks_one : (kind : ℕ) (items : List ℕ) (i : ℕ) (fs : List FieldTree) → items ≡ required kind → i < length items → is_known (get_or items i 0) && has_code (get_or items i 0) fs ≡ false → lacks (drop i items) fs ≡ None → ⊥
+lacks_one kind items i fs is here unseen none =
+    let known : is_known (get_or items i 0) ≡ true = known_at items i (subst AreKnown (sym is) (required_known kind)) here in
+    let absent : has_code (get_or items i 0) fs ≡ false = ap (λ (b : Bool). b && has_code (get_or items i 0) fs) (sym known) ∙ unseen in
+    let lacked : lacks (drop i items) fs ≡ Some (reasons.FieldMissing (get_or items i 0)) =
+    ap (λ (l : List ℕ). lacks l fs) (drop_more items i 0 here) ∙ ap (λ (b : Bool). cond b (lacks (drop (i + 1) items) fs) (Some (reasons.FieldMissing (get_or items i 0)))) absent in
+    let against = sym lacked ∙ none in
+    absurd cc
 
 -- ---- the signature and the descriptors
 

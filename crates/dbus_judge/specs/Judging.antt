@@ -1,7 +1,8 @@
--- What is said of bytes that begin with a message.
+-- What is said of bytes that begin with a message, and of those that begin with none.
 -- D-Bus Specification, "Message Format".
 use Rattle.std.specs.Prelude.{◌≡◌, ℕ, ◌-◌, List, take, drop}
 use Rattle.dbus_value_model.specs.declared.limits.Limits.{Limits}
+use Rattle.dbus_value_model.specs.declared.order.Order.{Order}
 use Rattle.dbus_message_model.specs.Messages.{MessageTree, body_start, body_bytes}
 use Rattle.dbus_decode.specs.MessageOutcomes.{IsWhole}
 use Rattle.dbus_judge.specs.declared.judging.Judged.{Judged}
@@ -14,3 +15,7 @@ pub record IsJudged (limits : Limits) (bytes : List ℕ) (j : Judged) : Type 0 w
   pub parts : (message.kind ≡ j.kind) × (message.flags ≡ j.flags) × (message.serial ≡ j.serial)
   pub fields : AreNoted message.fields bytes j.fields
   pub body : (body_start j.order message.fields ≡ j.body) × (body_bytes j.order message ≡ take (j.length - j.body) (drop j.body bytes))
+
+-- they begin with no message
+abbrev pub BeginsWithNone : Limits → List ℕ → Type 0
+BeginsWithNone limits bytes = (order : Order) (m : MessageTree) (n : ℕ) → IsWhole limits bytes order m n → ⊥

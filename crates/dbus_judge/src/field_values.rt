@@ -1,10 +1,11 @@
 //! Values of header fields. D-Bus Specification, "Header Fields".
 //!
 //! `bytes` begin at the message's first byte, from which offsets count. A field's value begins at `at` with its variant's
-//! signature, and is to end at or before `end`, up to which the bytes are there.
+//! signature, and is to end at or before `end`, up to which the bytes are there. None says that no such value begins there, or
+//! that it does not end at or before `end`.
 #![tactic(auto)]
 
-ghost use Rattle.std.specs.Prelude.{◌≡◌, ℕ, ◌+◌, ◌≤◌, ◌<◌, List, [], ◌∷◌, length, drop, IfSome};
+ghost use Rattle.std.specs.Prelude.{◌≡◌, ℕ, ◌+◌, ◌≤◌, ◌<◌, List, [], ◌∷◌, length, drop, None, IfSome};
 ghost use Rattle.dbus_texts.specs.ComputedKinds.{type_spelled};
 ghost use Rattle.dbus_texts.specs.Types.{UINT32, OBJECT_PATH, SIGNATURE, NumberType, TextType};
 ghost use Rattle.dbus_value_model.specs.declared.limits.Limits.{Limits};
@@ -12,8 +13,9 @@ ghost use Rattle.dbus_value_model.specs.declared.order.Order.{Order};
 ghost use Rattle.dbus_value_model.specs.Reading.{Done};
 ghost use Rattle.dbus_value_model.specs.WantedTexts.{Of, Only};
 ghost use Rattle.dbus_message_model.specs.Messages.{Anything, OfType, Name, Serial, want};
-ghost use Rattle.dbus_decode.specs.HeaderReading.{wanted_signature};
+ghost use Rattle.dbus_decode.specs.HeaderReading.{wanted_signature, wanted_value};
 ghost use Rattle.dbus_decode.specs.declared.field_value.TheConstants.{FIELD_DEPTH};
+ghost use Rattle.dbus_value_judge.specs.Endings.{IsNotRead};
 ghost use Rattle.dbus_judge.specs.Held.{IsHeld};
 
 use dbus_decode::{FIELD_DEPTH, NAME_LIMIT};
@@ -40,6 +42,7 @@ fn letter(bytes: &[u8], at: usize, end: usize, wanted: u8) -> Option<usize>
     requires at_most { at ≤ end }
     requires inside { end ≤ length bytes.now }
     ensures gives { IfSome result (λ q. (order : Order) → wanted_signature order end (Only (wanted ∷ [])) at (drop at bytes.now) ≡ Done (type_spelled (wanted ∷ [])) q (drop q bytes.now)) }
+    ensures none { result ≡ None → (order : Order) → IsNotRead (wanted_signature order end (Only (wanted ∷ [])) at (drop at bytes.now)) }
     ensures moves { IfSome result (λ q. (q ≡ at + 3) × (q ≤ end)) }
 {
     if end - at < 3 {
@@ -62,6 +65,7 @@ fn name(bytes: &[u8], at: usize, end: usize, order: Order, kind: TextKind) -> Op
     requires at_most { at ≤ end }
     requires inside { end ≤ length bytes.now }
     ensures held { IfSome result (λ h. (limits : Limits) → IsHeld limits order end (Name (Of kind)) at bytes.now h) }
+    ensures none { result ≡ None → (limits : Limits) → IsNotRead (wanted_value limits order end (Name (Of kind)) at (drop at bytes.now)) }
     ensures moves { IfSome result (λ h. (at ≤ h.after) × (h.after ≤ end)) }
     ensures within { IfSome result (λ h. h.start + h.length ≤ h.after) }
 {
@@ -92,6 +96,7 @@ fn path(bytes: &[u8], at: usize, end: usize, order: Order) -> Option<Held>
     requires at_most { at ≤ end }
     requires inside { end ≤ length bytes.now }
     ensures held { IfSome result (λ h. (limits : Limits) → IsHeld limits order end (OfType (TextType OBJECT_PATH)) at bytes.now h) }
+    ensures none { result ≡ None → (limits : Limits) → IsNotRead (wanted_value limits order end (OfType (TextType OBJECT_PATH)) at (drop at bytes.now)) }
     ensures moves { IfSome result (λ h. (at ≤ h.after) × (h.after ≤ end)) }
     ensures within { IfSome result (λ h. h.start + h.length ≤ h.after) }
 {
@@ -119,6 +124,7 @@ fn signature(bytes: &[u8], at: usize, end: usize, order: Order) -> Option<Held>
     requires at_most { at ≤ end }
     requires inside { end ≤ length bytes.now }
     ensures held { IfSome result (λ h. (limits : Limits) → IsHeld limits order end (OfType (TextType SIGNATURE)) at bytes.now h) }
+    ensures none { result ≡ None → (limits : Limits) → IsNotRead (wanted_value limits order end (OfType (TextType SIGNATURE)) at (drop at bytes.now)) }
     ensures moves { IfSome result (λ h. (at ≤ h.after) × (h.after ≤ end)) }
     ensures within { IfSome result (λ h. h.start + h.length ≤ h.after) }
 {
@@ -138,6 +144,7 @@ fn number(bytes: &[u8], at: usize, end: usize, order: Order) -> Option<Held>
     requires at_most { at ≤ end }
     requires inside { end ≤ length bytes.now }
     ensures held { IfSome result (λ h. (limits : Limits) → IsHeld limits order end (OfType (NumberType UINT32)) at bytes.now h) }
+    ensures none { result ≡ None → (limits : Limits) → IsNotRead (wanted_value limits order end (OfType (NumberType UINT32)) at (drop at bytes.now)) }
     ensures moves { IfSome result (λ h. (at ≤ h.after) × (h.after ≤ end)) }
     ensures within { IfSome result (λ h. h.start + h.length ≤ h.after) }
 {
@@ -157,6 +164,7 @@ fn serial(bytes: &[u8], at: usize, end: usize, order: Order) -> Option<Held>
     requires at_most { at ≤ end }
     requires inside { end ≤ length bytes.now }
     ensures held { IfSome result (λ h. (limits : Limits) → IsHeld limits order end Serial at bytes.now h) }
+    ensures none { result ≡ None → (limits : Limits) → IsNotRead (wanted_value limits order end Serial at (drop at bytes.now)) }
     ensures moves { IfSome result (λ h. (at ≤ h.after) × (h.after ≤ end)) }
     ensures within { IfSome result (λ h. h.start + h.length ≤ h.after) }
 {
@@ -180,6 +188,7 @@ fn anything(bytes: &[u8], at: usize, end: usize, order: Order, limits: Limits) -
     requires at_most { at ≤ end }
     requires inside { end ≤ length bytes.now }
     ensures held { IfSome result (λ h. IsHeld limits order end Anything at bytes.now h) }
+    ensures none { result ≡ None → IsNotRead (wanted_value limits order end Anything at (drop at bytes.now)) }
     ensures moves { IfSome result (λ h. (at ≤ h.after) × (h.after ≤ end)) }
     ensures within { IfSome result (λ h. h.start + h.length ≤ h.after) }
 {
@@ -204,11 +213,12 @@ fn anything(bytes: &[u8], at: usize, end: usize, order: Order, limits: Limits) -
     })
 }
 
-/// The value of a field of a code, where it is found good: of its own type and kind where the code is known.
+/// The value of a field of a code: of its own type and kind where the code is known.
 ///
 /// Some says that the bytes from `at` on are the signature and the value that such a field has, up to `after`, and where its
-/// text stands or what its number is, if the code is known. None says nothing. The field array, the field and its variant are
-/// open around it.
+/// text stands or what its number is, if the code is known. None says that no such signature and value begin at `at`: the bytes
+/// there are at fault, or the value does not end at or before `end`. The field array, the field and its variant are open around
+/// it. D-Bus Specification, "Header Fields".
 pub fn judge_field_value(
     bytes: &[u8],
     at: usize,
@@ -221,6 +231,7 @@ pub fn judge_field_value(
     requires at_most { at ≤ end }
     requires inside { end ≤ length bytes.now }
     ensures held { IfSome result (λ h. IsHeld limits order end (want code) at bytes.now h) }
+    ensures none { result ≡ None → IsNotRead (wanted_value limits order end (want code) at (drop at bytes.now)) }
     ensures moves { IfSome result (λ h. (at ≤ h.after) × (h.after ≤ end)) }
     ensures within { IfSome result (λ h. h.start + h.length ≤ h.after) }
 {

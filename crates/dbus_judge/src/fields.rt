@@ -1,11 +1,11 @@
 //! Header fields. D-Bus Specification, "Header Fields".
 #![tactic(auto)]
 
-ghost use Rattle.std.specs.Prelude.{◌≡◌, ◌+◌, ◌≤◌, ◌<◌, List, length, drop, IfSome, false, ◌&&◌};
+ghost use Rattle.std.specs.Prelude.{◌≡◌, ◌+◌, ◌≤◌, ◌<◌, List, length, drop, None, IfSome, false, ◌&&◌};
 ghost use Rattle.dbus_value_model.specs.Reading.{Done};
-ghost use Rattle.dbus_decode.specs.declared.field_value.TheConstants.{FIELD_DEPTH};
-ghost use Rattle.dbus_decode.specs.HeaderReading.{fields_read};
+ghost use Rattle.dbus_decode.specs.HeaderReading.{field_read, fields_read};
 ghost use Rattle.dbus_message_model.specs.Messages.{FieldTree, is_known, has_code};
+ghost use Rattle.dbus_value_judge.specs.Endings.{IsNotRead};
 ghost use Rattle.dbus_judge.specs.Held.{IsHeldField};
 ghost use Rattle.dbus_judge.specs.Seen.{AreNoted};
 
@@ -15,11 +15,13 @@ use dbus_decode::FIELD_DEPTH;
 use dbus_value_judge::padding;
 use dbus_value_model::{Limits, Order};
 
-/// A header field, where it is found good: its code, and where its value stands.
+/// A header field: its code, and where its value stands.
 ///
 /// `bytes` begin at the message's first byte, from which offsets count; the field begins at `at` and ends at or before `end`, up
 /// to which the bytes are there. Some says that the bytes from `at` on are a field of that code, behind any fields among which the
-/// code does not stand, or any at all where it is not known. None says nothing. The field array is open around it.
+/// code does not stand, or any at all where it is not known. None says that no field begins at `at`, whichever stand before it:
+/// the bytes there are at fault, or the field does not end at or before `end`, or the limits' depth is below [`FIELD_DEPTH`]. The
+/// field array is open around it. D-Bus Specification, "Header Fields".
 pub fn judge_field(
     bytes: &[u8],
     at: usize,
@@ -27,13 +29,16 @@ pub fn judge_field(
     order: Order,
     limits: Limits,
 ) -> Option<(u8, Held)>
-    requires opened { FIELD_DEPTH ≤ limits.depth }
     requires at_most { at ≤ end }
     requires inside { end ≤ length bytes.now }
     ensures field { IfSome result (λ f. (before : List FieldTree) → is_known f.0 && has_code f.0 before ≡ false → IsHeldField limits order end before at bytes.now f.0 f.1) }
+    ensures none { result ≡ None → (before : List FieldTree) → IsNotRead (field_read limits order end before at (drop at bytes.now)) }
     ensures moves { IfSome result (λ f. (at < f.1.after) × (f.1.after ≤ end)) }
     ensures within { IfSome result (λ f. f.1.start + f.1.length ≤ f.1.after) }
 {
+    if limits.depth < FIELD_DEPTH {
+        return None;
+    }
     let start = padding(bytes, at, end, 8)?;
     if start == end {
         return None;
@@ -46,15 +51,16 @@ pub fn judge_field(
     Some((code, held))
 }
 
-/// The fields whose array has n bytes, where they are found good: where the values of the known ones stand.
+/// The fields whose array has n bytes: where the values of the known ones stand.
 ///
 /// `bytes` begin at the message's first byte, from which offsets count; the fields begin at `at`, and the bytes are there up to
-/// their end. Some says that these n bytes are fields, none of a code 0 and no two of one known code. None says nothing. The field
-/// array is open around them.
+/// their end. Some says that these n bytes are fields, none of a code 0 and no two of one known code. None says that they are
+/// not: they are at fault, or there are some and the limits' depth is below [`FIELD_DEPTH`]. The field array is open around
+/// them. D-Bus Specification, "Header Fields".
 pub fn judge_fields(bytes: &[u8], at: usize, n: usize, order: Order, limits: Limits) -> Option<Seen>
-    requires opened { FIELD_DEPTH ≤ limits.depth }
     requires inside { at + n ≤ length bytes.now }
-    ensures { IfSome result (λ seen. (fs : List FieldTree) × (fields_read limits order n at (drop at bytes.now) ≡ Done fs (at + n) (drop (at + n) bytes.now)) × AreNoted fs bytes.now seen) }
+    ensures fields { IfSome result (λ seen. (fs : List FieldTree) × (fields_read limits order n at (drop at bytes.now) ≡ Done fs (at + n) (drop (at + n) bytes.now)) × AreNoted fs bytes.now seen) }
+    ensures none { result ≡ None → IsNotRead (fields_read limits order n at (drop at bytes.now)) }
 {
     let end = at + n;
     let mut seen = Seen::none();

@@ -1,19 +1,19 @@
 //! Messages judged. D-Bus Specification, "Message Format".
 #![tactic(auto)]
 
-ghost use Rattle.std.specs.Prelude.{◌≡◌, ◌≤◌, List, length, drop, true, IfSome};
+ghost use Rattle.std.specs.Prelude.{◌≡◌, ◌≤◌, List, length, drop, true, false, None, IfSome};
 ghost use Rattle.dbus_texts.specs.ComputedKinds.{types_spelled};
 ghost use Rattle.dbus_texts.specs.Kinds.{IsKind};
 ghost use Rattle.dbus_texts.specs.declared.text_kind.TextKind.TheVariants.{Signature};
 ghost use Rattle.dbus_message_model.specs.Messages.{FieldTree, body_signature, body_fds};
 ghost use Rattle.dbus_decode.specs.HeaderReading.{body_read};
-ghost use Rattle.dbus_value_judge.specs.Endings.{EndsAt};
-ghost use Rattle.dbus_judge.specs.Judging.{IsJudged};
+ghost use Rattle.dbus_value_judge.specs.Endings.{EndsAt, IsNotRead};
+ghost use Rattle.dbus_judge.specs.Judging.{IsJudged, BeginsWithNone};
 ghost use Rattle.dbus_judge.specs.Seen.{AreNoted};
 
 use crate::fields::judge_fields;
 use crate::seen::Seen;
-use dbus_decode::{FIELD_DEPTH, read_fixed_header};
+use dbus_decode::read_fixed_header;
 use dbus_value_judge::{judge_values, padding};
 use dbus_value_model::{Limits, Order};
 
@@ -36,12 +36,13 @@ pub struct Judged {
     pub body: usize,
 }
 
-/// Whether from `at` up to `end` the bytes are found to be a body of the types that the SIGNATURE field says.
+/// Whether from `at` up to `end` the bytes are a body of the types that the SIGNATURE field says.
 fn is_body(bytes: &[u8], at: usize, end: usize, order: Order, seen: &Seen, limits: Limits) -> bool
     requires at_most { at ≤ end }
     requires inside { end ≤ length bytes.now }
     requires noted { (fs : List FieldTree) × AreNoted fs bytes.now seen.now }
-    ensures { result ≡ true → (fs : List FieldTree) → AreNoted fs bytes.now seen.now → IsKind Signature (body_signature fs) → EndsAt bytes.now end (body_read limits (body_fds limits fs) order (types_spelled (body_signature fs)) end at (drop at bytes.now)) }
+    ensures accepts { result ≡ true → (fs : List FieldTree) → AreNoted fs bytes.now seen.now → IsKind Signature (body_signature fs) → EndsAt bytes.now end (body_read limits (body_fds limits fs) order (types_spelled (body_signature fs)) end at (drop at bytes.now)) }
+    ensures refuses { result ≡ false → (fs : List FieldTree) → AreNoted fs bytes.now seen.now → IsKind Signature (body_signature fs) → IsNotRead (body_read limits (body_fds limits fs) order (types_spelled (body_signature fs)) end at (drop at bytes.now)) }
 {
     let types = seen.signature(bytes);
     let fds = limits.fds.index_limit(seen.fd_count());
@@ -52,19 +53,17 @@ fn is_body(bytes: &[u8], at: usize, end: usize, order: Order, seen: &Seen, limit
     }
 }
 
-/// The message that the bytes begin with, where it is found good under the limits, and where its parts stand.
+/// The message within the limits that the bytes begin with, and where its parts stand.
 ///
-/// Some says that the bytes begin with a whole message, of the length that is answered: its order, type, flags and serial, where
-/// the value of each of its known fields stands, and where its body begins. Offsets count from the first of the bytes. None says
-/// nothing: it comes of bytes that are at fault or too few, and may come of others, as under limits whose depth is below 3. No
-/// memory is taken.
+/// Some says that the bytes begin with a whole message within the limits, of the length that is answered: its order, type, flags
+/// and serial, where the value of each of its known fields stands, and where its body begins. Offsets count from the first of the
+/// bytes. None says that they begin with no message within the limits: they are at fault or too few. Which of the two, and the
+/// place and the reason of a fault, a reader or a checker says. No memory is taken.
 /// D-Bus Specification, "Message Format".
 pub fn judge(bytes: &[u8], limits: Limits) -> Option<Judged>
-    ensures { IfSome result (λ j. IsJudged limits bytes.now j) }
+    ensures judged { IfSome result (λ j. IsJudged limits bytes.now j) }
+    ensures none { result ≡ None → BeginsWithNone limits bytes.now }
 {
-    if limits.depth < FIELD_DEPTH {
-        return None;
-    }
     let header = match read_fixed_header(bytes, limits) {
         Ok(header) => header,
         Err(_) => return None,

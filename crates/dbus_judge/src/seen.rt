@@ -48,9 +48,9 @@ impl Seen {
     pub fn get(&self, code: u8) -> Option<Place>
         ensures { result ≡ slice_index_or self.now.places code None }
     {
-        let at = usize::from(code);
-        if at < self.places.len() {
-            self.places[at]
+        let index = usize::from(code);
+        if index < self.places.len() {
+            self.places[index]
         } else {
             None
         }
@@ -79,7 +79,8 @@ impl Seen {
 
     /// Whether every field was seen that a message of the type has.
     pub(crate) fn has_required(&self, kind: u8) -> bool
-        ensures { (bytes : List ℕ) (fs : List FieldTree) → AreNoted fs bytes self.now → result ≡ true → lacks (required kind) fs ≡ None }
+        ensures accepts { (bytes : List ℕ) (fs : List FieldTree) → AreNoted fs bytes self.now → result ≡ true → lacks (required kind) fs ≡ None }
+        ensures refuses { (bytes : List ℕ) (fs : List FieldTree) → AreNoted fs bytes self.now → result ≡ false → lacks (required kind) fs ≡ None → ⊥ }
     {
         for code in required(kind) {
             if !self.has(*code) {

@@ -12,24 +12,30 @@ use crate::text_kind::TextKind;
 use crate::type_codes::is_type_code;
 use crate::whole_names::is_name;
 use std::alloc::{AllocError, AllocFailed};
+use thiserror::Error;
 
 /// Why a text is not the name that is wanted.
-#[derive(Clone, Copy, PartialEq, Eq, Debug)]
+#[derive(Clone, Copy, PartialEq, Eq, Debug, Error)]
 pub enum NameFault {
     /// It has more than 255 bytes. This comes before `Bad`.
+    #[error("the name has more than 255 bytes")]
     TooLong,
     /// It breaks at `at`, which is the length of its longest front with which some such name begins.
+    #[error("no such name: it breaks at offset {at}")]
     Bad { at: usize },
 }
 
 /// Why a text, or the text of some types, is no signature.
-#[derive(Clone, Copy, PartialEq, Eq, Debug)]
+#[derive(Clone, Copy, PartialEq, Eq, Debug, Error)]
 pub enum SigFault {
     /// A growth of memory was refused.
+    #[error("allocation failed")]
     Memory,
     /// It has more than 255 bytes. This comes before `Bad`.
+    #[error("the signature has more than 255 bytes")]
     TooLong,
     /// It breaks at `at`, which is the length of its longest front with which some signature begins.
+    #[error("no signature: it breaks at offset {at}")]
     Bad { at: usize },
 }
 

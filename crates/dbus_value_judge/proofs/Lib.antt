@@ -1,10 +1,10 @@
-mod TypeEnds
-mod TypeCodes
+pub mod TypeEnds
+pub mod TypeCodes
 pub mod ReadParts
 pub mod ReadContainers
 mod ItemSteps
 pub mod ItemRefusals
-mod NumberArrays
+pub mod NumberArrays
 mod ValueSteps
 pub mod ValueRefusals
 pub mod Spelled

@@ -30,7 +30,7 @@ some_bytes DOUBLE = omega arith
 some_bytes UNIX_FD = omega arith
 
 -- a number ends at a boundary of its own
-stays_aligned : (k : NumberCode) (o : ℕ) → gap_to (width k) o ≡ 0 → gap_to (width k) (o + width k) ≡ 0
+pub stays_aligned : (k : NumberCode) (o : ℕ) → gap_to (width k) o ≡ 0 → gap_to (width k) (o + width k) ≡ 0
 unfolding gap_to
 stays_aligned BYTE o h = omega arith
 stays_aligned BOOLEAN o h = omega arith
@@ -44,7 +44,7 @@ stays_aligned DOUBLE o h = omega arith
 stays_aligned UNIX_FD o h = omega arith
 
 -- padding ends at one
-comes_aligned : (k : NumberCode) (o : ℕ) → gap_to (width k) (o + gap_to (width k) o) ≡ 0
+pub comes_aligned : (k : NumberCode) (o : ℕ) → gap_to (width k) (o + gap_to (width k) o) ≡ 0
 unfolding gap_to
 comes_aligned BYTE o = omega arith
 comes_aligned BOOLEAN o = omega arith

@@ -23,7 +23,7 @@ fn open_after(deep: usize, code: u8) -> usize
 
 /// Where the complete type that begins at `pos` ends, or the end of the text where none does.
 #[inline]
-pub(crate) fn type_end(types: &[u8], pos: usize) -> usize
+pub fn type_end(types: &[u8], pos: usize) -> usize
     requires { pos < length types.now }
     ensures value { result ≡ pos + type_length 0 (drop pos types.now) }
     ensures some { pos < result }
@@ -46,7 +46,7 @@ pub(crate) fn type_end(types: &[u8], pos: usize) -> usize
 
 /// The boundary of a type that begins with this byte.
 #[inline]
-pub(crate) fn boundary(code: u8) -> u8
+pub fn boundary(code: u8) -> u8
     ensures value { result ≡ code_boundary code }
     ensures some { 0 < result }
 {
@@ -60,7 +60,7 @@ pub(crate) fn boundary(code: u8) -> u8
 
 /// How many bytes a number has of a type that begins with this byte, if every number of the type may stand; else 0.
 #[inline]
-pub(crate) fn free_width(code: u8) -> u8
+pub fn free_width(code: u8) -> u8
     ensures value { result ≡ free_width code }
     ensures few { result ≤ 8 }
 {
@@ -75,7 +75,7 @@ pub(crate) fn free_width(code: u8) -> u8
 
 /// How many zeros reach the boundary. Those that there are stand as constants, so that nothing is divided.
 #[inline]
-pub(crate) fn gap(boundary: u8, at: usize) -> usize
+pub fn gap(boundary: u8, at: usize) -> usize
     requires { 0 < boundary }
     ensures { result ≡ gap_to boundary at }
 {

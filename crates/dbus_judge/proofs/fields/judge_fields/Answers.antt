@@ -1,6 +1,7 @@
-use Rattle.std.proofs.Common.{◌≡◌, ◌&&◌, false, ◌+◌, ◌-◌, ◌≤◌, length, suc, sym, ◌∙◌, arith}
+use Rattle.std.proofs.Common.{◌≡◌, ℕ, [], ◌&&◌, true, false, ◌+◌, ◌-◌, ◌≤◌, length, reverse, suc, refl, sym, ◌∙◌, arith}
 use Rattle.dbus_message_model.specs.Messages.{is_known, has_code}
 use Rattle.dbus_judge.proofs.FieldTurns.{none_left, one_left, left_ends}
+use Rattle.dbus_judge.proofs.FieldRefusals.{one_unread, one_again, none_unread}
 use Rattle.dbus_judge.proofs.fields.judge_fields.Goals as goal
 
 pub loop-turn-init : goal.loop-turn-init
@@ -21,10 +22,28 @@ loop-turn-preserved c =
           more (omega (arith, c.if-place-end.false)) alone c.in_ok-code.ensures.field (λ v is. c.note.ensures c.args.bytes.now left.front v left.noted alone is fits);
     }
 
-pub returns-then-place-end : goal.returns-then-place-end
-returns-then-place-end c =
+pub returns-then-place-end-clause-fields : goal.returns-then-place-end-clause-fields
+returns-then-place-end-clause-fields c =
     left_ends c.args.limits c.args.order c.args.bytes.now c.args.at c.args.n (c.args.n - c.loop-turn._turn) c.loop-turn.place c.loop-turn.seen c.loop-turn.invariant.left c.if-place-end.true
 
-pub returns-then-place-end-2 : goal.returns-then-place-end-2
-returns-then-place-end-2 c =
+pub returns-then-place-end-2-clause-fields : goal.returns-then-place-end-2-clause-fields
+returns-then-place-end-2-clause-fields c =
     left_ends c.args.limits c.args.order c.args.bytes.now c.args.at c.args.n (c.args.n - c.loop-turn._turn) c.loop-turn.place c.loop-turn.seen c.loop-turn.invariant.left c.if-place-end-2.true
+
+pub returns-in_err-code-clause-none : goal.returns-in_err-code-clause-none
+returns-in_err-code-clause-none c = λ none.
+    one_unread c.args.limits c.args.order c.args.bytes.now c.args.at c.args.n (c.args.n - c.loop-turn._turn) c.loop-turn.place c.loop-turn.seen c.loop-turn.invariant.left
+    (c.args.n - (c.loop-turn._turn + 1)) (omega arith) (omega (arith, c.if-place-end.false)) (c.judge_field.ensures.none c.in_err-code.was (reverse c.loop-turn.invariant.left.front))
+
+pub returns-then-has-clause-none : goal.returns-then-has-clause-none
+returns-then-has-clause-none c = λ none.
+    let left = c.loop-turn.invariant.left in
+    let again : is_known c.in_ok-code.code && has_code c.in_ok-code.code left.front ≡ true = sym (c.has.ensures c.args.bytes.now left.front left.noted) ∙ c.if-has.true in
+    one_again c.args.limits c.args.order c.args.bytes.now c.args.at c.args.n (c.args.n - c.loop-turn._turn) c.loop-turn.place c.loop-turn.seen c.loop-turn.invariant.left
+    (c.args.n - (c.loop-turn._turn + 1)) c.in_ok-code.code c.in_ok-code.held (omega arith) (omega (arith, c.if-place-end.false)) again (c.in_ok-code.ensures.field [] (none_before c.in_ok-code.code))
+  where
+    none_before : (code : ℕ) → is_known code && has_code code [] ≡ false
+    none_before code = elim (is_known code) as (λ b. b && false ≡ false) [ true ↦ refl | false ↦ refl ]
+
+pub returns-else-place-end-2-clause-none : goal.returns-else-place-end-2-clause-none
+returns-else-place-end-2-clause-none c = λ none. none_unread c.args.limits c.args.order c.args.bytes.now c.args.at c.args.n (c.args.n - c.loop-turn._turn) c.loop-turn.place c.loop-turn.seen c.loop-turn.invariant.left (omega arith) c.if-place-end-2.false
