@@ -8,7 +8,7 @@ _dbus_wire() {
     # A redirection names a file, which bash completes.
     [[ $option == [\<\>]* ]] && return
     if ((COMP_CWORD == 1)); then
-        COMPREPLY=($(compgen -W "$commands -h --help" -- "$word"))
+        COMPREPLY=($(compgen -W "$commands -h --help -V --version" -- "$word"))
         return
     fi
     # Bash gives `--to=l` as the words `--to`, `=` and `l`.

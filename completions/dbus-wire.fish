@@ -9,6 +9,7 @@ complete -c dbus-wire -n "not __fish_seen_subcommand_from $commands" -a swap -d 
 complete -c dbus-wire -n "not __fish_seen_subcommand_from $commands" -a filter -d 'Write the messages that match a rule'
 complete -c dbus-wire -n "not __fish_seen_subcommand_from $commands" -a help -d 'Write the help'
 complete -c dbus-wire -s h -l help -f -d 'Write the help'
+complete -c dbus-wire -n "not __fish_seen_subcommand_from $commands" -s V -l version -f -d 'Write the version'
 complete -c dbus-wire -n '__fish_seen_subcommand_from help' -f -a 'show check swap filter help'
 complete -c dbus-wire -n '__fish_seen_subcommand_from swap' -l to -x -a 'l B' -d 'The byte order to write'
 complete -c dbus-wire -n '__fish_seen_subcommand_from filter' -f -a 'type= sender= interface= member= path= path_namespace= destination='

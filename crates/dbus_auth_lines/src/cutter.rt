@@ -8,17 +8,21 @@ ghost use Rattle.dbus_auth_lines.specs.FirstLine.{Beginning, BeginsAs};
 
 use crate::scanning::{BadLine, Found, find, line_of};
 use std::alloc::{AllocError, Allocator, Global};
+use thiserror::Error;
 
 /// Why no line is given.
-#[derive(Clone, Copy, PartialEq, Eq, Debug, Drop)]
+#[derive(Clone, Copy, PartialEq, Eq, Debug, Drop, Error)]
 pub enum LineFault {
     /// Memory ran out. Nothing is changed.
+    #[error("allocation failed")]
     Memory,
     /// The line has more than 16,384 bytes with its CR LF: its byte at place 16,382 is neither CR
     /// nor the LF of a CR LF.
+    #[error("the line has more than 16,384 bytes")]
     TooLong,
     /// A byte that a line may not have: 0, a byte over 127, LF without CR, or a byte behind CR that
     /// is not LF.
+    #[error("a byte that a line may not have, at offset {at}")]
     BadByte {
         /// Its place in the line, from 0.
         at: usize,

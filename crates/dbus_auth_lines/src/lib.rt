@@ -12,6 +12,7 @@
 #![tactic(auto)]
 
 mod cutter;
+mod guid_text;
 pub mod laws;
 mod lines;
 mod reading;

@@ -9,15 +9,18 @@ ghost use Rattle.dbus_auth_lines.specs.LineViews.{client_command, server_command
 
 use crate::lines::{ClientLine, ServerLine};
 use std::alloc::{AllocError, Allocator};
+use thiserror::Error;
 
 /// Why a line is not written.
-#[derive(Clone, Copy, PartialEq, Eq, Debug, Drop)]
+#[derive(Clone, Copy, PartialEq, Eq, Debug, Drop, Error)]
 pub enum TextFault {
     /// Memory ran out.
+    #[error("allocation failed")]
     Memory,
     /// No line spells this: it is `Other`; a mechanism is empty or has a byte outside 33 to 126; the
     /// text of `ERROR` has a byte outside 1 to 127 or has CR or LF; or the line would have more than
     /// 16,384 bytes with its CR LF.
+    #[error("no line spells this")]
     Unspellable,
 }
 

@@ -6,7 +6,7 @@ use Rattle.clap.specs.Kinds.{IsAmong, HasKind}
 use Rattle.clap.specs.Faults.{fault_of, is_simple_and_free}
 use Rattle.clap.specs.Values.{kind_of}
 use Rattle.clap.specs.declared.error.Error.{Error}
-use Rattle.clap.specs.declared.error.kind.ErrorKind.TheVariants.{DisplayHelp, OutOfMemory}
+use Rattle.clap.specs.declared.error.kind.ErrorKind.TheVariants.{DisplayHelp, DisplayVersion, OutOfMemory}
 use Rattle.clap.proofs.OnLiterals.{clap_on_literals}
 use Rattle.dbus_command.specs.CommandLine.{wire_app}
 use Rattle.dbus_value_model.specs.declared.limits.Limits.{Limits}
@@ -16,7 +16,7 @@ use Rattle.dbus_command.specs.Named.{HasRuleFault, IsNamedBy, Names}
 use Rattle.dbus_command.proofs.Nothing.{no_command_names_nothing, unlimited_names_nothing}
 use Rattle.dbus_command.specs.declared.command.Command.{Command}
 use Rattle.dbus_command.specs.declared.usage_fault.UsageFault.{UsageFault}
-use Rattle.dbus_command.specs.declared.usage_fault.UsageFault.TheVariants.{Memory, Help, Usage, Rule}
+use Rattle.dbus_command.specs.declared.usage_fault.UsageFault.TheVariants.{Memory, Help, Version, Usage, Rule}
 
 pub wire_is_simple : is_simple wire_app ≡ true
 unfolding clap_on_literals
@@ -35,6 +35,7 @@ same_subcommand app words matches is has = ap (λ (a : App). subcommand_of a wor
 pub nothing_told : (sub : Option (Text × List Row)) (told : UsageFault) → IsUsageOrMemory told → NamesNothing sub → Tells sub (Err told)
 nothing_told sub Memory is none = tt
 nothing_told sub (Help text) is none = absurd is
+nothing_told sub (Version text) is none = absurd is
 nothing_told sub (Usage text) is none = none
 nothing_told sub (Rule fault) is none = absurd is
 
@@ -42,6 +43,7 @@ nothing_told sub (Rule fault) is none = absurd is
 pub no_command_told : (name : Text) (rows : List Row) (told : UsageFault) → IsUsageOrMemory told → IsNoCommand name rows → TellsCommand name rows (Err told)
 no_command_told name rows Memory is none = tt
 no_command_told name rows (Help text) is none = absurd is
+no_command_told name rows (Version text) is none = absurd is
 no_command_told name rows (Usage text) is none = none
 no_command_told name rows (Rule fault) is none = absurd is
 
@@ -49,6 +51,7 @@ no_command_told name rows (Rule fault) is none = absurd is
 pub no_limits_told : (rows : List Row) (told : UsageFault) → IsUsageOrMemory told → ((limits : Limits) → HasLimits rows limits → ⊥) → TellsLimits rows (Err told)
 no_limits_told rows Memory is none = tt
 no_limits_told rows (Help text) is none = absurd is
+no_limits_told rows (Version text) is none = absurd is
 no_limits_told rows (Usage text) is none = none
 no_limits_told rows (Rule fault) is none = absurd is
 
@@ -56,6 +59,7 @@ no_limits_told rows (Rule fault) is none = absurd is
 pub told_without_limits : (sub : Text × List Row) (told : UsageFault) → TellsLimits sub.1 (Err told) → Tells (Some sub) (Err told)
 told_without_limits sub Memory h = tt
 told_without_limits sub (Help text) h = h
+told_without_limits sub (Version text) h = h
 told_without_limits sub (Usage text) h = unlimited_names_nothing sub h
 told_without_limits sub (Rule fault) h = absurd h
 
@@ -64,6 +68,7 @@ pub told_under_limits : (sub : Text × List Row) (limits : Limits) (told : Usage
     → Tells (Some sub) (Err told)
 told_under_limits sub limits Memory given h = tt
 told_under_limits sub limits (Help text) given h = h
+told_under_limits sub limits (Version text) given h = h
 told_under_limits sub limits (Usage text) given h = no_command_names_nothing sub h
 told_under_limits sub limits (Rule fault) given h = (h, (limits, given))
 
@@ -77,6 +82,7 @@ pub told_of_matches : (words : List Text) (sub : Option (Text × List Row)) (ans
 told_of_matches words sub (Ok named) none same h = none
 told_of_matches words sub (Err Memory) none same h = tt
 told_of_matches words sub (Err (Help text)) none same h = absurd h
+told_of_matches words sub (Err (Version text)) none same h = absurd h
 told_of_matches words sub (Err (Usage text)) none same h = inr (none, subst NamesNothing (sym same) h)
 told_of_matches words sub (Err (Rule fault)) none same h = (none, subst (λ s. HasRuleFault s fault) (sym same) h)
 
@@ -86,8 +92,12 @@ told_of_error words e (Help text) k t = elim k [
   | inl memory ↦ let bad : DisplayHelp ≡ OutOfMemory = sym t ∙ memory in cc
   | inr found ↦ subst (λ kind. IsAmong kind (fault_of wire_app words)) t found
 ]
+told_of_error words e (Version text) k t = elim k [
+  | inl memory ↦ let bad : DisplayVersion ≡ OutOfMemory = sym t ∙ memory in cc
+  | inr found ↦ subst (λ kind. IsAmong kind (fault_of wire_app words)) t found
+]
 told_of_error words e (Usage text) k t = elim k [
-  | inl memory ↦ absurd (t.1 memory)
-  | inr found ↦ inl (record { kind = kind_of e; found = found; no_help = t.0 })
+  | inl memory ↦ absurd (t.2 memory)
+  | inr found ↦ inl (record { kind = kind_of e; found = found; no_help = t.0; no_version = t.1 })
 ]
 told_of_error words e (Rule fault) k t = absurd t

@@ -42,9 +42,9 @@ swap_app = with_limits (with_rule (new_app (codes "swap")) to_rule)
 abbrev pub filter_app : App
 filter_app = with_limits (with_rule (new_app (codes "filter")) text_rule)
 
--- one of the subcommands must be named
+-- the program has a version, and one of the subcommands must be named
 abbrev pub bare_app : App
-bare_app = on_top (λ s. record s { subcommand_required = true }) (new_app (codes "dbus-wire"))
+bare_app = on_top (λ s. record s { subcommand_required = true; has_version = true }) (new_app (codes "dbus-wire"))
 
 -- the program, with its four subcommands
 abbrev pub wire_app : App

@@ -7,7 +7,7 @@ use Rattle.dbus_value_model.specs.declared.fd_rule.FdRule.{FdRule}
 use Rattle.dbus_value_model.specs.declared.fd_rule.FdRule.TheVariants.{Any, BelowCount}
 use Rattle.dbus_value_model.specs.declared.limits.Limits.{Limits}
 use Rattle.dbus_command.specs.declared.usage_fault.UsageFault.{UsageFault}
-use Rattle.dbus_command.specs.declared.usage_fault.UsageFault.TheVariants.{Memory, Help, Usage, Rule}
+use Rattle.dbus_command.specs.declared.usage_fault.UsageFault.TheVariants.{Memory, Help, Version, Usage, Rule}
 
 -- the number that the digits of an option's text write; of an option that is not there, the default
 abbrev pub IsNumberOf : Option Text → ℕ → ℕ → Type 0
@@ -55,5 +55,6 @@ abbrev pub TellsLimits : List Row → Result Limits UsageFault → Type 0
 TellsLimits rows (Ok limits) = HasLimits rows limits
 TellsLimits rows (Err Memory) = Unit {0}
 TellsLimits rows (Err (Help text)) = ⊥
+TellsLimits rows (Err (Version text)) = ⊥
 TellsLimits rows (Err (Usage text)) = (limits : Limits) → HasLimits rows limits → ⊥
 TellsLimits rows (Err (Rule fault)) = ⊥

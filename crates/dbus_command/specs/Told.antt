@@ -4,25 +4,27 @@ use Rattle.clap.specs.Words.{Row, Text, subcommand_of}
 use Rattle.clap.specs.Kinds.{IsAmong}
 use Rattle.clap.specs.Faults.{fault_of}
 use Rattle.clap.specs.declared.error.kind.ErrorKind.{ErrorKind}
-use Rattle.clap.specs.declared.error.kind.ErrorKind.TheVariants.{DisplayHelp, OutOfMemory}
+use Rattle.clap.specs.declared.error.kind.ErrorKind.TheVariants.{DisplayHelp, DisplayVersion, OutOfMemory}
 use Rattle.dbus_value_model.specs.declared.limits.Limits.{Limits}
 use Rattle.dbus_match.specs.declared.fault.RuleFault.{RuleFault}
 use Rattle.dbus_command.specs.CommandLine.{wire_app}
 use Rattle.dbus_command.specs.Named.{Names, NamesCommand, HasFault, HasRuleFault}
 use Rattle.dbus_command.specs.declared.command.Command.{Command}
 use Rattle.dbus_command.specs.declared.usage_fault.UsageFault.{UsageFault}
-use Rattle.dbus_command.specs.declared.usage_fault.UsageFault.TheVariants.{Memory, Help, Usage, Rule}
+use Rattle.dbus_command.specs.declared.usage_fault.UsageFault.TheVariants.{Memory, Help, Version, Usage, Rule}
 
--- help is told where it was asked for, and a fault of usage where clap found one
+-- help and the version are told where they were asked for, and a fault of usage where clap found one
 abbrev pub TellsKind : ErrorKind → UsageFault → Type 0
 TellsKind kind Memory = Unit {0}
 TellsKind kind (Help text) = kind ≡ DisplayHelp
-TellsKind kind (Usage text) = (kind ≢ DisplayHelp) × (kind ≢ OutOfMemory)
+TellsKind kind (Version text) = kind ≡ DisplayVersion
+TellsKind kind (Usage text) = (kind ≢ DisplayHelp) × (kind ≢ DisplayVersion) × (kind ≢ OutOfMemory)
 TellsKind kind (Rule fault) = ⊥
 
 abbrev pub IsUsageOrMemory : UsageFault → Type 0
 IsUsageOrMemory Memory = Unit {0}
 IsUsageOrMemory (Help text) = ⊥
+IsUsageOrMemory (Version text) = ⊥
 IsUsageOrMemory (Usage text) = Unit {0}
 IsUsageOrMemory (Rule fault) = ⊥
 
@@ -36,6 +38,7 @@ abbrev pub TellsCommand : Text → List Row → Result Command UsageFault → Ty
 TellsCommand name rows (Ok command) = NamesCommand name rows command
 TellsCommand name rows (Err Memory) = Unit {0}
 TellsCommand name rows (Err (Help text)) = ⊥
+TellsCommand name rows (Err (Version text)) = ⊥
 TellsCommand name rows (Err (Usage text)) = IsNoCommand name rows
 TellsCommand name rows (Err (Rule fault)) = HasFault name rows fault
 
@@ -50,20 +53,23 @@ abbrev pub Tells : Option (Text × List Row) → Result (Command × Limits) Usag
 Tells sub (Ok named) = Names sub named.0 named.1
 Tells sub (Err Memory) = Unit {0}
 Tells sub (Err (Help text)) = ⊥
+Tells sub (Err (Version text)) = ⊥
 Tells sub (Err (Usage text)) = NamesNothing sub
 Tells sub (Err (Rule fault)) = HasRuleFault sub fault
 
--- a kind of fault, other than a wish for help, that clap finds in the words
+-- a kind of fault, other than a wish for help or for the version, that clap finds in the words
 pub record HasUsageFault (words : List Text) : Type 0 where
   pub kind : ErrorKind
   pub found : IsAmong kind (fault_of wire_app words)
   pub no_help : kind ≢ DisplayHelp
+  pub no_version : kind ≢ DisplayVersion
 
--- a command, and a rule's fault, come only from words in which clap finds no fault, help only from words that ask for it,
+-- a command, and a rule's fault, come only from words in which clap finds no fault, help or the version only from words that ask for it,
 -- and a fault of usage only from words that have one, or that have neither a command nor a rule's fault
 abbrev pub TellsFault : List Text → Result (Command × Limits) UsageFault → Type 0
 TellsFault words (Ok named) = fault_of wire_app words ≡ []
 TellsFault words (Err Memory) = Unit {0}
 TellsFault words (Err (Help text)) = IsAmong DisplayHelp (fault_of wire_app words)
+TellsFault words (Err (Version text)) = IsAmong DisplayVersion (fault_of wire_app words)
 TellsFault words (Err (Usage text)) = HasUsageFault words ⊎ ((fault_of wire_app words ≡ []) × NamesNothing (subcommand_of wire_app words))
 TellsFault words (Err (Rule fault)) = (fault_of wire_app words ≡ []) × HasRuleFault (subcommand_of wire_app words) fault

@@ -19,12 +19,12 @@ use std::alloc::Global;
 /// indexes of descriptors, name the limits; one that they do not name is that of the specification.
 ///
 /// `Usage`: the words name no command of the program, or have what it does not take, a limit over that of the
-/// specification among it. `Rule`: they name `filter`, with a text that spells no rule. `Help`: they ask for help.
-/// `Memory`: a growth was refused.
+/// specification among it. `Rule`: they name `filter`, with a text that spells no rule. `Help`, `Version`: they ask for help,
+/// or for the version. `Memory`: a growth was refused.
 pub fn command_of(alloc: Global, words: &[String]) -> Result<(Command, Limits), UsageFault>
     // A command that is answered is the one that the words name, and so are its limits.
     ensures named { IfOk result (IsNamedBy (map string_bytes words.now)) }
-    // Help is told where the words ask for it, a fault of usage where they have one, and a rule's fault where its text has it.
+    // Help or the version is told where the words ask for it, a fault of usage where they have one, and a rule's fault where its text has it.
     ensures faults { TellsFault (map string_bytes words.now) result }
 {
     let Ok(command) = wire(alloc) else {
@@ -117,8 +117,9 @@ fn fault_told(alloc: Global, error: &clap::Error) -> UsageFault
     let Ok(text) = error.to_string(alloc) else {
         return UsageFault::Memory;
     };
-    if error.kind() == ErrorKind::DisplayHelp {
-        return UsageFault::Help(text);
+    match error.kind() {
+        ErrorKind::DisplayHelp => UsageFault::Help(text),
+        ErrorKind::DisplayVersion => UsageFault::Version(text),
+        _ => UsageFault::Usage(text),
     }
-    UsageFault::Usage(text)
 }

@@ -25,6 +25,9 @@ Example:",
     };
 }
 
+/// The version of the program.
+pub(crate) const VERSION: &str = "0.1.0";
+
 /// What the program does.
 pub(crate) const PROGRAM: &str =
     "Reads D-Bus messages from standard input, and shows, checks, swaps or filters them";
@@ -89,7 +92,11 @@ pub(crate) const FILTER_MORE: &str = more!(
     "
   The raw messages that match, on standard output, each as it came.
   Of an input that is refused, `refused at P: NAME` on standard error. Of a rule
-  that is refused, `rule refused at P: NAME` there, with the place in the rule.",
+  that is refused, `rule refused at P: NAME` there, with the place in the rule.
+
+  Who owns a well-known name is not known, so sender='org.a.B' matches only a
+  message that has that name itself. Of others take the unique name, as ':1.7':
+  `busctl --user list` prints it, and so does GetNameOwner of the bus.",
     "
   dbus-wire filter \"type='signal',member='NameLost'\" < capture | dbus-wire show"
 );

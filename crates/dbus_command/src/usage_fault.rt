@@ -11,6 +11,8 @@ pub enum UsageFault {
     Memory,
     /// Help was asked for: its text, which ends in LF.
     Help(String),
+    /// The version was asked for: the program's name and its version, which ends in LF.
+    Version(String),
     /// The words are wrong: the text that says how, which ends in LF.
     Usage(String),
     /// The words name `filter` with a text that spells no rule: its one fault, which is never `Memory`.

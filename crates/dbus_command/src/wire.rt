@@ -97,11 +97,12 @@ fn filter_command<'a>(alloc: Global) -> Result<Command<'a>, AllocError>
     with_limits(alloc, filter)
 }
 
-// The program before it has subcommands. Its texts call it `dbus-wire`, whatever the first word is.
+// The program before it has subcommands, with its version. Its texts call it `dbus-wire`, whatever the first word is.
 fn bare_command<'a>(alloc: Global) -> Result<Command<'a>, AllocError>
     ensures { IfOk result (λ c. app_of c ≡ bare_app) }
 {
     Command::new(alloc, "dbus-wire")
+        .version(help::VERSION)
         .about(help::PROGRAM)
         .after_help(help::PROGRAM_MORE)
         .subcommand_required(true)

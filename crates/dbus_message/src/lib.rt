@@ -11,4 +11,6 @@ pub use dbus_decode::{
     Answer, FIXED_HEADER_LENGTH, decode, decode_within, stated_length, stated_length_within,
 };
 pub use dbus_encode::{encode, encode_into};
-pub use dbus_message_model::{BuildFault, HeaderField, Message, Parts, arg, field};
+pub use dbus_message_model::{
+    BuildFault, HeaderField, Message, Parts, arg, field, field_code, flag, message_type,
+};

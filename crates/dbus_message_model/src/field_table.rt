@@ -1,38 +1,14 @@
-//! The known fields of a message's header: the code of each, and what its value has to be.
+//! The known fields of a message's header: what the value of each has to be.
 #![tactic(auto)]
 
 ghost use Rattle.std.specs.Prelude.{◌≡◌};
 ghost use Rattle.dbus_message_model.specs.Messages.{want, is_known};
 ghost use Rattle.dbus_message_model.specs.WantViews.{want_of};
 
+use crate::field_code::{
+    DESTINATION, ERROR_NAME, INTERFACE, MEMBER, PATH, REPLY_SERIAL, SENDER, SIGNATURE, UNIX_FDS,
+};
 use dbus_types::TextKind;
-
-/// The object that a call is for, or that a signal comes from.
-pub(crate) const PATH: u8 = 1;
-
-/// The interface of a call's method, or of a signal.
-pub(crate) const INTERFACE: u8 = 2;
-
-/// The name of a method or of a signal.
-pub(crate) const MEMBER: u8 = 3;
-
-/// The name of an error.
-pub(crate) const ERROR_NAME: u8 = 4;
-
-/// The serial of the message that is replied to.
-pub(crate) const REPLY_SERIAL: u8 = 5;
-
-/// The bus name that a message is for.
-pub(crate) const DESTINATION: u8 = 6;
-
-/// The bus name that a message comes from.
-pub(crate) const SENDER: u8 = 7;
-
-/// The types of the body's values.
-pub(crate) const SIGNATURE: u8 = 8;
-
-/// How many file descriptors come with a message.
-pub(crate) const UNIX_FDS: u8 = 9;
 
 /// What the value of a field has to be.
 #[derive(Clone, Copy)]

@@ -7,10 +7,10 @@ ghost use Rattle.dbus_message_model.specs.MissingFields.{IsMissing};
 ghost use Rattle.dbus_message_model.specs.Messages.{has_code, is_known, lacks, required, text_in, body_signature, number_in, fd_count};
 ghost use Rattle.dbus_message_model.specs.PartsViews.{field_trees};
 
-use crate::field_table::{
-    ERROR_NAME, INTERFACE, MEMBER, PATH, REPLY_SERIAL, SIGNATURE, UNIX_FDS, is_known,
-};
+use crate::field_code::{ERROR_NAME, INTERFACE, MEMBER, PATH, REPLY_SERIAL, SIGNATURE, UNIX_FDS};
+use crate::field_table::is_known;
 use crate::header_field::HeaderField;
+use crate::message_type::{ERROR, METHOD_CALL, METHOD_RETURN, SIGNAL};
 use dbus_value_model::Value;
 use std::alloc::Allocator;
 
@@ -39,10 +39,10 @@ pub fn required(kind: u8) -> &'static [u8]
     ensures { result.now ≡ required kind }
 {
     match kind {
-        1 => &[PATH, MEMBER],
-        2 => &[REPLY_SERIAL],
-        3 => &[ERROR_NAME, REPLY_SERIAL],
-        4 => &[PATH, INTERFACE, MEMBER],
+        METHOD_CALL => &[PATH, MEMBER],
+        METHOD_RETURN => &[REPLY_SERIAL],
+        ERROR => &[ERROR_NAME, REPLY_SERIAL],
+        SIGNAL => &[PATH, INTERFACE, MEMBER],
         _ => &[],
     }
 }

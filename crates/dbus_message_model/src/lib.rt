@@ -7,12 +7,15 @@ mod building;
 mod depth;
 mod faulty_body;
 mod faulty_fields;
+pub mod field_code;
 pub mod field_table;
+pub mod flag;
 mod header_field;
 pub mod known_fields;
 mod lookups;
 mod message;
 mod message_size;
+pub mod message_type;
 mod parts;
 mod within;
 

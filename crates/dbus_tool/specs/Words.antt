@@ -12,7 +12,7 @@ use Rattle.dbus_tool.specs.RuleLines.{rule_line}
 use Rattle.dbus_tool.specs.Running.{Runs, Told}
 use Rattle.dbus_command.specs.declared.command.Command.{Command}
 use Rattle.dbus_command.specs.declared.usage_fault.UsageFault.{UsageFault}
-use Rattle.dbus_command.specs.declared.usage_fault.UsageFault.TheVariants.{Memory, Help, Usage, Rule}
+use Rattle.dbus_command.specs.declared.usage_fault.UsageFault.TheVariants.{Memory, Help, Version, Usage, Rule}
 use Rattle.dbus_tool.specs.declared.ending.ExitStatus.{ExitStatus}
 use Rattle.dbus_tool.specs.declared.ending.ExitStatus.TheVariants as status
 use Rattle.dbus_tool.specs.declared.ending.Cause.TheVariants as cause
@@ -34,8 +34,8 @@ module _ {E : Type 0} (held : E → Option (List ℕ)) (failures : E → ℕ) wh
 
 module _ {W E : Type 0} (held : W → Option (List ℕ)) (failures : W → ℕ) (second_held : E → Option (List ℕ)) (second_failures : E → ℕ) where
   -- the text was written, or a write failed, which the second writer was told
-  abbrev pub ShowsHelp : List ℕ → W → W → E → E → ExitStatus → Type 0
-  ShowsHelp text w0 w1 e0 e1 end = ((end ≡ status.Done) × Appends (held w0) (held w1) text × (e1 ≡ e0))
+  abbrev pub ShowsText : List ℕ → W → W → E → E → ExitStatus → Type 0
+  ShowsText text w0 w1 e0 e1 end = ((end ≡ status.Done) × Appends (held w0) (held w1) text × (e1 ≡ e0))
       ⊎ ((end ≡ status.Failed) × WritesFront held failures text cause.WriteFailed w0 w1 × Told second_held second_failures e0 e1 cause.WriteFailed)
 
 module _ {R W E : Type 0} (left : R → Option (List ℕ)) (calls read_failures : R → ℕ) (held : W → Option (List ℕ)) (write_failures : W → ℕ)
@@ -44,7 +44,8 @@ module _ {R W E : Type 0} (left : R → Option (List ℕ)) (calls read_failures 
   abbrev pub Does : Result (Command × Limits) UsageFault → R → R → W → W → E → E → ExitStatus → Type 0
   Does (Ok named) r0 r1 w0 w1 e0 e1 end = Runs left calls read_failures held write_failures second_held second_failures named.1 (2 ^ 32) named.0 r0 r1 w0 w1 e0 e1 end
   Does (Err Memory) r0 r1 w0 w1 e0 e1 end = (r1 ≡ r0) × (w1 ≡ w0) × WantsMemory second_held second_failures e0 e1 end
-  Does (Err (Help text)) r0 r1 w0 w1 e0 e1 end = (r1 ≡ r0) × ShowsHelp held write_failures second_held second_failures (string_bytes text) w0 w1 e0 e1 end
+  Does (Err (Help text)) r0 r1 w0 w1 e0 e1 end = (r1 ≡ r0) × ShowsText held write_failures second_held second_failures (string_bytes text) w0 w1 e0 e1 end
+  Does (Err (Version text)) r0 r1 w0 w1 e0 e1 end = (r1 ≡ r0) × ShowsText held write_failures second_held second_failures (string_bytes text) w0 w1 e0 e1 end
   Does (Err (Usage text)) r0 r1 w0 w1 e0 e1 end = (r1 ≡ r0) × (w1 ≡ w0) × ShowsUsage second_held second_failures (string_bytes text) e0 e1 end
   Does (Err (Rule fault)) r0 r1 w0 w1 e0 e1 end = (r1 ≡ r0) × (w1 ≡ w0) × RefusesRule second_held second_failures fault e0 e1 end
 

@@ -1,6 +1,6 @@
 //! The line that is written of a rule that is refused.
 ghost use Rattle.std.specs.Prelude.{◌≡◌, IfOk, string_bytes};
-ghost use Rattle.dbus_tool.specs.RuleLines.{rule_line, rule_reason_name};
+ghost use Rattle.dbus_tool.specs.RuleLines.{rule_line};
 
 use dbus_match::RuleReason;
 use std::alloc::{AllocError, Allocator};
@@ -13,21 +13,5 @@ pub(crate) fn rule_line<A: Allocator + Copy>(
 ) -> Result<String<A>, AllocError>
     ensures { IfOk result (λ line. string_bytes line ≡ rule_line at reason) }
 {
-    let name = rule_reason_name(reason);
-    format!(in alloc; "rule refused at {at}: {name}\n")
-}
-
-// The name of a reason.
-fn rule_reason_name(reason: RuleReason) -> &'static str
-    ensures { result.now ≡ rule_reason_name reason }
-{
-    match reason {
-        RuleReason::Nul => "Nul",
-        RuleReason::NoEquals => "NoEquals",
-        RuleReason::KeyName => "KeyName",
-        RuleReason::KeyTwice => "KeyTwice",
-        RuleReason::PathAndNamespace => "PathAndNamespace",
-        RuleReason::OpenQuote => "OpenQuote",
-        RuleReason::BadValue => "BadValue",
-    }
+    format!(in alloc; "rule refused at {at}: {reason}\n")
 }

@@ -8,12 +8,9 @@ use crate::counting::count_or_hand;
 use crate::ending::ExitStatus;
 use crate::gathering::Gathered;
 use dbus_command::Command;
-use dbus_stream::{Sink, Source};
+use dbus_stream::{MOST_READS, Sink, Source};
 use dbus_value::Limits;
 use std::alloc::Allocator;
-
-/// How many reads a run makes at most, where no number is handed in.
-pub(crate) const MOST_READS: u64 = 1 << 32;
 
 /// Does what [`run_within`] does, with at most 2^32 reads and under the limits of the specification.
 pub fn run<A: Allocator + Copy, R: Source, W: Sink, E: Sink>(

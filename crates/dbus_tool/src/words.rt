@@ -1,14 +1,14 @@
 //! The program over the words of its command line.
 ghost use Rattle.std.specs.Prelude.{map, string_bytes};
-ghost use Rattle.dbus_tool.specs.Words.{RefusesRule, RunsWords, ShowsHelp, ShowsUsage};
+ghost use Rattle.dbus_tool.specs.Words.{RefusesRule, RunsWords, ShowsText, ShowsUsage};
 
 use crate::ending::{Cause, ExitStatus};
 use crate::failing::give_up;
 use crate::rule_lines::rule_line;
-use crate::running::{MOST_READS, run_within};
+use crate::running::run_within;
 use dbus_command::{UsageFault, command_of};
 use dbus_match::RuleFault;
-use dbus_stream::{Sink, Source, WrittenOnly, write_all};
+use dbus_stream::{MOST_READS, Sink, Source, WrittenOnly, write_all};
 use std::alloc::Global;
 
 /// Does what [`run_within`] does for the command that the words name, of which the first is the program's name, under the
@@ -34,15 +34,17 @@ pub fn run_words<R: Source, W: Sink, E: Sink>(
             run_within(alloc, command, limits, MOST_READS, reader, first, second)
         }
         Err(UsageFault::Memory) => give_up(Cause::Memory, second),
-        Err(UsageFault::Help(text)) => show_help(text.as_str(), first, second),
+        Err(UsageFault::Help(text) | UsageFault::Version(text)) => {
+            show_text(text.as_str(), first, second)
+        }
         Err(UsageFault::Usage(text)) => show_usage(text.as_str(), second),
         Err(UsageFault::Rule(fault)) => refuse_rule(alloc, fault, second),
     }
 }
 
-// Writes the text of help.
-fn show_help<W: Sink, E: Sink>(text: &str, first: &mut W, second: &mut E) -> ExitStatus
-    ensures { ShowsHelp W.held W.failures E.held E.failures text.now first.old first.new second.old second.new result }
+// Writes a text that was asked for: help, or the version.
+fn show_text<W: Sink, E: Sink>(text: &str, first: &mut W, second: &mut E) -> ExitStatus
+    ensures { ShowsText W.held W.failures E.held E.failures text.now first.old first.new second.old second.new result }
 {
     match write_all(first, text.as_bytes()) {
         Ok(()) => ExitStatus::Done,

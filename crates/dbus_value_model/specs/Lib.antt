@@ -23,3 +23,4 @@ pub mod Checks
 pub mod Ranges
 pub mod Specification
 pub mod RoundTrip
+pub mod FaultTexts

@@ -1,6 +1,8 @@
 //! Why bytes are refused, and where.
 #![tactic(auto)]
 
+use thiserror::Error;
+
 /// Why bytes are refused: the one row of the fault table that they meet (docs/WIRE-FORMAT.md).
 #[derive(Clone, Copy, PartialEq, Eq, Debug)]
 pub enum Reason {
@@ -71,10 +73,12 @@ pub struct Fault {
 }
 
 /// Why a call gave nothing.
-#[derive(Clone, Copy, PartialEq, Eq, Debug)]
+#[derive(Clone, Copy, PartialEq, Eq, Debug, Error)]
 pub enum Refusal {
     /// A growth of memory was refused.
+    #[error("allocation failed")]
     Memory,
     /// The bytes are refused.
+    #[error("{0}")]
     Format(Fault),
 }

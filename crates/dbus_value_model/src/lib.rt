@@ -6,6 +6,7 @@ pub mod check_laws;
 mod checking;
 mod copying;
 mod fault;
+mod fault_text;
 mod fd_indexes;
 mod fd_rule;
 mod got;

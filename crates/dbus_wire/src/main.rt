@@ -4,8 +4,8 @@
 //!
 //! Output and help go to standard output. That an input is refused is told on standard error, by `check` on standard
 //! output; why the words are wrong or a run failed, on standard error. The exit status is 0 where the whole input is
-//! messages, or help was asked for; 1 where the input is refused; 2 where the words are wrong; 3 where a read or a write
-//! failed, too many reads were made, or memory was refused.
+//! messages, or help or the version was asked for; 1 where the input is refused; 2 where the words are wrong; 3 where a
+//! read or a write failed, too many reads were made, or memory was refused.
 #![tactic(auto)]
 
 use dbus_stream::{FromRead, FromWrite, Sink, write_all};

@@ -1,6 +1,6 @@
 use Rattle.std.proofs.Common.{inr}
 use Rattle.dbus_tool.proofs.CheckSteps.{front_written}
-use Rattle.dbus_tool.proofs.words.show_help.Goals as goal
+use Rattle.dbus_tool.proofs.words.show_text.Goals as goal
 
 pub returns-in-Err : goal.returns-in-Err
 returns-in-Err g c = inr (

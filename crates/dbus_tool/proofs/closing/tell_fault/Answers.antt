@@ -1,0 +1,11 @@
+use Rattle.std.proofs.Common.{◌≡◌, ◌∙◌, ◌+◌, subst, List, ℕ, Some, inl, refl, rules, string_bytes}
+use Rattle.dbus_stream.specs.Write.{Wrote}
+use Rattle.dbus_tool.specs.Lines.{refused_line}
+use Rattle.dbus_tool.proofs.closing.tell_fault.Goals as goal
+
+pub returns-in-Ok-write_all : goal.returns-in-Ok-write_all
+returns-in-Ok-write_all g c =
+    let line : c.as_bytes.result.now ≡ refused_line (c.args.counted.size + c.in-Some.fault.at) c.in-Some.fault.reason = c.as_bytes.ensures.value ∙ c.in-Ok.ensures in
+    let wrote : Wrote g.E.Sink.held g.E.Sink.failures c.args.second.now (refused_line (c.args.counted.size + c.in-Some.fault.at) c.in-Some.fault.reason) c.write_all.new.sink
+    = subst (λ (w : List ℕ). Wrote g.E.Sink.held g.E.Sink.failures c.args.second.now w c.write_all.new.sink) line c.in-Ok-write_all.ensures.writes in
+    rw c.in-Some.is (inl (wrote, refl))
