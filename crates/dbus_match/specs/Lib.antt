@@ -12,3 +12,4 @@ pub mod Conditions
 pub mod PairReadings
 pub mod RuleReadings
 pub mod RuleViews
+pub mod FaultTexts

@@ -5,13 +5,16 @@ ghost use Rattle.std.specs.Prelude.{◌≡◌};
 ghost use Rattle.dbus_match.specs.declared.fault.RuleFault.TheVariants.{Memory};
 
 use std::alloc::{AllocError, AllocFailed};
+use thiserror::Error;
 
 /// Why a text spells no rule, and where: places count the bytes of the text.
-#[derive(Clone, Copy, PartialEq, Eq, Debug)]
+#[derive(Clone, Copy, PartialEq, Eq, Debug, Error)]
 pub enum RuleFault {
     /// A growth of memory was refused.
+    #[error("allocation failed")]
     Memory,
     /// The text spells no rule, for this reason, at this place.
+    #[error("{reason} at offset {at}")]
     Bad { at: usize, reason: RuleReason },
 }
 

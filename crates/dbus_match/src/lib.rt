@@ -1,10 +1,12 @@
 //! Match rules of D-Bus: their texts, and when a rule matches a message.
 #![tactic(auto)]
 
+mod asked;
 mod compare;
 mod condition;
 mod conditions;
 mod fault;
+mod fault_text;
 mod key;
 mod key_name;
 pub mod laws;
@@ -17,6 +19,7 @@ mod texts;
 mod to_text;
 mod value;
 mod value_kinds;
+mod view_matching;
 mod within;
 
 pub use fault::{RuleFault, RuleReason};
@@ -25,3 +28,4 @@ pub use owner::Owner;
 pub use parse::parse_rule;
 pub use rule::Rule;
 pub use to_text::rule_text;
+pub use view_matching::matches_view;

@@ -4,7 +4,8 @@ use crate::answer::Answer;
 use dbus_check::{Check, Checker};
 use dbus_message::decode;
 use dbus_stream::{Cutter, StreamFault};
-use dbus_value::Refusal;
+use dbus_value::{Fault, Reason, Refusal};
+use dbus_view::MessageView;
 use std::alloc::Global;
 
 // A reader that answers as decoding does.
@@ -16,10 +17,12 @@ enum Reader {
     Checker,
     // A cutter, that is handed them in two pieces.
     Cutter,
+    // A view of them.
+    View,
 }
 
 // All of them.
-const READERS: [Reader; 3] = [Reader::Whole, Reader::Checker, Reader::Cutter];
+const READERS: [Reader; 4] = [Reader::Whole, Reader::Checker, Reader::Cutter, Reader::View];
 
 /// What decoding answers.
 pub(crate) fn decoded(alloc: Global, bytes: &[u8]) -> Answer {
@@ -48,6 +51,21 @@ fn cut(cutter: &mut Cutter, before: usize, piece: &[u8]) -> Answer {
         Err(StreamFault::Format(fault)) => Answer::Refused(fault),
         _ => Answer::Other,
     }
+}
+
+// Why there is no view of all the bytes, where decoding answers so, or nothing where there is one.
+fn unseen(bytes: &[u8], right: Answer) -> Option<Fault> {
+    let (at, reason) = match right {
+        Answer::Whole(used) if used == bytes.len() => return None,
+        Answer::Whole(used) => (used, Reason::Trailing),
+        Answer::Partial => (bytes.len(), Reason::Truncated),
+        Answer::Refused(fault) => return Some(fault),
+        Answer::Other => (0, Reason::NotYet),
+    };
+    Some(Fault {
+        at: at as u64,
+        reason,
+    })
 }
 
 // What a checker answers of the first bytes and, where more are wanted, of the others.
@@ -108,6 +126,11 @@ impl Readers {
         u64::from(checked(&mut self.checker, 0, bytes) != right)
     }
 
+    // How many answers of a view are another.
+    fn view_differs(&self, bytes: &[u8], right: Answer) -> u64 {
+        u64::from(MessageView::of(bytes).err() != unseen(bytes, right))
+    }
+
     /// How many answers of all readers are another than this.
     pub(crate) fn differing(&mut self, bytes: &[u8], right: Answer) -> u64 {
         let mut count = 0u64;
@@ -116,13 +139,14 @@ impl Readers {
                 Reader::Whole => self.whole_differs(bytes, right),
                 Reader::Checker => self.checker_differs(bytes, right),
                 Reader::Cutter => self.cutter_differs(bytes, right),
+                Reader::View => self.view_differs(bytes, right),
             };
             count = count.saturating_add(differs);
         }
         count
     }
 
-    /// How many of a message's proper prefixes are partial for decoding, for a checker and for a cutter.
+    /// How many of a message's proper prefixes are partial for decoding and for all readers.
     pub(crate) fn partial_prefixes(&mut self, message: &[u8]) -> u64 {
         let mut count = 0u64;
         for n in 0..message.len() {

@@ -1,6 +1,8 @@
-//! Tests of the handshake's lines and ends, of match rules, and of printed messages.
+//! Tests of the handshake's lines and ends, of match rules, of printed messages, and of the texts of faults.
 #![tactic(auto)]
 
+#[cfg(test)]
+mod faults;
 #[cfg(test)]
 mod growths;
 #[cfg(test)]

@@ -1,7 +1,9 @@
 //! Match rules: their texts, why a text is none, and which messages they match.
 
-use dbus_match::{Owner, RuleFault, RuleReason, matches, parse_rule, rule_text};
-use dbus_message::{Answer, decode};
+use dbus_match::{Owner, RuleFault, RuleReason, matches, matches_view, parse_rule, rule_text};
+use dbus_message::{Answer, decode, encode};
+use dbus_value::Order;
+use dbus_view::MessageView;
 use std::alloc::{AllocError, Global};
 use std::test::Fail;
 
@@ -141,6 +143,10 @@ const PATH_BESIDE: &[u8] =
 /// A message whose one field is SENDER, `:1.7`.
 const SENT: &[u8] = b"l\x05\0\x01\0\0\0\0\x01\0\0\0\x0d\0\0\0\x07\x01s\0\x04\0\0\0:1.7\0\0\0\0";
 
+/// A signal `a.b.C` from `/a` to `:1.2`.
+const SIGNAL: &[u8] =
+    b"l\x04\0\x01\0\0\0\0\x01\0\0\0\x3d\0\0\0\x01\x01o\0\x02\0\0\0/a\0\0\0\0\0\0\x02\x01s\0\x03\0\0\0a.b\0\0\0\0\0\x03\x01s\0\x01\0\0\0C\0\0\0\0\0\0\0\x06\x01s\0\x04\0\0\0:1.2\0\0\0\0";
+
 /// That the connection `:1.7` owns the name `org.a.B`.
 const OWNED: &[(&str, &str)] = &[("org.a.B", ":1.7")];
 
@@ -166,6 +172,18 @@ const MATCHES: &[(&str, &[u8], &[(&str, &str)], bool)] = &[
     ("sender='org.a.B'", SENT, &[], false),
     ("sender='org.a.C'", SENT, OWNED, false),
     ("sender=':1.7',eavesdrop='true'", SENT, &[], true),
+    (
+        "type='signal',interface='a.b',member='C',path='/a',destination=':1.2'",
+        SIGNAL,
+        &[],
+        true,
+    ),
+    ("type='error'", SIGNAL, &[], false),
+    ("interface='a.c'", SIGNAL, &[], false),
+    ("member='D'", SIGNAL, &[], false),
+    ("path='/b'", SIGNAL, &[], false),
+    ("destination=':1.3'", SIGNAL, &[], false),
+    ("sender=':1.2'", SIGNAL, &[], false),
 ];
 
 #[test]
@@ -174,6 +192,19 @@ fn matched_messages(rt: HostRuntime) -> Result<(), Fail> {
         let owners = owners_of(rt.alloc(), names)?;
         let matched = is_matched(rt.alloc(), rule, bytes, &owners)?;
         assert_eq!(rt; matched, *want, "at {n}, {rule}");
+    }
+    Ok(())
+}
+
+// As the message matches, in either order.
+#[test]
+fn matched_views(rt: HostRuntime) -> Result<(), Fail> {
+    for (n, (rule, bytes, names, want)) in MATCHES.iter().enumerate() {
+        let owners = owners_of(rt.alloc(), names)?;
+        for order in [Order::Little, Order::Big] {
+            let matched = is_view_matched(rt.alloc(), rule, bytes, order, &owners)?;
+            assert_eq!(rt; matched, *want, "at {n}, {rule}");
+        }
     }
     Ok(())
 }
@@ -195,5 +226,24 @@ fn is_matched(alloc: Global, rule: &str, bytes: &[u8], owners: &[Owner]) -> Resu
     match decode(alloc, bytes)? {
         Answer::Whole { message, .. } => Ok(matches(&rule, &message, owners)),
         Answer::Partial => Err(Fail::new("no whole message")),
+    }
+}
+
+/// Whether the rule matches a view of the message of these bytes, in the order.
+fn is_view_matched(
+    alloc: Global,
+    rule: &str,
+    bytes: &[u8],
+    order: Order,
+    owners: &[Owner],
+) -> Result<bool, Fail> {
+    let rule = parse_rule(alloc, rule)?;
+    let bytes = match decode(alloc, bytes)? {
+        Answer::Whole { message, .. } => encode(alloc, &message, order)?,
+        Answer::Partial => return Err(Fail::new("no whole message")),
+    };
+    match MessageView::of(&bytes) {
+        Ok(view) => Ok(matches_view(&rule, &view, owners)),
+        Err(_) => Err(Fail::new("no view")),
     }
 }

@@ -1,6 +1,6 @@
 use Rattle.std.proofs.Common.{drop}
 use Rattle.dbus_match.specs.Matching.{IsOwned, ownerships}
-use Rattle.dbus_match.proofs.matching.is_owned.Given as goal
+use Rattle.dbus_match.proofs.asked.is_owned.Given as goal
 
 -- if any owner fits, then one of those left
 abbrev pub invariant-loop-owner : goal.invariant-loop-owner

@@ -1,0 +1,72 @@
+//! When a rule matches the message that a view is of.
+#![tactic(auto)]
+
+ghost use Rattle.std.specs.Prelude.{◌≡◌, ◌↔◌, Some, None, IsTrue, MatchOption, string_bytes};
+ghost use Rattle.dbus_value_model.specs.declared.order.Order.{Order};
+ghost use Rattle.dbus_message_model.specs.Lookups.{body_value};
+ghost use Rattle.dbus_message_model.specs.Messages.{MessageTree};
+ghost use Rattle.dbus_view.specs.Views.{Views};
+ghost use Rattle.dbus_match.specs.RuleViews.{rule_pairs};
+ghost use Rattle.dbus_match.specs.Matching.{HoldsAt, Matches, ownerships, string_of, string_or_path_of};
+
+use crate::asked::{is_name_in, is_path_in, is_sender, is_text, is_type, meets_path};
+use crate::condition::Condition;
+use crate::key::Key;
+use crate::owner::Owner;
+use crate::rule::Rule;
+use dbus_view::{ArgView, MessageView};
+use std::alloc::Allocator;
+
+/// The text of argument `n`, where that is a STRING.
+fn string_seen<'a>(view: &MessageView<'a>, n: u8) -> Option<&'a str>
+    ensures { (order : Order) (m : MessageTree) → Views view.now order m → MatchOption result (string_of (body_value n m.body) ≡ None) (λ s. string_of (body_value n m.body) ≡ Some s.now) }
+{
+    match view.arg(usize::from(n)) {
+        Some(ArgView::Str(text)) => Some(text),
+        _ => None,
+    }
+}
+
+/// The text of argument `n`, where that is a STRING or an OBJECT_PATH.
+fn string_or_path_seen<'a>(view: &MessageView<'a>, n: u8) -> Option<&'a str>
+    ensures { (order : Order) (m : MessageTree) → Views view.now order m → MatchOption result (string_or_path_of (body_value n m.body) ≡ None) (λ s. string_or_path_of (body_value n m.body) ≡ Some s.now) }
+{
+    match view.arg(usize::from(n)) {
+        Some(ArgView::Str(text)) => Some(text),
+        Some(ArgView::Path(text)) => Some(text),
+        _ => None,
+    }
+}
+
+/// Whether the condition holds of the message.
+fn holds<A: Allocator>(condition: &Condition<A>, view: &MessageView, owners: &[Owner<A>]) -> bool
+    ensures { (order : Order) (m : MessageTree) → Views view.now order m → IsTrue result ↔ HoldsAt condition.now.key (string_bytes condition.now.value) m (ownerships owners.now) }
+{
+    let value = condition.value.as_str();
+    match condition.key {
+        Key::MessageType => is_type(view.kind(), value),
+        Key::Sender => is_sender(view.sender(), value, owners),
+        Key::Interface => is_text(view.interface(), value),
+        Key::Member => is_text(view.member(), value),
+        Key::Path => is_text(view.path(), value),
+        Key::PathNamespace => is_path_in(view.path(), value),
+        Key::Destination => is_text(view.destination(), value),
+        Key::Arg(n) => is_text(string_seen(view, n), value),
+        Key::ArgPath(n) => meets_path(string_or_path_seen(view, n), value),
+        Key::Arg0Namespace => is_name_in(string_seen(view, 0), value),
+        Key::Eavesdrop => true,
+    }
+}
+
+/// Whether each key of the rule holds of the message that the view is of, as [`crate::matches`] says of a message.
+/// D-Bus Specification, "Match Rules".
+pub fn matches_view<A: Allocator>(rule: &Rule<A>, view: &MessageView, owners: &[Owner<A>]) -> bool
+    ensures { (order : Order) (m : MessageTree) → Views view.now order m → IsTrue result ↔ Matches (rule_pairs rule.now) m (ownerships owners.now) }
+{
+    for condition in &rule.conditions {
+        if !holds(condition, view, owners) {
+            return false;
+        }
+    }
+    true
+}

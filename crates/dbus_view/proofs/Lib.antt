@@ -1,0 +1,8 @@
+mod Texts
+mod FieldTexts
+mod Whole
+mod KnownFields
+mod BodyThere
+mod Faults
+mod Walks
+mod ArgTexts

@@ -1,0 +1,40 @@
+-- The message that a view is of is the one that was judged.
+use Rattle.std.proofs.Common.{◌≡◌, ℕ, ◌+◌, List, length, sym, subst, ◌∙◌}
+use Rattle.dbus_value_model.specs.declared.limits.Limits.{Limits}
+use Rattle.dbus_value_model.specs.declared.order.Order.{Order}
+use Rattle.dbus_message_model.specs.Messages.{MessageTree, IsMessage, body_start, body_bytes}
+use Rattle.dbus_message_model.proofs.MessageLengths.{message_length}
+use Rattle.dbus_decode.specs.MessageOutcomes.{IsWhole}
+use Rattle.dbus_decode.proofs.OutcomeLaws.{one_whole}
+use Rattle.dbus_judge.specs.declared.judging.Judged.{Judged}
+use Rattle.dbus_view.specs.Views.{ViewState, Views, ViewsOne, IsJudgedWhole}
+
+pub whole_message : (limits : Limits) (b : List ℕ) (order : Order) (m : MessageTree) (n : ℕ) → IsWhole limits b order m n → IsMessage limits order m
+unfolding IsWhole
+whole_message limits b order m n w = w.message
+
+pub whole_length : (limits : Limits) (b : List ℕ) (order : Order) (m : MessageTree) (n : ℕ) → IsWhole limits b order m n → n ≡ body_start order m.fields + length (body_bytes order m)
+unfolding IsWhole
+whole_length limits b order m n w = w.size ∙ message_length order m
+
+module _ (limits : Limits) (bytes : List ℕ) (j : Judged) (h : IsJudgedWhole limits bytes j) where
+  abbrev pub message : MessageTree
+  message = h.judged.message
+
+  pub all_whole : IsWhole limits bytes j.order message (length bytes)
+  all_whole = subst (λ (n : ℕ). IsWhole limits bytes j.order message n) h.all h.judged.whole
+
+  pub valid : IsMessage limits j.order message
+  valid = whole_message limits bytes j.order message j.length h.judged.whole
+
+  abbrev state : ViewState
+  state = record { limits = limits; bytes = bytes }
+
+  module _ (v : ViewState) (is : state ≡ v) where
+    pub views_one : ViewsOne v
+    views_one = subst ViewsOne is (j.order, message, all_whole)
+
+    pub same : (order : Order) (m : MessageTree) → Views v order m → (j.order ≡ order) × (message ≡ m)
+    same order m w =
+        let both = one_whole limits bytes j.order order message m (length bytes) (length bytes) all_whole (subst (λ (u : ViewState). Views u order m) (sym is) w) in
+        (both.0, both.1)

@@ -1,0 +1,35 @@
+use Rattle.std.proofs.Common.{◌≡◌, ◌+◌, ◌-◌, ℕ, List, take, drop, IsUtf8, Option, Some, sym, ap, subst, ◌∙◌, arith}
+use Rattle.dbus_value_model.specs.Values.{ValueTree}
+use Rattle.dbus_message_model.specs.Lookups.{field_value}
+use Rattle.dbus_message_model.specs.Messages.{MessageTree, want}
+use Rattle.dbus_view.specs.Fields.{IsTextOf}
+use Rattle.dbus_view.proofs.KnownFields.{text_there, no_text}
+use Rattle.dbus_view.proofs.Whole.{same}
+use Rattle.dbus_view.proofs.view.MessageView.text.Goals as goal
+
+pub returns-in_err-place : goal.returns-in_err-place
+returns-in_err-place c = λ order m w.
+    let v = c.self.inside in
+    let both = same v.limits v.bytes.now v.judged c.self.invariant c.args.self.now c.self.view_is order m w in
+    let none = no_text v.limits v.bytes.now v.judged c.self.invariant c.args.code c.requires (sym c.in_err-place.was ∙ c.get.ensures) in
+    rw c.from_residual.ensures (ap (λ (u : MessageTree). field_value c.args.code u.fields) (sym both.1) ∙ none)
+
+pub from_utf8_unchecked-requires : goal.from_utf8_unchecked-requires
+from_utf8_unchecked-requires c =
+    let v = c.self.inside in
+    let p = c.in_ok-place.place in
+    let there = text_there v.limits v.bytes.now v.judged c.self.invariant c.args.code c.requires p (sym c.in_ok-place.was ∙ c.get.ensures) in
+    let long : p.length ≡ p.start + p.length - p.start = omega arith in
+    subst (λ (n : ℕ). IsUtf8 (take n (drop p.start v.bytes.now))) long there.utf8
+
+pub returns : goal.returns
+returns c = λ order m w.
+    let v = c.self.inside in
+    let p = c.in_ok-place.place in
+    let both = same v.limits v.bytes.now v.judged c.self.invariant c.args.self.now c.self.view_is order m w in
+    let there = text_there v.limits v.bytes.now v.judged c.self.invariant c.args.code c.requires p (sym c.in_ok-place.was ∙ c.get.ensures) in
+    let long : p.start + p.length - p.start ≡ p.length = omega arith in
+    let text = c.from_utf8_unchecked.ensures ∙ ap (λ (n : ℕ). take n (drop p.start v.bytes.now)) long in
+    let value : Some there.value ≡ field_value c.args.code m.fields = sym there.is ∙ ap (λ (u : MessageTree). field_value c.args.code u.fields) both.1 in
+    subst (λ (x : Option ValueTree). IsTextOf (want c.args.code) x c.from_utf8_unchecked.result.now) value
+    (subst (λ (t : List ℕ). IsTextOf (want c.args.code) (Some there.value) t) (sym text) there.text)

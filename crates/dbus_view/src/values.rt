@@ -1,0 +1,73 @@
+//! The values of a body, one behind another. D-Bus Specification, "Message Format", "Marshaling (Wire Format)".
+#![tactic(auto)]
+
+ghost use Rattle.std.specs.Prelude.{◌≡◌, ◌≤◌, ℕ, List, length, None, MatchOption, IfSome};
+ghost use Rattle.dbus_value_model.specs.Values.{ValueTrees};
+ghost use Rattle.dbus_message_model.specs.Lookups.{body_value};
+
+use dbus_value_judge::{judge_value, type_end};
+use dbus_value_model::{Bounds, Order, padding_length};
+use std::str;
+
+/// Where a value of a body stands.
+#[derive(Clone, Copy)]
+pub(crate) struct Spot {
+    /// The offset where it begins, padding with it.
+    pub start: usize,
+    /// The offset after it.
+    pub after: usize,
+    /// The first code of its type.
+    pub code: u8,
+}
+
+ghost use Rattle.dbus_view.specs.Bodies.{AreBody, StandsThere, IsTextIn};
+
+/// Where value `n`, counted from 0, stands of the values that `types` spell, which begin at `at` and end with the bytes.
+pub(crate) fn spot_of(
+    bytes: &[u8],
+    at: usize,
+    order: Order,
+    types: &[u8],
+    room: u8,
+    bounds: Bounds,
+    n: usize,
+) -> Option<Spot>
+    requires { at ≤ length bytes.now }
+    ensures { (xs : ValueTrees) → AreBody bounds order room at bytes.now types.now xs → MatchOption result (body_value n xs ≡ None) (λ s. StandsThere bounds order room bytes.now (body_value n xs) s) }
+{
+    let mut place = at;
+    let mut pos = 0;
+    for _number in 0..n {
+        if pos == types.len() {
+            return None;
+        }
+        let next = type_end(types, pos);
+        let one = &types[pos..next];
+        place = judge_value(bytes, place, bytes.len(), order, one, room, bounds)?;
+        pos = next;
+    }
+    if pos == types.len() {
+        return None;
+    }
+    let next = type_end(types, pos);
+    let one = &types[pos..next];
+    let after = judge_value(bytes, place, bytes.len(), order, one, room, bounds)?;
+    Some(Spot {
+        start: place,
+        after,
+        code: types[pos],
+    })
+}
+
+/// The text that stands from `start` up to `after`, behind its length in `width` bytes, and with a zero behind it.
+pub(crate) fn text_in(bytes: &[u8], start: usize, after: usize, width: u8) -> &str
+    requires some { 1 ≤ width }
+    requires text { (t : List ℕ) × IsTextIn bytes.now width start after t }
+    ensures { (t : List ℕ) → IsTextIn bytes.now width start after t → result.now ≡ t }
+{
+    let gap = usize::from(padding_length(width, start as u64));
+    let first = start + gap + usize::from(width);
+    let text = &bytes[first..after - 1];
+    // The bytes were judged, so UTF-8 is not looked for again.
+    unsafe { str::from_utf8_unchecked(text) }
+}

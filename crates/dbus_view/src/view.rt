@@ -1,0 +1,226 @@
+//! A view of a message. D-Bus Specification, "Message Format".
+#![tactic(auto)]
+
+ghost use Rattle.std.specs.Prelude.{◌≡◌, ℕ, length, Some, None, IsOk, IfOk, IfErr, MatchOption};
+ghost use Rattle.dbus_texts.specs.Types.{UINT32, STRING, OBJECT_PATH};
+ghost use Rattle.dbus_value_model.specs.Values.{NumberValue, TextValue};
+ghost use Rattle.dbus_value_model.specs.declared.order.Order.{Order};
+ghost use Rattle.dbus_value_model.specs.Specification.{specification};
+ghost use Rattle.dbus_message_model.specs.Messages.{MessageTree, want};
+ghost use Rattle.dbus_message_model.specs.Lookups.{field_value, body_value};
+ghost use Rattle.dbus_decode.specs.MessageOutcomes.{IsWhole};
+ghost use Rattle.dbus_judge.specs.Judging.{IsJudged};
+
+use crate::arg_view::ArgView;
+use crate::fault::fault_of;
+use crate::values::{spot_of, text_in};
+use dbus_judge::{Judged, judge};
+use dbus_message_model::field_code::{
+    DESTINATION, ERROR_NAME, INTERFACE, MEMBER, PATH, REPLY_SERIAL, SENDER,
+};
+use dbus_value_model::{Fault, Limits, Order, Reason};
+use std::marker::Model;
+use std::str;
+
+/// A view of a message, which borrows its bytes. D-Bus Specification, "Message Format".
+///
+/// All of the bytes are one message, and it keeps the limits that the view was made with. What the calls give is what that message
+/// has; texts are parts of the bytes. No call takes memory.
+#[derive(Drop)]
+pub struct MessageView<'a> {
+    bytes: &'a [u8],
+    limits: Limits,
+    judged: Judged,
+}
+
+impl<'a> Model for MessageView<'a> {
+    ghost use Rattle.dbus_view.specs.Views.{ViewState, IsJudgedWhole};
+
+    ghost Value = { ViewState };
+
+    ghost view = { λ v. record { limits = v.limits; bytes = v.bytes.now } };
+
+    ghost invariant = { λ v. IsJudgedWhole v.limits v.bytes.now v.judged };
+}
+
+impl<'a> MessageView<'a> {
+    ghost use Rattle.dbus_view.specs.Bodies.{IsArgThere, StandsThere};
+    ghost use Rattle.dbus_view.specs.Fields.{WantsText, IsTextOf};
+    ghost use Rattle.dbus_view.specs.Opening.{IsViewFault};
+    ghost use Rattle.dbus_view.specs.Views.{Views, ViewsOne, IsViewOf};
+
+    /// A view as [`MessageView::of_within`] makes it, under the limits of the specification.
+    pub fn of(bytes: &'a [u8]) -> Result<MessageView<'a>, Fault>
+        ensures viewed { IfOk result (λ v. IsViewOf specification bytes.now v) }
+        ensures refused { IfErr result (λ f. IsViewFault specification bytes.now f) }
+        ensures accepts { (order : Order) (m : MessageTree) → IsWhole specification bytes.now order m (length bytes.now) → IsOk result }
+    {
+        MessageView::of_within(bytes, Limits::specification())
+    }
+
+    /// A view of the message within the limits that the bytes, all of them, are. D-Bus Specification, "Message Format".
+    ///
+    /// Else why they are not one: the fault of the message that begins so, as decoding finds it; `Truncated` at the end of the bytes,
+    /// where a message may begin so and more bytes are wanted; `Trailing` at the end of the message that they begin with, where
+    /// others stand behind it.
+    pub fn of_within(bytes: &'a [u8], limits: Limits) -> Result<MessageView<'a>, Fault>
+        ensures viewed { IfOk result (λ v. IsViewOf limits bytes.now v) }
+        ensures refused { IfErr result (λ f. IsViewFault limits bytes.now f) }
+        ensures accepts { (order : Order) (m : MessageTree) → IsWhole limits bytes.now order m (length bytes.now) → IsOk result }
+    {
+        match judge(bytes, limits) {
+            Some(judged) => {
+                if judged.length < bytes.len() {
+                    return Err(Fault {
+                        at: judged.length as u64,
+                        reason: Reason::Trailing,
+                    });
+                }
+                Ok(MessageView {
+                    bytes,
+                    limits,
+                    judged,
+                })
+            }
+            None => Err(fault_of(bytes, limits)),
+        }
+    }
+
+    /// A view of the message that the bytes, all of them, were judged to be under the limits.
+    pub fn of_judged(bytes: &'a [u8], limits: Limits, judged: Judged) -> MessageView<'a>
+        requires judged { IsJudged limits bytes.now judged }
+        requires all { judged.length ≡ length bytes.now }
+        ensures viewed { IsViewOf limits bytes.now result }
+    {
+        MessageView {
+            bytes,
+            limits,
+            judged,
+        }
+    }
+
+    /// The bytes of the message.
+    pub fn bytes(&self) -> &'a [u8]
+        ensures bytes { result.now ≡ self.now.bytes }
+        ensures one { ViewsOne self.now }
+    {
+        self.bytes
+    }
+
+    /// The order of the message's numbers' bytes.
+    pub fn order(&self) -> Order
+        ensures { (order : Order) (m : MessageTree) → Views self.now order m → result ≡ order }
+    {
+        self.judged.order
+    }
+
+    /// The message type. D-Bus Specification, "Message Format".
+    pub fn kind(&self) -> u8
+        ensures { (order : Order) (m : MessageTree) → Views self.now order m → result ≡ m.kind }
+    {
+        self.judged.kind
+    }
+
+    /// The flags. D-Bus Specification, "Message Format".
+    pub fn flags(&self) -> u8
+        ensures { (order : Order) (m : MessageTree) → Views self.now order m → result ≡ m.flags }
+    {
+        self.judged.flags
+    }
+
+    /// The serial. D-Bus Specification, "Message Format".
+    pub fn serial(&self) -> u32
+        ensures { (order : Order) (m : MessageTree) → Views self.now order m → result ≡ m.serial }
+    {
+        self.judged.serial
+    }
+
+    /// The text of the field of a code of which a text is wanted.
+    fn text(&self, code: u8) -> Option<&'a str>
+        requires { WantsText (want code) }
+        ensures { (order : Order) (m : MessageTree) → Views self.now order m → MatchOption result (field_value code m.fields ≡ None) (λ s. IsTextOf (want code) (field_value code m.fields) s.now) }
+    {
+        let place = self.judged.fields.get(code)?;
+        let text = &self.bytes[place.start..place.start + place.length];
+        // The bytes were judged, so UTF-8 is not looked for again.
+        Some(unsafe { str::from_utf8_unchecked(text) })
+    }
+
+    /// The PATH field, if there is one. D-Bus Specification, "Header Fields".
+    pub fn path(&self) -> Option<&'a str>
+        ensures { (order : Order) (m : MessageTree) → Views self.now order m → MatchOption result (field_value 1 m.fields ≡ None) (λ s. field_value 1 m.fields ≡ Some (TextValue OBJECT_PATH s.now)) }
+    {
+        self.text(PATH)
+    }
+
+    /// The INTERFACE field, if there is one. D-Bus Specification, "Header Fields".
+    pub fn interface(&self) -> Option<&'a str>
+        ensures { (order : Order) (m : MessageTree) → Views self.now order m → MatchOption result (field_value 2 m.fields ≡ None) (λ s. field_value 2 m.fields ≡ Some (TextValue STRING s.now)) }
+    {
+        self.text(INTERFACE)
+    }
+
+    /// The MEMBER field, if there is one. D-Bus Specification, "Header Fields".
+    pub fn member(&self) -> Option<&'a str>
+        ensures { (order : Order) (m : MessageTree) → Views self.now order m → MatchOption result (field_value 3 m.fields ≡ None) (λ s. field_value 3 m.fields ≡ Some (TextValue STRING s.now)) }
+    {
+        self.text(MEMBER)
+    }
+
+    /// The ERROR_NAME field, if there is one. D-Bus Specification, "Header Fields".
+    pub fn error_name(&self) -> Option<&'a str>
+        ensures { (order : Order) (m : MessageTree) → Views self.now order m → MatchOption result (field_value 4 m.fields ≡ None) (λ s. field_value 4 m.fields ≡ Some (TextValue STRING s.now)) }
+    {
+        self.text(ERROR_NAME)
+    }
+
+    /// The REPLY_SERIAL field, if there is one. D-Bus Specification, "Header Fields".
+    pub fn reply_serial(&self) -> Option<u32>
+        ensures { (order : Order) (m : MessageTree) → Views self.now order m → MatchOption result (field_value 5 m.fields ≡ None) (λ n. field_value 5 m.fields ≡ Some (NumberValue UINT32 n)) }
+    {
+        let place = self.judged.fields.get(REPLY_SERIAL)?;
+        Some(place.number)
+    }
+
+    /// The DESTINATION field, if there is one. D-Bus Specification, "Header Fields".
+    pub fn destination(&self) -> Option<&'a str>
+        ensures { (order : Order) (m : MessageTree) → Views self.now order m → MatchOption result (field_value 6 m.fields ≡ None) (λ s. field_value 6 m.fields ≡ Some (TextValue STRING s.now)) }
+    {
+        self.text(DESTINATION)
+    }
+
+    /// The SENDER field, if there is one. D-Bus Specification, "Header Fields".
+    pub fn sender(&self) -> Option<&'a str>
+        ensures { (order : Order) (m : MessageTree) → Views self.now order m → MatchOption result (field_value 7 m.fields ≡ None) (λ s. field_value 7 m.fields ≡ Some (TextValue STRING s.now)) }
+    {
+        self.text(SENDER)
+    }
+
+    /// Value `n` of the body, counted from 0, if there are so many. The values before it are passed over.
+    /// D-Bus Specification, "Message Format".
+    pub fn arg(&self, n: usize) -> Option<ArgView<'a>>
+        ensures { (order : Order) (m : MessageTree) → Views self.now order m → MatchOption result (body_value n m.body ≡ None) (λ a. IsArgThere (body_value n m.body) a) }
+    {
+        let bytes = self.bytes;
+        let fields = &self.judged.fields;
+        let types = fields.signature(bytes);
+        let fds = self.limits.fds.index_limit(fields.fd_count());
+        let bounds = self.limits.bounds_with(fds);
+        let room = self.limits.depth;
+        let spot = spot_of(
+            bytes,
+            self.judged.body,
+            self.judged.order,
+            types,
+            room,
+            bounds,
+            n,
+        )?;
+        match spot.code {
+            b's' => Some(ArgView::Str(text_in(bytes, spot.start, spot.after, 4))),
+            b'o' => Some(ArgView::Path(text_in(bytes, spot.start, spot.after, 4))),
+            b'g' => Some(ArgView::Sig(text_in(bytes, spot.start, spot.after, 1))),
+            code => Some(ArgView::Other(code)),
+        }
+    }
+}
