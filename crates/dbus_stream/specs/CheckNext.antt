@@ -20,7 +20,7 @@ pub record Reads {R : Type 0} (left : R → Option (List ℕ)) (calls : R → �
   pub last : List ℕ
   pub before : List ℕ
   pub joined : bytes ≡ before ++ last
-  pub last_fits : length last ≤ 4096
+  pub last_fits : length last ≤ 65536
   pub needed : 0 < count → IsPartial (limits_of old) (w ++ before)
   pub reads : reads_of new ≡ reads_of old + count
   pub called : RisesBy count (calls (source_of old)) (calls (source_of new))

@@ -2,7 +2,9 @@
 use Rattle.std.specs.Prelude.{◌≡◌, ◌≢◌, ◌≤◌, ℕ, List, [], true, nat_eq, length, slice_range, Option, None, Some, Result, Ok, Err}
 use Rattle.std.specs.Io.KnownBytes as known
 use Rattle.dbus_value_model.specs.declared.fault.Fault.{Fault}
-use Rattle.dbus_decode.specs.MessageOutcomes.{IsRefused, IsPartial}
+use Rattle.dbus_value_model.specs.declared.order.Order.{Order}
+use Rattle.dbus_message_model.specs.Messages.{MessageTree}
+use Rattle.dbus_decode.specs.MessageOutcomes.{IsWhole, IsRefused, IsPartial}
 use Rattle.dbus_stream.specs.declared.check_reader.CheckReader.{CheckReader}
 use Rattle.dbus_stream.specs.declared.read_fault.ReadFault.{ReadFault}
 use Rattle.dbus_stream.specs.declared.read_fault.ReadFault.TheVariants.{Memory, Format, Device, TooManyReads}
@@ -19,6 +21,13 @@ IsDrained r = r.start ≡ r.end
 pub record StopsWith {R : Type 0} (fault : ReadFault) (old new : CheckReader R) : Type 0 where
   pub done : done_of new ≡ done_of old
   pub stopped : stopped_of new ≡ Some fault
+
+-- the buffer has a whole message of n bytes left, and nothing of it was handed to the checker
+pub record LiesWhole {R : Type 0} (r : CheckReader R) (n : ℕ) : Type 0 where
+  pub nothing : r.taken ≡ 0
+  pub order : Order
+  pub message : MessageTree
+  pub whole : IsWhole (limits_of r) (slice_range r.buffer r.start r.end) order message n
 
 -- what comes of the bytes w that are kept
 abbrev pub TakesKept : {R : Type 0} → List ℕ → CheckReader R → CheckReader R → Result (Option ℕ) Fault → Type 0
@@ -58,7 +67,7 @@ pub record Buffers {R : Type 0} (bytes : List ℕ) (old new : CheckReader R) : T
 -- what a read adds to the bytes that are kept
 pub record FillsBy {R : Type 0} (left : R → Option (List ℕ)) (bytes : List ℕ) (old new : CheckReader R) : Type 0 where
   pub consumed : known.Consumes (left (source_of old)) (left (source_of new)) bytes
-  pub few : length bytes ≤ 4096
+  pub few : length bytes ≤ 65536
   pub buffers : Buffers bytes old new
   pub ended : is_ended new ≡ nat_eq (length bytes) 0
   pub at_end : is_ended new ≡ true → known.IsAtEnd (left (source_of new))

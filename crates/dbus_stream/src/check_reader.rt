@@ -1,31 +1,36 @@
 //! Messages from a source that are checked and not built.
-ghost use Rattle.std.specs.Prelude.{◌≡◌, ◌≤◌, ◌<◌, ◌+◌, ◌*◌, ◌-◌, ◌^◌, ◌++◌, ℕ, List, true, None, Some};
+ghost use Rattle.std.specs.Prelude.{◌≡◌, ◌≤◌, ◌<◌, ◌+◌, ◌*◌, ◌-◌, ◌^◌, ◌++◌, ℕ, List, true, None, Some, IfSome};
+ghost use Rattle.dbus_check.specs.Checks as checks;
 ghost use Rattle.dbus_stream.specs.Checked.{HasTaken};
 ghost use Rattle.dbus_stream.specs.Lasting.{is_lasting};
 
 use crate::device_fault::DeviceFault;
 use crate::read_fault::ReadFault;
+use crate::reads::MOST_READS;
 use crate::source::Source;
 use dbus_check::{Check, Checker};
+use dbus_judge::judge;
 use dbus_value::{Fault, Limits, Reason};
 
-// How many reads a reader makes in its life, where no number is handed in.
-const MOST_READS: u64 = 1 << 32;
+// How many bytes a read gives at most: so many that nearly every message lies whole in what one read gave.
+const CHECK_BUFFER: usize = 65_536;
 
-/// Reads messages from a source, one after another, by a buffer of 4,096 bytes inside it, and tells their lengths.
+/// Reads messages from a source, one after another, by a buffer of 65,536 bytes inside it, and tells their lengths.
 ///
-/// It accepts and refuses what a [`crate::MessageReader`] does. It builds no message, keeps no byte of one behind its buffer
-/// but what its checker holds, and takes no memory: it has a fixed size, about 27,000 bytes. The limits of its messages, and
-/// how many reads it makes at most in its life, are those that it was made with.
+/// It accepts and refuses what a [`crate::MessageReader`] does. A message that lies whole in the buffer is judged there; any
+/// other is checked as it comes. It builds no message, keeps no byte of one behind its buffer but what its checker holds, and
+/// takes no memory: it has a fixed size, about 89,000 bytes. The limits of its messages, and how many reads it makes at most
+/// in its life, are those that it was made with.
 #[derive(Drop)]
 pub struct CheckReader<R> {
     source: R,
+    limits: Limits,
     // It was handed the bytes of the message under way, but those that are left in the buffer.
     checker: Checker,
     // How many bytes these are.
     taken: u64,
     // What the last read gave, and which of it is left.
-    buffer: [u8; 4096],
+    buffer: [u8; CHECK_BUFFER],
     start: usize,
     end: usize,
     done: u64,
@@ -34,12 +39,13 @@ pub struct CheckReader<R> {
     ended: bool,
     stopped: Option<ReadFault>,
     ghost in_order: { start ≤ end },
-    ghost in_buffer: { end ≤ 4096 },
+    ghost in_buffer: { end ≤ 65536 },
     ghost few_reads: { reads ≤ most_reads },
     ghost low_most: { most_reads ≤ 2 ^ 32 },
+    ghost same_limits: { checks.limits_of checker ≡ limits },
     ghost lasting: { is_lasting stopped ≡ true },
     ghost handed: { stopped ≡ None → ∥ ((held : List ℕ) × HasTaken checker taken held) ∥₁ },
-    ghost counted: { done + taken + (end - start) ≤ 4096 * reads },
+    ghost counted: { done + taken + (end - start) ≤ 65536 * reads },
 }
 
 impl<R: Source> CheckReader<R> {
@@ -48,7 +54,7 @@ impl<R: Source> CheckReader<R> {
     ghost use Rattle.dbus_stream.specs.CheckReading.{limits_of, source_of, done_of, reads_of, most_reads_of, stopped_of, Keeps, IsNewReader};
     ghost use Rattle.dbus_stream.specs.CheckNext.{CheckAnswers, Reads, ReadsNothing};
     ghost use Rattle.dbus_stream.specs.Next.{DeviceCounts};
-    ghost use Rattle.dbus_stream.specs.CheckReadSteps.{TakesKept, HoldsAll, IsDrained, Fills, Finishes, GivesUp};
+    ghost use Rattle.dbus_stream.specs.CheckReadSteps.{LiesWhole, TakesKept, HoldsAll, IsDrained, Fills, Finishes, GivesUp};
     ghost use Rattle.dbus_stream.specs.Device.{ReadCounts, one_more};
 
     /// A reader as [`CheckReader::within`] makes it, of at most 2^32 reads and under the limits of the specification.
@@ -74,9 +80,10 @@ impl<R: Source> CheckReader<R> {
     {
         CheckReader {
             source,
+            limits,
             checker: Checker::within(limits),
             taken: 0,
-            buffer: [0; 4096],
+            buffer: [0; CHECK_BUFFER],
             start: 0,
             end: 0,
             done: 0,
@@ -115,7 +122,7 @@ impl<R: Source> CheckReader<R> {
             × (stopped_of self.old ≡ None → CheckAnswers (w ++ r.bytes) self.old self.new result) }
         ensures failed { DeviceCounts (R.failures (source_of self.old)) (R.failures (source_of self.new)) result }
         ensures same_reference { R.reference (source_of self.new) ≡ R.reference (source_of self.old) }
-        ensures few { done_of self.new ≤ 2 ^ 44 }
+        ensures few { done_of self.new ≤ 2 ^ 48 }
         // A fault of the bytes stays for good, and so does the number of reads.
         ensures stays { (f : ReadFault) → stopped_of self.old ≡ Some f → (result ≡ Err f) × (self.new ≡ self.old) }
     {
@@ -173,6 +180,33 @@ impl<R: Source> CheckReader<R> {
 
     // The length of a message that ends in what is kept. Where none does yet, the checker takes all of that.
     fn take_kept(&mut self) -> Result<Option<u64>, Fault>
+        requires { stopped_of self.old ≡ None }
+        ensures takes { (w : List ℕ) → Keeps self.old w → TakesKept w self.old self.new result }
+        ensures holds { HoldsAll self.new result }
+        ensures unread { ReadsNothing self.old self.new }
+    {
+        if let Some(length) = self.judged_length() {
+            self.start += length;
+            self.done += length as u64;
+            return Ok(Some(length as u64));
+        }
+        self.take_checked()
+    }
+
+    // The length of a message that lies whole in the buffer and is judged good there. None of it was handed to the checker.
+    fn judged_length(&self) -> Option<usize>
+        ensures { IfSome result (λ n. LiesWhole self.now n) }
+    {
+        if self.taken > 0 {
+            return None;
+        }
+        let buffer: &[u8] = &self.buffer;
+        let judged = judge(&buffer[self.start..self.end], self.limits)?;
+        Some(judged.length)
+    }
+
+    // What the checker says of what is kept.
+    fn take_checked(&mut self) -> Result<Option<u64>, Fault>
         requires { stopped_of self.old ≡ None }
         ensures takes { (w : List ℕ) → Keeps self.old w → TakesKept w self.old self.new result }
         ensures holds { HoldsAll self.new result }

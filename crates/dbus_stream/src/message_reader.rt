@@ -5,14 +5,12 @@ ghost use Rattle.dbus_stream.specs.Lasting.{is_lasting};
 use crate::cutter::Cutter;
 use crate::device_fault::DeviceFault;
 use crate::read_fault::ReadFault;
+use crate::reads::MOST_READS;
 use crate::source::Source;
 use crate::stream_fault::StreamFault;
 use dbus_message::Message;
 use dbus_value::{Fault, Limits, Order, Reason};
 use std::alloc::{Allocator, Global};
-
-// How many reads a reader makes in its life, where no number is handed in.
-const MOST_READS: u64 = 1 << 32;
 
 /// Reads messages from a source, one after another, by a buffer of 4,096 bytes inside it.
 ///

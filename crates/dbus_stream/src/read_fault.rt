@@ -6,11 +6,11 @@ use thiserror::Error;
 #[derive(Clone, Copy, Debug, PartialEq, Eq, Error)]
 pub enum ReadFault {
     /// A growth was refused. The bytes that were read are kept, and the call may be made again.
-    #[error("out of memory")]
+    #[error("allocation failed")]
     Memory,
     /// The bytes that are kept begin with no message, or end within one. Its place counts from the first of them. It
     /// stays for good.
-    #[error("the bytes are no message")]
+    #[error("the bytes are no message: {0}")]
     Format(Fault),
     /// The device failed in this call. The bytes that were read are kept, and the call may be made again.
     #[error("the device failed")]

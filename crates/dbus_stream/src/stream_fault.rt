@@ -6,9 +6,9 @@ use thiserror::Error;
 #[derive(Clone, Copy, Debug, PartialEq, Eq, Error)]
 pub enum StreamFault {
     /// A growth was refused. Nothing was taken, and the call may be made again.
-    #[error("out of memory")]
+    #[error("allocation failed")]
     Memory,
     /// The bytes are no message. The place counts from the first byte of the message under way. It stays for good.
-    #[error("the bytes are no message")]
+    #[error("the bytes are no message: {0}")]
     Format(Fault),
 }

@@ -5,7 +5,7 @@ use thiserror::Error;
 #[derive(Clone, Copy, Debug, PartialEq, Eq, Error)]
 pub enum WriteFault {
     /// A growth was refused. Nothing was written.
-    #[error("out of memory")]
+    #[error("allocation failed")]
     Memory,
     /// A write failed, or took none of its bytes. The first `written` bytes of the message went out.
     #[error("the device failed after {written} bytes")]

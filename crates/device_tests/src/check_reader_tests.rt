@@ -5,6 +5,7 @@ use crate::pieces::Pieces;
 use dbus_stream::{CheckReader, ReadFault};
 use dbus_value::{Fault, Limits, Reason};
 use std::process::Abort;
+use std::test::Fail;
 
 // What a call gives.
 #[derive(Clone, Copy)]
@@ -121,4 +122,34 @@ fn a_reader_under_limits(rt: HostRuntime) {
         let mut reader = CheckReader::within(Pieces::new(RETURN, 1, 0), 1000, limits);
         calls_give(&rt, n as u64, &mut reader, [*given].as_slice());
     }
+}
+
+#[test]
+fn messages_in_reads_of_each_size(rt: HostRuntime) -> Result<(), Fail> {
+    let bytes = joined(rt.alloc(), &[RETURN, SIGNAL, BIG_RETURN])?;
+    let script = [Length(24), Length(96), Length(24), Ends];
+    for size in 1..bytes.len() + 1 {
+        let mut reader = CheckReader::new(Pieces::new(bytes.as_slice(), size, 0));
+        calls_give(&rt, size as u64, &mut reader, script.as_slice());
+    }
+    Ok(())
+}
+
+// So many messages that the last of them is cut by the end of the reader's buffer.
+const MANY: usize = 2_731;
+
+#[test]
+fn a_message_that_two_reads_give(rt: HostRuntime) -> Result<(), Fail> {
+    let mut bytes = Vec::new(rt.alloc());
+    for _ in 0..MANY {
+        bytes.extend_from_slice(RETURN)?;
+    }
+    let mut reader = CheckReader::new(Pieces::new(bytes.as_slice(), bytes.len(), 0));
+    for n in 0..MANY {
+        assert_eq!(rt; reader.next(), Ok(Some(24)), "at {n}");
+    }
+    assert_eq!(rt; reader.next(), Ok(None));
+    let done = reader.done();
+    assert_eq!(rt; [done, reader.into_source().calls], [65_544, 3]);
+    Ok(())
 }

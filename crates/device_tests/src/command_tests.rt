@@ -157,6 +157,7 @@ fn limits(rt: HostRuntime) -> Result<(), Fail> {
 #[derive(Clone, Copy, Debug, PartialEq, Eq)]
 enum Text {
     Help,
+    Version,
     Usage,
     Neither,
 }
@@ -165,6 +166,7 @@ enum Text {
 fn told(alloc: Global, words: &[&str]) -> Result<(Text, String), Fail> {
     match answer_to(alloc, words)? {
         Err(UsageFault::Help(text)) => Ok((Text::Help, text)),
+        Err(UsageFault::Version(text)) => Ok((Text::Version, text)),
         Err(UsageFault::Usage(text)) => Ok((Text::Usage, text)),
         _ => Ok((Text::Neither, String::new(alloc))),
     }
@@ -200,6 +202,13 @@ const HELPS: &[(&[&str], &str)] = &[
 #[test]
 fn helps(rt: HostRuntime) -> Result<(), Fail> {
     each_tells(&rt, HELPS, Text::Help)
+}
+
+const VERSIONS: &[(&[&str], &str)] = &[(&["--version"], VERSION), (&["-V", "show"], VERSION)];
+
+#[test]
+fn versions(rt: HostRuntime) -> Result<(), Fail> {
+    each_tells(&rt, VERSIONS, Text::Version)
 }
 
 const USAGES: &[(&[&str], &str)] = &[

@@ -14,7 +14,8 @@ Commands:
   help    Print this message or the help of the given subcommand(s)
 
 Options:
-  -h, --help  Print help
+  -h, --help     Print help
+  -V, --version  Print version
 
 Input:
   Raw messages on standard input, one behind the other, as
@@ -162,6 +163,10 @@ Output:
   Of an input that is refused, `refused at P: NAME` on standard error. Of a rule
   that is refused, `rule refused at P: NAME` there, with the place in the rule.
 
+  Who owns a well-known name is not known, so sender='org.a.B' matches only a
+  message that has that name itself. Of others take the unique name, as ':1.7':
+  `busctl --user list` prints it, and so does GetNameOwner of the bus.
+
 Exit status:
   0  the whole input is messages, or help was asked for
   1  the input is refused: it has bytes that are no message, or ends within one
@@ -171,3 +176,6 @@ Exit status:
 Example:
   dbus-wire filter \"type='signal',member='NameLost'\" < capture | dbus-wire show
 ";
+
+/// Of the version.
+pub(crate) const VERSION: &str = "dbus-wire 0.1.0\n";

@@ -1,4 +1,4 @@
-//! Tests of streams, of the command line and of the commands, over devices that fail and with growths refused.
+//! Tests of streams, of the command line and of the commands, over devices that fail and with growths refused, and of the texts of streams' faults.
 #![tactic(auto)]
 
 #[cfg(test)]
@@ -12,6 +12,8 @@ mod cutter_tests;
 #[cfg(test)]
 mod failure_tests;
 #[cfg(test)]
+mod fault_texts;
+#[cfg(test)]
 mod growth_tests;
 #[cfg(test)]
 mod help_texts;
@@ -23,6 +25,8 @@ mod narrow;
 mod order_tests;
 #[cfg(test)]
 mod pieces;
+#[cfg(test)]
+mod raw_reader_tests;
 #[cfg(test)]
 mod reader_tests;
 #[cfg(test)]

@@ -3,7 +3,7 @@
 use crate::captures::joined;
 use crate::narrow::Narrow;
 use crate::pieces::Pieces;
-use dbus_stream::{FromWrite, Source};
+use dbus_stream::{FromWrite, MOST_READS, Source};
 use dbus_tool::{Command, ExitStatus, command_of, run_reads, run_within, run_words};
 use dbus_value::Limits;
 use std::alloc::{Allocator, Global};
@@ -18,9 +18,6 @@ pub(crate) const CHECK: &[&str] = &["check"];
 pub(crate) const TO_LITTLE: &[&str] = &["swap", "--to", "l"];
 
 pub(crate) const TO_BIG: &[&str] = &["swap", "--to", "B"];
-
-// The most reads that a run may make.
-const MOST_READS: u64 = 1 << 32;
 
 /// How a run ends, and what it wrote on both writers.
 #[derive(Drop)]

@@ -1,72 +1,73 @@
-use Rattle.std.proofs.Common.{◌+◌, ◌++◌, [], append-nil, arith, ap, refl, sym, subst, ◌∙◌, List, ℕ, length, drop}
+use Rattle.std.proofs.Common.{◌≡◌, ◌-◌, ◌≤◌, ◌++◌, [], arith, refl, sym, ap, subst, ◌∙◌, List, ℕ, drop}
 use Rattle.std.specs.List.{slice_range}
-use Rattle.std.proofs.Math.Logic.{∥∥₁_map}
-use Rattle.std.proofs.lemmas.List.{length-append}
-use Rattle.dbus_decode.specs.MessageOutcomes.{IsWhole, IsPartial}
+use Rattle.std.proofs.lemmas.List.{nil_from_length}
+use Rattle.dbus_decode.specs.MessageOutcomes.{IsWhole}
+use Rattle.dbus_decode.proofs.OutcomeLaws.{whole_inside}
 use Rattle.dbus_stream.specs.Checked.{HasTaken}
 use Rattle.dbus_stream.specs.CheckReading.{limits_of}
-use Rattle.dbus_stream.proofs.Lists.{left_after, no_part, part_fits}
+use Rattle.dbus_stream.proofs.Lists.{left_of, part_fits}
 use Rattle.dbus_stream.proofs.check_reader.CheckReader.take_kept.Goals as goal
-use Rattle.dbus_stream.proofs.check_reader.CheckReader.take_kept.Goals.{In-Partial}
+use Rattle.dbus_stream.proofs.check_reader.CheckReader.take_kept.Goals.{In-Some}
 
--- the checker was handed the whole part too
-handed_on : (g : _) (c : In-Partial g) (held : List ℕ) → HasTaken c.args.self.now.checker c.args.self.now.taken held
-    → HasTaken c.take.new.self (c.args.self.now.taken + length (slice_range c.args.self.now.buffer c.args.self.now.start c.args.self.now.end)) (held ++ slice_range c.args.self.now.buffer c.args.self.now.start c.args.self.now.end)
-handed_on g c held taken =
-    let piece = slice_range c.args.self.now.buffer c.args.self.now.start c.args.self.now.end in
-    record {
-      stands = c.in-Partial.ensures.stands held taken.stands;
-      size = ap (λ k. k + length piece) taken.size ∙ sym (length-append held piece);
-    }
-
-pub invariant_of-self-in-Partial : goal.invariant_of-self-in-Partial
-invariant_of-self-in-Partial g c =
+-- the message ends within what is left of the buffer
+fits : (g : _) (c : In-Some g) → c.in-Some.length ≤ c.args.self.now.end - c.args.self.now.start
+fits g c =
     let r = c.args.self.now in
+    let lies = c.in-Some.ensures in
+    let inside = (whole_inside (limits_of r) (slice_range r.buffer r.start r.end) lies.order lies.message c.in-Some.length lies.whole).1 in
     let part = part_fits r.buffer r.start r.end in
+    omega (arith, inside, part)
+
+pub overflow_add-self : goal.overflow_add-self
+overflow_add-self g c =
+    let r = c.args.self.now in
+    let ends = fits g (goal.at.overflow_add-self g c).In-Some in
+    let inside = r.in_buffer in
+    omega (arith, ends, inside)
+
+pub overflow_add-self-in-Some : goal.overflow_add-self-in-Some
+overflow_add-self-in-Some g c =
+    let r = c.args.self.now in
+    let ends = fits g (goal.at.overflow_add-self-in-Some g c).In-Some in
     let counted = r.counted in
+    let few = r.few_reads in
+    let low = r.low_most in
+    omega (arith, ends, counted, few, low)
+
+pub invariant_of-self : goal.invariant_of-self
+invariant_of-self g c =
+    let r = c.args.self.now in
+    let ends = fits g (goal.at.invariant_of-self g c).In-Some in
     let ordered = r.in_order in
+    let counted = r.counted in
     record {
-      in_order = omega arith;
+      in_order = omega (arith, ends, ordered);
       in_buffer = r.in_buffer;
       few_reads = r.few_reads;
       low_most = r.low_most;
+      same_limits = r.same_limits;
       lasting = r.lasting;
-      handed = λ unstopped. ∥∥₁_map (r.handed unstopped) (λ held. (held.0 ++ slice_range r.buffer r.start r.end, handed_on g (goal.at.invariant_of-self-in-Partial g c).In-Partial held.0 held.1));
-      counted = omega (arith, part, ordered, counted);
+      handed = r.handed;
+      counted = omega (arith, ends, ordered, counted);
     }
 
-pub returns-in-Partial-clause-takes : goal.returns-in-Partial-clause-takes
-returns-in-Partial-clause-takes g c = λ w kept.
+pub returns-in-Some-clause-takes : goal.returns-in-Some-clause-takes
+returns-in-Some-clause-takes g c = λ w kept.
     let r = c.args.self.now in
-    let all = kept.held ++ slice_range r.buffer r.start r.end in (
-      record {
-        kept = record {
-          held = all;
-          taken = handed_on g (goal.at.returns-in-Partial-clause-takes g c).In-Partial kept.held kept.taken;
-          bytes = kept.bytes ∙ (sym (append-nil all) ∙ ap (λ l. all ++ l) (sym (no_part r.buffer r.end r.end refl)));
-        };
-        done = refl;
-      },
-      subst (λ l. IsPartial (limits_of r) l) (sym kept.bytes) (c.in-Partial.ensures.answers kept.held kept.taken.stands),
-    )
-
-pub returns-in-Done-clause-takes : goal.returns-in-Done-clause-takes
-returns-in-Done-clause-takes g c = λ w kept.
-    let r = c.args.self.now in
-    let n = c.in-Done.count in
-    let answers = c.in-Done.ensures.answers kept.held kept.taken.stands in
-    let part = part_fits r.buffer r.start r.end in
+    let n = c.in-Some.length in
+    let ends = fits g (goal.at.returns-in-Some-clause-takes g c).In-Some in
     let ordered = r.in_order in
-    let fits = answers.0 in
-    let same = ap (λ k. k + n) kept.taken.size in
+    let lies = c.in-Some.ensures in
+    let none : kept.held ≡ [] = nil_from_length kept.held (sym kept.taken.size ∙ lies.nothing) in
+    let all : w ≡ slice_range r.buffer r.start r.end = kept.bytes ∙ ap (λ (l : List ℕ). l ++ slice_range r.buffer r.start r.end) none in
     record {
-      order = answers.1;
-      message = answers.2;
-      whole = subst (λ k. IsWhole (limits_of r) w answers.1 answers.2 k) (sym same) (subst (λ l. IsWhole (limits_of r) l answers.1 answers.2 (length kept.held + n)) (sym kept.bytes) answers.3);
+      order = lies.order;
+      message = lies.message;
+      whole = subst (λ l. IsWhole (limits_of r) l lies.order lies.message n) (sym all) lies.whole;
       kept = record {
         held = [];
-        taken = record { stands = c.restart.ensures.stands; size = refl };
-        bytes = ap (λ k. drop k w) same ∙ (ap (drop (length kept.held + n)) kept.bytes ∙ sym (left_after kept.held r.buffer r.start r.end n (omega (arith, fits, part, ordered))));
+        taken = subst (λ (l : List ℕ). HasTaken r.checker r.taken l) none kept.taken;
+        bytes = ap (drop n) all ∙ left_of r.buffer r.start r.end n (omega (arith, ends, ordered));
       };
       done = refl;
       unstopped = c.requires;

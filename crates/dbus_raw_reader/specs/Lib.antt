@@ -1,0 +1,4 @@
+pub mod Gathering
+pub mod Reading
+pub mod Next
+pub mod Steps

@@ -1,0 +1,54 @@
+//! The texts of the faults of streams, as people read them.
+
+use dbus_stream::{ReadFault, StreamFault, WriteFault};
+use dbus_value::{Fault, Reason};
+use std::alloc::Global;
+use std::fmt::Display;
+use std::process::Abort;
+use std::test::Fail;
+
+const TRUNCATED: Fault = Fault {
+    at: 1000,
+    reason: Reason::Truncated,
+};
+
+const STREAM_FAULTS: &[(StreamFault, &str)] = &[
+    (StreamFault::Memory, "allocation failed"),
+    (
+        StreamFault::Format(TRUNCATED),
+        "the bytes are no message: Truncated at offset 1000",
+    ),
+];
+
+const READ_FAULTS: &[(ReadFault, &str)] = &[
+    (ReadFault::Memory, "allocation failed"),
+    (
+        ReadFault::Format(TRUNCATED),
+        "the bytes are no message: Truncated at offset 1000",
+    ),
+    (ReadFault::Device, "the device failed"),
+    (ReadFault::TooManyReads, "too many reads"),
+];
+
+const WRITE_FAULTS: &[(WriteFault, &str)] = &[
+    (WriteFault::Memory, "allocation failed"),
+    (
+        WriteFault::Device { written: 24 },
+        "the device failed after 24 bytes",
+    ),
+];
+
+// Each has its text.
+fn are_told<T: Display>(rt: &impl Abort, alloc: Global, rows: &[(T, &str)]) -> Result<(), Fail> {
+    for (told, text) in rows {
+        assert_eq!(rt; format!(in alloc; "{told}")?.as_str(), *text);
+    }
+    Ok(())
+}
+
+#[test]
+fn faults_of_streams(rt: HostRuntime) -> Result<(), Fail> {
+    are_told(&rt, rt.alloc(), STREAM_FAULTS)?;
+    are_told(&rt, rt.alloc(), READ_FAULTS)?;
+    are_told(&rt, rt.alloc(), WRITE_FAULTS)
+}

@@ -1,0 +1,290 @@
+//! Readers of raw messages whose bytes come in pieces, over sources that fail at each read and that may make few reads, and
+//! with each growth refused.
+
+use crate::captures::*;
+use crate::pieces::Pieces;
+use dbus_raw_reader::RawReader;
+use dbus_stream::ReadFault;
+use dbus_value::{Fault, Reason};
+use refusing_alloc::Refusing;
+use std::alloc::Allocator;
+use std::process::Abort;
+use std::test::Fail;
+
+// A call of a reader.
+#[derive(Clone, Copy)]
+enum Call {
+    Next,
+    Advance,
+    AdvanceKept,
+}
+
+use Call::{Advance, AdvanceKept, Next};
+
+// What a call gives: the bytes of a message, none where it gives none; or a fault.
+#[derive(Clone, Copy)]
+enum Given<'a> {
+    Gives(&'a [u8]),
+    Fails(ReadFault),
+}
+
+use Given::{Fails, Gives};
+
+const NOTHING: Given = Gives(b"");
+
+const FAILED: Given = Fails(ReadFault::Device);
+
+const TOO_MANY: Given = Fails(ReadFault::TooManyReads);
+
+const TRUNCATED_AT_23: Given = Fails(ReadFault::Format(Fault {
+    at: 23,
+    reason: Reason::Truncated,
+}));
+
+const NO_REPLY_SERIAL: Given = Fails(ReadFault::Format(Fault {
+    at: 16,
+    reason: Reason::FieldMissing(5),
+}));
+
+// Whether a call that lends answers so, and lends this.
+fn lends<A: Allocator + Copy>(
+    reader: &RawReader<Pieces, A>,
+    answer: Result<bool, ReadFault>,
+    given: Given,
+) -> bool {
+    let bytes = reader.message();
+    match answer {
+        Ok(lent) => lent != bytes.is_empty() && matches!(given, Gives(wanted) if wanted == bytes),
+        Err(fault) => bytes.is_empty() && matches!(given, Fails(wanted) if wanted == fault),
+    }
+}
+
+// Whether a call gives this.
+fn call_gives<A: Allocator + Copy>(
+    reader: &mut RawReader<Pieces, A>,
+    call: Call,
+    given: Given,
+) -> bool {
+    match call {
+        Next => match reader.next() {
+            Ok(Some(bytes)) => matches!(given, Gives(wanted) if wanted == bytes.as_slice()),
+            Ok(None) => matches!(given, Gives(wanted) if wanted.is_empty()),
+            Err(fault) => matches!(given, Fails(wanted) if wanted == fault),
+        },
+        Advance => {
+            let answer = reader.advance();
+            lends(reader, answer, given)
+        }
+        AdvanceKept => {
+            let answer = reader.advance_kept();
+            lends(reader, answer, given)
+        }
+    }
+}
+
+// The calls of the reader of row `n` give this, one after another.
+fn calls_give<A: Allocator + Copy>(
+    rt: &impl Abort,
+    n: u64,
+    reader: &mut RawReader<Pieces, A>,
+    script: &[(Call, Given)],
+) {
+    for (i, (call, given)) in script.iter().enumerate() {
+        assert!(rt; call_gives(reader, *call, *given), "at {n}, {i}");
+    }
+}
+
+// The bytes; how many of them come with a read, and which read fails; how many reads may be made; what the calls give, one
+// after another; and how many bytes the messages have, and how many reads were made and failed.
+const READ: &[(&[u8], usize, u64, u32, &[(Call, Given<'static>)], [u64; 3])] = &[
+    (
+        SIGNAL,
+        1000,
+        0,
+        100,
+        &[
+            (AdvanceKept, NOTHING),
+            (Advance, Gives(SIGNAL)),
+            (AdvanceKept, NOTHING),
+            (Advance, NOTHING),
+            (Next, NOTHING),
+        ],
+        [96, 2, 0],
+    ),
+    (
+        SIGNAL,
+        1,
+        0,
+        100,
+        &[(Next, Gives(SIGNAL)), (Next, NOTHING), (Advance, NOTHING)],
+        [96, 97, 0],
+    ),
+    (
+        SIGNAL,
+        40,
+        2,
+        100,
+        &[
+            (Advance, FAILED),
+            (AdvanceKept, NOTHING),
+            (Advance, Gives(SIGNAL)),
+            (Next, NOTHING),
+        ],
+        [96, 5, 1],
+    ),
+    (
+        RETURN,
+        1,
+        0,
+        2,
+        &[(Advance, TOO_MANY), (Next, TOO_MANY)],
+        [0, 2, 0],
+    ),
+    (
+        RETURN,
+        1,
+        0,
+        24,
+        &[
+            (Next, Gives(RETURN)),
+            (Next, TOO_MANY),
+            (AdvanceKept, TOO_MANY),
+        ],
+        [24, 24, 0],
+    ),
+    // The last read finds the end.
+    (
+        RETURN,
+        1,
+        0,
+        25,
+        &[
+            (Advance, Gives(RETURN)),
+            (Advance, NOTHING),
+            (Next, NOTHING),
+        ],
+        [24, 25, 0],
+    ),
+    (
+        ALL_BUT_ONE,
+        1,
+        0,
+        100,
+        &[
+            (Next, TRUNCATED_AT_23),
+            (Advance, TRUNCATED_AT_23),
+            (AdvanceKept, TRUNCATED_AT_23),
+        ],
+        [0, 24, 0],
+    ),
+    // A fault is answered at the read that brings its deciding byte.
+    (
+        BARE,
+        1,
+        0,
+        100,
+        &[
+            (Advance, NO_REPLY_SERIAL),
+            (Next, NO_REPLY_SERIAL),
+            (AdvanceKept, NO_REPLY_SERIAL),
+        ],
+        [0, 16, 0],
+    ),
+];
+
+#[test]
+fn messages_and_faults(rt: HostRuntime) {
+    for (n, (bytes, size, fails_at, most, script, counts)) in READ.iter().enumerate() {
+        let source = Pieces::new(bytes, *size, *fails_at);
+        let mut reader = RawReader::with_reads(rt.alloc(), source, u64::from(*most));
+        calls_give(&rt, n as u64, &mut reader, *script);
+        let done = reader.done();
+        let source = reader.into_source();
+        assert_eq!(rt; [done, source.calls, source.failures], *counts, "at {n}");
+    }
+}
+
+#[test]
+fn messages_in_reads_of_each_size(rt: HostRuntime) -> Result<(), Fail> {
+    let bytes = joined(rt.alloc(), &[RETURN, SIGNAL, BIG_RETURN])?;
+    let script = [
+        (Advance, Gives(RETURN)),
+        (Next, Gives(SIGNAL)),
+        (Advance, Gives(BIG_RETURN)),
+        (Next, NOTHING),
+    ];
+    for size in 1..bytes.len() + 1 {
+        let source = Pieces::new(bytes.as_slice(), size, 0);
+        let mut reader = RawReader::new(rt.alloc(), source);
+        calls_give(&rt, size as u64, &mut reader, script.as_slice());
+    }
+    Ok(())
+}
+
+// So many messages that the last of them is cut by the end of the reader's buffer.
+const MANY: usize = 2_731;
+
+#[test]
+fn a_message_that_two_reads_give(rt: HostRuntime) -> Result<(), Fail> {
+    let mut bytes = Vec::new(rt.alloc());
+    for _ in 0..MANY {
+        bytes.extend_from_slice(RETURN)?;
+    }
+    let heap = Refusing::none(rt.alloc());
+    let source = Pieces::new(bytes.as_slice(), bytes.len(), 0);
+    let mut reader = RawReader::new(&heap, source);
+    for n in 1..MANY {
+        assert!(rt; call_gives(&mut reader, Advance, Gives(RETURN)), "at {n}");
+    }
+    // What lies in the buffer takes no memory.
+    assert_eq!(rt; heap.growths(), 0);
+    calls_give(
+        &rt,
+        0,
+        &mut reader,
+        [(Advance, Gives(RETURN)), (Advance, NOTHING)].as_slice(),
+    );
+    let done = reader.done();
+    assert_eq!(rt; [done, reader.into_source().calls], [65_544, 3]);
+    Ok(())
+}
+
+// A call that meets a refused growth, made again, gives the message, and nothing is lost. Where there are fewer growths, how
+// many there are.
+fn growth_refused(
+    rt: &(impl Abort + AllocGlobal),
+    bytes: &[u8],
+    size: usize,
+    n: u64,
+) -> Option<u64> {
+    let heap = Refusing::none(rt.alloc());
+    let mut reader = RawReader::new(&heap, Pieces::new(bytes, size, 0));
+    calls_give(rt, n, &mut reader, [(Advance, Gives(RETURN))].as_slice());
+    heap.refuse_nth(n);
+    let no_memory = call_gives(&mut reader, Next, Fails(ReadFault::Memory));
+    if heap.refusals() == 0 {
+        return Some(heap.growths());
+    }
+    assert!(rt; no_memory, "at {n}");
+    assert_eq!(rt; reader.done(), 24, "at {n}");
+    calls_give(
+        rt,
+        n,
+        &mut reader,
+        [(Next, Gives(SIGNAL)), (Next, NOTHING)].as_slice(),
+    );
+    assert_eq!(rt; reader.done(), 120, "at {n}");
+    drop(reader);
+    assert_eq!(rt; heap.blocks(), 0, "at {n}");
+    None
+}
+
+#[test]
+fn each_growth_refused(rt: HostRuntime) -> Result<(), Fail> {
+    let bytes = joined(rt.alloc(), &[RETURN, SIGNAL])?;
+    for size in [1, 25, 1000] {
+        let met = (1..100).find_map(|n| growth_refused(&rt, bytes.as_slice(), size, n));
+        assert!(rt; matches!(met, Some(met) if met > 0), "at {size}");
+    }
+    Ok(())
+}
