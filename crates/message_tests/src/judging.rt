@@ -77,14 +77,18 @@ fn messages_at_fault(rt: HostRuntime) -> Result<(), Fail> {
     Ok(())
 }
 
-// Under limits too. Judging answers none where the depth is below 3.
+// Under limits too, with any front of the bytes.
 #[test]
 fn messages_under_limits(rt: HostRuntime) {
     for (row, (bytes, (message, array, depth, fds), _)) in ROWS.iter().enumerate() {
         let limits = Limits::new(*message, *array, *depth)
             .expect(&rt, "limits in range")
             .with_fds(*fds);
+        for n in 0..bytes.len() {
+            let (used, length) = lengths(rt.alloc(), limits, &bytes[..n]);
+            assert_eq!(rt; length, used, "at {row}, {n}");
+        }
         let (used, length) = lengths(rt.alloc(), limits, bytes);
-        assert_eq!(rt; length, if *depth < 3 { None } else { used }, "at {row}");
+        assert_eq!(rt; length, used, "at {row}");
     }
 }

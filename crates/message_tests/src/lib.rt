@@ -1,5 +1,5 @@
-//! Tests of `dbus_message`, `dbus_check` and `dbus_judge`: messages decoded, checked in pieces, judged, encoded and built of
-//! their parts, stated lengths, limits that are handed in, each fault, and each growth refused.
+//! Tests of `dbus_message`, `dbus_check`, `dbus_judge`, `dbus_view` and `dbus_swap`: messages decoded, checked in pieces, judged,
+//! viewed, turned, encoded and built of their parts, stated lengths, limits that are handed in, each fault, and each growth refused.
 #![tactic(auto)]
 
 #[cfg(test)]
@@ -18,5 +18,9 @@ mod judging;
 mod limits;
 #[cfg(test)]
 mod stated;
+#[cfg(test)]
+mod turning;
+#[cfg(test)]
+mod views;
 #[cfg(test)]
 mod whole;

@@ -7,11 +7,15 @@ use std::alloc::Global;
 use std::process::Abort;
 use std::test::Fail;
 
-// A reply, whose field array has 8 bytes; a message without fields; and a reply with the index 0 in its body, of which one
-// descriptor comes.
+// A reply, whose field array has 8 bytes; a message without fields; a reply without the field that it requires; a message without
+// fields that states a body; and a reply with the index 0 in its body, of which one descriptor comes.
 const REPLY: &[u8] = b"\x6c\x02\x01\x01\0\0\0\0\x01\0\0\0\x08\0\0\0\x05\x01u\0\x01\0\0\0";
 
 const BARE: &[u8] = b"\x6c\x05\0\x01\0\0\0\0\x01\0\0\0\0\0\0\0";
+
+const LACKING: &[u8] = b"\x6c\x02\0\x01\0\0\0\0\x01\0\0\0\0\0\0\0";
+
+const FILLED: &[u8] = b"\x6c\x05\0\x01\x04\0\0\0\x01\0\0\0\0\0\0\0\0\0\0\0";
 
 const INDEXED: &[u8] =
     b"\x6c\x02\0\x01\x04\0\0\0\x01\0\0\0\x18\0\0\0\x05\x01u\0\x01\0\0\0\x08\x01g\0\x01h\0\0\x09\x01u\0\x01\0\0\0\0\0\0\0";
@@ -53,6 +57,22 @@ pub const ROWS: &[Row] = &[
         Some((12, Reason::TooDeep, 12)),
     ),
     (BARE, (16, 0, 1, FdRule::BelowCount), None),
+    (BARE, (16, 0, 2, FdRule::Any), None),
+    (
+        BARE,
+        (16, 0, 0, FdRule::Any),
+        Some((12, Reason::TooDeep, 12)),
+    ),
+    (
+        LACKING,
+        (16, 0, 1, FdRule::Any),
+        Some((16, Reason::FieldMissing(5), 16)),
+    ),
+    (
+        FILLED,
+        (20, 0, 2, FdRule::Any),
+        Some((16, Reason::Trailing, 16)),
+    ),
     (INDEXED, (44, 24, 3, FdRule::BelowCount), None),
 ];
 

@@ -1,0 +1,10 @@
+mod Seams
+mod Turned
+mod NumberRuns
+mod Parts
+mod Remaining
+mod Containers
+mod Enclosed
+mod Lists
+mod Signed
+mod MessageParts

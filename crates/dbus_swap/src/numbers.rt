@@ -1,0 +1,66 @@
+//! Numbers, each turned where it stands. D-Bus Specification, "Marshaling (Wire Format)".
+#![tactic(auto)]
+
+ghost use Rattle.std.specs.Prelude.{◌≡◌, ℕ, ◌+◌, ◌<◌, ◌≤◌, ◌++◌, List, length, take, drop, reverse};
+ghost use Rattle.dbus_texts.specs.Types.{NumberCode, NumberType};
+ghost use Rattle.dbus_types.specs.Alignments.{width};
+ghost use Rattle.dbus_value_model.specs.Bytes.{gap_to};
+ghost use Rattle.dbus_value_model.specs.declared.order.Order.{Order};
+ghost use Rattle.dbus_value_model.specs.Spelling.{spellings};
+ghost use Rattle.dbus_value_model.specs.Values.{ValueTrees, AllOf};
+ghost use Rattle.dbus_swap.specs.Turning.{other, IsPut};
+ghost use Rattle.dbus_swap.specs.Widths.{number_width};
+
+use dbus_value_judge::free_width;
+
+/// How many bytes a number has of a type that begins with this byte; else 0.
+#[inline]
+pub(crate) fn number_width(code: u8) -> u8
+    ensures value { result ≡ number_width code }
+    ensures few { result ≤ 8 }
+{
+    match code {
+        b'b' | b'h' => 4,
+        other => free_width(other),
+    }
+}
+
+/// The number of four bytes at `at`, turned.
+#[inline]
+pub(crate) fn turn_4(out: &mut [u8], at: usize)
+    requires { at + 4 ≤ length out.old }
+    ensures { out.new ≡ take at out.old ++ (reverse (take 4 (drop at out.old)) ++ drop (at + 4) out.old) }
+{
+    out[at..at + 4].reverse();
+}
+
+/// The number of so many bytes at `at`, turned: 1, 2, 4 or 8.
+#[inline]
+pub(crate) fn turn_number(out: &mut [u8], at: usize, size: u8)
+    requires { at + size ≤ length out.old }
+    ensures { (k : NumberCode) → width k ≡ size → out.new ≡ take at out.old ++ (reverse (take size (drop at out.old)) ++ drop (at + size) out.old) }
+{
+    if size == 2 {
+        out[at..at + 2].reverse();
+    } else if size == 4 {
+        out[at..at + 4].reverse();
+    } else if size == 8 {
+        out[at..at + 8].reverse();
+    }
+}
+
+/// The numbers from `at` up to `end`, each of so many bytes, turned.
+#[inline]
+pub(crate) fn turn_numbers(out: &mut [u8], at: usize, end: usize, size: u8)
+    requires some { 0 < size }
+    requires at_most { at ≤ end }
+    requires inside { end ≤ length out.old }
+    ensures { (order : Order) (k : NumberCode) (xs : ValueTrees) (rest : List ℕ) → width k ≡ size → AllOf (NumberType k) xs → gap_to size at ≡ 0 → drop at out.old ≡ spellings order at xs ++ rest → end ≡ at + length (spellings order at xs) → IsPut at (spellings (other order) at xs) rest out.old out.new }
+{
+    let step = usize::from(size);
+    let mut place = at;
+    while end - place >= step {
+        turn_number(out, place, size);
+        place += step;
+    }
+}
