@@ -1,49 +1,61 @@
--- Escaped texts, character by character.
-use Rattle.std.proofs.Common.{◌≡◌, ◌≢◌, ℕ, ◌+◌, ◌/◌, ◌%◌, ◌≤◌, List, [], ◌∷◌, ◌++◌, Bool, true, false, cond, nat_lt as ltb, refl, ap, ◌∙◌, arith, inl, inr}
+-- Escaped texts, byte by byte.
+use Rattle.std.proofs.Common.{◌≡◌, ℕ, ◌+◌, ◌-◌, ◌<◌, ◌≤◌, List, [], ◌∷◌, ◌++◌, length, get_or, take, drop, Bool, true, false, cond, nat_lt, ◌||◌, eqb, refl, sym, ap, ◌∙◌, arith, append-nil, append_assoc}
 use Rattle.std.specs.List.{flat_map}
-use Rattle.std.proofs.lemmas.Str.{encodes-append, encode_ascii}
-use Rattle.std.proofs.lemmas.List.{append-nil}
+use Rattle.std.proofs.Math.Seq.{take-length}
+use Rattle.std.proofs.lemmas.List.{take_more, take_rest, length-drop, get_or-drop}
+use Rattle.std.proofs.lemmas.Bool.Decides.{nat_tests}
 use Rattle.std.proofs.lemmas.List.Concat.{flat_map-append}
-use Rattle.std.proofs.lemmas.Bool.{ltb-true, cases_lt}
-use Rattle.dbus_show.specs.ShownValues.{escape}
-use lib.Utf8.{encode, encodes}
+use Rattle.dbus_show.specs.ShownValues.{escape, is_escaped}
 
-escape_high : (b : ℕ) → 128 ≤ b → escape b ≡ b ∷ []
-escape_high b h = grind arith
+-- the cases of an escape
+plain_cases : (low quote backslash delete : Bool) (a b c d : List ℕ) → (low || quote || backslash || delete) ≡ false → cond quote a (cond backslash b (cond (low || delete) c d)) ≡ d
+plain_cases true q s k a b c d e = absurd (cc)
+plain_cases false true s k a b c d e = absurd (cc)
+plain_cases false false true k a b c d e = absurd (cc)
+plain_cases false false false true a b c d e = absurd (cc)
+plain_cases false false false false a b c d e = refl
 
-escape_low : (b : ℕ) → 32 ≤ b → b ≢ 34 → b ≢ 92 → b ≢ 127 → escape b ≡ b ∷ []
-escape_low b h1 h2 h3 h4 = grind arith
+escape_plain : (b : ℕ) → is_escaped b ≡ false → escape b ≡ b ∷ []
+escape_plain b e = plain_cases (nat_lt b 32) (eqb b 34) (eqb b 92) (eqb b 127) _ _ _ _ e
 
-abbrev AreHigh : List ℕ → Type 0
-AreHigh [] = Unit {0}
-AreHigh (b ∷ bs) = (128 ≤ b) × AreHigh bs
+escape_more : (xs : List ℕ) (i : ℕ) → i < length xs → flat_map escape (take (i + 1) xs) ≡ flat_map escape (take i xs) ++ escape (get_or xs i 0)
+escape_more xs i h =
+    let x = get_or xs i 0 in
+    ap (flat_map escape) (take_more xs i 0 h) ∙ flat_map-append escape (take i xs) (x ∷ []) ∙ ap (λ s. flat_map escape (take i xs) ++ s) (append-nil (escape x))
 
-escape_all_high : (bs : List ℕ) → AreHigh bs → flat_map escape bs ≡ bs
-escape_all_high [] h = refl
-escape_all_high (b ∷ bs) h = rw (escape_high b h.0, escape_all_high bs h.1) refl
+-- bytes from one place to another
+abbrev pub run : List ℕ → ℕ → ℕ → List ℕ
+run xs start i = take (i - start) (drop start xs)
 
-pick : (x y z : Bool) (a b c d : List ℕ) → x ≢ true → AreHigh b → AreHigh c → AreHigh d → AreHigh (cond x a (cond y b (cond z c d)))
-pick true y z a b c d n hb hc hd = absurd (n refl)
-pick false true z a b c d n hb hc hd = hb
-pick false false true a b c d n hb hc hd = hc
-pick false false false a b c d n hb hc hd = hd
+run_more : (xs : List ℕ) (start i : ℕ) → start ≤ i → i < length xs → run xs start (i + 1) ≡ run xs start i ++ get_or xs i 0 ∷ []
+run_more xs start i h k =
+    let n : (i + 1) - start ≡ (i - start) + 1 = omega arith in
+    let at : start + (i - start) ≡ i = omega arith in
+    let l = length-drop start xs in
+    let more : i - start < length (drop start xs) = omega arith in
+    ap (λ j. take j (drop start xs)) n ∙ take_more (drop start xs) (i - start) 0 more ∙ ap (λ x. run xs start i ++ x ∷ []) (get_or-drop start xs (i - start) 0 ∙ ap (λ j. get_or xs j 0) at)
 
-high_encode : (c : ℕ) → 128 ≤ c → AreHigh (encode c)
-unfolding encode
-high_encode c h =
-    let two : AreHigh ((192 + c / 64) ∷ (128 + c % 64) ∷ []) = (omega arith, (omega arith, tt)) in
-    let three : AreHigh ((224 + c / 4096) ∷ (128 + c / 64 % 64) ∷ (128 + c % 64) ∷ []) = (omega arith, (omega arith, (omega arith, tt))) in
-    let four : AreHigh ((240 + c / 262144) ∷ (128 + c / 4096 % 64) ∷ (128 + c / 64 % 64) ∷ (128 + c % 64) ∷ []) = (omega arith, (omega arith, (omega arith, (omega arith, tt)))) in
-    pick (ltb c 128) (ltb c 2048) (ltb c 65536) (c ∷ []) ((192 + c / 64) ∷ (128 + c % 64) ∷ []) ((224 + c / 4096) ∷ (128 + c / 64 % 64) ∷ (128 + c % 64) ∷ []) ((240 + c / 262144) ∷ (128 + c / 4096 % 64) ∷ (128 + c / 64 % 64) ∷ (128 + c % 64) ∷ []) (λ e. let l = ltb-true c 128 e in omega arith) two three four
+-- Every byte since the last escape stands for itself.
+abbrev pub IsPlainSince : List ℕ → ℕ → ℕ → Type 0
+IsPlainSince xs start i = flat_map escape (take i xs) ≡ flat_map escape (take start xs) ++ run xs start i
 
-one : (c : ℕ) → flat_map escape (c ∷ []) ≡ escape c
-one c = append-nil (escape c)
+pub plain_more : (xs : List ℕ) (start i : ℕ) → start ≤ i → i < length xs → is_escaped (get_or xs i 0) ≡ false → IsPlainSince xs start i → IsPlainSince xs start (i + 1)
+plain_more xs start i h k e p =
+    let x = get_or xs i 0 in
+    let before = flat_map escape (take start xs) in
+    escape_more xs i k ∙ ap (λ s. flat_map escape (take i xs) ++ s) (escape_plain x e) ∙ ap (λ s. s ++ x ∷ []) p ∙ append_assoc before (run xs start i) (x ∷ []) ∙ ap (λ s. before ++ s) (sym (run_more xs start i h k))
 
-pub escape_plain : (c : ℕ) → 32 ≤ c → c ≢ 34 → c ≢ 92 → c ≢ 127 → flat_map escape (encode c) ≡ encode c
-escape_plain c h1 h2 h3 h4 = elim (cases_lt c 128) [
-  | inl h ↦ let e = encode_ascii c h in rw e (one c ∙ escape_low c h1 h2 h3 h4)
-  | inr h ↦ escape_all_high (encode c) (high_encode c h)
-]
+pub escape_behind : (xs : List ℕ) (start i : ℕ) → i < length xs → IsPlainSince xs start i → (flat_map escape (take start xs) ++ run xs start i) ++ escape (get_or xs i 0) ≡ flat_map escape (take (i + 1) xs)
+escape_behind xs start i h p = ap (λ s. s ++ escape (get_or xs i 0)) (sym p) ∙ sym (escape_more xs i h)
 
-pub escape_push : (cs : List ℕ) (c : ℕ) → flat_map escape (encodes (cs ++ c ∷ [])) ≡ flat_map escape (encodes cs) ++ flat_map escape (encode c)
-escape_push cs c = ap (flat_map escape) (encodes-append cs (c ∷ []) ∙ ap (λ x. encodes cs ++ x) (append-nil (encode c))) ∙ flat_map-append escape (encodes cs) (encode c)
+pub plain_none : (xs : List ℕ) (i : ℕ) → IsPlainSince xs i i
+plain_none xs i =
+    let n : i - i ≡ 0 = omega arith in
+    let before = flat_map escape (take i xs) in
+    sym (append-nil before) ∙ ap (λ j. before ++ take j (drop i xs)) (sym n)
+
+pub plain_last : (xs : List ℕ) (start : ℕ) → IsPlainSince xs start (length xs) → flat_map escape (take start xs) ++ drop start xs ≡ flat_map escape xs
+plain_last xs start p = ap (λ r. flat_map escape (take start xs) ++ r) (sym (take_rest xs start)) ∙ sym p ∙ ap (flat_map escape) (take-length xs)
+
+pub escaped_ascii : (b : ℕ) → is_escaped b ≡ true → b < 128
+escaped_ascii b e = grind (arith, nat_tests)

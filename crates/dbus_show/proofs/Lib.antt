@@ -1,6 +1,6 @@
+pub mod Gaining
 pub mod EscapedText
 pub mod HexDigits
-pub mod Appending
 pub mod ItemTexts
 pub mod SignedNumbers
 pub mod OtherCases

@@ -1,3 +1,4 @@
 pub mod ShownValues
 pub mod ShownMessages
+pub mod Gains
 pub mod Laws

@@ -1,7 +1,7 @@
 -- The text of a value: the code of its type, a colon and its number or text; an array behind its signature; the other
 -- containers in brackets of their own.
 -- The codes and signatures are those of the D-Bus Specification, "Type System", "Summary of types".
-use Rattle.std.specs.Prelude.{ℕ, List, [], ◌∷◌, ◌++◌, codes, decimal, ◌||◌, nat_eq, nat_lt, if◌then◌else◌}
+use Rattle.std.specs.Prelude.{ℕ, List, [], ◌∷◌, ◌++◌, Bool, codes, decimal, ◌||◌, nat_eq, nat_lt, if◌then◌else◌}
 use Rattle.std.specs.Fmt.{signed_decimal}
 use Rattle.std.specs.Int.{cast_signed, w16, w32, w64}
 use Rattle.std.specs.List.{concat, flat_map, join_by}
@@ -38,6 +38,10 @@ escape b =
     else if nat_eq b 92 then codes "\\\\"
     else if nat_lt b 32 || nat_eq b 127 then codes "\\x" ++ encode_lower (b ∷ [])
     else b ∷ []
+
+-- whether a byte is shown as something other than itself, as in each case of `escape` but the last
+abbrev pub is_escaped : ℕ → Bool
+is_escaped b = nat_lt b 32 || nat_eq b 34 || nat_eq b 92 || nat_eq b 127
 
 abbrev pub quoted : List ℕ → List ℕ
 quoted text = concat (codes "\"" ∷ flat_map escape text ∷ codes "\"" ∷ [])

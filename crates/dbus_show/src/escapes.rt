@@ -1,35 +1,58 @@
 //! Texts with their escapes.
 #![tactic(auto)]
 
-ghost use Rattle.std.specs.Prelude.{◌≡◌, ◌++◌, OnOk, string_bytes, encode_utf8};
+ghost use Rattle.std.specs.Prelude.{◌≡◌, ◌<◌, true};
 ghost use Rattle.std.specs.List.{flat_map};
-ghost use Rattle.dbus_show.specs.ShownValues.{escape, quoted};
+ghost use Rattle.dbus_show.specs.Gains.{Gains};
+ghost use Rattle.dbus_show.specs.ShownValues.{escape, is_escaped as is_escaped_byte, quoted};
 
+use crate::draft::Draft;
 use crate::hexadecimal::write_hex;
-use std::alloc::{AllocError, Allocator};
+use std::alloc::Allocator;
 
-/// Appends a character, escaped where it needs to be.
-fn write_char<A: Allocator>(out: &mut String<A>, c: char) -> Result<(), AllocError>
-    ensures { OnOk result (string_bytes out.new ≡ string_bytes out.old ++ flat_map escape (encode_utf8 c)) }
+/// Whether a byte is not shown as itself.
+fn is_escaped(byte: u8) -> bool
+    ensures { result ≡ is_escaped_byte byte }
 {
-    match c {
-        '"' => out.push_str("\\\""),
-        '\\' => out.push_str("\\\\"),
-        _ if c.is_ascii_control() => {
-            out.push_str("\\x")?;
-            write_hex(out, &[c as u8])
+    byte < 32 || byte == b'"' || byte == b'\\' || byte == 127
+}
+
+/// Appends what stands for a byte that is not shown as itself.
+fn write_escape<A: Allocator>(draft: &mut Draft<A>, byte: u8)
+    requires { is_escaped_byte byte ≡ true }
+    ensures { Gains draft.old (escape byte) draft.new }
+{
+    match byte {
+        b'"' => draft.push_str("\\\""),
+        b'\\' => draft.push_str("\\\\"),
+        _ => {
+            draft.push_str("\\x");
+            write_hex(draft, &[byte]);
         }
-        _ => out.push(c),
     }
 }
 
-/// Appends a text between quotation marks.
-pub fn write_quoted<A: Allocator>(out: &mut String<A>, text: &str) -> Result<(), AllocError>
-    ensures { OnOk result (string_bytes out.new ≡ string_bytes out.old ++ quoted text.now) }
+/// Appends a text with its escapes, and what stands between two of them at once.
+fn write_escaped<A: Allocator>(draft: &mut Draft<A>, text: &str)
+    ensures { Gains draft.old (flat_map escape text.now) draft.new }
 {
-    out.push('"')?;
-    for c in text.chars() {
-        write_char(out, c)?;
+    let bytes = text.as_bytes();
+    let mut start = 0;
+    for (i, byte) in bytes.iter().enumerate() {
+        if is_escaped(*byte) {
+            draft.push_str(&text[start..i]);
+            write_escape(draft, *byte);
+            start = i + 1;
+        }
     }
-    out.push('"')
+    draft.push_str(&text[start..]);
+}
+
+/// Appends a text between quotation marks.
+pub fn write_quoted<A: Allocator>(draft: &mut Draft<A>, text: &str)
+    ensures { Gains draft.old (quoted text.now) draft.new }
+{
+    draft.push_code(b'"');
+    write_escaped(draft, text);
+    draft.push_code(b'"');
 }

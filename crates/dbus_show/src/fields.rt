@@ -1,17 +1,20 @@
 //! Header fields as text.
 #![tactic(auto)]
 
-ghost use Rattle.std.specs.Prelude.{◌≡◌, ◌++◌, OnOk, string_bytes};
+ghost use Rattle.std.specs.Prelude.{◌≡◌};
 ghost use Rattle.std.specs.List.{flat_map};
 ghost use Rattle.dbus_value_model.specs.ValueViews.{value_tree};
 ghost use Rattle.dbus_message_model.specs.Messages.{is_known as is_known_code};
 ghost use Rattle.dbus_message_model.specs.PartsViews.{field_tree, field_trees};
+ghost use Rattle.dbus_show.specs.Gains.{Gains};
 ghost use Rattle.dbus_show.specs.ShownMessages.{bare, field_name, field_text, field_value};
 
+use crate::draft::Draft;
+use crate::numbers::write_integer;
 use crate::values::write_value;
 use dbus_message::HeaderField;
 use dbus_value::Value;
-use std::alloc::{AllocError, Allocator};
+use std::alloc::Allocator;
 
 /// Whether a field's code has a meaning. D-Bus Specification, "Header Fields".
 fn is_known(code: u8) -> bool
@@ -21,70 +24,63 @@ fn is_known(code: u8) -> bool
 }
 
 /// Appends the name of a field with this code.
-fn write_field_name<A: Allocator>(out: &mut String<A>, code: u8) -> Result<(), AllocError>
-    ensures { OnOk result (string_bytes out.new ≡ string_bytes out.old ++ field_name code) }
+fn write_field_name<A: Allocator>(draft: &mut Draft<A>, code: u8)
+    ensures { Gains draft.old (field_name code) draft.new }
 {
     match code {
-        1 => out.push_str("path"),
-        2 => out.push_str("interface"),
-        3 => out.push_str("member"),
-        4 => out.push_str("error_name"),
-        5 => out.push_str("reply_serial"),
-        6 => out.push_str("destination"),
-        7 => out.push_str("sender"),
-        8 => out.push_str("signature"),
-        9 => out.push_str("unix_fds"),
-        _ => write!(out, "field{code}"),
+        1 => draft.push_str("path"),
+        2 => draft.push_str("interface"),
+        3 => draft.push_str("member"),
+        4 => draft.push_str("error_name"),
+        5 => draft.push_str("reply_serial"),
+        6 => draft.push_str("destination"),
+        7 => draft.push_str("sender"),
+        8 => draft.push_str("signature"),
+        9 => draft.push_str("unix_fds"),
+        _ => {
+            draft.push_str("field");
+            write_integer(draft, code);
+        }
     }
 }
 
 /// Appends the value of a known field: a text or a UINT32 alone.
-fn write_bare<A: Allocator + Copy>(out: &mut String<A>, value: &Value<A>) -> Result<(), AllocError>
-    ensures { OnOk result (string_bytes out.new ≡ string_bytes out.old ++ bare (value_tree value.now)) }
+fn write_bare<A: Allocator>(draft: &mut Draft<A>, value: &Value<A>)
+    ensures { Gains draft.old (bare (value_tree value.now)) draft.new }
 {
     match value {
-        Value::Str(text) | Value::Path(text) | Value::Sig(text) => out.push_str(text),
-        Value::U32(number) => write!(out, "{number}"),
-        _ => write_value(out, value),
+        Value::Str(text) | Value::Path(text) | Value::Sig(text) => draft.push_str(text),
+        Value::U32(number) => write_integer(draft, *number),
+        _ => write_value(draft, value),
     }
 }
 
 /// Appends a field's value.
-fn write_field_value<A: Allocator + Copy>(
-    out: &mut String<A>,
-    field: &HeaderField<A>,
-) -> Result<(), AllocError>
-    ensures { OnOk result (string_bytes out.new ≡ string_bytes out.old ++ field_value (field_tree field.now)) }
+fn write_field_value<A: Allocator>(draft: &mut Draft<A>, field: &HeaderField<A>)
+    ensures { Gains draft.old (field_value (field_tree field.now)) draft.new }
 {
     if is_known(field.code) {
-        write_bare(out, &field.value)
+        write_bare(draft, &field.value);
     } else {
-        write_value(out, &field.value)
+        write_value(draft, &field.value);
     }
 }
 
 /// Appends a field behind a space.
-fn write_field<A: Allocator + Copy>(
-    out: &mut String<A>,
-    field: &HeaderField<A>,
-) -> Result<(), AllocError>
-    ensures { OnOk result (string_bytes out.new ≡ string_bytes out.old ++ field_text (field_tree field.now)) }
+fn write_field<A: Allocator>(draft: &mut Draft<A>, field: &HeaderField<A>)
+    ensures { Gains draft.old (field_text (field_tree field.now)) draft.new }
 {
-    out.push(' ')?;
-    write_field_name(out, field.code)?;
-    out.push('=')?;
-    write_field_value(out, field)
+    draft.push_code(b' ');
+    write_field_name(draft, field.code);
+    draft.push_code(b'=');
+    write_field_value(draft, field);
 }
 
 /// Appends fields in their order.
-pub fn write_fields<A: Allocator + Copy>(
-    out: &mut String<A>,
-    fields: &[HeaderField<A>],
-) -> Result<(), AllocError>
-    ensures { OnOk result (string_bytes out.new ≡ string_bytes out.old ++ flat_map field_text (field_trees fields.now)) }
+pub fn write_fields<A: Allocator>(draft: &mut Draft<A>, fields: &[HeaderField<A>])
+    ensures { Gains draft.old (flat_map field_text (field_trees fields.now)) draft.new }
 {
     for field in fields {
-        write_field(out, field)?;
+        write_field(draft, field);
     }
-    Ok(())
 }

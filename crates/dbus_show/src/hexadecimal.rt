@@ -1,18 +1,39 @@
 //! Bytes in hexadecimal.
 #![tactic(auto)]
 
-ghost use Rattle.std.specs.Prelude.{◌≡◌, ◌++◌, OnOk, string_bytes};
+ghost use Rattle.std.specs.Prelude.{◌≤◌, length};
 ghost use Rattle.hex.specs.Hex.{encode_lower};
+ghost use Rattle.dbus_show.specs.Gains.{Gains};
 
-use std::alloc::{AllocError, Allocator};
+use crate::draft::Draft;
+use hex::encode_to_slice;
+use std::alloc::Allocator;
+
+/// How many bytes' digits are made at once.
+const BLOCK: usize = 32;
+
+/// Appends the digits of bytes that are no more than a block.
+fn write_block<A: Allocator>(draft: &mut Draft<A>, block: &[u8])
+    requires { length block.now ≤ BLOCK }
+    ensures { Gains draft.old (encode_lower block.now) draft.new }
+{
+    let mut digits = [0; 2 * BLOCK];
+    let digits = &mut digits[..2 * block.len()];
+    match encode_to_slice(block, digits) {
+        // The digits are ASCII, so that they are text.
+        Ok(()) => draft.push_str(unsafe { str::from_utf8_unchecked(digits) }),
+        Err(_) => unreachable!(),
+    }
+}
 
 /// Appends two lower case digits for each byte.
-#[tactic(auto, using(crate::proofs::HexDigits::hex_of_byte))]
-pub fn write_hex<A: Allocator>(out: &mut String<A>, bytes: &[u8]) -> Result<(), AllocError>
-    ensures { OnOk result (string_bytes out.new ≡ string_bytes out.old ++ encode_lower bytes.now) }
+pub fn write_hex<A: Allocator>(draft: &mut Draft<A>, bytes: &[u8])
+    ensures { Gains draft.old (encode_lower bytes.now) draft.new }
 {
-    for byte in bytes {
-        write!(out, "{byte:02x}")?;
+    let mut start = 0;
+    while bytes.len() - start > BLOCK {
+        write_block(draft, &bytes[start..start + BLOCK]);
+        start += BLOCK;
     }
-    Ok(())
+    write_block(draft, &bytes[start..]);
 }

@@ -1,112 +1,94 @@
 //! Messages as text.
 #![tactic(auto)]
 
-ghost use Rattle.std.specs.Prelude.{◌≡◌, ◌++◌, ◌∷◌, [], OnOk, IfOk, IfErr, string_bytes};
+ghost use Rattle.std.specs.Prelude.{◌≡◌, ◌<◌, ◌∷◌, [], length, OnOk, OnErr, IfOk, IfErr, string_bytes, string_capacity};
 ghost use Rattle.std.specs.List.{flat_map};
 ghost use Rattle.dbus_value_model.specs.ValueViews.{value_tree, value_trees_of};
 ghost use Rattle.dbus_message_model.specs.Messages.{order_byte};
 ghost use Rattle.dbus_message_model.specs.PartsViews.{parts_tree};
 ghost use Rattle.dbus_message_model.specs.MessageViews.{message_tree};
+ghost use Rattle.dbus_show.specs.Gains.{Gains};
 ghost use Rattle.dbus_show.specs.ShownValues.{value_text, value_texts};
 ghost use Rattle.dbus_show.specs.ShownMessages.{kind_text, header_line, body_line, message_text};
 
+use crate::draft::Draft;
 use crate::fields::write_fields;
 use crate::hexadecimal::write_hex;
+use crate::numbers::write_integer;
 use crate::values::write_value;
 use dbus_message::{Message, Parts};
 use dbus_value::{Order, Value};
 use std::alloc::{AllocError, Allocator};
 
 /// The letter that stands for a byte order in a message's first byte. D-Bus Specification, "Message Format".
-fn order_letter(order: Order) -> &'static str
-    ensures { result.now ≡ order_byte order ∷ [] }
+fn order_letter(order: Order) -> u8
+    ensures code { result ≡ order_byte order }
+    ensures ascii { result < 128 }
 {
     match order {
-        Order::Little => "l",
-        Order::Big => "B",
+        Order::Little => b'l',
+        Order::Big => b'B',
     }
 }
 
 /// Appends the name of a message type.
-fn write_kind<A: Allocator>(out: &mut String<A>, kind: u8) -> Result<(), AllocError>
-    ensures { OnOk result (string_bytes out.new ≡ string_bytes out.old ++ kind_text kind) }
+fn write_kind<A: Allocator>(draft: &mut Draft<A>, kind: u8)
+    ensures { Gains draft.old (kind_text kind) draft.new }
 {
     match kind {
-        1 => out.push_str("method_call"),
-        2 => out.push_str("method_return"),
-        3 => out.push_str("error"),
-        4 => out.push_str("signal"),
-        _ => write!(out, "kind{kind}"),
+        1 => draft.push_str("method_call"),
+        2 => draft.push_str("method_return"),
+        3 => draft.push_str("error"),
+        4 => draft.push_str("signal"),
+        _ => {
+            draft.push_str("kind");
+            write_integer(draft, kind);
+        }
     }
 }
 
 /// Appends the line of a message's header.
-fn write_header<A: Allocator + Copy>(
-    out: &mut String<A>,
-    order: Order,
-    parts: &Parts<A>,
-    number: u64,
-) -> Result<(), AllocError>
-    ensures { OnOk result (string_bytes out.new ≡ string_bytes out.old ++ header_line order (parts_tree parts.now) number) }
+fn write_header<A: Allocator>(draft: &mut Draft<A>, order: Order, parts: &Parts<A>, number: u64)
+    ensures { Gains draft.old (header_line order (parts_tree parts.now) number) draft.new }
 {
-    write!(out, "#{number} {} ", order_letter(order))?;
-    write_kind(out, parts.kind)?;
-    write!(out, " serial={} flags=", parts.serial)?;
-    write_hex(out, &[parts.flags])?;
-    write_fields(out, &parts.fields)?;
-    out.push('\n')
+    draft.push_code(b'#');
+    write_integer(draft, number);
+    draft.push_code(b' ');
+    draft.push_code(order_letter(order));
+    draft.push_code(b' ');
+    write_kind(draft, parts.kind);
+    draft.push_str(" serial=");
+    write_integer(draft, parts.serial);
+    draft.push_str(" flags=");
+    write_hex(draft, &[parts.flags]);
+    write_fields(draft, &parts.fields);
+    draft.push_code(b'\n');
 }
 
 /// Appends the line of a value of the body.
-fn write_body_line<A: Allocator + Copy>(
-    out: &mut String<A>,
-    value: &Value<A>,
-) -> Result<(), AllocError>
-    ensures { OnOk result (string_bytes out.new ≡ string_bytes out.old ++ body_line (value_text (value_tree value.now))) }
+fn write_body_line<A: Allocator>(draft: &mut Draft<A>, value: &Value<A>)
+    ensures { Gains draft.old (body_line (value_text (value_tree value.now))) draft.new }
 {
-    out.push_str("  ")?;
-    write_value(out, value)?;
-    out.push('\n')
+    draft.push_str("  ");
+    write_value(draft, value);
+    draft.push_code(b'\n');
 }
 
 /// Appends a line for each value of the body.
-fn write_body<A: Allocator + Copy>(
-    out: &mut String<A>,
-    values: &[Value<A>],
-) -> Result<(), AllocError>
-    ensures { OnOk result (string_bytes out.new ≡ string_bytes out.old ++ flat_map body_line (value_texts (value_trees_of values.now))) }
+fn write_body<A: Allocator>(draft: &mut Draft<A>, values: &[Value<A>])
+    ensures { Gains draft.old (flat_map body_line (value_texts (value_trees_of values.now))) draft.new }
 {
     for value in values {
-        write_body_line(out, value)?;
+        write_body_line(draft, value);
     }
-    Ok(())
 }
 
 /// Appends the text of a message with these parts.
-fn write_parts<A: Allocator + Copy>(
-    out: &mut String<A>,
-    order: Order,
-    parts: &Parts<A>,
-    number: u64,
-) -> Result<(), AllocError>
-    ensures { OnOk result (string_bytes out.new ≡ string_bytes out.old ++ message_text order (parts_tree parts.now) number) }
+fn write_parts<A: Allocator>(draft: &mut Draft<A>, order: Order, parts: &Parts<A>, number: u64)
+    ensures { Gains draft.old (message_text order (parts_tree parts.now) number) draft.new }
 {
-    write_header(out, order, parts, number)?;
-    write_body(out, &parts.body)
-}
-
-/// The text of a message with these parts.
-pub(crate) fn show_parts<A: Allocator + Copy>(
-    alloc: A,
-    order: Order,
-    parts: &Parts<A>,
-    number: u64,
-) -> Result<String<A>, AllocError>
-    ensures { IfOk result (λ text. string_bytes text ≡ message_text order (parts_tree parts.now) number) }
-{
-    let mut text = String::new(alloc);
-    write_parts(&mut text, order, parts, number)?;
-    Ok(text)
+    write_header(draft, order, parts, number);
+    write_body(draft, &parts.body);
 }
 
 /// The text of a message that has this number among those that are shown.
@@ -117,7 +99,7 @@ pub(crate) fn show_parts<A: Allocator + Copy>(
 ///
 /// `AllocError` comes only where a growth was refused, and nothing stands after it. D-Bus Specification, "Message
 /// Format" and "Header Fields".
-pub fn show_message<A: Allocator + Copy>(
+pub fn show_message<A: Allocator>(
     alloc: A,
     order: Order,
     message: &Message<A>,
@@ -125,13 +107,16 @@ pub fn show_message<A: Allocator + Copy>(
 ) -> Result<String<A>, AllocError>
     ensures { IfOk result (λ text. string_bytes text ≡ message_text order (message_tree message.now) number) }
 {
-    show_parts(alloc, order, message.parts(), number)
+    let mut text = String::new(alloc);
+    show_into(&mut text, order, message, number)?;
+    Ok(text)
 }
 
 /// Shows a message as [`show_message`] does, in a string in place of what that holds.
 ///
-/// `AllocError` comes only where a growth was refused: then the string is empty.
-pub fn show_into<A: Allocator + Copy>(
+/// `AllocError` comes only where a growth was refused, and so only where the string's capacity is less than the text's
+/// length; then the string is empty.
+pub fn show_into<A: Allocator>(
     out: &mut String<A>,
     order: Order,
     message: &Message<A>,
@@ -139,11 +124,17 @@ pub fn show_into<A: Allocator + Copy>(
 ) -> Result<(), AllocError>
     ensures shown { OnOk result (string_bytes out.new ≡ message_text order (message_tree message.now) number) }
     ensures emptied { IfErr result (λ _. string_bytes out.new ≡ []) }
+    ensures small { OnErr result (string_capacity out.old < length (message_text order (message_tree message.now) number)) }
 {
     out.clear();
-    let written = write_parts(out, order, message.parts(), number);
-    if written.is_err() {
-        out.clear();
+    let mut draft = Draft {
+        out,
+        refused: false,
+    };
+    write_parts(&mut draft, order, message.parts(), number);
+    if draft.refused {
+        draft.out.clear();
+        return Err(AllocError);
     }
-    written
+    Ok(())
 }

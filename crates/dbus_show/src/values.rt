@@ -1,144 +1,133 @@
 //! Values as text.
 #![tactic(auto)]
 
-ghost use Rattle.std.specs.Prelude.{◌≡◌, ◌++◌, codes, OnOk, string_bytes, true};
+ghost use Rattle.std.specs.Prelude.{◌≡◌, ◌++◌, codes, true};
 ghost use Rattle.hex.specs.Hex.{encode_lower};
 ghost use Rattle.dbus_texts.specs.Types.{BYTE, NumberType, is_plain, sig};
 ghost use Rattle.dbus_types.specs.SigTypes.{type_tree};
 ghost use Rattle.dbus_value_model.specs.Values.{ArrayValue, StructValue, type_of};
 ghost use Rattle.dbus_value_model.specs.ValueViews.{value_tree, value_trees_of, byte_values};
+ghost use Rattle.dbus_show.specs.Gains.{Gains};
 ghost use Rattle.dbus_show.specs.ShownValues.{value_text, value_texts, joined, byte_in, bytes_in};
 
+use crate::draft::Draft;
 use crate::escapes::write_quoted;
 use crate::hexadecimal::write_hex;
 use crate::numbers::write_number;
-use dbus_types::{SigType, is_byte, push_type};
+use crate::types::write_type;
+use dbus_types::{SigType, is_byte};
 use dbus_value::{Value, plain_type_of};
-use std::alloc::{AllocError, Allocator};
+use std::alloc::Allocator;
 
 /// Appends the text of a value.
 #[cycle(value)]
-pub fn write_value<A: Allocator + Copy>(
-    out: &mut String<A>,
-    value: &Value<A>,
-) -> Result<(), AllocError>
-    ensures { OnOk result (string_bytes out.new ≡ string_bytes out.old ++ value_text (value_tree value.now)) }
+pub fn write_value<A: Allocator>(draft: &mut Draft<A>, value: &Value<A>)
+    ensures { Gains draft.old (value_text (value_tree value.now)) draft.new }
 {
     match value {
-        Value::Bytes(bytes) => write_bytes(out, bytes),
-        Value::Array(element, items) => write_array(out, items, element),
-        Value::Struct(fields) => write_struct(out, fields),
+        Value::Bytes(bytes) => write_bytes(draft, bytes),
+        Value::Array(element, items) => write_array(draft, items, element),
+        Value::Struct(fields) => write_struct(draft, fields),
         Value::Entry(entry) => {
-            out.push('{')?;
-            write_value(out, &entry.key)?;
-            out.push_str(", ")?;
-            write_value(out, &entry.value)?;
-            out.push('}')
+            draft.push_code(b'{');
+            write_value(draft, &entry.key);
+            draft.push_str(", ");
+            write_value(draft, &entry.value);
+            draft.push_code(b'}');
         }
         Value::Variant(inner) => {
-            out.push('<')?;
-            write_value(out, inner)?;
-            out.push('>')
+            draft.push_code(b'<');
+            write_value(draft, inner);
+            draft.push_code(b'>');
         }
         Value::Str(text) | Value::Path(text) | Value::Sig(text) => {
-            write_code(out, value)?;
-            write_quoted(out, text)
+            write_code(draft, value);
+            write_quoted(draft, text);
         }
         _ => {
-            write_code(out, value)?;
-            write_number(out, value)
+            write_code(draft, value);
+            write_number(draft, value);
         }
     }
 }
 
 /// Appends the text of an array, behind its signature.
 #[cycle(value)]
-fn write_array<A: Allocator + Copy>(
-    out: &mut String<A>,
-    items: &[Value<A>],
-    element: &SigType<A>,
-) -> Result<(), AllocError>
-    ensures { OnOk result (string_bytes out.new ≡ string_bytes out.old ++ value_text (ArrayValue (type_tree element.now) (value_trees_of items.now))) }
+fn write_array<A: Allocator>(draft: &mut Draft<A>, items: &[Value<A>], element: &SigType<A>)
+    ensures { Gains draft.old (value_text (ArrayValue (type_tree element.now) (value_trees_of items.now))) draft.new }
 {
-    out.push('a')?;
-    push_type(out, element)?;
-    out.push(':')?;
+    draft.push_code(b'a');
+    write_type(draft, element);
+    draft.push_code(b':');
     if is_byte(element) {
-        return write_byte_items(out, items);
+        write_byte_items(draft, items);
+        return;
     }
-    out.push('[')?;
-    write_items(out, items)?;
-    out.push(']')
+    draft.push_code(b'[');
+    write_items(draft, items);
+    draft.push_code(b']');
 }
 
 /// Appends the text of a struct.
 #[cycle(value)]
-fn write_struct<A: Allocator + Copy>(
-    out: &mut String<A>,
-    fields: &[Value<A>],
-) -> Result<(), AllocError>
-    ensures { OnOk result (string_bytes out.new ≡ string_bytes out.old ++ value_text (StructValue (value_trees_of fields.now))) }
+fn write_struct<A: Allocator>(draft: &mut Draft<A>, fields: &[Value<A>])
+    ensures { Gains draft.old (value_text (StructValue (value_trees_of fields.now))) draft.new }
 {
-    out.push('(')?;
-    write_items(out, fields)?;
-    out.push(')')
+    draft.push_code(b'(');
+    write_items(draft, fields);
+    draft.push_code(b')');
 }
 
 /// Appends the texts of values, with a comma and a space between them.
 #[cycle(value)]
-fn write_items<A: Allocator + Copy>(
-    out: &mut String<A>,
-    items: &[Value<A>],
-) -> Result<(), AllocError>
-    ensures { OnOk result (string_bytes out.new ≡ string_bytes out.old ++ joined (value_texts (value_trees_of items.now))) }
+fn write_items<A: Allocator>(draft: &mut Draft<A>, items: &[Value<A>])
+    ensures { Gains draft.old (joined (value_texts (value_trees_of items.now))) draft.new }
 {
     let mut separator = "";
     for item in items {
-        out.push_str(separator)?;
-        write_value(out, item)?;
+        draft.push_str(separator);
+        write_value(draft, item);
         separator = ", ";
     }
-    Ok(())
 }
 
 /// Appends the code of a value's type and a colon.
-fn write_code<A: Allocator + Copy>(out: &mut String<A>, value: &Value<A>) -> Result<(), AllocError>
+fn write_code<A: Allocator>(draft: &mut Draft<A>, value: &Value<A>)
     requires { is_plain (type_of (value_tree value.now)) ≡ true }
-    ensures { OnOk result (string_bytes out.new ≡ string_bytes out.old ++ (sig (type_of (value_tree value.now)) ++ codes ":")) }
+    ensures { Gains draft.old (sig (type_of (value_tree value.now)) ++ codes ":") draft.new }
 {
     match plain_type_of(value) {
         Some(ty) => {
-            push_type(out, &ty)?;
-            out.push(':')
+            write_type(draft, &ty);
+            draft.push_code(b':');
         }
         None => unreachable!(),
     }
 }
 
 /// Appends an array of BYTE.
-fn write_bytes<A: Allocator>(out: &mut String<A>, bytes: &[u8]) -> Result<(), AllocError>
-    ensures { OnOk result (string_bytes out.new ≡ string_bytes out.old ++ value_text (ArrayValue (NumberType BYTE) (byte_values bytes.now))) }
+fn write_bytes<A: Allocator>(draft: &mut Draft<A>, bytes: &[u8])
+    ensures { Gains draft.old (value_text (ArrayValue (NumberType BYTE) (byte_values bytes.now))) draft.new }
 {
-    out.push_str("ay:")?;
-    write_hex(out, bytes)
+    draft.push_str("ay:");
+    write_hex(draft, bytes);
 }
 
 /// Appends the two digits of a BYTE, and of any other value nothing.
-fn write_byte_item<A: Allocator>(out: &mut String<A>, item: &Value<A>) -> Result<(), AllocError>
-    ensures { OnOk result (string_bytes out.new ≡ string_bytes out.old ++ encode_lower (byte_in (value_tree item.now))) }
+fn write_byte_item<A: Allocator>(draft: &mut Draft<A>, item: &Value<A>)
+    ensures { Gains draft.old (encode_lower (byte_in (value_tree item.now))) draft.new }
 {
     match item {
-        Value::Byte(byte) => write_hex(out, &[*byte]),
-        _ => Ok(()),
+        Value::Byte(byte) => write_hex(draft, &[*byte]),
+        _ => {}
     }
 }
 
 /// Appends two digits for each BYTE among values.
-fn write_byte_items<A: Allocator>(out: &mut String<A>, items: &[Value<A>]) -> Result<(), AllocError>
-    ensures { OnOk result (string_bytes out.new ≡ string_bytes out.old ++ encode_lower (bytes_in (value_trees_of items.now))) }
+fn write_byte_items<A: Allocator>(draft: &mut Draft<A>, items: &[Value<A>])
+    ensures { Gains draft.old (encode_lower (bytes_in (value_trees_of items.now))) draft.new }
 {
     for item in items {
-        write_byte_item(out, item)?;
+        write_byte_item(draft, item);
     }
-    Ok(())
 }

@@ -1,20 +1,20 @@
-use Rattle.std.proofs.Common.{arith, ◌≡◌, false, ◌^◌, ◌-◌, ◌∷◌, [], ap, sym, ◌∙◌, string_bytes, append-nil, ◌++◌, get_or}
-use Rattle.std.specs.Fmt.{padded_integral, format_spec, digits}
-use Rattle.hex.specs.Hex.{encode_lower}
-use Rattle.dbus_show.proofs.Appending.{one_more}
-use Rattle.dbus_show.proofs.HexDigits.{encode_none, encode_append, hex_of_byte}
+use Rattle.std.proofs.Common.{◌+◌, ◌-◌, ◌≡◌, arith, sym, subst}
+use Rattle.dbus_show.specs.Gains.{Gains}
+use Rattle.dbus_show.proofs.Gaining.{nothing, then}
+use Rattle.dbus_show.proofs.HexDigits.{encode_none, block_more, block_last}
 use Rattle.dbus_show.proofs.hexadecimal.write_hex.Goals as goal
 
-pub loop-byte-init : goal.loop-byte-init
-loop-byte-init g c = rw encode_none (sym (append-nil _))
+pub loop-start-init : goal.loop-start-init
+loop-start-init g c = record { inside = omega arith; so_far = subst (λ s. Gains c.args.draft.now s c.args.draft.now) (sym encode_none) (nothing c.args.draft.now) }
 
-pub loop-byte-preserved : goal.loop-byte-preserved
-loop-byte-preserved g c =
-    let bytes = c.args.bytes.now in
-    let i = c.loop-byte.byte-index in
-    let before = string_bytes c.loop-byte.out in
-    let after = string_bytes c.write.new.self in
-    let b = get_or bytes i 0 in
-    let written : after ≡ before ++ padded_integral (format_spec 32 0 4 2 (2 ^ 64 - 1)) false [] (digits 16 false b) = rw (c.laid_out.ensures, c.in_radix.ensures) at c.in_ok-write.ensures.bytes in
-    let shown : after ≡ before ++ encode_lower (b ∷ []) = written ∙ ap (λ s. before ++ s) (hex_of_byte b (omega (arith, c.type_inv.bytes i))) in
-    one_more encode_lower (λ x. encode_lower (x ∷ [])) (λ xs x. encode_append xs (x ∷ [])) bytes i 0 (string_bytes c.args.out.now) before after c.loop-byte-test.true c.loop-byte.invariant shown
+pub loop-start-preserved : goal.loop-start-preserved
+loop-start-preserved g c =
+    let i = c.loop-start.start in
+    let n : (i + 32) - i ≡ 32 = omega arith in
+    record {
+      inside = omega arith;
+      so_far = subst (λ s. Gains c.args.draft.now s c.write_block.new.draft) (block_more c.args.bytes.now i 32 ((i + 32) - i) n) (then c.loop-start.invariant.so_far c.write_block.ensures);
+    }
+
+pub returns : goal.returns
+returns g c = subst (λ s. Gains c.args.draft.now s c.write_block-2.new.draft) (block_last c.args.bytes.now c.loop-start.start) (then c.loop-start.invariant.so_far c.write_block-2.ensures)

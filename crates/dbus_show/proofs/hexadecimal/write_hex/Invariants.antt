@@ -1,6 +1,13 @@
-use Rattle.std.proofs.Common.{◌≡◌, ◌++◌, string_bytes, take}
+use Rattle.std.proofs.Common.{◌≤◌, ◌-◌, length, take}
 use Rattle.hex.specs.Hex.{encode_lower}
+use Rattle.dbus_show.specs.Gains.{Gains}
 use Rattle.dbus_show.proofs.hexadecimal.write_hex.Given as goal
 
-abbrev pub invariant-loop-byte : goal.invariant-loop-byte
-invariant-loop-byte g l = string_bytes l.out ≡ string_bytes l.initial.out ++ encode_lower (take l.byte-index l.bytes)
+abbrev pub invariant-loop-start : goal.invariant-loop-start
+invariant-loop-start g l = record {
+  inside : l.start ≤ length l.bytes;
+  so_far : Gains l.initial.draft (encode_lower (take l.start l.bytes)) l.draft;
+}
+
+abbrev pub decreases-loop-start : goal.decreases-loop-start
+decreases-loop-start g l = length l.bytes - l.start
