@@ -2,15 +2,22 @@
 # make build       proves dbus-wire and all below it, and builds it: half an hour on four cores; with -j4 side by side
 # make test        the gate: every proof from nothing, the must-fail edits, the tests and the program's stored run
 # make gate-times  the gate, and the processor minutes of each of its steps
-# make install     puts the proved dbus-wire, its manual page and its bash completion below PREFIX
+# make library     proves and builds the static library for C
+# make test-c      builds the examples for C and Rust over it, and holds what they write against dbus-wire check
+# make test-memory runs dbus-wire with each growth of its memory refused in turn
+# make install     puts the proved dbus-wire, its manual page and its completions, and the library for C, below PREFIX
 # make bench       MB/s of each command on a sample repeated to 64 MB, and of the calls of the libraries
 
 PREFIX ?= /usr/local
 PROGRAM = crates/dbus_wire/out/dbus_wire
+ARCHIVE = out/libdbus_wire.a
+KIT = $(dir $(shell rt doc))
+VERSION = $(shell sed -n 's/.*VERSION: &str = "\(.*\)";/\1/p' crates/dbus_command/src/help.rt)
 INSTALLED = bin/dbus-wire share/man/man1/dbus-wire.1 share/bash-completion/completions/dbus-wire \
-	share/zsh/site-functions/_dbus-wire share/fish/vendor_completions.d/dbus-wire.fish
+	share/zsh/site-functions/_dbus-wire share/fish/vendor_completions.d/dbus-wire.fish \
+	include/dbus_wire.h lib/libdbus_wire.a lib/pkgconfig/dbus-wire.pc
 
-.PHONY: run build test gate-times bench install uninstall
+.PHONY: run build library test test-c test-memory gate-times bench install uninstall
 
 run:
 	@echo "dbus-wire as it is, built without its proofs (make build proves it):"
@@ -19,8 +26,18 @@ run:
 build: lib-dbus_stream lib-dbus_tool
 	cd crates/dbus_wire && rt run -- check < /dev/null > /dev/null
 
+# The crate's archive, and beside it the kit's object that asks the C library for memory.
+library: lib-dbus_c
+	printf 'CREATE $(ARCHIVE)\nADDLIB crates/dbus_c/out/libdbus_c.a\nADDLIB $(KIT)c/liblibc_c.a\nSAVE\nEND\n' | ar -M
+
 test:
 	rt ci
+
+test-c: build library
+	examples/test.sh $(PROGRAM) $(ARCHIVE)
+
+test-memory: build
+	bench/refused_memory.py $(PROGRAM) samples/big-endian.dbus
 
 gate-times:
 	bench/gate_times.py
@@ -29,21 +46,26 @@ bench: build
 	bench/commands.sh $(PROGRAM) samples/session.dbus
 	cd crates/dbus_bench && rt run -- 64 < ../../samples/session.dbus
 
-install: build
+install: build library
 	install -D -m 755 $(PROGRAM) $(DESTDIR)$(PREFIX)/bin/dbus-wire
 	install -D -m 644 man/dbus-wire.1 $(DESTDIR)$(PREFIX)/share/man/man1/dbus-wire.1
 	install -D -m 644 completions/dbus-wire.bash $(DESTDIR)$(PREFIX)/share/bash-completion/completions/dbus-wire
 	install -D -m 644 completions/_dbus-wire $(DESTDIR)$(PREFIX)/share/zsh/site-functions/_dbus-wire
 	install -D -m 644 completions/dbus-wire.fish $(DESTDIR)$(PREFIX)/share/fish/vendor_completions.d/dbus-wire.fish
+	install -D -m 644 include/dbus_wire.h $(DESTDIR)$(PREFIX)/include/dbus_wire.h
+	install -D -m 644 $(ARCHIVE) $(DESTDIR)$(PREFIX)/lib/libdbus_wire.a
+	install -d $(DESTDIR)$(PREFIX)/lib/pkgconfig
+	sed 's|@PREFIX@|$(PREFIX)|; s|@VERSION@|$(VERSION)|' include/dbus-wire.pc.in > $(DESTDIR)$(PREFIX)/lib/pkgconfig/dbus-wire.pc
 
 uninstall:
 	rm -f $(addprefix $(DESTDIR)$(PREFIX)/,$(INSTALLED))
 
 # A library is proved once those that it stands on are, and so beside those that it does not stand on: from each line
 # `NAME: DEP DEP ..` of crates.txt a rule `lib-NAME: lib-DEP lib-DEP ..`. The kit's own libraries are proved already.
+# A line `NAME staticlib: DEP ..` gives the same rule.
 out/crates.mk: crates.txt
 	@mkdir -p out
-	@sed -nE '/^[a-z]/ { s/[a-z_]+/lib-&/g; p }' $< > $@
+	@sed -nE '/^[a-z]/ { s/ staticlib//; s/[a-z_]+/lib-&/g; p }' $< > $@
 
 include out/crates.mk
 

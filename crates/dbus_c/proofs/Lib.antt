@@ -1,0 +1,4 @@
+pub mod MeantLimits
+pub mod FirstBytes
+pub mod Telling
+pub mod Swapped

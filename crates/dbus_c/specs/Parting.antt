@@ -1,0 +1,43 @@
+-- The parts of the message that bytes begin with, in numbers.
+-- D-Bus Specification, "Message Format" and "Header Fields".
+use Rattle.std.specs.Prelude.{◌≡◌, ℕ, ◌+◌, ◌-◌, ◌≤◌, List, length, take, drop, Option, Some, None}
+use Rattle.dbus_value_model.specs.declared.limits.Limits.{Limits}
+use Rattle.dbus_value_model.specs.declared.order.Order.{Order}
+use Rattle.dbus_value_model.specs.Values.{ValueTree}
+use Rattle.dbus_message_model.specs.Lookups.{field_value}
+use Rattle.dbus_message_model.specs.Messages.{FieldTree, MessageTree, order_byte, body_bytes, text_in, number_in}
+use Rattle.dbus_decode.specs.MessageOutcomes.{IsWhole}
+use Rattle.dbus_c.specs.declared.parts.Parts.{Parts}
+use Rattle.dbus_c.specs.declared.parts.TextPlace.{TextPlace}
+
+-- where the text of a field's value stands in the bytes; of no value all is 0
+abbrev pub IsPlaceOf : Option ValueTree → List ℕ → TextPlace → Type 0
+IsPlaceOf None b p = p ≡ record { offset = 0; length = 0; is_there = 0 }
+IsPlaceOf (Some v) b p = (p.is_there ≡ 1) × (text_in v ≡ take p.length (drop p.offset b)) × (p.offset + p.length ≤ length b)
+
+-- the number of a field's value; of no value 0
+abbrev pub number_of : Option ValueTree → ℕ
+number_of None = 0
+number_of (Some v) = number_in v
+
+-- the texts of the known fields stand there, and their numbers are these
+pub record HasFields (fs : List FieldTree) (b : List ℕ) (p : Parts) : Type 0 where
+  pub path : IsPlaceOf (field_value 1 fs) b p.path
+  pub interface : IsPlaceOf (field_value 2 fs) b p.interface
+  pub member : IsPlaceOf (field_value 3 fs) b p.member
+  pub error_name : IsPlaceOf (field_value 4 fs) b p.error_name
+  pub reply_serial : p.reply_serial ≡ number_of (field_value 5 fs)
+  pub destination : IsPlaceOf (field_value 6 fs) b p.destination
+  pub sender : IsPlaceOf (field_value 7 fs) b p.sender
+  pub signature : IsPlaceOf (field_value 8 fs) b p.signature
+  pub unix_fds : p.unix_fds ≡ number_of (field_value 9 fs)
+
+-- the bytes begin with a message within the limits that has these parts
+pub record HasParts (limits : Limits) (b : List ℕ) (p : Parts) : Type 0 where
+  pub order : Order
+  pub message : MessageTree
+  pub whole : IsWhole limits b order message p.length
+  pub order_is : p.order ≡ order_byte order
+  pub numbers : (p.kind ≡ message.kind) × (p.flags ≡ message.flags) × (p.serial ≡ message.serial)
+  pub fields : HasFields message.fields b p
+  pub body : body_bytes order message ≡ take (p.length - p.body) (drop p.body b)

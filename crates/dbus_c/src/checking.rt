@@ -1,0 +1,123 @@
+//! Whether bytes begin with a message, told in numbers.
+#![tactic(auto)]
+
+ghost use Rattle.std.specs.Prelude.{◌≡◌, ◌<◌, length};
+ghost use Rattle.dbus_decode.specs.MessageOutcomes.{IsWhole};
+ghost use Rattle.dbus_message_model.specs.Messages.{MessageTree};
+ghost use Rattle.dbus_value_model.specs.declared.limits.Limits.{Limits};
+ghost use Rattle.dbus_value_model.specs.declared.order.Order.{Order};
+ghost use Rattle.dbus_c.specs.Checking.{IsExact, Tells, fault_told, nothing_told, whole_told};
+ghost use Rattle.dbus_c.specs.GivenLimits.{limits_of};
+
+use crate::given_limits::{WireLimits, given_limits};
+use crate::reasons::{field_named, reason_number};
+use dbus_check::{Check, Checker};
+use dbus_judge::judge;
+use dbus_value_model::{Fault, Limits};
+
+/// The answer that bytes begin with a message.
+pub const WHOLE: u32 = 0;
+
+/// The answer that more bytes are wanted.
+pub const PARTIAL: u32 = 1;
+
+/// The answer that the bytes are refused.
+pub const REFUSED: u32 = 2;
+
+/// What is told of bytes beside the answer. A number that the answer does not speak of is 0.
+#[repr(C)]
+#[derive(Drop)]
+pub struct Checked {
+    /// Of a message: how many bytes it has.
+    pub length: u64,
+    /// Of a fault: its offset, in bytes from the first.
+    pub offset: u64,
+    /// Of a message: its first byte, `l` or `B`, which names its byte order.
+    pub order: u32,
+    /// Of a fault: the number of its reason.
+    pub reason: u32,
+    /// Of a fault: the code of the header field that is missing, where that is the reason.
+    pub field: u32,
+}
+
+// What is told of bytes that begin with a message of this length.
+pub(crate) fn whole_told(bytes: &[u8], count: usize) -> Checked
+    requires { 0 < length bytes.now }
+    ensures { (limits : Limits) (order : Order) (m : MessageTree) → IsWhole limits bytes.now order m count → result ≡ whole_told order count }
+{
+    Checked {
+        length: count as u64,
+        offset: 0,
+        order: u32::from(bytes[0]),
+        reason: 0,
+        field: 0,
+    }
+}
+
+// What is told where more bytes are wanted.
+pub(crate) fn nothing_told() -> Checked
+    ensures { result ≡ nothing_told }
+{
+    Checked {
+        length: 0,
+        offset: 0,
+        order: 0,
+        reason: 0,
+        field: 0,
+    }
+}
+
+// What is told of a fault.
+pub(crate) fn fault_told(fault: Fault) -> Checked
+    ensures { result ≡ fault_told fault }
+{
+    Checked {
+        length: 0,
+        offset: fault.at,
+        order: 0,
+        reason: reason_number(fault.reason),
+        field: field_named(fault.reason),
+    }
+}
+
+/// Whether the bytes begin with a message within the limits: [`WHOLE`] with its length and byte order, [`PARTIAL`] where a
+/// message may begin so and more bytes are wanted, [`REFUSED`] with the fault. Bytes after the message are not looked at.
+///
+/// It takes no memory but some 50,000 bytes of the stack. D-Bus Specification, "Message Protocol".
+#[unsafe(no_mangle)]
+pub extern "C" fn dbus_wire_check(bytes: &[u8], limits: &WireLimits, out: &mut Checked) -> u32
+    ensures tells { Tells (limits_of limits.now) bytes.now result out.new }
+    ensures exact { IsExact (limits_of limits.now) bytes.now result out.new }
+{
+    let within = given_limits(limits);
+    match judge(bytes, within) {
+        Some(judged) => {
+            *out = whole_told(bytes, judged.length);
+            WHOLE
+        }
+        None => check_all(bytes, within, out),
+    }
+}
+
+// What a checker tells of the bytes.
+#[inline(never)]
+fn check_all(bytes: &[u8], limits: Limits, out: &mut Checked) -> u32
+    ensures tells { Tells limits bytes.now result out.new }
+    ensures exact { IsExact limits bytes.now result out.new }
+{
+    let mut checker = Checker::within(limits);
+    match checker.take(bytes) {
+        Check::Done(count) => {
+            *out = whole_told(bytes, count);
+            WHOLE
+        }
+        Check::Partial => {
+            *out = nothing_told();
+            PARTIAL
+        }
+        Check::Refused(fault) => {
+            *out = fault_told(fault);
+            REFUSED
+        }
+    }
+}

@@ -1,0 +1,140 @@
+//! The parts of a message in the caller's bytes, told in numbers.
+#![tactic(auto)]
+
+ghost use Rattle.std.specs.Prelude.{◌≡◌, ◌<◌, List, ℕ, true};
+ghost use Rattle.dbus_c.specs.GivenLimits.{limits_of};
+ghost use Rattle.dbus_c.specs.Parting.{HasFields, HasParts, IsPlaceOf, number_of};
+ghost use Rattle.dbus_judge.specs.Judging.{BeginsWithNone};
+ghost use Rattle.dbus_judge.specs.Seen.{AreNoted};
+ghost use Rattle.dbus_message_model.specs.Lookups.{field_value};
+ghost use Rattle.dbus_message_model.specs.Messages.{FieldTree, is_known, order_byte};
+
+use crate::given_limits::{WireLimits, given_limits};
+use dbus_judge::{Seen, judge};
+use dbus_message_model::field_code::{
+    DESTINATION, ERROR_NAME, INTERFACE, MEMBER, PATH, REPLY_SERIAL, SENDER, SIGNATURE, UNIX_FDS,
+};
+use dbus_value_model::Order;
+
+/// Where the text of a header field stands among the bytes that were handed in.
+#[repr(C)]
+#[derive(Drop)]
+pub struct TextPlace {
+    /// Its offset, in bytes from the first, or 0 where there is no such field.
+    pub offset: u64,
+    /// How many bytes it has, or 0.
+    pub length: u64,
+    /// 1, or 0 where there is no such field.
+    pub is_there: u64,
+}
+
+/// The parts of a message. D-Bus Specification, "Message Format" and "Header Fields".
+#[repr(C)]
+#[derive(Drop)]
+pub struct Parts {
+    /// How many bytes it has.
+    pub length: u64,
+    /// The offset of its body, which ends where the message does.
+    pub body: u64,
+    /// Its first byte, `l` or `B`, which names its byte order.
+    pub order: u32,
+    /// The message type.
+    pub kind: u32,
+    /// The flags.
+    pub flags: u32,
+    /// The serial.
+    pub serial: u32,
+    /// The REPLY_SERIAL, which is never 0, or 0 where there is none.
+    pub reply_serial: u32,
+    /// The number of the UNIX_FDS field, or 0 where there is none.
+    pub unix_fds: u32,
+    /// The PATH.
+    pub path: TextPlace,
+    /// The INTERFACE.
+    pub interface: TextPlace,
+    /// The MEMBER.
+    pub member: TextPlace,
+    /// The ERROR_NAME.
+    pub error_name: TextPlace,
+    /// The DESTINATION.
+    pub destination: TextPlace,
+    /// The SENDER.
+    pub sender: TextPlace,
+    /// The SIGNATURE of the body.
+    pub signature: TextPlace,
+}
+
+/// Writes the parts of the message within the limits that the bytes begin with, and answers 1; where they begin with none it
+/// answers 0, and `out` stays as it is: [`crate::dbus_wire_check`] tells why. It takes no memory.
+///
+/// D-Bus Specification, "Message Format" and "Header Fields".
+#[unsafe(no_mangle)]
+pub extern "C" fn dbus_wire_parts_of(bytes: &[u8], limits: &WireLimits, out: &mut Parts) -> u32
+    ensures answers { result < 2 }
+    ensures parts { result ≡ 1 → HasParts (limits_of limits.now) bytes.now out.new }
+    ensures none { result ≡ 0 → BeginsWithNone (limits_of limits.now) bytes.now }
+    ensures unchanged { result ≡ 0 → out.new ≡ out.old }
+{
+    match judge(bytes, given_limits(limits)) {
+        Some(judged) => {
+            let seen = &judged.fields;
+            *out = Parts {
+                length: judged.length as u64,
+                body: judged.body as u64,
+                order: order_byte(judged.order),
+                kind: u32::from(judged.kind),
+                flags: u32::from(judged.flags),
+                serial: judged.serial,
+                reply_serial: number_of(seen, REPLY_SERIAL),
+                unix_fds: number_of(seen, UNIX_FDS),
+                path: place_of(seen, PATH),
+                interface: place_of(seen, INTERFACE),
+                member: place_of(seen, MEMBER),
+                error_name: place_of(seen, ERROR_NAME),
+                destination: place_of(seen, DESTINATION),
+                sender: place_of(seen, SENDER),
+                signature: place_of(seen, SIGNATURE),
+            };
+            1
+        }
+        None => 0,
+    }
+}
+
+// The byte that names an order.
+fn order_byte(order: Order) -> u32
+    ensures { result ≡ order_byte order }
+{
+    match order {
+        Order::Little => u32::from(b'l'),
+        Order::Big => u32::from(b'B'),
+    }
+}
+
+// Where the text of the field of a known code stands.
+fn place_of(seen: &Seen, code: u8) -> TextPlace
+    ensures { (bytes : List ℕ) (fs : List FieldTree) → AreNoted fs bytes seen.now → is_known code ≡ true → IsPlaceOf (field_value code fs) bytes result }
+{
+    match seen.get(code) {
+        Some(place) => TextPlace {
+            offset: place.start as u64,
+            length: place.length as u64,
+            is_there: 1,
+        },
+        None => TextPlace {
+            offset: 0,
+            length: 0,
+            is_there: 0,
+        },
+    }
+}
+
+// The number of the field of a known code.
+fn number_of(seen: &Seen, code: u8) -> u32
+    ensures { (bytes : List ℕ) (fs : List FieldTree) → AreNoted fs bytes seen.now → is_known code ≡ true → result ≡ number_of (field_value code fs) }
+{
+    match seen.get(code) {
+        Some(place) => place.number,
+        None => 0,
+    }
+}

@@ -1,0 +1,26 @@
+//! How many bytes a message has, by its first sixteen.
+#![tactic(auto)]
+
+ghost use Rattle.std.specs.Prelude.{◌≤◌};
+ghost use Rattle.dbus_c.specs.GivenLimits.{limits_of};
+ghost use Rattle.dbus_c.specs.Wanting.{Wants};
+
+use crate::given_limits::{WireLimits, given_limits};
+use dbus_decode::stated_length_within;
+
+/// How many bytes the message has that the bytes begin with, as soon as 16 of them are there and none of their items is at
+/// fault under the limits; else 0. Whatever follows, a message that begins so has exactly so many bytes.
+///
+/// 0 says of 16 bytes and more that no message begins so, and [`crate::dbus_wire_check`] tells why; of fewer, that more bytes
+/// are wanted or that they are refused. It takes no memory. D-Bus Specification, "Message Format".
+#[unsafe(no_mangle)]
+pub extern "C" fn dbus_wire_wanted(bytes: &[u8], limits: &WireLimits) -> u64
+    ensures wants { Wants (limits_of limits.now) bytes.now result }
+    ensures within { result ≤ (limits_of limits.now).message }
+{
+    match stated_length_within(bytes, given_limits(limits)) {
+        Ok(Some(length)) => length,
+        Ok(None) => 0,
+        Err(_) => 0,
+    }
+}

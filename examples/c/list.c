@@ -1,0 +1,45 @@
+/* Lists the D-Bus messages on standard input, one line each: the number, the byte order, the type, the serial, the flags and the
+ * known header fields, as the first line of each message that `dbus-wire show` prints, but with the fields in the order of their
+ * codes. Their texts are written from the bytes that were read: nothing is copied. */
+#include <dbus_wire.h>
+
+#include <stdio.h>
+
+static const char *type_name(uint32_t kind) {
+    static const char *const names[] = {"method_call", "method_return", "error", "signal"};
+    return kind >= 1 && kind <= 4 ? names[kind - 1] : "other";
+}
+
+static void print_text(const char *name, const uint8_t *bytes, struct dbus_wire_text text) {
+    if (text.is_there) printf(" %s=%.*s", name, (int)text.length, (const char *)bytes + text.offset);
+}
+
+static void print_message(unsigned long number, const uint8_t *bytes, const struct dbus_wire_parts *parts) {
+    printf("#%lu %c %s serial=%u flags=%02x", number, (char)parts->order, type_name(parts->kind), (unsigned)parts->serial,
+           (unsigned)parts->flags);
+    print_text("path", bytes, parts->path);
+    print_text("interface", bytes, parts->interface);
+    print_text("member", bytes, parts->member);
+    print_text("error_name", bytes, parts->error_name);
+    if (parts->reply_serial) printf(" reply_serial=%u", (unsigned)parts->reply_serial);
+    print_text("destination", bytes, parts->destination);
+    print_text("sender", bytes, parts->sender);
+    print_text("signature", bytes, parts->signature);
+    if (parts->unix_fds) printf(" unix_fds=%u", (unsigned)parts->unix_fds);
+    printf("\n");
+}
+
+int main(void) {
+    static uint8_t bytes[1 << 20];
+    struct dbus_wire_limits limits;
+    struct dbus_wire_parts parts;
+    size_t count = fread(bytes, 1, sizeof bytes, stdin), at = 0;
+    unsigned long number = 0;
+
+    dbus_wire_specification_limits(&limits);
+    while (dbus_wire_parts_of(bytes + at, count - at, &limits, &parts)) {
+        print_message(++number, bytes + at, &parts);
+        at += parts.length;
+    }
+    return at < count;
+}

@@ -1,0 +1,107 @@
+#!/usr/bin/env python3
+"""compare.py PROGRAM LISTER SWAPPER CHECKER..: holds what each CHECKER writes of messages against what `PROGRAM check` does.
+
+The messages are the captures in samples/, whole and cut short, and those of the first messages of each capture of which one
+byte is changed. Both the text and the exit status are compared. What LISTER writes of the captures is held against the first
+lines of the messages that `PROGRAM show` writes, whose header fields may stand in another order; what SWAPPER writes of them in
+either byte order, against `PROGRAM swap`. The exit status is 1 where they differ.
+"""
+
+import collections
+import os
+import subprocess
+import sys
+
+SAMPLES = ("session.dbus", "big-endian.dbus")
+CHANGED_MESSAGES = 3
+CHANGES = (0x01, 0x80, 0xFF)
+
+
+def length_of(data):
+    """How many bytes the message has that the bytes begin with."""
+    order = "little" if data[:1] == b"l" else "big"
+    body, fields = (int.from_bytes(data[at : at + 4], order) for at in (4, 12))
+    return (16 + fields + 7) // 8 * 8 + body
+
+
+def first_messages(data):
+    found = []
+    while data and len(found) < CHANGED_MESSAGES:
+        found.append(data[: length_of(data)])
+        data = data[length_of(data) :]
+    return found
+
+
+def inputs(folder):
+    """Each with its name."""
+    for sample in SAMPLES:
+        data = capture(folder, sample)
+        yield sample, data
+        yield f"{sample}, cut short", data[:-1]
+        for number, message in enumerate(first_messages(data), 1):
+            for at, byte in enumerate(message):
+                for change in CHANGES:
+                    changed = message[:at] + bytes([byte ^ change]) + message[at + 1 :]
+                    yield f"{sample}, message {number}, byte {at} changed by {change:#x}", changed
+
+
+def capture(folder, sample):
+    with open(os.path.join(folder, sample), "rb") as file:
+        return file.read()
+
+
+def answer(words, data):
+    ran = subprocess.run(words, input=data, capture_output=True)
+    return ran.stdout.decode(errors="replace").strip(), ran.returncode
+
+
+def listed(text):
+    """The first lines of messages, each as its words in an order of its own."""
+    return [sorted(line.split(" ")) for line in text.split("\n") if line.startswith("#")]
+
+
+def compare_lists(program, lister, folder):
+    """How many messages of the captures are listed otherwise."""
+    differing = 0
+    for sample in SAMPLES:
+        data = capture(folder, sample)
+        right, other = (listed(answer(words, data)[0]) for words in ([program, "show"], [lister]))
+        differing += abs(len(right) - len(other)) + sum(a != b for a, b in zip(right, other))
+        print(f"{sample}: {len(right)} messages listed, {differing} otherwise")
+    return differing
+
+
+def compare_swaps(program, swapper, folder):
+    """How many swapped captures differ."""
+    differing = 0
+    for sample in SAMPLES:
+        for order in "lB":
+            data = capture(folder, sample)
+            right, other = (
+                subprocess.run([*words, order], input=data, capture_output=True).stdout
+                for words in ([program, "swap", "--to"], [swapper])
+            )
+            differing += right != other or not right
+    print(f"{2 * len(SAMPLES)} captures swapped, {differing} otherwise")
+    return differing
+
+
+def main(program, lister, swapper, *checkers):
+    folder = os.path.join(os.path.dirname(os.path.abspath(__file__)), "..", "samples")
+    kinds, differing = collections.Counter(), compare_lists(program, lister, folder)
+    differing += compare_swaps(program, swapper, folder)
+    for name, data in inputs(folder):
+        right = answer([program, "check"], data)
+        kinds[right[0].split(" ")[-1] if right[1] else "ok"] += 1
+        for checker in checkers:
+            other = answer([checker], data)
+            if other != right:
+                differing += 1
+                print(f"{name}: {program} says {right}, {checker} says {other}")
+    counts = ", ".join(f"{count} {kind}" for kind, count in sorted(kinds.items()))
+    print(f"{sum(kinds.values())} inputs ({counts}), {len(checkers)} checkers: {differing} answers differ")
+    return 1 if differing or not checkers else 0
+
+
+if __name__ == "__main__":
+    sys.exit(main(*sys.argv[1:]))
