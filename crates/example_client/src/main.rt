@@ -1,0 +1,75 @@
+//! `example_client`: a client of a message bus, whose connection to it is standard input and output.
+//!
+//! It does the client's side of the handshake, calls `Hello` and then `ListNames`, tells on standard error the name that it
+//! got and the names that are on the bus, and ends.
+//!
+//! It authenticates by EXTERNAL, and by ANONYMOUS where the bus rejects that. The argument is the number of the user that it
+//! comes as; without one it is the user that the transport tells. Where an answer did not come, standard error says why,
+//! and the exit status is 1.
+#![tactic(auto)]
+
+mod calls;
+mod session;
+
+use anyhow::{Result, bail};
+use dbus_auth::Mechanism;
+use dbus_message::{Message, arg, field, field_code};
+use dbus_value::Value;
+use session::Session;
+use std::env;
+use std::io::{Read, Write};
+
+// The mechanisms that are tried, for the user that the first argument names.
+fn mechanisms(rt: &HostRuntime) -> Result<Vec<Mechanism>> {
+    let alloc = rt.alloc();
+    let words: Vec<String> = env::args(rt)?.collect(alloc)?;
+    let user = match words.get(1) {
+        Some(word) => Some(word.as_str().parse()?),
+        None => None,
+    };
+    let trace = Vec::from_slice(alloc, b"example")?;
+    Ok(vec![in alloc; Mechanism::External(user), Mechanism::Anonymous(trace)]?)
+}
+
+fn send(rt: &HostRuntime, bytes: &[u8]) -> Result<()> {
+    rt.stdout().write_all(bytes)?;
+    rt.stdout().flush()?;
+    Ok(())
+}
+
+// Tells what the reply to `ListNames` says.
+fn tell(rt: &HostRuntime, reply: &Message) -> Result<()> {
+    if let Some(Value::Str(name)) = field(reply, field_code::DESTINATION) {
+        eprintln!(rt; "the bus calls this client {name}; on the bus are:")?;
+    }
+    let Some(Value::Array(_, names)) = arg(reply, 0) else {
+        bail!("the bus replied without a list");
+    };
+    for name in names {
+        if let Value::Str(name) = name {
+            eprintln!(rt; "{name}")?;
+        }
+    }
+    Ok(())
+}
+
+fn main(rt: HostRuntime) -> Result<()> {
+    let alloc = rt.alloc();
+    let mut bytes = Vec::new(alloc);
+    let mut session = Session::start(alloc, mechanisms(&rt)?, &mut bytes)?;
+    send(&rt, &bytes)?;
+    let mut buffer = [0; 4096];
+    for _ in 0..u64::MAX {
+        let count = rt.stdin().read(&mut buffer)?;
+        if count == 0 {
+            break;
+        }
+        bytes.clear();
+        let reply = session.take(&buffer[..count], &mut bytes)?;
+        send(&rt, &bytes)?;
+        if let Some(reply) = reply {
+            return tell(&rt, &reply);
+        }
+    }
+    bail!("the bus left before it answered")
+}
