@@ -11,7 +11,6 @@
 PREFIX ?= /usr/local
 PROGRAM = crates/dbus_wire/out/dbus_wire
 ARCHIVE = out/libdbus_wire.a
-KIT = $(dir $(shell rt doc))
 VERSION = $(shell sed -n 's/.*VERSION: &str = "\(.*\)";/\1/p' crates/dbus_command/src/help.rt)
 INSTALLED = bin/dbus-wire share/man/man1/dbus-wire.1 share/bash-completion/completions/dbus-wire \
 	share/zsh/site-functions/_dbus-wire share/fish/vendor_completions.d/dbus-wire.fish \
@@ -26,9 +25,8 @@ run:
 build: lib-dbus_stream lib-dbus_tool
 	cd crates/dbus_wire && rt run -- check < /dev/null > /dev/null
 
-# The crate's archive, and beside it the kit's object that asks the C library for memory.
 library: lib-dbus_c
-	printf 'CREATE $(ARCHIVE)\nADDLIB crates/dbus_c/out/libdbus_c.a\nADDLIB $(KIT)c/liblibc_c.a\nSAVE\nEND\n' | ar -M
+	cp crates/dbus_c/out/libdbus_c.a $(ARCHIVE)
 
 test:
 	rt ci

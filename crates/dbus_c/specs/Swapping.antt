@@ -10,17 +10,11 @@ use Rattle.dbus_decode.specs.MessageOutcomes.{IsWhole, IsRefused, IsPartial}
 use Rattle.dbus_c.specs.Checking.{whole_told, nothing_told, fault_told}
 use Rattle.dbus_c.specs.declared.checking.Checked.{Checked}
 use Rattle.dbus_c.specs.declared.checking.TheConstants.{WHOLE, PARTIAL, REFUSED}
-use Rattle.dbus_c.specs.declared.swapping.TheConstants.{MEMORY, NO_ROOM}
+use Rattle.dbus_c.specs.declared.swapping.TheConstants.{NO_ROOM}
 
 -- the order that a number names: big where it is the byte B
 abbrev pub order_named : ℕ → Order
 order_named number = if nat_eq number 66 then Big else Little
-
--- a message is written in an order over the first of the old bytes, where there is room for it and for what that takes
-pub data Writes (order : Order) (m : MessageTree) (answer : ℕ) (old new : List ℕ) : Type 0 where
-  written : length (message_bytes order m) ≤ length old → answer ≡ WHOLE → new ≡ message_bytes order m ++ drop (length (message_bytes order m)) old → Writes order m answer old new
-  too_long : length old < length (message_bytes order m) → answer ≡ NO_ROOM → new ≡ old → Writes order m answer old new
-  not_written : answer ≡ MEMORY → new ≡ old → Writes order m answer old new
 
 -- an answer, what is told beside it and the new bytes hold of the bytes under the limits, where a message is asked for in this order
 pub data Swaps (limits : Limits) (b : List ℕ) (asked : Order) (answer : ℕ) (told : Checked) (old new : List ℕ) : Type 0 where
@@ -28,4 +22,10 @@ pub data Swaps (limits : Limits) (b : List ℕ) (asked : Order) (answer : ℕ) (
   no_room : (order : Order) (m : MessageTree) (n : ℕ) → IsWhole limits b order m n → length old < n → answer ≡ NO_ROOM → told ≡ whole_told order n → new ≡ old → Swaps limits b asked answer told old new
   partial : IsPartial limits b → answer ≡ PARTIAL → told ≡ nothing_told → new ≡ old → Swaps limits b asked answer told old new
   refused : (f : Fault) → IsRefused limits b f → answer ≡ REFUSED → told ≡ fault_told f → new ≡ old → Swaps limits b asked answer told old new
-  no_memory : answer ≡ MEMORY → told ≡ nothing_told → new ≡ old → Swaps limits b asked answer told old new
+
+-- each outcome of the bytes under the limits has one answer for so many old bytes, one thing is told beside it, and one is written
+pub record IsSwapExact (limits : Limits) (b : List ℕ) (asked : Order) (answer : ℕ) (told : Checked) (old new : List ℕ) : Type 0 where
+  pub swapped : (order : Order) (m : MessageTree) (n : ℕ) → IsWhole limits b order m n → n ≤ length old → (answer ≡ WHOLE) × (told ≡ whole_told order n) × (new ≡ message_bytes asked m ++ drop n old)
+  pub no_room : (order : Order) (m : MessageTree) (n : ℕ) → IsWhole limits b order m n → length old < n → (answer ≡ NO_ROOM) × (told ≡ whole_told order n) × (new ≡ old)
+  pub partial : IsPartial limits b → (answer ≡ PARTIAL) × (told ≡ nothing_told) × (new ≡ old)
+  pub refused : (f : Fault) → IsRefused limits b f → (answer ≡ REFUSED) × (told ≡ fault_told f) × (new ≡ old)

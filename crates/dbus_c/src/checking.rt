@@ -101,7 +101,7 @@ pub extern "C" fn dbus_wire_check(bytes: &[u8], limits: &WireLimits, out: &mut C
 
 // What a checker tells of the bytes.
 #[inline(never)]
-fn check_all(bytes: &[u8], limits: Limits, out: &mut Checked) -> u32
+pub(crate) fn check_all(bytes: &[u8], limits: Limits, out: &mut Checked) -> u32
     ensures tells { Tells limits bytes.now result out.new }
     ensures exact { IsExact limits bytes.now result out.new }
 {

@@ -14,5 +14,5 @@ pub use given_limits::{ANY_INDEX, INDEX_BELOW_COUNT, WireLimits, dbus_wire_speci
 pub use names::{dbus_wire_reason_name, names_are_texts};
 pub use parts::{Parts, TextPlace, dbus_wire_parts_of};
 pub use reasons::{field_named, reason_number, reasons_have_one_number};
-pub use swapping::{MEMORY, NO_ROOM, dbus_wire_swap};
+pub use swapping::{NO_ROOM, dbus_wire_swap};
 pub use wanted::dbus_wire_wanted;

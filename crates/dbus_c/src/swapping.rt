@@ -1,22 +1,18 @@
 //! A message written in the byte order that a caller in C asks for.
 #![tactic(auto)]
 
-ghost use Rattle.std.specs.Prelude.{◌≡◌, ◌<◌, ◌≤◌, ◌++◌, drop, length};
-ghost use Rattle.dbus_c.specs.Checking.{whole_told};
+ghost use Rattle.std.specs.Prelude.{◌≡◌, ◌≤◌, ◌++◌, drop, length};
 ghost use Rattle.dbus_c.specs.GivenLimits.{limits_of};
-ghost use Rattle.dbus_c.specs.Swapping.{Swaps, Writes, order_named};
-ghost use Rattle.dbus_message_model.specs.MessageViews.{message_tree};
+ghost use Rattle.dbus_c.specs.Swapping.{IsSwapExact, Swaps, order_named};
+ghost use Rattle.dbus_decode.specs.MessageOutcomes.{IsWhole};
+ghost use Rattle.dbus_judge.specs.Judging.{IsJudged};
+ghost use Rattle.dbus_message_model.specs.Messages.{MessageTree, message_bytes};
 
-use crate::checking::{Checked, PARTIAL, REFUSED, WHOLE, fault_told, nothing_told, whole_told};
+use crate::checking::{Checked, PARTIAL, REFUSED, WHOLE, check_all, whole_told};
 use crate::given_limits::{WireLimits, given_limits};
-use dbus_decode::{Answer, decode_within};
-use dbus_encode::encode;
-use dbus_message_model::Message;
-use dbus_value_model::{Order, Refusal};
-use std::alloc::Global;
-
-/// The answer that memory was refused.
-pub const MEMORY: u32 = 3;
+use dbus_judge::{Judged, judge};
+use dbus_swap::turn;
+use dbus_value_model::{Limits, Order};
 
 /// The answer that the caller has too few bytes for what is to be written.
 pub const NO_ROOM: u32 = 4;
@@ -26,11 +22,9 @@ pub const NO_ROOM: u32 = 4;
 ///
 /// [`WHOLE`] where it is written; `told` has its length, and the order that it was read in. [`PARTIAL`] and [`REFUSED`] as
 /// [`crate::dbus_wire_check`] answers. [`NO_ROOM`] where `out` has fewer bytes than the message, whose length and order are
-/// told. [`MEMORY`] where an allocation failed: it takes memory while it runs. In these four cases `out` stays as it was.
-/// D-Bus Specification, "Message Format".
+/// told. In these three cases `out` stays as it was. It takes no memory. D-Bus Specification, "Message Format".
 #[unsafe(no_mangle)]
 pub extern "C" fn dbus_wire_swap(
-    alloc: Global,
     bytes: &[u8],
     limits: &WireLimits,
     order: u32,
@@ -38,51 +32,32 @@ pub extern "C" fn dbus_wire_swap(
     told: &mut Checked,
 ) -> u32
     ensures swaps { Swaps (limits_of limits.now) bytes.now (order_named order) result told.new out.old out.new }
+    ensures exact { IsSwapExact (limits_of limits.now) bytes.now (order_named order) result told.new out.old out.new }
 {
-    match decode_within(alloc, bytes, given_limits(limits)) {
-        Ok(
-            Answer::Whole {
-                order: _,
-                message,
-                used,
-            },
-        ) => {
-            let answer = write_message(alloc, &message, order_of(order), out);
-            *told = if answer == MEMORY {
-                nothing_told()
-            } else {
-                whole_told(bytes, used)
-            };
-            answer
+    let within = given_limits(limits);
+    match judge(bytes, within) {
+        Some(judged) => {
+            *told = whole_told(bytes, judged.length);
+            if out.len() < judged.length {
+                return NO_ROOM;
+            }
+            write_in(bytes, &judged, within, order_of(order), out);
+            WHOLE
         }
-        Ok(Answer::Partial) => {
-            *told = nothing_told();
-            PARTIAL
-        }
-        Err(Refusal::Memory) => {
-            *told = nothing_told();
-            MEMORY
-        }
-        Err(Refusal::Format(fault)) => {
-            *told = fault_told(fault);
-            REFUSED
-        }
+        None => check_all(bytes, within, told),
     }
 }
 
-// Writes a message to the start of the bytes, where these have room for it.
-fn write_message(alloc: Global, message: &Message, order: Order, out: &mut [u8]) -> u32
-    ensures { Writes order (message_tree message.now) result out.old out.new }
+// Writes a message that was judged to the start of bytes that have room for it, in this order.
+fn write_in(bytes: &[u8], judged: &Judged, limits: Limits, order: Order, out: &mut [u8])
+    requires judged { IsJudged limits bytes.now judged.now }
+    requires room { judged.now.length ≤ length out.old }
+    ensures { (m : MessageTree) → IsWhole limits bytes.now judged.now.order m judged.now.length → out.new ≡ message_bytes order m ++ drop judged.now.length out.old }
 {
-    match encode(alloc, message, order) {
-        Ok(text) => {
-            if out.len() < text.len() {
-                return NO_ROOM;
-            }
-            out[..text.len()].copy_from_slice(&text);
-            WHOLE
-        }
-        Err(_) => MEMORY,
+    let copy = &mut out[..judged.length];
+    copy.copy_from_slice(&bytes[..judged.length]);
+    if judged.order != order {
+        turn(bytes, copy, judged, limits);
     }
 }
 

@@ -1,46 +1,61 @@
-use Rattle.std.proofs.Common.{refl, subst, ap, ◌∙◌}
+use Rattle.std.proofs.Common.{◌++◌, drop, refl, ap, subst, ◌∙◌, arith}
 use Rattle.dbus_value_model.specs.declared.limits.Limits.{Limits}
 use Rattle.dbus_value_model.specs.declared.order.Order.{Order}
-use Rattle.dbus_message_model.specs.MessageViews.{message_tree}
-use Rattle.dbus_decode.specs.MessageOutcomes.{IsWhole, IsRefused}
-use Rattle.dbus_c.specs.Checking.{fault_told}
+use Rattle.dbus_message_model.specs.Messages.{message_bytes}
+use Rattle.dbus_decode.specs.MessageOutcomes.{IsWhole}
+use Rattle.dbus_judge.specs.Judging.{BeginsWithNone}
+use Rattle.dbus_c.specs.Checking.{Tells}
 use Rattle.dbus_c.specs.GivenLimits.{limits_of}
-use Rattle.dbus_c.specs.Swapping.{refused, Writes}
-use Rattle.dbus_c.proofs.Swapped.{refused_is, swap_told, whole_is}
+use Rattle.dbus_c.specs.Swapping.{order_named, swapped, no_room}
+use Rattle.dbus_c.proofs.Swapped.{none_swaps, swaps_exact}
 use Rattle.dbus_c.proofs.Telling.{some_there}
-use Rattle.dbus_c.proofs.swapping.dbus_wire_swap.Goals.{then-answer-eq-MEMORY, else-answer-eq-MEMORY}
 use Rattle.dbus_c.proofs.swapping.dbus_wire_swap.Goals as goal
 
 pub whole_told-requires : goal.whole_told-requires
 whole_told-requires c =
-    let limits = c.given_limits.result in
-    let b = c.args.bytes.now in
-    let order = c.in-Ok-Whole.field-0-0 in
-    let message = c.in-Ok-Whole.message in
-    let n = c.in-Ok-Whole.used in
-    some_there limits b n (order, message_tree message, whole_is limits b c.in-Ok-Whole.field-0 order message n c.in-Ok-Whole.field-0-is c.in-Ok-Whole.ensures.decodes)
+    let judged = c.in-Some.judged in
+    let is = c.in-Some.ensures.judged in
+    some_there c.given_limits-within.result c.args.bytes.now judged.length (judged.order, is.message, is.whole)
 
-pub returns-after-answer-eq-MEMORY : goal.returns-after-answer-eq-MEMORY
-returns-after-answer-eq-MEMORY c =
+pub returns-then-out-judged-clause-swaps : goal.returns-then-out-judged-clause-swaps
+returns-then-out-judged-clause-swaps c =
     let limits = limits_of c.args.limits.now in
-    let b = c.args.bytes.now in
-    let order = c.in-Ok-Whole.field-0-0 in
-    let m = message_tree c.in-Ok-Whole.message in
-    let n = c.in-Ok-Whole.used in
-    let answer = c.write_message-answer.result in
-    let whole : IsWhole limits b order m n = subst (λ (l : Limits). IsWhole l b order m n) c.given_limits.ensures (whole_is c.given_limits.result b c.in-Ok-Whole.field-0 order c.in-Ok-Whole.message n c.in-Ok-Whole.field-0-is c.in-Ok-Whole.ensures.decodes) in
-    let writes = subst (λ (o : Order). Writes o m answer c.args.out.now c.write_message-answer.new.out) c.order_of.ensures c.write_message-answer.ensures in
-    record {
-      swaps = swap_told limits b _ order m n answer c.if-answer-eq-MEMORY.told c.args.out.now c.write_message-answer.new.out whole (elim c.if-answer-eq-MEMORY.branch [
-        | then-answer-eq-MEMORY w ↦ record { nothing = λ is. w.told-is ∙ w.nothing_told.ensures; whole = λ no. absurd (no w.if-answer-eq-MEMORY.true) }
-        | else-answer-eq-MEMORY w ↦ record { nothing = λ is. absurd (w.if-answer-eq-MEMORY.false is); whole = λ no. w.told-is ∙ w.whole_told.ensures limits order m whole }
-      ]) writes;
-    }
+    let judged = c.in-Some.judged in
+    let is = c.in-Some.ensures.judged in
+    let whole = subst (λ (l : Limits). IsWhole l c.args.bytes.now judged.order is.message judged.length) c.given_limits-within.ensures is.whole in
+    no_room judged.order is.message judged.length whole (omega arith) refl (c.whole_told.ensures limits judged.order is.message whole) refl
 
-pub returns-in-Err-Format : goal.returns-in-Err-Format
-returns-in-Err-Format c =
+pub returns-then-out-judged-clause-exact : goal.returns-then-out-judged-clause-exact
+returns-then-out-judged-clause-exact c =
     let limits = limits_of c.args.limits.now in
-    let b = c.args.bytes.now in
-    let fault = c.in-Err-Format.fault in
-    let is : IsRefused limits b fault = subst (λ (l : Limits). IsRefused l b fault) c.given_limits.ensures (refused_is c.given_limits.result b c.in-Err-Format.field-0 fault c.in-Err-Format.field-0-is c.in-Err-Format.ensures.decodes) in
-    record { swaps = refused fault is refl (c.fault_told.ensures ∙ ap fault_told c.in-Err-Format.fault-is) refl }
+    let judged = c.in-Some.judged in
+    let is = c.in-Some.ensures.judged in
+    let whole = subst (λ (l : Limits). IsWhole l c.args.bytes.now judged.order is.message judged.length) c.given_limits-within.ensures is.whole in
+    let none = no_room judged.order is.message judged.length whole (omega arith) refl (c.whole_told.ensures limits judged.order is.message whole) refl in
+    swaps_exact limits c.args.bytes.now (order_named c.args.order) 4 c.whole_told.result c.args.out.now c.args.out.now none
+
+pub returns-else-out-judged-clause-swaps : goal.returns-else-out-judged-clause-swaps
+returns-else-out-judged-clause-swaps c =
+    let limits = limits_of c.args.limits.now in
+    let judged = c.in-Some.judged in
+    let is = c.in-Some.ensures.judged in
+    let whole = subst (λ (l : Limits). IsWhole l c.args.bytes.now judged.order is.message judged.length) c.given_limits-within.ensures is.whole in
+    let written = c.write_in.ensures is.message is.whole ∙ ap (λ (o : Order). message_bytes o is.message ++ drop judged.length c.args.out.now) c.order_of.ensures in
+    swapped judged.order is.message judged.length whole (omega arith) refl (c.whole_told.ensures limits judged.order is.message whole) written
+
+pub returns-else-out-judged-clause-exact : goal.returns-else-out-judged-clause-exact
+returns-else-out-judged-clause-exact c =
+    let limits = limits_of c.args.limits.now in
+    let judged = c.in-Some.judged in
+    let is = c.in-Some.ensures.judged in
+    let whole = subst (λ (l : Limits). IsWhole l c.args.bytes.now judged.order is.message judged.length) c.given_limits-within.ensures is.whole in
+    let written = c.write_in.ensures is.message is.whole ∙ ap (λ (o : Order). message_bytes o is.message ++ drop judged.length c.args.out.now) c.order_of.ensures in
+    let done = swapped judged.order is.message judged.length whole (omega arith) refl (c.whole_told.ensures limits judged.order is.message whole) written in
+    swaps_exact limits c.args.bytes.now (order_named c.args.order) 0 c.whole_told.result c.args.out.now c.write_in.new.out done
+
+pub returns-in-None-clause-swaps : goal.returns-in-None-clause-swaps
+returns-in-None-clause-swaps c =
+    let limits = limits_of c.args.limits.now in
+    let none = subst (λ (l : Limits). BeginsWithNone l c.args.bytes.now) c.given_limits-within.ensures (c.in-None.ensures.none refl) in
+    let tells = subst (λ (l : Limits). Tells l c.args.bytes.now c.check_all.result c.check_all.new.out) c.given_limits-within.ensures c.check_all.ensures.tells in
+    none_swaps limits c.args.bytes.now (order_named c.args.order) c.check_all.result c.check_all.new.out c.args.out.now c.args.out.now none tells refl

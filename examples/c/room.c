@@ -1,0 +1,44 @@
+/* Swaps each D-Bus message on standard input into fewer bytes than it has, into as many and into more: DBUS_WIRE_NO_ROOM leaves the
+ * bytes as they were, and else those after the message stay as they were. Prints how many messages there are. */
+#include <dbus_wire.h>
+
+#include <stdio.h>
+#include <string.h>
+
+/* How many bytes more than the message has are tried, and what each byte holds before a call. */
+enum { MORE = 9, BEFORE = 0xAA };
+
+static struct dbus_wire_limits limits;
+
+/* Whether the message is answered and written as it should be, where there are `room` bytes for it. */
+static int is_right(const uint8_t *bytes, const struct dbus_wire_checked *message, uint32_t order, size_t room) {
+    static uint8_t out[1 << 20];
+    struct dbus_wire_checked told;
+    size_t at = 0, written = 0;
+
+    if (room >= sizeof out) return 0;
+    memset(out, BEFORE, room + 1);
+    if (dbus_wire_swap(bytes, message->length, &limits, order, out, room, &told) == DBUS_WIRE_WHOLE) {
+        written = message->length;
+        if (out[0] != order || (memcmp(out, bytes, written) == 0) != (order == message->order)) return 0;
+    }
+    for (at = written; at <= room; at++)
+        if (out[at] != BEFORE) return 0;
+    return (written > 0) == (room >= message->length) && told.length == message->length && told.order == message->order;
+}
+
+int main(void) {
+    static uint8_t bytes[1 << 20];
+    struct dbus_wire_checked message;
+    size_t count = fread(bytes, 1, sizeof bytes, stdin), at = 0, room, messages = 0;
+
+    dbus_wire_specification_limits(&limits);
+    while (dbus_wire_check(bytes + at, count - at, &limits, &message) == DBUS_WIRE_WHOLE) {
+        for (room = 0; room <= message.length + MORE; room++)
+            if (!is_right(bytes + at, &message, 'l', room) || !is_right(bytes + at, &message, 'B', room)) return 1;
+        at += message.length;
+        messages++;
+    }
+    printf("%zu messages swapped where there is room for them, and not where there is not\n", messages);
+    return at < count || messages == 0;
+}
