@@ -4,6 +4,7 @@
 //! and prints what it read and wrote. The messages are those of standard input.
 #![tactic(auto)]
 
+mod judged;
 mod messages;
 mod samples;
 mod timing;
