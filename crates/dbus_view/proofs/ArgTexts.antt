@@ -12,7 +12,8 @@ use Rattle.dbus_value_model.proofs.Numbers.{length-num}
 use Rattle.dbus_message_model.proofs.JudgedFields.{text_of}
 use Rattle.dbus_value_judge.specs.Codes.{first_code}
 use Rattle.dbus_value_judge.proofs.TypeCodes as codes
-use Rattle.dbus_view.specs.Bodies.{IsOther, StandsIn, IsTextIn}
+use Rattle.dbus_view.specs.Bodies.{IsOther, StandsIn, IsTextIn, IsTextPlace}
+use Rattle.dbus_view.specs.declared.arg_place.ArgPlace.{ArgPlace}
 use Rattle.dbus_view.specs.declared.values.Spot.{Spot}
 use Rattle.dbus_view.proofs.Texts.{formed_utf8}
 
@@ -59,3 +60,12 @@ other_there c (VariantValue x) e str path sign = e
 other_there c (ArrayValue t xs) e str path sign = e
 other_there c (StructValue xs) e str path sign = e
 other_there c (EntryValue k v) e str path sign = e
+
+-- of a value that is no text no place is told
+pub other_place : (c : ℕ) (x : ValueTree) (bytes : List ℕ) (p : ArgPlace) → IsOther c x → p.start ≡ 0 → p.length ≡ 0 → (first_code (type_of x) ≡ c) × IsTextPlace bytes x p
+other_place c (TextValue k t) bytes p is start length = absurd is
+other_place c (NumberValue k n) bytes p is start length = (is, (start, length))
+other_place c (VariantValue x) bytes p is start length = (is, (start, length))
+other_place c (ArrayValue t xs) bytes p is start length = (is, (start, length))
+other_place c (StructValue xs) bytes p is start length = (is, (start, length))
+other_place c (EntryValue k v) bytes p is start length = (is, (start, length))

@@ -1,5 +1,5 @@
 -- The body of a message that is judged.
-use Rattle.std.proofs.Common.{◌≡◌, ℕ, ◌+◌, ◌-◌, List, [], ◌∷◌, ◌++◌, length, take, drop, take_all, Option, refl, sym, ap, subst, ◌∙◌, arith}
+use Rattle.std.proofs.Common.{◌≡◌, ℕ, ◌+◌, ◌-◌, List, [], ◌∷◌, ◌++◌, length, take, drop, take_all, Option, Some, None, MatchOption, refl, sym, ap, subst, ◌∙◌, arith}
 use Rattle.std.proofs.lemmas.List.{length-drop, append-nil}
 use Rattle.dbus_texts.specs.ComputedKinds.{types_spelled}
 use Rattle.dbus_texts.specs.Types.{AreShaped}
@@ -7,13 +7,15 @@ use Rattle.dbus_texts.proofs.TypeTexts.{spelled_sigs}
 use Rattle.dbus_value_model.specs.FdIndexes.{index_limit}
 use Rattle.dbus_value_model.specs.declared.limits.Bounds.{Bounds}
 use Rattle.dbus_value_model.specs.declared.limits.Limits.{Limits}
+use Rattle.dbus_value_model.specs.declared.order.Order.{Order}
 use Rattle.dbus_value_model.specs.Specification.{bounds_with}
 use Rattle.dbus_value_model.specs.Spelling.{AreWithinLimits, spellings}
-use Rattle.dbus_value_model.specs.Values.{types_of}
+use Rattle.dbus_value_model.specs.Values.{ValueTree, types_of}
 use Rattle.dbus_unmarshal.proofs.KindLaws.{signature_text}
 use Rattle.dbus_message_model.specs.Messages.{MessageTree, body_signature, body_fds, fd_count, body_bytes}
 use Rattle.dbus_judge.specs.declared.judging.Judged.{Judged}
-use Rattle.dbus_view.specs.Bodies.{AreBody}
+use Rattle.dbus_view.specs.Bodies.{AreBody, StandsThere, StandsSomehow}
+use Rattle.dbus_view.specs.declared.values.Spot.{Spot}
 use Rattle.dbus_view.specs.Views.{IsJudgedWhole}
 use Rattle.dbus_view.proofs.FieldTexts.{signed}
 use Rattle.dbus_view.proofs.Whole.{message, valid, all_whole, whole_length}
@@ -55,3 +57,8 @@ module _ (limits : Limits) (bytes : List ℕ) (j : Judged) (h : IsJudgedWhole li
         spelled = record { formed = ok.formed_body; within = subst (λ (o : ℕ). AreWithinLimits limits.array j.order o read.body) h.judged.body.0 ok.within_body; indexes = ok.indexes; bytes = body_there; place = body_place };
       } in
       subst (λ (b : Bounds). AreBody b j.order limits.depth j.body bytes types read.body) (sym bound) within
+
+-- what stands there under these bounds does so under some
+pub somehow : (bounds : Bounds) (order : Order) (room : ℕ) (bytes : List ℕ) (v : Option ValueTree) (found : Option Spot) → MatchOption found (v ≡ None) (λ s. StandsThere bounds order room bytes v s) → MatchOption found (v ≡ None) (λ s. StandsSomehow order room bytes v s)
+somehow bounds order room bytes v None none = none
+somehow bounds order room bytes v (Some s) there = (bounds, there)

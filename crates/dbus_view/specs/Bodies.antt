@@ -8,6 +8,7 @@ use Rattle.dbus_value_model.specs.declared.order.Order.{Order}
 use Rattle.dbus_value_model.specs.Spelling.{Spelled, SpelledAll}
 use Rattle.dbus_value_model.specs.Values.{ValueTree, ValueTrees, TextValue, type_of, types_of}
 use Rattle.dbus_value_judge.specs.Codes.{first_code}
+use Rattle.dbus_view.specs.declared.arg_place.ArgPlace.{ArgPlace}
 use Rattle.dbus_view.specs.declared.arg_view.ArgView.{ArgView}
 use Rattle.dbus_view.specs.declared.arg_view.ArgView.TheVariants as view
 use Rattle.dbus_view.specs.declared.values.Spot.{Spot}
@@ -28,6 +29,20 @@ IsArg (view.Other c) v = IsOther c v
 abbrev pub IsArgThere : Option ValueTree → ArgView → Type 0
 IsArgThere v a = (x : ValueTree) × (v ≡ Some x) × IsArg a x
 
+-- the text stands at a place, within the bytes
+pub record IsTextAt (bytes t : List ℕ) (p : ArgPlace) : Type 0 where
+  pub text : t ≡ take p.length (drop p.start bytes)
+  pub inside : p.start + p.length ≤ length bytes
+
+-- of a text where it stands, and of another value nothing
+abbrev pub IsTextPlace : List ℕ → ValueTree → ArgPlace → Type 0
+IsTextPlace bytes (TextValue k t) p = IsTextAt bytes t p
+IsTextPlace bytes v p = (p.start ≡ 0) × (p.length ≡ 0)
+
+-- what is told of a value that is there: the first code of its type, and where it stands if it is a text
+abbrev pub IsPlaceThere : List ℕ → Option ValueTree → ArgPlace → Type 0
+IsPlaceThere bytes v p = (x : ValueTree) × (v ≡ Some x) × (first_code (type_of x) ≡ p.code) × IsTextPlace bytes x p
+
 -- from an offset up to the end the bytes spell the values, whose types have that signature
 pub record AreBody (bounds : Bounds) (order : Order) (room at : ℕ) (bytes types : List ℕ) (xs : ValueTrees) : Type 0 where
   pub shaped : AreShaped (types_of xs)
@@ -42,6 +57,10 @@ pub record StandsIn (bounds : Bounds) (order : Order) (room : ℕ) (bytes : List
 -- a value of the number is there and stands there
 abbrev pub StandsThere : Bounds → Order → (room : ℕ) → List ℕ → Option ValueTree → Spot → Type 0
 StandsThere bounds order room bytes v s = (x : ValueTree) × (v ≡ Some x) × StandsIn bounds order room bytes x s
+
+-- under some bounds it does
+abbrev pub StandsSomehow : Order → (room : ℕ) → List ℕ → Option ValueTree → Spot → Type 0
+StandsSomehow order room bytes v s = (bounds : Bounds) × StandsThere bounds order room bytes v s
 
 -- a text with its length, in so many bytes, before it, and one byte behind it, has those bytes
 pub record IsTextIn (bytes : List ℕ) (width start after : ℕ) (t : List ℕ) : Type 0 where

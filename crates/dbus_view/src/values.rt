@@ -5,8 +5,10 @@ ghost use Rattle.std.specs.Prelude.{◌≡◌, ◌≤◌, ℕ, List, length, Non
 ghost use Rattle.dbus_value_model.specs.Values.{ValueTrees};
 ghost use Rattle.dbus_message_model.specs.Lookups.{body_value};
 
+use crate::arg_place::ArgPlace;
+use dbus_judge::Judged;
 use dbus_value_judge::{judge_value, type_end};
-use dbus_value_model::{Bounds, Order, padding_length};
+use dbus_value_model::{Bounds, Limits, Order, padding_length};
 use std::str;
 
 /// Where a value of a body stands.
@@ -20,7 +22,8 @@ pub(crate) struct Spot {
     pub code: u8,
 }
 
-ghost use Rattle.dbus_view.specs.Bodies.{AreBody, StandsThere, IsTextIn};
+ghost use Rattle.dbus_view.specs.Bodies.{AreBody, StandsThere, StandsSomehow, IsTextIn, IsTextAt};
+ghost use Rattle.dbus_view.specs.Views.{IsJudgedWhole};
 
 /// Where value `n`, counted from 0, stands of the values that `types` spell, which begin at `at` and end with the bytes.
 pub(crate) fn spot_of(
@@ -59,6 +62,26 @@ pub(crate) fn spot_of(
     })
 }
 
+/// Where value `n` of the body, counted from 0, stands of the message that the bytes, all of them, were judged to be.
+pub(crate) fn spot_in(bytes: &[u8], limits: Limits, judged: &Judged, n: usize) -> Option<Spot>
+    requires { IsJudgedWhole limits bytes.now judged.now }
+    ensures { (h : IsJudgedWhole limits bytes.now judged.now) → MatchOption result (body_value n h.judged.message.body ≡ None) (λ s. StandsSomehow judged.now.order limits.depth bytes.now (body_value n h.judged.message.body) s) }
+{
+    let fields = &judged.fields;
+    let types = fields.signature(bytes);
+    let fds = limits.fds.index_limit(fields.fd_count());
+    let bounds = limits.bounds_with(fds);
+    spot_of(
+        bytes,
+        judged.body,
+        judged.order,
+        types,
+        limits.depth,
+        bounds,
+        n,
+    )
+}
+
 /// The text that stands from `start` up to `after`, behind its length in `width` bytes, and with a zero behind it.
 pub(crate) fn text_in(bytes: &[u8], start: usize, after: usize, width: u8) -> &str
     requires some { 1 ≤ width }
@@ -70,4 +93,20 @@ pub(crate) fn text_in(bytes: &[u8], start: usize, after: usize, width: u8) -> &s
     let text = &bytes[first..after - 1];
     // The bytes were judged, so UTF-8 is not looked for again.
     unsafe { str::from_utf8_unchecked(text) }
+}
+
+/// Where the text stands of a value that stands there, behind its length in `width` bytes, and with a zero behind it.
+pub(crate) fn text_place(bytes: &[u8], spot: Spot, width: u8) -> ArgPlace
+    requires some { 1 ≤ width }
+    requires text { (t : List ℕ) × IsTextIn bytes.now width spot.start spot.after t }
+    ensures code { result.code ≡ spot.code }
+    ensures text { (t : List ℕ) → IsTextIn bytes.now width spot.start spot.after t → IsTextAt bytes.now t result }
+{
+    let gap = usize::from(padding_length(width, spot.start as u64));
+    let first = spot.start + gap + usize::from(width);
+    ArgPlace {
+        code: spot.code,
+        start: first,
+        length: spot.after - 1 - first,
+    }
 }

@@ -11,9 +11,10 @@ ghost use Rattle.dbus_message_model.specs.Lookups.{field_value, body_value};
 ghost use Rattle.dbus_decode.specs.MessageOutcomes.{IsWhole};
 ghost use Rattle.dbus_judge.specs.Judging.{IsJudged};
 
+use crate::arg_place::ArgPlace;
 use crate::arg_view::ArgView;
 use crate::fault::fault_of;
-use crate::values::{spot_of, text_in};
+use crate::values::{spot_in, text_in, text_place};
 use dbus_judge::{Judged, judge};
 use dbus_message_model::field_code::{
     DESTINATION, ERROR_NAME, INTERFACE, MEMBER, PATH, REPLY_SERIAL, SENDER,
@@ -44,7 +45,7 @@ impl<'a> Model for MessageView<'a> {
 }
 
 impl<'a> MessageView<'a> {
-    ghost use Rattle.dbus_view.specs.Bodies.{IsArgThere, StandsThere};
+    ghost use Rattle.dbus_view.specs.Bodies.{IsArgThere, IsPlaceThere};
     ghost use Rattle.dbus_view.specs.Fields.{WantsText, IsTextOf};
     ghost use Rattle.dbus_view.specs.Opening.{IsViewFault};
     ghost use Rattle.dbus_view.specs.Views.{Views, ViewsOne, IsViewOf};
@@ -202,25 +203,31 @@ impl<'a> MessageView<'a> {
         ensures { (order : Order) (m : MessageTree) → Views self.now order m → MatchOption result (body_value n m.body ≡ None) (λ a. IsArgThere (body_value n m.body) a) }
     {
         let bytes = self.bytes;
-        let fields = &self.judged.fields;
-        let types = fields.signature(bytes);
-        let fds = self.limits.fds.index_limit(fields.fd_count());
-        let bounds = self.limits.bounds_with(fds);
-        let room = self.limits.depth;
-        let spot = spot_of(
-            bytes,
-            self.judged.body,
-            self.judged.order,
-            types,
-            room,
-            bounds,
-            n,
-        )?;
+        let spot = spot_in(bytes, self.limits, &self.judged, n)?;
         match spot.code {
             b's' => Some(ArgView::Str(text_in(bytes, spot.start, spot.after, 4))),
             b'o' => Some(ArgView::Path(text_in(bytes, spot.start, spot.after, 4))),
             b'g' => Some(ArgView::Sig(text_in(bytes, spot.start, spot.after, 1))),
             code => Some(ArgView::Other(code)),
+        }
+    }
+
+    /// Where the text of value `n` of the body stands in the bytes, the values counted from 0, and the first code of its type, if
+    /// there are so many. The values before it are passed over. D-Bus Specification, "Message Format".
+    pub fn arg_place(&self, n: usize) -> Option<ArgPlace>
+        ensures { (order : Order) (m : MessageTree) → Views self.now order m → MatchOption result (body_value n m.body ≡ None) (λ p. IsPlaceThere self.now.bytes (body_value n m.body) p) }
+    {
+        let bytes = self.bytes;
+        let spot = spot_in(bytes, self.limits, &self.judged, n)?;
+        match spot.code {
+            b's' => Some(text_place(bytes, spot, 4)),
+            b'o' => Some(text_place(bytes, spot, 4)),
+            b'g' => Some(text_place(bytes, spot, 1)),
+            code => Some(ArgPlace {
+                code,
+                start: 0,
+                length: 0,
+            }),
         }
     }
 }
