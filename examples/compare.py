@@ -2,9 +2,9 @@
 """compare.py PROGRAM LISTER SWAPPER CHECKER..: holds what each CHECKER writes of messages against what `PROGRAM check` does.
 
 The messages are the captures in samples/, whole and cut short, and those of the first messages of each capture of which one
-byte is changed. Both the text and the exit status are compared. What LISTER writes of the captures is held against the first
-lines of the messages that `PROGRAM show` writes, whose header fields may stand in another order; what SWAPPER writes of them in
-either byte order, against `PROGRAM swap`. The exit status is 1 where they differ.
+byte is changed. Both the text and the exit status are compared. What LISTER writes of the captures is held against what
+`PROGRAM show` writes, whose header fields may stand in another order, and of whose values that are no text the first code of the
+type alone; what SWAPPER writes of them in either byte order, against `PROGRAM swap`. The exit status is 1 where they differ.
 """
 
 import collections
@@ -56,18 +56,24 @@ def answer(words, data):
 
 
 def listed(text):
-    """The first lines of messages, each as its words in an order of its own."""
-    return [sorted(line.split(" ")) for line in text.split("\n") if line.startswith("#")]
+    """The lines of messages: the first of each as its words in an order of its own, a text as it is, another value as its code."""
+    return [listed_line(line) for line in text.split("\n")]
+
+
+def listed_line(line):
+    if line.startswith("#"):
+        return sorted(line.split(" "))
+    return line if line[3:4] == ":" and line[2] in "sog" else line[:3].replace("<", "v")
 
 
 def compare_lists(program, lister, folder):
-    """How many messages of the captures are listed otherwise."""
+    """How many lines of the captures are listed otherwise."""
     differing = 0
     for sample in SAMPLES:
         data = capture(folder, sample)
         right, other = (listed(answer(words, data)[0]) for words in ([program, "show"], [lister]))
         differing += abs(len(right) - len(other)) + sum(a != b for a, b in zip(right, other))
-        print(f"{sample}: {len(right)} messages listed, {differing} otherwise")
+        print(f"{sample}: {len(right)} lines listed, {differing} otherwise")
     return differing
 
 

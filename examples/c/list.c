@@ -1,6 +1,7 @@
-/* Lists the D-Bus messages on standard input, one line each: the number, the byte order, the type, the serial, the flags and the
- * known header fields, as the first line of each message that `dbus-wire show` prints, but with the fields in the order of their
- * codes. Their texts are written from the bytes that were read: nothing is copied. */
+/* Lists the D-Bus messages on standard input, as `dbus-wire show` does, but with the header fields in the order of their codes: a
+ * line with the number, the byte order, the type, the serial, the flags and the known header fields, and then one for each value
+ * of the body, which is its text, or the code of its type where it is none. The texts are written from the bytes that were read:
+ * nothing is copied. */
 #include <dbus_wire.h>
 
 #include <stdio.h>
@@ -12,6 +13,26 @@ static const char *type_name(uint32_t kind) {
 
 static void print_text(const char *name, const uint8_t *bytes, struct dbus_wire_text text) {
     if (text.is_there) printf(" %s=%.*s", name, (int)text.length, (const char *)bytes + text.offset);
+}
+
+static void print_byte(uint8_t byte) {
+    if (byte == '"' || byte == '\\')
+        printf("\\%c", byte);
+    else if (byte < 0x20 || byte == 0x7F)
+        printf("\\x%02x", byte);
+    else
+        putchar(byte);
+}
+
+static void print_argument(const uint8_t *bytes, const struct dbus_wire_argument *argument) {
+    uint64_t at;
+    printf("  %c", (char)argument->code);
+    if (argument->code == 's' || argument->code == 'o' || argument->code == 'g') {
+        printf(":\"");
+        for (at = 0; at < argument->length; at++) print_byte(bytes[argument->offset + at]);
+        printf("\"");
+    }
+    printf("\n");
 }
 
 static void print_message(unsigned long number, const uint8_t *bytes, const struct dbus_wire_parts *parts) {
@@ -33,12 +54,15 @@ int main(void) {
     static uint8_t bytes[1 << 20];
     struct dbus_wire_limits limits;
     struct dbus_wire_parts parts;
-    size_t count = fread(bytes, 1, sizeof bytes, stdin), at = 0;
+    struct dbus_wire_argument argument;
+    size_t count = fread(bytes, 1, sizeof bytes, stdin), at = 0, value;
     unsigned long number = 0;
 
     dbus_wire_specification_limits(&limits);
     while (dbus_wire_parts_of(bytes + at, count - at, &limits, &parts)) {
         print_message(++number, bytes + at, &parts);
+        for (value = 0; dbus_wire_argument_of(bytes + at, count - at, &limits, value, &argument); value++)
+            print_argument(bytes + at, &argument);
         at += parts.length;
     }
     return at < count;

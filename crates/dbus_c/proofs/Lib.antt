@@ -2,3 +2,4 @@ pub mod MeantLimits
 pub mod FirstBytes
 pub mod Telling
 pub mod Swapped
+pub mod Fronts

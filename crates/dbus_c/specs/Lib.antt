@@ -5,3 +5,4 @@ pub mod Checking
 pub mod Wanting
 pub mod Parting
 pub mod Swapping
+pub mod Arguments
