@@ -2,21 +2,19 @@
 use Rattle.std.proofs.Common.{◌≡◌, ℕ, ◌+◌, ◌≤◌, List, [], ◌∷◌, ◌++◌, Bool, true, false, None, Some, Ok, Err, Option, length, drop, sym, ap, ◌∙◌, subst, refl, arith, inl, inr}
 use Rattle.std.specs.Io.KnownBytes.{Consumes, IsAtEnd}
 use Rattle.std.proofs.KnownBytes.{Consumes-nil, Consumes-trans}
-use Rattle.dbus_value_model.specs.declared.order.Order.{Order}
 use Rattle.dbus_value_model.specs.declared.fault.Fault.{Fault}
 use Rattle.dbus_value_model.specs.declared.limits.Limits.{Limits}
-use Rattle.dbus_message_model.specs.declared.message.Message.{Message}
-use Rattle.dbus_message_model.specs.MessageViews.{message_tree}
 use Rattle.dbus_decode.specs.MessageOutcomes.{IsWhole, IsRefused, IsPartial}
 use Rattle.dbus_decode.proofs.OutcomeLaws.{whole_inside}
 use Rattle.dbus_stream.specs.Cut.{Item, BeginWith, Ended, Unfinished, Refused, truncated, sizes}
-use Rattle.dbus_stream.specs.Next.{RisesBy, Reads, NextAnswers, GivesMessage, KeepsAll}
-use Rattle.dbus_stream.specs.Reader.{limits_of, kept, source_of, done_of, reads_of, most_reads_of, is_ended, stopped_of}
-use Rattle.dbus_stream.specs.declared.message_reader.MessageReader.{MessageReader}
+use Rattle.dbus_stream.specs.Next.{RisesBy}
+use Rattle.dbus_raw_reader.specs.Next.{Reads, Advances, Lends, KeepsAll}
+use Rattle.dbus_raw_reader.specs.Reading.{IsNewReader, limits_of, kept, source_of, done_of, reads_of, most_reads_of, is_ended, stopped_of}
+use Rattle.dbus_raw_reader.specs.declared.raw_reader.RawReader.{RawReader}
 use Rattle.dbus_stream.specs.declared.read_fault.ReadFault.TheVariants as read
 use Rattle.dbus_stream.proofs.CutLaws.{BeginWith-last, BeginWith-more}
 use Rattle.dbus_stream.proofs.NextSteps.{both_ways}
-use Rattle.dbus_tool.specs.Counting.{IsFresh, CountsAll}
+use Rattle.dbus_tool.specs.Counting.{CountsAll}
 
 pub RisesBy-both : (j k total a b c : ℕ) → RisesBy j a b → RisesBy k b c → total ≡ j + k → RisesBy total a c
 RisesBy-both j k total a b c p q e = omega (arith, p, q, e)
@@ -40,7 +38,7 @@ length-sizes limits bytes (item ∷ items) rest f =
 
 module _ {R A : Type 0} (left : R → Option (List ℕ)) (calls failures : R → ℕ) (limits : Limits) (most : ℕ) where
   -- the messages of what was read so far were given
-  pub record HasCounted (old new : MessageReader R A) : Type 0 where
+  pub record HasCounted (old new : RawReader R A) : Type 0 where
     pub bytes : List ℕ
     pub items : List Item
     pub consumed : Consumes (left (source_of old)) (left (source_of new)) bytes
@@ -53,18 +51,18 @@ module _ {R A : Type 0} (left : R → Option (List ℕ)) (calls failures : R →
     pub at_end : is_ended new ≡ true → IsAtEnd (left (source_of new))
     pub failed : failures (source_of new) ≡ failures (source_of old)
 
-  pub counts_none : (reader : MessageReader R A) → IsFresh reader → most_reads_of reader ≡ most → limits_of reader ≡ limits → (h : HasCounted reader reader) × (0 ≡ length h.items)
-  counts_none reader f reads within = (
+  pub counts_none : (reader : RawReader R A) → IsNewReader (source_of reader) most limits reader → (h : HasCounted reader reader) × (0 ≡ length h.items)
+  counts_none reader f = (
     record {
       bytes = [];
       items = [];
       consumed = Consumes-nil (left (source_of reader));
       messages = sym f.kept;
       done = f.done;
-      unstopped = f.unstopped;
+      unstopped = f.stopped;
       called = RisesBy-none (reads_of reader) (calls (source_of reader)) f.reads;
-      most_reads = reads;
-      limits_are = within;
+      most_reads = f.most_reads;
+      limits_are = f.limits;
       at_end = λ e. absurd (both_ways (is_ended reader) e f.ended);
       failed = refl;
     },
@@ -72,7 +70,7 @@ module _ {R A : Type 0} (left : R → Option (List ℕ)) (calls failures : R →
   )
 
   -- what was read once more
-  pub record MoreRead (old mid new : MessageReader R A) (bytes : List ℕ) (items : List Item) (more : List ℕ) : Type 0 where
+  pub record MoreRead (old mid new : RawReader R A) (bytes : List ℕ) (items : List Item) (more : List ℕ) : Type 0 where
     pub consumed : Consumes (left (source_of old)) (left (source_of new)) (bytes ++ more)
     pub messages : BeginWith limits (bytes ++ more) items (kept mid ++ more)
     pub called : RisesBy (reads_of new) (calls (source_of old)) (calls (source_of new))
@@ -80,12 +78,12 @@ module _ {R A : Type 0} (left : R → Option (List ℕ)) (calls failures : R →
     pub limits_are : limits_of new ≡ limits
     pub at_end : is_ended new ≡ true → IsAtEnd (left (source_of new))
 
-  still_at_end : (mid new : MessageReader R A) (b : Bool) → is_ended mid ≡ b → (is_ended mid ≡ true → IsAtEnd (left (source_of mid))) → Reads left calls mid new
+  still_at_end : (mid new : RawReader R A) (b : Bool) → is_ended mid ≡ b → (is_ended mid ≡ true → IsAtEnd (left (source_of mid))) → Reads left calls mid new
       → is_ended new ≡ true → IsAtEnd (left (source_of new))
   still_at_end mid new true e before r t = subst (λ s. IsAtEnd (left s)) (sym (r.settled e).3) (before e)
   still_at_end mid new false e before r t = r.at_end e t
 
-  pub more_read : (old mid new : MessageReader R A) (h : HasCounted old mid) (r : Reads left calls mid new) → MoreRead old mid new h.bytes h.items r.bytes
+  pub more_read : (old mid new : RawReader R A) (h : HasCounted old mid) (r : Reads left calls mid new) → MoreRead old mid new h.bytes h.items r.bytes
   more_read old mid new h r = record {
     consumed = Consumes-trans _ _ _ _ _ h.consumed r.consumed;
     messages = BeginWith-more limits h.bytes h.items (kept mid) r.bytes h.messages;
@@ -96,21 +94,22 @@ module _ {R A : Type 0} (left : R → Option (List ℕ)) (calls failures : R →
   }
 
   -- one more message was given
-  pub counts_more : (old mid new : MessageReader R A) (given : Order × Message A) (count : ℕ) (h : HasCounted old mid) (r : Reads left calls mid new)
-      → (gives : GivesMessage (kept mid ++ r.bytes) given mid new) → failures (source_of new) ≡ failures (source_of mid) → count ≡ length h.items
+  pub counts_more : (old mid new : RawReader R A) (count : ℕ) (h : HasCounted old mid) (r : Reads left calls mid new)
+      → (l : Lends (kept mid ++ r.bytes) mid new) → failures (source_of new) ≡ failures (source_of mid) → count ≡ length h.items
       → (next : HasCounted old new) × (count + 1 ≡ length next.items)
-      × (next.items ≡ h.items ++ (record { order = given.0; message = message_tree given.1; size = gives.size }) ∷ [])
-  counts_more old mid new given count h r gives same c =
+      × (next.items ≡ h.items ++ (record { order = l.gives.order; message = l.gives.message; size = l.size }) ∷ [])
+  counts_more old mid new count h r l same c =
       let m = more_read old mid new h r in
-      let item : Item = record { order = given.0; message = message_tree given.1; size = gives.size } in (
+      let gives = l.gives in
+      let item : Item = record { order = gives.order; message = gives.message; size = l.size } in (
         record {
           bytes = h.bytes ++ r.bytes;
           items = h.items ++ item ∷ [];
           consumed = m.consumed;
           messages = subst (λ l. BeginWith limits (h.bytes ++ r.bytes) (h.items ++ item ∷ []) l) (sym gives.kept)
               (BeginWith-last limits (h.bytes ++ r.bytes) h.items (kept mid ++ r.bytes) item m.messages
-              (subst (λ w. IsWhole w (kept mid ++ r.bytes) given.0 (message_tree given.1) gives.size) h.limits_are gives.whole));
-          done = gives.done ∙ (ap (λ n. n + gives.size) h.done ∙ sym (sizes-last h.items item));
+              (subst (λ w. IsWhole w (kept mid ++ r.bytes) gives.order gives.message l.size) h.limits_are gives.whole));
+          done = gives.done ∙ (ap (λ n. n + l.size) h.done ∙ sym (sizes-last h.items item));
           unstopped = gives.unstopped;
           called = m.called;
           most_reads = m.most_reads;
@@ -122,12 +121,12 @@ module _ {R A : Type 0} (left : R → Option (List ℕ)) (calls failures : R →
         refl,
       )
 
-  kept_behind : (old mid new : MessageReader R A) (bytes : List ℕ) (items : List Item) (more : List ℕ) → MoreRead old mid new bytes items more → KeepsAll (kept mid ++ more) mid new
+  kept_behind : (old mid new : RawReader R A) (bytes : List ℕ) (items : List Item) (more : List ℕ) → MoreRead old mid new bytes items more → KeepsAll (kept mid ++ more) mid new
       → BeginWith limits (bytes ++ more) items (kept new)
   kept_behind old mid new bytes items more m k = subst (λ l. BeginWith limits (bytes ++ more) items l) (sym k.kept) m.messages
 
-  pub counts_ended : (old mid new : MessageReader R A) (count : ℕ) (h : HasCounted old mid) (r : Reads left calls mid new) → count ≡ length h.items
-      → NextAnswers {A = A} (kept mid ++ r.bytes) mid new (Ok None)
+  pub counts_ended : (old mid new : RawReader R A) (count : ℕ) (h : HasCounted old mid) (r : Reads left calls mid new) → count ≡ length h.items
+      → Advances (kept mid ++ r.bytes) mid new (Ok false)
       → (all : CountsAll left limits (record { count = count; size = done_of new; fault = None }) (source_of old) (source_of new)) × (all.items ≡ h.items)
   counts_ended old mid new count h r c answer =
       let m = more_read old mid new h r in (
@@ -146,8 +145,8 @@ module _ {R A : Type 0} (left : R → Option (List ℕ)) (calls failures : R →
         refl,
       )
 
-  pub counts_refused : (old mid new : MessageReader R A) (count : ℕ) (fault : Fault) (h : HasCounted old mid) (r : Reads left calls mid new) → count ≡ length h.items
-      → NextAnswers {A = A} (kept mid ++ r.bytes) mid new (Err (read.Format fault))
+  pub counts_refused : (old mid new : RawReader R A) (count : ℕ) (fault : Fault) (h : HasCounted old mid) (r : Reads left calls mid new) → count ≡ length h.items
+      → Advances (kept mid ++ r.bytes) mid new (Err (read.Format fault))
       → (all : CountsAll left limits (record { count = count; size = done_of new; fault = Some fault }) (source_of old) (source_of new)) × (all.items ≡ h.items)
   counts_refused old mid new count fault h r c answer =
       let m = more_read old mid new h r in
@@ -188,7 +187,7 @@ module _ {R A : Type 0} (left : R → Option (List ℕ)) (calls failures : R →
         )
       ]
 
-  pub called_all : (old mid new : MessageReader R A) (h : HasCounted old mid) (r : Reads left calls mid new) → reads_of new ≡ most_reads_of new
+  pub called_all : (old mid new : RawReader R A) (h : HasCounted old mid) (r : Reads left calls mid new) → reads_of new ≡ most_reads_of new
       → RisesBy most (calls (source_of old)) (calls (source_of new))
   called_all old mid new h r e =
       let m = more_read old mid new h r in

@@ -1,16 +1,14 @@
 -- The next message, where nothing was read before it.
-use Rattle.std.proofs.Common.{◌≡◌, ◌⊎◌, true, ℕ, ◌+◌, List, [], ◌++◌, None, Some, Ok, Err, Option, Result, refl, ap, ◌∙◌, subst}
+use Rattle.std.proofs.Common.{◌≡◌, ◌⊎◌, Bool, true, false, ℕ, ◌+◌, List, [], ◌++◌, Ok, Err, Option, Result, refl, sym, ap, ◌∙◌, subst, append-nil, inl}
 use Rattle.std.specs.Io.KnownBytes.{Consumes}
-use Rattle.dbus_value_model.specs.declared.order.Order.{Order}
-use Rattle.dbus_message_model.specs.declared.message.Message.{Message}
-use Rattle.dbus_message_model.specs.MessageViews.{message_tree}
 use Rattle.dbus_decode.specs.MessageOutcomes.{IsWhole, IsRefused, IsPartial}
-use Rattle.dbus_stream.specs.Next.{RisesBy, Reads, ReadsNothing, KeepsAll, IsCutShort, NextAnswers, KeptAnswers, DeviceCounts}
-use Rattle.dbus_stream.specs.Reader.{limits_of, kept, source_of, is_ended}
-use Rattle.dbus_stream.specs.declared.message_reader.MessageReader.{MessageReader}
+use Rattle.dbus_stream.specs.Next.{RisesBy, IsCutShort, DeviceCounts}
 use Rattle.dbus_stream.specs.declared.read_fault.ReadFault.{ReadFault}
 use Rattle.dbus_stream.specs.declared.read_fault.ReadFault.TheVariants as read
-use Rattle.dbus_stream.proofs.NextSteps.{kept_as_next, unread, starts}
+use Rattle.dbus_raw_reader.specs.Next.{Reads, ReadsNothing, KeepsAll, Lends, Advances, KeptAnswers}
+use Rattle.dbus_raw_reader.specs.Reading.{limits_of, kept, source_of, is_ended}
+use Rattle.dbus_raw_reader.specs.declared.raw_reader.RawReader.{RawReader}
+use Rattle.dbus_raw_reader.proofs.NextSteps.{starts, unread}
 use Rattle.dbus_tool.specs.Gathering.{Breaks}
 use Rattle.dbus_tool.specs.Handing.{GivesNext}
 use Rattle.dbus_tool.specs.declared.ending.Stop.{Stop}
@@ -19,7 +17,7 @@ use Rattle.dbus_tool.proofs.GatherSteps.{passes_none}
 
 module _ {R A : Type 0} (left : R → Option (List ℕ)) (calls failures : R → ℕ) where
   -- what is read behind a step that reads nothing and keeps all
-  abbrev reads_behind : (old mid new : MessageReader R A) → ReadsNothing old mid → KeepsAll (kept old) old mid → Reads left calls mid new → Reads left calls old new
+  abbrev reads_behind : (old mid new : RawReader R A) → ReadsNothing old mid → KeepsAll (kept old) old mid → Reads left calls mid new → Reads left calls old new
   reads_behind old mid new n k r = record {
     bytes = r.bytes;
     count = r.count;
@@ -38,19 +36,27 @@ module _ {R A : Type 0} (left : R → Option (List ℕ)) (calls failures : R →
     at_end = λ e f. r.at_end (n.ended ∙ e) f;
   }
 
-  keeps_behind : (w : List ℕ) (old mid new : MessageReader R A) → KeepsAll (kept old) old mid → KeepsAll w mid new → KeepsAll w old new
-  keeps_behind w old mid new k l = record { kept = l.kept; done = l.done ∙ k.done }
+  keeps_behind : (w : List ℕ) (old mid new : RawReader R A) → KeepsAll (kept old) old mid → KeepsAll w mid new → KeepsAll w old new
+  keeps_behind w old mid new k l = record { kept = l.kept; done = l.done ∙ k.done; lent = l.lent }
 
-  answers_behind : (w : List ℕ) (old mid new : MessageReader R A) (res : Result (Option (Order × Message A)) ReadFault) → limits_of mid ≡ limits_of old
-      → KeepsAll (kept old) old mid → NextAnswers w mid new res → NextAnswers w old new res
-  answers_behind w old mid new (Ok (Some given)) same k a = record {
-    size = a.size;
-    whole = subst (λ limits. IsWhole limits w given.0 (message_tree given.1) a.size) same a.whole;
-    kept = a.kept;
-    done = a.done ∙ ap (λ x. x + a.size) k.done;
-    unstopped = a.unstopped;
+  lends_behind : (w : List ℕ) (old mid new : RawReader R A) → limits_of mid ≡ limits_of old → KeepsAll (kept old) old mid → Lends w mid new → Lends w old new
+  lends_behind w old mid new same k l = record {
+    size = l.size;
+    gives = record {
+      order = l.gives.order;
+      message = l.gives.message;
+      whole = subst (λ limits. IsWhole limits w l.gives.order l.gives.message l.size) same l.gives.whole;
+      kept = l.gives.kept;
+      done = l.gives.done ∙ ap (λ x. x + l.size) k.done;
+      unstopped = l.gives.unstopped;
+    };
+    lent = l.lent;
   }
-  answers_behind w old mid new (Ok None) same k a = (a.0, a.1, keeps_behind w old mid new k a.2, a.3)
+
+  answers_behind : (w : List ℕ) (old mid new : RawReader R A) (res : Result Bool ReadFault) → limits_of mid ≡ limits_of old
+      → KeepsAll (kept old) old mid → Advances w mid new res → Advances w old new res
+  answers_behind w old mid new (Ok true) same k a = lends_behind w old mid new same k a
+  answers_behind w old mid new (Ok false) same k a = (a.0, a.1, keeps_behind w old mid new k a.2, a.3)
   answers_behind w old mid new (Err read.Memory) same k a = (keeps_behind w old mid new k a.0, a.1)
   answers_behind w old mid new (Err (read.Format fault)) same k a = (
     keeps_behind w old mid new k a.0,
@@ -60,39 +66,52 @@ module _ {R A : Type 0} (left : R → Option (List ℕ)) (calls failures : R →
   answers_behind w old mid new (Err read.Device) same k a = (keeps_behind w old mid new k a.0, a.1, subst (λ limits. IsPartial limits w) same a.2)
   answers_behind w old mid new (Err read.TooManyReads) same k a = (keeps_behind w old mid new k a.0, a.1, subst (λ limits. IsPartial limits w) same a.2, a.3)
 
-  both_behind : (old mid new : MessageReader R A) (res : Result (Option (Order × Message A)) ReadFault) → ReadsNothing old mid → KeepsAll (kept old) old mid
-      → (r : Reads left calls mid new) → NextAnswers (kept mid ++ r.bytes) mid new res → (s : Reads left calls old new) × NextAnswers (kept old ++ s.bytes) old new res
+  both_behind : (old mid new : RawReader R A) (res : Result Bool ReadFault) → ReadsNothing old mid → KeepsAll (kept old) old mid
+      → (r : Reads left calls mid new) → Advances (kept mid ++ r.bytes) mid new res → (s : Reads left calls old new) × Advances (kept old ++ s.bytes) old new res
   both_behind old mid new res n k r a = (
     reads_behind old mid new n k r,
-    answers_behind (kept old ++ r.bytes) old mid new res n.limits k (subst (λ l. NextAnswers (l ++ r.bytes) mid new res) k.kept a),
+    answers_behind (kept old ++ r.bytes) old mid new res n.limits k (subst (λ l. Advances (l ++ r.bytes) mid new res) k.kept a),
   )
 
+  -- a fault of what is kept
+  kept_fault : (old new : RawReader R A) (fault : ReadFault) → KeptAnswers old new (Err fault) → Advances (kept old) old new (Err fault)
+  kept_fault old new read.Memory k = k
+  kept_fault old new (read.Format fault) k = (k.0, k.1, inl k.2)
+  kept_fault old new read.Device k = absurd k
+  kept_fault old new read.TooManyReads k = absurd k
+
   module _ {W : Type 0} (held : W → Option (List ℕ)) (write_failures : W → ℕ) where
-    pub gives_behind : (old mid new : MessageReader R A) (g0 g1 : List ℕ) (w0 w1 : W) (res : Result (Option (Order × Message A)) Stop) → ReadsNothing old mid
+    pub gives_behind : (old mid new : RawReader R A) (g0 g1 : List ℕ) (w0 w1 : W) (res : Result Bool Stop) → ReadsNothing old mid
         → KeepsAll (kept old) old mid → GivesNext left calls failures held write_failures mid new g0 g1 w0 w1 res → GivesNext left calls failures held write_failures old new g0 g1 w0 w1 res
-    gives_behind old mid new g0 g1 w0 w1 (Ok given) n k g =
-        let both = both_behind old mid new (Ok given) n k g.0 g.1 in
+    gives_behind old mid new g0 g1 w0 w1 (Ok lent) n k g =
+        let both = both_behind old mid new (Ok lent) n k g.0 g.1 in
         (both.0, both.1, g.2 ∙ ap failures n.source, g.3)
     gives_behind old mid new g0 g1 w0 w1 (Err (Reader fault)) n k g =
         let both = both_behind old mid new (Err fault) n k g.0 g.1 in
-        (both.0, both.1, subst (λ (x : ℕ). DeviceCounts {T = Option (Order × Message A)} x (failures (source_of new)) (Err fault)) (ap failures n.source) g.2, g.3)
+        (both.0, both.1, subst (λ (x : ℕ). DeviceCounts {T = Bool} x (failures (source_of new)) (Err fault)) (ap failures n.source) g.2, g.3)
     gives_behind old mid new g0 g1 w0 w1 (Err Writer) n k g = (reads_behind old mid new n k g.0, g.1, g.2 ∙ ap failures n.source)
 
     -- a message that is kept
-    pub gives_kept : (old new : MessageReader R A) (given : Order × Message A) (g : List ℕ) (w : W) → KeptAnswers old new (Ok (Some given)) → ReadsNothing old new
-        → GivesNext left calls failures held write_failures old new g g w w (Ok (Some given))
-    gives_kept old new given g w k n =
-        let both = kept_as_next left calls failures old new (Ok (Some given)) (λ e. cc) k n in
-        (both.0, both.1, ap failures n.source, passes_none held write_failures g w)
+    pub gives_kept : (old new : RawReader R A) (g : List ℕ) (w : W) → Lends (kept old) old new → ReadsNothing old new
+        → GivesNext left calls failures held write_failures old new g g w w (Ok true)
+    gives_kept old new g w l n = (
+      unread left calls failures old old new (starts left calls failures old) n,
+      subst (λ (v : List ℕ). Lends v old new) (sym (append-nil (kept old))) l,
+      ap failures n.source,
+      passes_none held write_failures g w,
+    )
 
-    pub gives_kept_fault : (old new : MessageReader R A) (fault : ReadFault) (g : List ℕ) (w : W) → KeptAnswers {A = A} old new (Err fault) → ReadsNothing old new
-        → DeviceCounts {T = Option (Order × Message A)} (failures (source_of old)) (failures (source_of new)) (Err fault)
+    pub gives_kept_fault : (old new : RawReader R A) (fault : ReadFault) (g : List ℕ) (w : W) → KeptAnswers old new (Err fault) → ReadsNothing old new
+        → DeviceCounts {T = Bool} (failures (source_of old)) (failures (source_of new)) (Err fault)
         → GivesNext left calls failures held write_failures old new g g w w (Err (Reader fault))
-    gives_kept_fault old new fault g w k n counts =
-        let both = kept_as_next left calls failures old new (Err fault) (λ e. cc) k n in
-        (both.0, both.1, counts, passes_none held write_failures g w)
+    gives_kept_fault old new fault g w k n counts = (
+      unread left calls failures old old new (starts left calls failures old) n,
+      subst (λ (v : List ℕ). Advances v old new (Err fault)) (sym (append-nil (kept old))) (kept_fault old new fault k),
+      counts,
+      passes_none held write_failures g w,
+    )
 
     -- what is gathered was not written, and nothing was read
-    pub gives_unwritten : (old : MessageReader R A) (g0 g1 : List ℕ) (w0 w1 : W) → Breaks held write_failures [] g0 w0 w1
+    pub gives_unwritten : (old : RawReader R A) (g0 g1 : List ℕ) (w0 w1 : W) → Breaks held write_failures [] g0 w0 w1
         → GivesNext left calls failures held write_failures old old g0 g1 w0 w1 (Err Writer)
-    gives_unwritten old g0 g1 w0 w1 b = (unread left calls failures old old old (starts left calls failures old) (record { source = refl; reads = refl; most_reads = refl; limits = refl; ended = refl }), b, refl)
+    gives_unwritten old g0 g1 w0 w1 b = (starts left calls failures old, b, refl)

@@ -1,21 +1,19 @@
 -- The turns in which messages are handed to a command.
-use Rattle.std.proofs.Common.{◌≡◌, ℕ, ◌+◌, List, [], ◌∷◌, ◌++◌, None, Some, Ok, Err, Option, length, refl, sym, ap, ◌∙◌, subst, arith}
-use Rattle.dbus_value_model.specs.declared.order.Order.{Order}
+use Rattle.std.proofs.Common.{◌≡◌, Bool, false, ℕ, ◌+◌, List, [], ◌∷◌, ◌++◌, None, Some, Ok, Err, Option, length, refl, sym, ap, ◌∙◌, subst, arith}
 use Rattle.dbus_value_model.specs.declared.fault.Fault.{Fault}
 use Rattle.dbus_value_model.specs.declared.limits.Limits.{Limits}
-use Rattle.dbus_message_model.specs.declared.message.Message.{Message}
-use Rattle.dbus_message_model.specs.MessageViews.{message_tree}
 use Rattle.dbus_decode.specs.MessageOutcomes.{IsWhole, IsPartial}
 use Rattle.dbus_stream.specs.Device.{one_more}
 use Rattle.dbus_stream.specs.Cut.{Item, BeginWith}
-use Rattle.dbus_stream.specs.Next.{Reads, NextAnswers, GivesMessage, DeviceCounts}
-use Rattle.dbus_stream.specs.Reader.{limits_of, kept, source_of, done_of, most_reads_of}
-use Rattle.dbus_stream.specs.declared.message_reader.MessageReader.{MessageReader}
+use Rattle.dbus_stream.specs.Next.{DeviceCounts}
+use Rattle.dbus_raw_reader.specs.Next.{Reads, Advances, Lends}
+use Rattle.dbus_raw_reader.specs.Reading.{IsNewReader, kept, source_of, done_of}
+use Rattle.dbus_raw_reader.specs.declared.raw_reader.RawReader.{RawReader}
 use Rattle.dbus_stream.specs.declared.read_fault.ReadFault.{ReadFault}
 use Rattle.dbus_stream.specs.declared.read_fault.ReadFault.TheVariants as read
 use Rattle.dbus_stream.proofs.CutLaws.{BeginWith-last}
 use Rattle.dbus_command.specs.declared.command.Command.{Command}
-use Rattle.dbus_tool.specs.Counting.{IsFresh, ended_by, stopped_by}
+use Rattle.dbus_tool.specs.Counting.{ended_by, stopped_by}
 use Rattle.dbus_tool.specs.Output.{IsOutputOf, IsOutputOfAll}
 use Rattle.dbus_tool.specs.Gathering.{Passes, Breaks, Leaves}
 use Rattle.dbus_tool.specs.Handing.{HandsOne, GivesNext, HandsAll, HandsSome, Hands, IsReadCause, AreAll}
@@ -30,16 +28,16 @@ use Rattle.dbus_tool.proofs.CountSteps.{HasCounted, counts_none, counts_more, co
 module _ {R A W : Type 0} (left : R → Option (List ℕ)) (calls failures : R → ℕ) (held : W → Option (List ℕ)) (write_failures : W → ℕ) (limits : Limits) (most : ℕ)
     (command : Command) where
   -- the messages of what was read so far were handed to the command
-  pub record HasHanded (count : ℕ) (old new : MessageReader R A) (g0 g1 : List ℕ) (w0 w1 : W) : Type 0 where
+  pub record HasHanded (count : ℕ) (old new : RawReader R A) (g0 g1 : List ℕ) (w0 w1 : W) : Type 0 where
     pub counted : HasCounted left calls failures limits most old new
     pub count_is : count ≡ length counted.items
     pub out : List ℕ
     pub output : IsOutputOfAll command 1 counted.items out
     pub passes : Passes held write_failures out g0 g1 w0 w1
 
-  pub hands_none : (reader : MessageReader R A) (g : List ℕ) (w : W) → IsFresh reader → most_reads_of reader ≡ most → limits_of reader ≡ limits → HasHanded 0 reader reader g g w w
-  hands_none reader g w f reads within =
-      let none = counts_none left calls failures limits most reader f reads within in
+  pub hands_none : (reader : RawReader R A) (g : List ℕ) (w : W) → IsNewReader (source_of reader) most limits reader → HasHanded 0 reader reader g g w w
+  hands_none reader g w f =
+      let none = counts_none left calls failures limits most reader f in
       let items_are : none.0.items ≡ [] = none_of none.0.items none.1 in
       record {
         counted = none.0;
@@ -54,16 +52,16 @@ module _ {R A W : Type 0} (left : R → Option (List ℕ)) (calls failures : R �
       none_of (x ∷ xs) e = absurd (omega arith)
 
   -- one more message was handed on
-  pub hands_more : (count : ℕ) (old mid new : MessageReader R A) (given : Order × Message A) (g0 g1 g2 g3 : List ℕ) (w0 w1 w2 w3 : W)
-      (h : HasHanded count old mid g0 g1 w0 w1) (r : Reads left calls mid new) → GivesMessage (kept mid ++ r.bytes) given mid new
+  pub hands_more : (count : ℕ) (old mid new : RawReader R A) (g0 g1 g2 g3 : List ℕ) (w0 w1 w2 w3 : W)
+      (h : HasHanded count old mid g0 g1 w0 w1) (r : Reads left calls mid new) → (l : Lends (kept mid ++ r.bytes) mid new)
       → failures (source_of new) ≡ failures (source_of mid) → Passes held write_failures [] g1 g2 w1 w2
-      → HandsOne held write_failures command given.0 (message_tree given.1) (count + 1) g2 g3 w2 w3 (Ok tt) → HasHanded (count + 1) old new g0 g3 w0 w3
-  hands_more count old mid new given g0 g1 g2 g3 w0 w1 w2 w3 h r gives same p one =
-      let next = counts_more left calls failures limits most old mid new given count h.counted r gives same h.count_is in
-      let item : Item = record { order = given.0; message = message_tree given.1; size = gives.size } in
+      → HandsOne held write_failures command l.gives.order l.gives.message (count + 1) g2 g3 w2 w3 (Ok tt) → HasHanded (count + 1) old new g0 g3 w0 w3
+  hands_more count old mid new g0 g1 g2 g3 w0 w1 w2 w3 h r l same p one =
+      let next = counts_more left calls failures limits most old mid new count h.counted r l same h.count_is in
+      let item : Item = record { order = l.gives.order; message = l.gives.message; size = l.size } in
       let number : count + 1 ≡ 1 + length h.counted.items = omega (arith, h.count_is) in
       let last : IsOutputOfAll command 1 (h.counted.items ++ item ∷ []) (h.out ++ one.0)
-      = output_last command 1 h.counted.items item h.out one.0 h.output (subst (λ n. IsOutputOf command given.0 (message_tree given.1) n one.0) number one.1) in
+      = output_last command 1 h.counted.items item h.out one.0 h.output (subst (λ n. IsOutputOf command l.gives.order l.gives.message n one.0) number one.1) in
       record {
         counted = next.0;
         count_is = next.1;
@@ -73,8 +71,8 @@ module _ {R A W : Type 0} (left : R → Option (List ℕ)) (calls failures : R �
       }
 
   -- the input ended
-  pub hands_ended : (count : ℕ) (old mid new : MessageReader R A) (g0 g1 g2 : List ℕ) (w0 w1 w2 : W) (h : HasHanded count old mid g0 g1 w0 w1) (r : Reads left calls mid new)
-      → NextAnswers {A = A} (kept mid ++ r.bytes) mid new (Ok None) → failures (source_of new) ≡ failures (source_of mid) → Passes held write_failures [] g1 g2 w1 w2
+  pub hands_ended : (count : ℕ) (old mid new : RawReader R A) (g0 g1 g2 : List ℕ) (w0 w1 w2 : W) (h : HasHanded count old mid g0 g1 w0 w1) (r : Reads left calls mid new)
+      → Advances (kept mid ++ r.bytes) mid new (Ok false) → failures (source_of new) ≡ failures (source_of mid) → Passes held write_failures [] g1 g2 w1 w2
       → HandsAll left calls failures held write_failures limits most command (record { count = count; size = done_of new; fault = None }) (source_of old) (source_of new) g0 g2 w0 w2
   hands_ended count old mid new g0 g1 g2 w0 w1 w2 h r answer same p =
       let all = counts_ended left calls failures limits most old mid new count h.counted r h.count_is answer in
@@ -86,8 +84,8 @@ module _ {R A W : Type 0} (left : R → Option (List ℕ)) (calls failures : R �
         failed = same ∙ h.counted.failed;
       }
 
-  hands_refused : (count : ℕ) (old mid new : MessageReader R A) (g0 g1 g2 : List ℕ) (w0 w1 w2 : W) (fault : Fault) (h : HasHanded count old mid g0 g1 w0 w1)
-      (r : Reads left calls mid new) → NextAnswers {A = A} (kept mid ++ r.bytes) mid new (Err (read.Format fault)) → failures (source_of new) ≡ failures (source_of mid) → Passes held write_failures [] g1 g2 w1 w2
+  hands_refused : (count : ℕ) (old mid new : RawReader R A) (g0 g1 g2 : List ℕ) (w0 w1 w2 : W) (fault : Fault) (h : HasHanded count old mid g0 g1 w0 w1)
+      (r : Reads left calls mid new) → Advances (kept mid ++ r.bytes) mid new (Err (read.Format fault)) → failures (source_of new) ≡ failures (source_of mid) → Passes held write_failures [] g1 g2 w1 w2
       → HandsAll left calls failures held write_failures limits most command (record { count = count; size = done_of new; fault = Some fault }) (source_of old) (source_of new) g0 g2 w0 w2
   hands_refused count old mid new g0 g1 g2 w0 w1 w2 fault h r answer same p =
       let all = counts_refused left calls failures limits most old mid new count fault h.counted r h.count_is answer in
@@ -100,7 +98,7 @@ module _ {R A W : Type 0} (left : R → Option (List ℕ)) (calls failures : R �
       }
 
   -- no more messages are handed on
-  hands_some : (cause : Cause) (count : ℕ) (old mid new : MessageReader R A) (g0 g1 g2 : List ℕ) (w0 w1 w2 : W) (h : HasHanded count old mid g0 g1 w0 w1) (r : Reads left calls mid new)
+  hands_some : (cause : Cause) (count : ℕ) (old mid new : RawReader R A) (g0 g1 g2 : List ℕ) (w0 w1 w2 : W) (h : HasHanded count old mid g0 g1 w0 w1) (r : Reads left calls mid new)
       → AreAll limits cause (kept mid ++ r.bytes) → Leaves held write_failures cause h.out g0 g2 w0 w2 → IsReadCause left calls failures held write_failures limits most (source_of old) (source_of new) cause
       → HandsSome left calls failures held write_failures limits most command cause (source_of old) (source_of new) g0 g2 w0 w2
   hands_some cause count old mid new g0 g1 g2 w0 w1 w2 h r all leaves caused =
@@ -119,9 +117,9 @@ module _ {R A W : Type 0} (left : R → Option (List ℕ)) (calls failures : R �
       }
 
   -- the reader has a fault
-  hands_faulted : (fault : ReadFault) (count : ℕ) (old mid new : MessageReader R A) (g0 g1 g2 : List ℕ) (w0 w1 w2 : W) (h : HasHanded count old mid g0 g1 w0 w1)
-      (r : Reads left calls mid new) → NextAnswers {A = A} (kept mid ++ r.bytes) mid new (Err fault)
-      → DeviceCounts {T = Option (Order × Message A)} (failures (source_of mid)) (failures (source_of new)) (Err fault) → Passes held write_failures [] g1 g2 w1 w2
+  hands_faulted : (fault : ReadFault) (count : ℕ) (old mid new : RawReader R A) (g0 g1 g2 : List ℕ) (w0 w1 w2 : W) (h : HasHanded count old mid g0 g1 w0 w1)
+      (r : Reads left calls mid new) → Advances (kept mid ++ r.bytes) mid new (Err fault)
+      → DeviceCounts {T = Bool} (failures (source_of mid)) (failures (source_of new)) (Err fault) → Passes held write_failures [] g1 g2 w1 w2
       → Hands left calls failures held write_failures limits most command (source_of old) (source_of new) g0 g2 w0 w2 (ended_by count (done_of new) fault)
   hands_faulted (read.Format fault) count old mid new g0 g1 g2 w0 w1 w2 h r answer counts p = hands_refused count old mid new g0 g1 g2 w0 w1 w2 fault h r answer counts p
   hands_faulted read.Memory count old mid new g0 g1 g2 w0 w1 w2 h r answer counts p =
@@ -133,32 +131,32 @@ module _ {R A W : Type 0} (left : R → Option (List ℕ)) (calls failures : R �
       (counts ∙ h.counted.failed, called_all left calls failures limits most old mid new h.counted r answer.3)
 
   -- what is gathered was not written
-  hands_unwritten : (count : ℕ) (old mid new : MessageReader R A) (g0 g1 g2 : List ℕ) (w0 w1 w2 : W) (h : HasHanded count old mid g0 g1 w0 w1) (r : Reads left calls mid new)
+  hands_unwritten : (count : ℕ) (old mid new : RawReader R A) (g0 g1 g2 : List ℕ) (w0 w1 w2 : W) (h : HasHanded count old mid g0 g1 w0 w1) (r : Reads left calls mid new)
       → Breaks held write_failures [] g1 w1 w2 → failures (source_of new) ≡ failures (source_of mid) → HandsSome left calls failures held write_failures limits most command WriteFailed (source_of old) (source_of new) g0 g2 w0 w2
   hands_unwritten count old mid new g0 g1 g2 w0 w1 w2 h r b same =
       hands_some WriteFailed count old mid new g0 g1 g2 w0 w1 w2 h r tt (breaks_nothing held write_failures h.out g0 g1 w0 w1 w2 h.passes b) (same ∙ h.counted.failed)
 
   -- there is no next message
-  pub hands_stopped : (stop : Stop) (count : ℕ) (old mid new : MessageReader R A) (g0 g1 g2 : List ℕ) (w0 w1 w2 : W) (h : HasHanded count old mid g0 g1 w0 w1)
+  pub hands_stopped : (stop : Stop) (count : ℕ) (old mid new : RawReader R A) (g0 g1 g2 : List ℕ) (w0 w1 w2 : W) (h : HasHanded count old mid g0 g1 w0 w1)
       → GivesNext left calls failures held write_failures mid new g1 g2 w1 w2 (Err stop)
       → Hands left calls failures held write_failures limits most command (source_of old) (source_of new) g0 g2 w0 w2 (stopped_by count (done_of new) stop)
   hands_stopped (Reader fault) count old mid new g0 g1 g2 w0 w1 w2 h given = hands_faulted fault count old mid new g0 g1 g2 w0 w1 w2 h given.0 given.1 given.2 given.3
   hands_stopped Writer count old mid new g0 g1 g2 w0 w1 w2 h given = hands_unwritten count old mid new g0 g1 g2 w0 w1 w2 h given.0 given.1 given.2
 
   -- a message was not written
-  pub hands_not : (cause : Cause) (count : ℕ) (old mid new : MessageReader R A) (given : Order × Message A) (g0 g1 g2 g3 : List ℕ) (w0 w1 w2 w3 : W)
-      (h : HasHanded count old mid g0 g1 w0 w1) (r : Reads left calls mid new) → GivesMessage (kept mid ++ r.bytes) given mid new
+  pub hands_not : (cause : Cause) (count : ℕ) (old mid new : RawReader R A) (g0 g1 g2 g3 : List ℕ) (w0 w1 w2 w3 : W)
+      (h : HasHanded count old mid g0 g1 w0 w1) (r : Reads left calls mid new) → (l : Lends (kept mid ++ r.bytes) mid new)
       → failures (source_of new) ≡ failures (source_of mid) → Passes held write_failures [] g1 g2 w1 w2
-      → HandsOne held write_failures command given.0 (message_tree given.1) (count + 1) g2 g3 w2 w3 (Err cause)
+      → HandsOne held write_failures command l.gives.order l.gives.message (count + 1) g2 g3 w2 w3 (Err cause)
       → HandsSome left calls failures held write_failures limits most command cause (source_of old) (source_of new) g0 g3 w0 w3
-  hands_not Memory count old mid new given g0 g1 g2 g3 w0 w1 w2 w3 h r gives same p one =
+  hands_not Memory count old mid new g0 g1 g2 g3 w0 w1 w2 w3 h r l same p one =
       let before = passes_nothing held write_failures h.out g0 g1 g2 w0 w1 w2 h.passes p in
       hands_some Memory count old mid new g0 g1 g3 w0 w1 w3 h r tt (passes_nothing held write_failures h.out g0 g2 g3 w0 w2 w3 before one.2) (same ∙ h.counted.failed)
-  hands_not ReadFailed count old mid new given g0 g1 g2 g3 w0 w1 w2 w3 h r gives same p one = absurd one.2
-  hands_not TooManyReads count old mid new given g0 g1 g2 g3 w0 w1 w2 w3 h r gives same p one = absurd one.2
-  hands_not WriteFailed count old mid new given g0 g1 g2 g3 w0 w1 w2 w3 h r gives same p one =
+  hands_not ReadFailed count old mid new g0 g1 g2 g3 w0 w1 w2 w3 h r l same p one = absurd one.2
+  hands_not TooManyReads count old mid new g0 g1 g2 g3 w0 w1 w2 w3 h r l same p one = absurd one.2
+  hands_not WriteFailed count old mid new g0 g1 g2 g3 w0 w1 w2 w3 h r l same p one =
       let m = more_read left calls failures limits most old mid new h.counted r in
-      let item : Item = record { order = given.0; message = message_tree given.1; size = gives.size } in
+      let item : Item = record { order = l.gives.order; message = l.gives.message; size = l.size } in
       let number : count + 1 ≡ 1 + length h.counted.items = omega (arith, h.count_is) in
       record {
         bytes = h.counted.bytes ++ r.bytes;
@@ -166,11 +164,11 @@ module _ {R A W : Type 0} (left : R → Option (List ℕ)) (calls failures : R �
         rest = kept new;
         out = h.out ++ one.0;
         consumed = m.consumed;
-        messages = subst (λ l. BeginWith limits (h.counted.bytes ++ r.bytes) (h.counted.items ++ item ∷ []) l) (sym gives.kept)
+        messages = subst (λ l. BeginWith limits (h.counted.bytes ++ r.bytes) (h.counted.items ++ item ∷ []) l) (sym l.gives.kept)
             (BeginWith-last limits (h.counted.bytes ++ r.bytes) h.counted.items (kept mid ++ r.bytes) item m.messages
-            (subst (λ w. IsWhole w (kept mid ++ r.bytes) given.0 (message_tree given.1) gives.size) h.counted.limits_are gives.whole));
+            (subst (λ w. IsWhole w (kept mid ++ r.bytes) l.gives.order l.gives.message l.size) h.counted.limits_are l.gives.whole));
         all = tt;
-        output = output_last command 1 h.counted.items item h.out one.0 h.output (subst (λ n. IsOutputOf command given.0 (message_tree given.1) n one.0) number one.1);
+        output = output_last command 1 h.counted.items item h.out one.0 h.output (subst (λ n. IsOutputOf command l.gives.order l.gives.message n one.0) number one.1);
         leaves = breaks_behind held write_failures h.out one.0 g0 g2 w0 w2 w3 (passes_nothing held write_failures h.out g0 g1 g2 w0 w1 w2 h.passes p) one.2;
         caused = same ∙ h.counted.failed;
       }

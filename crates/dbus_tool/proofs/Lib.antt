@@ -1,6 +1,7 @@
 pub mod OutputSteps
 pub mod Outputs
 pub mod GatherSteps
+pub mod LentSteps
 pub mod CountSteps
 pub mod TallySteps
 pub mod TalliedHands

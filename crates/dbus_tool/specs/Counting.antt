@@ -1,11 +1,9 @@
 -- What the messages of an input are counted as.
-use Rattle.std.specs.Prelude.{◌≡◌, ℕ, List, [], false, length, Option, None, Some, Result, Ok, Err}
+use Rattle.std.specs.Prelude.{◌≡◌, ℕ, List, length, Option, Some, Result, Ok, Err}
 use Rattle.std.specs.Io.KnownBytes.{Consumes, IsAtEnd}
 use Rattle.dbus_value_model.specs.declared.fault.Fault.{Fault}
 use Rattle.dbus_value_model.specs.declared.limits.Limits.{Limits}
 use Rattle.dbus_stream.specs.Cut.{Item, IsCut, Outcome, Refused, fault_at_end, sizes}
-use Rattle.dbus_stream.specs.Reader.{kept, done_of, reads_of, is_ended, stopped_of}
-use Rattle.dbus_stream.specs.declared.message_reader.MessageReader.{MessageReader}
 use Rattle.dbus_stream.specs.declared.read_fault.ReadFault.{ReadFault}
 use Rattle.dbus_stream.specs.declared.read_fault.ReadFault.TheVariants as read
 use Rattle.dbus_tool.specs.declared.ending.Cause.{Cause}
@@ -13,14 +11,6 @@ use Rattle.dbus_tool.specs.declared.ending.Cause.TheVariants.{Memory, ReadFailed
 use Rattle.dbus_tool.specs.declared.ending.Counted.{Counted}
 use Rattle.dbus_tool.specs.declared.ending.Stop.{Stop}
 use Rattle.dbus_tool.specs.declared.ending.Stop.TheVariants.{Reader, Writer}
-
--- a reader that nothing was read by
-pub record IsFresh {R A : Type 0} (reader : MessageReader R A) : Type 0 where
-  pub kept : kept reader ≡ []
-  pub done : done_of reader ≡ 0
-  pub reads : reads_of reader ≡ 0
-  pub ended : is_ended reader ≡ false
-  pub unstopped : stopped_of reader ≡ None
 
 -- what a fault of the reader behind these messages comes to
 abbrev pub ended_by : ℕ → ℕ → ReadFault → Result Counted Cause

@@ -1,7 +1,8 @@
 //! Bytes that are gathered before they are written.
 ghost use Rattle.std.specs.Prelude.{◌≡◌, []};
-ghost use Rattle.dbus_tool.specs.Gathering.{Gathers};
+ghost use Rattle.dbus_tool.specs.Gathering.{Gathers, GathersOrNot};
 
+use crate::ending::Cause;
 use arrayvec::ArrayVec;
 use dbus_stream::{Sink, WrittenOnly, write_all};
 
@@ -23,6 +24,20 @@ pub(crate) fn gather<W: Sink>(
     match gathered.try_extend_from_slice(bytes) {
         Ok(()) => Ok(()),
         Err(_) => write_behind(bytes, gathered, first),
+    }
+}
+
+/// Gathers the bytes, as [`gather`] does, with the cause where a write failed.
+pub(crate) fn put_out<W: Sink>(
+    bytes: &[u8],
+    gathered: &mut Gathered,
+    first: &mut W,
+) -> Result<(), Cause>
+    ensures { GathersOrNot W.held W.failures bytes.now gathered.old.items gathered.new.items first.old first.new result }
+{
+    match gather(bytes, gathered, first) {
+        Ok(()) => Ok(()),
+        Err(Unwritten) => Err(Cause::WriteFailed),
     }
 }
 

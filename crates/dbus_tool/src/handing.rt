@@ -1,7 +1,7 @@
 //! The messages of a reader are handed to a command.
 ghost use Rattle.std.specs.Prelude.{◌≡◌, ◌≤◌, ◌^◌, ℕ, List, None, IfOk};
-ghost use Rattle.dbus_stream.specs.Reader.{limits_of, source_of, done_of, most_reads_of, stopped_of};
-ghost use Rattle.dbus_tool.specs.Counting.{IsFresh, ended_by, stopped_by};
+ghost use Rattle.dbus_raw_reader.specs.Reading.{IsNewReader, source_of, done_of, most_reads_of, stopped_of};
+ghost use Rattle.dbus_tool.specs.Counting.{ended_by, stopped_by};
 ghost use Rattle.dbus_tool.specs.Handing.{GivesNext, Hands};
 
 use crate::ending::{Cause, Counted, Stop};
@@ -9,43 +9,44 @@ use crate::gathering::{Gathered, Unwritten, write_out};
 use crate::output::write_one;
 use crate::spare::Spare;
 use dbus_command::Command;
-use dbus_message::Message;
-use dbus_stream::{MessageReader, ReadFault, Sink, Source};
-use dbus_value::{Limits, Order};
+use dbus_raw_reader::RawReader;
+use dbus_stream::{ReadFault, Sink, Source};
+use dbus_value::Limits;
 use std::alloc::Allocator;
 
-// The next message of the reader. Where it keeps none, what is gathered is written, and then more is read.
+// Whether there is a next message, which the reader lends then. Where it keeps none, what is gathered is written, and then
+// more is read.
 fn next_message<R: Source, A: Allocator + Copy, W: Sink>(
-    messages: &mut MessageReader<R, A>,
+    messages: &mut RawReader<R, A>,
     gathered: &mut Gathered,
     first: &mut W,
-) -> Result<Option<(Order, Message<A>)>, Stop>
+) -> Result<bool, Stop>
     requires { stopped_of messages.old ≡ None }
     ensures gives { GivesNext R.left R.calls R.failures W.held W.failures messages.old messages.new gathered.old.items gathered.new.items first.old first.new result }
-    ensures few { IfOk result (λ _. done_of messages.new ≤ 2 ^ 44) }
+    ensures few { IfOk result (λ _. done_of messages.new ≤ 2 ^ 48) }
     ensures same_reference { R.reference (source_of messages.new) ≡ R.reference (source_of messages.old) }
 {
-    match messages.next_kept() {
-        Ok(Some(given)) => Ok(Some(given)),
-        Ok(None) => read_message(messages, gathered, first),
+    match messages.advance_kept() {
+        Ok(true) => Ok(true),
+        Ok(false) => read_message(messages, gathered, first),
         Err(fault) => Err(Stop::Reader(fault)),
     }
 }
 
-// The next message of the reader, before which what is gathered is written.
+// Whether there is a next message, which the reader lends then. Before it reads, what is gathered is written.
 fn read_message<R: Source, A: Allocator + Copy, W: Sink>(
-    messages: &mut MessageReader<R, A>,
+    messages: &mut RawReader<R, A>,
     gathered: &mut Gathered,
     first: &mut W,
-) -> Result<Option<(Order, Message<A>)>, Stop>
+) -> Result<bool, Stop>
     requires { stopped_of messages.old ≡ None }
     ensures gives { GivesNext R.left R.calls R.failures W.held W.failures messages.old messages.new gathered.old.items gathered.new.items first.old first.new result }
-    ensures few { IfOk result (λ _. done_of messages.new ≤ 2 ^ 44) }
+    ensures few { IfOk result (λ _. done_of messages.new ≤ 2 ^ 48) }
     ensures same_reference { R.reference (source_of messages.new) ≡ R.reference (source_of messages.old) }
 {
     match write_out(gathered, first) {
-        Ok(()) => match messages.next() {
-            Ok(given) => Ok(given),
+        Ok(()) => match messages.advance() {
+            Ok(lent) => Ok(lent),
             Err(fault) => Err(Stop::Reader(fault)),
         },
         Err(Unwritten) => Err(Stop::Writer),
@@ -56,12 +57,13 @@ fn read_message<R: Source, A: Allocator + Copy, W: Sink>(
 fn hand_all<R: Source, A: Allocator + Copy, W: Sink>(
     alloc: A,
     command: &Command,
-    messages: &mut MessageReader<R, A>,
+    limits: Limits,
+    messages: &mut RawReader<R, A>,
     gathered: &mut Gathered,
     first: &mut W,
 ) -> Result<Counted, Cause>
-    requires { IsFresh messages.old }
-    ensures hands { Hands R.left R.calls R.failures W.held W.failures (limits_of messages.old) (most_reads_of messages.old) command.now
+    requires { IsNewReader (source_of messages.old) (most_reads_of messages.old) limits messages.old }
+    ensures hands { Hands R.left R.calls R.failures W.held W.failures limits (most_reads_of messages.old) command.now
         (source_of messages.old) (source_of messages.new) gathered.old.items gathered.new.items first.old first.new result }
     ensures same_reference { R.reference (source_of messages.new) ≡ R.reference (source_of messages.old) }
 {
@@ -69,16 +71,15 @@ fn hand_all<R: Source, A: Allocator + Copy, W: Sink>(
     let mut spare = Spare::new(alloc);
     'messages: loop {
         match next_message(messages, gathered, first) {
-            Ok(Some(given)) => {
+            Ok(true) => {
                 count += 1;
-                match write_one(
-                    command, given.0, &given.1, count, &mut spare, gathered, first,
-                ) {
+                let message = messages.message();
+                match write_one(command, message, limits, count, &mut spare, gathered, first) {
                     Ok(()) => {}
                     Err(cause) => return Err(cause),
                 }
             }
-            Ok(None) => {
+            Ok(false) => {
                 return Ok(Counted {
                     count,
                     size: messages.done(),
@@ -90,7 +91,7 @@ fn hand_all<R: Source, A: Allocator + Copy, W: Sink>(
     }
 }
 
-// What it comes to that there is no next message behind these.
+// What it comes to that there is no next message after these.
 fn stopped_by(count: u64, size: u64, stop: Stop) -> Result<Counted, Cause>
     ensures { result ≡ stopped_by count size stop }
 {
@@ -100,7 +101,7 @@ fn stopped_by(count: u64, size: u64, stop: Stop) -> Result<Counted, Cause>
     }
 }
 
-// What a fault of the reader behind these messages comes to.
+// What a fault of the reader after these messages comes to.
 pub(crate) fn ended_by(count: u64, size: u64, fault: ReadFault) -> Result<Counted, Cause>
     ensures { result ≡ ended_by count size fault }
 {
@@ -130,8 +131,8 @@ fn hand_through<R: Source + Drop, A: Allocator + Copy, W: Sink>(
     ensures hands { Hands R.left R.calls R.failures W.held W.failures limits reads command.now source result.1 gathered.old.items gathered.new.items first.old first.new result.0 }
     ensures same_reference { R.reference result.1 ≡ R.reference source }
 {
-    let mut messages = MessageReader::within(alloc, source, reads, limits);
-    let counted = hand_all(alloc, command, &mut messages, gathered, first);
+    let mut messages = RawReader::within(alloc, source, reads, limits);
+    let counted = hand_all(alloc, command, limits, &mut messages, gathered, first);
     (counted, messages.into_source())
 }
 

@@ -5,14 +5,18 @@ mod closing;
 mod counting;
 mod ending;
 mod failing;
+mod filtering;
 mod gathering;
 mod handing;
+mod judged;
 pub mod laws;
 mod lines;
 mod output;
 mod rule_lines;
 mod running;
+mod showing;
 mod spare;
+mod swapping;
 mod words;
 
 pub use dbus_command::{Command, UsageFault, command_of};

@@ -62,8 +62,9 @@ pub fn run_reads<A: Allocator + Copy, R: Source, W: Sink, E: Sink>(
 /// Where the run fails, it writes `read failed`, `write failed`, `too many reads` or `out of memory` on the second
 /// writer, the first of these that was met. Each line ends in LF. What is written is gathered up to 16,384 bytes, and
 /// goes out before each read and before the status is given. The run holds at most the bytes of one message and of one
-/// read, one message, room for the longest output of a message so far, and what is gathered; `Check` holds no message and
-/// no byte of one but those of one read, and takes no memory for them.
+/// read, room for the longest output of a message so far, and what is gathered; `Show` holds one message beside them.
+/// `Swap` makes that room only for messages that it turns, and `Filter` makes none. `Check` holds no message and no byte of one
+/// but those of one read, and takes no memory for them.
 ///
 /// `Done`, `Refused`: all was written, no read and no write failed, and the status says which. `Failed`: a read failed, a
 /// write to either writer failed or took none of its bytes, as many reads were made as may be, or a growth was refused. It

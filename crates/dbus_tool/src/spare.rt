@@ -2,9 +2,10 @@
 use std::alloc::Allocator;
 
 /// What the messages of an input are written out in, one in place of the other, so that only a longer one than those
-/// before takes memory.
+/// before takes memory; and what memory is taken by.
 #[derive(Drop)]
 pub(crate) struct Spare<A: Allocator> {
+    pub(crate) alloc: A,
     pub(crate) text: String<A>,
     pub(crate) bytes: Vec<u8, A>,
 }
@@ -13,6 +14,7 @@ impl<A: Allocator + Copy> Spare<A> {
     /// Two empty ones, which take no memory yet.
     pub(crate) fn new(alloc: A) -> Self {
         Spare {
+            alloc,
             text: String::new(alloc),
             bytes: Vec::new(alloc),
         }

@@ -2,7 +2,8 @@
 
 use crate::captures::*;
 use crate::pieces::Pieces;
-use crate::running::{CHECK, End, SHOW, TO_LITTLE, assert_end, ran};
+use crate::running::{CHECK, End, SHOW, TO_BIG, TO_LITTLE, assert_end, ran};
+use dbus_message::decode;
 use dbus_tool::ExitStatus;
 use refusing_alloc::Refusing;
 use std::alloc::{Allocator, Global};
@@ -64,12 +65,12 @@ fn growths_met(
 pub(crate) const RUNS: &[(&[&str], &[&[u8]], ExitStatus, &[&[u8]], &[u8], u64)] = &[
     (SHOW, ALL, DONE, TEXTS, b"", 10),
     (CHECK, ALL, DONE, &[b"ok 3 messages 144 bytes\n"], b"", 0),
-    (TO_LITTLE, ALL, DONE, &[RETURN, SIGNAL, RETURN], b"", 10),
-    (RETURNS, ALL, DONE, &[RETURN, BIG_RETURN], b"", 10),
+    (TO_LITTLE, ALL, DONE, &[RETURN, SIGNAL, RETURN], b"", 3),
+    (RETURNS, ALL, DONE, &[RETURN, BIG_RETURN], b"", 3),
     (SHOW, CUT, REFUSED, &[RETURN_TEXT], TRUNCATED, 3),
     (CHECK, CUT, REFUSED, &[TRUNCATED], b"", 0),
-    (TO_LITTLE, CUT, REFUSED, &[RETURN], TRUNCATED, 3),
-    (RETURNS, CUT, REFUSED, &[RETURN], TRUNCATED, 3),
+    (TO_LITTLE, CUT, REFUSED, &[RETURN], TRUNCATED, 2),
+    (RETURNS, CUT, REFUSED, &[RETURN], TRUNCATED, 2),
 ];
 
 const ALL: &[&[u8]] = &[RETURN, SIGNAL, BIG_RETURN];
@@ -96,29 +97,72 @@ fn runs_with_each_growth_refused(rt: HostRuntime) -> Result<(), Fail> {
     Ok(())
 }
 
-// How many growths a run takes over so many copies of the signal.
-fn growths_of(rt: &(impl Abort + AllocGlobal), words: &[&str], copies: usize) -> Result<u64, Fail> {
+// How many growths a run takes over so many copies of the signal, of which so many bytes come with each read.
+fn growths_of(
+    rt: &(impl Abort + AllocGlobal),
+    words: &[&str],
+    copies: usize,
+    size: usize,
+) -> Result<u64, Fail> {
     let mut bytes = Vec::new(rt.alloc());
     for _ in 0..copies {
         bytes.extend_from_slice(SIGNAL)?;
     }
     let heap = Refusing::none(rt.alloc());
-    let end = ran_by_one(rt.alloc(), &heap, words, bytes.as_slice())?;
+    let end = ran(
+        rt.alloc(),
+        &heap,
+        words,
+        Pieces::new(bytes.as_slice(), size, 0),
+    )?;
     assert_eq!(rt; end.status, ExitStatus::Done);
     Ok(heap.growths())
 }
 
-// A message like those before takes no memory but what reading it takes, as a rule that nothing matches has it read; and
-// `check` takes none for it.
+// How many growths it takes to decode so many copies of the signal.
+fn growths_of_decoding(rt: &(impl Abort + AllocGlobal), copies: u64) -> Result<u64, Fail> {
+    let heap = Refusing::none(rt.alloc());
+    for _ in 0..copies {
+        let _ = decode(&heap, SIGNAL);
+    }
+    Ok(heap.growths())
+}
+
+// The commands that build no message.
+const BUILD_NONE: &[&[&str]] = &[
+    CHECK,
+    TO_LITTLE,
+    TO_BIG,
+    &["filter", ""],
+    &["filter", "type='error'"],
+];
+
+// A message like those before takes no memory, whether it comes whole or byte by byte; but `show` decodes it.
 #[test]
 fn further_messages_take_no_more_memory(rt: HostRuntime) -> Result<(), Fail> {
-    assert_eq!(rt; growths_of(&rt, CHECK, 9)?, growths_of(&rt, CHECK, 2)?);
-    let unmatched = &["filter", "type='error'"];
-    let read = growths_of(&rt, unmatched, 9)?.saturating_sub(growths_of(&rt, unmatched, 2)?);
-    for words in [SHOW, TO_LITTLE, &["filter", ""]] {
-        let few = growths_of(&rt, words, 2)?;
-        let many = growths_of(&rt, words, 9)?;
-        assert_eq!(rt; many.saturating_sub(few), read);
+    let decoding = growths_of_decoding(&rt, 7)?;
+    assert!(rt; decoding > 0);
+    for size in [1, 1000] {
+        for words in BUILD_NONE {
+            let few = growths_of(&rt, words, 2, size)?;
+            assert_eq!(rt; growths_of(&rt, words, 9, size)?, few);
+        }
+        let few = growths_of(&rt, SHOW, 2, size)?;
+        assert_eq!(rt;
+            growths_of(&rt, SHOW, 9, size)?,
+            few.saturating_add(decoding)
+        );
     }
+    Ok(())
+}
+
+// Of messages that come whole with one read, `filter` and a `swap` into their own order take no memory, and a `swap` that
+// turns them takes it once.
+#[test]
+fn messages_in_the_buffer_take_no_memory(rt: HostRuntime) -> Result<(), Fail> {
+    for words in [TO_LITTLE, &["filter", ""], &["filter", "type='error'"]] {
+        assert_eq!(rt; growths_of(&rt, words, 3, 1000)?, 0);
+    }
+    assert_eq!(rt; growths_of(&rt, TO_BIG, 3, 1000)?, 1);
     Ok(())
 }

@@ -1,4 +1,4 @@
-use Rattle.std.proofs.Common.{◌≡◌, ◌∙◌, ◌+◌, subst, List, ℕ, Some, inl, refl, rules, string_bytes}
+use Rattle.std.proofs.Common.{◌≡◌, ◌∙◌, ◌+◌, subst, List, ℕ, inl, refl}
 use Rattle.dbus_stream.specs.Write.{Wrote}
 use Rattle.dbus_tool.specs.Lines.{refused_line}
 use Rattle.dbus_tool.proofs.closing.tell_fault.Goals as goal

@@ -1,12 +1,12 @@
 use Rattle.std.proofs.Common.{◌≡◌, ◌-◌, ◌^◌}
-use Rattle.dbus_stream.specs.Reader.{limits_of, done_of, most_reads_of, source_of}
+use Rattle.dbus_raw_reader.specs.Reading.{done_of, most_reads_of, source_of}
 use Rattle.dbus_tool.proofs.HandSteps.{HasHanded}
 use Rattle.dbus_tool.proofs.handing.hand_all.Given as goal
 
 abbrev pub invariant-messages : goal.invariant-messages
 invariant-messages g l =
-    HasHanded g.R.Source.left g.R.Source.calls g.R.Source.failures g.W.Sink.held g.W.Sink.failures (limits_of l.fn.messages) (most_reads_of l.fn.messages) l.command l.count l.fn.messages l.messages l.fn.gathered.items l.gathered.items l.fn.first l.first
+    HasHanded g.R.Source.left g.R.Source.calls g.R.Source.failures g.W.Sink.held g.W.Sink.failures l.limits (most_reads_of l.fn.messages) l.command l.count l.fn.messages l.messages l.fn.gathered.items l.gathered.items l.fn.first l.first
     × (g.R.Source.reference (source_of l.messages) ≡ g.R.Source.reference (source_of l.fn.messages))
 
 abbrev pub decreases-messages : goal.decreases-messages
-decreases-messages g l = 2 ^ 44 - done_of l.messages
+decreases-messages g l = 2 ^ 48 - done_of l.messages

@@ -1,15 +1,15 @@
 use Rattle.dbus_tool.proofs.GivenSteps.{gives_unwritten}
 use Rattle.dbus_tool.proofs.handing.read_message.Goals as goal
 
-pub returns-in-Ok-next-clause-gives : goal.returns-in-Ok-next-clause-gives
-returns-in-Ok-next-clause-gives g c =
-    let read = c.in-Ok-next.ensures.read in
-    (read.0, read.1 c.requires, c.in-Ok-next.ensures.failed, c.in-Ok.ensures.gathers)
+pub returns-in-Ok-advance-clause-gives : goal.returns-in-Ok-advance-clause-gives
+returns-in-Ok-advance-clause-gives g c =
+    let read = c.in-Ok-advance.ensures.read in
+    (read.0, read.1 c.requires, c.in-Ok-advance.ensures.failed, c.in-Ok.ensures.gathers)
 
-pub returns-in-Err-next-clause-gives : goal.returns-in-Err-next-clause-gives
-returns-in-Err-next-clause-gives g c =
-    let read = c.in-Err-next.ensures.read in
-    (read.0, read.1 c.requires, c.in-Err-next.ensures.failed, c.in-Ok.ensures.gathers)
+pub returns-in-Err-advance-clause-gives : goal.returns-in-Err-advance-clause-gives
+returns-in-Err-advance-clause-gives g c =
+    let read = c.in-Err-advance.ensures.read in
+    (read.0, read.1 c.requires, c.in-Err-advance.ensures.failed, c.in-Ok.ensures.gathers)
 
 pub returns-in-Err-clause-gives : goal.returns-in-Err-clause-gives
 returns-in-Err-clause-gives g c =

@@ -1,0 +1,52 @@
+-- Bytes that are one message: those that a reader lends, and those that are turned.
+use Rattle.std.proofs.Common.{◌≡◌, ℕ, List, [], length, take, sym, ◌∙◌, subst, append-nil, arith}
+use Rattle.std.proofs.lemmas.List.{take_all}
+use Rattle.dbus_value_model.specs.declared.limits.Limits.{Limits}
+use Rattle.dbus_value_model.specs.declared.order.Order.{Order}
+use Rattle.dbus_message_model.specs.Messages.{MessageTree, message_bytes}
+use Rattle.dbus_decode.specs.MessageOutcomes.{IsWhole}
+use Rattle.dbus_decode.proofs.OutcomeLaws.{one_whole, whole_bytes, whole_valid, valid_whole}
+use Rattle.dbus_judge.specs.declared.judging.Judged.{Judged}
+use Rattle.dbus_judge.specs.Judging.{IsJudged}
+use Rattle.dbus_raw_reader.specs.Next.{Lends}
+use Rattle.dbus_raw_reader.specs.Reading.{limits_of, lent_of}
+use Rattle.dbus_raw_reader.specs.declared.raw_reader.RawReader.{RawReader}
+use Rattle.dbus_stream.specs.Checked.{IsOneMessage}
+use Rattle.dbus_view.specs.Views.{ViewState, Views, IsViewOf, IsJudgedWhole}
+
+module _ (limits : Limits) where
+  -- the message that bytes begin with is all of its own bytes
+  front_whole : (w : List ℕ) (order : Order) (m : MessageTree) (size : ℕ) → IsWhole limits w order m size → IsWhole limits (take size w) order m (length (take size w))
+  front_whole w order m size whole =
+      let bytes = message_bytes order m in
+      let own : IsWhole limits bytes order m (length bytes)
+      = subst (λ (b : List ℕ). IsWhole limits b order m (length bytes)) (append-nil bytes) (valid_whole limits order m [] (whole_valid limits w order m size whole)) in
+      subst (λ (b : List ℕ). IsWhole limits b order m (length b)) (sym (whole_bytes limits w order m size whole).0) own
+
+  -- the bytes that are lent are the message that is given
+  pub lent_whole : {R A : Type 0} (w bytes : List ℕ) (old new : RawReader R A) → bytes ≡ lent_of new → limits_of old ≡ limits → (l : Lends w old new)
+      → IsWhole limits bytes l.gives.order l.gives.message (length bytes)
+  lent_whole w bytes old new e same l =
+      let here : IsWhole limits w l.gives.order l.gives.message l.size = subst (λ v. IsWhole v w l.gives.order l.gives.message l.size) same l.gives.whole in
+      subst (λ (b : List ℕ). IsWhole limits b l.gives.order l.gives.message (length b)) (sym (e ∙ l.lent)) (front_whole w l.gives.order l.gives.message l.size here)
+
+  -- bytes that are a message are those that it is spelled by
+  pub bytes_are : (b : List ℕ) (order : Order) (m : MessageTree) → IsWhole limits b order m (length b) → b ≡ message_bytes order m
+  bytes_are b order m whole = sym (take_all (length b) b (omega arith)) ∙ (whole_bytes limits b order m (length b) whole).0
+
+  -- what is judged of one message is judged of all its bytes
+  pub judged_all : (b : List ℕ) (j : Judged) → IsOneMessage limits b → IsJudged limits b j → IsJudgedWhole limits b j
+  judged_all b j one judged = record {
+    judged = judged;
+    all = (one_whole limits b j.order one.0 judged.message one.1 j.length (length b) judged.whole one.2).2;
+  }
+
+  -- its order is that of the message
+  pub judged_order : (b : List ℕ) (j : Judged) (order : Order) (m : MessageTree) → IsJudgedWhole limits b j → IsWhole limits b order m (length b) → j.order ≡ order
+  judged_order b j order m judged whole =
+      (one_whole limits b j.order order judged.judged.message m j.length (length b) judged.judged.whole whole).0
+
+  -- the message is the one that a view is of
+  pub views_it : (b : List ℕ) (v : ViewState) (order : Order) (m : MessageTree) → IsViewOf limits b v → IsWhole limits b order m (length b) → Views v order m
+  views_it b v order m is whole =
+      subst (λ (l : Limits). IsWhole l v.bytes order m (length v.bytes)) (sym is.0) (subst (λ (c : List ℕ). IsWhole limits c order m (length c)) (sym is.1) whole)
