@@ -7,8 +7,7 @@ ghost use Rattle.dbus_c.specs.GivenLimits.{limits_of};
 ghost use Rattle.dbus_judge.specs.Judging.{BeginsWithNone};
 
 use crate::given_limits::{WireLimits, given_limits};
-use dbus_decode::stated_length_within;
-use dbus_judge::judge;
+use dbus_judge::judge_first;
 use dbus_value_model::Limits;
 use dbus_view::MessageView;
 
@@ -58,20 +57,12 @@ pub extern "C" fn dbus_wire_argument_of(
     }
 }
 
-// A view of the message within the limits that the bytes begin with: as many of them as they state are judged.
+// A view of the message within the limits that the bytes begin with, which is judged by itself.
 fn front_view(bytes: &[u8], limits: Limits) -> Option<MessageView<'_>>
     ensures viewed { IfSome result (λ v. IsFrontView limits bytes.now v) }
     ensures none { result ≡ None → BeginsWithNone limits bytes.now }
 {
-    let length = match stated_length_within(bytes, limits) {
-        Ok(Some(length)) => length as usize,
-        Ok(None) => return None,
-        Err(_) => return None,
-    };
-    if bytes.len() < length {
-        return None;
-    }
-    let message = &bytes[..length];
-    let judged = judge(message, limits)?;
+    let judged = judge_first(bytes, limits)?;
+    let message = &bytes[..judged.length];
     Some(MessageView::of_judged(message, limits, judged))
 }

@@ -7,3 +7,4 @@ mod BodySteps
 mod BodyPlaces
 mod WholeSteps
 mod WholeRefusals
+pub mod Firsts

@@ -1,6 +1,6 @@
 -- What is said of bytes that begin with a message, and of those that begin with none.
 -- D-Bus Specification, "Message Format".
-use Rattle.std.specs.Prelude.{◌≡◌, ℕ, ◌-◌, List, take, drop}
+use Rattle.std.specs.Prelude.{◌≡◌, ◌≤◌, ℕ, ◌-◌, List, length, take, drop}
 use Rattle.dbus_value_model.specs.declared.limits.Limits.{Limits}
 use Rattle.dbus_value_model.specs.declared.order.Order.{Order}
 use Rattle.dbus_message_model.specs.Messages.{MessageTree, body_start, body_bytes}
@@ -15,6 +15,16 @@ pub record IsJudged (limits : Limits) (bytes : List ℕ) (j : Judged) : Type 0 w
   pub parts : (message.kind ≡ j.kind) × (message.flags ≡ j.flags) × (message.serial ≡ j.serial)
   pub fields : AreNoted message.fields bytes j.fields
   pub body : (body_start j.order message.fields ≡ j.body) × (body_bytes j.order message ≡ take (j.length - j.body) (drop j.body bytes))
+
+-- they are a message, all of them
+pub record IsJudgedWhole (limits : Limits) (bytes : List ℕ) (j : Judged) : Type 0 where
+  pub judged : IsJudged limits bytes j
+  pub all : j.length ≡ length bytes
+
+-- they begin with a message, of whose own bytes this is said
+pub record IsJudgedFirst (limits : Limits) (bytes : List ℕ) (j : Judged) : Type 0 where
+  pub fits : j.length ≤ length bytes
+  pub judged : IsJudgedWhole limits (take j.length bytes) j
 
 -- they begin with no message
 abbrev pub BeginsWithNone : Limits → List ℕ → Type 0

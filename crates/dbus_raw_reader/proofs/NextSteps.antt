@@ -7,6 +7,8 @@ use Rattle.dbus_value_model.specs.declared.fault.Fault.{Fault}
 use Rattle.dbus_value_model.specs.declared.limits.Limits.{Limits}
 use Rattle.dbus_decode.specs.MessageOutcomes.{IsWhole, IsRefused, IsPartial}
 use Rattle.dbus_decode.proofs.OutcomeLaws.{whole_inside}
+use Rattle.dbus_judge.specs.declared.judging.Judged.{Judged}
+use Rattle.dbus_judge.specs.Judging.{IsJudgedWhole}
 use Rattle.dbus_stream.specs.declared.read_fault.ReadFault.{ReadFault}
 use Rattle.dbus_stream.specs.declared.read_fault.ReadFault.TheVariants.{Memory, Format, Device, TooManyReads}
 use Rattle.dbus_stream.specs.Device.{one_more}
@@ -105,37 +107,38 @@ module _ {R A : Type 0} (left : R → Option (List ℕ)) (calls failures : R →
     unstopped = g.unstopped;
   }
 
-  lends_kept : (w : List ℕ) (old mid new : RawReader R A) → limits_of mid ≡ limits_of old → kept mid ≡ w → done_of mid ≡ done_of old
-      → Lends (kept mid) mid new → Lends w old new
-  lends_kept w old mid new e k d l = record {
+  lends_kept : (w : List ℕ) (j : Judged) (old mid new : RawReader R A) → limits_of mid ≡ limits_of old → kept mid ≡ w → done_of mid ≡ done_of old
+      → Lends (kept mid) j mid new → Lends w j old new
+  lends_kept w j old mid new e k d l = record {
     size = l.size;
     gives = gives_kept w l.size old mid new e k d l.gives;
     lent = l.lent ∙ ap (take l.size) k;
+    judged_is = subst (λ limits. IsJudgedWhole limits (lent_of new) j) e l.judged_is;
   }
 
   keeps_kept : (w : List ℕ) (old mid new : RawReader R A) → kept mid ≡ w → done_of mid ≡ done_of old → KeepsAll (kept mid) mid new → KeepsAll w old new
   keeps_kept w old mid new k d a = record { kept = a.kept ∙ k; done = a.done ∙ d; lent = a.lent }
 
   -- what comes of the bytes that are kept is the answer
-  answers_taken : (w : List ℕ) (old mid new : RawReader R A) (res : Result Bool ReadFault) → (res ≡ Ok false → ⊥) → limits_of mid ≡ limits_of old → kept mid ≡ w
+  answers_taken : (w : List ℕ) (old mid new : RawReader R A) (res : Result (Option Judged) ReadFault) → (res ≡ Ok None → ⊥) → limits_of mid ≡ limits_of old → kept mid ≡ w
       → done_of mid ≡ done_of old → TakesKept mid new res → Advances w old new res
-  answers_taken w old mid new (Ok true) some e k d t = lends_kept w old mid new e k d t
-  answers_taken w old mid new (Ok false) some e k d t = absurd (some refl)
+  answers_taken w old mid new (Ok (Some j)) some e k d t = lends_kept w j old mid new e k d t
+  answers_taken w old mid new (Ok None) some e k d t = absurd (some refl)
   answers_taken w old mid new (Err Memory) some e k d t = (keeps_kept w old mid new k d t.keeps, t.unstopped)
   answers_taken w old mid new (Err (Format fault)) some e k d t =
       (keeps_kept w old mid new k d t.0.keeps, t.0.stopped, inl (refused_of_kept _ _ w (kept mid) fault e k t.1))
   answers_taken w old mid new (Err Device) some e k d t = absurd t
   answers_taken w old mid new (Err TooManyReads) some e k d t = absurd t
 
-  pub given : (old mid new : RawReader R A) (res : Result Bool ReadFault) → HasRead left calls failures old mid → (res ≡ Ok false → ⊥)
+  pub given : (old mid new : RawReader R A) (res : Result (Option Judged) ReadFault) → HasRead left calls failures old mid → (res ≡ Ok None → ⊥)
       → TakesKept mid new res → ReadsNothing mid new
       → (r : Reads left calls old new) × (stopped_of old ≡ None → Advances (kept old ++ r.bytes) old new res)
   given old mid new res h some t n = (unread old mid new h.reads n, λ _. answers_taken (kept old ++ h.reads.bytes) old mid new res some h.reads.limits h.kept h.done t)
 
-  answers_finished : (w : List ℕ) (old mid new : RawReader R A) (res : Result Bool ReadFault) → limits_of mid ≡ limits_of old → kept mid ≡ w
+  answers_finished : (w : List ℕ) (old mid new : RawReader R A) (res : Result (Option Judged) ReadFault) → limits_of mid ≡ limits_of old → kept mid ≡ w
       → done_of mid ≡ done_of old → is_ended new ≡ true → Finishes mid new res → Advances w old new res
-  answers_finished w old mid new (Ok true) s k d e f = absurd f
-  answers_finished w old mid new (Ok false) s k d e f = (sym k ∙ f.1, e, keeps_kept w old mid new k d f.0.keeps, f.0.unstopped)
+  answers_finished w old mid new (Ok (Some j)) s k d e f = absurd f
+  answers_finished w old mid new (Ok None) s k d e f = (sym k ∙ f.1, e, keeps_kept w old mid new k d f.0.keeps, f.0.unstopped)
   answers_finished w old mid new (Err Memory) s k d e f = absurd f
   answers_finished w old mid new (Err (Format fault)) s k d e f =
       (keeps_kept w old mid new k d f.0.keeps, f.0.stopped, inr (short_of_kept _ _ w (kept mid) fault s k f.1, e))
@@ -143,13 +146,13 @@ module _ {R A : Type 0} (left : R → Option (List ℕ)) (calls failures : R →
   answers_finished w old mid new (Err TooManyReads) s k d e f = absurd f
 
   -- the end of the input
-  pub finished : (old mid new : RawReader R A) (res : Result Bool ReadFault) → HasRead left calls failures old mid
+  pub finished : (old mid new : RawReader R A) (res : Result (Option Judged) ReadFault) → HasRead left calls failures old mid
       → is_ended mid ≡ true → Finishes mid new res → ReadsNothing mid new
       → (r : Reads left calls old new) × (stopped_of old ≡ None → Advances (kept old ++ r.bytes) old new res)
   finished old mid new res h e f n =
       (unread old mid new h.reads n, λ _. answers_finished (kept old ++ h.reads.bytes) old mid new res h.reads.limits h.kept h.done (n.ended ∙ e) f)
 
-  answers_given_up : (w : List ℕ) (old mid new : RawReader R A) (res : Result Bool ReadFault) → limits_of mid ≡ limits_of old → kept mid ≡ w
+  answers_given_up : (w : List ℕ) (old mid new : RawReader R A) (res : Result (Option Judged) ReadFault) → limits_of mid ≡ limits_of old → kept mid ≡ w
       → done_of mid ≡ done_of old → reads_of new ≡ most_reads_of new → GivesUp mid new res → Advances w old new res
   answers_given_up w old mid new (Ok given) s k d e f = absurd f
   answers_given_up w old mid new (Err Memory) s k d e f = absurd f
@@ -159,7 +162,7 @@ module _ {R A : Type 0} (left : R → Option (List ℕ)) (calls failures : R →
       (keeps_kept w old mid new k d f.0.keeps, f.0.stopped, subst (λ limits. IsPartial limits w) s (subst (λ l. IsPartial (limits_of mid) l) k f.1), e)
 
   -- no more reads may be made
-  pub gave_up : (old mid new : RawReader R A) (res : Result Bool ReadFault) → HasRead left calls failures old mid
+  pub gave_up : (old mid new : RawReader R A) (res : Result (Option Judged) ReadFault) → HasRead left calls failures old mid
       → reads_of mid ≡ most_reads_of mid → GivesUp mid new res → ReadsNothing mid new
       → (r : Reads left calls old new) × (stopped_of old ≡ None → Advances (kept old ++ r.bytes) old new res)
   gave_up old mid new res h e f n =
@@ -220,16 +223,16 @@ module _ {R A : Type 0} (left : R → Option (List ℕ)) (calls failures : R →
 
 module _ {R A : Type 0} where
   -- what comes of the bytes that are kept is the answer
-  pub answers_kept : (old new : RawReader R A) (res : Result Bool ReadFault) → TakesKept old new res → KeptAnswers old new res
-  answers_kept old new (Ok true) t = t
-  answers_kept old new (Ok false) t = (t.0.keeps, t.0.unstopped, subst (λ l. IsPartial (limits_of old) l) t.0.keeps.kept t.2)
+  pub answers_kept : (old new : RawReader R A) (res : Result (Option Judged) ReadFault) → TakesKept old new res → KeptAnswers old new res
+  answers_kept old new (Ok (Some j)) t = t
+  answers_kept old new (Ok None) t = (t.0.keeps, t.0.unstopped, subst (λ l. IsPartial (limits_of old) l) t.0.keeps.kept t.2)
   answers_kept old new (Err Memory) t = (t.keeps, t.unstopped)
   answers_kept old new (Err (Format fault)) t = (t.0.keeps, t.0.stopped, t.1)
   answers_kept old new (Err Device) t = absurd t
   answers_kept old new (Err TooManyReads) t = absurd t
 
   -- no device failed
-  pub kept_counts : (failures : R → ℕ) (old new : RawReader R A) (res : Result Bool ReadFault) → KeptAnswers old new res
+  pub kept_counts : (failures : R → ℕ) (old new : RawReader R A) (res : Result (Option Judged) ReadFault) → KeptAnswers old new res
       → ReadsNothing old new → DeviceCounts (failures (source_of old)) (failures (source_of new)) res
   kept_counts failures old new (Ok x) k n = ap failures n.source
   kept_counts failures old new (Err Memory) k n = ap failures n.source
@@ -239,8 +242,8 @@ module _ {R A : Type 0} where
 
 module _ {R A : Type 0} (left : R → Option (List ℕ)) (calls : R → ℕ) (failures : R → ℕ) where
   -- a copy of the message that is lent
-  copied : (w : List ℕ) (old mid new : RawReader R A) (res : Result (Option (Vec ℕ A)) ReadFault) → Lends w old mid → GivesLent mid new res → NextAnswers w old new res
-  copied w old mid new (Ok (Some bytes)) l c = record {
+  copied : (w : List ℕ) (j : Judged) (old mid new : RawReader R A) (res : Result (Option (Vec ℕ A)) ReadFault) → Lends w j old mid → GivesLent mid new res → NextAnswers w old new res
+  copied w j old mid new (Ok (Some bytes)) l c = record {
     size = l.size;
     gives = record {
       order = l.gives.order;
@@ -253,8 +256,8 @@ module _ {R A : Type 0} (left : R → Option (List ℕ)) (calls : R → ℕ) (fa
     bytes_are = c.bytes_are ∙ l.lent;
     lent = c.lent;
   }
-  copied w old mid new (Ok None) l c = absurd c
-  copied w old mid new (Err Memory) l c =
+  copied w j old mid new (Ok None) l c = absurd c
+  copied w j old mid new (Err Memory) l c =
       let inside = (whole_inside (limits_of old) w l.gives.order l.gives.message l.size l.gives.whole).1 in
       let size_is : length (lent_of mid) ≡ l.size = ap length l.lent ∙ length-take-le l.size w inside in
       let done = c.done in
@@ -266,15 +269,15 @@ module _ {R A : Type 0} (left : R → Option (List ℕ)) (calls : R → ℕ) (fa
         },
         c.stopped ∙ l.gives.unstopped,
       )
-  copied w old mid new (Err (Format fault)) l c = absurd c
-  copied w old mid new (Err Device) l c = absurd c
-  copied w old mid new (Err TooManyReads) l c = absurd c
+  copied w j old mid new (Err (Format fault)) l c = absurd c
+  copied w j old mid new (Err Device) l c = absurd c
+  copied w j old mid new (Err TooManyReads) l c = absurd c
 
-  pub gives_copy : (old mid new : RawReader R A) (res : Result (Option (Vec ℕ A)) ReadFault)
-      → ((r : Reads left calls old mid) × (stopped_of old ≡ None → Advances (kept old ++ r.bytes) old mid (Ok true)))
+  pub gives_copy : (j : Judged) (old mid new : RawReader R A) (res : Result (Option (Vec ℕ A)) ReadFault)
+      → ((r : Reads left calls old mid) × (stopped_of old ≡ None → Advances (kept old ++ r.bytes) old mid (Ok (Some j))))
       → GivesLent mid new res → ReadsNothing mid new
       → (r : Reads left calls old new) × (stopped_of old ≡ None → NextAnswers (kept old ++ r.bytes) old new res)
-  gives_copy old mid new res a c n = (unread left calls failures old mid new a.0 n, λ unstopped. copied (kept old ++ a.0.bytes) old mid new res (a.1 unstopped) c)
+  gives_copy j old mid new res a c n = (unread left calls failures old mid new a.0 n, λ unstopped. copied (kept old ++ a.0.bytes) j old mid new res (a.1 unstopped) c)
 
   -- no device failed
   pub copy_counts : (old mid new : RawReader R A) (res : Result (Option (Vec ℕ A)) ReadFault) → failures (source_of mid) ≡ failures (source_of old)

@@ -4,8 +4,11 @@ use Rattle.dbus_value_model.specs.declared.order.Order.{Order}
 use Rattle.dbus_value_model.specs.declared.limits.Limits.{Limits}
 use Rattle.dbus_message_model.specs.Messages.{MessageTree}
 use Rattle.dbus_decode.specs.MessageOutcomes.{IsWhole, IsRefused, IsPartial}
+use Rattle.dbus_judge.specs.declared.judging.Judged.{Judged}
+use Rattle.dbus_judge.specs.Judging.{IsJudgedFirst}
 use Rattle.dbus_check.specs.declared.checker.Checker.{Checker}
 use Rattle.dbus_check.specs.Checks as checks
+use Rattle.dbus_stream.specs.Checked.{IsOneMessage}
 use Rattle.dbus_stream.specs.declared.stream_fault.StreamFault.{StreamFault}
 use Rattle.dbus_stream.specs.declared.stream_fault.StreamFault.TheVariants.{Memory, Format}
 
@@ -25,18 +28,17 @@ abbrev pub under_way : Bool → List ℕ → List ℕ
 under_way true held = []
 under_way false held = held
 
--- its checker was handed the bytes of the message under way
+-- its checker was handed the bytes of the message under way, and what it holds as whole is a message
 pub record IsGathering (limits : Limits) (held : List ℕ) (whole : Bool) (checker : Checker) : Type 0 where
   pub partial : IsPartial limits (under_way whole held)
   pub stands : checks.Stands checker (under_way whole held)
   pub same_limits : checks.limits_of checker ≡ limits
+  pub complete : whole ≡ true → IsOneMessage limits held
 
--- nothing is held, and the piece begins with a message of n bytes
-pub record BeginsWith (g : GathererState) (piece : List ℕ) (n : ℕ) : Type 0 where
+-- nothing is held, and the piece begins with a message
+pub record BeginsWith (g : GathererState) (piece : List ℕ) (j : Judged) : Type 0 where
   pub nothing : g.held ≡ []
-  pub order : Order
-  pub message : MessageTree
-  pub whole : IsWhole g.limits piece order message n
+  pub first : IsJudgedFirst g.limits piece j
 
 -- the message ends with the first n bytes of the piece, and is held
 pub record Completes (old : GathererState) (piece : List ℕ) (n : ℕ) (new : GathererState) : Type 0 where

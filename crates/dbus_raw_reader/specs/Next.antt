@@ -1,10 +1,12 @@
 -- What a reader of raw messages answers by its limits, where it was not stopped before. w is what was kept and then what was
 -- read.
-use Rattle.std.specs.Prelude.{◌≡◌, ◌⊎◌, ℕ, ◌+◌, ◌<◌, ◌≤◌, List, [], ◌++◌, Bool, true, false, length, take, drop, Option, None, Some, Vec, Result, Ok, Err}
+use Rattle.std.specs.Prelude.{◌≡◌, ◌⊎◌, ℕ, ◌+◌, ◌<◌, ◌≤◌, List, [], ◌++◌, true, false, length, take, drop, Option, None, Some, Vec, Result, Ok, Err}
 use Rattle.std.specs.Io.KnownBytes.{Consumes, IsAtEnd}
 use Rattle.dbus_value_model.specs.declared.order.Order.{Order}
 use Rattle.dbus_message_model.specs.Messages.{MessageTree}
 use Rattle.dbus_decode.specs.MessageOutcomes.{IsWhole, IsRefused, IsPartial}
+use Rattle.dbus_judge.specs.declared.judging.Judged.{Judged}
+use Rattle.dbus_judge.specs.Judging.{IsJudgedWhole}
 use Rattle.dbus_stream.specs.declared.read_fault.ReadFault.{ReadFault}
 use Rattle.dbus_stream.specs.declared.read_fault.ReadFault.TheVariants.{Memory, Format, Device, TooManyReads}
 use Rattle.dbus_stream.specs.Next.{RisesBy, IsCutShort}
@@ -54,11 +56,12 @@ pub record Gives {R A : Type 0} (w : List ℕ) (size : ℕ) (old new : RawReader
   pub done : done_of new ≡ done_of old + size
   pub unstopped : stopped_of new ≡ None
 
--- it is lent
-pub record Lends {R A : Type 0} (w : List ℕ) (old new : RawReader R A) : Type 0 where
+-- it is lent, and judged
+pub record Lends {R A : Type 0} (w : List ℕ) (judged : Judged) (old new : RawReader R A) : Type 0 where
   pub size : ℕ
   pub gives : Gives w size old new
   pub lent : lent_of new ≡ take size w
+  pub judged_is : IsJudgedWhole (limits_of old) (lent_of new) judged
 
 -- these are its bytes, and none are lent
 pub record Copies {R A : Type 0} (w bytes : List ℕ) (old new : RawReader R A) : Type 0 where
@@ -79,9 +82,9 @@ Fails w old new Device = KeepsAll w old new × (stopped_of new ≡ None) × IsPa
 Fails w old new TooManyReads = KeepsAll w old new × (stopped_of new ≡ Some TooManyReads) × IsPartial (limits_of old) w × (reads_of new ≡ most_reads_of new)
 
 -- of a call that lends a message
-abbrev pub Advances : {R A : Type 0} → List ℕ → RawReader R A → RawReader R A → Result Bool ReadFault → Type 0
-Advances w old new (Ok true) = Lends w old new
-Advances w old new (Ok false) = Ends w old new
+abbrev pub Advances : {R A : Type 0} → List ℕ → RawReader R A → RawReader R A → Result (Option Judged) ReadFault → Type 0
+Advances w old new (Ok (Some judged)) = Lends w judged old new
+Advances w old new (Ok None) = Ends w old new
 Advances w old new (Err fault) = Fails w old new fault
 
 -- of a call that gives a copy
@@ -91,9 +94,9 @@ NextAnswers w old new (Ok None) = Ends w old new
 NextAnswers w old new (Err fault) = Fails w old new fault
 
 -- what it answers out of what is kept alone
-abbrev pub KeptAnswers : {R A : Type 0} → RawReader R A → RawReader R A → Result Bool ReadFault → Type 0
-KeptAnswers old new (Ok true) = Lends (kept old) old new
-KeptAnswers old new (Ok false) = KeepsAll (kept old) old new × (stopped_of new ≡ None) × IsPartial (limits_of old) (kept old)
+abbrev pub KeptAnswers : {R A : Type 0} → RawReader R A → RawReader R A → Result (Option Judged) ReadFault → Type 0
+KeptAnswers old new (Ok (Some judged)) = Lends (kept old) judged old new
+KeptAnswers old new (Ok None) = KeepsAll (kept old) old new × (stopped_of new ≡ None) × IsPartial (limits_of old) (kept old)
 KeptAnswers old new (Err Memory) = KeepsAll (kept old) old new × (stopped_of new ≡ None)
 KeptAnswers old new (Err (Format fault)) = KeepsAll (kept old) old new × (stopped_of new ≡ Some (Format fault)) × IsRefused (limits_of old) (kept old) fault
 KeptAnswers old new (Err Device) = ⊥

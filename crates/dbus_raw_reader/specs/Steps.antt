@@ -1,7 +1,8 @@
 -- The steps of a reader of raw messages: what is kept is judged or gathered, more is read, and what is lent is copied.
-use Rattle.std.specs.Prelude.{◌≡◌, ◌≤◌, ℕ, ◌+◌, List, [], ◌++◌, Bool, true, false, nat_eq, length, Option, None, Some, Vec, Result, Ok, Err}
+use Rattle.std.specs.Prelude.{◌≡◌, ◌≤◌, ℕ, ◌+◌, List, [], ◌++◌, true, false, nat_eq, length, Option, None, Some, Vec, Result, Ok, Err}
 use Rattle.std.specs.Io.KnownBytes.{Consumes, IsAtEnd, Keeps}
 use Rattle.dbus_decode.specs.MessageOutcomes.{IsRefused, IsPartial}
+use Rattle.dbus_judge.specs.declared.judging.Judged.{Judged}
 use Rattle.dbus_stream.specs.declared.read_fault.ReadFault.{ReadFault}
 use Rattle.dbus_stream.specs.declared.read_fault.ReadFault.TheVariants.{Memory, Format, Device, TooManyReads}
 use Rattle.dbus_stream.specs.declared.device_fault.DeviceFault.{DeviceFault}
@@ -27,25 +28,25 @@ pub record Refuses {R A : Type 0} (fault : ReadFault) (old new : RawReader R A) 
   pub stopped : stopped_of new ≡ Some fault
 
 -- what comes of the bytes that are kept
-abbrev pub TakesKept : {R A : Type 0} → RawReader R A → RawReader R A → Result Bool ReadFault → Type 0
-TakesKept old new (Ok true) = Lends (kept old) old new
-TakesKept old new (Ok false) = KeepsOn old new × IsDrained new × IsPartial (limits_of old) (kept new)
+abbrev pub TakesKept : {R A : Type 0} → RawReader R A → RawReader R A → Result (Option Judged) ReadFault → Type 0
+TakesKept old new (Ok (Some judged)) = Lends (kept old) judged old new
+TakesKept old new (Ok None) = KeepsOn old new × IsDrained new × IsPartial (limits_of old) (kept new)
 TakesKept old new (Err Memory) = KeepsOn old new
 TakesKept old new (Err (Format fault)) = Refuses (Format fault) old new × IsRefused (limits_of old) (kept old) fault
 TakesKept old new (Err Device) = ⊥
 TakesKept old new (Err TooManyReads) = ⊥
 
 -- what the end of the input comes to
-abbrev pub Finishes : {R A : Type 0} → RawReader R A → RawReader R A → Result Bool ReadFault → Type 0
-Finishes old new (Ok true) = ⊥
-Finishes old new (Ok false) = KeepsOn old new × (kept old ≡ [])
+abbrev pub Finishes : {R A : Type 0} → RawReader R A → RawReader R A → Result (Option Judged) ReadFault → Type 0
+Finishes old new (Ok (Some judged)) = ⊥
+Finishes old new (Ok None) = KeepsOn old new × (kept old ≡ [])
 Finishes old new (Err Memory) = ⊥
 Finishes old new (Err (Format fault)) = Refuses (Format fault) old new × IsCutShort (limits_of old) (kept old) fault
 Finishes old new (Err Device) = ⊥
 Finishes old new (Err TooManyReads) = ⊥
 
 -- what it comes to that no more reads may be made
-abbrev pub GivesUp : {R A : Type 0} → RawReader R A → RawReader R A → Result Bool ReadFault → Type 0
+abbrev pub GivesUp : {R A : Type 0} → RawReader R A → RawReader R A → Result (Option Judged) ReadFault → Type 0
 GivesUp old new (Ok given) = ⊥
 GivesUp old new (Err Memory) = ⊥
 GivesUp old new (Err (Format fault)) = ⊥

@@ -2,10 +2,11 @@
 ghost use Rattle.std.specs.Prelude.{◌≡◌, true, false, [], length, IfSome};
 ghost use Rattle.dbus_check.specs.Checks.{Stands, limits_of};
 ghost use Rattle.dbus_decode.specs.MessageOutcomes.{IsPartial};
+ghost use Rattle.dbus_judge.specs.Judging.{IsJudgedWhole};
 ghost use Rattle.dbus_raw_reader.specs.Gathering.{fresh, under_way, Gathers, BeginsWith};
 
 use dbus_check::{Check, Checker};
-use dbus_judge::judge;
+use dbus_judge::{Judged, judge, judge_first};
 use dbus_stream::StreamFault;
 use dbus_value::Limits;
 use std::alloc::Allocator;
@@ -57,15 +58,15 @@ impl<A: Allocator + Copy> Gatherer<A> {
         }
     }
 
-    /// The length of the message that the piece begins with, where it is judged good and nothing is held.
-    pub(crate) fn judged(&self, piece: &[u8]) -> Option<usize>
-        ensures { IfSome result (λ n. BeginsWith self.now piece.now n) }
+    /// What is judged of the message that the piece begins with, where it begins with one and nothing is held.
+    pub(crate) fn judged(&self, piece: &[u8]) -> Option<Judged>
+        ensures { IfSome result (λ j. BeginsWith self.now piece.now j) }
     {
         if !self.held.is_empty() {
             return None;
         }
-        let judged = judge(piece, self.limits)?;
-        Some(judged.length)
+        let judged = judge_first(piece, self.limits)?;
+        Some(judged)
     }
 
     /// Takes the bytes of the piece up to the end of the message under way, and says how many these are; or the whole piece,
@@ -120,6 +121,17 @@ impl<A: Allocator + Copy> Gatherer<A> {
         ensures { result.now ≡ self.now.held }
     {
         self.held.as_slice()
+    }
+
+    /// What is judged of the whole message that it holds.
+    pub(crate) fn judged_whole(&self) -> Judged
+        requires { self.now.whole ≡ true }
+        ensures { IsJudgedWhole self.now.limits self.now.held result }
+    {
+        match judge(self.held.as_slice(), self.limits) {
+            Some(judged) => judged,
+            None => unreachable!(),
+        }
     }
 
     /// Gives the whole message that it holds, and holds nothing.

@@ -4,6 +4,7 @@ ghost use Rattle.dbus_stream.specs.Lasting.{is_lasting};
 ghost use Rattle.dbus_raw_reader.specs.Gathering.{under_way};
 
 use crate::gatherer::Gatherer;
+use dbus_judge::Judged;
 use dbus_stream::{DeviceFault, MOST_READS, ReadFault, Source, StreamFault};
 use dbus_value::{Fault, Limits, Reason};
 use std::alloc::{Allocator, Global};
@@ -119,17 +120,17 @@ impl<R: Source, A: Allocator + Copy> RawReader<R, A> {
         &buffer[self.start - self.lent..self.start]
     }
 
-    /// Goes on to the next message, which [`RawReader::message`] lends then; false at the end of the input. Bytes behind the
-    /// message are kept. After the end each call answers the same, without reading. A read is made only where no whole message
-    /// is kept, so a message is given at the read that ends it. Memory is taken only for a message that does not lie whole in
-    /// the buffer. D-Bus Specification, "Message Protocol".
+    /// Goes on to the next message, and answers what is judged of its bytes, which [`RawReader::message`] lends then; None at the
+    /// end of the input. Bytes after the message are kept. After the end each call answers the same, without reading. A read is
+    /// made only where no whole message is kept, so a message is given at the read that ends it. Memory is taken only for a
+    /// message that does not lie whole in the buffer. D-Bus Specification, "Message Protocol".
     ///
     /// `Format`: the bytes begin with no message within the limits; or the input ended within one, and then the reason is
     /// `Truncated`, at their number. `TooManyReads`: as many reads were made as it may make, and no whole message is kept.
     /// Both stay for good. `Device`: a read failed in this call. `Memory`: a growth was refused. After these two all that was
     /// read is kept, and the call may be made again.
-    pub fn advance(&mut self) -> Result<bool, ReadFault>
-        // Of what was kept and then read it lends the message that that begins with.
+    pub fn advance(&mut self) -> Result<Option<Judged>, ReadFault>
+        // Of what was kept and then read it lends the message that that begins with, and judges it.
         ensures read { (r : Reads R.left R.calls self.old self.new)
             × (stopped_of self.old ≡ None → Advances (kept self.old ++ r.bytes) self.old self.new result) }
         ensures failed { DeviceCounts (R.failures (source_of self.old)) (R.failures (source_of self.new)) result }
@@ -143,8 +144,8 @@ impl<R: Source, A: Allocator + Copy> RawReader<R, A> {
         }
         'reading: loop {
             match self.take_kept() {
-                Ok(true) => return Ok(true),
-                Ok(false) => {}
+                Ok(Some(judged)) => return Ok(Some(judged)),
+                Ok(None) => {}
                 Err(fault) => return Err(fault),
             }
             if self.ended {
@@ -160,13 +161,13 @@ impl<R: Source, A: Allocator + Copy> RawReader<R, A> {
         }
     }
 
-    /// Goes on to the next message out of what was read already: no read is made. Bytes behind the message are kept. False
-    /// where what is kept begins with no whole message; then `advance` goes on from there and reads more.
+    /// Goes on to the next message out of what was read already: no read is made. Bytes after the message are kept. None where
+    /// what is kept begins with no whole message; then `advance` goes on from there and reads more.
     ///
     /// `Format`: the bytes begin with no message within the limits. It stays for good, and so does a fault that `advance`
     /// answers for good. `Memory`: a growth was refused. Then all that was read is kept, and the call may be made again.
-    pub fn advance_kept(&mut self) -> Result<bool, ReadFault>
-        // It lends the message that the bytes that are kept begin with.
+    pub fn advance_kept(&mut self) -> Result<Option<Judged>, ReadFault>
+        // It lends the message that the bytes that are kept begin with, and judges it.
         ensures kept { stopped_of self.old ≡ None → KeptAnswers self.old self.new result }
         ensures unread { ReadsNothing self.old self.new }
         ensures failed { DeviceCounts (R.failures (source_of self.old)) (R.failures (source_of self.new)) result }
@@ -194,8 +195,8 @@ impl<R: Source, A: Allocator + Copy> RawReader<R, A> {
         ensures stays { (f : ReadFault) → stopped_of self.old ≡ Some f → (result ≡ Err f) × (self.new ≡ self.old) }
     {
         match self.advance() {
-            Ok(true) => self.give(),
-            Ok(false) => Ok(None),
+            Ok(Some(_judged)) => self.give(),
+            Ok(None) => Ok(None),
             Err(fault) => Err(fault),
         }
     }
@@ -225,7 +226,7 @@ impl<R: Source, A: Allocator + Copy> RawReader<R, A> {
     }
 
     // What the end of the input comes to.
-    fn finish(&mut self) -> Result<bool, ReadFault>
+    fn finish(&mut self) -> Result<Option<Judged>, ReadFault>
         requires drained { IsDrained self.old }
         requires open { stopped_of self.old ≡ None }
         requires partial { IsPartial (limits_of self.old) (kept self.old) }
@@ -234,7 +235,7 @@ impl<R: Source, A: Allocator + Copy> RawReader<R, A> {
     {
         let held = self.gatherer.len();
         if held == 0 {
-            return Ok(false);
+            return Ok(None);
         }
         let fault = ReadFault::Format(Fault {
             at: held as u64,
@@ -245,7 +246,7 @@ impl<R: Source, A: Allocator + Copy> RawReader<R, A> {
     }
 
     // What it comes to that no more reads may be made.
-    fn give_up(&mut self) -> Result<bool, ReadFault>
+    fn give_up(&mut self) -> Result<Option<Judged>, ReadFault>
         requires drained { IsDrained self.old }
         requires open { stopped_of self.old ≡ None }
         requires partial { IsPartial (limits_of self.old) (kept self.old) }
@@ -257,7 +258,7 @@ impl<R: Source, A: Allocator + Copy> RawReader<R, A> {
     }
 
     // Goes on to a message that ends in what is kept. Where none does yet, all of that is gathered.
-    fn take_kept(&mut self) -> Result<bool, ReadFault>
+    fn take_kept(&mut self) -> Result<Option<Judged>, ReadFault>
         requires { stopped_of self.old ≡ None }
         ensures takes { TakesKept self.old self.new result }
         ensures unread { ReadsNothing self.old self.new }
@@ -266,21 +267,21 @@ impl<R: Source, A: Allocator + Copy> RawReader<R, A> {
         self.gatherer.forget();
         let buffer: &[u8] = &self.buffer;
         let piece = &buffer[self.start..self.end];
-        if let Some(length) = self.gatherer.judged(piece) {
-            self.start += length;
-            self.lent = length;
-            self.done += length as u64;
-            return Ok(true);
+        if let Some(judged) = self.gatherer.judged(piece) {
+            self.start += judged.length;
+            self.lent = judged.length;
+            self.done += judged.length as u64;
+            return Ok(Some(judged));
         }
         match self.gatherer.take(piece) {
             Ok(Some(count)) => {
                 self.start += count;
                 self.done += self.gatherer.len() as u64;
-                Ok(true)
+                Ok(Some(self.gatherer.judged_whole()))
             }
             Ok(None) => {
                 self.start = self.end;
-                Ok(false)
+                Ok(None)
             }
             Err(StreamFault::Memory) => Err(ReadFault::Memory),
             Err(StreamFault::Format(fault)) => {

@@ -6,6 +6,7 @@ use Rattle.dbus_value_model.specs.declared.fault.Fault.{Fault}
 use Rattle.dbus_value_model.specs.declared.limits.Limits.{Limits}
 use Rattle.dbus_decode.specs.MessageOutcomes.{IsWhole, IsRefused, IsPartial}
 use Rattle.dbus_decode.proofs.OutcomeLaws.{whole_inside}
+use Rattle.dbus_judge.specs.declared.judging.Judged.{Judged}
 use Rattle.dbus_stream.specs.Cut.{Item, BeginWith, Ended, Unfinished, Refused, truncated, sizes}
 use Rattle.dbus_stream.specs.Next.{RisesBy}
 use Rattle.dbus_raw_reader.specs.Next.{Reads, Advances, Lends, KeepsAll}
@@ -94,11 +95,11 @@ module _ {R A : Type 0} (left : R → Option (List ℕ)) (calls failures : R →
   }
 
   -- one more message was given
-  pub counts_more : (old mid new : RawReader R A) (count : ℕ) (h : HasCounted old mid) (r : Reads left calls mid new)
-      → (l : Lends (kept mid ++ r.bytes) mid new) → failures (source_of new) ≡ failures (source_of mid) → count ≡ length h.items
+  pub counts_more : (old mid new : RawReader R A) (count : ℕ) (h : HasCounted old mid) (j : Judged) (r : Reads left calls mid new)
+      → (l : Lends (kept mid ++ r.bytes) j mid new) → failures (source_of new) ≡ failures (source_of mid) → count ≡ length h.items
       → (next : HasCounted old new) × (count + 1 ≡ length next.items)
       × (next.items ≡ h.items ++ (record { order = l.gives.order; message = l.gives.message; size = l.size }) ∷ [])
-  counts_more old mid new count h r l same c =
+  counts_more old mid new count h j r l same c =
       let m = more_read old mid new h r in
       let gives = l.gives in
       let item : Item = record { order = gives.order; message = gives.message; size = l.size } in (
@@ -126,7 +127,7 @@ module _ {R A : Type 0} (left : R → Option (List ℕ)) (calls failures : R →
   kept_behind old mid new bytes items more m k = subst (λ l. BeginWith limits (bytes ++ more) items l) (sym k.kept) m.messages
 
   pub counts_ended : (old mid new : RawReader R A) (count : ℕ) (h : HasCounted old mid) (r : Reads left calls mid new) → count ≡ length h.items
-      → Advances (kept mid ++ r.bytes) mid new (Ok false)
+      → Advances (kept mid ++ r.bytes) mid new (Ok None)
       → (all : CountsAll left limits (record { count = count; size = done_of new; fault = None }) (source_of old) (source_of new)) × (all.items ≡ h.items)
   counts_ended old mid new count h r c answer =
       let m = more_read old mid new h r in (

@@ -1,12 +1,14 @@
 -- The next message, where nothing was read before it.
-use Rattle.std.proofs.Common.{◌≡◌, ◌⊎◌, Bool, true, false, ℕ, ◌+◌, List, [], ◌++◌, Ok, Err, Option, Result, refl, sym, ap, ◌∙◌, subst, append-nil, inl}
+use Rattle.std.proofs.Common.{◌≡◌, ◌⊎◌, true, ℕ, ◌+◌, List, [], ◌++◌, Some, None, Ok, Err, Option, Result, refl, sym, ap, ◌∙◌, subst, append-nil, inl}
 use Rattle.std.specs.Io.KnownBytes.{Consumes}
 use Rattle.dbus_decode.specs.MessageOutcomes.{IsWhole, IsRefused, IsPartial}
+use Rattle.dbus_judge.specs.declared.judging.Judged.{Judged}
+use Rattle.dbus_judge.specs.Judging.{IsJudgedWhole}
 use Rattle.dbus_stream.specs.Next.{RisesBy, IsCutShort, DeviceCounts}
 use Rattle.dbus_stream.specs.declared.read_fault.ReadFault.{ReadFault}
 use Rattle.dbus_stream.specs.declared.read_fault.ReadFault.TheVariants as read
 use Rattle.dbus_raw_reader.specs.Next.{Reads, ReadsNothing, KeepsAll, Lends, Advances, KeptAnswers}
-use Rattle.dbus_raw_reader.specs.Reading.{limits_of, kept, source_of, is_ended}
+use Rattle.dbus_raw_reader.specs.Reading.{limits_of, kept, lent_of, source_of, is_ended}
 use Rattle.dbus_raw_reader.specs.declared.raw_reader.RawReader.{RawReader}
 use Rattle.dbus_raw_reader.proofs.NextSteps.{starts, unread}
 use Rattle.dbus_tool.specs.Gathering.{Breaks}
@@ -39,8 +41,8 @@ module _ {R A : Type 0} (left : R → Option (List ℕ)) (calls failures : R →
   keeps_behind : (w : List ℕ) (old mid new : RawReader R A) → KeepsAll (kept old) old mid → KeepsAll w mid new → KeepsAll w old new
   keeps_behind w old mid new k l = record { kept = l.kept; done = l.done ∙ k.done; lent = l.lent }
 
-  lends_behind : (w : List ℕ) (old mid new : RawReader R A) → limits_of mid ≡ limits_of old → KeepsAll (kept old) old mid → Lends w mid new → Lends w old new
-  lends_behind w old mid new same k l = record {
+  lends_behind : (w : List ℕ) (j : Judged) (old mid new : RawReader R A) → limits_of mid ≡ limits_of old → KeepsAll (kept old) old mid → Lends w j mid new → Lends w j old new
+  lends_behind w j old mid new same k l = record {
     size = l.size;
     gives = record {
       order = l.gives.order;
@@ -51,12 +53,13 @@ module _ {R A : Type 0} (left : R → Option (List ℕ)) (calls failures : R →
       unstopped = l.gives.unstopped;
     };
     lent = l.lent;
+    judged_is = subst (λ limits. IsJudgedWhole limits (lent_of new) j) same l.judged_is;
   }
 
-  answers_behind : (w : List ℕ) (old mid new : RawReader R A) (res : Result Bool ReadFault) → limits_of mid ≡ limits_of old
+  answers_behind : (w : List ℕ) (old mid new : RawReader R A) (res : Result (Option Judged) ReadFault) → limits_of mid ≡ limits_of old
       → KeepsAll (kept old) old mid → Advances w mid new res → Advances w old new res
-  answers_behind w old mid new (Ok true) same k a = lends_behind w old mid new same k a
-  answers_behind w old mid new (Ok false) same k a = (a.0, a.1, keeps_behind w old mid new k a.2, a.3)
+  answers_behind w old mid new (Ok (Some j)) same k a = lends_behind w j old mid new same k a
+  answers_behind w old mid new (Ok None) same k a = (a.0, a.1, keeps_behind w old mid new k a.2, a.3)
   answers_behind w old mid new (Err read.Memory) same k a = (keeps_behind w old mid new k a.0, a.1)
   answers_behind w old mid new (Err (read.Format fault)) same k a = (
     keeps_behind w old mid new k a.0,
@@ -66,7 +69,7 @@ module _ {R A : Type 0} (left : R → Option (List ℕ)) (calls failures : R →
   answers_behind w old mid new (Err read.Device) same k a = (keeps_behind w old mid new k a.0, a.1, subst (λ limits. IsPartial limits w) same a.2)
   answers_behind w old mid new (Err read.TooManyReads) same k a = (keeps_behind w old mid new k a.0, a.1, subst (λ limits. IsPartial limits w) same a.2, a.3)
 
-  both_behind : (old mid new : RawReader R A) (res : Result Bool ReadFault) → ReadsNothing old mid → KeepsAll (kept old) old mid
+  both_behind : (old mid new : RawReader R A) (res : Result (Option Judged) ReadFault) → ReadsNothing old mid → KeepsAll (kept old) old mid
       → (r : Reads left calls mid new) → Advances (kept mid ++ r.bytes) mid new res → (s : Reads left calls old new) × Advances (kept old ++ s.bytes) old new res
   both_behind old mid new res n k r a = (
     reads_behind old mid new n k r,
@@ -81,28 +84,28 @@ module _ {R A : Type 0} (left : R → Option (List ℕ)) (calls failures : R →
   kept_fault old new read.TooManyReads k = absurd k
 
   module _ {W : Type 0} (held : W → Option (List ℕ)) (write_failures : W → ℕ) where
-    pub gives_behind : (old mid new : RawReader R A) (g0 g1 : List ℕ) (w0 w1 : W) (res : Result Bool Stop) → ReadsNothing old mid
+    pub gives_behind : (old mid new : RawReader R A) (g0 g1 : List ℕ) (w0 w1 : W) (res : Result (Option Judged) Stop) → ReadsNothing old mid
         → KeepsAll (kept old) old mid → GivesNext left calls failures held write_failures mid new g0 g1 w0 w1 res → GivesNext left calls failures held write_failures old new g0 g1 w0 w1 res
     gives_behind old mid new g0 g1 w0 w1 (Ok lent) n k g =
         let both = both_behind old mid new (Ok lent) n k g.0 g.1 in
         (both.0, both.1, g.2 ∙ ap failures n.source, g.3)
     gives_behind old mid new g0 g1 w0 w1 (Err (Reader fault)) n k g =
         let both = both_behind old mid new (Err fault) n k g.0 g.1 in
-        (both.0, both.1, subst (λ (x : ℕ). DeviceCounts {T = Bool} x (failures (source_of new)) (Err fault)) (ap failures n.source) g.2, g.3)
+        (both.0, both.1, subst (λ (x : ℕ). DeviceCounts {T = Option Judged} x (failures (source_of new)) (Err fault)) (ap failures n.source) g.2, g.3)
     gives_behind old mid new g0 g1 w0 w1 (Err Writer) n k g = (reads_behind old mid new n k g.0, g.1, g.2 ∙ ap failures n.source)
 
     -- a message that is kept
-    pub gives_kept : (old new : RawReader R A) (g : List ℕ) (w : W) → Lends (kept old) old new → ReadsNothing old new
-        → GivesNext left calls failures held write_failures old new g g w w (Ok true)
-    gives_kept old new g w l n = (
+    pub gives_kept : (j : Judged) (old new : RawReader R A) (g : List ℕ) (w : W) → Lends (kept old) j old new → ReadsNothing old new
+        → GivesNext left calls failures held write_failures old new g g w w (Ok (Some j))
+    gives_kept j old new g w l n = (
       unread left calls failures old old new (starts left calls failures old) n,
-      subst (λ (v : List ℕ). Lends v old new) (sym (append-nil (kept old))) l,
+      subst (λ (v : List ℕ). Lends v j old new) (sym (append-nil (kept old))) l,
       ap failures n.source,
       passes_none held write_failures g w,
     )
 
     pub gives_kept_fault : (old new : RawReader R A) (fault : ReadFault) (g : List ℕ) (w : W) → KeptAnswers old new (Err fault) → ReadsNothing old new
-        → DeviceCounts {T = Bool} (failures (source_of old)) (failures (source_of new)) (Err fault)
+        → DeviceCounts {T = Option Judged} (failures (source_of old)) (failures (source_of new)) (Err fault)
         → GivesNext left calls failures held write_failures old new g g w w (Err (Reader fault))
     gives_kept_fault old new fault g w k n counts = (
       unread left calls failures old old new (starts left calls failures old) n,

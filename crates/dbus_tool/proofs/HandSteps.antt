@@ -1,8 +1,9 @@
 -- The turns in which messages are handed to a command.
-use Rattle.std.proofs.Common.{◌≡◌, Bool, false, ℕ, ◌+◌, List, [], ◌∷◌, ◌++◌, None, Some, Ok, Err, Option, length, refl, sym, ap, ◌∙◌, subst, arith}
+use Rattle.std.proofs.Common.{◌≡◌, ℕ, ◌+◌, List, [], ◌∷◌, ◌++◌, None, Some, Ok, Err, Option, length, refl, sym, ap, ◌∙◌, subst, arith}
 use Rattle.dbus_value_model.specs.declared.fault.Fault.{Fault}
 use Rattle.dbus_value_model.specs.declared.limits.Limits.{Limits}
 use Rattle.dbus_decode.specs.MessageOutcomes.{IsWhole, IsPartial}
+use Rattle.dbus_judge.specs.declared.judging.Judged.{Judged}
 use Rattle.dbus_stream.specs.Device.{one_more}
 use Rattle.dbus_stream.specs.Cut.{Item, BeginWith}
 use Rattle.dbus_stream.specs.Next.{DeviceCounts}
@@ -53,11 +54,11 @@ module _ {R A W : Type 0} (left : R → Option (List ℕ)) (calls failures : R �
 
   -- one more message was handed on
   pub hands_more : (count : ℕ) (old mid new : RawReader R A) (g0 g1 g2 g3 : List ℕ) (w0 w1 w2 w3 : W)
-      (h : HasHanded count old mid g0 g1 w0 w1) (r : Reads left calls mid new) → (l : Lends (kept mid ++ r.bytes) mid new)
+      (h : HasHanded count old mid g0 g1 w0 w1) (j : Judged) (r : Reads left calls mid new) → (l : Lends (kept mid ++ r.bytes) j mid new)
       → failures (source_of new) ≡ failures (source_of mid) → Passes held write_failures [] g1 g2 w1 w2
       → HandsOne held write_failures command l.gives.order l.gives.message (count + 1) g2 g3 w2 w3 (Ok tt) → HasHanded (count + 1) old new g0 g3 w0 w3
-  hands_more count old mid new g0 g1 g2 g3 w0 w1 w2 w3 h r l same p one =
-      let next = counts_more left calls failures limits most old mid new count h.counted r l same h.count_is in
+  hands_more count old mid new g0 g1 g2 g3 w0 w1 w2 w3 h j r l same p one =
+      let next = counts_more left calls failures limits most old mid new count h.counted j r l same h.count_is in
       let item : Item = record { order = l.gives.order; message = l.gives.message; size = l.size } in
       let number : count + 1 ≡ 1 + length h.counted.items = omega (arith, h.count_is) in
       let last : IsOutputOfAll command 1 (h.counted.items ++ item ∷ []) (h.out ++ one.0)
@@ -72,7 +73,7 @@ module _ {R A W : Type 0} (left : R → Option (List ℕ)) (calls failures : R �
 
   -- the input ended
   pub hands_ended : (count : ℕ) (old mid new : RawReader R A) (g0 g1 g2 : List ℕ) (w0 w1 w2 : W) (h : HasHanded count old mid g0 g1 w0 w1) (r : Reads left calls mid new)
-      → Advances (kept mid ++ r.bytes) mid new (Ok false) → failures (source_of new) ≡ failures (source_of mid) → Passes held write_failures [] g1 g2 w1 w2
+      → Advances (kept mid ++ r.bytes) mid new (Ok None) → failures (source_of new) ≡ failures (source_of mid) → Passes held write_failures [] g1 g2 w1 w2
       → HandsAll left calls failures held write_failures limits most command (record { count = count; size = done_of new; fault = None }) (source_of old) (source_of new) g0 g2 w0 w2
   hands_ended count old mid new g0 g1 g2 w0 w1 w2 h r answer same p =
       let all = counts_ended left calls failures limits most old mid new count h.counted r h.count_is answer in
@@ -119,7 +120,7 @@ module _ {R A W : Type 0} (left : R → Option (List ℕ)) (calls failures : R �
   -- the reader has a fault
   hands_faulted : (fault : ReadFault) (count : ℕ) (old mid new : RawReader R A) (g0 g1 g2 : List ℕ) (w0 w1 w2 : W) (h : HasHanded count old mid g0 g1 w0 w1)
       (r : Reads left calls mid new) → Advances (kept mid ++ r.bytes) mid new (Err fault)
-      → DeviceCounts {T = Bool} (failures (source_of mid)) (failures (source_of new)) (Err fault) → Passes held write_failures [] g1 g2 w1 w2
+      → DeviceCounts {T = Option Judged} (failures (source_of mid)) (failures (source_of new)) (Err fault) → Passes held write_failures [] g1 g2 w1 w2
       → Hands left calls failures held write_failures limits most command (source_of old) (source_of new) g0 g2 w0 w2 (ended_by count (done_of new) fault)
   hands_faulted (read.Format fault) count old mid new g0 g1 g2 w0 w1 w2 h r answer counts p = hands_refused count old mid new g0 g1 g2 w0 w1 w2 fault h r answer counts p
   hands_faulted read.Memory count old mid new g0 g1 g2 w0 w1 w2 h r answer counts p =
@@ -145,16 +146,16 @@ module _ {R A W : Type 0} (left : R → Option (List ℕ)) (calls failures : R �
 
   -- a message was not written
   pub hands_not : (cause : Cause) (count : ℕ) (old mid new : RawReader R A) (g0 g1 g2 g3 : List ℕ) (w0 w1 w2 w3 : W)
-      (h : HasHanded count old mid g0 g1 w0 w1) (r : Reads left calls mid new) → (l : Lends (kept mid ++ r.bytes) mid new)
+      (h : HasHanded count old mid g0 g1 w0 w1) (j : Judged) (r : Reads left calls mid new) → (l : Lends (kept mid ++ r.bytes) j mid new)
       → failures (source_of new) ≡ failures (source_of mid) → Passes held write_failures [] g1 g2 w1 w2
       → HandsOne held write_failures command l.gives.order l.gives.message (count + 1) g2 g3 w2 w3 (Err cause)
       → HandsSome left calls failures held write_failures limits most command cause (source_of old) (source_of new) g0 g3 w0 w3
-  hands_not Memory count old mid new g0 g1 g2 g3 w0 w1 w2 w3 h r l same p one =
+  hands_not Memory count old mid new g0 g1 g2 g3 w0 w1 w2 w3 h j r l same p one =
       let before = passes_nothing held write_failures h.out g0 g1 g2 w0 w1 w2 h.passes p in
       hands_some Memory count old mid new g0 g1 g3 w0 w1 w3 h r tt (passes_nothing held write_failures h.out g0 g2 g3 w0 w2 w3 before one.2) (same ∙ h.counted.failed)
-  hands_not ReadFailed count old mid new g0 g1 g2 g3 w0 w1 w2 w3 h r l same p one = absurd one.2
-  hands_not TooManyReads count old mid new g0 g1 g2 g3 w0 w1 w2 w3 h r l same p one = absurd one.2
-  hands_not WriteFailed count old mid new g0 g1 g2 g3 w0 w1 w2 w3 h r l same p one =
+  hands_not ReadFailed count old mid new g0 g1 g2 g3 w0 w1 w2 w3 h j r l same p one = absurd one.2
+  hands_not TooManyReads count old mid new g0 g1 g2 g3 w0 w1 w2 w3 h j r l same p one = absurd one.2
+  hands_not WriteFailed count old mid new g0 g1 g2 g3 w0 w1 w2 w3 h j r l same p one =
       let m = more_read left calls failures limits most old mid new h.counted r in
       let item : Item = record { order = l.gives.order; message = l.gives.message; size = l.size } in
       let number : count + 1 ≡ 1 + length h.counted.items = omega (arith, h.count_is) in

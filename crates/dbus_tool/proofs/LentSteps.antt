@@ -7,12 +7,12 @@ use Rattle.dbus_message_model.specs.Messages.{MessageTree, message_bytes}
 use Rattle.dbus_decode.specs.MessageOutcomes.{IsWhole}
 use Rattle.dbus_decode.proofs.OutcomeLaws.{one_whole, whole_bytes, whole_valid, valid_whole}
 use Rattle.dbus_judge.specs.declared.judging.Judged.{Judged}
-use Rattle.dbus_judge.specs.Judging.{IsJudged}
+use Rattle.dbus_judge.specs.Judging.{IsJudgedWhole}
 use Rattle.dbus_raw_reader.specs.Next.{Lends}
 use Rattle.dbus_raw_reader.specs.Reading.{limits_of, lent_of}
 use Rattle.dbus_raw_reader.specs.declared.raw_reader.RawReader.{RawReader}
 use Rattle.dbus_stream.specs.Checked.{IsOneMessage}
-use Rattle.dbus_view.specs.Views.{ViewState, Views, IsViewOf, IsJudgedWhole}
+use Rattle.dbus_view.specs.Views.{ViewState, Views, IsViewOf}
 
 module _ (limits : Limits) where
   -- the message that bytes begin with is all of its own bytes
@@ -24,22 +24,26 @@ module _ (limits : Limits) where
       subst (λ (b : List ℕ). IsWhole limits b order m (length b)) (sym (whole_bytes limits w order m size whole).0) own
 
   -- the bytes that are lent are the message that is given
-  pub lent_whole : {R A : Type 0} (w bytes : List ℕ) (old new : RawReader R A) → bytes ≡ lent_of new → limits_of old ≡ limits → (l : Lends w old new)
+  pub lent_whole : {R A : Type 0} (w bytes : List ℕ) (j : Judged) (old new : RawReader R A) → bytes ≡ lent_of new → limits_of old ≡ limits → (l : Lends w j old new)
       → IsWhole limits bytes l.gives.order l.gives.message (length bytes)
-  lent_whole w bytes old new e same l =
+  lent_whole w bytes j old new e same l =
       let here : IsWhole limits w l.gives.order l.gives.message l.size = subst (λ v. IsWhole v w l.gives.order l.gives.message l.size) same l.gives.whole in
       subst (λ (b : List ℕ). IsWhole limits b l.gives.order l.gives.message (length b)) (sym (e ∙ l.lent)) (front_whole w l.gives.order l.gives.message l.size here)
+
+  -- they were judged
+  pub lent_judged : {R A : Type 0} (w bytes : List ℕ) (j : Judged) (old new : RawReader R A) → bytes ≡ lent_of new → limits_of old ≡ limits → Lends w j old new
+      → IsJudgedWhole limits bytes j
+  lent_judged w bytes j old new e same l =
+      subst (λ (b : List ℕ). IsJudgedWhole limits b j) (sym e) (subst (λ v. IsJudgedWhole v (lent_of new) j) same l.judged_is)
+
+  -- so they are a message
+  pub is_one : (b : List ℕ) (j : Judged) → IsJudgedWhole limits b j → IsOneMessage limits b
+  is_one b j judged =
+      (j.order, judged.judged.message, subst (λ (n : ℕ). IsWhole limits b j.order judged.judged.message n) judged.all judged.judged.whole)
 
   -- bytes that are a message are those that it is spelled by
   pub bytes_are : (b : List ℕ) (order : Order) (m : MessageTree) → IsWhole limits b order m (length b) → b ≡ message_bytes order m
   bytes_are b order m whole = sym (take_all (length b) b (omega arith)) ∙ (whole_bytes limits b order m (length b) whole).0
-
-  -- what is judged of one message is judged of all its bytes
-  pub judged_all : (b : List ℕ) (j : Judged) → IsOneMessage limits b → IsJudged limits b j → IsJudgedWhole limits b j
-  judged_all b j one judged = record {
-    judged = judged;
-    all = (one_whole limits b j.order one.0 judged.message one.1 j.length (length b) judged.whole one.2).2;
-  }
 
   -- its order is that of the message
   pub judged_order : (b : List ℕ) (j : Judged) (order : Order) (m : MessageTree) → IsJudgedWhole limits b j → IsWhole limits b order m (length b) → j.order ≡ order

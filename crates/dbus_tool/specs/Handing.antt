@@ -1,11 +1,12 @@
 -- What was read and written where messages are handed to a command. g0 and g1 are what is gathered before and after,
 -- limits are those that each message keeps, and most is how many reads may be made.
-use Rattle.std.specs.Prelude.{◌≡◌, ℕ, List, [], ◌++◌, Bool, Option, Result, Ok, Err}
+use Rattle.std.specs.Prelude.{◌≡◌, ℕ, List, [], ◌++◌, Option, Result, Ok, Err}
 use Rattle.std.specs.Io.KnownBytes.{Consumes}
 use Rattle.dbus_value_model.specs.declared.limits.Limits.{Limits}
 use Rattle.dbus_value_model.specs.declared.order.Order.{Order}
 use Rattle.dbus_message_model.specs.Messages.{MessageTree}
 use Rattle.dbus_decode.specs.MessageOutcomes.{IsPartial}
+use Rattle.dbus_judge.specs.declared.judging.Judged.{Judged}
 use Rattle.dbus_stream.specs.Device.{one_more}
 use Rattle.dbus_stream.specs.Cut.{Item, BeginWith}
 use Rattle.dbus_stream.specs.Next.{RisesBy, DeviceCounts}
@@ -42,12 +43,12 @@ AreAll limits WriteFailed rest = Unit {0}
 AreAll limits TooManyReads rest = IsPartial limits rest
 
 module _ {R W : Type 0} (left : R → Option (List ℕ)) (calls read_failures : R → ℕ) (held : W → Option (List ℕ)) (write_failures : W → ℕ) where
-  -- whether a reader lends its next message, where what is gathered may have been written before
-  abbrev pub GivesNext : {A : Type 0} → RawReader R A → RawReader R A → List ℕ → List ℕ → W → W → Result Bool Stop → Type 0
-  GivesNext old new g0 g1 w0 w1 (Ok lent) = (r : Reads left calls old new) × Advances (kept old ++ r.bytes) old new (Ok lent)
+  -- what a reader judges of its next message, which it lends, where what is gathered may have been written before
+  abbrev pub GivesNext : {A : Type 0} → RawReader R A → RawReader R A → List ℕ → List ℕ → W → W → Result (Option Judged) Stop → Type 0
+  GivesNext old new g0 g1 w0 w1 (Ok judged) = (r : Reads left calls old new) × Advances (kept old ++ r.bytes) old new (Ok judged)
       × (read_failures (source_of new) ≡ read_failures (source_of old)) × Passes held write_failures [] g0 g1 w0 w1
   GivesNext old new g0 g1 w0 w1 (Err (Reader fault)) = (r : Reads left calls old new) × Advances (kept old ++ r.bytes) old new (Err fault)
-      × DeviceCounts {T = Bool} (read_failures (source_of old)) (read_failures (source_of new)) (Err fault) × Passes held write_failures [] g0 g1 w0 w1
+      × DeviceCounts {T = Option Judged} (read_failures (source_of old)) (read_failures (source_of new)) (Err fault) × Passes held write_failures [] g0 g1 w0 w1
   GivesNext old new g0 g1 w0 w1 (Err Writer) = Reads left calls old new × Breaks held write_failures [] g0 w0 w1 × (read_failures (source_of new) ≡ read_failures (source_of old))
 
 module _ {R W : Type 0} (left : R → Option (List ℕ)) (calls read_failures : R → ℕ) (held : W → Option (List ℕ)) (write_failures : W → ℕ)

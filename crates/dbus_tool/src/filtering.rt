@@ -3,13 +3,13 @@ ghost use Rattle.std.specs.Prelude.{◌≡◌, ℕ, List, length};
 ghost use Rattle.dbus_value_model.specs.declared.order.Order.{Order};
 ghost use Rattle.dbus_message_model.specs.Messages.{MessageTree};
 ghost use Rattle.dbus_decode.specs.MessageOutcomes.{IsWhole};
+ghost use Rattle.dbus_judge.specs.Judging.{IsJudgedWhole};
 ghost use Rattle.dbus_match.specs.RuleViews.{rule_pairs};
-ghost use Rattle.dbus_stream.specs.Checked.{IsOneMessage};
 ghost use Rattle.dbus_tool.specs.Handing.{Filters};
 
 use crate::ending::Cause;
 use crate::gathering::{Gathered, put_out};
-use crate::judged::judge_one;
+use dbus_judge::Judged;
 use dbus_match::{Owner, Rule, matches_view};
 use dbus_stream::Sink;
 use dbus_value::Limits;
@@ -19,16 +19,17 @@ use dbus_view::MessageView;
 pub(crate) fn filter<W: Sink>(
     rule: &Rule,
     bytes: &[u8],
+    judged: &Judged,
     limits: Limits,
     gathered: &mut Gathered,
     first: &mut W,
 ) -> Result<(), Cause>
-    requires { IsOneMessage limits bytes.now }
+    requires { IsJudgedWhole limits bytes.now judged.now }
     ensures { (order : Order) (m : MessageTree) → IsWhole limits bytes.now order m (length bytes.now)
         → Filters W.held W.failures (rule_pairs rule.now) order m gathered.old.items gathered.new.items first.old first.new result }
 {
     let owners: &[Owner] = &[];
-    let view = MessageView::of_judged(bytes, limits, judge_one(bytes, limits));
+    let view = MessageView::of_judged(bytes, limits, *judged);
     if matches_view(rule, &view, owners) {
         put_out(bytes, gathered, first)
     } else {

@@ -9,36 +9,38 @@ use crate::gathering::{Gathered, Unwritten, write_out};
 use crate::output::write_one;
 use crate::spare::Spare;
 use dbus_command::Command;
+use dbus_judge::Judged;
 use dbus_raw_reader::RawReader;
 use dbus_stream::{ReadFault, Sink, Source};
 use dbus_value::Limits;
 use std::alloc::Allocator;
 
-// Whether there is a next message, which the reader lends then. Where it keeps none, what is gathered is written, and then
-// more is read.
+// What is judged of the next message, which the reader lends then, if there is one. Where it keeps none, what is gathered is
+// written, and then more is read.
 fn next_message<R: Source, A: Allocator + Copy, W: Sink>(
     messages: &mut RawReader<R, A>,
     gathered: &mut Gathered,
     first: &mut W,
-) -> Result<bool, Stop>
+) -> Result<Option<Judged>, Stop>
     requires { stopped_of messages.old ≡ None }
     ensures gives { GivesNext R.left R.calls R.failures W.held W.failures messages.old messages.new gathered.old.items gathered.new.items first.old first.new result }
     ensures few { IfOk result (λ _. done_of messages.new ≤ 2 ^ 48) }
     ensures same_reference { R.reference (source_of messages.new) ≡ R.reference (source_of messages.old) }
 {
     match messages.advance_kept() {
-        Ok(true) => Ok(true),
-        Ok(false) => read_message(messages, gathered, first),
+        Ok(Some(judged)) => Ok(Some(judged)),
+        Ok(None) => read_message(messages, gathered, first),
         Err(fault) => Err(Stop::Reader(fault)),
     }
 }
 
-// Whether there is a next message, which the reader lends then. Before it reads, what is gathered is written.
+// What is judged of the next message, which the reader lends then, if there is one. Before it reads, what is gathered is
+// written.
 fn read_message<R: Source, A: Allocator + Copy, W: Sink>(
     messages: &mut RawReader<R, A>,
     gathered: &mut Gathered,
     first: &mut W,
-) -> Result<bool, Stop>
+) -> Result<Option<Judged>, Stop>
     requires { stopped_of messages.old ≡ None }
     ensures gives { GivesNext R.left R.calls R.failures W.held W.failures messages.old messages.new gathered.old.items gathered.new.items first.old first.new result }
     ensures few { IfOk result (λ _. done_of messages.new ≤ 2 ^ 48) }
@@ -46,7 +48,7 @@ fn read_message<R: Source, A: Allocator + Copy, W: Sink>(
 {
     match write_out(gathered, first) {
         Ok(()) => match messages.advance() {
-            Ok(lent) => Ok(lent),
+            Ok(judged) => Ok(judged),
             Err(fault) => Err(Stop::Reader(fault)),
         },
         Err(Unwritten) => Err(Stop::Writer),
@@ -71,15 +73,17 @@ fn hand_all<R: Source, A: Allocator + Copy, W: Sink>(
     let mut spare = Spare::new(alloc);
     'messages: loop {
         match next_message(messages, gathered, first) {
-            Ok(true) => {
+            Ok(Some(judged)) => {
                 count += 1;
                 let message = messages.message();
-                match write_one(command, message, limits, count, &mut spare, gathered, first) {
+                match write_one(
+                    command, message, &judged, limits, count, &mut spare, gathered, first,
+                ) {
                     Ok(()) => {}
                     Err(cause) => return Err(cause),
                 }
             }
-            Ok(false) => {
+            Ok(None) => {
                 return Ok(Counted {
                     count,
                     size: messages.done(),

@@ -8,7 +8,6 @@ mod failing;
 mod filtering;
 mod gathering;
 mod handing;
-mod judged;
 pub mod laws;
 mod lines;
 mod output;

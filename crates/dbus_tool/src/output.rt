@@ -3,7 +3,7 @@ ghost use Rattle.std.specs.Prelude.{◌≡◌, ℕ, List, length};
 ghost use Rattle.dbus_value_model.specs.declared.order.Order.{Order};
 ghost use Rattle.dbus_message_model.specs.Messages.{MessageTree};
 ghost use Rattle.dbus_decode.specs.MessageOutcomes.{IsWhole};
-ghost use Rattle.dbus_stream.specs.Checked.{IsOneMessage};
+ghost use Rattle.dbus_judge.specs.Judging.{IsJudgedWhole};
 ghost use Rattle.dbus_tool.specs.Handing.{HandsOne};
 
 use crate::ending::Cause;
@@ -13,28 +13,31 @@ use crate::showing::show;
 use crate::spare::Spare;
 use crate::swapping::swap;
 use dbus_command::Command;
+use dbus_judge::Judged;
 use dbus_stream::Sink;
 use dbus_value::Limits;
 use std::alloc::Allocator;
 
-/// Writes or gathers what the command writes of a message, which has these bytes and this number among all of the input.
+/// Writes or gathers what the command writes of a message, which has these bytes, as they were judged, and this number among
+/// all of the input.
 pub(crate) fn write_one<A: Allocator + Copy, W: Sink>(
     command: &Command,
     bytes: &[u8],
+    judged: &Judged,
     limits: Limits,
     number: u64,
     spare: &mut Spare<A>,
     gathered: &mut Gathered,
     first: &mut W,
 ) -> Result<(), Cause>
-    requires { IsOneMessage limits bytes.now }
+    requires { IsJudgedWhole limits bytes.now judged.now }
     ensures { (order : Order) (m : MessageTree) → IsWhole limits bytes.now order m (length bytes.now)
         → HandsOne W.held W.failures command.now order m number gathered.old.items gathered.new.items first.old first.new result }
 {
     match command {
-        Command::Show => show(bytes, limits, number, spare, gathered, first),
+        Command::Show => show(bytes, judged, limits, number, spare, gathered, first),
         Command::Check => Ok(()),
-        Command::Swap(wanted) => swap(*wanted, bytes, limits, spare, gathered, first),
-        Command::Filter(rule) => filter(rule, bytes, limits, gathered, first),
+        Command::Swap(wanted) => swap(*wanted, bytes, judged, limits, spare, gathered, first),
+        Command::Filter(rule) => filter(rule, bytes, judged, limits, gathered, first),
     }
 }

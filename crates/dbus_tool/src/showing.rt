@@ -4,6 +4,7 @@ ghost use Rattle.dbus_value_model.specs.declared.order.Order.{Order};
 ghost use Rattle.dbus_message_model.specs.Messages.{MessageTree};
 ghost use Rattle.dbus_message_model.specs.MessageViews.{message_tree};
 ghost use Rattle.dbus_decode.specs.MessageOutcomes.{IsWhole};
+ghost use Rattle.dbus_judge.specs.Judging.{IsJudgedWhole};
 ghost use Rattle.dbus_show.specs.ShownMessages.{message_text};
 ghost use Rattle.dbus_stream.specs.Checked.{IsOneMessage};
 ghost use Rattle.dbus_tool.specs.Gathering.{GathersOrNot};
@@ -11,6 +12,7 @@ ghost use Rattle.dbus_tool.specs.Gathering.{GathersOrNot};
 use crate::ending::Cause;
 use crate::gathering::{Gathered, put_out};
 use crate::spare::Spare;
+use dbus_judge::Judged;
 use dbus_message::{Answer, Message, decode_within};
 use dbus_show::show_into;
 use dbus_stream::Sink;
@@ -37,13 +39,14 @@ fn decode_one<A: Allocator + Copy>(
 /// Writes or gathers the text of the message that the bytes are.
 pub(crate) fn show<A: Allocator + Copy, W: Sink>(
     bytes: &[u8],
+    judged: &Judged,
     limits: Limits,
     number: u64,
     spare: &mut Spare<A>,
     gathered: &mut Gathered,
     first: &mut W,
 ) -> Result<(), Cause>
-    requires { IsOneMessage limits bytes.now }
+    requires { IsJudgedWhole limits bytes.now judged.now }
     ensures { (order : Order) (m : MessageTree) → IsWhole limits bytes.now order m (length bytes.now)
         → GathersOrNot W.held W.failures (message_text order m number) gathered.old.items gathered.new.items first.old first.new result }
 {

@@ -3,14 +3,12 @@ ghost use Rattle.std.specs.Prelude.{◌≡◌, ℕ, List, length};
 ghost use Rattle.dbus_value_model.specs.declared.order.Order.{Order};
 ghost use Rattle.dbus_message_model.specs.Messages.{MessageTree, message_bytes};
 ghost use Rattle.dbus_decode.specs.MessageOutcomes.{IsWhole};
-ghost use Rattle.dbus_stream.specs.Checked.{IsOneMessage};
+ghost use Rattle.dbus_judge.specs.Judging.{IsJudgedWhole};
 ghost use Rattle.dbus_swap.specs.Turning.{other};
-ghost use Rattle.dbus_view.specs.Views.{IsJudgedWhole};
 ghost use Rattle.dbus_tool.specs.Gathering.{GathersOrNot};
 
 use crate::ending::Cause;
 use crate::gathering::{Gathered, put_out};
-use crate::judged::judge_one;
 use crate::spare::Spare;
 use dbus_judge::Judged;
 use dbus_stream::Sink;
@@ -22,28 +20,28 @@ use std::alloc::Allocator;
 pub(crate) fn swap<A: Allocator + Copy, W: Sink>(
     wanted: Order,
     bytes: &[u8],
+    judged: &Judged,
     limits: Limits,
     spare: &mut Spare<A>,
     gathered: &mut Gathered,
     first: &mut W,
 ) -> Result<(), Cause>
-    requires { IsOneMessage limits bytes.now }
+    requires { IsJudgedWhole limits bytes.now judged.now }
     ensures { (order : Order) (m : MessageTree) → IsWhole limits bytes.now order m (length bytes.now)
         → GathersOrNot W.held W.failures (message_bytes wanted m) gathered.old.items gathered.new.items first.old first.new result }
 {
-    let judged = judge_one(bytes, limits);
     if judged.order == wanted {
         put_out(bytes, gathered, first)
     } else {
-        put_turned(bytes, limits, &judged, spare, gathered, first)
+        put_turned(bytes, judged, limits, spare, gathered, first)
     }
 }
 
 // The message in the order that is not its own, turned in a copy of its bytes.
 fn put_turned<A: Allocator + Copy, W: Sink>(
     bytes: &[u8],
-    limits: Limits,
     judged: &Judged,
+    limits: Limits,
     spare: &mut Spare<A>,
     gathered: &mut Gathered,
     first: &mut W,

@@ -16,7 +16,7 @@ use Rattle.dbus_message_model.specs.Messages.{MessageTree, body_signature, body_
 use Rattle.dbus_judge.specs.declared.judging.Judged.{Judged}
 use Rattle.dbus_view.specs.Bodies.{AreBody, StandsThere, StandsSomehow}
 use Rattle.dbus_view.specs.declared.values.Spot.{Spot}
-use Rattle.dbus_view.specs.Views.{IsJudgedWhole}
+use Rattle.dbus_judge.specs.Judging.{IsJudgedWhole}
 use Rattle.dbus_view.proofs.FieldTexts.{signed}
 use Rattle.dbus_view.proofs.Whole.{message, valid, all_whole, whole_length}
 

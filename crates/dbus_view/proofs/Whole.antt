@@ -7,7 +7,8 @@ use Rattle.dbus_message_model.proofs.MessageLengths.{message_length}
 use Rattle.dbus_decode.specs.MessageOutcomes.{IsWhole}
 use Rattle.dbus_decode.proofs.OutcomeLaws.{one_whole}
 use Rattle.dbus_judge.specs.declared.judging.Judged.{Judged}
-use Rattle.dbus_view.specs.Views.{ViewState, Views, ViewsOne, IsJudgedWhole}
+use Rattle.dbus_judge.specs.Judging.{IsJudgedWhole}
+use Rattle.dbus_view.specs.Views.{ViewState, Views, ViewsOne}
 
 pub whole_message : (limits : Limits) (b : List ℕ) (order : Order) (m : MessageTree) (n : ℕ) → IsWhole limits b order m n → IsMessage limits order m
 unfolding IsWhole

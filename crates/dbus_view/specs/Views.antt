@@ -5,8 +5,6 @@ use Rattle.dbus_value_model.specs.declared.limits.Limits.{Limits}
 use Rattle.dbus_value_model.specs.declared.order.Order.{Order}
 use Rattle.dbus_message_model.specs.Messages.{MessageTree}
 use Rattle.dbus_decode.specs.MessageOutcomes.{IsWhole}
-use Rattle.dbus_judge.specs.declared.judging.Judged.{Judged}
-use Rattle.dbus_judge.specs.Judging.{IsJudged}
 
 -- a view: the bytes that it is of, and the limits that their message keeps
 pub record ViewState : Type 0 where
@@ -24,8 +22,3 @@ ViewsOne v = (order : Order) × (m : MessageTree) × Views v order m
 -- the view is of the one message that these bytes are within the limits
 abbrev pub IsViewOf : Limits → List ℕ → ViewState → Type 0
 IsViewOf limits bytes v = (v.limits ≡ limits) × (v.bytes ≡ bytes) × ViewsOne v
-
--- what is judged of bytes is judged of all of them
-pub record IsJudgedWhole (limits : Limits) (bytes : List ℕ) (j : Judged) : Type 0 where
-  pub judged : IsJudged limits bytes j
-  pub all : j.length ≡ length bytes

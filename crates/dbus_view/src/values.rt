@@ -4,6 +4,7 @@
 ghost use Rattle.std.specs.Prelude.{◌≡◌, ◌≤◌, ℕ, List, length, None, MatchOption, IfSome};
 ghost use Rattle.dbus_value_model.specs.Values.{ValueTrees};
 ghost use Rattle.dbus_message_model.specs.Lookups.{body_value};
+ghost use Rattle.dbus_judge.specs.Judging.{IsJudgedWhole};
 
 use crate::arg_place::ArgPlace;
 use dbus_judge::Judged;
@@ -23,7 +24,6 @@ pub(crate) struct Spot {
 }
 
 ghost use Rattle.dbus_view.specs.Bodies.{AreBody, StandsThere, StandsSomehow, IsTextIn, IsTextAt};
-ghost use Rattle.dbus_view.specs.Views.{IsJudgedWhole};
 
 /// Where value `n`, counted from 0, stands of the values that `types` spell, which begin at `at` and end with the bytes.
 pub(crate) fn spot_of(

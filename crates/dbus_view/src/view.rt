@@ -35,7 +35,8 @@ pub struct MessageView<'a> {
 }
 
 impl<'a> Model for MessageView<'a> {
-    ghost use Rattle.dbus_view.specs.Views.{ViewState, IsJudgedWhole};
+    ghost use Rattle.dbus_judge.specs.Judging.{IsJudgedWhole};
+    ghost use Rattle.dbus_view.specs.Views.{ViewState};
 
     ghost Value = { ViewState };
 

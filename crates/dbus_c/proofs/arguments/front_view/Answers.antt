@@ -1,48 +1,5 @@
-use Rattle.std.proofs.Common.{◌≡◌, ℕ, ◌≤◌, length, take, refl, subst, arith}
-use Rattle.std.proofs.lemmas.List.{length-take}
-use Rattle.dbus_decode.specs.MessageOutcomes.{IsWhole}
-use Rattle.dbus_decode.specs.StatedLengths.{StatesLength}
-use Rattle.dbus_decode.proofs.StatedLengths.{whole_states}
-use Rattle.dbus_c.proofs.FirstBytes.{none_stated}
-use Rattle.dbus_c.proofs.Fronts.{alone, followed, has_stated, states, front_viewed}
+use Rattle.dbus_c.proofs.Fronts.{front_viewed}
 use Rattle.dbus_c.proofs.arguments.front_view.Goals as goal
 
-pub returns-in-Ok-None-clause-none : goal.returns-in-Ok-None-clause-none
-returns-in-Ok-None-clause-none c = λ is order m n w.
-    let b = c.args.bytes.now in
-    none_stated c.args.limits b c.in-Ok-None.field-0 c.in-Ok-None.field-0-is c.in-Ok-None.ensures.stated n (whole_states c.args.limits b order m n w).0
-
-pub returns-in-Err-clause-none : goal.returns-in-Err-clause-none
-returns-in-Err-clause-none c = λ is order m n w. c.in-Err.ensures.stated.1 n (whole_states c.args.limits c.args.bytes.now order m n w).0
-
-pub returns-then-bytes-length-clause-none : goal.returns-then-bytes-length-clause-none
-returns-then-bytes-length-clause-none c = λ is order m n w.
-    let b = c.args.bytes.now in
-    let k = c.in-Ok-Some.length in
-    let stated : StatesLength c.args.limits b k = states c.args.limits b c.in-Ok-Some.field-0 k c.in-Ok-Some.field-0-is c.in-Ok-Some.ensures.stated in
-    let there : k ≤ length b = (has_stated c.args.limits b order m k n stated w).1 in
-    absurd (omega arith)
-
-pub returns-in_err-judged-clause-none : goal.returns-in_err-judged-clause-none
-returns-in_err-judged-clause-none c = λ is order m n w.
-    let b = c.args.bytes.now in
-    let k = c.in-Ok-Some.length in
-    let stated : StatesLength c.args.limits b k = states c.args.limits b c.in-Ok-Some.field-0 k c.in-Ok-Some.field-0-is c.in-Ok-Some.ensures.stated in
-    let same : n ≡ k = (has_stated c.args.limits b order m k n stated w).0 in
-    c.in_err-judged.ensures.none refl order m n (subst (λ (i : ℕ). IsWhole c.args.limits (take i b) order m n) same (alone c.args.limits b order m n w))
-
-pub of_judged-requires-clause-all : goal.of_judged-requires-clause-all
-of_judged-requires-clause-all c =
-    let b = c.args.bytes.now in
-    let k = c.in-Ok-Some.length in
-    let j = c.in_ok-judged.judged in
-    let is = c.in_ok-judged.ensures.judged in
-    let stated : StatesLength c.args.limits b k = states c.args.limits b c.in-Ok-Some.field-0 k c.in-Ok-Some.field-0-is c.in-Ok-Some.ensures.stated in
-    let held = has_stated c.args.limits b j.order is.message k j.length stated (followed c.args.limits b j.order is.message k j.length is.whole) in
-    omega (arith, held.0, held.1, length-take k b)
-
 pub returns-clause-viewed : goal.returns-clause-viewed
-returns-clause-viewed c =
-    let b = c.args.bytes.now in
-    let k = c.in-Ok-Some.length in
-    front_viewed c.args.limits b k c.of_judged.result (states c.args.limits b c.in-Ok-Some.field-0 k c.in-Ok-Some.field-0-is c.in-Ok-Some.ensures.stated) c.of_judged.ensures.viewed
+returns-clause-viewed c = front_viewed c.args.limits c.args.bytes.now c.in_ok-judged.judged c.of_judged.result c.in_ok-judged.ensures.judged c.of_judged.ensures.viewed

@@ -4,6 +4,7 @@ use Rattle.dbus_decode.proofs.OutcomeLaws.{one_whole}
 use Rattle.dbus_show.specs.ShownMessages.{message_text}
 use Rattle.dbus_tool.specs.Gathering.{GathersOrNot}
 use Rattle.dbus_tool.proofs.GatherSteps.{passes_none}
+use Rattle.dbus_tool.proofs.LentSteps.{is_one}
 use Rattle.dbus_tool.proofs.showing.show.Goals as goal
 
 pub returns-in-Ok : goal.returns-in-Ok
@@ -15,3 +16,6 @@ returns-in-Ok g c = λ order m whole.
 
 pub returns-in-Err : goal.returns-in-Err
 returns-in-Err g c = λ order m whole. passes_none g.W.Sink.held g.W.Sink.failures c.args.gathered.now.items c.args.first.now
+
+pub decode_one-requires : goal.decode_one-requires
+decode_one-requires g c = is_one c.args.limits c.args.bytes.now c.args.judged.now c.requires

@@ -10,17 +10,17 @@ use Rattle.dbus_tool.proofs.swapping.swap.Goals as goal
 pub returns-then-eq : goal.returns-then-eq
 returns-then-eq g c = λ order m whole.
     let b = c.args.bytes.now in
-    let j = c.judge_one-judged.result in
+    let j = c.args.judged.now in
     let wanted : j.order ≡ c.args.wanted = search rules in
-    let own = judged_order c.args.limits b j order m c.judge_one-judged.ensures whole in
+    let own = judged_order c.args.limits b j order m c.requires whole in
     let is : b ≡ message_bytes c.args.wanted m = bytes_are c.args.limits b order m whole ∙ ap (λ (o : Order). message_bytes o m) (sym own ∙ wanted) in
     subst (λ (l : List ℕ). GathersOrNot g.W.Sink.held g.W.Sink.failures l c.args.gathered.now.items c.put_out.new.gathered.items c.args.first.now c.put_out.new.first c.put_out.result) is c.put_out.ensures
 
 pub returns-else-eq : goal.returns-else-eq
 returns-else-eq g c = λ order m whole.
     let b = c.args.bytes.now in
-    let j = c.judge_one-judged.result in
+    let j = c.args.judged.now in
     let wanted : other j.order ≡ c.args.wanted = search rules in
-    let own = judged_order c.args.limits b j order m c.judge_one-judged.ensures whole in
+    let own = judged_order c.args.limits b j order m c.requires whole in
     let here : IsWhole c.args.limits b j.order m (length b) = subst (λ (o : Order). IsWhole c.args.limits b o m (length b)) (sym own) whole in
     subst (λ (o : Order). GathersOrNot g.W.Sink.held g.W.Sink.failures (message_bytes o m) c.args.gathered.now.items c.put_turned.new.gathered.items c.args.first.now c.put_turned.new.first c.put_turned.result) wanted (c.put_turned.ensures m here)
