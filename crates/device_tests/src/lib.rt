@@ -4,38 +4,38 @@
 #[cfg(test)]
 mod captures;
 #[cfg(test)]
-mod check_reader_tests;
+mod check_readers;
 #[cfg(test)]
-mod command_tests;
+mod commands;
 #[cfg(test)]
-mod cutter_tests;
+mod cutters;
 #[cfg(test)]
-mod failure_tests;
+mod failures;
 #[cfg(test)]
 mod fault_texts;
 #[cfg(test)]
-mod growth_tests;
+mod growths;
 #[cfg(test)]
 mod help_texts;
 #[cfg(test)]
-mod limit_tests;
+mod limits;
 #[cfg(test)]
 mod narrow;
 #[cfg(test)]
-mod order_tests;
+mod orders;
 #[cfg(test)]
 mod pieces;
 #[cfg(test)]
-mod raw_reader_tests;
+mod raw_readers;
 #[cfg(test)]
-mod reader_tests;
-#[cfg(test)]
-mod run_tests;
+mod readers;
 #[cfg(test)]
 mod running;
+#[cfg(test)]
+mod runs;
 #[cfg(test)]
 mod spelling;
 #[cfg(test)]
 mod usage_texts;
 #[cfg(test)]
-mod writer_tests;
+mod writers;

@@ -1,7 +1,7 @@
 //! Runs over devices that fail: what came before is written, and the failure is told where that can be.
 
 use crate::captures::*;
-use crate::growth_tests::RUNS;
+use crate::growths::RUNS;
 use crate::running::{BY_ONE, CHECK, Device, End, SHOW, TO_BIG, assert_end, ran_words};
 use dbus_tool::ExitStatus;
 use std::process::Abort;

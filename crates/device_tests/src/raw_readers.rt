@@ -3,6 +3,7 @@
 
 use crate::captures::*;
 use crate::pieces::Pieces;
+use dbus_judge::Judged;
 use dbus_raw_reader::RawReader;
 use dbus_stream::ReadFault;
 use dbus_value::{Fault, Reason};
@@ -49,12 +50,14 @@ const NO_REPLY_SERIAL: Given = Fails(ReadFault::Format(Fault {
 // Whether a call that lends answers so, and lends this.
 fn lends<A: Allocator + Copy>(
     reader: &RawReader<Pieces, A>,
-    answer: Result<bool, ReadFault>,
+    answer: Result<Option<Judged>, ReadFault>,
     given: Given,
 ) -> bool {
     let bytes = reader.message();
     match answer {
-        Ok(lent) => lent != bytes.is_empty() && matches!(given, Gives(wanted) if wanted == bytes),
+        Ok(Some(judged)) => judged.length == bytes.len()
+            && matches!(given, Gives(wanted) if wanted == bytes),
+        Ok(None) => bytes.is_empty() && matches!(given, Gives(wanted) if wanted.is_empty()),
         Err(fault) => bytes.is_empty() && matches!(given, Fails(wanted) if wanted == fault),
     }
 }
