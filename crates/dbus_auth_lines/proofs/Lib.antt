@@ -7,3 +7,5 @@ pub mod CutterAnswers
 pub mod RoundTrips
 pub mod WordForms
 pub mod Meanings
+pub mod SameWords
+pub mod SameLines

@@ -1,17 +1,21 @@
-//! What holds of lines. None of these functions does anything: their contracts are the laws, over the
-//! definitions that the calls of the crate are specified by.
+//! What holds of lines. None of these functions does anything, beyond comparing: their contracts are the
+//! laws, over the definitions that the calls of the crate are specified by.
 //!
 //! D-Bus Specification, section "Authentication Protocol".
 
-ghost use Rattle.std.specs.Prelude.{List, ℕ, ◌≡◌, ◌≢◌, ◌++◌, ◌↔◌, Some};
+ghost use Rattle.std.specs.Prelude.{List, ℕ, ◌≡◌, ◌≢◌, ◌++◌, ◌↔◌, IsTrue, Some};
 ghost use Rattle.dbus_auth_lines.specs.Cut.{cut};
 ghost use Rattle.dbus_auth_lines.specs.FirstLine.{Beginning, Unfinished, BeginsAs, cut_of};
 ghost use Rattle.dbus_auth_lines.specs.ClientCommands.{ClientCommand};
 ghost use Rattle.dbus_auth_lines.specs.ServerCommands.{ServerCommand};
 ghost use Rattle.dbus_auth_lines.specs.Lines.{client_meaning, server_meaning};
+ghost use Rattle.dbus_auth_lines.specs.LineViews.{client_command, server_command};
 ghost use Rattle.dbus_auth_lines.specs.LineForms.{MeansToServer, MeansToClient};
 ghost use Rattle.dbus_auth_lines.specs.WrittenLines.{client_text_of, server_text_of};
 ghost use Rattle.dbus_auth_lines.specs.RoundTrip.{HasClientBytes, HasServerBytes, ReadsBack};
+
+use crate::lines::{ClientLine, ServerLine};
+use std::alloc::Allocator;
 
 /// Any bytes begin with a line, with one fault or with the front of a line, and with one of these alone. A
 /// line and a fault stand whatever follows, so they do not depend on how the bytes are cut. The scan that an
@@ -36,3 +40,17 @@ pub fn line_meaning_law()
     ensures client { (line : List ℕ) (c : ClientCommand) → MeansToServer line c ↔ (client_meaning line ≡ c) }
     ensures server { (line : List ℕ) (c : ServerCommand) → MeansToClient line c ↔ (server_meaning line ≡ c) }
 {}
+
+/// `==` of two lines of clients: they are equal exactly where they say the same.
+pub fn equal_client_lines<A: Allocator>(a: &ClientLine<A>, b: &ClientLine<A>) -> bool
+    ensures { IsTrue result ↔ (client_command a.now ≡ client_command b.now) }
+{
+    a == b
+}
+
+/// `==` of two lines of servers: they are equal exactly where they say the same.
+pub fn equal_server_lines<A: Allocator>(a: &ServerLine<A>, b: &ServerLine<A>) -> bool
+    ensures { IsTrue result ↔ (server_command a.now ≡ server_command b.now) }
+{
+    a == b
+}

@@ -11,6 +11,7 @@
 //! All is from the D-Bus Specification, section "Authentication Protocol".
 #![tactic(auto)]
 
+mod copies;
 mod cutter;
 mod guid_text;
 pub mod laws;

@@ -10,6 +10,7 @@ pub struct Guid(pub [u8; 16]);
 
 /// A line that a client sends.
 #[derive(Debug, Drop)]
+#[derive_where(PartialEq, Eq)]
 pub enum ClientLine<A: Allocator = Global> {
     /// `AUTH` alone, which asks for the server's mechanisms.
     Auth,
@@ -36,6 +37,7 @@ pub enum ClientLine<A: Allocator = Global> {
 
 /// A line that a server sends.
 #[derive(Debug, Drop)]
+#[derive_where(PartialEq, Eq)]
 pub enum ServerLine<A: Allocator = Global> {
     /// `REJECTED` and the mechanisms that the server offers.
     Rejected(Vec<Vec<u8, A>, A>),
