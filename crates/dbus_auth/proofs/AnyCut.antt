@@ -24,7 +24,7 @@ tells send x = record { said = line_sent send ++ x.said; status = x.status }
 abbrev ends_as : Status → Seen
 ends_as st = record { said = []; status = st }
 
--- after the machine's step; rest is what comes of the bytes behind the line
+-- after the machine's step; rest is what comes of the bytes after the line
 abbrev after_turn : ServerAction → Seen → Seen
 after_turn (ServerAction.Sends line) rest = tells (ended (server_line line)) rest
 after_turn ServerAction.Begins rest = ends_as status.Begun
@@ -38,7 +38,7 @@ picks s k More rest = rest s k
 picks s k (Bad f) rest = ends_as status.Closed
 picks s k (Ends n) rest = answered s (take (n - 2) k) (λ t. rest t [])
 
--- what comes of the bytes behind those that are kept
+-- what comes of the bytes after those that are kept
 goes : ServerMachine → List ℕ → List ℕ → Seen
 goes s kept [] = ends_as status.Talking
 goes s kept (b ∷ bs) = picks s (kept ++ b ∷ []) (cut (kept ++ b ∷ [])) (λ t k. goes t k bs)

@@ -81,7 +81,7 @@ at_first_is s all = fresh (record {
   unsaid = record { client = refl; server = refl };
 })
 
--- ---- what its caller sent stands behind what the client's end sent
+-- ---- what its caller sent stands after what the client's end sent
 
 record Ordered (w : World) : Type 0 where
   order : w.to_server.sent ≡ w.client_said ++ w.client_wrote

@@ -30,7 +30,7 @@ IsWire-sending wire bytes h = record { within = omega (arith, length-append wire
 drop-length-take : (n : ℕ) (q : List ℕ) → drop (length (take n q)) q ≡ drop n q
 drop-length-take n q = ap (drop (length (take n q))) (sym (take-append-drop n q)) ∙ drop_at (take n q) (drop n q) (length (take n q)) refl
 
--- a piece is taken whole behind skipped bytes
+-- a piece is taken whole after skipped bytes
 past_piece : (wire : Wire) (skipped n : ℕ) (q : List ℕ) → drop skipped (untaken wire) ≡ q → untaken (taking wire (skipped + length (take n q))) ≡ drop n q
 past_piece wire skipped n q e =
     untaken-taking wire (skipped + length (take n q)) ∙ sym (drop-drop (length (take n q)) skipped (untaken wire)) ∙ ap (drop (length (take n q))) e ∙ drop-length-take n q
@@ -41,7 +41,7 @@ past_line wire skipped t q more e f =
 
 -- ---- the server's side
 
--- the bytes still to be looked at: those kept and those untaken, behind the first byte 0
+-- the bytes still to be looked at: those kept and those untaken, after the first byte 0
 pub data Coming (e : ServerEndState) (q bytes : List ℕ) : Type 0 where
   later : e.zero_taken ≡ true → e.kept ++ q ≡ bytes → Coming e q bytes
   first : e.zero_taken ≡ false → e.kept ≡ [] → q ≡ 0 ∷ bytes → Coming e q bytes

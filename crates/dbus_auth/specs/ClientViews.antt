@@ -43,7 +43,7 @@ stage_after (External None) = stage.WaitingForData
 stage_after (External (Some n)) = stage.WaitingForOk
 stage_after (Anonymous trace) = stage.WaitingForOk
 
--- the mechanisms behind those that were tried
+-- the mechanisms after those that were tried
 abbrev pub left_of : {A : Type 0} → List (Mechanism A) → ℕ → List ClientMechanism
 left_of mechanisms tried = map client_mechanism (drop tried mechanisms)
 

@@ -21,7 +21,7 @@ pub record ClientEndState : Type 0 where
   pub kept : List ℕ
   pub status : Status
 
--- what a call of an end does: the end behind it, how many bytes it takes, and what it sends
+-- what a call of an end does: the end after it, how many bytes it takes, and what it sends
 pub record EndOutcome (E : Type 0) : Type 0 where
   pub after : E
   pub taken : ℕ

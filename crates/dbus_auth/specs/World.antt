@@ -164,10 +164,10 @@ pub record Handshake (s : ServerMachine) (mechanisms : List ClientMechanism) (w 
   pub client_began : w.server.status ≡ status.Begun → w.client.status ≡ status.Begun
   pub same_guid : w.client.status ≡ status.Begun → w.client.client.guid ≡ Some s.guid
   pub server_stands : w.client.status ≡ status.Begun → (w.server.server.state ≡ at.WaitingForBegin) ⊎ (w.server.server.state ≡ at.Begun)
-  -- nothing behind BEGIN was taken, and nothing else is left
+  -- nothing after BEGIN was taken, and nothing else is left
   pub to_server : w.server.status ≡ status.Begun → untaken w.to_server ≡ w.client_wrote
-  -- nothing behind the line of OK was taken
+  -- nothing after the line of OK was taken
   pub to_client : w.client.status ≡ status.Begun → untaken w.to_client ≡ w.server_wrote
-  -- what the client's caller sent stands behind all that its end sent
+  -- what the client's caller sent stands after all that its end sent
   pub order : w.to_server.sent ≡ w.client_said ++ w.client_wrote
   pub lines : line_ends w.client_said ≤ 2 * length mechanisms + 1

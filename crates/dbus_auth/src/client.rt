@@ -142,7 +142,7 @@ impl<A: Allocator + Copy> Client<A> {
         Ok(act)
     }
 
-    /// What the client does on a line, as the one row of its table says, and the state behind it.
+    /// What the client does on a line, as the one row of its table says, and the state after it.
     /// The state has to be one of the waiting ones.
     ///
     /// Answers `AllocError` where memory ran out. The line is lost then, and the client unchanged.

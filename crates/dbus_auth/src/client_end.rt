@@ -162,7 +162,7 @@ impl<A: Allocator + Copy> ClientEnd<A> {
     /// to be handed in again. The end must have started.
     ///
     /// A line with a fault closes the end: nothing is taken and nothing sent. An end that has begun
-    /// or is closed takes and sends nothing, so nothing behind the line of OK is taken.
+    /// or is closed takes and sends nothing, so nothing after the line of OK is taken.
     ///
     /// Answers `AllocError` where memory ran out. The end is unchanged then, and the same piece is to
     /// be handed in again whole.

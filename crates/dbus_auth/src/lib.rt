@@ -6,7 +6,7 @@
 //! [`LineCutter`] cuts them out of bytes that come in pieces; the crate `dbus_auth_lines` has them
 //! all. [`Server`] and [`Client`] are the state machines, which know no bytes. [`ServerEnd`] and
 //! [`ClientEnd`] are a machine over bytes: what a connection's owner holds until messages begin. They
-//! take nothing behind the end of the handshake, so what they leave is the first message.
+//! take nothing after the end of the handshake, so what they leave is the first message.
 //!
 //! # What a caller owes
 //!

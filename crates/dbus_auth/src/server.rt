@@ -79,7 +79,7 @@ impl Server {
         self.state
     }
 
-    /// What the server does on a line, as the one row of its table says, and the state behind it.
+    /// What the server does on a line, as the one row of its table says, and the state after it.
     /// The state has to be one of the waiting ones.
     ///
     /// Answers `AllocError` where memory ran out. The line is lost then, and the server unchanged.

@@ -91,7 +91,7 @@ impl<A: Allocator + Copy> ServerEnd<A> {
     /// Where the piece holds more, the rest is to be handed in again.
     ///
     /// A first byte other than 0 and a line with a fault close the end: nothing is taken and nothing
-    /// sent. An end that has begun or is closed takes and sends nothing, so nothing behind BEGIN is
+    /// sent. An end that has begun or is closed takes and sends nothing, so nothing after BEGIN is
     /// taken.
     ///
     /// Answers `AllocError` where memory ran out. The end is unchanged then, and the same piece is to

@@ -36,7 +36,7 @@ pub cut_line : (line more : List ℕ) → IsLine line → cut (ended line ++ mor
 cut_line line more h =
     ap (scan_from 0 false) (append_assoc line (13 ∷ 10 ∷ []) more) ∙ scan_line 0 line more h.plain (omega (arith, h.short)) ∙ ap Ends (omega arith)
 
--- ---- a front and what follows it
+-- ---- a prefix and what follows it
 
 -- a line that ends does so past this place
 abbrev pub IsAbove : Cut → ℕ → Type 0
@@ -60,7 +60,7 @@ unfolding scan_from
 scan_above at cr [] = tt
 scan_above at cr (b ∷ bs) = above_by (passes_limit at cr b) (is_bad cr b) cr at (scan_from (at + 1) (b == 13) bs) (scan_above (at + 1) (b == 13) bs)
 
--- what a front settles, stays settled, and what it disconnects open is settled behind it
+-- what a prefix settles, stays settled, and what it disconnects open is settled after it
 abbrev pub StaysSettled : Cut → Cut → ℕ → Type 0
 StaysSettled More whole size = IsAbove whole size
 StaysSettled (Ends n) whole size = (whole ≡ Ends n) × (n ≤ size)
@@ -86,7 +86,7 @@ scan-append at cr (b ∷ bs) ys =
 pub cut_follows : (k r : List ℕ) → StaysSettled (cut k) (cut (k ++ r)) (length k)
 cut_follows k r = wider (cut k) (cut (k ++ r)) (0 + length k) (length k) (omega arith) (scan-append 0 false k r)
 
--- a front of a line and more holds the whole line, or asks for more
+-- a prefix of a line and more holds the whole line, or asks for more
 front_cases : (c : Cut) (whole : Cut) (size n : ℕ) → StaysSettled c whole size → whole ≡ Ends n → (c ≡ More) ⊎ ((c ≡ Ends n) × (n ≤ size))
 front_cases More whole size n h e = inl refl
 front_cases (Ends m) whole size n h e = let same : m ≡ n = cc in inr (ap Ends same, rw (← same) h.1)
@@ -101,11 +101,11 @@ cut_front k r line more e h =
 -- ---- two ways to split one list
 
 module _ {X : Type 0} (a b k r : List X) (same : k ++ r ≡ a ++ b) where
-  -- a front that is no longer than another is its beginning
+  -- a prefix that is no longer than another is its beginning
   begins : length a ≤ length k → k ≡ a ++ drop (length a) k
   begins le = sym (ap (λ (x : List X). x ++ drop (length a) k) (sym (take_at a b (length a) refl) ∙ ap (take (length a)) (sym same) ∙ take-append-le (length a) k r le) ∙ take-append-drop (length a) k)
 
-  -- what stands behind the longer front
+  -- what stands after the longer prefix
   behind : length k ≤ length a → drop (length a - length k) r ≡ b
   behind le =
       let m : length k + (length a - length k) ≡ length a = omega arith in

@@ -9,7 +9,7 @@ use Rattle.dbus_auth_lines.specs.Cut.{TooLong, BadByte, Ends, Bad, More, passes_
 use Rattle.dbus_auth_lines.specs.FirstLine.{Beginning, WholeLine, Faulty, Unfinished, IsUnfinished, within_line, behind_cr, IsStray, IsTooLong, long_line, long_behind_cr, IsBadByte, stray, no_lf, BeginsAs, cut_of}
 use Rattle.dbus_auth_lines.proofs.Cuts.{scan-plain, scan_cons, cut_line}
 
--- ---- what the scan finds behind a line's bytes
+-- ---- what the scan finds after a line's bytes
 
 scan_over : (at : ℕ) (line rest : List ℕ) → AllByRecursion IsPlain line → at + length line ≤ 16382 → scan_from at false (line ++ rest) ≡ scan_from (at + length line) false rest
 scan_over at [] rest plain short = ap (λ n. scan_from n false rest) (sym (add-zero at))
@@ -30,7 +30,7 @@ scan_none : (at : ℕ) (cr : Bool) → scan_from at cr [] ≡ More
 unfolding scan_from
 scan_none at cr = refl
 
--- CR is no fault behind a line's bytes
+-- CR is no fault after a line's bytes
 scan_cr : (at : ℕ) (bs : List ℕ) → scan_from at false (13 ∷ bs) ≡ scan_from (at + 1) true bs
 scan_cr at bs = scan_step at false 13 bs false false false (and_right (at == 16382) false refl) refl refl
 
@@ -54,7 +54,7 @@ stray_is_bad b (inr (inr h)) = let e = h in grind (arith, nat_tests)
 no_lf_is_bad : (b : ℕ) → b ≢ 10 → is_bad true b ≡ true
 no_lf_is_bad b h = let e = h in grind (arith, nat_tests)
 
--- behind CR, CR is within the limit
+-- after CR, CR is within the limit
 cr_within : (at b : ℕ) → (at ≡ 16382 → b ≡ 13) → passes_limit at true b ≡ false
 cr_within at b h = by_place (at == 16382) refl
   where
@@ -155,7 +155,7 @@ behind_cr_by line (b ∷ bs) h = by_lf (b == 10) refl
     by_lf true e = (WholeLine line, (h, (bs, ap (λ c. line ++ 13 ∷ c ∷ bs) (eqb-true b 10 e) ∙ sym (append_assoc line (13 ∷ 10 ∷ []) bs))))
     by_lf false e = by_cr (eqb-false b 10 e) (length line == 16381) refl (b == 13) refl
 
--- by the byte behind a line's bytes, where the rest is known
+-- by the byte after a line's bytes, where the rest is known
 next_byte : (line : List ℕ) (b : ℕ) (bs : List ℕ) → IsLine line → (IsLine (line ++ b ∷ []) → HasBeginning (line ++ b ∷ bs)) → HasBeginning (line ++ b ∷ bs)
 next_byte line b bs h again = by_cr (b == 13) refl
   where

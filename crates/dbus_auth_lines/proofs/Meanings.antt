@@ -84,7 +84,7 @@ ClientRow line c = IsClientLine line c ⊎ (c ≡ client.Other)
 same_bytes : (a b : List ℕ) → bytes_eq a b ≡ true → a ≡ b
 same_bytes a b h = (bytes_eq-Decides a b).0 h
 
--- the text behind ERROR
+-- the text after ERROR
 text_behind : (line : List ℕ) → HasForm line (codes "ERROR") (arguments line) → HasText line (drop 6 line)
 text_behind line h = by_end (λ t. line ≡ codes "ERROR" ++ t → HasText line (drop 6 line)) (λ e. inl (e, ap (drop 6) e)) (λ rest e. inr (e ∙ ap (λ (x : List ℕ). codes "ERROR" ++ 32 ∷ x) (sym (ap (drop 6) e)))) h.0 (ends_word (arguments line) h.0 h.1.1) h.1.0
 

@@ -1,4 +1,4 @@
--- A scan that goes on behind bytes that are kept.
+-- A scan that goes on after bytes that are kept.
 use Rattle.std.proofs.Common.{◌≡◌, ◌⊎◌, inl, inr, ℕ, zero, suc, ◌+◌, ◌<◌, ◌≤◌, ◌==◌, Bool, true, false, cond, List, [], ◌∷◌, ◌++◌, length, get_or, refl, sym, ◌∙◌, ap, arith, add-zero, lit<, length-append}
 use Rattle.std.proofs.lemmas.Bool.{false≢true, eqb-false, cases_lt, and_right}
 use Rattle.dbus_auth_lines.specs.Cut.{Fault, TooLong, BadByte, Cut, Ends, Bad, More, passes_limit, is_bad, scan_from, cut}

@@ -1,4 +1,4 @@
--- The words that a text is read as are those that stand in it behind spaces.
+-- The words that a text is read as are those that stand in it after spaces.
 use Rattle.std.proofs.Common.{◌≡◌, ◌≢◌, ℕ, zero, suc, ◌==◌, Bool, true, false, cond, List, [], ◌∷◌, ◌++◌, length, drop, refl, sym, ◌∙◌, ap, subst, take-append-drop}
 use Rattle.std.proofs.lemmas.Bool.{ne_eqb, eqb-true, eqb-false}
 use Rattle.std.specs.List.{AllByRecursion}
@@ -48,7 +48,7 @@ words_of (w ∷ ws) text h =
     let more = h.1.1.1.1 in
     ap words h.1.1.0 ∙ words-spaced (spaces h.0 ++ (w ++ rest)) ∙ words_behind h.0 (w ++ rest) ∙ one_word w rest h.1.1.1.0 (ends_word ws rest more) ∙ ap (λ (x : List (List ℕ)). w ∷ x) (words_of ws rest more)
 
--- ---- each text behind a word is one of words
+-- ---- each text after a word is one of words
 
 -- a text that begins in a word
 record MidWord (text : List ℕ) : Type 0 where

@@ -27,7 +27,7 @@ abbrev pub cr_after : Bool → List ℕ → Bool
 cr_after cr [] = cr
 cr_after cr (b ∷ bs) = cr_after (b == 13) bs
 
--- a line ends behind what is kept, and within the piece
+-- a line ends after what is kept, and within the piece
 abbrev pub IsWithin : ℕ → ℕ → Cut → Type 0
 IsWithin had more (Ends size) = (2 ≤ size) × (had ≤ size) × (size - had ≤ more)
 IsWithin had more More = Unit {0}

@@ -1,4 +1,4 @@
--- How some bytes begin: with a line, with a fault, or with the front of a line. It says of whole lists what the scan
+-- How some bytes begin: with a line, with a fault, or with a prefix of a line. It says of whole lists what the scan
 -- of Cut.antt finds byte by byte. D-Bus Specification, "Authentication Protocol", "Protocol Overview".
 use Rattle.std.specs.Prelude.{ℕ, ◌+◌, ◌<◌, ◌≡◌, ◌≢◌, ◌⊎◌, List, [], ◌∷◌, ◌++◌, length}
 use Rattle.dbus_auth_lines.specs.Lines.{ended}
@@ -10,7 +10,7 @@ pub data Beginning : Type 0 where
   Faulty : (fault : Fault) → Beginning
   Unfinished : Beginning
 
--- the front of a line with its CR LF, and not all of it
+-- a prefix of a line with its CR LF, and not all of it
 pub data IsUnfinished (k : List ℕ) : Type 0 where
   within_line : IsLine k → IsUnfinished k
   behind_cr : (line : List ℕ) → IsLine line → k ≡ line ++ 13 ∷ [] → IsUnfinished k
@@ -24,7 +24,7 @@ pub data IsTooLong (k : List ℕ) : Type 0 where
   long_line : (line : List ℕ) (b : ℕ) (more : List ℕ) → IsLine line → length line ≡ 16382 → b ≢ 13 → k ≡ line ++ b ∷ more → IsTooLong k
   long_behind_cr : (line : List ℕ) (b : ℕ) (more : List ℕ) → IsLine line → length line ≡ 16381 → b ≢ 10 → b ≢ 13 → k ≡ line ++ 13 ∷ b ∷ more → IsTooLong k
 
--- the byte at this place is stray, or behind CR and no LF; and the line is not too long there
+-- the byte at this place is stray, or after CR and no LF; and the line is not too long there
 pub data IsBadByte (k : List ℕ) (at : ℕ) : Type 0 where
   stray : (line : List ℕ) (b : ℕ) (more : List ℕ) → IsLine line → at ≡ length line → at < 16382 → IsStray b → k ≡ line ++ b ∷ more → IsBadByte k at
   no_lf : (line : List ℕ) (b : ℕ) (more : List ℕ) → IsLine line → at ≡ length line + 1 → b ≢ 10 → (at ≡ 16382 → b ≡ 13) → k ≡ line ++ 13 ∷ b ∷ more → IsBadByte k at

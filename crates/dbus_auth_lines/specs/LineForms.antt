@@ -1,4 +1,4 @@
--- A line as its table has it: a name, and words behind it. It says of whole lines what Lines.antt computes.
+-- A line as its table has it: a name, and words after it. It says of whole lines what Lines.antt computes.
 -- D-Bus Specification, "Authentication Protocol", "Protocol Overview" and the section of each command.
 use Rattle.std.specs.Prelude.{ℕ, zero, suc, ◌≡◌, ◌≢◌, ◌⊎◌, List, [], ◌∷◌, ◌++◌, length, codes, Ok}
 use Rattle.std.specs.List.{AllByRecursion}
@@ -20,7 +20,7 @@ abbrev pub spaces : ℕ → List ℕ
 spaces zero = []
 spaces (suc n) = 32 ∷ spaces n
 
--- the text is these words, each behind one or more spaces, and any spaces behind them
+-- the text is these words, each after one or more spaces, and any spaces after them
 abbrev pub HasWords : List ℕ → List (List ℕ) → Type 0
 HasWords text [] = (n : ℕ) × (text ≡ spaces n)
 HasWords text (word ∷ words) = (n : ℕ) × ((rest : List ℕ) × ((text ≡ 32 ∷ spaces n ++ (word ++ rest)) × (IsWord word × HasWords rest words)))
@@ -33,7 +33,7 @@ HasForm line name words = (text : List ℕ) × ((line ≡ name ++ text) × HasWo
 abbrev pub HasHex : List ℕ → List ℕ → List (List ℕ) → List ℕ → Type 0
 HasHex line name words bytes = ((bytes ≡ []) × HasForm line name words) ⊎ ((digits : List ℕ) × ((decode_of digits ≡ Ok bytes) × HasForm line name (words ++ digits ∷ [])))
 
--- behind ERROR all bytes after one space are its text, whatever they are
+-- after ERROR all bytes after one space are its text, whatever they are
 abbrev pub HasText : List ℕ → List ℕ → Type 0
 HasText line text = ((line ≡ codes "ERROR") × (text ≡ [])) ⊎ (line ≡ codes "ERROR" ++ 32 ∷ text)
 

@@ -22,7 +22,7 @@ abbrev pub at_word_end : List ℕ → Bool
 at_word_end [] = true
 at_word_end (b ∷ bs) = b == 32
 
--- one more byte at the front of the first word
+-- one more byte at the start of the first word
 abbrev pub onto_first : ℕ → List (List ℕ) → List (List ℕ)
 onto_first b [] = (b ∷ []) ∷ []
 onto_first b (w ∷ ws) = (b ∷ w) ∷ ws
@@ -35,7 +35,7 @@ words (b ∷ bs) =
     else if at_word_end bs then (b ∷ []) ∷ words bs
     else onto_first b (words bs)
 
--- the words behind the command's name
+-- the words after the command's name
 unfoldable pub arguments : List ℕ → List (List ℕ)
 arguments line = words (drop (length (command_name line)) line)
 

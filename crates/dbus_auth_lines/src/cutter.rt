@@ -20,7 +20,7 @@ pub enum LineFault {
     /// nor the LF of a CR LF.
     #[error("the line has more than 16,384 bytes")]
     TooLong,
-    /// A byte that a line may not have: 0, a byte over 127, LF without CR, or a byte behind CR that
+    /// A byte that a line may not have: 0, a byte over 127, LF without CR, or a byte after CR that
     /// is not LF.
     #[error("a byte that a line may not have, at offset {at}")]
     BadByte {

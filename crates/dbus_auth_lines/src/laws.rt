@@ -17,7 +17,7 @@ ghost use Rattle.dbus_auth_lines.specs.RoundTrip.{HasClientBytes, HasServerBytes
 use crate::lines::{ClientLine, ServerLine};
 use std::alloc::Allocator;
 
-/// Any bytes begin with a line, with one fault or with the front of a line, and with one of these alone. A
+/// Any bytes begin with a line, with one fault or with a prefix of a line, and with one of these alone. A
 /// line and a fault stand whatever follows, so they do not depend on how the bytes are cut. The scan that an
 /// end of a connection is specified by finds them.
 pub fn first_line_law()
@@ -35,7 +35,7 @@ pub fn written_line_law()
 {}
 
 /// What a line means, as `read_client` and `read_server` answer it, is what the one row of the table says that has
-/// it: a name, and words behind spaces. Where no row has it, it is Other.
+/// it: a name, and words after spaces. Where no row has it, it is Other.
 pub fn line_meaning_law()
     ensures client { (line : List ℕ) (c : ClientCommand) → MeansToServer line c ↔ (client_meaning line ≡ c) }
     ensures server { (line : List ℕ) (c : ServerCommand) → MeansToClient line c ↔ (server_meaning line ≡ c) }

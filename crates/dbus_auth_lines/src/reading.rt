@@ -17,7 +17,7 @@ use std::alloc::{AllocError, Allocator};
 ///
 /// The command is what stands before the first space; words follow it, separated by one or more
 /// spaces, and spaces at the end do not count. A line with another command, with a word too many or
-/// with a word that is no hexadecimal text is `Other`, and never an error. Behind `ERROR` all bytes
+/// with a word that is no hexadecimal text is `Other`, and never an error. After `ERROR` all bytes
 /// after one space are the text, its spaces too.
 ///
 /// Answers `AllocError` where memory ran out.
@@ -43,7 +43,7 @@ pub fn read_server<A: Allocator + Copy>(alloc: A, line: &[u8]) -> Result<ServerL
     server_line_by(alloc, server_name_of(name), rest, line)
 }
 
-/// A client's line, by the command that it names and what stands behind that.
+/// A client's line, by the command that it names and what stands after that.
 fn client_line_by<A: Allocator + Copy>(
     alloc: A,
     name: ClientName,
@@ -63,7 +63,7 @@ fn client_line_by<A: Allocator + Copy>(
     }
 }
 
-/// A server's line, by the command that it names and what stands behind that.
+/// A server's line, by the command that it names and what stands after that.
 fn server_line_by<A: Allocator + Copy>(
     alloc: A,
     name: ServerName,
@@ -183,7 +183,7 @@ fn read_hex<A: Allocator + Copy>(alloc: A, word: &[u8]) -> Result<Option<Vec<u8,
     }
 }
 
-/// `AUTH`, by what stands behind it.
+/// `AUTH`, by what stands after it.
 fn read_auth<A: Allocator + Copy>(alloc: A, rest: &[u8]) -> Result<ClientLine<A>, AllocError>
     ensures { IfOk result (λ line. client_command line ≡ auth_by (words rest.now)) }
 {
@@ -209,7 +209,7 @@ fn read_auth<A: Allocator + Copy>(alloc: A, rest: &[u8]) -> Result<ClientLine<A>
     }
 }
 
-/// A client's `DATA`: the one hexadecimal word behind it, or no bytes.
+/// A client's `DATA`: the one hexadecimal word after it, or no bytes.
 fn read_data<A: Allocator + Copy>(alloc: A, rest: &[u8]) -> Result<ClientLine<A>, AllocError>
     ensures { IfOk result (λ line. client_command line ≡ client_data (words rest.now)) }
 {
@@ -225,7 +225,7 @@ fn read_data<A: Allocator + Copy>(alloc: A, rest: &[u8]) -> Result<ClientLine<A>
     }
 }
 
-/// A server's `DATA`: the one hexadecimal word behind it, or no bytes.
+/// A server's `DATA`: the one hexadecimal word after it, or no bytes.
 fn read_server_data<A: Allocator + Copy>(alloc: A, rest: &[u8]) -> Result<ServerLine<A>, AllocError>
     ensures { IfOk result (λ line. server_command line ≡ server_data (words rest.now)) }
 {
@@ -241,7 +241,7 @@ fn read_server_data<A: Allocator + Copy>(alloc: A, rest: &[u8]) -> Result<Server
     }
 }
 
-/// A copy of what stands behind `ERROR` and one space.
+/// A copy of what stands after `ERROR` and one space.
 fn text_of<A: Allocator + Copy>(alloc: A, line: &[u8]) -> Result<Vec<u8, A>, AllocError>
     ensures { IfOk result (λ text. text.items ≡ drop 6 line.now) }
 {
@@ -264,7 +264,7 @@ fn all_words<A: Allocator + Copy>(alloc: A, rest: &[u8]) -> Result<Vec<Vec<u8, A
     Ok(found)
 }
 
-/// `OK`, by what stands behind it.
+/// `OK`, by what stands after it.
 fn read_accepted<A: Allocator>(rest: &[u8]) -> ServerLine<A>
     ensures { server_command result ≡ accepted (words rest.now) }
 {

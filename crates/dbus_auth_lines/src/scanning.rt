@@ -25,7 +25,7 @@ pub enum Found {
     Ends(usize),
     /// The first fault, which stands before any line ends.
     Bad(BadLine),
-    /// Neither: the bytes are the front of a line.
+    /// Neither: the bytes are a prefix of a line.
     More,
 }
 

@@ -30,7 +30,7 @@ fn without_spaces(bytes: &[u8]) -> &[u8]
     &bytes[bytes.len()..]
 }
 
-/// The first word, and the text behind it.
+/// The first word, and the text after it.
 pub fn next_word(bytes: &[u8]) -> Option<(&[u8], &[u8])>
     ensures { MatchOption result (words bytes.now ≡ []) (λ p. words bytes.now ≡ p.0.now ∷ words p.1.now) }
 {
@@ -42,7 +42,7 @@ pub fn next_word(bytes: &[u8]) -> Option<(&[u8], &[u8])>
     Some((&start[..n], &start[n..]))
 }
 
-/// The command, and what stands behind it.
+/// The command, and what stands after it.
 pub fn split_line(line: &[u8]) -> (&[u8], &[u8])
     ensures name { result.0.now ≡ command_name line.now }
     ensures rest { words result.1.now ≡ arguments line.now }

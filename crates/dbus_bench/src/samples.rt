@@ -1,10 +1,10 @@
 //! The spellings of the values that are measured.
 use std::alloc::{AllocError, Global};
 
-// A dict entry of a STRING and a variant with a STRING, as in `a{sv}`: no padding stands in it or behind it.
+// A dict entry of a STRING and a variant with a STRING, as in `a{sv}`: no padding stands in it or after it.
 const PROPERTY: &[u8; 48] = b"\x0c\0\0\0PropertyName\0\x01s\0\x17\0\0\0value of 23 characters.\0";
 
-// A STRING, as in `as`: no padding stands behind it.
+// A STRING, as in `as`: no padding stands after it.
 const NAME: &[u8; 32] = b"\x1b\0\0\0org.example.Service.Object7\0";
 
 /// An array of so many BYTEs.
@@ -17,7 +17,7 @@ pub(crate) fn byte_array(alloc: Global, count: u32) -> Result<Vec<u8>, AllocErro
     Ok(bytes)
 }
 
-// An array of so many items, each spelled so, behind so many bytes of padding.
+// An array of so many items, each spelled so, after so many bytes of padding.
 fn array_of(alloc: Global, padding: &[u8], item: &[u8], count: u32) -> Result<Vec<u8>, AllocError> {
     let size = u32::try_from(item.len()).unwrap_or(0).saturating_mul(count);
     let mut bytes = Vec::new(alloc);

@@ -19,7 +19,7 @@ module _ (limits : Limits) (p : Pieces) (w piece : List ℕ) (bytes : IsBytes w)
   both : IsBytes (w ++ piece)
   both = IsBytes-append w piece bytes more
 
-  -- the message goes on behind the piece
+  -- the message goes on after the piece
   pub fed_partial : (n : ℕ) → Fed piece (Ok n) p (after_bytes (message_on limits 0) w) → IsLive p
       → Takes limits w piece check.Partial × Stands (record { limits = limits; pieces = p; refused = None }) (w ++ piece)
   fed_partial n fed live =

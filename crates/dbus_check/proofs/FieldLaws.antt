@@ -34,7 +34,7 @@ field_begins limits order end kept more o s =
     ∙ same_after (number order 1 end (seen_row kept.codes) p u) _ _ (λ code p u. after_after (opening (limits.depth - 2) p u) _ next))))
 
 module _ (order : Order) (end : ℕ) where
-  -- the signature's length, its text and the zero behind it
+  -- the signature's length, its text and the zero after it
   signature_is : (k : WantedText) {B : Type 0} (next : TypeTree → Reader B) (o : ℕ) (s : List ℕ) → after (wanted_signature order end k o s) next ≡ after (short_text order end k o s) (λ t. next (type_spelled t))
   unfolding wanted_signature counted_text
   signature_is k next o s =

@@ -54,7 +54,7 @@ code_again codes p n h again = ap (λ (b : Bool). cond (eqb n 0) (Some reasons.F
 pub code_new : (codes : List ℕ) (p n : ℕ) → (n ≡ 0 → ⊥) → (is_known n && has n codes) ≡ false → seen_row codes p n ≡ None
 code_new codes p n h again = ap (λ (b : Bool). cond (eqb n 0) (Some reasons.FieldCode) (cond b (Some reasons.FieldTwice) None)) again ∙ rw (ne_eqb n 0 h) refl
 
--- ---- a text behind its length
+-- ---- a text after its length
 
 module _ {Z : Type 0} (w : Z → List ℕ × ℕ) (order : Order) (end width : ℕ) (row : ℕ → ℕ → Option Reason) (k : WantedText) (o : ℕ) (s : List ℕ) where
   abbrev sized : ℕ → ℕ × ℕ
@@ -172,7 +172,7 @@ module _ (limits : Limits) (order : Order) (end : ℕ) (codes : List ℕ) (o : �
             (front_as single coded (λ a. a) (o + n) (drop n s) read code second (code, 1) refl refl)))
             (code, n + 1) refl refl
 
--- ---- behind a padding
+-- ---- after a padding
 
 module _ (order : Order) (end : ℕ) (o : ℕ) (s : List ℕ) where
   abbrev padded : ℕ → Unit {0} × ℕ

@@ -58,7 +58,7 @@ missing_is : (cs : List ℕ) (fs : List FieldTree) → missing cs (codes_of fs) 
 missing_is [] fs = refl
 missing_is (c ∷ cs) fs = ap (λ (b : Bool). cond b (missing cs (codes_of fs)) (Some (reasons.FieldMissing c))) (has_codes c fs ∙ sym (has_reversed c fs)) ∙ ap (λ (r : Option Reason). cond (has_code c (reverse fs)) r (Some (reasons.FieldMissing c))) (missing_is cs fs)
 
--- what is looked up behind one field more, in front of which there are others
+-- what is looked up after one field more, in front of which there are others
 looked_up : {A : Type 0} (b h : Bool) (here older later : A) → cond b here (cond h older later) ≡ cond (b || h) (cond b here older) later
 looked_up true h here older later = refl
 looked_up false h here older later = refl
@@ -134,7 +134,7 @@ module _ (limits : Limits) (order : Order) (end : ℕ) (before : List FieldTree)
       let f : FieldTree = record { code = code; value = x } in
       h f p u ∙ ap (λ (kept : Kept). more kept p u) (kept_more before f))))))
 
--- ---- behind the fields
+-- ---- after the fields
 
 module _ (limits : Limits) (order : Order) (kind body : ℕ) where
   abbrev finish : List FieldTree → On

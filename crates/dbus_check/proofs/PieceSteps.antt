@@ -60,7 +60,7 @@ pub whole_answers : (x : Pieces) (to : To) → (pieces.IsLive x → ⊥) → Hol
 whole_answers x to over h c =
     sym (h.same c) ∙ ap (λ (t : List ℕ). h.from (t ++ c)) (none_kept x to over h) ∙ over_ends x.progress h.from over h.denotes c
 
--- ---- behind the bytes that are kept
+-- ---- after the bytes that are kept
 
 module _ (x : Pieces) (to : To) (h : Holds x to) (piece : List ℕ) (room : ℕ) (room_is : length x.kept.items + room ≡ 288) (p : Progress) where
   abbrev given : List ℕ
@@ -99,7 +99,7 @@ module _ (x : Pieces) (to : To) (h : Holds x to) (piece : List ℕ) (room : ℕ)
         },
       )
 
-  -- they were not: the item goes on behind them
+  -- they were not: the item goes on after them
   pub join_stays : (k : ℕ) → Ran (Ok k) → (IsLive p.stage → length both < k + 288) → k < before → (y : Pieces) → y.progress ≡ p → y.kept.items ≡ drop k both → Joined piece (Ok (length given)) y to
   join_stays k runs short lt y y_is rest =
       let r = runs h.from h.denotes in

@@ -64,7 +64,7 @@ module _ (limits : Limits) (s : List ℕ) where
       sym (same (s ++ c)) ∙ ap (message_on limits 0) (split-at 16 s c) ∙ message_on_is limits 0 (take 16 s ++ (drop 16 s ++ c))
       ∙ ap (λ (r : Outcome FixedHeader). after r (behind_fixed limits)) ((lasts_fixed limits).refuses 0 (take 16 s) f h (drop 16 s ++ c))
 
--- ---- behind the fields
+-- ---- after the fields
 
 module _ (limits : Limits) (order : Order) (kind body : ℕ) (kept : Kept) where
   pub fields_over : (turns end o : ℕ) (c : List ℕ) → o ≡ end → fields_on limits order kind body turns end kept o c ≡ behind_fields limits order kind body kept o c

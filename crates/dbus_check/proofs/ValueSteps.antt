@@ -1,4 +1,4 @@
--- The values of the known fields, each behind its signature.
+-- The values of the known fields, each after its signature.
 use Rattle.std.proofs.Common.{◌≡◌, ℕ, ◌+◌, ◌-◌, ◌≤◌, List, [], ◌∷◌, drop, None, Ok, Err, refl, sym, ap, ◌∙◌}
 use Rattle.dbus_texts.specs.Types.{UINT32, SIGNATURE, TypeTree, NumberType, TextType}
 use Rattle.dbus_texts.specs.ComputedKinds.{type_spelled}
@@ -56,7 +56,7 @@ module _ {B : Type 0} (limits : Limits) (order : Order) (end : ℕ) (w : Want) (
           fronts_same view o s (Ok z) whole (seen_as g (wanted_value limits order end w)) whole_is
           (then_ok signed u view o s first_run next_run tt first y (fronts_same u (o + 3) (drop 3 s) (Ok y) inner (next_run (code ∷ [])) same h) z value_is size_is)
 
--- ---- what stands behind the signature
+-- ---- what stands after the signature
 
 module _ (limits : Limits) (order : Order) (end : ℕ) where
   abbrev room : ℕ

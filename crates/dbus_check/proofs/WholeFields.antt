@@ -10,7 +10,7 @@ use Rattle.dbus_check.specs.declared.progress.Progress.{Progress}
 use Rattle.dbus_check.specs.declared.progress.Stage.{Stage}
 use Rattle.dbus_check.specs.declared.progress.Stage.TheVariants as stage
 
--- behind a field that was passed the next is wanted
+-- after a field that was passed the next is wanted
 pub passed_moves : (old new : Progress) (s : List ℕ) (r : Result ℕ Stop) (to : To) → new.stage ≡ stage.Fields → Passes old s r new to → Moves old s r new to
 passed_moves old new s (Ok m) to at h = (h.0, subst (λ (st : Stage). denotes st new (after_bytes to (take m s))) (sym at) h.1)
 passed_moves old new s (Err stops.Memory) to at h = absurd h

@@ -24,7 +24,7 @@ pub record CheckerState : Type 0 where
 abbrev pub limits_of : CheckerState → Limits
 limits_of x = x.limits
 
--- what is noted goes on behind these bytes, or their fault stays whatever follows
+-- what is noted goes on after these bytes, or their fault stays whatever follows
 abbrev pub StandsBehind : CheckerState → List ℕ → Option Fault → Type 0
 StandsBehind x w None = Holds x.pieces (after_bytes (message_on x.limits 0) w)
 StandsBehind x w (Some f) = (c : List ℕ) → message_on x.limits 0 (w ++ c) ≡ Faulty f
@@ -40,7 +40,7 @@ taken piece check.Partial = piece
 taken piece (check.Done n) = take n piece
 taken piece (check.Refused f) = piece
 
--- what is answered to a piece behind the bytes w: the outcome of all of them under the limits
+-- what is answered to a piece after the bytes w: the outcome of all of them under the limits
 abbrev pub Takes : Limits → List ℕ → List ℕ → Check → Type 0
 Takes limits w piece check.Partial = IsPartial limits (w ++ piece)
 Takes limits w piece (check.Done n) = (n ≤ length piece) × (order : Order) × (m : MessageTree) × IsWhole limits (w ++ piece) order m (length w + n)

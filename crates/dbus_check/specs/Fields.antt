@@ -11,7 +11,7 @@ use Rattle.dbus_decode.specs.MessageItems.{name_row}
 use Rattle.dbus_decode.specs.MessageReading.{opening}
 use Rattle.dbus_check.specs.Heading.{seen_row}
 
--- its padding, its struct, its code and its variant, behind fields of these codes
+-- its padding, its struct, its code and its variant, after fields of these codes
 unfoldable pub field_code : Limits → Order → ℕ → List ℕ → Reader ℕ
 field_code limits order end codes = do
   padding 8 end
@@ -20,7 +20,7 @@ field_code limits order end codes = do
   opening (limits.depth - 2)
   pure code
 
--- a text behind its length, and the zero behind it
+-- a text after its length, and the zero after it
 unfoldable pub counted_text : Order → (end width : ℕ) → (ℕ → ℕ → Option Reason) → WantedText → Reader (List ℕ)
 counted_text order end width row k = do
   n ← number order width end row

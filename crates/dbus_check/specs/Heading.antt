@@ -20,7 +20,7 @@ abbrev pub has : ℕ → List ℕ → Bool
 has c [] = false
 has c (x ∷ xs) = nat_eq x c || has c xs
 
--- the rows of a field's code, behind fields of these codes
+-- the rows of a field's code, after fields of these codes
 abbrev pub seen_row : List ℕ → ℕ → ℕ → Option Reason
 seen_row codes p n =
     if nat_eq n 0 then Some reasons.FieldCode else if is_known n && has n codes then Some reasons.FieldTwice else None
@@ -39,7 +39,7 @@ pub record Kept : Type 0 where
 abbrev pub nothing : Kept
 nothing = record { codes = []; text = []; count = 0 }
 
--- the same behind one field more
+-- the same after one field more
 abbrev pub kept_of : Kept → ℕ → ValueTree → Kept
 kept_of kept code v = record {
   codes = code ∷ kept.codes;
@@ -52,12 +52,12 @@ abbrev pub body_on : Limits → Order → ℕ → Kept → On
 body_on limits order body kept o s =
     onward (fields (value (bounds_with limits (index_limit limits.fds kept.count)) order limits.depth (o + body)) (types_spelled kept.text)) (onward (ends (o + body)) done) o s
 
--- behind the fields
+-- after the fields
 abbrev pub behind_fields : Limits → Order → ℕ → ℕ → Kept → On
 behind_fields limits order kind body kept =
     onward (judge (missing (required kind) kept.codes)) (λ o. onward (padding 8 (o + 8)) (body_on limits order body kept) o)
 
--- behind a field's code
+-- after a field's code
 abbrev pub field_value_on : Limits → Order → ℕ → Kept → (Kept → On) → ℕ → On
 field_value_on limits order end kept more code =
     onward (opening (limits.depth - 2)) (λ o s. after (wanted_value limits order end (want code) o s) (λ v. more (kept_of kept code v)))

@@ -36,7 +36,7 @@ pub record Keeps (x : Progress) (kept : Kept) : Type 0 where
   pub no_text : has 8 kept.codes ≡ false → kept.text ≡ []
   pub no_count : has 9 kept.codes ≡ false → kept.count ≡ 0
 
--- from here on fields are wanted, or what stands behind them
+-- from here on fields are wanted, or what stands after them
 pub record WantsFields (x : Progress) (to : To) : Type 0 where
   pub kept : Kept
   pub turns : ℕ
@@ -60,7 +60,7 @@ pub record Under (x : Values) (bounds : Bounds) (order : Order) (room end : ℕ)
   pub low : start ≤ end
   pub value : (last : On) → values.Denotes x (record { last = last; to = λ c. onward (fields (value bounds order room end) types) last start (given ++ c) })
 
--- a field's value is under way, which began at the offset; behind it come fields
+-- a field's value is under way, which began at the offset; after it come fields
 pub record WantsMore (x : Progress) (to : To) : Type 0 where
   pub kept : Kept
   pub turns : ℕ

@@ -63,7 +63,7 @@ impl Checker {
     /// Takes the piece, or its bytes up to the end of the message under way. D-Bus Specification, "Message Protocol".
     ///
     /// Of all bytes that it took since it was made or began again, and the piece: `Done` where they begin with a message within
-    /// the limits, with how many bytes of the piece end it; those behind it are not looked at. `Refused` where the next item of
+    /// the limits, with how many bytes of the piece end it; those after it are not looked at. `Refused` where the next item of
     /// the message is at fault, with the fault's place, as soon as the bytes show it. `Partial` where neither holds: more bytes
     /// are wanted.
     ///

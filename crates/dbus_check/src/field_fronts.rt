@@ -31,8 +31,8 @@ use dbus_value_model::{Limits, Order, Reason, Stop, refuse};
 
 /// A field's padding and code.
 ///
-/// The faults of the padding; `FieldCode` where the code is 0; `FieldTwice` where it is known and was seen; `TooDeep` behind the
-/// padding where the field's struct may not be opened, behind the code where its variant may not.
+/// The faults of the padding; `FieldCode` where the code is 0; `FieldTwice` where it is known and was seen; `TooDeep` after the
+/// padding where the field's struct may not be opened, after the code where its variant may not.
 pub fn code_front(
     bytes: &[u8],
     offset: usize,
@@ -73,7 +73,7 @@ pub fn code_front(
 
 /// The length of a signature.
 ///
-/// `Overrun` at `offset` where the length, the text or the zero behind it ends past the end.
+/// `Overrun` at `offset` where the length, the text or the zero after it ends past the end.
 fn short_length_front(bytes: &[u8], offset: usize, end: usize) -> Result<usize, Stop>
     requires at_most { offset ≤ end }
     ensures gives { (order : Order) → Fronts (λ n. (n, 1)) offset bytes.now result (number order 1 end (text_row end)) }
@@ -117,7 +117,7 @@ fn only_text(wanted: u8, n: usize, bytes: &[u8], offset: usize) -> Result<(), St
     Ok(())
 }
 
-/// The signature of a known field's value, which is to be the one byte `wanted`: its length, its text and the zero behind it.
+/// The signature of a known field's value, which is to be the one byte `wanted`: its length, its text and the zero after it.
 pub fn only_front(wanted: u8, bytes: &[u8], offset: usize, end: usize) -> Result<(), Stop>
     requires at_most { offset ≤ end }
     requires near { end < 4294967296 }
@@ -140,7 +140,7 @@ pub fn only_front(wanted: u8, bytes: &[u8], offset: usize, end: usize) -> Result
     }
 }
 
-/// A signature of a kind, with its length and the zero behind it: how many bytes its text has.
+/// A signature of a kind, with its length and the zero after it: how many bytes its text has.
 pub fn signature_front(
     kind: TextKind,
     bytes: &[u8],
@@ -171,7 +171,7 @@ pub fn signature_front(
 
 /// The length of a name.
 ///
-/// `NameTooLong` at `offset` where it is over 255; else `Overrun` there where the name and the zero behind it end past the end.
+/// `NameTooLong` at `offset` where it is over 255; else `Overrun` there where the name and the zero after it end past the end.
 fn name_length_front(bytes: &[u8], offset: usize, end: usize, order: Order) -> Result<usize, Stop>
     requires at_most { offset ≤ end }
     ensures gives { Fronts (λ n. (n, 4)) offset bytes.now result (number order 4 end (name_row end)) }
@@ -192,7 +192,7 @@ fn name_length_front(bytes: &[u8], offset: usize, end: usize, order: Order) -> R
     Ok(n)
 }
 
-/// A name of a kind behind its padding: how many bytes its text has.
+/// A name of a kind after its padding: how many bytes its text has.
 fn name_text_front(
     kind: TextKind,
     bytes: &[u8],
@@ -221,7 +221,7 @@ fn name_text_front(
     }
 }
 
-/// A name of a kind: how many bytes it has, with its padding, its length and the zero behind it.
+/// A name of a kind: how many bytes it has, with its padding, its length and the zero after it.
 pub fn name_front(
     kind: TextKind,
     bytes: &[u8],

@@ -15,7 +15,7 @@ use dbus_value_model::{Limits, Order, Reason, Stop, refuse};
 pub(crate) enum Stage {
     /// The items that have fixed places.
     Header,
-    /// A field, or what stands behind the fields.
+    /// A field, or what stands after the fields.
     Fields,
     /// The value of a field.
     Value,

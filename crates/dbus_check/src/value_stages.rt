@@ -11,7 +11,7 @@ impl Progress {
     ghost use Rattle.dbus_check.specs.declared.progress.Stage.TheVariants.{Value, Body};
     ghost use Rattle.dbus_check.specs.Progress.{To, WantsMore, WantsBody, Steps, rank};
 
-    /// More of a field's value. Behind it the next field is wanted.
+    /// More of a field's value. After it the next field is wanted.
     pub(crate) fn more(&mut self, bytes: &[u8]) -> Result<usize, Stop>
         requires valid { (to : To) × WantsMore self.old to }
         requires stage { self.old.stage ≡ Value }

@@ -1,4 +1,4 @@
--- Subcommands and words behind them that name nothing.
+-- Subcommands and words after them that name nothing.
 use Rattle.std.proofs.Common.{◌≡◌, ℕ, List, Some, None, sym, ap, ◌∙◌, codes, slice_index, arith}
 use Rattle.clap.specs.Words.{Row, Text, first_of}
 use Rattle.dbus_value_model.specs.declared.limits.Limits.{Limits}

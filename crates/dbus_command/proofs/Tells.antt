@@ -39,7 +39,7 @@ nothing_told sub (Version text) is none = absurd is
 nothing_told sub (Usage text) is none = none
 nothing_told sub (Rule fault) is none = absurd is
 
--- and of words behind a name that are no command
+-- and of words after a name that are no command
 pub no_command_told : (name : Text) (rows : List Row) (told : UsageFault) → IsUsageOrMemory told → IsNoCommand name rows → TellsCommand name rows (Err told)
 no_command_told name rows Memory is none = tt
 no_command_told name rows (Help text) is none = absurd is
@@ -55,7 +55,7 @@ no_limits_told rows (Version text) is none = absurd is
 no_limits_told rows (Usage text) is none = none
 no_limits_told rows (Rule fault) is none = absurd is
 
--- and of a command behind such options
+-- and of a command after such options
 pub told_without_limits : (sub : Text × List Row) (told : UsageFault) → TellsLimits sub.1 (Err told) → Tells (Some sub) (Err told)
 told_without_limits sub Memory h = tt
 told_without_limits sub (Help text) h = h
@@ -63,7 +63,7 @@ told_without_limits sub (Version text) h = h
 told_without_limits sub (Usage text) h = unlimited_names_nothing sub h
 told_without_limits sub (Rule fault) h = absurd h
 
--- what is told of the words behind a name, where they name limits
+-- what is told of the words after a name, where they name limits
 pub told_under_limits : (sub : Text × List Row) (limits : Limits) (told : UsageFault) → HasLimits sub.1 limits → TellsCommand sub.0 sub.1 (Err told)
     → Tells (Some sub) (Err told)
 told_under_limits sub limits Memory given h = tt

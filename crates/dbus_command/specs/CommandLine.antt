@@ -55,7 +55,7 @@ pub record IsLocal (app : App) (command : Command) : Type 0 where
   pub app_is : app_of command ≡ app
   pub local : (out-Command command).has_globals ≡ false
 
--- the command has the options for limits behind its own, and nothing else is new
+-- the command has the options for limits after its own, and nothing else is new
 pub record TakesLimits (old new : Command) : Type 0 where
   pub app_is : app_of new ≡ with_limits (app_of old)
   pub as_local : (out-Command new).has_globals ≡ (out-Command old).has_globals

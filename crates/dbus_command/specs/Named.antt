@@ -27,20 +27,20 @@ abbrev pub IsOrderOf : Text → Option Order → Type 0
 IsOrderOf word (Some order) = word ≡ order_word order
 IsOrderOf word None = (order : Order) → word ≡ order_word order → ⊥
 
--- the words behind `filter` have a text that spells the rule
+-- the words after `filter` have a text that spells the rule
 pub record IsRuleGiven (rows : List Row) (rule : Rule Global) : Type 0 where
   pub text : Text
   pub given : first_of (codes "rule") rows ≡ Some text
   pub spelled : SpellsRule text (rule_pairs rule)
 
--- the name of a subcommand and the words behind it name the command
+-- the name of a subcommand and the words after it name the command
 abbrev pub NamesCommand : Text → List Row → Command → Type 0
 NamesCommand name rows Show = name ≡ codes "show"
 NamesCommand name rows Check = name ≡ codes "check"
 NamesCommand name rows (Swap order) = (name ≡ codes "swap") × (first_of (codes "to") rows ≡ Some (order_word order))
 NamesCommand name rows (Filter rule) = (name ≡ codes "filter") × IsRuleGiven rows rule
 
--- the subcommand and the words behind it name the command and its limits
+-- the subcommand and the words after it name the command and its limits
 abbrev pub Names : Option (Text × List Row) → Command → Limits → Type 0
 Names None command limits = ⊥
 Names (Some sub) command limits = NamesCommand sub.0 sub.1 command × HasLimits sub.1 limits
@@ -49,7 +49,7 @@ Names (Some sub) command limits = NamesCommand sub.0 sub.1 command × HasLimits 
 abbrev pub IsNamedBy : List Text → Command × Limits → Type 0
 IsNamedBy words named = Names (subcommand_of wire_app words) named.0 named.1
 
--- the words behind `filter` have a text with this fault at this place
+-- the words after `filter` have a text with this fault at this place
 pub record HasFaultAt (name : Text) (rows : List Row) (reason : RuleReason) (at : ℕ) : Type 0 where
   pub named : name ≡ codes "filter"
   pub text : Text
@@ -61,7 +61,7 @@ abbrev pub HasFault : Text → List Row → RuleFault → Type 0
 HasFault name rows Memory = ⊥
 HasFault name rows (Bad at reason) = HasFaultAt name rows reason at
 
--- the same, behind options that name limits
+-- the same, after options that name limits
 abbrev pub HasRuleFault : Option (Text × List Row) → RuleFault → Type 0
 HasRuleFault None fault = ⊥
 HasRuleFault (Some sub) fault = HasFault sub.0 sub.1 fault × ((limits : Limits) × HasLimits sub.1 limits)

@@ -28,7 +28,7 @@ IsUsageOrMemory (Version text) = ⊥
 IsUsageOrMemory (Usage text) = Unit {0}
 IsUsageOrMemory (Rule fault) = ⊥
 
--- the name of a subcommand and the words behind it name no command, and no rule's text that has a fault
+-- the name of a subcommand and the words after it name no command, and no rule's text that has a fault
 pub record IsNoCommand (name : Text) (rows : List Row) : Type 0 where
   pub no_command : (command : Command) → NamesCommand name rows command → ⊥
   pub no_fault : (fault : RuleFault) → HasFault name rows fault → ⊥
@@ -42,12 +42,12 @@ TellsCommand name rows (Err (Version text)) = ⊥
 TellsCommand name rows (Err (Usage text)) = IsNoCommand name rows
 TellsCommand name rows (Err (Rule fault)) = HasFault name rows fault
 
--- the subcommand and the words behind it name no command with its limits, and no rule's text that has a fault
+-- the subcommand and the words after it name no command with its limits, and no rule's text that has a fault
 pub record NamesNothing (sub : Option (Text × List Row)) : Type 0 where
   pub no_command : (command : Command) (limits : Limits) → Names sub command limits → ⊥
   pub no_rule : (fault : RuleFault) → HasRuleFault sub fault → ⊥
 
--- the command and the limits that the subcommand and the words behind it name; else the fault of the rule's text; else a
+-- the command and the limits that the subcommand and the words after it name; else the fault of the rule's text; else a
 -- fault of usage
 abbrev pub Tells : Option (Text × List Row) → Result (Command × Limits) UsageFault → Type 0
 Tells sub (Ok named) = Names sub named.0 named.1

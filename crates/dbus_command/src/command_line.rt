@@ -48,7 +48,7 @@ fn command_named(alloc: Global, matches: &ArgMatches) -> Result<(Command, Limits
     Ok((command, limits))
 }
 
-// The command of this name, with what stands behind it.
+// The command of this name, with what stands after it.
 fn command_behind(alloc: Global, name: &str, inner: &ArgMatches) -> Result<Command, UsageFault>
     ensures { TellsCommand name.now (rows_of (found_of inner.now)) result }
 {

@@ -1,6 +1,6 @@
 //! The texts of help.
 
-// What stands behind the help of a command: what it reads, what it writes, how it ends, and an example.
+// What stands after the help of a command: what it reads, what it writes, how it ends, and an example.
 macro_rules! more {
     ($output:literal, $example:literal) => {
         concat!(
@@ -32,7 +32,7 @@ pub(crate) const VERSION: &str = "0.1.0";
 pub(crate) const PROGRAM: &str =
     "Reads D-Bus messages from standard input, and shows, checks, swaps or filters them";
 
-/// What stands behind the program's help.
+/// What stands after the program's help.
 pub(crate) const PROGRAM_MORE: &str = more!(
     "
   What the command makes of the messages, on standard output. Of an input that
@@ -47,7 +47,7 @@ pub(crate) const PROGRAM_MORE: &str = more!(
 /// What `show` does.
 pub(crate) const SHOW: &str = "Writes each message as text";
 
-/// What stands behind the help of `show`.
+/// What stands after the help of `show`.
 pub(crate) const SHOW_MORE: &str = more!(
     "
   For each message a line on standard output with its number from 1, byte order,
@@ -60,7 +60,7 @@ pub(crate) const SHOW_MORE: &str = more!(
 /// What `check` does.
 pub(crate) const CHECK: &str = "Tells whether the input is messages, and how many";
 
-/// What stands behind the help of `check`.
+/// What stands after the help of `check`.
 pub(crate) const CHECK_MORE: &str = more!(
     "
   One line on standard output: `ok N messages B bytes`, or `refused at P: NAME`
@@ -72,7 +72,7 @@ pub(crate) const CHECK_MORE: &str = more!(
 /// What `swap` does.
 pub(crate) const SWAP: &str = "Writes each message in one byte order";
 
-/// What stands behind the help of `swap`.
+/// What stands after the help of `swap`.
 pub(crate) const SWAP_MORE: &str = more!(
     "
   The raw messages on standard output, each in the byte order that is named.
@@ -87,7 +87,7 @@ pub(crate) const ORDER: &str = "The byte order: l is little-endian, B is big-end
 /// What `filter` does.
 pub(crate) const FILTER: &str = "Writes the messages that match a rule, as they came";
 
-/// What stands behind the help of `filter`.
+/// What stands after the help of `filter`.
 pub(crate) const FILTER_MORE: &str = more!(
     "
   The raw messages that match, on standard output, each as it came.

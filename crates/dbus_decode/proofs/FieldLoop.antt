@@ -20,7 +20,7 @@ module _ {A : Type 0} (part : List A → Reader A) (end : ℕ) where
   front_more front v (Faulty f) = refl
   front_more front v Partial = refl
 
-  -- a part is read: what is left is read behind it
+  -- a part is read: what is left is read after it
   pub goes_on : (front : List A) (turns rest : ℕ) (o : ℕ) (s : List ℕ) (v : A) (q : ℕ) (r : List ℕ) → turns ≡ suc rest → o < end → part (reverse front) o s ≡ Done v q r
       → with_front front (up_to turns end part (reverse front) o s) ≡ with_front (front ++ v ∷ []) (up_to rest end part (reverse (front ++ v ∷ [])) q r)
   goes_on front turns rest o s v q r more on e =

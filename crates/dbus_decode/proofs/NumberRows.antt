@@ -1,4 +1,4 @@
--- A number's own row, looked at behind the number.
+-- A number's own row, looked at after the number.
 use Rattle.std.proofs.Common.{◌≡◌, ℕ, ◌+◌, List, length, take, drop, Bool, true, false, cond, ltb, Option, Some, None, refl, ap, ◌∙◌}
 use Rattle.dbus_value_model.specs.declared.order.Order.{Order}
 use Rattle.dbus_value_model.specs.declared.fault.Reason.{Reason}
@@ -50,7 +50,7 @@ module _ (order : Order) (w end : ℕ) (row : ℕ → ℕ → Option Reason) (o 
   unfolding number
   row_stops e h = stopped row e (ltb end (o + w)) (ltb (length s) w) (number_of order (take w s)) o (o + w) (drop w s) h
 
--- the same where the place behind the number is known
+-- the same where the place after the number is known
 module _ (order : Order) (w end : ℕ) (row : ℕ → ℕ → Option Reason) (o : ℕ) (bytes : List ℕ) (n p q : ℕ) where
   pub row_passed_at : number order w end no_row o (drop o bytes) ≡ Done n q (drop q bytes) → q ≡ p → row p n ≡ None → number order w end row o (drop o bytes) ≡ Done n p (drop p bytes)
   row_passed_at e at h = row_passed order w end row o (drop o bytes) n p (drop p bytes) (e ∙ ap (λ (k : ℕ). Done n k (drop k bytes)) at) h

@@ -56,7 +56,7 @@ split_at : (x : ℕ) (a b c d e f g k u : List ℕ) → f ≡ g ++ k → x ∷ (
 split_at x a b c d e f g k u is = ap (λ (t : List ℕ). x ∷ (a ++ (b ++ (c ++ (d ++ (e ++ t)))))) (ap (λ (t : List ℕ). t ++ u) is ∙ append_assoc g k u)
 
 module _ (order : Order) (m : MessageTree) where
-  -- the bytes, one part behind another
+  -- the bytes, one part after another
   message_parts : (r : List ℕ) → message_bytes order m ++ r ≡ order_byte order ∷ (num order 1 m.kind ++ (num order 1 m.flags ++ (num order 1 1
       ++ (num order 4 (body_length order m) ++ (num order 4 m.serial ++ (num order 4 (length (field_bytes order m.fields)) ++ (field_bytes order m.fields
       ++ (pad 8 (fields_end order m.fields) ++ (body_bytes order m ++ r)))))))))
@@ -118,7 +118,7 @@ built limits order room kind flags serial body n p fs ts xs s1 s2 s3 s4 s5 s6 s7
       omega (arith, whole_len, spelled.place),
     )
 
--- a message and the bytes behind it
+-- a message and the bytes after it
 abbrev IsFront : Limits → List ℕ → Order × MessageTree → ℕ → List ℕ → Type 0
 IsFront limits s y q r = IsMessage limits y.0 y.1 × (s ≡ message_bytes y.0 y.1 ++ r) × (q ≡ length (message_bytes y.0 y.1))
 
@@ -174,7 +174,7 @@ gap_small : (a o : ℕ) → 0 < a → gap_to a o < a
 unfolding gap_to
 gap_small a o h = omega arith
 
--- the items pass, where the parts of a message stand one behind another
+-- the items pass, where the parts of a message stand one after another
 taken : (limits : Limits) (order : Order) (room kind flags serial body n : ℕ) (fs : List FieldTree) (xs : ValueTrees) (s1 s2 s3 s4 s5 s6 s7 s8 s9 r s : List ℕ)
     → limits.depth ≡ suc room
     → s ≡ order_byte order ∷ s1

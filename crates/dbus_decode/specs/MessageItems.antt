@@ -76,7 +76,7 @@ field_items bounds order room end before = do
   x ← value_wanted bounds order inner end (want code) held
   pure (record { code = code; value = x })
 
--- a field is passed where it is spelled, whole, and is one behind those before it
+-- a field is passed where it is spelled, whole, and is one after those before it
 abbrev pub field : Bounds → Order → ℕ → ℕ → List FieldTree → Item FieldTree
 field bounds order room end before = record {
   Passed = λ o s f q r. Spelled bounds order room end field_type o s (field_struct f) q r × IsField before f;
@@ -104,7 +104,7 @@ body_items bounds order room ts end = do
   ends end
   pure xs
 
--- In the first 16 bytes and in the padding behind the fields there is no end: 16 and 8 are far enough.
+-- In the first 16 bytes and in the padding after the fields there is no end: 16 and 8 are far enough.
 abbrev pub message_items : Limits → Item (Order × MessageTree)
 message_items limits = do
   order ← byte_order

@@ -11,7 +11,7 @@ use Rattle.dbus_decode.specs.MessageItems.{not_zero_row, version_row, fields_row
 use Rattle.dbus_decode.specs.MessageOutcomes.{IsRefused, IsPartial}
 
 -- the order, the type, the flags, the version, the body's length, the serial and the fields' length; and by these the message's:
--- sixteen bytes, the fields, the padding behind them and the body
+-- sixteen bytes, the fields, the padding after them and the body
 abbrev pub stated_items : Limits → Item ℕ
 stated_items limits = do
   order ← byte_order

@@ -14,7 +14,7 @@ pub enum Answer<A: Allocator = Global> {
         order: Order,
         /// The message.
         message: Message<A>,
-        /// How many bytes it has. Those behind it were not looked at.
+        /// How many bytes it has. Those after it were not looked at.
         used: usize,
     },
     /// Neither a message nor a fault: more bytes are wanted.

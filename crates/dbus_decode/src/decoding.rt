@@ -28,7 +28,7 @@ use dbus_unmarshal::items::read_padding;
 use dbus_value_model::{Limits, Order, Reason, Refusal, Stop, refuse};
 use std::alloc::{AllocError, Allocator};
 
-/// That no required field is missing, at the place behind the fields: `FieldMissing` with the lowest code that is. D-Bus
+/// That no required field is missing, at the place after the fields: `FieldMissing` with the lowest code that is. D-Bus
 /// Specification, "Header Fields".
 fn check_required<A: Allocator>(kind: u8, fields: &[HeaderField<A>], at: usize) -> Result<(), Stop>
     ensures { (bytes : List ℕ) → Gives (λ _. (tt, at)) bytes result (judge (lacks (required kind) (field_trees fields.now)) at (drop at bytes)) }
@@ -53,7 +53,7 @@ fn body_types<A: Allocator + Copy>(
     Ok(types)
 }
 
-/// The message that the bytes begin with, its order and the place behind it.
+/// The message that the bytes begin with, its order and the place after it.
 #[tactic(auto, unfolding(crate::specs::HeaderReading::message_read))]
 fn read_message<A: Allocator + Copy>(
     alloc: A,
@@ -93,14 +93,14 @@ pub fn decode<A: Allocator + Copy>(alloc: A, bytes: &[u8]) -> Result<Answer<A>, 
 
 /// Decodes the message that the bytes begin with, under limits. D-Bus Specification, "Message Protocol".
 ///
-/// `Whole` where they do: `used` is how many bytes it has, and those behind it are not looked at. `Partial` where they
+/// `Whole` where they do: `used` is how many bytes it has, and those after it are not looked at. `Partial` where they
 /// neither do nor are refused: more bytes are wanted. `Format` where the next item of the message is at fault, with the
 /// fault's place, as soon as the bytes that are there show it. `Memory` only where a growth was refused. An array of BYTE
 /// comes as `Bytes`, in the values of fields and of the body, also within others.
 ///
 /// Of the limits: `MessageTooLong` at 12 where the header states more bytes than the limits' message, `ArrayTooLong` at its
 /// length where an array has more than their array (the field array at 12), and `TooDeep` where a container is opened while
-/// their depth are open: at 12 for the field array, behind a field's padding for its struct, behind its code for its variant.
+/// their depth are open: at 12 for the field array, after a field's padding for its struct, after its code for its variant.
 /// Where their rule on descriptors is `BelowCount`: `FdIndex` at an index in the body that is not below the number of the
 /// UNIX_FDS field, which is 0 where there is none. Indexes in header fields are not looked at.
 pub fn decode_within<A: Allocator + Copy>(

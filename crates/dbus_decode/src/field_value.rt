@@ -33,7 +33,7 @@ pub const NAME_LIMIT: u32 = 255;
 /// How many containers are open around a field's value: the field array, the field and its variant.
 pub const FIELD_DEPTH: u8 = 3;
 
-/// A value of the type that is wanted, under limits, with so many containers open around it, and the place behind it. Where
+/// A value of the type that is wanted, under limits, with so many containers open around it, and the place after it. Where
 /// `fds` is given, every index of a descriptor in it is below that.
 pub fn read_value<A: Allocator + Copy>(
     alloc: A,
@@ -59,7 +59,7 @@ pub fn read_value<A: Allocator + Copy>(
     dbus_unmarshal::read_value(alloc, bytes, at, end, order, wanted, room, bounds)
 }
 
-/// The one signature that a known field has, in its variant. Gives the place behind it.
+/// The one signature that a known field has, in its variant. Gives the place after it.
 #[tactic(auto, unfolding(crate::specs::HeaderReading::wanted_signature))]
 fn read_wanted(bytes: &[u8], at: usize, end: usize, wanted: &[u8]) -> Result<usize, Stop>
     requires at_most { at ≤ end }
@@ -72,7 +72,7 @@ fn read_wanted(bytes: &[u8], at: usize, end: usize, wanted: &[u8]) -> Result<usi
     read_nul(bytes, behind)
 }
 
-/// The length of a name: `NameTooLong` where it is over 255, else `Overrun` where the name and the zero behind it end past
+/// The length of a name: `NameTooLong` where it is over 255, else `Overrun` where the name and the zero after it end past
 /// the end.
 fn read_name_length(
     bytes: &[u8],

@@ -15,7 +15,7 @@ use dbus_types::SigType;
 use dbus_value_model::{Limits, Order, Reason, Stop, Value, refuse};
 use std::alloc::Allocator;
 
-/// A value for each of the types, up to the body's end, and the place behind them: `Trailing` where the end is not reached.
+/// A value for each of the types, up to the body's end, and the place after them: `Trailing` where the end is not reached.
 /// Where `fds` is given, every index of a descriptor is below it, else `FdIndex`.
 /// D-Bus Specification, "Message Format".
 pub fn read_body<A: Allocator + Copy>(

@@ -22,7 +22,7 @@ use std::alloc::Allocator;
 /// For how many fields room is made at the start: most messages have no more.
 const FIELD_ROOM: usize = 8;
 
-/// The code of a field behind others: `FieldCode` where it is 0, `FieldTwice` where it is known and stands among them.
+/// The code of a field after others: `FieldCode` where it is 0, `FieldTwice` where it is known and stands among them.
 fn read_code<A: Allocator>(
     bytes: &[u8],
     at: usize,
@@ -44,7 +44,7 @@ fn read_code<A: Allocator>(
     Ok((code, next))
 }
 
-/// A field behind others, and the place behind it: a struct of its code and a variant, within the field array. `TooDeep` where
+/// A field after others, and the place after it: a struct of its code and a variant, within the field array. `TooDeep` where
 /// one of these may not be opened. D-Bus Specification, "Header Fields".
 #[tactic(auto, unfolding(crate::specs::HeaderReading::field_read))]
 fn read_field<A: Allocator + Copy>(
@@ -71,7 +71,7 @@ fn read_field<A: Allocator + Copy>(
     Ok((HeaderField { code, value }, next))
 }
 
-/// The fields whose array has so many bytes, and the place behind them.
+/// The fields whose array has so many bytes, and the place after them.
 pub fn read_fields<A: Allocator + Copy>(
     alloc: A,
     bytes: &[u8],

@@ -9,7 +9,7 @@ ghost use Rattle.dbus_decode.specs.StatedLengths.{Stated};
 use crate::fixed_header::read_fixed_header;
 use dbus_value_model::{Fault, Limits, Stop, padding_length};
 
-/// How many bytes tell how many a message has: those of its header in front of the contents of the field array. No message
+/// How many bytes tell how many a message has: those of its header before the contents of the field array. No message
 /// has fewer. D-Bus Specification, "Message Format".
 pub const FIXED_HEADER_LENGTH: usize = 16;
 
@@ -23,7 +23,7 @@ pub fn stated_length(bytes: &[u8]) -> Result<Option<u64>, Fault>
 }
 
 /// How many bytes the message has that the bytes begin with, under limits, as soon as 16 of them tell it: those 16, the header
-/// fields, the padding behind them to a multiple of 8, and the body. D-Bus Specification, "Message Format".
+/// fields, the padding after them to a multiple of 8, and the body. D-Bus Specification, "Message Format".
 ///
 /// `Ok(Some(n))` where the first 16 bytes are there and none of their items is at fault: whatever follows, a message that
 /// begins with them has exactly n bytes, from 16 to the limits' message, so that `decode_within` gives none out of fewer. The

@@ -53,7 +53,7 @@ fn write_field<A: Allocator>(out: &mut Vec<u8, A>, order: Order, field: &HeaderF
     write_value(out, order, &field.value);
 }
 
-/// Appends fields one behind the other.
+/// Appends fields one after the other.
 fn write_fields<A: Allocator>(out: &mut Vec<u8, A>, order: Order, fields: &[HeaderField<A>])
     requires space { length (with_values order (value_trees (map field_struct (field_trees fields.now))) out.old.items) ≤ vec_capacity out.old }
     requires fits { length (with_values order (value_trees (map field_struct (field_trees fields.now))) out.old.items) < 2 ^ 32 }
@@ -66,7 +66,7 @@ fn write_fields<A: Allocator>(out: &mut Vec<u8, A>, order: Order, fields: &[Head
     }
 }
 
-/// Appends values one behind the other.
+/// Appends values one after the other.
 fn write_body<A: Allocator>(out: &mut Vec<u8, A>, order: Order, values: &[Value<A>])
     requires space { length (with_values order (value_trees_of values.now) out.old.items) ≤ vec_capacity out.old }
     requires fits { length (with_values order (value_trees_of values.now) out.old.items) < 2 ^ 32 }

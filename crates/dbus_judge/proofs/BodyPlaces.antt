@@ -24,13 +24,13 @@ fields_length bounds order room end (f ∷ fs) before o s q r h =
     let moved : length (spellings order h.0 others) ≡ length (spellings order (o + length one) others) = ap (λ (u : ℕ). length (spellings order u others)) place in
     omega (arith, place, rest, moved, length-append one (spellings order (o + length one) others))
 
--- behind the padding that follows the fields
+-- after the padding that follows the fields
 pub body_begins : (bounds : Bounds) (order : Order) (room n start : ℕ) (fs : List FieldTree) (s r : List ℕ) → Sequence (field bounds order room (16 + n)) [] fs 16 s (16 + n) r → start ≡ 16 + n + gap_to 8 (16 + n) → body_start order fs ≡ start
 body_begins bounds order room n start fs s r all is =
     let ends : fields_end order fs ≡ 16 + n = omega (arith, fields_end_is order fs, fields_length bounds order room (16 + n) fs [] 16 s (16 + n) r all) in
     ap (λ (u : ℕ). u + gap_to 8 u) ends ∙ sym is
 
--- the bytes in front of the body
+-- the bytes before the body
 abbrev header_bytes : Order → MessageTree → List ℕ
 header_bytes order m =
     order_byte order ∷ (num order 1 m.kind ++ (num order 1 m.flags ++ (num order 1 1

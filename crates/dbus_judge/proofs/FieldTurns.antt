@@ -14,7 +14,7 @@ use Rattle.dbus_judge.specs.Held.{IsNoted, IsHeldField}
 use Rattle.dbus_judge.specs.Seen.{AreNoted}
 
 module _ (limits : Limits) (order : Order) (bytes : List ℕ) (at n : ℕ) where
-  -- these fields were read up to a place and noted, and what is read from there on, in so many turns, comes behind them
+  -- these fields were read up to a place and noted, and what is read from there on, in so many turns, comes after them
   pub record Left (turns place : ℕ) (seen : Seen) : Type 0 where
     pub front : List FieldTree
     pub noted : AreNoted front bytes seen

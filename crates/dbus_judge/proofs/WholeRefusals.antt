@@ -84,7 +84,7 @@ module _ (limits : Limits) (bytes : List ℕ) (are : IsBytes bytes) where
             (not_second (judge (lacks (required h.kind) fs) ends (drop ends bytes)) _ tt ends (drop ends bytes) (judge_passes (lacks (required h.kind) fs) ends (drop ends bytes) none)
             (not_first (padding 8 (ends + 8) ends (drop ends bytes)) _ unread))))
 
-        -- the bytes end behind the padding, or before its end
+        -- the bytes end after the padding, or before its end
         pub no_padding : IsNotRead (padding 8 (length bytes) ends (drop ends bytes)) → BeginsWithNone limits bytes
         no_padding unread = elim (cases_lt (length bytes) (ends + gap_to 8 ends)) [
           | inl short ↦ too_short (omega (arith, short))

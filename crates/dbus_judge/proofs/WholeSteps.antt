@@ -28,9 +28,9 @@ use Rattle.dbus_judge.specs.Judging.{IsJudged}
 use Rattle.dbus_judge.specs.Seen.{AreNoted}
 use Rattle.dbus_judge.proofs.BodyPlaces.{body_begins, body_there}
 
--- ---- the padding behind the fields
+-- ---- the padding after the fields
 
--- the bytes may go on behind it
+-- the bytes may go on after it
 pub padded_to : (end o q : ℕ) (bytes : List ℕ) → q ≡ o + gap_to 8 o → q ≤ end → padding 8 end o (drop o bytes) ≡ Done tt q (drop q bytes) → padding 8 (o + 8) o (drop o bytes) ≡ Done tt q (drop q bytes)
 unfolding gap_to
 padded_to end o q bytes is le read =
@@ -38,7 +38,7 @@ padded_to end o q bytes is le read =
 
 -- ---- the fields
 
--- fields that were read passed, one behind another
+-- fields that were read passed, one after another
 pub in_sequence : (limits : Limits) (order : Order) (n o : ℕ) (s : List ℕ) (fs : List FieldTree) (q : ℕ) (r : List ℕ) → 0 < limits.depth → IsBytes s → fields_read limits order n o s ≡ Done fs q r
     → Sequence (field (bounds_of limits) order (limits.depth - 1) (o + n)) [] fs o s q r
 in_sequence limits order n o s fs q r opened are e =

@@ -21,7 +21,7 @@ abbrev pub IsHeld : Limits → Order → (end : ℕ) → Want → (at : ℕ) →
 IsHeld limits order end w at bytes h =
     (v : ValueTree) × (wanted_value limits order end w at (drop at bytes) ≡ Done v h.after (drop h.after bytes)) × IsNoted w v bytes h
 
--- a field of a code, behind those before it, is read whole, and its value is noted
+-- a field of a code, after those before it, is read whole, and its value is noted
 abbrev pub IsHeldField : Limits → Order → (end : ℕ) → (before : List FieldTree) → (at : ℕ) → List ℕ → (code : ℕ) → Held → Type 0
 IsHeldField limits order end before at bytes code h =
     (v : ValueTree) × (field_read limits order end before at (drop at bytes) ≡ Done (record { code = code; value = v }) h.after (drop h.after bytes)) × IsNoted (want code) v bytes h

@@ -15,7 +15,7 @@ join_around old s n1 n2 n3 a b e d f =
 pub join_two : (old s t n1 n2 n3 n4 : List ℕ) (a b : ℕ) → n1 ≡ old ++ a ∷ [] → n2 ≡ n1 ++ s → n3 ≡ n2 ++ t → n4 ≡ n3 ++ b ∷ [] → n4 ≡ old ++ (a ∷ (s ++ (t ++ b ∷ [])))
 join_two old s t n1 n2 n3 n4 a b e d h f = join_around old (s ++ t) n1 n3 n4 a b e (join_assoc n1 s t n2 n3 d h) f ∙ ap (λ (l : List ℕ). old ++ (a ∷ l)) (append_assoc s t (b ∷ []))
 
--- in a loop: rest is what is left to be written behind now, and begins with s
+-- in a loop: rest is what is left to be written after now, and begins with s
 pub first_fits : (now s rest part old all : List ℕ) (low cap : ℕ) → now ++ rest ≡ old ++ all → rest ≡ s ++ part → length old + length all ≤ low → low ≤ cap → length now + length s ≤ cap
 first_fits now s rest part old all low cap so_far more space room =
     let whole = sym (length-append now rest) ∙ ap length so_far ∙ length-append old all in

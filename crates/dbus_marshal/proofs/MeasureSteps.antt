@@ -1,4 +1,4 @@
--- Measures, level by level and one value behind the other.
+-- Measures, level by level and one value after the other.
 use Rattle.std.proofs.Common.{◌≡◌, ℕ, Bool, cond, ◌+◌, ◌-◌, ◌%◌, ◌<◌, ◌≤◌, List, [], ◌∷◌, length, get_or, drop, Vec, Box, String, Option, Some, None, refl, sym, ap, subst, ◌∙◌, arith}
 use Rattle.std.proofs.lemmas.List.{drop_more, drop_all}
 use Rattle.std.proofs.Math.Decide.{dec_lt}
@@ -341,7 +341,7 @@ module _ (limits : Limits) where
   pub measured-end : {A : Type 0} (vs : List (Value A)) (i at : ℕ) → length vs ≤ i → IsCapped at → AreMeasured limits.array (value_trees_of (drop i vs)) at (Some at)
   measured-end {A} vs i at le low = subst (λ (l : List (Value A)). AreMeasured limits.array (value_trees_of l) at (Some at)) (sym (drop_all i vs le)) (measured-none at low)
 
-  -- a step behind another
+  -- a step after another
   pub number-steps : (at g w p end : ℕ) → p ≡ capped (at + g) → end ≡ capped (p + w) → end ≡ capped (at + (g + w))
   number-steps at g w p end is ends = ends ∙ onward-from (at + g) p w w (capped (p + w)) (sym is) refl refl ∙ ap capped (let e : at + g + w ≡ at + (g + w) = omega arith in e)
 

@@ -34,7 +34,7 @@ module _ (limits : Limits) where
   past_more None e d le h = h
   past_more (Some x) e d le h = omega arith
 
-  -- what stops a front stops the whole
+  -- what stops a prefix stops the whole
   stops_more : (b : Option ℕ) (f : ValueFault) (e d : ℕ) (K L : Type 0) → e ≤ d → (L → K) → Stops limits b f e K → Stops limits b f d L
   stops_more b Memory e d K L le back h = h
   stops_more b TooDeep e d K L le back h = h

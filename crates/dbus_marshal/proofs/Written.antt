@@ -1,4 +1,4 @@
--- What is written one behind the other.
+-- What is written one after the other.
 use Rattle.std.proofs.Common.{◌≡◌, ℕ, zero, suc, ◌+◌, ◌-◌, ◌%◌, ◌≤◌, ◌<◌, List, [], ◌∷◌, ◌++◌, length, replicate, refl, sym, ap, ◌∙◌, arith, append_assoc}
 use Rattle.std.proofs.lemmas.List.{length-append, append-nil, length-replicate}
 use Rattle.dbus_texts.specs.Types.{NumberCode, TextCode, STRING, OBJECT_PATH, sig}

@@ -120,7 +120,7 @@ fn bit(b: bool) -> u32
     if b { 1 } else { 0 }
 }
 
-/// Appends values one behind the other.
+/// Appends values one after the other.
 #[cycle(write)]
 fn write_values<A: Allocator>(out: &mut Vec<u8, A>, order: Order, values: &[Value<A>])
     requires space { length (with_values order (value_trees_of values.now) out.old.items) ≤ vec_capacity out.old }

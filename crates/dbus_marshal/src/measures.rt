@@ -32,7 +32,7 @@ pub fn measure<A: Allocator>(value: &Value<A>, at: u64, limits: Limits) -> Optio
     measure_value(value, at, limits)
 }
 
-/// Where values end that stand one behind the other from `at` on, as [`measure`] says.
+/// Where values end that stand one after the other from `at` on, as [`measure`] says.
 pub fn measure_all<A: Allocator>(values: &[Value<A>], at: u64, limits: Limits) -> Option<u64>
     requires start { IsCapped at }
     requires signed { HaveShortSignatures (value_trees_of values.now) }
@@ -83,7 +83,7 @@ fn number(width: u8, at: u64) -> u64
     cap(boundary(width, at) + u64::from(width))
 }
 
-/// A text of `len` bytes, whose length has `width` bytes, and the byte behind it.
+/// A text of `len` bytes, whose length has `width` bytes, and the byte after it.
 fn text(width: u8, len: usize, at: u64) -> u64
     requires start { IsCapped at }
     requires positive { 0 < width }

@@ -32,7 +32,7 @@ pub fn size_after<A: Allocator>(value: &Value<A>, offset: u64) -> Result<u64, Va
 ///
 /// Refused is the first item, in order, whose end passes a bound: `ArrayTooLong` where that is the bound of an open
 /// array, the limits' array from the start of its contents, else `TooLong`, where it is the limits' message. A padding, a
-/// number, a length, a text and the byte behind a text are an item each.
+/// number, a length, a text and the byte after a text are an item each.
 pub fn size_after_within<A: Allocator>(
     value: &Value<A>,
     offset: u64,
@@ -99,7 +99,7 @@ fn number(limits: Limits, bound: Option<u64>, width: u8, offset: u64) -> Result<
     item(limits, bound, usize::from(width), offset)
 }
 
-/// A text of `len` bytes, whose length has `width` bytes, and the byte behind it.
+/// A text of `len` bytes, whose length has `width` bytes, and the byte after it.
 fn text(
     limits: Limits,
     bound: Option<u64>,

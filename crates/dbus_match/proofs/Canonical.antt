@@ -7,7 +7,7 @@ use Rattle.dbus_match.proofs.KeyTexts.{key_no_nul}
 use Rattle.dbus_match.specs.Values.{Piece, quoted, escaped, pieces_text, pieces_value, ArePieces}
 use Rattle.dbus_match.specs.Rules.{Pair, IsPair, IsRule, IsAbove, IsAscending, HasKey, AreApart, Item, item_text, pair_of, pairs_of, behind_each, spaces_alone, one_more, last_text, last_pairs, GivesPairs, SpellsRule, quote_escaped, pair_text, canonical}
 
--- a value's pieces behind the first apostrophe: a run that is closed, and the others
+-- a value's pieces after the first apostrophe: a run that is closed, and the others
 pub record Quoting (v : List ℕ) : Type 0 where
   pub run : List ℕ
   pub run_is : AllByRecursion (λ b. b ≢ 39) run

@@ -51,7 +51,7 @@ piece_reading p n v w c (open_at q) i e h = piece_open p n w c q i e h
 quoted_length : (run : List ℕ) (n : ℕ) → n + 1 + length run + 1 ≡ n + length (piece_text (quoted run))
 quoted_length run n = let l = length-append run (39 ∷ []) in omega (arith, l)
 
--- an apostrophe and the run behind it
+-- an apostrophe and the run after it
 run_reading : (n : ℕ) (v c : List ℕ) (x : Reading) → IsRunReading n (n + 1) v c x → IsReading n v (39 ∷ c) x
 run_reading n v c (closed v' m r) h =
     piece_closed (quoted h.run) n v (39 ∷ c) h.after v' m r h.run_is

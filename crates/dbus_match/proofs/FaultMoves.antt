@@ -1,4 +1,4 @@
--- Faults of a pair, seen from another place and behind the same pairs in another order.
+-- Faults of a pair, seen from another place and after the same pairs in another order.
 use Rattle.std.proofs.Common.{◌≡◌, ℕ, zero, suc, ◌+◌, List, ◌∷◌, ◌++◌, length, replicate, sym, ap, ◌∙◌, subst, append_assoc, arith}
 use Rattle.dbus_match.specs.declared.key.Key.{Key}
 use Rattle.dbus_match.specs.declared.fault.RuleReason.{RuleReason}

@@ -4,7 +4,7 @@ use Rattle.std.specs.Prelude.{◌↔◌}
 use Rattle.dbus_match.specs.Keys.{rank}
 use Rattle.dbus_match.specs.Rules.{Pair, IsAbove, IsAscending, IsIn}
 
--- each of the front is below p
+-- each of the prefix is below p
 abbrev pub AreBelow : List Pair → Pair → Type 0
 AreBelow [] p = Unit {0}
 AreBelow (q ∷ qs) p = (rank q.key < rank p.key) × AreBelow qs p

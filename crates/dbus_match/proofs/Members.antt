@@ -58,7 +58,7 @@ excluded_along Path xs ps f h one e = one h (keys_along xs ps f PathNamespace e)
 excluded_along PathNamespace xs ps f h one e = one (keys_along xs ps f Path e) h
 excluded_along k xs ps f h one e = e
 
--- among pairs that may stand together each key is new behind those before it
+-- among pairs that may stand together each key is new after those before it
 pub good_new : (xs : List Pair) (p : Pair) (ys : List Pair) → AreGood (xs ++ p ∷ ys) → IsNew xs p.key
 good_new xs p ys h =
     (λ k. apart_middle p xs ys h.apart k, λ e. excluded_along p.key xs (xs ++ p ∷ ys) (λ q i. in_front q xs (p ∷ ys) i) (has_key p.key p (xs ++ p ∷ ys) (in_middle p xs ys) refl) h.one_path e)
@@ -66,7 +66,7 @@ good_new xs p ys h =
 pub good_value : (xs : List Pair) (p : Pair) (ys : List Pair) → AreGood (xs ++ p ∷ ys) → IsValueOf p.key p.value
 good_value xs p ys h = in_all (λ q. IsValueOf q.key q.value) (xs ++ p ∷ ys) p h.values (in_middle p xs ys)
 
--- what is new behind pairs is new behind their members in another order
+-- what is new after pairs is new after their members in another order
 pub excluded_members : (k : Key) (ps qs : List Pair) → ((p : Pair) → IsIn p ps → IsIn p qs) → Excluded k ps → Excluded k qs
 excluded_members Path ps qs f h = keys_along ps qs f PathNamespace h
 excluded_members PathNamespace ps qs f h = keys_along ps qs f Path h

@@ -64,7 +64,7 @@ no_equals_fault n w m f l e =
     let h : IsNoneAt n w m = subst (λ x. IsNameCut n w x) (sym e) (name_cut_is n w) in
     record { front = h.front; more = h.more; front_is = h.front_is; ends = h.ends; some = λ k q. not_spaces w k f l q; spelled = h.spelled; place = h.place }
 
--- what stands behind a part of what is left
+-- what stands after a part of what is left
 pub drop_past : (n : ℕ) (w x y : List ℕ) → n ≤ length w → drop n w ≡ x ++ y → drop (n + length x) w ≡ y
 drop_past n w x y l e =
     let t = take n w in

@@ -23,7 +23,7 @@ pub inserted : {A : Type 0} (x : Condition A) (cs : List (Condition A)) → cond
 inserted x [] = refl
 inserted x (c ∷ cs) = inserted_head x c cs (prefix_len (λ d. ltb (rank d.key) (rank x.key)) cs) (ltb (rank c.key) (rank x.key)) (inserted x cs)
 
--- pairs: what stands before and behind
+-- pairs: what stands before and after
 pub record IsPlaced (p : Pair) (ps : List Pair) : Type 0 where
   pub front : List Pair
   pub back : List Pair

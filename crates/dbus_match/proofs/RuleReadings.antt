@@ -24,7 +24,7 @@ use Rattle.dbus_match.proofs.Members.{keys_along}
 use Rattle.dbus_match.proofs.NameCuts.{item_spelled}
 use Rattle.dbus_match.proofs.NameReadings.{drop_past}
 
--- the spaces at the front
+-- the spaces at the start
 pub record IsSpaced (w : List ℕ) (n : ℕ) : Type 0 where
   pub spelled : w ≡ replicate n 32 ++ drop n w
   pub first : NoSpaceFirst (drop n w)
@@ -49,7 +49,7 @@ spaces_at w t at s e l q =
     let d = subst (λ k. drop (at + k) w ≡ drop s (drop at w)) (length-replicate s 32) (drop_past at w (replicate s 32) (drop s (drop at w)) l h.spelled) in
     (h.spelled ∙ ap (λ z. replicate s 32 ++ z) (sym d), subst (λ z. NoSpaceFirst z) (sym d) h.first)
 
--- the text up to at gives the pairs ps, each with a comma behind it
+-- the text up to at gives the pairs ps, each with a comma after it
 pub record IsReadUpTo (w : List ℕ) (at : ℕ) (ps : List Pair) : Type 0 where
   pub items : List Item
   pub are : AreItems items
@@ -154,7 +154,7 @@ is_pair w ps m p end n h =
 pub pairs_added : (w : List ℕ) (at : ℕ) (ps : List Pair) (m : ℕ) (p : Pair) (end : ℕ) → AllByRecursion (λ b. b ≢ 0) w → (h : IsReadUpTo w at ps) → IsPairAt ps w m p end → AreAdded (pairs_of h.items) ps (insert_pair p ps) p
 pairs_added w at ps m p end n h k = added (pairs_of h.items) ps p h.good h.ordered h.pairs h.same (is_pair w ps m p end n k) k.key.new
 
--- the comma behind a pair
+-- the comma after a pair
 comma_of : (w : List ℕ) (n : ℕ) (r : List ℕ) → n < length w → drop n w ≡ r → Ends r → drop n w ≡ 44 ∷ drop (n + 1) w
 comma_of w n [] l e h = let k = ap length e in let d = length-drop n w in absurd (omega (arith, l, k, d))
 comma_of w n (b ∷ c) l e h = e ∙ ap (λ z. z ∷ c) h ∙ ap (λ z. 44 ∷ z) (sym (drop_past n w (b ∷ []) c (omega (arith, l)) e))
@@ -200,7 +200,7 @@ pub read_more : (w : List ℕ) (at s m : ℕ) (ps rs : List Pair) (p : Pair) (en
 read_more w at s m ps rs p end x n e q l h k =
     subst (λ z. IsReadUpTo w (end + 1) z) (sym x) (read_more_items w at ps (item_read w ps s m p end k) p end (insert_pair p ps) l h (item_at w ps at s m p end e q k) (pairs_added w at ps m p end n h k))
 
--- the rule, where its text ends behind a pair
+-- the rule, where its text ends after a pair
 rule_of : (qs ps rs : List Pair) (p : Pair) → AreAdded qs ps rs p → IsRule rs
 rule_of qs ps rs p a = record { ordered = a.ordered; pairs = a.pairs; one_path = λ x y. a.good.one_path (keys_along rs (qs ++ p ∷ []) (λ z i. (a.same z).1 i) Path x) (keys_along rs (qs ++ p ∷ []) (λ z i. (a.same z).1 i) PathNamespace y) }
 

@@ -25,7 +25,7 @@ pairs_length : {A : Type 0} (cs : List (Condition A)) → length (condition_pair
 pairs_length [] = refl
 pairs_length (c ∷ cs) = let e = pairs_length cs in omega (arith, e)
 
--- a comma behind the text so far, or nothing in front
+-- a comma after the text so far, or nothing before
 abbrev pub IsJoint : ℕ → List ℕ → List ℕ → Type 0
 IsJoint i t b = ((0 < i) × (b ≡ t ++ 44 ∷ [])) ⊎ ((i ≡ 0) × (b ≡ t))
 

@@ -2,7 +2,7 @@
 use Rattle.std.proofs.Common.{◌≡◌, ℕ, ◌<◌, List, [], ◌∷◌, ◌++◌, length, get_or, refl, ap, ◌∙◌, arith, append_assoc, length-append}
 use Rattle.dbus_match.specs.Matching.{BeginsWith}
 
--- BeginsWith w (v ++ s ∷ []) by the byte behind v
+-- BeginsWith w (v ++ s ∷ []) by the byte after v
 pub within_from : (s : ℕ) (v w : List ℕ) → BeginsWith w v → length v < length w → get_or w (length v) 0 ≡ s → BeginsWith w (v ++ s ∷ [])
 within_from s [] [] h l e = absurd (omega (arith, l))
 within_from s [] (b ∷ w) h l e = (w, ap (λ x. x ∷ w) e)

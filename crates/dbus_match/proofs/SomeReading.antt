@@ -24,7 +24,7 @@ module _ (w : List ℕ) (no_nul : AllByRecursion (λ b. b ≢ 0) w) where
   abbrev spaces : ℕ → ℕ
   spaces at = prefix_len (λ b. b == 32) (take (length w - at) (drop at w))
 
-  -- the pair ends behind where it begins
+  -- the pair ends after where it begins
   pair_goes_on : (ps : List Pair) (m : ℕ) (p : Pair) (end : ℕ) → IsPairAt ps w m p end → m < end
   pair_goes_on ps m p end h = omega (arith, h.key.place, h.value.place)
 
@@ -35,7 +35,7 @@ module _ (w : List ℕ) (no_nul : AllByRecursion (λ b. b ≢ 0) w) where
       let joined = length-append (replicate s 32) (drop (at + s) w) in
       omega (arith, inside, none, whole, joined, length-replicate {A = ℕ} s 32, length-drop at w)
 
-  -- a pair that may stand there is passed, and next reads on behind its comma
+  -- a pair that may stand there is passed, and next reads on after its comma
   with_pair : (turns at : ℕ) (ps : List Pair) → ((from : ℕ) (qs : List Pair) → length w < from + turns → from ≤ length w → IsReadUpTo w from qs → Found w)
       → length w < at + suc turns → IsReadUpTo w at ps → drop at w ≡ replicate (spaces at) 32 ++ drop (at + spaces at) w → at + spaces at < length w → Choice ps w (at + spaces at) → Found w
   with_pair turns at ps next few h spaced more (inr f) = inr (f.0, f.1, read_fault w at (spaces at) (at + spaces at) ps (Bad f.1 f.0) no_nul spaced refl h f.2)

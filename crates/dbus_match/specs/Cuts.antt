@@ -1,4 +1,4 @@
--- What the reading of a value's text answers, as a reading: behind the value stands the rest of the text.
+-- What the reading of a value's text answers, as a reading: after the value stands the rest of the text.
 -- D-Bus Specification, "Match Rules".
 use Rattle.std.specs.Prelude.{ℕ, List, drop}
 use Rattle.dbus_match.specs.declared.value.Cut.{Cut}

@@ -25,7 +25,7 @@ Excluded Path ps = HasKey PathNamespace ps
 Excluded PathNamespace ps = HasKey Path ps
 Excluded k ps = ⊥
 
--- the key may stand behind the pairs seen
+-- the key may stand after the pairs seen
 abbrev pub IsNew : List Pair → Key → Type 0
 IsNew seen k = (HasKey k seen → ⊥) × (Excluded k seen → ⊥)
 
@@ -94,13 +94,13 @@ pub record IsNamedFault (seen : List Pair) (c : List ℕ) (n : ℕ) (reason : Ru
   pub has : HasName c spaces name more
   pub fault : IsFaultOfName seen name (n + spaces) more reason at
 
--- the fault of the pair that begins at place n with the text c, behind the pairs seen
+-- the fault of the pair that begins at place n with the text c, after the pairs seen
 abbrev pub IsPairFault : List Pair → List ℕ → ℕ → RuleReason → ℕ → Type 0
 IsPairFault seen c n Nul at = ⊥
 IsPairFault seen c n NoEquals at = IsNoEquals c n at
 IsPairFault seen c n reason at = IsNamedFault seen c n reason at
 
--- good pairs, a comma behind each, and then the fault
+-- good pairs, a comma after each, and then the fault
 pub record HasPairFault (w : List ℕ) (reason : RuleReason) (at : ℕ) : Type 0 where
   pub no_nul : AllByRecursion (λ b. b ≢ 0) w
   pub items : List Item

@@ -24,7 +24,7 @@ abbrev pub name_cut_of : Result ℕ ℕ → NameCut
 name_cut_of (Ok n) = equals_at n
 name_cut_of (Err n) = none_at n
 
--- whether a key may stand behind the pairs seen, and if not, why
+-- whether a key may stand after the pairs seen, and if not, why
 abbrev pub IsClash : List Pair → Key → Option RuleReason → Type 0
 IsClash seen key None = IsNew seen key
 IsClash seen key (Some KeyTwice) = HasKey key seen
@@ -37,7 +37,7 @@ IsOpenFault w n Memory = Unit {0}
 IsOpenFault w n (Bad at OpenQuote) = IsOpen n (drop n w) at
 IsOpenFault w n (Bad at r) = ⊥
 
--- in the text w a pair begins at n, behind the pairs seen: it cannot stand
+-- in the text w a pair begins at n, after the pairs seen: it cannot stand
 abbrev pub IsFaultAt : List Pair → List ℕ → ℕ → RuleFault → Type 0
 IsFaultAt seen w n Memory = Unit {0}
 IsFaultAt seen w n (Bad at reason) = IsPairFault seen (drop n w) n reason at

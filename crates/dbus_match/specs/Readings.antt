@@ -1,11 +1,11 @@
--- A value's text at the front of a text, by its pieces: it is closed and ends, or an apostrophe is not closed.
+-- A value's text at the start of a text, by its pieces: it is closed and ends, or an apostrophe is not closed.
 -- D-Bus Specification, "Match Rules".
 use Rattle.std.specs.Prelude.{◌≡◌, ◌≢◌, ℕ, ◌+◌, List, [], ◌∷◌, ◌++◌, length}
 use Rattle.std.specs.List.{AllByRecursion}
 use Rattle.dbus_match.specs.Values.{Piece, pieces_text, pieces_value, ArePieces}
 use Rattle.dbus_match.specs.Scans.{Reading, closed, open_at}
 
--- what stands behind a value: nothing, or a comma
+-- what stands after a value: nothing, or a comma
 abbrev pub Ends : List ℕ → Type 0
 Ends [] = Unit {0}
 Ends (b ∷ c) = b ≡ 44

@@ -1,7 +1,7 @@
 -- Rules, the relation of a text and the rule that it spells, and canonical texts: 32 is the space, 44 the comma,
 -- 61 is `=`.
 -- D-Bus Specification, "Match Rules". By this project's own choice each key stands at most once, and spaces stand
--- outside values only before a key and behind the last comma.
+-- outside values only before a key and after the last comma.
 use Rattle.std.specs.Prelude.{◌≡◌, ◌≢◌, ℕ, ◌<◌, ◌⊎◌, ◌↔◌, List, [], ◌∷◌, ◌++◌, replicate, ◌==◌, if◌then◌else◌}
 use Rattle.std.specs.List.{AllByRecursion}
 use Rattle.dbus_match.specs.declared.key.Key.{Key}
@@ -61,7 +61,7 @@ abbrev pub pairs_of : List Item → List Pair
 pairs_of [] = []
 pairs_of (i ∷ is) = pair_of i ∷ pairs_of is
 
--- items, each with a comma behind it
+-- items, each with a comma after it
 abbrev pub behind_each : List Item → List ℕ
 behind_each [] = []
 behind_each (i ∷ is) = item_text i ++ 44 ∷ behind_each is

@@ -39,7 +39,7 @@ fn read_rule<A: Allocator + Copy>(alloc: A, text: &str) -> Result<Rule<A>, RuleF
 /// comes only where a growth was refused.
 ///
 /// This differs from the specification in these points: each key stands at most once; spaces stand only
-/// before a key and behind the last comma; `destination` takes any bus name, and `arg0namespace` any text.
+/// before a key and after the last comma; `destination` takes any bus name, and `arg0namespace` any text.
 pub fn parse_rule<A: Allocator + Copy>(alloc: A, text: &str) -> Result<Rule<A>, RuleFault>
     ensures reading { IsRuleReading text.now result }
     ensures spelled { (pairs : List Pair) → SpellsRule text.now pairs → IsThisRule pairs result }

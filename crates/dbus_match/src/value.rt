@@ -13,7 +13,7 @@ use std::alloc::{AllocError, Allocator};
 pub(crate) enum Mode {
     /// Outside apostrophes.
     Outside,
-    /// Behind a backslash that stands before an apostrophe, outside apostrophes.
+    /// After a backslash that stands before an apostrophe, outside apostrophes.
     Escape,
     /// Inside apostrophes, of which the first stands at this place.
     Inside(usize),

@@ -1,4 +1,4 @@
--- Whether a code stands among fields: behind others, and in the other order.
+-- Whether a code stands among fields: after others, and in the other order.
 use Rattle.std.proofs.Common.{◌≡◌, ℕ, List, [], ◌∷◌, ◌++◌, reverse, Bool, true, false, ◌||◌, eqb, refl, sym, ap, ◌∙◌}
 use Rattle.std.proofs.lemmas.List.{reverse-append}
 use Rattle.dbus_message_model.specs.Messages.{FieldTree, has_code}

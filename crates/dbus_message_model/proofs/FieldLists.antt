@@ -27,14 +27,14 @@ module _ {A : Type 0} (fields : List (HeaderField A)) (i : ℕ) where
   pub has_no_more : (c : ℕ) → length fields ≤ i → has_code c (field_trees (drop i fields)) ≡ false
   has_no_more c h = rw (no_fields_from h) refl
 
-  -- the SIGNATURE field stands at i, or behind it
+  -- the SIGNATURE field stands at i, or after it
   pub signature_here : (f : HeaderField A) → i < length fields → f ≡ get_or fields i f → f.code ≡ 8 → body_signature (field_trees (drop i fields)) ≡ text_in (value_tree f.value)
   signature_here f h is e = rw (fields_from f h is, eq-eqb f.code 8 e) refl
 
   pub signature_later : (f : HeaderField A) → i < length fields → f ≡ get_or fields i f → (f.code ≡ 8 → ⊥) → body_signature (field_trees (drop i fields)) ≡ body_signature (field_trees (drop (i + 1) fields))
   signature_later f h is e = rw (fields_from f h is, ne_eqb f.code 8 e) refl
 
-  -- the UNIX_FDS field stands at i, or behind it
+  -- the UNIX_FDS field stands at i, or after it
   pub count_here : (f : HeaderField A) → i < length fields → f ≡ get_or fields i f → f.code ≡ 9 → fd_count (field_trees (drop i fields)) ≡ number_in (value_tree f.value)
   count_here f h is e = rw (fields_from f h is, eq-eqb f.code 9 e) refl
 

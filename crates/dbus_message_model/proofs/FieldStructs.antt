@@ -1,4 +1,4 @@
--- The fields of a header as structs, one behind the other.
+-- The fields of a header as structs, one after the other.
 use Rattle.std.proofs.Common.{◌≡◌, ℕ, ◌+◌, ◌<◌, List, length, get_or, drop, map, ap, subst}
 use Rattle.dbus_value_model.specs.ShortSignatures.{HasShortSignatures, HaveShortSignatures}
 use Rattle.dbus_value_model.specs.Values.{ValueTrees, MoreValues, value_trees}

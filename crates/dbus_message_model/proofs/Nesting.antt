@@ -1,4 +1,4 @@
--- How deep the fields of a header nest, one behind the other.
+-- How deep the fields of a header nest, one after the other.
 use Rattle.std.proofs.Common.{◌≡◌, ◌↔◌, ℕ, zero, suc, ◌+◌, ◌-◌, ◌<◌, List, length, map, get_or, drop, sym, subst, arith}
 use Rattle.dbus_value_model.specs.Forming.{NestsWithin, NestWithin}
 use Rattle.dbus_value_model.specs.Values.{value_trees}

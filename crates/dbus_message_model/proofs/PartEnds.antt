@@ -51,7 +51,7 @@ module _ (limits : Limits) where
       let same : capped n ≡ n = capped-within n (omega (arith, limits.array_in, limits.message_in, w.1)) in
       (w.0, w.1 ∙ same, omega (arith, limits.array_in, limits.message_in, w.1, same))
 
-  -- ---- the fields, one behind the other
+  -- ---- the fields, one after the other
 
   more_end : (o : ℕ) (x : ValueTree) (xs : ValueTrees) → o + length (spelling Little o x) + length (spellings Little (o + length (spelling Little o x)) xs) ≡ o + length (spellings Little o (MoreValues x xs))
   unfolding spellings

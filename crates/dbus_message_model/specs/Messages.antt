@@ -97,7 +97,7 @@ abbrev pub has_code : ℕ → List FieldTree → Bool
 has_code c [] = false
 has_code c (f ∷ fs) = nat_eq f.code c || has_code c fs
 
--- a field behind others
+-- a field after others
 pub record IsField (before : List FieldTree) (f : FieldTree) : Type 0 where
   pub not_zero : 0 < f.code
   pub not_again : is_known f.code && has_code f.code before ≡ false

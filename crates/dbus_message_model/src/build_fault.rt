@@ -25,7 +25,7 @@ pub enum BuildFault {
     /// A field's code is 0.
     #[error("a field's code is 0")]
     FieldCode,
-    /// A known field of this code stands twice: the code of the first field that stands behind one of the same code.
+    /// A known field of this code stands twice: the code of the first field that stands after one of the same code.
     #[error("field {0} stands twice")]
     FieldTwice(u8),
     /// A known field of this code, the first of such, has another type than its own.

@@ -28,7 +28,7 @@ pub record Reads {R A : Type 0} (left : R → Option (List ℕ)) (calls : R → 
   pub called : RisesBy count (calls (source_of old)) (calls (source_of new))
   pub most_reads : most_reads_of new ≡ most_reads_of old
   pub limits : limits_of new ≡ limits_of old
-  -- behind the end there is nothing to read
+  -- after the end there is nothing to read
   pub settled : is_ended old ≡ true → (bytes ≡ []) × (count ≡ 0) × (is_ended new ≡ true) × (source_of new ≡ source_of old)
   -- where it ended, the device has nothing left
   pub at_end : is_ended old ≡ false → is_ended new ≡ true → IsAtEnd (left (source_of new))

@@ -72,7 +72,7 @@ impl<R: Source, A: Allocator + Copy> RawReader<R, A> {
     }
 
     /// A reader of what the source gives, which read nothing yet. It makes at most so many reads in its life, the one that
-    /// finds the end of the input among them, and gives messages that keep these limits. What it keeps behind its buffer, and
+    /// finds the end of the input among them, and gives messages that keep these limits. What it keeps outside its buffer, and
     /// each copy, is allocated by `alloc`.
     pub fn within(alloc: A, source: R, reads: u64, limits: Limits) -> Self
         requires { reads ≤ 2 ^ 32 }

@@ -1,4 +1,4 @@
--- Texts that a draft gains one behind the other.
+-- Texts that a draft gains one after the other.
 use Rattle.std.proofs.Common.{◌≡◌, ℕ, ◌+◌, ◌<◌, ◌≤◌, List, [], ◌∷◌, ◌++◌, length, get_or, take, true, false, Bool, refl, sym, ap, subst, ◌∙◌, arith, append_assoc, append-nil, length-append, string_bytes, string_len, string_capacity}
 use Rattle.std.proofs.lemmas.List.{take_more}
 use Rattle.dbus_show.specs.declared.draft.Draft.{Draft}
@@ -8,13 +8,13 @@ not_refused : (b c : Bool) → (b ≡ true → c ≡ true) → c ≡ false → b
 not_refused true c h e = let t = h refl in cc
 not_refused false c h e = refl
 
--- where the capacity x does not do for the second text, or for the first: x and n of the draft before, y and m behind the first
+-- where the capacity x does not do for the second text, or for the first: x and n of the draft before, y and m after the first
 small_then : (b : Bool) (x y n m s t : ℕ) → (b ≡ true → x < n + s) → (b ≡ false → y < m + t) → (b ≡ false → m ≡ n + s) → x ≤ y → x < n + (s + t)
 small_then true x y n m s t h k e le = let l = h refl in omega arith
 small_then false x y n m s t h k e le = let l = k refl in let f = e refl in omega arith
 
 module _ {A : Type 0} where
-  -- a draft that gains two texts gains the one behind the other
+  -- a draft that gains two texts gains the one after the other
   pub then : {a b c : Draft A} {s t : List ℕ} → Gains a s b → Gains b t c → Gains a (s ++ t) c
   then {a} {b} {c} {s} {t} p q =
       record {

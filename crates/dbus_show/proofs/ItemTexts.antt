@@ -19,7 +19,7 @@ pub bytes_of_bytes : (bytes : List ℕ) → bytes_in (byte_values bytes) ≡ byt
 bytes_of_bytes [] = refl
 bytes_of_bytes (b ∷ bytes) = ap (λ s. b ∷ s) (bytes_of_bytes bytes)
 
--- what stands in front of an item behind these
+-- what stands before an item after these
 abbrev pub separator : List (List ℕ) → List ℕ
 separator [] = []
 separator (t ∷ ts) = codes ", "

@@ -1,4 +1,4 @@
--- The text of a message: a line for its header, and behind two spaces a line for each value of its body.
+-- The text of a message: a line for its header, and after two spaces a line for each value of its body.
 -- The names are those of the D-Bus Specification, "Message Format" and "Header Fields", in lower case.
 use Rattle.std.specs.Prelude.{ℕ, List, [], ◌∷◌, ◌++◌, codes, decimal, nat_eq, if◌then◌else◌}
 use Rattle.std.specs.List.{concat, flat_map}

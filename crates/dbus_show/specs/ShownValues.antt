@@ -1,4 +1,4 @@
--- The text of a value: the code of its type, a colon and its number or text; an array behind its signature; the other
+-- The text of a value: the code of its type, a colon and its number or text; an array after its signature; the other
 -- containers in brackets of their own.
 -- The codes and signatures are those of the D-Bus Specification, "Type System", "Summary of types".
 use Rattle.std.specs.Prelude.{ℕ, List, [], ◌∷◌, ◌++◌, Bool, codes, decimal, ◌||◌, nat_eq, nat_lt, if◌then◌else◌}
@@ -30,7 +30,7 @@ abbrev pub number_in : ValueTree → List ℕ
 number_in (NumberValue k n) = number_text k n
 number_in _ = []
 
--- A byte of a text: 34 is a quotation mark and 92 a backslash, which stand behind a backslash; the bytes below 32 and 127
+-- A byte of a text: 34 is a quotation mark and 92 a backslash, which stand after a backslash; the bytes below 32 and 127
 -- have no sign of their own and are shown as `\x` and two hexadecimal digits. Every other byte is itself.
 abbrev pub escape : ℕ → List ℕ
 escape b =

@@ -66,7 +66,7 @@ fn write_field_value<A: Allocator>(draft: &mut Draft<A>, field: &HeaderField<A>)
     }
 }
 
-/// Appends a field behind a space.
+/// Appends a field after a space.
 fn write_field<A: Allocator>(draft: &mut Draft<A>, field: &HeaderField<A>)
     ensures { Gains draft.old (field_text (field_tree field.now)) draft.new }
 {

@@ -94,7 +94,7 @@ fn write_parts<A: Allocator>(draft: &mut Draft<A>, order: Order, parts: &Parts<A
 /// The text of a message that has this number among those that are shown.
 ///
 /// Its first line is `#`, the number, the byte order as `l` or `B`, the message type, the serial, the flags and then each
-/// header field as its name, `=` and its value. A line for each value of the body follows, behind two spaces. Each line
+/// header field as its name, `=` and its value. A line for each value of the body follows, after two spaces. Each line
 /// ends in a line feed, and no other byte of the text is one.
 ///
 /// `AllocError` comes only where a growth was refused, and nothing stands after it. D-Bus Specification, "Message

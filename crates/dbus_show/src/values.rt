@@ -51,7 +51,7 @@ pub fn write_value<A: Allocator>(draft: &mut Draft<A>, value: &Value<A>)
     }
 }
 
-/// Appends the text of an array, behind its signature.
+/// Appends the text of an array, after its signature.
 #[cycle(value)]
 fn write_array<A: Allocator>(draft: &mut Draft<A>, items: &[Value<A>], element: &SigType<A>)
     ensures { Gains draft.old (value_text (ArrayValue (type_tree element.now) (value_trees_of items.now))) draft.new }

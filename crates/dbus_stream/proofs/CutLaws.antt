@@ -15,7 +15,7 @@ pub BeginWith-last : (limits : Limits) (bytes : List ℕ) (items : List Item) (m
 BeginWith-last limits bytes [] mid item f w = (subst (λ l. IsWhole limits l item.order item.message item.size) (sym f) w, ap (drop item.size) f)
 BeginWith-last limits bytes (first ∷ items) mid item f w = (f.0, BeginWith-last limits (drop first.size bytes) items mid item f.1 w)
 
--- more bytes behind
+-- more bytes after
 pub BeginWith-more : (limits : Limits) (bytes : List ℕ) (items : List Item) (rest more : List ℕ) → BeginWith limits bytes items rest → BeginWith limits (bytes ++ more) items (rest ++ more)
 BeginWith-more limits bytes [] rest more f = ap (λ l. l ++ more) f
 BeginWith-more limits bytes (item ∷ items) rest more f =
@@ -25,7 +25,7 @@ BeginWith-more limits bytes (item ∷ items) rest more f =
       subst (λ l. BeginWith limits l items (rest ++ more)) (sym joined) (BeginWith-more limits (drop item.size bytes) items rest more f.1),
     )
 
--- a rest behind which no message comes begins with none
+-- a rest after which no message comes begins with none
 no_message : (limits : Limits) (rest : List ℕ) (item : Item) (outcome : Outcome) → IsOutcome limits rest outcome → IsWhole limits rest item.order item.message item.size → ⊥
 no_message limits rest item Ended o w = (one_outcome limits rest).1 item.order item.message item.size w (subst (λ l. IsPartial limits l) (sym o) (nothing_partial limits))
 no_message limits rest item Unfinished o w = (one_outcome limits rest).1 item.order item.message item.size w o.1
@@ -72,7 +72,7 @@ IsCut-one limits bytes xs ys r s a b c d =
     go [] e f = (sym (e ∙ append-nil xs), f, outcome_one limits r a b c.outcome_is (subst (λ l. IsOutcome limits l b) (sym f) d.outcome_is))
     go (item ∷ more) e f = absurd (no_message limits r item a c.outcome_is f.0)
 
--- the messages of a front are the first of all
+-- the messages of a prefix are the first of all
 pub IsCut-front : (limits : Limits) (a b : List ℕ) (xs ys : List Item) (r s : List ℕ) (p q : Outcome) → IsCut limits a xs r p → IsCut limits (a ++ b) ys s q → (more : List Item) × (ys ≡ xs ++ more)
 IsCut-front limits a b xs ys r s p q c d =
     let first = BeginWith-first limits (a ++ b) xs ys (r ++ b) s q (BeginWith-more limits a xs r b c.messages) d.messages d.outcome_is in

@@ -52,7 +52,7 @@ module _ (limits : Limits) (held piece : List ℕ) where
         subst (λ k. IsWhole limits (held ++ piece) order m (length held + k)) (length-take-le n piece fits)
         (subst (λ l. IsWhole limits l order m (length held + length (take n piece))) parted whole)
 
--- a checker that is handed the front of a message takes all of it
+-- a checker that is handed a prefix of a message takes all of it
 pub takes_front : (limits : Limits) (held : List ℕ) (result : Check) → IsPartial limits held → Takes limits [] held result → taken held result ≡ held
 takes_front limits held checks.Partial partial t = refl
 takes_front limits held (checks.Done n) partial t = absurd ((one_outcome limits held).1 t.1 t.2 _ t.3 partial)

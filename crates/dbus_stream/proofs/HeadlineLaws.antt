@@ -72,7 +72,7 @@ outcome_fault [] others None (Some other) e = absurd cc
 outcome_fault (x ∷ xs) others None (Some other) e = absurd cc
 outcome_fault held others None None e = refl
 
--- messages, one behind the other, are cut into themselves
+-- messages, one after the other, are cut into themselves
 begin_with_all : (limits : Limits) (items : List Item) → AreMessages limits items → BeginWith limits (stream_bytes items) items []
 begin_with_all limits [] a = refl
 begin_with_all limits (item ∷ items) a =

@@ -18,7 +18,7 @@ take_split a b xs =
     let front : take a (take (a + b) xs) ≡ take a xs = take-take a (a + b) xs (omega arith) in
     ap (λ l. l ++ take b (drop a xs)) (sym front) ∙ (ap (λ l. take a (take (a + b) xs) ++ l) (sym (drop-take a b xs)) ∙ take-append-drop a (take (a + b) xs))
 
--- a part that is taken from the front of one list to the end of another
+-- a part that is taken from the start of one list to the end of another
 pub gathered : (held buffer : List ℕ) (start end taken : ℕ) → start + taken ≤ end
     → (held ++ slice_range buffer start (start + taken)) ++ slice_range buffer (start + taken) end ≡ held ++ slice_range buffer start end
 gathered held buffer start end taken within =
@@ -42,7 +42,7 @@ no_part buffer start end same =
 pub part_fits : (buffer : List ℕ) (start end : ℕ) → length (slice_range buffer start end) ≤ end - start
 part_fits buffer start end = let e = length-take (end - start) (drop start buffer) in rw e (min-le_left (end - start) (length (drop start buffer)))
 
--- what is left behind a message that ends in the part after the bytes held
+-- what is left after a message that ends in the part after the bytes held
 pub left_after : (held buffer : List ℕ) (start end taken : ℕ) → start + taken ≤ end
     → slice_range buffer (start + taken) end ≡ drop (length held + taken) (held ++ slice_range buffer start end)
 left_after held buffer start end taken within =

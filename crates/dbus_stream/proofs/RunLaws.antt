@@ -190,7 +190,7 @@ however_cut limits pieces left answers now f =
     }
 
 module _ {A : Type 0} where
-  -- a call that gives a message holds nothing behind it
+  -- a call that gives a message holds nothing after it
   gives_all : (fault : Option Fault) (limits : Limits) (held piece : List ℕ) (n : ℕ) (given : Order × Message A) (new : CutterState)
       → Takes (record { limits = limits; held = held; fault = fault }) piece new (Ok (n, Some given)) → new.held ≡ []
   gives_all None limits held piece n given new t = ap (λ (s : CutterState). s.held) (t.answers refl).1

@@ -16,7 +16,7 @@ whole_within limits b c order m n fits w =
     let whole = valid_whole limits order m (drop n b) (whole_valid limits (b ++ c) order m n w) in
     subst (λ k. IsWhole limits b order m k) (sym bytes.1) (subst (λ l. IsWhole limits l order m (length (message_bytes order m))) all whole)
 
--- a message that begins with a part of one ends behind that part
+-- a message that begins with a part of one ends after that part
 pub whole_past : (limits : Limits) (b c : List ℕ) (order : Order) (m : MessageTree) (n : ℕ) → IsPartial limits b → IsWhole limits (b ++ c) order m n → length b < n
 whole_past limits b c order m n part_of w =
     let not_within : n ≤ length b → ⊥ = λ h. (one_outcome limits b).1 order m n (whole_within limits b c order m n h w) part_of in

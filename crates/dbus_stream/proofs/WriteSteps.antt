@@ -6,7 +6,7 @@ use Rattle.std.proofs.KnownBytes.{Appends-nil, Appends-trans, Appends-kept}
 use Rattle.dbus_stream.specs.Device.{one_more, WriteCounts}
 use Rattle.dbus_stream.specs.Write.{Wrote, Stopped}
 
--- the front of the bytes was written, and the rest is left
+-- the prefix of the bytes was written, and the rest is left
 pub record WritesUpTo {W : Type 0} (held : W → Option (List ℕ)) (failures : W → ℕ) (old : W) (bytes rest : List ℕ) (now : W) : Type 0 where
   pub front : List ℕ
   pub joined : bytes ≡ front ++ rest

@@ -41,7 +41,7 @@ HoldsAll new (Ok (Some size)) = Unit {0}
 HoldsAll new (Ok None) = IsDrained new × (stopped_of new ≡ None)
 HoldsAll new (Err fault) = Unit {0}
 
--- what the end of the input behind w comes to
+-- what the end of the input after w comes to
 abbrev pub Finishes : {R : Type 0} → List ℕ → CheckReader R → CheckReader R → Result (Option ℕ) ReadFault → Type 0
 Finishes w old new (Ok (Some size)) = ⊥
 Finishes w old new (Ok None) = KeepsAll w old new × (stopped_of new ≡ None) × (w ≡ [])

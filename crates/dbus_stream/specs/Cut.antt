@@ -14,7 +14,7 @@ pub record Item : Type 0 where
   pub message : MessageTree
   pub size : ℕ
 
--- the bytes are these messages, one behind the other, which keep the limits, and then the rest
+-- the bytes are these messages, one after the other, which keep the limits, and then the rest
 abbrev pub BeginWith : Limits → List ℕ → List Item → List ℕ → Type 0
 BeginWith limits bytes [] rest = bytes ≡ rest
 BeginWith limits bytes (item ∷ items) rest = IsWhole limits bytes item.order item.message item.size × BeginWith limits (drop item.size bytes) items rest
@@ -30,16 +30,16 @@ IsOutcome limits rest Ended = rest ≡ []
 IsOutcome limits rest Unfinished = (rest ≢ []) × IsPartial limits rest
 IsOutcome limits rest (Refused fault) = IsRefused limits rest fault
 
--- the bytes are these messages and then the rest, behind which no further message comes
+-- the bytes are these messages and then the rest, after which no further message comes
 pub record IsCut (limits : Limits) (bytes : List ℕ) (items : List Item) (rest : List ℕ) (outcome : Outcome) : Type 0 where
   pub messages : BeginWith limits bytes items rest
   pub outcome_is : IsOutcome limits rest outcome
 
--- the fault of an input that ends within a message, behind these bytes of it
+-- the fault of an input that ends within a message, after these bytes of it
 abbrev pub truncated : List ℕ → Fault
 truncated rest = record { at = length rest; reason = Truncated }
 
--- the fault of an input that ends behind these bytes
+-- the fault of an input that ends after these bytes
 abbrev pub fault_at_end : List ℕ → Outcome → Option Fault
 fault_at_end rest Ended = None
 fault_at_end rest Unfinished = Some (truncated rest)

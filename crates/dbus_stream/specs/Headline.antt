@@ -42,7 +42,7 @@ abbrev pub AreMessages : Limits → List Item → Type 0
 AreMessages limits [] = Unit {0}
 AreMessages limits (item ∷ items) = IsValidMessage limits item.message × (item.size ≡ length (message_bytes item.order item.message)) × AreMessages limits items
 
--- the bytes of messages, one behind the other
+-- the bytes of messages, one after the other
 abbrev pub stream_bytes : List Item → List ℕ
 stream_bytes [] = []
 stream_bytes (item ∷ items) = message_bytes item.order item.message ++ stream_bytes items
@@ -76,7 +76,7 @@ pub record Headline (limits : Limits) (A : Type 0) : Type 0 where
       → concat pieces ≡ concat others → Feeds (fresh limits) pieces answers here left → IsSettled here (concat left)
       → Feeds (fresh limits) others replies there behind → IsSettled there (concat behind)
       → (given_by 0 answers ≡ given_by 0 replies) × (here.fault ≡ there.fault)
-  -- And however the bytes of messages are cut, it gives exactly these messages, and holds nothing behind them.
+  -- And however the bytes of messages are cut, it gives exactly these messages, and holds nothing after them.
   pub all_arrive : (items : List Item) (pieces left : List (List ℕ)) (answers : List (TakeAnswer A)) (now : CutterState) → AreMessages limits items
       → concat pieces ≡ stream_bytes items → Feeds (fresh limits) pieces answers now left → IsSettled now (concat left)
       → (given_by 0 answers ≡ items) × (now ≡ fresh limits) × (concat left ≡ [])

@@ -32,7 +32,7 @@ pub record Reads {R A : Type 0} (left : R → Option (List ℕ)) (calls : R → 
   pub called : RisesBy count (calls (source_of old)) (calls (source_of new))
   pub most_reads : most_reads_of new ≡ most_reads_of old
   pub limits : limits_of new ≡ limits_of old
-  -- behind the end there is nothing to read
+  -- after the end there is nothing to read
   pub settled : is_ended old ≡ true → (bytes ≡ []) × (count ≡ 0) × (is_ended new ≡ true) × (source_of new ≡ source_of old)
   -- where it ended, the device has nothing left
   pub at_end : is_ended old ≡ false → is_ended new ≡ true → IsAtEnd (left (source_of new))
@@ -58,7 +58,7 @@ pub record GivesMessage {R A : Type 0} (w : List ℕ) (given : Order × Message 
   pub done : done_of new ≡ done_of old + size
   pub unstopped : stopped_of new ≡ None
 
--- the fault of bytes behind which nothing comes
+-- the fault of bytes after which nothing comes
 abbrev pub IsCutShort : Limits → List ℕ → Fault → Type 0
 IsCutShort limits w fault = (w ≢ []) × IsPartial limits w × (fault ≡ truncated w)
 

@@ -17,7 +17,7 @@ abbrev pub again : List ℕ → List (List ℕ) → List (List ℕ)
 again [] pieces = pieces
 again (x ∷ xs) pieces = (x ∷ xs) ∷ pieces
 
--- A cutter is handed pieces one after another, and again what a call leaves of one. Its calls answer these, one behind
+-- A cutter is handed pieces one after another, and again what a call leaves of one. Its calls answer these, one after
 -- the other; then it is now as said, and these pieces are left to hand in.
 abbrev pub Feeds : {A : Type 0} → CutterState → List (List ℕ) → List (TakeAnswer A) → CutterState → List (List ℕ) → Type 0
 Feeds old pieces [] now left = (now ≡ old) × (left ≡ pieces)

@@ -8,7 +8,7 @@ use Rattle.dbus_stream.specs.Cut.{Item, Outcome, IsCut}
 abbrev pub OneCut : Type 0
 OneCut = (limits : Limits) (bytes : List ℕ) (xs ys : List Item) (r s : List ℕ) (a b : Outcome) → IsCut limits bytes xs r a → IsCut limits bytes ys s b → (xs ≡ ys) × (r ≡ s) × (a ≡ b)
 
--- the messages of a front are the first of all messages
+-- the messages of a prefix are the first of all messages
 abbrev pub FrontOfCut : Type 0
 FrontOfCut = (limits : Limits) (front behind : List ℕ) (xs ys : List Item) (r s : List ℕ) (a b : Outcome) → IsCut limits front xs r a → IsCut limits (front ++ behind) ys s b
     → (more : List Item) × (ys ≡ xs ++ more)

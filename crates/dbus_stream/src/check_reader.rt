@@ -18,7 +18,7 @@ const CHECK_BUFFER: usize = 65_536;
 /// Reads messages from a source, one after another, by a buffer of 65,536 bytes inside it, and tells their lengths.
 ///
 /// It accepts and refuses what a [`crate::MessageReader`] does. A message that lies whole in the buffer is judged there; any
-/// other is checked as it comes. It builds no message, keeps no byte of one behind its buffer but what its checker holds, and
+/// other is checked as it comes. It builds no message, keeps no byte of one outside its buffer but what its checker holds, and
 /// takes no memory: it has a fixed size, about 89,000 bytes. The limits of its messages, and how many reads it makes at most
 /// in its life, are those that it was made with.
 #[derive(Drop)]
@@ -108,7 +108,7 @@ impl<R: Source> CheckReader<R> {
         self.done
     }
 
-    /// The length of the next message in bytes, or None at the end of the input. Bytes behind the message are kept. After
+    /// The length of the next message in bytes, or None at the end of the input. Bytes after the message are kept. After
     /// the end each call answers the same, without reading. A read is made only where no whole message is kept, so a
     /// length is given at the read that ends its message. D-Bus Specification, "Message Protocol".
     ///

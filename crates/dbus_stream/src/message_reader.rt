@@ -98,7 +98,7 @@ impl<R: Source, A: Allocator + Copy> MessageReader<R, A> {
         self.done
     }
 
-    /// The next message with its byte order, or None at the end of the input. Bytes behind the message are kept. After
+    /// The next message with its byte order, or None at the end of the input. Bytes after the message are kept. After
     /// the end each call answers the same, without reading. A read is made only where no whole message is kept, so a
     /// message is given at the read that ends it.
     ///
@@ -138,7 +138,7 @@ impl<R: Source, A: Allocator + Copy> MessageReader<R, A> {
         }
     }
 
-    /// The next message with its byte order out of what was read already: no read is made. Bytes behind the message are
+    /// The next message with its byte order out of what was read already: no read is made. Bytes after the message are
     /// kept. None where what is kept begins with no whole message; then `next` goes on from there and reads more.
     ///
     /// `Format`: the bytes begin with no message within the limits. It stays for good, and so does a fault that `next`

@@ -20,7 +20,7 @@ pub trait Sink {
     /// Which reference it is, where it is one. No call changes it.
     ghost reference: { Self → Option GName };
 
-    /// Takes a front of the bytes, and answers how many these are.
+    /// Takes a prefix of the bytes, and answers how many these are.
     ///
     /// `DeviceFault`: the device failed. It took none of these bytes, and the call may be made again.
     fn write(&mut self, bytes: &[u8]) -> Result<usize, DeviceFault>

@@ -22,7 +22,7 @@ pub trait Source {
     /// Which reference it is, where it is one. No call changes it.
     ghost reference: { Self → Option GName };
 
-    /// Fills a front of the buffer with the next bytes, and answers how many these are. 0 bytes are the end, or the
+    /// Fills a prefix of the buffer with the next bytes, and answers how many these are. 0 bytes are the end, or the
     /// buffer has no room.
     ///
     /// `DeviceFault`: the device failed. No byte is lost, and the call may be made again.

@@ -23,7 +23,7 @@ head any m = order_byte any ∷ (num any 1 m.kind ++ (num any 1 m.flags ++ num a
 length-head : (any : Order) (m : MessageTree) → length (head any m) ≡ 4
 length-head any m = omega (arith, length-append (num any 1 m.kind) (num any 1 m.flags ++ num any 1 1), length-append (num any 1 m.flags) (num any 1 1), length-num any 1 m.kind, length-num any 1 m.flags, length-num any 1 1)
 
--- the message is the front of the bytes
+-- the message is the prefix of the bytes
 pub front_is : (limits : Limits) (order : Order) (m : MessageTree) (n : ℕ) (bytes : List ℕ) → IsWhole limits bytes order m n → take n bytes ≡ message_bytes order m
 front_is limits order m n bytes w = (whole_bytes limits bytes order m n w).0
 

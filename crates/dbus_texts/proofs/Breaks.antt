@@ -1,4 +1,4 @@
--- The longest front of a text with which some text of a set begins.
+-- The longest prefix of a text with which some text of a set begins.
 use Rattle.std.proofs.Common.{◌≡◌, ℕ, ◌+◌, ◌<◌, ◌≤◌, Option, Some, None, List, [], ◌∷◌, ◌++◌, length, get_or, take, drop, refl, sym, ap, ◌∙◌, subst, arith, append_assoc, append-nil, take-append-drop}
 use Rattle.std.proofs.lemmas.List.{take_more, take_all, take-take}
 use Rattle.dbus_texts.proofs.Quotients.{quotient_prefix, quotient_dead, quotient_push, quotient_ended, quotient_ends}
@@ -11,7 +11,7 @@ prefix_closed L w v h = (v ++ h.0, subst L (append_assoc w v h.0) h.1)
 prefix_self : (L : List ℕ → Type 0) (w : List ℕ) → L w → IsPrefixIn L w
 prefix_self L w h = ([], subst L (sym (append-nil w)) h)
 
--- the front of a longer front
+-- the prefix of a longer prefix
 prefix_less : (L : List ℕ → Type 0) (w : List ℕ) (n m : ℕ) → n ≤ m → IsPrefixIn L (take m w) → IsPrefixIn L (take n w)
 prefix_less L w n m l h =
     let split = take-append-drop n (take m w) in
@@ -29,7 +29,7 @@ pub break_at_end : (L : List ℕ → Type 0) (w : List ℕ) → IsPrefixIn L w �
 break_at_end L w p n =
     (n, record { within = omega arith; front = subst (λ v. IsPrefixIn L v) (sym (take_all (length w) w (omega arith))) p; longest = λ m h k q. absurd (omega arith) })
 
--- a scan that stands at a front, where R may follow, refuses the next byte
+-- a scan that stands at a prefix, where R may follow, refuses the next byte
 pub front_refuses : (L : List ℕ → Type 0) (w : List ℕ) (R : List ℕ → Type 0) (i : ℕ) → IsQuotient L (take i w) R → i < length w → ((c : List ℕ) → R (get_or w i 0 ∷ c) → ⊥) → (L w → ⊥) × IsBreakIn L w i
 front_refuses L w R i q l n = break_within L w i (get_or w i 0) l refl (quotient_prefix L (take i w) R q) (quotient_dead L (take i w) R (get_or w i 0) q n)
 

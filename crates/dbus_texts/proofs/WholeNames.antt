@@ -1,4 +1,4 @@
--- A text in which each byte may stand behind the one before it is a name.
+-- A text in which each byte may stand after the one before it is a name.
 use Rattle.std.proofs.Common.{◌≡◌, ℕ, zero, suc, ◌+◌, ◌<◌, Bool, true, false, not, ◌||◌, eqb, List, [], ◌∷◌, length, get_or, inr, refl, sym, ap, ◌∙◌, subst, arith}
 use Rattle.std.specs.List.{list_any}
 use Rattle.std.proofs.lemmas.Bool.{and_parts, eqb-true, eqb-false, false≢true}
@@ -17,7 +17,7 @@ begins_apart Name = refl
 begins_apart Unique = refl
 begins_apart WellKnown = refl
 
--- each byte behind a may stand where it does, and the last is no separator
+-- each byte after a may stand where it does, and the last is no separator
 abbrev Chain : Letters → ℕ → List ℕ → Type 0
 Chain l a [] = eqb a (separator l) ≡ false
 Chain l a (b ∷ w) = (may_follow l a b ≡ true) × Chain l b w

@@ -46,7 +46,7 @@ is_kind BusName w = is_of_kind BusName w && nat_lt (length w) 256
 is_kind Signature w = is_of_kind Signature w && nat_lt (length w) 256
 is_kind Single w = is_of_kind Single w && nat_lt (length w) 256
 
--- the length of the longest front of a text with which some text of the kind begins
+-- the length of the longest prefix of a text with which some text of the kind begins
 unfoldable pub break_at : TextKind → List ℕ → ℕ
 break_at Text w = taken text_next utf8.Free w
 break_at Path w = taken name_next (name_state PathStart Word Free) w
@@ -95,7 +95,7 @@ abbrev pub closed : ℕ → TypeTree → List ℕ → Option (TypeTree × List �
 closed c t [] = None
 closed c t (b ∷ s) = if nat_eq b c then Some (t, s) else None
 
--- the type at the front of a text, and what is left; types up to `)`: with as many turns as the text has bytes
+-- the type at the start of a text, and what is left; types up to `)`: with as many turns as the text has bytes
 unfoldable mutual
   pub parse : ℕ → List ℕ → Option (TypeTree × List ℕ)
   parse zero s = None

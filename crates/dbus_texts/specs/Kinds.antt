@@ -49,6 +49,6 @@ IsKind kind w = IsOfKind kind w × IsWithinLimit kind w
 abbrev pub IsPrefixOf : TextKind → List ℕ → Type 0
 IsPrefixOf kind w = IsPrefixIn (IsOfKind kind) w
 
--- the length of the longest front of w with which some text of the kind begins, limits on length lifted
+-- the length of the longest prefix of w with which some text of the kind begins, limits on length lifted
 abbrev pub IsBreak : TextKind → List ℕ → ℕ → Type 0
 IsBreak kind w n = IsBreakIn (IsOfKind kind) w n

@@ -22,7 +22,7 @@ abbrev pub IsElement : (ℕ → Bool) → (ℕ → Bool) → List ℕ → Type 0
 IsElement start more [] = ⊥
 IsElement start more (b ∷ bs) = IsTrue (start b) × AllByRecursion (λ c. IsTrue (more c)) bs
 
--- elements, each behind a separator
+-- elements, each after a separator
 abbrev pub each_behind : ℕ → List (List ℕ) → List ℕ
 each_behind separator [] = []
 each_behind separator (e ∷ es) = separator ∷ (e ++ each_behind separator es)

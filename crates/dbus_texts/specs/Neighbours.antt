@@ -6,11 +6,11 @@ use Rattle.dbus_texts.specs.declared.names.Letters.TheVariants.{Word, Name, Uniq
 use Rattle.dbus_texts.specs.Names.{is_word}
 use Rattle.dbus_texts.specs.NameScans.{begins, goes_on, separator}
 
--- whether b may stand behind a
+-- whether b may stand after a
 abbrev pub may_follow : Letters → ℕ → ℕ → Bool
 may_follow l a b = (goes_on l b || b == separator l) && (not (a == separator l) || begins l b)
 
--- each byte may stand behind the one before it
+-- each byte may stand after the one before it
 abbrev pub AreLinked : Letters → List ℕ → Type 0
 AreLinked l w = (i : ℕ) → i + 1 < length w → IsTrue (may_follow l (get_or w i 0) (get_or w (i + 1) 0))
 

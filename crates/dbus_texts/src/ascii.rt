@@ -27,7 +27,7 @@ fn is_plain_short(block: u8x16) -> bool
         == 0
 }
 
-/// The length of whole blocks at the front in which each byte is from 1 to 127.
+/// The length of whole blocks at the start in which each byte is from 1 to 127.
 fn plain_blocks(text: &[u8]) -> usize
     ensures within { result ≤ length text.now }
     ensures plain { AllByRecursion (IsInRange 1 127) (take result text.now) }
@@ -42,7 +42,7 @@ fn plain_blocks(text: &[u8]) -> usize
     at
 }
 
-/// The same, with the short blocks behind them.
+/// The same, with the short blocks after them.
 fn plain_short_blocks(text: &[u8]) -> usize
     ensures within { result ≤ length text.now }
     ensures plain { AllByRecursion (IsInRange 1 127) (take result text.now) }
@@ -57,7 +57,7 @@ fn plain_short_blocks(text: &[u8]) -> usize
     at
 }
 
-/// The length of a front in which each byte is from 1 to 127: of the whole text, where all its bytes are.
+/// The length of a prefix in which each byte is from 1 to 127: of the whole text, where all its bytes are.
 pub fn plain_front(text: &[u8]) -> usize
     ensures within { result ≤ length text.now }
     ensures plain { AllByRecursion (IsInRange 1 127) (take result text.now) }

@@ -20,7 +20,7 @@ pub enum NameFault {
     /// It has more than 255 bytes. This comes before `Bad`.
     #[error("the name has more than 255 bytes")]
     TooLong,
-    /// It breaks at `at`, which is the length of its longest front with which some such name begins.
+    /// It breaks at `at`, which is the length of its longest prefix with which some such name begins.
     #[error("no such name: it breaks at offset {at}")]
     Bad { at: usize },
 }
@@ -34,7 +34,7 @@ pub enum SigFault {
     /// It has more than 255 bytes. This comes before `Bad`.
     #[error("the signature has more than 255 bytes")]
     TooLong,
-    /// It breaks at `at`, which is the length of its longest front with which some signature begins.
+    /// It breaks at `at`, which is the length of its longest prefix with which some signature begins.
     #[error("no signature: it breaks at offset {at}")]
     Bad { at: usize },
 }
@@ -79,7 +79,7 @@ fn break_of(kind: TextKind, text: &[u8]) -> Option<usize>
     ScanState::of_kind(kind).break_of(text)
 }
 
-/// The length of the text's longest front with which some text of the kind begins, limits on length
+/// The length of the text's longest prefix with which some text of the kind begins, limits on length
 /// lifted. This is the text's length where all of it begins some text of the kind.
 pub fn first_break(kind: TextKind, text: &[u8]) -> usize
     ensures { IsBreak kind text.now result }
@@ -90,7 +90,7 @@ pub fn first_break(kind: TextKind, text: &[u8]) -> usize
     }
 }
 
-/// Where a text breaks that is not of the kind: at the length of its longest front with which some text of
+/// Where a text breaks that is not of the kind: at the length of its longest prefix with which some text of
 /// the kind begins, limits on length lifted. `None` where the text is of the kind.
 pub fn text_break(kind: TextKind, text: &[u8]) -> Option<usize>
     ensures { IsTextBreak kind text.now result }
@@ -125,7 +125,7 @@ fn check_types(kind: TextKind, text: &[u8]) -> Result<(), SigFault>
     }
 }
 
-/// Whether the text is an object path: `/`, or elements of `[A-Za-z0-9_]`, each behind a `/`.
+/// Whether the text is an object path: `/`, or elements of `[A-Za-z0-9_]`, each after a `/`.
 ///
 /// Else `Bad` at its break; `TooLong` never comes. D-Bus Specification, "Valid Object Paths".
 pub fn check_path(text: &[u8]) -> Result<(), NameFault>

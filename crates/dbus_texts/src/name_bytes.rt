@@ -42,7 +42,7 @@ pub fn is_of_words(text: &[u8]) -> bool
 }
 
 impl Letters {
-    /// Whether a byte may stand behind another: within an element, between elements, or first in one.
+    /// Whether a byte may stand after another: within an element, between elements, or first in one.
     #[inline(always)]
     fn may_follow(self, before: u8, byte: u8) -> bool
         ensures { result ≡ may_follow self before byte }
@@ -52,7 +52,7 @@ impl Letters {
     }
 }
 
-/// Whether each byte of a short text may stand behind the one before it.
+/// Whether each byte of a short text may stand after the one before it.
 #[inline(always)]
 fn has_links_alone(letters: Letters, text: &[u8]) -> bool
     ensures { IsTrue result → AreLinked letters text.now }
@@ -67,7 +67,7 @@ fn has_links_alone(letters: Letters, text: &[u8]) -> bool
     true
 }
 
-/// Whether each byte of the text may stand behind the one before it. The last block overlaps the one before it, so that no
+/// Whether each byte of the text may stand after the one before it. The last block overlaps the one before it, so that no
 /// byte is left.
 #[inline(always)]
 pub fn is_linked(letters: Letters, text: &[u8]) -> bool

@@ -34,13 +34,13 @@ pub enum Tail {
 pub enum Place {
     /// Before an object path.
     PathStart,
-    /// Behind the first `/` of an object path.
+    /// After the first `/` of an object path.
     Root,
     /// Before a bus name.
     BusStart,
     /// Before the first byte of an element.
     First,
-    /// Within an element, or behind it.
+    /// Within an element, or after it.
     More,
 }
 

@@ -10,7 +10,7 @@ use arrayvec::ArrayVec;
 /// Where in a signature the scan stands.
 #[derive(Clone, Copy, PartialEq, Eq, Debug)]
 pub enum SigPlace {
-    /// Behind a complete type, or before a signature.
+    /// After a complete type, or before a signature.
     After,
     /// Before a complete type that is no array's element.
     One,

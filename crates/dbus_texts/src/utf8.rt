@@ -19,17 +19,17 @@ pub enum Utf8Place {
     LastTwo,
     /// Before the last three bytes.
     LastThree,
-    /// Behind the byte `e0`: two bytes that spell no character below U+0800 are to come.
+    /// After the byte `e0`: two bytes that spell no character below U+0800 are to come.
     AfterE0,
-    /// Behind the byte `ed`: two bytes that spell no surrogate are to come.
+    /// After the byte `ed`: two bytes that spell no surrogate are to come.
     AfterEd,
-    /// Behind the byte `f0`: three bytes that spell no character below U+10000 are to come.
+    /// After the byte `f0`: three bytes that spell no character below U+10000 are to come.
     AfterF0,
-    /// Behind the byte `f4`: three bytes that spell no character above U+10FFFF are to come.
+    /// After the byte `f4`: three bytes that spell no character above U+10FFFF are to come.
     AfterF4,
 }
 
-/// The place behind the first byte of a character.
+/// The place after the first byte of a character.
 fn lead(byte: u8) -> Option<Utf8Place>
     ensures { result ≡ lead byte }
 {

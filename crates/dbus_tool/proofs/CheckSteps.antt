@@ -4,7 +4,7 @@ use Rattle.dbus_stream.specs.Write.{Stopped}
 use Rattle.dbus_tool.specs.Checking.{WritesFront}
 use Rattle.dbus_tool.specs.declared.ending.Cause.TheVariants.{WriteFailed}
 
--- a write that stopped has written a front
+-- a write that stopped has written a prefix
 pub front_written : {W : Type 0} (held : W → Option (List ℕ)) (failures : W → ℕ) (line bytes : List ℕ) (n : ℕ) (old new : W) → bytes ≡ line
     → Stopped held failures old bytes n new → WritesFront held failures line WriteFailed old new
 front_written held failures line bytes n old new same stopped = record {

@@ -26,7 +26,7 @@ module _ {W : Type 0} (held : W → Option (List ℕ)) (failures : W → ℕ) wh
     failed = s.failed;
   }
 
-  -- what was gathered was not written, and so not what is behind it
+  -- what was gathered was not written, and so not what is after it
   pub breaks_before : (bytes g0 : List ℕ) (old new : W) → Breaks held failures [] g0 old new → Breaks held failures bytes g0 old new
   breaks_before bytes g0 old new b = record {
     written = b.written;
@@ -35,7 +35,7 @@ module _ {W : Type 0} (held : W → Option (List ℕ)) (failures : W → ℕ) wh
     failed = b.failed;
   }
 
-  -- one behind the other
+  -- one after the other
   pub passes_both : (a b g0 g1 g2 : List ℕ) (w0 w1 w2 : W) → Passes held failures a g0 g1 w0 w1 → Passes held failures b g1 g2 w1 w2 → Passes held failures (a ++ b) g0 g2 w0 w2
   passes_both a b g0 g1 g2 w0 w1 w2 p q = record {
     written = p.written ++ q.written;

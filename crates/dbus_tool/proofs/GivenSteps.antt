@@ -18,7 +18,7 @@ use Rattle.dbus_tool.specs.declared.ending.Stop.TheVariants.{Reader, Writer}
 use Rattle.dbus_tool.proofs.GatherSteps.{passes_none}
 
 module _ {R A : Type 0} (left : R → Option (List ℕ)) (calls failures : R → ℕ) where
-  -- what is read behind a step that reads nothing and keeps all
+  -- what is read after a step that reads nothing and keeps all
   abbrev reads_behind : (old mid new : RawReader R A) → ReadsNothing old mid → KeepsAll (kept old) old mid → Reads left calls mid new → Reads left calls old new
   reads_behind old mid new n k r = record {
     bytes = r.bytes;

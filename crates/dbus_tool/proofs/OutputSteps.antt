@@ -1,4 +1,4 @@
--- What a command writes of several messages: it is one, and of the first of them it is a front.
+-- What a command writes of several messages: it is one, and of the first of them it is a prefix.
 use Rattle.std.proofs.Common.{◌≡◌, ℕ, suc, ◌+◌, List, [], ◌∷◌, ◌++◌, Option, length, refl, sym, ap, ◌∙◌, subst, arith, append_assoc, append-nil, inl, inr}
 use Rattle.dbus_value_model.specs.declared.order.Order.{Order}
 use Rattle.dbus_value_model.specs.declared.fault.Fault.{Fault}
@@ -35,7 +35,7 @@ output_last command n (x ∷ items) item out one a o =
     output_last command (n + 1) items item a.1 one a.4 (subst (λ k. IsOutputOf command item.order item.message k one) there o) in
     (a.0, a.1 ++ one, ap (λ l. l ++ one) a.2 ∙ append_assoc a.0 a.1 one, a.3, behind)
 
--- of the first messages it is a front
+-- of the first messages it is a prefix
 pub output_front : (command : Command) (n : ℕ) (items more : List Item) (a b : List ℕ) → IsOutputOfAll command n items a
     → IsOutputOfAll command n (items ++ more) b → IsFrontOf a b
 output_front command n [] more a b p q = (b, ap (λ l. l ++ b) (sym p))
@@ -57,7 +57,7 @@ output_all_one command n (x ∷ items) a b p q =
 front_behind : (a b c : List ℕ) → IsFrontOf a b → IsFrontOf b c → IsFrontOf a c
 front_behind a b c p q = (p.0 ++ q.0, q.1 ∙ (ap (λ l. l ++ q.0) p.1 ∙ append_assoc a p.0 q.0))
 
--- a front of what is written of the first messages is one of all that the first writer gets
+-- a prefix of what is written of the first messages is one of all that the first writer gets
 pub front_of_first : (command : Command) (items more all : List Item) (fault : Option Fault) (out written first : List ℕ) → all ≡ items ++ more
     → IsOutputOfAll command 1 items out → IsFrontOf written out → IsFirstOutput command all fault first → IsFrontOf written first
 front_of_first command items more all fault out written first e o front whole =
@@ -65,7 +65,7 @@ front_of_first command items more all fault out written first e o front whole =
     front_behind written out first front
     (front_behind out whole.written first (output_front command 1 items more out whole.written o each) (last_line command (length all) (sizes all) fault, whole.joined))
 
--- a front of what is written of all messages and then the last line is one of all that the first writer gets
+-- a prefix of what is written of all messages and then the last line is one of all that the first writer gets
 pub front_of_whole : (command : Command) (items : List Item) (fault : Option Fault) (out written first : List ℕ) → IsOutputOfAll command 1 items out
     → IsFrontOf written (out ++ last_line command (length items) (sizes items) fault) → IsFirstOutput command items fault first → IsFrontOf written first
 front_of_whole command items fault out written first o front whole =

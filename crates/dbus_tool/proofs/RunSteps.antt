@@ -156,7 +156,7 @@ module _ {R W E : Type 0} (left : R → Option (List ℕ)) (calls read_failures 
     })
   ]
 
-  -- of the messages that were handed on a front was written
+  -- of the messages that were handed on a prefix was written
   some_front : (cause : Cause) (out written : List ℕ) (g1 : List ℕ) (r0 r1 : R) (w0 w1 : W) (s : HandsSome left calls read_failures held write_failures limits most command cause r0 r1 [] g1 w0 w1)
       → IsFrontOf written s.out → (items : List Item) (rest : List ℕ) (outcome : Outcome) (first : List ℕ) → IsCut limits s.bytes items rest outcome
       → IsFirstOutput command items (fault_at_end rest outcome) first → IsFrontOf written first

@@ -24,7 +24,7 @@ module _ {W : Type 0} (held : W → Option (List ℕ)) (failures : W → ℕ) wh
   IsWriteCause old new WriteFailed = failures new ≡ one_more (failures old)
   IsWriteCause old new TooManyReads = ⊥
 
-  -- a front of the line was written
+  -- a prefix of the line was written
   pub record WritesFront (line : List ℕ) (cause : Cause) (old new : W) : Type 0 where
     pub written : List ℕ
     pub appended : Appends (held old) (held new) written
@@ -65,7 +65,7 @@ module _ {R W E : Type 0} (left : R → Option (List ℕ)) (calls read_failures 
     pub first_failed : write_failures first_new ≡ write_failures first_old
     pub second_failed : second_failures second_new ≡ second_failures second_old
 
-  -- why a command gives up: the first cause, so that no other has it where a read failed, though a write failed behind it
+  -- why a command gives up: the first cause, so that no other has it where a read failed, though a write failed after it
   abbrev pub IsCause : R → R → W → W → E → E → Cause → Type 0
   IsCause r0 r1 w0 w1 e0 e1 Memory = read_failures r1 ≡ read_failures r0
   IsCause r0 r1 w0 w1 e0 e1 ReadFailed = read_failures r1 ≡ one_more (read_failures r0)
@@ -79,7 +79,7 @@ module _ {R W E : Type 0} (left : R → Option (List ℕ)) (calls read_failures 
   WritesBefore WriteFailed bytes written w0 w1 = Unit {0}
   WritesBefore TooManyReads bytes written w0 w1 = write_failures w1 ≡ write_failures w0 → WritesMessages limits command bytes written
 
-  -- the first writer got a front of what the command makes of what was read
+  -- the first writer got a prefix of what the command makes of what was read
   pub record Fails (cause : Cause) (old new : R) (first_old first_new : W) (second_old second_new : E) : Type 0 where
     pub bytes : List ℕ
     pub written : List ℕ

@@ -1,4 +1,4 @@
--- What is written behind the messages of an input. g0 is what is gathered before.
+-- What is written after the messages of an input. g0 is what is gathered before.
 use Rattle.std.specs.Prelude.{◌≡◌, ◌⊎◌, ℕ, List, ◌++◌, Option}
 use Rattle.std.specs.Io.KnownBytes.{Appends}
 use Rattle.dbus_value_model.specs.declared.fault.Fault.{Fault}
@@ -31,7 +31,7 @@ module _ {W E : Type 0} (held : W → Option (List ℕ)) (write_failures : W →
     pub first : Wrote held write_failures w0 (g0 ++ last_line command counted.count counted.size counted.fault) w1
     pub second : TellsSecond second_held second_failures (second_output command counted.size counted.fault) counted.fault e0 e1 end
 
-  -- the first writer got a front of that, and the second was told why
+  -- the first writer got a prefix of that, and the second was told why
   pub record NotClosed (command : Command) (counted : Counted) (g0 : List ℕ) (w0 w1 : W) (e0 e1 : E) (end : ExitStatus) : Type 0 where
     pub failed : end ≡ status.Failed
     pub cause : Cause
@@ -41,7 +41,7 @@ module _ {W E : Type 0} (held : W → Option (List ℕ)) (write_failures : W →
   abbrev pub Closes : Command → Counted → List ℕ → W → W → E → E → ExitStatus → Type 0
   Closes command counted g0 w0 w1 e0 e1 end = Closed command counted g0 w0 w1 e0 e1 end ⊎ NotClosed command counted g0 w0 w1 e0 e1 end
 
--- a front of the bytes was written, and all where no write failed
+-- a prefix of the bytes was written, and all where no write failed
 pub record WritesSome {W : Type 0} (held : W → Option (List ℕ)) (failures : W → ℕ) (bytes : List ℕ) (old new : W) : Type 0 where
   pub written : List ℕ
   pub appended : Appends (held old) (held new) written

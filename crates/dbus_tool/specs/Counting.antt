@@ -12,14 +12,14 @@ use Rattle.dbus_tool.specs.declared.ending.Counted.{Counted}
 use Rattle.dbus_tool.specs.declared.ending.Stop.{Stop}
 use Rattle.dbus_tool.specs.declared.ending.Stop.TheVariants.{Reader, Writer}
 
--- what a fault of the reader behind these messages comes to
+-- what a fault of the reader after these messages comes to
 abbrev pub ended_by : ℕ → ℕ → ReadFault → Result Counted Cause
 ended_by count size (read.Format fault) = Ok (record { count = count; size = size; fault = Some fault })
 ended_by count size read.Memory = Err Memory
 ended_by count size read.Device = Err ReadFailed
 ended_by count size read.TooManyReads = Err TooManyReads
 
--- what it comes to that there is no next message behind these
+-- what it comes to that there is no next message after these
 abbrev pub stopped_by : ℕ → ℕ → Stop → Result Counted Cause
 stopped_by count size (Reader fault) = ended_by count size fault
 stopped_by count size Writer = Err WriteFailed

@@ -15,7 +15,7 @@ module _ {W : Type 0} (held : W → Option (List ℕ)) (failures : W → ℕ) wh
     pub joined : g0 ++ bytes ≡ written ++ g1
     pub failed : failures new ≡ failures old
 
-  -- a front of what was gathered and then these bytes was written, and then a write failed
+  -- a prefix of what was gathered and then these bytes was written, and then a write failed
   pub record Breaks (bytes g0 : List ℕ) (old new : W) : Type 0 where
     pub written : List ℕ
     pub appended : Appends (held old) (held new) written

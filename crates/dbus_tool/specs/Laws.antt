@@ -1,11 +1,11 @@
--- The laws over what a command writes: of all messages and the fault behind them there is exactly one output.
+-- The laws over what a command writes: of all messages and the fault after them there is exactly one output.
 use Rattle.std.specs.Prelude.{◌≡◌, ℕ, List, Option}
 use Rattle.dbus_value_model.specs.declared.fault.Fault.{Fault}
 use Rattle.dbus_stream.specs.Cut.{Item}
 use Rattle.dbus_command.specs.declared.command.Command.{Command}
 use Rattle.dbus_tool.specs.Output.{IsFirstOutput}
 
--- of each list of messages, and a fault behind them or none, the command has an output
+-- of each list of messages, and a fault after them or none, the command has an output
 abbrev pub SomeOutput : Type 0
 SomeOutput = (command : Command) (items : List Item) (fault : Option Fault) → (out : List ℕ) × IsFirstOutput command items fault out
 

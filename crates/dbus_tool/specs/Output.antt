@@ -1,4 +1,4 @@
--- What a command writes of the messages of its input and the fault behind them.
+-- What a command writes of the messages of its input and the fault after them.
 use Rattle.std.specs.Prelude.{◌≡◌, ℕ, ◌+◌, ◌⊎◌, List, [], ◌∷◌, ◌++◌, length, Option, None, Some}
 use Rattle.dbus_value_model.specs.declared.fault.Fault.{Fault}
 use Rattle.dbus_value_model.specs.declared.order.Order.{Order}
@@ -14,7 +14,7 @@ use Rattle.dbus_tool.specs.Lines.{ok_line, refused_line}
 use Rattle.dbus_tool.specs.declared.ending.ExitStatus.{ExitStatus}
 use Rattle.dbus_tool.specs.declared.ending.ExitStatus.TheVariants as status
 
--- the first list is a front of the second
+-- the first list is a prefix of the second
 abbrev pub IsFrontOf : List ℕ → List ℕ → Type 0
 IsFrontOf front all = (more : List ℕ) × (all ≡ front ++ more)
 
@@ -30,7 +30,7 @@ IsOutputOf Check order message n out = out ≡ []
 IsOutputOf (Swap wanted) order message n out = out ≡ message_bytes wanted message
 IsOutputOf (Filter rule) order message n out = IsFiltered (rule_pairs rule) order message out
 
--- what it writes of several, one behind the other, of which the first is the n-th
+-- what it writes of several, one after the other, of which the first is the n-th
 abbrev pub IsOutputOfAll : Command → ℕ → List Item → List ℕ → Type 0
 IsOutputOfAll command n [] out = out ≡ []
 IsOutputOfAll command n (item ∷ items) out = (one : List ℕ) × (more : List ℕ) × (out ≡ one ++ more)
@@ -41,7 +41,7 @@ abbrev pub check_line : ℕ → ℕ → Option Fault → List ℕ
 check_line count size None = ok_line count size
 check_line count size (Some fault) = refused_line (size + fault.at) fault.reason
 
--- what is written behind so many messages of so many bytes: only `check` writes a line there
+-- what is written after so many messages of so many bytes: only `check` writes a line there
 abbrev pub last_line : Command → ℕ → ℕ → Option Fault → List ℕ
 last_line Show count size fault = []
 last_line Check count size fault = check_line count size fault

@@ -16,7 +16,7 @@ Told held failures old new cause = failures new ≡ failures old → Appends (he
 
 module _ {R W E : Type 0} (left : R → Option (List ℕ)) (calls read_failures : R → ℕ) (held : W → Option (List ℕ)) (write_failures : W → ℕ)
     (second_held : E → Option (List ℕ)) (second_failures : E → ℕ) (limits : Limits) (most : ℕ) (command : Command) where
-  -- the first writer got a front of what the command makes of what was read, and the second the cause
+  -- the first writer got a prefix of what the command makes of what was read, and the second the cause
   pub record GaveUp (r0 r1 : R) (w0 w1 : W) (e0 e1 : E) (end : ExitStatus) : Type 0 where
     pub failed : end ≡ status.Failed
     pub cause : Cause

@@ -35,7 +35,7 @@ module _ {R : Type 0} (left : R → Option (List ℕ)) (calls failures : R → �
     pub counts : CountsAll left limits counted old new
     pub failed : failures new ≡ failures old
 
-  -- reading was given up behind the first messages of the input
+  -- reading was given up after the first messages of the input
   pub record TalliesSome (cause : Cause) (old new : R) : Type 0 where
     pub bytes : List ℕ
     pub items : List Item

@@ -1,4 +1,4 @@
-//! What is written behind the messages of an input.
+//! What is written after the messages of an input.
 ghost use Rattle.std.specs.Prelude.{◌≡◌, ◌++◌, IfOk, string_bytes};
 ghost use Rattle.dbus_tool.specs.Checking.{WritesLine};
 ghost use Rattle.dbus_tool.specs.Closing.{Closes, TellsSecond, WritesRest};

@@ -7,7 +7,7 @@ use dbus_value::Fault;
 pub enum ExitStatus {
     /// 0: all was read, and it is messages alone.
     Done,
-    /// 1: behind the messages stand bytes that are none, or the input ends within one.
+    /// 1: after the messages stand bytes that are none, or the input ends within one.
     Refused,
     /// 2: the words of the command line name no command.
     Usage,
@@ -56,6 +56,6 @@ pub(crate) struct Counted {
     /// How many there are, and how many bytes they have.
     pub(crate) count: u64,
     pub(crate) size: u64,
-    /// The fault of the bytes behind them, whose place counts from their end.
+    /// The fault of the bytes after them, whose place counts from their end.
     pub(crate) fault: Option<Fault>,
 }

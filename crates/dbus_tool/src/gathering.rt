@@ -13,7 +13,7 @@ pub(crate) type Gathered = ArrayVec<u8, 16_384>;
 #[derive(Clone, Copy, Debug, PartialEq, Eq)]
 pub(crate) struct Unwritten;
 
-/// Gathers the bytes. Where there is no room for them, what is gathered is written, and they are behind it.
+/// Gathers the bytes. Where there is no room for them, what is gathered is written, and they are after it.
 pub(crate) fn gather<W: Sink>(
     bytes: &[u8],
     gathered: &mut Gathered,

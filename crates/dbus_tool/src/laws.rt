@@ -4,7 +4,7 @@
 
 ghost use Rattle.dbus_tool.specs.Laws.{OneOutput, SomeOutput};
 
-/// Of each list of messages, and a fault behind them or none, a command has an output.
+/// Of each list of messages, and a fault after them or none, a command has an output.
 pub fn some_output()
     ensures { SomeOutput }
 {}

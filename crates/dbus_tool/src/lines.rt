@@ -17,7 +17,7 @@ pub(crate) fn ok_line<A: Allocator + Copy>(
     format!(in alloc; "ok {count} messages {size} bytes\n")
 }
 
-// What is written of a fault behind messages of this size. Its place counts from the start of the input.
+// What is written of a fault after messages of this size. Its place counts from the start of the input.
 pub(crate) fn refused_line<A: Allocator + Copy>(
     alloc: A,
     size: u64,

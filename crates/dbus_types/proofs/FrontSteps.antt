@@ -1,4 +1,4 @@
--- A front of a part's text is a front of the whole's.
+-- A prefix of a part's text is a prefix of the whole's.
 use Rattle.std.proofs.Common.{◌≡◌, ℕ, ◌+◌, ◌<◌, List, [], ◌∷◌, ◌++◌, Result, Ok, Err, OnErr, get_or, take, drop, length, refl, sym, ap, ◌∙◌, append_assoc, Vec}
 use Rattle.std.proofs.lemmas.List.{append-nil, take-append-drop, drop_more}
 use Rattle.std.specs.declared.sync.Arc.{Arc}
@@ -13,7 +13,7 @@ pub on_err : {T E P : Type 0} (r : Result T E) → P → OnErr r P
 on_err (Ok x) p = tt
 on_err (Err e) p = p
 
--- x was appended, and then a front of y
+-- x was appended, and then a prefix of y
 front_within : (b0 b1 b2 x y z text : List ℕ) → b1 ≡ b0 ++ x → text ≡ x ++ (y ++ z) → AppendsFront b1 b2 y → AppendsFront b0 b2 text
 front_within b0 b1 b2 x y z text e whole h = record {
   front = x ++ h.front;

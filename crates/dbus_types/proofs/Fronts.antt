@@ -57,7 +57,7 @@ opened_at w b c e h = opened h.tree b c h.rest (sym e ∙ h.spelled)
 pub front_is : (w : List ℕ) (b n : ℕ) (c : List ℕ) → w ≡ b ∷ c → b ≡ n → w ≡ n ∷ c
 front_is w b n c e f = e ∙ ap (λ x. x ∷ c) f
 
--- what stands behind the first byte of a type
+-- what stands after the first byte of a type
 pub inside_array : (w c : List ℕ) → w ≡ 97 ∷ c → StartsType w → StartsType c
 inside_array w c e h =
     ⊎_elim (λ x. absurd (false≢true x.0))

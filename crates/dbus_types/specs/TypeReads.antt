@@ -1,11 +1,11 @@
--- Types at the front of a list of bytes.
+-- Types at the start of a list of bytes.
 -- D-Bus Specification, "Type System" ("Valid Signatures").
 use Rattle.std.specs.Prelude.{◌≡◌, ℕ, List, ◌∷◌, ◌++◌}
 use Rattle.dbus_types.specs.declared.sig_type.SigType.{SigType}
 use Rattle.dbus_texts.specs.Types.{TypeTree, TypeTrees, sig, sigs}
 use Rattle.dbus_types.specs.SigTypes.{type_tree, type_trees_of}
 
--- some type stands at the front of w
+-- some type stands at the start of w
 pub record StartsType (w : List ℕ) : Type 0 where
   pub tree : TypeTree
   pub rest : List ℕ

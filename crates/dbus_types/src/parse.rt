@@ -15,7 +15,7 @@ use dbus_texts::{SigFault, check_signature, check_single};
 use std::alloc::{AllocError, Allocator};
 use std::sync::Arc;
 
-/// The type at the front, and what follows it.
+/// The type at the start, and what follows it.
 #[cycle(parse)]
 fn parse_type<A: Allocator + Copy>(
     alloc: A,
@@ -121,7 +121,7 @@ pub fn parse_signature<A: Allocator + Copy>(
 
 /// The type that a signature of exactly one complete type spells.
 ///
-/// Else `TooLong` over 255 bytes, else `Bad` at its break, which behind one complete type is its end;
+/// Else `TooLong` over 255 bytes, else `Bad` at its break, which after one complete type is its end;
 /// `Memory` where a growth was refused. D-Bus Specification, "Valid Signatures".
 pub fn parse_single<A: Allocator + Copy>(alloc: A, text: &[u8]) -> Result<SigType<A>, SigFault>
     ensures { IsSingleParse text.now result }

@@ -22,7 +22,7 @@ fn push_code<A: Allocator + Copy>(out: &mut String<A>, code: u8) -> Result<(), A
 
 /// Appends the text of a type, one code for each basic type. D-Bus Specification, "Type System".
 ///
-/// `AllocError` comes only where a growth was refused: then a front of the text stands behind what was there, which may be
+/// `AllocError` comes only where a growth was refused: then a prefix of the text stands after what was there, which may be
 /// none of it. Types that spell no signature have a text too.
 #[cycle(spell)]
 pub fn push_type<A: Allocator + Copy>(

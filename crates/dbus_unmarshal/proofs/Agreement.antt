@@ -15,7 +15,7 @@ pub record Agrees {A : Type 0} (item : Item A) (run : Reader A) : Type 0 where
   -- the faults are the same
   pub shows : (o : ℕ) (s : List ℕ) (f : Fault) → IsBytes s → run o s ≡ Faulty f → item.Refused o s f
   pub refuses : (o : ℕ) (s : List ℕ) (f : Fault) → item.Refused o s f → run o s ≡ Faulty f
-  -- what is passed is the front
+  -- what is passed is the prefix
   pub front : (o : ℕ) (s : List ℕ) (x : A) (q : ℕ) (r : List ℕ) → item.Passed o s x q r → (given : List ℕ) × (s ≡ given ++ r)
   -- whatever bytes follow
   pub passes_more : (c : List ℕ) (o : ℕ) (s : List ℕ) (x : A) (q : ℕ) (r : List ℕ) → item.Passed o s x q r → item.Passed o (s ++ c) x q (r ++ c)
@@ -31,7 +31,7 @@ after_faulty (Done x p u) next f e = inr (x, p, u, refl, e)
 after_faulty (Faulty g) next f e = inl cc
 after_faulty Partial next f e = absurd cc
 
--- what follows is asked only behind what the first passes
+-- what follows is asked only after what the first passes
 pub Agrees-then : {A B : Type 0} (first : Item A) (run : Reader A) (next : A → Item B) (runs : A → Reader B) → Agrees first run → ((x : A) (o : ℕ) (s : List ℕ) (q : ℕ) (r : List ℕ) → first.Passed o s x q r → Agrees (next x) (runs x)) → Agrees (items.◌>>=◌ first next) (reading.◌>>=◌ run runs)
 Agrees-then first run next runs one two = record {
   reads = λ o s y q r bytes e.

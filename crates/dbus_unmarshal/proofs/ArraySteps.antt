@@ -21,7 +21,7 @@ use Rattle.dbus_unmarshal.proofs.ReadSteps.{stops_after, number_stops, number_pa
 use Rattle.dbus_unmarshal.proofs.NumberSteps.{no_padding, byte_done}
 use Rattle.dbus_unmarshal.proofs.ValueSteps.{value_plain}
 
--- ---- the length, and the padding behind it
+-- ---- the length, and the padding after it
 
 pub row_too_long : (bounds : Bounds) (t : TypeTree) (end p n : ℕ) → bounds.array < n → array_row bounds t end p n ≡ Some reasons.ArrayTooLong
 row_too_long bounds t end p n h = rw (lt-ltb _ _ h) refl

@@ -46,7 +46,7 @@ module _ (bounds : Bounds) (order : Order) (frames : List Frame) where
   wants_more end room t ts o s =
       after_after (value bounds order room end t o s) _ _ ∙ after_same (value bounds order room end t o s) _ _ (λ v p u. after_after (fields (value bounds order room end) ts p u) _ _)
 
-  -- an array that is wanted: behind its own items its elements are wanted, and then the frames
+  -- an array that is wanted: after its own items its elements are wanted, and then the frames
   pub array_opens : (end room : ℕ) (t : TypeTree) (o : ℕ) (s : List ℕ) → after (value bounds order (suc room) end (ArrayType t) o s) (λ _. resume bounds order frames)
       ≡ after (padding 4 end o s) (λ _ p u. after (number order 4 end (array_row bounds t end) p u) (λ n p u. after (padding (alignment_of t) end p u) (λ _ p u. resume bounds order (Fills (p + n) room t ∷ frames) p u)))
   unfolding value

@@ -109,7 +109,7 @@ is_not_wanted k t h = decided (is_kind k t) (λ e. h (wanted_is k t e))
     decided true n = absurd (n refl)
     decided false n = refl
 
--- one of its fronts begins a text alone
+-- one of its prefixes begins a text alone
 abbrev BeginsOnly : List ℕ → List ℕ → Type 0
 BeginsOnly u v = IsPrefixIn (λ w. w ≡ u) v
 

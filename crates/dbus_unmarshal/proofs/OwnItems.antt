@@ -190,7 +190,7 @@ module _ (order : Order) (w end : ℕ) (row : ℕ → ℕ → Option Reason) whe
 
 -- ---- texts
 
--- what is given of a text is the front of what is taken
+-- what is given of a text is the prefix of what is taken
 taken_longer : (n : ℕ) (given more : List ℕ) → length given ≤ n → take n (given ++ more) ≡ given ++ take (n - length given) more
 taken_longer n [] more h = let e : n - 0 ≡ n = omega arith in rw e refl
 taken_longer zero (b ∷ given) more h = absurd (omega arith)

@@ -124,7 +124,7 @@ text_fits end q n h = rw (le-ltb _ _ h) refl
 pub text_overruns : (end q n : ℕ) → end < q + n + 1 → text_row end q n ≡ Some reasons.Overrun
 text_overruns end q n h = rw (lt-ltb _ _ h) refl
 
--- ---- the zero behind a text
+-- ---- the zero after a text
 
 nul_zero : (o b : ℕ) (s : List ℕ) → b ≡ 0 → nul o (b ∷ s) ≡ Done tt (o + 1) s
 nul_zero o b s e = rw e refl

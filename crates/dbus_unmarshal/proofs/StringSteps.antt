@@ -61,7 +61,7 @@ mutual
   sigs_utf8 NoTypes = IsUtf8-nil
   sigs_utf8 (MoreTypes t ts) = IsUtf8-append (sig t) (sigs ts) (sig_utf8 t) (sigs_utf8 ts)
 
--- the text of n bytes at a place, up to the place behind it
+-- the text of n bytes at a place, up to the place after it
 module _ (n at behind : ℕ) (bytes : List ℕ) (ends : behind ≡ at + n) where
   pub same_part : take n (drop at bytes) ≡ take (behind - at) (drop at bytes)
   same_part = let long : n ≡ behind - at = omega arith in ap (λ (k : ℕ). take k (drop at bytes)) long

@@ -48,7 +48,7 @@ framed p next (Done n q r) = framed_at n next (p n q r)
 framed p next (Faulty f) = refl
 framed p next Partial = refl
 
--- what stands behind an array's length and padding
+-- what stands after an array's length and padding
 abbrev array_rest : Bounds → Order → ℕ → ℕ → TypeTree → ℕ → Reader ValueTree
 array_rest bounds order room end t n o s = after (contents n (λ end before. value bounds order room end t) o s) (λ xs. pure (ArrayValue t (value_trees xs)))
 

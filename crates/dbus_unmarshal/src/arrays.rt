@@ -18,7 +18,7 @@ use dbus_types::{SigType, alignment};
 use dbus_value_model::{Bounds, Order, Reason, Stop, padding_length, refuse};
 use std::alloc::Allocator;
 
-/// The length of an array's elements in bytes, and the place of the first one, behind its padding.
+/// The length of an array's elements in bytes, and the place of the first one, after its padding.
 ///
 /// `ArrayTooLong` at the length where it is over the bounds' array, else `Overrun` where the elements end past the end.
 pub fn read_frame<A: Allocator>(

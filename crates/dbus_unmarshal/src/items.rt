@@ -2,7 +2,7 @@
 //! D-Bus Specification, "Marshaling (Wire Format)".
 //!
 //! `bytes` begin at the message's first byte, and a place counts from there. An item begins at `at` and is to end at
-//! or before `end`. What is read comes with the place behind it. Each call answers `Refused` with the first fault that
+//! or before `end`. What is read comes with the place after it. Each call answers `Refused` with the first fault that
 //! the bytes of the item show, and `Partial` where they end within it and show none. None takes memory.
 #![tactic(auto)]
 
@@ -16,7 +16,7 @@ ghost use Rattle.dbus_value_model.specs.Gives.{Gives, no_row};
 
 use dbus_value_model::{Order, Reason, Stop, padding_length, refuse};
 
-/// The zeros up to the next multiple of `alignment`. Gives the place behind them.
+/// The zeros up to the next multiple of `alignment`. Gives the place after them.
 ///
 /// `Overrun` at `at` where they end past the end; else `Padding` at the first byte that is not 0. D-Bus
 /// Specification, "Marshaling (Wire Format)".
@@ -129,7 +129,7 @@ pub(crate) fn read_u64(
     Ok((order.u64_at(bytes, at), at + 8))
 }
 
-/// The zero behind a text. Gives the place behind it.
+/// The zero after a text. Gives the place after it.
 ///
 /// `Nul` at `at` where the byte is not 0. D-Bus Specification, "Marshaling (Wire Format)".
 pub fn read_nul(bytes: &[u8], at: usize) -> Result<usize, Stop>
@@ -149,7 +149,7 @@ pub fn read_nul(bytes: &[u8], at: usize) -> Result<usize, Stop>
 
 /// The length of a text, of four bytes: that of a STRING or an OBJECT_PATH, whose padding is read already.
 ///
-/// `Overrun` at `at` where the length, the text and the zero behind it end past the end.
+/// `Overrun` at `at` where the length, the text and the zero after it end past the end.
 pub fn read_length(
     bytes: &[u8],
     at: usize,
@@ -172,7 +172,7 @@ pub fn read_length(
 
 /// The length of a text, of one byte: that of a SIGNATURE.
 ///
-/// `Overrun` at `at` where the length, the text and the zero behind it end past the end.
+/// `Overrun` at `at` where the length, the text and the zero after it end past the end.
 pub fn read_short_length(bytes: &[u8], at: usize, end: usize) -> Result<(usize, usize), Stop>
     requires at_most { at ≤ end }
     requires inside { at ≤ length bytes.now }

@@ -26,7 +26,7 @@ use dbus_value_model::{
 };
 use std::alloc::Allocator;
 
-/// The value of a type that stands at a place, and the place behind it, as [`get_within`] says under the limits of the
+/// The value of a type that stands at a place, and the place after it, as [`get_within`] says under the limits of the
 /// specification.
 pub fn get<A: Allocator + Copy>(
     alloc: A,
@@ -57,7 +57,7 @@ pub fn get<A: Allocator + Copy>(
     )
 }
 
-/// The value of a type that stands at a place, and the place behind it.
+/// The value of a type that stands at a place, and the place after it.
 ///
 /// `bytes` begin at the message's first byte, from which padding counts; the value begins at `at` and ends at or
 /// before `end`, and `depth` containers are open around it, at most the limits' depth. Every index of a file descriptor in it
@@ -101,7 +101,7 @@ pub fn get_within<A: Allocator + Copy>(
     }
 }
 
-/// The value of a type that stands at a place, where `room` more containers may be opened, and the place behind it: what
+/// The value of a type that stands at a place, where `room` more containers may be opened, and the place after it: what
 /// [`get_within`] answers, for a reader that goes on with a [`Stop`] of its own.
 ///
 /// `bytes` begin at the message's first byte; the value ends at or before `end`. `Stop::Refused` has the first fault,
@@ -302,7 +302,7 @@ fn read_struct<A: Allocator + Copy>(
     Ok((Value::Struct(values), next))
 }
 
-/// Values of these types, one behind another.
+/// Values of these types, one after another.
 #[cycle(values)]
 fn read_fields<A: Allocator + Copy>(
     alloc: A,

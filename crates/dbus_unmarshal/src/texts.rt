@@ -55,7 +55,7 @@ fn alike(a: &[u8], b: &[u8]) -> usize
     n
 }
 
-/// A text of n bytes of a kind. Gives the place behind it.
+/// A text of n bytes of a kind. Gives the place after it.
 ///
 /// Else the kind's fault, as `text_reason` names it, at the text's break. D-Bus Specification, "Basic types", "Valid
 /// Object Paths", "Valid Names" and "Valid Signatures".
@@ -75,7 +75,7 @@ pub fn read_text(bytes: &[u8], at: usize, n: usize, kind: TextKind) -> Result<us
     }
 }
 
-/// The one signature that is wanted, where n bytes are given for it. Gives the place behind it.
+/// The one signature that is wanted, where n bytes are given for it. Gives the place after it.
 ///
 /// Else `FieldType` at the first byte that is another, or at the text's end where more is wanted. D-Bus
 /// Specification, "Header Fields".
@@ -109,7 +109,7 @@ pub fn copy_text<A: Allocator>(alloc: A, text: &[u8]) -> Result<String<A>, Alloc
     String::from_str(alloc, text)
 }
 
-/// The signature of one complete type, of n bytes: its type, and the place behind it.
+/// The signature of one complete type, of n bytes: its type, and the place after it.
 ///
 /// Else `Signature` at the text's break; `Memory` where a growth was refused. D-Bus Specification, "Valid Signatures".
 pub fn read_signature<A: Allocator + Copy>(

@@ -48,7 +48,7 @@ mutual
       ap (λ (s : List ℕ). type_length (suc deep) s) (append_assoc (sig t) (sigs ts) r) ∙ inside t deep (sigs ts ++ r)
       ∙ ap (λ (n : ℕ). length (sig t) + n) (all_inside ts deep r) ∙ omega (arith, length-append (sig t) (sigs ts))
 
--- outside of brackets the front type ends where its text does
+-- outside of brackets the first type ends where its text does
 pub type_ends : (t : TypeTree) (r : List ℕ) → type_length 0 (sig t ++ r) ≡ length (sig t)
 type_ends (NumberType k) r = number_ends 0 k r
 type_ends (TextType k) r = text_ends 0 k r

@@ -41,7 +41,7 @@ module _ (part : TypeTree → Reader ValueTree) (bytes types : List ℕ) (ts : T
   none_more place q t us one unread = not_second (part t place (drop place bytes)) _ one.0 q (drop q bytes) one.1 (not_first (fields part us q (drop q bytes)) _ unread)
 
   module _ (place pos next : ℕ) (lt : pos < length types) (is : next ≡ pos + type_length 0 (drop pos types)) where
-    -- the type at the front of those that are left
+    -- the type at the start of those that are left
     front_is : (t : TypeTree) (us : TypeTrees) → sigs (MoreTypes t us) ≡ drop pos types → (sig t ≡ take (next - pos) (drop pos types)) × (sigs us ≡ drop next types)
     front_is t us text =
         let n : type_length 0 (drop pos types) ≡ length (sig t) = ap (type_length 0) (sym text) ∙ type_ends t (sigs us) in

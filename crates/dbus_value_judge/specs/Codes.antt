@@ -27,7 +27,7 @@ abbrev pub unless_closed : ℕ → (ℕ → ℕ) → ℕ
 unless_closed zero more = 0
 unless_closed (suc deep) more = more (suc deep)
 
--- how many bytes the type at the front has, where so many brackets are open before it: up to the first byte, other than that of
+-- how many bytes the type at the start has, where so many brackets are open before it: up to the first byte, other than that of
 -- an array, after which none is open
 abbrev pub type_length : ℕ → List ℕ → ℕ
 type_length deep [] = 0

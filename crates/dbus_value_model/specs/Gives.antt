@@ -12,7 +12,7 @@ Stops stops.Memory read = Unit {0}
 Stops stops.Partial read = read ≡ reading.Partial
 Stops (stops.Refused f) read = read ≡ reading.Faulty f
 
--- view gives what was read, and the place behind it
+-- view gives what was read, and the place after it
 abbrev pub Gives : {X A : Type 0} → (X → A × ℕ) → List ℕ → Result X Stop → Outcome A → Type 0
 Gives view bytes (Ok x) read = read ≡ reading.Done (view x).0 (view x).1 (drop (view x).1 bytes)
 Gives view bytes (Err e) read = Stops e read

@@ -1,5 +1,5 @@
 -- The items that a message is read as: how each is passed, and which faults it shows. Every row of the fault table that speaks of
--- one item alone stands here; a row says which bytes are there, as the front of all that are.
+-- one item alone stands here; a row says which bytes are there, as the prefix of all that are.
 -- D-Bus Specification, "Marshaling (Wire Format)"; docs/WIRE-FORMAT.md, "Faults".
 use Rattle.std.specs.Prelude.{◌≡◌, ℕ, suc, ◌+◌, ◌<◌, ◌≤◌, ◌^◌, ◌⊎◌, List, [], ◌∷◌, ◌++◌, length, replicate, Option, Some, None}
 use Rattle.dbus_texts.specs.Types.{TypeTree, sig, IsSingleType}
@@ -14,13 +14,13 @@ use Rattle.dbus_texts.specs.declared.text_kind.TextKind.TheVariants as kinds
 abbrev pub fault : ℕ → Reason → Fault
 fault p r = record { at = p; reason = r }
 
--- An item: from a place, and the bytes that are there from it on, it is passed with a value, the place behind it and
+-- An item: from a place, and the bytes that are there from it on, it is passed with a value, the place after it and
 -- the bytes from there on; or it shows a fault.
 pub record Item (A : Type 0) : Type 1 where
   pub Passed : ℕ → List ℕ → A → ℕ → List ℕ → Type 0
   pub Refused : ℕ → List ℕ → Fault → Type 0
 
--- One item behind another: the fault is that of the first that is not passed.
+-- One item after another: the fault is that of the first that is not passed.
 infixl 10 ◌>>=◌
 infixl 10 ◌>>◌
 abbrev pub ◌>>=◌ : {A B : Type 0} → Item A → (A → Item B) → Item B
@@ -67,7 +67,7 @@ padding a end = record {
   Refused = PaddingFault a end;
 }
 
--- A number of w bytes; row says at the place behind it which fault of its own it has.
+-- A number of w bytes; row says at the place after it which fault of its own it has.
 pub data NumberFault (order : Order) (w end : ℕ) (row : ℕ → ℕ → Option Reason) (o : ℕ) (s : List ℕ) (f : Fault) : Type 0 where
   number_overruns : end < o + w → f ≡ fault o reasons.Overrun → NumberFault order w end row o s f
   number_refused : (n : ℕ) (more : List ℕ) (why : Reason) → o + w ≤ end → n < 256 ^ w → s ≡ num order w n ++ more → row (o + w) n ≡ Some why → f ≡ fault o why → NumberFault order w end row o s f
@@ -124,7 +124,7 @@ abbrev pub Sequence : {A : Type 0} → (List A → Item A) → List A → List A
 Sequence part before [] o s q r = (q ≡ o) × (r ≡ s)
 Sequence part before (v ∷ vs) o s q r = (p : ℕ) × (t : List ℕ) × (part before).Passed o s v p t × Sequence part (v ∷ before) vs p t q r
 
--- Behind some passed parts the end is not reached, and one more, which is wanted there, shows the fault.
+-- After some passed parts the end is not reached, and one more, which is wanted there, shows the fault.
 abbrev pub StopsIn : {A : Type 0} → (List A → Item A) → ℕ → List A → List A → ℕ → List ℕ → Fault → Type 0
 StopsIn part end before [] o s f = (o < end) × (part before).Refused o s f
 StopsIn part end before (v ∷ vs) o s f = (p : ℕ) × (t : List ℕ) × (part before).Passed o s v p t × StopsIn part end (v ∷ before) vs p t f

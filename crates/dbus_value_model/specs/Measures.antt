@@ -26,7 +26,7 @@ EndsAt e kept (Some p) = kept × (p ≡ capped e)
 pub record IsMeasured (array : ℕ) (v : ValueTree) (at : ℕ) (end : Option ℕ) : Type 0 where
   pub from : (order : Order) (o : ℕ) → capped o ≡ at → EndsAt (o + length (spelling order o v)) (IsWithinLimits array order o v) end
 
--- the end of values one behind the other
+-- the end of values one after the other
 pub record AreMeasured (array : ℕ) (vs : ValueTrees) (at : ℕ) (end : Option ℕ) : Type 0 where
   pub from : (order : Order) (o : ℕ) → capped o ≡ at → EndsAt (o + length (spellings order o vs)) (AreWithinLimits array order o vs) end
 

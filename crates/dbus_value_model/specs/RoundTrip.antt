@@ -35,7 +35,7 @@ GivesBack v e (Ok Partial) = ⊥
 GivesBack v e (Err Memory) = Unit {0}
 GivesBack v e (Err (Format f)) = ⊥
 
--- Behind any bytes, in either order and whatever follows: getting a value of its type where one was put gives it back.
+-- After any bytes, in either order and whatever follows: getting a value of its type where one was put gives it back.
 abbrev pub WrittenIsRead : Type 0 → Type 0
 WrittenIsRead A = (limits : Limits) (fds : Option ℕ) (order : Order) (room end e : ℕ) (v : ValueTree) (front more : List ℕ) (read : Result (Got A) Refusal)
     → PassesCheck room fds v → length front ≤ limits.message → sized limits v None (length front) ≡ Ok e → e ≤ end

@@ -18,7 +18,7 @@ abbrev pub and_then : Result ℕ ValueFault → Sizing → Result ℕ ValueFault
 and_then (Ok o) s = s o
 and_then (Err f) s = Err f
 
--- one behind the other
+-- one after the other
 infixr 6 ◌⊳◌
 abbrev pub ◌⊳◌ : Sizing → Sizing → Sizing
 (s ⊳ t) o = and_then (s o) t

@@ -40,14 +40,14 @@ held_value bounds order room end = do
 unfoldable pub variant_value : Bounds → Order → ℕ → ℕ → Reader ValueTree
 variant_value bounds order room end = opened room (held_value bounds order (room - 1) end)
 
--- an array's length and the padding behind it
+-- an array's length and the padding after it
 unfoldable pub array_frame : Bounds → Order → ℕ → TypeTree → Reader ℕ
 array_frame bounds order end t = do
   n ← number order 4 end (array_row bounds t end)
   padding (alignment_of t) end
   pure n
 
--- an array behind its first padding, within itself
+-- an array after its first padding, within itself
 unfoldable pub open_array : Bounds → Order → ℕ → ℕ → TypeTree → Reader ValueTree
 open_array bounds order room end t = do
   n ← array_frame bounds order end t

@@ -22,7 +22,7 @@ abbrev pub IsWanted : WantedText → List ℕ → Type 0
 IsWanted (Of k) t = IsKind k t
 IsWanted (Only u) t = t ≡ u
 
--- n is the length of the longest front of the text with which one of those wanted begins, limits on length lifted
+-- n is the length of the longest prefix of the text with which one of those wanted begins, limits on length lifted
 abbrev pub IsBreakOf : WantedText → List ℕ → ℕ → Type 0
 IsBreakOf (Of k) t n = IsBreak k t n
 IsBreakOf (Only u) t n = IsBreakIn (λ v. v ≡ u) t n
@@ -46,7 +46,7 @@ unfoldable pub is_kind : WantedText → List ℕ → Bool
 is_kind (Of k) t = computed.is_kind k t
 is_kind (Only u) t = same_text u t
 
--- the length of the longest front of a text with which one of those wanted begins
+-- the length of the longest prefix of a text with which one of those wanted begins
 unfoldable pub break_at : WantedText → List ℕ → ℕ
 break_at (Of k) t = computed.break_at k t
 break_at (Only u) t = alike u t

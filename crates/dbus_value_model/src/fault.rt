@@ -26,7 +26,7 @@ pub enum Reason {
     Bool,
     /// A STRING is not UTF-8 without U+0000.
     Text,
-    /// The byte behind a text is not 0.
+    /// The byte after a text is not 0.
     Nul,
     /// An OBJECT_PATH is no object path.
     Path,
@@ -50,7 +50,7 @@ pub enum Reason {
     FieldType,
     /// The message type requires a header field of this code, and it is not there.
     FieldMissing(u8),
-    /// Bytes are left behind the body's last value, or behind the message.
+    /// Bytes are left after the body's last value, or after the message.
     Trailing,
     /// A container is opened while as many are open as the limit on depth: 64, or fewer where such a limit is handed in.
     TooDeep,

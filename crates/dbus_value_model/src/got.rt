@@ -7,7 +7,7 @@ use std::alloc::{Allocator, Global};
 /// What bytes gave that are not refused.
 #[derive(Debug, Drop)]
 pub enum Got<A: Allocator = Global> {
-    /// The value, and the place behind it.
+    /// The value, and the place after it.
     Done(Value<A>, usize),
     /// Neither a value nor a fault: more bytes are wanted.
     Partial,

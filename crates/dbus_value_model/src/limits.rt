@@ -10,7 +10,7 @@ use crate::fd_rule::FdRule;
 /// D-Bus Specification, "Marshaling (Wire Format)".
 pub const ARRAY_LIMIT: u32 = 67_108_864;
 
-/// The most bytes that a message has: its header, the padding behind that, and its body.
+/// The most bytes that a message has: its header, the padding after that, and its body.
 /// D-Bus Specification, "Message Format".
 pub const MESSAGE_LIMIT: u32 = 134_217_728;
 

@@ -62,7 +62,7 @@ StandsThere bounds order room bytes v s = (x : ValueTree) × (v ≡ Some x) × S
 abbrev pub StandsSomehow : Order → (room : ℕ) → List ℕ → Option ValueTree → Spot → Type 0
 StandsSomehow order room bytes v s = (bounds : Bounds) × StandsThere bounds order room bytes v s
 
--- a text with its length, in so many bytes, before it, and one byte behind it, has those bytes
+-- a text with its length, in so many bytes, before it, and one byte after it, has those bytes
 pub record IsTextIn (bytes : List ℕ) (width start after : ℕ) (t : List ℕ) : Type 0 where
   pub after_is : after ≡ start + gap_to width start + width + length t + 1
   pub inside : after ≤ length bytes

@@ -9,7 +9,7 @@ use Rattle.dbus_value_model.specs.Items.{fault}
 use Rattle.dbus_message_model.specs.Messages.{MessageTree}
 use Rattle.dbus_decode.specs.MessageOutcomes.{IsWhole, IsRefused, IsPartial}
 
--- they are refused with the fault; or they are partial, and end too soon at their end; or they begin with a message behind which
+-- they are refused with the fault; or they are partial, and end too soon at their end; or they begin with a message after which
 -- others stand, the first of them at the message's end
 abbrev pub IsViewFault : Limits → List ℕ → Fault → Type 0
 IsViewFault limits bytes f =

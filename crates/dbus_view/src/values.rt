@@ -1,4 +1,4 @@
-//! The values of a body, one behind another. D-Bus Specification, "Message Format", "Marshaling (Wire Format)".
+//! The values of a body, one after another. D-Bus Specification, "Message Format", "Marshaling (Wire Format)".
 #![tactic(auto)]
 
 ghost use Rattle.std.specs.Prelude.{◌≡◌, ◌≤◌, ℕ, List, length, None, MatchOption, IfSome};
@@ -82,7 +82,7 @@ pub(crate) fn spot_in(bytes: &[u8], limits: Limits, judged: &Judged, n: usize) -
     )
 }
 
-/// The text that stands from `start` up to `after`, behind its length in `width` bytes, and with a zero behind it.
+/// The text that stands from `start` up to `after`, after its length in `width` bytes, and with a zero after it.
 pub(crate) fn text_in(bytes: &[u8], start: usize, after: usize, width: u8) -> &str
     requires some { 1 ≤ width }
     requires text { (t : List ℕ) × IsTextIn bytes.now width start after t }
@@ -95,7 +95,7 @@ pub(crate) fn text_in(bytes: &[u8], start: usize, after: usize, width: u8) -> &s
     unsafe { str::from_utf8_unchecked(text) }
 }
 
-/// Where the text stands of a value that stands there, behind its length in `width` bytes, and with a zero behind it.
+/// Where the text stands of a value that stands there, after its length in `width` bytes, and with a zero after it.
 pub(crate) fn text_place(bytes: &[u8], spot: Spot, width: u8) -> ArgPlace
     requires some { 1 ≤ width }
     requires text { (t : List ℕ) × IsTextIn bytes.now width spot.start spot.after t }

@@ -64,7 +64,7 @@ impl<'a> MessageView<'a> {
     ///
     /// Else why they are not one: the fault of the message that begins so, as decoding finds it; `Truncated` at the end of the bytes,
     /// where a message may begin so and more bytes are wanted; `Trailing` at the end of the message that they begin with, where
-    /// others stand behind it.
+    /// others stand after it.
     pub fn of_within(bytes: &'a [u8], limits: Limits) -> Result<MessageView<'a>, Fault>
         ensures viewed { IfOk result (λ v. IsViewOf limits bytes.now v) }
         ensures refused { IfErr result (λ f. IsViewFault limits bytes.now f) }

@@ -1,4 +1,4 @@
-//! `dbus-wire`: reads D-Bus messages from standard input, one behind the other, and does with them what its command
+//! `dbus-wire`: reads D-Bus messages from standard input, one after the other, and does with them what its command
 //! line says: `show` writes each as text, `swap` in one byte order, `filter` those that match a rule as they came, and
 //! `check` tells how many there are.
 //!

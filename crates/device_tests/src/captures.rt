@@ -72,7 +72,7 @@ pub(crate) const SIGNAL_TEXT: &[u8] =
 pub(crate) const SIGNAL_AS_SECOND: &[u8] =
     b"#2 l signal serial=2 flags=00 path=/a interface=a.b member=C signature=sv\n  s:\"hi\"\n  <au:[u:1, u:2]>\n";
 
-/// Method returns with an empty array of UINT64 in the body, behind the number 7 and alone.
+/// Method returns with an empty array of UINT64 in the body, after the number 7 and alone.
 pub(crate) const NUMBER_AND_ARRAY: &[u8] =
     b"\x6c\x02\x00\x01\x08\x00\x00\x00\x01\x00\x00\x00\x11\x00\x00\x00\x05\x01\x75\x00\x01\x00\x00\x00\x08\x01\x67\x00\x03\x75\x61\x78\x00\x00\x00\x00\x00\x00\x00\x00\x07\x00\x00\x00\x00\x00\x00\x00";
 
@@ -91,7 +91,7 @@ pub(crate) const SIGNATURES_HEADER: &[u8] =
 pub(crate) const SIGNATURES_TEXT: &[u8] =
     b"#1 l method_return serial=1 flags=00 reply_serial=1 signature=ag\n  ag:[";
 
-/// Bytes one behind the other.
+/// Bytes one after the other.
 pub(crate) fn joined(alloc: Global, parts: &[&[u8]]) -> Result<Vec<u8>, Fail> {
     let mut all = Vec::new(alloc);
     for part in parts {

@@ -19,7 +19,7 @@ enum Named {
     Refused(RuleFault),
 }
 
-// What the command line answers to these words behind the program's path.
+// What the command line answers to these words after the program's path.
 fn answer_to(alloc: Global, words: &[&str]) -> Result<Result<(Command, Limits), UsageFault>, Fail> {
     let words = words_of(alloc, "/usr/bin/dbus-wire", words)?;
     Ok(command_of(alloc, words.as_slice()))

@@ -63,7 +63,7 @@ fn a_message_in_pieces_of_one_byte(rt: HostRuntime) -> Result<(), Fail> {
     Ok(())
 }
 
-// Each front wants more bytes, and gives the message with the rest.
+// Each prefix wants more bytes, and gives the message with the rest.
 #[test]
 fn messages_in_two_pieces(rt: HostRuntime) -> Result<(), Fail> {
     let alloc = rt.alloc();

@@ -22,7 +22,7 @@ fn ran_by_one<A: Allocator + Copy>(
     ran(alloc, heap, words, Pieces::new(bytes, 1, 0))
 }
 
-// Where the growth of this number is refused the run has failed and says so, what it wrote is a front of the whole, and
+// Where the growth of this number is refused the run has failed and says so, what it wrote is a prefix of the whole, and
 // all that was taken is given back. Where there are fewer growths the run ends as it should, and this tells how many.
 fn growth_refused(
     rt: &(impl Abort + AllocGlobal),

@@ -110,7 +110,7 @@ const ROWS: &[Row] = &[
         limits: (MESSAGE_LIMIT, ARRAY_LIMIT, DEPTH_LIMIT, FdRule::BelowCount),
         refused: Some((36, Reason::FdIndex, 40)),
     },
-    // The body's length is one byte too many, which shows behind the index.
+    // The body's length is one byte too many, which shows after the index.
     Row {
         message: INDEX_AND_MORE,
         limits: (MESSAGE_LIMIT, ARRAY_LIMIT, DEPTH_LIMIT, FdRule::Any),

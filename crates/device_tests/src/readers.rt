@@ -185,7 +185,7 @@ fn gives_a_message_at_once(rt: HostRuntime) -> Result<(), Fail> {
     reads(&rt, source, script.as_slice(), [5060, 5061, 1])
 }
 
-// Fronts of messages whose stated length is 4,096, and the place, the reason and the deciding byte's number of their fault.
+// Prefixes of messages whose stated length is 4,096, and the place, the reason and the deciding byte's number of their fault.
 const FAULTY: &[(&[u8], u64, Reason, u64)] = &[
     (
         b"l\x02\0\x01\xe8\x0f\0\0\x01\0\0\0\x08\0\0\0\0\x01u\0",
@@ -281,7 +281,7 @@ const REFUSED: &[Refused] = &[
         done: 96,
         calls: 97,
     },
-    // The signal is kept already, behind another message.
+    // The signal is kept already, after another message.
     Refused {
         input: &[RETURN, SIGNAL],
         size: 1000,

@@ -27,7 +27,7 @@ pub(crate) struct End {
     pub(crate) second: Vec<u8>,
 }
 
-/// The name of a program and words behind it.
+/// The name of a program and words after it.
 pub(crate) fn words_of(alloc: Global, name: &str, words: &[&str]) -> Result<Vec<String>, Fail> {
     let mut all = Vec::new(alloc);
     all.push(String::from_str(alloc, name)?)?;

@@ -252,7 +252,7 @@ fn many_messages(rt: HostRuntime) -> Result<(), Fail> {
     ends(&rt, 0, TO_BIG, input, ExitStatus::Done, first, b"")
 }
 
-// More than is gathered at once: a text of 16,271 bytes, and of the same read three texts behind it, of which the third
+// More than is gathered at once: a text of 16,271 bytes, and of the same read three texts after it, of which the third
 // does not fit.
 #[test]
 fn a_long_text_and_more(rt: HostRuntime) -> Result<(), Fail> {

@@ -5,7 +5,7 @@ use dbus_value::Order;
 use std::alloc::{Allocator, Global};
 use std::test::Fail;
 
-/// Puts the bytes of the message, in its order, behind others.
+/// Puts the bytes of the message, in its order, after others.
 pub(crate) fn spell(
     alloc: Global,
     given: Option<(Order, Message)>,

@@ -16,7 +16,7 @@ const HELLO: u32 = 1;
 
 const LIST_NAMES: u32 = 2;
 
-/// A session with a message bus: the handshake, and the messages behind it.
+/// A session with a message bus: the handshake, and the messages after it.
 #[derive(Drop)]
 pub(crate) struct Session {
     alloc: Global,
@@ -73,7 +73,7 @@ impl Session {
         Ok(None)
     }
 
-    // Takes at most one line of the handshake, behind whose last line `Hello` is called, and says how many bytes that were.
+    // Takes at most one line of the handshake, after whose last line `Hello` is called, and says how many bytes that were.
     fn take_line(&mut self, bytes: &[u8], send: &mut Vec<u8>) -> Result<usize> {
         let step = self.end.take(bytes)?;
         send.extend_from_slice(&step.send)?;
@@ -89,7 +89,7 @@ impl Session {
     }
 
     // Takes at most one message, and says how many bytes that were. It gives the message where it is the reply to
-    // `ListNames`, which is called behind the reply to `Hello`. Others, as the signal that the client has a name, are ignored.
+    // `ListNames`, which is called after the reply to `Hello`. Others, as the signal that the client has a name, are ignored.
     fn take_message(
         &mut self,
         bytes: &[u8],

@@ -13,7 +13,7 @@ const GUID: Guid = Guid([
     1, 35, 69, 103, 137, 171, 205, 239, 1, 35, 69, 103, 137, 171, 205, 239,
 ]);
 
-/// A connection to one client: the handshake, and the messages behind it.
+/// A connection to one client: the handshake, and the messages after it.
 #[derive(Drop)]
 pub(crate) struct Connection {
     alloc: Global,
@@ -41,7 +41,7 @@ impl Connection {
     ///
     /// A line or a message may end anywhere in a piece. So one call of an end or of a cutter takes at most one of them, and
     /// says how many bytes it took: the others are handed in again. The last lines of the handshake and the first messages
-    /// may come in one piece, and an end takes nothing behind the handshake.
+    /// may come in one piece, and an end takes nothing after the handshake.
     pub(crate) fn take(&mut self, piece: &[u8], send: &mut Vec<u8>) -> Result<()> {
         let mut rest = piece;
         // Each round takes a byte at least.

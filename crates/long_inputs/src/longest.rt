@@ -34,7 +34,7 @@ const TOO_LONG: &[Part] = &[
     (b"\0", 1),
 ];
 
-// What both readers answer of a message, and then behind it.
+// What both readers answer of a message, and then after it.
 fn try_message(rt: &HostRuntime, name: &str, parts: &'static [Part]) -> io::Result<()> {
     let mut reader = CheckReader::new(Parts::new(parts));
     let first = checked(&mut reader);

@@ -1,4 +1,4 @@
-//! `long_inputs`: a message as long as any may be, one that is a byte longer, and a million messages one behind the other, as
+//! `long_inputs`: a message as long as any may be, one that is a byte longer, and a million messages one after the other, as
 //! the readers of messages answer them.
 //!
 //! Of the million it also says whether the reader that builds them took as much memory at each hundred thousand. It reads no

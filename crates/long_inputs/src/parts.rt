@@ -6,7 +6,7 @@ use dbus_stream::{DeviceFault, Source};
 /// Bytes, and how often they come.
 pub(crate) type Part = (&'static [u8], u64);
 
-/// A source of parts one behind the other. Each read gives the bytes of a part once.
+/// A source of parts one after the other. Each read gives the bytes of a part once.
 #[derive(Drop)]
 pub(crate) struct Parts {
     parts: &'static [Part],
@@ -43,7 +43,7 @@ impl Parts {
     }
 }
 
-// Copies bytes to the front of a buffer that has room for them, and says how many.
+// Copies bytes to the start of a buffer that has room for them, and says how many.
 fn copy(buffer: &mut [u8], bytes: &[u8]) -> usize
     ensures { result ≤ length buffer.new }
 {

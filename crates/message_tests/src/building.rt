@@ -52,7 +52,7 @@ const MANY_TYPES: &[u8] =
     \x13\0\0\0\0\0\0\0\x03\0\0\0key\0\x02ay\0\x03\0\0\0\x01\x02\x03\0\0\0\0\0\
     \xff\xff\0\0\0\0\0\0\x07\0\0\0\0\0\0\0\0\0\0\0\0\0\0\0\0";
 
-// The longest field array: in front of its bytes, its contents have 12, the field's code, its signature, a padding and a
+// The longest field array: before its bytes, its contents have 12, the field's code, its signature, a padding and a
 // length.
 const LONGEST: Row = (5, 1, &[(10, Item::Zeros(67_108_852))], &[]);
 
@@ -68,7 +68,7 @@ const REFUSED: &[(Row, BuildFault)] = &[
         (2, 1, &[(5, Item::U32(1)), (5, Item::U32(2))], &[]),
         BuildFault::FieldTwice(5),
     ),
-    // Two codes stand twice: the first field that stands behind one of its code is told.
+    // Two codes stand twice: the first field that stands after one of its code is told.
     (
         (
             2,

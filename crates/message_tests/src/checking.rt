@@ -13,7 +13,7 @@ use std::alloc::Global;
 use std::process::Abort;
 use std::test::Fail;
 
-// A reply of 24 bytes, and the first 5 bytes of another behind it.
+// A reply of 24 bytes, and the first 5 bytes of another after it.
 const REPLY_AND_FRONT: &[u8] =
     b"l\x02\x01\x01\0\0\0\0\x01\0\0\0\x08\0\0\0\x05\x01u\0\x01\0\0\0l\x02\x01\x01\0";
 
@@ -21,7 +21,7 @@ const REPLY_AND_FRONT: &[u8] =
 const BOOLEAN: &[u8] =
     b"l\x02\0\x01\x04\0\0\0\x01\0\0\0\x0f\0\0\0\x05\x01u\0\x01\0\0\0\x08\x01g\0\x01b\0\0\x02\0\0\0";
 
-// Fronts of replies whose body is an array of bytes, the longest and one byte longer; and replies whose text is no UTF-8, cut
+// Prefixes of replies whose body is an array of bytes, the longest and one byte longer; and replies whose text is no UTF-8, cut
 // short within a character and at fault in its second byte.
 const FRONTS: &[&[u8]] = &[
     b"l\x02\0\x01\x04\0\0\x04\x01\0\0\0\x10\0\0\0\x05\x01u\0\x01\0\0\0\x08\x01g\0\x02ay\0\0\0\0\x04",

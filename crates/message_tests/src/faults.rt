@@ -337,7 +337,7 @@ pub fn changed(alloc: Global, bytes: &[u8], from: u8, put: &[u8]) -> Result<Vec<
     Ok(all)
 }
 
-/// These bytes and the body behind them: a BYTE in a variant, within that many variants more.
+/// These bytes and the body after them: a BYTE in a variant, within that many variants more.
 pub fn nested(alloc: Global, front: &[u8], count: usize) -> Result<Vec<u8>, AllocError> {
     let mut all = Vec::from_slice(alloc, front)?;
     for _ in 0..count {
@@ -347,7 +347,7 @@ pub fn nested(alloc: Global, front: &[u8], count: usize) -> Result<Vec<u8>, Allo
     Ok(all)
 }
 
-// Every front of a row's bytes: partial up to the least number that decides, and refused from there on.
+// Every prefix of a row's bytes: partial up to the least number that decides, and refused from there on.
 fn decides(rt: &impl Abort, alloc: Global, row: usize, bytes: &[u8], fault: Fault, least: usize) {
     for n in 0..bytes.len() + 1 {
         let wanted = if n < least { None } else { Some(fault) };

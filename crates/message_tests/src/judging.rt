@@ -77,7 +77,7 @@ fn messages_at_fault(rt: HostRuntime) -> Result<(), Fail> {
     Ok(())
 }
 
-// Under limits too, with any front of the bytes.
+// Under limits too, with any prefix of the bytes.
 #[test]
 fn messages_under_limits(rt: HostRuntime) {
     for (row, (bytes, (message, array, depth, fds), _)) in ROWS.iter().enumerate() {

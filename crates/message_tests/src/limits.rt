@@ -76,7 +76,7 @@ pub const ROWS: &[Row] = &[
     (INDEXED, (44, 24, 3, FdRule::BelowCount), None),
 ];
 
-// What the front of row `n` comes to: the message where all of it is there, the fault where it shows it, else more are wanted.
+// What the prefix of row `n` comes to: the message where all of it is there, the fault where it shows it, else more are wanted.
 fn comes_to(rt: &impl Abort, alloc: Global, n: usize, row: &Row, front: &[u8]) -> Result<(), Fail> {
     let (bytes, (message, array, depth, fds), refused) = *row;
     let count = front.len();

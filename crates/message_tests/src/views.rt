@@ -136,7 +136,7 @@ fn wanted(alloc: Global, bytes: &[u8], limits: Limits) -> Option<Fault> {
     })
 }
 
-// Each front of a message, and the message with a byte behind it.
+// Each prefix of a message, and the message with a byte after it.
 #[test]
 fn fronts_and_more(rt: HostRuntime) -> Result<(), Fail> {
     let limits = Limits::specification();

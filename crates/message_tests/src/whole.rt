@@ -1,4 +1,4 @@
-//! Whole messages in both orders, what is looked up in them, and their fronts.
+//! Whole messages in both orders, what is looked up in them, and their prefixes.
 #![tactic(auto)]
 
 use crate::answers::{is_encoded, refused, whole};

@@ -458,7 +458,7 @@ fn cutter_keeps_nothing(rt: HostRuntime) {
     }
 }
 
-// So it is with a server's end, here of a front of a line and the rest.
+// So it is with a server's end, here of a prefix of a line and the rest.
 #[test]
 fn server_keeps_nothing(rt: HostRuntime) -> Result<(), Fail> {
     let heap = Refusing::none(rt.alloc());

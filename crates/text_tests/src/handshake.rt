@@ -42,7 +42,7 @@ const DIALOGUES: &[(&[u8], &[u8], usize, Status)] = &[
         0,
         Status::Closed,
     ),
-    // as libdbus asks, and as sd-bus does in one write, with a first message behind
+    // as libdbus asks, and as sd-bus does in one write, with a first message after
     (
         b"\0AUTH EXTERNAL 31303030\r\nNEGOTIATE_UNIX_FD\r\nBEGIN\r\nl\x01",
         b"OK 0123456789abcdef0123456789abcdef\r\nERROR\r\n",
@@ -156,7 +156,7 @@ type Heard = (&'static [u8], Done, Option<Guid>);
 
 /// The user that a client is or, with none, has no mechanism; what it sends first, and what it then hears.
 const CLIENTS: &[(Option<u32>, &[u8], &[Heard])] = &[
-    // OK with the first byte of a message behind it, and then nothing more is taken
+    // OK with the first byte of a message after it, and then nothing more is taken
     (
         Some(1000),
         b"\0AUTH EXTERNAL 31303030\r\n",

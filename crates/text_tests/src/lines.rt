@@ -183,7 +183,7 @@ fn faulty_lines(rt: HostRuntime) {
     }
 }
 
-// A line has at most 16,384 bytes with its CR LF. What stands behind it is left.
+// A line has at most 16,384 bytes with its CR LF. What stands after it is left.
 #[test]
 fn long_lines(rt: HostRuntime) {
     for (n, behind, want) in [
@@ -195,7 +195,7 @@ fn long_lines(rt: HostRuntime) {
     }
 }
 
-/// What a fresh cutter does with `n` letters and what stands behind them.
+/// What a fresh cutter does with `n` letters and what stands after them.
 fn cut_long(alloc: Global, n: usize, behind: &[u8]) -> Result<(usize, Option<usize>), LineFault> {
     let bytes = long_text(alloc, b"", n, behind)?;
     cut(&mut LineCutter::new(alloc), &bytes)

@@ -12,7 +12,7 @@ struct Pushes {
     kept: bool,
     growths: u64,
     refusals: u64,
-    // The blocks that are out behind the pushes.
+    // The blocks that are out after the pushes.
     blocks: u64,
 }
 

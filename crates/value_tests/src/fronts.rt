@@ -1,4 +1,4 @@
-//! Every front of bytes that are a value, and of bytes that are refused: more bytes are wanted, or the refusal is there.
+//! Every prefix of bytes that are a value, and of bytes that are refused: more bytes are wanted, or the refusal is there.
 
 use crate::examples::{BIG_PAIRS, EXAMPLES, PAIRS};
 use crate::reading::{Answer, Asked, read};
@@ -164,8 +164,8 @@ const REFUSED: &[Refused] = &[
     },
 ];
 
-// The first front that does not want more bytes, or that is a value where it is all that there may be. The length of the
-// bytes, where no front of them is one and the whole is a value.
+// The first prefix that does not want more bytes, or that is a value where it is all that there may be. The length of the
+// bytes, where no prefix of them is one and the whole is a value.
 fn first_not_partial<A: Allocator + Copy>(
     alloc: A,
     asked: Asked<'_>,
@@ -203,7 +203,7 @@ fn fronts_of_values(rt: HostRuntime) {
     }
 }
 
-// The first front that is not answered as it should be: before the fault is shown more bytes are wanted, and from there on
+// The first prefix that is not answered as it should be: before the fault is shown more bytes are wanted, and from there on
 // that fault is given.
 fn first_not_refused<A: Allocator + Copy>(
     alloc: A,

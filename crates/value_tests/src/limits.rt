@@ -20,7 +20,7 @@ const ASKED: Asked<'static> = Asked {
     depth: 0,
 };
 
-// The place behind a value that is read, or why it is refused at its first byte.
+// The place after a value that is read, or why it is refused at its first byte.
 fn answer(read: Result<usize, Reason>) -> Answer {
     match read {
         Ok(next) => Answer::Done(next),

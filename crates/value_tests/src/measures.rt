@@ -13,7 +13,7 @@ use std::test::*;
 
 // A type and a value's bytes in little order, where the value begins, and where it ends.
 const ENDS: &[(&str, &[u8], u64, u64)] = &[
-    // The padding in front of an array's elements is there without any element.
+    // The padding before an array's elements is there without any element.
     ("at", b"\0\0\0\0\0\0\0\0", 0, 8),
     ("at", b"\0\0\0\0\0\0\0\0", 1, 8),
     ("at", b"\0\0\0\0\0\0\0\0", 4, 8),
@@ -68,7 +68,7 @@ fn ends_of_values(rt: HostRuntime) -> Result<(), Fail> {
     Ok(())
 }
 
-// What a header's field has behind its code has the padding of its own type.
+// What a header's field has after its code has the padding of its own type.
 #[test]
 fn ends_of_header_fields(rt: HostRuntime) {
     assert!(rt; measure_coded(&Value::<Global>::U64(0), 13, Limits::specification()) == Some(32));

@@ -8,7 +8,7 @@ use dbus_value_model::{DictEntry, Got, Order, Value};
 use std::alloc::{AllocError, Global};
 use std::test::*;
 
-// How many elements behind the first an array has.
+// How many elements after the first an array has.
 const COUNT: u32 = 1025;
 
 // Trees take at most so many times the bytes that they are read from, where nothing is as dense as BYTEs in structs; and
@@ -23,7 +23,7 @@ const DENSE: usize = 64;
 // A struct has no bytes of its own: 32 structs, one within the other, stand over the 8 bytes of one.
 const NESTED: usize = 240;
 
-// An array: its signature; the padding behind its length; its first element; each other one, with the padding before it; and
+// An array: its signature; the padding after its length; its first element; each other one, with the padding before it; and
 // how many times its bytes its tree takes at most.
 type Shape = (
     &'static str,

@@ -18,7 +18,7 @@ pub struct Asked<'a> {
 /// What is answered.
 #[derive(Clone, Copy, PartialEq, Eq, Debug)]
 pub enum Answer {
-    /// A value, and the place behind it.
+    /// A value, and the place after it.
     Done(usize),
     /// More bytes are wanted.
     Partial,

@@ -11,7 +11,7 @@ use Rattle.dbus_texts.proofs.TextUtf8.{no_zero, a_zero}
 use Rattle.dbus_texts.proofs.KindFacts.{text_utf8, utf8_text}
 use Rattle.dbus_texts.proofs.utf8.is_text.Goals as goal
 
--- a front of ASCII without a zero byte changes nothing
+-- a prefix of ASCII without a zero byte changes nothing
 text_behind : (u v : List ℕ) → AllByRecursion (IsInRange 1 127) u → IsText v ↔ IsText (u ++ v)
 text_behind [] v h = (λ t. t, λ t. t)
 text_behind (b ∷ u) v h =
