@@ -5,7 +5,7 @@ macro_rules! more {
     ($output:literal, $example:literal) => {
         concat!(
             "Input:
-  Raw messages on standard input, one behind the other, as
+  Raw messages on standard input, one after the other, as
   `dbus-monitor --binary` writes them. A message over one of the limits, which
   the options of a command lower, is refused.
 

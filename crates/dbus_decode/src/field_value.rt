@@ -23,7 +23,7 @@ use crate::fixed_header::read_serial;
 use dbus_message_model::field_table::{Wanted, want};
 use dbus_types::{SigType, TextKind};
 use dbus_unmarshal::items::{read_length, read_nul, read_padding, read_short_length, read_u32};
-use dbus_unmarshal::texts::{copy_text, read_only, read_signature, read_text};
+use dbus_unmarshal::texts::{copy_text, read_exactly, read_signature, read_text};
 use dbus_value_model::{Limits, Order, Reason, Stop, Value, refuse};
 use std::alloc::Allocator;
 
@@ -68,7 +68,7 @@ fn read_wanted(bytes: &[u8], at: usize, end: usize, wanted: &[u8]) -> Result<usi
     ensures moves { IfOk result (λ q. (at < q) × (q ≤ end) × (q ≤ length bytes.now)) }
 {
     let (n, at) = read_short_length(bytes, at, end)?;
-    let behind = read_only(bytes, at, n, wanted)?;
+    let behind = read_exactly(bytes, at, n, wanted)?;
     read_nul(bytes, behind)
 }
 

@@ -44,7 +44,7 @@ pub fn measure_all<A: Allocator>(values: &[Value<A>], at: u64, limits: Limits) -
 
 /// Where a struct ends of a BYTE and a VARIANT that holds `value`, as each field of a message's header is one, as
 /// [`measure`] says.
-pub fn measure_coded<A: Allocator>(value: &Value<A>, at: u64, limits: Limits) -> Option<u64>
+pub fn measure_header_field<A: Allocator>(value: &Value<A>, at: u64, limits: Limits) -> Option<u64>
     requires start { IsCapped at }
     requires signed { HasShortSignatures (VariantValue (value_tree value.now)) }
     ensures exact { (code : ℕ) → IsMeasured limits.array (coded code (value_tree value.now)) at result }

@@ -18,7 +18,7 @@ use crate::faulty_fields::{
 };
 use crate::known_fields::{body_signature, fd_count, has_field, missing_field};
 use crate::message::Message;
-use crate::message_size::{fields_end, read_parts};
+use crate::message_size::{fields_end, parts_in_range};
 use crate::parts::Parts;
 use dbus_marshal::measure_all;
 use dbus_value_model::{Limits, first_past, padding_length};
@@ -91,7 +91,7 @@ fn measure<A: Allocator>(parts: &Parts<A>, limits: Limits) -> Result<usize, Buil
     requires passed { SignaturePasses limits parts.now }
     ensures { MatchResult result (λ n. IsValidMessage specification (parts_tree parts.now) × (n ≡ length (message_bytes Little (parts_tree parts.now))) × SizePasses limits parts.now) (λ f. IsFirstFault limits parts.now f) }
 {
-    read_parts(parts);
+    parts_in_range(parts);
     let fields = match fields_end(&parts.fields, limits) {
         Some(end) => end,
         None => return Err(BuildFault::ArrayTooLong),

@@ -10,8 +10,8 @@ ghost use Rattle.dbus_message_model.specs.PartsViews.{field_tree, field_trees, p
 
 use crate::header_field::HeaderField;
 use crate::parts::Parts;
-use dbus_marshal::measure_coded;
-use dbus_value_model::{Limits, read_all_numbers, read_numbers};
+use dbus_marshal::measure_header_field;
+use dbus_value_model::{Limits, all_numbers_in_range, numbers_in_range};
 use std::alloc::Allocator;
 
 /// Where a field ends that begins at `at`, or nothing where an array in it is too long, or the field array with it, whose
@@ -21,7 +21,7 @@ fn field_end<A: Allocator>(field: &HeaderField<A>, at: u64, limits: Limits) -> O
     requires signed { HasShortSignatures (field_struct (field_tree field.now)) }
     ensures { IsFieldEnd limits (field_tree field.now) at result }
 {
-    match measure_coded(&field.value, at, limits) {
+    match measure_header_field(&field.value, at, limits) {
         None => None,
         Some(end) => {
             if end > 16 + u64::from(limits.array) {
@@ -47,14 +47,14 @@ pub fn fields_end<A: Allocator>(fields: &[HeaderField<A>], limits: Limits) -> Op
     Some(at)
 }
 
-/// Reads each number of the parts, which shows that it is in the range of its type.
-pub fn read_parts<A: Allocator>(parts: &Parts<A>)
+/// Shows that each number of the parts is in the range of its type. It looks at each and does nothing with it.
+pub fn parts_in_range<A: Allocator>(parts: &Parts<A>)
     ensures { HoldTheirNumbers (parts_tree parts.now) }
 {
     for field in &parts.fields {
         let _code = field.code;
-        read_numbers(&field.value);
+        numbers_in_range(&field.value);
     }
-    read_all_numbers(&parts.body);
+    all_numbers_in_range(&parts.body);
     let (_kind, _flags, _serial) = (parts.kind, parts.flags, parts.serial);
 }

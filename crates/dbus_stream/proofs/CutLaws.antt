@@ -6,17 +6,17 @@ use Rattle.dbus_value_model.specs.Bytes.{IsBytes}
 use Rattle.dbus_value_model.specs.declared.limits.Limits.{Limits}
 use Rattle.dbus_decode.specs.MessageOutcomes.{IsWhole, IsRefused, IsPartial}
 use Rattle.dbus_decode.proofs.OutcomeLaws.{whole_for_good, one_whole, whole_inside, not_both, one_outcome, one_fault, nothing_partial, some_outcome}
-use Rattle.dbus_stream.specs.Cut.{Item, BeginWith, Outcome, Ended, Unfinished, Refused, IsOutcome, IsCut}
+use Rattle.dbus_stream.specs.Cut.{CutMessage, BeginWith, CutOutcome, Ended, Unfinished, Refused, IsOutcome, IsCut}
 use Rattle.dbus_stream.specs.StreamLaws.{HasCut}
 
 -- one more message
-pub BeginWith-last : (limits : Limits) (bytes : List ℕ) (items : List Item) (mid : List ℕ) (item : Item) → BeginWith limits bytes items mid
+pub BeginWith-last : (limits : Limits) (bytes : List ℕ) (items : List CutMessage) (mid : List ℕ) (item : CutMessage) → BeginWith limits bytes items mid
     → IsWhole limits mid item.order item.message item.size → BeginWith limits bytes (items ++ item ∷ []) (drop item.size mid)
 BeginWith-last limits bytes [] mid item f w = (subst (λ l. IsWhole limits l item.order item.message item.size) (sym f) w, ap (drop item.size) f)
 BeginWith-last limits bytes (first ∷ items) mid item f w = (f.0, BeginWith-last limits (drop first.size bytes) items mid item f.1 w)
 
 -- more bytes after
-pub BeginWith-more : (limits : Limits) (bytes : List ℕ) (items : List Item) (rest more : List ℕ) → BeginWith limits bytes items rest → BeginWith limits (bytes ++ more) items (rest ++ more)
+pub BeginWith-more : (limits : Limits) (bytes : List ℕ) (items : List CutMessage) (rest more : List ℕ) → BeginWith limits bytes items rest → BeginWith limits (bytes ++ more) items (rest ++ more)
 BeginWith-more limits bytes [] rest more f = ap (λ l. l ++ more) f
 BeginWith-more limits bytes (item ∷ items) rest more f =
     let fits : item.size ≤ length bytes = (whole_inside limits bytes item.order item.message item.size f.0).1 in
@@ -26,32 +26,32 @@ BeginWith-more limits bytes (item ∷ items) rest more f =
     )
 
 -- a rest after which no message comes begins with none
-no_message : (limits : Limits) (rest : List ℕ) (item : Item) (outcome : Outcome) → IsOutcome limits rest outcome → IsWhole limits rest item.order item.message item.size → ⊥
+no_message : (limits : Limits) (rest : List ℕ) (item : CutMessage) (outcome : CutOutcome) → IsOutcome limits rest outcome → IsWhole limits rest item.order item.message item.size → ⊥
 no_message limits rest item Ended o w = (one_outcome limits rest).1 item.order item.message item.size w (subst (λ l. IsPartial limits l) (sym o) (nothing_partial limits))
 no_message limits rest item Unfinished o w = (one_outcome limits rest).1 item.order item.message item.size w o.1
 no_message limits rest item (Refused fault) o w = not_both limits rest item.order item.message item.size fault w o
 
-same_item : (a b : Item) → a.order ≡ b.order → a.message ≡ b.message → a.size ≡ b.size → a ≡ b
+same_item : (a b : CutMessage) → a.order ≡ b.order → a.message ≡ b.message → a.size ≡ b.size → a ≡ b
 same_item a b p q r = λ i. record { order = p i; message = q i; size = r i }
 
 -- messages that were cut off are the first of all
-pub BeginWith-first : (limits : Limits) (bytes : List ℕ) (items all : List Item) (mid rest : List ℕ) (outcome : Outcome) → BeginWith limits bytes items mid → BeginWith limits bytes all rest
-    → IsOutcome limits rest outcome → (more : List Item) × (all ≡ items ++ more) × BeginWith limits mid more rest
+pub BeginWith-first : (limits : Limits) (bytes : List ℕ) (items all : List CutMessage) (mid rest : List ℕ) (outcome : CutOutcome) → BeginWith limits bytes items mid → BeginWith limits bytes all rest
+    → IsOutcome limits rest outcome → (more : List CutMessage) × (all ≡ items ++ more) × BeginWith limits mid more rest
 BeginWith-first limits bytes [] all mid rest outcome f g o = (all, refl, subst (λ l. BeginWith limits l all rest) f g)
 BeginWith-first limits bytes (item ∷ items) [] mid rest outcome f g o =
     absurd (no_message limits rest item outcome o (subst (λ l. IsWhole limits l item.order item.message item.size) g f.0))
 BeginWith-first limits bytes (item ∷ items) (first ∷ all) mid rest outcome f g o =
     let one = one_whole limits bytes item.order first.order item.message first.message item.size first.size f.0 g.0 in
     let same : first ≡ item = same_item first item (sym one.0) (sym one.1) (sym one.2) in
-    let there : BeginWith limits (drop item.size bytes) all rest = subst (λ (x : Item). BeginWith limits (drop x.size bytes) all rest) same g.1 in
+    let there : BeginWith limits (drop item.size bytes) all rest = subst (λ (x : CutMessage). BeginWith limits (drop x.size bytes) all rest) same g.1 in
     let more = BeginWith-first limits (drop item.size bytes) items all mid rest outcome f.1 there o in
-    (more.0, ap (λ (x : Item). x ∷ all) same ∙ ap (λ l. item ∷ l) more.1, more.2)
+    (more.0, ap (λ (x : CutMessage). x ∷ all) same ∙ ap (λ l. item ∷ l) more.1, more.2)
 
 refused_some : (limits : Limits) (rest : List ℕ) (fault : Fault) → IsRefused limits rest fault → rest ≡ [] → ⊥
 refused_some limits rest fault r e = (one_outcome limits rest).2 fault r (subst (λ l. IsPartial limits l) (sym e) (nothing_partial limits))
 
 -- the outcome of a rest is one
-outcome_one : (limits : Limits) (rest : List ℕ) (a b : Outcome) → IsOutcome limits rest a → IsOutcome limits rest b → a ≡ b
+outcome_one : (limits : Limits) (rest : List ℕ) (a b : CutOutcome) → IsOutcome limits rest a → IsOutcome limits rest b → a ≡ b
 outcome_one limits rest Ended Ended p q = refl
 outcome_one limits rest Ended Unfinished p q = absurd (q.0 p)
 outcome_one limits rest Ended (Refused f) p q = absurd (refused_some limits rest f q p)
@@ -63,17 +63,17 @@ outcome_one limits rest (Refused f) Unfinished p q = absurd ((one_outcome limits
 outcome_one limits rest (Refused f) (Refused g) p q = ap Refused (one_fault limits rest f g p q)
 
 -- bytes are cut in one way
-pub IsCut-one : (limits : Limits) (bytes : List ℕ) (xs ys : List Item) (r s : List ℕ) (a b : Outcome) → IsCut limits bytes xs r a → IsCut limits bytes ys s b → (xs ≡ ys) × (r ≡ s) × (a ≡ b)
+pub IsCut-one : (limits : Limits) (bytes : List ℕ) (xs ys : List CutMessage) (r s : List ℕ) (a b : CutOutcome) → IsCut limits bytes xs r a → IsCut limits bytes ys s b → (xs ≡ ys) × (r ≡ s) × (a ≡ b)
 IsCut-one limits bytes xs ys r s a b c d =
     let first = BeginWith-first limits bytes xs ys r s b c.messages d.messages d.outcome_is in
     go first.0 first.1 first.2
   where
-    go : (more : List Item) → ys ≡ xs ++ more → BeginWith limits r more s → (xs ≡ ys) × (r ≡ s) × (a ≡ b)
+    go : (more : List CutMessage) → ys ≡ xs ++ more → BeginWith limits r more s → (xs ≡ ys) × (r ≡ s) × (a ≡ b)
     go [] e f = (sym (e ∙ append-nil xs), f, outcome_one limits r a b c.outcome_is (subst (λ l. IsOutcome limits l b) (sym f) d.outcome_is))
     go (item ∷ more) e f = absurd (no_message limits r item a c.outcome_is f.0)
 
 -- the messages of a prefix are the first of all
-pub IsCut-front : (limits : Limits) (a b : List ℕ) (xs ys : List Item) (r s : List ℕ) (p q : Outcome) → IsCut limits a xs r p → IsCut limits (a ++ b) ys s q → (more : List Item) × (ys ≡ xs ++ more)
+pub IsCut-front : (limits : Limits) (a b : List ℕ) (xs ys : List CutMessage) (r s : List ℕ) (p q : CutOutcome) → IsCut limits a xs r p → IsCut limits (a ++ b) ys s q → (more : List CutMessage) × (ys ≡ xs ++ more)
 IsCut-front limits a b xs ys r s p q c d =
     let first = BeginWith-first limits (a ++ b) xs ys (r ++ b) s q (BeginWith-more limits a xs r b c.messages) d.messages d.outcome_is in
     (first.0, first.1)
@@ -83,14 +83,14 @@ IsBytes-drop zero bytes b = b
 IsBytes-drop (suc n) [] b = b
 IsBytes-drop (suc n) (x ∷ xs) b = IsBytes-drop n xs b.1
 
-cut_here : (limits : Limits) (bytes : List ℕ) (outcome : Outcome) → IsOutcome limits bytes outcome → HasCut limits bytes
+cut_here : (limits : Limits) (bytes : List ℕ) (outcome : CutOutcome) → IsOutcome limits bytes outcome → HasCut limits bytes
 cut_here limits bytes outcome o = ([], bytes, outcome, record { messages = refl; outcome_is = o })
 
 cut_unfinished : (limits : Limits) (bytes : List ℕ) → IsPartial limits bytes → HasCut limits bytes
 cut_unfinished limits [] p = cut_here limits [] Ended refl
 cut_unfinished limits (x ∷ xs) p = cut_here limits (x ∷ xs) Unfinished ((λ e. cc), p)
 
-cut_behind : (limits : Limits) (bytes : List ℕ) (item : Item) → IsWhole limits bytes item.order item.message item.size → HasCut limits (drop item.size bytes) → HasCut limits bytes
+cut_behind : (limits : Limits) (bytes : List ℕ) (item : CutMessage) → IsWhole limits bytes item.order item.message item.size → HasCut limits (drop item.size bytes) → HasCut limits bytes
 cut_behind limits bytes item w h = (item ∷ h.0, h.1, h.2, record { messages = (w, h.3.messages); outcome_is = h.3.outcome_is })
 
 cut_within : (limits : Limits) (n : ℕ) (bytes : List ℕ) → length bytes ≤ n → IsBytes bytes → HasCut limits bytes

@@ -17,7 +17,7 @@ use Rattle.dbus_message_model.specs.MessageViews.{message_tree}
 use Rattle.dbus_decode.specs.MessageOutcomes.{IsWhole, IsRefused}
 use Rattle.dbus_decode.specs.Decodes.{Decodes}
 use Rattle.dbus_decode.proofs.OutcomeLaws.{one_whole, one_fault, one_outcome, not_both, whole_bytes, whole_valid, valid_whole}
-use Rattle.dbus_stream.specs.Cut.{Item, BeginWith, Ended, IsCut}
+use Rattle.dbus_stream.specs.Cut.{CutMessage, BeginWith, Ended, IsCut}
 use Rattle.dbus_stream.specs.CutterState.{CutterState, fresh}
 use Rattle.dbus_stream.specs.Cutting.{TakeAnswer}
 use Rattle.dbus_stream.specs.Runs.{Feeds, given_by, outcome_of, IsSettled}
@@ -73,7 +73,7 @@ outcome_fault (x ∷ xs) others None (Some other) e = absurd cc
 outcome_fault held others None None e = refl
 
 -- messages, one after the other, are cut into themselves
-begin_with_all : (limits : Limits) (items : List Item) → AreMessages limits items → BeginWith limits (stream_bytes items) items []
+begin_with_all : (limits : Limits) (items : List CutMessage) → AreMessages limits items → BeginWith limits (stream_bytes items) items []
 begin_with_all limits [] a = refl
 begin_with_all limits (item ∷ items) a =
     let bytes = message_bytes item.order item.message in
@@ -99,7 +99,7 @@ module _ {A : Type 0} where
       (subst (λ l. IsCut limits l (given_by 0 answers) (here.held ++ concat left) (outcome_of here.held here.fault)) same one) two in
       (both.0, outcome_fault here.held there.held here.fault there.fault both.2)
 
-  all_given : (limits : Limits) (items : List Item) (pieces left : List (List ℕ)) (answers : List (TakeAnswer A)) (now : CutterState) → AreMessages limits items
+  all_given : (limits : Limits) (items : List CutMessage) (pieces left : List (List ℕ)) (answers : List (TakeAnswer A)) (now : CutterState) → AreMessages limits items
       → concat pieces ≡ stream_bytes items → Feeds (fresh limits) pieces answers now left → IsSettled now (concat left)
       → (given_by 0 answers ≡ items) × (now ≡ fresh limits) × (concat left ≡ [])
   all_given limits items pieces left answers now a same f e =

@@ -11,7 +11,7 @@ use Rattle.dbus_message_model.specs.MessageViews.{message_tree}
 use Rattle.dbus_decode.specs.MessageOutcomes.{IsWhole, IsRefused, IsPartial}
 use Rattle.dbus_decode.proofs.OutcomeLaws.{whole_for_good, refused_for_good, whole_inside, nothing_partial}
 use Rattle.dbus_stream.specs.declared.stream_fault.StreamFault.TheVariants.{Memory, Format}
-use Rattle.dbus_stream.specs.Cut.{Item, BeginWith, IsOutcome}
+use Rattle.dbus_stream.specs.Cut.{CutMessage, BeginWith, IsOutcome}
 use Rattle.dbus_stream.specs.CutterState.{CutterState, fresh}
 use Rattle.dbus_stream.specs.Cutting.{TakeAnswer, TakeAnswers, Takes}
 use Rattle.dbus_stream.specs.Runs.{taken, again, Feeds, given_by, outcome_of, IsSettled, CutsInto}
@@ -23,7 +23,7 @@ record Stands (now : CutterState) (ahead : List ℕ) : Type 0 where
   refused : (f : Fault) → now.fault ≡ Some f → IsRefused now.limits (now.held ++ ahead) f
 
 -- the bytes were cut into these messages, what is held and what is left; the limits stay
-record Reaches (limits : Limits) (bytes : List ℕ) (given : List Item) (now : CutterState) (left : List ℕ) : Type 0 where
+record Reaches (limits : Limits) (bytes : List ℕ) (given : List CutMessage) (now : CutterState) (left : List ℕ) : Type 0 where
   messages : BeginWith limits bytes given (now.held ++ left)
   limits_stay : now.limits ≡ limits
   stands : Stands now left
@@ -43,7 +43,7 @@ faulted limits held ahead fault r = record {
 }
 
 -- a message that ends in the piece
-given_first : (limits : Limits) (held piece behind : List ℕ) (item : Item) (n : ℕ) (items : List Item) (rest : List ℕ) → item.size ≡ length held + n
+given_first : (limits : Limits) (held piece behind : List ℕ) (item : CutMessage) (n : ℕ) (items : List CutMessage) (rest : List ℕ) → item.size ≡ length held + n
     → IsWhole limits (held ++ piece) item.order item.message item.size → BeginWith limits (drop n piece ++ behind) items rest
     → BeginWith limits (held ++ (piece ++ behind)) (item ∷ items) rest
 given_first limits held piece behind item n items rest size w f =
@@ -68,7 +68,7 @@ module _ {A : Type 0} where
       → (Stands new (concat (again (drop (taken answer) piece) pieces)) → Onward answers new (again (drop (taken answer) piece) pieces) now left)
       → IsPartial limits held → Onward (answer ∷ answers) (record { limits = limits; held = held; fault = None }) (piece ∷ pieces) now left
   onward_by (Ok (n, Some given)) answers limits held piece pieces new now left t others p =
-      let item : Item = record { order = given.0; message = message_tree given.1; size = length held + n } in
+      let item : CutMessage = record { order = given.0; message = message_tree given.1; size = length held + n } in
       let stands : Stands new (concat (again (drop n piece) pieces)) = subst (λ s. Stands s (concat (again (drop n piece) pieces))) (sym t.1) (unfaulted limits [] _ (nothing_partial limits)) in
       let r = others stands in
       let behind : BeginWith limits (concat (again (drop n piece) pieces)) (given_by 0 answers) (now.held ++ concat left)

@@ -9,29 +9,29 @@ use Rattle.dbus_message_model.specs.Messages.{MessageTree}
 use Rattle.dbus_decode.specs.MessageOutcomes.{IsWhole, IsRefused, IsPartial}
 
 -- a message of a stream, with its byte order and how many bytes it has
-pub record Item : Type 0 where
+pub record CutMessage : Type 0 where
   pub order : Order
   pub message : MessageTree
   pub size : ℕ
 
 -- the bytes are these messages, one after the other, which keep the limits, and then the rest
-abbrev pub BeginWith : Limits → List ℕ → List Item → List ℕ → Type 0
+abbrev pub BeginWith : Limits → List ℕ → List CutMessage → List ℕ → Type 0
 BeginWith limits bytes [] rest = bytes ≡ rest
 BeginWith limits bytes (item ∷ items) rest = IsWhole limits bytes item.order item.message item.size × BeginWith limits (drop item.size bytes) items rest
 
 -- why no further message comes
-pub data Outcome : Type 0 where
-  Ended : Outcome
-  Unfinished : Outcome
-  Refused : Fault → Outcome
+pub data CutOutcome : Type 0 where
+  Ended : CutOutcome
+  Unfinished : CutOutcome
+  Refused : Fault → CutOutcome
 
-abbrev pub IsOutcome : Limits → List ℕ → Outcome → Type 0
+abbrev pub IsOutcome : Limits → List ℕ → CutOutcome → Type 0
 IsOutcome limits rest Ended = rest ≡ []
 IsOutcome limits rest Unfinished = (rest ≢ []) × IsPartial limits rest
 IsOutcome limits rest (Refused fault) = IsRefused limits rest fault
 
 -- the bytes are these messages and then the rest, after which no further message comes
-pub record IsCut (limits : Limits) (bytes : List ℕ) (items : List Item) (rest : List ℕ) (outcome : Outcome) : Type 0 where
+pub record IsCut (limits : Limits) (bytes : List ℕ) (items : List CutMessage) (rest : List ℕ) (outcome : CutOutcome) : Type 0 where
   pub messages : BeginWith limits bytes items rest
   pub outcome_is : IsOutcome limits rest outcome
 
@@ -40,12 +40,12 @@ abbrev pub truncated : List ℕ → Fault
 truncated rest = record { at = length rest; reason = Truncated }
 
 -- the fault of an input that ends after these bytes
-abbrev pub fault_at_end : List ℕ → Outcome → Option Fault
+abbrev pub fault_at_end : List ℕ → CutOutcome → Option Fault
 fault_at_end rest Ended = None
 fault_at_end rest Unfinished = Some (truncated rest)
 fault_at_end rest (Refused fault) = Some fault
 
 -- how many bytes the messages have
-abbrev pub sizes : List Item → ℕ
+abbrev pub sizes : List CutMessage → ℕ
 sizes [] = 0
 sizes (item ∷ items) = item.size + sizes items

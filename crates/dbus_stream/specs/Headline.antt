@@ -16,7 +16,7 @@ use Rattle.dbus_message_model.specs.MessageViews.{message_tree}
 use Rattle.dbus_decode.specs.MessageOutcomes.{IsRefused}
 use Rattle.dbus_message_model.specs.ValidMessages.{IsValidMessage}
 use Rattle.dbus_decode.specs.Decodes.{Decodes}
-use Rattle.dbus_stream.specs.Cut.{Item, BeginWith}
+use Rattle.dbus_stream.specs.Cut.{CutMessage, BeginWith}
 use Rattle.dbus_stream.specs.CutterState.{CutterState, fresh}
 use Rattle.dbus_stream.specs.Cutting.{TakeAnswer}
 use Rattle.dbus_stream.specs.Runs.{Feeds, given_by, IsSettled, CutsInto}
@@ -38,12 +38,12 @@ abbrev pub Encodes : {A : Type 0} → Message A → Order → Result (Vec ℕ A)
 Encodes message order answer = IfOk answer (λ bytes. bytes.items ≡ message_bytes order (message_tree message))
 
 -- each of these is a valid message within the limits, with its length
-abbrev pub AreMessages : Limits → List Item → Type 0
+abbrev pub AreMessages : Limits → List CutMessage → Type 0
 AreMessages limits [] = Unit {0}
 AreMessages limits (item ∷ items) = IsValidMessage limits item.message × (item.size ≡ length (message_bytes item.order item.message)) × AreMessages limits items
 
 -- the bytes of messages, one after the other
-abbrev pub stream_bytes : List Item → List ℕ
+abbrev pub stream_bytes : List CutMessage → List ℕ
 stream_bytes [] = []
 stream_bytes (item ∷ items) = message_bytes item.order item.message ++ stream_bytes items
 
@@ -77,6 +77,6 @@ pub record Headline (limits : Limits) (A : Type 0) : Type 0 where
       → Feeds (fresh limits) others replies there behind → IsSettled there (concat behind)
       → (given_by 0 answers ≡ given_by 0 replies) × (here.fault ≡ there.fault)
   -- And however the bytes of messages are cut, it gives exactly these messages, and holds nothing after them.
-  pub all_arrive : (items : List Item) (pieces left : List (List ℕ)) (answers : List (TakeAnswer A)) (now : CutterState) → AreMessages limits items
+  pub all_arrive : (items : List CutMessage) (pieces left : List (List ℕ)) (answers : List (TakeAnswer A)) (now : CutterState) → AreMessages limits items
       → concat pieces ≡ stream_bytes items → Feeds (fresh limits) pieces answers now left → IsSettled now (concat left)
       → (given_by 0 answers ≡ items) × (now ≡ fresh limits) × (concat left ≡ [])

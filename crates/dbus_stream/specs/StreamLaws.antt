@@ -2,20 +2,20 @@
 use Rattle.std.specs.Prelude.{◌≡◌, ℕ, List, ◌++◌}
 use Rattle.dbus_value_model.specs.declared.limits.Limits.{Limits}
 use Rattle.dbus_value_model.specs.Bytes.{IsBytes}
-use Rattle.dbus_stream.specs.Cut.{Item, Outcome, IsCut}
+use Rattle.dbus_stream.specs.Cut.{CutMessage, CutOutcome, IsCut}
 
 -- bytes have at most one cut
 abbrev pub OneCut : Type 0
-OneCut = (limits : Limits) (bytes : List ℕ) (xs ys : List Item) (r s : List ℕ) (a b : Outcome) → IsCut limits bytes xs r a → IsCut limits bytes ys s b → (xs ≡ ys) × (r ≡ s) × (a ≡ b)
+OneCut = (limits : Limits) (bytes : List ℕ) (xs ys : List CutMessage) (r s : List ℕ) (a b : CutOutcome) → IsCut limits bytes xs r a → IsCut limits bytes ys s b → (xs ≡ ys) × (r ≡ s) × (a ≡ b)
 
 -- the messages of a prefix are the first of all messages
 abbrev pub FrontOfCut : Type 0
-FrontOfCut = (limits : Limits) (front behind : List ℕ) (xs ys : List Item) (r s : List ℕ) (a b : Outcome) → IsCut limits front xs r a → IsCut limits (front ++ behind) ys s b
-    → (more : List Item) × (ys ≡ xs ++ more)
+FrontOfCut = (limits : Limits) (front behind : List ℕ) (xs ys : List CutMessage) (r s : List ℕ) (a b : CutOutcome) → IsCut limits front xs r a → IsCut limits (front ++ behind) ys s b
+    → (more : List CutMessage) × (ys ≡ xs ++ more)
 
 -- a cut of the bytes, whatever its parts
 abbrev pub HasCut : Limits → List ℕ → Type 0
-HasCut limits bytes = (items : List Item) × (rest : List ℕ) × (outcome : Outcome) × IsCut limits bytes items rest outcome
+HasCut limits bytes = (items : List CutMessage) × (rest : List ℕ) × (outcome : CutOutcome) × IsCut limits bytes items rest outcome
 
 -- bytes have a cut
 abbrev pub EachCut : Type 0

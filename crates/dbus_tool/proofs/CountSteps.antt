@@ -7,7 +7,7 @@ use Rattle.dbus_value_model.specs.declared.limits.Limits.{Limits}
 use Rattle.dbus_decode.specs.MessageOutcomes.{IsWhole, IsRefused, IsPartial}
 use Rattle.dbus_decode.proofs.OutcomeLaws.{whole_inside}
 use Rattle.dbus_judge.specs.declared.judging.Judged.{Judged}
-use Rattle.dbus_stream.specs.Cut.{Item, BeginWith, Ended, Unfinished, Refused, truncated, sizes}
+use Rattle.dbus_stream.specs.Cut.{CutMessage, BeginWith, Ended, Unfinished, Refused, truncated, sizes}
 use Rattle.dbus_stream.specs.Next.{RisesBy}
 use Rattle.dbus_raw_reader.specs.Next.{Reads, Advances, Lends, KeepsAll}
 use Rattle.dbus_raw_reader.specs.Reading.{IsNewReader, limits_of, kept, source_of, done_of, reads_of, most_reads_of, is_ended, stopped_of}
@@ -23,16 +23,16 @@ RisesBy-both j k total a b c p q e = omega (arith, p, q, e)
 pub RisesBy-none : (k a : ℕ) → k ≡ 0 → RisesBy k a a
 RisesBy-none k a e = omega (arith, e)
 
-pub sizes-last : (items : List Item) (item : Item) → sizes (items ++ item ∷ []) ≡ sizes items + item.size
+pub sizes-last : (items : List CutMessage) (item : CutMessage) → sizes (items ++ item ∷ []) ≡ sizes items + item.size
 sizes-last [] item = omega arith
 sizes-last (x ∷ items) item = omega (arith, sizes-last items item)
 
-pub length-last : (items : List Item) (item : Item) → length (items ++ item ∷ []) ≡ length items + 1
+pub length-last : (items : List CutMessage) (item : CutMessage) → length (items ++ item ∷ []) ≡ length items + 1
 length-last [] item = omega arith
 length-last (x ∷ items) item = omega (arith, length-last items item)
 
 -- no more messages than bytes
-pub length-sizes : (limits : Limits) (bytes : List ℕ) (items : List Item) (rest : List ℕ) → BeginWith limits bytes items rest → length items ≤ sizes items
+pub length-sizes : (limits : Limits) (bytes : List ℕ) (items : List CutMessage) (rest : List ℕ) → BeginWith limits bytes items rest → length items ≤ sizes items
 length-sizes limits bytes [] rest f = omega arith
 length-sizes limits bytes (item ∷ items) rest f =
     omega (arith, length-sizes limits (drop item.size bytes) items rest f.1, (whole_inside limits bytes item.order item.message item.size f.0).0)
@@ -41,7 +41,7 @@ module _ {R A : Type 0} (left : R → Option (List ℕ)) (calls failures : R →
   -- the messages of what was read so far were given
   pub record HasCounted (old new : RawReader R A) : Type 0 where
     pub bytes : List ℕ
-    pub items : List Item
+    pub items : List CutMessage
     pub consumed : Consumes (left (source_of old)) (left (source_of new)) bytes
     pub messages : BeginWith limits bytes items (kept new)
     pub done : done_of new ≡ sizes items
@@ -71,7 +71,7 @@ module _ {R A : Type 0} (left : R → Option (List ℕ)) (calls failures : R →
   )
 
   -- what was read once more
-  pub record MoreRead (old mid new : RawReader R A) (bytes : List ℕ) (items : List Item) (more : List ℕ) : Type 0 where
+  pub record MoreRead (old mid new : RawReader R A) (bytes : List ℕ) (items : List CutMessage) (more : List ℕ) : Type 0 where
     pub consumed : Consumes (left (source_of old)) (left (source_of new)) (bytes ++ more)
     pub messages : BeginWith limits (bytes ++ more) items (kept mid ++ more)
     pub called : RisesBy (reads_of new) (calls (source_of old)) (calls (source_of new))
@@ -102,7 +102,7 @@ module _ {R A : Type 0} (left : R → Option (List ℕ)) (calls failures : R →
   counts_more old mid new count h j r l same c =
       let m = more_read old mid new h r in
       let gives = l.gives in
-      let item : Item = record { order = gives.order; message = gives.message; size = l.size } in (
+      let item : CutMessage = record { order = gives.order; message = gives.message; size = l.size } in (
         record {
           bytes = h.bytes ++ r.bytes;
           items = h.items ++ item ∷ [];
@@ -122,7 +122,7 @@ module _ {R A : Type 0} (left : R → Option (List ℕ)) (calls failures : R →
         refl,
       )
 
-  kept_behind : (old mid new : RawReader R A) (bytes : List ℕ) (items : List Item) (more : List ℕ) → MoreRead old mid new bytes items more → KeepsAll (kept mid ++ more) mid new
+  kept_behind : (old mid new : RawReader R A) (bytes : List ℕ) (items : List CutMessage) (more : List ℕ) → MoreRead old mid new bytes items more → KeepsAll (kept mid ++ more) mid new
       → BeginWith limits (bytes ++ more) items (kept new)
   kept_behind old mid new bytes items more m k = subst (λ l. BeginWith limits (bytes ++ more) items l) (sym k.kept) m.messages
 

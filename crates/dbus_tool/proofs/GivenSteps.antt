@@ -13,8 +13,8 @@ use Rattle.dbus_raw_reader.specs.declared.raw_reader.RawReader.{RawReader}
 use Rattle.dbus_raw_reader.proofs.NextSteps.{starts, unread}
 use Rattle.dbus_tool.specs.Gathering.{Breaks}
 use Rattle.dbus_tool.specs.Handing.{GivesNext}
-use Rattle.dbus_tool.specs.declared.ending.Stop.{Stop}
-use Rattle.dbus_tool.specs.declared.ending.Stop.TheVariants.{Reader, Writer}
+use Rattle.dbus_tool.specs.declared.ending.NoMessage.{NoMessage}
+use Rattle.dbus_tool.specs.declared.ending.NoMessage.TheVariants.{Reader, Writer}
 use Rattle.dbus_tool.proofs.GatherSteps.{passes_none}
 
 module _ {R A : Type 0} (left : R → Option (List ℕ)) (calls failures : R → ℕ) where
@@ -84,7 +84,7 @@ module _ {R A : Type 0} (left : R → Option (List ℕ)) (calls failures : R →
   kept_fault old new read.TooManyReads k = absurd k
 
   module _ {W : Type 0} (held : W → Option (List ℕ)) (write_failures : W → ℕ) where
-    pub gives_behind : (old mid new : RawReader R A) (g0 g1 : List ℕ) (w0 w1 : W) (res : Result (Option Judged) Stop) → ReadsNothing old mid
+    pub gives_behind : (old mid new : RawReader R A) (g0 g1 : List ℕ) (w0 w1 : W) (res : Result (Option Judged) NoMessage) → ReadsNothing old mid
         → KeepsAll (kept old) old mid → GivesNext left calls failures held write_failures mid new g0 g1 w0 w1 res → GivesNext left calls failures held write_failures old new g0 g1 w0 w1 res
     gives_behind old mid new g0 g1 w0 w1 (Ok lent) n k g =
         let both = both_behind old mid new (Ok lent) n k g.0 g.1 in

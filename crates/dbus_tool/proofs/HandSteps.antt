@@ -5,7 +5,7 @@ use Rattle.dbus_value_model.specs.declared.limits.Limits.{Limits}
 use Rattle.dbus_decode.specs.MessageOutcomes.{IsWhole, IsPartial}
 use Rattle.dbus_judge.specs.declared.judging.Judged.{Judged}
 use Rattle.dbus_stream.specs.Device.{one_more}
-use Rattle.dbus_stream.specs.Cut.{Item, BeginWith}
+use Rattle.dbus_stream.specs.Cut.{CutMessage, BeginWith}
 use Rattle.dbus_stream.specs.Next.{DeviceCounts}
 use Rattle.dbus_raw_reader.specs.Next.{Reads, Advances, Lends}
 use Rattle.dbus_raw_reader.specs.Reading.{IsNewReader, kept, source_of, done_of}
@@ -20,8 +20,8 @@ use Rattle.dbus_tool.specs.Gathering.{Passes, Breaks, Leaves}
 use Rattle.dbus_tool.specs.Handing.{HandsOne, GivesNext, HandsAll, HandsSome, Hands, IsReadCause, AreAll}
 use Rattle.dbus_tool.specs.declared.ending.Cause.{Cause}
 use Rattle.dbus_tool.specs.declared.ending.Cause.TheVariants.{Memory, ReadFailed, WriteFailed, TooManyReads}
-use Rattle.dbus_tool.specs.declared.ending.Stop.{Stop}
-use Rattle.dbus_tool.specs.declared.ending.Stop.TheVariants.{Reader, Writer}
+use Rattle.dbus_tool.specs.declared.ending.NoMessage.{NoMessage}
+use Rattle.dbus_tool.specs.declared.ending.NoMessage.TheVariants.{Reader, Writer}
 use Rattle.dbus_tool.proofs.GatherSteps.{passes_none, passes_both, passes_nothing, breaks_behind, breaks_nothing}
 use Rattle.dbus_tool.proofs.OutputSteps.{output_last}
 use Rattle.dbus_tool.proofs.CountSteps.{HasCounted, counts_none, counts_more, counts_ended, counts_refused, more_read, called_all}
@@ -48,7 +48,7 @@ module _ {R A W : Type 0} (left : R → Option (List ℕ)) (calls failures : R �
         passes = passes_none held write_failures g w;
       }
     where
-      none_of : (items : List Item) → 0 ≡ length items → items ≡ []
+      none_of : (items : List CutMessage) → 0 ≡ length items → items ≡ []
       none_of [] e = refl
       none_of (x ∷ xs) e = absurd (omega arith)
 
@@ -59,7 +59,7 @@ module _ {R A W : Type 0} (left : R → Option (List ℕ)) (calls failures : R �
       → HandsOne held write_failures command l.gives.order l.gives.message (count + 1) g2 g3 w2 w3 (Ok tt) → HasHanded (count + 1) old new g0 g3 w0 w3
   hands_more count old mid new g0 g1 g2 g3 w0 w1 w2 w3 h j r l same p one =
       let next = counts_more left calls failures limits most old mid new count h.counted j r l same h.count_is in
-      let item : Item = record { order = l.gives.order; message = l.gives.message; size = l.size } in
+      let item : CutMessage = record { order = l.gives.order; message = l.gives.message; size = l.size } in
       let number : count + 1 ≡ 1 + length h.counted.items = omega (arith, h.count_is) in
       let last : IsOutputOfAll command 1 (h.counted.items ++ item ∷ []) (h.out ++ one.0)
       = output_last command 1 h.counted.items item h.out one.0 h.output (subst (λ n. IsOutputOf command l.gives.order l.gives.message n one.0) number one.1) in
@@ -138,7 +138,7 @@ module _ {R A W : Type 0} (left : R → Option (List ℕ)) (calls failures : R �
       hands_some WriteFailed count old mid new g0 g1 g2 w0 w1 w2 h r tt (breaks_nothing held write_failures h.out g0 g1 w0 w1 w2 h.passes b) (same ∙ h.counted.failed)
 
   -- there is no next message
-  pub hands_stopped : (stop : Stop) (count : ℕ) (old mid new : RawReader R A) (g0 g1 g2 : List ℕ) (w0 w1 w2 : W) (h : HasHanded count old mid g0 g1 w0 w1)
+  pub hands_stopped : (stop : NoMessage) (count : ℕ) (old mid new : RawReader R A) (g0 g1 g2 : List ℕ) (w0 w1 w2 : W) (h : HasHanded count old mid g0 g1 w0 w1)
       → GivesNext left calls failures held write_failures mid new g1 g2 w1 w2 (Err stop)
       → Hands left calls failures held write_failures limits most command (source_of old) (source_of new) g0 g2 w0 w2 (stopped_by count (done_of new) stop)
   hands_stopped (Reader fault) count old mid new g0 g1 g2 w0 w1 w2 h given = hands_faulted fault count old mid new g0 g1 g2 w0 w1 w2 h given.0 given.1 given.2 given.3
@@ -157,7 +157,7 @@ module _ {R A W : Type 0} (left : R → Option (List ℕ)) (calls failures : R �
   hands_not TooManyReads count old mid new g0 g1 g2 g3 w0 w1 w2 w3 h j r l same p one = absurd one.2
   hands_not WriteFailed count old mid new g0 g1 g2 g3 w0 w1 w2 w3 h j r l same p one =
       let m = more_read left calls failures limits most old mid new h.counted r in
-      let item : Item = record { order = l.gives.order; message = l.gives.message; size = l.size } in
+      let item : CutMessage = record { order = l.gives.order; message = l.gives.message; size = l.size } in
       let number : count + 1 ≡ 1 + length h.counted.items = omega (arith, h.count_is) in
       record {
         bytes = h.counted.bytes ++ r.bytes;

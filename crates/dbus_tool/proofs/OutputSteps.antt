@@ -3,7 +3,7 @@ use Rattle.std.proofs.Common.{◌≡◌, ℕ, suc, ◌+◌, List, [], ◌∷◌,
 use Rattle.dbus_value_model.specs.declared.order.Order.{Order}
 use Rattle.dbus_value_model.specs.declared.fault.Fault.{Fault}
 use Rattle.dbus_message_model.specs.Messages.{MessageTree}
-use Rattle.dbus_stream.specs.Cut.{Item, sizes}
+use Rattle.dbus_stream.specs.Cut.{CutMessage, sizes}
 use Rattle.dbus_match.specs.Rules.{Pair}
 use Rattle.dbus_match.specs.RuleViews.{rule_pairs}
 use Rattle.dbus_command.specs.declared.command.Command.{Command}
@@ -24,7 +24,7 @@ output_one (Swap wanted) order message n a b p q = p ∙ sym q
 output_one (Filter rule) order message n a b p q = filtered_one (rule_pairs rule) order message a b p q
 
 -- one more message
-pub output_last : (command : Command) (n : ℕ) (items : List Item) (item : Item) (out one : List ℕ) → IsOutputOfAll command n items out
+pub output_last : (command : Command) (n : ℕ) (items : List CutMessage) (item : CutMessage) (out one : List ℕ) → IsOutputOfAll command n items out
     → IsOutputOf command item.order item.message (n + length items) one → IsOutputOfAll command n (items ++ item ∷ []) (out ++ one)
 output_last command n [] item out one a o =
     let here : n + 0 ≡ n = omega arith in
@@ -36,7 +36,7 @@ output_last command n (x ∷ items) item out one a o =
     (a.0, a.1 ++ one, ap (λ l. l ++ one) a.2 ∙ append_assoc a.0 a.1 one, a.3, behind)
 
 -- of the first messages it is a prefix
-pub output_front : (command : Command) (n : ℕ) (items more : List Item) (a b : List ℕ) → IsOutputOfAll command n items a
+pub output_front : (command : Command) (n : ℕ) (items more : List CutMessage) (a b : List ℕ) → IsOutputOfAll command n items a
     → IsOutputOfAll command n (items ++ more) b → IsFrontOf a b
 output_front command n [] more a b p q = (b, ap (λ l. l ++ b) (sym p))
 output_front command n (x ∷ items) more a b p q =
@@ -46,7 +46,7 @@ output_front command n (x ∷ items) more a b p q =
     (behind.0, q.2 ∙ (parts ∙ (sym (append_assoc p.0 p.1 behind.0) ∙ ap (λ l. l ++ behind.0) (sym p.2))))
 
 -- it is one
-pub output_all_one : (command : Command) (n : ℕ) (items : List Item) (a b : List ℕ) → IsOutputOfAll command n items a → IsOutputOfAll command n items b → a ≡ b
+pub output_all_one : (command : Command) (n : ℕ) (items : List CutMessage) (a b : List ℕ) → IsOutputOfAll command n items a → IsOutputOfAll command n items b → a ≡ b
 output_all_one command n [] a b p q = p ∙ sym q
 output_all_one command n (x ∷ items) a b p q =
     let same : p.0 ≡ q.0 = output_one command x.order x.message n p.0 q.0 p.3 q.3 in
@@ -58,7 +58,7 @@ front_behind : (a b c : List ℕ) → IsFrontOf a b → IsFrontOf b c → IsFron
 front_behind a b c p q = (p.0 ++ q.0, q.1 ∙ (ap (λ l. l ++ q.0) p.1 ∙ append_assoc a p.0 q.0))
 
 -- a prefix of what is written of the first messages is one of all that the first writer gets
-pub front_of_first : (command : Command) (items more all : List Item) (fault : Option Fault) (out written first : List ℕ) → all ≡ items ++ more
+pub front_of_first : (command : Command) (items more all : List CutMessage) (fault : Option Fault) (out written first : List ℕ) → all ≡ items ++ more
     → IsOutputOfAll command 1 items out → IsFrontOf written out → IsFirstOutput command all fault first → IsFrontOf written first
 front_of_first command items more all fault out written first e o front whole =
     let each : IsOutputOfAll command 1 (items ++ more) whole.written = subst (λ l. IsOutputOfAll command 1 l whole.written) e whole.each in
@@ -66,7 +66,7 @@ front_of_first command items more all fault out written first e o front whole =
     (front_behind out whole.written first (output_front command 1 items more out whole.written o each) (last_line command (length all) (sizes all) fault, whole.joined))
 
 -- a prefix of what is written of all messages and then the last line is one of all that the first writer gets
-pub front_of_whole : (command : Command) (items : List Item) (fault : Option Fault) (out written first : List ℕ) → IsOutputOfAll command 1 items out
+pub front_of_whole : (command : Command) (items : List CutMessage) (fault : Option Fault) (out written first : List ℕ) → IsOutputOfAll command 1 items out
     → IsFrontOf written (out ++ last_line command (length items) (sizes items) fault) → IsFirstOutput command items fault first → IsFrontOf written first
 front_of_whole command items fault out written first o front whole =
     let behind = last_line command (length items) (sizes items) fault in

@@ -3,7 +3,7 @@ use Rattle.std.proofs.Common.{◌≡◌, ℕ, ◌+◌, inl, inr, List, [], ◌�
 use Rattle.dbus_value_model.specs.declared.fault.Fault.{Fault}
 use Rattle.dbus_value_model.specs.declared.order.Order.{Order}
 use Rattle.dbus_message_model.specs.Messages.{MessageTree, message_bytes}
-use Rattle.dbus_stream.specs.Cut.{Item, sizes}
+use Rattle.dbus_stream.specs.Cut.{CutMessage, sizes}
 use Rattle.dbus_show.specs.ShownMessages.{message_text}
 use Rattle.dbus_match.specs.Rules.{Pair}
 use Rattle.dbus_match.specs.RuleViews.{rule_pairs}
@@ -26,14 +26,14 @@ some_of_one Check order message n = ([], refl)
 some_of_one (Swap wanted) order message n = (message_bytes wanted message, refl)
 some_of_one (Filter rule) order message n = some_filtered (rule_pairs rule) order message
 
-some_of_all : (command : Command) (n : ℕ) (items : List Item) → (out : List ℕ) × IsOutputOfAll command n items out
+some_of_all : (command : Command) (n : ℕ) (items : List CutMessage) → (out : List ℕ) × IsOutputOfAll command n items out
 some_of_all command n [] = ([], refl)
 some_of_all command n (item ∷ items) =
     let one = some_of_one command item.order item.message n in
     let more = some_of_all command (n + 1) items in
     (one.0 ++ more.0, (one.0, more.0, refl, one.1, more.1))
 
-pub some_output : (command : Command) (items : List Item) (fault : Option Fault) → (out : List ℕ) × IsFirstOutput command items fault out
+pub some_output : (command : Command) (items : List CutMessage) (fault : Option Fault) → (out : List ℕ) × IsFirstOutput command items fault out
 some_output command items fault =
     let all = some_of_all command 1 items in
     (all.0 ++ last_line command (length items) (sizes items) fault, record { written = all.0; each = all.1; joined = refl })
@@ -54,7 +54,7 @@ one_of_one Check order message n x y h k = h ∙ sym k
 one_of_one (Swap wanted) order message n x y h k = h ∙ sym k
 one_of_one (Filter rule) order message n x y h k = one_filtered (rule_pairs rule) order message x y h k
 
-one_of_all : (command : Command) (n : ℕ) (items : List Item) (x y : List ℕ)
+one_of_all : (command : Command) (n : ℕ) (items : List CutMessage) (x y : List ℕ)
     → IsOutputOfAll command n items x → IsOutputOfAll command n items y → x ≡ y
 one_of_all command n [] x y h k = h ∙ sym k
 one_of_all command n (item ∷ items) x y h k =
@@ -63,7 +63,7 @@ one_of_all command n (item ∷ items) x y h k =
     let joined : h.0 ++ h.1 ≡ k.0 ++ k.1 = cc (first, more) in
     h.2 ∙ joined ∙ sym k.2
 
-pub one_output : (command : Command) (items : List Item) (fault : Option Fault) (x y : List ℕ)
+pub one_output : (command : Command) (items : List CutMessage) (fault : Option Fault) (x y : List ℕ)
     → IsFirstOutput command items fault x → IsFirstOutput command items fault y → x ≡ y
 one_output command items fault x y h k =
     h.joined ∙ ap (λ a. a ++ last_line command (length items) (sizes items) fault) (one_of_all command 1 items h.written k.written h.each k.each) ∙ sym k.joined

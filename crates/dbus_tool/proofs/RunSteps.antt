@@ -3,7 +3,7 @@ use Rattle.std.proofs.Common.{◌≡◌, ℕ, List, [], ◌++◌, Ok, Err, Optio
 use Rattle.std.specs.Io.KnownBytes.{Appends}
 use Rattle.std.proofs.KnownBytes.{Appends-trans}
 use Rattle.dbus_stream.specs.Device.{one_more}
-use Rattle.dbus_stream.specs.Cut.{Item, IsCut, Outcome, fault_at_end, sizes}
+use Rattle.dbus_stream.specs.Cut.{CutMessage, IsCut, CutOutcome, fault_at_end, sizes}
 use Rattle.dbus_stream.specs.Write.{Wrote}
 use Rattle.dbus_stream.proofs.CutLaws.{BeginWith-first, IsCut-one}
 use Rattle.dbus_value_model.specs.declared.limits.Limits.{Limits}
@@ -80,7 +80,7 @@ module _ {R W E : Type 0} (left : R → Option (List ℕ)) (calls read_failures 
   -- what was written of the last line says how much was written of all
   front_of_all : (counted : Counted) (g1 written : List ℕ) (r0 r1 : R) (w0 w1 : W) (a : HandsAll left calls read_failures held write_failures limits most command counted r0 r1 [] g1 w0 w1)
       → IsFrontOf written (g1 ++ last_line command counted.count counted.size counted.fault)
-      → (items : List Item) (rest : List ℕ) (outcome : Outcome) (out : List ℕ) → IsCut limits a.counts.bytes items rest outcome
+      → (items : List CutMessage) (rest : List ℕ) (outcome : CutOutcome) (out : List ℕ) → IsCut limits a.counts.bytes items rest outcome
       → IsFirstOutput command items (fault_at_end rest outcome) out → IsFrontOf (a.passes.written ++ written) out
   front_of_all counted g1 written r0 r1 w0 w1 a front items rest outcome out cut whole =
       let line = last_line command counted.count counted.size counted.fault in
@@ -158,7 +158,7 @@ module _ {R W E : Type 0} (left : R → Option (List ℕ)) (calls read_failures 
 
   -- of the messages that were handed on a prefix was written
   some_front : (cause : Cause) (out written : List ℕ) (g1 : List ℕ) (r0 r1 : R) (w0 w1 : W) (s : HandsSome left calls read_failures held write_failures limits most command cause r0 r1 [] g1 w0 w1)
-      → IsFrontOf written s.out → (items : List Item) (rest : List ℕ) (outcome : Outcome) (first : List ℕ) → IsCut limits s.bytes items rest outcome
+      → IsFrontOf written s.out → (items : List CutMessage) (rest : List ℕ) (outcome : CutOutcome) (first : List ℕ) → IsCut limits s.bytes items rest outcome
       → IsFirstOutput command items (fault_at_end rest outcome) first → IsFrontOf written first
   some_front cause out written g1 r0 r1 w0 w1 s front items rest outcome first cut whole =
       let more = BeginWith-first limits s.bytes s.items items s.rest rest outcome s.messages cut.messages cut.outcome_is in

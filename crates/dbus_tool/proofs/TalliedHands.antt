@@ -1,7 +1,7 @@
 -- Counting the messages is all that `check` does with each of them.
 use Rattle.std.proofs.Common.{ℕ, ◌+◌, List, [], ◌∷◌, Option, Result, Ok, Err, refl}
 use Rattle.dbus_value_model.specs.declared.limits.Limits.{Limits}
-use Rattle.dbus_stream.specs.Cut.{Item}
+use Rattle.dbus_stream.specs.Cut.{CutMessage}
 use Rattle.dbus_command.specs.declared.command.Command.TheVariants.{Check}
 use Rattle.dbus_tool.specs.Output.{IsOutputOfAll}
 use Rattle.dbus_tool.specs.Handing.{Hands}
@@ -12,7 +12,7 @@ use Rattle.dbus_tool.specs.declared.ending.Counted.{Counted}
 use Rattle.dbus_tool.proofs.GatherSteps.{passes_none}
 
 -- `check` writes nothing of a message
-no_output : (n : ℕ) (items : List Item) → IsOutputOfAll Check n items []
+no_output : (n : ℕ) (items : List CutMessage) → IsOutputOfAll Check n items []
 no_output n [] = refl
 no_output n (item ∷ items) = ([], [], refl, refl, no_output (n + 1) items)
 

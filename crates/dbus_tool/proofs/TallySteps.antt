@@ -6,7 +6,7 @@ use Rattle.dbus_value_model.specs.declared.fault.Fault.{Fault}
 use Rattle.dbus_value_model.specs.declared.limits.Limits.{Limits}
 use Rattle.dbus_decode.specs.MessageOutcomes.{IsWhole, IsRefused, IsPartial}
 use Rattle.dbus_stream.specs.Device.{one_more}
-use Rattle.dbus_stream.specs.Cut.{Item, BeginWith, Ended, Unfinished, Refused, sizes}
+use Rattle.dbus_stream.specs.Cut.{CutMessage, BeginWith, Ended, Unfinished, Refused, sizes}
 use Rattle.dbus_stream.specs.Next.{RisesBy, DeviceCounts}
 use Rattle.dbus_stream.specs.CheckReading.{limits_of, source_of, done_of, reads_of, most_reads_of, is_ended, stopped_of, Keeps}
 use Rattle.dbus_stream.specs.CheckNext.{Reads, CheckAnswers, GivesLength}
@@ -25,7 +25,7 @@ module _ {R : Type 0} (left : R → Option (List ℕ)) (calls failures : R → �
   -- the messages of what was read so far were counted
   pub record HasTallied (count : ℕ) (old new : CheckReader R) : Type 0 where
     pub bytes : List ℕ
-    pub items : List Item
+    pub items : List CutMessage
     pub rest : List ℕ
     pub kept : Keeps new rest
     pub consumed : Consumes (left (source_of old)) (left (source_of new)) bytes
@@ -58,7 +58,7 @@ module _ {R : Type 0} (left : R → Option (List ℕ)) (calls failures : R → �
   }
 
   -- what was read once more
-  record MoreRead (old new : CheckReader R) (bytes : List ℕ) (items : List Item) (rest : List ℕ) : Type 0 where
+  record MoreRead (old new : CheckReader R) (bytes : List ℕ) (items : List CutMessage) (rest : List ℕ) : Type 0 where
     pub consumed : Consumes (left (source_of old)) (left (source_of new)) bytes
     pub messages : BeginWith limits bytes items rest
     pub called : RisesBy (reads_of new) (calls (source_of old)) (calls (source_of new))
@@ -87,7 +87,7 @@ module _ {R : Type 0} (left : R → Option (List ℕ)) (calls failures : R → �
       → GivesLength (h.rest ++ r.bytes) size mid new → failures (source_of new) ≡ failures (source_of mid) → HasTallied (count + 1) old new
   tallies_more count size old mid new h r gives same =
       let m = more_read count old mid new h r in
-      let item : Item = record { order = gives.order; message = gives.message; size = size } in
+      let item : CutMessage = record { order = gives.order; message = gives.message; size = size } in
       record {
         bytes = h.bytes ++ r.bytes;
         items = h.items ++ item ∷ [];

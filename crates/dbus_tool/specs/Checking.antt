@@ -8,7 +8,7 @@ use Rattle.dbus_decode.specs.MessageOutcomes.{IsPartial}
 use Rattle.dbus_stream.specs.Device.{one_more}
 use Rattle.dbus_stream.specs.Next.{RisesBy}
 use Rattle.dbus_stream.specs.Write.{Wrote}
-use Rattle.dbus_stream.specs.Cut.{Item, BeginWith, IsCut, Outcome, Refused, fault_at_end, sizes}
+use Rattle.dbus_stream.specs.Cut.{CutMessage, BeginWith, IsCut, CutOutcome, Refused, fault_at_end, sizes}
 use Rattle.dbus_command.specs.declared.command.Command.{Command}
 use Rattle.dbus_tool.specs.Output.{IsOutputOfAll, IsFirstOutput, second_output, status_of, IsFrontOf}
 use Rattle.dbus_tool.specs.declared.ending.ExitStatus.{ExitStatus}
@@ -37,7 +37,7 @@ module _ {W : Type 0} (held : W → Option (List ℕ)) (failures : W → ℕ) wh
 
 -- what the command makes of all messages within the limits that the bytes begin with was written
 pub record WritesMessages (limits : Limits) (command : Command) (bytes written : List ℕ) : Type 0 where
-  pub items : List Item
+  pub items : List CutMessage
   pub rest : List ℕ
   pub messages : BeginWith limits bytes items rest
   pub partial : IsPartial limits rest
@@ -48,9 +48,9 @@ module _ {R W E : Type 0} (left : R → Option (List ℕ)) (calls read_failures 
   -- both writers got what the command makes of what was read, and the status is that of its fault
   pub record Answers (old new : R) (first_old first_new : W) (second_old second_new : E) (end : ExitStatus) : Type 0 where
     pub bytes : List ℕ
-    pub items : List Item
+    pub items : List CutMessage
     pub rest : List ℕ
-    pub outcome : Outcome
+    pub outcome : CutOutcome
     pub out : List ℕ
     pub consumed : Consumes (left old) (left new) bytes
     pub cut : IsCut limits bytes items rest outcome
@@ -85,7 +85,7 @@ module _ {R W E : Type 0} (left : R → Option (List ℕ)) (calls read_failures 
     pub written : List ℕ
     pub consumed : Consumes (left old) (left new) bytes
     pub appended : Appends (held first_old) (held first_new) written
-    pub front : (items : List Item) (rest : List ℕ) (outcome : Outcome) (out : List ℕ) → IsCut limits bytes items rest outcome
+    pub front : (items : List CutMessage) (rest : List ℕ) (outcome : CutOutcome) (out : List ℕ) → IsCut limits bytes items rest outcome
         → IsFirstOutput command items (fault_at_end rest outcome) out → IsFrontOf written out
     pub before : WritesBefore cause bytes written first_old first_new
     pub caused : IsCause old new first_old first_new second_old second_new cause

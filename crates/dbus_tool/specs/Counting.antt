@@ -3,14 +3,14 @@ use Rattle.std.specs.Prelude.{◌≡◌, ℕ, List, length, Option, Some, Result
 use Rattle.std.specs.Io.KnownBytes.{Consumes, IsAtEnd}
 use Rattle.dbus_value_model.specs.declared.fault.Fault.{Fault}
 use Rattle.dbus_value_model.specs.declared.limits.Limits.{Limits}
-use Rattle.dbus_stream.specs.Cut.{Item, IsCut, Outcome, Refused, fault_at_end, sizes}
+use Rattle.dbus_stream.specs.Cut.{CutMessage, IsCut, CutOutcome, Refused, fault_at_end, sizes}
 use Rattle.dbus_stream.specs.declared.read_fault.ReadFault.{ReadFault}
 use Rattle.dbus_stream.specs.declared.read_fault.ReadFault.TheVariants as read
 use Rattle.dbus_tool.specs.declared.ending.Cause.{Cause}
 use Rattle.dbus_tool.specs.declared.ending.Cause.TheVariants.{Memory, ReadFailed, WriteFailed, TooManyReads}
 use Rattle.dbus_tool.specs.declared.ending.Counted.{Counted}
-use Rattle.dbus_tool.specs.declared.ending.Stop.{Stop}
-use Rattle.dbus_tool.specs.declared.ending.Stop.TheVariants.{Reader, Writer}
+use Rattle.dbus_tool.specs.declared.ending.NoMessage.{NoMessage}
+use Rattle.dbus_tool.specs.declared.ending.NoMessage.TheVariants.{Reader, Writer}
 
 -- what a fault of the reader after these messages comes to
 abbrev pub ended_by : ℕ → ℕ → ReadFault → Result Counted Cause
@@ -20,16 +20,16 @@ ended_by count size read.Device = Err ReadFailed
 ended_by count size read.TooManyReads = Err TooManyReads
 
 -- what it comes to that there is no next message after these
-abbrev pub stopped_by : ℕ → ℕ → Stop → Result Counted Cause
+abbrev pub stopped_by : ℕ → ℕ → NoMessage → Result Counted Cause
 stopped_by count size (Reader fault) = ended_by count size fault
 stopped_by count size Writer = Err WriteFailed
 
 -- all messages within the limits of what was read were counted, up to the end of the input or a fault
 pub record CountsAll {R : Type 0} (left : R → Option (List ℕ)) (limits : Limits) (counted : Counted) (old new : R) : Type 0 where
   pub bytes : List ℕ
-  pub items : List Item
+  pub items : List CutMessage
   pub rest : List ℕ
-  pub outcome : Outcome
+  pub outcome : CutOutcome
   pub consumed : Consumes (left old) (left new) bytes
   pub cut : IsCut limits bytes items rest outcome
   pub count_is : counted.count ≡ length items

@@ -8,7 +8,7 @@ use Rattle.dbus_message_model.specs.Messages.{MessageTree}
 use Rattle.dbus_decode.specs.MessageOutcomes.{IsPartial}
 use Rattle.dbus_judge.specs.declared.judging.Judged.{Judged}
 use Rattle.dbus_stream.specs.Device.{one_more}
-use Rattle.dbus_stream.specs.Cut.{Item, BeginWith}
+use Rattle.dbus_stream.specs.Cut.{CutMessage, BeginWith}
 use Rattle.dbus_stream.specs.Next.{RisesBy, DeviceCounts}
 use Rattle.dbus_raw_reader.specs.Next.{Reads, Advances}
 use Rattle.dbus_raw_reader.specs.Reading.{kept, source_of}
@@ -21,8 +21,8 @@ use Rattle.dbus_tool.specs.Gathering.{Passes, Breaks, GathersOrNot, Leaves}
 use Rattle.dbus_tool.specs.declared.ending.Cause.{Cause}
 use Rattle.dbus_tool.specs.declared.ending.Cause.TheVariants.{Memory, ReadFailed, WriteFailed, TooManyReads}
 use Rattle.dbus_tool.specs.declared.ending.Counted.{Counted}
-use Rattle.dbus_tool.specs.declared.ending.Stop.{Stop}
-use Rattle.dbus_tool.specs.declared.ending.Stop.TheVariants.{Reader, Writer}
+use Rattle.dbus_tool.specs.declared.ending.NoMessage.{NoMessage}
+use Rattle.dbus_tool.specs.declared.ending.NoMessage.TheVariants.{Reader, Writer}
 
 module _ {W : Type 0} (held : W → Option (List ℕ)) (failures : W → ℕ) where
   -- what a rule lets through of one message was written or gathered
@@ -44,7 +44,7 @@ AreAll limits TooManyReads rest = IsPartial limits rest
 
 module _ {R W : Type 0} (left : R → Option (List ℕ)) (calls read_failures : R → ℕ) (held : W → Option (List ℕ)) (write_failures : W → ℕ) where
   -- what a reader judges of its next message, which it lends, where what is gathered may have been written before
-  abbrev pub GivesNext : {A : Type 0} → RawReader R A → RawReader R A → List ℕ → List ℕ → W → W → Result (Option Judged) Stop → Type 0
+  abbrev pub GivesNext : {A : Type 0} → RawReader R A → RawReader R A → List ℕ → List ℕ → W → W → Result (Option Judged) NoMessage → Type 0
   GivesNext old new g0 g1 w0 w1 (Ok judged) = (r : Reads left calls old new) × Advances (kept old ++ r.bytes) old new (Ok judged)
       × (read_failures (source_of new) ≡ read_failures (source_of old)) × Passes held write_failures [] g0 g1 w0 w1
   GivesNext old new g0 g1 w0 w1 (Err (Reader fault)) = (r : Reads left calls old new) × Advances (kept old ++ r.bytes) old new (Err fault)
@@ -71,7 +71,7 @@ module _ {R W : Type 0} (left : R → Option (List ℕ)) (calls read_failures : 
   -- some of the first messages of what was read were handed to the command
   pub record HandsSome (command : Command) (cause : Cause) (old new : R) (g0 g1 : List ℕ) (w0 w1 : W) : Type 0 where
     pub bytes : List ℕ
-    pub items : List Item
+    pub items : List CutMessage
     pub rest : List ℕ
     pub out : List ℕ
     pub consumed : Consumes (left old) (left new) bytes

@@ -1,15 +1,15 @@
 -- The laws over what a command writes: of all messages and the fault after them there is exactly one output.
 use Rattle.std.specs.Prelude.{◌≡◌, ℕ, List, Option}
 use Rattle.dbus_value_model.specs.declared.fault.Fault.{Fault}
-use Rattle.dbus_stream.specs.Cut.{Item}
+use Rattle.dbus_stream.specs.Cut.{CutMessage}
 use Rattle.dbus_command.specs.declared.command.Command.{Command}
 use Rattle.dbus_tool.specs.Output.{IsFirstOutput}
 
 -- of each list of messages, and a fault after them or none, the command has an output
 abbrev pub SomeOutput : Type 0
-SomeOutput = (command : Command) (items : List Item) (fault : Option Fault) → (out : List ℕ) × IsFirstOutput command items fault out
+SomeOutput = (command : Command) (items : List CutMessage) (fault : Option Fault) → (out : List ℕ) × IsFirstOutput command items fault out
 
 -- and no other
 abbrev pub OneOutput : Type 0
-OneOutput = (command : Command) (items : List Item) (fault : Option Fault) (x y : List ℕ)
+OneOutput = (command : Command) (items : List CutMessage) (fault : Option Fault) (x y : List ℕ)
     → IsFirstOutput command items fault x → IsFirstOutput command items fault y → x ≡ y

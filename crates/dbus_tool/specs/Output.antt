@@ -3,7 +3,7 @@ use Rattle.std.specs.Prelude.{◌≡◌, ℕ, ◌+◌, ◌⊎◌, List, [], ◌�
 use Rattle.dbus_value_model.specs.declared.fault.Fault.{Fault}
 use Rattle.dbus_value_model.specs.declared.order.Order.{Order}
 use Rattle.dbus_message_model.specs.Messages.{MessageTree, message_bytes}
-use Rattle.dbus_stream.specs.Cut.{Item, sizes}
+use Rattle.dbus_stream.specs.Cut.{CutMessage, sizes}
 use Rattle.dbus_show.specs.ShownMessages.{message_text}
 use Rattle.dbus_match.specs.Rules.{Pair}
 use Rattle.dbus_match.specs.RuleViews.{rule_pairs}
@@ -31,7 +31,7 @@ IsOutputOf (Swap wanted) order message n out = out ≡ message_bytes wanted mess
 IsOutputOf (Filter rule) order message n out = IsFiltered (rule_pairs rule) order message out
 
 -- what it writes of several, one after the other, of which the first is the n-th
-abbrev pub IsOutputOfAll : Command → ℕ → List Item → List ℕ → Type 0
+abbrev pub IsOutputOfAll : Command → ℕ → List CutMessage → List ℕ → Type 0
 IsOutputOfAll command n [] out = out ≡ []
 IsOutputOfAll command n (item ∷ items) out = (one : List ℕ) × (more : List ℕ) × (out ≡ one ++ more)
     × IsOutputOf command item.order item.message n one × IsOutputOfAll command (n + 1) items more
@@ -49,7 +49,7 @@ last_line (Swap order) count size fault = []
 last_line (Filter rule) count size fault = []
 
 -- what the first writer gets
-pub record IsFirstOutput (command : Command) (items : List Item) (fault : Option Fault) (out : List ℕ) : Type 0 where
+pub record IsFirstOutput (command : Command) (items : List CutMessage) (fault : Option Fault) (out : List ℕ) : Type 0 where
   pub written : List ℕ
   pub each : IsOutputOfAll command 1 items written
   pub joined : out ≡ written ++ last_line command (length items) (sizes items) fault

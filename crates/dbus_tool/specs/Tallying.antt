@@ -6,7 +6,7 @@ use Rattle.dbus_value_model.specs.declared.limits.Limits.{Limits}
 use Rattle.dbus_decode.specs.MessageOutcomes.{IsPartial}
 use Rattle.dbus_stream.specs.Device.{one_more}
 use Rattle.dbus_stream.specs.Next.{RisesBy}
-use Rattle.dbus_stream.specs.Cut.{Item, BeginWith}
+use Rattle.dbus_stream.specs.Cut.{CutMessage, BeginWith}
 use Rattle.dbus_stream.specs.CheckReading.{done_of, reads_of, is_ended, stopped_of, Keeps}
 use Rattle.dbus_stream.specs.declared.check_reader.CheckReader.{CheckReader}
 use Rattle.dbus_tool.specs.Counting.{CountsAll}
@@ -38,7 +38,7 @@ module _ {R : Type 0} (left : R → Option (List ℕ)) (calls failures : R → �
   -- reading was given up after the first messages of the input
   pub record TalliesSome (cause : Cause) (old new : R) : Type 0 where
     pub bytes : List ℕ
-    pub items : List Item
+    pub items : List CutMessage
     pub rest : List ℕ
     pub consumed : Consumes (left old) (left new) bytes
     pub messages : BeginWith limits bytes items rest

@@ -43,7 +43,7 @@ pub(crate) enum Cause {
 
 /// Why there is no next message.
 #[derive(Clone, Copy, Debug, PartialEq, Eq)]
-pub(crate) enum Stop {
+pub(crate) enum NoMessage {
     /// The reader has a fault.
     Reader(ReadFault),
     /// A write failed, or took none of its bytes.

@@ -4,7 +4,7 @@ ghost use Rattle.dbus_raw_reader.specs.Reading.{IsNewReader, source_of, done_of,
 ghost use Rattle.dbus_tool.specs.Counting.{ended_by, stopped_by};
 ghost use Rattle.dbus_tool.specs.Handing.{GivesNext, Hands};
 
-use crate::ending::{Cause, Counted, Stop};
+use crate::ending::{Cause, Counted, NoMessage};
 use crate::gathering::{Gathered, Unwritten, write_out};
 use crate::output::write_one;
 use crate::spare::Spare;
@@ -21,7 +21,7 @@ fn next_message<R: Source, A: Allocator + Copy, W: Sink>(
     messages: &mut RawReader<R, A>,
     gathered: &mut Gathered,
     first: &mut W,
-) -> Result<Option<Judged>, Stop>
+) -> Result<Option<Judged>, NoMessage>
     requires { stopped_of messages.old ≡ None }
     ensures gives { GivesNext R.left R.calls R.failures W.held W.failures messages.old messages.new gathered.old.items gathered.new.items first.old first.new result }
     ensures few { IfOk result (λ _. done_of messages.new ≤ 2 ^ 48) }
@@ -30,7 +30,7 @@ fn next_message<R: Source, A: Allocator + Copy, W: Sink>(
     match messages.advance_kept() {
         Ok(Some(judged)) => Ok(Some(judged)),
         Ok(None) => read_message(messages, gathered, first),
-        Err(fault) => Err(Stop::Reader(fault)),
+        Err(fault) => Err(NoMessage::Reader(fault)),
     }
 }
 
@@ -40,7 +40,7 @@ fn read_message<R: Source, A: Allocator + Copy, W: Sink>(
     messages: &mut RawReader<R, A>,
     gathered: &mut Gathered,
     first: &mut W,
-) -> Result<Option<Judged>, Stop>
+) -> Result<Option<Judged>, NoMessage>
     requires { stopped_of messages.old ≡ None }
     ensures gives { GivesNext R.left R.calls R.failures W.held W.failures messages.old messages.new gathered.old.items gathered.new.items first.old first.new result }
     ensures few { IfOk result (λ _. done_of messages.new ≤ 2 ^ 48) }
@@ -49,9 +49,9 @@ fn read_message<R: Source, A: Allocator + Copy, W: Sink>(
     match write_out(gathered, first) {
         Ok(()) => match messages.advance() {
             Ok(judged) => Ok(judged),
-            Err(fault) => Err(Stop::Reader(fault)),
+            Err(fault) => Err(NoMessage::Reader(fault)),
         },
-        Err(Unwritten) => Err(Stop::Writer),
+        Err(Unwritten) => Err(NoMessage::Writer),
     }
 }
 
@@ -96,12 +96,12 @@ fn hand_all<R: Source, A: Allocator + Copy, W: Sink>(
 }
 
 // What it comes to that there is no next message after these.
-fn stopped_by(count: u64, size: u64, stop: Stop) -> Result<Counted, Cause>
+fn stopped_by(count: u64, size: u64, stop: NoMessage) -> Result<Counted, Cause>
     ensures { result ≡ stopped_by count size stop }
 {
     match stop {
-        Stop::Reader(fault) => ended_by(count, size, fault),
-        Stop::Writer => Err(Cause::WriteFailed),
+        NoMessage::Reader(fault) => ended_by(count, size, fault),
+        NoMessage::Writer => Err(Cause::WriteFailed),
     }
 }
 

@@ -79,7 +79,7 @@ pub fn read_text(bytes: &[u8], at: usize, n: usize, kind: TextKind) -> Result<us
 ///
 /// Else `FieldType` at the first byte that is another, or at the text's end where more is wanted. D-Bus
 /// Specification, "Header Fields".
-pub fn read_only(bytes: &[u8], at: usize, n: usize, wanted: &[u8]) -> Result<usize, Stop>
+pub fn read_exactly(bytes: &[u8], at: usize, n: usize, wanted: &[u8]) -> Result<usize, Stop>
     requires inside { at ≤ length bytes.now }
     ensures gives { Gives (λ q. (wanted.now, q)) bytes.now result (text (Only wanted.now) n at (drop at bytes.now)) }
     ensures moves { IfOk result (λ q. (q ≡ at + n) × (q ≤ length bytes.now)) }

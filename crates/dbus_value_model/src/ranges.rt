@@ -7,10 +7,10 @@ ghost use Rattle.dbus_value_model.specs.ValueViews.{value_tree, value_trees_of, 
 use crate::value::Value;
 use std::alloc::Allocator;
 
-/// Reads each number of a value, which shows that it is in the range of its type, as a clause on the value's tree cannot
-/// know otherwise. D-Bus Specification, "Basic types".
+/// Shows that each number of a value is in the range of its type. It looks at each and does nothing with it: a clause on the
+/// value's tree cannot know the range otherwise. D-Bus Specification, "Basic types".
 #[cycle(numbers)]
-pub fn read_numbers<A: Allocator>(value: &Value<A>)
+pub fn numbers_in_range<A: Allocator>(value: &Value<A>)
     ensures { HoldsNumbers (value_tree value.now) }
 {
     match value {
@@ -39,28 +39,28 @@ pub fn read_numbers<A: Allocator>(value: &Value<A>)
             let _n = *n;
         }
         Value::Str(_) | Value::Path(_) | Value::Sig(_) => {}
-        Value::Bytes(bytes) => read_bytes(bytes),
-        Value::Array(_, items) => read_all_numbers(items),
-        Value::Struct(fields) => read_all_numbers(fields),
+        Value::Bytes(bytes) => bytes_in_range(bytes),
+        Value::Array(_, items) => all_numbers_in_range(items),
+        Value::Struct(fields) => all_numbers_in_range(fields),
         Value::Entry(entry) => {
-            read_numbers(&entry.key);
-            read_numbers(&entry.value);
+            numbers_in_range(&entry.key);
+            numbers_in_range(&entry.value);
         }
-        Value::Variant(inner) => read_numbers(inner),
+        Value::Variant(inner) => numbers_in_range(inner),
     }
 }
 
-/// Reads each number of values.
+/// Shows that each number of values is in the range of its type.
 #[cycle(numbers)]
-pub fn read_all_numbers<A: Allocator>(values: &[Value<A>])
+pub fn all_numbers_in_range<A: Allocator>(values: &[Value<A>])
     ensures { HoldNumbers (value_trees_of values.now) }
 {
     for value in values {
-        read_numbers(value);
+        numbers_in_range(value);
     }
 }
 
-fn read_bytes(bytes: &[u8])
+fn bytes_in_range(bytes: &[u8])
     ensures { HoldNumbers (byte_values bytes.now) }
 {
     let _count = bytes.len();

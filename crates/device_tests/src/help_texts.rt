@@ -18,7 +18,7 @@ Options:
   -V, --version  Print version
 
 Input:
-  Raw messages on standard input, one behind the other, as
+  Raw messages on standard input, one after the other, as
   `dbus-monitor --binary` writes them. A message over one of the limits, which
   the options of a command lower, is refused.
 
@@ -53,7 +53,7 @@ Options:
   -h, --help             Print help
 
 Input:
-  Raw messages on standard input, one behind the other, as
+  Raw messages on standard input, one after the other, as
   `dbus-monitor --binary` writes them. A message over one of the limits, which
   the options of a command lower, is refused.
 
@@ -86,7 +86,7 @@ Options:
   -h, --help             Print help
 
 Input:
-  Raw messages on standard input, one behind the other, as
+  Raw messages on standard input, one after the other, as
   `dbus-monitor --binary` writes them. A message over one of the limits, which
   the options of a command lower, is refused.
 
@@ -119,7 +119,7 @@ Options:
   -h, --help             Print help
 
 Input:
-  Raw messages on standard input, one behind the other, as
+  Raw messages on standard input, one after the other, as
   `dbus-monitor --binary` writes them. A message over one of the limits, which
   the options of a command lower, is refused.
 
@@ -154,7 +154,7 @@ Options:
   -h, --help             Print help
 
 Input:
-  Raw messages on standard input, one behind the other, as
+  Raw messages on standard input, one after the other, as
   `dbus-monitor --binary` writes them. A message over one of the limits, which
   the options of a command lower, is refused.
 

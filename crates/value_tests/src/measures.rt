@@ -5,7 +5,7 @@ ghost use Rattle.dbus_value_model.specs.ShortSignatures.{HasShortSignatures};
 ghost use Rattle.dbus_value_model.specs.ValueViews.{value_tree};
 
 use crate::examples::value_of;
-use dbus_marshal::{measure, measure_all, measure_coded, size_after};
+use dbus_marshal::{measure, measure_all, measure_header_field, size_after};
 use dbus_types::SigType;
 use dbus_value_model::{Limits, Order, Value, ValueFault};
 use std::alloc::{AllocError, Allocator, Global};
@@ -71,9 +71,11 @@ fn ends_of_values(rt: HostRuntime) -> Result<(), Fail> {
 // What a header's field has after its code has the padding of its own type.
 #[test]
 fn ends_of_header_fields(rt: HostRuntime) {
-    assert!(rt; measure_coded(&Value::<Global>::U64(0), 13, Limits::specification()) == Some(32));
+    assert!(rt;
+        measure_header_field(&Value::<Global>::U64(0), 13, Limits::specification()) == Some(32)
+    );
     let empty = Value::Array(SigType::U64, Vec::new(rt.alloc()));
-    assert!(rt; measure_coded(&empty, 16, Limits::specification()) == Some(32));
+    assert!(rt; measure_header_field(&empty, 16, Limits::specification()) == Some(32));
 }
 
 // Past the limit of messages an end is one of eight.

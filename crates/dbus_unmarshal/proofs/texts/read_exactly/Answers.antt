@@ -1,7 +1,7 @@
 use Rattle.std.proofs.Common.{arith}
 use Rattle.dbus_value_model.specs.WantedTexts.{Only}
 use Rattle.dbus_unmarshal.proofs.TextSteps.{only_done, only_breaks, only_there, only_other, breaks_within, text_breaks, text_waits, text_unlike, given_inside}
-use Rattle.dbus_unmarshal.proofs.texts.read_only.Goals as goal
+use Rattle.dbus_unmarshal.proofs.texts.read_exactly.Goals as goal
 
 pub returns-then-same-given-clause-gives : goal.returns-then-same-given-clause-gives
 returns-then-same-given-clause-gives c =
