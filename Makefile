@@ -1,11 +1,12 @@
 # make run         builds dbus-wire without its proofs, in 40 seconds, and checks a sample capture
-# make build       proves dbus-wire and all below it, and builds it: half an hour on four cores; with -j4 side by side
+# make build       proves dbus-wire and all below it, and builds it: three quarters of an hour on four cores; with -j4 side by side
 # make test        the gate: every proof from nothing, the must-fail edits, the tests and the program's stored run
 # make gate-times  the gate, and the processor minutes of each of its steps
 # make library     proves and builds the static library for C
 # make test-c      builds the examples for C and Rust over it, and holds what they write against dbus-wire check
 # make test-memory runs dbus-wire with each growth of its memory refused in turn
 # make install     puts the proved dbus-wire, its manual page and its completions, and the library for C, below PREFIX
+# make instructions prints the instructions a byte of each command, by valgrind, and of libdbus where its headers are
 # make bench       MB/s of each command on a sample repeated to 64 MB, and of the calls of the libraries
 
 PREFIX ?= /usr/local
@@ -16,7 +17,7 @@ INSTALLED = bin/dbus-wire share/man/man1/dbus-wire.1 share/bash-completion/compl
 	share/zsh/site-functions/_dbus-wire share/fish/vendor_completions.d/dbus-wire.fish \
 	include/dbus_wire.h lib/libdbus_wire.a lib/pkgconfig/dbus-wire.pc
 
-.PHONY: run build library test test-c test-memory gate-times bench install uninstall
+.PHONY: run build library test test-c test-memory gate-times instructions bench install uninstall
 
 run:
 	@echo "dbus-wire as it is, built without its proofs (make build proves it):"
@@ -39,6 +40,9 @@ test-memory: build
 
 gate-times:
 	bench/gate_times.py
+
+instructions: build
+	bench/instructions.sh $(PROGRAM)
 
 bench: build
 	bench/commands.sh $(PROGRAM) samples/session.dbus

@@ -1,0 +1,113 @@
+#!/usr/bin/env python3
+"""bench/shapes.py FOLDER: writes streams of messages, each of one shape, for measuring: FOLDER/NAME.dbus, of about 2 MB.
+
+dictionaries: a signal PropertiesChanged with twelve properties; texts: an array of 200 texts; structs: an array of 100 structs
+a(iiuxsb); bytes: an array of 32,000 bytes; doubles: an array of 1,000 doubles. All are in little endian.
+"""
+
+import random
+import struct
+import sys
+
+ALIGNMENTS = {**dict.fromkeys("ygv", 1), **dict.fromkeys("nq", 2), **dict.fromkeys("iubsoa", 4), **dict.fromkeys("xtd({", 8)}
+FORMATS = {"y": "<B", "n": "<h", "q": "<H", "i": "<i", "u": "<I", "b": "<I", "x": "<q", "t": "<Q", "d": "<d"}
+FIELDS = [
+    (1, ("o", "/org/freedesktop/NetworkManager/Devices/2")),
+    (2, ("s", "org.freedesktop.DBus.Properties")),
+    (3, ("s", "PropertiesChanged")),
+    (7, ("s", ":1.7")),
+]
+SIZE = 2_000_000
+
+
+def first_type(types):
+    """The first complete type of a signature, and the rest."""
+    if types[0] == "a":
+        element, rest = first_type(types[1:])
+        return "a" + element, rest
+    depth = 0
+    for i, code in enumerate(types):
+        depth += (code in "({") - (code in ")}")
+        if depth == 0:
+            return types[: i + 1], types[i + 1 :]
+    raise ValueError(types)
+
+
+def align(out, alignment):
+    out.extend(bytes(-len(out) % alignment))
+
+
+def put_all(out, types, values):
+    """Marshals a value for each type."""
+    for value in values:
+        one, types = first_type(types)
+        put(out, one, value)
+
+
+def put(out, one, value):
+    """Marshals a value of one type; an offset counts from the start of `out`."""
+    code = one[0]
+    align(out, ALIGNMENTS[code])
+    if code in FORMATS:
+        out.extend(struct.pack(FORMATS[code], value))
+    elif code in "so":
+        out.extend(struct.pack("<I", len(value)) + value.encode() + b"\0")
+    elif code == "g":
+        out.extend(bytes([len(value)]) + value.encode() + b"\0")
+    elif code == "v":
+        put(out, "g", value[0])
+        put(out, value[0], value[1])
+    elif code == "a":
+        at = len(out)
+        out.extend(bytes(4))
+        align(out, ALIGNMENTS[one[1]])
+        first = len(out)
+        for item in value:
+            put(out, one[1:], item)
+        struct.pack_into("<I", out, at, len(out) - first)
+    else:
+        put_all(out, one[1:-1], value)
+
+
+def signal(serial, types, values):
+    body = bytearray()
+    put_all(body, types, values)
+    out = bytearray(struct.pack("<cBBBII", b"l", 4, 0, 1, len(body), serial))
+    put(out, "a(yv)", [*FIELDS, (8, ("g", types))])
+    align(out, 8)
+    return bytes(out + body)
+
+
+def properties():
+    path = "/org/freedesktop/NetworkManager/"
+    kinds = [
+        lambda n: (f"Ip4Address{n}", ("u", random.getrandbits(32))),
+        lambda n: (f"Interface{n}", ("s", f"wlan{n}")),
+        lambda n: (f"Managed{n}", ("b", n % 2)),
+        lambda n: (f"ActiveConnection{n}", ("o", f"{path}ActiveConnection/{n}")),
+        lambda n: (f"AvailableConnections{n}", ("ao", [f"{path}Settings/{k}" for k in range(3)])),
+        lambda n: (f"State{n}", ("(uu)", (100, 0))),
+    ]
+    return [random.choice(kinds)(n) for n in range(12)]
+
+
+SHAPES = {
+    "dictionaries": lambda n: signal(n, "sa{sv}as", ("org.freedesktop.NetworkManager.Device", properties(), [])),
+    "texts": lambda n: signal(n, "as", ([f"com.example.Service{k}.name" for k in range(200)],)),
+    "structs": lambda n: signal(n, "a(iiuxsb)", ([(k, -k, 3 * k, k * k, f"text{k}", k % 2) for k in range(100)],)),
+    "bytes": lambda n: signal(n, "ay", (bytes(k % 251 for k in range(32_000)),)),
+    "doubles": lambda n: signal(n, "ad", ([k / 2 for k in range(1_000)],)),
+}
+
+
+def main():
+    random.seed(7)
+    for name, shape in SHAPES.items():
+        with open(f"{sys.argv[1]}/{name}.dbus", "wb") as file:
+            written = serial = 0
+            while written < SIZE:
+                serial += 1
+                written += file.write(shape(serial))
+
+
+main()
