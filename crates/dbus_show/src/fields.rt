@@ -23,8 +23,8 @@ fn is_known(code: u8) -> bool
     code > 0 && code < 10
 }
 
-/// Appends the name of a field with this code.
-fn write_field_name<A: Allocator>(draft: &mut Draft<A>, code: u8)
+/// Appends the name of a field with this code. D-Bus Specification, "Header Fields".
+pub fn write_field_name<A: Allocator>(draft: &mut Draft<A>, code: u8)
     ensures { Gains draft.old (field_name code) draft.new }
 {
     match code {

@@ -11,4 +11,9 @@ mod show;
 mod types;
 mod values;
 
-pub use show::{show_into, show_message};
+pub use draft::Draft;
+pub use escapes::write_quoted;
+pub use fields::write_field_name;
+pub use hexadecimal::write_hex;
+pub use numbers::write_integer;
+pub use show::{order_letter, show_into, show_message, write_kind};

@@ -21,7 +21,7 @@ use dbus_value::{Order, Value};
 use std::alloc::{AllocError, Allocator};
 
 /// The letter that stands for a byte order in a message's first byte. D-Bus Specification, "Message Format".
-fn order_letter(order: Order) -> u8
+pub fn order_letter(order: Order) -> u8
     ensures code { result ≡ order_byte order }
     ensures ascii { result < 128 }
 {
@@ -31,8 +31,8 @@ fn order_letter(order: Order) -> u8
     }
 }
 
-/// Appends the name of a message type.
-fn write_kind<A: Allocator>(draft: &mut Draft<A>, kind: u8)
+/// Appends the name of a message type. D-Bus Specification, "Message Format".
+pub fn write_kind<A: Allocator>(draft: &mut Draft<A>, kind: u8)
     ensures { Gains draft.old (kind_text kind) draft.new }
 {
     match kind {

@@ -12,7 +12,7 @@ use Rattle.dbus_value_judge.proofs.TypeCodes.{struct_is, entry_is, struct_shaped
 use Rattle.dbus_swap.specs.Turning.{other, Stands, AllStand, IsPut, IsTurned}
 use Rattle.dbus_swap.proofs.Seams.{put_same, put_more, there_within, stands_after}
 
-struct_of_type : (v : ValueTree) (ts : TypeTrees) → type_of v ≡ StructType ts → (xs : ValueTrees) × (v ≡ StructValue xs) × (types_of xs ≡ ts)
+pub struct_of_type : (v : ValueTree) (ts : TypeTrees) → type_of v ≡ StructType ts → (xs : ValueTrees) × (v ≡ StructValue xs) × (types_of xs ≡ ts)
 struct_of_type (NumberValue j n) ts e = absurd cc
 struct_of_type (TextValue j t) ts e = absurd cc
 struct_of_type (VariantValue x) ts e = absurd cc
@@ -20,7 +20,7 @@ struct_of_type (ArrayValue t xs) ts e = absurd cc
 struct_of_type (StructValue xs) ts e = (xs, refl, cc)
 struct_of_type (EntryValue x y) ts e = absurd cc
 
-entry_of_type : (v : ValueTree) (k w : TypeTree) → type_of v ≡ EntryType k w → (x : ValueTree) × (y : ValueTree) × (v ≡ EntryValue x y) × (type_of x ≡ k) × (type_of y ≡ w)
+pub entry_of_type : (v : ValueTree) (k w : TypeTree) → type_of v ≡ EntryType k w → (x : ValueTree) × (y : ValueTree) × (v ≡ EntryValue x y) × (type_of x ≡ k) × (type_of y ≡ w)
 entry_of_type (NumberValue j n) k w e = absurd cc
 entry_of_type (TextValue j t) k w e = absurd cc
 entry_of_type (VariantValue x) k w e = absurd cc
@@ -28,7 +28,7 @@ entry_of_type (ArrayValue t xs) k w e = absurd cc
 entry_of_type (StructValue xs) k w e = absurd cc
 entry_of_type (EntryValue x y) k w e = (x, y, refl, cc, cc)
 
-formed_struct : (room : ℕ) (xs : ValueTrees) → IsWellFormed room (StructValue xs) → (0 < room) × AreWellFormed (room - 1) xs
+pub formed_struct : (room : ℕ) (xs : ValueTrees) → IsWellFormed room (StructValue xs) → (0 < room) × AreWellFormed (room - 1) xs
 formed_struct zero xs h = absurd h
 formed_struct (suc room) xs h = let less : room ≡ suc room - 1 = omega arith in (omega arith, subst (λ (r : ℕ). AreWellFormed r xs) less h)
 
@@ -59,19 +59,19 @@ module _ (order : Order) (room : ℕ) (types : List ℕ) (at : ℕ) (bytes : Lis
     spelled_whole : drop at bytes ≡ (pad 8 at ++ here) ++ rest
     spelled_whole = s.spelled ∙ ap (λ (l : List ℕ). l ++ rest) (is order)
 
-    spelled_parts : drop at bytes ≡ pad 8 at ++ (here ++ rest)
+    pub spelled_parts : drop at bytes ≡ pad 8 at ++ (here ++ rest)
     spelled_parts = spelled_whole ∙ append_assoc (pad 8 at) here rest
 
-    ends_within : at + gap_to 8 at ≤ length bytes
+    pub ends_within : at + gap_to 8 at ≤ length bytes
     ends_within =
         let some = stands_positive order v at s.shaped in
         let w = there_within at (spelling order at v) rest bytes s.spelled some in
         omega (arith, w, ap length (is order), length-append (pad 8 at) here, padding)
 
-    parts_left : drop (at + gap_to 8 at) bytes ≡ here ++ rest
+    pub parts_left : drop (at + gap_to 8 at) bytes ≡ here ++ rest
     parts_left = stands_after at (at + gap_to 8 at) (pad 8 at) (here ++ rest) bytes spelled_parts (omega (arith, padding))
 
-  struct_of : (xs : ValueTrees) → v ≡ StructValue xs → sigs (types_of xs) ≡ within types → (0 < room) × EnclosedStand (room - 1)
+  unfoldable pub struct_of : (xs : ValueTrees) → v ≡ StructValue xs → sigs (types_of xs) ≡ within types → (0 < room) × EnclosedStand (room - 1)
   unfolding spelling
   struct_of xs e text =
       let is : (any : Order) → spelling any at v ≡ pad 8 at ++ spellings any (at + gap_to 8 at) xs = λ any. ap (λ (u : ValueTree). spelling any at u) e in
@@ -94,13 +94,13 @@ module _ (order : Order) (room : ℕ) (types : List ℕ) (at : ℕ) (bytes : Lis
         },
       )
 
-  pub struct_stands : get_or types 0 0 ≡ 40 → (0 < room) × EnclosedStand (room - 1)
+  unfoldable pub struct_stands : get_or types 0 0 ≡ 40 → (0 < room) × EnclosedStand (room - 1)
   struct_stands e =
       let t = struct_is (type_of v) types s.text e in
       let w = struct_of_type v t.0 t.1 in
       struct_of w.0 w.1 (ap sigs w.2 ∙ t.2)
 
-  entry_of : (x y : ValueTree) → v ≡ EntryValue x y → sigs (MoreTypes (type_of x) (MoreTypes (type_of y) NoTypes)) ≡ within types → EnclosedStand room
+  unfoldable pub entry_of : (x y : ValueTree) → v ≡ EntryValue x y → sigs (MoreTypes (type_of x) (MoreTypes (type_of y) NoTypes)) ≡ within types → EnclosedStand room
   unfolding spelling
   entry_of x y e text =
       let xs = MoreValues x (MoreValues y NoValues) in
@@ -125,7 +125,7 @@ module _ (order : Order) (room : ℕ) (types : List ℕ) (at : ℕ) (bytes : Lis
         };
       }
 
-  pub entry_stands : get_or types 0 0 ≡ 123 → EnclosedStand room
+  unfoldable pub entry_stands : get_or types 0 0 ≡ 123 → EnclosedStand room
   entry_stands e =
       let t = entry_is (type_of v) types s.text e in
       let w = entry_of_type v t.0 t.1 t.2 in

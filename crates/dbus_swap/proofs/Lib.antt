@@ -1,10 +1,10 @@
-mod Seams
-mod Turned
-mod NumberRuns
-mod Parts
-mod Remaining
-mod Containers
-mod Enclosed
-mod Lists
+pub mod Seams
+pub mod Turned
+pub mod NumberRuns
+pub mod Parts
+pub mod Remaining
+pub mod Containers
+pub mod Enclosed
+pub mod Lists
 mod Signed
-mod MessageParts
+pub mod MessageParts

@@ -33,7 +33,7 @@ module _ (order : Order) (place : ℕ) (bytes : List ℕ) (v : ValueTree) (us : 
 -- ---- elements of an array
 
 module _ (order : Order) (room : ℕ) (types : List ℕ) (end : ℕ) (bytes : List ℕ) (rest : List ℕ) where
-  first_element : (place : ℕ) (v : ValueTree) (us : ValueTrees) → ElementsStand order room types place end bytes (MoreValues v us) rest
+  pub first_element : (place : ℕ) (v : ValueTree) (us : ValueTrees) → ElementsStand order room types place end bytes (MoreValues v us) rest
       → Stands order room types place bytes v (spellings order (place + length (spelling order place v)) us ++ rest)
   first_element place v us e = record {
     text = ap sig e.all.0 ∙ e.text;
@@ -45,7 +45,7 @@ module _ (order : Order) (room : ℕ) (types : List ℕ) (end : ℕ) (bytes : Li
     spelled = first_spelled order place bytes v us rest e.spelled;
   }
 
-  other_elements : (place : ℕ) (v : ValueTree) (us : ValueTrees) → ElementsStand order room types place end bytes (MoreValues v us) rest
+  pub other_elements : (place : ℕ) (v : ValueTree) (us : ValueTrees) → ElementsStand order room types place end bytes (MoreValues v us) rest
       → ElementsStand order room types (place + length (spelling order place v)) end bytes us rest
   unfolding spellings
   other_elements place v us e = record {
@@ -126,7 +126,7 @@ module _ (order : Order) (room : ℕ) (types : List ℕ) (bytes : List ℕ) (res
       let there : pos + length t ≡ next = omega (arith, is, n) in
       (sym front ∙ ap (λ (m : ℕ). take m (drop pos types)) (sym long), sym left ∙ drop-drop (length t) pos types ∙ ap (λ (m : ℕ). drop m types) there)
 
-  first_value : (place : ℕ) (v : ValueTree) (us : ValueTrees) → AllStand order room (drop pos types) place bytes (MoreValues v us) rest
+  pub first_value : (place : ℕ) (v : ValueTree) (us : ValueTrees) → AllStand order room (drop pos types) place bytes (MoreValues v us) rest
       → Stands order room (take (next - pos) (drop pos types)) place bytes v (spellings order (place + length (spelling order place v)) us ++ rest)
   first_value place v us a = record {
     text = (types_apart place v us a).0;
@@ -138,7 +138,7 @@ module _ (order : Order) (room : ℕ) (types : List ℕ) (bytes : List ℕ) (res
     spelled = first_spelled order place bytes v us rest a.spelled;
   }
 
-  other_values : (place : ℕ) (v : ValueTree) (us : ValueTrees) → AllStand order room (drop pos types) place bytes (MoreValues v us) rest
+  pub other_values : (place : ℕ) (v : ValueTree) (us : ValueTrees) → AllStand order room (drop pos types) place bytes (MoreValues v us) rest
       → AllStand order room (drop next types) (place + length (spelling order place v)) bytes us rest
   other_values place v us a = record {
     text = (types_apart place v us a).1;

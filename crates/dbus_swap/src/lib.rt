@@ -10,3 +10,4 @@ mod numbers;
 mod values;
 
 pub use messages::turn;
+pub use numbers::number_width;

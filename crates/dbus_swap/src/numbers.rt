@@ -13,9 +13,9 @@ ghost use Rattle.dbus_swap.specs.Widths.{number_width};
 
 use dbus_value_judge::free_width;
 
-/// How many bytes a number has of a type that begins with this byte; else 0.
+/// How many bytes a number has of a type that begins with this byte; else 0. D-Bus Specification, "Summary of types".
 #[inline]
-pub(crate) fn number_width(code: u8) -> u8
+pub fn number_width(code: u8) -> u8
     ensures value { result ≡ number_width code }
     ensures few { result ≤ 8 }
 {

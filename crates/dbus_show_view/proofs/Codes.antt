@@ -1,0 +1,164 @@
+-- Types and texts as they are written, and the bytes of an array of BYTE.
+use Rattle.std.proofs.Common.{◌≡◌, ℕ, ◌+◌, ◌-◌, ◌^◌, ◌%◌, ◌<◌, List, [], ◌∷◌, ◌++◌, length, get_or, take, drop, replicate, IsUtf8, true, false, refl, sym, ap, subst, ◌∙◌, arith, lit<, take_all}
+use Rattle.std.specs.Str.{IsAscii}
+use Rattle.std.proofs.lemmas.Str.{IsAscii-append}
+use Rattle.std.proofs.lemmas.Str.Ascii.{IsAscii-nil, IsAscii-cons}
+use Rattle.dbus_texts.specs.Kinds.{IsKind}
+use Rattle.dbus_texts.specs.Types.{NumberCode, BYTE, BOOLEAN, INT16, UINT16, INT32, UINT32, INT64, UINT64, DOUBLE, UNIX_FD, TextCode, STRING, OBJECT_PATH, SIGNATURE, TypeTree, NumberType, TextType, VariantType, ArrayType, StructType, EntryType, TypeTrees, NoTypes, MoreTypes, number_code, text_code, sig, sigs, is_byte}
+use Rattle.dbus_texts.specs.declared.text_kind.TextKind.TheVariants.{Text, Path, Signature}
+use Rattle.dbus_texts.proofs.KindFacts.{text_utf8, kind_is, is_kind_of, path_is_text}
+use Rattle.dbus_types.specs.Alignments.{width}
+use Rattle.dbus_value_model.specs.Bytes.{gap_to, pad, low_first, num}
+use Rattle.dbus_value_model.specs.declared.order.Order.{Order}
+use Rattle.dbus_value_model.specs.declared.order.Order.TheVariants.{Little, Big}
+use Rattle.dbus_value_model.specs.Spelling.{spelling, spellings}
+use Rattle.dbus_value_model.specs.Values.{ValueTree, ValueTrees, NoValues, MoreValues, NumberValue, TextValue, VariantValue, ArrayValue, StructValue, EntryValue, type_of, AllOf, IsNumber, IsWellFormed, AreWellFormed}
+use Rattle.dbus_unmarshal.proofs.StringSteps.{utf8_signature}
+use Rattle.dbus_value_judge.specs.Codes.{first_code}
+use Rattle.dbus_show.specs.ShownValues.{bytes_in}
+use Rattle.dbus_swap.proofs.NumberRuns.{number_of_type}
+
+-- ---- a type's text is ASCII
+
+number_ascii : (k : NumberCode) → number_code k < 128
+number_ascii BYTE = lit< tt
+number_ascii BOOLEAN = lit< tt
+number_ascii INT16 = lit< tt
+number_ascii UINT16 = lit< tt
+number_ascii INT32 = lit< tt
+number_ascii UINT32 = lit< tt
+number_ascii INT64 = lit< tt
+number_ascii UINT64 = lit< tt
+number_ascii DOUBLE = lit< tt
+number_ascii UNIX_FD = lit< tt
+
+text_ascii : (k : TextCode) → text_code k < 128
+text_ascii STRING = lit< tt
+text_ascii OBJECT_PATH = lit< tt
+text_ascii SIGNATURE = lit< tt
+
+one_ascii : (c : ℕ) → c < 128 → IsAscii (c ∷ [])
+one_ascii c h = IsAscii-cons c [] h IsAscii-nil
+
+mutual
+  sig_ascii : (t : TypeTree) → IsAscii (sig t)
+  sig_ascii (NumberType k) = one_ascii (number_code k) (number_ascii k)
+  sig_ascii (TextType k) = one_ascii (text_code k) (text_ascii k)
+  sig_ascii VariantType = one_ascii 118 (lit< tt)
+  sig_ascii (ArrayType t) = IsAscii-cons 97 (sig t) (lit< tt) (sig_ascii t)
+  sig_ascii (StructType ts) = IsAscii-cons 40 (sigs ts ++ 41 ∷ []) (lit< tt) (IsAscii-append (sigs ts) (41 ∷ []) (sigs_ascii ts) (one_ascii 41 (lit< tt)))
+  sig_ascii (EntryType k v) =
+      IsAscii-cons 123 (sig k ++ (sig v ++ 125 ∷ [])) (lit< tt)
+      (IsAscii-append (sig k) (sig v ++ 125 ∷ []) (sig_ascii k) (IsAscii-append (sig v) (125 ∷ []) (sig_ascii v) (one_ascii 125 (lit< tt))))
+
+  sigs_ascii : (ts : TypeTrees) → IsAscii (sigs ts)
+  sigs_ascii NoTypes = IsAscii-nil
+  sigs_ascii (MoreTypes t ts) = IsAscii-append (sig t) (sigs ts) (sig_ascii t) (sigs_ascii ts)
+
+pub types_ascii : (t : TypeTree) (types : List ℕ) → sig t ≡ types → IsAscii types
+types_ascii t types e = subst IsAscii e (sig_ascii t)
+
+-- ---- a well-formed text is UTF-8
+
+signature_utf8 : (t : List ℕ) → IsKind Signature t → IsUtf8 t
+signature_utf8 t h =
+    let all : take (length t) (drop 0 t) ≡ t = take_all (length t) t (omega arith) in
+    let none : take (length t - 0) (drop 0 t) ≡ t = take_all (length t - 0) t (omega arith) in
+    subst IsUtf8 none (utf8_signature (length t) 0 (length t) t (omega arith) (subst (IsKind Signature) (sym all) h))
+
+pub formed_utf8 : (room : ℕ) (k : TextCode) (t : List ℕ) → IsWellFormed room (TextValue k t) → IsUtf8 t
+formed_utf8 room STRING t h = (text_utf8 t h.0.0).0
+formed_utf8 room OBJECT_PATH t h = (text_utf8 t (kind_is Text t (path_is_text t (is_kind_of Path t h.0))).0).0
+formed_utf8 room SIGNATURE t h = signature_utf8 t h.0
+
+-- ---- numbers
+
+pub number_fits : (k : NumberCode) (n : ℕ) → IsNumber k n → n < 256 ^ width k
+number_fits BYTE n h = omega arith
+number_fits BOOLEAN n h = omega arith
+number_fits INT16 n h = h
+number_fits UINT16 n h = h
+number_fits INT32 n h = h
+number_fits UINT32 n h = h
+number_fits INT64 n h = h
+number_fits UINT64 n h = h
+number_fits DOUBLE n h = h
+number_fits UNIX_FD n h = h
+
+-- ---- arrays of BYTE
+
+pub byte_is : (t : TypeTree) → first_code t ≡ 121 → t ≡ NumberType BYTE
+byte_is (NumberType BYTE) e = refl
+byte_is (NumberType BOOLEAN) e = absurd (omega arith)
+byte_is (NumberType INT16) e = absurd (omega arith)
+byte_is (NumberType UINT16) e = absurd (omega arith)
+byte_is (NumberType INT32) e = absurd (omega arith)
+byte_is (NumberType UINT32) e = absurd (omega arith)
+byte_is (NumberType INT64) e = absurd (omega arith)
+byte_is (NumberType UINT64) e = absurd (omega arith)
+byte_is (NumberType DOUBLE) e = absurd (omega arith)
+byte_is (NumberType UNIX_FD) e = absurd (omega arith)
+byte_is (TextType STRING) e = absurd (omega arith)
+byte_is (TextType OBJECT_PATH) e = absurd (omega arith)
+byte_is (TextType SIGNATURE) e = absurd (omega arith)
+byte_is VariantType e = absurd (omega arith)
+byte_is (ArrayType u) e = absurd (omega arith)
+byte_is (StructType ts) e = absurd (omega arith)
+byte_is (EntryType k v) e = absurd (omega arith)
+
+pub byte_code : (k : NumberCode) → number_code k ≡ 121 → k ≡ BYTE
+byte_code k e = let same : NumberType k ≡ NumberType BYTE = byte_is (NumberType k) e in cc
+
+pub double_code : (k : NumberCode) → number_code k ≡ 100 → k ≡ DOUBLE
+double_code BYTE e = absurd (omega arith)
+double_code BOOLEAN e = absurd (omega arith)
+double_code INT16 e = absurd (omega arith)
+double_code UINT16 e = absurd (omega arith)
+double_code INT32 e = absurd (omega arith)
+double_code UINT32 e = absurd (omega arith)
+double_code INT64 e = absurd (omega arith)
+double_code UINT64 e = absurd (omega arith)
+double_code DOUBLE e = refl
+double_code UNIX_FD e = absurd (omega arith)
+
+pub not_byte : (t : TypeTree) → (first_code t ≡ 121 → ⊥) → is_byte t ≡ false
+not_byte (NumberType BYTE) h = absurd (h refl)
+not_byte (NumberType BOOLEAN) h = refl
+not_byte (NumberType INT16) h = refl
+not_byte (NumberType UINT16) h = refl
+not_byte (NumberType INT32) h = refl
+not_byte (NumberType UINT32) h = refl
+not_byte (NumberType INT64) h = refl
+not_byte (NumberType UINT64) h = refl
+not_byte (NumberType DOUBLE) h = refl
+not_byte (NumberType UNIX_FD) h = refl
+not_byte (TextType k) h = refl
+not_byte VariantType h = refl
+not_byte (ArrayType u) h = refl
+not_byte (StructType ts) h = refl
+not_byte (EntryType k v) h = refl
+
+pub no_gap : (o : ℕ) → gap_to 1 o ≡ 0
+unfolding gap_to
+no_gap o = omega arith
+
+one_num : (order : Order) (n : ℕ) → n < 256 → num order 1 n ≡ n ∷ []
+unfolding num low_first
+one_num Little n h = let same : n % 256 ≡ n = omega arith in ap (λ (k : ℕ). k ∷ []) same
+one_num Big n h = let same : n % 256 ≡ n = omega arith in ap (λ (k : ℕ). k ∷ []) same
+
+byte_spelled : (order : Order) (o n : ℕ) → n < 256 → spelling order o (NumberValue BYTE n) ≡ n ∷ []
+unfolding spelling
+byte_spelled order o n h = ap (λ (g : ℕ). replicate g 0 ++ num order 1 n) (no_gap o) ∙ one_num order n h
+
+pub bytes_spelled : (order : Order) (room o : ℕ) (xs : ValueTrees) → AllOf (NumberType BYTE) xs → AreWellFormed room xs → spellings order o xs ≡ bytes_in xs
+unfolding spellings
+bytes_spelled order room o NoValues all formed = refl
+bytes_spelled order room o (MoreValues v xs) all formed =
+    let n = number_of_type v BYTE all.0 in
+    let fits : n.0 < 256 = subst (λ (x : ValueTree). IsWellFormed room x) n.1 formed.0 in
+    let one : spelling order o v ≡ n.0 ∷ [] = ap (λ (x : ValueTree). spelling order o x) n.1 ∙ byte_spelled order o n.0 fits in
+    let rest = bytes_spelled order room (o + length (spelling order o v)) xs all.1 formed.1 in
+    ap (λ (s : List ℕ). s ++ spellings order (o + length (spelling order o v)) xs) one
+    ∙ ap (λ (s : List ℕ). n.0 ∷ s) rest
+    ∙ sym (ap (λ (x : ValueTree). bytes_in (MoreValues x xs)) n.1)

@@ -1,0 +1,3 @@
+mod Codes
+mod Walks
+mod Shown
