@@ -1,3 +1,5 @@
 mod Codes
 mod Walks
 mod Shown
+mod FieldParts
+mod Lines

@@ -1,20 +1,19 @@
 -- Values that stand in the bytes, shown: numbers, texts, and containers where their parts are.
-use Rattle.std.proofs.Common.{◌≡◌, ℕ, ◌+◌, ◌-◌, ◌^◌, ◌<◌, ◌≤◌, List, [], ◌∷◌, ◌++◌, length, get_or, take, drop, reverse, true, false, IsUtf8, refl, sym, ap, subst, ◌∙◌, arith, append_assoc, ◌⊎◌, inl, inr}
+use Rattle.std.proofs.Common.{◌≡◌, ℕ, ◌+◌, ◌-◌, ◌^◌, ◌<◌, List, [], ◌∷◌, ◌++◌, length, get_or, take, drop, reverse, true, false, IsUtf8, refl, sym, ap, subst, ◌∙◌, arith, append_assoc}
 use Rattle.std.specs.Str.{IsAscii}
 use Rattle.std.proofs.lemmas.List.{length-append, length-replicate, take_at}
 use Rattle.hex.specs.Hex.{encode_lower}
-use Rattle.dbus_texts.specs.Types.{NumberCode, BYTE, TextCode, TypeTree, NumberType, number_code, text_code, sig, is_byte}
+use Rattle.dbus_texts.specs.Types.{NumberCode, BYTE, TypeTree, NumberType, number_code, text_code, sig, is_byte}
 use Rattle.dbus_types.specs.Alignments.{width}
 use Rattle.dbus_value_model.specs.Bytes.{gap_to, pad, num}
 use Rattle.dbus_value_model.specs.Reading.{number_of}
 use Rattle.dbus_value_model.specs.declared.order.Order.{Order}
 use Rattle.dbus_value_model.specs.Spelling.{spelling, spellings, contents_start}
-use Rattle.dbus_value_model.specs.Values.{ValueTree, ValueTrees, NoValues, MoreValues, NumberValue, TextValue, VariantValue, ArrayValue, StructValue, EntryValue, type_of, types_of, AllOf, IsNumber, IsWellFormed}
+use Rattle.dbus_value_model.specs.Values.{ValueTree, ValueTrees, NoValues, MoreValues, ArrayValue, StructValue, EntryValue, type_of, AllOf, IsNumber, IsWellFormed}
 use Rattle.dbus_value_model.proofs.Numbers.{length-num}
 use Rattle.dbus_value_judge.specs.Codes.{first_code}
 use Rattle.dbus_value_judge.proofs.TypeCodes.{code_is, struct_is, entry_is}
-use Rattle.dbus_swap.specs.Turning.{other, Stands, AllStand, ElementsStand}
-use Rattle.dbus_swap.specs.Widths.{number_width}
+use Rattle.dbus_swap.specs.Turning.{other, Stands}
 use Rattle.dbus_swap.proofs.Containers as containers
 use Rattle.dbus_swap.proofs.Containers.{VariantStands, ArrayStands}
 use Rattle.dbus_swap.proofs.Enclosed as enclosed
@@ -36,22 +35,33 @@ module _ (order : Order) (room : ℕ) (types : List ℕ) (at : ℕ) (bytes : Lis
 
   -- ---- numbers
 
+  module _ (size start : ℕ) (p : NumberStands order room types at bytes v rest s size) (place : start ≡ at + gap_to size at) where
+    pub number_read : number_of order (take size (drop start bytes)) ≡ p.n
+    number_read =
+        let formed : IsNumber p.code p.n = subst (λ (u : ValueTree). IsWellFormed room u) p.is s.formed in
+        let fits : p.n < 256 ^ size = subst (λ (k : ℕ). p.n < 256 ^ k) p.wide (number_fits p.code p.n formed) in
+        let there : drop start bytes ≡ num order size p.n ++ rest =
+        stands_after at start (pad size at) (num order size p.n ++ rest) bytes p.padded (omega (arith, place, length-replicate {A = ℕ} (gap_to size at) 0)) in
+        number_there order size p.n start bytes rest there fits
+
+    pub number_ends : start + size ≡ at + length (spelling order at v)
+    number_ends =
+        (parts.number_turned order room types at bytes v rest s size start bytes (take start bytes ++ (reverse (take size (drop start bytes)) ++ drop (start + size) bytes)) p refl refl place (λ k wide. refl)).1
+
+    pub number_coded : number_code p.code ≡ get_or types 0 0
+    number_coded = ap (λ (u : ValueTree). first_code (type_of u)) (sym p.is) ∙ code_is (type_of v) types s.text
+
   pub number_shown : {A : Type 0} (size start after : ℕ) (p : NumberStands order room types at bytes v rest s size) (a b c d : Draft A) → start ≡ at + gap_to size at → after ≡ start + size
       → Gains a (get_or types 0 0 ∷ []) b → Gains b (58 ∷ []) c
       → ((k : NumberCode) → number_code k ≡ get_or types 0 0 → Gains c (number_text k (number_of order (take (width k) (drop start bytes)))) d)
       → IsShown order at v a d after
   number_shown size start after p a b c d place ends coded parted shown =
-      let w = parts.number_turned order room types at bytes v rest s size start bytes (take start bytes ++ (reverse (take size (drop start bytes)) ++ drop (start + size) bytes)) p refl refl place (λ k wide. refl) in
-      let formed : IsNumber p.code p.n = subst (λ (u : ValueTree). IsWellFormed room u) p.is s.formed in
-      let fits : p.n < 256 ^ size = subst (λ (k : ℕ). p.n < 256 ^ k) p.wide (number_fits p.code p.n formed) in
-      let there : drop start bytes ≡ num order size p.n ++ rest =
-      stands_after at start (pad size at) (num order size p.n ++ rest) bytes p.padded (omega (arith, place, length-replicate {A = ℕ} (gap_to size at) 0)) in
       let read : number_of order (take (width p.code) (drop start bytes)) ≡ p.n =
-      ap (λ (k : ℕ). number_of order (take k (drop start bytes))) p.wide ∙ number_there order size p.n start bytes rest there fits in
-      let code : number_code p.code ≡ get_or types 0 0 = ap (λ (u : ValueTree). first_code (type_of u)) (sym p.is) ∙ code_is (type_of v) types s.text in
+      ap (λ (k : ℕ). number_of order (take k (drop start bytes))) p.wide ∙ number_read size start p place in
+      let code = number_coded size start p place in
       let text : get_or types 0 0 ∷ (58 ∷ number_text p.code (number_of order (take (width p.code) (drop start bytes)))) ≡ value_text v =
       ap (λ (k : ℕ). get_or types 0 0 ∷ (58 ∷ number_text p.code k)) read ∙ ap (λ (k : ℕ). k ∷ (58 ∷ number_text p.code p.n)) (sym code) ∙ sym (ap value_text p.is) in
-      record { text = subst (λ (l : List ℕ). Gains a l d) text (then coded (then parted (shown p.code code))); ends = omega (arith, ends, w.1) }
+      record { text = subst (λ (l : List ℕ). Gains a l d) text (then coded (then parted (shown p.code code))); ends = ends ∙ number_ends size start p place }
 
   -- ---- texts
 
@@ -85,7 +95,7 @@ module _ (order : Order) (room : ℕ) (types : List ℕ) (at : ℕ) (bytes : Lis
 
   -- ---- structs and dict entries
 
-  struct_values : (e : get_or types 0 0 ≡ 40) → v ≡ StructValue (struct_stands order room types at bytes v rest s e).1.vs
+  pub struct_values : (e : get_or types 0 0 ≡ 40) → v ≡ StructValue (struct_stands order room types at bytes v rest s e).1.vs
   unfolding struct_of struct_stands
   struct_values e =
       let t = struct_is (type_of v) types s.text e in
@@ -127,13 +137,16 @@ module _ (order : Order) (room : ℕ) (types : List ℕ) (at : ℕ) (bytes : Lis
 
 -- ---- variants
 
-pub variant_shown : {A : Type 0} (order : Order) (room at : ℕ) (bytes : List ℕ) (v : ValueTree) (rest : List ℕ) (s : Stands order room (118 ∷ []) at bytes v rest) (p : VariantStands order room at bytes v rest s)
-    (n after : ℕ) (a b c d : Draft A) → n ≡ p.n → Gains a (60 ∷ []) b → IsShown order (at + 1 + n + 1) p.x b c after → Gains c (62 ∷ []) d → IsShown order at v a d after
-variant_shown order room at bytes v rest s p n after a b c d count opens held closes =
-    let q = at + 1 + p.n + 1 in
-    let ends : after ≡ q + length (spelling order q p.x) = subst (λ (k : ℕ). after ≡ at + 1 + k + 1 + length (spelling order (at + 1 + k + 1) p.x)) count held.ends in
-    let w = containers.variant_turned order room at bytes v rest s p bytes (take q bytes ++ (spelling (other order) q p.x ++ rest)) after refl refl (refl, ends) in
-    record { text = subst (λ (l : List ℕ). Gains a l d) (sym (ap value_text p.is)) (then opens (then held.text closes)); ends = w.1 }
+module _ (order : Order) (room at : ℕ) (bytes : List ℕ) (v : ValueTree) (rest : List ℕ) (s : Stands order room (118 ∷ []) at bytes v rest) (p : VariantStands order room at bytes v rest s) (n : ℕ) (count : n ≡ p.n) where
+  pub variant_ends : (after : ℕ) → after ≡ at + 1 + n + 1 + length (spelling order (at + 1 + n + 1) p.x) → after ≡ at + length (spelling order at v)
+  variant_ends after held =
+      let q = at + 1 + p.n + 1 in
+      let ends : after ≡ q + length (spelling order q p.x) = subst (λ (k : ℕ). after ≡ at + 1 + k + 1 + length (spelling order (at + 1 + k + 1) p.x)) count held in
+      (containers.variant_turned order room at bytes v rest s p bytes (take q bytes ++ (spelling (other order) q p.x ++ rest)) after refl refl (refl, ends)).1
+
+  pub variant_shown : {A : Type 0} (after : ℕ) (a b c d : Draft A) → Gains a (60 ∷ []) b → IsShown order (at + 1 + n + 1) p.x b c after → Gains c (62 ∷ []) d → IsShown order at v a d after
+  variant_shown after a b c d opens held closes =
+      record { text = subst (λ (l : List ℕ). Gains a l d) (sym (ap value_text p.is)) (then opens (then held.text closes)); ends = variant_ends after held.ends }
 
 -- ---- arrays
 

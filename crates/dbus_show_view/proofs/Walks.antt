@@ -1,6 +1,8 @@
 -- Values one after another of which the first are shown: those that are left.
-use Rattle.std.proofs.Common.{◌≡◌, ℕ, ◌+◌, ◌-◌, ◌<◌, ◌≤◌, List, [], ◌∷◌, ◌++◌, length, take, drop, true, map, refl, sym, ap, subst, ◌∙◌, arith, append_assoc}
+use Rattle.std.proofs.Common.{◌≡◌, ℕ, ◌+◌, ◌-◌, ◌<◌, ◌≤◌, List, [], ◌∷◌, ◌++◌, length, take, drop, map, refl, sym, ap, subst, ◌∙◌, arith}
+use Rattle.std.specs.List.{flat_map}
 use Rattle.std.proofs.lemmas.List.{length-append, length-drop, append-nil}
+use Rattle.std.proofs.lemmas.List.Concat.{flat_map-append}
 use Rattle.dbus_texts.specs.Types.{sig, sigs}
 use Rattle.dbus_texts.proofs.TypeTexts.{sig_positive}
 use Rattle.dbus_value_model.specs.declared.order.Order.{Order}
@@ -13,6 +15,7 @@ use Rattle.dbus_swap.proofs.Lists.{first_element, other_elements, first_value, o
 use Rattle.dbus_show.specs.declared.draft.Draft.{Draft}
 use Rattle.dbus_show.specs.Gains.{Gains}
 use Rattle.dbus_show.specs.ShownValues.{value_text, value_texts, joined}
+use Rattle.dbus_show.specs.ShownMessages.{body_line}
 use Rattle.dbus_show.proofs.Gaining.{nothing, then}
 use Rattle.dbus_show.proofs.ItemTexts.{separator, separator_push, joined_push}
 
@@ -96,7 +99,35 @@ module _ {A : Type 0} where
   all_joined before now between done vs h e =
       subst (λ (s : List ℕ). Gains before s now) (ap joined (sym (ap value_texts e ∙ texts_of done))) h.0
 
+-- ---- the lines of those that are shown
+
+abbrev pub AreLines : {A : Type 0} → Draft A → Draft A → List ValueTree → Type 0
+AreLines before now done = Gains before (flat_map body_line (map value_text done)) now
+
+module _ {A : Type 0} where
+  pub more_lines : (before now begun shown next : Draft A) (done : List ValueTree) (v : ValueTree) → AreLines before now done
+      → Gains now (32 ∷ 32 ∷ []) begun → Gains begun (value_text v) shown → Gains shown (10 ∷ []) next → AreLines before next (done ++ v ∷ [])
+  more_lines before now begun shown next done v h opens held closes =
+      let texts = map value_text done in
+      let one = body_line (value_text v) in
+      let more : flat_map body_line (map value_text (done ++ v ∷ [])) ≡ flat_map body_line texts ++ one =
+      ap (flat_map body_line) (texts_more done v) ∙ flat_map-append body_line texts (value_text v ∷ []) ∙ ap (λ (s : List ℕ). flat_map body_line texts ++ s) (append-nil one) in
+      subst (λ (s : List ℕ). Gains before s next) (sym more) (then h (then opens (then held closes)))
+
+  pub all_lines : (before now : Draft A) (done : List ValueTree) (vs : ValueTrees) → AreLines before now done → vs ≡ in_front done NoValues → Gains before (flat_map body_line (value_texts vs)) now
+  all_lines before now done vs h e =
+      subst (λ (s : List ℕ). Gains before s now) (ap (flat_map body_line) (sym (ap value_texts e ∙ texts_of done))) h
+
 -- ---- elements of an array
+
+module _ (order : Order) (room : ℕ) (types : List ℕ) (end : ℕ) (bytes rest : List ℕ) (place : ℕ) where
+  pub none_ends : ElementsStand order room types place end bytes NoValues rest → end ≡ place
+  unfolding spellings
+  none_ends e = omega (arith, e.ends)
+
+  pub some_ends : (v : ValueTree) (us : ValueTrees) → ElementsStand order room types place end bytes (MoreValues v us) rest → place + length (spelling order place v) ≤ end
+  unfolding spellings
+  some_ends v us e = omega (arith, e.ends, length-append (spelling order place v) (spellings order (place + length (spelling order place v)) us))
 
 module _ (order : Order) (room : ℕ) (types : List ℕ) (end : ℕ) (bytes rest : List ℕ) (at : ℕ) (vs : ValueTrees) (Q : List ValueTree → Type 0) (place : ℕ)
     (l : Left order at vs (λ q us. ElementsStand order room types q end bytes us rest) Q place) where
@@ -108,19 +139,11 @@ module _ (order : Order) (room : ℕ) (types : List ℕ) (end : ℕ) (bytes rest
     pub some : 0 < length (spelling order place v)
     pub others : ElementsStand order room types (place + length (spelling order place v)) end bytes us rest
 
-  none_ends : ElementsStand order room types place end bytes NoValues rest → end ≡ place
-  unfolding spellings
-  none_ends e = omega (arith, e.ends)
-
-  some_ends : (v : ValueTree) (us : ValueTrees) → ElementsStand order room types place end bytes (MoreValues v us) rest → place + length (spelling order place v) ≤ end
-  unfolding spellings
-  some_ends v us e = omega (arith, e.ends, length-append (spelling order place v) (spellings order (place + length (spelling order place v)) us))
-
   pub next_element : place < end → NextElement
   next_element lt = of l.us refl
     where
       of : (us : ValueTrees) → l.us ≡ us → NextElement
-      of NoValues e = absurd (omega (arith, lt, none_ends (subst (λ (u : ValueTrees). ElementsStand order room types place end bytes u rest) e l.keeps)))
+      of NoValues e = absurd (omega (arith, lt, none_ends order room types end bytes rest place (subst (λ (u : ValueTrees). ElementsStand order room types place end bytes u rest) e l.keeps)))
       of (MoreValues v us) e =
           let keeps = subst (λ (u : ValueTrees). ElementsStand order room types place end bytes u rest) e l.keeps in
           let s = first_element order room types end bytes rest place v us keeps in
@@ -146,7 +169,7 @@ module _ (order : Order) (room : ℕ) (types : List ℕ) (end : ℕ) (bytes rest
       of (MoreValues v us) e =
           let keeps = subst (λ (u : ValueTrees). ElementsStand order room types place end bytes u rest) e l.keeps in
           let s = first_element order room types end bytes rest place v us keeps in
-          absurd (omega (arith, le, some_ends v us keeps, stands_positive order v place s.shaped))
+          absurd (omega (arith, le, some_ends order room types end bytes rest place v us keeps, stands_positive order v place s.shaped))
 
 -- ---- values of some types
 

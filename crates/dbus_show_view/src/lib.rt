@@ -4,6 +4,11 @@
 //! no memory is taken but that of the text.
 #![tactic(auto)]
 
+mod body;
+mod fields;
 mod numbers;
+mod show;
 mod texts;
 mod values;
+
+pub use show::show_judged;

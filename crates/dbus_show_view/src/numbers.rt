@@ -26,7 +26,11 @@ pub(crate) fn write_number_at<A: Allocator>(
 {
     match code {
         b'y' => write_integer(draft, bytes[at]),
-        b'b' => draft.push_str(if order.u32_at(bytes, at) == 0 { "false" } else { "true" }),
+        b'b' => draft.push_str(if order.u32_at(bytes, at) == 0 {
+            "false"
+        } else {
+            "true"
+        }),
         b'n' => write_integer(draft, order.u16_at(bytes, at).cast_signed()),
         b'q' => write_integer(draft, order.u16_at(bytes, at)),
         b'i' => write_integer(draft, order.u32_at(bytes, at).cast_signed()),

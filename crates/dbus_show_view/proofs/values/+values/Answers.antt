@@ -1,11 +1,10 @@
-use Rattle.std.proofs.Common.{◌≡◌, ℕ, ◌+◌, ◌-◌, ◌++◌, [], ◌∷◌, length, drop, refl, ◌∙◌, arith, rules}
+use Rattle.std.proofs.Common.{◌≡◌, ◌+◌, ◌-◌, ◌++◌, [], ◌∷◌, length, drop, refl, ◌∙◌, arith, rules}
 use Rattle.std.proofs.lemmas.List.{length-take}
 use Rattle.dbus_value_model.specs.Spelling.{spelling, spellings}
 use Rattle.dbus_swap.specs.Turning.{AllStand, ElementsStand}
 use Rattle.dbus_swap.proofs.Containers.{variant_stands, variant_held, array_stands, array_begins, array_counts, elements_there}
 use Rattle.dbus_swap.proofs.Enclosed.{struct_stands, entry_stands, entry_left, enclosed_within, enclosed_long, enclosed_there}
-use Rattle.dbus_swap.proofs.Parts.{types_some, as_variant, as_array}
-use Rattle.dbus_show_view.specs.Showing.{AreShown}
+use Rattle.dbus_swap.proofs.Parts.{as_variant, as_array}
 use Rattle.dbus_show_view.proofs.Shown.{variant_shown, struct_shown, entry_shown, element_ascii, bytes_shown, array_shown}
 use Rattle.dbus_show_view.proofs.Walks.{AreJoined, all_left, none_joined, more_joined, all_joined, next_element, element_left, no_element, next_value, value_left, no_value}
 use Rattle.dbus_show_view.proofs.values.+values.Goals as goal
@@ -256,7 +255,7 @@ variant-returns g t c = record {
       let p = variant_stands c.args.order c.args.room c.args.at c.args.bytes.now v rest s in
       let count : c.from-n.result ≡ p.n = c.from-n.ensures ∙ p.counts in
       let held = c.write_value_at-after.ensures.shown p.x rest (variant_held c.args.order c.args.room c.args.at c.args.bytes.now v rest s p c.from-n.result count) in
-      variant_shown c.args.order c.args.room c.args.at c.args.bytes.now v rest s p c.from-n.result c.write_value_at-after.result c.args.draft.now c.push_code.new.self c.write_value_at-after.new.draft c.push_code-2.new.self count c.push_code.ensures held c.push_code-2.ensures;
+      variant_shown c.args.order c.args.room c.args.at c.args.bytes.now v rest s p c.from-n.result count c.write_value_at-after.result c.args.draft.now c.push_code.new.self c.write_value_at-after.new.draft c.push_code-2.new.self c.push_code.ensures held c.push_code-2.ensures;
 }
 
 pub write_value_at-returns-then-code-eq118 : goal.write_value_at-returns-then-code-eq118

@@ -1,4 +1,4 @@
-use Rattle.std.proofs.Common.{◌≡◌, ◌+◌, ◌*◌, ◌-◌, ◌≤◌, ℕ, List, length, drop}
+use Rattle.std.proofs.Common.{◌+◌, ◌*◌, ◌-◌, ◌≤◌, ℕ, List, length, drop}
 use Rattle.dbus_value_model.specs.Values.{ValueTrees}
 use Rattle.dbus_swap.specs.Turning.{AllStand, ElementsStand}
 use Rattle.dbus_show_view.proofs.Walks.{Left, AreJoined}

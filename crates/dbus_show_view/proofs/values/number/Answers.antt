@@ -1,4 +1,4 @@
-use Rattle.std.proofs.Common.{◌+◌, arith, refl}
+use Rattle.std.proofs.Common.{◌+◌, arith}
 use Rattle.dbus_swap.proofs.Parts.{number_stands}
 use Rattle.dbus_show_view.proofs.Shown.{number_shown}
 use Rattle.dbus_show_view.proofs.values.number.Goals as goal
