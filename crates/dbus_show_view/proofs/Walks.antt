@@ -19,7 +19,7 @@ use Rattle.dbus_show.specs.ShownMessages.{body_line}
 use Rattle.dbus_show.proofs.Gaining.{nothing, then}
 use Rattle.dbus_show.proofs.ItemTexts.{separator, separator_push, joined_push}
 
--- values in front of others
+-- values before others
 abbrev pub in_front : List ValueTree → ValueTrees → ValueTrees
 in_front [] us = us
 in_front (x ∷ xs) us = MoreValues x (in_front xs us)
@@ -77,7 +77,7 @@ module _ (order : Order) (at : ℕ) (vs : ValueTrees) where
 
 -- ---- the texts of those that are shown, with a comma and a space between them
 
--- and what stands in front of the next
+-- and what stands before the next
 abbrev pub AreJoined : {A : Type 0} → Draft A → Draft A → List ℕ → List ValueTree → Type 0
 AreJoined before now between done = Gains before (joined (map value_text done)) now × (between ≡ separator (map value_text done))
 

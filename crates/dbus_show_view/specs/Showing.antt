@@ -26,7 +26,7 @@ pub record AreShown {A : Type 0} (order : Order) (at : ℕ) (vs : ValueTrees) (b
   pub texts : Gains before (joined (value_texts vs)) now
   pub ends : after ≡ at + length (spellings order at vs)
 
--- the value is this text; it stands behind its length, which has so many bytes, and before a zero, within the bytes
+-- the value is this text; it stands after its length, which has so many bytes, and before a zero, within the bytes
 pub record IsTextAt (order : Order) (size at : ℕ) (bytes : List ℕ) (v : ValueTree) (text : List ℕ) : Type 0 where
   pub code : TextCode
   pub is : v ≡ TextValue code text

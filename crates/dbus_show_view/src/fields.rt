@@ -72,7 +72,7 @@ fn write_held<A: Allocator>(
     write_value_at(draft, bytes, place, order, types, room - 1)
 }
 
-/// Appends the field at `at`, behind a space: the offset after it.
+/// Appends the field at `at`, after a space: the offset after it.
 fn write_field<A: Allocator>(
     draft: &mut Draft<A>,
     bytes: &[u8],

@@ -54,7 +54,7 @@ pub(crate) fn write_value_at<A: Allocator>(
     brackets(draft, bytes, at, order, types, room)
 }
 
-/// A number, behind its code and a colon.
+/// A number, after its code and a colon.
 fn number<A: Allocator>(
     draft: &mut Draft<A>,
     bytes: &[u8],
