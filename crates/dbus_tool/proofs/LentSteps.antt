@@ -11,7 +11,6 @@ use Rattle.dbus_judge.specs.Judging.{IsJudgedWhole}
 use Rattle.dbus_raw_reader.specs.Next.{Lends}
 use Rattle.dbus_raw_reader.specs.Reading.{limits_of, lent_of}
 use Rattle.dbus_raw_reader.specs.declared.raw_reader.RawReader.{RawReader}
-use Rattle.dbus_stream.specs.Checked.{IsOneMessage}
 use Rattle.dbus_view.specs.Views.{ViewState, Views, IsViewOf}
 
 module _ (limits : Limits) where
@@ -35,11 +34,6 @@ module _ (limits : Limits) where
       → IsJudgedWhole limits bytes j
   lent_judged w bytes j old new e same l =
       subst (λ (b : List ℕ). IsJudgedWhole limits b j) (sym e) (subst (λ v. IsJudgedWhole v (lent_of new) j) same l.judged_is)
-
-  -- so they are a message
-  pub is_one : (b : List ℕ) (j : Judged) → IsJudgedWhole limits b j → IsOneMessage limits b
-  is_one b j judged =
-      (j.order, judged.judged.message, subst (λ (n : ℕ). IsWhole limits b j.order judged.judged.message n) judged.all judged.judged.whole)
 
   -- bytes that are a message are those that it is spelled by
   pub bytes_are : (b : List ℕ) (order : Order) (m : MessageTree) → IsWhole limits b order m (length b) → b ≡ message_bytes order m

@@ -62,7 +62,7 @@ pub fn run_reads<A: Allocator + Copy, R: Source, W: Sink, E: Sink>(
 /// Where the run fails, it writes `read failed`, `write failed`, `too many reads` or `out of memory` on the second
 /// writer, the first of these that was met. Each line ends in LF. What is written is gathered up to 16,384 bytes, and
 /// goes out before each read and before the status is given. The run holds at most the bytes of one message and of one
-/// read, room for the longest output of a message so far, and what is gathered; `Show` holds one message beside them.
+/// read, room for the longest output of a message so far, and what is gathered.
 /// `Swap` makes that room only for messages that it turns, and `Filter` makes none. `Check` holds no message and no byte of one
 /// but those of one read, and takes no memory for them.
 ///

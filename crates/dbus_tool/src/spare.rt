@@ -2,10 +2,9 @@
 use std::alloc::Allocator;
 
 /// What the messages of an input are written out in, one in place of the other, so that only a longer one than those
-/// before takes memory; and what memory is taken by.
+/// before takes memory.
 #[derive(Drop)]
 pub(crate) struct Spare<A: Allocator> {
-    pub(crate) alloc: A,
     pub(crate) text: String<A>,
     pub(crate) bytes: Vec<u8, A>,
 }
@@ -14,7 +13,6 @@ impl<A: Allocator + Copy> Spare<A> {
     /// Two empty ones, which take no memory yet.
     pub(crate) fn new(alloc: A) -> Self {
         Spare {
-            alloc,
             text: String::new(alloc),
             bytes: Vec::new(alloc),
         }

@@ -3,7 +3,6 @@
 use crate::captures::*;
 use crate::pieces::Pieces;
 use crate::running::{CHECK, End, SHOW, TO_BIG, TO_LITTLE, assert_end, ran};
-use dbus_message::decode;
 use dbus_tool::ExitStatus;
 use refusing_alloc::Refusing;
 use std::alloc::{Allocator, Global};
@@ -22,7 +21,7 @@ fn ran_by_one<A: Allocator + Copy>(
     ran(alloc, heap, words, Pieces::new(bytes, 1, 0))
 }
 
-// Where the growth of this number is refused the run has failed and says so, what it wrote is a prefix of the whole, and
+// Where the growth of this number is refused the run has failed and says so, what it wrote is a front of the whole, and
 // all that was taken is given back. Where there are fewer growths the run ends as it should, and this tells how many.
 fn growth_refused(
     rt: &(impl Abort + AllocGlobal),
@@ -63,7 +62,7 @@ fn growths_met(
 /// Words, the input, how the run ends, and what is written on the first writer and on the second. The run meets more
 /// growths than this; `check` takes memory for its line alone. The line of a refusal takes memory too, on either writer.
 pub(crate) const RUNS: &[(&[&str], &[&[u8]], ExitStatus, &[&[u8]], &[u8], u64)] = &[
-    (SHOW, ALL, DONE, TEXTS, b"", 10),
+    (SHOW, ALL, DONE, TEXTS, b"", 9),
     (CHECK, ALL, DONE, &[b"ok 3 messages 144 bytes\n"], b"", 0),
     (TO_LITTLE, ALL, DONE, &[RETURN, SIGNAL, RETURN], b"", 3),
     (RETURNS, ALL, DONE, &[RETURN, BIG_RETURN], b"", 3),
@@ -119,17 +118,8 @@ fn growths_of(
     Ok(heap.growths())
 }
 
-// How many growths it takes to decode so many copies of the signal.
-fn growths_of_decoding(rt: &(impl Abort + AllocGlobal), copies: u64) -> Result<u64, Fail> {
-    let heap = Refusing::none(rt.alloc());
-    for _ in 0..copies {
-        let _ = decode(&heap, SIGNAL);
-    }
-    Ok(heap.growths())
-}
-
-// The commands that build no message.
-const BUILD_NONE: &[&[&str]] = &[
+const COMMANDS: &[&[&str]] = &[
+    SHOW,
     CHECK,
     TO_LITTLE,
     TO_BIG,
@@ -137,21 +127,14 @@ const BUILD_NONE: &[&[&str]] = &[
     &["filter", "type='error'"],
 ];
 
-// A message like those before takes no memory, whether it comes whole or byte by byte; but `show` decodes it.
+// A message like those before takes no memory, whether it comes whole or byte by byte.
 #[test]
 fn further_messages_take_no_more_memory(rt: HostRuntime) -> Result<(), Fail> {
-    let decoding = growths_of_decoding(&rt, 7)?;
-    assert!(rt; decoding > 0);
     for size in [1, 1000] {
-        for words in BUILD_NONE {
+        for words in COMMANDS {
             let few = growths_of(&rt, words, 2, size)?;
             assert_eq!(rt; growths_of(&rt, words, 9, size)?, few);
         }
-        let few = growths_of(&rt, SHOW, 2, size)?;
-        assert_eq!(rt;
-            growths_of(&rt, SHOW, 9, size)?,
-            few.saturating_add(decoding)
-        );
     }
     Ok(())
 }

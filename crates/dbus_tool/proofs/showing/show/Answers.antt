@@ -1,21 +1,19 @@
-use Rattle.std.proofs.Common.{ℕ, List, length, subst}
-use Rattle.dbus_message_model.specs.MessageViews.{message_tree}
-use Rattle.dbus_decode.proofs.OutcomeLaws.{one_whole}
+use Rattle.std.proofs.Common.{◌≡◌, ℕ, List, length, subst, sym, ap, ◌∙◌}
+use Rattle.dbus_value_model.specs.declared.order.Order.{Order}
+use Rattle.dbus_decode.specs.MessageOutcomes.{IsWhole}
 use Rattle.dbus_show.specs.ShownMessages.{message_text}
 use Rattle.dbus_tool.specs.Gathering.{GathersOrNot}
-use Rattle.dbus_tool.proofs.GatherSteps.{passes_none}
-use Rattle.dbus_tool.proofs.LentSteps.{is_one}
+use Rattle.dbus_tool.proofs.LentSteps.{judged_order}
 use Rattle.dbus_tool.proofs.showing.show.Goals as goal
 
-pub returns-in-Ok : goal.returns-in-Ok
-returns-in-Ok g c = λ order m whole.
+pub returns : goal.returns
+returns g c = λ order m whole.
     let b = c.args.bytes.now in
-    let same = one_whole c.args.limits b c.in-Ok.order order (message_tree c.in-Ok.message) m (length b) (length b) c.in-Ok.ensures whole in
-    subst (λ (t : List ℕ). GathersOrNot g.W.Sink.held g.W.Sink.failures t c.args.gathered.now.items c.put_text.new.gathered.items c.args.first.now c.put_text.new.first c.put_text.result)
-    (λ i. message_text (same.0 i) (same.1 i) c.args.number) c.put_text.ensures
-
-pub returns-in-Err : goal.returns-in-Err
-returns-in-Err g c = λ order m whole. passes_none g.W.Sink.held g.W.Sink.failures c.args.gathered.now.items c.args.first.now
-
-pub decode_one-requires : goal.decode_one-requires
-decode_one-requires g c = is_one c.args.limits c.args.bytes.now c.args.judged.now c.requires
+    let j = c.args.judged.now in
+    let own : j.order ≡ order = judged_order c.args.limits b j order m c.requires whole in
+    let size : length b ≡ j.length = sym c.requires.all in
+    let here : IsWhole c.args.limits b j.order m j.length
+    = subst (λ (o : Order). IsWhole c.args.limits b o m j.length) (sym own) (subst (λ (n : ℕ). IsWhole c.args.limits b order m n) size whole) in
+    let is : c.as_bytes.result.now ≡ message_text order m c.args.number
+    = c.as_bytes.ensures.value ∙ (c.in-Ok.ensures.shown m here ∙ ap (λ (o : Order). message_text o m c.args.number) own) in
+    subst (λ (t : List ℕ). GathersOrNot g.W.Sink.held g.W.Sink.failures t c.args.gathered.now.items c.put_out.new.gathered.items c.args.first.now c.put_out.new.first c.put_out.result) is c.put_out.ensures
