@@ -1,5 +1,5 @@
 use Rattle.std.proofs.Common.{◌≡◌, ◌≤◌, None, Some, Ok, Err, refl, ap, arith, sym, subst, ◌∙◌}
-use Rattle.std.specs.Prelude.{Option, true, false}
+use Rattle.std.specs.Prelude.{Option}
 use Rattle.dbus_decode.specs.MessageOutcomes.{IsPartial}
 use Rattle.dbus_judge.specs.declared.judging.Judged.{Judged}
 use Rattle.dbus_raw_reader.specs.Reading.{limits_of, kept, source_of, stopped_of}
