@@ -133,7 +133,8 @@ impl<A: Allocator + Copy> Client<A> {
     /// Answers `AllocError` where memory ran out, and the client is unchanged then.
     pub fn start(&mut self, alloc: A) -> Result<ClientAct<A>, AllocError>
         requires { (client_machine self.old).state ≡ now.Fresh }
-        ensures row { IfOk result (λ act. shown_client act self.new ≡ next_of (client_machine self.old).left) }
+        ensures row { IfOk result (λ act.
+            shown_client act self.new ≡ next_of (client_machine self.old).left) }
         ensures err { OnErr result (client_machine self.new ≡ client_machine self.old) }
     {
         let turn = self.next_mechanism(alloc)?;
@@ -148,7 +149,9 @@ impl<A: Allocator + Copy> Client<A> {
     /// Answers `AllocError` where memory ran out. The line is lost then, and the client unchanged.
     pub fn receive(&mut self, alloc: A, line: ServerLine<A>) -> Result<ClientAct<A>, AllocError>
         requires { IsListening (client_machine self.old).state }
-        ensures row { IfOk result (λ act. shown_client act self.new ≡ client_step (client_machine self.old) (server_command line)) }
+        ensures row { IfOk result (λ act.
+            shown_client act self.new ≡
+            client_step (client_machine self.old) (server_command line)) }
         ensures err { OnErr result (client_machine self.new ≡ client_machine self.old) }
     {
         let turn = self.step(alloc, &line)?;
@@ -158,7 +161,12 @@ impl<A: Allocator + Copy> Client<A> {
     }
 
     pub(crate) fn go_to(&mut self, stage: ClientStage, tried: usize)
-        ensures machine { client_machine self.new ≡ record { state = state_of stage; left = left_of self.old.mechanisms.items tried; guid = guid_of stage } }
+        ensures machine { client_machine self.new ≡
+            record {
+              state = state_of stage;
+              left = left_of self.old.mechanisms.items tried;
+              guid = guid_of stage;
+            } }
         ensures same { self.new.mechanisms ≡ self.old.mechanisms }
     {
         self.stage = stage;
@@ -167,7 +175,8 @@ impl<A: Allocator + Copy> Client<A> {
 
     /// The next mechanism, or the end.
     pub(crate) fn next_mechanism(&self, alloc: A) -> Result<ClientTurn<A>, AllocError>
-        ensures { IfOk result (λ turn. shown_turn turn self.now.mechanisms.items ≡ next_of (client_machine self.now).left) }
+        ensures { IfOk result (λ turn.
+            shown_turn turn self.now.mechanisms.items ≡ next_of (client_machine self.now).left) }
     {
         if self.tried >= self.mechanisms.len() {
             return Ok(self.stays_with(ClientAct::Disconnect, ClientStage::Closed));
@@ -183,7 +192,9 @@ impl<A: Allocator + Copy> Client<A> {
     /// The row of the table, and no change yet.
     #[tactic(auto, unfolding(crate::specs::Machines::client_step))]
     pub(crate) fn step(&self, alloc: A, line: &ServerLine<A>) -> Result<ClientTurn<A>, AllocError>
-        ensures { IfOk result (λ turn. shown_turn turn self.now.mechanisms.items ≡ client_step (client_machine self.now) (server_command line.now)) }
+        ensures { IfOk result (λ turn.
+            shown_turn turn self.now.mechanisms.items ≡
+            client_step (client_machine self.now) (server_command line.now)) }
     {
         match self.stage {
             ClientStage::WaitingForData => self.on_data(alloc, line),
@@ -209,7 +220,9 @@ impl<A: Allocator + Copy> Client<A> {
     }
 
     fn on_data(&self, alloc: A, line: &ServerLine<A>) -> Result<ClientTurn<A>, AllocError>
-        ensures { IfOk result (λ turn. shown_turn turn self.now.mechanisms.items ≡ client_waiting_for_data (client_machine self.now).left (server_command line.now)) }
+        ensures { IfOk result (λ turn.
+            shown_turn turn self.now.mechanisms.items ≡
+            client_waiting_for_data (client_machine self.now).left (server_command line.now)) }
     {
         match line {
             ServerLine::DataOf(_) => {
@@ -232,7 +245,9 @@ impl<A: Allocator + Copy> Client<A> {
     }
 
     fn on_ok(&self, alloc: A, line: &ServerLine<A>) -> Result<ClientTurn<A>, AllocError>
-        ensures { IfOk result (λ turn. shown_turn turn self.now.mechanisms.items ≡ client_waiting_for_ok (client_machine self.now).left (server_command line.now)) }
+        ensures { IfOk result (λ turn.
+            shown_turn turn self.now.mechanisms.items ≡
+            client_waiting_for_ok (client_machine self.now).left (server_command line.now)) }
     {
         match line {
             ServerLine::Accepted(guid) => {
@@ -251,7 +266,9 @@ impl<A: Allocator + Copy> Client<A> {
     }
 
     fn on_reject(&self, alloc: A, line: &ServerLine<A>) -> Result<ClientTurn<A>, AllocError>
-        ensures { IfOk result (λ turn. shown_turn turn self.now.mechanisms.items ≡ client_waiting_for_reject (client_machine self.now).left (server_command line.now)) }
+        ensures { IfOk result (λ turn.
+            shown_turn turn self.now.mechanisms.items ≡
+            client_waiting_for_reject (client_machine self.now).left (server_command line.now)) }
     {
         match line {
             ServerLine::Rejected(_) => self.next_mechanism(alloc),
@@ -271,7 +288,8 @@ fn auth_line_of<A: Allocator + Copy>(
     alloc: A,
     mechanism: &Mechanism<A>,
 ) -> Result<ClientLine<A>, AllocError>
-    ensures { IfOk result (λ line. client_command line ≡ auth_line (client_mechanism mechanism.now)) }
+    ensures { IfOk result (λ line. client_command line ≡
+        auth_line (client_mechanism mechanism.now)) }
 {
     match mechanism {
         Mechanism::External(None) => Ok(ClientLine::AuthBy {
@@ -327,7 +345,8 @@ fn is_short_text(trace: &[u8]) -> bool
 
 fn all_short<A: Allocator>(mechanisms: &[Mechanism<A>]) -> bool
     ensures short { result ≡ list_all is_short mechanisms.now }
-    ensures fits { result ≡ true → AllByRecursion IsMechanism (map client_mechanism mechanisms.now) }
+    ensures fits { result ≡ true →
+        AllByRecursion IsMechanism (map client_mechanism mechanisms.now) }
 {
     for mechanism in mechanisms {
         if !is_trace_short(mechanism) {

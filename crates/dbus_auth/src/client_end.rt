@@ -45,7 +45,10 @@ fn reply_of<A: Allocator + Copy>(
     size: usize,
 ) -> Result<ClientReply<A>, AllocError>
     requires { IsWithin (length kept.now) (length piece.now) (Ends size) }
-    ensures { IfOk result (λ r. IsClientReply r client.now.mechanisms.items (client_step (client_machine client.now) (server_meaning (take (size - 2) (kept.now ++ piece.now))))) }
+    ensures { IfOk result (λ r.
+        IsClientReply r client.now.mechanisms.items
+        (client_step (client_machine client.now)
+        (server_meaning (take (size - 2) (kept.now ++ piece.now))))) }
 {
     let line = line_of(alloc, kept, piece, size)?;
     let said = read_server(alloc, &line)?;
@@ -65,7 +68,8 @@ fn greeting_of<A: Allocator + Copy>(
     alloc: A,
     client: &Client<A>,
 ) -> Result<ClientReply<A>, AllocError>
-    ensures { IfOk result (λ r. IsGreeting r client.now.mechanisms.items (next_of (client_machine client.now).left)) }
+    ensures { IfOk result (λ r.
+        IsGreeting r client.now.mechanisms.items (next_of (client_machine client.now).left)) }
 {
     let ClientTurn { act, stage, tried } = client.next_mechanism(alloc)?;
     let status = status_of(&act);
@@ -140,8 +144,10 @@ impl<A: Allocator + Copy> ClientEnd<A> {
     #[tactic(auto, unfolding(crate::specs::Ends::client_starts))]
     pub fn start(&mut self) -> Result<Vec<u8, A>, AllocError>
         requires { (client_end_state self.old).started ≡ false }
-        ensures send { IfOk result (λ send. send.items ≡ (client_starts (client_end_state self.old)).send) }
-        ensures after { OnOk result (client_end_state self.new ≡ (client_starts (client_end_state self.old)).after) }
+        ensures send { IfOk result (λ send. send.items ≡
+            (client_starts (client_end_state self.old)).send) }
+        ensures after { OnOk result
+            (client_end_state self.new ≡ (client_starts (client_end_state self.old)).after) }
         ensures started { OnOk result ((client_end_state self.new).started ≡ true) }
         ensures err { OnErr result (client_end_state self.new ≡ client_end_state self.old) }
     {
@@ -169,7 +175,9 @@ impl<A: Allocator + Copy> ClientEnd<A> {
     #[tactic(auto, unfolding(crate::specs::Ends::client_takes))]
     pub fn take(&mut self, piece: &[u8]) -> Result<EndStep<A>, AllocError>
         requires { (client_end_state self.old).started ≡ true }
-        ensures step { IfOk result (λ s. DidClientStep s (client_end_state self.new) (client_takes (client_end_state self.old) piece.now)) }
+        ensures step { IfOk result (λ s.
+            DidClientStep s (client_end_state self.new)
+            (client_takes (client_end_state self.old) piece.now)) }
         ensures started { (client_end_state self.new).started ≡ true }
         ensures err { OnErr result (client_end_state self.new ≡ client_end_state self.old) }
     {
@@ -201,7 +209,10 @@ impl<A: Allocator + Copy> ClientEnd<A> {
     /// Takes the bytes up to the end of the line, or the whole piece.
     fn cut_line(&mut self, piece: &[u8]) -> Result<EndStep<A>, AllocError>
         requires { self.old.started ≡ true }
-        ensures step { IfOk result (λ s. DidClientStep s (client_end_state self.new) (client_cuts (client_end_state self.old) piece.now (cut (self.old.kept.items ++ piece.now)))) }
+        ensures step { IfOk result (λ s.
+            DidClientStep s (client_end_state self.new)
+            (client_cuts (client_end_state self.old) piece.now
+            (cut (self.old.kept.items ++ piece.now)))) }
         ensures started { self.new.started ≡ true }
         ensures err { OnErr result (client_end_state self.new ≡ client_end_state self.old) }
     {

@@ -25,16 +25,24 @@ pub use dbus_auth_lines::laws::{first_line_law, line_meaning_law, written_line_l
 ///
 /// The transport has to neither lose, add nor reorder bytes.
 pub fn handshake_law()
-    ensures { (s : ServerMachine) (mechanisms : List ClientMechanism) (events : List Event) → IsServer s → AllByRecursion IsMechanism mechanisms → Handshake s mechanisms (run events (at_first s mechanisms)) }
+    ensures { (s : ServerMachine) (mechanisms : List ClientMechanism) (events : List Event) →
+        IsServer s → AllByRecursion IsMechanism mechanisms →
+        Handshake s mechanisms (run events (at_first s mechanisms)) }
 {}
 
 /// Whoever its peer is and whatever it sends, a server's end that has begun sent OK as its last line other than
 /// ERROR. And the lines that it sends and its last status do not depend on how the bytes are cut, where what a
 /// call leaves is handed in again.
 pub fn any_peer_law()
-    ensures last_ok { (s : ServerMachine) (bytes ns : List ℕ) → (run_server (server_at_first s) bytes ns).after.status ≡ status.Begun → LastIsOk s.guid (run_server (server_at_first s) bytes ns).said }
-    ensures any_cut { (s : ServerMachine) (bytes ns ms : List ℕ) → IsFinished (run_server (server_at_first s) bytes ns) → IsFinished (run_server (server_at_first s) bytes ms)
-        → LooksAlike (run_server (server_at_first s) bytes ns) (run_server (server_at_first s) bytes ms) }
+    ensures last_ok { (s : ServerMachine) (bytes ns : List ℕ) →
+        (run_server (server_at_first s) bytes ns).after.status ≡ status.Begun →
+        LastIsOk s.guid (run_server (server_at_first s) bytes ns).said }
+    ensures any_cut { (s : ServerMachine) (bytes ns ms : List ℕ) →
+        IsFinished (run_server (server_at_first s) bytes ns) →
+        IsFinished (run_server (server_at_first s) bytes ms) →
+        LooksAlike (run_server (server_at_first s) bytes ns)
+        (run_server (server_at_first s) bytes ms) }
     // some way of cutting comes to an end
-    ensures some_cut { (s : ServerMachine) (bytes : List ℕ) → (ns : List ℕ) × IsFinished (run_server (server_at_first s) bytes ns) }
+    ensures some_cut { (s : ServerMachine) (bytes : List ℕ) →
+        (ns : List ℕ) × IsFinished (run_server (server_at_first s) bytes ns) }
 {}

@@ -60,7 +60,13 @@ impl Server {
     /// EXTERNAL is offered where there is one, and lets in who names it in decimal or names nobody.
     /// `anonymous` says whether ANONYMOUS is offered, which lets in everybody.
     pub fn new(guid: Guid, user: Option<u32>, anonymous: bool) -> Self
-        ensures machine { server_machine result ≡ record { guid = guid.0; user = user; anonymous = anonymous; state = at.WaitingForAuth } }
+        ensures machine { server_machine result ≡
+            record {
+              guid = guid.0;
+              user = user;
+              anonymous = anonymous;
+              state = at.WaitingForAuth;
+            } }
         // it is a server of the laws
         ensures server { IsServer (server_machine result) }
     {
@@ -89,8 +95,13 @@ impl Server {
         line: ClientLine<A>,
     ) -> Result<ServerAct<A>, AllocError>
         requires { IsWaiting (server_machine self.old).state }
-        ensures action { IfOk result (λ act. server_action act ≡ (server_step (server_machine self.old) (client_command line)).action) }
-        ensures next { OnOk result (server_machine self.new ≡ record (server_machine self.old) { state = (server_step (server_machine self.old) (client_command line)).next }) }
+        ensures action { IfOk result (λ act.
+            server_action act ≡
+            (server_step (server_machine self.old) (client_command line)).action) }
+        ensures next { OnOk result
+            (server_machine self.new ≡
+            record (server_machine self.old)
+            { state = (server_step (server_machine self.old) (client_command line)).next }) }
         ensures err { OnErr result (server_machine self.new ≡ server_machine self.old) }
     {
         let (act, next) = self.step(alloc, &line)?;
@@ -105,7 +116,8 @@ impl Server {
         alloc: A,
         line: &ClientLine<A>,
     ) -> Result<(ServerAct<A>, ServerState), AllocError>
-        ensures { IfOk result (λ t. shown_step t.0 t.1 ≡ server_step (server_machine self.now) (client_command line.now)) }
+        ensures { IfOk result (λ t.
+            shown_step t.0 t.1 ≡ server_step (server_machine self.now) (client_command line.now)) }
     {
         match self.state() {
             ServerState::WaitingForAuth => self.on_auth(alloc, line),
@@ -127,7 +139,9 @@ impl Server {
         alloc: A,
         line: &ClientLine<A>,
     ) -> Result<(ServerAct<A>, ServerState), AllocError>
-        ensures { IfOk result (λ t. shown_step t.0 t.1 ≡ waiting_for_auth (server_machine self.now) (client_command line.now)) }
+        ensures { IfOk result (λ t.
+            shown_step t.0 t.1 ≡
+            waiting_for_auth (server_machine self.now) (client_command line.now)) }
     {
         match line {
             ClientLine::AuthBy { mech, response } => self.by_mechanism(alloc, mech, response),
@@ -145,7 +159,9 @@ impl Server {
         alloc: A,
         line: &ClientLine<A>,
     ) -> Result<(ServerAct<A>, ServerState), AllocError>
-        ensures { IfOk result (λ t. shown_step t.0 t.1 ≡ waiting_for_data (server_machine self.now) (client_command line.now)) }
+        ensures { IfOk result (λ t.
+            shown_step t.0 t.1 ≡
+            waiting_for_data (server_machine self.now) (client_command line.now)) }
     {
         match line {
             ClientLine::DataOf(bytes) => {
@@ -169,7 +185,9 @@ impl Server {
         alloc: A,
         line: &ClientLine<A>,
     ) -> Result<(ServerAct<A>, ServerState), AllocError>
-        ensures { IfOk result (λ t. shown_step t.0 t.1 ≡ waiting_for_begin (server_machine self.now) (client_command line.now)) }
+        ensures { IfOk result (λ t.
+            shown_step t.0 t.1 ≡
+            waiting_for_begin (server_machine self.now) (client_command line.now)) }
     {
         match line {
             ClientLine::Begin => Ok((ServerAct::Begin, ServerState::Begun)),
@@ -188,7 +206,8 @@ impl Server {
         mech: &[u8],
         response: &[u8],
     ) -> Result<(ServerAct<A>, ServerState), AllocError>
-        ensures { IfOk result (λ t. shown_step t.0 t.1 ≡ by_mechanism (server_machine self.now) mech.now response.now) }
+        ensures { IfOk result (λ t.
+            shown_step t.0 t.1 ≡ by_mechanism (server_machine self.now) mech.now response.now) }
     {
         let wants_data = self.wants_data(mech, response);
         let knows_user = self.knows_user(alloc, mech, response)?;
@@ -205,7 +224,9 @@ impl Server {
     }
 
     fn wants_data(&self, mech: &[u8], response: &[u8]) -> bool
-        ensures { result ≡ (bytes_eq mech.now (codes "EXTERNAL") && offers_external self.now.user && is_empty response.now) }
+        ensures { result ≡
+            (bytes_eq mech.now (codes "EXTERNAL") && offers_external self.now.user &&
+            is_empty response.now) }
     {
         mech == b"EXTERNAL".as_slice() && self.user.is_some() && response.is_empty()
     }
@@ -216,7 +237,8 @@ impl Server {
         mech: &[u8],
         response: &[u8],
     ) -> Result<bool, AllocError>
-        ensures { IfOk result (λ b. b ≡ (bytes_eq mech.now (codes "EXTERNAL") && is_user self.now.user response.now)) }
+        ensures { IfOk result (λ b.
+            b ≡ (bytes_eq mech.now (codes "EXTERNAL") && is_user self.now.user response.now)) }
     {
         if mech == b"EXTERNAL".as_slice() {
             is_user_text(alloc, self.user, response)
@@ -283,7 +305,10 @@ fn offered<A: Allocator + Copy>(
     external: bool,
     anonymous: bool,
 ) -> Result<Vec<Vec<u8, A>, A>, AllocError>
-    ensures { IfOk result (λ ws. map (λ w. w.items) ws.items ≡ (if external then codes "EXTERNAL" ∷ [] else []) ++ (if anonymous then codes "ANONYMOUS" ∷ [] else [])) }
+    ensures { IfOk result (λ ws.
+        map (λ w. w.items) ws.items ≡
+        (if external then codes "EXTERNAL" ∷ [] else []) ++
+        (if anonymous then codes "ANONYMOUS" ∷ [] else [])) }
 {
     let mut words = Vec::new(alloc);
     if external {

@@ -44,7 +44,10 @@ fn reply_of<A: Allocator + Copy>(
     size: usize,
 ) -> Result<ServerReply<A>, AllocError>
     requires { IsWithin (length kept.now) (length piece.now) (Ends size) }
-    ensures { IfOk result (λ r. IsServerReply r (server_step (server_machine server.now) (client_meaning (take (size - 2) (kept.now ++ piece.now))))) }
+    ensures { IfOk result (λ r.
+        IsServerReply r
+        (server_step (server_machine server.now)
+        (client_meaning (take (size - 2) (kept.now ++ piece.now))))) }
 {
     let line = line_of(alloc, kept, piece, size)?;
     let said = read_client(alloc, &line)?;
@@ -98,7 +101,9 @@ impl<A: Allocator + Copy> ServerEnd<A> {
     /// be handed in again whole.
     #[tactic(auto, unfolding(crate::specs::Ends::server_takes))]
     pub fn take(&mut self, piece: &[u8]) -> Result<EndStep<A>, AllocError>
-        ensures step { IfOk result (λ s. DidStep s (server_end_state self.new) (server_takes (server_end_state self.old) piece.now)) }
+        ensures step { IfOk result (λ s.
+            DidStep s (server_end_state self.new)
+            (server_takes (server_end_state self.old) piece.now)) }
         ensures err { OnErr result (server_end_state self.new ≡ server_end_state self.old) }
     {
         match self.status {
@@ -133,7 +138,10 @@ impl<A: Allocator + Copy> ServerEnd<A> {
     /// Takes the bytes up to the end of the line, or the whole piece. `skipped` bytes stood before it.
     fn cut_line(&mut self, skipped: usize, piece: &[u8]) -> Result<EndStep<A>, AllocError>
         requires { skipped ≤ 1 }
-        ensures step { IfOk result (λ s. DidStep s (server_end_state self.new) (server_cuts (server_end_state self.old) skipped piece.now (cut (self.old.kept.items ++ piece.now)))) }
+        ensures step { IfOk result (λ s.
+            DidStep s (server_end_state self.new)
+            (server_cuts (server_end_state self.old) skipped piece.now
+            (cut (self.old.kept.items ++ piece.now)))) }
         ensures err { OnErr result (server_end_state self.new ≡ server_end_state self.old) }
     {
         match find(&self.kept, piece) {

@@ -81,9 +81,12 @@ impl<A: Allocator + Copy> LineCutter<A> {
     /// answer stays from then on. Answers `Memory` where memory ran out: the cutter is unchanged then,
     /// and the same piece is to be handed in again.
     pub fn take(&mut self, piece: &[u8]) -> Result<(usize, Option<Vec<u8, A>>), LineFault>
-        ensures taken { (cutter_state self.old).fault ≡ None → (b : Beginning) → BeginsAs ((cutter_state self.old).kept ++ piece.now) b → Takes (cutter_state self.old).kept piece.now result (cutter_state self.new) b }
+        ensures taken { (cutter_state self.old).fault ≡ None → (b : Beginning) →
+            BeginsAs ((cutter_state self.old).kept ++ piece.now) b →
+            Takes (cutter_state self.old).kept piece.now result (cutter_state self.new) b }
         // a fault stays for good
-        ensures stays { IfSome (cutter_state self.old).fault (λ f. (result ≡ Err (line_fault f)) × (cutter_state self.new ≡ cutter_state self.old)) }
+        ensures stays { IfSome (cutter_state self.old).fault (λ f.
+            (result ≡ Err (line_fault f)) × (cutter_state self.new ≡ cutter_state self.old)) }
     {
         if let Some(fault) = self.fault {
             return Err(line_fault_of(fault));
@@ -94,7 +97,8 @@ impl<A: Allocator + Copy> LineCutter<A> {
     /// `take` where there is no fault so far.
     fn cut_piece(&mut self, piece: &[u8]) -> Result<(usize, Option<Vec<u8, A>>), LineFault>
         requires { self.old.fault ≡ None }
-        ensures { TakesCut self.old.kept.items piece.now result (cutter_state self.new) (cut (self.old.kept.items ++ piece.now)) }
+        ensures { TakesCut self.old.kept.items piece.now result (cutter_state self.new)
+            (cut (self.old.kept.items ++ piece.now)) }
     {
         match find(&self.kept, piece) {
             Found::More => self.keep(piece),
@@ -114,7 +118,11 @@ impl<A: Allocator + Copy> LineCutter<A> {
     /// Keeps a piece with no end of a line.
     fn keep(&mut self, piece: &[u8]) -> Result<(usize, Option<Vec<u8, A>>), LineFault>
         requires { cut (self.old.kept.items ++ piece.now) ≡ More }
-        ensures kept { MatchResult result (λ t. (t.0 ≡ length piece.now) × (t.1 ≡ None) × (self.new.kept.items ≡ self.old.kept.items ++ piece.now)) (λ e. (e ≡ Memory) × (self.new.kept.items ≡ self.old.kept.items)) }
+        ensures kept { MatchResult result
+            (λ t.
+            (t.0 ≡ length piece.now) × (t.1 ≡ None) ×
+            (self.new.kept.items ≡ self.old.kept.items ++ piece.now))
+            (λ e. (e ≡ Memory) × (self.new.kept.items ≡ self.old.kept.items)) }
         ensures fault { self.new.fault ≡ self.old.fault }
     {
         self.kept.extend_from_slice(piece)?;

@@ -23,22 +23,27 @@ use std::alloc::Allocator;
 pub fn first_line_law()
     ensures some { (k : List ℕ) → (b : Beginning) × BeginsAs k b }
     ensures one { (k : List ℕ) (a b : Beginning) → BeginsAs k a → BeginsAs k b → a ≡ b }
-    ensures stands { (k more : List ℕ) (b : Beginning) → b ≢ Unfinished → BeginsAs k b → BeginsAs (k ++ more) b }
+    ensures stands { (k more : List ℕ) (b : Beginning) → b ≢ Unfinished → BeginsAs k b →
+        BeginsAs (k ++ more) b }
     ensures scan { (k : List ℕ) (b : Beginning) → BeginsAs k b → cut k ≡ cut_of b }
 {}
 
 /// What `client_text` and `server_text` write is one line, as `LineCutter` takes it, and `read_client` and
 /// `read_server` give back what was written.
 pub fn written_line_law()
-    ensures client { (c : ClientCommand) (text : List ℕ) → HasClientBytes c → client_text_of c ≡ Some text → ReadsBack client_meaning c text }
-    ensures server { (c : ServerCommand) (text : List ℕ) → HasServerBytes c → server_text_of c ≡ Some text → ReadsBack server_meaning c text }
+    ensures client { (c : ClientCommand) (text : List ℕ) → HasClientBytes c →
+        client_text_of c ≡ Some text → ReadsBack client_meaning c text }
+    ensures server { (c : ServerCommand) (text : List ℕ) → HasServerBytes c →
+        server_text_of c ≡ Some text → ReadsBack server_meaning c text }
 {}
 
 /// What a line means, as `read_client` and `read_server` answer it, is what the one row of the table says that has
 /// it: a name, and words after spaces. Where no row has it, it is Other.
 pub fn line_meaning_law()
-    ensures client { (line : List ℕ) (c : ClientCommand) → MeansToServer line c ↔ (client_meaning line ≡ c) }
-    ensures server { (line : List ℕ) (c : ServerCommand) → MeansToClient line c ↔ (server_meaning line ≡ c) }
+    ensures client { (line : List ℕ) (c : ClientCommand) →
+        MeansToServer line c ↔ (client_meaning line ≡ c) }
+    ensures server { (line : List ℕ) (c : ServerCommand) →
+        MeansToClient line c ↔ (server_meaning line ≡ c) }
 {}
 
 /// `==` of two lines of clients: they are equal exactly where they say the same.

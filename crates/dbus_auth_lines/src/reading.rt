@@ -50,7 +50,8 @@ fn client_line_by<A: Allocator + Copy>(
     rest: &[u8],
     line: &[u8],
 ) -> Result<ClientLine<A>, AllocError>
-    ensures { IfOk result (λ said. client_command said ≡ client_row name (words rest.now) line.now) }
+    ensures { IfOk result (λ said. client_command said ≡
+        client_row name (words rest.now) line.now) }
 {
     match name {
         ClientName::Auth => read_auth(alloc, rest),
@@ -70,7 +71,8 @@ fn server_line_by<A: Allocator + Copy>(
     rest: &[u8],
     line: &[u8],
 ) -> Result<ServerLine<A>, AllocError>
-    ensures { IfOk result (λ said. server_command said ≡ server_row name (words rest.now) line.now) }
+    ensures { IfOk result (λ said. server_command said ≡
+        server_row name (words rest.now) line.now) }
 {
     match name {
         ServerName::Rejected => Ok(ServerLine::Rejected(all_words(alloc, rest)?)),
@@ -174,7 +176,8 @@ fn read_agree<A: Allocator>(rest: &[u8]) -> ServerLine<A>
 
 /// The bytes that a hexadecimal word spells.
 fn read_hex<A: Allocator + Copy>(alloc: A, word: &[u8]) -> Result<Option<Vec<u8, A>>, AllocError>
-    ensures { IfOk result (λ r. option_map (λ v. v.items) r ≡ by_hex Some None (decode_of word.now)) }
+    ensures { IfOk result (λ r. option_map (λ v. v.items) r ≡
+        by_hex Some None (decode_of word.now)) }
 {
     match hex::decode(alloc, word) {
         Ok(bytes) => Ok(Some(bytes)),

@@ -32,7 +32,8 @@ fn without_spaces(bytes: &[u8]) -> &[u8]
 
 /// The first word, and the text after it.
 pub fn next_word(bytes: &[u8]) -> Option<(&[u8], &[u8])>
-    ensures { MatchOption result (words bytes.now ≡ []) (λ p. words bytes.now ≡ p.0.now ∷ words p.1.now) }
+    ensures { MatchOption result (words bytes.now ≡ []) (λ p. words bytes.now ≡
+        p.0.now ∷ words p.1.now) }
 {
     let start = without_spaces(bytes);
     if start.is_empty() {

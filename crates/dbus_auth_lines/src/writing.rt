@@ -159,7 +159,8 @@ fn with_words<A: Allocator + Copy>(
     mut text: Vec<u8, A>,
     words: &[Vec<u8, A>],
 ) -> Result<Vec<u8, A>, AllocError>
-    ensures { IfOk result (λ v. v.items ≡ text.items ++ flat_map spaced (map (λ w. w.items) words.now)) }
+    ensures { IfOk result (λ v. v.items ≡
+        text.items ++ flat_map spaced (map (λ w. w.items) words.now)) }
 {
     for word in words {
         text.push(b' ')?;

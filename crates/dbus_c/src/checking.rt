@@ -43,7 +43,8 @@ pub struct Checked {
 // What is told of bytes that begin with a message of this length.
 pub(crate) fn whole_told(bytes: &[u8], count: usize) -> Checked
     requires { 0 < length bytes.now }
-    ensures { (limits : Limits) (order : Order) (m : MessageTree) → IsWhole limits bytes.now order m count → result ≡ whole_told order count }
+    ensures { (limits : Limits) (order : Order) (m : MessageTree) →
+        IsWhole limits bytes.now order m count → result ≡ whole_told order count }
 {
     Checked {
         length: count as u64,

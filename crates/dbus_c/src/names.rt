@@ -9,7 +9,8 @@ ghost use Rattle.dbus_c.specs.ReasonNames.{NamesAreTexts, name_at};
 #[unsafe(no_mangle)]
 pub extern "C" fn dbus_wire_reason_name(reason: u32, out: &mut [u8]) -> usize
     ensures counted { result ≡ length (name_at reason) }
-    ensures written { length (name_at reason) < length out.old → out.new ≡ name_at reason ++ 0 ∷ drop (length (name_at reason) + 1) out.old }
+    ensures written { length (name_at reason) < length out.old →
+        out.new ≡ name_at reason ++ 0 ∷ drop (length (name_at reason) + 1) out.old }
     ensures unchanged { length out.old ≤ length (name_at reason) → out.new ≡ out.old }
 {
     put_text(name_numbered(reason).as_bytes(), out)
@@ -18,7 +19,8 @@ pub extern "C" fn dbus_wire_reason_name(reason: u32, out: &mut [u8]) -> usize
 // Writes a text and a 0 after it at the start of the bytes, where these have room for both.
 fn put_text(text: &[u8], out: &mut [u8]) -> usize
     ensures counted { result ≡ length text.now }
-    ensures written { length text.now < length out.old → out.new ≡ text.now ++ 0 ∷ drop (length text.now + 1) out.old }
+    ensures written { length text.now < length out.old →
+        out.new ≡ text.now ++ 0 ∷ drop (length text.now + 1) out.old }
     ensures unchanged { length out.old ≤ length text.now → out.new ≡ out.old }
 {
     if text.len() < out.len() {

@@ -113,7 +113,8 @@ fn order_byte(order: Order) -> u32
 
 // Where the text of the field of a known code stands.
 fn place_of(seen: &Seen, code: u8) -> TextPlace
-    ensures { (bytes : List ℕ) (fs : List FieldTree) → AreNoted fs bytes seen.now → is_known code ≡ true → IsPlaceOf (field_value code fs) bytes result }
+    ensures { (bytes : List ℕ) (fs : List FieldTree) → AreNoted fs bytes seen.now →
+        is_known code ≡ true → IsPlaceOf (field_value code fs) bytes result }
 {
     match seen.get(code) {
         Some(place) => TextPlace {
@@ -131,7 +132,8 @@ fn place_of(seen: &Seen, code: u8) -> TextPlace
 
 // The number of the field of a known code.
 fn number_of(seen: &Seen, code: u8) -> u32
-    ensures { (bytes : List ℕ) (fs : List FieldTree) → AreNoted fs bytes seen.now → is_known code ≡ true → result ≡ number_of (field_value code fs) }
+    ensures { (bytes : List ℕ) (fs : List FieldTree) → AreNoted fs bytes seen.now →
+        is_known code ≡ true → result ≡ number_of (field_value code fs) }
 {
     match seen.get(code) {
         Some(place) => place.number,

@@ -31,8 +31,10 @@ pub extern "C" fn dbus_wire_swap(
     out: &mut [u8],
     told: &mut Checked,
 ) -> u32
-    ensures swaps { Swaps (limits_of limits.now) bytes.now (order_named order) result told.new out.old out.new }
-    ensures exact { IsSwapExact (limits_of limits.now) bytes.now (order_named order) result told.new out.old out.new }
+    ensures swaps { Swaps (limits_of limits.now) bytes.now (order_named order) result told.new
+        out.old out.new }
+    ensures exact { IsSwapExact (limits_of limits.now) bytes.now (order_named order) result told.new
+        out.old out.new }
 {
     let within = given_limits(limits);
     match judge(bytes, within) {
@@ -52,7 +54,8 @@ pub extern "C" fn dbus_wire_swap(
 fn write_in(bytes: &[u8], judged: &Judged, limits: Limits, order: Order, out: &mut [u8])
     requires judged { IsJudged limits bytes.now judged.now }
     requires room { judged.now.length ≤ length out.old }
-    ensures { (m : MessageTree) → IsWhole limits bytes.now judged.now.order m judged.now.length → out.new ≡ message_bytes order m ++ drop judged.now.length out.old }
+    ensures { (m : MessageTree) → IsWhole limits bytes.now judged.now.order m judged.now.length →
+        out.new ≡ message_bytes order m ++ drop judged.now.length out.old }
 {
     let copy = &mut out[..judged.length];
     copy.copy_from_slice(&bytes[..judged.length]);

@@ -69,9 +69,12 @@ impl Checker {
     ///
     /// After `Done` each call answers `Done(0)`, after `Refused` the same fault, until [`Checker::restart`].
     pub fn take(&mut self, piece: &[u8]) -> Check
-        ensures answers { (w : List ℕ) → Stands self.old w → Takes (limits_of self.old) w piece.now result }
-        ensures exact { (w : List ℕ) → Stands self.old w → IsExact (limits_of self.old) w piece.now result }
-        ensures stands { (w : List ℕ) → Stands self.old w → Stands self.new (w ++ taken piece.now result) }
+        ensures answers { (w : List ℕ) → Stands self.old w →
+            Takes (limits_of self.old) w piece.now result }
+        ensures exact { (w : List ℕ) → Stands self.old w →
+            IsExact (limits_of self.old) w piece.now result }
+        ensures stands { (w : List ℕ) → Stands self.old w →
+            Stands self.new (w ++ taken piece.now result) }
         ensures limits { limits_of self.new ≡ limits_of self.old }
     {
         if let Some(fault) = self.refused {

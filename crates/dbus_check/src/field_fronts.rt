@@ -41,9 +41,13 @@ pub fn code_front(
     seen: &Seen,
 ) -> Result<(u8, usize), Stop>
     requires at_most { offset ≤ end }
-    ensures gives { (order : Order) (codes : List ℕ) → Sees seen.now codes → Fronts (λ x. x) offset bytes.now result (field_code limits order end codes) }
-    ensures moves { IfOk result (λ x. (0 < x.0) × (0 < x.1) × (x.1 ≤ length bytes.now) × (offset + x.1 ≤ end) × (3 ≤ limits.depth)) }
-    ensures once { IfOk result (λ x. (codes : List ℕ) → Sees seen.now codes → (is_known x.0 && has x.0 codes) ≡ false) }
+    ensures gives { (order : Order) (codes : List ℕ) → Sees seen.now codes →
+        Fronts (λ x. x) offset bytes.now result (field_code limits order end codes) }
+    ensures moves { IfOk result (λ x.
+        (0 < x.0) × (0 < x.1) × (x.1 ≤ length bytes.now) × (offset + x.1 ≤ end) ×
+        (3 ≤ limits.depth)) }
+    ensures once { IfOk result (λ x. (codes : List ℕ) →
+        Sees seen.now codes → (is_known x.0 && has x.0 codes) ≡ false) }
     ensures few { IfOk result (λ x. x.1 ≤ 8) }
     ensures short { IfErr result (λ e. e ≡ Partial → length bytes.now < 8) }
 {
@@ -76,8 +80,10 @@ pub fn code_front(
 /// `Overrun` at `offset` where the length, the text or the zero after it ends past the end.
 fn short_length_front(bytes: &[u8], offset: usize, end: usize) -> Result<usize, Stop>
     requires at_most { offset ≤ end }
-    ensures gives { (order : Order) → Fronts (λ n. (n, 1)) offset bytes.now result (number order 1 end (text_row end)) }
-    ensures moves { IfOk result (λ n. (n < 256) × (1 ≤ length bytes.now) × (offset + 1 + n + 1 ≤ end)) }
+    ensures gives { (order : Order) →
+        Fronts (λ n. (n, 1)) offset bytes.now result (number order 1 end (text_row end)) }
+    ensures moves { IfOk result (λ n. (n < 256) × (1 ≤ length bytes.now) ×
+        (offset + 1 + n + 1 ≤ end)) }
     ensures short { IfErr result (λ e. e ≡ Partial → length bytes.now < 1) }
 {
     let n = match byte(bytes, offset, end) {
@@ -94,7 +100,8 @@ fn short_length_front(bytes: &[u8], offset: usize, end: usize) -> Result<usize, 
 /// where it is empty.
 fn only_text(wanted: u8, n: usize, bytes: &[u8], offset: usize) -> Result<(), Stop>
     requires near { offset + n < 4294967296 }
-    ensures gives { Fronts (λ _. (wanted ∷ [], 1)) offset bytes.now result (text (Only (wanted ∷ [])) n) }
+    ensures gives { Fronts (λ _.
+        (wanted ∷ [], 1)) offset bytes.now result (text (Only (wanted ∷ [])) n) }
     ensures one { IfOk result (λ _. n ≡ 1) }
     ensures short { IfErr result (λ e. e ≡ Partial → length bytes.now < 2) }
 {
@@ -121,7 +128,9 @@ fn only_text(wanted: u8, n: usize, bytes: &[u8], offset: usize) -> Result<(), St
 pub fn only_front(wanted: u8, bytes: &[u8], offset: usize, end: usize) -> Result<(), Stop>
     requires at_most { offset ≤ end }
     requires near { end < 4294967296 }
-    ensures gives { (order : Order) → Fronts (λ _. (wanted ∷ [], 3)) offset bytes.now result (short_text order end (Only (wanted ∷ []))) }
+    ensures gives { (order : Order) →
+        Fronts (λ _. (wanted ∷ [], 3)) offset bytes.now result
+        (short_text order end (Only (wanted ∷ []))) }
     ensures moves { IfOk result (λ _. (3 ≤ length bytes.now) × (offset + 3 ≤ end)) }
     ensures short { IfErr result (λ e. e ≡ Partial → length bytes.now < 3) }
 {
@@ -150,8 +159,12 @@ pub fn signature_front(
     requires at_most { offset ≤ end }
     requires near { end < 4294967296 }
     requires kind { text_reason (Of kind) ≡ reasons.Signature }
-    ensures gives { (order : Order) → Fronts (λ n. (take n (drop 1 bytes.now), n + 2)) offset bytes.now result (short_text order end (Of kind)) }
-    ensures moves { IfOk result (λ n. (n < 256) × (n + 2 ≤ length bytes.now) × (offset + n + 2 ≤ end) × IsKind kind (take n (drop 1 bytes.now))) }
+    ensures gives { (order : Order) →
+        Fronts (λ n. (take n (drop 1 bytes.now), n + 2)) offset bytes.now result
+        (short_text order end (Of kind)) }
+    ensures moves { IfOk result (λ n.
+        (n < 256) × (n + 2 ≤ length bytes.now) × (offset + n + 2 ≤ end) ×
+        IsKind kind (take n (drop 1 bytes.now))) }
     ensures short { IfErr result (λ e. e ≡ Partial → length bytes.now < 257) }
 {
     let n = match short_length_front(bytes, offset, end) {
@@ -174,8 +187,10 @@ pub fn signature_front(
 /// `NameTooLong` at `offset` where it is over 255; else `Overrun` there where the name and the zero after it end past the end.
 fn name_length_front(bytes: &[u8], offset: usize, end: usize, order: Order) -> Result<usize, Stop>
     requires at_most { offset ≤ end }
-    ensures gives { Fronts (λ n. (n, 4)) offset bytes.now result (number order 4 end (name_row end)) }
-    ensures moves { IfOk result (λ n. (n < 256) × (4 ≤ length bytes.now) × (offset + 4 + n + 1 ≤ end)) }
+    ensures gives { Fronts (λ n.
+        (n, 4)) offset bytes.now result (number order 4 end (name_row end)) }
+    ensures moves { IfOk result (λ n. (n < 256) × (4 ≤ length bytes.now) ×
+        (offset + 4 + n + 1 ≤ end)) }
     ensures short { IfErr result (λ e. e ≡ Partial → length bytes.now < 4) }
 {
     let n = match word(bytes, offset, end, order) {
@@ -202,8 +217,10 @@ fn name_text_front(
 ) -> Result<usize, Stop>
     requires at_most { offset ≤ end }
     requires near { end < 4294967296 }
-    ensures gives { Fronts (λ n. (take n (drop 4 bytes.now), n + 5)) offset bytes.now result (counted_text order end 4 (name_row end) (Of kind)) }
-    ensures moves { IfOk result (λ n. (n < 256) × (n + 5 ≤ length bytes.now) × (offset + n + 5 ≤ end)) }
+    ensures gives { Fronts (λ n. (take n (drop 4 bytes.now), n + 5)) offset bytes.now result
+        (counted_text order end 4 (name_row end) (Of kind)) }
+    ensures moves { IfOk result (λ n. (n < 256) × (n + 5 ≤ length bytes.now) ×
+        (offset + n + 5 ≤ end)) }
     ensures short { IfErr result (λ e. e ≡ Partial → length bytes.now < 260) }
 {
     let n = match name_length_front(bytes, offset, end, order) {
@@ -231,7 +248,8 @@ pub fn name_front(
 ) -> Result<usize, Stop>
     requires at_most { offset ≤ end }
     requires near { end < 4294967296 }
-    ensures gives { Fronts (λ n. (tt, n)) offset bytes.now result (onward (name_text order end (Of kind)) done) }
+    ensures gives { Fronts (λ n. (tt, n)) offset bytes.now result
+        (onward (name_text order end (Of kind)) done) }
     ensures moves { IfOk result (λ n. (n ≤ length bytes.now) × (offset + n ≤ end)) }
     ensures short { IfErr result (λ e. e ≡ Partial → length bytes.now < 267) }
 {
@@ -248,7 +266,8 @@ pub fn name_front(
 /// A REPLY_SERIAL: how many bytes it has, with its padding. `ZeroSerial` at the number where it is 0.
 pub fn serial_front(bytes: &[u8], offset: usize, end: usize, order: Order) -> Result<usize, Stop>
     requires at_most { offset ≤ end }
-    ensures gives { Fronts (λ n. (tt, n)) offset bytes.now result (onward (padded_number order end (not_zero_row reasons.ZeroSerial)) done) }
+    ensures gives { Fronts (λ n. (tt, n)) offset bytes.now result
+        (onward (padded_number order end (not_zero_row reasons.ZeroSerial)) done) }
     ensures moves { IfOk result (λ n. (n ≤ length bytes.now) × (offset + n ≤ end)) }
     ensures short { IfErr result (λ e. e ≡ Partial → length bytes.now < 8) }
 {
@@ -274,7 +293,8 @@ pub fn count_front(
     order: Order,
 ) -> Result<(u32, usize), Stop>
     requires at_most { offset ≤ end }
-    ensures gives { Fronts (λ x. x) offset bytes.now result (padded_number order end (number_row None UINT32)) }
+    ensures gives { Fronts (λ x.
+        x) offset bytes.now result (padded_number order end (number_row None UINT32)) }
     ensures moves { IfOk result (λ x. (x.1 ≤ length bytes.now) × (offset + x.1 ≤ end)) }
     ensures short { IfErr result (λ e. e ≡ Partial → length bytes.now < 8) }
 {

@@ -25,7 +25,8 @@ impl Progress {
         requires valid { (to : To) × WantsFields self.now to }
         requires more { self.now.offset < self.now.end }
         ensures coded { (to : To) → WantsFields self.now to → Coded self.now bytes.now result to }
-        ensures some { IfOk result (λ x. (0 < x.1) × (x.1 ≤ length bytes.now) × (3 ≤ self.now.limits.depth)) }
+        ensures some { IfOk result (λ x. (0 < x.1) × (x.1 ≤ length bytes.now) ×
+            (3 ≤ self.now.limits.depth)) }
         ensures few { IfOk result (λ x. x.1 ≤ 8) }
         ensures short { IfErr result (λ e. e ≡ Partial → length bytes.now < 8) }
     {
@@ -34,9 +35,11 @@ impl Progress {
 
     /// A value of the type that these bytes spell is wanted, n bytes further: the stage of values.
     pub(crate) fn hold(&mut self, code: u8, n: usize, types: &[u8])
-        requires valid { (to : To) × (t : TypeTree) × (WantsHeld self.old code n t to × (types.now ≡ sig t) × IsSingleType t) }
+        requires valid { (to : To) × (t : TypeTree) ×
+            (WantsHeld self.old code n t to × (types.now ≡ sig t) × IsSingleType t) }
         requires deep { 3 ≤ self.old.limits.depth }
-        ensures { (to : To) (t : TypeTree) → WantsHeld self.old code n t to → types.now ≡ sig t → IsSingleType t → Denotes self.new to }
+        ensures { (to : To) (t : TypeTree) → WantsHeld self.old code n t to → types.now ≡ sig t →
+            IsSingleType t → Denotes self.new to }
     {
         self.seen.note(code);
         self.offset += n;
@@ -56,7 +59,8 @@ impl Progress {
         requires valid { (to : To) × WantsValue self.old code n to }
         requires wanted { OfType (TextType OBJECT_PATH) ≡ want code }
         requires deep { 3 ≤ self.old.limits.depth }
-        ensures moves { (to : To) → WantsValue self.old code n to → Moves self.old bytes.now result self.new to }
+        ensures moves { (to : To) → WantsValue self.old code n to →
+            Moves self.old bytes.now result self.new to }
         ensures few { IfOk result (λ m. m < 4294967296) }
         ensures short { IfErr result (λ e. e ≡ Partial → length bytes.now < 257) }
     {
@@ -74,7 +78,8 @@ impl Progress {
         requires valid { (to : To) × WantsValue self.old code n to }
         requires wanted { Anything ≡ want code }
         requires deep { 3 ≤ self.old.limits.depth }
-        ensures moves { (to : To) → WantsValue self.old code n to → Moves self.old bytes.now result self.new to }
+        ensures moves { (to : To) → WantsValue self.old code n to →
+            Moves self.old bytes.now result self.new to }
         ensures few { IfOk result (λ m. m < 4294967296) }
         ensures short { IfErr result (λ e. e ≡ Partial → length bytes.now < 257) }
     {
@@ -98,7 +103,8 @@ impl Progress {
         requires valid { (to : To) × WantsValue self.old code n to }
         requires wanted { Name (Of kind) ≡ want code }
         ensures stage { self.new.stage ≡ self.old.stage }
-        ensures passes { (to : To) → WantsValue self.old code n to → Passes self.old bytes.now result self.new to }
+        ensures passes { (to : To) → WantsValue self.old code n to →
+            Passes self.old bytes.now result self.new to }
         ensures few { IfOk result (λ m. m < 4294967296) }
         ensures short { IfErr result (λ e. e ≡ Partial → length bytes.now < 270) }
     {
@@ -117,7 +123,8 @@ impl Progress {
         requires valid { (to : To) × WantsValue self.old code n to }
         requires wanted { Serial ≡ want code }
         ensures stage { self.new.stage ≡ self.old.stage }
-        ensures passes { (to : To) → WantsValue self.old code n to → Passes self.old bytes.now result self.new to }
+        ensures passes { (to : To) → WantsValue self.old code n to →
+            Passes self.old bytes.now result self.new to }
         ensures few { IfOk result (λ m. m < 4294967296) }
         ensures short { IfErr result (λ e. e ≡ Partial → length bytes.now < 270) }
     {
@@ -136,7 +143,8 @@ impl Progress {
         requires valid { (to : To) × WantsValue self.old code n to }
         requires wanted { OfType (NumberType UINT32) ≡ want code }
         ensures stage { self.new.stage ≡ self.old.stage }
-        ensures passes { (to : To) → WantsValue self.old code n to → Passes self.old bytes.now result self.new to }
+        ensures passes { (to : To) → WantsValue self.old code n to →
+            Passes self.old bytes.now result self.new to }
         ensures few { IfOk result (λ m. m < 4294967296) }
         ensures short { IfErr result (λ e. e ≡ Partial → length bytes.now < 270) }
     {
@@ -156,7 +164,8 @@ impl Progress {
         requires valid { (to : To) × WantsValue self.old code n to }
         requires wanted { OfType (TextType SIGNATURE) ≡ want code }
         ensures stage { self.new.stage ≡ self.old.stage }
-        ensures passes { (to : To) → WantsValue self.old code n to → Passes self.old bytes.now result self.new to }
+        ensures passes { (to : To) → WantsValue self.old code n to →
+            Passes self.old bytes.now result self.new to }
         ensures few { IfOk result (λ m. m < 4294967296) }
         ensures short { IfErr result (λ e. e ≡ Partial → length bytes.now < 270) }
     {
@@ -184,7 +193,8 @@ impl Progress {
         requires valid { (to : To) × WantsValue self.old code n to }
         requires deep { 3 ≤ self.old.limits.depth }
         requires stage { self.old.stage ≡ Fields }
-        ensures moves { (to : To) → WantsValue self.old code n to → Moves self.old bytes.now result self.new to }
+        ensures moves { (to : To) → WantsValue self.old code n to →
+            Moves self.old bytes.now result self.new to }
         ensures few { IfOk result (λ m. m < 4294967296) }
         ensures short { IfErr result (λ e. e ≡ Partial → length bytes.now < 270) }
     {
@@ -203,7 +213,8 @@ impl Progress {
         requires valid { (to : To) × WantsFields self.old to }
         requires more { self.old.offset < self.old.end }
         requires stage { self.old.stage ≡ Fields }
-        ensures moves { (to : To) → WantsFields self.old to → Moves self.old bytes.now result self.new to }
+        ensures moves { (to : To) → WantsFields self.old to →
+            Moves self.old bytes.now result self.new to }
         ensures some { IfOk result (λ n. 0 < n) }
         ensures short { IfErr result (λ e. e ≡ Partial → length bytes.now < 288) }
     {

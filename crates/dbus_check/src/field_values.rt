@@ -33,7 +33,9 @@ pub fn name_field(
 ) -> Result<usize, Stop>
     requires at_most { offset ≤ end }
     requires near { end < 4294967296 }
-    ensures gives { (limits : Limits) → Fronts (λ n. (tt, n)) offset bytes.now result (seen_as nothing_of (wanted_value limits order end (Name (Of kind)))) }
+    ensures gives { (limits : Limits) →
+        Fronts (λ n. (tt, n)) offset bytes.now result
+        (seen_as nothing_of (wanted_value limits order end (Name (Of kind)))) }
     ensures moves { IfOk result (λ n. (n ≤ length bytes.now) × (offset + n ≤ end)) }
     ensures short { IfErr result (λ e. e ≡ Partial → length bytes.now < 270) }
 {
@@ -51,7 +53,9 @@ pub fn name_field(
 pub fn serial_field(bytes: &[u8], offset: usize, end: usize, order: Order) -> Result<usize, Stop>
     requires at_most { offset ≤ end }
     requires near { end < 4294967296 }
-    ensures gives { (limits : Limits) → Fronts (λ n. (tt, n)) offset bytes.now result (seen_as nothing_of (wanted_value limits order end Serial)) }
+    ensures gives { (limits : Limits) →
+        Fronts (λ n. (tt, n)) offset bytes.now result
+        (seen_as nothing_of (wanted_value limits order end Serial)) }
     ensures moves { IfOk result (λ n. (n ≤ length bytes.now) × (offset + n ≤ end)) }
     ensures short { IfErr result (λ e. e ≡ Partial → length bytes.now < 270) }
 {
@@ -74,7 +78,9 @@ pub fn count_field(
 ) -> Result<(u32, usize), Stop>
     requires at_most { offset ≤ end }
     requires near { end < 4294967296 }
-    ensures gives { (limits : Limits) → Fronts (λ x. x) offset bytes.now result (seen_as number_in (wanted_value limits order end (OfType (NumberType UINT32)))) }
+    ensures gives { (limits : Limits) →
+        Fronts (λ x. x) offset bytes.now result
+        (seen_as number_in (wanted_value limits order end (OfType (NumberType UINT32)))) }
     ensures moves { IfOk result (λ x. (x.1 ≤ length bytes.now) × (offset + x.1 ≤ end)) }
     ensures short { IfErr result (λ e. e ≡ Partial → length bytes.now < 270) }
 {
@@ -92,8 +98,12 @@ pub fn count_field(
 pub fn text_field(bytes: &[u8], offset: usize, end: usize) -> Result<usize, Stop>
     requires at_most { offset ≤ end }
     requires near { end < 4294967296 }
-    ensures gives { (limits : Limits) (order : Order) → Fronts (λ n. (take n (drop 4 bytes.now), n + 5)) offset bytes.now result (seen_as text_in (wanted_value limits order end (OfType (TextType SIGNATURE)))) }
-    ensures moves { IfOk result (λ n. (n < 256) × (n + 5 ≤ length bytes.now) × (offset + n + 5 ≤ end) × IsKind Signature (take n (drop 4 bytes.now))) }
+    ensures gives { (limits : Limits) (order : Order) →
+        Fronts (λ n. (take n (drop 4 bytes.now), n + 5)) offset bytes.now result
+        (seen_as text_in (wanted_value limits order end (OfType (TextType SIGNATURE)))) }
+    ensures moves { IfOk result (λ n.
+        (n < 256) × (n + 5 ≤ length bytes.now) × (offset + n + 5 ≤ end) ×
+        IsKind Signature (take n (drop 4 bytes.now))) }
     ensures short { IfErr result (λ e. e ≡ Partial → length bytes.now < 270) }
 {
     match only_front(b'g', bytes, offset, end) {

@@ -54,7 +54,8 @@ impl Pieces {
         requires some { 0 < length self.old.kept.items }
         requires more { 0 < length piece.now }
         ensures joined { (to : To) → Holds self.old to → Joined piece.now result self.new to }
-        ensures further { IfOk result (λ n. length self.new.kept.items < 2 * n + length self.old.kept.items) }
+        ensures further { IfOk result (λ n.
+            length self.new.kept.items < 2 * n + length self.old.kept.items) }
     {
         let before = self.kept.len();
         let room = 288 - before;

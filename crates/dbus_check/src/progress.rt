@@ -88,7 +88,8 @@ impl Progress {
 
     /// The items that have fixed places.
     pub(crate) fn header(&mut self, bytes: &[u8]) -> Result<usize, Stop>
-        ensures moves { (to : To) → ((c : List ℕ) → message_on self.old.limits 0 c ≡ to c) → Moves self.old bytes.now result self.new to }
+        ensures moves { (to : To) → ((c : List ℕ) → message_on self.old.limits 0 c ≡ to c) →
+            Moves self.old bytes.now result self.new to }
         ensures some { IfOk result (λ n. 0 < n) }
         ensures short { IfErr result (λ e. e ≡ Partial → length bytes.now < 16) }
     {
@@ -128,7 +129,8 @@ impl Progress {
     /// The padding before the body.
     pub(crate) fn padding(&mut self, bytes: &[u8]) -> Result<usize, Stop>
         requires valid { (to : To) × WantsPadding self.old to }
-        ensures moves { (to : To) → WantsPadding self.old to → Moves self.old bytes.now result self.new to }
+        ensures moves { (to : To) → WantsPadding self.old to →
+            Moves self.old bytes.now result self.new to }
         ensures stage { IfOk result (λ _. self.new.stage ≡ Body) }
         ensures short { IfErr result (λ e. e ≡ Partial → length bytes.now < 8) }
     {

@@ -28,7 +28,8 @@ impl Seen {
 
     /// Whether the known field of a code was seen.
     pub fn has(&self, code: u8) -> bool
-        ensures { (codes : List ℕ) → Sees self.now codes → is_known code ≡ true → result ≡ has code codes }
+        ensures { (codes : List ℕ) → Sees self.now codes → is_known code ≡ true →
+            result ≡ has code codes }
     {
         let at = code as usize;
         at < self.known.len() && self.known[at]
@@ -36,7 +37,8 @@ impl Seen {
 
     /// Whether a code is a known field's that was seen.
     pub fn is_again(&self, code: u8) -> bool
-        ensures { (codes : List ℕ) → Sees self.now codes → result ≡ (is_known code && has code codes) }
+        ensures { (codes : List ℕ) → Sees self.now codes →
+            result ≡ (is_known code && has code codes) }
     {
         is_known(code) && self.has(code)
     }
@@ -53,7 +55,8 @@ impl Seen {
 
     /// The lowest code that the message type requires and that was not seen.
     pub fn missing(&self, kind: u8) -> Option<u8>
-        ensures { (codes : List ℕ) → Sees self.now codes → IsMissing (missing (required kind) codes) result }
+        ensures { (codes : List ℕ) → Sees self.now codes →
+            IsMissing (missing (required kind) codes) result }
     {
         for code in required(kind) {
             if !self.has(*code) {

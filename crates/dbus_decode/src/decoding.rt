@@ -31,7 +31,9 @@ use std::alloc::{AllocError, Allocator};
 /// That no required field is missing, at the place after the fields: `FieldMissing` with the lowest code that is. D-Bus
 /// Specification, "Header Fields".
 fn check_required<A: Allocator>(kind: u8, fields: &[HeaderField<A>], at: usize) -> Result<(), Stop>
-    ensures { (bytes : List ℕ) → Gives (λ _. (tt, at)) bytes result (judge (lacks (required kind) (field_trees fields.now)) at (drop at bytes)) }
+    ensures { (bytes : List ℕ) →
+        Gives (λ _. (tt, at)) bytes result
+        (judge (lacks (required kind) (field_trees fields.now)) at (drop at bytes)) }
 {
     match missing_field(kind, fields) {
         Some(code) => refuse(at, Reason::FieldMissing(code)),
@@ -46,7 +48,8 @@ fn body_types<A: Allocator + Copy>(
     fields: &[HeaderField<A>],
 ) -> Result<Vec<SigType<A>, A>, AllocError>
     requires signed { IsKind Signature (body_signature (field_trees fields.now)) }
-    ensures spelled { IfOk result (λ types. type_trees_of types.items ≡ types_spelled (body_signature (field_trees fields.now))) }
+    ensures spelled { IfOk result (λ types.
+        type_trees_of types.items ≡ types_spelled (body_signature (field_trees fields.now))) }
     ensures complete { IfOk result (λ types. AreSingleTypes (type_trees_of types.items)) }
 {
     let types = spelled_types(alloc, body_signature(fields))?;
@@ -60,7 +63,8 @@ fn read_message<A: Allocator + Copy>(
     bytes: &[u8],
     limits: Limits,
 ) -> Result<(Order, Parts<A>, usize), Stop>
-    ensures gives { Gives (λ x. ((x.0, parts_tree x.1), x.2)) bytes.now result (message_read limits 0 bytes.now) }
+    ensures gives { Gives (λ x. ((x.0, parts_tree x.1), x.2)) bytes.now result
+        (message_read limits 0 bytes.now) }
     ensures packed { IfOk result (λ x. PartsKeepBytes x.1) }
 {
     let header = read_fixed_header(bytes, limits)?;

@@ -50,7 +50,9 @@ pub fn read_value<A: Allocator + Copy>(
     requires inside { at ≤ length bytes.now }
     requires shallow { depth ≤ limits.depth }
     requires complete { IsSingleType (type_tree wanted.now) }
-    ensures gives { Gives (λ x. (value_tree x.0, x.1)) bytes.now result (value (bounds_with limits fds) order (limits.depth - depth) end (type_tree wanted.now) at (drop at bytes.now)) }
+    ensures gives { Gives (λ x. (value_tree x.0, x.1)) bytes.now result
+        (value (bounds_with limits fds) order (limits.depth - depth) end (type_tree wanted.now) at
+        (drop at bytes.now)) }
     ensures moves { IfOk result (λ x. (at < x.1) × (x.1 ≤ end) × (x.1 ≤ length bytes.now)) }
     ensures packed { IfOk result (λ x. IsTrue (keeps_bytes x.0)) }
 {
@@ -64,7 +66,9 @@ pub fn read_value<A: Allocator + Copy>(
 fn read_wanted(bytes: &[u8], at: usize, end: usize, wanted: &[u8]) -> Result<usize, Stop>
     requires at_most { at ≤ end }
     requires inside { at ≤ length bytes.now }
-    ensures gives { (order : Order) → Gives (λ q. (type_spelled wanted.now, q)) bytes.now result (wanted_signature order end (Only wanted.now) at (drop at bytes.now)) }
+    ensures gives { (order : Order) →
+        Gives (λ q. (type_spelled wanted.now, q)) bytes.now result
+        (wanted_signature order end (Only wanted.now) at (drop at bytes.now)) }
     ensures moves { IfOk result (λ q. (at < q) × (q ≤ end) × (q ≤ length bytes.now)) }
 {
     let (n, at) = read_short_length(bytes, at, end)?;
@@ -82,8 +86,10 @@ fn read_name_length(
 ) -> Result<(usize, usize), Stop>
     requires at_most { at ≤ end }
     requires inside { at ≤ length bytes.now }
-    ensures gives { Gives (λ x. x) bytes.now result (number order 4 end (name_row end) at (drop at bytes.now)) }
-    ensures moves { IfOk result (λ x. (x.1 ≡ at + 4) × (x.1 + x.0 < end) × (x.1 ≤ length bytes.now)) }
+    ensures gives { Gives (λ x. x) bytes.now result
+        (number order 4 end (name_row end) at (drop at bytes.now)) }
+    ensures moves { IfOk result (λ x. (x.1 ≡ at + 4) × (x.1 + x.0 < end) ×
+        (x.1 ≤ length bytes.now)) }
 {
     let (n, behind) = read_u32(bytes, at, end, order)?;
     if n > NAME_LIMIT {
@@ -109,7 +115,9 @@ fn read_name<A: Allocator + Copy>(
     requires at_most { at ≤ end }
     requires inside { at ≤ length bytes.now }
     requires name { IsName (Of kind) }
-    ensures gives { (limits : Limits) → Gives (λ x. (value_tree x.0, x.1)) bytes.now result (wanted_value limits order end (Name (Of kind)) at (drop at bytes.now)) }
+    ensures gives { (limits : Limits) →
+        Gives (λ x. (value_tree x.0, x.1)) bytes.now result
+        (wanted_value limits order end (Name (Of kind)) at (drop at bytes.now)) }
     ensures moves { IfOk result (λ x. (at < x.1) × (x.1 ≤ end) × (x.1 ≤ length bytes.now)) }
     ensures packed { IfOk result (λ x. IsTrue (keeps_bytes x.0)) }
 {
@@ -132,7 +140,9 @@ fn read_reply_serial<A: Allocator + Copy>(
 ) -> Result<(Value<A>, usize), Stop>
     requires at_most { at ≤ end }
     requires inside { at ≤ length bytes.now }
-    ensures gives { (limits : Limits) → Gives (λ x. (value_tree x.0, x.1)) bytes.now result (wanted_value limits order end Serial at (drop at bytes.now)) }
+    ensures gives { (limits : Limits) →
+        Gives (λ x. (value_tree x.0, x.1)) bytes.now result
+        (wanted_value limits order end Serial at (drop at bytes.now)) }
     ensures moves { IfOk result (λ x. (at < x.1) × (x.1 ≤ end) × (x.1 ≤ length bytes.now)) }
     ensures packed { IfOk result (λ x. IsTrue (keeps_bytes x.0)) }
 {
@@ -159,7 +169,8 @@ fn read_typed<A: Allocator + Copy>(
     requires inside { at ≤ length bytes.now }
     requires complete { IsSingleType (type_tree held.now) }
     requires spelled { wanted.now ≡ sig (type_tree held.now) }
-    ensures gives { Gives (λ x. (value_tree x.0, x.1)) bytes.now result (wanted_value limits order end (OfType (type_tree held.now)) at (drop at bytes.now)) }
+    ensures gives { Gives (λ x. (value_tree x.0, x.1)) bytes.now result
+        (wanted_value limits order end (OfType (type_tree held.now)) at (drop at bytes.now)) }
     ensures moves { IfOk result (λ x. (at < x.1) × (x.1 ≤ end) × (x.1 ≤ length bytes.now)) }
     ensures packed { IfOk result (λ x. IsTrue (keeps_bytes x.0)) }
 {
@@ -190,7 +201,8 @@ fn read_anything<A: Allocator + Copy>(
     requires opened { FIELD_DEPTH ≤ limits.depth }
     requires at_most { at ≤ end }
     requires inside { at ≤ length bytes.now }
-    ensures gives { Gives (λ x. (value_tree x.0, x.1)) bytes.now result (wanted_value limits order end Anything at (drop at bytes.now)) }
+    ensures gives { Gives (λ x. (value_tree x.0, x.1)) bytes.now result
+        (wanted_value limits order end Anything at (drop at bytes.now)) }
     ensures moves { IfOk result (λ x. (at < x.1) × (x.1 ≤ end) × (x.1 ≤ length bytes.now)) }
     ensures packed { IfOk result (λ x. IsTrue (keeps_bytes x.0)) }
 {
@@ -224,7 +236,8 @@ pub fn read_field_value<A: Allocator + Copy>(
     requires at_most { at ≤ end }
     requires inside { at ≤ length bytes.now }
     requires some { 0 < code }
-    ensures gives { Gives (λ x. (value_tree x.0, x.1)) bytes.now result (wanted_value limits order end (want code) at (drop at bytes.now)) }
+    ensures gives { Gives (λ x. (value_tree x.0, x.1)) bytes.now result
+        (wanted_value limits order end (want code) at (drop at bytes.now)) }
     ensures moves { IfOk result (λ x. (at < x.1) × (x.1 ≤ end) × (x.1 ≤ length bytes.now)) }
     ensures packed { IfOk result (λ x. IsTrue (keeps_bytes x.0)) }
 {

@@ -54,7 +54,9 @@ fn read_order(bytes: &[u8]) -> Result<Order, Stop>
 fn read_kind(bytes: &[u8]) -> Result<u8, Stop>
     requires { 1 ≤ length bytes.now }
     ensures no_memory { IfErr result (λ e. e ≢ Memory) }
-    ensures gives { (order : Order) → Gives (λ kind. (kind, 2)) bytes.now result (number order 1 16 (not_zero_row reasons.Kind) 1 (drop 1 bytes.now)) }
+    ensures gives { (order : Order) →
+        Gives (λ kind. (kind, 2)) bytes.now result
+        (number order 1 16 (not_zero_row reasons.Kind) 1 (drop 1 bytes.now)) }
     ensures there { IfOk result (λ _. 2 ≤ length bytes.now) }
 {
     let (kind, _) = read_byte(bytes, 1, 16)?;
@@ -68,7 +70,8 @@ fn read_kind(bytes: &[u8]) -> Result<u8, Stop>
 fn read_version(bytes: &[u8]) -> Result<(), Stop>
     requires { 3 ≤ length bytes.now }
     ensures no_memory { IfErr result (λ e. e ≢ Memory) }
-    ensures gives { (order : Order) → Gives (λ _. (1, 4)) bytes.now result (number order 1 16 version_row 3 (drop 3 bytes.now)) }
+    ensures gives { (order : Order) →
+        Gives (λ _. (1, 4)) bytes.now result (number order 1 16 version_row 3 (drop 3 bytes.now)) }
     ensures there { IfOk result (λ _. 4 ≤ length bytes.now) }
 {
     let (version, _) = read_byte(bytes, 3, 16)?;
@@ -85,7 +88,8 @@ pub fn read_serial(bytes: &[u8], at: usize, end: usize, order: Order) -> Result<
     requires at_most { at ≤ end }
     requires inside { at ≤ length bytes.now }
     ensures no_memory { IfErr result (λ e. e ≢ Memory) }
-    ensures gives { Gives (λ x. x) bytes.now result (number order 4 end (not_zero_row reasons.ZeroSerial) at (drop at bytes.now)) }
+    ensures gives { Gives (λ x. x) bytes.now result
+        (number order 4 end (not_zero_row reasons.ZeroSerial) at (drop at bytes.now)) }
     ensures moves { IfOk result (λ x. (x.1 ≡ at + 4) × (x.1 ≤ end) × (x.1 ≤ length bytes.now)) }
 {
     let (serial, next) = read_u32(bytes, at, end, order)?;
@@ -100,8 +104,10 @@ pub fn read_serial(bytes: &[u8], at: usize, end: usize, order: Order) -> Result<
 fn read_fields_length(bytes: &[u8], order: Order, body: u32, limits: Limits) -> Result<u32, Stop>
     requires { 12 ≤ length bytes.now }
     ensures no_memory { IfErr result (λ e. e ≢ Memory) }
-    ensures gives { Gives (λ n. (n, 16)) bytes.now result (number order 4 16 (fields_row limits body) 12 (drop 12 bytes.now)) }
-    ensures there { IfOk result (λ n. (16 ≤ length bytes.now) × (16 + n + gap_to 8 (16 + n) + body ≤ limits.message)) }
+    ensures gives { Gives (λ n. (n, 16)) bytes.now result
+        (number order 4 16 (fields_row limits body) 12 (drop 12 bytes.now)) }
+    ensures there { IfOk result (λ n.
+        (16 ≤ length bytes.now) × (16 + n + gap_to 8 (16 + n) + body ≤ limits.message)) }
 {
     let (fields, _) = read_u32(bytes, 12, 16, order)?;
     if fields > limits.array {
@@ -119,7 +125,9 @@ fn read_fields_length(bytes: &[u8], order: Order, body: u32, limits: Limits) -> 
 pub fn read_fixed_header(bytes: &[u8], limits: Limits) -> Result<FixedHeader, Stop>
     ensures no_memory { IfErr result (λ e. e ≢ Memory) }
     ensures gives { Gives (λ h. (h, 16)) bytes.now result (fixed_header limits 0 bytes.now) }
-    ensures there { IfOk result (λ h. (0 < limits.depth) × (16 ≤ length bytes.now) × (16 + h.fields + gap_to 8 (16 + h.fields) + h.body ≤ limits.message)) }
+    ensures there { IfOk result (λ h.
+        (0 < limits.depth) × (16 ≤ length bytes.now) ×
+        (16 + h.fields + gap_to 8 (16 + h.fields) + h.body ≤ limits.message)) }
 {
     let order = read_order(bytes)?;
     let kind = read_kind(bytes)?;

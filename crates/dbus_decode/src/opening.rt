@@ -13,7 +13,9 @@ use dbus_value_model::{Limits, Reason, Stop, refuse};
 pub fn check_open(limits: Limits, opened: u8, at: usize) -> Result<(), Stop>
     requires { opened ≤ limits.depth }
     ensures no_memory { IfErr result (λ e. e ≢ Memory) }
-    ensures gives { (bytes : List ℕ) → Gives (λ _. (limits.depth - opened - 1, at)) bytes result (opening (limits.depth - opened) at (drop at bytes)) }
+    ensures gives { (bytes : List ℕ) →
+        Gives (λ _. (limits.depth - opened - 1, at)) bytes result
+        (opening (limits.depth - opened) at (drop at bytes)) }
     ensures there { IfOk result (λ _. opened < limits.depth) }
 {
     if opened == limits.depth {

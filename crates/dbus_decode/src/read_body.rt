@@ -31,7 +31,8 @@ pub fn read_body<A: Allocator + Copy>(
     requires at_most { at ≤ end }
     requires inside { at ≤ length bytes.now }
     requires complete { AreSingleTypes (type_trees_of types.now) }
-    ensures gives { Gives (λ x. (value_trees_of x.0.items, x.1)) bytes.now result (body_read limits fds order (type_trees_of types.now) end at (drop at bytes.now)) }
+    ensures gives { Gives (λ x. (value_trees_of x.0.items, x.1)) bytes.now result
+        (body_read limits fds order (type_trees_of types.now) end at (drop at bytes.now)) }
     ensures packed { IfOk result (λ x. IsTrue (keep_bytes x.0.items)) }
 {
     let mut values = Vec::with_capacity(alloc, types.len())?;

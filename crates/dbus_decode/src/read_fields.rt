@@ -31,8 +31,11 @@ fn read_code<A: Allocator>(
 ) -> Result<(u8, usize), Stop>
     requires at_most { at ≤ end }
     requires inside { at ≤ length bytes.now }
-    ensures gives { (order : Order) → Gives (λ x. x) bytes.now result (number order 1 end (code_row (reverse (field_trees before.now))) at (drop at bytes.now)) }
-    ensures moves { IfOk result (λ x. (x.1 ≡ at + 1) × (x.1 ≤ end) × (x.1 ≤ length bytes.now) × (0 < x.0)) }
+    ensures gives { (order : Order) →
+        Gives (λ x. x) bytes.now result
+        (number order 1 end (code_row (reverse (field_trees before.now))) at (drop at bytes.now)) }
+    ensures moves { IfOk result (λ x. (x.1 ≡ at + 1) × (x.1 ≤ end) × (x.1 ≤ length bytes.now) ×
+        (0 < x.0)) }
 {
     let (code, next) = read_byte(bytes, at, end)?;
     if code == 0 {
@@ -59,7 +62,8 @@ fn read_field<A: Allocator + Copy>(
     requires opened { 0 < limits.depth }
     requires at_most { at ≤ end }
     requires inside { at ≤ length bytes.now }
-    ensures gives { Gives (λ x. (field_tree x.0, x.1)) bytes.now result (field_read limits order end (reverse (field_trees before.now)) at (drop at bytes.now)) }
+    ensures gives { Gives (λ x. (field_tree x.0, x.1)) bytes.now result
+        (field_read limits order end (reverse (field_trees before.now)) at (drop at bytes.now)) }
     ensures moves { IfOk result (λ x. (at < x.1) × (x.1 ≤ end) × (x.1 ≤ length bytes.now)) }
     ensures packed { IfOk result (λ x. IsTrue (keeps_bytes x.0.value)) }
 {
@@ -83,7 +87,8 @@ pub fn read_fields<A: Allocator + Copy>(
     requires opened { 0 < limits.depth }
     requires near { at + n < 2 ^ 62 }
     requires inside { at ≤ length bytes.now }
-    ensures gives { Gives (λ x. (field_trees x.0.items, x.1)) bytes.now result (fields_read limits order n at (drop at bytes.now)) }
+    ensures gives { Gives (λ x. (field_trees x.0.items, x.1)) bytes.now result
+        (fields_read limits order n at (drop at bytes.now)) }
     ensures moves { IfOk result (λ x. (x.1 ≡ at + n) × (x.1 ≤ length bytes.now)) }
     ensures packed { IfOk result (λ x. IsTrue (keep_bytes (field_values x.0.items))) }
 {

@@ -40,10 +40,13 @@ fn write_fixed<A: Allocator>(out: &mut Vec<u8, A>, order: Order, kind: u8, flags
 
 /// Appends a field: its code, and its value in a variant.
 fn write_field<A: Allocator>(out: &mut Vec<u8, A>, order: Order, field: &HeaderField<A>)
-    requires space { length (with_value order (field_struct (field_tree field.now)) out.old.items) ≤ vec_capacity out.old }
-    requires fits { length (with_value order (field_struct (field_tree field.now)) out.old.items) < 2 ^ 32 }
+    requires space { length (with_value order (field_struct (field_tree field.now)) out.old.items) ≤
+        vec_capacity out.old }
+    requires fits { length (with_value order (field_struct (field_tree field.now)) out.old.items) <
+        2 ^ 32 }
     requires signed { HasShortSignatures (field_struct (field_tree field.now)) }
-    ensures written { out.new.items ≡ with_value order (field_struct (field_tree field.now)) out.old.items }
+    ensures written { out.new.items ≡
+        with_value order (field_struct (field_tree field.now)) out.old.items }
     ensures room { vec_capacity out.old ≤ vec_capacity out.new }
 {
     let code = field.code;
@@ -55,10 +58,16 @@ fn write_field<A: Allocator>(out: &mut Vec<u8, A>, order: Order, field: &HeaderF
 
 /// Appends fields one after the other.
 fn write_fields<A: Allocator>(out: &mut Vec<u8, A>, order: Order, fields: &[HeaderField<A>])
-    requires space { length (with_values order (value_trees (map field_struct (field_trees fields.now))) out.old.items) ≤ vec_capacity out.old }
-    requires fits { length (with_values order (value_trees (map field_struct (field_trees fields.now))) out.old.items) < 2 ^ 32 }
-    requires signed { HaveShortSignatures (value_trees (map field_struct (field_trees fields.now))) }
-    ensures written { out.new.items ≡ with_values order (value_trees (map field_struct (field_trees fields.now))) out.old.items }
+    requires space { length (
+        with_values order (value_trees (map field_struct (field_trees fields.now))) out.old.items) ≤
+        vec_capacity out.old }
+    requires fits { length (
+        with_values order (value_trees (map field_struct (field_trees fields.now))) out.old.items) <
+        2 ^ 32 }
+    requires signed { HaveShortSignatures
+        (value_trees (map field_struct (field_trees fields.now))) }
+    ensures written { out.new.items ≡
+        with_values order (value_trees (map field_struct (field_trees fields.now))) out.old.items }
     ensures room { vec_capacity out.old ≤ vec_capacity out.new }
 {
     for field in fields {
@@ -68,7 +77,8 @@ fn write_fields<A: Allocator>(out: &mut Vec<u8, A>, order: Order, fields: &[Head
 
 /// Appends values one after the other.
 fn write_body<A: Allocator>(out: &mut Vec<u8, A>, order: Order, values: &[Value<A>])
-    requires space { length (with_values order (value_trees_of values.now) out.old.items) ≤ vec_capacity out.old }
+    requires space { length (with_values order (value_trees_of values.now) out.old.items) ≤
+        vec_capacity out.old }
     requires fits { length (with_values order (value_trees_of values.now) out.old.items) < 2 ^ 32 }
     requires signed { HaveShortSignatures (value_trees_of values.now) }
     ensures written { out.new.items ≡ with_values order (value_trees_of values.now) out.old.items }
@@ -82,7 +92,8 @@ fn write_body<A: Allocator>(out: &mut Vec<u8, A>, order: Order, values: &[Value<
 /// Appends a whole message where nothing stands yet.
 fn write_whole<A: Allocator>(out: &mut Vec<u8, A>, message: &Message<A>, order: Order)
     requires empty { out.old.items ≡ [] }
-    requires space { length (message_bytes order (message_tree message.now)) ≤ vec_capacity out.old }
+    requires space { length (message_bytes order (message_tree message.now)) ≤
+        vec_capacity out.old }
     requires within { length (message_bytes order (message_tree message.now)) ≤ MESSAGE_LIMIT }
     ensures { out.new.items ≡ message_bytes order (message_tree message.now) }
 {
@@ -124,7 +135,8 @@ pub fn encode_into<A: Allocator>(
 ) -> Result<(), AllocError>
     ensures written { OnOk result (out.new.items ≡ message_bytes order (message_tree message.now)) }
     ensures unchanged { OnErr result (out.new.items ≡ out.old.items) }
-    ensures small { OnErr result (vec_capacity out.old < length (message_bytes order (message_tree message.now))) }
+    ensures small { OnErr result
+        (vec_capacity out.old < length (message_bytes order (message_tree message.now))) }
 {
     let size = message.size();
     if out.capacity() < size {

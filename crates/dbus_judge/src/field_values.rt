@@ -41,8 +41,11 @@ pub struct Held {
 fn letter(bytes: &[u8], at: usize, end: usize, wanted: u8) -> Option<usize>
     requires at_most { at ≤ end }
     requires inside { end ≤ length bytes.now }
-    ensures gives { IfSome result (λ q. (order : Order) → wanted_signature order end (Only (wanted ∷ [])) at (drop at bytes.now) ≡ Done (type_spelled (wanted ∷ [])) q (drop q bytes.now)) }
-    ensures none { result ≡ None → (order : Order) → IsNotRead (wanted_signature order end (Only (wanted ∷ [])) at (drop at bytes.now)) }
+    ensures gives { IfSome result (λ q. (order : Order) →
+        wanted_signature order end (Only (wanted ∷ [])) at (drop at bytes.now) ≡
+        Done (type_spelled (wanted ∷ [])) q (drop q bytes.now)) }
+    ensures none { result ≡ None → (order : Order) →
+        IsNotRead (wanted_signature order end (Only (wanted ∷ [])) at (drop at bytes.now)) }
     ensures moves { IfSome result (λ q. (q ≡ at + 3) × (q ≤ end)) }
 {
     if end - at < 3 {
@@ -64,8 +67,10 @@ fn letter(bytes: &[u8], at: usize, end: usize, wanted: u8) -> Option<usize>
 fn name(bytes: &[u8], at: usize, end: usize, order: Order, kind: TextKind) -> Option<Held>
     requires at_most { at ≤ end }
     requires inside { end ≤ length bytes.now }
-    ensures held { IfSome result (λ h. (limits : Limits) → IsHeld limits order end (Name (Of kind)) at bytes.now h) }
-    ensures none { result ≡ None → (limits : Limits) → IsNotRead (wanted_value limits order end (Name (Of kind)) at (drop at bytes.now)) }
+    ensures held { IfSome result (λ h. (limits : Limits) →
+        IsHeld limits order end (Name (Of kind)) at bytes.now h) }
+    ensures none { result ≡ None → (limits : Limits) →
+        IsNotRead (wanted_value limits order end (Name (Of kind)) at (drop at bytes.now)) }
     ensures moves { IfSome result (λ h. (at ≤ h.after) × (h.after ≤ end)) }
     ensures within { IfSome result (λ h. h.start + h.length ≤ h.after) }
 {
@@ -95,8 +100,11 @@ fn name(bytes: &[u8], at: usize, end: usize, order: Order, kind: TextKind) -> Op
 fn path(bytes: &[u8], at: usize, end: usize, order: Order) -> Option<Held>
     requires at_most { at ≤ end }
     requires inside { end ≤ length bytes.now }
-    ensures held { IfSome result (λ h. (limits : Limits) → IsHeld limits order end (OfType (TextType OBJECT_PATH)) at bytes.now h) }
-    ensures none { result ≡ None → (limits : Limits) → IsNotRead (wanted_value limits order end (OfType (TextType OBJECT_PATH)) at (drop at bytes.now)) }
+    ensures held { IfSome result (λ h. (limits : Limits) →
+        IsHeld limits order end (OfType (TextType OBJECT_PATH)) at bytes.now h) }
+    ensures none { result ≡ None → (limits : Limits) →
+        IsNotRead
+        (wanted_value limits order end (OfType (TextType OBJECT_PATH)) at (drop at bytes.now)) }
     ensures moves { IfSome result (λ h. (at ≤ h.after) × (h.after ≤ end)) }
     ensures within { IfSome result (λ h. h.start + h.length ≤ h.after) }
 {
@@ -123,8 +131,11 @@ fn path(bytes: &[u8], at: usize, end: usize, order: Order) -> Option<Held>
 fn signature(bytes: &[u8], at: usize, end: usize, order: Order) -> Option<Held>
     requires at_most { at ≤ end }
     requires inside { end ≤ length bytes.now }
-    ensures held { IfSome result (λ h. (limits : Limits) → IsHeld limits order end (OfType (TextType SIGNATURE)) at bytes.now h) }
-    ensures none { result ≡ None → (limits : Limits) → IsNotRead (wanted_value limits order end (OfType (TextType SIGNATURE)) at (drop at bytes.now)) }
+    ensures held { IfSome result (λ h. (limits : Limits) →
+        IsHeld limits order end (OfType (TextType SIGNATURE)) at bytes.now h) }
+    ensures none { result ≡ None → (limits : Limits) →
+        IsNotRead
+        (wanted_value limits order end (OfType (TextType SIGNATURE)) at (drop at bytes.now)) }
     ensures moves { IfSome result (λ h. (at ≤ h.after) × (h.after ≤ end)) }
     ensures within { IfSome result (λ h. h.start + h.length ≤ h.after) }
 {
@@ -143,8 +154,11 @@ fn signature(bytes: &[u8], at: usize, end: usize, order: Order) -> Option<Held>
 fn number(bytes: &[u8], at: usize, end: usize, order: Order) -> Option<Held>
     requires at_most { at ≤ end }
     requires inside { end ≤ length bytes.now }
-    ensures held { IfSome result (λ h. (limits : Limits) → IsHeld limits order end (OfType (NumberType UINT32)) at bytes.now h) }
-    ensures none { result ≡ None → (limits : Limits) → IsNotRead (wanted_value limits order end (OfType (NumberType UINT32)) at (drop at bytes.now)) }
+    ensures held { IfSome result (λ h. (limits : Limits) →
+        IsHeld limits order end (OfType (NumberType UINT32)) at bytes.now h) }
+    ensures none { result ≡ None → (limits : Limits) →
+        IsNotRead
+        (wanted_value limits order end (OfType (NumberType UINT32)) at (drop at bytes.now)) }
     ensures moves { IfSome result (λ h. (at ≤ h.after) × (h.after ≤ end)) }
     ensures within { IfSome result (λ h. h.start + h.length ≤ h.after) }
 {
@@ -163,8 +177,10 @@ fn number(bytes: &[u8], at: usize, end: usize, order: Order) -> Option<Held>
 fn serial(bytes: &[u8], at: usize, end: usize, order: Order) -> Option<Held>
     requires at_most { at ≤ end }
     requires inside { end ≤ length bytes.now }
-    ensures held { IfSome result (λ h. (limits : Limits) → IsHeld limits order end Serial at bytes.now h) }
-    ensures none { result ≡ None → (limits : Limits) → IsNotRead (wanted_value limits order end Serial at (drop at bytes.now)) }
+    ensures held { IfSome result (λ h. (limits : Limits) →
+        IsHeld limits order end Serial at bytes.now h) }
+    ensures none { result ≡ None → (limits : Limits) →
+        IsNotRead (wanted_value limits order end Serial at (drop at bytes.now)) }
     ensures moves { IfSome result (λ h. (at ≤ h.after) × (h.after ≤ end)) }
     ensures within { IfSome result (λ h. h.start + h.length ≤ h.after) }
 {
@@ -188,7 +204,8 @@ fn anything(bytes: &[u8], at: usize, end: usize, order: Order, limits: Limits) -
     requires at_most { at ≤ end }
     requires inside { end ≤ length bytes.now }
     ensures held { IfSome result (λ h. IsHeld limits order end Anything at bytes.now h) }
-    ensures none { result ≡ None → IsNotRead (wanted_value limits order end Anything at (drop at bytes.now)) }
+    ensures none { result ≡ None →
+        IsNotRead (wanted_value limits order end Anything at (drop at bytes.now)) }
     ensures moves { IfSome result (λ h. (at ≤ h.after) × (h.after ≤ end)) }
     ensures within { IfSome result (λ h. h.start + h.length ≤ h.after) }
 {
@@ -231,7 +248,8 @@ pub fn judge_field_value(
     requires at_most { at ≤ end }
     requires inside { end ≤ length bytes.now }
     ensures held { IfSome result (λ h. IsHeld limits order end (want code) at bytes.now h) }
-    ensures none { result ≡ None → IsNotRead (wanted_value limits order end (want code) at (drop at bytes.now)) }
+    ensures none { result ≡ None →
+        IsNotRead (wanted_value limits order end (want code) at (drop at bytes.now)) }
     ensures moves { IfSome result (λ h. (at ≤ h.after) × (h.after ≤ end)) }
     ensures within { IfSome result (λ h. h.start + h.length ≤ h.after) }
 {

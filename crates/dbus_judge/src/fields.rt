@@ -31,8 +31,11 @@ pub fn judge_field(
 ) -> Option<(u8, Held)>
     requires at_most { at ≤ end }
     requires inside { end ≤ length bytes.now }
-    ensures field { IfSome result (λ f. (before : List FieldTree) → is_known f.0 && has_code f.0 before ≡ false → IsHeldField limits order end before at bytes.now f.0 f.1) }
-    ensures none { result ≡ None → (before : List FieldTree) → IsNotRead (field_read limits order end before at (drop at bytes.now)) }
+    ensures field { IfSome result (λ f. (before : List FieldTree) →
+        is_known f.0 && has_code f.0 before ≡ false →
+        IsHeldField limits order end before at bytes.now f.0 f.1) }
+    ensures none { result ≡ None → (before : List FieldTree) →
+        IsNotRead (field_read limits order end before at (drop at bytes.now)) }
     ensures moves { IfSome result (λ f. (at < f.1.after) × (f.1.after ≤ end)) }
     ensures within { IfSome result (λ f. f.1.start + f.1.length ≤ f.1.after) }
 {
@@ -59,7 +62,10 @@ pub fn judge_field(
 /// them. D-Bus Specification, "Header Fields".
 pub fn judge_fields(bytes: &[u8], at: usize, n: usize, order: Order, limits: Limits) -> Option<Seen>
     requires inside { at + n ≤ length bytes.now }
-    ensures fields { IfSome result (λ seen. (fs : List FieldTree) × (fields_read limits order n at (drop at bytes.now) ≡ Done fs (at + n) (drop (at + n) bytes.now)) × AreNoted fs bytes.now seen) }
+    ensures fields { IfSome result (λ seen. (fs : List FieldTree) ×
+        (fields_read limits order n at (drop at bytes.now) ≡
+        Done fs (at + n) (drop (at + n) bytes.now)) ×
+        AreNoted fs bytes.now seen) }
     ensures none { result ≡ None → IsNotRead (fields_read limits order n at (drop at bytes.now)) }
 {
     let end = at + n;

@@ -41,8 +41,16 @@ fn is_body(bytes: &[u8], at: usize, end: usize, order: Order, seen: &Seen, limit
     requires at_most { at ≤ end }
     requires inside { end ≤ length bytes.now }
     requires noted { (fs : List FieldTree) × AreNoted fs bytes.now seen.now }
-    ensures accepts { result ≡ true → (fs : List FieldTree) → AreNoted fs bytes.now seen.now → IsKind Signature (body_signature fs) → EndsAt bytes.now end (body_read limits (body_fds limits fs) order (types_spelled (body_signature fs)) end at (drop at bytes.now)) }
-    ensures refuses { result ≡ false → (fs : List FieldTree) → AreNoted fs bytes.now seen.now → IsKind Signature (body_signature fs) → IsNotRead (body_read limits (body_fds limits fs) order (types_spelled (body_signature fs)) end at (drop at bytes.now)) }
+    ensures accepts { result ≡ true → (fs : List FieldTree) → AreNoted fs bytes.now seen.now →
+        IsKind Signature (body_signature fs) →
+        EndsAt bytes.now end
+        (body_read limits (body_fds limits fs) order (types_spelled (body_signature fs)) end at
+        (drop at bytes.now)) }
+    ensures refuses { result ≡ false → (fs : List FieldTree) → AreNoted fs bytes.now seen.now →
+        IsKind Signature (body_signature fs) →
+        IsNotRead (
+        body_read limits (body_fds limits fs) order (types_spelled (body_signature fs)) end at
+        (drop at bytes.now)) }
 {
     let types = seen.signature(bytes);
     let fds = limits.fds.index_limit(seen.fd_count());

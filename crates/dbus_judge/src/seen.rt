@@ -58,14 +58,19 @@ impl Seen {
 
     /// Whether a code is a known field's that was seen.
     pub(crate) fn has(&self, code: u8) -> bool
-        ensures { (bytes : List ℕ) (fs : List FieldTree) → AreNoted fs bytes self.now → result ≡ (is_known code && has_code code fs) }
+        ensures { (bytes : List ℕ) (fs : List FieldTree) → AreNoted fs bytes self.now →
+            result ≡ (is_known code && has_code code fs) }
     {
         is_known(code) && self.get(code).is_some()
     }
 
     /// The value of a field of a code is seen, and none of that code was if it is known.
     pub(crate) fn note(&mut self, code: u8, held: Held)
-        ensures { (bytes : List ℕ) (fs : List FieldTree) (v : ValueTree) → AreNoted fs bytes self.old → is_known code && has_code code fs ≡ false → IsNoted (want code) v bytes held → held.start + held.length ≤ length bytes → AreNoted (fs ++ (record { code = code; value = v }) ∷ []) bytes self.new }
+        ensures { (bytes : List ℕ) (fs : List FieldTree) (v : ValueTree) →
+            AreNoted fs bytes self.old →
+            is_known code && has_code code fs ≡ false → IsNoted (want code) v bytes held →
+            held.start + held.length ≤ length bytes →
+            AreNoted (fs ++ (record { code = code; value = v }) ∷ []) bytes self.new }
     {
         let at = usize::from(code);
         if at < self.places.len() {
@@ -79,8 +84,10 @@ impl Seen {
 
     /// Whether every field was seen that a message of the type has.
     pub(crate) fn has_required(&self, kind: u8) -> bool
-        ensures accepts { (bytes : List ℕ) (fs : List FieldTree) → AreNoted fs bytes self.now → result ≡ true → lacks (required kind) fs ≡ None }
-        ensures refuses { (bytes : List ℕ) (fs : List FieldTree) → AreNoted fs bytes self.now → result ≡ false → lacks (required kind) fs ≡ None → ⊥ }
+        ensures accepts { (bytes : List ℕ) (fs : List FieldTree) → AreNoted fs bytes self.now →
+            result ≡ true → lacks (required kind) fs ≡ None }
+        ensures refuses { (bytes : List ℕ) (fs : List FieldTree) → AreNoted fs bytes self.now →
+            result ≡ false → lacks (required kind) fs ≡ None → ⊥ }
     {
         for code in required(kind) {
             if !self.has(*code) {
@@ -93,7 +100,8 @@ impl Seen {
     /// The types of the body's values: the text of the SIGNATURE field in the bytes, or nothing where that was not seen.
     pub fn signature<'a>(&self, bytes: &'a [u8]) -> &'a [u8]
         requires noted { (fs : List FieldTree) × AreNoted fs bytes.now self.now }
-        ensures { (fs : List FieldTree) → AreNoted fs bytes.now self.now → result.now ≡ body_signature fs }
+        ensures { (fs : List FieldTree) → AreNoted fs bytes.now self.now →
+            result.now ≡ body_signature fs }
     {
         match self.get(SIGNATURE) {
             Some(place) => &bytes[place.start..place.start + place.length],
@@ -103,7 +111,8 @@ impl Seen {
 
     /// How many file descriptors come with the message: the number of the UNIX_FDS field, or 0 where that was not seen.
     pub fn fd_count(&self) -> u32
-        ensures { (bytes : List ℕ) (fs : List FieldTree) → AreNoted fs bytes self.now → result ≡ fd_count fs }
+        ensures { (bytes : List ℕ) (fs : List FieldTree) → AreNoted fs bytes self.now →
+            result ≡ fd_count fs }
     {
         match self.get(UNIX_FDS) {
             Some(place) => place.number,

@@ -31,12 +31,15 @@ pub fn put<A: Allocator>(
 ) -> Result<(), ValueFault>
     requires start { length out.old.items ≤ MESSAGE_LIMIT }
     requires signed { HasShortSignatures (value_tree value.now) }
-    ensures written { OnOk result (out.new.items ≡ out.old.items ++ spelling order (length out.old.items) (value_tree value.now)) }
+    ensures written { OnOk result
+        (out.new.items ≡
+        out.old.items ++ spelling order (length out.old.items) (value_tree value.now)) }
     ensures unchanged { OnErr result (out.new.items ≡ out.old.items) }
-    ensures refused { MatchResult (sized specification (value_tree value.now) None (length out.old.items))
-        (λ _. IsOkUnless result ValueFault.Memory)
-        (λ f. result ≡ Err f) }
-    ensures small { result ≡ Err ValueFault.Memory → vec_capacity out.old < length (with_value order (value_tree value.now) out.old.items) }
+    ensures refused { MatchResult
+        (sized specification (value_tree value.now) None (length out.old.items))
+        (λ _. IsOkUnless result ValueFault.Memory) (λ f. result ≡ Err f) }
+    ensures small { result ≡ Err ValueFault.Memory →
+        vec_capacity out.old < length (with_value order (value_tree value.now) out.old.items) }
 {
     put_within(out, order, value, Limits::specification())
 }
@@ -56,12 +59,15 @@ pub fn put_within<A: Allocator>(
 ) -> Result<(), ValueFault>
     requires start { length out.old.items ≤ limits.message }
     requires signed { HasShortSignatures (value_tree value.now) }
-    ensures written { OnOk result (out.new.items ≡ out.old.items ++ spelling order (length out.old.items) (value_tree value.now)) }
+    ensures written { OnOk result
+        (out.new.items ≡
+        out.old.items ++ spelling order (length out.old.items) (value_tree value.now)) }
     ensures unchanged { OnErr result (out.new.items ≡ out.old.items) }
     ensures refused { MatchResult (sized limits (value_tree value.now) None (length out.old.items))
         (λ _. IsOkUnless result ValueFault.Memory)
         (λ f. result ≡ Err f) }
-    ensures small { result ≡ Err ValueFault.Memory → vec_capacity out.old < length (with_value order (value_tree value.now) out.old.items) }
+    ensures small { result ≡ Err ValueFault.Memory →
+        vec_capacity out.old < length (with_value order (value_tree value.now) out.old.items) }
 {
     let start = out.len();
     let end = size_after_within(value, start as u64, limits)?;
@@ -75,7 +81,8 @@ pub fn put_within<A: Allocator>(
 /// The bytes then end below 4,294,967,296, as they do within a message's limit.
 #[cycle(write)]
 pub fn write_value<A: Allocator>(out: &mut Vec<u8, A>, order: Order, value: &Value<A>)
-    requires space { length (with_value order (value_tree value.now) out.old.items) ≤ vec_capacity out.old }
+    requires space { length (with_value order (value_tree value.now) out.old.items) ≤
+        vec_capacity out.old }
     requires fits { length (with_value order (value_tree value.now) out.old.items) < 2 ^ 32 }
     requires signed { HasShortSignatures (value_tree value.now) }
     ensures written { out.new.items ≡ with_value order (value_tree value.now) out.old.items }
@@ -123,7 +130,8 @@ fn bit(b: bool) -> u32
 /// Appends values one after the other.
 #[cycle(write)]
 fn write_values<A: Allocator>(out: &mut Vec<u8, A>, order: Order, values: &[Value<A>])
-    requires space { length (with_values order (value_trees_of values.now) out.old.items) ≤ vec_capacity out.old }
+    requires space { length (with_values order (value_trees_of values.now) out.old.items) ≤
+        vec_capacity out.old }
     requires fits { length (with_values order (value_trees_of values.now) out.old.items) < 2 ^ 32 }
     requires signed { HaveShortSignatures (value_trees_of values.now) }
     ensures written { out.new.items ≡ with_values order (value_trees_of values.now) out.old.items }
@@ -142,10 +150,16 @@ fn write_array<A: Allocator>(
     items: &[Value<A>],
     element: &SigType<A>,
 )
-    requires space { length (with_value order (ArrayValue (type_tree element.now) (value_trees_of items.now)) out.old.items) ≤ vec_capacity out.old }
-    requires fits { length (with_value order (ArrayValue (type_tree element.now) (value_trees_of items.now)) out.old.items) < 2 ^ 32 }
+    requires space { length (with_value order
+        (ArrayValue (type_tree element.now) (value_trees_of items.now)) out.old.items) ≤
+        vec_capacity out.old }
+    requires fits { length (with_value order
+        (ArrayValue (type_tree element.now) (value_trees_of items.now)) out.old.items) <
+        2 ^ 32 }
     requires signed { HaveShortSignatures (value_trees_of items.now) }
-    ensures written { out.new.items ≡ with_value order (ArrayValue (type_tree element.now) (value_trees_of items.now)) out.old.items }
+    ensures written { out.new.items ≡
+        with_value order (ArrayValue (type_tree element.now) (value_trees_of items.now))
+        out.old.items }
     ensures room { vec_capacity out.old ≤ vec_capacity out.new }
 {
     write_number_32(out, order, 0);
@@ -159,9 +173,14 @@ fn write_array<A: Allocator>(
 
 /// Appends an array of bytes.
 fn write_byte_array<A: Allocator>(out: &mut Vec<u8, A>, order: Order, bytes: &[u8])
-    requires space { length (with_value order (ArrayValue (NumberType BYTE) (byte_values bytes.now)) out.old.items) ≤ vec_capacity out.old }
-    requires fits { length (with_value order (ArrayValue (NumberType BYTE) (byte_values bytes.now)) out.old.items) < 2 ^ 32 }
-    ensures written { out.new.items ≡ with_value order (ArrayValue (NumberType BYTE) (byte_values bytes.now)) out.old.items }
+    requires space { length
+        (with_value order (ArrayValue (NumberType BYTE) (byte_values bytes.now)) out.old.items) ≤
+        vec_capacity out.old }
+    requires fits { length
+        (with_value order (ArrayValue (NumberType BYTE) (byte_values bytes.now)) out.old.items) <
+        2 ^ 32 }
+    ensures written { out.new.items ≡
+        with_value order (ArrayValue (NumberType BYTE) (byte_values bytes.now)) out.old.items }
     ensures room { vec_capacity out.old ≤ vec_capacity out.new }
 {
     write_number_32(out, order, bytes.len() as u32);

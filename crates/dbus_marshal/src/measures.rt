@@ -47,7 +47,8 @@ pub fn measure_all<A: Allocator>(values: &[Value<A>], at: u64, limits: Limits) -
 pub fn measure_header_field<A: Allocator>(value: &Value<A>, at: u64, limits: Limits) -> Option<u64>
     requires start { IsCapped at }
     requires signed { HasShortSignatures (VariantValue (value_tree value.now)) }
-    ensures exact { (code : ℕ) → IsMeasured limits.array (coded code (value_tree value.now)) at result }
+    ensures exact { (code : ℕ) → IsMeasured limits.array (coded code (value_tree value.now)) at
+        result }
     ensures within { IfSome result IsCapped }
 {
     let behind_code = number(1, boundary(8, at));

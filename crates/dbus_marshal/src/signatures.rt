@@ -102,7 +102,8 @@ pub fn write_type<A: Allocator>(out: &mut Vec<u8, A>, ty: &SigType<A>)
 #[cycle(write_type)]
 #[tactic(auto, using(crate::proofs::Written::lengths))]
 fn write_types<A: Allocator>(out: &mut Vec<u8, A>, types: &[SigType<A>])
-    requires space { length out.old.items + length (sigs (type_trees_of types.now)) ≤ vec_capacity out.old }
+    requires space { length out.old.items + length (sigs (type_trees_of types.now)) ≤
+        vec_capacity out.old }
     ensures written { out.new.items ≡ out.old.items ++ sigs (type_trees_of types.now) }
     ensures room { vec_capacity out.old ≤ vec_capacity out.new }
 {
@@ -115,7 +116,8 @@ fn write_types<A: Allocator>(out: &mut Vec<u8, A>, types: &[SigType<A>])
 #[cycle(write_type_of)]
 #[tactic(auto, using(crate::proofs::Written::lengths))]
 pub fn write_type_of<A: Allocator>(out: &mut Vec<u8, A>, value: &Value<A>)
-    requires space { length out.old.items + length (sig (type_of (value_tree value.now))) ≤ vec_capacity out.old }
+    requires space { length out.old.items + length (sig (type_of (value_tree value.now))) ≤
+        vec_capacity out.old }
     ensures written { out.new.items ≡ out.old.items ++ sig (type_of (value_tree value.now)) }
     ensures room { vec_capacity out.old ≤ vec_capacity out.new }
 {
@@ -146,7 +148,8 @@ pub fn write_type_of<A: Allocator>(out: &mut Vec<u8, A>, value: &Value<A>)
 #[cycle(write_type_of)]
 #[tactic(auto, using(crate::proofs::Written::lengths))]
 fn write_types_of<A: Allocator>(out: &mut Vec<u8, A>, values: &[Value<A>])
-    requires space { length out.old.items + length (sigs (types_of (value_trees_of values.now))) ≤ vec_capacity out.old }
+    requires space { length out.old.items + length (sigs (types_of (value_trees_of values.now))) ≤
+        vec_capacity out.old }
     ensures written { out.new.items ≡ out.old.items ++ sigs (types_of (value_trees_of values.now)) }
     ensures room { vec_capacity out.old ≤ vec_capacity out.new }
 {
@@ -159,9 +162,14 @@ fn write_types_of<A: Allocator>(out: &mut Vec<u8, A>, values: &[Value<A>])
 /// same in either byte order.
 #[tactic(auto, using(crate::proofs::Written::texts))]
 pub fn write_variant_signature<A: Allocator>(out: &mut Vec<u8, A>, value: &Value<A>)
-    requires space { length out.old.items + length (sig (type_of (value_tree value.now))) + 2 ≤ vec_capacity out.old }
+    requires space { length out.old.items + length (sig (type_of (value_tree value.now))) + 2 ≤
+        vec_capacity out.old }
     requires fits { length (sig (type_of (value_tree value.now))) < 256 }
-    ensures written { (order : Order) → out.new.items ≡ ((out.old.items ++ num order 1 (length (sig (type_of (value_tree value.now))))) ++ sig (type_of (value_tree value.now))) ++ 0 ∷ [] }
+    ensures written { (order : Order) →
+        out.new.items ≡
+        ((out.old.items ++ num order 1 (length (sig (type_of (value_tree value.now))))) ++
+        sig (type_of (value_tree value.now))) ++
+        0 ∷ [] }
     ensures room { vec_capacity out.old ≤ vec_capacity out.new }
 {
     write_byte(out, signature_length(value) as u8);

@@ -110,7 +110,9 @@ fn text(
     requires start { offset ≤ limits.message }
     requires bounded { IfSome bound (λ b. b < 2 ^ 28) }
     requires positive { 0 < width }
-    ensures exact { result ≡ (padding limits bound width ⊳ item limits bound width ⊳ item limits bound len ⊳ item limits bound 1) offset }
+    ensures exact { result ≡
+        (padding limits bound width ⊳
+        item limits bound width ⊳ item limits bound len ⊳ item limits bound 1) offset }
     ensures within { IfOk result (λ e. e ≤ limits.message) }
 {
     let offset = number(limits, bound, width, offset)?;

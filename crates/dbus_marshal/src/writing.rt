@@ -115,7 +115,8 @@ pub(crate) fn write_number_64<A: Allocator>(out: &mut Vec<u8, A>, order: Order, 
 /// Appends the text of a STRING or an OBJECT_PATH: padding, its length in four bytes, itself and a zero byte.
 #[tactic(auto, using(crate::proofs::Written::texts))]
 pub(crate) fn write_text<A: Allocator>(out: &mut Vec<u8, A>, order: Order, text: &[u8])
-    requires space { length (with_value order (TextValue STRING text.now) out.old.items) ≤ vec_capacity out.old }
+    requires space { length (with_value order (TextValue STRING text.now) out.old.items) ≤
+        vec_capacity out.old }
     requires fits { length text.now < 2 ^ 32 }
     ensures written { out.new.items ≡ with_value order (TextValue STRING text.now) out.old.items }
     ensures room { vec_capacity out.old ≤ vec_capacity out.new }
@@ -130,7 +131,8 @@ pub(crate) fn write_text<A: Allocator>(out: &mut Vec<u8, A>, order: Order, text:
 pub(crate) fn write_signature<A: Allocator>(out: &mut Vec<u8, A>, text: &[u8])
     requires space { length out.old.items + length text.now + 2 ≤ vec_capacity out.old }
     requires fits { length text.now < 256 }
-    ensures written { (order : Order) → out.new.items ≡ with_value order (TextValue SIGNATURE text.now) out.old.items }
+    ensures written { (order : Order) →
+        out.new.items ≡ with_value order (TextValue SIGNATURE text.now) out.old.items }
     ensures room { vec_capacity out.old ≤ vec_capacity out.new }
 {
     write_byte(out, text.len() as u8);
@@ -142,7 +144,8 @@ pub(crate) fn write_signature<A: Allocator>(out: &mut Vec<u8, A>, text: &[u8])
 #[tactic(auto, using(dbus_value_model::proofs::NumberBytes::numbers))]
 pub fn overwrite_32<A: Allocator>(out: &mut Vec<u8, A>, at: usize, order: Order, n: u32)
     requires there { at + 4 ≤ length out.old.items }
-    ensures written { out.new.items ≡ take at out.old.items ++ (num order 4 n ++ drop (at + 4) out.old.items) }
+    ensures written { out.new.items ≡
+        take at out.old.items ++ (num order 4 n ++ drop (at + 4) out.old.items) }
     ensures room { vec_capacity out.old ≤ vec_capacity out.new }
 {
     match order {
@@ -154,7 +157,8 @@ pub fn overwrite_32<A: Allocator>(out: &mut Vec<u8, A>, at: usize, order: Order,
 /// Four bytes over those at `at`.
 fn overwrite<A: Allocator>(out: &mut Vec<u8, A>, at: usize, bytes: [u8; 4])
     requires { at + 4 ≤ length out.old.items }
-    ensures items { out.new.items ≡ take at out.old.items ++ (bytes ++ drop (at + 4) out.old.items) }
+    ensures items { out.new.items ≡
+        take at out.old.items ++ (bytes ++ drop (at + 4) out.old.items) }
     ensures room { vec_capacity out.old ≤ vec_capacity out.new }
 {
     out[at] = bytes[0];

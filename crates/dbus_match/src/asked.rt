@@ -25,7 +25,8 @@ pub(crate) fn is_type(kind: u8, name: &str) -> bool
 
 /// Whether the owner has the name and the unique name.
 fn owns<A: Allocator>(owner: &Owner<A>, name: &str, unique: &str) -> bool
-    ensures { IsTrue result ↔ ((string_bytes owner.now.name ≡ name.now) × (string_bytes owner.now.unique ≡ unique.now)) }
+    ensures { IsTrue result ↔
+        ((string_bytes owner.now.name ≡ name.now) × (string_bytes owner.now.unique ≡ unique.now)) }
 {
     owner.name.as_str() == name && owner.unique.as_str() == unique
 }
@@ -54,7 +55,9 @@ pub(crate) fn is_text(text: Option<&str>, value: &str) -> bool
 
 /// Whether the sender is there and is the value, or the unique name of an owner of the value.
 pub(crate) fn is_sender<A: Allocator>(text: Option<&str>, value: &str, owners: &[Owner<A>]) -> bool
-    ensures { IsTrue result ↔ MatchOption text.entry ⊥ (λ w. (value.now ≡ w.now) ⊎ IsOwned (ownerships owners.now) value.now w.now) }
+    ensures { IsTrue result ↔
+        MatchOption text.entry ⊥ (λ w.
+        (value.now ≡ w.now) ⊎ IsOwned (ownerships owners.now) value.now w.now) }
 {
     match text {
         Some(text) => value == text || is_owned(owners, value, text),

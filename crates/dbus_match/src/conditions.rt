@@ -29,7 +29,9 @@ fn insert<A: Allocator>(
     conditions: &mut Vec<Condition<A>, A>,
     condition: Condition<A>,
 ) -> Result<(), AllocFailed<Condition<A>>>
-    ensures { OnOk result (condition_pairs conditions.new.items ≡ insert_pair (condition_pair condition) (condition_pairs conditions.old.items)) }
+    ensures { OnOk result
+        (condition_pairs conditions.new.items ≡
+        insert_pair (condition_pair condition) (condition_pairs conditions.old.items)) }
 {
     let place = place_of(conditions.as_slice(), condition.key);
     conditions.insert(place, condition)
@@ -49,7 +51,8 @@ pub(crate) fn read_conditions<A: Allocator + Copy>(
     text: &str,
 ) -> Result<Vec<Condition<A>, A>, RuleFault>
     requires { AllByRecursion (λ b. b ≢ 0) text.now }
-    ensures rule { IfOk result (λ conditions. SpellsRule text.now (condition_pairs conditions.items)) }
+    ensures rule { IfOk result (λ conditions.
+        SpellsRule text.now (condition_pairs conditions.items)) }
     ensures fault { IfErr result (λ e. IsRuleFault text.now e) }
 {
     let bytes = text.as_bytes();

@@ -22,7 +22,9 @@ fn holds<A: Allocator, B: Allocator>(
     message: &Message<A>,
     owners: &[Owner<B>],
 ) -> bool
-    ensures { IsTrue result ↔ HoldsAt condition.now.key (string_bytes condition.now.value) (message_tree message.now) (ownerships owners.now) }
+    ensures { IsTrue result ↔
+        HoldsAt condition.now.key (string_bytes condition.now.value) (message_tree message.now)
+        (ownerships owners.now) }
 {
     let value = condition.value.as_str();
     match condition.key {
@@ -50,7 +52,8 @@ pub fn matches<A: Allocator, B: Allocator>(
     message: &Message<A>,
     owners: &[Owner<B>],
 ) -> bool
-    ensures { IsTrue result ↔ Matches (rule_pairs rule.now) (message_tree message.now) (ownerships owners.now) }
+    ensures { IsTrue result ↔
+        Matches (rule_pairs rule.now) (message_tree message.now) (ownerships owners.now) }
 {
     for condition in &rule.conditions {
         if !holds(condition, message, owners) {

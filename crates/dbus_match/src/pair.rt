@@ -71,7 +71,8 @@ fn read_key<A: Allocator>(
 ) -> Result<(Key, usize), RuleFault>
     requires within { from < length text.now }
     requires first { NoSpaceFirst (drop from text.now) }
-    ensures key { IfOk result (λ r. IsKeyAt (condition_pairs conditions.now) text.now from r.0 r.1) }
+    ensures key { IfOk result (λ r.
+        IsKeyAt (condition_pairs conditions.now) text.now from r.0 r.1) }
     ensures fault { IfErr result (λ e. IsFaultAt (condition_pairs conditions.now) text.now from e) }
 {
     let equals = match find_equals(text, from) {
@@ -102,7 +103,8 @@ fn read_value<A: Allocator + Copy>(
 ) -> Result<(String<A>, usize), RuleFault>
     requires within { from ≤ length text.now }
     requires whole { IsUtf8 (drop from text.now) }
-    ensures value { IfOk result (λ r. IsClosed from [] (drop from text.now) (string_bytes r.0) r.1 (drop r.1 text.now)) }
+    ensures value { IfOk result (λ r.
+        IsClosed from [] (drop from text.now) (string_bytes r.0) r.1 (drop r.1 text.now)) }
     ensures fault { IfErr result (λ e. IsOpenFault text.now from e) }
 {
     match cut_value(alloc, text.as_bytes(), from)? {
@@ -124,7 +126,8 @@ pub(crate) fn read_pair<A: Allocator + Copy>(
     requires within { from < length text.now }
     requires first { NoSpaceFirst (drop from text.now) }
     ensures within { IfOk result (λ r. r.1 ≤ length text.now) }
-    ensures pair { IfOk result (λ r. IsPairAt (condition_pairs conditions.now) text.now from (condition_pair r.0) r.1) }
+    ensures pair { IfOk result (λ r.
+        IsPairAt (condition_pairs conditions.now) text.now from (condition_pair r.0) r.1) }
     ensures fault { IfErr result (λ e. IsFaultAt (condition_pairs conditions.now) text.now from e) }
 {
     let (key, value_from) = read_key(text.as_bytes(), from, conditions)?;

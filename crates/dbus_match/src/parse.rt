@@ -43,7 +43,8 @@ fn read_rule<A: Allocator + Copy>(alloc: A, text: &str) -> Result<Rule<A>, RuleF
 pub fn parse_rule<A: Allocator + Copy>(alloc: A, text: &str) -> Result<Rule<A>, RuleFault>
     ensures reading { IsRuleReading text.now result }
     ensures spelled { (pairs : List Pair) → SpellsRule text.now pairs → IsThisRule pairs result }
-    ensures faulty { (reason : Reason) (at : ℕ) → IsFault text.now reason at → IsThisFault reason at result }
+    ensures faulty { (reason : Reason) (at : ℕ) → IsFault text.now reason at →
+        IsThisFault reason at result }
 {
     read_rule(alloc, text)
 }

@@ -13,7 +13,8 @@ use std::alloc::{AllocError, Allocator};
 
 /// Appends the value, each apostrophe as `'\''`. After a refusal a part of it may stand there.
 fn push_escaped<A: Allocator>(text: &mut String<A>, value: &str) -> Result<(), AllocError>
-    ensures { OnOk result (string_bytes text.new ≡ string_bytes text.old ++ quote_escaped value.now) }
+    ensures { OnOk result (string_bytes text.new ≡
+        string_bytes text.old ++ quote_escaped value.now) }
 {
     let mut rest = value;
     while let Some((run, behind)) = rest.split_once('\'') {
@@ -29,7 +30,8 @@ fn push_condition<A: Allocator>(
     text: &mut String<A>,
     condition: &Condition<A>,
 ) -> Result<(), AllocError>
-    ensures { OnOk result (string_bytes text.new ≡ string_bytes text.old ++ pair_text (condition_pair condition.now)) }
+    ensures { OnOk result
+        (string_bytes text.new ≡ string_bytes text.old ++ pair_text (condition_pair condition.now)) }
 {
     push_key(text, condition.key)?;
     text.push_str("='")?;
@@ -61,7 +63,8 @@ fn canonical_text<A: Allocator + Copy>(
 /// is the project's own.
 pub fn rule_text<A: Allocator + Copy>(alloc: A, rule: &Rule<A>) -> Result<String<A>, AllocError>
     ensures exact { IfOk result (λ text. string_bytes text ≡ canonical (rule_pairs rule.now)) }
-    ensures spells { IfOk result (λ text. ∥ SpellsRule (string_bytes text) (rule_pairs rule.now) ∥₁) }
+    ensures spells { IfOk result (λ text.
+        ∥ SpellsRule (string_bytes text) (rule_pairs rule.now) ∥₁) }
 {
     let text = canonical_text(alloc, rule.conditions.as_slice())?;
     Ok(text)

@@ -19,7 +19,9 @@ use std::alloc::Allocator;
 
 /// The text of argument `n`, where that is a STRING.
 fn string_seen<'a>(view: &MessageView<'a>, n: u8) -> Option<&'a str>
-    ensures { (order : Order) (m : MessageTree) → Views view.now order m → MatchOption result (string_of (body_value n m.body) ≡ None) (λ s. string_of (body_value n m.body) ≡ Some s.now) }
+    ensures { (order : Order) (m : MessageTree) → Views view.now order m →
+        MatchOption result (string_of (body_value n m.body) ≡ None) (λ s.
+        string_of (body_value n m.body) ≡ Some s.now) }
 {
     match view.arg(usize::from(n)) {
         Some(ArgView::Str(text)) => Some(text),
@@ -29,7 +31,9 @@ fn string_seen<'a>(view: &MessageView<'a>, n: u8) -> Option<&'a str>
 
 /// The text of argument `n`, where that is a STRING or an OBJECT_PATH.
 fn string_or_path_seen<'a>(view: &MessageView<'a>, n: u8) -> Option<&'a str>
-    ensures { (order : Order) (m : MessageTree) → Views view.now order m → MatchOption result (string_or_path_of (body_value n m.body) ≡ None) (λ s. string_or_path_of (body_value n m.body) ≡ Some s.now) }
+    ensures { (order : Order) (m : MessageTree) → Views view.now order m →
+        MatchOption result (string_or_path_of (body_value n m.body) ≡ None) (λ s.
+        string_or_path_of (body_value n m.body) ≡ Some s.now) }
 {
     match view.arg(usize::from(n)) {
         Some(ArgView::Str(text)) => Some(text),
@@ -40,7 +44,9 @@ fn string_or_path_seen<'a>(view: &MessageView<'a>, n: u8) -> Option<&'a str>
 
 /// Whether the condition holds of the message.
 fn holds<A: Allocator>(condition: &Condition<A>, view: &MessageView, owners: &[Owner<A>]) -> bool
-    ensures { (order : Order) (m : MessageTree) → Views view.now order m → IsTrue result ↔ HoldsAt condition.now.key (string_bytes condition.now.value) m (ownerships owners.now) }
+    ensures { (order : Order) (m : MessageTree) → Views view.now order m →
+        IsTrue result ↔
+        HoldsAt condition.now.key (string_bytes condition.now.value) m (ownerships owners.now) }
 {
     let value = condition.value.as_str();
     match condition.key {
@@ -61,7 +67,8 @@ fn holds<A: Allocator>(condition: &Condition<A>, view: &MessageView, owners: &[O
 /// Whether each key of the rule holds of the message that the view is of, as [`crate::matches`] says of a message.
 /// D-Bus Specification, "Match Rules".
 pub fn matches_view<A: Allocator>(rule: &Rule<A>, view: &MessageView, owners: &[Owner<A>]) -> bool
-    ensures { (order : Order) (m : MessageTree) → Views view.now order m → IsTrue result ↔ Matches (rule_pairs rule.now) m (ownerships owners.now) }
+    ensures { (order : Order) (m : MessageTree) → Views view.now order m →
+        IsTrue result ↔ Matches (rule_pairs rule.now) m (ownerships owners.now) }
 {
     for condition in &rule.conditions {
         if !holds(condition, view, owners) {

@@ -26,7 +26,9 @@ use std::alloc::Allocator;
 
 /// Judges the type, the serial, and which fields there are.
 fn check_header<A: Allocator>(parts: &Parts<A>) -> Result<(), BuildFault>
-    ensures { (limits : Limits) → MatchResult result (λ _. NoneIsMissing (parts_tree parts.now)) (λ f. IsFirstFault limits parts.now f) }
+    ensures { (limits : Limits) →
+        MatchResult result (λ _. NoneIsMissing (parts_tree parts.now)) (λ f.
+        IsFirstFault limits parts.now f) }
 {
     if parts.kind == 0 {
         return Err(BuildFault::Kind);
@@ -63,7 +65,8 @@ fn check_contents<A: Allocator + Copy>(
     limits: Limits,
 ) -> Result<(), BuildFault>
     requires header { NoneIsMissing (parts_tree parts.now) }
-    ensures { MatchResult result (λ _. SignaturePasses limits parts.now) (λ f. IsFirstFault limits parts.now f) }
+    ensures { MatchResult result (λ _. SignaturePasses limits parts.now) (λ f.
+        IsFirstFault limits parts.now f) }
 {
     if !is_shallow(parts, limits) {
         return Err(BuildFault::TooDeep);
@@ -89,7 +92,11 @@ fn check_contents<A: Allocator + Copy>(
 /// How many bytes the parts are spelled by, within the limits.
 fn measure<A: Allocator>(parts: &Parts<A>, limits: Limits) -> Result<usize, BuildFault>
     requires passed { SignaturePasses limits parts.now }
-    ensures { MatchResult result (λ n. IsValidMessage specification (parts_tree parts.now) × (n ≡ length (message_bytes Little (parts_tree parts.now))) × SizePasses limits parts.now) (λ f. IsFirstFault limits parts.now f) }
+    ensures { MatchResult result
+        (λ n.
+        IsValidMessage specification (parts_tree parts.now) ×
+        (n ≡ length (message_bytes Little (parts_tree parts.now))) × SizePasses limits parts.now)
+        (λ f. IsFirstFault limits parts.now f) }
 {
     parts_in_range(parts);
     let fields = match fields_end(&parts.fields, limits) {
@@ -111,7 +118,8 @@ fn measure<A: Allocator>(parts: &Parts<A>, limits: Limits) -> Result<usize, Buil
 /// Judges the indexes of descriptors.
 fn check_indexes<A: Allocator>(parts: &Parts<A>, limits: Limits) -> Result<(), BuildFault>
     requires passed { SizePasses limits parts.now }
-    ensures { MatchResult result (λ _. NoFault limits parts.now) (λ f. IsFirstFault limits parts.now f) }
+    ensures { MatchResult result (λ _. NoFault limits parts.now) (λ f.
+        IsFirstFault limits parts.now f) }
 {
     let fds = limits.fds.index_limit(fd_count(&parts.fields));
     match first_past(&parts.body, fds) {

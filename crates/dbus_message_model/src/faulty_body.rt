@@ -45,7 +45,8 @@ pub fn has_types<A: Allocator + Copy>(
     signature: &[u8],
 ) -> Result<bool, AllocError>
     requires sound { IsFirstUnsound 0 values.now None }
-    ensures { IfOk result (λ answer. IsTrue answer ↔ (sigs (types_of (value_trees_of values.now)) ≡ signature.now)) }
+    ensures { IfOk result (λ answer.
+        IsTrue answer ↔ (sigs (types_of (value_trees_of values.now)) ≡ signature.now)) }
 {
     let mut spelled = Vec::with_capacity(alloc, signature.len())?;
     for value in values {

@@ -14,7 +14,8 @@ use std::alloc::Allocator;
 /// The value of the message's first field of the code. An array of BYTE in it is `Bytes`.
 /// D-Bus Specification, "Header Fields".
 pub fn field<A: Allocator>(message: &Message<A>, code: u8) -> Option<&Value<A>>
-    ensures first { MatchOption result (field_value code (message_tree message.now).fields ≡ None) (λ v. field_value code (message_tree message.now).fields ≡ Some (value_tree v.now)) }
+    ensures first { MatchOption result (field_value code (message_tree message.now).fields ≡
+        None) (λ v. field_value code (message_tree message.now).fields ≡ Some (value_tree v.now)) }
     ensures packed { IfSome result (λ v. IsTrue (keeps_bytes v.now)) }
 {
     for field in &message.parts().fields {
@@ -28,7 +29,8 @@ pub fn field<A: Allocator>(message: &Message<A>, code: u8) -> Option<&Value<A>>
 /// The body's value of the number, counted from 0. An array of BYTE in it is `Bytes`.
 /// D-Bus Specification, "Message Format".
 pub fn arg<A: Allocator>(message: &Message<A>, n: usize) -> Option<&Value<A>>
-    ensures numbered { MatchOption result (body_value n (message_tree message.now).body ≡ None) (λ v. body_value n (message_tree message.now).body ≡ Some (value_tree v.now)) }
+    ensures numbered { MatchOption result (body_value n (message_tree message.now).body ≡
+        None) (λ v. body_value n (message_tree message.now).body ≡ Some (value_tree v.now)) }
     ensures packed { IfSome result (λ v. IsTrue (keeps_bytes v.now)) }
 {
     message.parts().body.get(n)

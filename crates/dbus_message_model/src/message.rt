@@ -44,7 +44,8 @@ impl<A: Allocator> Message<A> {
 
     /// How many bytes it is spelled by, in either order.
     pub fn size(&self) -> usize
-        ensures exact { (order : Order) → result ≡ length (message_bytes order (message_tree self.now)) }
+        ensures exact { (order : Order) →
+            result ≡ length (message_bytes order (message_tree self.now)) }
         ensures within { result ≤ MESSAGE_LIMIT }
     {
         self.size

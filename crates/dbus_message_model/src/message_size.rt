@@ -34,7 +34,8 @@ fn field_end<A: Allocator>(field: &HeaderField<A>, at: u64, limits: Limits) -> O
 
 /// Where the fields end, the first of which begins at 16, or nothing where the field array or an array in it is too long.
 pub fn fields_end<A: Allocator>(fields: &[HeaderField<A>], limits: Limits) -> Option<u64>
-    requires signed { HaveShortSignatures (value_trees (map field_struct (field_trees fields.now))) }
+    requires signed { HaveShortSignatures
+        (value_trees (map field_struct (field_trees fields.now))) }
     ensures { AreFieldEnds limits (field_trees fields.now) 16 result }
 {
     let mut at = 16;

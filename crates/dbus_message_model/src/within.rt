@@ -20,7 +20,8 @@ use std::alloc::Allocator;
 
 /// Whether the field array, and each array in the parts, has no more bytes than the limits' array.
 fn keeps_arrays<A: Allocator>(parts: &Parts<A>, limits: Limits) -> bool
-    requires fields_signed { HaveShortSignatures (value_trees (map field_struct (parts_tree parts.now).fields)) }
+    requires fields_signed { HaveShortSignatures
+        (value_trees (map field_struct (parts_tree parts.now).fields)) }
     requires body_signed { HaveShortSignatures (parts_tree parts.now).body }
     ensures { IsTrue result ↔ KeepsArrays limits (parts_tree parts.now) }
 {

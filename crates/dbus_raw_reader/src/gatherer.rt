@@ -50,7 +50,12 @@ impl<A: Allocator + Copy> Gatherer<A> {
 
     /// Begins the next message, where it holds a whole one.
     pub(crate) fn forget(&mut self)
-        ensures { self.new ≡ record { limits = self.old.limits; held = under_way self.old.whole self.old.held; whole = false } }
+        ensures { self.new ≡
+            record {
+              limits = self.old.limits;
+              held = under_way self.old.whole self.old.held;
+              whole = false;
+            } }
     {
         if self.whole {
             self.held.clear();

@@ -76,7 +76,8 @@ fn write_body_line<A: Allocator>(draft: &mut Draft<A>, value: &Value<A>)
 
 /// Appends a line for each value of the body.
 fn write_body<A: Allocator>(draft: &mut Draft<A>, values: &[Value<A>])
-    ensures { Gains draft.old (flat_map body_line (value_texts (value_trees_of values.now))) draft.new }
+    ensures { Gains draft.old (flat_map body_line (value_texts (value_trees_of values.now)))
+        draft.new }
 {
     for value in values {
         write_body_line(draft, value);
@@ -105,7 +106,8 @@ pub fn show_message<A: Allocator>(
     message: &Message<A>,
     number: u64,
 ) -> Result<String<A>, AllocError>
-    ensures { IfOk result (λ text. string_bytes text ≡ message_text order (message_tree message.now) number) }
+    ensures { IfOk result (λ text.
+        string_bytes text ≡ message_text order (message_tree message.now) number) }
 {
     let mut text = String::new(alloc);
     show_into(&mut text, order, message, number)?;
@@ -122,9 +124,11 @@ pub fn show_into<A: Allocator>(
     message: &Message<A>,
     number: u64,
 ) -> Result<(), AllocError>
-    ensures shown { OnOk result (string_bytes out.new ≡ message_text order (message_tree message.now) number) }
+    ensures shown { OnOk result (string_bytes out.new ≡
+        message_text order (message_tree message.now) number) }
     ensures emptied { IfErr result (λ _. string_bytes out.new ≡ []) }
-    ensures small { OnErr result (string_capacity out.old < length (message_text order (message_tree message.now) number)) }
+    ensures small { OnErr result
+        (string_capacity out.old < length (message_text order (message_tree message.now) number)) }
 {
     out.clear();
     let mut draft = Draft {

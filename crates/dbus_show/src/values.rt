@@ -54,7 +54,8 @@ pub fn write_value<A: Allocator>(draft: &mut Draft<A>, value: &Value<A>)
 /// Appends the text of an array, after its signature.
 #[cycle(value)]
 fn write_array<A: Allocator>(draft: &mut Draft<A>, items: &[Value<A>], element: &SigType<A>)
-    ensures { Gains draft.old (value_text (ArrayValue (type_tree element.now) (value_trees_of items.now))) draft.new }
+    ensures { Gains draft.old
+        (value_text (ArrayValue (type_tree element.now) (value_trees_of items.now))) draft.new }
 {
     draft.push_code(b'a');
     write_type(draft, element);
@@ -107,7 +108,8 @@ fn write_code<A: Allocator>(draft: &mut Draft<A>, value: &Value<A>)
 
 /// Appends an array of BYTE.
 fn write_bytes<A: Allocator>(draft: &mut Draft<A>, bytes: &[u8])
-    ensures { Gains draft.old (value_text (ArrayValue (NumberType BYTE) (byte_values bytes.now))) draft.new }
+    ensures { Gains draft.old (value_text (ArrayValue (NumberType BYTE) (byte_values bytes.now)))
+        draft.new }
 {
     draft.push_str("ay:");
     write_hex(draft, bytes);

@@ -25,7 +25,9 @@ pub(crate) fn write_body<A: Allocator>(
     room: u8,
 )
     requires stand { AllStandThere order room types.now at bytes.now }
-    ensures shown { (vs : ValueTrees) (rest : List ℕ) → AllStand order room types.now at bytes.now vs rest → Gains draft.old (flat_map body_line (value_texts vs)) draft.new }
+    ensures shown { (vs : ValueTrees) (rest : List ℕ) →
+        AllStand order room types.now at bytes.now vs rest →
+        Gains draft.old (flat_map body_line (value_texts vs)) draft.new }
 {
     let mut place = at;
     let mut pos = 0;

@@ -29,7 +29,9 @@ fn write_bare_at<A: Allocator>(
     room: u8,
 ) -> usize
     requires stands { StandsThere order room types.now at bytes.now }
-    ensures shown { (v : ValueTree) (rest : List ℕ) → Stands order room types.now at bytes.now v rest → IsWritten order at v (bare_text v) draft.old draft.new result }
+    ensures shown { (v : ValueTree) (rest : List ℕ) →
+        Stands order room types.now at bytes.now v rest →
+        IsWritten order at v (bare_text v) draft.old draft.new result }
 {
     let code = types[0];
     if code == b's' || code == b'o' {
@@ -60,7 +62,10 @@ fn write_held<A: Allocator>(
     known: bool,
 ) -> usize
     requires stands { StandsThere order room (118 ∷ []) at bytes.now }
-    ensures shown { (x : ValueTree) (rest : List ℕ) → Stands order room (118 ∷ []) at bytes.now (VariantValue x) rest → IsWritten order at (VariantValue x) (if known then bare_text x else value_text x) draft.old draft.new result }
+    ensures shown { (x : ValueTree) (rest : List ℕ) →
+        Stands order room (118 ∷ []) at bytes.now (VariantValue x) rest →
+        IsWritten order at (VariantValue x) (if known then bare_text x else value_text x) draft.old
+        draft.new result }
 {
     let n = usize::from(bytes[at]);
     let first = at + 1;
@@ -81,7 +86,8 @@ fn write_field<A: Allocator>(
     room: u8,
 ) -> usize
     requires stands { FieldThere order room at bytes.now }
-    ensures shown { (f : FieldTree) (rest : List ℕ) → FieldStands order room at bytes.now f rest → IsWritten order at (field_struct f) (field_text f) draft.old draft.new result }
+    ensures shown { (f : FieldTree) (rest : List ℕ) → FieldStands order room at bytes.now f rest →
+        IsWritten order at (field_struct f) (field_text f) draft.old draft.new result }
 {
     let start = at + gap(8, at);
     let code = bytes[start];
@@ -94,7 +100,9 @@ fn write_field<A: Allocator>(
 /// Appends a message's fields in their order.
 pub(crate) fn write_fields<A: Allocator>(draft: &mut Draft<A>, bytes: &[u8], order: Order, room: u8)
     requires stand { FieldsThere order room bytes.now }
-    ensures shown { (fs : List FieldTree) (rest : List ℕ) → FieldsStand order room bytes.now fs rest → Gains draft.old (flat_map field_text fs) draft.new }
+    ensures shown { (fs : List FieldTree) (rest : List ℕ) →
+        FieldsStand order room bytes.now fs rest →
+        Gains draft.old (flat_map field_text fs) draft.new }
 {
     let n = order.u32_at(bytes, 12) as usize;
     let end = 16 + n;

@@ -22,7 +22,9 @@ pub(crate) fn write_number_at<A: Allocator>(
     code: u8,
 )
     requires { at + number_width code ≤ length bytes.now }
-    ensures { (k : NumberCode) → number_code k ≡ code → Gains draft.old (number_text k (number_of order (take (width k) (drop at bytes.now)))) draft.new }
+    ensures { (k : NumberCode) → number_code k ≡ code →
+        Gains draft.old (number_text k (number_of order (take (width k) (drop at bytes.now))))
+        draft.new }
 {
     match code {
         b'y' => write_integer(draft, bytes[at]),

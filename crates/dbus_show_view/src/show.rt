@@ -41,7 +41,9 @@ fn write_message<A: Allocator>(
     number: u64,
 )
     requires judged { IsJudged limits bytes.now judged.now }
-    ensures shown { (m : MessageTree) → IsWhole limits bytes.now judged.now.order m judged.now.length → Gains draft.old (message_text judged.now.order m number) draft.new }
+    ensures shown { (m : MessageTree) →
+        IsWhole limits bytes.now judged.now.order m judged.now.length →
+        Gains draft.old (message_text judged.now.order m number) draft.new }
 {
     let order = judged.order;
     let message = &bytes[..judged.length];
@@ -67,9 +69,13 @@ pub fn show_judged<A: Allocator>(
     number: u64,
 ) -> Result<(), AllocError>
     requires judged { IsJudged limits bytes.now judged.now }
-    ensures shown { (m : MessageTree) → IsWhole limits bytes.now judged.now.order m judged.now.length → OnOk result (string_bytes out.new ≡ message_text judged.now.order m number) }
+    ensures shown { (m : MessageTree) →
+        IsWhole limits bytes.now judged.now.order m judged.now.length →
+        OnOk result (string_bytes out.new ≡ message_text judged.now.order m number) }
     ensures emptied { IfErr result (λ _. string_bytes out.new ≡ []) }
-    ensures small { (m : MessageTree) → IsWhole limits bytes.now judged.now.order m judged.now.length → OnErr result (string_capacity out.old < length (message_text judged.now.order m number)) }
+    ensures small { (m : MessageTree) →
+        IsWhole limits bytes.now judged.now.order m judged.now.length →
+        OnErr result (string_capacity out.old < length (message_text judged.now.order m number)) }
 {
     out.clear();
     let mut draft = Draft {

@@ -25,7 +25,9 @@ pub(crate) fn long_text_at<'a>(
 ) -> &'a str
     requires stands { StandsThere order room types.now at bytes.now }
     requires code { (slice_index types.now 0 ≡ 115) ⊎ (slice_index types.now 0 ≡ 111) }
-    ensures text { (v : ValueTree) (rest : List ℕ) → Stands order room types.now at bytes.now v rest → IsTextAt order 4 at bytes.now v result.now }
+    ensures text { (v : ValueTree) (rest : List ℕ) →
+        Stands order room types.now at bytes.now v rest →
+        IsTextAt order 4 at bytes.now v result.now }
 {
     let start = at + gap(4, at);
     let n = order.u32_at(bytes, start) as usize;
@@ -44,7 +46,9 @@ pub(crate) fn short_text_at<'a>(
 ) -> &'a str
     requires stands { StandsThere order room types.now at bytes.now }
     requires code { slice_index types.now 0 ≡ 103 }
-    ensures text { (v : ValueTree) (rest : List ℕ) → Stands order room types.now at bytes.now v rest → IsTextAt order 1 at bytes.now v result.now }
+    ensures text { (v : ValueTree) (rest : List ℕ) →
+        Stands order room types.now at bytes.now v rest →
+        IsTextAt order 1 at bytes.now v result.now }
 {
     let n = usize::from(bytes[at]);
     let first = at + 1;
@@ -73,7 +77,9 @@ pub(crate) fn write_long_text<A: Allocator>(
 ) -> usize
     requires stands { StandsThere order room types.now at bytes.now }
     requires code { (slice_index types.now 0 ≡ 115) ⊎ (slice_index types.now 0 ≡ 111) }
-    ensures shown { (v : ValueTree) (rest : List ℕ) → Stands order room types.now at bytes.now v rest → IsShown order at v draft.old draft.new result }
+    ensures shown { (v : ValueTree) (rest : List ℕ) →
+        Stands order room types.now at bytes.now v rest →
+        IsShown order at v draft.old draft.new result }
 {
     let text = long_text_at(bytes, at, order, types, room);
     write_coded(draft, types[0], text);
@@ -91,7 +97,9 @@ pub(crate) fn write_short_text<A: Allocator>(
 ) -> usize
     requires stands { StandsThere order room types.now at bytes.now }
     requires code { slice_index types.now 0 ≡ 103 }
-    ensures shown { (v : ValueTree) (rest : List ℕ) → Stands order room types.now at bytes.now v rest → IsShown order at v draft.old draft.new result }
+    ensures shown { (v : ValueTree) (rest : List ℕ) →
+        Stands order room types.now at bytes.now v rest →
+        IsShown order at v draft.old draft.new result }
 {
     let text = short_text_at(bytes, at, order, types, room);
     write_coded(draft, types[0], text);

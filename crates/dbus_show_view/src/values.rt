@@ -33,7 +33,9 @@ pub(crate) fn write_value_at<A: Allocator>(
     room: u8,
 ) -> usize
     requires stands { StandsThere order room types.now at bytes.now }
-    ensures shown { (v : ValueTree) (rest : List ℕ) → Stands order room types.now at bytes.now v rest → IsShown order at v draft.old draft.new result }
+    ensures shown { (v : ValueTree) (rest : List ℕ) →
+        Stands order room types.now at bytes.now v rest →
+        IsShown order at v draft.old draft.new result }
 {
     let code = types[0];
     if number_width(code) > 0 {
@@ -65,7 +67,9 @@ fn number<A: Allocator>(
 ) -> usize
     requires stands { StandsThere order room types.now at bytes.now }
     requires some { 0 < number_width (slice_index types.now 0) }
-    ensures shown { (v : ValueTree) (rest : List ℕ) → Stands order room types.now at bytes.now v rest → IsShown order at v draft.old draft.new result }
+    ensures shown { (v : ValueTree) (rest : List ℕ) →
+        Stands order room types.now at bytes.now v rest →
+        IsShown order at v draft.old draft.new result }
 {
     let code = types[0];
     let size = number_width(code);
@@ -86,7 +90,9 @@ fn variant<A: Allocator>(
     room: u8,
 ) -> usize
     requires stands { StandsThere order room (118 ∷ []) at bytes.now }
-    ensures shown { (v : ValueTree) (rest : List ℕ) → Stands order room (118 ∷ []) at bytes.now v rest → IsShown order at v draft.old draft.new result }
+    ensures shown { (v : ValueTree) (rest : List ℕ) →
+        Stands order room (118 ∷ []) at bytes.now v rest →
+        IsShown order at v draft.old draft.new result }
 {
     let n = usize::from(bytes[at]);
     let first = at + 1;
@@ -108,7 +114,9 @@ fn array<A: Allocator>(
     room: u8,
 ) -> usize
     requires stands { StandsThere order room (97 ∷ types.now) at bytes.now }
-    ensures shown { (v : ValueTree) (rest : List ℕ) → Stands order room (97 ∷ types.now) at bytes.now v rest → IsShown order at v draft.old draft.new result }
+    ensures shown { (v : ValueTree) (rest : List ℕ) →
+        Stands order room (97 ∷ types.now) at bytes.now v rest →
+        IsShown order at v draft.old draft.new result }
 {
     let start = at + gap(4, at);
     let n = order.u32_at(bytes, start) as usize;
@@ -140,7 +148,9 @@ fn elements<A: Allocator>(
     room: u8,
 )
     requires stand { ElementsThere order room types.now at end bytes.now }
-    ensures shown { (vs : ValueTrees) (rest : List ℕ) → ElementsStand order room types.now at end bytes.now vs rest → Gains draft.old (joined (value_texts vs)) draft.new }
+    ensures shown { (vs : ValueTrees) (rest : List ℕ) →
+        ElementsStand order room types.now at end bytes.now vs rest →
+        Gains draft.old (joined (value_texts vs)) draft.new }
 {
     let mut place = at;
     let mut separator = "";
@@ -163,7 +173,9 @@ fn brackets<A: Allocator>(
 ) -> usize
     requires stands { StandsThere order room types.now at bytes.now }
     requires code { (slice_index types.now 0 ≡ 40) ⊎ (slice_index types.now 0 ≡ 123) }
-    ensures shown { (v : ValueTree) (rest : List ℕ) → Stands order room types.now at bytes.now v rest → IsShown order at v draft.old draft.new result }
+    ensures shown { (v : ValueTree) (rest : List ℕ) →
+        Stands order room types.now at bytes.now v rest →
+        IsShown order at v draft.old draft.new result }
 {
     let start = at + gap(8, at);
     let inner = &types[1..types.len() - 1];
@@ -190,7 +202,9 @@ fn values<A: Allocator>(
     room: u8,
 ) -> usize
     requires stand { AllStandThere order room types.now at bytes.now }
-    ensures shown { (vs : ValueTrees) (rest : List ℕ) → AllStand order room types.now at bytes.now vs rest → AreShown order at vs draft.old draft.new result }
+    ensures shown { (vs : ValueTrees) (rest : List ℕ) →
+        AllStand order room types.now at bytes.now vs rest →
+        AreShown order at vs draft.old draft.new result }
 {
     let mut place = at;
     let mut pos = 0;

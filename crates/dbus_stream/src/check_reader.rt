@@ -118,13 +118,17 @@ impl<R: Source> CheckReader<R> {
     /// again. It never answers `Memory`.
     pub fn next(&mut self) -> Result<Option<u64>, ReadFault>
         // Of what was kept and then read it gives the length of the message that that begins with.
-        ensures read { (w : List ℕ) → Keeps self.old w → (r : Reads R.left R.calls w self.old self.new)
-            × (stopped_of self.old ≡ None → CheckAnswers (w ++ r.bytes) self.old self.new result) }
-        ensures failed { DeviceCounts (R.failures (source_of self.old)) (R.failures (source_of self.new)) result }
-        ensures same_reference { R.reference (source_of self.new) ≡ R.reference (source_of self.old) }
+        ensures read { (w : List ℕ) → Keeps self.old w →
+            (r : Reads R.left R.calls w self.old self.new) ×
+            (stopped_of self.old ≡ None → CheckAnswers (w ++ r.bytes) self.old self.new result) }
+        ensures failed { DeviceCounts (R.failures (source_of self.old))
+            (R.failures (source_of self.new)) result }
+        ensures same_reference { R.reference (source_of self.new) ≡
+            R.reference (source_of self.old) }
         ensures few { done_of self.new ≤ 2 ^ 48 }
         // A fault of the bytes stays for good, and so does the number of reads.
-        ensures stays { (f : ReadFault) → stopped_of self.old ≡ Some f → (result ≡ Err f) × (self.new ≡ self.old) }
+        ensures stays { (f : ReadFault) → stopped_of self.old ≡ Some f →
+            (result ≡ Err f) × (self.new ≡ self.old) }
     {
         if let Some(fault) = self.stopped {
             return Err(fault);
@@ -154,7 +158,8 @@ impl<R: Source> CheckReader<R> {
         requires open { stopped_of self.old ≡ None }
         ensures finishes { (w : List ℕ) → Keeps self.old w → Finishes w self.old self.new result }
         ensures unread { ReadsNothing self.old self.new }
-        ensures failed { DeviceCounts (R.failures (source_of self.old)) (R.failures (source_of self.new)) result }
+        ensures failed { DeviceCounts (R.failures (source_of self.old))
+            (R.failures (source_of self.new)) result }
     {
         if self.taken == 0 {
             return Ok(None);
@@ -172,7 +177,8 @@ impl<R: Source> CheckReader<R> {
         requires open { stopped_of self.old ≡ None }
         ensures gives_up { GivesUp self.old self.new result }
         ensures unread { ReadsNothing self.old self.new }
-        ensures failed { DeviceCounts (R.failures (source_of self.old)) (R.failures (source_of self.new)) result }
+        ensures failed { DeviceCounts (R.failures (source_of self.old))
+            (R.failures (source_of self.new)) result }
     {
         self.stopped = Some(ReadFault::TooManyReads);
         Err(ReadFault::TooManyReads)
@@ -240,10 +246,12 @@ impl<R: Source> CheckReader<R> {
         requires drained { IsDrained self.old }
         requires more { reads_of self.old < most_reads_of self.old }
         ensures fills { Fills R.left self.old self.new result }
-        ensures failed { ReadCounts (R.failures (source_of self.old)) (R.failures (source_of self.new)) result }
+        ensures failed { ReadCounts (R.failures (source_of self.old))
+            (R.failures (source_of self.new)) result }
         ensures reads { reads_of self.new ≡ reads_of self.old + 1 }
         ensures called { R.calls (source_of self.new) ≡ one_more (R.calls (source_of self.old)) }
-        ensures same_reference { R.reference (source_of self.new) ≡ R.reference (source_of self.old) }
+        ensures same_reference { R.reference (source_of self.new) ≡
+            R.reference (source_of self.old) }
         ensures most_reads { most_reads_of self.new ≡ most_reads_of self.old }
         ensures limits { limits_of self.new ≡ limits_of self.old }
         ensures done { done_of self.new ≡ done_of self.old }

@@ -168,7 +168,8 @@ impl<A: Allocator + Copy> Cutter<A> {
     /// met one.
     pub fn finish(&self) -> Result<(), Fault>
         ensures nothing { self.now.fault ≡ None → self.now.held ≡ [] → result ≡ Ok tt }
-        ensures rest { self.now.fault ≡ None → ((self.now.held ≡ []) → ⊥) → result ≡ Err (truncated self.now.held) }
+        ensures rest { self.now.fault ≡ None → ((self.now.held ≡ []) → ⊥) →
+            result ≡ Err (truncated self.now.held) }
         ensures stays { (f : Fault) → self.now.fault ≡ Some f → result ≡ Err f }
     {
         if let Some(fault) = self.fault {
@@ -192,7 +193,9 @@ fn end_with<A: Allocator + Copy>(
     limits: Limits,
 ) -> Result<(Order, Message<A>), AllocError>
     requires { IsOneMessage limits (held.old.items ++ last.now) }
-    ensures gives { IfOk result (λ given. IsWhole limits (held.old.items ++ last.now) given.0 (message_tree given.1) (length held.old.items + length last.now)) }
+    ensures gives { IfOk result (λ given.
+        IsWhole limits (held.old.items ++ last.now) given.0 (message_tree given.1)
+        (length held.old.items + length last.now)) }
     ensures cleared { IfOk result (λ given. held.new.items ≡ []) }
     ensures kept { IfErr result (λ e. held.new.items ≡ held.old.items) }
 {

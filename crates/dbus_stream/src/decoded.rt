@@ -29,7 +29,8 @@ pub(crate) fn decode_one<A: Allocator + Copy>(
     limits: Limits,
 ) -> Result<(Order, Message<A>), AllocError>
     requires { IsOneMessage limits bytes.now }
-    ensures { IfOk result (λ given. IsWhole limits bytes.now given.0 (message_tree given.1) (length bytes.now)) }
+    ensures { IfOk result (λ given.
+        IsWhole limits bytes.now given.0 (message_tree given.1) (length bytes.now)) }
 {
     match decoded(alloc, bytes, limits) {
         Ok(Answer::Whole { order, message, .. }) => Ok((order, message)),

@@ -108,13 +108,17 @@ impl<R: Source, A: Allocator + Copy> MessageReader<R, A> {
     /// read is kept, and the call may be made again.
     pub fn next(&mut self) -> Result<Option<(Order, Message<A>)>, ReadFault>
         // Of what was kept and then read it gives what that begins with.
-        ensures read { (r : Reads R.left R.calls self.old self.new)
-            × (stopped_of self.old ≡ None → NextAnswers (kept self.old ++ r.bytes) self.old self.new result) }
-        ensures failed { DeviceCounts (R.failures (source_of self.old)) (R.failures (source_of self.new)) result }
-        ensures same_reference { R.reference (source_of self.new) ≡ R.reference (source_of self.old) }
+        ensures read { (r : Reads R.left R.calls self.old self.new) ×
+            (stopped_of self.old ≡ None →
+            NextAnswers (kept self.old ++ r.bytes) self.old self.new result) }
+        ensures failed { DeviceCounts (R.failures (source_of self.old))
+            (R.failures (source_of self.new)) result }
+        ensures same_reference { R.reference (source_of self.new) ≡
+            R.reference (source_of self.old) }
         ensures few { done_of self.new ≤ 2 ^ 44 }
         // A fault of the bytes stays for good, and so does the number of reads.
-        ensures stays { (f : ReadFault) → stopped_of self.old ≡ Some f → (result ≡ Err f) × (self.new ≡ self.old) }
+        ensures stays { (f : ReadFault) → stopped_of self.old ≡ Some f →
+            (result ≡ Err f) × (self.new ≡ self.old) }
     {
         if let Some(fault) = self.stopped {
             return Err(fault);
@@ -147,10 +151,12 @@ impl<R: Source, A: Allocator + Copy> MessageReader<R, A> {
         // It gives what the bytes that are kept begin with.
         ensures kept { stopped_of self.old ≡ None → KeptAnswers self.old self.new result }
         ensures unread { ReadsNothing self.old self.new }
-        ensures failed { DeviceCounts (R.failures (source_of self.old)) (R.failures (source_of self.new)) result }
+        ensures failed { DeviceCounts (R.failures (source_of self.old))
+            (R.failures (source_of self.new)) result }
         ensures few { done_of self.new ≤ 2 ^ 44 }
         // A fault of the bytes stays for good, and so does the number of reads.
-        ensures stays { (f : ReadFault) → stopped_of self.old ≡ Some f → (result ≡ Err f) × (self.new ≡ self.old) }
+        ensures stays { (f : ReadFault) → stopped_of self.old ≡ Some f →
+            (result ≡ Err f) × (self.new ≡ self.old) }
     {
         if let Some(fault) = self.stopped {
             return Err(fault);
@@ -220,10 +226,12 @@ impl<R: Source, A: Allocator + Copy> MessageReader<R, A> {
         requires drained { IsDrained self.old }
         requires more { reads_of self.old < most_reads_of self.old }
         ensures fills { Fills R.left self.old self.new result }
-        ensures failed { ReadCounts (R.failures (source_of self.old)) (R.failures (source_of self.new)) result }
+        ensures failed { ReadCounts (R.failures (source_of self.old))
+            (R.failures (source_of self.new)) result }
         ensures reads { reads_of self.new ≡ reads_of self.old + 1 }
         ensures called { R.calls (source_of self.new) ≡ one_more (R.calls (source_of self.old)) }
-        ensures same_reference { R.reference (source_of self.new) ≡ R.reference (source_of self.old) }
+        ensures same_reference { R.reference (source_of self.new) ≡
+            R.reference (source_of self.old) }
         ensures most_reads { most_reads_of self.new ≡ most_reads_of self.old }
         ensures limits { limits_of self.new ≡ limits_of self.old }
         ensures done { done_of self.new ≡ done_of self.old }

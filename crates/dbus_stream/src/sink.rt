@@ -26,7 +26,8 @@ pub trait Sink {
     fn write(&mut self, bytes: &[u8]) -> Result<usize, DeviceFault>
         ensures bound { IfOk result (λ n. n ≤ length bytes.now) }
         ensures bytes { WriteAppends (held self.old) (held self.new) result bytes.now }
-        ensures failed { WriteCounts (failures self.old) (failures self.new) result (length bytes.now) }
+        ensures failed { WriteCounts (failures self.old) (failures self.new) result
+            (length bytes.now) }
         ensures same_reference { reference self.new ≡ reference self.old };
 }
 

@@ -46,7 +46,8 @@ pub fn write_message<A: Allocator + Copy, W: Sink>(
     order: Order,
     message: &Message<A>,
 ) -> Result<(), WriteFault>
-    ensures writes { WritesMessage W.held W.failures sink.old (message_bytes order (message_tree message.now)) sink.new result }
+    ensures writes { WritesMessage W.held W.failures sink.old
+        (message_bytes order (message_tree message.now)) sink.new result }
     ensures same_reference { W.reference sink.new ≡ W.reference sink.old }
 {
     let Ok(bytes) = encode(alloc, message, order) else {

@@ -29,7 +29,8 @@ pub fn number_width(code: u8) -> u8
 #[inline]
 pub(crate) fn turn_4(out: &mut [u8], at: usize)
     requires { at + 4 ≤ length out.old }
-    ensures { out.new ≡ take at out.old ++ (reverse (take 4 (drop at out.old)) ++ drop (at + 4) out.old) }
+    ensures { out.new ≡ take at out.old
+        ++ (reverse (take 4 (drop at out.old)) ++ drop (at + 4) out.old) }
 {
     out[at..at + 4].reverse();
 }
@@ -38,7 +39,9 @@ pub(crate) fn turn_4(out: &mut [u8], at: usize)
 #[inline]
 pub(crate) fn turn_number(out: &mut [u8], at: usize, size: u8)
     requires { at + size ≤ length out.old }
-    ensures { (k : NumberCode) → width k ≡ size → out.new ≡ take at out.old ++ (reverse (take size (drop at out.old)) ++ drop (at + size) out.old) }
+    ensures { (k : NumberCode) → width k ≡ size →
+        out.new ≡
+        take at out.old ++ (reverse (take size (drop at out.old)) ++ drop (at + size) out.old) }
 {
     if size == 2 {
         out[at..at + 2].reverse();
@@ -55,7 +58,11 @@ pub(crate) fn turn_numbers(out: &mut [u8], at: usize, end: usize, size: u8)
     requires some { 0 < size }
     requires at_most { at ≤ end }
     requires inside { end ≤ length out.old }
-    ensures { (order : Order) (k : NumberCode) (xs : ValueTrees) (rest : List ℕ) → width k ≡ size → AllOf (NumberType k) xs → gap_to size at ≡ 0 → drop at out.old ≡ spellings order at xs ++ rest → end ≡ at + length (spellings order at xs) → IsPut at (spellings (other order) at xs) rest out.old out.new }
+    ensures { (order : Order) (k : NumberCode) (xs : ValueTrees) (rest : List ℕ) → width k ≡ size →
+        AllOf (NumberType k) xs → gap_to size at ≡ 0 →
+        drop at out.old ≡ spellings order at xs ++ rest →
+        end ≡ at + length (spellings order at xs) →
+        IsPut at (spellings (other order) at xs) rest out.old out.new }
 {
     let step = usize::from(size);
     let mut place = at;

@@ -30,7 +30,9 @@ pub(crate) fn turn_value(
     requires stands { StandsThere order room types.now at bytes.now }
     requires copied { drop at out.old ≡ drop at bytes.now }
     requires as_long { length out.old ≡ length bytes.now }
-    ensures turned { (v : ValueTree) (rest : List ℕ) → Stands order room types.now at bytes.now v rest → IsTurned order at v rest out.old out.new result }
+    ensures turned { (v : ValueTree) (rest : List ℕ) →
+        Stands order room types.now at bytes.now v rest →
+        IsTurned order at v rest out.old out.new result }
 {
     let code = types[0];
     let width = number_width(code);
@@ -68,7 +70,9 @@ fn number(
     requires as_long { length out.old ≡ length bytes.now }
     requires some { 0 < size }
     requires wide { size ≡ number_width (slice_index types.now 0) }
-    ensures turned { (v : ValueTree) (rest : List ℕ) → Stands order room types.now at bytes.now v rest → IsTurned order at v rest out.old out.new result }
+    ensures turned { (v : ValueTree) (rest : List ℕ) →
+        Stands order room types.now at bytes.now v rest →
+        IsTurned order at v rest out.old out.new result }
 {
     let start = at + gap(size, at);
     turn_number(out, start, size);
@@ -82,7 +86,9 @@ fn long_text(bytes: &[u8], out: &mut [u8], at: usize, order: Order, types: &[u8]
     requires code { (slice_index types.now 0 ≡ 115) ⊎ (slice_index types.now 0 ≡ 111) }
     requires copied { drop at out.old ≡ drop at bytes.now }
     requires as_long { length out.old ≡ length bytes.now }
-    ensures turned { (v : ValueTree) (rest : List ℕ) → Stands order room types.now at bytes.now v rest → IsTurned order at v rest out.old out.new result }
+    ensures turned { (v : ValueTree) (rest : List ℕ) →
+        Stands order room types.now at bytes.now v rest →
+        IsTurned order at v rest out.old out.new result }
 {
     let start = at + gap(4, at);
     let n = order.u32_at(bytes, start) as usize;
@@ -96,7 +102,9 @@ fn variant(bytes: &[u8], out: &mut [u8], at: usize, order: Order, room: u8) -> u
     requires stands { StandsThere order room (118 ∷ []) at bytes.now }
     requires copied { drop at out.old ≡ drop at bytes.now }
     requires as_long { length out.old ≡ length bytes.now }
-    ensures turned { (v : ValueTree) (rest : List ℕ) → Stands order room (118 ∷ []) at bytes.now v rest → IsTurned order at v rest out.old out.new result }
+    ensures turned { (v : ValueTree) (rest : List ℕ) →
+        Stands order room (118 ∷ []) at bytes.now v rest →
+        IsTurned order at v rest out.old out.new result }
 {
     let n = usize::from(bytes[at]);
     let first = at + 1;
@@ -110,7 +118,9 @@ fn array(bytes: &[u8], out: &mut [u8], at: usize, order: Order, types: &[u8], ro
     requires stands { StandsThere order room (97 ∷ types.now) at bytes.now }
     requires copied { drop at out.old ≡ drop at bytes.now }
     requires as_long { length out.old ≡ length bytes.now }
-    ensures turned { (v : ValueTree) (rest : List ℕ) → Stands order room (97 ∷ types.now) at bytes.now v rest → IsTurned order at v rest out.old out.new result }
+    ensures turned { (v : ValueTree) (rest : List ℕ) →
+        Stands order room (97 ∷ types.now) at bytes.now v rest →
+        IsTurned order at v rest out.old out.new result }
 {
     let start = at + gap(4, at);
     let n = order.u32_at(bytes, start) as usize;
@@ -141,7 +151,9 @@ fn elements(
     requires stand { ElementsThere order room types.now at end bytes.now }
     requires copied { drop at out.old ≡ drop at bytes.now }
     requires as_long { length out.old ≡ length bytes.now }
-    ensures turned { (vs : ValueTrees) (rest : List ℕ) → ElementsStand order room types.now at end bytes.now vs rest → IsPut at (spellings (other order) at vs) rest out.old out.new }
+    ensures turned { (vs : ValueTrees) (rest : List ℕ) →
+        ElementsStand order room types.now at end bytes.now vs rest →
+        IsPut at (spellings (other order) at vs) rest out.old out.new }
 {
     let mut place = at;
     while place < end {
@@ -156,7 +168,9 @@ fn brackets(bytes: &[u8], out: &mut [u8], at: usize, order: Order, types: &[u8],
     requires code { (slice_index types.now 0 ≡ 40) ⊎ (slice_index types.now 0 ≡ 123) }
     requires copied { drop at out.old ≡ drop at bytes.now }
     requires as_long { length out.old ≡ length bytes.now }
-    ensures turned { (v : ValueTree) (rest : List ℕ) → Stands order room types.now at bytes.now v rest → IsTurned order at v rest out.old out.new result }
+    ensures turned { (v : ValueTree) (rest : List ℕ) →
+        Stands order room types.now at bytes.now v rest →
+        IsTurned order at v rest out.old out.new result }
 {
     let start = at + gap(8, at);
     let inner = &types[1..types.len() - 1];
@@ -179,7 +193,10 @@ pub(crate) fn turn_values(
     requires stand { AllStandThere order room types.now at bytes.now }
     requires copied { drop at out.old ≡ drop at bytes.now }
     requires as_long { length out.old ≡ length bytes.now }
-    ensures turned { (vs : ValueTrees) (rest : List ℕ) → AllStand order room types.now at bytes.now vs rest → IsPut at (spellings (other order) at vs) rest out.old out.new × (result ≡ at + length (spellings order at vs)) }
+    ensures turned { (vs : ValueTrees) (rest : List ℕ) →
+        AllStand order room types.now at bytes.now vs rest →
+        IsPut at (spellings (other order) at vs) rest out.old out.new ×
+        (result ≡ at + length (spellings order at vs)) }
 {
     let mut place = at;
     let mut pos = 0;

@@ -145,8 +145,10 @@ impl TextScan {
     /// is unchanged.
     pub fn step(&mut self, byte: u8) -> bool
         ensures kind { kind_of self.new ≡ kind_of self.old }
-        ensures prefix { (w : List ℕ) → Stands self.old w → (IsTrue result ↔ IsPrefixOf (kind_of self.old) (w ++ byte ∷ [])) }
-        ensures stands { (w : List ℕ) → Stands self.old w → IsTrue result → Stands self.new (w ++ byte ∷ []) }
+        ensures prefix { (w : List ℕ) → Stands self.old w →
+            (IsTrue result ↔ IsPrefixOf (kind_of self.old) (w ++ byte ∷ [])) }
+        ensures stands { (w : List ℕ) → Stands self.old w → IsTrue result →
+            Stands self.new (w ++ byte ∷ []) }
         ensures unchanged { IsFalse result → self.new ≡ self.old }
     {
         if !self.state.step(byte) {
@@ -165,8 +167,10 @@ impl TextScan {
     pub fn take(&mut self, bytes: &[u8]) -> usize
         ensures within { result ≤ length bytes.now }
         ensures kind { kind_of self.new ≡ kind_of self.old }
-        ensures stands { (w : List ℕ) → Stands self.old w → Stands self.new (w ++ take result bytes.now) }
-        ensures breaks { result < length bytes.now → (w : List ℕ) → Stands self.old w → IsPrefixOf (kind_of self.old) (w ++ take (result + 1) bytes.now) → ⊥ }
+        ensures stands { (w : List ℕ) → Stands self.old w →
+            Stands self.new (w ++ take result bytes.now) }
+        ensures breaks { result < length bytes.now → (w : List ℕ) → Stands self.old w →
+            IsPrefixOf (kind_of self.old) (w ++ take (result + 1) bytes.now) → ⊥ }
     {
         let mut count = self.take_plain(bytes);
         while count < bytes.len() {
@@ -182,7 +186,8 @@ impl TextScan {
     fn take_plain(&mut self, bytes: &[u8]) -> usize
         ensures within { result ≤ length bytes.now }
         ensures kind { kind_of self.new ≡ kind_of self.old }
-        ensures stands { (w : List ℕ) → Stands self.old w → Stands self.new (w ++ take result bytes.now) }
+        ensures stands { (w : List ℕ) → Stands self.old w →
+            Stands self.new (w ++ take result bytes.now) }
     {
         if !self.state.is_between_characters() {
             return 0;
@@ -204,7 +209,8 @@ impl TextScan {
 
     /// Whether the text so far is one of the kind, its limit of 255 bytes aside.
     fn may_end(&self) -> bool
-        ensures { (w : List ℕ) → Stands self.now w → (IsTrue result ↔ IsOfKind (kind_of self.now) w) }
+        ensures { (w : List ℕ) → Stands self.now w →
+            (IsTrue result ↔ IsOfKind (kind_of self.now) w) }
     {
         self.state.end()
     }

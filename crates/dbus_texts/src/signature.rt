@@ -74,7 +74,8 @@ impl SigScan {
         requires structs_in { structs ≤ 32 }
         requires room { length self.old.frames.items ≤ arrays + structs }
         requires spare { IsTrue inside → length self.old.frames.items < arrays + structs }
-        ensures { Follows self.old result self.new (begin self.old.single inside arrays structs self.old.frames.items byte) }
+        ensures { Follows self.old result self.new
+            (begin self.old.single inside arrays structs self.old.frames.items byte) }
     {
         if is_type_code(byte) {
             self.place = SigPlace::After;

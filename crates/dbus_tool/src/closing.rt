@@ -23,7 +23,8 @@ pub(crate) fn close<A: Allocator + Copy, W: Sink, E: Sink>(
     first: &mut W,
     second: &mut E,
 ) -> ExitStatus
-    ensures { Closes W.held W.failures E.held E.failures command.now counted gathered.old.items first.old first.new second.old second.new result }
+    ensures { Closes W.held W.failures E.held E.failures command.now counted gathered.old.items
+        first.old first.new second.old second.new result }
 {
     match close_first(alloc, command, counted, gathered, first) {
         Ok(()) => close_second(alloc, command, counted, second),
@@ -39,7 +40,9 @@ fn close_first<A: Allocator + Copy, W: Sink>(
     gathered: &mut Gathered,
     first: &mut W,
 ) -> Result<(), Cause>
-    ensures { WritesLine W.held W.failures (gathered.old.items ++ last_line command.now counted.count counted.size counted.fault) first.old first.new result }
+    ensures { WritesLine W.held W.failures
+        (gathered.old.items ++ last_line command.now counted.count counted.size counted.fault)
+        first.old first.new result }
 {
     match last_line(alloc, command, counted) {
         Ok(line) => match write_behind(line.as_bytes(), gathered, first) {
@@ -56,7 +59,8 @@ fn last_line<A: Allocator + Copy>(
     command: &Command,
     counted: Counted,
 ) -> Result<String<A>, AllocError>
-    ensures { IfOk result (λ line. string_bytes line ≡ last_line command.now counted.count counted.size counted.fault) }
+    ensures { IfOk result (λ line.
+        string_bytes line ≡ last_line command.now counted.count counted.size counted.fault) }
 {
     match command {
         Command::Show => Ok(String::new(alloc)),
@@ -68,7 +72,8 @@ fn last_line<A: Allocator + Copy>(
 
 // The line of what was counted.
 fn check_line<A: Allocator + Copy>(alloc: A, counted: Counted) -> Result<String<A>, AllocError>
-    ensures { IfOk result (λ line. string_bytes line ≡ check_line counted.count counted.size counted.fault) }
+    ensures { IfOk result (λ line.
+        string_bytes line ≡ check_line counted.count counted.size counted.fault) }
 {
     match counted.fault {
         None => ok_line(alloc, counted.count, counted.size),
@@ -83,7 +88,8 @@ fn close_second<A: Allocator + Copy, E: Sink>(
     counted: Counted,
     second: &mut E,
 ) -> ExitStatus
-    ensures { TellsSecond E.held E.failures (second_output command.now counted.size counted.fault) counted.fault second.old second.new result }
+    ensures { TellsSecond E.held E.failures (second_output command.now counted.size counted.fault)
+        counted.fault second.old second.new result }
 {
     match command {
         Command::Show => tell_fault(alloc, counted, second),
@@ -99,7 +105,8 @@ fn tell_fault<A: Allocator + Copy, E: Sink>(
     counted: Counted,
     second: &mut E,
 ) -> ExitStatus
-    ensures { TellsSecond E.held E.failures (fault_line counted.size counted.fault) counted.fault second.old second.new result }
+    ensures { TellsSecond E.held E.failures (fault_line counted.size counted.fault) counted.fault
+        second.old second.new result }
 {
     let Some(fault) = counted.fault else {
         return ExitStatus::Done;

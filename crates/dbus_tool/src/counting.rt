@@ -15,8 +15,10 @@ use std::alloc::Allocator;
 // Counts the messages of the reader, up to the end of the input or a fault.
 fn count_all<R: Source>(messages: &mut CheckReader<R>) -> Result<Counted, Cause>
     requires { IsUnread messages.old }
-    ensures counts { Tallies R.left R.calls R.failures (limits_of messages.old) (most_reads_of messages.old) (source_of messages.old) (source_of messages.new) result }
-    ensures same_reference { R.reference (source_of messages.new) ≡ R.reference (source_of messages.old) }
+    ensures counts { Tallies R.left R.calls R.failures (limits_of messages.old)
+        (most_reads_of messages.old) (source_of messages.old) (source_of messages.new) result }
+    ensures same_reference { R.reference (source_of messages.new) ≡
+        R.reference (source_of messages.old) }
 {
     let mut count = 0u64;
     'messages: loop {
@@ -70,7 +72,8 @@ pub(crate) fn count_or_hand<R: Source, A: Allocator + Copy, W: Sink>(
     first: &mut W,
 ) -> Result<Counted, Cause>
     requires { reads ≤ 2 ^ 32 }
-    ensures { Hands R.left R.calls R.failures W.held W.failures limits reads command.now source.old source.new gathered.old.items gathered.new.items first.old first.new result }
+    ensures { Hands R.left R.calls R.failures W.held W.failures limits reads command.now source.old
+        source.new gathered.old.items gathered.new.items first.old first.new result }
 {
     match command {
         Command::Check => count_over(limits, reads, source),

@@ -25,8 +25,10 @@ pub(crate) fn filter<W: Sink>(
     first: &mut W,
 ) -> Result<(), Cause>
     requires { IsJudgedWhole limits bytes.now judged.now }
-    ensures { (order : Order) (m : MessageTree) → IsWhole limits bytes.now order m (length bytes.now)
-        → Filters W.held W.failures (rule_pairs rule.now) order m gathered.old.items gathered.new.items first.old first.new result }
+    ensures { (order : Order) (m : MessageTree) →
+        IsWhole limits bytes.now order m (length bytes.now) →
+        Filters W.held W.failures (rule_pairs rule.now) order m gathered.old.items
+        gathered.new.items first.old first.new result }
 {
     let owners: &[Owner] = &[];
     let view = MessageView::of_judged(bytes, limits, *judged);

@@ -19,7 +19,8 @@ pub(crate) fn gather<W: Sink>(
     gathered: &mut Gathered,
     first: &mut W,
 ) -> Result<(), Unwritten>
-    ensures { Gathers W.held W.failures bytes.now gathered.old.items gathered.new.items first.old first.new result }
+    ensures { Gathers W.held W.failures bytes.now gathered.old.items gathered.new.items first.old
+        first.new result }
 {
     match gathered.try_extend_from_slice(bytes) {
         Ok(()) => Ok(()),
@@ -33,7 +34,8 @@ pub(crate) fn put_out<W: Sink>(
     gathered: &mut Gathered,
     first: &mut W,
 ) -> Result<(), Cause>
-    ensures { GathersOrNot W.held W.failures bytes.now gathered.old.items gathered.new.items first.old first.new result }
+    ensures { GathersOrNot W.held W.failures bytes.now gathered.old.items gathered.new.items
+        first.old first.new result }
 {
     match gather(bytes, gathered, first) {
         Ok(()) => Ok(()),
@@ -47,7 +49,8 @@ pub(crate) fn write_behind<W: Sink>(
     gathered: &mut Gathered,
     first: &mut W,
 ) -> Result<(), Unwritten>
-    ensures gathers { Gathers W.held W.failures bytes.now gathered.old.items gathered.new.items first.old first.new result }
+    ensures gathers { Gathers W.held W.failures bytes.now gathered.old.items gathered.new.items
+        first.old first.new result }
     ensures emptied { gathered.new.items ≡ [] }
 {
     match write_out(gathered, first) {
@@ -61,7 +64,8 @@ pub(crate) fn write_behind<W: Sink>(
 
 /// Writes what is gathered.
 pub(crate) fn write_out<W: Sink>(gathered: &mut Gathered, first: &mut W) -> Result<(), Unwritten>
-    ensures gathers { Gathers W.held W.failures [] gathered.old.items gathered.new.items first.old first.new result }
+    ensures gathers { Gathers W.held W.failures [] gathered.old.items gathered.new.items first.old
+        first.new result }
     ensures emptied { gathered.new.items ≡ [] }
 {
     match write_all(first, gathered.as_slice()) {

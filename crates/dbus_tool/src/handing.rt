@@ -23,9 +23,11 @@ fn next_message<R: Source, A: Allocator + Copy, W: Sink>(
     first: &mut W,
 ) -> Result<Option<Judged>, NoMessage>
     requires { stopped_of messages.old ≡ None }
-    ensures gives { GivesNext R.left R.calls R.failures W.held W.failures messages.old messages.new gathered.old.items gathered.new.items first.old first.new result }
+    ensures gives { GivesNext R.left R.calls R.failures W.held W.failures messages.old messages.new
+        gathered.old.items gathered.new.items first.old first.new result }
     ensures few { IfOk result (λ _. done_of messages.new ≤ 2 ^ 48) }
-    ensures same_reference { R.reference (source_of messages.new) ≡ R.reference (source_of messages.old) }
+    ensures same_reference { R.reference (source_of messages.new) ≡
+        R.reference (source_of messages.old) }
 {
     match messages.advance_kept() {
         Ok(Some(judged)) => Ok(Some(judged)),
@@ -42,9 +44,11 @@ fn read_message<R: Source, A: Allocator + Copy, W: Sink>(
     first: &mut W,
 ) -> Result<Option<Judged>, NoMessage>
     requires { stopped_of messages.old ≡ None }
-    ensures gives { GivesNext R.left R.calls R.failures W.held W.failures messages.old messages.new gathered.old.items gathered.new.items first.old first.new result }
+    ensures gives { GivesNext R.left R.calls R.failures W.held W.failures messages.old messages.new
+        gathered.old.items gathered.new.items first.old first.new result }
     ensures few { IfOk result (λ _. done_of messages.new ≤ 2 ^ 48) }
-    ensures same_reference { R.reference (source_of messages.new) ≡ R.reference (source_of messages.old) }
+    ensures same_reference { R.reference (source_of messages.new) ≡
+        R.reference (source_of messages.old) }
 {
     match write_out(gathered, first) {
         Ok(()) => match messages.advance() {
@@ -64,10 +68,14 @@ fn hand_all<R: Source, A: Allocator + Copy, W: Sink>(
     gathered: &mut Gathered,
     first: &mut W,
 ) -> Result<Counted, Cause>
-    requires { IsNewReader (source_of messages.old) (most_reads_of messages.old) limits messages.old }
-    ensures hands { Hands R.left R.calls R.failures W.held W.failures limits (most_reads_of messages.old) command.now
-        (source_of messages.old) (source_of messages.new) gathered.old.items gathered.new.items first.old first.new result }
-    ensures same_reference { R.reference (source_of messages.new) ≡ R.reference (source_of messages.old) }
+    requires { IsNewReader (source_of messages.old) (most_reads_of messages.old) limits
+        messages.old }
+    ensures hands { Hands R.left R.calls R.failures W.held W.failures limits
+        (most_reads_of messages.old)
+        command.now (source_of messages.old) (source_of messages.new) gathered.old.items
+        gathered.new.items first.old first.new result }
+    ensures same_reference { R.reference (source_of messages.new) ≡
+        R.reference (source_of messages.old) }
 {
     let mut count = 0u64;
     let mut spare = Spare::new(alloc);
@@ -132,7 +140,8 @@ fn hand_through<R: Source + Drop, A: Allocator + Copy, W: Sink>(
     first: &mut W,
 ) -> (Result<Counted, Cause>, R)
     requires { reads ≤ 2 ^ 32 }
-    ensures hands { Hands R.left R.calls R.failures W.held W.failures limits reads command.now source result.1 gathered.old.items gathered.new.items first.old first.new result.0 }
+    ensures hands { Hands R.left R.calls R.failures W.held W.failures limits reads command.now
+        source result.1 gathered.old.items gathered.new.items first.old first.new result.0 }
     ensures same_reference { R.reference result.1 ≡ R.reference source }
 {
     let mut messages = RawReader::within(alloc, source, reads, limits);
@@ -151,7 +160,8 @@ pub(crate) fn hand_over<R: Source, A: Allocator + Copy, W: Sink>(
     first: &mut W,
 ) -> Result<Counted, Cause>
     requires { reads ≤ 2 ^ 32 }
-    ensures { Hands R.left R.calls R.failures W.held W.failures limits reads command.now source.old source.new gathered.old.items gathered.new.items first.old first.new result }
+    ensures { Hands R.left R.calls R.failures W.held W.failures limits reads command.now source.old
+        source.new gathered.old.items gathered.new.items first.old first.new result }
 {
     let (counted, _source) = hand_through(alloc, command, limits, reads, source, gathered, first);
     counted

@@ -23,7 +23,8 @@ pub(crate) fn refused_line<A: Allocator + Copy>(
     size: u64,
     fault: Fault,
 ) -> Result<String<A>, AllocError>
-    ensures { IfOk result (λ line. string_bytes line ≡ refused_line (size + fault.at) fault.reason) }
+    ensures { IfOk result (λ line. string_bytes line ≡
+        refused_line (size + fault.at) fault.reason) }
 {
     let place = size as u128 + fault.at as u128;
     let reason = fault.reason;

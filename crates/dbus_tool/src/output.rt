@@ -31,8 +31,10 @@ pub(crate) fn write_one<A: Allocator + Copy, W: Sink>(
     first: &mut W,
 ) -> Result<(), Cause>
     requires { IsJudgedWhole limits bytes.now judged.now }
-    ensures { (order : Order) (m : MessageTree) → IsWhole limits bytes.now order m (length bytes.now)
-        → HandsOne W.held W.failures command.now order m number gathered.old.items gathered.new.items first.old first.new result }
+    ensures { (order : Order) (m : MessageTree) →
+        IsWhole limits bytes.now order m (length bytes.now) →
+        HandsOne W.held W.failures command.now order m number gathered.old.items gathered.new.items
+        first.old first.new result }
 {
     match command {
         Command::Show => show(bytes, judged, limits, number, spare, gathered, first),

@@ -20,8 +20,8 @@ pub fn run<A: Allocator + Copy, R: Source, W: Sink, E: Sink>(
     first: &mut W,
     second: &mut E,
 ) -> ExitStatus
-    ensures { Runs R.left R.calls R.failures W.held W.failures E.held E.failures specification (2 ^ 32) command
-        reader.old reader.new first.old first.new second.old second.new result }
+    ensures { Runs R.left R.calls R.failures W.held W.failures E.held E.failures specification
+        (2 ^ 32) command reader.old reader.new first.old first.new second.old second.new result }
 {
     run_reads(alloc, command, MOST_READS, reader, first, second)
 }
@@ -36,8 +36,8 @@ pub fn run_reads<A: Allocator + Copy, R: Source, W: Sink, E: Sink>(
     second: &mut E,
 ) -> ExitStatus
     requires { reads ≤ 2 ^ 32 }
-    ensures { Runs R.left R.calls R.failures W.held W.failures E.held E.failures specification reads command
-        reader.old reader.new first.old first.new second.old second.new result }
+    ensures { Runs R.left R.calls R.failures W.held W.failures E.held E.failures specification reads
+        command reader.old reader.new first.old first.new second.old second.new result }
 {
     run_within(
         alloc,
@@ -79,8 +79,8 @@ pub fn run_within<A: Allocator + Copy, R: Source, W: Sink, E: Sink>(
     second: &mut E,
 ) -> ExitStatus
     requires { reads ≤ 2 ^ 32 }
-    ensures { Runs R.left R.calls R.failures W.held W.failures E.held E.failures limits reads command
-        reader.old reader.new first.old first.new second.old second.new result }
+    ensures { Runs R.left R.calls R.failures W.held W.failures E.held E.failures limits reads
+        command reader.old reader.new first.old first.new second.old second.new result }
 {
     run_command(alloc, &command, limits, reads, reader, first, second)
 }
@@ -96,8 +96,8 @@ fn run_command<A: Allocator + Copy, R: Source, W: Sink, E: Sink>(
     second: &mut E,
 ) -> ExitStatus
     requires { reads ≤ 2 ^ 32 }
-    ensures { Runs R.left R.calls R.failures W.held W.failures E.held E.failures limits reads command.now
-        reader.old reader.new first.old first.new second.old second.new result }
+    ensures { Runs R.left R.calls R.failures W.held W.failures E.held E.failures limits reads
+        command.now reader.old reader.new first.old first.new second.old second.new result }
 {
     let mut gathered = Gathered::new();
     match count_or_hand(alloc, command, limits, reads, reader, &mut gathered, first) {

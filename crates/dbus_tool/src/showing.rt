@@ -27,8 +27,10 @@ pub(crate) fn show<A: Allocator + Copy, W: Sink>(
     first: &mut W,
 ) -> Result<(), Cause>
     requires { IsJudgedWhole limits bytes.now judged.now }
-    ensures { (order : Order) (m : MessageTree) → IsWhole limits bytes.now order m (length bytes.now)
-        → GathersOrNot W.held W.failures (message_text order m number) gathered.old.items gathered.new.items first.old first.new result }
+    ensures { (order : Order) (m : MessageTree) →
+        IsWhole limits bytes.now order m (length bytes.now) →
+        GathersOrNot W.held W.failures (message_text order m number) gathered.old.items
+        gathered.new.items first.old first.new result }
 {
     let Ok(()) = show_judged(&mut spare.text, bytes, limits, judged, number) else {
         return Err(Cause::Memory);

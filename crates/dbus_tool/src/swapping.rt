@@ -27,8 +27,10 @@ pub(crate) fn swap<A: Allocator + Copy, W: Sink>(
     first: &mut W,
 ) -> Result<(), Cause>
     requires { IsJudgedWhole limits bytes.now judged.now }
-    ensures { (order : Order) (m : MessageTree) → IsWhole limits bytes.now order m (length bytes.now)
-        → GathersOrNot W.held W.failures (message_bytes wanted m) gathered.old.items gathered.new.items first.old first.new result }
+    ensures { (order : Order) (m : MessageTree) →
+        IsWhole limits bytes.now order m (length bytes.now) →
+        GathersOrNot W.held W.failures (message_bytes wanted m) gathered.old.items
+        gathered.new.items first.old first.new result }
 {
     if judged.order == wanted {
         put_out(bytes, gathered, first)
@@ -47,8 +49,9 @@ fn put_turned<A: Allocator + Copy, W: Sink>(
     first: &mut W,
 ) -> Result<(), Cause>
     requires { IsJudgedWhole limits bytes.now judged.now }
-    ensures { (m : MessageTree) → IsWhole limits bytes.now judged.now.order m (length bytes.now)
-        → GathersOrNot W.held W.failures (message_bytes (other judged.now.order) m) gathered.old.items gathered.new.items first.old first.new result }
+    ensures { (m : MessageTree) → IsWhole limits bytes.now judged.now.order m (length bytes.now) →
+        GathersOrNot W.held W.failures (message_bytes (other judged.now.order) m) gathered.old.items
+        gathered.new.items first.old first.new result }
 {
     spare.bytes.clear();
     let Ok(()) = spare.bytes.extend_from_slice(bytes) else {

@@ -26,8 +26,9 @@ pub fn run_words<R: Source, W: Sink, E: Sink>(
     first: &mut W,
     second: &mut E,
 ) -> ExitStatus
-    ensures { RunsWords R.left R.calls R.failures W.held W.failures E.held E.failures (map string_bytes words.now)
-        reader.old reader.new first.old first.new second.old second.new result }
+    ensures { RunsWords R.left R.calls R.failures W.held W.failures E.held E.failures
+        (map string_bytes words.now) reader.old reader.new first.old first.new second.old second.new
+        result }
 {
     match command_of(alloc, words) {
         Ok((command, limits)) => {
@@ -44,7 +45,8 @@ pub fn run_words<R: Source, W: Sink, E: Sink>(
 
 // Writes a text that was asked for: help, or the version.
 fn show_text<W: Sink, E: Sink>(text: &str, first: &mut W, second: &mut E) -> ExitStatus
-    ensures { ShowsText W.held W.failures E.held E.failures text.now first.old first.new second.old second.new result }
+    ensures { ShowsText W.held W.failures E.held E.failures text.now first.old first.new second.old
+        second.new result }
 {
     match write_all(first, text.as_bytes()) {
         Ok(()) => ExitStatus::Done,

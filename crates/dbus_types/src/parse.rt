@@ -81,7 +81,8 @@ pub fn spelled_types<A: Allocator + Copy>(
     text: &[u8],
 ) -> Result<Vec<SigType<A>, A>, AllocError>
     requires { IsKind Signature text.now }
-    ensures { IfOk result (λ v. AreSignatureTypes (type_trees_of v.items) × (sigs (type_trees_of v.items) ≡ text.now)) }
+    ensures { IfOk result (λ v.
+        AreSignatureTypes (type_trees_of v.items) × (sigs (type_trees_of v.items) ≡ text.now)) }
 {
     let mut types = Vec::new(alloc);
     let mut rest = text;

@@ -29,8 +29,10 @@ pub fn push_type<A: Allocator + Copy>(
     out: &mut String<A>,
     ty: &SigType<A>,
 ) -> Result<(), AllocError>
-    ensures written { OnOk result (string_bytes out.new ≡ string_bytes out.old ++ sig (type_tree ty.now)) }
-    ensures front { OnErr result (AppendsFront (string_bytes out.old) (string_bytes out.new) (sig (type_tree ty.now))) }
+    ensures written { OnOk result (string_bytes out.new ≡
+        string_bytes out.old ++ sig (type_tree ty.now)) }
+    ensures front { OnErr result
+        (AppendsFront (string_bytes out.old) (string_bytes out.new) (sig (type_tree ty.now))) }
 {
     match ty {
         SigType::Array(element) => {
@@ -58,8 +60,11 @@ fn push_types<A: Allocator + Copy>(
     out: &mut String<A>,
     types: &[SigType<A>],
 ) -> Result<(), AllocError>
-    ensures written { OnOk result (string_bytes out.new ≡ string_bytes out.old ++ sigs (type_trees_of types.now)) }
-    ensures front { OnErr result (AppendsFront (string_bytes out.old) (string_bytes out.new) (sigs (type_trees_of types.now))) }
+    ensures written { OnOk result
+        (string_bytes out.new ≡ string_bytes out.old ++ sigs (type_trees_of types.now)) }
+    ensures front { OnErr result
+        (AppendsFront (string_bytes out.old) (string_bytes out.new)
+        (sigs (type_trees_of types.now))) }
 {
     for ty in types {
         push_type(out, ty)?;

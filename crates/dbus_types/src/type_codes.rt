@@ -42,7 +42,8 @@ pub fn type_code<A: Allocator>(ty: &SigType<A>) -> u8
 
 /// The type that one byte spells.
 pub fn plain_type<A: Allocator>(byte: u8) -> Option<SigType<A>>
-    ensures { MatchOption result (is_type_code byte ≡ false) (λ ty. sig (type_tree ty) ≡ byte ∷ []) }
+    ensures { MatchOption result (is_type_code byte ≡ false) (λ ty. sig (type_tree ty) ≡
+        byte ∷ []) }
 {
     match byte {
         b'y' => Some(SigType::Byte),

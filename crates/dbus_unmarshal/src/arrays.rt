@@ -31,7 +31,8 @@ pub fn read_frame<A: Allocator>(
 ) -> Result<(usize, usize), Stop>
     requires at_most { at ≤ end }
     requires inside { at ≤ length bytes.now }
-    ensures gives { Gives (λ x. x) bytes.now result (array_frame bounds order end (type_tree item.now) at (drop at bytes.now)) }
+    ensures gives { Gives (λ x. x) bytes.now result
+        (array_frame bounds order end (type_tree item.now) at (drop at bytes.now)) }
     ensures moves { IfOk result (λ x. (at ≤ x.1) × (x.1 + x.0 ≤ end) × (x.1 ≤ length bytes.now)) }
     ensures no_memory { IfErr result (λ e. e ≢ Memory) }
 {
@@ -57,7 +58,10 @@ pub fn read_bytes<A: Allocator>(
     n: usize,
 ) -> Result<Vec<u8, A>, Stop>
     requires inside { at ≤ length bytes.now }
-    ensures { (bounds : Bounds) (order : Order) (room : ℕ) → Gives (λ v. (map (NumberValue BYTE) v.items, at + n)) bytes.now result (contents n (λ end before. value bounds order room end (NumberType BYTE)) at (drop at bytes.now)) }
+    ensures { (bounds : Bounds) (order : Order) (room : ℕ) →
+        Gives (λ v. (map (NumberValue BYTE) v.items, at + n)) bytes.now result
+        (contents n (λ end before. value bounds order room end (NumberType BYTE)) at
+        (drop at bytes.now)) }
 {
     let rest = &bytes[at..];
     if rest.len() < n {
@@ -71,7 +75,8 @@ pub fn read_bytes<A: Allocator>(
 /// Of numbers it is as many as the bytes hold. Of any other type it is a guess, and never more than the bytes allow: a
 /// variant has 4 bytes or more and a signature 2, and other elements are mostly long.
 pub fn first_room<A: Allocator>(item: &SigType<A>, there: usize) -> usize
-    ensures numbers { (k : NumberCode) → type_tree item.now ≡ NumberType k → result ≡ there / width k }
+    ensures numbers { (k : NumberCode) → type_tree item.now ≡ NumberType k →
+        result ≡ there / width k }
     ensures within { result ≤ there }
 {
     match item {

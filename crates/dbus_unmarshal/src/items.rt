@@ -24,8 +24,10 @@ pub fn read_padding(bytes: &[u8], at: usize, end: usize, alignment: u8) -> Resul
     requires aligned { 0 < alignment }
     requires at_most { at ≤ end }
     requires inside { at ≤ length bytes.now }
-    ensures gives { Gives (λ q. (tt, q)) bytes.now result (padding alignment end at (drop at bytes.now)) }
-    ensures moves { IfOk result (λ q. (q ≡ at + gap_to alignment at) × (q ≤ end) × (q ≤ length bytes.now)) }
+    ensures gives { Gives (λ q. (tt, q)) bytes.now result
+        (padding alignment end at (drop at bytes.now)) }
+    ensures moves { IfOk result (λ q. (q ≡ at + gap_to alignment at) × (q ≤ end) ×
+        (q ≤ length bytes.now)) }
     ensures no_memory { IfErr result (λ e. e ≢ Memory) }
 {
     let gap = usize::from(padding_length(alignment, at as u64));
@@ -49,7 +51,8 @@ pub fn read_padding(bytes: &[u8], at: usize, end: usize, alignment: u8) -> Resul
 pub fn read_byte(bytes: &[u8], at: usize, end: usize) -> Result<(u8, usize), Stop>
     requires at_most { at ≤ end }
     requires inside { at ≤ length bytes.now }
-    ensures gives { (order : Order) → Gives (λ x. x) bytes.now result (number order 1 end no_row at (drop at bytes.now)) }
+    ensures gives { (order : Order) →
+        Gives (λ x. x) bytes.now result (number order 1 end no_row at (drop at bytes.now)) }
     ensures moves { IfOk result (λ x. (x.1 ≡ at + 1) × (x.1 ≤ end) × (x.1 ≤ length bytes.now)) }
     ensures no_memory { IfErr result (λ e. e ≢ Memory) }
 {
@@ -73,7 +76,8 @@ pub(crate) fn read_u16(
 ) -> Result<(u16, usize), Stop>
     requires at_most { at ≤ end }
     requires inside { at ≤ length bytes.now }
-    ensures gives { Gives (λ x. x) bytes.now result (number order 2 end no_row at (drop at bytes.now)) }
+    ensures gives { Gives (λ x. x) bytes.now result
+        (number order 2 end no_row at (drop at bytes.now)) }
     ensures moves { IfOk result (λ x. (x.1 ≡ at + 2) × (x.1 ≤ end) × (x.1 ≤ length bytes.now)) }
     ensures no_memory { IfErr result (λ e. e ≢ Memory) }
 {
@@ -92,7 +96,8 @@ pub(crate) fn read_u16(
 pub fn read_u32(bytes: &[u8], at: usize, end: usize, order: Order) -> Result<(u32, usize), Stop>
     requires at_most { at ≤ end }
     requires inside { at ≤ length bytes.now }
-    ensures gives { Gives (λ x. x) bytes.now result (number order 4 end no_row at (drop at bytes.now)) }
+    ensures gives { Gives (λ x. x) bytes.now result
+        (number order 4 end no_row at (drop at bytes.now)) }
     ensures moves { IfOk result (λ x. (x.1 ≡ at + 4) × (x.1 ≤ end) × (x.1 ≤ length bytes.now)) }
     ensures no_memory { IfErr result (λ e. e ≢ Memory) }
 {
@@ -116,7 +121,8 @@ pub(crate) fn read_u64(
 ) -> Result<(u64, usize), Stop>
     requires at_most { at ≤ end }
     requires inside { at ≤ length bytes.now }
-    ensures gives { Gives (λ x. x) bytes.now result (number order 8 end no_row at (drop at bytes.now)) }
+    ensures gives { Gives (λ x. x) bytes.now result
+        (number order 8 end no_row at (drop at bytes.now)) }
     ensures moves { IfOk result (λ x. (x.1 ≡ at + 8) × (x.1 ≤ end) × (x.1 ≤ length bytes.now)) }
     ensures no_memory { IfErr result (λ e. e ≢ Memory) }
 {
@@ -158,8 +164,10 @@ pub fn read_length(
 ) -> Result<(usize, usize), Stop>
     requires at_most { at ≤ end }
     requires inside { at ≤ length bytes.now }
-    ensures gives { Gives (λ x. x) bytes.now result (number order 4 end (text_row end) at (drop at bytes.now)) }
-    ensures moves { IfOk result (λ x. (x.1 ≡ at + 4) × (x.1 + x.0 < end) × (x.1 ≤ length bytes.now) × (x.0 < 2 ^ 32)) }
+    ensures gives { Gives (λ x. x) bytes.now result
+        (number order 4 end (text_row end) at (drop at bytes.now)) }
+    ensures moves { IfOk result (λ x.
+        (x.1 ≡ at + 4) × (x.1 + x.0 < end) × (x.1 ≤ length bytes.now) × (x.0 < 2 ^ 32)) }
     ensures no_memory { IfErr result (λ e. e ≢ Memory) }
 {
     let (n, behind) = read_u32(bytes, at, end, order)?;
@@ -176,8 +184,10 @@ pub fn read_length(
 pub fn read_short_length(bytes: &[u8], at: usize, end: usize) -> Result<(usize, usize), Stop>
     requires at_most { at ≤ end }
     requires inside { at ≤ length bytes.now }
-    ensures gives { (order : Order) → Gives (λ x. x) bytes.now result (number order 1 end (text_row end) at (drop at bytes.now)) }
-    ensures moves { IfOk result (λ x. (x.1 ≡ at + 1) × (x.1 + x.0 < end) × (x.1 ≤ length bytes.now) × (x.0 < 256)) }
+    ensures gives { (order : Order) →
+        Gives (λ x. x) bytes.now result (number order 1 end (text_row end) at (drop at bytes.now)) }
+    ensures moves { IfOk result (λ x.
+        (x.1 ≡ at + 1) × (x.1 + x.0 < end) × (x.1 ≤ length bytes.now) × (x.0 < 256)) }
     ensures no_memory { IfErr result (λ e. e ≢ Memory) }
 {
     let (n, behind) = read_byte(bytes, at, end)?;

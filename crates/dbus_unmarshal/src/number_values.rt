@@ -22,7 +22,9 @@ pub fn get_byte<A: Allocator>(
 ) -> Result<(Value<A>, usize), Stop>
     requires at_most { at ≤ end }
     requires inside { at ≤ length bytes.now }
-    ensures gives { (order : Order) → Gives (λ x. (value_tree x.0, x.1)) bytes.now result (number_value None order end BYTE at (drop at bytes.now)) }
+    ensures gives { (order : Order) →
+        Gives (λ x. (value_tree x.0, x.1)) bytes.now result
+        (number_value None order end BYTE at (drop at bytes.now)) }
     ensures packed { IfOk result (λ x. IsTrue (keeps_bytes x.0)) }
     ensures no_memory { IfErr result (λ e. e ≢ Memory) }
 {
@@ -39,7 +41,8 @@ pub fn get_bool<A: Allocator>(
 ) -> Result<(Value<A>, usize), Stop>
     requires at_most { at ≤ end }
     requires inside { at ≤ length bytes.now }
-    ensures gives { Gives (λ x. (value_tree x.0, x.1)) bytes.now result (number_value None order end BOOLEAN at (drop at bytes.now)) }
+    ensures gives { Gives (λ x. (value_tree x.0, x.1)) bytes.now result
+        (number_value None order end BOOLEAN at (drop at bytes.now)) }
     ensures packed { IfOk result (λ x. IsTrue (keeps_bytes x.0)) }
     ensures no_memory { IfErr result (λ e. e ≢ Memory) }
 {
@@ -60,7 +63,8 @@ pub fn get_i16<A: Allocator>(
 ) -> Result<(Value<A>, usize), Stop>
     requires at_most { at ≤ end }
     requires inside { at ≤ length bytes.now }
-    ensures gives { Gives (λ x. (value_tree x.0, x.1)) bytes.now result (number_value None order end INT16 at (drop at bytes.now)) }
+    ensures gives { Gives (λ x. (value_tree x.0, x.1)) bytes.now result
+        (number_value None order end INT16 at (drop at bytes.now)) }
     ensures packed { IfOk result (λ x. IsTrue (keeps_bytes x.0)) }
     ensures no_memory { IfErr result (λ e. e ≢ Memory) }
 {
@@ -78,7 +82,8 @@ pub fn get_u16<A: Allocator>(
 ) -> Result<(Value<A>, usize), Stop>
     requires at_most { at ≤ end }
     requires inside { at ≤ length bytes.now }
-    ensures gives { Gives (λ x. (value_tree x.0, x.1)) bytes.now result (number_value None order end UINT16 at (drop at bytes.now)) }
+    ensures gives { Gives (λ x. (value_tree x.0, x.1)) bytes.now result
+        (number_value None order end UINT16 at (drop at bytes.now)) }
     ensures packed { IfOk result (λ x. IsTrue (keeps_bytes x.0)) }
     ensures no_memory { IfErr result (λ e. e ≢ Memory) }
 {
@@ -96,7 +101,8 @@ pub fn get_i32<A: Allocator>(
 ) -> Result<(Value<A>, usize), Stop>
     requires at_most { at ≤ end }
     requires inside { at ≤ length bytes.now }
-    ensures gives { Gives (λ x. (value_tree x.0, x.1)) bytes.now result (number_value None order end INT32 at (drop at bytes.now)) }
+    ensures gives { Gives (λ x. (value_tree x.0, x.1)) bytes.now result
+        (number_value None order end INT32 at (drop at bytes.now)) }
     ensures packed { IfOk result (λ x. IsTrue (keeps_bytes x.0)) }
     ensures no_memory { IfErr result (λ e. e ≢ Memory) }
 {
@@ -114,7 +120,8 @@ pub fn get_u32<A: Allocator>(
 ) -> Result<(Value<A>, usize), Stop>
     requires at_most { at ≤ end }
     requires inside { at ≤ length bytes.now }
-    ensures gives { Gives (λ x. (value_tree x.0, x.1)) bytes.now result (number_value None order end UINT32 at (drop at bytes.now)) }
+    ensures gives { Gives (λ x. (value_tree x.0, x.1)) bytes.now result
+        (number_value None order end UINT32 at (drop at bytes.now)) }
     ensures packed { IfOk result (λ x. IsTrue (keeps_bytes x.0)) }
     ensures no_memory { IfErr result (λ e. e ≢ Memory) }
 {
@@ -132,7 +139,8 @@ pub fn get_i64<A: Allocator>(
 ) -> Result<(Value<A>, usize), Stop>
     requires at_most { at ≤ end }
     requires inside { at ≤ length bytes.now }
-    ensures gives { Gives (λ x. (value_tree x.0, x.1)) bytes.now result (number_value None order end INT64 at (drop at bytes.now)) }
+    ensures gives { Gives (λ x. (value_tree x.0, x.1)) bytes.now result
+        (number_value None order end INT64 at (drop at bytes.now)) }
     ensures packed { IfOk result (λ x. IsTrue (keeps_bytes x.0)) }
     ensures no_memory { IfErr result (λ e. e ≢ Memory) }
 {
@@ -150,7 +158,8 @@ pub fn get_u64<A: Allocator>(
 ) -> Result<(Value<A>, usize), Stop>
     requires at_most { at ≤ end }
     requires inside { at ≤ length bytes.now }
-    ensures gives { Gives (λ x. (value_tree x.0, x.1)) bytes.now result (number_value None order end UINT64 at (drop at bytes.now)) }
+    ensures gives { Gives (λ x. (value_tree x.0, x.1)) bytes.now result
+        (number_value None order end UINT64 at (drop at bytes.now)) }
     ensures packed { IfOk result (λ x. IsTrue (keeps_bytes x.0)) }
     ensures no_memory { IfErr result (λ e. e ≢ Memory) }
 {
@@ -168,7 +177,8 @@ pub fn get_double<A: Allocator>(
 ) -> Result<(Value<A>, usize), Stop>
     requires at_most { at ≤ end }
     requires inside { at ≤ length bytes.now }
-    ensures gives { Gives (λ x. (value_tree x.0, x.1)) bytes.now result (number_value None order end DOUBLE at (drop at bytes.now)) }
+    ensures gives { Gives (λ x. (value_tree x.0, x.1)) bytes.now result
+        (number_value None order end DOUBLE at (drop at bytes.now)) }
     ensures packed { IfOk result (λ x. IsTrue (keeps_bytes x.0)) }
     ensures no_memory { IfErr result (λ e. e ≢ Memory) }
 {
@@ -187,7 +197,8 @@ pub fn get_fd<A: Allocator>(
 ) -> Result<(Value<A>, usize), Stop>
     requires at_most { at ≤ end }
     requires inside { at ≤ length bytes.now }
-    ensures gives { Gives (λ x. (value_tree x.0, x.1)) bytes.now result (number_value fds order end UNIX_FD at (drop at bytes.now)) }
+    ensures gives { Gives (λ x. (value_tree x.0, x.1)) bytes.now result
+        (number_value fds order end UNIX_FD at (drop at bytes.now)) }
     ensures packed { IfOk result (λ x. IsTrue (keeps_bytes x.0)) }
     ensures no_memory { IfErr result (λ e. e ≢ Memory) }
 {

@@ -41,7 +41,8 @@ pub fn get<A: Allocator + Copy>(
     requires inside { at ≤ length bytes.now }
     requires open { depth ≤ DEPTH_LIMIT }
     requires single { IsSingleType (type_tree wanted.now) }
-    ensures gets { Gets (bounds_of specification) order (DEPTH_LIMIT - depth) end (type_tree wanted.now) at bytes.now result }
+    ensures gets { Gets (bounds_of specification) order (DEPTH_LIMIT - depth) end
+        (type_tree wanted.now) at bytes.now result }
     ensures packed { IfOk result KeepsBytes }
 {
     get_within(
@@ -81,7 +82,8 @@ pub fn get_within<A: Allocator + Copy>(
     requires inside { at ≤ length bytes.now }
     requires open { depth ≤ limits.depth }
     requires single { IsSingleType (type_tree wanted.now) }
-    ensures gets { Gets (bounds_with limits fds) order (limits.depth - depth) end (type_tree wanted.now) at bytes.now result }
+    ensures gets { Gets (bounds_with limits fds) order (limits.depth - depth) end
+        (type_tree wanted.now) at bytes.now result }
     ensures packed { IfOk result KeepsBytes }
 {
     match read_value(
@@ -121,7 +123,8 @@ pub fn read_value<A: Allocator + Copy>(
     requires at_most { at ≤ end }
     requires inside { at ≤ length bytes.now }
     requires shaped { IsShaped true (type_tree wanted.now) }
-    ensures gives { Gives (λ x. (value_tree x.0, x.1)) bytes.now result (value bounds order room end (type_tree wanted.now) at (drop at bytes.now)) }
+    ensures gives { Gives (λ x. (value_tree x.0, x.1)) bytes.now result
+        (value bounds order room end (type_tree wanted.now) at (drop at bytes.now)) }
     ensures packed { IfOk result (λ x. IsTrue (keeps_bytes x.0)) }
 {
     match wanted {
@@ -160,7 +163,8 @@ fn read_variant<A: Allocator + Copy>(
 ) -> Result<(Value<A>, usize), Stop>
     requires at_most { at ≤ end }
     requires inside { at ≤ length bytes.now }
-    ensures gives { Gives (λ x. (value_tree x.0, x.1)) bytes.now result (variant_value bounds order room end at (drop at bytes.now)) }
+    ensures gives { Gives (λ x. (value_tree x.0, x.1)) bytes.now result
+        (variant_value bounds order room end at (drop at bytes.now)) }
     ensures packed { IfOk result (λ x. IsTrue (keeps_bytes x.0)) }
 {
     if room == 0 {
@@ -183,7 +187,8 @@ fn read_held<A: Allocator + Copy>(
 ) -> Result<(Value<A>, usize), Stop>
     requires at_most { at ≤ end }
     requires inside { at ≤ length bytes.now }
-    ensures gives { Gives (λ x. (value_tree x.0, x.1)) bytes.now result (held_value bounds order room end at (drop at bytes.now)) }
+    ensures gives { Gives (λ x. (value_tree x.0, x.1)) bytes.now result
+        (held_value bounds order room end at (drop at bytes.now)) }
     ensures packed { IfOk result (λ x. IsTrue (keeps_bytes x.0)) }
 {
     let (n, start) = read_short_length(bytes, at, end)?;
@@ -208,7 +213,8 @@ fn read_array<A: Allocator + Copy>(
     requires at_most { at ≤ end }
     requires inside { at ≤ length bytes.now }
     requires shaped { IsShaped true (type_tree item.now) }
-    ensures gives { Gives (λ x. (value_tree x.0, x.1)) bytes.now result (array_value bounds order room end (type_tree item.now) at (drop at bytes.now)) }
+    ensures gives { Gives (λ x. (value_tree x.0, x.1)) bytes.now result
+        (array_value bounds order room end (type_tree item.now) at (drop at bytes.now)) }
     ensures packed { IfOk result (λ x. IsTrue (keeps_bytes x.0)) }
 {
     let start = read_padding(bytes, at, end, 4)?;
@@ -233,7 +239,8 @@ fn read_open_array<A: Allocator + Copy>(
     requires at_most { at ≤ end }
     requires inside { at ≤ length bytes.now }
     requires shaped { IsShaped true (type_tree item.now) }
-    ensures gives { Gives (λ x. (value_tree x.0, x.1)) bytes.now result (open_array bounds order room end (type_tree item.now) at (drop at bytes.now)) }
+    ensures gives { Gives (λ x. (value_tree x.0, x.1)) bytes.now result
+        (open_array bounds order room end (type_tree item.now) at (drop at bytes.now)) }
     ensures packed { IfOk result (λ x. IsTrue (keeps_bytes x.0)) }
 {
     let (n, first) = read_frame(bytes, at, end, order, item, bounds)?;
@@ -260,7 +267,9 @@ fn read_items<A: Allocator + Copy>(
     requires fits { at + n < 2 ^ 64 }
     requires inside { at ≤ length bytes.now }
     requires shaped { IsShaped true (type_tree item.now) }
-    ensures gives { Gives (λ x. (map value_tree x.items, at + n)) bytes.now result (contents n (λ end before. value bounds order room end (type_tree item.now)) at (drop at bytes.now)) }
+    ensures gives { Gives (λ x. (map value_tree x.items, at + n)) bytes.now result
+        (contents n (λ end before. value bounds order room end (type_tree item.now)) at
+        (drop at bytes.now)) }
     ensures packed { IfOk result (λ x. IsTrue (keep_bytes x.items)) }
 {
     let end = at + n;
@@ -291,7 +300,8 @@ fn read_struct<A: Allocator + Copy>(
     requires at_most { at ≤ end }
     requires inside { at ≤ length bytes.now }
     requires shaped { AreShaped (type_trees_of types.now) }
-    ensures gives { Gives (λ x. (value_tree x.0, x.1)) bytes.now result (struct_value bounds order room end (type_trees_of types.now) at (drop at bytes.now)) }
+    ensures gives { Gives (λ x. (value_tree x.0, x.1)) bytes.now result
+        (struct_value bounds order room end (type_trees_of types.now) at (drop at bytes.now)) }
     ensures packed { IfOk result (λ x. IsTrue (keeps_bytes x.0)) }
 {
     let first = read_padding(bytes, at, end, 8)?;
@@ -317,7 +327,8 @@ fn read_fields<A: Allocator + Copy>(
     requires at_most { at ≤ end }
     requires inside { at ≤ length bytes.now }
     requires shaped { AreShaped (type_trees_of types.now) }
-    ensures gives { Gives (λ x. (value_trees_of x.0.items, x.1)) bytes.now result (fields (value bounds order room end) (type_trees_of types.now) at (drop at bytes.now)) }
+    ensures gives { Gives (λ x. (value_trees_of x.0.items, x.1)) bytes.now result
+        (fields (value bounds order room end) (type_trees_of types.now) at (drop at bytes.now)) }
     ensures packed { IfOk result (λ x. IsTrue (keep_bytes x.0.items)) }
 {
     let mut values = Vec::with_capacity(alloc, types.len())?;
@@ -348,7 +359,9 @@ fn read_entry<A: Allocator + Copy>(
     requires inside { at ≤ length bytes.now }
     requires key_shaped { IsShaped true (type_tree key.now) }
     requires value_shaped { IsShaped true (type_tree value.now) }
-    ensures gives { Gives (λ x. (value_tree x.0, x.1)) bytes.now result (entry_value bounds order room end (type_tree key.now) (type_tree value.now) at (drop at bytes.now)) }
+    ensures gives { Gives (λ x. (value_tree x.0, x.1)) bytes.now result
+        (entry_value bounds order room end (type_tree key.now) (type_tree value.now) at
+        (drop at bytes.now)) }
     ensures packed { IfOk result (λ x. IsTrue (keeps_bytes x.0)) }
 {
     let start = read_padding(bytes, at, end, 8)?;

@@ -25,7 +25,8 @@ pub fn get_str<A: Allocator>(
 ) -> Result<(Value<A>, usize), Stop>
     requires at_most { at ≤ end }
     requires inside { at ≤ length bytes.now }
-    ensures gives { Gives (λ x. (value_tree x.0, x.1)) bytes.now result (text_value order end STRING at (drop at bytes.now)) }
+    ensures gives { Gives (λ x. (value_tree x.0, x.1)) bytes.now result
+        (text_value order end STRING at (drop at bytes.now)) }
     ensures packed { IfOk result (λ x. IsTrue (keeps_bytes x.0)) }
 {
     let at = read_padding(bytes, at, end, 4)?;
@@ -45,7 +46,8 @@ pub fn get_path<A: Allocator>(
 ) -> Result<(Value<A>, usize), Stop>
     requires at_most { at ≤ end }
     requires inside { at ≤ length bytes.now }
-    ensures gives { Gives (λ x. (value_tree x.0, x.1)) bytes.now result (text_value order end OBJECT_PATH at (drop at bytes.now)) }
+    ensures gives { Gives (λ x. (value_tree x.0, x.1)) bytes.now result
+        (text_value order end OBJECT_PATH at (drop at bytes.now)) }
     ensures packed { IfOk result (λ x. IsTrue (keeps_bytes x.0)) }
 {
     let at = read_padding(bytes, at, end, 4)?;
@@ -64,7 +66,9 @@ pub fn get_sig<A: Allocator>(
 ) -> Result<(Value<A>, usize), Stop>
     requires at_most { at ≤ end }
     requires inside { at ≤ length bytes.now }
-    ensures gives { (order : Order) → Gives (λ x. (value_tree x.0, x.1)) bytes.now result (text_value order end SIGNATURE at (drop at bytes.now)) }
+    ensures gives { (order : Order) →
+        Gives (λ x. (value_tree x.0, x.1)) bytes.now result
+        (text_value order end SIGNATURE at (drop at bytes.now)) }
     ensures packed { IfOk result (λ x. IsTrue (keeps_bytes x.0)) }
 {
     let (n, start) = read_short_length(bytes, at, end)?;

@@ -61,8 +61,10 @@ fn alike(a: &[u8], b: &[u8]) -> usize
 /// Object Paths", "Valid Names" and "Valid Signatures".
 pub fn read_text(bytes: &[u8], at: usize, n: usize, kind: TextKind) -> Result<usize, Stop>
     requires inside { at ≤ length bytes.now }
-    ensures gives { Gives (λ q. (take n (drop at bytes.now), q)) bytes.now result (text (Of kind) n at (drop at bytes.now)) }
-    ensures moves { IfOk result (λ q. (q ≡ at + n) × (q ≤ length bytes.now) × IsKind kind (take n (drop at bytes.now))) }
+    ensures gives { Gives (λ q. (take n (drop at bytes.now), q)) bytes.now result
+        (text (Of kind) n at (drop at bytes.now)) }
+    ensures moves { IfOk result (λ q.
+        (q ≡ at + n) × (q ≤ length bytes.now) × IsKind kind (take n (drop at bytes.now))) }
     ensures no_memory { IfErr result (λ e. e ≢ Memory) }
 {
     let given = given_at(bytes, at, n);
@@ -81,7 +83,8 @@ pub fn read_text(bytes: &[u8], at: usize, n: usize, kind: TextKind) -> Result<us
 /// Specification, "Header Fields".
 pub fn read_exactly(bytes: &[u8], at: usize, n: usize, wanted: &[u8]) -> Result<usize, Stop>
     requires inside { at ≤ length bytes.now }
-    ensures gives { Gives (λ q. (wanted.now, q)) bytes.now result (text (Only wanted.now) n at (drop at bytes.now)) }
+    ensures gives { Gives (λ q. (wanted.now, q)) bytes.now result
+        (text (Only wanted.now) n at (drop at bytes.now)) }
     ensures moves { IfOk result (λ q. (q ≡ at + n) × (q ≤ length bytes.now)) }
     ensures no_memory { IfErr result (λ e. e ≢ Memory) }
 {
@@ -119,8 +122,11 @@ pub fn read_signature<A: Allocator + Copy>(
     n: usize,
 ) -> Result<(SigType<A>, usize), Stop>
     requires inside { at ≤ length bytes.now }
-    ensures gives { Gives (λ x. (type_tree x.0, x.1)) bytes.now result (signature (Of Single) n at (drop at bytes.now)) }
-    ensures moves { IfOk result (λ x. (x.1 ≡ at + n) × (x.1 ≤ length bytes.now) × (length (sig (type_tree x.0)) ≡ n) × IsSingleType (type_tree x.0)) }
+    ensures gives { Gives (λ x. (type_tree x.0, x.1)) bytes.now result
+        (signature (Of Single) n at (drop at bytes.now)) }
+    ensures moves { IfOk result (λ x.
+        (x.1 ≡ at + n) × (x.1 ≤ length bytes.now) × (length (sig (type_tree x.0)) ≡ n) ×
+        IsSingleType (type_tree x.0)) }
 {
     let behind = read_text(bytes, at, n, TextKind::Single)?;
     let held = spelled_type(alloc, &bytes[at..behind])?;

@@ -17,8 +17,11 @@ impl Values {
     pub(crate) fn part(&mut self) -> usize
         requires pos { self.old.inner.pos ≤ self.old.inner.stop }
         requires stop { self.old.inner.stop ≤ length self.old.text.items }
-        ensures value { result ≡ self.old.inner.pos + skipped 0 (slice self.old.text.items self.old.inner.pos self.old.inner.stop) }
-        ensures moved { self.new ≡ record self.old { inner = record self.old.inner { pos = result } } }
+        ensures value { result ≡
+            self.old.inner.pos +
+            skipped 0 (slice self.old.text.items self.old.inner.pos self.old.inner.stop) }
+        ensures moved { self.new ≡ record self.old
+            { inner = record self.old.inner { pos = result } } }
         ensures within { result ≤ self.old.inner.stop }
     {
         let stop = skip(&self.text.as_slice()[..self.inner.stop], self.inner.pos);
@@ -31,7 +34,8 @@ impl Values {
         requires valid { (answer : Answer) × Goes self.now answer }
         requires array { self.now.inner.array ≡ true }
         requires more { self.now.offset < self.now.inner.end }
-        ensures { (answer : Answer) → Goes self.now answer → denotes result (record self.now { doing = result }) answer }
+        ensures { (answer : Answer) → Goes self.now answer →
+            denotes result (record self.now { doing = result }) answer }
     {
         let width = plain_width(self.text.as_slice()[self.inner.pos]);
         if width == 0
@@ -76,7 +80,8 @@ impl Values {
         requires few { length self.old.frames.items < 128 }
         requires some { pos + 1 ≤ stop - 1 }
         requires there { stop ≤ length self.old.text.items }
-        ensures opens { (answer : Answer) → Enters self.old pos stop n room answer → Denotes self.new answer }
+        ensures opens { (answer : Answer) → Enters self.old pos stop n room answer →
+            Denotes self.new answer }
         ensures narrower { wide self.new.doing < stop - pos }
     {
         self.offset += n;
@@ -98,7 +103,8 @@ impl Values {
     pub(crate) fn open_struct(&mut self, pos: usize, stop: usize, n: usize) -> Result<(), Stop>
         requires valid { (answer : Answer) × Ready self.old pos stop n answer }
         requires code { slice_index self.old.text.items pos ≡ 40 }
-        ensures opens { (answer : Answer) → Ready self.old pos stop n answer → Opens result self.new answer }
+        ensures opens { (answer : Answer) → Ready self.old pos stop n answer →
+            Opens result self.new answer }
         ensures narrower { IfOk result (λ _. wide self.new.doing < stop - pos) }
     {
         let room = self.inner.room;
@@ -113,7 +119,8 @@ impl Values {
     pub(crate) fn open_entry(&mut self, pos: usize, stop: usize, n: usize)
         requires valid { (answer : Answer) × Ready self.old pos stop n answer }
         requires code { slice_index self.old.text.items pos ≡ 123 }
-        ensures opens { (answer : Answer) → Ready self.old pos stop n answer → Denotes self.new answer }
+        ensures opens { (answer : Answer) → Ready self.old pos stop n answer →
+            Denotes self.new answer }
         ensures narrower { wide self.new.doing < stop - pos }
     {
         self.inside(pos, stop, n, self.inner.room);

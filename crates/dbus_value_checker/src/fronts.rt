@@ -51,7 +51,8 @@ pub fn padding(bytes: &[u8], offset: usize, end: usize, alignment: u8) -> Result
     requires few { alignment ≤ 8 }
     requires at_most { offset ≤ end }
     ensures gives { Fronts (λ n. (tt, n)) offset bytes.now result (padding alignment end) }
-    ensures moves { IfOk result (λ n. (n ≡ gap_to alignment offset) × (offset + n ≤ end) × (n ≤ length bytes.now) × (n < 8)) }
+    ensures moves { IfOk result (λ n.
+        (n ≡ gap_to alignment offset) × (offset + n ≤ end) × (n ≤ length bytes.now) × (n < 8)) }
     ensures short { IfErr result (λ e. e ≡ Partial → length bytes.now < 8) }
 {
     let zeros = gap(alignment, offset);
@@ -154,7 +155,9 @@ pub fn number_front(
     fds: Option<u32>,
 ) -> Result<usize, Stop>
     requires at_most { offset ≤ end }
-    ensures gives { (k : NumberCode) → number_code k ≡ code → Fronts (λ n. (tt, n)) offset bytes.now result (onward (number order (width k) end (number_row fds k)) done) }
+    ensures gives { (k : NumberCode) → number_code k ≡ code →
+        Fronts (λ n. (tt, n)) offset bytes.now result
+        (onward (number order (width k) end (number_row fds k)) done) }
     ensures moves { IfOk result (λ n. (0 < n) × (n ≤ length bytes.now) × (offset + n ≤ end)) }
     ensures short { IfErr result (λ e. e ≡ Partial → length bytes.now < 8) }
 {
@@ -186,8 +189,10 @@ pub fn length_front(
     order: Order,
 ) -> Result<(usize, usize), Stop>
     requires at_most { offset ≤ end }
-    ensures gives { (k : TextCode) → text_code k ≡ code → Fronts (λ x. x) offset bytes.now result (number order (length_width k) end (text_row end)) }
-    ensures moves { IfOk result (λ x. (0 < x.1) × (x.1 ≤ length bytes.now) × (offset + x.1 + x.0 + 1 ≤ end)) }
+    ensures gives { (k : TextCode) → text_code k ≡ code →
+        Fronts (λ x. x) offset bytes.now result (number order (length_width k) end (text_row end)) }
+    ensures moves { IfOk result (λ x. (0 < x.1) × (x.1 ≤ length bytes.now) ×
+        (offset + x.1 + x.0 + 1 ≤ end)) }
     ensures short { IfErr result (λ e. e ≡ Partial → length bytes.now < 4) }
 {
     if code == b'g' {
@@ -231,8 +236,10 @@ pub fn array_front(
 ) -> Result<(usize, usize), Stop>
     requires at_most { offset ≤ end }
     requires near { end < 2 ^ 32 }
-    ensures gives { (t : TypeTree) → code_alignment code ≡ alignment_of t → Fronts (λ x. x) offset bytes.now result (array_frame bounds order end t) }
-    ensures moves { IfOk result (λ x. (4 ≤ x.1) × (x.1 ≤ length bytes.now) × (offset + x.1 + x.0 ≤ end)) }
+    ensures gives { (t : TypeTree) → code_alignment code ≡ alignment_of t →
+        Fronts (λ x. x) offset bytes.now result (array_frame bounds order end t) }
+    ensures moves { IfOk result (λ x. (4 ≤ x.1) × (x.1 ≤ length bytes.now) ×
+        (offset + x.1 + x.0 ≤ end)) }
     ensures short { IfErr result (λ e. e ≡ Partial → length bytes.now < 12) }
 {
     let n = match word(bytes, offset, end, order) {
@@ -303,8 +310,12 @@ pub fn nul_front(bytes: &[u8], offset: usize) -> Result<(), Stop>
 pub fn variant_front(bytes: &[u8], offset: usize, end: usize) -> Result<usize, Stop>
     requires at_most { offset ≤ end }
     requires near { end < 2 ^ 32 }
-    ensures gives { (order : Order) → Fronts (λ n. (take n (drop 1 bytes.now), n + 2)) offset bytes.now result (held_text order end) }
-    ensures moves { IfOk result (λ n. (n + 2 ≤ length bytes.now) × (offset + n + 2 ≤ end) × IsKind Single (take n (drop 1 bytes.now))) }
+    ensures gives { (order : Order) →
+        Fronts (λ n. (take n (drop 1 bytes.now), n + 2)) offset bytes.now result
+        (held_text order end) }
+    ensures moves { IfOk result (λ n.
+        (n + 2 ≤ length bytes.now) × (offset + n + 2 ≤ end) ×
+        IsKind Single (take n (drop 1 bytes.now))) }
     ensures short { IfErr result (λ e. e ≡ Partial → length bytes.now < 257) }
 {
     let n = match byte(bytes, offset, end) {

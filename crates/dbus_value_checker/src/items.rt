@@ -26,7 +26,8 @@ impl Values {
         requires valid { (answer : Answer) × Ready self.old pos stop n answer }
         requires code { slice_index self.old.text.items pos ≡ code }
         requires alone { IsNumberCode code }
-        ensures moves { (answer : Answer) → Ready self.old pos stop n answer → Moves self.old bytes.now result self.new answer }
+        ensures moves { (answer : Answer) → Ready self.old pos stop n answer →
+            Moves self.old bytes.now result self.new answer }
         ensures some { IfOk result (λ n. 0 < n) }
         ensures short { IfErr result (λ e. e ≡ Partial → length bytes.now < 8) }
     {
@@ -51,7 +52,8 @@ impl Values {
     ) -> Result<usize, Stop>
         requires valid { (answer : Answer) × Ready self.old pos stop n answer }
         requires code { slice_index self.old.text.items pos ≡ 97 }
-        ensures moves { (answer : Answer) → Ready self.old pos stop n answer → Moves self.old bytes.now result self.new answer }
+        ensures moves { (answer : Answer) → Ready self.old pos stop n answer →
+            Moves self.old bytes.now result self.new answer }
         ensures some { IfOk result (λ n. 0 < n) }
         ensures short { IfErr result (λ e. e ≡ Partial → length bytes.now < 12) }
     {
@@ -83,7 +85,8 @@ impl Values {
     /// Numbers of an array, of so many bytes each: as many whole ones as are there.
     pub(crate) fn numbers(&mut self, width: usize, bytes: &[u8]) -> Result<usize, Stop>
         requires valid { (answer : Answer) × Numbers self.old width answer }
-        ensures moves { (answer : Answer) → Numbers self.old width answer → Moves self.old bytes.now result self.new answer }
+        ensures moves { (answer : Answer) → Numbers self.old width answer →
+            Moves self.old bytes.now result self.new answer }
         ensures some { IfOk result (λ n. 0 < n) }
         ensures short { IfErr result (λ e. e ≡ Partial → length bytes.now < 8) }
     {
@@ -101,7 +104,8 @@ impl Values {
     pub(crate) fn variant(&mut self, pos: usize, stop: usize, bytes: &[u8]) -> Result<usize, Stop>
         requires valid { (answer : Answer) × Wants self.old pos stop answer }
         requires code { slice_index self.old.text.items pos ≡ 118 }
-        ensures moves { (answer : Answer) → Wants self.old pos stop answer → Moves self.old bytes.now result self.new answer }
+        ensures moves { (answer : Answer) → Wants self.old pos stop answer →
+            Moves self.old bytes.now result self.new answer }
         ensures some { IfOk result (λ n. 0 < n) }
         ensures short { IfErr result (λ e. e ≡ Partial → length bytes.now < 257) }
     {
@@ -150,7 +154,8 @@ impl Values {
         requires valid { (answer : Answer) × Ready self.old pos stop n answer }
         requires code { slice_index self.old.text.items pos ≡ code }
         requires other { code ≢ 118 }
-        ensures moves { (answer : Answer) → Ready self.old pos stop n answer → Moves self.old bytes.now result self.new answer }
+        ensures moves { (answer : Answer) → Ready self.old pos stop n answer →
+            Moves self.old bytes.now result self.new answer }
         ensures further { IfOk result (λ n. (0 < n) ⊎ (wide self.new.doing < stop - pos)) }
         ensures short { IfErr result (λ e. e ≡ Partial → length bytes.now < 12) }
     {
@@ -176,7 +181,8 @@ impl Values {
     /// The value that is wanted: its front, where all of it is there.
     pub(crate) fn value(&mut self, pos: usize, stop: usize, bytes: &[u8]) -> Result<usize, Stop>
         requires valid { (answer : Answer) × Wants self.old pos stop answer }
-        ensures moves { (answer : Answer) → Wants self.old pos stop answer → Moves self.old bytes.now result self.new answer }
+        ensures moves { (answer : Answer) → Wants self.old pos stop answer →
+            Moves self.old bytes.now result self.new answer }
         ensures further { IfOk result (λ n. (0 < n) ⊎ (wide self.new.doing < stop - pos)) }
         ensures short { IfErr result (λ e. e ≡ Partial → length bytes.now < 257) }
     {

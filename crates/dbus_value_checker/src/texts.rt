@@ -42,7 +42,8 @@ impl Values {
     /// So many bytes of a text are still wanted. Where none are, the text is judged whole.
     fn text_on(&mut self, code: u8, left: usize) -> Result<(), Stop>
         requires valid { (answer : Answer) × Texts self.old code left answer }
-        ensures opens { (answer : Answer) → Texts self.old code left answer → Opens result self.new answer }
+        ensures opens { (answer : Answer) → Texts self.old code left answer →
+            Opens result self.new answer }
         ensures decided { IfErr result (λ e. e ≢ Partial) }
     {
         if left > 0 {
@@ -68,7 +69,8 @@ impl Values {
         requires valid { (answer : Answer) × Ready self.old pos stop n answer }
         requires code { slice_index self.old.text.items pos ≡ code }
         requires text { (code ≡ 103) ⊎ ((code ≡ 111) ⊎ (code ≡ 115)) }
-        ensures moves { (answer : Answer) → Ready self.old pos stop n answer → Moves self.old bytes.now result self.new answer }
+        ensures moves { (answer : Answer) → Ready self.old pos stop n answer →
+            Moves self.old bytes.now result self.new answer }
         ensures some { IfOk result (λ n. 0 < n) }
         ensures short { IfErr result (λ e. e ≡ Partial → length bytes.now < 4) }
     {
@@ -108,7 +110,8 @@ impl Values {
     pub(crate) fn text(&mut self, code: u8, left: usize, bytes: &[u8]) -> Result<usize, Stop>
         requires valid { (answer : Answer) × Texts self.old code left answer }
         requires more { 0 < left }
-        ensures moves { (answer : Answer) → Texts self.old code left answer → Moves self.old bytes.now result self.new answer }
+        ensures moves { (answer : Answer) → Texts self.old code left answer →
+            Moves self.old bytes.now result self.new answer }
         ensures some { IfOk result (λ n. 0 < n) }
         ensures short { IfErr result (λ e. e ≡ Partial → length bytes.now < 1) }
     {
@@ -130,7 +133,8 @@ impl Values {
     /// The zero after a text.
     pub(crate) fn nul(&mut self, bytes: &[u8]) -> Result<usize, Stop>
         requires valid { (answer : Answer) × Nuls self.old answer }
-        ensures moves { (answer : Answer) → Nuls self.old answer → Moves self.old bytes.now result self.new answer }
+        ensures moves { (answer : Answer) → Nuls self.old answer →
+            Moves self.old bytes.now result self.new answer }
         ensures some { IfOk result (λ n. 0 < n) }
         ensures short { IfErr result (λ e. e ≡ Partial → length bytes.now < 1) }
     {

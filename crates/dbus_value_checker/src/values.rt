@@ -104,7 +104,8 @@ impl Values {
         requires few { room ≤ 64 }
         requires short { length types.now ≤ 255 }
         requires types { (ts : TypeTrees) × ((types.now ≡ sigs ts) × AreShaped ts) }
-        ensures { (ts : TypeTrees) (last : On) → types.now ≡ sigs ts → AreShaped ts → Denotes self.new (values_on bounds order room end ts last offset) }
+        ensures { (ts : TypeTrees) (last : On) → types.now ≡ sigs ts → AreShaped ts →
+            Denotes self.new (values_on bounds order room end ts last offset) }
     {
         self.bounds = bounds;
         self.order = order;
@@ -133,7 +134,8 @@ impl Values {
     fn step(&mut self, bytes: &[u8]) -> Result<usize, Stop>
         requires valid { (answer : Answer) × Denotes self.old answer }
         requires live { IsLive self.old.doing }
-        ensures moves { (answer : Answer) → Denotes self.old answer → Moves self.old bytes.now result self.new answer }
+        ensures moves { (answer : Answer) → Denotes self.old answer →
+            Moves self.old bytes.now result self.new answer }
         ensures further { IfOk result (λ n. (0 < n) ⊎ (wide self.new.doing < wide self.old.doing)) }
         ensures short { IfErr result (λ e. e ≡ Partial → length bytes.now < 257) }
     {
@@ -167,7 +169,8 @@ impl Values {
     /// to begin again. D-Bus Specification, "Marshaling (Wire Format)".
     pub fn run(&mut self, bytes: &[u8]) -> Result<usize, Fault>
         requires valid { (answer : Answer) × Denotes self.old answer }
-        ensures runs { (answer : Answer) → Denotes self.old answer → Runs bytes.now result self.new answer }
+        ensures runs { (answer : Answer) → Denotes self.old answer →
+            Runs bytes.now result self.new answer }
         ensures short { IfOk result (λ n. IsLive self.new.doing → length bytes.now < n + 257) }
     {
         let mut n = 0;

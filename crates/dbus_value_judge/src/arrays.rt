@@ -25,8 +25,11 @@ pub(crate) fn frame(
     requires some { 0 < boundary }
     requires at_most { at ≤ end }
     requires inside { end ≤ length bytes.now }
-    ensures gives { IfSome result (λ x. (t : TypeTree) → boundary ≡ alignment_of t → array_frame bounds order end t at (drop at bytes.now) ≡ Done x.0 x.1 (drop x.1 bytes.now)) }
-    ensures none { result ≡ None → (t : TypeTree) → boundary ≡ alignment_of t → IsNotRead (array_frame bounds order end t at (drop at bytes.now)) }
+    ensures gives { IfSome result (λ x. (t : TypeTree) →
+        boundary ≡ alignment_of t →
+        array_frame bounds order end t at (drop at bytes.now) ≡ Done x.0 x.1 (drop x.1 bytes.now)) }
+    ensures none { result ≡ None → (t : TypeTree) → boundary ≡ alignment_of t →
+        IsNotRead (array_frame bounds order end t at (drop at bytes.now)) }
     ensures fits { IfSome result (λ x. (at ≤ x.1) × (x.1 + x.0 ≤ end)) }
     ensures begins { IfSome result (λ x. x.1 ≡ at + 4 + gap_to boundary (at + 4)) }
 {

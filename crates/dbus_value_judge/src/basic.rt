@@ -24,8 +24,11 @@ pub(crate) fn basic_value(
 ) -> Option<usize>
     requires at_most { at ≤ end }
     requires inside { end ≤ length bytes.now }
-    ensures gives { IfSome result (λ q. (room : ℕ) (t : TypeTree) → first_code t ≡ code → EndsAt bytes.now q (value bounds order room end t at (drop at bytes.now))) }
-    ensures none { result ≡ None → (room : ℕ) (t : TypeTree) → first_code t ≡ code → IsBasic t → IsNotRead (value bounds order room end t at (drop at bytes.now)) }
+    ensures gives { IfSome result (λ q. (room : ℕ) (t : TypeTree) →
+        first_code t ≡ code →
+        EndsAt bytes.now q (value bounds order room end t at (drop at bytes.now))) }
+    ensures none { result ≡ None → (room : ℕ) (t : TypeTree) → first_code t ≡ code → IsBasic t →
+        IsNotRead (value bounds order room end t at (drop at bytes.now)) }
     ensures moves { IfSome result (λ q. (at ≤ q) × (q ≤ end)) }
 {
     let width = free_width(code);

@@ -22,7 +22,8 @@ pub fn padding(bytes: &[u8], at: usize, end: usize, boundary: u8) -> Option<usiz
     requires some { 0 < boundary }
     requires at_most { at ≤ end }
     requires inside { end ≤ length bytes.now }
-    ensures gives { IfSome result (λ q. padding boundary end at (drop at bytes.now) ≡ Done tt q (drop q bytes.now)) }
+    ensures gives { IfSome result (λ q.
+        padding boundary end at (drop at bytes.now) ≡ Done tt q (drop q bytes.now)) }
     ensures none { result ≡ None → IsNotRead (padding boundary end at (drop at bytes.now)) }
     ensures moves { IfSome result (λ q. (q ≡ at + gap_to boundary at) × (q ≤ end)) }
 {
@@ -43,7 +44,9 @@ pub fn padding(bytes: &[u8], at: usize, end: usize, boundary: u8) -> Option<usiz
 pub fn word(bytes: &[u8], at: usize, end: usize, order: Order) -> Option<u32>
     requires at_most { at ≤ end }
     requires inside { end ≤ length bytes.now }
-    ensures gives { IfSome result (λ n. number order 4 end no_row at (drop at bytes.now) ≡ Done n (at + 4) (drop (at + 4) bytes.now)) }
+    ensures gives { IfSome result (λ n.
+        number order 4 end no_row at (drop at bytes.now) ≡
+        Done n (at + 4) (drop (at + 4) bytes.now)) }
     ensures none { result ≡ None → IsNotRead (number order 4 end no_row at (drop at bytes.now)) }
     ensures fits { IfSome result (λ n. at + 4 ≤ end) }
 {
@@ -58,8 +61,11 @@ pub fn word(bytes: &[u8], at: usize, end: usize, order: Order) -> Option<u32>
 pub(crate) fn byte(bytes: &[u8], at: usize, end: usize) -> Option<u8>
     requires at_most { at ≤ end }
     requires inside { end ≤ length bytes.now }
-    ensures gives { IfSome result (λ n. (order : Order) → number order 1 end no_row at (drop at bytes.now) ≡ Done n (at + 1) (drop (at + 1) bytes.now)) }
-    ensures none { result ≡ None → (order : Order) → IsNotRead (number order 1 end no_row at (drop at bytes.now)) }
+    ensures gives { IfSome result (λ n. (order : Order) →
+        number order 1 end no_row at (drop at bytes.now) ≡
+        Done n (at + 1) (drop (at + 1) bytes.now)) }
+    ensures none { result ≡ None → (order : Order) →
+        IsNotRead (number order 1 end no_row at (drop at bytes.now)) }
     ensures fits { IfSome result (λ n. at + 1 ≤ end) }
 {
     if end == at {

@@ -27,8 +27,11 @@ pub fn judge_values(
 ) -> Option<usize>
     requires at_most { at ≤ end }
     requires inside { end ≤ length bytes.now }
-    ensures spelled { IfSome result (λ after. (ts : TypeTrees) → sigs ts ≡ types.now → AreShaped ts → AreSpelledTo bounds order room end ts at bytes.now after) }
-    ensures none { result ≡ None → (ts : TypeTrees) → sigs ts ≡ types.now → AreShaped ts → AreNotSpelled bounds order room end ts at bytes.now }
+    ensures spelled { IfSome result (λ after. (ts : TypeTrees) →
+        sigs ts ≡ types.now → AreShaped ts →
+        AreSpelledTo bounds order room end ts at bytes.now after) }
+    ensures none { result ≡ None → (ts : TypeTrees) → sigs ts ≡ types.now → AreShaped ts →
+        AreNotSpelled bounds order room end ts at bytes.now }
     ensures moves { IfSome result (λ after. (at ≤ after) × (after ≤ end)) }
 {
     all_values(bytes, at, end, order, types, room, bounds)
@@ -48,8 +51,11 @@ pub fn judge_value(
 ) -> Option<usize>
     requires at_most { at ≤ end }
     requires inside { end ≤ length bytes.now }
-    ensures spelled { IfSome result (λ after. (t : TypeTree) → sig t ≡ types.now → IsShaped true t → IsSpelledTo bounds order room end t at bytes.now after) }
-    ensures none { result ≡ None → (t : TypeTree) → sig t ≡ types.now → IsShaped true t → IsNotSpelled bounds order room end t at bytes.now }
+    ensures spelled { IfSome result (λ after. (t : TypeTree) →
+        sig t ≡ types.now → IsShaped true t →
+        IsSpelledTo bounds order room end t at bytes.now after) }
+    ensures none { result ≡ None → (t : TypeTree) → sig t ≡ types.now → IsShaped true t →
+        IsNotSpelled bounds order room end t at bytes.now }
     ensures moves { IfSome result (λ after. (at ≤ after) × (after ≤ end)) }
 {
     one_value(bytes, at, end, order, types, room, bounds)

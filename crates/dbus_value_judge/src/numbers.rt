@@ -16,8 +16,11 @@ pub(crate) fn free_number(bytes: &[u8], at: usize, end: usize, size: u8) -> Opti
     requires some { 0 < size }
     requires at_most { at ≤ end }
     requires inside { end ≤ length bytes.now }
-    ensures gives { IfSome result (λ q. (fds : Option ℕ) (order : Order) (k : NumberCode) → width k ≡ size → IsFree fds k → EndsAt bytes.now q (number_value fds order end k at (drop at bytes.now))) }
-    ensures none { result ≡ None → (fds : Option ℕ) (order : Order) (k : NumberCode) → width k ≡ size → IsNotRead (number_value fds order end k at (drop at bytes.now)) }
+    ensures gives { IfSome result (λ q. (fds : Option ℕ) (order : Order) (k : NumberCode) →
+        width k ≡ size → IsFree fds k →
+        EndsAt bytes.now q (number_value fds order end k at (drop at bytes.now))) }
+    ensures none { result ≡ None → (fds : Option ℕ) (order : Order) (k : NumberCode) →
+        width k ≡ size → IsNotRead (number_value fds order end k at (drop at bytes.now)) }
     ensures moves { IfSome result (λ q. (at ≤ q) × (q ≤ end)) }
 {
     let start = padding(bytes, at, end, size)?;
@@ -32,8 +35,10 @@ pub(crate) fn free_number(bytes: &[u8], at: usize, end: usize, size: u8) -> Opti
 pub(crate) fn boolean(bytes: &[u8], at: usize, end: usize, order: Order) -> Option<usize>
     requires at_most { at ≤ end }
     requires inside { end ≤ length bytes.now }
-    ensures gives { IfSome result (λ q. (fds : Option ℕ) → EndsAt bytes.now q (number_value fds order end BOOLEAN at (drop at bytes.now))) }
-    ensures none { result ≡ None → (fds : Option ℕ) → IsNotRead (number_value fds order end BOOLEAN at (drop at bytes.now)) }
+    ensures gives { IfSome result (λ q. (fds : Option ℕ) →
+        EndsAt bytes.now q (number_value fds order end BOOLEAN at (drop at bytes.now))) }
+    ensures none { result ≡ None → (fds : Option ℕ) →
+        IsNotRead (number_value fds order end BOOLEAN at (drop at bytes.now)) }
     ensures moves { IfSome result (λ q. (at ≤ q) × (q ≤ end)) }
 {
     let start = padding(bytes, at, end, 4)?;
@@ -54,8 +59,10 @@ pub(crate) fn descriptor(
 ) -> Option<usize>
     requires at_most { at ≤ end }
     requires inside { end ≤ length bytes.now }
-    ensures gives { IfSome result (λ q. EndsAt bytes.now q (number_value fds order end UNIX_FD at (drop at bytes.now))) }
-    ensures none { result ≡ None → IsNotRead (number_value fds order end UNIX_FD at (drop at bytes.now)) }
+    ensures gives { IfSome result (λ q.
+        EndsAt bytes.now q (number_value fds order end UNIX_FD at (drop at bytes.now))) }
+    ensures none { result ≡ None →
+        IsNotRead (number_value fds order end UNIX_FD at (drop at bytes.now)) }
     ensures moves { IfSome result (λ q. (at ≤ q) × (q ≤ end)) }
 {
     let start = padding(bytes, at, end, 4)?;

@@ -25,8 +25,11 @@ pub(crate) fn long_text(
 ) -> Option<usize>
     requires at_most { at ≤ end }
     requires inside { end ≤ length bytes.now }
-    ensures gives { IfSome result (λ q. (k : TextCode) → kind_of k ≡ Of kind → length_width k ≡ 4 → EndsAt bytes.now q (text_value order end k at (drop at bytes.now))) }
-    ensures none { result ≡ None → (k : TextCode) → kind_of k ≡ Of kind → length_width k ≡ 4 → IsNotRead (text_value order end k at (drop at bytes.now)) }
+    ensures gives { IfSome result (λ q. (k : TextCode) →
+        kind_of k ≡ Of kind → length_width k ≡ 4 →
+        EndsAt bytes.now q (text_value order end k at (drop at bytes.now))) }
+    ensures none { result ≡ None → (k : TextCode) → kind_of k ≡ Of kind → length_width k ≡ 4 →
+        IsNotRead (text_value order end k at (drop at bytes.now)) }
     ensures moves { IfSome result (λ q. (at ≤ q) × (q ≤ end)) }
 {
     let start = padding(bytes, at, end, 4)?;
@@ -45,9 +48,14 @@ pub(crate) fn long_text(
 pub fn short_text(bytes: &[u8], at: usize, end: usize, kind: TextKind) -> Option<usize>
     requires at_most { at ≤ end }
     requires inside { end ≤ length bytes.now }
-    ensures measures { IfSome result (λ n. (order : Order) → number order 1 end (text_row end) at (drop at bytes.now) ≡ Done n (at + 1) (drop (at + 1) bytes.now)) }
+    ensures measures { IfSome result (λ n. (order : Order) →
+        number order 1 end (text_row end) at (drop at bytes.now) ≡
+        Done n (at + 1) (drop (at + 1) bytes.now)) }
     ensures text { IfSome result (λ n. EndedText kind n (at + 1) bytes.now) }
-    ensures none { result ≡ None → (order : Order) (n : ℕ) → number order 1 end (text_row end) at (drop at bytes.now) ≡ Done n (at + 1) (drop (at + 1) bytes.now) → EndedText kind n (at + 1) bytes.now → ⊥ }
+    ensures none { result ≡ None → (order : Order) (n : ℕ) →
+        number order 1 end (text_row end) at (drop at bytes.now) ≡
+        Done n (at + 1) (drop (at + 1) bytes.now) →
+        EndedText kind n (at + 1) bytes.now → ⊥ }
     ensures fits { IfSome result (λ n. (at + 1 + n + 1 ≤ end) × (n < 256)) }
 {
     let n = usize::from(byte(bytes, at, end)?);
@@ -65,8 +73,10 @@ pub fn short_text(bytes: &[u8], at: usize, end: usize, kind: TextKind) -> Option
 pub(crate) fn signature(bytes: &[u8], at: usize, end: usize) -> Option<usize>
     requires at_most { at ≤ end }
     requires inside { end ≤ length bytes.now }
-    ensures gives { IfSome result (λ q. (order : Order) → EndsAt bytes.now q (text_value order end SIGNATURE at (drop at bytes.now))) }
-    ensures none { result ≡ None → (order : Order) → IsNotRead (text_value order end SIGNATURE at (drop at bytes.now)) }
+    ensures gives { IfSome result (λ q. (order : Order) →
+        EndsAt bytes.now q (text_value order end SIGNATURE at (drop at bytes.now))) }
+    ensures none { result ≡ None → (order : Order) →
+        IsNotRead (text_value order end SIGNATURE at (drop at bytes.now)) }
     ensures moves { IfSome result (λ q. (at ≤ q) × (q ≤ end)) }
 {
     let n = short_text(bytes, at, end, TextKind::Signature)?;

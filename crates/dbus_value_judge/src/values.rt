@@ -33,8 +33,11 @@ pub(crate) fn one_value(
 ) -> Option<usize>
     requires at_most { at ≤ end }
     requires inside { end ≤ length bytes.now }
-    ensures gives { IfSome result (λ q. (t : TypeTree) → sig t ≡ types.now → IsShaped true t → EndsAt bytes.now q (value bounds order room end t at (drop at bytes.now))) }
-    ensures none { result ≡ None → (t : TypeTree) → sig t ≡ types.now → IsShaped true t → IsNotRead (value bounds order room end t at (drop at bytes.now)) }
+    ensures gives { IfSome result (λ q. (t : TypeTree) →
+        sig t ≡ types.now → IsShaped true t →
+        EndsAt bytes.now q (value bounds order room end t at (drop at bytes.now))) }
+    ensures none { result ≡ None → (t : TypeTree) → sig t ≡ types.now → IsShaped true t →
+        IsNotRead (value bounds order room end t at (drop at bytes.now)) }
     ensures moves { IfSome result (λ q. (at ≤ q) × (q ≤ end)) }
 {
     if types.is_empty() {
@@ -71,8 +74,11 @@ pub(crate) fn all_values(
 ) -> Option<usize>
     requires at_most { at ≤ end }
     requires inside { end ≤ length bytes.now }
-    ensures gives { IfSome result (λ q. (ts : TypeTrees) → sigs ts ≡ types.now → AreShaped ts → EndsAt bytes.now q (fields (value bounds order room end) ts at (drop at bytes.now))) }
-    ensures none { result ≡ None → (ts : TypeTrees) → sigs ts ≡ types.now → AreShaped ts → IsNotRead (fields (value bounds order room end) ts at (drop at bytes.now)) }
+    ensures gives { IfSome result (λ q. (ts : TypeTrees) →
+        sigs ts ≡ types.now → AreShaped ts →
+        EndsAt bytes.now q (fields (value bounds order room end) ts at (drop at bytes.now))) }
+    ensures none { result ≡ None → (ts : TypeTrees) → sigs ts ≡ types.now → AreShaped ts →
+        IsNotRead (fields (value bounds order room end) ts at (drop at bytes.now)) }
     ensures moves { IfSome result (λ q. (at ≤ q) × (q ≤ end)) }
 {
     let mut place = at;
@@ -98,8 +104,10 @@ fn variant(
 ) -> Option<usize>
     requires at_most { at ≤ end }
     requires inside { end ≤ length bytes.now }
-    ensures gives { IfSome result (λ q. EndsAt bytes.now q (variant_value bounds order room end at (drop at bytes.now))) }
-    ensures none { result ≡ None → IsNotRead (variant_value bounds order room end at (drop at bytes.now)) }
+    ensures gives { IfSome result (λ q.
+        EndsAt bytes.now q (variant_value bounds order room end at (drop at bytes.now))) }
+    ensures none { result ≡ None →
+        IsNotRead (variant_value bounds order room end at (drop at bytes.now)) }
     ensures moves { IfSome result (λ q. (at ≤ q) × (q ≤ end)) }
 {
     if room == 0 {
@@ -124,8 +132,11 @@ fn array(
 ) -> Option<usize>
     requires at_most { at ≤ end }
     requires inside { end ≤ length bytes.now }
-    ensures gives { IfSome result (λ q. (t : TypeTree) → sig t ≡ types.now → IsShaped true t → EndsAt bytes.now q (array_value bounds order room end t at (drop at bytes.now))) }
-    ensures none { result ≡ None → (t : TypeTree) → sig t ≡ types.now → IsShaped true t → IsNotRead (array_value bounds order room end t at (drop at bytes.now)) }
+    ensures gives { IfSome result (λ q. (t : TypeTree) →
+        sig t ≡ types.now → IsShaped true t →
+        EndsAt bytes.now q (array_value bounds order room end t at (drop at bytes.now))) }
+    ensures none { result ≡ None → (t : TypeTree) → sig t ≡ types.now → IsShaped true t →
+        IsNotRead (array_value bounds order room end t at (drop at bytes.now)) }
     ensures moves { IfSome result (λ q. (at ≤ q) × (q ≤ end)) }
 {
     if room == 0 || types.is_empty() {
@@ -157,8 +168,13 @@ fn elements(
     bounds: Bounds,
 ) -> Option<usize>
     requires { at + n ≤ length bytes.now }
-    ensures gives { IfSome result (λ q. (t : TypeTree) → sig t ≡ types.now → IsShaped true t → EndsAt bytes.now q (contents n (λ end before. value bounds order room end t) at (drop at bytes.now))) }
-    ensures none { result ≡ None → (t : TypeTree) → sig t ≡ types.now → IsShaped true t → IsNotRead (contents n (λ end before. value bounds order room end t) at (drop at bytes.now)) }
+    ensures gives { IfSome result (λ q. (t : TypeTree) →
+        sig t ≡ types.now → IsShaped true t →
+        EndsAt bytes.now q
+        (contents n (λ end before. value bounds order room end t) at (drop at bytes.now))) }
+    ensures none { result ≡ None → (t : TypeTree) → sig t ≡ types.now → IsShaped true t →
+        IsNotRead
+        (contents n (λ end before. value bounds order room end t) at (drop at bytes.now)) }
     ensures ends { IfSome result (λ q. q ≡ at + n) }
 {
     let end = at + n;
@@ -186,8 +202,11 @@ fn structure(
 ) -> Option<usize>
     requires at_most { at ≤ end }
     requires inside { end ≤ length bytes.now }
-    ensures gives { IfSome result (λ q. (ts : TypeTrees) → sigs ts ≡ types.now → AreShaped ts → EndsAt bytes.now q (struct_value bounds order room end ts at (drop at bytes.now))) }
-    ensures none { result ≡ None → (ts : TypeTrees) → sigs ts ≡ types.now → AreShaped ts → IsNotRead (struct_value bounds order room end ts at (drop at bytes.now)) }
+    ensures gives { IfSome result (λ q. (ts : TypeTrees) →
+        sigs ts ≡ types.now → AreShaped ts →
+        EndsAt bytes.now q (struct_value bounds order room end ts at (drop at bytes.now))) }
+    ensures none { result ≡ None → (ts : TypeTrees) → sigs ts ≡ types.now → AreShaped ts →
+        IsNotRead (struct_value bounds order room end ts at (drop at bytes.now)) }
     ensures moves { IfSome result (λ q. (at ≤ q) × (q ≤ end)) }
 {
     if room == 0 {
@@ -210,8 +229,14 @@ fn entry(
 ) -> Option<usize>
     requires at_most { at ≤ end }
     requires inside { end ≤ length bytes.now }
-    ensures gives { IfSome result (λ q. (k v : TypeTree) → sigs (MoreTypes k (MoreTypes v NoTypes)) ≡ types.now → AreShaped (MoreTypes k (MoreTypes v NoTypes)) → EndsAt bytes.now q (entry_value bounds order room end k v at (drop at bytes.now))) }
-    ensures none { result ≡ None → (k v : TypeTree) → sigs (MoreTypes k (MoreTypes v NoTypes)) ≡ types.now → AreShaped (MoreTypes k (MoreTypes v NoTypes)) → IsNotRead (entry_value bounds order room end k v at (drop at bytes.now)) }
+    ensures gives { IfSome result (λ q. (k v : TypeTree) →
+        sigs (MoreTypes k (MoreTypes v NoTypes)) ≡ types.now →
+        AreShaped (MoreTypes k (MoreTypes v NoTypes)) →
+        EndsAt bytes.now q (entry_value bounds order room end k v at (drop at bytes.now))) }
+    ensures none { result ≡ None → (k v : TypeTree) →
+        sigs (MoreTypes k (MoreTypes v NoTypes)) ≡ types.now →
+        AreShaped (MoreTypes k (MoreTypes v NoTypes)) →
+        IsNotRead (entry_value bounds order room end k v at (drop at bytes.now)) }
     ensures moves { IfSome result (λ q. (at ≤ q) × (q ≤ end)) }
 {
     let start = padding(bytes, at, end, 8)?;

@@ -16,7 +16,8 @@ use std::sync::Arc;
 ///
 /// D-Bus Specification, "Type System".
 pub fn plain_type_of<A: Allocator>(value: &Value<A>) -> Option<SigType<A>>
-    ensures { let ty = tree_type (value_tree value.now) in MatchOption result (is_plain ty ≡ false) (λ t. (is_plain ty ≡ true) × (type_tree t ≡ ty)) }
+    ensures { let ty = tree_type (value_tree value.now) in
+        MatchOption result (is_plain ty ≡ false) (λ t. (is_plain ty ≡ true) × (type_tree t ≡ ty)) }
 {
     match value {
         Value::Byte(_) => Some(SigType::Byte),
@@ -69,7 +70,8 @@ fn types_of<A: Allocator + Copy>(
     alloc: A,
     values: &[Value<A>],
 ) -> Result<Vec<SigType<A>, A>, AllocError>
-    ensures { IfOk result (λ ts. map type_tree ts.items ≡ map (λ v. tree_type (value_tree v)) values.now) }
+    ensures { IfOk result (λ ts.
+        map type_tree ts.items ≡ map (λ v. tree_type (value_tree v)) values.now) }
 {
     let mut types = Vec::with_capacity(alloc, values.len())?;
     for value in values {

@@ -32,7 +32,8 @@ pub fn is_typed<A: Allocator + Copy>(alloc: A, value: &Value<A>) -> Result<bool,
 }
 
 fn has_single_type<A: Allocator + Copy>(alloc: A, value: &Value<A>) -> Result<bool, AllocError>
-    ensures { IfOk result (λ answer. IsTrue answer ↔ IsSingleType (tree_type (value_tree value.now))) }
+    ensures { IfOk result (λ answer.
+        IsTrue answer ↔ IsSingleType (tree_type (value_tree value.now))) }
 {
     let ty = type_of(alloc, value)?;
     Ok(type_ok(&ty))
@@ -43,7 +44,8 @@ fn has_type<A: Allocator + Copy>(
     value: &Value<A>,
     ty: &SigType<A>,
 ) -> Result<bool, AllocError>
-    ensures { IfOk result (λ answer. IsTrue answer ↔ (tree_type (value_tree value.now) ≡ type_tree ty.now)) }
+    ensures { IfOk result (λ answer.
+        IsTrue answer ↔ (tree_type (value_tree value.now) ≡ type_tree ty.now)) }
 {
     let own = type_of(alloc, value)?;
     Ok(same_type(&own, ty))
@@ -54,7 +56,8 @@ fn all_of<A: Allocator + Copy>(
     ty: &SigType<A>,
     values: &[Value<A>],
 ) -> Result<bool, AllocError>
-    ensures { IfOk result (λ answer. IsTrue answer ↔ AllOf (type_tree ty.now) (value_trees_of values.now)) }
+    ensures { IfOk result (λ answer.
+        IsTrue answer ↔ AllOf (type_tree ty.now) (value_trees_of values.now)) }
 {
     for value in values {
         if !has_type(alloc, value, ty)? {

@@ -36,7 +36,9 @@ pub(crate) fn spot_of(
     n: usize,
 ) -> Option<Spot>
     requires { at ≤ length bytes.now }
-    ensures { (xs : ValueTrees) → AreBody bounds order room at bytes.now types.now xs → MatchOption result (body_value n xs ≡ None) (λ s. StandsThere bounds order room bytes.now (body_value n xs) s) }
+    ensures { (xs : ValueTrees) → AreBody bounds order room at bytes.now types.now xs →
+        MatchOption result (body_value n xs ≡ None) (λ s.
+        StandsThere bounds order room bytes.now (body_value n xs) s) }
 {
     let mut place = at;
     let mut pos = 0;
@@ -65,7 +67,10 @@ pub(crate) fn spot_of(
 /// Where value `n` of the body, counted from 0, stands of the message that the bytes, all of them, were judged to be.
 pub(crate) fn spot_in(bytes: &[u8], limits: Limits, judged: &Judged, n: usize) -> Option<Spot>
     requires { IsJudgedWhole limits bytes.now judged.now }
-    ensures { (h : IsJudgedWhole limits bytes.now judged.now) → MatchOption result (body_value n h.judged.message.body ≡ None) (λ s. StandsSomehow judged.now.order limits.depth bytes.now (body_value n h.judged.message.body) s) }
+    ensures { (h : IsJudgedWhole limits bytes.now judged.now) →
+        MatchOption result (body_value n h.judged.message.body ≡ None) (λ s.
+        StandsSomehow judged.now.order limits.depth bytes.now (body_value n h.judged.message.body)
+        s) }
 {
     let fields = &judged.fields;
     let types = fields.signature(bytes);
@@ -100,7 +105,8 @@ pub(crate) fn text_place(bytes: &[u8], spot: Spot, width: u8) -> ArgPlace
     requires some { 1 ≤ width }
     requires text { (t : List ℕ) × IsTextIn bytes.now width spot.start spot.after t }
     ensures code { result.code ≡ spot.code }
-    ensures text { (t : List ℕ) → IsTextIn bytes.now width spot.start spot.after t → IsTextAt bytes.now t result }
+    ensures text { (t : List ℕ) → IsTextIn bytes.now width spot.start spot.after t →
+        IsTextAt bytes.now t result }
 {
     let gap = usize::from(padding_length(width, spot.start as u64));
     let first = spot.start + gap + usize::from(width);

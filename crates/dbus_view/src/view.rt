@@ -55,7 +55,8 @@ impl<'a> MessageView<'a> {
     pub fn of(bytes: &'a [u8]) -> Result<MessageView<'a>, Fault>
         ensures viewed { IfOk result (λ v. IsViewOf specification bytes.now v) }
         ensures refused { IfErr result (λ f. IsViewFault specification bytes.now f) }
-        ensures accepts { (order : Order) (m : MessageTree) → IsWhole specification bytes.now order m (length bytes.now) → IsOk result }
+        ensures accepts { (order : Order) (m : MessageTree) →
+            IsWhole specification bytes.now order m (length bytes.now) → IsOk result }
     {
         MessageView::of_within(bytes, Limits::specification())
     }
@@ -68,7 +69,8 @@ impl<'a> MessageView<'a> {
     pub fn of_within(bytes: &'a [u8], limits: Limits) -> Result<MessageView<'a>, Fault>
         ensures viewed { IfOk result (λ v. IsViewOf limits bytes.now v) }
         ensures refused { IfErr result (λ f. IsViewFault limits bytes.now f) }
-        ensures accepts { (order : Order) (m : MessageTree) → IsWhole limits bytes.now order m (length bytes.now) → IsOk result }
+        ensures accepts { (order : Order) (m : MessageTree) →
+            IsWhole limits bytes.now order m (length bytes.now) → IsOk result }
     {
         match judge(bytes, limits) {
             Some(judged) => {
@@ -140,7 +142,9 @@ impl<'a> MessageView<'a> {
     /// The text of the field of a code of which a text is wanted.
     fn text(&self, code: u8) -> Option<&'a str>
         requires { WantsText (want code) }
-        ensures { (order : Order) (m : MessageTree) → Views self.now order m → MatchOption result (field_value code m.fields ≡ None) (λ s. IsTextOf (want code) (field_value code m.fields) s.now) }
+        ensures { (order : Order) (m : MessageTree) → Views self.now order m →
+            MatchOption result (field_value code m.fields ≡ None) (λ s.
+            IsTextOf (want code) (field_value code m.fields) s.now) }
     {
         let place = self.judged.fields.get(code)?;
         let text = &self.bytes[place.start..place.start + place.length];
@@ -150,35 +154,45 @@ impl<'a> MessageView<'a> {
 
     /// The PATH field, if there is one. D-Bus Specification, "Header Fields".
     pub fn path(&self) -> Option<&'a str>
-        ensures { (order : Order) (m : MessageTree) → Views self.now order m → MatchOption result (field_value 1 m.fields ≡ None) (λ s. field_value 1 m.fields ≡ Some (TextValue OBJECT_PATH s.now)) }
+        ensures { (order : Order) (m : MessageTree) → Views self.now order m →
+            MatchOption result (field_value 1 m.fields ≡ None) (λ s.
+            field_value 1 m.fields ≡ Some (TextValue OBJECT_PATH s.now)) }
     {
         self.text(PATH)
     }
 
     /// The INTERFACE field, if there is one. D-Bus Specification, "Header Fields".
     pub fn interface(&self) -> Option<&'a str>
-        ensures { (order : Order) (m : MessageTree) → Views self.now order m → MatchOption result (field_value 2 m.fields ≡ None) (λ s. field_value 2 m.fields ≡ Some (TextValue STRING s.now)) }
+        ensures { (order : Order) (m : MessageTree) → Views self.now order m →
+            MatchOption result (field_value 2 m.fields ≡ None) (λ s.
+            field_value 2 m.fields ≡ Some (TextValue STRING s.now)) }
     {
         self.text(INTERFACE)
     }
 
     /// The MEMBER field, if there is one. D-Bus Specification, "Header Fields".
     pub fn member(&self) -> Option<&'a str>
-        ensures { (order : Order) (m : MessageTree) → Views self.now order m → MatchOption result (field_value 3 m.fields ≡ None) (λ s. field_value 3 m.fields ≡ Some (TextValue STRING s.now)) }
+        ensures { (order : Order) (m : MessageTree) → Views self.now order m →
+            MatchOption result (field_value 3 m.fields ≡ None) (λ s.
+            field_value 3 m.fields ≡ Some (TextValue STRING s.now)) }
     {
         self.text(MEMBER)
     }
 
     /// The ERROR_NAME field, if there is one. D-Bus Specification, "Header Fields".
     pub fn error_name(&self) -> Option<&'a str>
-        ensures { (order : Order) (m : MessageTree) → Views self.now order m → MatchOption result (field_value 4 m.fields ≡ None) (λ s. field_value 4 m.fields ≡ Some (TextValue STRING s.now)) }
+        ensures { (order : Order) (m : MessageTree) → Views self.now order m →
+            MatchOption result (field_value 4 m.fields ≡ None) (λ s.
+            field_value 4 m.fields ≡ Some (TextValue STRING s.now)) }
     {
         self.text(ERROR_NAME)
     }
 
     /// The REPLY_SERIAL field, if there is one. D-Bus Specification, "Header Fields".
     pub fn reply_serial(&self) -> Option<u32>
-        ensures { (order : Order) (m : MessageTree) → Views self.now order m → MatchOption result (field_value 5 m.fields ≡ None) (λ n. field_value 5 m.fields ≡ Some (NumberValue UINT32 n)) }
+        ensures { (order : Order) (m : MessageTree) → Views self.now order m →
+            MatchOption result (field_value 5 m.fields ≡ None) (λ n.
+            field_value 5 m.fields ≡ Some (NumberValue UINT32 n)) }
     {
         let place = self.judged.fields.get(REPLY_SERIAL)?;
         Some(place.number)
@@ -186,14 +200,18 @@ impl<'a> MessageView<'a> {
 
     /// The DESTINATION field, if there is one. D-Bus Specification, "Header Fields".
     pub fn destination(&self) -> Option<&'a str>
-        ensures { (order : Order) (m : MessageTree) → Views self.now order m → MatchOption result (field_value 6 m.fields ≡ None) (λ s. field_value 6 m.fields ≡ Some (TextValue STRING s.now)) }
+        ensures { (order : Order) (m : MessageTree) → Views self.now order m →
+            MatchOption result (field_value 6 m.fields ≡ None) (λ s.
+            field_value 6 m.fields ≡ Some (TextValue STRING s.now)) }
     {
         self.text(DESTINATION)
     }
 
     /// The SENDER field, if there is one. D-Bus Specification, "Header Fields".
     pub fn sender(&self) -> Option<&'a str>
-        ensures { (order : Order) (m : MessageTree) → Views self.now order m → MatchOption result (field_value 7 m.fields ≡ None) (λ s. field_value 7 m.fields ≡ Some (TextValue STRING s.now)) }
+        ensures { (order : Order) (m : MessageTree) → Views self.now order m →
+            MatchOption result (field_value 7 m.fields ≡ None) (λ s.
+            field_value 7 m.fields ≡ Some (TextValue STRING s.now)) }
     {
         self.text(SENDER)
     }
@@ -201,7 +219,9 @@ impl<'a> MessageView<'a> {
     /// Value `n` of the body, counted from 0, if there are so many. The values before it are passed over.
     /// D-Bus Specification, "Message Format".
     pub fn arg(&self, n: usize) -> Option<ArgView<'a>>
-        ensures { (order : Order) (m : MessageTree) → Views self.now order m → MatchOption result (body_value n m.body ≡ None) (λ a. IsArgThere (body_value n m.body) a) }
+        ensures { (order : Order) (m : MessageTree) → Views self.now order m →
+            MatchOption result (body_value n m.body ≡ None) (λ a.
+            IsArgThere (body_value n m.body) a) }
     {
         let bytes = self.bytes;
         let spot = spot_in(bytes, self.limits, &self.judged, n)?;
@@ -216,7 +236,9 @@ impl<'a> MessageView<'a> {
     /// Where the text of value `n` of the body stands in the bytes, the values counted from 0, and the first code of its type, if
     /// there are so many. The values before it are passed over. D-Bus Specification, "Message Format".
     pub fn arg_place(&self, n: usize) -> Option<ArgPlace>
-        ensures { (order : Order) (m : MessageTree) → Views self.now order m → MatchOption result (body_value n m.body ≡ None) (λ p. IsPlaceThere self.now.bytes (body_value n m.body) p) }
+        ensures { (order : Order) (m : MessageTree) → Views self.now order m →
+            MatchOption result (body_value n m.body ≡ None) (λ p.
+            IsPlaceThere self.now.bytes (body_value n m.body) p) }
     {
         let bytes = self.bytes;
         let spot = spot_in(bytes, self.limits, &self.judged, n)?;
