@@ -184,10 +184,10 @@ takes_sound e p sound = takes_sound_at e p e.status sound
 
 -- ---- all pieces
 
-abbrev behind : List (List ℕ) → Seen → Seen
-behind said x = record { said = said ++ x.said; status = x.status }
+abbrev suffix : List (List ℕ) → Seen → Seen
+suffix said x = record { said = said ++ x.said; status = x.status }
 
-run_seen : (ns : List ℕ) (e : ServerEndState) (bytes : List ℕ) → cut e.kept ≡ More → seen e bytes ≡ behind (run_server e bytes ns).said (seen (run_server e bytes ns).after (run_server e bytes ns).left)
+run_seen : (ns : List ℕ) (e : ServerEndState) (bytes : List ℕ) → cut e.kept ≡ More → seen e bytes ≡ suffix (run_server e bytes ns).said (seen (run_server e bytes ns).after (run_server e bytes ns).left)
 run_seen [] e bytes sound = refl
 run_seen (n ∷ ns) e bytes sound =
     let outcome = server_takes e (take n bytes) in
@@ -219,7 +219,7 @@ finished h (inr shut) = seen_shut h.after h.left h.after.status shut
 run_outcome : (e : ServerEndState) (bytes ns : List ℕ) → cut e.kept ≡ More → IsFinished (run_server e bytes ns) → seen e bytes ≡ record { said = (run_server e bytes ns).said; status = (run_server e bytes ns).after.status }
 run_outcome e bytes ns sound fin =
     let h = run_server e bytes ns in
-    run_seen ns e bytes sound ∙ ap (behind h.said) (finished h fin) ∙ ap (λ (x : List (List ℕ)). record { said = x; status = h.after.status }) (append-nil h.said)
+    run_seen ns e bytes sound ∙ ap (suffix h.said) (finished h fin) ∙ ap (λ (x : List (List ℕ)). record { said = x; status = h.after.status }) (append-nil h.said)
 
 pub same_outcome : (s : ServerMachine) (bytes ns ms : List ℕ) → IsFinished (run_server (server_at_first s) bytes ns) → IsFinished (run_server (server_at_first s) bytes ms)
     → LooksAlike (run_server (server_at_first s) bytes ns) (run_server (server_at_first s) bytes ms)

@@ -106,8 +106,8 @@ module _ {X : Type 0} (a b k r : List X) (same : k ++ r ≡ a ++ b) where
   begins le = sym (ap (λ (x : List X). x ++ drop (length a) k) (sym (take_at a b (length a) refl) ∙ ap (take (length a)) (sym same) ∙ take-append-le (length a) k r le) ∙ take-append-drop (length a) k)
 
   -- what stands after the longer prefix
-  behind : length k ≤ length a → drop (length a - length k) r ≡ b
-  behind le =
+  suffix : length k ≤ length a → drop (length a - length k) r ≡ b
+  suffix le =
       let m : length k + (length a - length k) ≡ length a = omega arith in
       ap (drop (length a - length k)) (sym (drop_at k r (length k) refl)) ∙ drop-drop (length a - length k) (length k) (k ++ r) ∙ ap (λ n. drop n (k ++ r)) m ∙ ap (drop (length a)) same ∙ drop_at a b (length a) refl
 
@@ -149,7 +149,7 @@ comes kept q line more n wants e h = elim (cut_front (kept ++ take n q) (drop n 
       let size = length line + 2 in
       let rest : length (ended line) - length kept ≡ size - length kept = omega (arith, length-ended line) in
       whole size w.0 (line_of (kept ++ take n q) (drop n q) line more (whole_is kept q n ∙ e) w.1)
-      (ap (λ n. drop n q) (sym rest) ∙ behind (ended line) more kept q e (omega (arith, length-ended line)))
+      (ap (λ n. drop n q) (sym rest) ∙ suffix (ended line) more kept q e (omega (arith, length-ended line)))
       (omega (arith, length-append kept (take n q), length-take n q, w.1))
 ]
 

@@ -6,7 +6,7 @@ use Rattle.std.proofs.lemmas.List.{append-nil, take_at}
 use Rattle.std.specs.List.{AllByRecursion}
 use Rattle.dbus_auth_lines.specs.Lines.{ended}
 use Rattle.dbus_auth_lines.specs.Cut.{TooLong, BadByte, Ends, Bad, More, passes_limit, is_bad, scan_from, cut, IsPlain, IsLine}
-use Rattle.dbus_auth_lines.specs.FirstLine.{Beginning, WholeLine, Faulty, Unfinished, IsUnfinished, within_line, behind_cr, IsStray, IsTooLong, long_line, long_behind_cr, IsBadByte, stray, no_lf, BeginsAs, cut_of}
+use Rattle.dbus_auth_lines.specs.FirstLine.{Beginning, WholeLine, Faulty, Unfinished, IsUnfinished, within_line, cr_last, IsStray, IsTooLong, long_line, long_past_cr, IsBadByte, stray, no_lf, BeginsAs, cut_of}
 use Rattle.dbus_auth_lines.proofs.Cuts.{scan-plain, scan_cons, cut_line}
 
 -- ---- what the scan finds after a line's bytes
@@ -40,8 +40,8 @@ cut_over_cr line rest h = cut_over line (13 ∷ rest) h ∙ scan_cr (length line
 passes_here : (b : ℕ) → b ≢ 13 → passes_limit 16382 false b ≡ true
 passes_here b h = let e : (b == 13) ≡ false = ne_eqb b 13 h in rw (e, and_right (b == 10) false refl) refl
 
-passes_behind_cr : (b : ℕ) → b ≢ 10 → b ≢ 13 → passes_limit 16382 true b ≡ true
-passes_behind_cr b h k = let e : (b == 13) ≡ false = ne_eqb b 13 k in let f : (b == 10) ≡ false = ne_eqb b 10 h in rw (e, f) refl
+passes_after_cr : (b : ℕ) → b ≢ 10 → b ≢ 13 → passes_limit 16382 true b ≡ true
+passes_after_cr b h k = let e : (b == 13) ≡ false = ne_eqb b 13 k in let f : (b == 10) ≡ false = ne_eqb b 10 h in rw (e, f) refl
 
 stays_within : (at : ℕ) (cr : Bool) (b : ℕ) → at ≢ 16382 → passes_limit at cr b ≡ false
 stays_within at cr b h = let e : (at == 16382) ≡ false = ne_eqb at 16382 h in rw e refl
@@ -68,10 +68,10 @@ too_long_cut : (k : List ℕ) → IsTooLong k → cut k ≡ Bad TooLong
 too_long_cut k (long_line line b more h n ne e) =
     ap cut e ∙ cut_over line (b ∷ more) h ∙ ap (λ m. scan_from m false (b ∷ more)) n
     ∙ scan_step 16382 false b more true (is_bad false b) false (passes_here b ne) refl refl
-too_long_cut k (long_behind_cr line b more h n ne nf e) =
+too_long_cut k (long_past_cr line b more h n ne nf e) =
     let m : length line + 1 ≡ 16382 = omega arith in
     ap cut e ∙ cut_over_cr line (b ∷ more) h ∙ ap (λ m. scan_from m true (b ∷ more)) m
-    ∙ scan_step 16382 true b more true (is_bad true b) true (passes_behind_cr b ne nf) refl refl
+    ∙ scan_step 16382 true b more true (is_bad true b) true (passes_after_cr b ne nf) refl refl
 
 bad_byte_cut : (k : List ℕ) (at : ℕ) → IsBadByte k at → cut k ≡ Bad (BadByte at)
 bad_byte_cut k at (stray line b more h n lt s e) =
@@ -83,7 +83,7 @@ bad_byte_cut k at (no_lf line b more h n ne w e) =
 
 unfinished_cut : (k : List ℕ) → IsUnfinished k → cut k ≡ More
 unfinished_cut k (within_line h) = ap cut (sym (append-nil k)) ∙ cut_over k [] h ∙ scan_none (length k) false
-unfinished_cut k (behind_cr line h e) = ap cut e ∙ cut_over_cr line [] h ∙ scan_none (length line + 1) true
+unfinished_cut k (cr_last line h e) = ap cut e ∙ cut_over_cr line [] h ∙ scan_none (length line + 1) true
 
 pub cut_finds : (k : List ℕ) (b : Beginning) → BeginsAs k b → cut k ≡ cut_of b
 cut_finds k (WholeLine line) h = ap cut h.1.1 ∙ cut_line line h.1.0 h.0
@@ -142,12 +142,12 @@ stray_or_plain b cr = by_tests (b == 0) refl (nat_lt 127 b) refl (b == 10) refl
       not_cr = cr;
     })
 
-behind_cr_by : (line : List ℕ) (rest : List ℕ) → IsLine line → HasBeginning (line ++ 13 ∷ rest)
-behind_cr_by line [] h = (Unfinished, behind_cr line h refl)
-behind_cr_by line (b ∷ bs) h = by_lf (b == 10) refl
+after_cr_by : (line : List ℕ) (rest : List ℕ) → IsLine line → HasBeginning (line ++ 13 ∷ rest)
+after_cr_by line [] h = (Unfinished, cr_last line h refl)
+after_cr_by line (b ∷ bs) h = by_lf (b == 10) refl
   where
     by_cr : b ≢ 10 → (t : Bool) → (length line == 16381) ≡ t → (u : Bool) → (b == 13) ≡ u → HasBeginning (line ++ 13 ∷ b ∷ bs)
-    by_cr ne true e false f = (Faulty TooLong, long_behind_cr line b bs h (eqb-true (length line) 16381 e) ne (eqb-false b 13 f) refl)
+    by_cr ne true e false f = (Faulty TooLong, long_past_cr line b bs h (eqb-true (length line) 16381 e) ne (eqb-false b 13 f) refl)
     by_cr ne true e true f = (Faulty (BadByte (length line + 1)), no_lf line b bs h refl ne (λ i. eqb-true b 13 f) refl)
     by_cr ne false e u f = (Faulty (BadByte (length line + 1)), no_lf line b bs h refl ne (λ i. absurd (let n = eqb-false (length line) 16381 e in omega arith)) refl)
 
@@ -168,7 +168,7 @@ next_byte line b bs h again = by_cr (b == 13) refl
     by_place cr false e = by_kind cr (eqb-false (length line) 16382 e) (stray_or_plain b cr)
 
     by_cr : (t : Bool) → (b == 13) ≡ t → HasBeginning (line ++ b ∷ bs)
-    by_cr true e = let P : ℕ → Type 0 = λ c. HasBeginning (line ++ c ∷ bs) in subst P (sym (eqb-true b 13 e)) (behind_cr_by line bs h)
+    by_cr true e = let P : ℕ → Type 0 = λ c. HasBeginning (line ++ c ∷ bs) in subst P (sym (eqb-true b 13 e)) (after_cr_by line bs h)
     by_cr false e = by_place (eqb-false b 13 e) (length line == 16382) refl
 
 begins_from : (rest line : List ℕ) → IsLine line → HasBeginning (line ++ rest)
@@ -184,7 +184,7 @@ some_beginning k = begins_from k [] (record { plain = tt; short = lit≤ tt })
 pub stays_settled : (k r : List ℕ) (b : Beginning) → b ≢ Unfinished → BeginsAs k b → BeginsAs (k ++ r) b
 stays_settled k r (WholeLine line) s h = (h.0, (h.1.0 ++ r, ap (λ x. x ++ r) h.1.1 ∙ append_assoc (ended line) h.1.0 r))
 stays_settled k r (Faulty TooLong) s (long_line line b more h n ne e) = long_line line b (more ++ r) h n ne (ap (λ x. x ++ r) e ∙ append_assoc line (b ∷ more) r)
-stays_settled k r (Faulty TooLong) s (long_behind_cr line b more h n ne nf e) = long_behind_cr line b (more ++ r) h n ne nf (ap (λ x. x ++ r) e ∙ append_assoc line (13 ∷ b ∷ more) r)
+stays_settled k r (Faulty TooLong) s (long_past_cr line b more h n ne nf e) = long_past_cr line b (more ++ r) h n ne nf (ap (λ x. x ++ r) e ∙ append_assoc line (13 ∷ b ∷ more) r)
 stays_settled k r (Faulty (BadByte at)) s (stray line b more h n lt st e) = stray line b (more ++ r) h n lt st (ap (λ x. x ++ r) e ∙ append_assoc line (b ∷ more) r)
 stays_settled k r (Faulty (BadByte at)) s (no_lf line b more h n ne w e) = no_lf line b (more ++ r) h n ne w (ap (λ x. x ++ r) e ∙ append_assoc line (13 ∷ b ∷ more) r)
 stays_settled k r Unfinished s h = absurd (s refl)

@@ -43,9 +43,9 @@ error_alone : client_meaning (codes "ERROR") ≡ client.Error []
 unfolding client_meaning command_name
 error_alone = refl
 
-error_behind : (text : List ℕ) → client_meaning (codes "ERROR" ++ 32 ∷ text) ≡ client.Error text
+error_after : (text : List ℕ) → client_meaning (codes "ERROR" ++ 32 ∷ text) ≡ client.Error text
 unfolding client_meaning command_name
-error_behind text = refl
+error_after text = refl
 
 -- a name, and words by which the row is chosen
 by_form : {C : Type 0} (meaning : List ℕ → C) (row : List (List ℕ) → C) (name line : List ℕ) (ws : List (List ℕ))
@@ -72,7 +72,7 @@ client_row_means line (client.AuthBy mech response) h =
 client_row_means line client.Cancel h = by_form client_meaning (alone client.Cancel client.Other) (codes "CANCEL") line [] cancel_form h
 client_row_means line client.Begin h = by_form client_meaning (alone client.Begin client.Other) (codes "BEGIN") line [] begin_form h
 client_row_means line (client.DataOf bytes) h = by_hex_form client_meaning client_data client.DataOf client.Other (codes "DATA") line [] bytes data_form refl (λ d. refl) h
-client_row_means line (client.Error text) h = by_text client_meaning client.Error line text error_alone error_behind h
+client_row_means line (client.Error text) h = by_text client_meaning client.Error line text error_alone error_after h
 client_row_means line client.Negotiate h = by_form client_meaning (alone client.Negotiate client.Other) (codes "NEGOTIATE_UNIX_FD") line [] negotiate_form h
 client_row_means line client.Other h = absurd h
 
@@ -85,8 +85,8 @@ same_bytes : (a b : List ℕ) → bytes_eq a b ≡ true → a ≡ b
 same_bytes a b h = (bytes_eq-Decides a b).0 h
 
 -- the text after ERROR
-text_behind : (line : List ℕ) → HasForm line (codes "ERROR") (arguments line) → HasText line (drop 6 line)
-text_behind line h = by_end (λ t. line ≡ codes "ERROR" ++ t → HasText line (drop 6 line)) (λ e. inl (e, ap (drop 6) e)) (λ rest e. inr (e ∙ ap (λ (x : List ℕ). codes "ERROR" ++ 32 ∷ x) (sym (ap (drop 6) e)))) h.0 (ends_word (arguments line) h.0 h.1.1) h.1.0
+text_after : (line : List ℕ) → HasForm line (codes "ERROR") (arguments line) → HasText line (drop 6 line)
+text_after line h = by_end (λ t. line ≡ codes "ERROR" ++ t → HasText line (drop 6 line)) (λ e. inl (e, ap (drop 6) e)) (λ rest e. inr (e ∙ ap (λ (x : List ℕ). codes "ERROR" ++ 32 ∷ x) (sym (ap (drop 6) e)))) h.0 (ends_word (arguments line) h.0 h.1.1) h.1.0
 
 auth_row : (line : List ℕ) (ws : List (List ℕ)) → HasForm line (codes "AUTH") ws → ClientRow line (auth_by ws)
 auth_row line [] h = inl h
@@ -118,7 +118,7 @@ client_by_name line true q r s t u a b c d e f = auth_row line (arguments line) 
 client_by_name line false true r s t u a b c d e f = alone_row line client.Cancel (arguments line) (codes "CANCEL") (λ h. h) (form_of line (codes "CANCEL") (b refl))
 client_by_name line false false true s t u a b c d e f = alone_row line client.Begin (arguments line) (codes "BEGIN") (λ h. h) (form_of line (codes "BEGIN") (c refl))
 client_by_name line false false false true t u a b c d e f = data_row line (arguments line) (form_of line (codes "DATA") (d refl))
-client_by_name line false false false false true u a b c d e f = inl (text_behind line (form_of line (codes "ERROR") (e refl)))
+client_by_name line false false false false true u a b c d e f = inl (text_after line (form_of line (codes "ERROR") (e refl)))
 client_by_name line false false false false false true a b c d e f = alone_row line client.Negotiate (arguments line) (codes "NEGOTIATE_UNIX_FD") (λ h. h) (form_of line (codes "NEGOTIATE_UNIX_FD") (f refl))
 client_by_name line false false false false false false a b c d e f = inr refl
 
@@ -172,9 +172,9 @@ server_error_alone : server_meaning (codes "ERROR") ≡ server.Error []
 unfolding server_meaning command_name
 server_error_alone = refl
 
-server_error_behind : (text : List ℕ) → server_meaning (codes "ERROR" ++ 32 ∷ text) ≡ server.Error text
+server_error_after : (text : List ℕ) → server_meaning (codes "ERROR" ++ 32 ∷ text) ≡ server.Error text
 unfolding server_meaning command_name
-server_error_behind text = refl
+server_error_after text = refl
 
 accepted_digits : (digits guid : List ℕ) → length digits ≡ 32 → decode_of digits ≡ Ok guid → accepted (digits ∷ []) ≡ server.Accepted guid
 accepted_digits digits guid n e = let t : (length digits == 32) ≡ true = eq-eqb (length digits) 32 n in rw (t, e) refl
@@ -183,7 +183,7 @@ server_row_means : (line : List ℕ) (c : ServerCommand) → IsServerLine line c
 server_row_means line (server.Rejected ws) h = by_form server_meaning server.Rejected (codes "REJECTED") line ws rejected_form h
 server_row_means line (server.Accepted guid) h = by_form server_meaning accepted (codes "OK") line (h.0 ∷ []) ok_form h.1.1.1 ∙ accepted_digits h.0 guid h.1.0 h.1.1.0
 server_row_means line (server.DataOf bytes) h = by_hex_form server_meaning server_data server.DataOf server.Other (codes "DATA") line [] bytes server_data_form refl (λ d. refl) h
-server_row_means line (server.Error text) h = by_text server_meaning server.Error line text server_error_alone server_error_behind h
+server_row_means line (server.Error text) h = by_text server_meaning server.Error line text server_error_alone server_error_after h
 server_row_means line server.Agree h = by_form server_meaning (alone server.Agree server.Other) (codes "AGREE_UNIX_FD") line [] agree_form h
 server_row_means line server.Other h = absurd h
 
@@ -219,7 +219,7 @@ server_by_name : (line : List ℕ) (p q r s t : Bool) → (p ≡ true → comman
 server_by_name line true q r s t a b c d e = inl (form_of line (codes "REJECTED") (a refl))
 server_by_name line false true r s t a b c d e = ok_row line (arguments line) (form_of line (codes "OK") (b refl))
 server_by_name line false false true s t a b c d e = server_data_row line (arguments line) (form_of line (codes "DATA") (c refl))
-server_by_name line false false false true t a b c d e = inl (text_behind line (form_of line (codes "ERROR") (d refl)))
+server_by_name line false false false true t a b c d e = inl (text_after line (form_of line (codes "ERROR") (d refl)))
 server_by_name line false false false false true a b c d e = agree_row line (arguments line) (form_of line (codes "AGREE_UNIX_FD") (e refl))
 server_by_name line false false false false false a b c d e = inr refl
 

@@ -85,21 +85,21 @@ plain_client_reads : (client_meaning (codes "AUTH") ≡ client.Auth) × (client_
 unfolding client_meaning command_name arguments words
 plain_client_reads = (refl, refl, refl, refl, refl, refl)
 
-data_behind : (rest : List ℕ) → client_meaning (codes "DATA" ++ 32 ∷ rest) ≡ client_data (words (32 ∷ rest))
+data_after : (rest : List ℕ) → client_meaning (codes "DATA" ++ 32 ∷ rest) ≡ client_data (words (32 ∷ rest))
 unfolding client_meaning command_name arguments
-data_behind rest = refl
+data_after rest = refl
 
-error_behind : (rest : List ℕ) → client_meaning (codes "ERROR" ++ 32 ∷ rest) ≡ client.Error rest
+error_after : (rest : List ℕ) → client_meaning (codes "ERROR" ++ 32 ∷ rest) ≡ client.Error rest
 unfolding client_meaning command_name
-error_behind rest = refl
+error_after rest = refl
 
 data_reads : (bytes : List ℕ) → IsBytes bytes → client_meaning (client_line (client.DataOf bytes)) ≡ client.DataOf bytes
 data_reads [] k = plain_client_reads.4
-data_reads (b ∷ bs) k = data_behind (encode_lower (b ∷ bs)) ∙ ap client_data (words-hex (b ∷ bs) k) ∙ ap (by_hex client.DataOf client.Other) (decode_of-encode_lower (b ∷ bs) k)
+data_reads (b ∷ bs) k = data_after (encode_lower (b ∷ bs)) ∙ ap client_data (words-hex (b ∷ bs) k) ∙ ap (by_hex client.DataOf client.Other) (decode_of-encode_lower (b ∷ bs) k)
 
 error_reads : (text : List ℕ) → client_meaning (client_line (client.Error text)) ≡ client.Error text
 error_reads [] = plain_client_reads.5
-error_reads (b ∷ bs) = error_behind (b ∷ bs)
+error_reads (b ∷ bs) = error_after (b ∷ bs)
 
 by_mechanism_reads : (mech response : List ℕ) → is_word mech ≡ true → IsBytes response → client_meaning (client_line (client.AuthBy mech response)) ≡ client.AuthBy mech response
 by_mechanism_reads [] response h k = absurd (false≢true h)
@@ -119,17 +119,17 @@ plain_server_reads : (server_meaning (codes "AGREE_UNIX_FD") ≡ server.Agree) �
 unfolding server_meaning command_name arguments words
 plain_server_reads = (refl, refl, refl, refl)
 
-server_data_behind : (rest : List ℕ) → server_meaning (codes "DATA" ++ 32 ∷ rest) ≡ server_data (words (32 ∷ rest))
+server_data_after : (rest : List ℕ) → server_meaning (codes "DATA" ++ 32 ∷ rest) ≡ server_data (words (32 ∷ rest))
 unfolding server_meaning command_name arguments
-server_data_behind rest = refl
+server_data_after rest = refl
 
-server_error_behind : (rest : List ℕ) → server_meaning (codes "ERROR" ++ 32 ∷ rest) ≡ server.Error rest
+server_error_after : (rest : List ℕ) → server_meaning (codes "ERROR" ++ 32 ∷ rest) ≡ server.Error rest
 unfolding server_meaning command_name
-server_error_behind rest = refl
+server_error_after rest = refl
 
-rejected_behind : (rest : List ℕ) → server_meaning (codes "REJECTED" ++ 32 ∷ rest) ≡ server.Rejected (words (32 ∷ rest))
+rejected_after : (rest : List ℕ) → server_meaning (codes "REJECTED" ++ 32 ∷ rest) ≡ server.Rejected (words (32 ∷ rest))
 unfolding server_meaning command_name arguments
-rejected_behind rest = refl
+rejected_after rest = refl
 
 spaced_ends : (ws : List (List ℕ)) → at_word_end (flat_map spaced ws) ≡ true
 spaced_ends [] = refl
@@ -147,15 +147,15 @@ words_back (w ∷ ws) h =
 
 rejected_reads : (ws : List (List ℕ)) → list_all is_word ws ≡ true → server_meaning (server_line (server.Rejected ws)) ≡ server.Rejected ws
 rejected_reads [] h = plain_server_reads.3
-rejected_reads (w ∷ ws) h = rejected_behind (w ++ flat_map spaced ws) ∙ ap server.Rejected (words_back (w ∷ ws) h)
+rejected_reads (w ∷ ws) h = rejected_after (w ++ flat_map spaced ws) ∙ ap server.Rejected (words_back (w ∷ ws) h)
 
 server_data_reads : (bytes : List ℕ) → IsBytes bytes → server_meaning (server_line (server.DataOf bytes)) ≡ server.DataOf bytes
 server_data_reads [] k = plain_server_reads.1
-server_data_reads (b ∷ bs) k = server_data_behind (encode_lower (b ∷ bs)) ∙ ap server_data (words-hex (b ∷ bs) k) ∙ ap (by_hex server.DataOf server.Other) (decode_of-encode_lower (b ∷ bs) k)
+server_data_reads (b ∷ bs) k = server_data_after (encode_lower (b ∷ bs)) ∙ ap server_data (words-hex (b ∷ bs) k) ∙ ap (by_hex server.DataOf server.Other) (decode_of-encode_lower (b ∷ bs) k)
 
 server_error_reads : (text : List ℕ) → server_meaning (server_line (server.Error text)) ≡ server.Error text
 server_error_reads [] = plain_server_reads.2
-server_error_reads (b ∷ bs) = server_error_behind (b ∷ bs)
+server_error_reads (b ∷ bs) = server_error_after (b ∷ bs)
 
 server_reads : (c : ServerCommand) → HasServerBytes c → is_server_spelled c ≡ true → server_meaning (server_line c) ≡ c
 server_reads (server.Rejected ws) k h = rejected_reads ws h

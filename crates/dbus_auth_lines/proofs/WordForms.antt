@@ -9,9 +9,9 @@ use Rattle.dbus_auth_lines.proofs.Spaces.{take-command_name}
 
 -- ---- a text of words is read as them
 
-words_behind : (n : ℕ) (text : List ℕ) → words (spaces n ++ text) ≡ words text
-words_behind zero text = refl
-words_behind (suc n) text = words-spaced (spaces n ++ text) ∙ words_behind n text
+words_after : (n : ℕ) (text : List ℕ) → words (spaces n ++ text) ≡ words text
+words_after zero text = refl
+words_after (suc n) text = words-spaced (spaces n ++ text) ∙ words_after n text
 
 words_spaces : (n : ℕ) → words (spaces n) ≡ []
 words_spaces zero = words_nil
@@ -46,7 +46,7 @@ words_of [] text h = ap words h.1 ∙ words_spaces h.0
 words_of (w ∷ ws) text h =
     let rest = h.1.0 in
     let more = h.1.1.1.1 in
-    ap words h.1.1.0 ∙ words-spaced (spaces h.0 ++ (w ++ rest)) ∙ words_behind h.0 (w ++ rest) ∙ one_word w rest h.1.1.1.0 (ends_word ws rest more) ∙ ap (λ (x : List (List ℕ)). w ∷ x) (words_of ws rest more)
+    ap words h.1.1.0 ∙ words-spaced (spaces h.0 ++ (w ++ rest)) ∙ words_after h.0 (w ++ rest) ∙ one_word w rest h.1.1.1.0 (ends_word ws rest more) ∙ ap (λ (x : List (List ℕ)). w ∷ x) (words_of ws rest more)
 
 -- ---- each text after a word is one of words
 
@@ -57,7 +57,7 @@ record MidWord (text : List ℕ) : Type 0 where
   others : List (List ℕ)
   is : text ≡ first ++ rest
   word : IsWord first
-  behind : HasWords rest others
+  after : HasWords rest others
   reads : words text ≡ first ∷ others
 
 abbrev IsRead : List ℕ → Bool → Type 0
@@ -73,7 +73,7 @@ space_first text true r =
     let P : List (List ℕ) → Type 0 = HasWords (32 ∷ text) in subst P (sym (words-spaced text)) (one_space (words text) text r)
 space_first text false m =
     let P : List (List ℕ) → Type 0 = HasWords (32 ∷ text) in
-    subst P (sym (words-spaced text ∙ m.reads)) (0, (m.rest, (ap (λ (x : List ℕ). 32 ∷ x) m.is, (m.word, m.behind))))
+    subst P (sym (words-spaced text ∙ m.reads)) (0, (m.rest, (ap (λ (x : List ℕ). 32 ∷ x) m.is, (m.word, m.after))))
 
 by_byte : (b : ℕ) (text : List ℕ) (s : Bool) → (b == 32) ≡ s → (t : Bool) → at_word_end text ≡ t → IsRead text t → IsRead (b ∷ text) s
 by_byte b text true e t f r = let P : ℕ → Type 0 = λ c. IsRead (c ∷ text) true in subst P (sym (eqb-true b 32 e)) (space_first text t r)
@@ -83,7 +83,7 @@ by_byte b text false e true f r = record {
   others = words text;
   is = refl;
   word = record { some = λ h. (let x : b ∷ [] ≡ [] = h in cc); no_space = (eqb-false b 32 e, tt) };
-  behind = r;
+  after = r;
   reads = word_end b text (eqb-false b 32 e) f;
 }
 by_byte b text false e false f m = record {
@@ -92,7 +92,7 @@ by_byte b text false e false f m = record {
   others = m.others;
   is = ap (λ (x : List ℕ). b ∷ x) m.is;
   word = record { some = λ h. (let x : b ∷ m.first ≡ [] = h in cc); no_space = (eqb-false b 32 e, m.word.no_space) };
-  behind = m.behind;
+  after = m.after;
   reads = word_goes_on b text (eqb-false b 32 e) f ∙ ap (onto_first b) m.reads;
 }
 

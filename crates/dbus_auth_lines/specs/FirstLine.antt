@@ -13,7 +13,7 @@ pub data Beginning : Type 0 where
 -- a prefix of a line with its CR LF, and not all of it
 pub data IsUnfinished (k : List ℕ) : Type 0 where
   within_line : IsLine k → IsUnfinished k
-  behind_cr : (line : List ℕ) → IsLine line → k ≡ line ++ 13 ∷ [] → IsUnfinished k
+  cr_last : (line : List ℕ) → IsLine line → k ≡ line ++ 13 ∷ [] → IsUnfinished k
 
 -- a byte that stands in no line: 0, a byte over 127, or LF without CR
 abbrev pub IsStray : ℕ → Type 0
@@ -22,7 +22,7 @@ IsStray b = (b ≡ 0) ⊎ ((127 < b) ⊎ (b ≡ 10))
 -- the byte at place 16,382 is neither CR nor the LF of a CR LF
 pub data IsTooLong (k : List ℕ) : Type 0 where
   long_line : (line : List ℕ) (b : ℕ) (more : List ℕ) → IsLine line → length line ≡ 16382 → b ≢ 13 → k ≡ line ++ b ∷ more → IsTooLong k
-  long_behind_cr : (line : List ℕ) (b : ℕ) (more : List ℕ) → IsLine line → length line ≡ 16381 → b ≢ 10 → b ≢ 13 → k ≡ line ++ 13 ∷ b ∷ more → IsTooLong k
+  long_past_cr : (line : List ℕ) (b : ℕ) (more : List ℕ) → IsLine line → length line ≡ 16381 → b ≢ 10 → b ≢ 13 → k ≡ line ++ 13 ∷ b ∷ more → IsTooLong k
 
 -- the byte at this place is stray, or after CR and no LF; and the line is not too long there
 pub data IsBadByte (k : List ℕ) (at : ℕ) : Type 0 where

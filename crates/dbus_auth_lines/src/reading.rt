@@ -260,9 +260,9 @@ fn all_words<A: Allocator + Copy>(alloc: A, rest: &[u8]) -> Result<Vec<Vec<u8, A
 {
     let mut found = Vec::new(alloc);
     let mut left = rest;
-    while let Some((word, behind)) = next_word(left) {
+    while let Some((word, after)) = next_word(left) {
         found.push(Vec::from_slice(alloc, word)?)?;
-        left = behind;
+        left = after;
     }
     Ok(found)
 }

@@ -10,11 +10,11 @@ use Rattle.dbus_judge.proofs.Firsts.{followed}
 use Rattle.dbus_view.specs.Bodies.{IsTextPlace}
 use Rattle.dbus_view.specs.declared.arg_place.ArgPlace.{ArgPlace}
 use Rattle.dbus_view.specs.Views.{ViewState, IsViewOf}
-use Rattle.dbus_c.specs.Arguments.{IsFrontView, IsTextOf}
+use Rattle.dbus_c.specs.Arguments.{IsFirstView, IsTextOf}
 use Rattle.dbus_c.specs.declared.arguments.Argument.{Argument}
 
 -- a view of the message that is judged is of the one that all of them begin with
-pub front_viewed : (limits : Limits) (b : List ℕ) (j : Judged) (v : ViewState) → IsJudgedFirst limits b j → IsViewOf limits (take j.length b) v → IsFrontView limits b v
+pub front_viewed : (limits : Limits) (b : List ℕ) (j : Judged) (v : ViewState) → IsJudgedFirst limits b j → IsViewOf limits (take j.length b) v → IsFirstView limits b v
 front_viewed limits b j v first is =
     let order = is.2.0 in
     let m = is.2.1 in

@@ -32,7 +32,7 @@ abbrev pub HasNoArgument : Limits → List ℕ → (number : ℕ) → Type 0
 HasNoArgument limits b number = (order : Order) (m : MessageTree) (n : ℕ) → IsWhole limits b order m n → body_value number m.body ≡ None
 
 -- a view of the message that the bytes begin with, which is taken by itself
-pub record IsFrontView (limits : Limits) (b : List ℕ) (v : ViewState) : Type 0 where
+pub record IsFirstView (limits : Limits) (b : List ℕ) (v : ViewState) : Type 0 where
   pub order : Order
   pub message : MessageTree
   pub views : Views v order message

@@ -2,7 +2,7 @@
 #![tactic(auto)]
 
 ghost use Rattle.std.specs.Prelude.{◌≡◌, ◌<◌, None, IfSome};
-ghost use Rattle.dbus_c.specs.Arguments.{HasArgument, HasNoArgument, IsFrontView};
+ghost use Rattle.dbus_c.specs.Arguments.{HasArgument, HasNoArgument, IsFirstView};
 ghost use Rattle.dbus_c.specs.GivenLimits.{limits_of};
 ghost use Rattle.dbus_judge.specs.Judging.{BeginsWithNone};
 
@@ -40,7 +40,7 @@ pub extern "C" fn dbus_wire_argument_of(
     ensures none { result ≡ 0 → HasNoArgument (limits_of limits.now) bytes.now number }
     ensures unchanged { result ≡ 0 → out.new ≡ out.old }
 {
-    let view = match front_view(bytes, given_limits(limits)) {
+    let view = match first_view(bytes, given_limits(limits)) {
         Some(view) => view,
         None => return 0,
     };
@@ -58,8 +58,8 @@ pub extern "C" fn dbus_wire_argument_of(
 }
 
 // A view of the message within the limits that the bytes begin with, which is judged by itself.
-fn front_view(bytes: &[u8], limits: Limits) -> Option<MessageView<'_>>
-    ensures viewed { IfSome result (λ v. IsFrontView limits bytes.now v) }
+fn first_view(bytes: &[u8], limits: Limits) -> Option<MessageView<'_>>
+    ensures viewed { IfSome result (λ v. IsFirstView limits bytes.now v) }
     ensures none { result ≡ None → BeginsWithNone limits bytes.now }
 {
     let judged = judge_first(bytes, limits)?;

@@ -6,7 +6,7 @@ use Rattle.dbus_value_model.specs.Reading.{Faulty}
 use Rattle.dbus_value_model.specs.declared.fault.Fault.{Fault}
 use Rattle.dbus_value_model.specs.declared.limits.Limits.{Limits}
 use Rattle.dbus_value_model.proofs.Numbers.{IsBytes-append, IsBytes-front}
-use Rattle.dbus_check.specs.Checks.{CheckerState, StandsBehind, Stands, Takes}
+use Rattle.dbus_check.specs.Checks.{CheckerState, StandsAfter, Stands, Takes}
 use Rattle.dbus_check.specs.declared.check.Check.TheVariants as check
 use Rattle.dbus_check.specs.declared.pieces.Pieces.{Pieces}
 use Rattle.dbus_check.specs.Heading.{message_on}
@@ -29,7 +29,7 @@ module _ (limits : Limits) (p : Pieces) (w piece : List ℕ) (bytes : IsBytes w)
         partial_is limits w piece both f.1,
         record {
           bytes = both;
-          behind = record { from = h.from; denotes = h.denotes; same = λ c. h.same c ∙ ap (λ (t : List ℕ). message_on limits 0 (w ++ (t ++ c))) all ∙ ap (message_on limits 0) (sym (append_assoc w piece c)); few = h.few; waits = h.waits };
+          after = record { from = h.from; denotes = h.denotes; same = λ c. h.same c ∙ ap (λ (t : List ℕ). message_on limits 0 (w ++ (t ++ c))) all ∙ ap (message_on limits 0) (sym (append_assoc w piece c)); few = h.few; waits = h.waits };
         },
       )
 
@@ -42,7 +42,7 @@ module _ (limits : Limits) (p : Pieces) (w piece : List ℕ) (bytes : IsBytes w)
         (fed.0, whole.0, whole.1, whole.2),
         record {
           bytes = IsBytes-append w (take n piece) bytes (IsBytes-front piece (take n piece) _ (sym (take-append-drop n piece)) more);
-          behind = record { from = h.from; denotes = h.denotes; same = λ c. h.same c ∙ ap (message_on limits 0) (sym (append_assoc w (take n piece) c)); few = h.few; waits = h.waits };
+          after = record { from = h.from; denotes = h.denotes; same = λ c. h.same c ∙ ap (message_on limits 0) (sym (append_assoc w (take n piece) c)); few = h.few; waits = h.waits };
         },
       )
 
@@ -51,7 +51,7 @@ module _ (limits : Limits) (p : Pieces) (w piece : List ℕ) (bytes : IsBytes w)
       → Takes limits w piece (check.Refused f) × Stands (record { limits = limits; pieces = p; refused = Some f }) (w ++ piece)
   fed_refused f fed =
       let law : (c : List ℕ) → message_on limits 0 ((w ++ piece) ++ c) ≡ Faulty f = λ c. ap (message_on limits 0) (append_assoc w piece c) ∙ fed c in
-      (refused_is limits w piece both f law, record { bytes = both; behind = law })
+      (refused_is limits w piece both f law, record { bytes = both; after = law })
 
 -- ---- a checker that is handed a piece
 
@@ -59,7 +59,7 @@ module _ (x : CheckerState) (w piece : List ℕ) (more : IsBytes piece) (h : Sta
   -- after a fault
   pub stays_refused : (f : Fault) → x.refused ≡ Some f → Takes x.limits w piece (check.Refused f) × Stands x (w ++ piece)
   stays_refused f is =
-      let law = subst (λ (r : Option Fault). StandsBehind x w r) is h.behind in
+      let law = subst (λ (r : Option Fault). StandsAfter x w r) is h.after in
       let told = fed_refused x.limits x.pieces w piece h.bytes more f (λ c. law (piece ++ c)) in
       (told.0, subst (λ (r : Option Fault). Stands (record { limits = x.limits; pieces = x.pieces; refused = r }) (w ++ piece)) (sym is) told.1)
 
@@ -69,7 +69,7 @@ module _ (x : CheckerState) (w piece : List ℕ) (more : IsBytes piece) (h : Sta
     Feeds r = (to : To) → Holds x.pieces to → Fed piece r p to
 
     holds : Holds x.pieces (after_bytes (message_on x.limits 0) w)
-    holds = subst (λ (r : Option Fault). StandsBehind x w r) none h.behind
+    holds = subst (λ (r : Option Fault). StandsAfter x w r) none h.after
 
     pub took_partial : (n : ℕ) → Feeds (Ok n) → IsLive p → Takes x.limits w piece check.Partial × Stands (record x { pieces = p }) (w ++ piece)
     took_partial n fed live =

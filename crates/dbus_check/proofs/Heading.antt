@@ -16,7 +16,7 @@ use Rattle.dbus_decode.specs.HeaderReading.{fixed_header, wanted_value, field_re
 use Rattle.dbus_decode.specs.declared.fixed_header.FixedHeader.{FixedHeader}
 use Rattle.dbus_decode.proofs.ReadingParts.{after_after, same_after}
 use Rattle.dbus_value_checker.specs.Suspended.{On, onward, done}
-use Rattle.dbus_check.specs.Heading.{has, seen_row, missing, Kept, nothing, kept_of, body_on, behind_fields, field_on, fields_on, message_on}
+use Rattle.dbus_check.specs.Heading.{has, seen_row, missing, Kept, nothing, kept_of, body_on, after_fields, field_on, fields_on, message_on}
 
 -- ---- lists of fields
 
@@ -151,7 +151,7 @@ module _ (limits : Limits) (order : Order) (kind body : ℕ) where
       after_after (read o s) _ (λ _. done)
       ∙ same_after (read o s) _ _ (λ xs p u. after_after (ends (o + body) p u) _ (λ _. done))
 
-  finish_is : (before : List FieldTree) (o : ℕ) (s : List ℕ) → finish (reverse before) o s ≡ behind_fields limits order kind body (kept_from before) o s
+  finish_is : (before : List FieldTree) (o : ℕ) (s : List ℕ) → finish (reverse before) o s ≡ after_fields limits order kind body (kept_from before) o s
   finish_is before o s =
       same_after (judge (lacks (required kind) (reverse before)) o s) _ _ (λ _ p u.
       same_after (bounded 8 (padding 8) p u) _ _ (λ _ q v. body_is (reverse before) q v))
@@ -170,14 +170,14 @@ module _ (limits : Limits) (order : Order) (kind body end : ℕ) where
   joined_more f before vs = ap (λ (l : List FieldTree). l ++ vs) (reverse-append (f ∷ []) before) ∙ append_assoc (reverse before) (f ∷ []) vs
 
   at_end : (w : Bool) (before : List FieldTree) (o : ℕ) (s : List ℕ)
-      → (let none : List FieldTree = [] in after (cond w (Done none o s) Partial) (joined before)) ≡ cond w (behind_fields limits order kind body (kept_from before) o s) Partial
+      → (let none : List FieldTree = [] in after (cond w (Done none o s) Partial) (joined before)) ≡ cond w (after_fields limits order kind body (kept_from before) o s) Partial
   at_end true before o s = ap (λ (fs : List FieldTree). finish limits order kind body fs o s) (append-nil (reverse before)) ∙ finish_is limits order kind body before o s
   at_end false before o s = refl
 
   at_field : (w : Bool) (turns : ℕ) (before : List FieldTree) (o : ℕ) (s : List ℕ)
       → ((f : FieldTree) (p : ℕ) (u : List ℕ) → after (up_to turns end (field_read limits order end) (f ∷ before) p u) (joined (f ∷ before)) ≡ kept_on turns (f ∷ before) p u)
       → (let none : List FieldTree = [] in after (cond w (after (field_read limits order end before o s) (λ f p u. after (up_to turns end (field_read limits order end) (f ∷ before) p u) (λ vs q v. Done (f ∷ vs) q v))) (cond (eqb o end) (Done none o s) Partial)) (joined before))
-      ≡ cond w (field_on limits order end (kept_from before) (fields_on limits order kind body turns end) o s) (cond (eqb o end) (behind_fields limits order kind body (kept_from before) o s) Partial)
+      ≡ cond w (field_on limits order end (kept_from before) (fields_on limits order kind body turns end) o s) (cond (eqb o end) (after_fields limits order kind body (kept_from before) o s) Partial)
   at_field true turns before o s ih =
       after_after (field_read limits order end before o s) (λ f p u. after (up_to turns end (field_read limits order end) (f ∷ before) p u) (λ vs q v. Done (f ∷ vs) q v)) (joined before)
       ∙ field_is limits order end before (fields_on limits order kind body turns end) _ o s (λ f p u.
@@ -192,10 +192,10 @@ module _ (limits : Limits) (order : Order) (kind body end : ℕ) where
 
 -- ---- a message
 
-abbrev pub behind_fixed : Limits → FixedHeader → On
-behind_fixed limits h o s = fields_on limits h.order h.kind h.body h.fields (o + h.fields) nothing o s
+abbrev pub after_fixed : Limits → FixedHeader → On
+after_fixed limits h o s = fields_on limits h.order h.kind h.body h.fields (o + h.fields) nothing o s
 
-pub message_on_is : (limits : Limits) (o : ℕ) (s : List ℕ) → message_on limits o s ≡ after (fixed_header limits o s) (behind_fixed limits)
+pub message_on_is : (limits : Limits) (o : ℕ) (s : List ℕ) → message_on limits o s ≡ after (fixed_header limits o s) (after_fixed limits)
 unfolding message_read fields_read
 message_on_is limits o s =
     after_after (fixed_header limits o s) _ (λ _. done)

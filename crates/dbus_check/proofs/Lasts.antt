@@ -79,8 +79,8 @@ module _ (order : Order) (w end : ℕ) (row : ℕ → ℕ → Option Reason) whe
   number_read o got c whole fits =
       let long : w ≤ length (got ++ c) = omega (arith, length-append got c) in
       let at : take w (got ++ c) ≡ got = take_at got c w whole in
-      let behind : drop w (got ++ c) ≡ c = drop_at got c w whole in
-      rw (le-ltb _ _ fits, le-ltb _ _ long, at, behind) refl
+      let suffix : drop w (got ++ c) ≡ c = drop_at got c w whole in
+      rw (le-ltb _ _ fits, le-ltb _ _ long, at, suffix) refl
 
   there : (o : ℕ) (s c : List ℕ) → o + w ≤ end → w ≤ length s → run o (s ++ c) ≡ judged (row (o + w) (number_of order (take w s))) (number_of order (take w s)) o (o + w) (drop w s ++ c)
   there o s c fits long =

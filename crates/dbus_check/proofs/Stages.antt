@@ -28,10 +28,10 @@ use Rattle.dbus_value_checker.specs.Suspended.{On, onward, done}
 use Rattle.dbus_value_checker.specs.Denotations as values
 use Rattle.dbus_value_checker.specs.Moves.{values_on}
 use Rattle.dbus_value_checker.specs.declared.values.Values.{Values}
-use Rattle.dbus_check.specs.Heading.{Kept, missing, body_on, behind_fields, fields_on, message_on}
+use Rattle.dbus_check.specs.Heading.{Kept, missing, body_on, after_fields, fields_on, message_on}
 use Rattle.dbus_check.specs.Progress.{To, Moves, Under}
 use Rattle.dbus_check.specs.declared.progress.Progress.{Progress}
-use Rattle.dbus_check.proofs.Heading.{behind_fixed, message_on_is}
+use Rattle.dbus_check.proofs.Heading.{after_fixed, message_on_is}
 use Rattle.dbus_check.proofs.Lasts.{lasts_fixed, sized_fixed}
 use Rattle.dbus_value_checker.proofs.FrontSteps.{split-at}
 
@@ -45,11 +45,11 @@ module _ (limits : Limits) (s : List ℕ) where
   few : length (take 16 s) ≤ 16
   few = omega (arith, length-take 16 s)
 
-  pub header_taken : (h : FixedHeader) → fixed_header limits 0 (take 16 s) ≡ Done h 16 (drop 16 (take 16 s)) → (c : List ℕ) → message_on limits 0 (take 16 s ++ c) ≡ behind_fixed limits h 16 c
+  pub header_taken : (h : FixedHeader) → fixed_header limits 0 (take 16 s) ≡ Done h 16 (drop 16 (take 16 s)) → (c : List ℕ) → message_on limits 0 (take 16 s ++ c) ≡ after_fixed limits h 16 c
   header_taken h e c =
       message_on_is limits 0 (take 16 s ++ c)
-      ∙ ap (λ (r : Outcome FixedHeader). after r (behind_fixed limits)) ((lasts_fixed limits).reads 0 (take 16 s) h 16 (drop 16 (take 16 s)) e c)
-      ∙ ap (λ (t : List ℕ). behind_fixed limits h 16 (t ++ c)) (drop_all 16 (take 16 s) few)
+      ∙ ap (λ (r : Outcome FixedHeader). after r (after_fixed limits)) ((lasts_fixed limits).reads 0 (take 16 s) h 16 (drop 16 (take 16 s)) e c)
+      ∙ ap (λ (t : List ℕ). after_fixed limits h 16 (t ++ c)) (drop_all 16 (take 16 s) few)
 
   pub header_short : fixed_header limits 0 (take 16 s) ≡ Partial → length s < 16
   header_short e = let h = (sized_fixed limits).waits 0 (take 16 s) e in omega (arith, length-take 16 s, h)
@@ -59,22 +59,22 @@ module _ (limits : Limits) (s : List ℕ) where
   header_stops stops.Partial not h x to same =
       let short = header_short h in
       let all : take 16 s ≡ s = take_all 16 s (omega arith) in
-      (refl, sym (same s) ∙ message_on_is limits 0 s ∙ ap (λ (t : List ℕ). after (fixed_header limits 0 t) (behind_fixed limits)) (sym all) ∙ ap (λ (r : Outcome FixedHeader). after r (behind_fixed limits)) h)
+      (refl, sym (same s) ∙ message_on_is limits 0 s ∙ ap (λ (t : List ℕ). after (fixed_header limits 0 t) (after_fixed limits)) (sym all) ∙ ap (λ (r : Outcome FixedHeader). after r (after_fixed limits)) h)
   header_stops (stops.Refused f) not h x to same = λ c.
       sym (same (s ++ c)) ∙ ap (message_on limits 0) (split-at 16 s c) ∙ message_on_is limits 0 (take 16 s ++ (drop 16 s ++ c))
-      ∙ ap (λ (r : Outcome FixedHeader). after r (behind_fixed limits)) ((lasts_fixed limits).refuses 0 (take 16 s) f h (drop 16 s ++ c))
+      ∙ ap (λ (r : Outcome FixedHeader). after r (after_fixed limits)) ((lasts_fixed limits).refuses 0 (take 16 s) f h (drop 16 s ++ c))
 
 -- ---- after the fields
 
 module _ (limits : Limits) (order : Order) (kind body : ℕ) (kept : Kept) where
-  pub fields_over : (turns end o : ℕ) (c : List ℕ) → o ≡ end → fields_on limits order kind body turns end kept o c ≡ behind_fields limits order kind body kept o c
+  pub fields_over : (turns end o : ℕ) (c : List ℕ) → o ≡ end → fields_on limits order kind body turns end kept o c ≡ after_fields limits order kind body kept o c
   fields_over zero end o c e = rw (eq-eqb o end e) refl
   fields_over (suc turns) end o c e = let le : end ≤ o = omega arith in rw (le-ltb _ _ le, eq-eqb o end e) refl
 
-  pub lacks_field : (why : Reason) (o : ℕ) (c : List ℕ) → missing (required kind) kept.codes ≡ Some why → behind_fields limits order kind body kept o c ≡ Faulty (fault o why)
+  pub lacks_field : (why : Reason) (o : ℕ) (c : List ℕ) → missing (required kind) kept.codes ≡ Some why → after_fields limits order kind body kept o c ≡ Faulty (fault o why)
   lacks_field why o c e = ap (λ (r : Option Reason). after (judge r o c) (λ _ o. onward (padding 8 (o + 8)) (body_on limits order body kept) o)) e
 
-  pub lacks_none : (o : ℕ) (c : List ℕ) → missing (required kind) kept.codes ≡ None → behind_fields limits order kind body kept o c ≡ onward (padding 8 (o + 8)) (body_on limits order body kept) o c
+  pub lacks_none : (o : ℕ) (c : List ℕ) → missing (required kind) kept.codes ≡ None → after_fields limits order kind body kept o c ≡ onward (padding 8 (o + 8)) (body_on limits order body kept) o c
   lacks_none o c e = ap (λ (r : Option Reason). after (judge r o c) (λ _ o. onward (padding 8 (o + 8)) (body_on limits order body kept) o)) e
 
   -- ---- the padding before the body

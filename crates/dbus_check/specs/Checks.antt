@@ -25,14 +25,14 @@ abbrev pub limits_of : CheckerState → Limits
 limits_of x = x.limits
 
 -- what is noted goes on after these bytes, or their fault stays whatever follows
-abbrev pub StandsBehind : CheckerState → List ℕ → Option Fault → Type 0
-StandsBehind x w None = Holds x.pieces (after_bytes (message_on x.limits 0) w)
-StandsBehind x w (Some f) = (c : List ℕ) → message_on x.limits 0 (w ++ c) ≡ Faulty f
+abbrev pub StandsAfter : CheckerState → List ℕ → Option Fault → Type 0
+StandsAfter x w None = Holds x.pieces (after_bytes (message_on x.limits 0) w)
+StandsAfter x w (Some f) = (c : List ℕ) → message_on x.limits 0 (w ++ c) ≡ Faulty f
 
 -- w is all that the checker took since it was made or began again: the bytes of the message under way
 pub record Stands (x : CheckerState) (w : List ℕ) : Type 0 where
   pub bytes : IsBytes w
-  pub behind : StandsBehind x w x.refused
+  pub after : StandsAfter x w x.refused
 
 -- the bytes of the piece that are taken: up to the message's end
 abbrev pub taken : List ℕ → Check → List ℕ

@@ -53,8 +53,8 @@ body_on limits order body kept o s =
     onward (fields (value (bounds_with limits (index_limit limits.fds kept.count)) order limits.depth (o + body)) (types_spelled kept.text)) (onward (ends (o + body)) done) o s
 
 -- after the fields
-abbrev pub behind_fields : Limits → Order → ℕ → ℕ → Kept → On
-behind_fields limits order kind body kept =
+abbrev pub after_fields : Limits → Order → ℕ → ℕ → Kept → On
+after_fields limits order kind body kept =
     onward (judge (missing (required kind) kept.codes)) (λ o. onward (padding 8 (o + 8)) (body_on limits order body kept) o)
 
 -- after a field's code
@@ -69,10 +69,10 @@ field_on limits order end kept more =
 
 -- the fields, with at most so many to come
 abbrev pub fields_on : Limits → Order → (kind body turns end : ℕ) → Kept → On
-fields_on limits order kind body zero end kept o s = if nat_eq o end then behind_fields limits order kind body kept o s else Partial
+fields_on limits order kind body zero end kept o s = if nat_eq o end then after_fields limits order kind body kept o s else Partial
 fields_on limits order kind body (suc turns) end kept o s =
     if nat_lt o end then field_on limits order end kept (fields_on limits order kind body turns end) o s
-    else if nat_eq o end then behind_fields limits order kind body kept o s else Partial
+    else if nat_eq o end then after_fields limits order kind body kept o s else Partial
 
 -- a message, from its first byte on
 abbrev pub message_on : Limits → On

@@ -44,12 +44,12 @@ fn command_named(alloc: Global, matches: &ArgMatches) -> Result<(Command, Limits
         return Err(usage(alloc, "error: no command\n"));
     };
     let limits = limits_named(alloc, inner)?;
-    let command = command_behind(alloc, name, inner)?;
+    let command = command_with(alloc, name, inner)?;
     Ok((command, limits))
 }
 
 // The command of this name, with what stands after it.
-fn command_behind(alloc: Global, name: &str, inner: &ArgMatches) -> Result<Command, UsageFault>
+fn command_with(alloc: Global, name: &str, inner: &ArgMatches) -> Result<Command, UsageFault>
     ensures { TellsCommand name.now (rows_of (found_of inner.now)) result }
 {
     if name == "show" {

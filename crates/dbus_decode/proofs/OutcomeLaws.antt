@@ -80,8 +80,8 @@ pub whole_bytes : (limits : Limits) (b : List ℕ) (order : Order) (m : MessageT
 unfolding IsWhole
 whole_bytes limits b order m n w =
     let front : take n b ≡ message_bytes order m = ap (take n) w.bytes ∙ take_at (message_bytes order m) w.rest n (sym w.size) in
-    let behind : drop n b ≡ w.rest = ap (drop n) w.bytes ∙ drop_at (message_bytes order m) w.rest n (sym w.size) in
-    (front, w.size, w.bytes ∙ ap (λ (t : List ℕ). message_bytes order m ++ t) (sym behind))
+    let suffix : drop n b ≡ w.rest = ap (drop n) w.bytes ∙ drop_at (message_bytes order m) w.rest n (sym w.size) in
+    (front, w.size, w.bytes ∙ ap (λ (t : List ℕ). message_bytes order m ++ t) (sym suffix))
 
 -- a message that bytes begin with is valid
 pub whole_valid : (limits : Limits) (b : List ℕ) (order : Order) (m : MessageTree) (n : ℕ) → IsWhole limits b order m n → IsValidMessage limits m

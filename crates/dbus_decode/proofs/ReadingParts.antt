@@ -27,20 +27,20 @@ after_after Partial f g = refl
 -- ---- a field
 
 module _ {W : Type 0} (d : TypeTree → Reader ValueTree) (last : ValueTree → Reader W) where
-  behind_nul : (held : TypeTree) (r : Outcome (Unit {0})) → after (after (after r (λ _. pure held)) d) last ≡ after r (λ _ p t. after (d held p t) last)
-  behind_nul held (Done x p t) = refl
-  behind_nul held (Faulty f) = refl
-  behind_nul held Partial = refl
+  after_nul : (held : TypeTree) (r : Outcome (Unit {0})) → after (after (after r (λ _. pure held)) d) last ≡ after r (λ _ p t. after (d held p t) last)
+  after_nul held (Done x p t) = refl
+  after_nul held (Faulty f) = refl
+  after_nul held Partial = refl
 
-  behind_signature : (r : Outcome TypeTree) → after (after (after r (λ held p t. after (nul p t) (λ _. pure held))) d) last ≡ after r (λ held p t. after (nul p t) (λ _ p t. after (d held p t) last))
-  behind_signature (Done held p t) = behind_nul held (nul p t)
-  behind_signature (Faulty f) = refl
-  behind_signature Partial = refl
+  after_signature : (r : Outcome TypeTree) → after (after (after r (λ held p t. after (nul p t) (λ _. pure held))) d) last ≡ after r (λ held p t. after (nul p t) (λ _ p t. after (d held p t) last))
+  after_signature (Done held p t) = after_nul held (nul p t)
+  after_signature (Faulty f) = refl
+  after_signature Partial = refl
 
-  behind_length : (signed : ℕ → Reader TypeTree) (r : Outcome ℕ) → after (after (after r (λ n p t. after (signed n p t) (λ held p t. after (nul p t) (λ _. pure held)))) d) last ≡ after r (λ n p t. after (signed n p t) (λ held p t. after (nul p t) (λ _ p t. after (d held p t) last)))
-  behind_length signed (Done n p t) = behind_signature (signed n p t)
-  behind_length signed (Faulty f) = refl
-  behind_length signed Partial = refl
+  after_length : (signed : ℕ → Reader TypeTree) (r : Outcome ℕ) → after (after (after r (λ n p t. after (signed n p t) (λ held p t. after (nul p t) (λ _. pure held)))) d) last ≡ after r (λ n p t. after (signed n p t) (λ held p t. after (nul p t) (λ _ p t. after (d held p t) last)))
+  after_length signed (Done n p t) = after_signature (signed n p t)
+  after_length signed (Faulty f) = refl
+  after_length signed Partial = refl
 
 -- what follows an opened container
 opened_after : {B : Type 0} (depth o : ℕ) (s : List ℕ) (f g : ℕ → Reader B) → ((room : ℕ) → depth ≡ suc room → f room o s ≡ g room o s) → after (reads.opening depth o s) f ≡ after (reads.opening depth o s) g
@@ -56,7 +56,7 @@ module _ (limits : Limits) (order : Order) (room : ℕ) (opened : limits.depth �
       let two : limits.depth - 2 ≡ within = omega (arith, opened, struct) in
       rw two (opened_after within p t _ _ (λ inner variant.
       let three : limits.depth - 3 ≡ inner = omega (arith, opened, struct, variant) in
-      rw three (behind_length (reads.value_wanted (bounds_of limits) order inner end (want code)) _ (signature (kind_wanted (want code))) (number order 1 end (text_row end) p t))))))))
+      rw three (after_length (reads.value_wanted (bounds_of limits) order inner end (want code)) _ (signature (kind_wanted (want code))) (number order 1 end (text_row end) p t))))))))
 
 -- ---- the fields
 

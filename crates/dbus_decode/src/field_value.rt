@@ -72,8 +72,8 @@ fn read_wanted(bytes: &[u8], at: usize, end: usize, wanted: &[u8]) -> Result<usi
     ensures moves { IfOk result (λ q. (at < q) × (q ≤ end) × (q ≤ length bytes.now)) }
 {
     let (n, at) = read_short_length(bytes, at, end)?;
-    let behind = read_exactly(bytes, at, n, wanted)?;
-    read_nul(bytes, behind)
+    let after = read_exactly(bytes, at, n, wanted)?;
+    read_nul(bytes, after)
 }
 
 /// The length of a name: `NameTooLong` where it is over 255, else `Overrun` where the name and the zero after it end past
@@ -91,15 +91,15 @@ fn read_name_length(
     ensures moves { IfOk result (λ x. (x.1 ≡ at + 4) × (x.1 + x.0 < end) ×
         (x.1 ≤ length bytes.now)) }
 {
-    let (n, behind) = read_u32(bytes, at, end, order)?;
+    let (n, after) = read_u32(bytes, at, end, order)?;
     if n > NAME_LIMIT {
         return refuse(at, Reason::NameTooLong);
     }
     let n = n as usize;
-    if end - behind <= n {
+    if end - after <= n {
         return refuse(at, Reason::Overrun);
     }
-    Ok((n, behind))
+    Ok((n, after))
 }
 
 /// A field that holds a name: a STRING that is a text of the kind.
@@ -124,9 +124,9 @@ fn read_name<A: Allocator + Copy>(
     let at = read_wanted(bytes, at, end, b"s")?;
     let at = read_padding(bytes, at, end, 4)?;
     let (n, at) = read_name_length(bytes, at, end, order)?;
-    let behind = read_text(bytes, at, n, kind)?;
-    let next = read_nul(bytes, behind)?;
-    let name = copy_text(alloc, &bytes[at..behind])?;
+    let after = read_text(bytes, at, n, kind)?;
+    let next = read_nul(bytes, after)?;
+    let name = copy_text(alloc, &bytes[at..after])?;
     Ok((Value::Str(name), next))
 }
 
@@ -207,8 +207,8 @@ fn read_anything<A: Allocator + Copy>(
     ensures packed { IfOk result (λ x. IsTrue (keeps_bytes x.0)) }
 {
     let (n, at) = read_short_length(bytes, at, end)?;
-    let (held, behind) = read_signature(alloc, bytes, at, n)?;
-    let at = read_nul(bytes, behind)?;
+    let (held, after) = read_signature(alloc, bytes, at, n)?;
+    let at = read_nul(bytes, after)?;
     read_value(
         alloc,
         bytes,

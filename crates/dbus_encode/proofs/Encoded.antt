@@ -21,8 +21,8 @@ patched_first x a b c z s y f n zl sl yl =
     let all : (z ++ (s ++ y)) ++ f ≡ (z ++ s) ++ (y ++ f) = simp append_assoc in
     let front : take 8 ((z ++ (s ++ y)) ++ f) ≡ z ++ s = ap (take 8) all ∙ take_at (z ++ s) (y ++ f) 8 (omega (arith, length-append z s)) in
     let zsy : (z ++ (s ++ y)) ++ f ≡ ((z ++ s) ++ y) ++ f = simp append_assoc in
-    let behind : drop 12 ((z ++ (s ++ y)) ++ f) ≡ f = ap (drop 12) zsy ∙ drop_at ((z ++ s) ++ y) f 12 (omega (arith, length-append z s, length-append (z ++ s) y)) in
-    ap (λ (t : List ℕ). x ∷ (a ∷ (b ∷ (c ∷ t)))) (ap (λ (t : List ℕ). t ++ (n ++ drop 12 ((z ++ (s ++ y)) ++ f))) front ∙ ap (λ (t : List ℕ). (z ++ s) ++ (n ++ t)) behind ∙ append_assoc z s (n ++ f))
+    let suffix : drop 12 ((z ++ (s ++ y)) ++ f) ≡ f = ap (drop 12) zsy ∙ drop_at ((z ++ s) ++ y) f 12 (omega (arith, length-append z s, length-append (z ++ s) y)) in
+    ap (λ (t : List ℕ). x ∷ (a ∷ (b ∷ (c ∷ t)))) (ap (λ (t : List ℕ). t ++ (n ++ drop 12 ((z ++ (s ++ y)) ++ f))) front ∙ ap (λ (t : List ℕ). (z ++ s) ++ (n ++ t)) suffix ∙ append_assoc z s (n ++ f))
 
 patched_second : (x a b c : ℕ) (z r n : List ℕ) → length z ≡ 4 →
     let o : List ℕ = x ∷ (a ∷ (b ∷ (c ∷ (z ++ r)))) in

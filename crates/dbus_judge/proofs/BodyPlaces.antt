@@ -55,6 +55,6 @@ module _ (order : Order) (m : MessageTree) where
       let header = header_bytes order m in
       let there : b ≡ header ++ (body ++ w.rest) = w.bytes ∙ ap (λ (u : List ℕ). u ++ w.rest) (sym header_first) ∙ append_assoc header body w.rest in
       let long : length header ≡ start = header_length ∙ is in
-      let behind : drop start b ≡ body ++ w.rest = ap (drop start) there ∙ drop_at header (body ++ w.rest) start long in
+      let suffix : drop start b ≡ body ++ w.rest = ap (drop start) there ∙ drop_at header (body ++ w.rest) start long in
       let size : length body ≡ n - start = omega (arith, w.size, message_length order m, is) in
-      sym (ap (take (n - start)) behind ∙ take_at body w.rest (n - start) size)
+      sym (ap (take (n - start)) suffix ∙ take_at body w.rest (n - start) size)

@@ -68,8 +68,8 @@ module _ (limits : Limits) (bytes : List ℕ) (are : (i : ℕ) → get_or bytes 
 
       pub is_judged : (seen : Seen) → AreNoted fs bytes seen → start ≡ 16 + h.fields + gap_to 8 (16 + h.fields)
           → IsJudged limits bytes (record { length = start + h.body; order = h.order; kind = h.kind; flags = h.flags; serial = h.serial; fields = seen; body = start })
-      is_judged seen noted behind =
-          let begins = body_begins (bounds_of limits) h.order (limits.depth - 1) h.fields start fs (drop 16 bytes) (drop (16 + h.fields) bytes) sequence behind in
+      is_judged seen noted suffix =
+          let begins = body_begins (bounds_of limits) h.order (limits.depth - 1) h.fields start fs (drop 16 bytes) (drop (16 + h.fields) bytes) sequence suffix in
           record {
             message = made;
             whole = whole;

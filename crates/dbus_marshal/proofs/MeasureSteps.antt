@@ -120,10 +120,10 @@ module _ (limits : Limits) where
 
   pub measured-coded : (x : ValueTree) (at p q s : ℕ) (r : Option ℕ) → p ≡ capped (at + gap_to 8 at) → q ≡ capped (p + (gap_to 1 p + 1)) → s ≡ capped (q + (gap_to 1 q + (1 + (length (sig (type_of x)) + 1)))) →
       IsMeasured limits.array x s r → (code : ℕ) → IsMeasured limits.array (coded code x) at r
-  measured-coded x at p q s r begins behind is inner code =
+  measured-coded x at p q s r begins suffix is inner code =
       let held = measured-one (VariantValue x) q r (measured-variant x q s r is inner) in
       measured-struct (MoreValues (NumberValue BYTE code) (MoreValues (VariantValue x) NoValues)) at p r begins
-      (measured-more (NumberValue BYTE code) (MoreValues (VariantValue x) NoValues) p q r (measured-number BYTE code p q behind) held)
+      (measured-more (NumberValue BYTE code) (MoreValues (VariantValue x) NoValues) p q r (measured-number BYTE code p q suffix) held)
 
   -- ---- arrays
 

@@ -74,9 +74,9 @@ array_patched order t xs front b z y x at n m is_b is_at is_z is_y is_x is_n =
     let flat : x ≡ b ++ (zeros ++ (gap ++ c)) = x_is ∙ simp append_assoc in
     let flat2 : x ≡ (b ++ zeros) ++ (gap ++ c) = x_is ∙ append_assoc (b ++ zeros) gap c in
     let before : take at x ≡ b = ap (λ (l : List ℕ). take at l) flat ∙ take_at b (zeros ++ (gap ++ c)) at (sym is_at) in
-    let behind : drop (at + 4) x ≡ gap ++ c = ap (λ (l : List ℕ). drop (at + 4) l) flat2 ∙ drop_at (b ++ zeros) (gap ++ c) (at + 4) (omega (arith, length-append b zeros)) in
+    let suffix : drop (at + 4) x ≡ gap ++ c = ap (λ (l : List ℕ). drop (at + 4) l) flat2 ∙ drop_at (b ++ zeros) (gap ++ c) (at + 4) (omega (arith, length-append b zeros)) in
     ap (λ (l : List ℕ). l ++ (num order 4 n ++ drop (at + 4) x)) before
-    ∙ ap (λ (l : List ℕ). b ++ (num order 4 n ++ l)) behind
+    ∙ ap (λ (l : List ℕ). b ++ (num order 4 n ++ l)) suffix
     ∙ ap (λ (k : ℕ). b ++ (num order 4 k ++ (gap ++ c))) n_is
     ∙ ap (λ (l : List ℕ). l ++ (num order 4 (length c) ++ (gap ++ c))) is_b
     ∙ append_assoc front (pad 4 o) (num order 4 (length c) ++ (gap ++ c))

@@ -204,11 +204,11 @@ module _ (limits : Limits) where
       let l = Long order x in
       let k = λ (o : ℕ). IsWithinLimits limits.array order o x in
       let ended = ended_text order 1 (sig (type_of x)) in
-      let behind : (o : ℕ) → o + 1 + n + 1 ≡ o + length ended = λ o. omega (arith, length-ended order 1 (sig (type_of x))) in
+      let suffix : (o : ℕ) → o + 1 + n + 1 ≡ o + length ended = λ o. omega (arith, length-ended order 1 (sig (type_of x))) in
       Measures-as b (item limits b 1 ⊳ item limits b n ⊳ item limits b 1 ⊳ sized limits x b) (λ o. 1 + (n + (1 + l (o + 1 + n + 1)))) (Long order (VariantValue x)) (λ o. Kept o × (Kept o × (Kept o × k (o + 1 + n + 1))))
       (λ o. IsWithinLimits limits.array order o (VariantValue x))
-      (λ o. let same : l (o + 1 + n + 1) ≡ l (o + length ended) = ap l (behind o) in omega (arith, same, length-variant order o x, length-ended order 1 (sig (type_of x))))
-      (λ o h. subst k (behind o) h.1.1.1) (λ o h. (tt, (tt, (tt, subst k (sym (behind o)) h))))
+      (λ o. let same : l (o + 1 + n + 1) ≡ l (o + length ended) = ap l (suffix o) in omega (arith, same, length-variant order o x, length-ended order 1 (sig (type_of x))))
+      (λ o h. subst k (suffix o) h.1.1.1) (λ o h. (tt, (tt, (tt, subst k (sym (suffix o)) h))))
       (Measures-then b (item limits b 1) (item limits b n ⊳ item limits b 1 ⊳ sized limits x b) (λ o. 1) (λ o. n + (1 + l (o + n + 1))) Kept (λ o. Kept o × (Kept o × k (o + n + 1))) (Measures-item b 1)
       (Measures-then b (item limits b n) (item limits b 1 ⊳ sized limits x b) (λ o. n) (λ o. 1 + l (o + 1)) Kept (λ o. Kept o × k (o + 1)) (Measures-item b n)
       (Measures-then b (item limits b 1) (sized limits x b) (λ o. 1) l Kept k (Measures-item b 1) inner)))

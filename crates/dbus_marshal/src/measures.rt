@@ -51,8 +51,8 @@ pub fn measure_header_field<A: Allocator>(value: &Value<A>, at: u64, limits: Lim
         result }
     ensures within { IfSome result IsCapped }
 {
-    let behind_code = number(1, boundary(8, at));
-    measure_value(value, text(1, signature_length(value), behind_code), limits)
+    let code_end = number(1, boundary(8, at));
+    measure_value(value, text(1, signature_length(value), code_end), limits)
 }
 
 /// The offset that stands for `at`.
@@ -128,8 +128,8 @@ fn measure_value<A: Allocator>(value: &Value<A>, at: u64, limits: Limits) -> Opt
         }
         Value::Struct(fields) => measure_values(fields, boundary(8, at), limits),
         Value::Entry(entry) => {
-            let behind_key = measure_value(&entry.key, boundary(8, at), limits)?;
-            measure_value(&entry.value, behind_key, limits)
+            let key_end = measure_value(&entry.key, boundary(8, at), limits)?;
+            measure_value(&entry.value, key_end, limits)
         }
         Value::Variant(inner) => measure_value(inner, text(1, signature_length(inner), at), limits),
     }

@@ -5,7 +5,7 @@ use Rattle.std.proofs.lemmas.Bool.{cond_both, cond-true, cond-false, eqb-true, e
 use Rattle.dbus_match.specs.Keys.{key_text, IsKey, rank}
 use Rattle.dbus_match.proofs.KeyTexts.{key_no_nul}
 use Rattle.dbus_match.specs.Values.{Piece, quoted, escaped, pieces_text, pieces_value, ArePieces}
-use Rattle.dbus_match.specs.Rules.{Pair, IsPair, IsRule, IsAbove, IsAscending, HasKey, AreApart, Item, item_text, pair_of, pairs_of, behind_each, spaces_alone, one_more, last_text, last_pairs, GivesPairs, SpellsRule, quote_escaped, pair_text, canonical}
+use Rattle.dbus_match.specs.Rules.{Pair, IsPair, IsRule, IsAbove, IsAscending, HasKey, AreApart, Item, item_text, pair_of, pairs_of, each_with_comma, spaces_alone, one_more, last_text, last_pairs, GivesPairs, SpellsRule, quote_escaped, pair_text, canonical}
 
 -- a value's pieces after the first apostrophe: a run that is closed, and the others
 pub record Quoting (v : List ℕ) : Type 0 where
@@ -67,7 +67,7 @@ give_pairs (p ∷ q ∷ ps) h =
       last = g.last;
       are = (item_is p h.0.key, g.are);
       last_is = g.last_is;
-      spelled = ap (λ y. pair_text p ++ 44 ∷ y) g.spelled ∙ ap (λ y. y ++ 44 ∷ (behind_each g.items ++ last_text g.last)) (sym (item_spells p)) ∙ sym (append_assoc (item_text (item_of p)) (44 ∷ behind_each g.items) (last_text g.last));
+      spelled = ap (λ y. pair_text p ++ 44 ∷ y) g.spelled ∙ ap (λ y. y ++ 44 ∷ (each_with_comma g.items ++ last_text g.last)) (sym (item_spells p)) ∙ sym (append_assoc (item_text (item_of p)) (44 ∷ each_with_comma g.items) (last_text g.last));
       pairs = ap (λ y. p ∷ y) g.pairs ∙ ap (λ y. y ∷ (pairs_of g.items ++ last_pairs g.last)) (sym (item_gives p));
     }
 

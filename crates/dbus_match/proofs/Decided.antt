@@ -60,9 +60,9 @@ last_is : (a : ℕ) (front : List ℕ) → a ∷ [] ≡ front ++ 47 ∷ [] → a
 last_is a [] e = cc
 last_is a (c ∷ front) e = absurd (not_empty front (cc e))
 
-ends_behind : (a b : ℕ) (v front : List ℕ) → a ∷ b ∷ v ≡ front ++ 47 ∷ [] → EndsInSlash (b ∷ v)
-ends_behind a b v [] e = absurd cc
-ends_behind a b v (c ∷ front) e = (front, cc e)
+ends_after : (a b : ℕ) (v front : List ℕ) → a ∷ b ∷ v ≡ front ++ 47 ∷ [] → EndsInSlash (b ∷ v)
+ends_after a b v [] e = absurd cc
+ends_after a b v (c ∷ front) e = (front, cc e)
 
 ends : (v : List ℕ) → Either (EndsInSlash v)
 ends [] = inr (λ h. not_empty h.0 h.1)
@@ -72,7 +72,7 @@ ends (a ∷ []) = elim (cases_eq a 47) [
 ]
 ends (a ∷ b ∷ v) = elim (ends (b ∷ v)) [
   | inl h ↦ inl (a ∷ h.0, cc (h.1))
-  | inr n ↦ inr (λ h. n (ends_behind a b v h.0 h.1))
+  | inr n ↦ inr (λ h. n (ends_after a b v h.0 h.1))
 ]
 
 -- ---- what a key asks of a text

@@ -5,7 +5,7 @@ use Rattle.dbus_match.specs.declared.fault.RuleReason.{RuleReason}
 use Rattle.dbus_match.specs.declared.fault.RuleReason.TheVariants.{Nul, NoEquals}
 use Rattle.dbus_match.specs.Keys.{IsKey}
 use Rattle.dbus_match.specs.Values.{ArePieces}
-use Rattle.dbus_match.specs.Rules.{Pair, Item, item_text, pair_of, pairs_of, behind_each, AreItems, Last, spaces_alone, one_more, last_text, last_pairs, IsLast, SpellsRule}
+use Rattle.dbus_match.specs.Rules.{Pair, Item, item_text, pair_of, pairs_of, each_with_comma, AreItems, Last, spaces_alone, one_more, last_text, last_pairs, IsLast, SpellsRule}
 use Rattle.dbus_match.specs.Faults.{IsNul, AreGood, IsPairFault, HasPairFault}
 use Rattle.dbus_match.specs.Laws.{OneFault, NotBoth}
 use Rattle.dbus_match.proofs.Unique.{item_same, pieces_before, last_no_items}
@@ -19,7 +19,7 @@ pub record GoesOn (is : List Item) (x : List ℕ) (js : List Item) (y : List ℕ
   pub back : List Item
   pub key_is : IsKey next.key
   pub are : ArePieces next.pieces []
-  pub text : x ≡ item_text next ++ 44 ∷ (behind_each back ++ y)
+  pub text : x ≡ item_text next ++ 44 ∷ (each_with_comma back ++ y)
   pub pairs : pairs_of js ≡ pairs_of is ++ pair_of next ∷ pairs_of back
 
 pub record AreSame (is : List Item) (x : List ℕ) (js : List Item) (y : List ℕ) : Type 0 where
@@ -36,14 +36,14 @@ goes_more i j is js x y e g = record { next = g.next; back = g.back; key_is = g.
 same_more : (i j : Item) (is js : List Item) (x y : List ℕ) → pair_of i ≡ pair_of j → AreSame is x js y → AreSame (i ∷ is) x (j ∷ js) y
 same_more i j is js x y e g = record { pairs = ap (λ p. p ∷ pairs_of js) (sym e) ∙ ap (λ ps. pair_of i ∷ ps) g.pairs; rest = g.rest }
 
-pub compare_items : (is js : List Item) (x y : List ℕ) → AreItems is → AreItems js → behind_each is ++ x ≡ behind_each js ++ y → AreCompared is x js y
+pub compare_items : (is js : List Item) (x y : List ℕ) → AreItems is → AreItems js → each_with_comma is ++ x ≡ each_with_comma js ++ y → AreCompared is x js y
 compare_items [] [] x y h k e = inl (record { pairs = refl; rest = e })
-compare_items [] (j ∷ js) x y h k e = inr (inl (record { next = j; back = js; key_is = k.0.0; are = k.0.1; text = e ∙ append_assoc (item_text j) (44 ∷ behind_each js) y; pairs = refl }))
-compare_items (i ∷ is) [] x y h k e = inr (inr (record { next = i; back = is; key_is = h.0.0; are = h.0.1; text = sym e ∙ append_assoc (item_text i) (44 ∷ behind_each is) x; pairs = refl }))
+compare_items [] (j ∷ js) x y h k e = inr (inl (record { next = j; back = js; key_is = k.0.0; are = k.0.1; text = e ∙ append_assoc (item_text j) (44 ∷ each_with_comma js) y; pairs = refl }))
+compare_items (i ∷ is) [] x y h k e = inr (inr (record { next = i; back = is; key_is = h.0.0; are = h.0.1; text = sym e ∙ append_assoc (item_text i) (44 ∷ each_with_comma is) x; pairs = refl }))
 compare_items (i ∷ is) (j ∷ js) x y h k e =
-    let u = behind_each is ++ x in
-    let v = behind_each js ++ y in
-    let s = item_same i j (44 ∷ u) (44 ∷ v) h.0.0 k.0.0 h.0.1 k.0.1 refl refl (sym (append_assoc (item_text i) (44 ∷ behind_each is) x) ∙ e ∙ append_assoc (item_text j) (44 ∷ behind_each js) y) in
+    let u = each_with_comma is ++ x in
+    let v = each_with_comma js ++ y in
+    let s = item_same i j (44 ∷ u) (44 ∷ v) h.0.0 k.0.0 h.0.1 k.0.1 refl refl (sym (append_assoc (item_text i) (44 ∷ each_with_comma is) x) ∙ e ∙ append_assoc (item_text j) (44 ∷ each_with_comma js) y) in
     let t : u ≡ v = let q = s.1 in cc in
     ⊎_elim
     (λ a. inl (same_more i j is js x y s.0 a))
@@ -56,7 +56,7 @@ same_place a b x y e f = let k = ap length e in let l = ap length f in let m = l
 -- a fault where good pairs go on
 fault_not_on : (is js : List Item) (x y : List ℕ) (n : ℕ) (reason : RuleReason) (at : ℕ) → GoesOn is x js y → (ps : List Pair) → AreGood (pairs_of js ++ ps) → IsPairFault (pairs_of is) x n reason at → ⊥
 fault_not_on is js x y n reason at g ps h f =
-    let r = 44 ∷ (behind_each g.back ++ y) in
+    let r = 44 ∷ (each_with_comma g.back ++ y) in
     let e : pairs_of js ++ ps ≡ pairs_of is ++ pair_of g.next ∷ (pairs_of g.back ++ ps) = ap (λ z. z ++ ps) g.pairs ∙ append_assoc (pairs_of is) (pair_of g.next ∷ pairs_of g.back) ps in
     let k = subst (λ z. AreGood z) e h in
     stands_no_fault (pairs_of is) g.next r n reason at
@@ -74,14 +74,14 @@ good_nil ps h = subst (λ z. AreGood z) (sym (append-nil ps)) h
 
 pair_faults_same : (w : List ℕ) (r s : RuleReason) (m n : ℕ) → HasPairFault w r m → HasPairFault w s n → (r ≡ s) × (m ≡ n)
 pair_faults_same w r s m n h k =
-    let e : behind_each h.items ++ h.more ≡ behind_each k.items ++ k.more = sym h.spelled ∙ k.spelled in
+    let e : each_with_comma h.items ++ h.more ≡ each_with_comma k.items ++ k.more = sym h.spelled ∙ k.spelled in
     ⊎_elim
-    (λ a. let l = same_place (behind_each k.items) (behind_each h.items) k.more h.more (sym e) (sym a.rest) in
-    pair_fault_same (pairs_of h.items) h.more (length (behind_each h.items)) r s m n h.fault
-    (subst (λ z. IsPairFault (pairs_of h.items) h.more z s n) l (subst (λ z. IsPairFault z h.more (length (behind_each k.items)) s n) a.pairs (subst (λ z. IsPairFault (pairs_of k.items) z (length (behind_each k.items)) s n) (sym a.rest) k.fault))))
+    (λ a. let l = same_place (each_with_comma k.items) (each_with_comma h.items) k.more h.more (sym e) (sym a.rest) in
+    pair_fault_same (pairs_of h.items) h.more (length (each_with_comma h.items)) r s m n h.fault
+    (subst (λ z. IsPairFault (pairs_of h.items) h.more z s n) l (subst (λ z. IsPairFault z h.more (length (each_with_comma k.items)) s n) a.pairs (subst (λ z. IsPairFault (pairs_of k.items) z (length (each_with_comma k.items)) s n) (sym a.rest) k.fault))))
     (λ b. absurd (⊎_elim
-    (λ g. fault_not_on h.items k.items h.more k.more (length (behind_each h.items)) r m g [] (good_nil (pairs_of k.items) k.good) h.fault)
-    (λ g. fault_not_on k.items h.items k.more h.more (length (behind_each k.items)) s n g [] (good_nil (pairs_of h.items) h.good) k.fault)
+    (λ g. fault_not_on h.items k.items h.more k.more (length (each_with_comma h.items)) r m g [] (good_nil (pairs_of k.items) k.good) h.fault)
+    (λ g. fault_not_on k.items h.items k.more h.more (length (each_with_comma k.items)) s n g [] (good_nil (pairs_of h.items) h.good) k.fault)
     b))
     (compare_items h.items k.items h.more k.more h.are k.are e)
 
@@ -119,12 +119,12 @@ last_no_fault seen (one_more i) n reason at h g f =
 rule_no_pair_fault : (w : List ℕ) (r : List Pair) (reason : RuleReason) (at : ℕ) → SpellsRule w r → HasPairFault w reason at → ⊥
 rule_no_pair_fault w r reason at h k =
     let v = h.given in
-    let n = length (behind_each k.items) in
+    let n = length (each_with_comma k.items) in
     let good : AreGood (pairs_of v.items ++ last_pairs v.last) = subst (λ z. AreGood z) v.pairs (spells_good w r h) in
     ⊎_elim
     (λ a. last_no_fault (pairs_of v.items) v.last n reason at v.last_is good (subst (λ z. IsPairFault z (last_text v.last) n reason at) a.pairs (subst (λ z. IsPairFault (pairs_of k.items) z n reason at) (sym a.rest) k.fault)))
     (λ b. ⊎_elim
-    (λ g. last_no_items v.last g.next (behind_each g.back ++ k.more) v.last_is g.key_is g.are g.text)
+    (λ g. last_no_items v.last g.next (each_with_comma g.back ++ k.more) v.last_is g.key_is g.are g.text)
     (λ g. fault_not_on k.items v.items k.more (last_text v.last) n reason at g (last_pairs v.last) good k.fault)
     b)
     (compare_items v.items k.items (last_text v.last) k.more v.are k.are (sym v.spelled ∙ k.spelled))

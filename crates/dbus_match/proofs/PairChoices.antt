@@ -138,8 +138,8 @@ module _ (ps : List Pair) (w : List ℕ) (m : ℕ) (inside : m < length w) (firs
   scanned k v h (open_at q) e = inr (OpenQuote, q, open_fault ps w m k v (Bad q OpenQuote) h (is_open v (drop v w) q e))
   scanned k v h (closed b end r) e =
       let c = is_closed v (drop v w) b end r e in
-      let behind = drop_past v w (pieces_text c.pieces) r (value_inside k v h) c.spelled in
-      let rest : r ≡ drop end w = sym behind ∙ ap (λ n. drop n w) (sym c.place) in
+      let suffix = drop_past v w (pieces_text c.pieces) r (value_inside k v h) c.spelled in
+      let rest : r ≡ drop end w = sym suffix ∙ ap (λ n. drop n w) (sym c.place) in
       closed_at k v b end h (subst (λ (x : List ℕ). IsClosed v [] (drop v w) b end x) rest c)
 
   clashed : (n : ℕ) (k : Key) → equals_at n ≡ name_cut m (drop m w) → IsNamed (take (n - m) (drop m w)) (Some k) → (r : Option RuleReason) → IsClash ps k r → Choice ps w m

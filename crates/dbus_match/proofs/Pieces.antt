@@ -6,7 +6,7 @@ use Rattle.dbus_match.specs.declared.value.Mode.TheVariants.{Outside, Inside}
 use Rattle.dbus_match.specs.Values.{Piece, quoted, escaped, plain, piece_text, piece_value, pieces_text, pieces_value, NoQuoteFirst, IsPiece, ArePieces}
 use Rattle.dbus_match.specs.Scans.{Reading, closed, open_at, quote_first, scan}
 use Rattle.dbus_match.specs.Readings.{Ends}
-use Rattle.dbus_match.proofs.ScanSteps.{at_comma, at_quote, at_escape, at_plain, no_quote_behind, after_escape, in_quote_end, in_quote, ne-eqb}
+use Rattle.dbus_match.proofs.ScanSteps.{at_comma, at_quote, at_escape, at_plain, no_quote_after, after_escape, in_quote_end, in_quote, ne-eqb}
 
 same_state : (m n : ℕ) (u v r : List ℕ) → m ≡ n → u ≡ v → scan Outside m u r ≡ scan Outside n v r
 same_state m n u v r e f = ap (λ x. scan Outside x u r) e ∙ ap (λ x. scan Outside n x r) f
@@ -28,7 +28,7 @@ plain_false : (b : ℕ) (c : List ℕ) → (b ≡ 92 → NoQuoteFirst c) → eqb
 plain_false b c h = go (eqb b 92) refl
   where
     go : (t : Bool) → eqb b 92 ≡ t → eqb b 92 && quote_first c ≡ false
-    go true e = no_quote_behind b c (no_quote_false c (h (eqb-true b 92 e)))
+    go true e = no_quote_after b c (no_quote_false c (h (eqb-true b 92 e)))
     go false e = ap (λ t. t && quote_first c) e
 
 piece_scan : (p : Piece) (n : ℕ) (v c : List ℕ) → IsPiece p c → scan Outside n v (piece_text p ++ c) ≡ scan Outside (n + length (piece_text p)) (v ++ piece_value p) c

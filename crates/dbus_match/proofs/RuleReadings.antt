@@ -13,7 +13,7 @@ use Rattle.dbus_match.specs.declared.fault.RuleFault.TheVariants.{Memory, Bad}
 use Rattle.dbus_match.specs.Keys.{key_text, IsKey}
 use Rattle.dbus_match.specs.Values.{Piece, quoted, escaped, plain, piece_text, piece_value, pieces_text, pieces_value, NoQuoteFirst, IsPiece, ArePieces}
 use Rattle.dbus_match.specs.Readings.{Ends}
-use Rattle.dbus_match.specs.Rules.{Pair, IsIn, IsPair, IsRule, IsAscending, Item, item_text, pair_of, pairs_of, behind_each, AreItems, spaces_alone, one_more, SpellsRule}
+use Rattle.dbus_match.specs.Rules.{Pair, IsIn, IsPair, IsRule, IsAscending, Item, item_text, pair_of, pairs_of, each_with_comma, AreItems, spaces_alone, one_more, SpellsRule}
 use Rattle.dbus_match.specs.Faults.{AreGood, NoSpaceFirst, IsPairFault, HasPairFault, IsFault}
 use Rattle.dbus_match.specs.Conditions.{insert_pair}
 use Rattle.dbus_match.specs.PairReadings.{IsPairAt, IsFaultAt}
@@ -54,8 +54,8 @@ pub record IsReadUpTo (w : List ℕ) (at : ℕ) (ps : List Pair) : Type 0 where
   pub items : List Item
   pub are : AreItems items
   pub good : AreGood (pairs_of items)
-  pub spelled : w ≡ behind_each items ++ drop at w
-  pub place : at ≡ length (behind_each items)
+  pub spelled : w ≡ each_with_comma items ++ drop at w
+  pub place : at ≡ length (each_with_comma items)
   pub ordered : IsAscending ps
   pub pairs : AllByRecursion IsPair ps
   pub same : (p : Pair) → IsIn p (pairs_of items) ↔ IsIn p ps
@@ -159,9 +159,9 @@ comma_of : (w : List ℕ) (n : ℕ) (r : List ℕ) → n < length w → drop n w
 comma_of w n [] l e h = let k = ap length e in let d = length-drop n w in absurd (omega (arith, l, k, d))
 comma_of w n (b ∷ c) l e h = e ∙ ap (λ z. z ∷ c) h ∙ ap (λ z. 44 ∷ z) (sym (drop_past n w (b ∷ []) c (omega (arith, l)) e))
 
-behind_more : (is : List Item) (i : Item) → behind_each (is ++ i ∷ []) ≡ behind_each is ++ (item_text i ++ 44 ∷ [])
-behind_more [] i = refl
-behind_more (j ∷ is) i = ap (λ z. item_text j ++ 44 ∷ z) (behind_more is i) ∙ sym (append_assoc (item_text j) (44 ∷ behind_each is) (item_text i ++ 44 ∷ []))
+after_more : (is : List Item) (i : Item) → each_with_comma (is ++ i ∷ []) ≡ each_with_comma is ++ (item_text i ++ 44 ∷ [])
+after_more [] i = refl
+after_more (j ∷ is) i = ap (λ z. item_text j ++ 44 ∷ z) (after_more is i) ∙ sym (append_assoc (item_text j) (44 ∷ each_with_comma is) (item_text i ++ 44 ∷ []))
 
 pairs_more : (is : List Item) (i : Item) → pairs_of (is ++ i ∷ []) ≡ pairs_of is ++ pair_of i ∷ []
 pairs_more [] i = refl
@@ -179,17 +179,17 @@ more_spelled w b t at end e f g =
 read_more_items : (w : List ℕ) (at : ℕ) (ps : List Pair) (i : Item) (p : Pair) (end : ℕ) (rs : List Pair) → end < length w → (h : IsReadUpTo w at ps) → IsItemAt w at i p end → AreAdded (pairs_of h.items) ps rs p → IsReadUpTo w (end + 1) rs
 read_more_items w at ps i p end rs l h k a =
     let q : pairs_of (h.items ++ i ∷ []) ≡ pairs_of h.items ++ p ∷ [] = pairs_more h.items i ∙ ap (λ z. pairs_of h.items ++ z ∷ []) k.pair in
-    let b = behind_more h.items i in
+    let b = after_more h.items i in
     let x = h.place in
     let y = k.place in
     let u = ap length b in
-    let v = length-append (behind_each h.items) (item_text i ++ 44 ∷ []) in
+    let v = length-append (each_with_comma h.items) (item_text i ++ 44 ∷ []) in
     let t = length-append (item_text i) (44 ∷ []) in
     record {
       items = h.items ++ i ∷ [];
       are = items_more h.items i h.are k.key_is k.are;
       good = subst (λ z. AreGood z) (sym q) a.good;
-      spelled = more_spelled w (behind_each h.items) (item_text i) at end h.spelled k.spelled (comma_of w end (drop end w) l refl k.ends) ∙ ap (λ z. z ++ drop (end + 1) w) (sym b);
+      spelled = more_spelled w (each_with_comma h.items) (item_text i) at end h.spelled k.spelled (comma_of w end (drop end w) l refl k.ends) ∙ ap (λ z. z ++ drop (end + 1) w) (sym b);
       place = omega (arith, x, y, u, v, t);
       ordered = a.ordered;
       pairs = a.pairs;
@@ -216,7 +216,7 @@ read_last_items w at ps i p end rs n e h k a =
             last = one_more i;
             are = h.are;
             last_is = (k.key_is, k.are);
-            spelled = h.spelled ∙ ap (λ z. behind_each h.items ++ z) (k.spelled ∙ ap (λ z. item_text i ++ z) e ∙ append-nil (item_text i));
+            spelled = h.spelled ∙ ap (λ z. each_with_comma h.items ++ z) (k.spelled ∙ ap (λ z. item_text i ++ z) e ∙ append-nil (item_text i));
             pairs = ap (λ z. pairs_of h.items ++ z ∷ []) (sym k.pair);
           };
       apart = a.good.apart;
@@ -243,7 +243,7 @@ read_end w at s m ps n e l h =
             last = spaces_alone s;
             are = h.are;
             last_is = tt;
-            spelled = h.spelled ∙ ap (λ z. behind_each h.items ++ z) (e ∙ ap (λ z. replicate s 32 ++ z) (at_end w m l) ∙ append-nil (replicate s 32));
+            spelled = h.spelled ∙ ap (λ z. each_with_comma h.items ++ z) (e ∙ ap (λ z. replicate s 32 ++ z) (at_end w m l) ∙ append-nil (replicate s 32));
             pairs = sym (append-nil (pairs_of h.items));
           };
       apart = h.good.apart;

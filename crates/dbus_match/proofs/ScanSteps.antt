@@ -31,8 +31,8 @@ and_no : (a b : Bool) → b ≡ false → a && b ≡ false
 and_no true b h = h
 and_no false b h = refl
 
-pub no_quote_behind : (b : ℕ) (c : List ℕ) → quote_first c ≡ false → eqb b 92 && quote_first c ≡ false
-no_quote_behind b c h = and_no (eqb b 92) (quote_first c) h
+pub no_quote_after : (b : ℕ) (c : List ℕ) → quote_first c ≡ false → eqb b 92 && quote_first c ≡ false
+no_quote_after b c h = and_no (eqb b 92) (quote_first c) h
 
 pub after_escape : (n : ℕ) (v w : List ℕ) (b : ℕ) (c : List ℕ) → w ≡ b ∷ c → scan Escape n v w ≡ scan Outside (n + 1) (v ++ b ∷ []) c
 after_escape n v w b c e = ap (λ x. scan Escape n v x) e

@@ -4,22 +4,22 @@ use Rattle.std.specs.List.{AllByRecursion}
 use Rattle.dbus_match.specs.declared.key.Key.{Key}
 use Rattle.dbus_match.specs.Keys.{key_text, IsKey}
 use Rattle.dbus_match.specs.Values.{Piece, quoted, escaped, plain, pieces_text, pieces_value, NoQuoteFirst, IsPiece, ArePieces}
-use Rattle.dbus_match.specs.Rules.{Pair, Item, item_text, pair_of, pairs_of, behind_each, AreItems, Last, spaces_alone, one_more, last_text, last_pairs, IsLast, GivesPairs, SpellsRule, IsIn}
+use Rattle.dbus_match.specs.Rules.{Pair, Item, item_text, pair_of, pairs_of, each_with_comma, AreItems, Last, spaces_alone, one_more, last_text, last_pairs, IsLast, GivesPairs, SpellsRule, IsIn}
 use Rattle.dbus_match.specs.Readings.{Ends}
 use Rattle.dbus_match.proofs.Pieces.{pieces_same}
 use Rattle.dbus_match.proofs.KeyTexts.{key_same, clean_key, no_equals, strip, strip_key}
 use Rattle.dbus_match.proofs.Sorted.{same_sorted}
 
 -- pieces stand also before an end
-behind_comma : (x r : List ℕ) → Ends r → NoQuoteFirst (x ++ []) → NoQuoteFirst (x ++ r)
-behind_comma [] [] e h = tt
-behind_comma [] (b ∷ c) e h = λ q. omega (arith, e, q)
-behind_comma (a ∷ x) r e h = h
+after_comma : (x r : List ℕ) → Ends r → NoQuoteFirst (x ++ []) → NoQuoteFirst (x ++ r)
+after_comma [] [] e h = tt
+after_comma [] (b ∷ c) e h = λ q. omega (arith, e, q)
+after_comma (a ∷ x) r e h = h
 
 before_end : (p : Piece) (x r : List ℕ) → Ends r → IsPiece p (x ++ []) → IsPiece p (x ++ r)
 before_end (quoted w) x r e h = h
 before_end escaped x r e h = tt
-before_end (plain b) x r e h = (h.0, h.1, λ q. behind_comma x r e (h.2 q))
+before_end (plain b) x r e h = (h.0, h.1, λ q. after_comma x r e (h.2 q))
 
 pub pieces_before : (ps : List Piece) (r : List ℕ) → Ends r → ArePieces ps [] → ArePieces ps r
 pieces_before [] r e h = tt
@@ -91,14 +91,14 @@ pub last_no_items : (l : Last) (j : Item) (x : List ℕ) → IsLast l → IsKey 
 last_no_items (spaces_alone a) j x h k p e = spaces_no_item a j (44 ∷ x) e
 last_no_items (one_more i) j x h k p e = let s = item_same i j [] (44 ∷ x) h.0 k h.1 p tt refl (append-nil (item_text i) ∙ e) in let q = s.1 in cc
 
-items_same : (is js : List Item) (l m : Last) → AreItems is → AreItems js → IsLast l → IsLast m → behind_each is ++ last_text l ≡ behind_each js ++ last_text m → pairs_of is ++ last_pairs l ≡ pairs_of js ++ last_pairs m
+items_same : (is js : List Item) (l m : Last) → AreItems is → AreItems js → IsLast l → IsLast m → each_with_comma is ++ last_text l ≡ each_with_comma js ++ last_text m → pairs_of is ++ last_pairs l ≡ pairs_of js ++ last_pairs m
 items_same [] [] l m h k a b e = last_same l m a b e
-items_same [] (j ∷ js) l m h k a b e = absurd (last_no_items l j (behind_each js ++ last_text m) a k.0.0 k.0.1 (e ∙ append_assoc (item_text j) (44 ∷ behind_each js) (last_text m)))
-items_same (i ∷ is) [] l m h k a b e = absurd (last_no_items m i (behind_each is ++ last_text l) b h.0.0 h.0.1 (sym e ∙ append_assoc (item_text i) (44 ∷ behind_each is) (last_text l)))
+items_same [] (j ∷ js) l m h k a b e = absurd (last_no_items l j (each_with_comma js ++ last_text m) a k.0.0 k.0.1 (e ∙ append_assoc (item_text j) (44 ∷ each_with_comma js) (last_text m)))
+items_same (i ∷ is) [] l m h k a b e = absurd (last_no_items m i (each_with_comma is ++ last_text l) b h.0.0 h.0.1 (sym e ∙ append_assoc (item_text i) (44 ∷ each_with_comma is) (last_text l)))
 items_same (i ∷ is) (j ∷ js) l m h k a b e =
-    let x = behind_each is ++ last_text l in
-    let y = behind_each js ++ last_text m in
-    let s = item_same i j (44 ∷ x) (44 ∷ y) h.0.0 k.0.0 h.0.1 k.0.1 refl refl (sym (append_assoc (item_text i) (44 ∷ behind_each is) (last_text l)) ∙ e ∙ append_assoc (item_text j) (44 ∷ behind_each js) (last_text m)) in
+    let x = each_with_comma is ++ last_text l in
+    let y = each_with_comma js ++ last_text m in
+    let s = item_same i j (44 ∷ x) (44 ∷ y) h.0.0 k.0.0 h.0.1 k.0.1 refl refl (sym (append_assoc (item_text i) (44 ∷ each_with_comma is) (last_text l)) ∙ e ∙ append_assoc (item_text j) (44 ∷ each_with_comma js) (last_text m)) in
     let t : x ≡ y = let q = s.1 in cc in
     let r = items_same is js l m h.1 k.1 a b t in
     ap (λ p. p ∷ (pairs_of is ++ last_pairs l)) s.0 ∙ ap (λ p. pair_of j ∷ p) r

@@ -9,7 +9,7 @@ use Rattle.dbus_match.specs.declared.fault.RuleReason.TheVariants.{Nul, NoEquals
 use Rattle.dbus_match.specs.Keys.{key_text, IsKey, IsValueOf}
 use Rattle.dbus_match.specs.Values.{Piece, pieces_text, pieces_value, ArePieces}
 use Rattle.dbus_match.specs.Readings.{Ends, IsOpen}
-use Rattle.dbus_match.specs.Rules.{Pair, HasKey, Item, pairs_of, behind_each, AreItems, AreApart}
+use Rattle.dbus_match.specs.Rules.{Pair, HasKey, Item, pairs_of, each_with_comma, AreItems, AreApart}
 
 -- the first U+0000
 pub record IsNul (w : List ℕ) (at : ℕ) : Type 0 where
@@ -107,8 +107,8 @@ pub record HasPairFault (w : List ℕ) (reason : RuleReason) (at : ℕ) : Type 0
   pub more : List ℕ
   pub are : AreItems items
   pub good : AreGood (pairs_of items)
-  pub spelled : w ≡ behind_each items ++ more
-  pub fault : IsPairFault (pairs_of items) more (length (behind_each items)) reason at
+  pub spelled : w ≡ each_with_comma items ++ more
+  pub fault : IsPairFault (pairs_of items) more (length (each_with_comma items)) reason at
 
 -- a U+0000 comes before all other faults
 abbrev pub IsFault : List ℕ → RuleReason → ℕ → Type 0

@@ -62,9 +62,9 @@ pairs_of [] = []
 pairs_of (i ∷ is) = pair_of i ∷ pairs_of is
 
 -- items, each with a comma after it
-abbrev pub behind_each : List Item → List ℕ
-behind_each [] = []
-behind_each (i ∷ is) = item_text i ++ 44 ∷ behind_each is
+abbrev pub each_with_comma : List Item → List ℕ
+each_with_comma [] = []
+each_with_comma (i ∷ is) = item_text i ++ 44 ∷ each_with_comma is
 
 abbrev pub AreItems : List Item → Type 0
 AreItems [] = Unit {0}
@@ -93,7 +93,7 @@ pub record GivesPairs (w : List ℕ) (ps : List Pair) : Type 0 where
   pub last : Last
   pub are : AreItems items
   pub last_is : IsLast last
-  pub spelled : w ≡ behind_each items ++ last_text last
+  pub spelled : w ≡ each_with_comma items ++ last_text last
   pub pairs : ps ≡ pairs_of items ++ last_pairs last
 
 -- no key comes twice

@@ -17,10 +17,10 @@ fn push_escaped<A: Allocator>(text: &mut String<A>, value: &str) -> Result<(), A
         string_bytes text.old ++ quote_escaped value.now) }
 {
     let mut rest = value;
-    while let Some((run, behind)) = rest.split_once('\'') {
+    while let Some((run, after)) = rest.split_once('\'') {
         text.push_str(run)?;
         text.push_str("'\\''")?;
-        rest = behind;
+        rest = after;
     }
     text.push_str(rest)
 }

@@ -84,12 +84,12 @@ passed (suc (suc inner)) before (f ∷ fs) h formed kept =
       sound = inr (λ unknown. (record { single = formed.0.1.0.0; uniform = parts.1; packed = packed.0 }, parts.2), rest.sound);
     }
 
-not_twice : (before behind : List FieldTree) (fs : List FieldTree) → ((c : ℕ) → has_code c behind ≡ has_code c before) → AreFields before fs → twice behind fs ≡ None
-not_twice before behind [] same h = refl
-not_twice before behind (f ∷ fs) same h =
-    let e : is_known f.code && has_code f.code behind ≡ false = ap (λ (b : Bool). is_known f.code && b) (same f.code) ∙ h.0.not_again in
-    rw e (not_twice (f ∷ before) (behind ++ f ∷ []) fs
-    (λ c. has_append c behind (f ∷ []) ∙ or_comm (has_code c behind) (eqb f.code c || false) ∙ ap (λ (b : Bool). b || has_code c behind) (or_false (eqb f.code c)) ∙ ap (λ (b : Bool). eqb f.code c || b) (same c))
+not_twice : (before suffix : List FieldTree) (fs : List FieldTree) → ((c : ℕ) → has_code c suffix ≡ has_code c before) → AreFields before fs → twice suffix fs ≡ None
+not_twice before suffix [] same h = refl
+not_twice before suffix (f ∷ fs) same h =
+    let e : is_known f.code && has_code f.code suffix ≡ false = ap (λ (b : Bool). is_known f.code && b) (same f.code) ∙ h.0.not_again in
+    rw e (not_twice (f ∷ before) (suffix ++ f ∷ []) fs
+    (λ c. has_append c suffix (f ∷ []) ∙ or_comm (has_code c suffix) (eqb f.code c || false) ∙ ap (λ (b : Bool). b || has_code c suffix) (or_false (eqb f.code c)) ∙ ap (λ (b : Bool). eqb f.code c || b) (same c))
     h.1)
 
 -- ---- the body

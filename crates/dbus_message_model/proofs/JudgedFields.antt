@@ -129,12 +129,12 @@ first_of : (b : Bool) (r : Option ℕ) (n : ℕ) → (if b then Some n else r) �
 first_of true r n h = absurd cc
 first_of false r n h = (refl, h)
 
-pub are_fields : (before behind : List FieldTree) (fs : List FieldTree) → ((c : ℕ) → has_code c behind ≡ has_code c before) → AreJudged fs → twice behind fs ≡ None → AreFields before fs
-are_fields before behind [] same h t = tt
-are_fields before behind (f ∷ fs) same h t =
-    let w = first_of (is_known f.code && has_code f.code behind) _ f.code t in (
+pub are_fields : (before suffix : List FieldTree) (fs : List FieldTree) → ((c : ℕ) → has_code c suffix ≡ has_code c before) → AreJudged fs → twice suffix fs ≡ None → AreFields before fs
+are_fields before suffix [] same h t = tt
+are_fields before suffix (f ∷ fs) same h t =
+    let w = first_of (is_known f.code && has_code f.code suffix) _ f.code t in (
       record { not_zero = h.0; not_again = ap (λ (b : Bool). is_known f.code && b) (sym (same f.code)) ∙ w.0; suits = (good_value (want f.code) (want_ok f.code) f.value h.1).0 },
-      are_fields (f ∷ before) (behind ++ f ∷ []) fs
-          (λ c. has_append c behind (f ∷ []) ∙ or_comm (has_code c behind) (eqb f.code c || false) ∙ ap (λ (b : Bool). b || has_code c behind) (or_false (eqb f.code c)) ∙ ap (λ (b : Bool). eqb f.code c || b) (same c))
+      are_fields (f ∷ before) (suffix ++ f ∷ []) fs
+          (λ c. has_append c suffix (f ∷ []) ∙ or_comm (has_code c suffix) (eqb f.code c || false) ∙ ap (λ (b : Bool). b || has_code c suffix) (or_false (eqb f.code c)) ∙ ap (λ (b : Bool). eqb f.code c || b) (same c))
           h.2 w.1,
     )

@@ -45,8 +45,8 @@ plain_more xs start i h k e p =
     let before = flat_map escape (take start xs) in
     escape_more xs i k ∙ ap (λ s. flat_map escape (take i xs) ++ s) (escape_plain x e) ∙ ap (λ s. s ++ x ∷ []) p ∙ append_assoc before (run xs start i) (x ∷ []) ∙ ap (λ s. before ++ s) (sym (run_more xs start i h k))
 
-pub escape_behind : (xs : List ℕ) (start i : ℕ) → i < length xs → IsPlainSince xs start i → (flat_map escape (take start xs) ++ run xs start i) ++ escape (get_or xs i 0) ≡ flat_map escape (take (i + 1) xs)
-escape_behind xs start i h p = ap (λ s. s ++ escape (get_or xs i 0)) (sym p) ∙ sym (escape_more xs i h)
+pub escape_after : (xs : List ℕ) (start i : ℕ) → i < length xs → IsPlainSince xs start i → (flat_map escape (take start xs) ++ run xs start i) ++ escape (get_or xs i 0) ≡ flat_map escape (take (i + 1) xs)
+escape_after xs start i h p = ap (λ s. s ++ escape (get_or xs i 0)) (sym p) ∙ sym (escape_more xs i h)
 
 pub plain_none : (xs : List ℕ) (i : ℕ) → IsPlainSince xs i i
 plain_none xs i =

@@ -6,7 +6,7 @@ use Rattle.dbus_texts.specs.Types.{UINT32, TextCode, STRING, OBJECT_PATH, SIGNAT
 use Rattle.dbus_texts.specs.declared.text_kind.TextKind.{TextKind}
 use Rattle.dbus_texts.specs.declared.text_kind.TextKind.TheVariants as kinds
 use Rattle.dbus_texts.specs.Kinds.{IsKind}
-use Rattle.dbus_texts.specs.Names.{is_word, is_word_start, is_dashed, is_dashed_start, IsElement, each_behind, IsPath, IsJoined, IsInterface}
+use Rattle.dbus_texts.specs.Names.{is_word, is_word_start, is_dashed, is_dashed_start, IsElement, each_after, IsPath, IsJoined, IsInterface}
 use Rattle.dbus_texts.specs.Signatures.{IsSignature}
 use Rattle.dbus_value_model.specs.WantedTexts.{Of, IsWanted, kind_of}
 use Rattle.dbus_value_model.specs.declared.order.Order.{Order}
@@ -32,14 +32,14 @@ one_line_element : (start more : ℕ → Bool) → (IsTrue (start 10) → ⊥) �
 one_line_element start more hs hm [] h = absurd h
 one_line_element start more hs hm (b ∷ w) h = line_cons b w (other start hs b h.0) (one_line_all more hm w h.1)
 
-one_line_each : (start more : ℕ → Bool) (separator : ℕ) → (IsTrue (start 10) → ⊥) → (IsTrue (more 10) → ⊥) → separator ≢ 10 → (es : List (List ℕ)) → AllByRecursion (IsElement start more) es → IsOneLine (each_behind separator es)
+one_line_each : (start more : ℕ → Bool) (separator : ℕ) → (IsTrue (start 10) → ⊥) → (IsTrue (more 10) → ⊥) → separator ≢ 10 → (es : List (List ℕ)) → AllByRecursion (IsElement start more) es → IsOneLine (each_after separator es)
 one_line_each start more separator hs hm n [] h = line_literal [] refl
 one_line_each start more separator hs hm n (e ∷ es) h =
-    line_cons separator (e ++ each_behind separator es) n (line_append e (each_behind separator es) (one_line_element start more hs hm e h.0) (one_line_each start more separator hs hm n es h.1))
+    line_cons separator (e ++ each_after separator es) n (line_append e (each_after separator es) (one_line_element start more hs hm e h.0) (one_line_each start more separator hs hm n es h.1))
 
 one_line_joined : (start more : ℕ → Bool) → (IsTrue (start 10) → ⊥) → (IsTrue (more 10) → ⊥) → (w : List ℕ) → IsJoined start more w → IsOneLine w
 one_line_joined start more hs hm w (e, f, es, h, is) =
-    subst IsOneLine (sym is) (line_append e (each_behind 46 (f ∷ es)) (one_line_element start more hs hm e h.0) (one_line_each start more 46 hs hm (λ x. omega arith) (f ∷ es) h.1))
+    subst IsOneLine (sym is) (line_append e (each_after 46 (f ∷ es)) (one_line_element start more hs hm e h.0) (one_line_each start more 46 hs hm (λ x. omega arith) (f ∷ es) h.1))
 
 one_line_path : (w : List ℕ) → IsPath w → IsOneLine w
 one_line_path w h = ⊎_elim

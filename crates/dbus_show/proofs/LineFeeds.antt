@@ -166,17 +166,17 @@ abbrev pub AreLines : List (List ℕ) → Type 0
 AreLines [] = Unit {0}
 AreLines (t ∷ ts) = IsOneLine t × AreLines ts
 
-line_behind : (ts : List (List ℕ)) → AreLines ts → IsOneLine (flat_map (λ t. codes ", " ++ t) ts)
-line_behind [] h = line_literal [] refl
-line_behind (t ∷ ts) h = line_append (codes ", " ++ t) (flat_map (λ t. codes ", " ++ t) ts) (line_append (codes ", ") t (line_literal (codes ", ") refl) h.0) (line_behind ts h.1)
+line_after : (ts : List (List ℕ)) → AreLines ts → IsOneLine (flat_map (λ t. codes ", " ++ t) ts)
+line_after [] h = line_literal [] refl
+line_after (t ∷ ts) h = line_append (codes ", " ++ t) (flat_map (λ t. codes ", " ++ t) ts) (line_append (codes ", ") t (line_literal (codes ", ") refl) h.0) (line_after ts h.1)
 
 line_joined : (ts : List (List ℕ)) → AreLines ts → IsOneLine (joined ts)
 line_joined [] h = line_literal [] refl
-line_joined (t ∷ ts) h = line_append t (flat_map (λ t. codes ", " ++ t) ts) h.0 (line_behind ts h.1)
+line_joined (t ∷ ts) h = line_append t (flat_map (λ t. codes ", " ++ t) ts) h.0 (line_after ts h.1)
 
 -- a text between two brackets
-pub between : (before s behind : List ℕ) → line_feeds before ≡ 0 → IsOneLine s → line_feeds behind ≡ 0 → IsOneLine (before ++ (s ++ behind))
-between before s behind hb hs ha = line_append before (s ++ behind) (line_literal before hb) (line_append s behind hs (line_literal behind ha))
+pub between : (before s suffix : List ℕ) → line_feeds before ≡ 0 → IsOneLine s → line_feeds suffix ≡ 0 → IsOneLine (before ++ (s ++ suffix))
+between before s suffix hb hs ha = line_append before (s ++ suffix) (line_literal before hb) (line_append s suffix hs (line_literal suffix ha))
 
 mutual
   pub line_value : (v : ValueTree) → IsOneLine (value_text v)

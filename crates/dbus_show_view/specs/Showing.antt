@@ -55,7 +55,7 @@ abbrev pub FieldsThere : Order → (room : ℕ) → List ℕ → Type 0
 FieldsThere order room bytes = (fs : List FieldTree) × (rest : List ℕ) × FieldsStand order room bytes fs rest
 
 -- the line of a message's header as far as its fields
-abbrev pub front_text : Judged → ℕ → List ℕ
-front_text j number = concat
+abbrev pub start_text : Judged → ℕ → List ℕ
+start_text j number = concat
     (codes "#" ∷ decimal number ∷ codes " " ∷ (order_byte j.order ∷ []) ∷ codes " " ∷ kind_text j.kind ∷ codes " serial=" ∷ decimal j.serial
     ∷ codes " flags=" ∷ encode_lower (j.flags ∷ []) ∷ [])

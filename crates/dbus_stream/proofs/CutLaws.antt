@@ -90,8 +90,8 @@ cut_unfinished : (limits : Limits) (bytes : List ℕ) → IsPartial limits bytes
 cut_unfinished limits [] p = cut_here limits [] Ended refl
 cut_unfinished limits (x ∷ xs) p = cut_here limits (x ∷ xs) Unfinished ((λ e. cc), p)
 
-cut_behind : (limits : Limits) (bytes : List ℕ) (item : CutMessage) → IsWhole limits bytes item.order item.message item.size → HasCut limits (drop item.size bytes) → HasCut limits bytes
-cut_behind limits bytes item w h = (item ∷ h.0, h.1, h.2, record { messages = (w, h.3.messages); outcome_is = h.3.outcome_is })
+cut_after : (limits : Limits) (bytes : List ℕ) (item : CutMessage) → IsWhole limits bytes item.order item.message item.size → HasCut limits (drop item.size bytes) → HasCut limits bytes
+cut_after limits bytes item w h = (item ∷ h.0, h.1, h.2, record { messages = (w, h.3.messages); outcome_is = h.3.outcome_is })
 
 cut_within : (limits : Limits) (n : ℕ) (bytes : List ℕ) → length bytes ≤ n → IsBytes bytes → HasCut limits bytes
 cut_within limits zero bytes few b = cut_empty bytes (omega arith)
@@ -104,7 +104,7 @@ cut_within limits (suc n) bytes few b = elim (some_outcome limits bytes b) [
       let some : 0 < w.2 = (whole_inside limits bytes w.0 w.1 w.2 w.3).0 in
       let fits : w.2 ≤ length bytes = (whole_inside limits bytes w.0 w.1 w.2 w.3).1 in
       let fewer : length (drop w.2 bytes) ≤ n = omega (arith, length-drop w.2 bytes, some, fits, few) in
-      cut_behind limits bytes (record { order = w.0; message = w.1; size = w.2 }) w.3 (cut_within limits n (drop w.2 bytes) fewer (IsBytes-drop w.2 bytes b))
+      cut_after limits bytes (record { order = w.0; message = w.1; size = w.2 }) w.3 (cut_within limits n (drop w.2 bytes) fewer (IsBytes-drop w.2 bytes b))
   | inr other ↦ elim other [
     | inl r ↦ cut_here limits bytes (Refused r.0) r.1
     | inr p ↦ cut_unfinished limits bytes p

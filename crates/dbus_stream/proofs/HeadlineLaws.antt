@@ -77,9 +77,9 @@ begin_with_all : (limits : Limits) (items : List CutMessage) → AreMessages lim
 begin_with_all limits [] a = refl
 begin_with_all limits (item ∷ items) a =
     let bytes = message_bytes item.order item.message in
-    let behind : drop item.size (bytes ++ stream_bytes items) ≡ stream_bytes items = drop_at bytes (stream_bytes items) item.size (sym a.1) in (
+    let suffix : drop item.size (bytes ++ stream_bytes items) ≡ stream_bytes items = drop_at bytes (stream_bytes items) item.size (sym a.1) in (
       subst (λ k. IsWhole limits (bytes ++ stream_bytes items) item.order item.message k) (sym a.1) (valid_whole limits item.order item.message (stream_bytes items) a.0),
-      subst (λ l. BeginWith limits l items []) (sym behind) (begin_with_all limits items a.2),
+      subst (λ l. BeginWith limits l items []) (sym suffix) (begin_with_all limits items a.2),
     )
 
 none_in_both : (xs ys : List ℕ) → xs ++ ys ≡ [] → (xs ≡ []) × (ys ≡ [])
@@ -87,14 +87,14 @@ none_in_both [] ys e = (refl, e)
 none_in_both (x ∷ xs) ys e = absurd cc
 
 module _ {A : Type 0} where
-  same_cut : (limits : Limits) (pieces left others behind : List (List ℕ)) (answers replies : List (TakeAnswer A)) (here there : CutterState)
+  same_cut : (limits : Limits) (pieces left others suffix : List (List ℕ)) (answers replies : List (TakeAnswer A)) (here there : CutterState)
       → concat pieces ≡ concat others → Feeds (fresh limits) pieces answers here left → IsSettled here (concat left)
-      → Feeds (fresh limits) others replies there behind → IsSettled there (concat behind)
+      → Feeds (fresh limits) others replies there suffix → IsSettled there (concat suffix)
       → (given_by 0 answers ≡ given_by 0 replies) × (here.fault ≡ there.fault)
-  same_cut limits pieces left others behind answers replies here there same f e g k =
+  same_cut limits pieces left others suffix answers replies here there same f e g k =
       let one = (however_cut limits pieces left answers here f).all e in
-      let two = (however_cut limits others behind replies there g).all k in
-      let both = IsCut-one limits (concat others) (given_by 0 answers) (given_by 0 replies) (here.held ++ concat left) (there.held ++ concat behind)
+      let two = (however_cut limits others suffix replies there g).all k in
+      let both = IsCut-one limits (concat others) (given_by 0 answers) (given_by 0 replies) (here.held ++ concat left) (there.held ++ concat suffix)
       (outcome_of here.held here.fault) (outcome_of there.held there.fault)
       (subst (λ l. IsCut limits l (given_by 0 answers) (here.held ++ concat left) (outcome_of here.held here.fault)) same one) two in
       (both.0, outcome_fault here.held there.held here.fault there.fault both.2)
@@ -117,8 +117,8 @@ headline A limits = record {
   accepted = λ bytes answer d some order m n.
       (λ a. whole_spelled limits bytes order m n (accepted_whole limits bytes answer d order m n a), λ b. whole_accepted limits bytes answer d some order m n (spelled_whole limits bytes order m n b));
   encoded_back = λ bytes order message used d answer e. encoded limits bytes order message used d answer e;
-  decoded_back = λ order m behind valid answer d some.
-      whole_accepted limits (message_bytes order m ++ behind) answer d some order m (length (message_bytes order m)) (valid_whole limits order m behind valid);
+  decoded_back = λ order m suffix valid answer d some.
+      whole_accepted limits (message_bytes order m ++ suffix) answer d some order m (length (message_bytes order m)) (valid_whole limits order m suffix valid);
   refused = λ bytes answer d some fault.
       (λ e. subst (λ (r : Result (Answer A) Refusal). Decodes limits bytes r) e d, λ r. refused_answer limits bytes answer d some fault r);
   one_fault = one_fault limits;

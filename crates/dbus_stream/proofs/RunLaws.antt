@@ -43,16 +43,16 @@ faulted limits held ahead fault r = record {
 }
 
 -- a message that ends in the piece
-given_first : (limits : Limits) (held piece behind : List ℕ) (item : CutMessage) (n : ℕ) (items : List CutMessage) (rest : List ℕ) → item.size ≡ length held + n
-    → IsWhole limits (held ++ piece) item.order item.message item.size → BeginWith limits (drop n piece ++ behind) items rest
-    → BeginWith limits (held ++ (piece ++ behind)) (item ∷ items) rest
-given_first limits held piece behind item n items rest size w f =
+given_first : (limits : Limits) (held piece suffix : List ℕ) (item : CutMessage) (n : ℕ) (items : List CutMessage) (rest : List ℕ) → item.size ≡ length held + n
+    → IsWhole limits (held ++ piece) item.order item.message item.size → BeginWith limits (drop n piece ++ suffix) items rest
+    → BeginWith limits (held ++ (piece ++ suffix)) (item ∷ items) rest
+given_first limits held piece suffix item n items rest size w f =
     let inside : item.size ≤ length (held ++ piece) = (whole_inside limits (held ++ piece) item.order item.message item.size w).1 in
     let within : n ≤ length piece = omega (arith, length-append held piece, inside, size) in
-    let cut : drop item.size (held ++ (piece ++ behind)) ≡ drop n piece ++ behind
-    = ap (λ k. drop k (held ++ (piece ++ behind))) size ∙ (drop-append-add held (piece ++ behind) n ∙ drop-append-le n piece behind within) in (
-      subst (λ l. IsWhole limits l item.order item.message item.size) (append_assoc held piece behind)
-          (whole_for_good limits (held ++ piece) behind item.order item.message item.size w),
+    let cut : drop item.size (held ++ (piece ++ suffix)) ≡ drop n piece ++ suffix
+    = ap (λ k. drop k (held ++ (piece ++ suffix))) size ∙ (drop-append-add held (piece ++ suffix) n ∙ drop-append-le n piece suffix within) in (
+      subst (λ l. IsWhole limits l item.order item.message item.size) (append_assoc held piece suffix)
+          (whole_for_good limits (held ++ piece) suffix item.order item.message item.size w),
       subst (λ l. BeginWith limits l items rest) (sym cut) f,
     )
 
@@ -71,11 +71,11 @@ module _ {A : Type 0} where
       let item : CutMessage = record { order = given.0; message = message_tree given.1; size = length held + n } in
       let stands : Stands new (concat (again (drop n piece) pieces)) = subst (λ s. Stands s (concat (again (drop n piece) pieces))) (sym t.1) (unfaulted limits [] _ (nothing_partial limits)) in
       let r = others stands in
-      let behind : BeginWith limits (concat (again (drop n piece) pieces)) (given_by 0 answers) (now.held ++ concat left)
+      let suffix : BeginWith limits (concat (again (drop n piece) pieces)) (given_by 0 answers) (now.held ++ concat left)
       = subst (λ (s : CutterState). BeginWith s.limits (s.held ++ concat (again (drop n piece) pieces)) (given_by (length s.held) answers) (now.held ++ concat left)) t.1 r.messages in
       record {
         messages = given_first limits held piece (concat pieces) item n (given_by 0 answers) (now.held ++ concat left) refl t.0
-            (subst (λ l. BeginWith limits l (given_by 0 answers) (now.held ++ concat left)) (concat-again (drop n piece) pieces) behind);
+            (subst (λ l. BeginWith limits l (given_by 0 answers) (now.held ++ concat left)) (concat-again (drop n piece) pieces) suffix);
         limits_stay = r.limits_stay ∙ ap (λ (s : CutterState). s.limits) t.1;
         stands = r.stands;
       }
@@ -87,21 +87,21 @@ module _ {A : Type 0} where
       let all : (held ++ piece) ++ concat (again (drop n piece) pieces) ≡ held ++ (piece ++ concat pieces)
       = ap (λ l. (held ++ piece) ++ l) ahead ∙ append_assoc held piece (concat pieces) in
       let count : length (held ++ piece) ≡ length held + n = length-append held piece ∙ ap (λ k. length held + k) (sym t.1) in
-      let behind : BeginWith limits ((held ++ piece) ++ concat (again (drop n piece) pieces)) (given_by (length (held ++ piece)) answers) (now.held ++ concat left)
+      let suffix : BeginWith limits ((held ++ piece) ++ concat (again (drop n piece) pieces)) (given_by (length (held ++ piece)) answers) (now.held ++ concat left)
       = subst (λ (s : CutterState). BeginWith s.limits (s.held ++ concat (again (drop n piece) pieces)) (given_by (length s.held) answers) (now.held ++ concat left)) t.2 r.messages in
       record {
         messages = subst (λ l. BeginWith limits l (given_by (length held + n) answers) (now.held ++ concat left)) all
-            (subst (λ k. BeginWith limits ((held ++ piece) ++ concat (again (drop n piece) pieces)) (given_by k answers) (now.held ++ concat left)) count behind);
+            (subst (λ k. BeginWith limits ((held ++ piece) ++ concat (again (drop n piece) pieces)) (given_by k answers) (now.held ++ concat left)) count suffix);
         limits_stay = r.limits_stay ∙ ap (λ (s : CutterState). s.limits) t.2;
         stands = r.stands;
       }
   onward_by (Err Memory) answers limits held piece pieces new now left t others p =
       let stands : Stands new (concat (again piece pieces)) = subst (λ s. Stands s (concat (again piece pieces))) (sym t) (unfaulted limits held _ p) in
       let r = others stands in
-      let behind : BeginWith limits (held ++ concat (again piece pieces)) (given_by (length held) answers) (now.held ++ concat left)
+      let suffix : BeginWith limits (held ++ concat (again piece pieces)) (given_by (length held) answers) (now.held ++ concat left)
       = subst (λ (s : CutterState). BeginWith s.limits (s.held ++ concat (again piece pieces)) (given_by (length s.held) answers) (now.held ++ concat left)) t r.messages in
       record {
-        messages = subst (λ l. BeginWith limits (held ++ l) (given_by (length held) answers) (now.held ++ concat left)) (concat-again piece pieces) behind;
+        messages = subst (λ l. BeginWith limits (held ++ l) (given_by (length held) answers) (now.held ++ concat left)) (concat-again piece pieces) suffix;
         limits_stay = r.limits_stay ∙ ap (λ (s : CutterState). s.limits) t;
         stands = r.stands;
       }
@@ -112,10 +112,10 @@ module _ {A : Type 0} where
       = subst (λ l. IsRefused limits l fault) ahead (refused_for_good limits (held ++ piece) (concat pieces) fault t.0) in
       let stands : Stands new (concat (again piece pieces)) = subst (λ s. Stands s (concat (again piece pieces))) (sym t.1) (faulted limits held _ fault refused) in
       let r = others stands in
-      let behind : BeginWith limits (held ++ concat (again piece pieces)) (given_by (length held) answers) (now.held ++ concat left)
+      let suffix : BeginWith limits (held ++ concat (again piece pieces)) (given_by (length held) answers) (now.held ++ concat left)
       = subst (λ (s : CutterState). BeginWith s.limits (s.held ++ concat (again piece pieces)) (given_by (length s.held) answers) (now.held ++ concat left)) t.1 r.messages in
       record {
-        messages = subst (λ l. BeginWith limits (held ++ l) (given_by (length held) answers) (now.held ++ concat left)) (concat-again piece pieces) behind;
+        messages = subst (λ l. BeginWith limits (held ++ l) (given_by (length held) answers) (now.held ++ concat left)) (concat-again piece pieces) suffix;
         limits_stay = r.limits_stay ∙ ap (λ (s : CutterState). s.limits) t.1;
         stands = r.stands;
       }
@@ -128,10 +128,10 @@ module _ {A : Type 0} where
       let stands : Stands new (concat (again piece pieces))
       = subst (λ (x : CutterState). Stands x (concat (again piece pieces))) (sym same) (subst (λ l. Stands old l) (sym (concat-again piece pieces)) s) in
       let r = others stands in
-      let behind : BeginWith old.limits (old.held ++ concat (again piece pieces)) (given_by (length old.held) answers) (now.held ++ concat left)
+      let suffix : BeginWith old.limits (old.held ++ concat (again piece pieces)) (given_by (length old.held) answers) (now.held ++ concat left)
       = subst (λ (x : CutterState). BeginWith x.limits (x.held ++ concat (again piece pieces)) (given_by (length x.held) answers) (now.held ++ concat left)) same r.messages in
       record {
-        messages = subst (λ l. BeginWith old.limits (old.held ++ l) (given_by (length old.held) answers) (now.held ++ concat left)) (concat-again piece pieces) behind;
+        messages = subst (λ l. BeginWith old.limits (old.held ++ l) (given_by (length old.held) answers) (now.held ++ concat left)) (concat-again piece pieces) suffix;
         limits_stay = r.limits_stay ∙ ap (λ (s : CutterState). s.limits) same;
         stands = r.stands;
       }

@@ -57,8 +57,8 @@ pub record Headline (limits : Limits) (A : Type 0) : Type 0 where
   pub encoded_back : (bytes : List ℕ) (order : Order) (message : Message A) (used : ℕ) → Decodes limits bytes (Ok (Whole order message used))
       → (answer : Result (Vec ℕ A) AllocError) → Encodes message order answer → IfOk answer (λ out. out.items ≡ take used bytes)
   -- In either order decoding an encoding gives the message, whatever follows.
-  pub decoded_back : (order : Order) (m : MessageTree) (behind : List ℕ) → IsValidMessage limits m
-      → (answer : Result (Answer A) Refusal) → Decodes limits (message_bytes order m ++ behind) answer → answer ≢ Err Memory
+  pub decoded_back : (order : Order) (m : MessageTree) (suffix : List ℕ) → IsValidMessage limits m
+      → (answer : Result (Answer A) Refusal) → Decodes limits (message_bytes order m ++ suffix) answer → answer ≢ Err Memory
       → Accepts answer order m (length (message_bytes order m))
   -- A refusal carries the fault table's place and reason, and these are one.
   pub refused : (bytes : List ℕ) (answer : Result (Answer A) Refusal) → Decodes limits bytes answer → answer ≢ Err Memory
@@ -72,9 +72,9 @@ pub record Headline (limits : Limits) (A : Type 0) : Type 0 where
       → Feeds (fresh limits) pieces (answers ++ Ok (n, Some given) ∷ []) now left
       → BeginWith limits (concat pieces) (given_by 0 (answers ++ Ok (n, Some given) ∷ [])) (concat left)
   -- So two ways of cutting the same bytes give the same messages and the same fault.
-  pub same_messages : (pieces left others behind : List (List ℕ)) (answers replies : List (TakeAnswer A)) (here there : CutterState)
+  pub same_messages : (pieces left others suffix : List (List ℕ)) (answers replies : List (TakeAnswer A)) (here there : CutterState)
       → concat pieces ≡ concat others → Feeds (fresh limits) pieces answers here left → IsSettled here (concat left)
-      → Feeds (fresh limits) others replies there behind → IsSettled there (concat behind)
+      → Feeds (fresh limits) others replies there suffix → IsSettled there (concat suffix)
       → (given_by 0 answers ≡ given_by 0 replies) × (here.fault ≡ there.fault)
   -- And however the bytes of messages are cut, it gives exactly these messages, and holds nothing after them.
   pub all_arrive : (items : List CutMessage) (pieces left : List (List ℕ)) (answers : List (TakeAnswer A)) (now : CutterState) → AreMessages limits items

@@ -9,8 +9,8 @@ abbrev pub OneCut : Type 0
 OneCut = (limits : Limits) (bytes : List ℕ) (xs ys : List CutMessage) (r s : List ℕ) (a b : CutOutcome) → IsCut limits bytes xs r a → IsCut limits bytes ys s b → (xs ≡ ys) × (r ≡ s) × (a ≡ b)
 
 -- the messages of a prefix are the first of all messages
-abbrev pub FrontOfCut : Type 0
-FrontOfCut = (limits : Limits) (front behind : List ℕ) (xs ys : List CutMessage) (r s : List ℕ) (a b : CutOutcome) → IsCut limits front xs r a → IsCut limits (front ++ behind) ys s b
+abbrev pub CutOfPrefix : Type 0
+CutOfPrefix = (limits : Limits) (front suffix : List ℕ) (xs ys : List CutMessage) (r s : List ℕ) (a b : CutOutcome) → IsCut limits front xs r a → IsCut limits (front ++ suffix) ys s b
     → (more : List CutMessage) × (ys ≡ xs ++ more)
 
 -- a cut of the bytes, whatever its parts

@@ -1,6 +1,6 @@
 //! Laws of streams. Each function's contract is one, and it does nothing at run time.
 ghost use Rattle.dbus_value_model.specs.declared.limits.Limits.{Limits};
-ghost use Rattle.dbus_stream.specs.StreamLaws.{OneCut, FrontOfCut, EachCut};
+ghost use Rattle.dbus_stream.specs.StreamLaws.{OneCut, CutOfPrefix, EachCut};
 ghost use Rattle.dbus_stream.specs.Headline.{Headline};
 
 use std::alloc::Allocator;
@@ -25,8 +25,8 @@ pub fn one_cut()
 {}
 
 /// Where a stream is cut in two anywhere, the messages of its first part are the first of its messages, under any limits.
-pub fn front_of_cut()
-    ensures { FrontOfCut }
+pub fn cut_of_prefix()
+    ensures { CutOfPrefix }
 {}
 
 /// Each list of bytes is cut, under any limits.

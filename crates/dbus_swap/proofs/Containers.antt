@@ -155,13 +155,13 @@ module _ (order : Order) (room : ℕ) (types : List ℕ) (at : ℕ) (bytes : Lis
   unfolding spelling
   array_of t xs typed is =
       let first = contents_start t at in
-      let behind = at + gap_to 4 at + 4 in
+      let suffix = at + gap_to 4 at + 4 in
       let a = alignment_of t in
       let c = spellings order first xs in
       let n = length c in
       let x = pad 4 at in
       let y = num order 4 n in
-      let z = pad a behind in
+      let z = pad a suffix in
       let formed = formed_array room t xs (subst (IsWellFormed room) is s.formed) in
       let within = subst (IsWithinLimits s.array order at) is s.within in
       let few : n < 256 ^ 4 = omega (arith, within.0, s.small) in
@@ -169,9 +169,9 @@ module _ (order : Order) (room : ℕ) (types : List ℕ) (at : ℕ) (bytes : Lis
       let padded : drop at bytes ≡ x ++ (y ++ (z ++ (c ++ rest))) = spelled ∙ simp append_assoc in
       let len_x : length x ≡ gap_to 4 at = length-replicate (gap_to 4 at) 0 in
       let len_y : length y ≡ 4 = length-num order 4 n in
-      let len_z : length z ≡ gap_to a behind = length-replicate (gap_to a behind) 0 in
+      let len_z : length z ≡ gap_to a suffix = length-replicate (gap_to a suffix) 0 in
       let there = stands_after at (at + gap_to 4 at) x (y ++ (z ++ (c ++ rest))) bytes padded (omega (arith, len_x)) in
-      let long : length (x ++ (y ++ (z ++ c))) ≡ gap_to 4 at + (4 + (gap_to a behind + n)) =
+      let long : length (x ++ (y ++ (z ++ c))) ≡ gap_to 4 at + (4 + (gap_to a suffix + n)) =
       omega (arith, len_x, len_y, len_z, length-append x (y ++ (z ++ c)), length-append y (z ++ c), length-append z c) in
       let within_bytes = there_within at (x ++ (y ++ (z ++ c))) rest bytes spelled (omega (arith, long)) in
       let text : sig t ≡ types = ap (drop 1) (ap sig (sym typed) ∙ s.text) in
@@ -232,11 +232,11 @@ module _ (order : Order) (room : ℕ) (types : List ℕ) (at : ℕ) (bytes : Lis
       → IsPut first (spellings (other order) first p.xs) rest half now
   numbers_put p first n size half now some is_size is_first is_n copied puts =
       let e = elements_there p first n is_first is_n in
-      let behind = at + gap_to 4 at + 4 in
+      let suffix = at + gap_to 4 at + 4 in
       let k = number_is p.type size some (is_size ∙ ap number_width (sym (code_is p.type types p.text))) in
       let wide : alignment_of p.type ≡ width k.0 = ap alignment_of k.1 in
-      let begins : first ≡ behind + gap_to (width k.0) behind = is_first ∙ ap (λ (w : ℕ). behind + gap_to w behind) wide in
-      let aligned : gap_to size first ≡ 0 = ap (λ (w : ℕ). gap_to w first) (sym k.2) ∙ ap (gap_to (width k.0)) begins ∙ comes_aligned k.0 behind in
+      let begins : first ≡ suffix + gap_to (width k.0) suffix = is_first ∙ ap (λ (w : ℕ). suffix + gap_to w suffix) wide in
+      let aligned : gap_to size first ≡ 0 = ap (λ (w : ℕ). gap_to w first) (sym k.2) ∙ ap (gap_to (width k.0)) begins ∙ comes_aligned k.0 suffix in
       puts order k.0 p.xs rest k.2 (subst (λ (t : TypeTree). AllOf t p.xs) k.1 p.all) aligned (copied ∙ e.spelled) e.ends
 
   module _ (p : ArrayStands) (start : ℕ) (out half : List ℕ) (copied : drop at out ≡ drop at bytes) (as_long : length out ≡ length bytes) (begins : start ≡ at + gap_to 4 at)

@@ -125,8 +125,8 @@ fn array(bytes: &[u8], out: &mut [u8], at: usize, order: Order, types: &[u8], ro
     let start = at + gap(4, at);
     let n = order.u32_at(bytes, start) as usize;
     turn_4(out, start);
-    let behind = start + 4;
-    let first = behind + gap(boundary(types[0]), behind);
+    let after = start + 4;
+    let first = after + gap(boundary(types[0]), after);
     let end = first + n;
     let width = number_width(types[0]);
     if width > 0 {

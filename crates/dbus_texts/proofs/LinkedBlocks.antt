@@ -101,8 +101,8 @@ links_at l (a ∷ xs) [] h i p q = absurd (omega arith)
 links_at l (a ∷ xs) (b ∷ ys) h zero p q = h.0
 links_at l (a ∷ xs) (b ∷ ys) h (suc i) p q = links_at l xs ys h.1 i (omega arith) (omega arith)
 
-pub links_behind : (l : Letters) (xs : List ℕ) (at next : ℕ) → next ≡ at + 1 → at + 17 ≤ length xs → Links l (chunk at 16 xs) (chunk next 16 xs) → (i : ℕ) → at ≤ i → i < at + 16 → IsTrue (may_follow l (get_or xs i 0) (get_or xs (i + 1) 0))
-links_behind l xs at next n room h i p q =
+pub links_after : (l : Letters) (xs : List ℕ) (at next : ℕ) → next ≡ at + 1 → at + 17 ≤ length xs → Links l (chunk at 16 xs) (chunk next 16 xs) → (i : ℕ) → at ≤ i → i < at + 16 → IsTrue (may_follow l (get_or xs i 0) (get_or xs (i + 1) 0))
+links_after l xs at next n room h i p q =
     let place : at + (i - at) ≡ i = omega arith in
     let beside : next + (i - at) ≡ i + 1 = omega arith in
     let within : i - at < 16 = omega arith in
@@ -111,7 +111,7 @@ links_behind l xs at next n room h i p q =
     (subst (λ a. IsTrue (may_follow l a (get_or (chunk next 16 xs) (i - at) 0))) (get_or-chunk at 16 xs (i - at) 0 within ∙ ap (λ j. get_or xs j 0) place) one)
 
 pub links_more : (l : Letters) (xs : List ℕ) (at : ℕ) → at + 17 ≤ length xs → ((i : ℕ) → i < at → IsTrue (may_follow l (get_or xs i 0) (get_or xs (i + 1) 0))) → Links l (chunk at 16 xs) (chunk (at + 1) 16 xs) → (i : ℕ) → i < at + 16 → IsTrue (may_follow l (get_or xs i 0) (get_or xs (i + 1) 0))
-links_more l xs at room before h i q = ⊎_elim (λ k. before i k) (λ k. links_behind l xs at (at + 1) refl room h i (omega arith) q) (cases_lt i at)
+links_more l xs at room before h i q = ⊎_elim (λ k. before i k) (λ k. links_after l xs at (at + 1) refl room h i (omega arith) q) (cases_lt i at)
 
 -- one byte more
 pub links_one : (l : Letters) (xs : List ℕ) (at : ℕ) → 1 ≤ at → ((i : ℕ) → i + 1 < at → IsTrue (may_follow l (get_or xs i 0) (get_or xs (i + 1) 0))) → may_follow l (get_or xs (at - 1) 0) (get_or xs at 0) ≡ true → (i : ℕ) → i + 1 < at + 1 → IsTrue (may_follow l (get_or xs i 0) (get_or xs (i + 1) 0))

@@ -10,7 +10,7 @@ use Rattle.dbus_texts.specs.declared.names.Place.{Place}
 use Rattle.dbus_texts.specs.declared.names.Place.TheVariants.{PathStart, Root, BusStart, First, More}
 use Rattle.dbus_texts.specs.declared.names.NameScan.{NameScan}
 use Rattle.dbus_texts.specs.Prefixes.{IsStep, Moves}
-use Rattle.dbus_texts.specs.Names.{is_word, is_dashed, is_dashed_start, IsElement, each_behind, IsPath, IsJoined, IsBusName, IsMember, IsInterface}
+use Rattle.dbus_texts.specs.Names.{is_word, is_dashed, is_dashed_start, IsElement, each_after, IsPath, IsJoined, IsBusName, IsMember, IsInterface}
 use Rattle.dbus_texts.specs.NameScans.{begins, goes_on, separator, MayFollow, Elements, GoesOn, name_rest, name_rest_at, name_state, past_separator, name_next_at, name_next, may_end, name_end_at}
 
 -- a letter may begin each element, and no separator stands in one
@@ -41,7 +41,7 @@ goes_on_some l Needed = (separator l ∷ 97 ∷ [], record { run = []; others = 
 goes_on_some l Free = ([], record { run = []; others = []; run_is = tt; others_are = tt; follow = tt; spelled = refl })
 
 -- the first byte of elements
-elements_at : (l : Letters) (t : Tail) (b : ℕ) (c first : List ℕ) (others : List (List ℕ)) → IsElement (begins l) (goes_on l) first → AllByRecursion (IsElement (begins l) (goes_on l)) others → MayFollow t others → b ∷ c ≡ first ++ each_behind (separator l) others → (begins l b ≡ true) × GoesOn l t c
+elements_at : (l : Letters) (t : Tail) (b : ℕ) (c first : List ℕ) (others : List (List ℕ)) → IsElement (begins l) (goes_on l) first → AllByRecursion (IsElement (begins l) (goes_on l)) others → MayFollow t others → b ∷ c ≡ first ++ each_after (separator l) others → (begins l b ≡ true) × GoesOn l t c
 elements_at l t b c [] others f o m e = absurd f
 elements_at l t b c (x ∷ run) others f o m e =
     let same : b ≡ x = cc in
@@ -67,7 +67,7 @@ may_go Alone e es h = h
 may_go Needed e es h = tt
 may_go Free e es h = tt
 
-goes_on_at : (l : Letters) (t : Tail) (b : ℕ) (c run : List ℕ) (others : List (List ℕ)) → AllByRecursion (λ x. IsTrue (goes_on l x)) run → AllByRecursion (IsElement (begins l) (goes_on l)) others → MayFollow t others → b ∷ c ≡ run ++ each_behind (separator l) others → ((goes_on l b ≡ true) × GoesOn l t c) ⊎ ((b ≡ separator l) × MayGo t × Elements l Free c)
+goes_on_at : (l : Letters) (t : Tail) (b : ℕ) (c run : List ℕ) (others : List (List ℕ)) → AllByRecursion (λ x. IsTrue (goes_on l x)) run → AllByRecursion (IsElement (begins l) (goes_on l)) others → MayFollow t others → b ∷ c ≡ run ++ each_after (separator l) others → ((goes_on l b ≡ true) × GoesOn l t c) ⊎ ((b ≡ separator l) × MayGo t × Elements l Free c)
 goes_on_at l t b c [] [] r o m e = cc
 goes_on_at l t b c [] (f ∷ others) r o m e =
     inr (cc, may_go t f others m, record { first = f; others = others; first_is = o.0; others_are = o.1; follow = tt; spelled = cc })
@@ -123,11 +123,11 @@ path_from b c e h =
 
 -- the start of a bus name
 joined_elements : (l : Letters) (c : List ℕ) → separator l ≡ 46 → IsJoined (begins l) (goes_on l) c → Elements l Needed c
-joined_elements l c e h = record { first = h.0; others = h.1 ∷ h.2; first_is = h.3.0; others_are = h.3.1; follow = tt; spelled = subst (λ s. c ≡ h.0 ++ each_behind s (h.1 ∷ h.2)) (sym e) h.4 }
+joined_elements l c e h = record { first = h.0; others = h.1 ∷ h.2; first_is = h.3.0; others_are = h.3.1; follow = tt; spelled = subst (λ s. c ≡ h.0 ++ each_after s (h.1 ∷ h.2)) (sym e) h.4 }
 
-elements_joined_at : (l : Letters) (c first : List ℕ) (others : List (List ℕ)) → separator l ≡ 46 → IsElement (begins l) (goes_on l) first → AllByRecursion (IsElement (begins l) (goes_on l)) others → MayFollow Needed others → c ≡ first ++ each_behind (separator l) others → IsJoined (begins l) (goes_on l) c
+elements_joined_at : (l : Letters) (c first : List ℕ) (others : List (List ℕ)) → separator l ≡ 46 → IsElement (begins l) (goes_on l) first → AllByRecursion (IsElement (begins l) (goes_on l)) others → MayFollow Needed others → c ≡ first ++ each_after (separator l) others → IsJoined (begins l) (goes_on l) c
 elements_joined_at l c first [] s f o m e = absurd m
-elements_joined_at l c first (g ∷ others) s f o m e = (first, g, others, (f, o), subst (λ x. c ≡ first ++ each_behind x (g ∷ others)) s e)
+elements_joined_at l c first (g ∷ others) s f o m e = (first, g, others, (f, o), subst (λ x. c ≡ first ++ each_after x (g ∷ others)) s e)
 
 pub elements_joined : (l : Letters) (c : List ℕ) → separator l ≡ 46 → Elements l Needed c → IsJoined (begins l) (goes_on l) c
 elements_joined l c e h = elements_joined_at l c h.first h.others e h.first_is h.others_are h.follow h.spelled
@@ -189,11 +189,11 @@ name_moves_at More l t b =
 pub name_moves : (s : NameScan) (b : ℕ) → IsStep name_rest s b (name_next s b)
 name_moves s b = name_moves_at s.place s.letters s.tail b
 
-elements_nil_at : (l : Letters) (t : Tail) (first : List ℕ) (others : List (List ℕ)) → IsElement (begins l) (goes_on l) first → [] ≡ first ++ each_behind (separator l) others → ⊥
+elements_nil_at : (l : Letters) (t : Tail) (first : List ℕ) (others : List (List ℕ)) → IsElement (begins l) (goes_on l) first → [] ≡ first ++ each_after (separator l) others → ⊥
 elements_nil_at l t [] others f e = f
 elements_nil_at l t (x ∷ first) others f e = cc
 
-goes_on_nil_at : (l : Letters) (t : Tail) (run : List ℕ) (others : List (List ℕ)) → MayFollow t others → [] ≡ run ++ each_behind (separator l) others → may_end t ≡ true
+goes_on_nil_at : (l : Letters) (t : Tail) (run : List ℕ) (others : List (List ℕ)) → MayFollow t others → [] ≡ run ++ each_after (separator l) others → may_end t ≡ true
 goes_on_nil_at l Alone run others m e = refl
 goes_on_nil_at l Needed [] [] m e = absurd m
 goes_on_nil_at l Needed [] (f ∷ others) m e = cc
@@ -205,7 +205,7 @@ goes_on_end l Alone e = record { run = []; others = []; run_is = tt; others_are 
 goes_on_end l Needed e = absurd (false≢true e)
 goes_on_end l Free e = record { run = []; others = []; run_is = tt; others_are = tt; follow = tt; spelled = refl }
 
-joined_nil_at : (start more : ℕ → Bool) (e : List ℕ) (f : List ℕ) (es : List (List ℕ)) → IsElement start more e → [] ≡ e ++ each_behind 46 (f ∷ es) → ⊥
+joined_nil_at : (start more : ℕ → Bool) (e : List ℕ) (f : List ℕ) (es : List (List ℕ)) → IsElement start more e → [] ≡ e ++ each_after 46 (f ∷ es) → ⊥
 joined_nil_at start more [] f es h e = h
 joined_nil_at start more (x ∷ run) f es h e = cc
 
@@ -233,7 +233,7 @@ name_ends_at More l t e = goes_on_end l t e
 pub member_elements : (c : List ℕ) → IsMember c → Elements Name Alone c
 member_elements c h = record { first = c; others = []; first_is = h; others_are = tt; follow = tt; spelled = sym (append-nil c) }
 
-elements_member_at : (c first : List ℕ) (others : List (List ℕ)) → IsElement (begins Name) (goes_on Name) first → MayFollow Alone others → c ≡ first ++ each_behind 46 others → IsMember c
+elements_member_at : (c first : List ℕ) (others : List (List ℕ)) → IsElement (begins Name) (goes_on Name) first → MayFollow Alone others → c ≡ first ++ each_after 46 others → IsMember c
 elements_member_at c first [] f m e = subst IsMember (sym (e ∙ append-nil first)) f
 elements_member_at c first (g ∷ others) f m e = absurd m
 

@@ -10,7 +10,7 @@ use Rattle.dbus_texts.specs.declared.signature.SigPlace.TheVariants.{After, One,
 use Rattle.dbus_texts.specs.Prefixes.{IsStepFrom, IsStep, Moves}
 use Rattle.dbus_texts.proofs.Codes.{number_is_basic, text_is_basic, number_is_code, text_is_code, basic_type, code_type}
 use Rattle.dbus_texts.specs.Types.{TypeTree, NumberType, TextType, VariantType, BYTE, number_code, text_code, TypeTrees, ArrayType, StructType, EntryType, NoTypes, MoreTypes, sig, sigs, IsComplete, AreComplete}
-use Rattle.dbus_texts.specs.SignatureScans.{is_basic_code, is_type_code, OneThen, MoreThen, CloseThen, KeyThen, behind_at, behind, behind_all, AtTop, SigState, after, sig_rest_at, sig_rest, sig_state, frame, begin, innermost, others, in_frame_at, past, sig_next_at, sig_next, no_frames, sig_end_at}
+use Rattle.dbus_texts.specs.SignatureScans.{is_basic_code, is_type_code, OneThen, MoreThen, CloseThen, KeyThen, frame_rest_at, frame_rest, frames_rest, AtTop, SigState, after, sig_rest_at, sig_rest, sig_state, frame, begin, innermost, others, in_frame_at, past, sig_next_at, sig_next, no_frames, sig_end_at}
 use Rattle.dbus_texts.specs.Signatures.{IsSignature, IsSingle}
 
 -- how a struct's text joins with what follows
@@ -125,13 +125,13 @@ signature_from : (c : List ℕ) → OneThen false 0 0 IsSignature c → IsSignat
 signature_from c h = (MoreTypes h.first h.follows.0, (h.complete, h.follows.1), h.spelled ∙ ap (λ w. sig h.first ++ w) h.follows.2)
 
 -- one frame more
-push_to : (fs : List Frame) (f : Frame) (K : List ℕ → Type 0) (c : List ℕ) → behind_all (fs ++ f ∷ []) K c → behind f (λ r. behind_all fs K r) c
+push_to : (fs : List Frame) (f : Frame) (K : List ℕ → Type 0) (c : List ℕ) → frames_rest (fs ++ f ∷ []) K c → frame_rest f (λ r. frames_rest fs K r) c
 push_to [] f K c h = h
-push_to (g ∷ fs) f K c h = push_to fs f (behind g K) c h
+push_to (g ∷ fs) f K c h = push_to fs f (frame_rest g K) c h
 
-push_from : (fs : List Frame) (f : Frame) (K : List ℕ → Type 0) (c : List ℕ) → behind f (λ r. behind_all fs K r) c → behind_all (fs ++ f ∷ []) K c
+push_from : (fs : List Frame) (f : Frame) (K : List ℕ → Type 0) (c : List ℕ) → frame_rest f (λ r. frames_rest fs K r) c → frames_rest (fs ++ f ∷ []) K c
 push_from [] f K c h = h
-push_from (g ∷ fs) f K c h = push_from fs f (behind g K) c h
+push_from (g ∷ fs) f K c h = push_from fs f (frame_rest g K) c h
 
 -- something may always follow
 one_some : (inside : Bool) (a s : ℕ) (K : List ℕ → Type 0) → (c : List ℕ) × K c → (c : List ℕ) × OneThen inside a s K c
@@ -142,20 +142,20 @@ key_some a s K k =
     let o = one_some false a s K k in
     (121 ∷ o.0, (refl, o.1))
 
-behind_some_at : (e : Bool) (a s : ℕ) (K : List ℕ → Type 0) → (c : List ℕ) × K c → (c : List ℕ) × behind_at e a s K c
-behind_some_at true a s K k = (125 ∷ k.0, (refl, k.1))
-behind_some_at false a s K k = (41 ∷ k.0, more_close a s K 41 k.0 refl k.1)
+frame_rest_some_at : (e : Bool) (a s : ℕ) (K : List ℕ → Type 0) → (c : List ℕ) × K c → (c : List ℕ) × frame_rest_at e a s K c
+frame_rest_some_at true a s K k = (125 ∷ k.0, (refl, k.1))
+frame_rest_some_at false a s K k = (41 ∷ k.0, more_close a s K 41 k.0 refl k.1)
 
-behind_all_some : (fs : List Frame) (K : List ℕ → Type 0) → (c : List ℕ) × K c → (c : List ℕ) × behind_all fs K c
-behind_all_some [] K k = k
-behind_all_some (f ∷ fs) K k = behind_all_some fs (behind f K) (behind_some_at f.entry f.arrays f.structs K k)
+frames_rest_some : (fs : List Frame) (K : List ℕ → Type 0) → (c : List ℕ) × K c → (c : List ℕ) × frames_rest fs K c
+frames_rest_some [] K k = k
+frames_rest_some (f ∷ fs) K k = frames_rest_some fs (frame_rest f K) (frame_rest_some_at f.entry f.arrays f.structs K k)
 
 top_some : (single : Bool) → (c : List ℕ) × AtTop single c
 top_some true = ([], refl)
 top_some false = ([], (NoTypes, tt, refl))
 
 after_some : (single : Bool) (fs : List Frame) → (c : List ℕ) × after single fs c
-after_some single fs = behind_all_some fs (AtTop single) (top_some single)
+after_some single fs = frames_rest_some fs (AtTop single) (top_some single)
 
 -- a complete type begins
 not_code : (b n : ℕ) → b ≡ n → is_type_code n ≡ false → is_type_code b ≡ true → ⊥
@@ -373,17 +373,17 @@ list_nil : (xs : List ℕ) (r : List ℕ) → [] ≡ xs ++ 41 ∷ r → ⊥
 list_nil [] r e = cc
 list_nil (x ∷ xs) r e = cc
 
-behind_nil : (e : Bool) (a s : ℕ) (K : List ℕ → Type 0) → behind_at e a s K [] → ⊥
-behind_nil true a s K h = h
-behind_nil false a s K h = list_nil (sigs h.types) h.rest h.spelled
+frames_rest_nil : (e : Bool) (a s : ℕ) (K : List ℕ → Type 0) → frame_rest_at e a s K [] → ⊥
+frames_rest_nil true a s K h = h
+frames_rest_nil false a s K h = list_nil (sigs h.types) h.rest h.spelled
 
-all_nil : (fs : List Frame) (K : List ℕ → Type 0) → (K [] → ⊥) → behind_all fs K [] → ⊥
+all_nil : (fs : List Frame) (K : List ℕ → Type 0) → (K [] → ⊥) → frames_rest fs K [] → ⊥
 all_nil [] K n h = n h
-all_nil (f ∷ fs) K n h = all_nil fs (behind f K) (behind_nil f.entry f.arrays f.structs K) h
+all_nil (f ∷ fs) K n h = all_nil fs (frame_rest f K) (frames_rest_nil f.entry f.arrays f.structs K) h
 
 after_ended : (single : Bool) (fs : List Frame) → after single fs [] → no_frames fs ≡ true
 after_ended single [] h = refl
-after_ended single (f ∷ fs) h = absurd (all_nil fs (behind f (AtTop single)) (behind_nil f.entry f.arrays f.structs (AtTop single)) h)
+after_ended single (f ∷ fs) h = absurd (all_nil fs (frame_rest f (AtTop single)) (frames_rest_nil f.entry f.arrays f.structs (AtTop single)) h)
 
 after_ends : (single : Bool) (fs : List Frame) → no_frames fs ≡ true → after single fs []
 after_ends true [] e = refl

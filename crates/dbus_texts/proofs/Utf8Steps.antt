@@ -9,7 +9,7 @@ use Rattle.dbus_texts.specs.declared.utf8.Utf8Place.{Utf8Place}
 use Rattle.dbus_texts.specs.declared.utf8.Utf8Place.TheVariants.{Free, Last, LastTwo, LastThree, AfterE0, AfterEd, AfterF0, AfterF4}
 use Rattle.dbus_texts.specs.Prefixes.{IsStep}
 use Rattle.dbus_texts.specs.Utf8.{IsTextChar, IsText}
-use Rattle.dbus_texts.specs.Utf8Scans.{Behind, text_rest, lead, text_next, text_end}
+use Rattle.dbus_texts.specs.Utf8Scans.{ByteThen, text_rest, lead, text_next, text_end}
 
 -- the four forms of a character
 encode_1 : (x : ℕ) → x < 128 → encode x ≡ x ∷ []
@@ -247,16 +247,16 @@ back_4 b i j k c l h ri rj rk low high t =
 
 -- three bytes after one that begins them
 abbrev Trailing : ℕ → ℕ → ℕ → (List ℕ → Type 0) → List ℕ → Type 0
-Trailing low high b R c = Behind low high R c
+Trailing low high b R c = ByteThen low high R c
 
-back_two : (low high b : ℕ) (c : List ℕ) → 224 ≤ b → b ≤ 239 → ((i j : ℕ) → IsInRange low high i → IsInRange 128 191 j → IsInRange 128 191 i × (2048 ≤ (b - 224) * 4096 + (i - 128) * 64 + (j - 128)) × IsScalar ((b - 224) * 4096 + (i - 128) * 64 + (j - 128))) → Behind low high (Behind 128 191 IsText) c → IsText (b ∷ c)
+back_two : (low high b : ℕ) (c : List ℕ) → 224 ≤ b → b ≤ 239 → ((i j : ℕ) → IsInRange low high i → IsInRange 128 191 j → IsInRange 128 191 i × (2048 ≤ (b - 224) * 4096 + (i - 128) * 64 + (j - 128)) × IsScalar ((b - 224) * 4096 + (i - 128) * 64 + (j - 128))) → ByteThen low high (ByteThen 128 191 IsText) c → IsText (b ∷ c)
 back_two low high b [] l h f t = absurd t
 back_two low high b (i ∷ []) l h f t = absurd t.1
 back_two low high b (i ∷ j ∷ c) l h f t =
     let g = f i j t.0 t.1.0 in
     back_3 b i j c l h g.0 t.1.0 g.1 g.2 t.1.1
 
-back_three : (low high b : ℕ) (c : List ℕ) → 240 ≤ b → b ≤ 244 → ((i j k : ℕ) → IsInRange low high i → IsInRange 128 191 j → IsInRange 128 191 k → IsInRange 128 191 i × (65536 ≤ (b - 240) * 262144 + (i - 128) * 4096 + (j - 128) * 64 + (k - 128)) × ((b - 240) * 262144 + (i - 128) * 4096 + (j - 128) * 64 + (k - 128) < 1114112)) → Behind low high (Behind 128 191 (Behind 128 191 IsText)) c → IsText (b ∷ c)
+back_three : (low high b : ℕ) (c : List ℕ) → 240 ≤ b → b ≤ 244 → ((i j k : ℕ) → IsInRange low high i → IsInRange 128 191 j → IsInRange 128 191 k → IsInRange 128 191 i × (65536 ≤ (b - 240) * 262144 + (i - 128) * 4096 + (j - 128) * 64 + (k - 128)) × ((b - 240) * 262144 + (i - 128) * 4096 + (j - 128) * 64 + (k - 128) < 1114112)) → ByteThen low high (ByteThen 128 191 (ByteThen 128 191 IsText)) c → IsText (b ∷ c)
 back_three low high b [] l h f t = absurd t
 back_three low high b (i ∷ []) l h f t = absurd t.1
 back_three low high b (i ∷ j ∷ []) l h f t = absurd t.1.1
@@ -303,21 +303,21 @@ free_moves b (Some p) e =
     }
 
 -- a byte after the first
-behind_moves : (p q : Utf8Place) (low high b : ℕ) → ((c : List ℕ) → text_rest p (b ∷ c) → IsInRange low high b × text_rest q c) → ((c : List ℕ) → IsInRange low high b → text_rest q c → text_rest p (b ∷ c)) → IsStep text_rest p b (cond (is_in_range low high b) (Some q) None)
-behind_moves p q low high b to from =
+after_moves : (p q : Utf8Place) (low high b : ℕ) → ((c : List ℕ) → text_rest p (b ∷ c) → IsInRange low high b × text_rest q c) → ((c : List ℕ) → IsInRange low high b → text_rest q c → text_rest p (b ∷ c)) → IsStep text_rest p b (cond (is_in_range low high b) (Some q) None)
+after_moves p q low high b to from =
     cond_both (is_in_range low high b) _ _ (IsStep text_rest p b)
     (λ e. record { to = λ c h. (to c h).1; from = λ c h. from c (in_range low high b e) h; some = rest_some q })
     (λ e. λ c h. let r = (to c h).0 in false≢true (sym e ∙ in_range_is low high b r.0 r.1))
 
 pub text_moves : (p : Utf8Place) (b : ℕ) → IsStep text_rest p b (text_next p b)
 text_moves Free b = free_moves b (lead b) refl
-text_moves Last b = behind_moves Last Free 128 191 b (λ c h. h) (λ c r h. (r, h))
-text_moves LastTwo b = behind_moves LastTwo Last 128 191 b (λ c h. h) (λ c r h. (r, h))
-text_moves LastThree b = behind_moves LastThree LastTwo 128 191 b (λ c h. h) (λ c r h. (r, h))
-text_moves AfterE0 b = behind_moves AfterE0 Last 160 191 b (λ c h. h) (λ c r h. (r, h))
-text_moves AfterEd b = behind_moves AfterEd Last 128 159 b (λ c h. h) (λ c r h. (r, h))
-text_moves AfterF0 b = behind_moves AfterF0 LastTwo 144 191 b (λ c h. h) (λ c r h. (r, h))
-text_moves AfterF4 b = behind_moves AfterF4 LastTwo 128 143 b (λ c h. h) (λ c r h. (r, h))
+text_moves Last b = after_moves Last Free 128 191 b (λ c h. h) (λ c r h. (r, h))
+text_moves LastTwo b = after_moves LastTwo Last 128 191 b (λ c h. h) (λ c r h. (r, h))
+text_moves LastThree b = after_moves LastThree LastTwo 128 191 b (λ c h. h) (λ c r h. (r, h))
+text_moves AfterE0 b = after_moves AfterE0 Last 160 191 b (λ c h. h) (λ c r h. (r, h))
+text_moves AfterEd b = after_moves AfterEd Last 128 159 b (λ c h. h) (λ c r h. (r, h))
+text_moves AfterF0 b = after_moves AfterF0 LastTwo 144 191 b (λ c h. h) (λ c r h. (r, h))
+text_moves AfterF4 b = after_moves AfterF4 LastTwo 128 143 b (λ c h. h) (λ c r h. (r, h))
 
 pub text_ended : (p : Utf8Place) → text_rest p [] → text_end p ≡ true
 text_ended Free h = refl

@@ -35,9 +35,9 @@ left_of true q h e = refl
 left_of false q h e = absurd (false≢true (sym e ∙ h))
 
 -- what follows a
-abbrev behind_at : Bool → Letters → List ℕ → Type 0
-behind_at true l w = Elements l Free w
-behind_at false l w = GoesOn l Free w
+abbrev frame_rest_at : Bool → Letters → List ℕ → Type 0
+frame_rest_at true l w = Elements l Free w
+frame_rest_at false l w = GoesOn l Free w
 
 begins_on : (l : Letters) (b : ℕ) → begins l b ≡ true → eqb b (separator l) ≡ false
 begins_on l b h = go (eqb b (separator l)) refl
@@ -49,21 +49,21 @@ begins_on l b h = go (eqb b (separator l)) refl
 stops : (l : Letters) (b : ℕ) → b ≡ separator l → goes_on l b ≡ false
 stops l b e = ap (goes_on l) e ∙ apart l
 
-module _ (l : Letters) (a b : ℕ) (w : List ℕ) (link : may_follow l a b ≡ true) (rest : behind_at (eqb b (separator l)) l w) where
+module _ (l : Letters) (a b : ℕ) (w : List ℕ) (link : may_follow l a b ≡ true) (rest : frame_rest_at (eqb b (separator l)) l w) where
   may_stand : (goes_on l b || eqb b (separator l)) ≡ true
   may_stand = (and_parts (goes_on l b || eqb b (separator l)) (not (eqb a (separator l)) || begins l b) link).0
 
   may_begin : (not (eqb a (separator l)) || begins l b) ≡ true
   may_begin = (and_parts (goes_on l b || eqb b (separator l)) (not (eqb a (separator l)) || begins l b) link).1
 
-  rest_at : (t : Bool) → eqb b (separator l) ≡ t → behind_at t l w
-  rest_at t e = subst (λ u. behind_at u l w) e rest
+  rest_at : (t : Bool) → eqb b (separator l) ≡ t → frame_rest_at t l w
+  rest_at t e = subst (λ u. frame_rest_at u l w) e rest
 
   within_at : (t : Bool) → eqb b (separator l) ≡ t → GoesOn l Free (b ∷ w)
   within_at true e = let at = eqb-true b (separator l) e in (goes_on_separator l Free b tt (stops l b at) at).from w (rest_at true e)
   within_at false e = (goes_on_more l Free b (left_of (goes_on l b) (eqb b (separator l)) may_stand e)).from w (rest_at false e)
 
-  first_at : (t : Bool) → eqb a (separator l) ≡ t → behind_at t l (b ∷ w)
+  first_at : (t : Bool) → eqb a (separator l) ≡ t → frame_rest_at t l (b ∷ w)
   first_at true e =
       let begun = right_of (not (eqb a (separator l))) (begins l b) may_begin (ap not e) in
       (elements_move l Free b begun).from w (rest_at false (begins_on l b begun))
@@ -74,14 +74,14 @@ module _ (l : Letters) (a b : ℕ) (w : List ℕ) (link : may_follow l a b ≡ t
   needed_at false e zero k s ih = absurd (eqb-false b (separator l) e s)
   needed_at false e (suc i) k s ih = (goes_on_more l Needed b (left_of (goes_on l b) (eqb b (separator l)) may_stand e)).from w (ih i (omega arith) s)
 
-behind : (l : Letters) (a : ℕ) (w : List ℕ) → Chain l a w → behind_at (eqb a (separator l)) l w
-behind l a [] h = subst (λ t. behind_at t l []) (sym h) (goes_on_end l Free refl)
-behind l a (b ∷ w) h = first_at l a b w h.0 (behind l b w h.1) (eqb a (separator l)) refl
+frame_rest : (l : Letters) (a : ℕ) (w : List ℕ) → Chain l a w → frame_rest_at (eqb a (separator l)) l w
+frame_rest l a [] h = subst (λ t. frame_rest_at t l []) (sym h) (goes_on_end l Free refl)
+frame_rest l a (b ∷ w) h = first_at l a b w h.0 (frame_rest l b w h.1) (eqb a (separator l)) refl
 
 -- a separator is still to come
-behind_needed : (l : Letters) (a : ℕ) (w : List ℕ) → Chain l a w → (i : ℕ) → i < length w → get_or w i 0 ≡ separator l → GoesOn l Needed w
-behind_needed l a [] h i k e = absurd (omega arith)
-behind_needed l a (b ∷ w) h i k e = needed_at l a b w h.0 (behind l b w h.1) (eqb b (separator l)) refl i k e (λ j m s. behind_needed l b w h.1 j m s)
+after_needed : (l : Letters) (a : ℕ) (w : List ℕ) → Chain l a w → (i : ℕ) → i < length w → get_or w i 0 ≡ separator l → GoesOn l Needed w
+after_needed l a [] h i k e = absurd (omega arith)
+after_needed l a (b ∷ w) h i k e = needed_at l a b w h.0 (frame_rest l b w h.1) (eqb b (separator l)) refl i k e (λ j m s. after_needed l b w h.1 j m s)
 
 unlike : (a b : ℕ) → (a ≡ b → ⊥) → eqb a b ≡ false
 unlike a b n = go (eqb a b) refl
@@ -109,8 +109,8 @@ found_at (b ∷ w) s h = go (eqb b s) refl (found_at w s)
 pub joined_of : (l : Letters) (w : List ℕ) (n i : ℕ) → n + 1 ≡ length w → begins l (get_or w 0 0) ≡ true → (get_or w n 0 ≡ separator l → ⊥) → i < length w → get_or w i 0 ≡ separator l → AreLinked l w → Elements l Needed w
 joined_of l [] n i long b e k s h = absurd (omega arith)
 joined_of l (a ∷ w) n zero long b e k s h = absurd (false≢true (sym (begins_apart l) ∙ (sym (ap (begins l) s) ∙ b)))
-joined_of l (a ∷ w) n (suc i) long b e k s h = (elements_move l Needed a b).from w (behind_needed l a w (linked_chain l a w n (omega arith) e h) i (omega arith) s)
+joined_of l (a ∷ w) n (suc i) long b e k s h = (elements_move l Needed a b).from w (after_needed l a w (linked_chain l a w n (omega arith) e h) i (omega arith) s)
 
 pub path_of : (w : List ℕ) (n : ℕ) → n + 1 ≡ length w → get_or w 0 0 ≡ 47 → (get_or w n 0 ≡ 47 → ⊥) → AreLinked Word w → IsPath w
 path_of [] n long b e h = absurd (omega arith)
-path_of (a ∷ w) n long b e h = path_from a w b (inr (subst (λ x. behind_at (eqb x 47) Word w) b (behind Word a w (linked_chain Word a w n (omega arith) e h))))
+path_of (a ∷ w) n long b e h = path_from a w b (inr (subst (λ x. frame_rest_at (eqb x 47) Word w) b (frame_rest Word a w (linked_chain Word a w n (omega arith) e h))))

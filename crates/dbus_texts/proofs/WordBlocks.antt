@@ -48,14 +48,14 @@ words_at [] h i l = absurd (omega arith)
 words_at (x ∷ xs) h zero l = h.0
 words_at (x ∷ xs) h (suc i) l = words_at xs h.1 i (omega arith)
 
-pub words_behind : (xs : List ℕ) (at : ℕ) → at + 16 ≤ length xs → Words (chunk at 16 xs) → (i : ℕ) → at ≤ i → i < at + 16 → IsTrue (is_word (get_or xs i 0))
-words_behind xs at room h i l k =
+pub words_after : (xs : List ℕ) (at : ℕ) → at + 16 ≤ length xs → Words (chunk at 16 xs) → (i : ℕ) → at ≤ i → i < at + 16 → IsTrue (is_word (get_or xs i 0))
+words_after xs at room h i l k =
     let place : at + (i - at) ≡ i = omega arith in
     let within : i - at < 16 = omega arith in
     subst (λ b. IsTrue (is_word b)) (get_or-chunk at 16 xs (i - at) 0 within ∙ ap (λ j. get_or xs j 0) place) (words_at (chunk at 16 xs) h (i - at) (omega (arith, length-chunk at 16 xs room)))
 
 pub words_more : (xs : List ℕ) (at : ℕ) → at + 16 ≤ length xs → ((i : ℕ) → i < at → IsTrue (is_word (get_or xs i 0))) → Words (chunk at 16 xs) → (i : ℕ) → i < at + 16 → IsTrue (is_word (get_or xs i 0))
-words_more xs at room before h i l = ⊎_elim (λ k. before i k) (λ k. words_behind xs at room h i (omega arith) l) (cases_lt i at)
+words_more xs at room before h i l = ⊎_elim (λ k. before i k) (λ k. words_after xs at room h i (omega arith) l) (cases_lt i at)
 
 pub words_one : (xs : List ℕ) (at : ℕ) → ((i : ℕ) → i < at → IsTrue (is_word (get_or xs i 0))) → is_word (get_or xs at 0) ≡ true → (i : ℕ) → i < at + 1 → IsTrue (is_word (get_or xs i 0))
 words_one xs at before h i l = ⊎_elim (λ k. before i k) (λ k. let same : i ≡ at = omega arith in subst (λ j. IsTrue (is_word (get_or xs j 0))) (sym same) h) (cases_lt i at)

@@ -9,7 +9,7 @@ use Rattle.dbus_texts.specs.declared.names.Tail.TheVariants.{Alone, Needed, Free
 use Rattle.dbus_texts.specs.declared.names.Place.{Place}
 use Rattle.dbus_texts.specs.declared.names.Place.TheVariants.{PathStart, Root, BusStart, First, More}
 use Rattle.dbus_texts.specs.declared.names.NameScan.{NameScan}
-use Rattle.dbus_texts.specs.Names.{is_word, is_word_start, is_dashed, is_dashed_start, IsElement, each_behind, IsPath, IsBusName}
+use Rattle.dbus_texts.specs.Names.{is_word, is_word_start, is_dashed, is_dashed_start, IsElement, each_after, IsPath, IsBusName}
 
 -- What may follow, by the place in a name.
 abbrev pub begins : Letters → ℕ → Bool
@@ -45,7 +45,7 @@ pub record Elements (l : Letters) (t : Tail) (c : List ℕ) : Type 0 where
   pub first_is : IsElement (begins l) (goes_on l) first
   pub others_are : AllByRecursion (IsElement (begins l) (goes_on l)) others
   pub follow : MayFollow t others
-  pub spelled : c ≡ first ++ each_behind (separator l) others
+  pub spelled : c ≡ first ++ each_after (separator l) others
 
 -- the element under way goes on, and elements may follow
 pub record GoesOn (l : Letters) (t : Tail) (c : List ℕ) : Type 0 where
@@ -54,7 +54,7 @@ pub record GoesOn (l : Letters) (t : Tail) (c : List ℕ) : Type 0 where
   pub run_is : AllByRecursion (λ b. IsTrue (goes_on l b)) run
   pub others_are : AllByRecursion (IsElement (begins l) (goes_on l)) others
   pub follow : MayFollow t others
-  pub spelled : c ≡ run ++ each_behind (separator l) others
+  pub spelled : c ≡ run ++ each_after (separator l) others
 
 abbrev pub name_rest_at : Place → Letters → Tail → List ℕ → Type 0
 name_rest_at PathStart l t c = IsPath c

@@ -23,17 +23,17 @@ IsElement start more [] = ⊥
 IsElement start more (b ∷ bs) = IsTrue (start b) × AllByRecursion (λ c. IsTrue (more c)) bs
 
 -- elements, each after a separator
-abbrev pub each_behind : ℕ → List (List ℕ) → List ℕ
-each_behind separator [] = []
-each_behind separator (e ∷ es) = separator ∷ (e ++ each_behind separator es)
+abbrev pub each_after : ℕ → List (List ℕ) → List ℕ
+each_after separator [] = []
+each_after separator (e ∷ es) = separator ∷ (e ++ each_after separator es)
 
 -- `/`, or one or more times `/` and an element
 abbrev pub IsPath : List ℕ → Type 0
-IsPath w = (w ≡ 47 ∷ []) ⊎ ((e : List ℕ) × (es : List (List ℕ)) × AllByRecursion (IsElement is_word is_word) (e ∷ es) × (w ≡ each_behind 47 (e ∷ es)))
+IsPath w = (w ≡ 47 ∷ []) ⊎ ((e : List ℕ) × (es : List (List ℕ)) × AllByRecursion (IsElement is_word is_word) (e ∷ es) × (w ≡ each_after 47 (e ∷ es)))
 
 -- two or more elements joined by `.`
 abbrev pub IsJoined : (ℕ → Bool) → (ℕ → Bool) → List ℕ → Type 0
-IsJoined start more w = (e : List ℕ) × (f : List ℕ) × (es : List (List ℕ)) × AllByRecursion (IsElement start more) (e ∷ f ∷ es) × (w ≡ e ++ each_behind 46 (f ∷ es))
+IsJoined start more w = (e : List ℕ) × (f : List ℕ) × (es : List (List ℕ)) × AllByRecursion (IsElement start more) (e ∷ f ∷ es) × (w ≡ e ++ each_after 46 (f ∷ es))
 
 abbrev pub IsMember : List ℕ → Type 0
 IsMember w = IsElement is_word_start is_word w

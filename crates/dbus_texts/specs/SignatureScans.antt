@@ -45,17 +45,17 @@ KeyThen arrays structs K [] = ⊥
 KeyThen arrays structs K (b ∷ c) = IsTrue (is_basic_code b) × OneThen false arrays structs K c
 
 -- what may follow a complete type in an open struct or entry
-abbrev pub behind_at : Bool → ℕ → ℕ → (List ℕ → Type 0) → List ℕ → Type 0
-behind_at true arrays structs K c = CloseThen K c
-behind_at false arrays structs K c = MoreThen arrays structs K c
+abbrev pub frame_rest_at : Bool → ℕ → ℕ → (List ℕ → Type 0) → List ℕ → Type 0
+frame_rest_at true arrays structs K c = CloseThen K c
+frame_rest_at false arrays structs K c = MoreThen arrays structs K c
 
-abbrev pub behind : Frame → (List ℕ → Type 0) → List ℕ → Type 0
-behind f K c = behind_at f.entry f.arrays f.structs K c
+abbrev pub frame_rest : Frame → (List ℕ → Type 0) → List ℕ → Type 0
+frame_rest f K c = frame_rest_at f.entry f.arrays f.structs K c
 
 -- the same inside all open structs and entries, the outermost first
-abbrev pub behind_all : List Frame → (List ℕ → Type 0) → List ℕ → Type 0
-behind_all [] K c = K c
-behind_all (f ∷ fs) K c = behind_all fs (behind f K) c
+abbrev pub frames_rest : List Frame → (List ℕ → Type 0) → List ℕ → Type 0
+frames_rest [] K c = K c
+frames_rest (f ∷ fs) K c = frames_rest fs (frame_rest f K) c
 
 -- what may follow a complete type outside of them
 abbrev pub AtTop : Bool → List ℕ → Type 0
@@ -71,7 +71,7 @@ pub record SigState : Type 0 where
   pub frames : List Frame
 
 abbrev pub after : Bool → List Frame → List ℕ → Type 0
-after single fs c = behind_all fs (AtTop single) c
+after single fs c = frames_rest fs (AtTop single) c
 
 abbrev pub sig_rest_at : SigPlace → ℕ → ℕ → (List ℕ → Type 0) → List ℕ → Type 0
 sig_rest_at After arrays structs K c = K c

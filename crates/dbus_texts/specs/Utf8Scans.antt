@@ -7,20 +7,20 @@ use Rattle.dbus_texts.specs.declared.utf8.Utf8Place.TheVariants.{Free, Last, Las
 use Rattle.dbus_texts.specs.Utf8.{IsText}
 
 -- a byte from low to high, and then what R says
-abbrev pub Behind : ℕ → ℕ → (List ℕ → Type 0) → List ℕ → Type 0
-Behind low high R [] = ⊥
-Behind low high R (b ∷ c) = IsInRange low high b × R c
+abbrev pub ByteThen : ℕ → ℕ → (List ℕ → Type 0) → List ℕ → Type 0
+ByteThen low high R [] = ⊥
+ByteThen low high R (b ∷ c) = IsInRange low high b × R c
 
 -- What may follow, by the place in a character.
 abbrev pub text_rest : Utf8Place → List ℕ → Type 0
 text_rest Free c = IsText c
-text_rest Last c = Behind 128 191 IsText c
-text_rest LastTwo c = Behind 128 191 (Behind 128 191 IsText) c
-text_rest LastThree c = Behind 128 191 (Behind 128 191 (Behind 128 191 IsText)) c
-text_rest AfterE0 c = Behind 160 191 (Behind 128 191 IsText) c
-text_rest AfterEd c = Behind 128 159 (Behind 128 191 IsText) c
-text_rest AfterF0 c = Behind 144 191 (Behind 128 191 (Behind 128 191 IsText)) c
-text_rest AfterF4 c = Behind 128 143 (Behind 128 191 (Behind 128 191 IsText)) c
+text_rest Last c = ByteThen 128 191 IsText c
+text_rest LastTwo c = ByteThen 128 191 (ByteThen 128 191 IsText) c
+text_rest LastThree c = ByteThen 128 191 (ByteThen 128 191 (ByteThen 128 191 IsText)) c
+text_rest AfterE0 c = ByteThen 160 191 (ByteThen 128 191 IsText) c
+text_rest AfterEd c = ByteThen 128 159 (ByteThen 128 191 IsText) c
+text_rest AfterF0 c = ByteThen 144 191 (ByteThen 128 191 (ByteThen 128 191 IsText)) c
+text_rest AfterF4 c = ByteThen 128 143 (ByteThen 128 191 (ByteThen 128 191 IsText)) c
 
 -- one byte further
 abbrev pub lead : ℕ → Option Utf8Place

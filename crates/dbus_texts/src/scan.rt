@@ -6,7 +6,7 @@ ghost use Rattle.dbus_texts.specs.declared.scan.ScanState.TheVariants.{InText};
 ghost use Rattle.dbus_texts.specs.declared.utf8.Utf8Place.TheVariants.{Free};
 ghost use Rattle.dbus_texts.specs.NameScans.{name_state};
 
-use crate::ascii::plain_front;
+use crate::ascii::plain_prefix;
 use crate::names::{Letters, NameScan, Place, Tail};
 use crate::signature::SigScan;
 use crate::text_kind::TextKind;
@@ -192,7 +192,7 @@ impl TextScan {
         if !self.state.is_between_characters() {
             return 0;
         }
-        let plain = plain_front(bytes);
+        let plain = plain_prefix(bytes);
         self.length = self.length.saturating_add(plain.min(256) as u16).min(256);
         plain
     }

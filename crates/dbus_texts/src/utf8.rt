@@ -5,7 +5,7 @@ ghost use Rattle.std.specs.Prelude.{◌≡◌, ◌↔◌, Option, IsTrue};
 ghost use Rattle.dbus_texts.specs.Utf8.{IsText};
 ghost use Rattle.dbus_texts.specs.Utf8Scans.{lead, text_next, text_end, text_rest};
 
-use crate::ascii::plain_front;
+use crate::ascii::plain_prefix;
 use std::str;
 
 /// Where in a character the scan stands.
@@ -51,7 +51,7 @@ fn lead(byte: u8) -> Option<Utf8Place>
 fn is_text(text: &[u8]) -> bool
     ensures { IsTrue result ↔ IsText text.now }
 {
-    let rest = &text[plain_front(text)..];
+    let rest = &text[plain_prefix(text)..];
     if rest.is_empty() {
         return true;
     }

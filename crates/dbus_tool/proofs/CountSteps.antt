@@ -122,9 +122,9 @@ module _ {R A : Type 0} (left : R → Option (List ℕ)) (calls failures : R →
         refl,
       )
 
-  kept_behind : (old mid new : RawReader R A) (bytes : List ℕ) (items : List CutMessage) (more : List ℕ) → MoreRead old mid new bytes items more → KeepsAll (kept mid ++ more) mid new
+  kept_after : (old mid new : RawReader R A) (bytes : List ℕ) (items : List CutMessage) (more : List ℕ) → MoreRead old mid new bytes items more → KeepsAll (kept mid ++ more) mid new
       → BeginWith limits (bytes ++ more) items (kept new)
-  kept_behind old mid new bytes items more m k = subst (λ l. BeginWith limits (bytes ++ more) items l) (sym k.kept) m.messages
+  kept_after old mid new bytes items more m k = subst (λ l. BeginWith limits (bytes ++ more) items l) (sym k.kept) m.messages
 
   pub counts_ended : (old mid new : RawReader R A) (count : ℕ) (h : HasCounted old mid) (r : Reads left calls mid new) → count ≡ length h.items
       → Advances (kept mid ++ r.bytes) mid new (Ok None)
@@ -137,7 +137,7 @@ module _ {R A : Type 0} (left : R → Option (List ℕ)) (calls failures : R →
           rest = kept new;
           outcome = Ended;
           consumed = m.consumed;
-          cut = record { messages = kept_behind old mid new h.bytes h.items r.bytes m answer.2; outcome_is = answer.2.kept ∙ answer.0 };
+          cut = record { messages = kept_after old mid new h.bytes h.items r.bytes m answer.2; outcome_is = answer.2.kept ∙ answer.0 };
           count_is = c;
           size_is = answer.2.done ∙ h.done;
           fault_is = refl;
@@ -160,7 +160,7 @@ module _ {R A : Type 0} (left : R → Option (List ℕ)) (calls failures : R →
             rest = kept new;
             outcome = Refused fault;
             consumed = m.consumed;
-            cut = record { messages = kept_behind old mid new h.bytes h.items r.bytes m k; outcome_is = subst (λ l. IsRefused limits l fault) (sym k.kept) (subst (λ w. IsRefused w (kept mid ++ r.bytes) fault) h.limits_are refused) };
+            cut = record { messages = kept_after old mid new h.bytes h.items r.bytes m k; outcome_is = subst (λ l. IsRefused limits l fault) (sym k.kept) (subst (λ w. IsRefused w (kept mid ++ r.bytes) fault) h.limits_are refused) };
             count_is = c;
             size_is = k.done ∙ h.done;
             fault_is = refl;
@@ -176,7 +176,7 @@ module _ {R A : Type 0} (left : R → Option (List ℕ)) (calls failures : R →
             outcome = Unfinished;
             consumed = m.consumed;
             cut = record {
-              messages = kept_behind old mid new h.bytes h.items r.bytes m k;
+              messages = kept_after old mid new h.bytes h.items r.bytes m k;
               outcome_is = (λ e. short.0.0 (sym k.kept ∙ e), subst (IsPartial limits) (sym k.kept) (subst (λ w. IsPartial w (kept mid ++ r.bytes)) h.limits_are short.0.1));
             };
             count_is = c;

@@ -45,8 +45,8 @@ module _ {W : Type 0} (held : W → Option (List ℕ)) (failures : W → ℕ) wh
     failed = q.failed ∙ p.failed;
   }
 
-  pub breaks_behind : (a b g0 g1 : List ℕ) (w0 w1 w2 : W) → Passes held failures a g0 g1 w0 w1 → Breaks held failures b g1 w1 w2 → Breaks held failures (a ++ b) g0 w0 w2
-  breaks_behind a b g0 g1 w0 w1 w2 p q = record {
+  pub breaks_after : (a b g0 g1 : List ℕ) (w0 w1 w2 : W) → Passes held failures a g0 g1 w0 w1 → Breaks held failures b g1 w1 w2 → Breaks held failures (a ++ b) g0 w0 w2
+  breaks_after a b g0 g1 w0 w1 w2 p q = record {
     written = p.written ++ q.written;
     appended = Appends-trans _ _ _ _ _ p.appended q.appended;
     front = (
@@ -62,7 +62,7 @@ module _ {W : Type 0} (held : W → Option (List ℕ)) (failures : W → ℕ) wh
   passes_nothing a g0 g1 g2 w0 w1 w2 p q = subst (λ l. Passes held failures l g0 g2 w0 w2) (append-nil a) (passes_both a [] g0 g1 g2 w0 w1 w2 p q)
 
   pub breaks_nothing : (a g0 g1 : List ℕ) (w0 w1 w2 : W) → Passes held failures a g0 g1 w0 w1 → Breaks held failures [] g1 w1 w2 → Breaks held failures a g0 w0 w2
-  breaks_nothing a g0 g1 w0 w1 w2 p q = subst (λ l. Breaks held failures l g0 w0 w2) (append-nil a) (breaks_behind a [] g0 g1 w0 w1 w2 p q)
+  breaks_nothing a g0 g1 w0 w1 w2 p q = subst (λ l. Breaks held failures l g0 w0 w2) (append-nil a) (breaks_after a [] g0 g1 w0 w1 w2 p q)
 
   -- what is gathered, and then bytes that are written
   pub passes_through : (bytes g0 g1 : List ℕ) (w0 w1 w2 : W) → g1 ≡ [] → Passes held failures [] g0 g1 w0 w1 → Wrote held failures w1 bytes w2 → Passes held failures bytes g0 g1 w0 w2
@@ -73,7 +73,7 @@ module _ {W : Type 0} (held : W → Option (List ℕ)) (failures : W → ℕ) wh
   pub breaks_through : (bytes g0 g1 : List ℕ) (n : ℕ) (w0 w1 w2 : W) → g1 ≡ [] → Passes held failures [] g0 g1 w0 w1 → Stopped held failures w1 bytes n w2
       → Breaks held failures bytes g0 w0 w2
   breaks_through bytes g0 g1 n w0 w1 w2 e p s =
-      breaks_behind [] bytes g0 g1 w0 w1 w2 p
+      breaks_after [] bytes g0 g1 w0 w1 w2 p
       (record { written = take n bytes; appended = s.appended; front = (drop n bytes, ap (λ l. l ++ bytes) e ∙ sym (take-append-drop n bytes)); failed = s.failed })
 
   -- where nothing was gathered before and nothing is after, all was written

@@ -19,8 +19,8 @@ use Rattle.dbus_tool.proofs.GatherSteps.{passes_none}
 
 module _ {R A : Type 0} (left : R → Option (List ℕ)) (calls failures : R → ℕ) where
   -- what is read after a step that reads nothing and keeps all
-  abbrev reads_behind : (old mid new : RawReader R A) → ReadsNothing old mid → KeepsAll (kept old) old mid → Reads left calls mid new → Reads left calls old new
-  reads_behind old mid new n k r = record {
+  abbrev reads_after : (old mid new : RawReader R A) → ReadsNothing old mid → KeepsAll (kept old) old mid → Reads left calls mid new → Reads left calls old new
+  reads_after old mid new n k r = record {
     bytes = r.bytes;
     count = r.count;
     consumed = subst (λ (s : R). Consumes (left s) (left (source_of new)) r.bytes) n.source r.consumed;
@@ -38,11 +38,11 @@ module _ {R A : Type 0} (left : R → Option (List ℕ)) (calls failures : R →
     at_end = λ e f. r.at_end (n.ended ∙ e) f;
   }
 
-  keeps_behind : (w : List ℕ) (old mid new : RawReader R A) → KeepsAll (kept old) old mid → KeepsAll w mid new → KeepsAll w old new
-  keeps_behind w old mid new k l = record { kept = l.kept; done = l.done ∙ k.done; lent = l.lent }
+  keeps_after : (w : List ℕ) (old mid new : RawReader R A) → KeepsAll (kept old) old mid → KeepsAll w mid new → KeepsAll w old new
+  keeps_after w old mid new k l = record { kept = l.kept; done = l.done ∙ k.done; lent = l.lent }
 
-  lends_behind : (w : List ℕ) (j : Judged) (old mid new : RawReader R A) → limits_of mid ≡ limits_of old → KeepsAll (kept old) old mid → Lends w j mid new → Lends w j old new
-  lends_behind w j old mid new same k l = record {
+  lends_after : (w : List ℕ) (j : Judged) (old mid new : RawReader R A) → limits_of mid ≡ limits_of old → KeepsAll (kept old) old mid → Lends w j mid new → Lends w j old new
+  lends_after w j old mid new same k l = record {
     size = l.size;
     gives = record {
       order = l.gives.order;
@@ -56,24 +56,24 @@ module _ {R A : Type 0} (left : R → Option (List ℕ)) (calls failures : R →
     judged_is = subst (λ limits. IsJudgedWhole limits (lent_of new) j) same l.judged_is;
   }
 
-  answers_behind : (w : List ℕ) (old mid new : RawReader R A) (res : Result (Option Judged) ReadFault) → limits_of mid ≡ limits_of old
+  answers_after : (w : List ℕ) (old mid new : RawReader R A) (res : Result (Option Judged) ReadFault) → limits_of mid ≡ limits_of old
       → KeepsAll (kept old) old mid → Advances w mid new res → Advances w old new res
-  answers_behind w old mid new (Ok (Some j)) same k a = lends_behind w j old mid new same k a
-  answers_behind w old mid new (Ok None) same k a = (a.0, a.1, keeps_behind w old mid new k a.2, a.3)
-  answers_behind w old mid new (Err read.Memory) same k a = (keeps_behind w old mid new k a.0, a.1)
-  answers_behind w old mid new (Err (read.Format fault)) same k a = (
-    keeps_behind w old mid new k a.0,
+  answers_after w old mid new (Ok (Some j)) same k a = lends_after w j old mid new same k a
+  answers_after w old mid new (Ok None) same k a = (a.0, a.1, keeps_after w old mid new k a.2, a.3)
+  answers_after w old mid new (Err read.Memory) same k a = (keeps_after w old mid new k a.0, a.1)
+  answers_after w old mid new (Err (read.Format fault)) same k a = (
+    keeps_after w old mid new k a.0,
     a.1,
     subst (λ limits. IsRefused limits w fault ⊎ (IsCutShort limits w fault × (is_ended new ≡ true))) same a.2,
   )
-  answers_behind w old mid new (Err read.Device) same k a = (keeps_behind w old mid new k a.0, a.1, subst (λ limits. IsPartial limits w) same a.2)
-  answers_behind w old mid new (Err read.TooManyReads) same k a = (keeps_behind w old mid new k a.0, a.1, subst (λ limits. IsPartial limits w) same a.2, a.3)
+  answers_after w old mid new (Err read.Device) same k a = (keeps_after w old mid new k a.0, a.1, subst (λ limits. IsPartial limits w) same a.2)
+  answers_after w old mid new (Err read.TooManyReads) same k a = (keeps_after w old mid new k a.0, a.1, subst (λ limits. IsPartial limits w) same a.2, a.3)
 
-  both_behind : (old mid new : RawReader R A) (res : Result (Option Judged) ReadFault) → ReadsNothing old mid → KeepsAll (kept old) old mid
+  both_after : (old mid new : RawReader R A) (res : Result (Option Judged) ReadFault) → ReadsNothing old mid → KeepsAll (kept old) old mid
       → (r : Reads left calls mid new) → Advances (kept mid ++ r.bytes) mid new res → (s : Reads left calls old new) × Advances (kept old ++ s.bytes) old new res
-  both_behind old mid new res n k r a = (
-    reads_behind old mid new n k r,
-    answers_behind (kept old ++ r.bytes) old mid new res n.limits k (subst (λ l. Advances (l ++ r.bytes) mid new res) k.kept a),
+  both_after old mid new res n k r a = (
+    reads_after old mid new n k r,
+    answers_after (kept old ++ r.bytes) old mid new res n.limits k (subst (λ l. Advances (l ++ r.bytes) mid new res) k.kept a),
   )
 
   -- a fault of what is kept
@@ -84,15 +84,15 @@ module _ {R A : Type 0} (left : R → Option (List ℕ)) (calls failures : R →
   kept_fault old new read.TooManyReads k = absurd k
 
   module _ {W : Type 0} (held : W → Option (List ℕ)) (write_failures : W → ℕ) where
-    pub gives_behind : (old mid new : RawReader R A) (g0 g1 : List ℕ) (w0 w1 : W) (res : Result (Option Judged) NoMessage) → ReadsNothing old mid
+    pub gives_after : (old mid new : RawReader R A) (g0 g1 : List ℕ) (w0 w1 : W) (res : Result (Option Judged) NoMessage) → ReadsNothing old mid
         → KeepsAll (kept old) old mid → GivesNext left calls failures held write_failures mid new g0 g1 w0 w1 res → GivesNext left calls failures held write_failures old new g0 g1 w0 w1 res
-    gives_behind old mid new g0 g1 w0 w1 (Ok lent) n k g =
-        let both = both_behind old mid new (Ok lent) n k g.0 g.1 in
+    gives_after old mid new g0 g1 w0 w1 (Ok lent) n k g =
+        let both = both_after old mid new (Ok lent) n k g.0 g.1 in
         (both.0, both.1, g.2 ∙ ap failures n.source, g.3)
-    gives_behind old mid new g0 g1 w0 w1 (Err (Reader fault)) n k g =
-        let both = both_behind old mid new (Err fault) n k g.0 g.1 in
+    gives_after old mid new g0 g1 w0 w1 (Err (Reader fault)) n k g =
+        let both = both_after old mid new (Err fault) n k g.0 g.1 in
         (both.0, both.1, subst (λ (x : ℕ). DeviceCounts {T = Option Judged} x (failures (source_of new)) (Err fault)) (ap failures n.source) g.2, g.3)
-    gives_behind old mid new g0 g1 w0 w1 (Err Writer) n k g = (reads_behind old mid new n k g.0, g.1, g.2 ∙ ap failures n.source)
+    gives_after old mid new g0 g1 w0 w1 (Err Writer) n k g = (reads_after old mid new n k g.0, g.1, g.2 ∙ ap failures n.source)
 
     -- a message that is kept
     pub gives_kept : (j : Judged) (old new : RawReader R A) (g : List ℕ) (w : W) → Lends (kept old) j old new → ReadsNothing old new

@@ -22,7 +22,7 @@ use Rattle.dbus_tool.specs.declared.ending.Cause.{Cause}
 use Rattle.dbus_tool.specs.declared.ending.Cause.TheVariants.{Memory, ReadFailed, WriteFailed, TooManyReads}
 use Rattle.dbus_tool.specs.declared.ending.NoMessage.{NoMessage}
 use Rattle.dbus_tool.specs.declared.ending.NoMessage.TheVariants.{Reader, Writer}
-use Rattle.dbus_tool.proofs.GatherSteps.{passes_none, passes_both, passes_nothing, breaks_behind, breaks_nothing}
+use Rattle.dbus_tool.proofs.GatherSteps.{passes_none, passes_both, passes_nothing, breaks_after, breaks_nothing}
 use Rattle.dbus_tool.proofs.OutputSteps.{output_last}
 use Rattle.dbus_tool.proofs.CountSteps.{HasCounted, counts_none, counts_more, counts_ended, counts_refused, more_read, called_all}
 
@@ -170,6 +170,6 @@ module _ {R A W : Type 0} (left : R → Option (List ℕ)) (calls failures : R �
             (subst (λ w. IsWhole w (kept mid ++ r.bytes) l.gives.order l.gives.message l.size) h.counted.limits_are l.gives.whole));
         all = tt;
         output = output_last command 1 h.counted.items item h.out one.0 h.output (subst (λ n. IsOutputOf command l.gives.order l.gives.message n one.0) number one.1);
-        leaves = breaks_behind held write_failures h.out one.0 g0 g2 w0 w2 w3 (passes_nothing held write_failures h.out g0 g1 g2 w0 w1 w2 h.passes p) one.2;
+        leaves = breaks_after held write_failures h.out one.0 g0 g2 w0 w2 w3 (passes_nothing held write_failures h.out g0 g1 g2 w0 w1 w2 h.passes p) one.2;
         caused = same ∙ h.counted.failed;
       }

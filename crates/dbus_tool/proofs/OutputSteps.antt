@@ -8,7 +8,7 @@ use Rattle.dbus_match.specs.Rules.{Pair}
 use Rattle.dbus_match.specs.RuleViews.{rule_pairs}
 use Rattle.dbus_command.specs.declared.command.Command.{Command}
 use Rattle.dbus_command.specs.declared.command.Command.TheVariants.{Show, Check, Swap, Filter}
-use Rattle.dbus_tool.specs.Output.{IsFrontOf, IsFiltered, IsOutputOf, IsOutputOfAll, IsFirstOutput, last_line}
+use Rattle.dbus_tool.specs.Output.{IsPrefixTo, IsFiltered, IsOutputOf, IsOutputOfAll, IsFirstOutput, last_line}
 
 filtered_one : (pairs : List Pair) (order : Order) (message : MessageTree) (a b : List ℕ) → IsFiltered pairs order message a → IsFiltered pairs order message b → a ≡ b
 filtered_one pairs order message a b p q = elim p [
@@ -31,43 +31,43 @@ output_last command n [] item out one a o =
     (one, [], ap (λ l. l ++ one) a ∙ sym (append-nil one), subst (λ k. IsOutputOf command item.order item.message k one) here o, refl)
 output_last command n (x ∷ items) item out one a o =
     let there : n + suc (length items) ≡ n + 1 + length items = omega arith in
-    let behind : IsOutputOfAll command (n + 1) (items ++ item ∷ []) (a.1 ++ one) =
+    let suffix : IsOutputOfAll command (n + 1) (items ++ item ∷ []) (a.1 ++ one) =
     output_last command (n + 1) items item a.1 one a.4 (subst (λ k. IsOutputOf command item.order item.message k one) there o) in
-    (a.0, a.1 ++ one, ap (λ l. l ++ one) a.2 ∙ append_assoc a.0 a.1 one, a.3, behind)
+    (a.0, a.1 ++ one, ap (λ l. l ++ one) a.2 ∙ append_assoc a.0 a.1 one, a.3, suffix)
 
 -- of the first messages it is a prefix
 pub output_front : (command : Command) (n : ℕ) (items more : List CutMessage) (a b : List ℕ) → IsOutputOfAll command n items a
-    → IsOutputOfAll command n (items ++ more) b → IsFrontOf a b
+    → IsOutputOfAll command n (items ++ more) b → IsPrefixTo a b
 output_front command n [] more a b p q = (b, ap (λ l. l ++ b) (sym p))
 output_front command n (x ∷ items) more a b p q =
     let same : q.0 ≡ p.0 = output_one command x.order x.message n q.0 p.0 q.3 p.3 in
-    let behind : IsFrontOf p.1 q.1 = output_front command (n + 1) items more p.1 q.1 p.4 q.4 in
-    let parts : q.0 ++ q.1 ≡ p.0 ++ (p.1 ++ behind.0) = λ i. same i ++ behind.1 i in
-    (behind.0, q.2 ∙ (parts ∙ (sym (append_assoc p.0 p.1 behind.0) ∙ ap (λ l. l ++ behind.0) (sym p.2))))
+    let suffix : IsPrefixTo p.1 q.1 = output_front command (n + 1) items more p.1 q.1 p.4 q.4 in
+    let parts : q.0 ++ q.1 ≡ p.0 ++ (p.1 ++ suffix.0) = λ i. same i ++ suffix.1 i in
+    (suffix.0, q.2 ∙ (parts ∙ (sym (append_assoc p.0 p.1 suffix.0) ∙ ap (λ l. l ++ suffix.0) (sym p.2))))
 
 -- it is one
 pub output_all_one : (command : Command) (n : ℕ) (items : List CutMessage) (a b : List ℕ) → IsOutputOfAll command n items a → IsOutputOfAll command n items b → a ≡ b
 output_all_one command n [] a b p q = p ∙ sym q
 output_all_one command n (x ∷ items) a b p q =
     let same : p.0 ≡ q.0 = output_one command x.order x.message n p.0 q.0 p.3 q.3 in
-    let behind : p.1 ≡ q.1 = output_all_one command (n + 1) items p.1 q.1 p.4 q.4 in
-    let parts : p.0 ++ p.1 ≡ q.0 ++ q.1 = λ i. same i ++ behind i in
+    let suffix : p.1 ≡ q.1 = output_all_one command (n + 1) items p.1 q.1 p.4 q.4 in
+    let parts : p.0 ++ p.1 ≡ q.0 ++ q.1 = λ i. same i ++ suffix i in
     p.2 ∙ (parts ∙ sym q.2)
 
-front_behind : (a b c : List ℕ) → IsFrontOf a b → IsFrontOf b c → IsFrontOf a c
-front_behind a b c p q = (p.0 ++ q.0, q.1 ∙ (ap (λ l. l ++ q.0) p.1 ∙ append_assoc a p.0 q.0))
+prefix_after : (a b c : List ℕ) → IsPrefixTo a b → IsPrefixTo b c → IsPrefixTo a c
+prefix_after a b c p q = (p.0 ++ q.0, q.1 ∙ (ap (λ l. l ++ q.0) p.1 ∙ append_assoc a p.0 q.0))
 
 -- a prefix of what is written of the first messages is one of all that the first writer gets
-pub front_of_first : (command : Command) (items more all : List CutMessage) (fault : Option Fault) (out written first : List ℕ) → all ≡ items ++ more
-    → IsOutputOfAll command 1 items out → IsFrontOf written out → IsFirstOutput command all fault first → IsFrontOf written first
-front_of_first command items more all fault out written first e o front whole =
+pub prefix_of_first : (command : Command) (items more all : List CutMessage) (fault : Option Fault) (out written first : List ℕ) → all ≡ items ++ more
+    → IsOutputOfAll command 1 items out → IsPrefixTo written out → IsFirstOutput command all fault first → IsPrefixTo written first
+prefix_of_first command items more all fault out written first e o front whole =
     let each : IsOutputOfAll command 1 (items ++ more) whole.written = subst (λ l. IsOutputOfAll command 1 l whole.written) e whole.each in
-    front_behind written out first front
-    (front_behind out whole.written first (output_front command 1 items more out whole.written o each) (last_line command (length all) (sizes all) fault, whole.joined))
+    prefix_after written out first front
+    (prefix_after out whole.written first (output_front command 1 items more out whole.written o each) (last_line command (length all) (sizes all) fault, whole.joined))
 
 -- a prefix of what is written of all messages and then the last line is one of all that the first writer gets
-pub front_of_whole : (command : Command) (items : List CutMessage) (fault : Option Fault) (out written first : List ℕ) → IsOutputOfAll command 1 items out
-    → IsFrontOf written (out ++ last_line command (length items) (sizes items) fault) → IsFirstOutput command items fault first → IsFrontOf written first
-front_of_whole command items fault out written first o front whole =
-    let behind = last_line command (length items) (sizes items) fault in
-    (front.0, whole.joined ∙ (ap (λ l. l ++ behind) (output_all_one command 1 items whole.written out whole.each o) ∙ front.1))
+pub prefix_of_whole : (command : Command) (items : List CutMessage) (fault : Option Fault) (out written first : List ℕ) → IsOutputOfAll command 1 items out
+    → IsPrefixTo written (out ++ last_line command (length items) (sizes items) fault) → IsFirstOutput command items fault first → IsPrefixTo written first
+prefix_of_whole command items fault out written first o front whole =
+    let suffix = last_line command (length items) (sizes items) fault in
+    (front.0, whole.joined ∙ (ap (λ l. l ++ suffix) (output_all_one command 1 items whole.written out whole.each o) ∙ front.1))

@@ -8,7 +8,7 @@ use Rattle.dbus_stream.specs.Write.{Wrote}
 use Rattle.dbus_stream.proofs.CutLaws.{BeginWith-first, IsCut-one}
 use Rattle.dbus_value_model.specs.declared.limits.Limits.{Limits}
 use Rattle.dbus_command.specs.declared.command.Command.{Command}
-use Rattle.dbus_tool.specs.Output.{IsFrontOf, IsOutputOfAll, IsFirstOutput, last_line, second_output, status_of}
+use Rattle.dbus_tool.specs.Output.{IsPrefixTo, IsOutputOfAll, IsFirstOutput, last_line, second_output, status_of}
 use Rattle.dbus_tool.specs.Gathering.{Passes, Gathers}
 use Rattle.dbus_tool.specs.Handing.{HandsAll, HandsSome}
 use Rattle.dbus_tool.specs.Checking.{IsWriteCause, WritesBefore, Answers, Fails, IsCause}
@@ -19,7 +19,7 @@ use Rattle.dbus_tool.specs.declared.ending.ExitStatus.{ExitStatus}
 use Rattle.dbus_tool.specs.declared.ending.Cause.{Cause}
 use Rattle.dbus_tool.specs.declared.ending.Cause.TheVariants.{Memory, ReadFailed, WriteFailed, TooManyReads}
 use Rattle.dbus_tool.specs.declared.ending.Counted.{Counted}
-use Rattle.dbus_tool.proofs.OutputSteps.{front_of_first, front_of_whole}
+use Rattle.dbus_tool.proofs.OutputSteps.{prefix_of_first, prefix_of_whole}
 
 pub not_more : (n m : ℕ) → m ≡ one_more n → m ≡ n → ⊥
 not_more n m p q = omega (arith, p, q)
@@ -78,11 +78,11 @@ module _ {R W E : Type 0} (left : R → Option (List ℕ)) (calls read_failures 
       }
 
   -- what was written of the last line says how much was written of all
-  front_of_all : (counted : Counted) (g1 written : List ℕ) (r0 r1 : R) (w0 w1 : W) (a : HandsAll left calls read_failures held write_failures limits most command counted r0 r1 [] g1 w0 w1)
-      → IsFrontOf written (g1 ++ last_line command counted.count counted.size counted.fault)
+  prefix_of_all : (counted : Counted) (g1 written : List ℕ) (r0 r1 : R) (w0 w1 : W) (a : HandsAll left calls read_failures held write_failures limits most command counted r0 r1 [] g1 w0 w1)
+      → IsPrefixTo written (g1 ++ last_line command counted.count counted.size counted.fault)
       → (items : List CutMessage) (rest : List ℕ) (outcome : CutOutcome) (out : List ℕ) → IsCut limits a.counts.bytes items rest outcome
-      → IsFirstOutput command items (fault_at_end rest outcome) out → IsFrontOf (a.passes.written ++ written) out
-  front_of_all counted g1 written r0 r1 w0 w1 a front items rest outcome out cut whole =
+      → IsFirstOutput command items (fault_at_end rest outcome) out → IsPrefixTo (a.passes.written ++ written) out
+  prefix_of_all counted g1 written r0 r1 w0 w1 a front items rest outcome out cut whole =
       let line = last_line command counted.count counted.size counted.fault in
       let one = IsCut-one limits a.counts.bytes a.counts.items items a.counts.rest rest a.counts.outcome outcome a.counts.cut cut in
       let fault_is : fault_at_end rest outcome ≡ fault_at_end a.counts.rest a.counts.outcome = sym (λ i. fault_at_end (one.1 i) (one.2 i)) in
@@ -90,7 +90,7 @@ module _ {R W E : Type 0} (left : R → Option (List ℕ)) (calls read_failures 
       = subst (λ f. IsFirstOutput command a.counts.items f out) fault_is (subst (λ l. IsFirstOutput command l (fault_at_end rest outcome) out) (sym one.0) whole) in
       let joined : a.out ++ line ≡ (a.passes.written ++ written) ++ front.0
       = sym (joined_is a.out g1 a.passes.written line a.passes.joined) ∙ (ap (λ l. a.passes.written ++ l) front.1 ∙ sym (append_assoc a.passes.written written front.0)) in
-      front_of_whole command a.counts.items (fault_at_end a.counts.rest a.counts.outcome) a.out (a.passes.written ++ written) out a.output
+      prefix_of_whole command a.counts.items (fault_at_end a.counts.rest a.counts.outcome) a.out (a.passes.written ++ written) out a.output
       (front.0, ap (λ l. a.out ++ l) (sym (last_is counted [] g1 r0 r1 w0 w1 a)) ∙ joined) here
 
   -- a cause that a write has
@@ -118,7 +118,7 @@ module _ {R W E : Type 0} (left : R → Option (List ℕ)) (calls read_failures 
   -- all messages were handed on, and then a line was not written
   not_closed : {V : Type 0} (counted : Counted) (cause : Cause) (g1 written : List ℕ) (r0 r1 : R) (w0 w1 w2 : W) (e0 e1 : E) (h : V → Option (List ℕ)) (f : V → ℕ) (v0 v1 : V)
       → HandsAll left calls read_failures held write_failures limits most command counted r0 r1 [] g1 w0 w1 → Appends (held w1) (held w2) written
-      → IsFrontOf written (g1 ++ last_line command counted.count counted.size counted.fault) → IsWriteCause h f v0 v1 cause
+      → IsPrefixTo written (g1 ++ last_line command counted.count counted.size counted.fault) → IsWriteCause h f v0 v1 cause
       → IsCause left calls read_failures held write_failures second_held second_failures limits most command r0 r1 w0 w2 e0 e1 cause
       → Fails left calls read_failures held write_failures second_held second_failures limits most command cause r0 r1 w0 w2 e0 e1
   not_closed counted cause g1 written r0 r1 w0 w1 w2 e0 e1 h f v0 v1 a appended front write caused = record {
@@ -126,7 +126,7 @@ module _ {R W E : Type 0} (left : R → Option (List ℕ)) (calls read_failures 
     written = a.passes.written ++ written;
     consumed = a.counts.consumed;
     appended = Appends-trans _ _ _ _ _ a.passes.appended appended;
-    front = front_of_all counted g1 written r0 r1 w0 w1 a front;
+    front = prefix_of_all counted g1 written r0 r1 w0 w1 a front;
     before = before_write a.counts.bytes (a.passes.written ++ written) w0 w2 h f v0 v1 cause write;
     caused = caused;
   }
@@ -158,15 +158,15 @@ module _ {R W E : Type 0} (left : R → Option (List ℕ)) (calls read_failures 
 
   -- of the messages that were handed on a prefix was written
   some_front : (cause : Cause) (out written : List ℕ) (g1 : List ℕ) (r0 r1 : R) (w0 w1 : W) (s : HandsSome left calls read_failures held write_failures limits most command cause r0 r1 [] g1 w0 w1)
-      → IsFrontOf written s.out → (items : List CutMessage) (rest : List ℕ) (outcome : CutOutcome) (first : List ℕ) → IsCut limits s.bytes items rest outcome
-      → IsFirstOutput command items (fault_at_end rest outcome) first → IsFrontOf written first
+      → IsPrefixTo written s.out → (items : List CutMessage) (rest : List ℕ) (outcome : CutOutcome) (first : List ℕ) → IsCut limits s.bytes items rest outcome
+      → IsFirstOutput command items (fault_at_end rest outcome) first → IsPrefixTo written first
   some_front cause out written g1 r0 r1 w0 w1 s front items rest outcome first cut whole =
       let more = BeginWith-first limits s.bytes s.items items s.rest rest outcome s.messages cut.messages cut.outcome_is in
-      front_of_first command s.items more.0 items (fault_at_end rest outcome) s.out written first more.1 s.output front whole
+      prefix_of_first command s.items more.0 items (fault_at_end rest outcome) s.out written first more.1 s.output front whole
 
   -- what is gathered was written, and the messages before were
   rest_written : (out g1 : List ℕ) (w0 w1 w2 : W) (p : Passes held write_failures out [] g1 w0 w1) (q : WritesSome held write_failures g1 w1 w2)
-      → IsFrontOf (p.written ++ q.written) out × (write_failures w2 ≡ write_failures w0 → p.written ++ q.written ≡ out)
+      → IsPrefixTo (p.written ++ q.written) out × (write_failures w2 ≡ write_failures w0 → p.written ++ q.written ≡ out)
   rest_written out g1 w0 w1 w2 p q = (
     (q.front.0, p.joined ∙ (ap (λ l. p.written ++ l) q.front.1 ∙ sym (append_assoc p.written q.written q.front.0))),
     λ same. ap (λ l. p.written ++ l) (q.whole (same ∙ sym p.failed)) ∙ sym p.joined,

@@ -10,7 +10,7 @@ use Rattle.dbus_stream.specs.Next.{RisesBy}
 use Rattle.dbus_stream.specs.Write.{Wrote}
 use Rattle.dbus_stream.specs.Cut.{CutMessage, BeginWith, IsCut, CutOutcome, Refused, fault_at_end, sizes}
 use Rattle.dbus_command.specs.declared.command.Command.{Command}
-use Rattle.dbus_tool.specs.Output.{IsOutputOfAll, IsFirstOutput, second_output, status_of, IsFrontOf}
+use Rattle.dbus_tool.specs.Output.{IsOutputOfAll, IsFirstOutput, second_output, status_of, IsPrefixTo}
 use Rattle.dbus_tool.specs.declared.ending.ExitStatus.{ExitStatus}
 use Rattle.dbus_tool.specs.declared.ending.Cause.{Cause}
 use Rattle.dbus_tool.specs.declared.ending.Cause.TheVariants.{Memory, ReadFailed, WriteFailed, TooManyReads}
@@ -25,15 +25,15 @@ module _ {W : Type 0} (held : W → Option (List ℕ)) (failures : W → ℕ) wh
   IsWriteCause old new TooManyReads = ⊥
 
   -- a prefix of the line was written
-  pub record WritesFront (line : List ℕ) (cause : Cause) (old new : W) : Type 0 where
+  pub record WritesPrefix (line : List ℕ) (cause : Cause) (old new : W) : Type 0 where
     pub written : List ℕ
     pub appended : Appends (held old) (held new) written
-    pub front : IsFrontOf written line
+    pub front : IsPrefixTo written line
     pub caused : IsWriteCause old new cause
 
   abbrev pub WritesLine : List ℕ → W → W → Result (Unit {0}) Cause → Type 0
   WritesLine line old new (Ok x) = Wrote held failures old line new
-  WritesLine line old new (Err cause) = WritesFront line cause old new
+  WritesLine line old new (Err cause) = WritesPrefix line cause old new
 
 -- what the command makes of all messages within the limits that the bytes begin with was written
 pub record WritesMessages (limits : Limits) (command : Command) (bytes written : List ℕ) : Type 0 where
@@ -86,6 +86,6 @@ module _ {R W E : Type 0} (left : R → Option (List ℕ)) (calls read_failures 
     pub consumed : Consumes (left old) (left new) bytes
     pub appended : Appends (held first_old) (held first_new) written
     pub front : (items : List CutMessage) (rest : List ℕ) (outcome : CutOutcome) (out : List ℕ) → IsCut limits bytes items rest outcome
-        → IsFirstOutput command items (fault_at_end rest outcome) out → IsFrontOf written out
+        → IsFirstOutput command items (fault_at_end rest outcome) out → IsPrefixTo written out
     pub before : WritesBefore cause bytes written first_old first_new
     pub caused : IsCause old new first_old first_new second_old second_new cause

@@ -4,8 +4,8 @@ use Rattle.std.specs.Io.KnownBytes.{Appends}
 use Rattle.dbus_value_model.specs.declared.fault.Fault.{Fault}
 use Rattle.dbus_command.specs.declared.command.Command.{Command}
 use Rattle.dbus_stream.specs.Write.{Wrote}
-use Rattle.dbus_tool.specs.Output.{last_line, second_output, status_of, IsFrontOf}
-use Rattle.dbus_tool.specs.Checking.{IsWriteCause, WritesFront}
+use Rattle.dbus_tool.specs.Output.{last_line, second_output, status_of, IsPrefixTo}
+use Rattle.dbus_tool.specs.Checking.{IsWriteCause, WritesPrefix}
 use Rattle.dbus_tool.specs.Running.{Told}
 use Rattle.dbus_tool.specs.declared.ending.ExitStatus.{ExitStatus}
 use Rattle.dbus_tool.specs.declared.ending.ExitStatus.TheVariants as status
@@ -35,7 +35,7 @@ module _ {W E : Type 0} (held : W → Option (List ℕ)) (write_failures : W →
   pub record NotClosed (command : Command) (counted : Counted) (g0 : List ℕ) (w0 w1 : W) (e0 e1 : E) (end : ExitStatus) : Type 0 where
     pub failed : end ≡ status.Failed
     pub cause : Cause
-    pub first : WritesFront held write_failures (g0 ++ last_line command counted.count counted.size counted.fault) cause w0 w1
+    pub first : WritesPrefix held write_failures (g0 ++ last_line command counted.count counted.size counted.fault) cause w0 w1
     pub told : Told second_held second_failures e0 e1 cause
 
   abbrev pub Closes : Command → Counted → List ℕ → W → W → E → E → ExitStatus → Type 0
@@ -45,7 +45,7 @@ module _ {W E : Type 0} (held : W → Option (List ℕ)) (write_failures : W →
 pub record WritesSome {W : Type 0} (held : W → Option (List ℕ)) (failures : W → ℕ) (bytes : List ℕ) (old new : W) : Type 0 where
   pub written : List ℕ
   pub appended : Appends (held old) (held new) written
-  pub front : IsFrontOf written bytes
+  pub front : IsPrefixTo written bytes
   pub whole : failures new ≡ failures old → written ≡ bytes
 
 -- what is gathered was written as far as that goes, unless a write had failed

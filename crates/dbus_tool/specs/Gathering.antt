@@ -2,7 +2,7 @@
 use Rattle.std.specs.Prelude.{◌≡◌, ℕ, List, [], ◌++◌, Option, Result, Ok, Err}
 use Rattle.std.specs.Io.KnownBytes.{Appends}
 use Rattle.dbus_stream.specs.Device.{one_more}
-use Rattle.dbus_tool.specs.Output.{IsFrontOf}
+use Rattle.dbus_tool.specs.Output.{IsPrefixTo}
 use Rattle.dbus_tool.specs.declared.gathering.Unwritten.{Unwritten}
 use Rattle.dbus_tool.specs.declared.ending.Cause.{Cause}
 use Rattle.dbus_tool.specs.declared.ending.Cause.TheVariants.{Memory, ReadFailed, WriteFailed, TooManyReads}
@@ -19,7 +19,7 @@ module _ {W : Type 0} (held : W → Option (List ℕ)) (failures : W → ℕ) wh
   pub record Breaks (bytes g0 : List ℕ) (old new : W) : Type 0 where
     pub written : List ℕ
     pub appended : Appends (held old) (held new) written
-    pub front : IsFrontOf written (g0 ++ bytes)
+    pub front : IsPrefixTo written (g0 ++ bytes)
     pub failed : failures new ≡ one_more (failures old)
 
   abbrev pub Gathers : List ℕ → List ℕ → List ℕ → W → W → Result (Unit {0}) Unwritten → Type 0

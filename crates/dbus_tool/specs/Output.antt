@@ -15,8 +15,8 @@ use Rattle.dbus_tool.specs.declared.ending.ExitStatus.{ExitStatus}
 use Rattle.dbus_tool.specs.declared.ending.ExitStatus.TheVariants as status
 
 -- the first list is a prefix of the second
-abbrev pub IsFrontOf : List ℕ → List ℕ → Type 0
-IsFrontOf front all = (more : List ℕ) × (all ≡ front ++ more)
+abbrev pub IsPrefixTo : List ℕ → List ℕ → Type 0
+IsPrefixTo front all = (more : List ℕ) × (all ≡ front ++ more)
 
 -- a message that matches, with no owners, is written in its own order, and of another nothing
 abbrev pub IsFiltered : List Pair → Order → MessageTree → List ℕ → Type 0

@@ -7,7 +7,7 @@ use Rattle.dbus_match.specs.declared.fault.RuleFault.{RuleFault}
 use Rattle.dbus_match.specs.declared.fault.RuleFault.TheVariants as rule_fault
 use Rattle.dbus_command.specs.Named.{IsNamedBy}
 use Rattle.dbus_command.specs.Told.{TellsFault}
-use Rattle.dbus_tool.specs.Checking.{WritesFront}
+use Rattle.dbus_tool.specs.Checking.{WritesPrefix}
 use Rattle.dbus_tool.specs.RuleLines.{rule_line}
 use Rattle.dbus_tool.specs.Running.{Runs, Told}
 use Rattle.dbus_command.specs.declared.command.Command.{Command}
@@ -21,7 +21,7 @@ module _ {E : Type 0} (held : E → Option (List ℕ)) (failures : E → ℕ) wh
   -- the text was written, or a write failed
   abbrev pub ShowsUsage : List ℕ → E → E → ExitStatus → Type 0
   ShowsUsage text old new end = ((end ≡ status.Usage) × Appends (held old) (held new) text)
-      ⊎ ((end ≡ status.Failed) × WritesFront held failures text cause.WriteFailed old new)
+      ⊎ ((end ≡ status.Failed) × WritesPrefix held failures text cause.WriteFailed old new)
 
   -- memory was wanted, and that was told
   abbrev pub WantsMemory : E → E → ExitStatus → Type 0
@@ -36,7 +36,7 @@ module _ {W E : Type 0} (held : W → Option (List ℕ)) (failures : W → ℕ) 
   -- the text was written, or a write failed, which the second writer was told
   abbrev pub ShowsText : List ℕ → W → W → E → E → ExitStatus → Type 0
   ShowsText text w0 w1 e0 e1 end = ((end ≡ status.Done) × Appends (held w0) (held w1) text × (e1 ≡ e0))
-      ⊎ ((end ≡ status.Failed) × WritesFront held failures text cause.WriteFailed w0 w1 × Told second_held second_failures e0 e1 cause.WriteFailed)
+      ⊎ ((end ≡ status.Failed) × WritesPrefix held failures text cause.WriteFailed w0 w1 × Told second_held second_failures e0 e1 cause.WriteFailed)
 
 module _ {R W E : Type 0} (left : R → Option (List ℕ)) (calls read_failures : R → ℕ) (held : W → Option (List ℕ)) (write_failures : W → ℕ)
     (second_held : E → Option (List ℕ)) (second_failures : E → ℕ) where

@@ -7,7 +7,7 @@ ghost use Rattle.dbus_tool.specs.Running.{Told};
 
 use crate::ending::{Cause, Counted, ExitStatus};
 use crate::failing::give_up;
-use crate::gathering::{Gathered, Unwritten, write_behind, write_out};
+use crate::gathering::{Gathered, Unwritten, write_after, write_out};
 use crate::lines::{ok_line, refused_line};
 use dbus_command::Command;
 use dbus_stream::{Sink, WrittenOnly, write_all};
@@ -45,7 +45,7 @@ fn close_first<A: Allocator + Copy, W: Sink>(
         first.old first.new result }
 {
     match last_line(alloc, command, counted) {
-        Ok(line) => match write_behind(line.as_bytes(), gathered, first) {
+        Ok(line) => match write_after(line.as_bytes(), gathered, first) {
             Ok(()) => Ok(()),
             Err(Unwritten) => Err(Cause::WriteFailed),
         },

@@ -24,7 +24,7 @@ pub(crate) fn gather<W: Sink>(
 {
     match gathered.try_extend_from_slice(bytes) {
         Ok(()) => Ok(()),
-        Err(_) => write_behind(bytes, gathered, first),
+        Err(_) => write_after(bytes, gathered, first),
     }
 }
 
@@ -44,7 +44,7 @@ pub(crate) fn put_out<W: Sink>(
 }
 
 /// Writes what is gathered, and then these bytes.
-pub(crate) fn write_behind<W: Sink>(
+pub(crate) fn write_after<W: Sink>(
     bytes: &[u8],
     gathered: &mut Gathered,
     first: &mut W,

@@ -1,6 +1,6 @@
 pub mod TypeViews
-mod Fronts
-mod FrontSteps
+mod Prefixes
+mod PrefixSteps
 mod Parsing
 mod Spelling
 mod Shapes

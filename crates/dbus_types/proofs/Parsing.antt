@@ -10,7 +10,7 @@ use Rattle.dbus_types.specs.SigTypes.{type_tree, type_trees_of}
 use Rattle.dbus_types.specs.TypeReads.{StartsType, StartsFields, ReadsType, ReadsFields}
 use Rattle.dbus_texts.proofs.TypeTexts.{sig_positive}
 use Rattle.dbus_types.proofs.TypeViews.{type_tree-Struct, type_tree-Entry}
-use Rattle.dbus_types.proofs.Fronts.{text_same, StartsPair, not_empty, entry_spelled}
+use Rattle.dbus_types.proofs.Prefixes.{text_same, StartsPair, not_empty, entry_spelled}
 
 pub first_of_list : (w : List ℕ) → 0 < length w → (b : ℕ) × (c : List ℕ) × (w ≡ b ∷ c)
 first_of_list [] h = absurd (omega arith)

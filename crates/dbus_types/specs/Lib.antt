@@ -3,4 +3,4 @@ pub mod SigTypes
 pub mod TypeReads
 pub mod Parses
 pub mod Laws
-pub mod Fronts
+pub mod AppendedPrefixes

@@ -5,7 +5,7 @@ ghost use Rattle.std.specs.Prelude.{◌≡◌, ◌<◌, ◌++◌, ◌∷◌, [],
 ghost use Rattle.dbus_texts.specs.Types.{sig, sigs};
 ghost use Rattle.dbus_types.specs.SigTypes.{type_tree, type_trees_of};
 ghost use Rattle.dbus_types.specs.Parses.{IsSignatureText};
-ghost use Rattle.dbus_types.specs.Fronts.{AppendsFront};
+ghost use Rattle.dbus_types.specs.AppendedPrefixes.{AppendsPrefix};
 
 use crate::sig_type::SigType;
 use crate::type_codes::type_code;
@@ -31,8 +31,8 @@ pub fn push_type<A: Allocator + Copy>(
 ) -> Result<(), AllocError>
     ensures written { OnOk result (string_bytes out.new ≡
         string_bytes out.old ++ sig (type_tree ty.now)) }
-    ensures front { OnErr result
-        (AppendsFront (string_bytes out.old) (string_bytes out.new) (sig (type_tree ty.now))) }
+    ensures prefix { OnErr result
+        (AppendsPrefix (string_bytes out.old) (string_bytes out.new) (sig (type_tree ty.now))) }
 {
     match ty {
         SigType::Array(element) => {
@@ -62,8 +62,8 @@ fn push_types<A: Allocator + Copy>(
 ) -> Result<(), AllocError>
     ensures written { OnOk result
         (string_bytes out.new ≡ string_bytes out.old ++ sigs (type_trees_of types.now)) }
-    ensures front { OnErr result
-        (AppendsFront (string_bytes out.old) (string_bytes out.new)
+    ensures prefix { OnErr result
+        (AppendsPrefix (string_bytes out.old) (string_bytes out.new)
         (sigs (type_trees_of types.now))) }
 {
     for ty in types {

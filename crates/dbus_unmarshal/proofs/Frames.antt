@@ -76,7 +76,7 @@ module _ (bounds : Bounds) (order : Order) (frames : List Frame) where
 
 -- ---- one more element
 
--- what is read lies behind, and bytes are left
+-- what is read lies suffix, and bytes are left
 abbrev Steps : Reader ValueTree → Type 0
 Steps run = (o : ℕ) (s : List ℕ) (v : ValueTree) (q : ℕ) (r : List ℕ) → IsBytes s → run o s ≡ Done v q r → (o < q) × IsBytes r
 

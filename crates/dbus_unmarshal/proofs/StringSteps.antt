@@ -62,17 +62,17 @@ mutual
   sigs_utf8 (MoreTypes t ts) = IsUtf8-append (sig t) (sigs ts) (sig_utf8 t) (sigs_utf8 ts)
 
 -- the text of n bytes at a place, up to the place after it
-module _ (n at behind : ℕ) (bytes : List ℕ) (ends : behind ≡ at + n) where
-  pub same_part : take n (drop at bytes) ≡ take (behind - at) (drop at bytes)
-  same_part = let long : n ≡ behind - at = omega arith in ap (λ (k : ℕ). take k (drop at bytes)) long
+module _ (n at suffix : ℕ) (bytes : List ℕ) (ends : suffix ≡ at + n) where
+  pub same_part : take n (drop at bytes) ≡ take (suffix - at) (drop at bytes)
+  same_part = let long : n ≡ suffix - at = omega arith in ap (λ (k : ℕ). take k (drop at bytes)) long
 
-  pub utf8_text : IsKind Text (take n (drop at bytes)) → IsUtf8 (take (behind - at) (drop at bytes))
+  pub utf8_text : IsKind Text (take n (drop at bytes)) → IsUtf8 (take (suffix - at) (drop at bytes))
   utf8_text h = subst IsUtf8 same_part (text_utf8 (take n (drop at bytes)) h.0).0
 
-  pub utf8_path : IsKind Path (take n (drop at bytes)) → IsUtf8 (take (behind - at) (drop at bytes))
+  pub utf8_path : IsKind Path (take n (drop at bytes)) → IsUtf8 (take (suffix - at) (drop at bytes))
   utf8_path h = utf8_text (kind_is Text (take n (drop at bytes)) (path_is_text (take n (drop at bytes)) (is_kind_of Path (take n (drop at bytes)) h)))
 
-  pub utf8_signature : IsKind Signature (take n (drop at bytes)) → IsUtf8 (take (behind - at) (drop at bytes))
+  pub utf8_signature : IsKind Signature (take n (drop at bytes)) → IsUtf8 (take (suffix - at) (drop at bytes))
   utf8_signature h =
       let e = (signature_text_is (take n (drop at bytes)) (is_kind_of Signature (take n (drop at bytes)) h)).1 in
       subst IsUtf8 (e ∙ same_part) (sigs_utf8 (types_spelled (take n (drop at bytes))))

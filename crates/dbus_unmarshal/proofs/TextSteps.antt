@@ -87,8 +87,8 @@ module _ (n at : ℕ) (bytes given : List ℕ) (is : given ≡ take n (drop at b
   only_done u e whole =
       text_there (Only u) n at bytes given is e whole ∙ ap (λ (t : List ℕ). Done t (at + n) (drop (at + n) bytes)) (sym is ∙ e)
 
-pub part_is : (n at behind : ℕ) (bytes : List ℕ) {t : List ℕ} → behind ≡ at + n → t ≡ take (behind - at) (drop at bytes) → t ≡ take n (drop at bytes)
-part_is n at behind bytes e h = let long : behind - at ≡ n = omega arith in h ∙ ap (λ (k : ℕ). take k (drop at bytes)) long
+pub part_is : (n at suffix : ℕ) (bytes : List ℕ) {t : List ℕ} → suffix ≡ at + n → t ≡ take (suffix - at) (drop at bytes) → t ≡ take n (drop at bytes)
+part_is n at suffix bytes e h = let long : suffix - at ≡ n = omega arith in h ∙ ap (λ (k : ℕ). take k (drop at bytes)) long
 
 module _ (n at : ℕ) (bytes : List ℕ) (t : TypeTree) (is : sig t ≡ take n (drop at bytes)) where
   pub signature_there : (q : ℕ) (r : List ℕ) → text (Of kinds.Single) n at (drop at bytes) ≡ Done (take n (drop at bytes)) q r → signature (Of kinds.Single) n at (drop at bytes) ≡ Done t q r

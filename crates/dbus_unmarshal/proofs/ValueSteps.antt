@@ -33,10 +33,10 @@ pub ruleset values = (tree-Variant, tree-Array, tree-Struct, tree-Entry, tree-By
 
 -- ---- reading a value of each type is its own reading
 
-same_behind : {A B : Type 0} (read : Outcome A) (f g : A → Reader B) → ((x : A) (p : ℕ) (u : List ℕ) → f x p u ≡ g x p u) → after read f ≡ after read g
-same_behind (Done x p u) f g h = h x p u
-same_behind (Faulty x) f g h = refl
-same_behind Partial f g h = refl
+same_suffix : {A B : Type 0} (read : Outcome A) (f g : A → Reader B) → ((x : A) (p : ℕ) (u : List ℕ) → f x p u ≡ g x p u) → after read f ≡ after read g
+same_suffix (Done x p u) f g h = h x p u
+same_suffix (Faulty x) f g h = refl
+same_suffix Partial f g h = refl
 
 framed_at : {B : Type 0} (n : ℕ) (next : ℕ → Reader B) (read : Outcome (Unit {0})) → after read (λ _. next n) ≡ after (after read (λ _. pure n)) next
 framed_at n next (Done x q r) = refl
@@ -88,7 +88,7 @@ module _ (bounds : Bounds) (order : Order) where
   value_array zero end t o s = refl
   value_array (suc room) end t o s =
       let e : suc room - 1 ≡ room = omega arith in
-      rw e (same_behind (padding 4 end o s) _ _ (λ x p u. framed (λ n. padding (alignment_of t) end) (λ n. array_rest bounds order room end t n) (number order 4 end (array_row bounds t end) p u)))
+      rw e (same_suffix (padding 4 end o s) _ _ (λ x p u. framed (λ n. padding (alignment_of t) end) (λ n. array_rest bounds order room end t n) (number order 4 end (array_row bounds t end) p u)))
 
 -- ---- containers
 
@@ -266,13 +266,13 @@ pub bytes_at : (s : List ℕ) (at : ℕ) → ((i : ℕ) → get_or s i 0 < 256) 
 bytes_at s at h = bytes_from (drop at s) (λ i. rw get_or-drop (h (at + i)))
 
 -- a value that was read has at least one byte, and ends before the end and where bytes are
-pub record EndsBehind (at end : ℕ) (bytes : List ℕ) (q : ℕ) : Type 0 where
+pub record EndsAfter (at end : ℕ) (bytes : List ℕ) (q : ℕ) : Type 0 where
   pub moves : at < q
   pub at_most : q ≤ end
   pub inside : q ≤ length bytes
 
 pub value_moves : (bounds : Bounds) (order : Order) (room end : ℕ) (t : TypeTree) (at : ℕ) (bytes : List ℕ) (v : ValueTree) (q : ℕ) → IsShaped true t → IsBytes (drop at bytes) → at ≤ length bytes
-    → value bounds order room end t at (drop at bytes) ≡ Done v q (drop q bytes) → EndsBehind at end bytes q
+    → value bounds order room end t at (drop at bytes) ≡ Done v q (drop q bytes) → EndsAfter at end bytes q
 value_moves bounds order room end t at bytes v q shaped are inside h =
     let spelled = (reads_spelled bounds order room end true t at (drop at bytes) v q (drop q bytes) shaped are).0 h in
     let some = positive bounds order v true at (subst (λ (u : TypeTree). IsShaped true u) (sym spelled.has_type) shaped) in

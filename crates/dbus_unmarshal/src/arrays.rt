@@ -36,17 +36,17 @@ pub fn read_frame<A: Allocator>(
     ensures moves { IfOk result (λ x. (at ≤ x.1) × (x.1 + x.0 ≤ end) × (x.1 ≤ length bytes.now)) }
     ensures no_memory { IfErr result (λ e. e ≢ Memory) }
 {
-    let (n, behind) = read_u32(bytes, at, end, order)?;
+    let (n, after) = read_u32(bytes, at, end, order)?;
     if n > bounds.array {
         return refuse(at, Reason::ArrayTooLong);
     }
     let n = n as usize;
     let alignment = alignment(item);
-    let gap = usize::from(padding_length(alignment, behind as u64));
-    if end - behind < gap + n {
+    let gap = usize::from(padding_length(alignment, after as u64));
+    if end - after < gap + n {
         return refuse(at, Reason::Overrun);
     }
-    let first = read_padding(bytes, behind, end, alignment)?;
+    let first = read_padding(bytes, after, end, alignment)?;
     Ok((n, first))
 }
 

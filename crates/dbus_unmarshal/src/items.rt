@@ -170,12 +170,12 @@ pub fn read_length(
         (x.1 ≡ at + 4) × (x.1 + x.0 < end) × (x.1 ≤ length bytes.now) × (x.0 < 2 ^ 32)) }
     ensures no_memory { IfErr result (λ e. e ≢ Memory) }
 {
-    let (n, behind) = read_u32(bytes, at, end, order)?;
+    let (n, after) = read_u32(bytes, at, end, order)?;
     let n = n as usize;
-    if end - behind <= n {
+    if end - after <= n {
         return refuse(at, Reason::Overrun);
     }
-    Ok((n, behind))
+    Ok((n, after))
 }
 
 /// The length of a text, of one byte: that of a SIGNATURE.
@@ -190,10 +190,10 @@ pub fn read_short_length(bytes: &[u8], at: usize, end: usize) -> Result<(usize, 
         (x.1 ≡ at + 1) × (x.1 + x.0 < end) × (x.1 ≤ length bytes.now) × (x.0 < 256)) }
     ensures no_memory { IfErr result (λ e. e ≢ Memory) }
 {
-    let (n, behind) = read_byte(bytes, at, end)?;
+    let (n, after) = read_byte(bytes, at, end)?;
     let n = n as usize;
-    if end - behind <= n {
+    if end - after <= n {
         return refuse(at, Reason::Overrun);
     }
-    Ok((n, behind))
+    Ok((n, after))
 }

@@ -192,8 +192,8 @@ fn read_held<A: Allocator + Copy>(
     ensures packed { IfOk result (λ x. IsTrue (keeps_bytes x.0)) }
 {
     let (n, start) = read_short_length(bytes, at, end)?;
-    let (held, behind) = read_signature(alloc, bytes, start, n)?;
-    let first = read_nul(bytes, behind)?;
+    let (held, after) = read_signature(alloc, bytes, start, n)?;
+    let first = read_nul(bytes, after)?;
     let (value, next) = read_value(alloc, bytes, first, end, order, &held, room, bounds)?;
     Ok((Value::Variant(Box::new(alloc, value)?), next))
 }
@@ -365,8 +365,8 @@ fn read_entry<A: Allocator + Copy>(
     ensures packed { IfOk result (λ x. IsTrue (keeps_bytes x.0)) }
 {
     let start = read_padding(bytes, at, end, 8)?;
-    let (k, behind) = read_value(alloc, bytes, start, end, order, key, room, bounds)?;
-    let (v, next) = read_value(alloc, bytes, behind, end, order, value, room, bounds)?;
+    let (k, after) = read_value(alloc, bytes, start, end, order, key, room, bounds)?;
+    let (v, next) = read_value(alloc, bytes, after, end, order, value, room, bounds)?;
     let entry = DictEntry { key: k, value: v };
     Ok((Value::Entry(Box::new(alloc, entry)?), next))
 }

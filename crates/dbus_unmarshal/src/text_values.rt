@@ -31,9 +31,9 @@ pub fn get_str<A: Allocator>(
 {
     let at = read_padding(bytes, at, end, 4)?;
     let (n, start) = read_length(bytes, at, end, order)?;
-    let behind = read_text(bytes, start, n, TextKind::Text)?;
-    let next = read_nul(bytes, behind)?;
-    Ok((Value::Str(copy_text(alloc, &bytes[start..behind])?), next))
+    let after = read_text(bytes, start, n, TextKind::Text)?;
+    let next = read_nul(bytes, after)?;
+    Ok((Value::Str(copy_text(alloc, &bytes[start..after])?), next))
 }
 
 /// An OBJECT_PATH.
@@ -52,9 +52,9 @@ pub fn get_path<A: Allocator>(
 {
     let at = read_padding(bytes, at, end, 4)?;
     let (n, start) = read_length(bytes, at, end, order)?;
-    let behind = read_text(bytes, start, n, TextKind::Path)?;
-    let next = read_nul(bytes, behind)?;
-    Ok((Value::Path(copy_text(alloc, &bytes[start..behind])?), next))
+    let after = read_text(bytes, start, n, TextKind::Path)?;
+    let next = read_nul(bytes, after)?;
+    Ok((Value::Path(copy_text(alloc, &bytes[start..after])?), next))
 }
 
 /// A SIGNATURE.
@@ -72,7 +72,7 @@ pub fn get_sig<A: Allocator>(
     ensures packed { IfOk result (λ x. IsTrue (keeps_bytes x.0)) }
 {
     let (n, start) = read_short_length(bytes, at, end)?;
-    let behind = read_text(bytes, start, n, TextKind::Signature)?;
-    let next = read_nul(bytes, behind)?;
-    Ok((Value::Sig(copy_text(alloc, &bytes[start..behind])?), next))
+    let after = read_text(bytes, start, n, TextKind::Signature)?;
+    let next = read_nul(bytes, after)?;
+    Ok((Value::Sig(copy_text(alloc, &bytes[start..after])?), next))
 }

@@ -128,7 +128,7 @@ pub fn read_signature<A: Allocator + Copy>(
         (x.1 ≡ at + n) × (x.1 ≤ length bytes.now) × (length (sig (type_tree x.0)) ≡ n) ×
         IsSingleType (type_tree x.0)) }
 {
-    let behind = read_text(bytes, at, n, TextKind::Single)?;
-    let held = spelled_type(alloc, &bytes[at..behind])?;
-    Ok((held, behind))
+    let after = read_text(bytes, at, n, TextKind::Single)?;
+    let held = spelled_type(alloc, &bytes[at..after])?;
+    Ok((held, after))
 }

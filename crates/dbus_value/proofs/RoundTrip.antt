@@ -62,6 +62,6 @@ pub written_is_read : {A : Type 0} → WrittenIsRead A
 written_is_read limits fds order room end e v front more read checked start size le h =
     let text = spelling order (length front) v in
     let bytes = front ++ text ++ more in
-    let behind : drop (length front) bytes ≡ text ++ more = front_rest bytes front (text ++ more) (append_assoc front text more) in
-    let spelled = subst (λ (s : List ℕ). Spelled (bounds_with limits fds) order room end (type_of v) (length front) s v e more) (sym behind) (written_spelled limits fds order room end (length front) e v more checked start size le) in
+    let suffix : drop (length front) bytes ≡ text ++ more = front_rest bytes front (text ++ more) (append_assoc front text more) in
+    let spelled = subst (λ (s : List ℕ). Spelled (bounds_with limits fds) order room end (type_of v) (length front) s v e more) (sym suffix) (written_spelled limits fds order room end (length front) e v more checked start size le) in
     back (bounds_with limits fds) order room end v (length front) e bytes more checked spelled read h

@@ -46,9 +46,9 @@ beside (Ok b) P Q q h = (λ e. (h.0 e, q), λ k. h.1 k.0)
 beside (Err e) P Q q h = tt
 
 -- the same, where the fact stands first
-pub behind : {E : Type 0} (r : Result Bool E) (P Q : Type 0) → P → IfOk r (λ b. IsTrue b ↔ Q) → IfOk r (λ b. IsTrue b ↔ (P × Q))
-behind (Ok b) P Q p h = (λ e. (p, h.0 e), λ k. h.1 k.1)
-behind (Err e) P Q p h = tt
+pub suffix : {E : Type 0} (r : Result Bool E) (P Q : Type 0) → P → IfOk r (λ b. IsTrue b ↔ Q) → IfOk r (λ b. IsTrue b ↔ (P × Q))
+suffix (Ok b) P Q p h = (λ e. (p, h.0 e), λ k. h.1 k.1)
+suffix (Err e) P Q p h = tt
 
 -- ---- arrays of BYTE
 

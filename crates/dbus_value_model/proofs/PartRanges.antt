@@ -10,8 +10,8 @@ use Rattle.dbus_value_model.specs.Ranges.{HoldsNumbers, HoldNumbers}
 use Rattle.dbus_value_model.specs.Spelling.{spelling, spellings, contents_start, ended_text}
 use Rattle.dbus_value_model.specs.Values.{ValueTree, ValueTrees, NoValues, MoreValues, NumberValue, TextValue, VariantValue, ArrayValue, StructValue, EntryValue, type_of}
 
-behind : (a b : List ℕ) → length b ≤ length (a ++ b)
-behind a b = omega (arith, length-append a b)
+suffix : (a b : List ℕ) → length b ≤ length (a ++ b)
+suffix a b = omega (arith, length-append a b)
 
 before : (a b : List ℕ) → length a ≤ length (a ++ b)
 before a b = omega (arith, length-append a b)
@@ -22,22 +22,22 @@ text_within : (k : TextCode) (o : ℕ) (t : List ℕ) → length t ≤ length (s
 unfolding spelling
 text_within k o t =
     let w = length_width k in
-    omega (arith, before t (0 ∷ []), behind (num Little w (length t)) (t ++ 0 ∷ []), behind (pad w o) (num Little w (length t) ++ (t ++ 0 ∷ [])))
+    omega (arith, before t (0 ∷ []), suffix (num Little w (length t)) (t ++ 0 ∷ []), suffix (pad w o) (num Little w (length t) ++ (t ++ 0 ∷ [])))
 
 variant_within : (o : ℕ) (x : ValueTree) → length (spelling Little (o + length (ended_text Little 1 (sig (type_of x)))) x) ≤ length (spelling Little o (VariantValue x))
 unfolding spelling
-variant_within o x = behind (ended_text Little 1 (sig (type_of x))) (spelling Little (o + length (ended_text Little 1 (sig (type_of x)))) x)
+variant_within o x = suffix (ended_text Little 1 (sig (type_of x))) (spelling Little (o + length (ended_text Little 1 (sig (type_of x)))) x)
 
 array_within : (o : ℕ) (t : TypeTree) (xs : ValueTrees) → length (spellings Little (contents_start t o) xs) ≤ length (spelling Little o (ArrayValue t xs))
 unfolding spelling
 array_within o t xs =
     let c = spellings Little (contents_start t o) xs in
     let padding = pad (alignment_of t) (o + gap_to 4 o + 4) in
-    omega (arith, behind padding c, behind (num Little 4 (length c)) (padding ++ c), behind (pad 4 o) (num Little 4 (length c) ++ (padding ++ c)))
+    omega (arith, suffix padding c, suffix (num Little 4 (length c)) (padding ++ c), suffix (pad 4 o) (num Little 4 (length c) ++ (padding ++ c)))
 
 struct_within : (o : ℕ) (xs : ValueTrees) → length (spellings Little (o + gap_to 8 o) xs) ≤ length (spelling Little o (StructValue xs))
 unfolding spelling
-struct_within o xs = behind (pad 8 o) (spellings Little (o + gap_to 8 o) xs)
+struct_within o xs = suffix (pad 8 o) (spellings Little (o + gap_to 8 o) xs)
 
 key_within : (o : ℕ) (k v : ValueTree) → length (spelling Little (o + gap_to 8 o) k) ≤ length (spelling Little o (EntryValue k v))
 unfolding spelling
@@ -45,7 +45,7 @@ key_within o k v =
     let p = o + gap_to 8 o in
     let key = spelling Little p k in
     let rest = spelling Little (p + length key) v in
-    omega (arith, before key rest, behind (pad 8 o) (key ++ rest))
+    omega (arith, before key rest, suffix (pad 8 o) (key ++ rest))
 
 held_within : (o : ℕ) (k v : ValueTree) → length (spelling Little (o + gap_to 8 o + length (spelling Little (o + gap_to 8 o) k)) v) ≤ length (spelling Little o (EntryValue k v))
 unfolding spelling
@@ -53,7 +53,7 @@ held_within o k v =
     let p = o + gap_to 8 o in
     let key = spelling Little p k in
     let rest = spelling Little (p + length key) v in
-    omega (arith, behind key rest, behind (pad 8 o) (key ++ rest))
+    omega (arith, suffix key rest, suffix (pad 8 o) (key ++ rest))
 
 first_within : (o : ℕ) (x : ValueTree) (xs : ValueTrees) → length (spelling Little o x) ≤ length (spellings Little o (MoreValues x xs))
 unfolding spellings
@@ -61,7 +61,7 @@ first_within o x xs = before (spelling Little o x) (spellings Little (o + length
 
 rest_within : (o : ℕ) (x : ValueTree) (xs : ValueTrees) → length (spellings Little (o + length (spelling Little o x)) xs) ≤ length (spellings Little o (MoreValues x xs))
 unfolding spellings
-rest_within o x xs = behind (spelling Little o x) (spellings Little (o + length (spelling Little o x)) xs)
+rest_within o x xs = suffix (spelling Little o x) (spellings Little (o + length (spelling Little o x)) xs)
 
 -- ---- ranges
 

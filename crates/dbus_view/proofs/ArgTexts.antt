@@ -34,12 +34,12 @@ module _ (bounds : Bounds) (order : Order) (room : ℕ) (bytes : List ℕ) (s : 
       let front = parts_length order w s.start t in
       let here : drop s.start bytes ≡ (p ++ n) ++ (t ++ rest) = h.bytes ∙ regrouped p n t (drop s.after bytes) in
       let place : s.start + length (p ++ n) ≡ s.start + gap_to w s.start + w = omega (arith, front) in
-      let behind : drop (s.start + gap_to w s.start + w) bytes ≡ t ++ rest = ap (λ (o : ℕ). drop o bytes) (sym place) ∙ sym (drop-drop (length (p ++ n)) s.start bytes) ∙ ap (drop (length (p ++ n))) here ∙ drop_at (p ++ n) (t ++ rest) (length (p ++ n)) refl in
+      let suffix : drop (s.start + gap_to w s.start + w) bytes ≡ t ++ rest = ap (λ (o : ℕ). drop o bytes) (sym place) ∙ sym (drop-drop (length (p ++ n)) s.start bytes) ∙ ap (drop (length (p ++ n))) here ∙ drop_at (p ++ n) (t ++ rest) (length (p ++ n)) refl in
       let all : length (p ++ (n ++ (t ++ 0 ∷ []))) ≡ gap_to w s.start + w + length t + 1 = omega (arith, length-append p (n ++ (t ++ 0 ∷ [])), length-append n (t ++ 0 ∷ []), length-append t (0 ∷ []), length-append p n, front) in
       record {
         after_is = omega (arith, h.place, all);
         inside = omega (arith, h.bound, last);
-        text = sym (ap (take (length t)) behind ∙ take_at t rest (length t) refl);
+        text = sym (ap (take (length t)) suffix ∙ take_at t rest (length t) refl);
         utf8 = formed_utf8 room k t h.formed;
       }
 

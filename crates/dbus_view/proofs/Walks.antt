@@ -76,7 +76,7 @@ module _ (bounds : Bounds) (order : Order) (room : ℕ) (bytes types : List ℕ)
         let after = place + length one in
         let more = spellings order after others ++ drop (length bytes) bytes in
         let here : drop place bytes ≡ one ++ more = spelled.bytes ∙ append_assoc one (spellings order after others) (drop (length bytes) bytes) in
-        let behind : drop after bytes ≡ more = ap (λ (n : ℕ). drop n bytes) (omega arith) ∙ sym (drop-drop (length one) place bytes) ∙ ap (drop (length one)) here ∙ drop_at one more (length one) refl in
+        let suffix : drop after bytes ≡ more = ap (λ (n : ℕ). drop n bytes) (omega arith) ∙ sym (drop-drop (length one) place bytes) ∙ ap (drop (length one)) here ∙ drop_at one more (length one) refl in
         let long = length-append one (spellings order after others) in
         record {
           x = x;
@@ -86,10 +86,10 @@ module _ (bounds : Bounds) (order : Order) (room : ℕ) (bytes types : List ℕ)
           code = code_there (type_of x) (types_of others) text;
           after = after;
           shaped = shaped_inside (type_of x) shaped.0;
-          spelled = record { has_type = refl; formed = spelled.formed.0; within = spelled.within.0; indexes = spelled.indexes.0; bytes = here ∙ ap (λ (r : List ℕ). one ++ r) (sym behind); place = refl; bound = omega (arith, spelled.place, long) };
+          spelled = record { has_type = refl; formed = spelled.formed.0; within = spelled.within.0; indexes = spelled.indexes.0; bytes = here ∙ ap (λ (r : List ℕ). one ++ r) (sym suffix); place = refl; bound = omega (arith, spelled.place, long) };
           others_shaped = shaped.1;
           others_text = w.1;
-          others_spelled = record { formed = spelled.formed.1; within = spelled.within.1; indexes = spelled.indexes.1; bytes = behind; place = omega (arith, spelled.place, long) };
+          others_spelled = record { formed = spelled.formed.1; within = spelled.within.1; indexes = spelled.indexes.1; bytes = suffix; place = omega (arith, spelled.place, long) };
         }
 
     pub front : Walked k place pos → Front k place pos next

@@ -216,7 +216,7 @@ const USAGES: &[(&[&str], &str)] = &[
     (&["play"], UNKNOWN_COMMAND),
     (&["chek"], SIMILAR_COMMAND),
     (&["--to", "l", "swap"], OPTION_OF_ANOTHER),
-    (&["show", "capture"], WORD_BEHIND_SHOW),
+    (&["show", "capture"], WORD_AFTER_SHOW),
     (&["check", "--all"], OPTION_OF_CHECK),
     (&["filter", "type=signal", "type=error"], SECOND_RULE),
     (&["swap"], NO_ORDER),

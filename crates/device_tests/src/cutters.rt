@@ -33,7 +33,7 @@ fn takes<A: Allocator + Copy>(
 }
 
 #[test]
-fn a_message_and_a_front_of_it(rt: HostRuntime) -> Result<(), Fail> {
+fn a_message_and_a_prefix_of_it(rt: HostRuntime) -> Result<(), Fail> {
     let alloc = rt.alloc();
     let piece = joined(alloc, &[RETURN, FRONT])?;
     let piece = piece.as_slice();

@@ -84,7 +84,7 @@ fn calls_give<R: Source, A: Allocator + Copy>(
 }
 
 #[test]
-fn a_message_and_a_front_of_it(rt: HostRuntime) -> Result<(), Fail> {
+fn a_message_and_a_prefix_of_it(rt: HostRuntime) -> Result<(), Fail> {
     let bytes = joined(rt.alloc(), &[RETURN, FRONT])?;
     let mut reader = MessageReader::new(rt.alloc(), FromRead::new(bytes.as_slice()));
     let script = [
@@ -238,7 +238,7 @@ fn each_read_fails(rt: &(impl Abort + AllocGlobal), bytes: &[u8]) -> Result<(), 
         (Next, NOTHING),
         (NextKept, NOTHING),
     ];
-    let behind = [
+    let after = [
         (Next, Gives(bytes)),
         (Next, FAILED),
         (Next, NOTHING),
@@ -249,7 +249,7 @@ fn each_read_fails(rt: &(impl Abort + AllocGlobal), bytes: &[u8]) -> Result<(), 
         reads(rt, source, within.as_slice(), [size, size + 2, 1])?;
     }
     let source = Pieces::new(bytes, 1, size + 1);
-    reads(rt, source, behind.as_slice(), [size, size + 2, 1])
+    reads(rt, source, after.as_slice(), [size, size + 2, 1])
 }
 
 #[test]

@@ -37,7 +37,7 @@ Usage: dbus-wire <COMMAND>
 For more information, try '--help'.
 ";
 
-pub(crate) const WORD_BEHIND_SHOW: &str = "\
+pub(crate) const WORD_AFTER_SHOW: &str = "\
 error: unexpected argument 'capture' found
 
 Usage: dbus-wire show [OPTIONS]

@@ -98,7 +98,7 @@ fn comes_to(rt: &impl Abort, alloc: Global, n: usize, row: &Row, front: &[u8]) -
 }
 
 #[test]
-fn fronts_under_limits(rt: HostRuntime) -> Result<(), Fail> {
+fn prefixes_under_limits(rt: HostRuntime) -> Result<(), Fail> {
     for (n, row) in ROWS.iter().enumerate() {
         for count in 0..row.0.len() {
             let (front, _) = row.0.split_at(count);

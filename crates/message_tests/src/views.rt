@@ -138,7 +138,7 @@ fn wanted(alloc: Global, bytes: &[u8], limits: Limits) -> Option<Fault> {
 
 // Each prefix of a message, and the message with a byte after it.
 #[test]
-fn fronts_and_more(rt: HostRuntime) -> Result<(), Fail> {
+fn prefixes_and_more(rt: HostRuntime) -> Result<(), Fail> {
     let limits = Limits::specification();
     for (row, (little, big, _)) in MESSAGES.iter().enumerate() {
         for bytes in [*little, *big] {

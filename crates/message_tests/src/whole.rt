@@ -165,7 +165,7 @@ fn encode_into_takes_the_place_of_what_was_there(rt: HostRuntime) -> Result<(), 
 }
 
 #[test]
-fn every_front_of_a_message_is_partial(rt: HostRuntime) {
+fn every_prefix_of_a_message_is_partial(rt: HostRuntime) {
     let alloc = rt.alloc();
     for (row, (little, big, _)) in MESSAGES.iter().enumerate() {
         for bytes in [*little, *big] {

@@ -1,4 +1,4 @@
--- The fields of a `Refusing` behind a `&`.
+-- The fields of a `Refusing` suffix a `&`.
 --     PlanRow, Whole      the rows of `Plan` and of `Refusing`, where Z describes the inner allocator
 --     inner_at, plan_at      where the fields lie in a `Refusing` at p
 --     fields           a proof's step: a `&` to a `Refusing` is one to each field
@@ -16,7 +16,7 @@ module _ (Z : Al) where
   abbrev pub inner_at : ℕ × ℕ → ℕ × ℕ
   inner_at p = (p.0, p.1 + up (align (α Z)) 0)
 
-  -- behind the inner allocator, at the next multiple of 8
+  -- suffix the inner allocator, at the next multiple of 8
   abbrev pub plan_at : ℕ × ℕ → ℕ × ℕ
   plan_at p = (p.0, p.1 + up 8 (up (align (α Z)) 0 + size (α Z)))
 

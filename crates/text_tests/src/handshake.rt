@@ -108,7 +108,7 @@ fn hand_over(
     let mut rest = bytes;
     for _ in 0..200u32 {
         let taken = take_server(end, front(rest, size), &mut sent)?;
-        rest = behind(rest, taken);
+        rest = after(rest, taken);
     }
     let status = end.take(b"")?.status;
     Ok((sent, rest.len(), status))
@@ -126,7 +126,7 @@ fn front(bytes: &[u8], n: usize) -> &[u8] {
     if n < bytes.len() { &bytes[..n] } else { bytes }
 }
 
-fn behind(bytes: &[u8], n: usize) -> &[u8] {
+fn after(bytes: &[u8], n: usize) -> &[u8] {
     if n < bytes.len() { &bytes[n..] } else { b"" }
 }
 
@@ -145,7 +145,7 @@ fn one_line_a_take(rt: HostRuntime) -> Result<(), Fail> {
     let mut rest = b"\0AUTH EXTERNAL\r\nDATA\r\nNEGOTIATE_UNIX_FD\r\nBEGIN\r\nl".as_slice();
     for (at, want) in TAKES.iter().enumerate() {
         did(&rt, at, end.take(rest)?, *want);
-        rest = behind(rest, want.0);
+        rest = after(rest, want.0);
     }
     assert_eq!(rt; rest, b"l".as_slice());
     Ok(())
@@ -276,7 +276,7 @@ fn hand_client(
     let mut rest = bytes;
     for _ in 0..200u32 {
         let taken = take_client(end, front(rest, size), &mut sent)?;
-        rest = behind(rest, taken);
+        rest = after(rest, taken);
     }
     Ok(sent)
 }

@@ -186,17 +186,17 @@ fn faulty_lines(rt: HostRuntime) {
 // A line has at most 16,384 bytes with its CR LF. What stands after it is left.
 #[test]
 fn long_lines(rt: HostRuntime) {
-    for (n, behind, want) in [
+    for (n, after, want) in [
         (16_381, b"\r\nBEGIN".as_slice(), Ok((16_383, Some(16_381)))),
         (16_382, b"\r\nBEGIN", Ok((16_384, Some(16_382)))),
         (16_383, b"\r\n", Err(LineFault::TooLong)),
     ] {
-        assert_eq!(rt; cut_long(rt.alloc(), n, behind), want, "at {n}");
+        assert_eq!(rt; cut_long(rt.alloc(), n, after), want, "at {n}");
     }
 }
 
 /// What a fresh cutter does with `n` letters and what stands after them.
-fn cut_long(alloc: Global, n: usize, behind: &[u8]) -> Result<(usize, Option<usize>), LineFault> {
-    let bytes = long_text(alloc, b"", n, behind)?;
+fn cut_long(alloc: Global, n: usize, after: &[u8]) -> Result<(usize, Option<usize>), LineFault> {
+    let bytes = long_text(alloc, b"", n, after)?;
     cut(&mut LineCutter::new(alloc), &bytes)
 }

@@ -31,11 +31,11 @@ pub fn long_text(
     alloc: Global,
     front: &[u8],
     n: usize,
-    behind: &[u8],
+    after: &[u8],
 ) -> Result<Vec<u8>, AllocError> {
     let mut bytes = Vec::from_slice(alloc, front)?;
     bytes.extend_from_slice(&repeated(alloc, b'A', n)?)?;
-    bytes.extend_from_slice(behind)?;
+    bytes.extend_from_slice(after)?;
     Ok(bytes)
 }
 

@@ -23,7 +23,7 @@ fn push_hundred<A: Allocator>(bytes: &mut Vec<u8, A>) -> Result<(), AllocError> 
     Ok(())
 }
 
-fn push_behind<A: Allocator>(heap: &Refusing<A>, n: u64) -> Result<Pushes, AllocError> {
+fn push_after<A: Allocator>(heap: &Refusing<A>, n: u64) -> Result<Pushes, AllocError> {
     let mut bytes = Vec::from_slice(heap, b"before")?;
     heap.refuse_nth(n);
     let done = push_hundred(&mut bytes);
@@ -42,7 +42,7 @@ fn each_growth_refused(rt: HostRuntime) -> Result<(), Fail> {
     let mut met = 0;
     for n in 1..100 {
         let heap = Refusing::none(rt.alloc());
-        let pushes = push_behind(&heap, n)?;
+        let pushes = push_after(&heap, n)?;
         assert!(rt; pushes.refused == (pushes.refusals == 1), "at {n}");
         assert!(rt; pushes.kept && pushes.blocks == 1, "at {n}");
         assert!(rt; heap.blocks() == 0, "at {n}");

@@ -111,7 +111,7 @@ fn texts_break(rt: HostRuntime) {
 }
 
 #[test]
-fn long_texts_break_behind_their_ascii(rt: HostRuntime) {
+fn long_texts_break_after_their_ascii(rt: HostRuntime) {
     let mut text = [b'a'; 130];
     assert_eq!(rt; first_break(TextKind::Text, &text), 130);
     text[100] = 0;

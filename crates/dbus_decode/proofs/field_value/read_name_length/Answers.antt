@@ -12,13 +12,13 @@ returns-in_err-n-clause-gives c = exits (λ x. x) c.args.bytes.now c.from_residu
 
 pub returns-then-n-gt-NAME_LIMIT-clause-gives : goal.returns-then-n-gt-NAME_LIMIT-clause-gives
 returns-then-n-gt-NAME_LIMIT-clause-gives c = rw c.refuse.ensures
-    (row_refused c.args.order 4 c.args.end (name_row c.args.end) c.args.at (drop c.args.at c.args.bytes.now) reasons.NameTooLong _ _ _ c.in_ok-n.ensures.gives (long_name c.args.end c.in_ok-n.behind _ c.if-n-gt-NAME_LIMIT.true))
+    (row_refused c.args.order 4 c.args.end (name_row c.args.end) c.args.at (drop c.args.at c.args.bytes.now) reasons.NameTooLong _ _ _ c.in_ok-n.ensures.gives (long_name c.args.end c.in_ok-n.after _ c.if-n-gt-NAME_LIMIT.true))
 
-pub returns-then-end-behind-clause-gives : goal.returns-then-end-behind-clause-gives
-returns-then-end-behind-clause-gives c = rw c.refuse-then-end-behind.ensures
+pub returns-then-end-after-clause-gives : goal.returns-then-end-after-clause-gives
+returns-then-end-after-clause-gives c = rw c.refuse-then-end-after.ensures
     (row_refused c.args.order 4 c.args.end (name_row c.args.end) c.args.at (drop c.args.at c.args.bytes.now) reasons.Overrun _ _ _ c.in_ok-n.ensures.gives
-    (name_overruns c.args.end c.in_ok-n.behind c.in_ok-n.n c.if-n-gt-NAME_LIMIT.false c.in_ok-n.ensures.moves.1 c.if-end-behind.true))
+    (name_overruns c.args.end c.in_ok-n.after c.in_ok-n.n c.if-n-gt-NAME_LIMIT.false c.in_ok-n.ensures.moves.1 c.if-end-after.true))
 
 pub returns-clause-gives : goal.returns-clause-gives
 returns-clause-gives c = row_passed c.args.order 4 c.args.end (name_row c.args.end) c.args.at (drop c.args.at c.args.bytes.now) _ _ _ c.in_ok-n.ensures.gives
-    (name_fits c.args.end c.in_ok-n.behind c.in_ok-n.n c.if-n-gt-NAME_LIMIT.false c.in_ok-n.ensures.moves.1 c.if-end-behind.false)
+    (name_fits c.args.end c.in_ok-n.after c.in_ok-n.n c.if-n-gt-NAME_LIMIT.false c.in_ok-n.ensures.moves.1 c.if-end-after.false)

@@ -45,11 +45,11 @@ measure_value-measure_values-requires-in-Struct g t c κs within =
     let short = rw is at c.requires.signed in
     (rw (there, ← measure) (grind (arith, the_lemmas)), (within, (omega arith, rw there (short-Struct c.in-Struct.fields short))))
 
-pub measure_value-returns-in_err-behind_key-in-Entry-clause-exact :
-    goal.measure_value-returns-in_err-behind_key-in-Entry-clause-exact
-measure_value-returns-in_err-behind_key-in-Entry-clause-exact g t c =
-    let key = rw c.deref-in-Entry.ensures at c.in_err-behind_key-in-Entry.ensures.exact in
-    rw (c.from_residual-in_err-behind_key-in-Entry.ensures, c.in-Entry.is)
+pub measure_value-returns-in_err-key_end-in-Entry-clause-exact :
+    goal.measure_value-returns-in_err-key_end-in-Entry-clause-exact
+measure_value-returns-in_err-key_end-in-Entry-clause-exact g t c =
+    let key = rw c.deref-in-Entry.ensures at c.in_err-key_end-in-Entry.ensures.exact in
+    rw (c.from_residual-in_err-key_end-in-Entry.ensures, c.in-Entry.is)
     (measured-Entry_key c.args.limits c.args.at c.boundary-in-Entry.result c.in-Entry.entry c.boundary-in-Entry.ensures.exact key)
 
 pub measure_value-returns-else-len-from-clause-exact :
@@ -73,13 +73,13 @@ measure_value-returns-in-Struct-clause-exact g t c =
     let inner = rw c.deref-in-Struct.ensures.value at c.measure_values-in-Struct.ensures.exact in
     rw c.in-Struct.is (measured-Struct c.args.limits c.args.at c.boundary.result c.measure_values-in-Struct.result c.in-Struct.fields c.boundary.ensures.exact inner)
 
-pub measure_value-returns-in_ok-behind_key-in-Entry-clause-exact :
-    goal.measure_value-returns-in_ok-behind_key-in-Entry-clause-exact
-measure_value-returns-in_ok-behind_key-in-Entry-clause-exact g t c =
-    let key = rw c.deref-in-Entry.ensures at c.in_ok-behind_key-in-Entry.ensures.exact in
+pub measure_value-returns-in_ok-key_end-in-Entry-clause-exact :
+    goal.measure_value-returns-in_ok-key_end-in-Entry-clause-exact
+measure_value-returns-in_ok-key_end-in-Entry-clause-exact g t c =
+    let key = rw c.deref-in-Entry.ensures at c.in_ok-key_end-in-Entry.ensures.exact in
     let held = rw c.deref-in-Entry-2.ensures at c.measure_value-in-Entry.ensures.exact in
     rw c.in-Entry.is
-    (measured-Entry c.args.limits c.args.at c.boundary-in-Entry.result c.in_ok-behind_key-in-Entry.behind_key c.measure_value-in-Entry.result c.in-Entry.entry c.boundary-in-Entry.ensures.exact key held)
+    (measured-Entry c.args.limits c.args.at c.boundary-in-Entry.result c.in_ok-key_end-in-Entry.key_end c.measure_value-in-Entry.result c.in-Entry.entry c.boundary-in-Entry.ensures.exact key held)
 
 pub measure_value-returns-in-Variant-clause-exact : goal.measure_value-returns-in-Variant-clause-exact
 measure_value-returns-in-Variant-clause-exact g t c =

@@ -9,7 +9,7 @@ loop-run-preserved g c =
     let parts = split_parts 39 c.loop-run.rest.now c.split_once.result c.split_once.ensures.cases (omega arith) in
     let p = rw c.in-Some.is at parts in (
       search rules,
-      escaped_step (string_bytes c.loop-run.text) (string_bytes c.push_str.new.self) (string_bytes c.push_str-in-Some.new.self) c.in-Some.run'.now c.in-Some.behind.now c.loop-run.rest.now (string_bytes c.args.text.now ++ quote_escaped c.args.value.now) c.in_ok-push_str.ensures.bytes c.in_ok-push_str-2.ensures.bytes p.0 p.1 c.loop-run.invariant.1,
+      escaped_step (string_bytes c.loop-run.text) (string_bytes c.push_str.new.self) (string_bytes c.push_str-in-Some.new.self) c.in-Some.run'.now c.in-Some.after.now c.loop-run.rest.now (string_bytes c.args.text.now ++ quote_escaped c.args.value.now) c.in_ok-push_str.ensures.bytes c.in_ok-push_str-2.ensures.bytes p.0 p.1 c.loop-run.invariant.1,
     )
 
 pub returns : goal.returns

@@ -8,7 +8,7 @@ use Rattle.dbus_show.proofs.escapes.write_escaped.Given as goal
 
 abbrev pub invariant-loop-i : goal.invariant-loop-i
 invariant-loop-i g l = record {
-  behind : l.start ≤ l.i;
+  after : l.start ≤ l.i;
   place : IsCharBoundary l.text l.start;
   so_far : Gains l.initial.draft (flat_map escape (take l.start l.text)) l.draft;
   plain : IsPlainSince l.text l.start l.i;

@@ -27,8 +27,8 @@ array-turn_4-requires t c =
     let p = array_stands c.args.order c.args.room c.args.types.now c.args.at c.args.bytes.now there.0 there.1 there.2 in
     omega (arith, p.inside, c.gap.ensures, c.requires.as_long)
 
-pub array-overflow_add-behind : goal.array-overflow_add-behind
-array-overflow_add-behind t c =
+pub array-overflow_add-after : goal.array-overflow_add-after
+array-overflow_add-after t c =
     let there = c.requires.stands in
     let p = array_stands c.args.order c.args.room c.args.types.now c.args.at c.args.bytes.now there.0 there.1 there.2 in
     omega (arith, p.inside, c.gap.ensures)

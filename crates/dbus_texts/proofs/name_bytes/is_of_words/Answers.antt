@@ -1,6 +1,6 @@
 use Rattle.std.proofs.Common.{◌-◌, length, ⊎_elim, arith}
 use Rattle.std.proofs.lemmas.Bool.{cases_lt}
-use Rattle.dbus_texts.proofs.WordBlocks.{words_more, words_behind}
+use Rattle.dbus_texts.proofs.WordBlocks.{words_more, words_after}
 use Rattle.dbus_texts.proofs.name_bytes.is_of_words.Goals as goal
 
 pub loop-at-preserved : goal.loop-at-preserved
@@ -11,4 +11,4 @@ loop-at-preserved c =
     }
 
 pub returns : goal.returns
-returns c = λ h i l. ⊎_elim (λ k. c.loop-at.invariant.words i k) (λ k. words_behind c.args.text.now (length c.args.text.now - 16) (omega arith) (c.are_words-2.ensures h) i (omega arith) (omega arith)) (cases_lt i c.loop-at.at)
+returns c = λ h i l. ⊎_elim (λ k. c.loop-at.invariant.words i k) (λ k. words_after c.args.text.now (length c.args.text.now - 16) (omega arith) (c.are_words-2.ensures h) i (omega arith) (omega arith)) (cases_lt i c.loop-at.at)

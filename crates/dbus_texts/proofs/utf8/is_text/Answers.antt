@@ -12,21 +12,21 @@ use Rattle.dbus_texts.proofs.KindFacts.{text_utf8, utf8_text}
 use Rattle.dbus_texts.proofs.utf8.is_text.Goals as goal
 
 -- a prefix of ASCII without a zero byte changes nothing
-text_behind : (u v : List ℕ) → AllByRecursion (IsInRange 1 127) u → IsText v ↔ IsText (u ++ v)
-text_behind [] v h = (λ t. t, λ t. t)
-text_behind (b ∷ u) v h =
+text_after : (u v : List ℕ) → AllByRecursion (IsInRange 1 127) u → IsText v ↔ IsText (u ++ v)
+text_after [] v h = (λ t. t, λ t. t)
+text_after (b ∷ u) v h =
     let m = plain_moves b h.0 in
-    let i = text_behind u v h.1 in
+    let i = text_after u v h.1 in
     (λ t. m.from (u ++ v) (i.0 t), λ t. i.1 (m.to (u ++ v) t))
 
-abbrev behind : ℕ → List ℕ → List ℕ
-behind n w = take (length w - n) (drop n w)
+abbrev frame_rest : ℕ → List ℕ → List ℕ
+frame_rest n w = take (length w - n) (drop n w)
 
-from_rest : (w : List ℕ) (n : ℕ) (r : Bool) → AllByRecursion (IsInRange 1 127) (take n w) → IsTrue r ↔ IsText (behind n w) → IsTrue r ↔ IsText w
+from_rest : (w : List ℕ) (n : ℕ) (r : Bool) → AllByRecursion (IsInRange 1 127) (take n w) → IsTrue r ↔ IsText (frame_rest n w) → IsTrue r ↔ IsText w
 from_rest w n r h i =
-    let e : behind n w ≡ drop n w = take_all (length w - n) (drop n w) (omega (arith, length-drop n w)) in
-    let j = text_behind (take n w) (behind n w) h in
-    let whole : take n w ++ behind n w ≡ w = ap (λ v. take n w ++ v) e ∙ take-append-drop n w in
+    let e : frame_rest n w ≡ drop n w = take_all (length w - n) (drop n w) (omega (arith, length-drop n w)) in
+    let j = text_after (take n w) (frame_rest n w) h in
+    let whole : take n w ++ frame_rest n w ≡ w = ap (λ v. take n w ++ v) e ∙ take-append-drop n w in
     subst (λ v. IsTrue r ↔ IsText v) whole (λ t. j.0 (i.0 t), λ t. i.1 (j.1 t))
 
 without_zero : (w : List ℕ) (r : Bool) → IsUtf8 w → r ≡ list_any (λ b. eqb b 0) w → IsTrue (not r) ↔ IsText w
@@ -40,18 +40,18 @@ none_left (b ∷ w) e = absurd (omega (arith, e))
 pub returns-then-is_empty : goal.returns-then-is_empty
 returns-then-is_empty c =
     let w = c.args.text.now in
-    let n = c.plain_front.result in
-    let none : length (behind n w) ≡ 0 = eqb-true _ _ (sym c.is_empty.ensures ∙ c.if-is_empty.true) in
-    from_rest w n true c.plain_front.ensures.plain (λ e. none_left (behind n w) none, λ t. refl)
+    let n = c.plain_prefix.result in
+    let none : length (frame_rest n w) ≡ 0 = eqb-true _ _ (sym c.is_empty.ensures ∙ c.if-is_empty.true) in
+    from_rest w n true c.plain_prefix.ensures.plain (λ e. none_left (frame_rest n w) none, λ t. refl)
 
 pub returns-in-Ok : goal.returns-in-Ok
 returns-in-Ok c =
     let w = c.args.text.now in
-    let n = c.plain_front.result in
-    from_rest w n (not c.contains.result) c.plain_front.ensures.plain (without_zero (behind n w) c.contains.result c.in-Ok.ensures.cases.1 c.contains.ensures.value)
+    let n = c.plain_prefix.result in
+    from_rest w n (not c.contains.result) c.plain_prefix.ensures.plain (without_zero (frame_rest n w) c.contains.result c.in-Ok.ensures.cases.1 c.contains.ensures.value)
 
 pub returns-in-Err : goal.returns-in-Err
 returns-in-Err c =
     let w = c.args.text.now in
-    let n = c.plain_front.result in
-    from_rest w n false c.plain_front.ensures.plain (λ e. absurd (false≢true e), λ t. absurd (c.in-Err.ensures.cases.0 (text_utf8 (behind n w) t).0))
+    let n = c.plain_prefix.result in
+    from_rest w n false c.plain_prefix.ensures.plain (λ e. absurd (false≢true e), λ t. absurd (c.in-Err.ensures.cases.0 (text_utf8 (frame_rest n w) t).0))

@@ -1,4 +1,4 @@
-use Rattle.dbus_tool.proofs.GivenSteps.{gives_kept, gives_behind, gives_kept_fault}
+use Rattle.dbus_tool.proofs.GivenSteps.{gives_kept, gives_after, gives_kept_fault}
 use Rattle.dbus_tool.proofs.handing.next_message.Goals as goal
 
 pub returns-in-Ok-Some-clause-gives : goal.returns-in-Ok-Some-clause-gives
@@ -9,7 +9,7 @@ returns-in-Ok-Some-clause-gives g c =
 pub returns-in-Ok-None-clause-gives : goal.returns-in-Ok-None-clause-gives
 returns-in-Ok-None-clause-gives g c =
     let kept = rw c.in-Ok-None.field-0-is at c.in-Ok-None.ensures.kept in
-    gives_behind g.R.Source.left g.R.Source.calls g.R.Source.failures g.W.Sink.held g.W.Sink.failures c.args.messages.now c.advance_kept.new.self c.read_message.new.messages
+    gives_after g.R.Source.left g.R.Source.calls g.R.Source.failures g.W.Sink.held g.W.Sink.failures c.args.messages.now c.advance_kept.new.self c.read_message.new.messages
     c.args.gathered.now.items c.read_message.new.gathered.items c.args.first.now c.read_message.new.first c.read_message.result c.in-Ok-None.ensures.unread (kept c.requires).0 c.read_message.ensures.gives
 
 pub returns-in-Err-clause-gives : goal.returns-in-Err-clause-gives

@@ -13,22 +13,22 @@ returns-in_err-n-clause-gives g c =
 pub returns-then-n-bounds-clause-gives :
     goal.returns-then-n-bounds-clause-gives
 returns-then-n-bounds-clause-gives g c =
-    rw c.refuse.ensures (frame_fails c.args.bounds c.args.order c.args.end (type_tree c.args.item.now) c.args.at (drop c.args.at c.args.bytes.now) c.in_ok-n.n c.in_ok-n.behind (drop c.in_ok-n.behind c.args.bytes.now) c.in_ok-n.ensures.gives reasons.ArrayTooLong (row_too_long c.args.bounds (type_tree c.args.item.now) c.args.end c.in_ok-n.behind c.in_ok-n.n c.if-n-bounds.true))
+    rw c.refuse.ensures (frame_fails c.args.bounds c.args.order c.args.end (type_tree c.args.item.now) c.args.at (drop c.args.at c.args.bytes.now) c.in_ok-n.n c.in_ok-n.after (drop c.in_ok-n.after c.args.bytes.now) c.in_ok-n.ensures.gives reasons.ArrayTooLong (row_too_long c.args.bounds (type_tree c.args.item.now) c.args.end c.in_ok-n.after c.in_ok-n.n c.if-n-bounds.true))
 
-pub returns-then-end-behind-clause-gives : goal.returns-then-end-behind-clause-gives
-returns-then-end-behind-clause-gives g c =
-    rw c.refuse-then-end-behind.ensures (frame_fails c.args.bounds c.args.order c.args.end (type_tree c.args.item.now) c.args.at (drop c.args.at c.args.bytes.now) c.in_ok-n.n c.in_ok-n.behind (drop c.in_ok-n.behind c.args.bytes.now) c.in_ok-n.ensures.gives reasons.Overrun (row_overruns c.args.bounds (type_tree c.args.item.now) c.alignment-alignment.result c.args.end c.in_ok-n.behind c.in_ok-n.n c.alignment-alignment.ensures c.if-n-bounds.false (omega (arith, c.in_ok-n.ensures.moves))))
+pub returns-then-end-after-clause-gives : goal.returns-then-end-after-clause-gives
+returns-then-end-after-clause-gives g c =
+    rw c.refuse-then-end-after.ensures (frame_fails c.args.bounds c.args.order c.args.end (type_tree c.args.item.now) c.args.at (drop c.args.at c.args.bytes.now) c.in_ok-n.n c.in_ok-n.after (drop c.in_ok-n.after c.args.bytes.now) c.in_ok-n.ensures.gives reasons.Overrun (row_overruns c.args.bounds (type_tree c.args.item.now) c.alignment-alignment.result c.args.end c.in_ok-n.after c.in_ok-n.n c.alignment-alignment.ensures c.if-n-bounds.false (omega (arith, c.in_ok-n.ensures.moves))))
 
 pub returns-in_err-first-clause-gives : goal.returns-in_err-first-clause-gives
 returns-in_err-first-clause-gives g c =
     let p = err_from_is_err_and c.from_residual-in_err-first.result c.from_residual-in_err-first.ensures.1 in
-    let fits = row_fits c.args.bounds (type_tree c.args.item.now) c.alignment-alignment.result c.args.end c.in_ok-n.behind c.in_ok-n.n c.alignment-alignment.ensures c.if-n-bounds.false (omega (arith, c.in_ok-n.ensures.moves)) in
-    rw (p.1, p.2) (frame_stops_padding c.args.bounds c.args.order c.args.end (type_tree c.args.item.now) c.args.at (drop c.args.at c.args.bytes.now) c.in_ok-n.n c.in_ok-n.behind (drop c.in_ok-n.behind c.args.bytes.now) c.in_ok-n.ensures.gives fits _ (rw (← c.alignment-alignment.ensures) c.in_err-first.ensures.gives))
+    let fits = row_fits c.args.bounds (type_tree c.args.item.now) c.alignment-alignment.result c.args.end c.in_ok-n.after c.in_ok-n.n c.alignment-alignment.ensures c.if-n-bounds.false (omega (arith, c.in_ok-n.ensures.moves)) in
+    rw (p.1, p.2) (frame_stops_padding c.args.bounds c.args.order c.args.end (type_tree c.args.item.now) c.args.at (drop c.args.at c.args.bytes.now) c.in_ok-n.n c.in_ok-n.after (drop c.in_ok-n.after c.args.bytes.now) c.in_ok-n.ensures.gives fits _ (rw (← c.alignment-alignment.ensures) c.in_err-first.ensures.gives))
 
 pub returns-clause-gives : goal.returns-clause-gives
 returns-clause-gives g c =
-    let fits = row_fits c.args.bounds (type_tree c.args.item.now) c.alignment-alignment.result c.args.end c.in_ok-n.behind c.in_ok-n.n c.alignment-alignment.ensures c.if-n-bounds.false (omega (arith, c.in_ok-n.ensures.moves)) in
-    frame_done c.args.bounds c.args.order c.args.end (type_tree c.args.item.now) c.args.at (drop c.args.at c.args.bytes.now) c.in_ok-n.n c.in_ok-n.behind (drop c.in_ok-n.behind c.args.bytes.now) c.in_ok-n.ensures.gives fits c.in_ok-first.first (drop c.in_ok-first.first c.args.bytes.now) (rw (← c.alignment-alignment.ensures) c.in_ok-first.ensures.gives)
+    let fits = row_fits c.args.bounds (type_tree c.args.item.now) c.alignment-alignment.result c.args.end c.in_ok-n.after c.in_ok-n.n c.alignment-alignment.ensures c.if-n-bounds.false (omega (arith, c.in_ok-n.ensures.moves)) in
+    frame_done c.args.bounds c.args.order c.args.end (type_tree c.args.item.now) c.args.at (drop c.args.at c.args.bytes.now) c.in_ok-n.n c.in_ok-n.after (drop c.in_ok-n.after c.args.bytes.now) c.in_ok-n.ensures.gives fits c.in_ok-first.first (drop c.in_ok-first.first c.args.bytes.now) (rw (← c.alignment-alignment.ensures) c.in_ok-first.ensures.gives)
 
 pub returns-clause-moves : goal.returns-clause-moves
 returns-clause-moves g c =

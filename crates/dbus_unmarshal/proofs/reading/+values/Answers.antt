@@ -147,9 +147,9 @@ read_struct-returns-clause-gives g t c =
 pub read_entry-read_value-requires-2 : goal.read_entry-read_value-requires-2
 read_entry-read_value-requires-2 g t c =
     let start = c.in_ok-start.start in
-    let m = value_moves c.args.bounds c.args.order c.args.room c.args.end (type_tree c.args.key.now) start c.args.bytes.now (value_tree c.in_ok-k.k) c.in_ok-k.behind c.requires.key_shaped (bytes_at c.args.bytes.now start (λ i. omega (arith, c.type_inv.bytes i))) c.in_ok-start.ensures.moves.2 c.in_ok-k.ensures.gives in
-    let most : c.in_ok-k.behind ≤ c.args.end = m.at_most in
-    let there : c.in_ok-k.behind ≤ length c.args.bytes.now = m.inside in
+    let m = value_moves c.args.bounds c.args.order c.args.room c.args.end (type_tree c.args.key.now) start c.args.bytes.now (value_tree c.in_ok-k.k) c.in_ok-k.after c.requires.key_shaped (bytes_at c.args.bytes.now start (λ i. omega (arith, c.type_inv.bytes i))) c.in_ok-start.ensures.moves.2 c.in_ok-k.ensures.gives in
+    let most : c.in_ok-k.after ≤ c.args.end = m.at_most in
+    let there : c.in_ok-k.after ≤ length c.args.bytes.now = m.inside in
     search rules
 
 pub read_items-returns-in_err-value-clause-gives : goal.read_items-returns-in_err-value-clause-gives

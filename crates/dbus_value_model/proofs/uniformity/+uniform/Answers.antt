@@ -5,7 +5,7 @@ use Rattle.dbus_value_model.specs.Forming.{IsUniform, AreUniform}
 use Rattle.dbus_value_model.specs.Values.{AllOf}
 use Rattle.dbus_value_model.specs.ValueViews.{value_tree, value_trees_of}
 use Rattle.dbus_value_model.proofs.ValueRows.{tree-Array, tree-Struct, tree-Entry}
-use Rattle.dbus_value_model.proofs.Fitting.{uneven_at, uniform_more, beside, behind, bytes_uniform}
+use Rattle.dbus_value_model.proofs.Fitting.{uneven_at, uniform_more, beside, suffix, bytes_uniform}
 use Rattle.dbus_value_model.proofs.uniformity.+uniform.Goals as goal
 
 pub are_uniform-returns-then-not-branch : goal.are_uniform-returns-then-not-branch
@@ -45,4 +45,4 @@ pub is_uniform-returns-else-not-branch-2 : goal.is_uniform-returns-else-not-bran
 is_uniform-returns-else-not-branch-2 g t c =
     let key = subst (λ e. IsUniform (value_tree e.key)) c.deref-in-Entry.ensures ((rw c.if-not-branch-2.false at c.in_ok-is_uniform-in-Entry.ensures).0 refl) in
     let held = rw c.deref-in-Entry-2.ensures at c.is_uniform-in-Entry.ensures in
-    rw c.in-Entry.is (subst (λ x. IfOk c.is_uniform-in-Entry.result (λ answer. IsTrue answer ↔ IsUniform x)) (sym (tree-Entry c.in-Entry.entry)) (behind c.is_uniform-in-Entry.result _ _ key held))
+    rw c.in-Entry.is (subst (λ x. IfOk c.is_uniform-in-Entry.result (λ answer. IsTrue answer ↔ IsUniform x)) (sym (tree-Entry c.in-Entry.entry)) (suffix c.is_uniform-in-Entry.result _ _ key held))

@@ -1,5 +1,5 @@
 use Rattle.dbus_tool.proofs.GatherSteps.{passes_through, breaks_through, breaks_before}
-use Rattle.dbus_tool.proofs.gathering.write_behind.Goals as goal
+use Rattle.dbus_tool.proofs.gathering.write_after.Goals as goal
 
 pub returns-in-Ok-write_all-clause-gathers : goal.returns-in-Ok-write_all-clause-gathers
 returns-in-Ok-write_all-clause-gathers g c =
