@@ -10,6 +10,7 @@ ghost use Rattle.dbus_texts.specs.Verdicts.{IsBreakOf, IsTextBreak, IsVerdict, I
 use crate::scan::ScanState;
 use crate::text_kind::TextKind;
 use crate::type_codes::is_type_code;
+use crate::utf8::is_text;
 use crate::whole_names::is_name;
 use std::alloc::{AllocError, AllocFailed};
 use thiserror::Error;
@@ -69,14 +70,36 @@ fn is_one_code(kind: TextKind, text: &[u8]) -> bool
     }
 }
 
+/// Whether the text is of the kind, limits on length aside, as far as a quick look tells: it knows each STRING, path and name, and
+/// signatures of one byte.
+#[inline(always)]
+fn is_seen_at_once(kind: TextKind, text: &[u8]) -> bool
+    ensures { IsTrue result → IsOfKind kind text.now }
+{
+    match kind {
+        TextKind::Text => is_text(text),
+        TextKind::Signature | TextKind::Single => is_one_code(kind, text),
+        _ => is_name(kind, text),
+    }
+}
+
+/// Where a text breaks that is not of the kind, limits on length aside, by its scan. It stands apart, so that the quick look before
+/// it has no room to make for a scan.
+#[inline(never)]
+fn scanned_break(kind: TextKind, text: &[u8]) -> Option<usize>
+    ensures { IsBreakOf kind text.now result }
+{
+    ScanState::of_kind(kind).break_of(text)
+}
+
 /// Where a text breaks that is not of the kind, limits on length aside.
 fn break_of(kind: TextKind, text: &[u8]) -> Option<usize>
     ensures { IsBreakOf kind text.now result }
 {
-    if is_one_code(kind, text) || is_name(kind, text) {
+    if is_seen_at_once(kind, text) {
         return None;
     }
-    ScanState::of_kind(kind).break_of(text)
+    scanned_break(kind, text)
 }
 
 /// The length of the text's longest prefix with which some text of the kind begins, limits on length

@@ -48,7 +48,7 @@ fn lead(byte: u8) -> Option<Utf8Place>
 }
 
 /// Whether the text is UTF-8 without U+0000. Most texts are ASCII, which takes one pass.
-fn is_text(text: &[u8]) -> bool
+pub(crate) fn is_text(text: &[u8]) -> bool
     ensures { IsTrue result ↔ IsText text.now }
 {
     let rest = &text[plain_prefix(text)..];
@@ -91,9 +91,6 @@ impl Utf8Place {
     pub fn break_of(self, text: &[u8]) -> Option<usize>
         ensures { IsBreakFrom (text_rest self) text.now result }
     {
-        if self == Utf8Place::Free && is_text(text) {
-            return None;
-        }
         let mut place = self;
         for (i, byte) in text.iter().enumerate() {
             match place.next(*byte) {
