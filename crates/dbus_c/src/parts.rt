@@ -118,8 +118,8 @@ fn place_of(seen: &Seen, code: u8) -> TextPlace
 {
     match seen.get(code) {
         Some(place) => TextPlace {
-            offset: place.start as u64,
-            length: place.length as u64,
+            offset: u64::from(place.start),
+            length: u64::from(place.length),
             is_there: 1,
         },
         None => TextPlace {

@@ -26,7 +26,7 @@ use dbus_value_model::{Limits, Order};
 
 /// Where the value of a header field stands.
 #[derive(Clone, Copy)]
-pub struct Held {
+pub(crate) struct Held {
     /// The offset of its text, or 0 where it is no text.
     pub start: usize,
     /// How many bytes its text has, or 0.
@@ -236,7 +236,7 @@ fn anything(bytes: &[u8], at: usize, end: usize, order: Order, limits: Limits) -
 /// text stands or what its number is, if the code is known. None says that no such signature and value begin at `at`: the bytes
 /// there are at fault, or the value does not end at or before `end`. The field array, the field and its variant are open around
 /// it. D-Bus Specification, "Header Fields".
-pub fn judge_field_value(
+pub(crate) fn judge_field_value(
     bytes: &[u8],
     at: usize,
     end: usize,

@@ -1,7 +1,7 @@
 //! Header fields. D-Bus Specification, "Header Fields".
 #![tactic(auto)]
 
-ghost use Rattle.std.specs.Prelude.{◌≡◌, ◌+◌, ◌≤◌, ◌<◌, List, length, drop, None, IfSome, false, ◌&&◌};
+ghost use Rattle.std.specs.Prelude.{◌≡◌, ◌+◌, ◌≤◌, ◌<◌, ◌^◌, List, [], length, drop, None, IfSome, false, true, ◌&&◌};
 ghost use Rattle.dbus_value_model.specs.Reading.{Done};
 ghost use Rattle.dbus_decode.specs.HeaderReading.{field_read, fields_read};
 ghost use Rattle.dbus_message_model.specs.Messages.{FieldTree, is_known, has_code};
@@ -22,7 +22,7 @@ use dbus_value_model::{Limits, Order};
 /// code does not stand, or any at all where it is not known. None says that no field begins at `at`, whichever stand before it:
 /// the bytes there are at fault, or the field does not end at or before `end`, or the limits' depth is below [`FIELD_DEPTH`]. The
 /// field array is open around it. D-Bus Specification, "Header Fields".
-pub fn judge_field(
+pub(crate) fn judge_field(
     bytes: &[u8],
     at: usize,
     end: usize,
@@ -54,34 +54,44 @@ pub fn judge_field(
     Some((code, held))
 }
 
-/// The fields whose array has n bytes: where the values of the known ones stand.
+/// Whether the n bytes from `at` on are fields, and where the values of the known ones stand, of which none was seen before.
 ///
-/// `bytes` begin at the message's first byte, from which offsets count; the fields begin at `at`, and the bytes are there up to
-/// their end. Some says that these n bytes are fields, none of a code 0 and no two of one known code. None says that they are
-/// not: they are at fault, or there are some and the limits' depth is below [`FIELD_DEPTH`]. The field array is open around
-/// them. D-Bus Specification, "Header Fields".
-pub fn judge_fields(bytes: &[u8], at: usize, n: usize, order: Order, limits: Limits) -> Option<Seen>
+/// `bytes` begin at the message's first byte, from which offsets count, and they are there up to the fields' end. True says that
+/// these n bytes are fields, none of a code 0 and no two of one known code. False says that they are not: they are at fault, or
+/// there are some and the limits' depth is below [`FIELD_DEPTH`]. The field array is open around them.
+/// D-Bus Specification, "Header Fields".
+pub(crate) fn judge_fields(
+    bytes: &[u8],
+    at: usize,
+    n: usize,
+    order: Order,
+    limits: Limits,
+    seen: &mut Seen,
+) -> bool
     requires inside { at + n ≤ length bytes.now }
-    ensures fields { IfSome result (λ seen. (fs : List FieldTree) ×
+    requires few { at + n < 2 ^ 32 }
+    requires unseen { AreNoted [] bytes.now seen.old }
+    ensures accepts { result ≡ true → (fs : List FieldTree) ×
         (fields_read limits order n at (drop at bytes.now) ≡
         Done fs (at + n) (drop (at + n) bytes.now)) ×
-        AreNoted fs bytes.now seen) }
-    ensures none { result ≡ None → IsNotRead (fields_read limits order n at (drop at bytes.now)) }
+        AreNoted fs bytes.now seen.new }
+    ensures refuses { result ≡ false → IsNotRead (fields_read limits order n at (drop at bytes.now)) }
 {
     let end = at + n;
-    let mut seen = Seen::none();
     let mut place = at;
     // A field has at least one byte.
     for _turn in 0..n {
         if place == end {
-            return Some(seen);
+            return true;
         }
-        let (code, held) = judge_field(bytes, place, end, order, limits)?;
+        let Some((code, held)) = judge_field(bytes, place, end, order, limits) else {
+            return false;
+        };
         if seen.has(code) {
-            return None;
+            return false;
         }
         seen.note(code, held);
         place = held.after;
     }
-    if place == end { Some(seen) } else { None }
+    end == place
 }

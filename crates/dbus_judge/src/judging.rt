@@ -80,7 +80,10 @@ pub fn judge(bytes: &[u8], limits: Limits) -> Option<Judged>
     if bytes.len() - 16 < n {
         return None;
     }
-    let seen = judge_fields(bytes, 16, n, header.order, limits)?;
+    let mut seen = Seen::none();
+    if !judge_fields(bytes, 16, n, header.order, limits, &mut seen) {
+        return None;
+    }
     if !seen.has_required(header.kind) {
         return None;
     }

@@ -10,8 +10,6 @@ mod first;
 mod judging;
 mod seen;
 
-pub use field_values::{Held, judge_field_value};
-pub use fields::{judge_field, judge_fields};
 pub use first::judge_first;
 pub use judging::{Judged, judge};
 pub use seen::{Place, Seen};

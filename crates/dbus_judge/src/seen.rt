@@ -1,7 +1,7 @@
 //! The known fields that were seen, and where their values stand. D-Bus Specification, "Header Fields".
 #![tactic(auto)]
 
-ghost use Rattle.std.specs.Prelude.{◌≡◌, ◌+◌, ◌≤◌, ◌++◌, ◌∷◌, [], ◌&&◌, ℕ, List, length, true, false, None, slice_index_or};
+ghost use Rattle.std.specs.Prelude.{◌≡◌, ◌+◌, ◌≤◌, ◌<◌, ◌^◌, ◌++◌, ◌∷◌, [], ◌&&◌, ℕ, List, length, take, drop, true, false, None, slice_index_or};
 ghost use Rattle.dbus_value_model.specs.Values.{ValueTree};
 ghost use Rattle.dbus_message_model.specs.Messages.{FieldTree, want, is_known, has_code, lacks, required, body_signature, fd_count};
 ghost use Rattle.dbus_judge.specs.Held.{IsNoted};
@@ -20,11 +20,21 @@ const UNIX_FDS: u8 = 9;
 #[derive(Clone, Copy)]
 pub struct Place {
     /// The offset of its text, or 0 where it is no text.
-    pub start: usize,
+    pub start: u32,
     /// How many bytes its text has, or 0.
-    pub length: usize,
+    pub length: u32,
     /// Its number, or 0 where it is no UINT32.
     pub number: u32,
+}
+
+impl Place {
+    /// Its text in the bytes.
+    pub fn text<'a>(&self, bytes: &'a [u8]) -> &'a [u8]
+        requires { self.now.start + self.now.length ≤ length bytes.now }
+        ensures { result.now ≡ take self.now.length (drop self.now.start bytes.now) }
+    {
+        &bytes[self.start as usize..][..self.length as usize]
+    }
 }
 
 /// Where the values of the known fields stand, each by its code. D-Bus Specification, "Header Fields".
@@ -66,6 +76,8 @@ impl Seen {
 
     /// The value of a field of a code is seen, and none of that code was if it is known.
     pub(crate) fn note(&mut self, code: u8, held: Held)
+        requires start { held.start < 2 ^ 32 }
+        requires length { held.length < 2 ^ 32 }
         ensures { (bytes : List ℕ) (fs : List FieldTree) (v : ValueTree) →
             AreNoted fs bytes self.old →
             is_known code && has_code code fs ≡ false → IsNoted (want code) v bytes held →
@@ -75,8 +87,8 @@ impl Seen {
         let at = usize::from(code);
         if at < self.places.len() {
             self.places[at] = Some(Place {
-                start: held.start,
-                length: held.length,
+                start: held.start as u32,
+                length: held.length as u32,
                 number: held.number,
             });
         }
@@ -104,7 +116,7 @@ impl Seen {
             result.now ≡ body_signature fs }
     {
         match self.get(SIGNATURE) {
-            Some(place) => &bytes[place.start..place.start + place.length],
+            Some(place) => place.text(bytes),
             None => &[],
         }
     }

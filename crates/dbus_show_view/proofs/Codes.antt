@@ -58,19 +58,6 @@ mutual
 pub types_ascii : (t : TypeTree) (types : List ℕ) → sig t ≡ types → IsAscii types
 types_ascii t types e = subst IsAscii e (sig_ascii t)
 
--- ---- a well-formed text is UTF-8
-
-signature_utf8 : (t : List ℕ) → IsKind Signature t → IsUtf8 t
-signature_utf8 t h =
-    let all : take (length t) (drop 0 t) ≡ t = take_all (length t) t (omega arith) in
-    let none : take (length t - 0) (drop 0 t) ≡ t = take_all (length t - 0) t (omega arith) in
-    subst IsUtf8 none (utf8_signature (length t) 0 (length t) t (omega arith) (subst (IsKind Signature) (sym all) h))
-
-pub formed_utf8 : (room : ℕ) (k : TextCode) (t : List ℕ) → IsWellFormed room (TextValue k t) → IsUtf8 t
-formed_utf8 room STRING t h = (text_utf8 t h.0.0).0
-formed_utf8 room OBJECT_PATH t h = (text_utf8 t (kind_is Text t (path_is_text t (is_kind_of Path t h.0))).0).0
-formed_utf8 room SIGNATURE t h = signature_utf8 t h.0
-
 -- ---- numbers
 
 pub number_fits : (k : NumberCode) (n : ℕ) → IsNumber k n → n < 256 ^ width k

@@ -26,8 +26,9 @@ use Rattle.dbus_show.specs.declared.draft.Draft.{Draft}
 use Rattle.dbus_show.specs.Gains.{Gains}
 use Rattle.dbus_show.specs.ShownValues.{number_text, quoted, joined, value_text, value_texts, bytes_in}
 use Rattle.dbus_show.proofs.Gaining.{then}
+use Rattle.dbus_judge.proofs.FormedTexts.{formed_utf8}
 use Rattle.dbus_show_view.specs.Showing.{IsShown, AreShown, IsTextAt}
-use Rattle.dbus_show_view.proofs.Codes.{types_ascii, formed_utf8, number_fits, byte_is, not_byte, bytes_spelled}
+use Rattle.dbus_show_view.proofs.Codes.{types_ascii, number_fits, byte_is, not_byte, bytes_spelled}
 
 module _ (order : Order) (room : ℕ) (types : List ℕ) (at : ℕ) (bytes : List ℕ) (v : ValueTree) (rest : List ℕ) (s : Stands order room types at bytes v rest) where
   pub code_ascii : get_or types 0 0 < 128

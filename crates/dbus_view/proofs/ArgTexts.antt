@@ -15,7 +15,7 @@ use Rattle.dbus_value_judge.proofs.TypeCodes as codes
 use Rattle.dbus_view.specs.Bodies.{IsOther, StandsIn, IsTextIn, IsTextPlace}
 use Rattle.dbus_view.specs.declared.arg_place.ArgPlace.{ArgPlace}
 use Rattle.dbus_view.specs.declared.values.Spot.{Spot}
-use Rattle.dbus_view.proofs.Texts.{formed_utf8}
+use Rattle.dbus_judge.proofs.FormedTexts.{formed_utf8}
 
 parts_length : (order : Order) (w start : ℕ) (t : List ℕ) → length (pad w start ++ num order w (length t)) ≡ gap_to w start + w
 parts_length order w start t = omega (arith, length-append (pad w start) (num order w (length t)), length-replicate {A = ℕ} (gap_to w start) 0, length-num order w (length t))

@@ -1,4 +1,3 @@
-mod Texts
 mod FieldTexts
 mod Whole
 mod KnownFields

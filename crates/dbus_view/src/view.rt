@@ -147,7 +147,7 @@ impl<'a> MessageView<'a> {
             IsTextOf (want code) (field_value code m.fields) s.now) }
     {
         let place = self.judged.fields.get(code)?;
-        let text = &self.bytes[place.start..place.start + place.length];
+        let text = place.text(self.bytes);
         // The bytes were judged, so UTF-8 is not looked for again.
         Some(unsafe { str::from_utf8_unchecked(text) })
     }

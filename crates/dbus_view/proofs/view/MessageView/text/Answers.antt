@@ -1,4 +1,4 @@
-use Rattle.std.proofs.Common.{◌≡◌, ◌+◌, ◌-◌, ℕ, List, take, drop, IsUtf8, Option, Some, sym, ap, subst, ◌∙◌, arith}
+use Rattle.std.proofs.Common.{◌≡◌, ℕ, List, IsUtf8, Option, Some, sym, ap, subst, ◌∙◌}
 use Rattle.dbus_value_model.specs.Values.{ValueTree}
 use Rattle.dbus_message_model.specs.Lookups.{field_value}
 use Rattle.dbus_message_model.specs.Messages.{MessageTree, want}
@@ -19,8 +19,7 @@ from_utf8_unchecked-requires c =
     let v = c.self.inside in
     let p = c.in_ok-place.place in
     let there = text_there v.limits v.bytes.now v.judged c.self.invariant c.args.code c.requires p (sym c.in_ok-place.was ∙ c.get.ensures) in
-    let long : p.length ≡ p.start + p.length - p.start = omega arith in
-    subst (λ (n : ℕ). IsUtf8 (take n (drop p.start v.bytes.now))) long there.utf8
+    subst IsUtf8 (sym c.text-text.ensures) there.utf8
 
 pub returns : goal.returns
 returns c = λ order m w.
@@ -28,8 +27,7 @@ returns c = λ order m w.
     let p = c.in_ok-place.place in
     let both = same v.limits v.bytes.now v.judged c.self.invariant c.args.self.now c.self.view_is order m w in
     let there = text_there v.limits v.bytes.now v.judged c.self.invariant c.args.code c.requires p (sym c.in_ok-place.was ∙ c.get.ensures) in
-    let long : p.start + p.length - p.start ≡ p.length = omega arith in
-    let text = c.from_utf8_unchecked.ensures ∙ ap (λ (n : ℕ). take n (drop p.start v.bytes.now)) long in
+    let text = c.from_utf8_unchecked.ensures ∙ c.text-text.ensures in
     let value : Some there.value ≡ field_value c.args.code m.fields = sym there.is ∙ ap (λ (u : MessageTree). field_value c.args.code u.fields) both.1 in
     subst (λ (x : Option ValueTree). IsTextOf (want c.args.code) x c.from_utf8_unchecked.result.now) value
     (subst (λ (t : List ℕ). IsTextOf (want c.args.code) (Some there.value) t) (sym text) there.text)
