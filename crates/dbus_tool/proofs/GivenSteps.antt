@@ -11,6 +11,7 @@ use Rattle.dbus_raw_reader.specs.Next.{Reads, ReadsNothing, KeepsAll, Lends, Adv
 use Rattle.dbus_raw_reader.specs.Reading.{limits_of, kept, lent_of, source_of, is_ended}
 use Rattle.dbus_raw_reader.specs.declared.raw_reader.RawReader.{RawReader}
 use Rattle.dbus_raw_reader.proofs.NextSteps.{starts, unread}
+use Rattle.dbus_tool.specs.Devices.{writing}
 use Rattle.dbus_tool.specs.Gathering.{Breaks}
 use Rattle.dbus_tool.specs.Handing.{GivesNext}
 use Rattle.dbus_tool.specs.declared.ending.NoMessage.{NoMessage}
@@ -85,7 +86,7 @@ module _ {R A : Type 0} (left : R → Option (List ℕ)) (calls failures : R →
 
   module _ {W : Type 0} (held : W → Option (List ℕ)) (write_failures : W → ℕ) where
     pub gives_after : (old mid new : RawReader R A) (g0 g1 : List ℕ) (w0 w1 : W) (res : Result (Option Judged) NoMessage) → ReadsNothing old mid
-        → KeepsAll (kept old) old mid → GivesNext left calls failures held write_failures mid new g0 g1 w0 w1 res → GivesNext left calls failures held write_failures old new g0 g1 w0 w1 res
+        → KeepsAll (kept old) old mid → GivesNext left calls failures mid new (writing held write_failures w0 w1) g0 g1 res → GivesNext left calls failures old new (writing held write_failures w0 w1) g0 g1 res
     gives_after old mid new g0 g1 w0 w1 (Ok lent) n k g =
         let both = both_after old mid new (Ok lent) n k g.0 g.1 in
         (both.0, both.1, g.2 ∙ ap failures n.source, g.3)
@@ -96,7 +97,7 @@ module _ {R A : Type 0} (left : R → Option (List ℕ)) (calls failures : R →
 
     -- a message that is kept
     pub gives_kept : (j : Judged) (old new : RawReader R A) (g : List ℕ) (w : W) → Lends (kept old) j old new → ReadsNothing old new
-        → GivesNext left calls failures held write_failures old new g g w w (Ok (Some j))
+        → GivesNext left calls failures old new (writing held write_failures w w) g g (Ok (Some j))
     gives_kept j old new g w l n = (
       unread left calls failures old old new (starts left calls failures old) n,
       subst (λ (v : List ℕ). Lends v j old new) (sym (append-nil (kept old))) l,
@@ -106,7 +107,7 @@ module _ {R A : Type 0} (left : R → Option (List ℕ)) (calls failures : R →
 
     pub gives_kept_fault : (old new : RawReader R A) (fault : ReadFault) (g : List ℕ) (w : W) → KeptAnswers old new (Err fault) → ReadsNothing old new
         → DeviceCounts {T = Option Judged} (failures (source_of old)) (failures (source_of new)) (Err fault)
-        → GivesNext left calls failures held write_failures old new g g w w (Err (Reader fault))
+        → GivesNext left calls failures old new (writing held write_failures w w) g g (Err (Reader fault))
     gives_kept_fault old new fault g w k n counts = (
       unread left calls failures old old new (starts left calls failures old) n,
       subst (λ (v : List ℕ). Advances v old new (Err fault)) (sym (append-nil (kept old))) (kept_fault old new fault k),
@@ -116,5 +117,5 @@ module _ {R A : Type 0} (left : R → Option (List ℕ)) (calls failures : R →
 
     -- what is gathered was not written, and nothing was read
     pub gives_unwritten : (old : RawReader R A) (g0 g1 : List ℕ) (w0 w1 : W) → Breaks held write_failures [] g0 w0 w1
-        → GivesNext left calls failures held write_failures old old g0 g1 w0 w1 (Err Writer)
+        → GivesNext left calls failures old old (writing held write_failures w0 w1) g0 g1 (Err Writer)
     gives_unwritten old g0 g1 w0 w1 b = (starts left calls failures old, b, refl)

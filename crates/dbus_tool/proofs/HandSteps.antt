@@ -14,6 +14,7 @@ use Rattle.dbus_stream.specs.declared.read_fault.ReadFault.{ReadFault}
 use Rattle.dbus_stream.specs.declared.read_fault.ReadFault.TheVariants as read
 use Rattle.dbus_stream.proofs.CutLaws.{BeginWith-last}
 use Rattle.dbus_command.specs.declared.command.Command.{Command}
+use Rattle.dbus_tool.specs.Devices.{reading, writing}
 use Rattle.dbus_tool.specs.Counting.{ended_by, stopped_by}
 use Rattle.dbus_tool.specs.Output.{IsOutputOf, IsOutputOfAll}
 use Rattle.dbus_tool.specs.Gathering.{Passes, Breaks, Leaves}
@@ -56,7 +57,7 @@ module _ {R A W : Type 0} (left : R → Option (List ℕ)) (calls failures : R �
   pub hands_more : (count : ℕ) (old mid new : RawReader R A) (g0 g1 g2 g3 : List ℕ) (w0 w1 w2 w3 : W)
       (h : HasHanded count old mid g0 g1 w0 w1) (j : Judged) (r : Reads left calls mid new) → (l : Lends (kept mid ++ r.bytes) j mid new)
       → failures (source_of new) ≡ failures (source_of mid) → Passes held write_failures [] g1 g2 w1 w2
-      → HandsOne held write_failures command l.gives.order l.gives.message (count + 1) g2 g3 w2 w3 (Ok tt) → HasHanded (count + 1) old new g0 g3 w0 w3
+      → HandsOne (writing held write_failures w2 w3) command l.gives.order l.gives.message (count + 1) g2 g3 (Ok tt) → HasHanded (count + 1) old new g0 g3 w0 w3
   hands_more count old mid new g0 g1 g2 g3 w0 w1 w2 w3 h j r l same p one =
       let next = counts_more left calls failures limits most old mid new count h.counted j r l same h.count_is in
       let item : CutMessage = record { order = l.gives.order; message = l.gives.message; size = l.size } in
@@ -121,7 +122,7 @@ module _ {R A W : Type 0} (left : R → Option (List ℕ)) (calls failures : R �
   hands_faulted : (fault : ReadFault) (count : ℕ) (old mid new : RawReader R A) (g0 g1 g2 : List ℕ) (w0 w1 w2 : W) (h : HasHanded count old mid g0 g1 w0 w1)
       (r : Reads left calls mid new) → Advances (kept mid ++ r.bytes) mid new (Err fault)
       → DeviceCounts {T = Option Judged} (failures (source_of mid)) (failures (source_of new)) (Err fault) → Passes held write_failures [] g1 g2 w1 w2
-      → Hands left calls failures held write_failures limits most command (source_of old) (source_of new) g0 g2 w0 w2 (ended_by count (done_of new) fault)
+      → Hands (reading left calls failures (source_of old) (source_of new)) (writing held write_failures w0 w2) limits most command g0 g2 (ended_by count (done_of new) fault)
   hands_faulted (read.Format fault) count old mid new g0 g1 g2 w0 w1 w2 h r answer counts p = hands_refused count old mid new g0 g1 g2 w0 w1 w2 fault h r answer counts p
   hands_faulted read.Memory count old mid new g0 g1 g2 w0 w1 w2 h r answer counts p =
       hands_some Memory count old mid new g0 g1 g2 w0 w1 w2 h r tt (passes_nothing held write_failures h.out g0 g1 g2 w0 w1 w2 h.passes p) (counts ∙ h.counted.failed)
@@ -139,8 +140,8 @@ module _ {R A W : Type 0} (left : R → Option (List ℕ)) (calls failures : R �
 
   -- there is no next message
   pub hands_stopped : (stop : NoMessage) (count : ℕ) (old mid new : RawReader R A) (g0 g1 g2 : List ℕ) (w0 w1 w2 : W) (h : HasHanded count old mid g0 g1 w0 w1)
-      → GivesNext left calls failures held write_failures mid new g1 g2 w1 w2 (Err stop)
-      → Hands left calls failures held write_failures limits most command (source_of old) (source_of new) g0 g2 w0 w2 (stopped_by count (done_of new) stop)
+      → GivesNext left calls failures mid new (writing held write_failures w1 w2) g1 g2 (Err stop)
+      → Hands (reading left calls failures (source_of old) (source_of new)) (writing held write_failures w0 w2) limits most command g0 g2 (stopped_by count (done_of new) stop)
   hands_stopped (Reader fault) count old mid new g0 g1 g2 w0 w1 w2 h given = hands_faulted fault count old mid new g0 g1 g2 w0 w1 w2 h given.0 given.1 given.2 given.3
   hands_stopped Writer count old mid new g0 g1 g2 w0 w1 w2 h given = hands_unwritten count old mid new g0 g1 g2 w0 w1 w2 h given.0 given.1 given.2
 
@@ -148,7 +149,7 @@ module _ {R A W : Type 0} (left : R → Option (List ℕ)) (calls failures : R �
   pub hands_not : (cause : Cause) (count : ℕ) (old mid new : RawReader R A) (g0 g1 g2 g3 : List ℕ) (w0 w1 w2 w3 : W)
       (h : HasHanded count old mid g0 g1 w0 w1) (j : Judged) (r : Reads left calls mid new) → (l : Lends (kept mid ++ r.bytes) j mid new)
       → failures (source_of new) ≡ failures (source_of mid) → Passes held write_failures [] g1 g2 w1 w2
-      → HandsOne held write_failures command l.gives.order l.gives.message (count + 1) g2 g3 w2 w3 (Err cause)
+      → HandsOne (writing held write_failures w2 w3) command l.gives.order l.gives.message (count + 1) g2 g3 (Err cause)
       → HandsSome left calls failures held write_failures limits most command cause (source_of old) (source_of new) g0 g3 w0 w3
   hands_not Memory count old mid new g0 g1 g2 g3 w0 w1 w2 w3 h j r l same p one =
       let before = passes_nothing held write_failures h.out g0 g1 g2 w0 w1 w2 h.passes p in

@@ -8,6 +8,7 @@ use Rattle.dbus_stream.specs.Write.{Wrote}
 use Rattle.dbus_stream.proofs.CutLaws.{BeginWith-first, IsCut-one}
 use Rattle.dbus_value_model.specs.declared.limits.Limits.{Limits}
 use Rattle.dbus_command.specs.declared.command.Command.{Command}
+use Rattle.dbus_tool.specs.Devices.{reading, writing}
 use Rattle.dbus_tool.specs.Output.{IsPrefixTo, IsOutputOfAll, IsFirstOutput, last_line, second_output, status_of}
 use Rattle.dbus_tool.specs.Gathering.{Passes, Gathers}
 use Rattle.dbus_tool.specs.Handing.{HandsAll, HandsSome}
@@ -134,8 +135,8 @@ module _ {R W E : Type 0} (left : R → Option (List ℕ)) (calls read_failures 
   -- all messages were handed on
   pub ran_to_end : (counted : Counted) (g1 : List ℕ) (r0 r1 : R) (w0 w1 w2 : W) (e0 e1 : E) (end : ExitStatus)
       → HandsAll left calls read_failures held write_failures limits most command counted r0 r1 [] g1 w0 w1
-      → Closes held write_failures second_held second_failures command counted g1 w1 w2 e0 e1 end
-      → Runs left calls read_failures held write_failures second_held second_failures limits most command r0 r1 w0 w2 e0 e1 end
+      → Closes (writing held write_failures w1 w2) (writing second_held second_failures e0 e1) command counted g1 end
+      → Runs (reading left calls read_failures r0 r1) (writing held write_failures w0 w2) (writing second_held second_failures e0 e1) limits most command end
   ran_to_end counted g1 r0 r1 w0 w1 w2 e0 e1 end a closes = elim closes [
     | inl c ↦ elim c.second [
       | inl told ↦ inl (closed counted g1 r0 r1 w0 w1 w2 e0 e1 end a c.first told.0 told.1)

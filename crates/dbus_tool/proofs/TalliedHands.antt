@@ -3,6 +3,7 @@ use Rattle.std.proofs.Common.{ℕ, ◌+◌, List, [], ◌∷◌, Option, Result,
 use Rattle.dbus_value_model.specs.declared.limits.Limits.{Limits}
 use Rattle.dbus_stream.specs.Cut.{CutMessage}
 use Rattle.dbus_command.specs.declared.command.Command.TheVariants.{Check}
+use Rattle.dbus_tool.specs.Devices.{reading, writing}
 use Rattle.dbus_tool.specs.Output.{IsOutputOfAll}
 use Rattle.dbus_tool.specs.Handing.{Hands}
 use Rattle.dbus_tool.specs.Tallying.{Tallies}
@@ -19,7 +20,7 @@ no_output n (item ∷ items) = ([], [], refl, refl, no_output (n + 1) items)
 module _ {R W : Type 0} (left : R → Option (List ℕ)) (calls failures : R → ℕ) (held : W → Option (List ℕ)) (write_failures : W → ℕ)
     (limits : Limits) (most : ℕ) where
   pub hands_tallied : (old new : R) (g : List ℕ) (w : W) (res : Result Counted Cause) → Tallies left calls failures limits most old new res
-      → Hands left calls failures held write_failures limits most Check old new g g w w res
+      → Hands (reading left calls failures old new) (writing held write_failures w w) limits most Check g g res
   hands_tallied old new g w (Ok counted) t = record {
     counts = t.counts;
     out = [];

@@ -2,6 +2,7 @@
 use Rattle.std.proofs.Common.{ℕ, List, Option, Result, Ok, Err}
 use Rattle.dbus_value_model.specs.declared.limits.Limits.{Limits}
 use Rattle.dbus_command.specs.declared.command.Command.{Command}
+use Rattle.dbus_tool.specs.Devices.{reading, writing}
 use Rattle.dbus_tool.specs.Handing.{Hands, IsReadCause}
 use Rattle.dbus_tool.specs.declared.ending.Cause.{Cause}
 use Rattle.dbus_tool.specs.declared.ending.Cause.TheVariants.{Memory, ReadFailed, WriteFailed, TooManyReads}
@@ -17,8 +18,8 @@ module _ {Q R W : Type 0} (now : Q → R) (left : R → Option (List ℕ)) (call
   cause_through old new TooManyReads c = c
 
   pub hands_through : (command : Command) (old new : Q) (g0 g1 : List ℕ) (w0 w1 : W) (res : Result Counted Cause)
-      → Hands (λ q. left (now q)) (λ q. calls (now q)) (λ q. failures (now q)) held write_failures limits most command old new g0 g1 w0 w1 res
-      → Hands left calls failures held write_failures limits most command (now old) (now new) g0 g1 w0 w1 res
+      → Hands (reading (λ q. left (now q)) (λ q. calls (now q)) (λ q. failures (now q)) old new) (writing held write_failures w0 w1) limits most command g0 g1 res
+      → Hands (reading left calls failures (now old) (now new)) (writing held write_failures w0 w1) limits most command g0 g1 res
   hands_through command old new g0 g1 w0 w1 (Ok counted) a = record {
     counts = record {
       bytes = a.counts.bytes;

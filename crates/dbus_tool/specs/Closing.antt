@@ -6,6 +6,7 @@ use Rattle.dbus_command.specs.declared.command.Command.{Command}
 use Rattle.dbus_stream.specs.Write.{Wrote}
 use Rattle.dbus_tool.specs.Output.{last_line, second_output, status_of, IsPrefixTo}
 use Rattle.dbus_tool.specs.Checking.{IsWriteCause, WritesPrefix}
+use Rattle.dbus_tool.specs.Devices.{Writing}
 use Rattle.dbus_tool.specs.Running.{Told}
 use Rattle.dbus_tool.specs.declared.ending.ExitStatus.{ExitStatus}
 use Rattle.dbus_tool.specs.declared.ending.ExitStatus.TheVariants as status
@@ -38,8 +39,10 @@ module _ {W E : Type 0} (held : W → Option (List ℕ)) (write_failures : W →
     pub first : WritesPrefix held write_failures (g0 ++ last_line command counted.count counted.size counted.fault) cause w0 w1
     pub told : Told second_held second_failures e0 e1 cause
 
-  abbrev pub Closes : Command → Counted → List ℕ → W → W → E → E → ExitStatus → Type 0
-  Closes command counted g0 w0 w1 e0 e1 end = Closed command counted g0 w0 w1 e0 e1 end ⊎ NotClosed command counted g0 w0 w1 e0 e1 end
+abbrev pub Closes : {W E : Type 0} → Writing W → Writing E → Command → Counted → List ℕ → ExitStatus → Type 0
+Closes w e command counted g0 end =
+    Closed w.held w.failures e.held e.failures command counted g0 w.old w.new e.old e.new end
+    ⊎ NotClosed w.held w.failures e.held e.failures command counted g0 w.old w.new e.old e.new end
 
 -- a prefix of the bytes was written, and all where no write failed
 pub record WritesSome {W : Type 0} (held : W → Option (List ℕ)) (failures : W → ℕ) (bytes : List ℕ) (old new : W) : Type 0 where

@@ -16,6 +16,7 @@ use Rattle.dbus_raw_reader.specs.declared.raw_reader.RawReader.{RawReader}
 use Rattle.dbus_command.specs.declared.command.Command.{Command}
 use Rattle.dbus_match.specs.Rules.{Pair}
 use Rattle.dbus_tool.specs.Counting.{CountsAll}
+use Rattle.dbus_tool.specs.Devices.{Reading, Writing}
 use Rattle.dbus_tool.specs.Output.{IsFiltered, IsOutputOf, IsOutputOfAll}
 use Rattle.dbus_tool.specs.Gathering.{Passes, Breaks, GathersOrNot, Leaves}
 use Rattle.dbus_tool.specs.declared.ending.Cause.{Cause}
@@ -24,16 +25,15 @@ use Rattle.dbus_tool.specs.declared.ending.Counted.{Counted}
 use Rattle.dbus_tool.specs.declared.ending.NoMessage.{NoMessage}
 use Rattle.dbus_tool.specs.declared.ending.NoMessage.TheVariants.{Reader, Writer}
 
-module _ {W : Type 0} (held : W → Option (List ℕ)) (failures : W → ℕ) where
-  -- what a rule lets through of one message was written or gathered
-  abbrev pub Filters : List Pair → Order → MessageTree → List ℕ → List ℕ → W → W → Result (Unit {0}) Cause → Type 0
-  Filters pairs order message g0 g1 old new result =
-      (out : List ℕ) × IsFiltered pairs order message out × GathersOrNot held failures out g0 g1 old new result
+-- what a rule lets through of one message was written or gathered
+abbrev pub Filters : {W : Type 0} → Writing W → List Pair → Order → MessageTree → List ℕ → List ℕ → Result (Unit {0}) Cause → Type 0
+Filters w pairs order message g0 g1 result =
+    (out : List ℕ) × IsFiltered pairs order message out × GathersOrNot w.held w.failures out g0 g1 w.old w.new result
 
-  -- what a command writes of one message, the n-th of its input, was written or gathered
-  abbrev pub HandsOne : Command → Order → MessageTree → ℕ → List ℕ → List ℕ → W → W → Result (Unit {0}) Cause → Type 0
-  HandsOne command order message n g0 g1 old new result =
-      (out : List ℕ) × IsOutputOf command order message n out × GathersOrNot held failures out g0 g1 old new result
+-- what a command writes of one message, the n-th of its input, was written or gathered
+abbrev pub HandsOne : {W : Type 0} → Writing W → Command → Order → MessageTree → ℕ → List ℕ → List ℕ → Result (Unit {0}) Cause → Type 0
+HandsOne w command order message n g0 g1 result =
+    (out : List ℕ) × IsOutputOf command order message n out × GathersOrNot w.held w.failures out g0 g1 w.old w.new result
 
 -- where reading was given up, what is left is no message and no fault, as far as it goes
 abbrev pub AreAll : Limits → Cause → List ℕ → Type 0
@@ -42,14 +42,14 @@ AreAll limits ReadFailed rest = IsPartial limits rest
 AreAll limits WriteFailed rest = Unit {0}
 AreAll limits TooManyReads rest = IsPartial limits rest
 
-module _ {R W : Type 0} (left : R → Option (List ℕ)) (calls read_failures : R → ℕ) (held : W → Option (List ℕ)) (write_failures : W → ℕ) where
+module _ {R W : Type 0} (left : R → Option (List ℕ)) (calls read_failures : R → ℕ) where
   -- what a reader judges of its next message, which it lends, where what is gathered may have been written before
-  abbrev pub GivesNext : {A : Type 0} → RawReader R A → RawReader R A → List ℕ → List ℕ → W → W → Result (Option Judged) NoMessage → Type 0
-  GivesNext old new g0 g1 w0 w1 (Ok judged) = (r : Reads left calls old new) × Advances (kept old ++ r.bytes) old new (Ok judged)
-      × (read_failures (source_of new) ≡ read_failures (source_of old)) × Passes held write_failures [] g0 g1 w0 w1
-  GivesNext old new g0 g1 w0 w1 (Err (Reader fault)) = (r : Reads left calls old new) × Advances (kept old ++ r.bytes) old new (Err fault)
-      × DeviceCounts {T = Option Judged} (read_failures (source_of old)) (read_failures (source_of new)) (Err fault) × Passes held write_failures [] g0 g1 w0 w1
-  GivesNext old new g0 g1 w0 w1 (Err Writer) = Reads left calls old new × Breaks held write_failures [] g0 w0 w1 × (read_failures (source_of new) ≡ read_failures (source_of old))
+  abbrev pub GivesNext : {A : Type 0} → RawReader R A → RawReader R A → Writing W → List ℕ → List ℕ → Result (Option Judged) NoMessage → Type 0
+  GivesNext old new w g0 g1 (Ok judged) = (r : Reads left calls old new) × Advances (kept old ++ r.bytes) old new (Ok judged)
+      × (read_failures (source_of new) ≡ read_failures (source_of old)) × Passes w.held w.failures [] g0 g1 w.old w.new
+  GivesNext old new w g0 g1 (Err (Reader fault)) = (r : Reads left calls old new) × Advances (kept old ++ r.bytes) old new (Err fault)
+      × DeviceCounts {T = Option Judged} (read_failures (source_of old)) (read_failures (source_of new)) (Err fault) × Passes w.held w.failures [] g0 g1 w.old w.new
+  GivesNext old new w g0 g1 (Err Writer) = Reads left calls old new × Breaks w.held w.failures [] g0 w.old w.new × (read_failures (source_of new) ≡ read_failures (source_of old))
 
 module _ {R W : Type 0} (left : R → Option (List ℕ)) (calls read_failures : R → ℕ) (held : W → Option (List ℕ)) (write_failures : W → ℕ)
     (limits : Limits) (most : ℕ) where
@@ -81,6 +81,9 @@ module _ {R W : Type 0} (left : R → Option (List ℕ)) (calls read_failures : 
     pub leaves : Leaves held write_failures cause out g0 g1 w0 w1
     pub caused : IsReadCause old new cause
 
-  abbrev pub Hands : Command → R → R → List ℕ → List ℕ → W → W → Result Counted Cause → Type 0
-  Hands command old new g0 g1 w0 w1 (Ok counted) = HandsAll command counted old new g0 g1 w0 w1
-  Hands command old new g0 g1 w0 w1 (Err cause) = HandsSome command cause old new g0 g1 w0 w1
+-- what is read of r was handed to the command, which writes by w
+abbrev pub Hands : {R W : Type 0} → Reading R → Writing W → Limits → ℕ → Command → List ℕ → List ℕ → Result Counted Cause → Type 0
+Hands r w limits most command g0 g1 (Ok counted) =
+    HandsAll r.left r.calls r.failures w.held w.failures limits most command counted r.old r.new g0 g1 w.old w.new
+Hands r w limits most command g0 g1 (Err cause) =
+    HandsSome r.left r.calls r.failures w.held w.failures limits most command cause r.old r.new g0 g1 w.old w.new

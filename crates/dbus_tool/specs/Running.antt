@@ -6,6 +6,7 @@ use Rattle.dbus_value_model.specs.declared.limits.Limits.{Limits}
 use Rattle.dbus_command.specs.declared.command.Command.{Command}
 use Rattle.dbus_tool.specs.Lines.{cause_line}
 use Rattle.dbus_tool.specs.Checking.{Answers, Fails}
+use Rattle.dbus_tool.specs.Devices.{Reading, Writing}
 use Rattle.dbus_tool.specs.declared.ending.ExitStatus.{ExitStatus}
 use Rattle.dbus_tool.specs.declared.ending.ExitStatus.TheVariants as status
 use Rattle.dbus_tool.specs.declared.ending.Cause.{Cause}
@@ -23,6 +24,8 @@ module _ {R W E : Type 0} (left : R → Option (List ℕ)) (calls read_failures 
     pub fails : Fails left calls read_failures held write_failures second_held second_failures limits most command cause r0 r1 w0 w1 e0 e1
     pub told : Told second_held second_failures e0 e1 cause
 
-  abbrev pub Runs : R → R → W → W → E → E → ExitStatus → Type 0
-  Runs r0 r1 w0 w1 e0 e1 end = Answers left calls read_failures held write_failures second_held second_failures limits most command r0 r1 w0 w1 e0 e1 end
-      ⊎ GaveUp r0 r1 w0 w1 e0 e1 end
+-- what a command does with what r reads, by the writers w and e
+abbrev pub Runs : {R W E : Type 0} → Reading R → Writing W → Writing E → Limits → ℕ → Command → ExitStatus → Type 0
+Runs r w e limits most command end =
+    Answers r.left r.calls r.failures w.held w.failures e.held e.failures limits most command r.old r.new w.old w.new e.old e.new end
+    ⊎ GaveUp r.left r.calls r.failures w.held w.failures e.held e.failures limits most command r.old r.new w.old w.new e.old e.new end

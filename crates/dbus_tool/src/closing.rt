@@ -1,6 +1,7 @@
 //! What is written after the messages of an input.
 ghost use Rattle.std.specs.Prelude.{◌≡◌, ◌++◌, IfOk, string_bytes};
 ghost use Rattle.dbus_tool.specs.Checking.{WritesLine};
+ghost use Rattle.dbus_tool.specs.Devices.{writing};
 ghost use Rattle.dbus_tool.specs.Closing.{Closes, TellsSecond, WritesRest};
 ghost use Rattle.dbus_tool.specs.Output.{status_of, check_line, last_line, fault_line, second_output};
 ghost use Rattle.dbus_tool.specs.Running.{Told};
@@ -23,8 +24,9 @@ pub(crate) fn close<A: Allocator + Copy, W: Sink, E: Sink>(
     first: &mut W,
     second: &mut E,
 ) -> ExitStatus
-    ensures { Closes W.held W.failures E.held E.failures command.now counted gathered.old.items
-        first.old first.new second.old second.new result }
+    ensures { Closes (writing W.held W.failures first.old first.new)
+        (writing E.held E.failures second.old second.new) command.now counted gathered.old.items
+        result }
 {
     match close_first(alloc, command, counted, gathered, first) {
         Ok(()) => close_second(alloc, command, counted, second),

@@ -2,6 +2,7 @@
 ghost use Rattle.std.specs.Prelude.{◌≡◌, ◌≤◌, ◌^◌};
 ghost use Rattle.dbus_stream.specs.CheckReading.{limits_of, source_of, most_reads_of};
 ghost use Rattle.dbus_tool.specs.Tallying.{Tallies, IsUnread};
+ghost use Rattle.dbus_tool.specs.Devices.{reading, writing};
 ghost use Rattle.dbus_tool.specs.Handing.{Hands};
 
 use crate::ending::{Cause, Counted};
@@ -72,8 +73,9 @@ pub(crate) fn count_or_hand<R: Source, A: Allocator + Copy, W: Sink>(
     first: &mut W,
 ) -> Result<Counted, Cause>
     requires { reads ≤ 2 ^ 32 }
-    ensures { Hands R.left R.calls R.failures W.held W.failures limits reads command.now source.old
-        source.new gathered.old.items gathered.new.items first.old first.new result }
+    ensures { Hands (reading R.left R.calls R.failures source.old source.new)
+        (writing W.held W.failures first.old first.new) limits reads command.now
+        gathered.old.items gathered.new.items result }
 {
     match command {
         Command::Check => count_over(limits, reads, source),

@@ -5,6 +5,7 @@ ghost use Rattle.dbus_message_model.specs.Messages.{MessageTree};
 ghost use Rattle.dbus_decode.specs.MessageOutcomes.{IsWhole};
 ghost use Rattle.dbus_judge.specs.Judging.{IsJudgedWhole};
 ghost use Rattle.dbus_match.specs.RuleViews.{rule_pairs};
+ghost use Rattle.dbus_tool.specs.Devices.{writing};
 ghost use Rattle.dbus_tool.specs.Handing.{Filters};
 
 use crate::ending::Cause;
@@ -27,8 +28,8 @@ pub(crate) fn filter<W: Sink>(
     requires { IsJudgedWhole limits bytes.now judged.now }
     ensures { (order : Order) (m : MessageTree) →
         IsWhole limits bytes.now order m (length bytes.now) →
-        Filters W.held W.failures (rule_pairs rule.now) order m gathered.old.items
-        gathered.new.items first.old first.new result }
+        Filters (writing W.held W.failures first.old first.new) (rule_pairs rule.now) order m
+        gathered.old.items gathered.new.items result }
 {
     let owners: &[Owner] = &[];
     let view = MessageView::of_judged(bytes, limits, *judged);

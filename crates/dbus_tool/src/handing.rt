@@ -2,6 +2,7 @@
 ghost use Rattle.std.specs.Prelude.{◌≡◌, ◌≤◌, ◌^◌, ℕ, List, None, IfOk};
 ghost use Rattle.dbus_raw_reader.specs.Reading.{IsNewReader, source_of, done_of, most_reads_of, stopped_of};
 ghost use Rattle.dbus_tool.specs.Counting.{ended_by, stopped_by};
+ghost use Rattle.dbus_tool.specs.Devices.{reading, writing};
 ghost use Rattle.dbus_tool.specs.Handing.{GivesNext, Hands};
 
 use crate::ending::{Cause, Counted, NoMessage};
@@ -23,8 +24,9 @@ fn next_message<R: Source, A: Allocator + Copy, W: Sink>(
     first: &mut W,
 ) -> Result<Option<Judged>, NoMessage>
     requires { stopped_of messages.old ≡ None }
-    ensures gives { GivesNext R.left R.calls R.failures W.held W.failures messages.old messages.new
-        gathered.old.items gathered.new.items first.old first.new result }
+    ensures gives { GivesNext R.left R.calls R.failures messages.old messages.new
+        (writing W.held W.failures first.old first.new) gathered.old.items gathered.new.items
+        result }
     ensures few { IfOk result (λ _. done_of messages.new ≤ 2 ^ 48) }
     ensures same_reference { R.reference (source_of messages.new) ≡
         R.reference (source_of messages.old) }
@@ -44,8 +46,9 @@ fn read_message<R: Source, A: Allocator + Copy, W: Sink>(
     first: &mut W,
 ) -> Result<Option<Judged>, NoMessage>
     requires { stopped_of messages.old ≡ None }
-    ensures gives { GivesNext R.left R.calls R.failures W.held W.failures messages.old messages.new
-        gathered.old.items gathered.new.items first.old first.new result }
+    ensures gives { GivesNext R.left R.calls R.failures messages.old messages.new
+        (writing W.held W.failures first.old first.new) gathered.old.items gathered.new.items
+        result }
     ensures few { IfOk result (λ _. done_of messages.new ≤ 2 ^ 48) }
     ensures same_reference { R.reference (source_of messages.new) ≡
         R.reference (source_of messages.old) }
@@ -70,10 +73,10 @@ fn hand_all<R: Source, A: Allocator + Copy, W: Sink>(
 ) -> Result<Counted, Cause>
     requires { IsNewReader (source_of messages.old) (most_reads_of messages.old) limits
         messages.old }
-    ensures hands { Hands R.left R.calls R.failures W.held W.failures limits
-        (most_reads_of messages.old)
-        command.now (source_of messages.old) (source_of messages.new) gathered.old.items
-        gathered.new.items first.old first.new result }
+    ensures hands { Hands
+        (reading R.left R.calls R.failures (source_of messages.old) (source_of messages.new))
+        (writing W.held W.failures first.old first.new) limits (most_reads_of messages.old)
+        command.now gathered.old.items gathered.new.items result }
     ensures same_reference { R.reference (source_of messages.new) ≡
         R.reference (source_of messages.old) }
 {
@@ -140,8 +143,9 @@ fn hand_through<R: Source + Drop, A: Allocator + Copy, W: Sink>(
     first: &mut W,
 ) -> (Result<Counted, Cause>, R)
     requires { reads ≤ 2 ^ 32 }
-    ensures hands { Hands R.left R.calls R.failures W.held W.failures limits reads command.now
-        source result.1 gathered.old.items gathered.new.items first.old first.new result.0 }
+    ensures hands { Hands (reading R.left R.calls R.failures source result.1)
+        (writing W.held W.failures first.old first.new) limits reads command.now
+        gathered.old.items gathered.new.items result.0 }
     ensures same_reference { R.reference result.1 ≡ R.reference source }
 {
     let mut messages = RawReader::within(alloc, source, reads, limits);
@@ -160,8 +164,9 @@ pub(crate) fn hand_over<R: Source, A: Allocator + Copy, W: Sink>(
     first: &mut W,
 ) -> Result<Counted, Cause>
     requires { reads ≤ 2 ^ 32 }
-    ensures { Hands R.left R.calls R.failures W.held W.failures limits reads command.now source.old
-        source.new gathered.old.items gathered.new.items first.old first.new result }
+    ensures { Hands (reading R.left R.calls R.failures source.old source.new)
+        (writing W.held W.failures first.old first.new) limits reads command.now
+        gathered.old.items gathered.new.items result }
 {
     let (counted, _source) = hand_through(alloc, command, limits, reads, source, gathered, first);
     counted

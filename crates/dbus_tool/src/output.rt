@@ -4,6 +4,7 @@ ghost use Rattle.dbus_value_model.specs.declared.order.Order.{Order};
 ghost use Rattle.dbus_message_model.specs.Messages.{MessageTree};
 ghost use Rattle.dbus_decode.specs.MessageOutcomes.{IsWhole};
 ghost use Rattle.dbus_judge.specs.Judging.{IsJudgedWhole};
+ghost use Rattle.dbus_tool.specs.Devices.{writing};
 ghost use Rattle.dbus_tool.specs.Handing.{HandsOne};
 
 use crate::ending::Cause;
@@ -33,8 +34,8 @@ pub(crate) fn write_one<A: Allocator + Copy, W: Sink>(
     requires { IsJudgedWhole limits bytes.now judged.now }
     ensures { (order : Order) (m : MessageTree) →
         IsWhole limits bytes.now order m (length bytes.now) →
-        HandsOne W.held W.failures command.now order m number gathered.old.items gathered.new.items
-        first.old first.new result }
+        HandsOne (writing W.held W.failures first.old first.new) command.now order m number
+        gathered.old.items gathered.new.items result }
 {
     match command {
         Command::Show => show(bytes, judged, limits, number, spare, gathered, first),

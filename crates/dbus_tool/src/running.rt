@@ -1,6 +1,7 @@
 //! A command, over any reader and two writers.
 ghost use Rattle.std.specs.Prelude.{◌≤◌, ◌^◌};
 ghost use Rattle.dbus_value_model.specs.Specification.{specification};
+ghost use Rattle.dbus_tool.specs.Devices.{reading, writing};
 ghost use Rattle.dbus_tool.specs.Running.{Runs};
 
 use crate::closing::{break_off, close};
@@ -20,8 +21,10 @@ pub fn run<A: Allocator + Copy, R: Source, W: Sink, E: Sink>(
     first: &mut W,
     second: &mut E,
 ) -> ExitStatus
-    ensures { Runs R.left R.calls R.failures W.held W.failures E.held E.failures specification
-        (2 ^ 32) command reader.old reader.new first.old first.new second.old second.new result }
+    ensures { Runs (reading R.left R.calls R.failures reader.old reader.new)
+        (writing W.held W.failures first.old first.new)
+        (writing E.held E.failures second.old second.new)
+        specification (2 ^ 32) command result }
 {
     run_reads(alloc, command, MOST_READS, reader, first, second)
 }
@@ -36,8 +39,10 @@ pub fn run_reads<A: Allocator + Copy, R: Source, W: Sink, E: Sink>(
     second: &mut E,
 ) -> ExitStatus
     requires { reads ≤ 2 ^ 32 }
-    ensures { Runs R.left R.calls R.failures W.held W.failures E.held E.failures specification reads
-        command reader.old reader.new first.old first.new second.old second.new result }
+    ensures { Runs (reading R.left R.calls R.failures reader.old reader.new)
+        (writing W.held W.failures first.old first.new)
+        (writing E.held E.failures second.old second.new)
+        specification reads command result }
 {
     run_within(
         alloc,
@@ -79,8 +84,10 @@ pub fn run_within<A: Allocator + Copy, R: Source, W: Sink, E: Sink>(
     second: &mut E,
 ) -> ExitStatus
     requires { reads ≤ 2 ^ 32 }
-    ensures { Runs R.left R.calls R.failures W.held W.failures E.held E.failures limits reads
-        command reader.old reader.new first.old first.new second.old second.new result }
+    ensures { Runs (reading R.left R.calls R.failures reader.old reader.new)
+        (writing W.held W.failures first.old first.new)
+        (writing E.held E.failures second.old second.new)
+        limits reads command result }
 {
     run_command(alloc, &command, limits, reads, reader, first, second)
 }
@@ -96,8 +103,10 @@ fn run_command<A: Allocator + Copy, R: Source, W: Sink, E: Sink>(
     second: &mut E,
 ) -> ExitStatus
     requires { reads ≤ 2 ^ 32 }
-    ensures { Runs R.left R.calls R.failures W.held W.failures E.held E.failures limits reads
-        command.now reader.old reader.new first.old first.new second.old second.new result }
+    ensures { Runs (reading R.left R.calls R.failures reader.old reader.new)
+        (writing W.held W.failures first.old first.new)
+        (writing E.held E.failures second.old second.new)
+        limits reads command.now result }
 {
     let mut gathered = Gathered::new();
     match count_or_hand(alloc, command, limits, reads, reader, &mut gathered, first) {

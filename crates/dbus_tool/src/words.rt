@@ -1,5 +1,6 @@
 //! The program over the words of its command line.
 ghost use Rattle.std.specs.Prelude.{map, string_bytes};
+ghost use Rattle.dbus_tool.specs.Devices.{reading, writing};
 ghost use Rattle.dbus_tool.specs.Words.{RefusesRule, RunsWords, ShowsText, ShowsUsage};
 
 use crate::ending::{Cause, ExitStatus};
@@ -26,9 +27,10 @@ pub fn run_words<R: Source, W: Sink, E: Sink>(
     first: &mut W,
     second: &mut E,
 ) -> ExitStatus
-    ensures { RunsWords R.left R.calls R.failures W.held W.failures E.held E.failures
-        (map string_bytes words.now) reader.old reader.new first.old first.new second.old second.new
-        result }
+    ensures { RunsWords (reading R.left R.calls R.failures reader.old reader.new)
+        (writing W.held W.failures first.old first.new)
+        (writing E.held E.failures second.old second.new)
+        (map string_bytes words.now) result }
 {
     match command_of(alloc, words) {
         Ok((command, limits)) => {
@@ -45,8 +47,8 @@ pub fn run_words<R: Source, W: Sink, E: Sink>(
 
 // Writes a text that was asked for: help, or the version.
 fn show_text<W: Sink, E: Sink>(text: &str, first: &mut W, second: &mut E) -> ExitStatus
-    ensures { ShowsText W.held W.failures E.held E.failures text.now first.old first.new second.old
-        second.new result }
+    ensures { ShowsText (writing W.held W.failures first.old first.new)
+        (writing E.held E.failures second.old second.new) text.now result }
 {
     match write_all(first, text.as_bytes()) {
         Ok(()) => ExitStatus::Done,

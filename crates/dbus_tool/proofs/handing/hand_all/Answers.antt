@@ -3,6 +3,7 @@ use Rattle.dbus_decode.proofs.OutcomeLaws.{whole_inside}
 use Rattle.dbus_raw_reader.specs.Next.{Lends}
 use Rattle.dbus_raw_reader.specs.Reading.{limits_of, done_of, most_reads_of, source_of, kept}
 use Rattle.dbus_tool.specs.Counting.{stopped_by}
+use Rattle.dbus_tool.specs.Devices.{reading, writing}
 use Rattle.dbus_tool.specs.Handing.{HandsAll, Hands}
 use Rattle.dbus_tool.proofs.CountSteps.{length-sizes}
 use Rattle.dbus_tool.proofs.HandSteps.{hands_none, hands_more, hands_ended, hands_stopped, hands_not}
@@ -68,7 +69,8 @@ returns-in-Err-clause-hands g c =
     let stop = c.in-Err.stop in
     let answer : c.stopped_by.result ≡ stopped_by c.messages.count (done_of c.next_message.new.messages) stop
     = c.stopped_by.ensures ∙ ap (λ n. stopped_by c.messages.count n stop) c.done-in-Err.ensures in
-    subst (λ x. Hands g.R.Source.left g.R.Source.calls g.R.Source.failures g.W.Sink.held g.W.Sink.failures c.args.limits (most_reads_of c.args.messages.now) c.args.command.now (source_of c.args.messages.now) (source_of c.next_message.new.messages)
-    c.args.gathered.now.items c.next_message.new.gathered.items c.args.first.now c.next_message.new.first x) (sym answer)
+    subst (λ x. Hands (reading g.R.Source.left g.R.Source.calls g.R.Source.failures (source_of c.args.messages.now) (source_of c.next_message.new.messages))
+    (writing g.W.Sink.held g.W.Sink.failures c.args.first.now c.next_message.new.first) c.args.limits (most_reads_of c.args.messages.now) c.args.command.now
+    c.args.gathered.now.items c.next_message.new.gathered.items x) (sym answer)
     (hands_stopped g.R.Source.left g.R.Source.calls g.R.Source.failures g.W.Sink.held g.W.Sink.failures c.args.limits (most_reads_of c.args.messages.now) c.args.command.now stop c.messages.count c.args.messages.now c.messages.messages c.next_message.new.messages
     c.args.gathered.now.items c.messages.gathered.items c.next_message.new.gathered.items c.args.first.now c.messages.first c.next_message.new.first c.messages.invariant.0 c.in-Err.ensures.gives)
