@@ -7,6 +7,7 @@ pub mod ServerViews
 pub mod ClientViews
 pub mod ServerAnswers
 pub mod ClientAnswers
+pub mod EndStepViews
 pub mod ServerEndViews
 pub mod ClientEndViews
 pub use Rattle.dbus_auth_lines.specs.ClientCommands

@@ -16,6 +16,7 @@ use std::alloc::{AllocError, Allocator, Global};
 
 /// A way in which a client says who it is.
 #[derive(Debug, Drop)]
+#[derive_where(PartialEq, Eq)]
 pub enum Mechanism<A: Allocator = Global> {
     /// EXTERNAL, as the user with this number, or as the user that the transport tells.
     External(Option<u32>),

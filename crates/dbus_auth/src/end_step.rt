@@ -15,6 +15,7 @@ pub enum Status {
 
 /// What one call of an end did with its piece of bytes.
 #[derive(Debug, Drop)]
+#[derive_where(PartialEq, Eq)]
 pub struct EndStep<A: Allocator = Global> {
     /// How many bytes of the piece were taken. The others are to be handed in again.
     pub taken: usize,

@@ -1,17 +1,22 @@
-//! What holds of whole handshakes, and what holds of lines. None of these functions does anything: their
-//! contracts are the laws, over the definitions that the calls of the crate are specified by.
+//! What holds of whole handshakes, and what holds of lines. None of these functions does anything, beyond
+//! comparing: their contracts are the laws, over the definitions that the calls of the crate are specified by.
 //!
 //! D-Bus Specification, section "Authentication Protocol".
 
-ghost use Rattle.std.specs.Prelude.{List, ℕ, ◌≡◌};
+ghost use Rattle.std.specs.Prelude.{List, ℕ, ◌≡◌, ◌↔◌, IsTrue};
 ghost use Rattle.std.specs.List.{AllByRecursion};
 ghost use Rattle.dbus_auth.specs.Machines.{ServerMachine, ClientMechanism, IsServer};
 ghost use Rattle.dbus_auth.specs.Mechanisms.{IsMechanism};
 ghost use Rattle.dbus_auth.specs.World.{Event, run, at_first, server_at_first, Handshake};
 ghost use Rattle.dbus_auth.specs.AnyPeer.{run_server, IsFinished, LooksAlike, LastIsOk};
+ghost use Rattle.dbus_auth.specs.ClientViews.{client_mechanism};
+ghost use Rattle.dbus_auth.specs.EndStepViews.{end_answer};
 ghost use Rattle.dbus_auth.specs.declared.end_step.Status.TheVariants as status;
 
+use crate::client::Mechanism;
+use crate::end_step::EndStep;
 pub use dbus_auth_lines::laws::{first_line_law, line_meaning_law, written_line_law};
+use std::alloc::Allocator;
 
 /// The two ends agree, in whatever order they are called, in whatever pieces their bytes are handed over, and
 /// whatever their callers send once they have begun. Of every server of `Server::new`, every client of
@@ -46,3 +51,18 @@ pub fn any_peer_law()
     ensures some_cut { (s : ServerMachine) (bytes : List ℕ) →
         (ns : List ℕ) × IsFinished (run_server (server_at_first s) bytes ns) }
 {}
+
+/// `==` of two steps of ends: they are equal exactly where they took as many bytes, send the same bytes and
+/// say that the end stands at the same.
+pub fn equal_end_steps<A: Allocator>(a: &EndStep<A>, b: &EndStep<A>) -> bool
+    ensures { IsTrue result ↔ (end_answer a.now ≡ end_answer b.now) }
+{
+    a == b
+}
+
+/// `==` of two mechanisms: they are equal exactly where they say the same.
+pub fn equal_mechanisms<A: Allocator>(a: &Mechanism<A>, b: &Mechanism<A>) -> bool
+    ensures { IsTrue result ↔ (client_mechanism a.now ≡ client_mechanism b.now) }
+{
+    a == b
+}

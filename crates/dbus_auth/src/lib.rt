@@ -26,6 +26,7 @@
 
 mod client;
 mod client_end;
+mod copies;
 mod end_step;
 pub mod laws;
 mod server;
