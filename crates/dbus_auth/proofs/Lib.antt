@@ -6,3 +6,4 @@ pub mod Handshake
 pub mod LastOk
 pub mod AnyCut
 pub mod Finishes
+pub mod SameActs

@@ -26,6 +26,7 @@ pub enum Mechanism<A: Allocator = Global> {
 
 /// What a client does.
 #[derive(Debug, Drop)]
+#[derive_where(PartialEq, Eq)]
 pub enum ClientAct<A: Allocator = Global> {
     /// It sends this line.
     Send(ClientLine<A>),

@@ -9,12 +9,14 @@ ghost use Rattle.dbus_auth.specs.Machines.{ServerMachine, ClientMechanism, IsSer
 ghost use Rattle.dbus_auth.specs.Mechanisms.{IsMechanism};
 ghost use Rattle.dbus_auth.specs.World.{Event, run, at_first, server_at_first, Handshake};
 ghost use Rattle.dbus_auth.specs.AnyPeer.{run_server, IsFinished, LooksAlike, LastIsOk};
-ghost use Rattle.dbus_auth.specs.ClientViews.{client_mechanism};
+ghost use Rattle.dbus_auth.specs.ClientViews.{client_action, client_mechanism};
 ghost use Rattle.dbus_auth.specs.EndStepViews.{end_answer};
+ghost use Rattle.dbus_auth.specs.ServerViews.{server_action};
 ghost use Rattle.dbus_auth.specs.declared.end_step.Status.TheVariants as status;
 
-use crate::client::Mechanism;
+use crate::client::{ClientAct, Mechanism};
 use crate::end_step::EndStep;
+use crate::server::ServerAct;
 pub use dbus_auth_lines::laws::{first_line_law, line_meaning_law, written_line_law};
 use std::alloc::Allocator;
 
@@ -63,6 +65,20 @@ pub fn equal_end_steps<A: Allocator>(a: &EndStep<A>, b: &EndStep<A>) -> bool
 /// `==` of two mechanisms: they are equal exactly where they say the same.
 pub fn equal_mechanisms<A: Allocator>(a: &Mechanism<A>, b: &Mechanism<A>) -> bool
     ensures { IsTrue result ↔ (client_mechanism a.now ≡ client_mechanism b.now) }
+{
+    a == b
+}
+
+/// `==` of two acts of clients: they are equal exactly where they do the same, and send lines that say the same.
+pub fn equal_client_acts<A: Allocator>(a: &ClientAct<A>, b: &ClientAct<A>) -> bool
+    ensures { IsTrue result ↔ (client_action a.now ≡ client_action b.now) }
+{
+    a == b
+}
+
+/// `==` of two acts of servers: they are equal exactly where they do the same, and send lines that say the same.
+pub fn equal_server_acts<A: Allocator>(a: &ServerAct<A>, b: &ServerAct<A>) -> bool
+    ensures { IsTrue result ↔ (server_action a.now ≡ server_action b.now) }
 {
     a == b
 }

@@ -13,6 +13,7 @@ use std::alloc::{AllocError, Allocator, Global};
 
 /// What a server does on a line.
 #[derive(Debug, Drop)]
+#[derive_where(PartialEq, Eq)]
 pub enum ServerAct<A: Allocator = Global> {
     /// It sends this line.
     Send(ServerLine<A>),
