@@ -8,7 +8,8 @@ use Rattle.dbus_message_model.specs.Messages.{MessageTree, message_bytes}
 use Rattle.dbus_decode.specs.MessageItems.{message_items}
 use Rattle.dbus_value_model.specs.Reading.{Outcome, Done, Faulty, Partial}
 use Rattle.dbus_decode.specs.MessageReading as reads
-use Rattle.dbus_decode.specs.MessageLaws.{IsWhole, IsRefused, IsPartial, OneMessage, MessageOutcome, MessageNotBoth, MessageOneFault, MessageRefusedForGood, MessageWholeForGood, ReadsMessages, ReadsMessageFaults}
+use Rattle.dbus_decode.specs.MessageRelations.{IsWhole, IsRefused, IsPartial}
+use Rattle.dbus_decode.specs.MessageLaws.{OneMessage, MessageOutcome, MessageNotBoth, MessageOneFault, MessageRefusedForGood, MessageWholeForGood, ReadsMessages, ReadsMessageFaults}
 use Rattle.dbus_unmarshal.proofs.ValueOutcomes.{agreed_fault, agreed_either, agreed_value}
 use Rattle.dbus_decode.proofs.MessageParts.{Agrees-message_items}
 use Rattle.dbus_decode.proofs.Whole.{message_passed}

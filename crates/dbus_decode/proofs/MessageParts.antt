@@ -13,7 +13,7 @@ use Rattle.dbus_value_model.specs.declared.order.Order.{Order}
 use Rattle.dbus_value_model.specs.declared.order.Order.TheVariants.{Little, Big}
 use Rattle.dbus_value_model.specs.Bytes.{gap_to}
 use Rattle.dbus_value_model.specs.Values.{IsWellFormed, ValueTree, NumberValue, TextValue, VariantValue, ArrayValue, StructValue, EntryValue, type_of}
-use Rattle.dbus_value_model.specs.Items.{Sequence, fault, judge}
+use Rattle.dbus_value_model.specs.Items.{Sequence, fault, judge, no_row}
 use Rattle.dbus_value_model.specs.declared.fault.Fault.{Fault}
 use Rattle.dbus_value_model.specs.declared.fault.Reason.{Reason}
 use Rattle.dbus_value_model.specs.Items as items
@@ -22,7 +22,6 @@ use Rattle.dbus_value_model.specs.ValueItems as faults
 use Rattle.dbus_value_model.specs.Reading.{Done, Faulty}
 use Rattle.dbus_value_model.specs.Reading as reading
 use Rattle.dbus_message_model.specs.Messages.{FieldTree, Suits, field_struct, want, order_byte, lacks, required, text_in, body_signature, body_fds}
-use Rattle.dbus_value_model.specs.Gives.{no_row}
 use Rattle.dbus_decode.specs.MessageItems.{not_zero_row, version_row, fields_row, opening, field, byte_order, types_of_text, body_items, message_items}
 use Rattle.dbus_decode.specs.MessageReading as reads
 use Rattle.dbus_unmarshal.proofs.KindLaws.{signature_text, spelled_sigs}

@@ -3,11 +3,11 @@ use Rattle.std.proofs.Common.{◌≡◌, ℕ, ◌+◌, List, length, take, drop,
 use Rattle.dbus_value_model.specs.declared.order.Order.{Order}
 use Rattle.dbus_value_model.specs.declared.fault.Reason.{Reason}
 use Rattle.dbus_value_model.specs.declared.fault.Reason.TheVariants as reasons
-use Rattle.dbus_value_model.specs.Items.{fault}
+use Rattle.dbus_value_model.specs.Items.{fault, no_row}
 use Rattle.dbus_value_model.specs.Reading.{Outcome, Done, Faulty, Partial, judged, number, number_of}
 use Rattle.dbus_value_model.specs.declared.stop.Stop.{Stop}
 use Rattle.dbus_value_model.specs.declared.stop.Stop.TheVariants as stops
-use Rattle.dbus_value_model.specs.Gives.{Stops, no_row}
+use Rattle.dbus_value_model.specs.Gives.{Stops}
 
 -- what `number` is, over plain variables
 abbrev chosen_number : Bool → Bool → Option Reason → ℕ → ℕ → ℕ → List ℕ → Outcome ℕ

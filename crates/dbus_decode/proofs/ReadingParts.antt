@@ -9,7 +9,7 @@ use Rattle.dbus_value_model.specs.Values.{ValueTree}
 use Rattle.dbus_value_model.specs.ValueItems.{text_row}
 use Rattle.dbus_value_model.specs.Reading.{Reader, Outcome, Done, Faulty, Partial, after, pure, padding, number, signature, nul, contents, up_to, stop}
 use Rattle.dbus_message_model.specs.Messages.{FieldTree, want}
-use Rattle.dbus_value_model.specs.Gives.{no_row}
+use Rattle.dbus_value_model.specs.Items.{no_row}
 use Rattle.dbus_decode.specs.MessageItems.{not_zero_row, version_row, fields_row, code_row, kind_wanted}
 use Rattle.dbus_decode.specs.MessageReading as reads
 use Rattle.dbus_decode.specs.HeaderReading.{fixed_header, wanted_signature, wanted_value, field_read, fields_read, body_read, message_read}

@@ -8,7 +8,7 @@ use Rattle.dbus_value_model.specs.declared.fault.Fault.{Fault}
 use Rattle.dbus_value_model.specs.declared.fault.Reason.{Reason}
 use Rattle.dbus_value_model.specs.declared.fault.Reason.TheVariants as reasons
 use Rattle.dbus_value_model.specs.Bytes.{IsBytes, gap_to}
-use Rattle.dbus_value_model.specs.Gives.{no_row}
+use Rattle.dbus_value_model.specs.Items.{no_row}
 use Rattle.dbus_value_model.specs.Items as items
 use Rattle.dbus_value_model.specs.Reading.{Reader, Outcome, Done, Faulty, Partial, after, judged, pure, number, ◌>>=◌, ◌>>◌}
 use Rattle.dbus_unmarshal.proofs.Agreement.{Agrees, Agrees-before, after_done}

@@ -3,7 +3,7 @@
 use Rattle.std.proofs.Common.{◌≡◌, ℕ, List, [], ◌∷◌, refl}
 use Rattle.dbus_texts.specs.ComputedKinds as computed
 use Rattle.dbus_texts.specs.ComputedKinds.{type_spelled, types_spelled, parse}
-use Rattle.dbus_value_model.specs.WantedTexts.{is_kind, break_at}
+use Rattle.dbus_value_model.specs.ComputedTexts.{is_kind, break_at}
 use Rattle.dbus_value_model.specs.Specification.{specification}
 use Rattle.dbus_value_model.specs.declared.order.Order.{Order}
 use Rattle.dbus_value_model.specs.declared.order.Order.TheVariants.{Little, Big}

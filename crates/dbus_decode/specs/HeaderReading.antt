@@ -8,7 +8,7 @@ use Rattle.dbus_value_model.specs.declared.limits.Limits.{Limits}
 use Rattle.dbus_value_model.specs.declared.order.Order.{Order}
 use Rattle.dbus_value_model.specs.declared.fault.Reason.TheVariants as reasons
 use Rattle.dbus_value_model.specs.Values.{ValueTree, ValueTrees}
-use Rattle.dbus_value_model.specs.Gives.{no_row}
+use Rattle.dbus_value_model.specs.Items.{no_row}
 use Rattle.dbus_value_model.specs.ValueItems.{text_row}
 use Rattle.dbus_value_model.specs.WantedTexts.{WantedText}
 use Rattle.dbus_value_model.specs.Reading.{Reader, ◌>>=◌, ◌>>◌, pure, judge, bounded, padding, number, signature, nul, contents}

@@ -1,5 +1,6 @@
 pub mod MessageItems
 pub mod MessageReading
+pub mod MessageRelations
 pub mod MessageLaws
 pub mod MessageOutcomes
 pub mod Decodes

@@ -10,9 +10,8 @@ use Rattle.dbus_value_model.specs.declared.order.Order.{Order}
 use Rattle.dbus_value_model.specs.Bytes.{gap_to}
 use Rattle.dbus_value_model.specs.Values.{ValueTree, ValueTrees, NumberValue, TextValue}
 use Rattle.dbus_value_model.specs.Spelling.{Spelled}
-use Rattle.dbus_value_model.specs.Items.{Item, ◌>>=◌, ◌>>◌, pure, judge, bounded, ends, padding, number, text, nul, signature, contents, fault}
+use Rattle.dbus_value_model.specs.Items.{Item, ◌>>=◌, ◌>>◌, pure, judge, bounded, ends, padding, number, text, nul, signature, contents, fault, no_row}
 use Rattle.dbus_value_model.specs.declared.fault.Reason.{Reason}
-use Rattle.dbus_value_model.specs.Gives.{no_row}
 use Rattle.dbus_value_model.specs.ValueItems.{text_row, opened, value, fields}
 use Rattle.dbus_message_model.specs.Messages.{FieldTree, MessageTree, order_byte, field_type, field_struct, Want, Anything, OfType, Name, Serial, want, is_known, has_code, IsField, lacks, required, body_signature, body_fds}
 use Rattle.dbus_value_model.specs.declared.fault.Reason.TheVariants as reasons

@@ -5,16 +5,16 @@ use Rattle.dbus_value_model.specs.declared.limits.Limits.{Limits}
 use Rattle.dbus_value_model.specs.declared.order.Order.{Order}
 use Rattle.dbus_value_model.specs.declared.fault.Fault.{Fault}
 use Rattle.dbus_message_model.specs.Messages.{MessageTree}
-use Rattle.dbus_decode.specs.MessageLaws as laws
+use Rattle.dbus_decode.specs.MessageRelations as relation
 
 -- the first n bytes spell the message
 unfoldable pub IsWhole : Limits → List ℕ → Order → MessageTree → ℕ → Type 0
-IsWhole limits b order m n = laws.IsWhole limits b order m n
+IsWhole limits b order m n = relation.IsWhole limits b order m n
 
 -- the first item that is not passed shows the fault
 unfoldable pub IsRefused : Limits → List ℕ → Fault → Type 0
-IsRefused limits b f = laws.IsRefused limits b f
+IsRefused limits b f = relation.IsRefused limits b f
 
 -- neither
 unfoldable pub IsPartial : Limits → List ℕ → Type 0
-IsPartial limits b = laws.IsPartial limits b
+IsPartial limits b = relation.IsPartial limits b

@@ -2,8 +2,7 @@
 -- D-Bus Specification, "Message Format"; docs/WIRE-FORMAT.md, "Messages".
 use Rattle.std.specs.Prelude.{ℕ, ◌+◌, ◌<◌, List, length, Option, Some, None, Result, Ok, Err}
 use Rattle.dbus_value_model.specs.Bytes.{gap_to}
-use Rattle.dbus_value_model.specs.Gives.{no_row}
-use Rattle.dbus_value_model.specs.Items.{Item, ◌>>=◌, ◌>>◌, pure, number}
+use Rattle.dbus_value_model.specs.Items.{Item, ◌>>=◌, ◌>>◌, pure, number, no_row}
 use Rattle.dbus_value_model.specs.declared.limits.Limits.{Limits}
 use Rattle.dbus_value_model.specs.declared.fault.Fault.{Fault}
 use Rattle.dbus_value_model.specs.declared.fault.Reason.TheVariants as reasons

@@ -4,7 +4,7 @@ use Rattle.std.proofs.lemmas.Bool.{lt-ltb, ne_eqb, eqb-false}
 use Rattle.dbus_value_model.specs.declared.limits.Limits.{Limits}
 use Rattle.dbus_value_model.specs.declared.order.Order.{Order}
 use Rattle.dbus_value_model.specs.Values.{ValueTree}
-use Rattle.dbus_value_model.specs.Gives.{no_row}
+use Rattle.dbus_value_model.specs.Items.{no_row}
 use Rattle.dbus_value_model.specs.Reading.{Reader, Done, padding, number, number_of, up_to}
 use Rattle.dbus_unmarshal.proofs.Agreement.{after_done}
 use Rattle.dbus_unmarshal.proofs.OwnItems.{chosen}

@@ -10,13 +10,13 @@ use Rattle.dbus_value_model.specs.declared.order.Order.TheVariants.{Little, Big}
 use Rattle.dbus_value_model.specs.declared.fault.Reason.{Reason}
 use Rattle.dbus_value_model.specs.declared.fault.Reason.TheVariants as reasons
 use Rattle.dbus_value_model.specs.declared.stop.Stop.{Stop}
-use Rattle.dbus_value_model.specs.Items.{fault}
+use Rattle.dbus_value_model.specs.Items.{fault, no_row}
 use Rattle.dbus_value_model.specs.Values.{ValueTree, NumberValue}
 use Rattle.dbus_value_model.specs.Bytes.{gap_to}
 use Rattle.dbus_value_model.specs.ValueItems.{array_row}
 use Rattle.dbus_value_model.specs.Reading.{Done, Faulty, Partial, padding, number, number_of, up_to, contents, value}
 use Rattle.dbus_value_model.specs.ValueReaders.{number_value, array_frame}
-use Rattle.dbus_value_model.specs.Gives.{Stops, no_row}
+use Rattle.dbus_value_model.specs.Gives.{Stops}
 use Rattle.dbus_unmarshal.proofs.ReadSteps.{stops_after, number_stops, number_passes, number_fails}
 use Rattle.dbus_unmarshal.proofs.NumberSteps.{no_padding, byte_done}
 use Rattle.dbus_unmarshal.proofs.ValueSteps.{value_plain}

@@ -6,7 +6,8 @@ use Rattle.dbus_texts.specs.Prefixes.{IsPrefixIn, IsBreakIn}
 use Rattle.dbus_texts.specs.ComputedKinds.{type_spelled, types_spelled}
 use Rattle.dbus_texts.specs.declared.text_kind.TextKind.TheVariants as kinds
 use Rattle.dbus_texts.proofs.KindFacts as facts
-use Rattle.dbus_value_model.specs.WantedTexts.{WantedText, Of, Only, IsWanted, IsBreakOf, is_kind, break_at, same_text, alike}
+use Rattle.dbus_value_model.specs.WantedTexts.{WantedText, Of, Only, IsWanted, IsBreakOf}
+use Rattle.dbus_value_model.specs.ComputedTexts.{is_kind, break_at, same_text, alike}
 
 alike_le : (u t : List ℕ) → alike u t ≤ length t
 alike_le [] t = omega arith

@@ -6,14 +6,14 @@ use Rattle.dbus_value_model.specs.declared.order.Order.{Order}
 use Rattle.dbus_value_model.specs.declared.fault.Reason.TheVariants as reasons
 use Rattle.dbus_value_model.specs.declared.stop.Stop.{Stop}
 use Rattle.dbus_value_model.specs.declared.value.Value.{Bool as BoolOf, Fd}
-use Rattle.dbus_value_model.specs.Items.{fault}
+use Rattle.dbus_value_model.specs.Items.{fault, no_row}
 use Rattle.dbus_value_model.specs.Values.{NumberValue}
 use Rattle.dbus_value_model.specs.Bytes.{gap_to}
 use Rattle.dbus_value_model.specs.ValueItems.{index_row, number_row}
 use Rattle.dbus_value_model.specs.Reading.{Done, Faulty, padding, number}
 use Rattle.dbus_value_model.specs.ValueReaders.{number_value}
 use Rattle.dbus_value_model.specs.ValueViews.{value_tree}
-use Rattle.dbus_value_model.specs.Gives.{Stops, no_row}
+use Rattle.dbus_value_model.specs.Gives.{Stops}
 use Rattle.dbus_unmarshal.proofs.ReadSteps.{stops_after, number_stops, number_passes, number_fails, padding_is, gap_is}
 use Rattle.dbus_value_model.proofs.ValueRows.{tree-Byte, tree-Bool, tree-I16, tree-U16, tree-I32, tree-U32, tree-I64, tree-U64, tree-Double, tree-Fd}
 

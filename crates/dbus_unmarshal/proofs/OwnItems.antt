@@ -3,7 +3,8 @@ use Rattle.std.proofs.Common.{◌≡◌, ℕ, zero, suc, ◌+◌, ◌-◌, ◌^�
 use Rattle.std.proofs.lemmas.Bool.{ltb-true, ltb-false, lt-ltb, le-ltb, cases_lt, eqb-true, eq-eqb}
 use Rattle.std.proofs.lemmas.List.{take_at, drop_at, take-append-drop, length-append, length-take}
 use Rattle.dbus_texts.specs.Types.{TypeTree, sig, IsSingleType}
-use Rattle.dbus_value_model.specs.WantedTexts.{WantedText, IsWanted, is_kind, break_at, Of}
+use Rattle.dbus_value_model.specs.WantedTexts.{WantedText, IsWanted, Of}
+use Rattle.dbus_value_model.specs.ComputedTexts.{is_kind, break_at}
 use Rattle.dbus_texts.specs.ComputedKinds.{type_spelled}
 use Rattle.dbus_value_model.specs.Bytes.{IsBytes, num, gap_to, pad}
 use Rattle.dbus_value_model.specs.declared.order.Order.{Order}

@@ -6,7 +6,8 @@ use Rattle.dbus_texts.specs.Types.{TypeTree, sig, IsSingleType}
 use Rattle.dbus_texts.specs.ComputedKinds.{type_spelled}
 use Rattle.dbus_texts.specs.Kinds.{IsKind}
 use Rattle.dbus_texts.specs.declared.text_kind.TextKind.TheVariants as kinds
-use Rattle.dbus_value_model.specs.WantedTexts.{WantedText, Of, Only, IsWanted, IsBreakOf, break_at, alike}
+use Rattle.dbus_value_model.specs.WantedTexts.{WantedText, Of, Only, IsWanted, IsBreakOf}
+use Rattle.dbus_value_model.specs.ComputedTexts.{break_at, alike}
 use Rattle.dbus_value_model.specs.Items.{fault, text_reason}
 use Rattle.dbus_value_model.specs.Reading.{Done, Faulty, Partial, text, signature}
 use Rattle.dbus_unmarshal.proofs.KindLaws.{break_le, break_whole, break_is, one_break, is_wanted, is_not_wanted, spelled_sig, single_text}

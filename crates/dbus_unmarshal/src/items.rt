@@ -12,7 +12,8 @@ ghost use Rattle.dbus_value_model.specs.Bytes.{gap_to};
 ghost use Rattle.dbus_value_model.specs.ValueItems.{text_row};
 ghost use Rattle.dbus_value_model.specs.Reading.{padding, number, nul};
 ghost use Rattle.dbus_value_model.specs.declared.stop.Stop.TheVariants.{Memory};
-ghost use Rattle.dbus_value_model.specs.Gives.{Gives, no_row};
+ghost use Rattle.dbus_value_model.specs.Gives.{Gives};
+ghost use Rattle.dbus_value_model.specs.Items.{no_row};
 
 use dbus_value_model::{Order, Reason, Stop, padding_length, refuse};
 

@@ -1,4 +1,5 @@
 pub use Rattle.dbus_value_model.specs.WantedTexts
+pub use Rattle.dbus_value_model.specs.ComputedTexts
 pub use Rattle.dbus_value_model.specs.Bytes
 pub use Rattle.dbus_value_model.specs.Values
 pub use Rattle.dbus_value_model.specs.FdIndexes

@@ -27,7 +27,8 @@ use Rattle.dbus_value_checker.specs.Suspended.{On, onward, done, held_text}
 use Rattle.dbus_value_model.specs.Items.{text_reason}
 use Rattle.dbus_texts.specs.declared.text_kind.TextKind.TheVariants as kinds
 use Rattle.dbus_value_model.specs.Reading.{text, nul}
-use Rattle.dbus_value_model.specs.WantedTexts.{WantedText, Of, IsWanted, IsBreakOf, break_at}
+use Rattle.dbus_value_model.specs.WantedTexts.{WantedText, Of, IsWanted, IsBreakOf}
+use Rattle.dbus_value_model.specs.ComputedTexts.{break_at}
 use Rattle.dbus_unmarshal.proofs.KindLaws.{break_le, break_is, one_break, break_whole, is_wanted, is_not_wanted}
 use Rattle.dbus_value_checker.proofs.Suspension.{number_waits, number_over, number_read, text_waits, text_breaks, text_ends, text_not}
 

@@ -7,7 +7,8 @@ use Rattle.dbus_texts.specs.Types.{NumberCode, TextCode, TypeTree, NumberType, T
 use Rattle.dbus_types.specs.Alignments.{width, length_width, alignment_of}
 use Rattle.dbus_texts.specs.ComputedKinds.{type_spelled}
 use Rattle.dbus_texts.specs.declared.text_kind.TextKind.TheVariants as kinds
-use Rattle.dbus_value_model.specs.WantedTexts.{WantedText, kind_of, is_kind, break_at, Of}
+use Rattle.dbus_value_model.specs.WantedTexts.{WantedText, kind_of, Of}
+use Rattle.dbus_value_model.specs.ComputedTexts.{is_kind, break_at}
 use Rattle.dbus_value_model.specs.declared.limits.Bounds.{Bounds}
 use Rattle.dbus_value_model.specs.declared.order.Order.{Order}
 use Rattle.dbus_value_model.specs.Bytes.{gap_to}

@@ -6,7 +6,8 @@ use Rattle.dbus_texts.specs.declared.scan.TextScan.{TextScan}
 use Rattle.dbus_texts.specs.Kinds.{IsKind, IsPrefixOf}
 use Rattle.dbus_texts.specs.Scans.{Stands}
 use Rattle.dbus_texts.specs.Scans as scans
-use Rattle.dbus_value_model.specs.WantedTexts.{WantedText, Of, kind_of, is_kind, break_at}
+use Rattle.dbus_value_model.specs.WantedTexts.{WantedText, Of, kind_of}
+use Rattle.dbus_value_model.specs.ComputedTexts.{is_kind, break_at}
 use Rattle.dbus_value_model.specs.declared.fault.Reason.{Reason}
 use Rattle.dbus_value_model.specs.Items.{fault, text_reason}
 use Rattle.dbus_value_model.specs.Reading.{Outcome, Faulty, Partial, after, text, nul}

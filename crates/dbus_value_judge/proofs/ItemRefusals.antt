@@ -10,7 +10,7 @@ use Rattle.dbus_value_model.specs.declared.order.Order.{Order}
 use Rattle.dbus_value_model.specs.declared.fault.Reason.TheVariants as reasons
 use Rattle.dbus_value_model.specs.Bytes.{gap_to}
 use Rattle.dbus_value_model.specs.Values.{ValueTree}
-use Rattle.dbus_value_model.specs.Gives.{no_row}
+use Rattle.dbus_value_model.specs.Items.{no_row}
 use Rattle.dbus_value_model.specs.ValueItems.{number_row, text_row}
 use Rattle.dbus_value_model.specs.WantedTexts.{kind_of, Of}
 use Rattle.dbus_value_model.specs.Reading.{Outcome, Done, padding, number}

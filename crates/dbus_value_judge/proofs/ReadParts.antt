@@ -11,11 +11,11 @@ use Rattle.dbus_value_model.specs.declared.fault.Reason.TheVariants as reasons
 use Rattle.dbus_value_model.specs.declared.limits.Bounds.{Bounds}
 use Rattle.dbus_value_model.specs.declared.order.Order.{Order}
 use Rattle.dbus_value_model.specs.Bytes.{gap_to}
-use Rattle.dbus_value_model.specs.Gives.{no_row}
-use Rattle.dbus_value_model.specs.Items.{fault, text_reason}
+use Rattle.dbus_value_model.specs.Items.{fault, text_reason, no_row}
 use Rattle.dbus_value_model.specs.Values.{ValueTree, NumberValue, TextValue}
 use Rattle.dbus_value_model.specs.ValueItems.{number_row, text_row, array_row}
-use Rattle.dbus_value_model.specs.WantedTexts.{WantedText, Of, IsWanted, kind_of, is_kind, break_at}
+use Rattle.dbus_value_model.specs.WantedTexts.{WantedText, Of, IsWanted, kind_of}
+use Rattle.dbus_value_model.specs.ComputedTexts.{is_kind, break_at}
 use Rattle.dbus_value_model.specs.Reading.{Reader, Outcome, Done, Faulty, Partial, after, zeros, padding, number, number_of, judged, text, nul}
 use Rattle.dbus_value_model.specs.ValueReaders.{number_value, text_value, array_frame}
 use Rattle.dbus_unmarshal.proofs.Agreement.{after_done}

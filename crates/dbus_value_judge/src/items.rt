@@ -8,7 +8,7 @@
 ghost use Rattle.std.specs.Prelude.{◌≡◌, ℕ, ◌+◌, ◌<◌, ◌≤◌, length, take, drop, None, IfSome, IsTrue, false};
 ghost use Rattle.dbus_value_model.specs.Bytes.{gap_to};
 ghost use Rattle.dbus_value_model.specs.declared.order.Order.{Order};
-ghost use Rattle.dbus_value_model.specs.Gives.{no_row};
+ghost use Rattle.dbus_value_model.specs.Items.{no_row};
 ghost use Rattle.dbus_value_model.specs.Reading.{Done, padding, number};
 ghost use Rattle.dbus_value_judge.specs.Endings.{EndedText, IsNotRead};
 

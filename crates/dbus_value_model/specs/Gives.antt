@@ -1,8 +1,7 @@
 -- What a reader of the code returned is what the computed reading gives.
-use Rattle.std.specs.Prelude.{◌≡◌, ℕ, List, drop, Result, Ok, Err, Option, None}
+use Rattle.std.specs.Prelude.{◌≡◌, ℕ, List, drop, Result, Ok, Err}
 use Rattle.dbus_value_model.specs.Reading.{Outcome}
 use Rattle.dbus_value_model.specs.Reading as reading
-use Rattle.dbus_value_model.specs.declared.fault.Reason.{Reason}
 use Rattle.dbus_value_model.specs.declared.stop.Stop.{Stop}
 use Rattle.dbus_value_model.specs.declared.stop.Stop.TheVariants as stops
 
@@ -16,7 +15,3 @@ Stops (stops.Refused f) read = read ≡ reading.Faulty f
 abbrev pub Gives : {X A : Type 0} → (X → A × ℕ) → List ℕ → Result X Stop → Outcome A → Type 0
 Gives view bytes (Ok x) read = read ≡ reading.Done (view x).0 (view x).1 (drop (view x).1 bytes)
 Gives view bytes (Err e) read = Stops e read
-
--- a number that is not refused whatever it is
-abbrev pub no_row : ℕ → ℕ → Option Reason
-no_row p n = None

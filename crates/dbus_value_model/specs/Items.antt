@@ -72,6 +72,10 @@ pub data NumberFault (order : Order) (w end : ℕ) (row : ℕ → ℕ → Option
   number_overruns : end < o + w → f ≡ fault o reasons.Overrun → NumberFault order w end row o s f
   number_refused : (n : ℕ) (more : List ℕ) (why : Reason) → o + w ≤ end → n < 256 ^ w → s ≡ num order w n ++ more → row (o + w) n ≡ Some why → f ≡ fault o why → NumberFault order w end row o s f
 
+-- a number that is not refused whatever it is
+abbrev pub no_row : ℕ → ℕ → Option Reason
+no_row p n = None
+
 abbrev pub number : Order → ℕ → ℕ → (ℕ → ℕ → Option Reason) → Item ℕ
 number order w end row = record {
   Passed = λ o s n q r. (n < 256 ^ w) × (s ≡ num order w n ++ r) × (q ≡ o + w) × (q ≤ end) × (row q n ≡ None);

@@ -1,4 +1,5 @@
 pub mod WantedTexts
+pub mod ComputedTexts
 pub mod Bytes
 pub mod Values
 pub mod FdIndexes

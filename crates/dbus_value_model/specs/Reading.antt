@@ -5,7 +5,8 @@
 use Rattle.std.specs.Prelude.{ℕ, zero, suc, ◌+◌, ◌*◌, List, [], ◌∷◌, length, take, drop, reverse, if◌then◌else◌, nat_lt, nat_eq, Option, Some, None}
 use Rattle.dbus_texts.specs.Types.{TypeTree, NumberType, TextType, VariantType, ArrayType, StructType, EntryType, TypeTrees, NoTypes, MoreTypes}
 use Rattle.dbus_types.specs.Alignments.{width, length_width, alignment_of}
-use Rattle.dbus_value_model.specs.WantedTexts.{WantedText, kind_of, is_kind, break_at, Of}
+use Rattle.dbus_value_model.specs.WantedTexts.{WantedText, kind_of, Of}
+use Rattle.dbus_value_model.specs.ComputedTexts.{is_kind, break_at}
 use Rattle.dbus_texts.specs.ComputedKinds.{type_spelled}
 use Rattle.dbus_value_model.specs.declared.limits.Bounds.{Bounds}
 use Rattle.dbus_value_model.specs.declared.order.Order.{Order}

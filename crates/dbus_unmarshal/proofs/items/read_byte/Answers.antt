@@ -1,5 +1,5 @@
 use Rattle.std.proofs.Common.{arith, refl}
-use Rattle.dbus_value_model.specs.Gives.{no_row}
+use Rattle.dbus_value_model.specs.Items.{no_row}
 use Rattle.dbus_unmarshal.proofs.ReadSteps.{number_overrun, number_partial, number_done, one_byte}
 use Rattle.dbus_unmarshal.proofs.items.read_byte.Goals as goal
 

@@ -1,5 +1,5 @@
 use Rattle.std.proofs.Common.{◌≡◌, ◌+◌, ◌-◌, ◌≤◌, length, drop}
-use Rattle.dbus_value_model.specs.WantedTexts.{alike}
+use Rattle.dbus_value_model.specs.ComputedTexts.{alike}
 use Rattle.dbus_unmarshal.proofs.texts.alike.Given as goal
 
 abbrev pub invariant-loop-n : goal.invariant-loop-n

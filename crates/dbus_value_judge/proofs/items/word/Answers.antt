@@ -1,5 +1,5 @@
 use Rattle.std.proofs.Common.{arith, refl, drop}
-use Rattle.dbus_value_model.specs.Gives.{no_row}
+use Rattle.dbus_value_model.specs.Items.{no_row}
 use Rattle.dbus_unmarshal.proofs.ReadSteps.{number_done, number_overrun}
 use Rattle.dbus_value_model.specs.Reading.{number}
 use Rattle.dbus_value_judge.proofs.ReadParts.{not_faulty}
