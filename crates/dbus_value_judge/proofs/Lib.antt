@@ -1,5 +1,5 @@
-pub mod TypeEnds
-pub mod TypeCodes
+pub use Rattle.dbus_type_codes.proofs.TypeEnds
+pub use Rattle.dbus_type_codes.proofs.TypeCodes
 pub mod ReadParts
 pub mod ReadContainers
 mod ItemSteps

@@ -1,7 +1,7 @@
 -- What is read of the bytes of a message, and where it ends; its value is forgotten.
 -- D-Bus Specification, "Marshaling (Wire Format)".
-use Rattle.std.specs.Prelude.{◌≡◌, ℕ, ◌+◌, List, take, drop, Option, None}
-use Rattle.dbus_texts.specs.Types.{NumberCode, TypeTree, TypeTrees}
+use Rattle.std.specs.Prelude.{◌≡◌, ℕ, ◌+◌, List, take, drop}
+use Rattle.dbus_texts.specs.Types.{TypeTree, TypeTrees}
 use Rattle.dbus_texts.specs.Kinds.{IsKind}
 use Rattle.dbus_texts.specs.declared.text_kind.TextKind.{TextKind}
 use Rattle.dbus_value_model.specs.declared.limits.Bounds.{Bounds}
@@ -9,7 +9,6 @@ use Rattle.dbus_value_model.specs.declared.order.Order.{Order}
 use Rattle.dbus_value_model.specs.Outcomes.{IsDone}
 use Rattle.dbus_value_model.specs.Spelling.{Spelled}
 use Rattle.dbus_value_model.specs.Values.{ValueTree, ValueTrees}
-use Rattle.dbus_value_model.specs.ValueItems.{number_row}
 use Rattle.dbus_value_model.specs.WantedTexts.{Of}
 use Rattle.dbus_value_model.specs.Reading.{Outcome, Done, text, nul}
 
@@ -20,10 +19,6 @@ EndsAt {A} bytes q read = (x : A) × (read ≡ Done x q (drop q bytes))
 -- it is not read whole: a fault shows, or bytes are wanting
 abbrev pub IsNotRead : {A : Type 0} → Outcome A → Type 0
 IsNotRead {A} read = (x : A) (q : ℕ) (rest : List ℕ) → read ≡ Done x q rest → ⊥
-
--- every number may stand
-abbrev pub IsFree : Option ℕ → NumberCode → Type 0
-IsFree fds k = (p n : ℕ) → number_row fds k p n ≡ None
 
 -- a text of a kind has n bytes from start on, and a zero stands after it
 pub record EndedText (kind : TextKind) (n start : ℕ) (bytes : List ℕ) : Type 0 where

@@ -1,2 +1,2 @@
-pub mod Codes
+pub use Rattle.dbus_type_codes.specs.Codes
 pub mod Endings

@@ -7,14 +7,13 @@
 
 mod arrays;
 mod basic;
-mod codes;
 mod items;
 mod judging;
 mod numbers;
 mod texts;
 mod values;
 
-pub use codes::{boundary, free_width, gap, type_end};
+pub use dbus_type_codes::{boundary, free_width, gap, type_end};
 pub use items::{is_ended_text, padding, word};
 pub use judging::{judge_value, judge_values};
 pub use texts::short_text;

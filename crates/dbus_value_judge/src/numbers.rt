@@ -6,7 +6,8 @@ ghost use Rattle.dbus_texts.specs.Types.{NumberCode, BOOLEAN, UNIX_FD};
 ghost use Rattle.dbus_types.specs.Alignments.{width};
 ghost use Rattle.dbus_value_model.specs.declared.order.Order.{Order};
 ghost use Rattle.dbus_value_model.specs.ValueReaders.{number_value};
-ghost use Rattle.dbus_value_judge.specs.Endings.{EndsAt, IsFree, IsNotRead};
+ghost use Rattle.dbus_value_judge.specs.Endings.{EndsAt, IsNotRead};
+ghost use Rattle.dbus_type_codes.specs.Codes.{IsFree};
 
 use crate::items::{padding, word};
 use dbus_value_model::Order;

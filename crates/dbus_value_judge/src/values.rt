@@ -14,9 +14,9 @@ ghost use Rattle.dbus_value_judge.specs.Endings.{EndsAt, IsNotRead};
 
 use crate::arrays::frame;
 use crate::basic::basic_value;
-use crate::codes::{boundary, free_width, type_end};
 use crate::items::padding;
 use crate::texts::short_text;
+use dbus_type_codes::{boundary, free_width, type_end};
 use dbus_types::TextKind;
 use dbus_value_model::{Bounds, Order};
 

@@ -4,7 +4,7 @@
 
 ghost use Rattle.std.specs.Prelude.{◌≡◌, ◌+◌, ◌<◌, ◌≤◌, ◌^◌, length, drop};
 ghost use Rattle.dbus_value_model.specs.Bytes.{gap_to};
-ghost use Rattle.dbus_value_judge.specs.Codes.{open_after, type_length, code_boundary, free_width};
+ghost use Rattle.dbus_type_codes.specs.Codes.{open_after, type_length, code_boundary, free_width};
 
 use dbus_value_model::padding_length;
 
@@ -49,6 +49,7 @@ pub fn type_end(types: &[u8], pos: usize) -> usize
 pub fn boundary(code: u8) -> u8
     ensures value { result ≡ code_boundary code }
     ensures some { 0 < result }
+    ensures few { result ≤ 8 }
 {
     match code {
         b'y' | b'g' | b'v' => 1,

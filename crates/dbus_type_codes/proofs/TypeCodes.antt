@@ -3,8 +3,7 @@ use Rattle.std.proofs.Common.{◌≡◌, ℕ, suc, ◌-◌, ◌<◌, List, [], �
 use Rattle.std.proofs.lemmas.List.{length-append, length-drop, append-nil, take_at, take_all}
 use Rattle.dbus_texts.specs.Types.{NumberCode, BYTE, BOOLEAN, INT16, UINT16, INT32, UINT32, INT64, UINT64, DOUBLE, UNIX_FD, TextCode, STRING, OBJECT_PATH, SIGNATURE, TypeTree, NumberType, TextType, VariantType, ArrayType, StructType, EntryType, TypeTrees, NoTypes, MoreTypes, number_code, text_code, sig, sigs, IsShaped, AreShaped, IsBasic}
 use Rattle.dbus_types.specs.Alignments.{width, alignment_of}
-use Rattle.dbus_value_judge.specs.Codes.{first_code, code_boundary, free_width}
-use Rattle.dbus_value_judge.specs.Endings.{IsFree}
+use Rattle.dbus_type_codes.specs.Codes.{first_code, code_boundary, free_width, IsFree}
 
 -- ---- the first byte, and what follows it
 

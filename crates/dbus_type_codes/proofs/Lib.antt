@@ -1,0 +1,2 @@
+pub mod TypeEnds
+pub mod TypeCodes
