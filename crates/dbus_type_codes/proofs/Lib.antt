@@ -1,2 +1,3 @@
 pub mod TypeEnds
 pub mod TypeCodes
+pub mod Gaps

@@ -4,7 +4,8 @@ use Rattle.std.proofs.lemmas.List.{length-take}
 use Rattle.dbus_texts.specs.Types.{TypeTree, NumberType, sig}
 use Rattle.dbus_types.specs.Alignments.{width}
 use Rattle.dbus_value_model.specs.Bytes.{gap_to}
-use Rattle.dbus_value_checker.specs.Codes.{plain_width}
+use Rattle.dbus_type_codes.specs.Codes.{first_code, free_width}
+use Rattle.dbus_type_codes.proofs.TypeCodes.{begins, after_code}
 use Rattle.dbus_value_model.specs.Reading.{Partial}
 use Rattle.dbus_value_checker.specs.declared.values.Values.{Values}
 use Rattle.dbus_value_checker.specs.declared.values.Doing.{Doing}
@@ -13,7 +14,6 @@ use Rattle.dbus_value_checker.specs.Denotations.{Answer, rest_of, HasFrames, Goe
 use Rattle.dbus_value_checker.proofs.NumberRuns.{width_some, whole_numbers, plain_type, numbers_wait, numbers_run}
 use Rattle.dbus_value_checker.proofs.Slices.{slice_head, slice_room}
 use Rattle.dbus_value_checker.proofs.FrameLaws.{frames_reach, frames_small}
-use Rattle.dbus_value_checker.proofs.TypeCodes.{first, rest, first_is}
 
 differ : (b : Bool) → b ≡ false → b ≡ true → ⊥
 differ b e d = cc
@@ -24,7 +24,7 @@ element_at x [] h a = absurd h
 element_at x (Parts room end ts ∷ ws) h a = absurd (differ x.inner.array h.0.is.parts a)
 element_at x (Elements turns room end t ∷ ws) h a =
     let r = slice_room x.text.items x.inner.pos x.inner.stop (sig t) h.0.pos_is h.0.is.type in
-    let n = ap length (first_is t) in
+    let n = ap length (begins t) in
     let s = h.0.stop_is in
     let p = h.0.high_is in
     omega arith
@@ -33,11 +33,11 @@ pub element_code : (x : Values) (answer : Answer) → Goes x answer → x.inner.
 element_code x answer g a = element_at x g.ws g.frames a
 
 numbers_at : (x : Values) (d : Doing) (answer : Answer) (c w : ℕ) (ws : List Work) → HasFrames x.offset x ws → ((s : List ℕ) → rest_of answer x ws x.offset s ≡ answer.to s) → x.inner.array ≡ true → get_or x.text.items x.inner.pos 0 ≡ c
-    → w ≡ plain_width c → 0 < w → gap_to w x.offset ≡ 0 → x.offset + w ≤ x.inner.end → Numbers (record x { doing = d }) w answer
+    → w ≡ free_width c → 0 < w → gap_to w x.offset ≡ 0 → x.offset + w ≤ x.inner.end → Numbers (record x { doing = d }) w answer
 numbers_at x d answer c w [] h same a code is some aligned fits = absurd h
 numbers_at x d answer c w (Parts room end ts ∷ ws) h same a code is some aligned fits = absurd (differ x.inner.array h.0.is.parts a)
 numbers_at x d answer c w (Elements turns room end t ∷ ws) h same a code is some aligned fits =
-    let there = slice_head x.text.items x.inner.pos x.inner.stop (first t) (rest t) h.0.pos_is (h.0.is.type ∙ first_is t) in
+    let there = slice_head x.text.items x.inner.pos x.inner.stop (first_code t) (after_code t) h.0.pos_is (h.0.is.type ∙ begins t) in
     let k = plain_type t c w (sym there ∙ code) is some in
     record {
       ws = ws;
@@ -53,7 +53,7 @@ numbers_at x d answer c w (Elements turns room end t ∷ ws) h same a code is so
       same = λ s. subst (λ (u : TypeTree). rest_of answer x (Elements turns room end u ∷ ws) x.offset s ≡ answer.to s) k.1.0 (same s);
     }
 
-pub numbers_begin : (x : Values) (d : Doing) (answer : Answer) (c w : ℕ) → Goes x answer → x.inner.array ≡ true → get_or x.text.items x.inner.pos 0 ≡ c → w ≡ plain_width c → 0 < w → gap_to w x.offset ≡ 0 → x.offset + w ≤ x.inner.end → Numbers (record x { doing = d }) w answer
+pub numbers_begin : (x : Values) (d : Doing) (answer : Answer) (c w : ℕ) → Goes x answer → x.inner.array ≡ true → get_or x.text.items x.inner.pos 0 ≡ c → w ≡ free_width c → 0 < w → gap_to w x.offset ≡ 0 → x.offset + w ≤ x.inner.end → Numbers (record x { doing = d }) w answer
 numbers_begin x d answer c w g a code is some aligned fits = numbers_at x d answer c w g.ws g.frames g.same a code is some aligned fits
 
 module _ (x : Values) (w : ℕ) (answer : Answer) (b : Numbers x w answer) where

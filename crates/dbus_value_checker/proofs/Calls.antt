@@ -13,7 +13,7 @@ use Rattle.std.proofs.Common.{suc, ◌<◌}
 use Rattle.dbus_texts.specs.Types.{sig}
 use Rattle.dbus_value_checker.proofs.Slices.{slice_room}
 use Rattle.dbus_value_checker.proofs.FrameLaws.{inner_of}
-use Rattle.dbus_value_checker.proofs.TypeCodes.{first_is}
+use Rattle.dbus_type_codes.proofs.TypeCodes.{begins}
 use Rattle.dbus_value_checker.specs.Denotations.{Answer, denotes, Denotes, Wants, after_piece}
 use Rattle.dbus_value_checker.specs.Moves.{Moves, Opens, IsLive, offset_of, wide}
 use Rattle.dbus_value_checker.proofs.FrontSteps.{take-both, split-at}
@@ -59,7 +59,7 @@ pub wants_code : (x : Values) (pos stop : ℕ) (answer : Answer) → Wants x pos
 wants_code x pos stop answer w =
     let i = inner_of x (suc x.offset) w.ws w.frames in
     let r = slice_room x.text.items pos stop (sig w.type) w.pos_is w.text in
-    let n = ap length (first_is w.type) in
+    let n = ap length (begins w.type) in
     let a = i.high in
     let b = w.stop_is in
     omega arith

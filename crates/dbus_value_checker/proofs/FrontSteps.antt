@@ -18,7 +18,7 @@ use Rattle.dbus_types.specs.Alignments.{width, length_width, alignment_of}
 use Rattle.dbus_value_model.specs.ValueItems.{number_row, text_row, array_row}
 use Rattle.dbus_value_model.specs.ValueReaders.{array_frame}
 use Rattle.dbus_texts.specs.Types.{TypeTree}
-use Rattle.dbus_value_checker.specs.Codes.{code_alignment}
+use Rattle.dbus_type_codes.specs.Codes.{code_boundary}
 use Rattle.dbus_value_model.specs.declared.stop.Stop.{Stop}
 use Rattle.dbus_value_model.specs.declared.stop.Stop.TheVariants as stops
 use Rattle.dbus_value_checker.specs.Codes.{code_width}
@@ -239,7 +239,7 @@ module _ (bounds : Bounds) (order : Order) (end o : ℕ) (s : List ℕ) (t : Typ
         let row : array_row bounds t end (o + 4) n ≡ Some reasons.ArrayTooLong = rw (lt-ltb bounds.array n h) refl in
         rw (number_refused order 4 end (array_row bounds t end) o s n there low n_is reasons.ArrayTooLong row c) refl
 
-    module _ (short : n ≤ bounds.array) (code : ℕ) (code_is : code_alignment code ≡ alignment_of t) (a : ℕ) (a_is : a ≡ code_alignment code) where
+    module _ (short : n ≤ bounds.array) (code : ℕ) (code_is : code_boundary code ≡ alignment_of t) (a : ℕ) (a_is : a ≡ code_boundary code) where
       boundary : a ≡ alignment_of t
       boundary = a_is ∙ code_is
 

@@ -2,17 +2,17 @@
 use Rattle.std.proofs.Common.{◌≡◌, ℕ, zero, suc, ◌+◌, ◌-◌, ◌*◌, ◌/◌, ◌%◌, ◌<◌, ◌≤◌, List, [], ◌∷◌, ◌++◌, length, take, drop, Option, None, refl, sym, ap, ◌∙◌, arith, append_assoc}
 use Rattle.std.proofs.Math.Nat.{suc-mul, zero-mul}
 use Rattle.std.proofs.lemmas.List.{length-take, length-drop, take-append-drop}
-use Rattle.dbus_texts.specs.Types.{NumberCode, BYTE, BOOLEAN, INT16, UINT16, INT32, UINT32, INT64, UINT64, DOUBLE, UNIX_FD, STRING, OBJECT_PATH, SIGNATURE, TypeTree, NumberType, TextType, VariantType, ArrayType, StructType, EntryType}
+use Rattle.dbus_texts.specs.Types.{NumberCode, BYTE, BOOLEAN, INT16, UINT16, INT32, UINT32, INT64, UINT64, DOUBLE, UNIX_FD, TypeTree, NumberType}
 use Rattle.dbus_types.specs.Alignments.{width}
 use Rattle.dbus_value_model.specs.declared.limits.Bounds.{Bounds}
 use Rattle.dbus_value_model.specs.declared.order.Order.{Order}
 use Rattle.dbus_value_model.specs.Bytes.{gap_to}
 use Rattle.dbus_value_model.specs.ValueItems.{number_row}
 use Rattle.dbus_value_model.specs.Reading.{Partial, after, zeros, number_of}
-use Rattle.dbus_value_checker.specs.Codes.{plain_width}
+use Rattle.dbus_type_codes.specs.Codes.{first_code, free_width}
+use Rattle.dbus_type_codes.proofs.TypeCodes.{free_is}
 use Rattle.dbus_value_checker.specs.Suspended.{On, Elements, work, ANumber, own, own_of, opened_by, works}
 use Rattle.dbus_value_checker.proofs.Suspension.{elements_more, value_begins, padding_zeros, head_passed, head_waits}
-use Rattle.dbus_value_checker.proofs.TypeCodes.{first}
 
 -- ---- widths
 
@@ -81,24 +81,8 @@ no_number DOUBLE there e = omega arith
 no_number UNIX_FD there e = omega arith
 
 -- a type of which every number may stand
-pub plain_type : (t : TypeTree) (c w : ℕ) → first t ≡ c → w ≡ plain_width c → 0 < w → (k : NumberCode) × ((t ≡ NumberType k) × (width k ≡ w) × ((fds : Option ℕ) (p n : ℕ) → number_row fds k p n ≡ None))
-plain_type (NumberType BYTE) c w e d some = (BYTE, (refl, sym (d ∙ ap plain_width (sym e)), λ fds p n. refl))
-plain_type (NumberType BOOLEAN) c w e d some = absurd (let z = d ∙ ap plain_width (sym e) in omega arith)
-plain_type (NumberType INT16) c w e d some = (INT16, (refl, sym (d ∙ ap plain_width (sym e)), λ fds p n. refl))
-plain_type (NumberType UINT16) c w e d some = (UINT16, (refl, sym (d ∙ ap plain_width (sym e)), λ fds p n. refl))
-plain_type (NumberType INT32) c w e d some = (INT32, (refl, sym (d ∙ ap plain_width (sym e)), λ fds p n. refl))
-plain_type (NumberType UINT32) c w e d some = (UINT32, (refl, sym (d ∙ ap plain_width (sym e)), λ fds p n. refl))
-plain_type (NumberType INT64) c w e d some = (INT64, (refl, sym (d ∙ ap plain_width (sym e)), λ fds p n. refl))
-plain_type (NumberType UINT64) c w e d some = (UINT64, (refl, sym (d ∙ ap plain_width (sym e)), λ fds p n. refl))
-plain_type (NumberType DOUBLE) c w e d some = (DOUBLE, (refl, sym (d ∙ ap plain_width (sym e)), λ fds p n. refl))
-plain_type (NumberType UNIX_FD) c w e d some = absurd (let z = d ∙ ap plain_width (sym e) in omega arith)
-plain_type (TextType STRING) c w e d some = absurd (let z = d ∙ ap plain_width (sym e) in omega arith)
-plain_type (TextType OBJECT_PATH) c w e d some = absurd (let z = d ∙ ap plain_width (sym e) in omega arith)
-plain_type (TextType SIGNATURE) c w e d some = absurd (let z = d ∙ ap plain_width (sym e) in omega arith)
-plain_type VariantType c w e d some = absurd (let z = d ∙ ap plain_width (sym e) in omega arith)
-plain_type (ArrayType u) c w e d some = absurd (let z = d ∙ ap plain_width (sym e) in omega arith)
-plain_type (StructType ts) c w e d some = absurd (let z = d ∙ ap plain_width (sym e) in omega arith)
-plain_type (EntryType k v) c w e d some = absurd (let z = d ∙ ap plain_width (sym e) in omega arith)
+pub plain_type : (t : TypeTree) (c w : ℕ) → first_code t ≡ c → w ≡ free_width c → 0 < w → (k : NumberCode) × ((t ≡ NumberType k) × (width k ≡ w) × ((fds : Option ℕ) (p n : ℕ) → number_row fds k p n ≡ None))
+plain_type t c w e d some = let f = free_is t w some (d ∙ ap free_width (sym e)) in (f.code, (f.is, f.wide, f.free))
 
 -- ---- elements
 

@@ -18,7 +18,9 @@ use Rattle.dbus_value_model.specs.ValueReaders.{array_frame}
 use Rattle.dbus_value_model.specs.Reading.{Reader, Outcome, Done, Faulty, Partial, after, padding, number, text, nul, value}
 use Rattle.dbus_value_checker.specs.declared.values.Values.{Values}
 use Rattle.dbus_value_checker.specs.declared.values.Frame.{Frame}
-use Rattle.dbus_value_checker.specs.Codes.{code_alignment, IsNumberCode}
+use Rattle.dbus_type_codes.specs.Codes.{first_code, code_boundary}
+use Rattle.dbus_type_codes.proofs.TypeCodes.{begins, after_code, boundary_is}
+use Rattle.dbus_value_checker.specs.Codes.{IsNumberCode}
 use Rattle.dbus_value_checker.specs.Suspended.{On, onward, done, Work, Parts, Elements, elements, work, works, ANumber, ALength, AnArray, AVariant, head, head_width, head_row, tail, own, own_of, opened_by, Opened, Closed, AHead}
 use Rattle.dbus_value_checker.specs.Fronts.{Fronts}
 use Rattle.dbus_value_checker.specs.Frames.{slice, Framed, extra}
@@ -29,14 +31,14 @@ use Rattle.dbus_value_checker.proofs.FrontSteps.{front_taken, front_waits, front
 use Rattle.dbus_value_checker.proofs.Slices.{slice_head, slice_room, slice_after, slice_inner}
 use Rattle.dbus_value_checker.specs.Suspended as suspended
 use Rattle.dbus_value_checker.proofs.FrameLaws.{frames_reach, frames_small, end_small, pushed_frames, inner_of, within}
-use Rattle.dbus_value_checker.proofs.TypeCodes.{first, rest, first_is, first_alignment, array_of, struct_of, entry_of, text_of, number_type, own_text, opened_text, own_number, opened_number, own_array, opened_array, own_deep_array, own_struct, opened_struct, own_deep_struct, opened_deep_struct, own_entry, opened_entry, array_complete, struct_complete, entry_complete, entry_text, parts_some, sigs_some}
+use Rattle.dbus_value_checker.proofs.TypeCodes.{array_of, struct_of, entry_of, text_of, number_type, own_text, opened_text, own_number, opened_number, own_array, opened_array, own_deep_array, own_struct, opened_struct, own_deep_struct, opened_deep_struct, own_entry, opened_entry, array_complete, struct_complete, entry_complete, entry_text, parts_some, sigs_some}
 use Rattle.dbus_value_checker.proofs.NextValues.{next_part_at}
 
 -- ---- the padding of a value
 
 module _ (x : Values) (pos stop : ℕ) (answer : Answer) (w : Wants x pos stop answer) (code : ℕ) (there : get_or x.text.items pos 0 ≡ code) where
-  pub code_first : first w.type ≡ code
-  code_first = sym (slice_head x.text.items pos stop (first w.type) (rest w.type) w.pos_is (w.text ∙ first_is w.type)) ∙ there
+  pub code_first : first_code w.type ≡ code
+  code_first = sym (slice_head x.text.items pos stop (first_code w.type) (after_code w.type) w.pos_is (w.text ∙ begins w.type)) ∙ there
 
   wants_low : x.offset ≤ x.inner.end
   wants_low = (inner_of x (suc x.offset) w.ws w.frames).low
@@ -44,14 +46,14 @@ module _ (x : Values) (pos stop : ℕ) (answer : Answer) (w : Wants x pos stop a
   pub wants_offset : (x.offset ≤ x.inner.end) × (x.offset < 4294967296) × (stop ≤ length x.text.items)
   wants_offset = (wants_low, frames_small (suc x.offset) x.offset (length x.text.items) x.end x.text.items (x.inner ∷ reverse x.frames.items) w.ws w.frames, (let i = inner_of x (suc x.offset) w.ws w.frames in let a = i.high in let b = w.stop_is in omega arith))
 
-  module _ (other : code ≡ 118 → ⊥) (a : ℕ) (a_is : a ≡ code_alignment code) where
+  module _ (other : code ≡ 118 → ⊥) (a : ℕ) (a_is : a ≡ code_boundary code) where
     abbrev begun : Unit {0} → On
     begun z = own x.bounds x.order x.inner.end (own_of x.inner.room w.type) (works x.bounds x.order (rest_of answer x w.ws) (opened_by x.inner.room x.inner.end w.type))
 
     padded_same : (c : List ℕ) → after (padding a x.inner.end x.offset c) begun ≡ answer.to c
     padded_same c =
-        let not_variant : w.type ≡ VariantType → ⊥ = λ h. other (sym code_first ∙ ap first h) in
-        let is : alignment_of w.type ≡ a = sym (first_alignment w.type) ∙ ap code_alignment code_first ∙ sym a_is in
+        let not_variant : w.type ≡ VariantType → ⊥ = λ h. other (sym code_first ∙ ap first_code h) in
+        let is : alignment_of w.type ≡ a = sym (boundary_is w.type) ∙ ap code_boundary code_first ∙ sym a_is in
         subst (λ (b : ℕ). after (padding b x.inner.end x.offset c) begun ≡ answer.to c) is
         (sym (value_begins x.bounds x.order x.inner.room x.inner.end w.type x.offset c (rest_of answer x w.ws) not_variant) ∙ w.same c)
 
@@ -107,8 +109,8 @@ onto_faulty run next o s f h = faulty_at (run o s) next f h
     faulty_at Partial next f h = absurd cc
 
 module _ (x : Values) (pos stop n : ℕ) (answer : Answer) (r : Ready x pos stop n answer) (code : ℕ) (there : get_or x.text.items pos 0 ≡ code) where
-  pub ready_first : first r.type ≡ code
-  ready_first = sym (slice_head x.text.items pos stop (first r.type) (rest r.type) r.pos_is (r.text ∙ first_is r.type)) ∙ there
+  pub ready_first : first_code r.type ≡ code
+  ready_first = sym (slice_head x.text.items pos stop (first_code r.type) (after_code r.type) r.pos_is (r.text ∙ begins r.type)) ∙ there
 
   pub ready_offset : (x.offset ≤ x.inner.end) × (x.offset + n ≤ x.inner.end) × (x.inner.end < 4294967296) × (stop ≤ length x.text.items)
   ready_offset =
@@ -133,7 +135,7 @@ module _ (x : Values) (pos stop n : ℕ) (answer : Answer) (r : Ready x pos stop
     ready_number = number_type r.type code ready_first is.array is.struct is.entry is.signature is.path is.string is.variant
 
     pub number_is : number_code ready_number.0 ≡ code
-    number_is = ap first (sym ready_number.1) ∙ ready_first
+    number_is = ap first_code (sym ready_number.1) ∙ ready_first
 
     abbrev run : Reader ℕ
     run = number x.order (width ready_number.0) x.inner.end (number_row x.bounds.fds ready_number.0)
@@ -259,16 +261,16 @@ module _ (x : Values) (pos stop n : ℕ) (answer : Answer) (r : Ready x pos stop
     pub element_there : (pos + 1 < stop) × (pos + 1 < length x.text.items)
     element_there =
         let room = slice_room x.text.items pos stop (97 ∷ sig ready_array.0) r.pos_is array_text in
-        let some = ap length (first_is ready_array.0) in
+        let some = ap length (begins ready_array.0) in
         let p = ready_offset in
         let le = p.3 in
         (omega arith, omega arith)
 
-    pub element_code : (c : ℕ) → get_or x.text.items (pos + 1) 0 ≡ c → code_alignment c ≡ alignment_of ready_array.0
+    pub element_code : (c : ℕ) → get_or x.text.items (pos + 1) 0 ≡ c → code_boundary c ≡ alignment_of ready_array.0
     element_code c e =
         let le = element_there.0 in
-        let h = slice_head x.text.items (pos + 1) stop (first ready_array.0) (rest ready_array.0) (omega arith) (element_text ∙ first_is ready_array.0) in
-        ap code_alignment (sym e ∙ h) ∙ first_alignment ready_array.0
+        let h = slice_head x.text.items (pos + 1) stop (first_code ready_array.0) (after_code ready_array.0) (omega arith) (element_text ∙ begins ready_array.0) in
+        ap code_boundary (sym e ∙ h) ∙ boundary_is ready_array.0
 
     pub deep_array : x.inner.room ≡ 0 → (c : List ℕ) → answer.to c ≡ Faulty (fault (x.offset + n) reasons.TooDeep)
     deep_array room c = sym (ready_as Closed [] (own_deep_array x.inner.room r.type ready_array.0 ready_array.1 room) (opened_array x.inner.room x.inner.end r.type ready_array.0 ready_array.1) c)
@@ -327,7 +329,7 @@ module _ (x : Values) (pos stop n : ℕ) (answer : Answer) (r : Ready x pos stop
     ready_text = text_of r.type code ready_first is
 
     pub text_is : text_code ready_text.0 ≡ code
-    text_is = ap first (sym ready_text.1) ∙ ready_first
+    text_is = ap first_code (sym ready_text.1) ∙ ready_first
 
     abbrev sized : Reader ℕ
     sized = number x.order (length_width ready_text.0) x.inner.end (text_row x.inner.end)

@@ -1,127 +1,30 @@
--- Which type begins with a code, what it opens, and which types are complete in it.
-use Rattle.std.proofs.Common.{◌≡◌, ℕ, zero, suc, ◌<◌, List, [], ◌∷◌, ◌++◌, length, Bool, true, false, refl, sym, ap, subst, arith, append_assoc}
+-- Which type begins with a code, what a type opens, and which types are complete in it.
+use Rattle.std.proofs.Common.{◌≡◌, ℕ, zero, suc, ◌<◌, List, [], ◌∷◌, ◌++◌, length, Bool, true, false, refl, sym, ap, subst, ◌∙◌, arith, append_assoc}
 use Rattle.std.proofs.lemmas.List.{length-append, append-nil}
 use Rattle.std.specs.Prelude.{◌⊎◌}
 use Rattle.std.proofs.Common.{inl, inr}
-use Rattle.dbus_texts.specs.Types.{NumberCode, BYTE, BOOLEAN, INT16, UINT16, INT32, UINT32, INT64, UINT64, DOUBLE, UNIX_FD, TextCode, STRING, OBJECT_PATH, SIGNATURE, TypeTree, NumberType, TextType, VariantType, ArrayType, StructType, EntryType, TypeTrees, NoTypes, MoreTypes, number_code, text_code, sig, sigs, IsShaped, AreShaped, IsBasic}
-use Rattle.dbus_types.specs.Alignments.{alignment_of}
-use Rattle.dbus_value_checker.specs.Codes.{code_alignment}
+use Rattle.dbus_texts.specs.Types.{NumberCode, TextCode, STRING, OBJECT_PATH, SIGNATURE, TypeTree, NumberType, TextType, VariantType, ArrayType, StructType, EntryType, TypeTrees, NoTypes, MoreTypes, sig, sigs, IsShaped, AreShaped, IsBasic}
+use Rattle.dbus_type_codes.specs.Codes.{first_code}
+use Rattle.dbus_type_codes.proofs.TypeCodes.{begins, code_is, array_is, struct_is, entry_is, text_is}
 use Rattle.dbus_value_checker.specs.Suspended.{Parts, ANumber, ALength, AnArray, own_of, opened_by, Opened, Closed, AHead}
 
--- ---- codes
+-- ---- which type begins with the code of a container, of a text, of a number
 
-abbrev pub first : TypeTree → ℕ
-first (NumberType k) = number_code k
-first (TextType k) = text_code k
-first VariantType = 118
-first (ArrayType t) = 97
-first (StructType ts) = 40
-first (EntryType k v) = 123
+pub array_of : (t : TypeTree) → first_code t ≡ 97 → (u : TypeTree) × (t ≡ ArrayType u)
+array_of t e = let a = array_is t (sig t) refl (sym (code_is t (sig t) refl) ∙ e) in (a.0, a.1)
 
-abbrev pub rest : TypeTree → List ℕ
-rest (NumberType k) = []
-rest (TextType k) = []
-rest VariantType = []
-rest (ArrayType t) = sig t
-rest (StructType ts) = sigs ts ++ 41 ∷ []
-rest (EntryType k v) = sig k ++ (sig v ++ 125 ∷ [])
+pub struct_of : (t : TypeTree) → first_code t ≡ 40 → (ts : TypeTrees) × (t ≡ StructType ts)
+struct_of t e = let s = struct_is t (sig t) refl (sym (code_is t (sig t) refl) ∙ e) in (s.0, s.1)
 
-pub first_is : (t : TypeTree) → sig t ≡ first t ∷ rest t
-first_is (NumberType k) = refl
-first_is (TextType k) = refl
-first_is VariantType = refl
-first_is (ArrayType t) = refl
-first_is (StructType ts) = refl
-first_is (EntryType k v) = refl
+pub entry_of : (t : TypeTree) → first_code t ≡ 123 → (k : TypeTree) × ((v : TypeTree) × (t ≡ EntryType k v))
+entry_of t e = let s = entry_is t (sig t) refl (sym (code_is t (sig t) refl) ∙ e) in (s.0, (s.1, s.2))
 
-pub number_alignment : (k : NumberCode) → code_alignment (number_code k) ≡ alignment_of (NumberType k)
-number_alignment BYTE = refl
-number_alignment BOOLEAN = refl
-number_alignment INT16 = refl
-number_alignment UINT16 = refl
-number_alignment INT32 = refl
-number_alignment UINT32 = refl
-number_alignment INT64 = refl
-number_alignment UINT64 = refl
-number_alignment DOUBLE = refl
-number_alignment UNIX_FD = refl
+pub text_of : (t : TypeTree) (c : ℕ) → first_code t ≡ c → (c ≡ 103) ⊎ ((c ≡ 111) ⊎ (c ≡ 115)) → (k : TextCode) × (t ≡ TextType k)
+text_of t c e (inl a) = (SIGNATURE, text_is t SIGNATURE (e ∙ a))
+text_of t c e (inr (inl a)) = (OBJECT_PATH, text_is t OBJECT_PATH (e ∙ a))
+text_of t c e (inr (inr a)) = (STRING, text_is t STRING (e ∙ a))
 
-pub text_alignment : (k : TextCode) → code_alignment (text_code k) ≡ alignment_of (TextType k)
-text_alignment STRING = refl
-text_alignment OBJECT_PATH = refl
-text_alignment SIGNATURE = refl
-
-pub first_alignment : (t : TypeTree) → code_alignment (first t) ≡ alignment_of t
-first_alignment (NumberType k) = number_alignment k
-first_alignment (TextType k) = text_alignment k
-first_alignment VariantType = refl
-first_alignment (ArrayType t) = refl
-first_alignment (StructType ts) = refl
-first_alignment (EntryType k v) = refl
-
--- a number's code is none of the others
-pub number_not : (k : NumberCode) (c : ℕ) → number_code k ≡ c → (c ≡ 97 → ⊥) × ((c ≡ 40 → ⊥) × ((c ≡ 123 → ⊥) × (c ≡ 115 → ⊥)))
-number_not BYTE c e = (λ h. omega arith, (λ h. omega arith, (λ h. omega arith, λ h. omega arith)))
-number_not BOOLEAN c e = (λ h. omega arith, (λ h. omega arith, (λ h. omega arith, λ h. omega arith)))
-number_not INT16 c e = (λ h. omega arith, (λ h. omega arith, (λ h. omega arith, λ h. omega arith)))
-number_not UINT16 c e = (λ h. omega arith, (λ h. omega arith, (λ h. omega arith, λ h. omega arith)))
-number_not INT32 c e = (λ h. omega arith, (λ h. omega arith, (λ h. omega arith, λ h. omega arith)))
-number_not UINT32 c e = (λ h. omega arith, (λ h. omega arith, (λ h. omega arith, λ h. omega arith)))
-number_not INT64 c e = (λ h. omega arith, (λ h. omega arith, (λ h. omega arith, λ h. omega arith)))
-number_not UINT64 c e = (λ h. omega arith, (λ h. omega arith, (λ h. omega arith, λ h. omega arith)))
-number_not DOUBLE c e = (λ h. omega arith, (λ h. omega arith, (λ h. omega arith, λ h. omega arith)))
-number_not UNIX_FD c e = (λ h. omega arith, (λ h. omega arith, (λ h. omega arith, λ h. omega arith)))
-
-pub text_not : (k : TextCode) (c : ℕ) → text_code k ≡ c → (c ≡ 97 → ⊥) × ((c ≡ 40 → ⊥) × (c ≡ 123 → ⊥))
-text_not STRING c e = (λ h. omega arith, (λ h. omega arith, λ h. omega arith))
-text_not OBJECT_PATH c e = (λ h. omega arith, (λ h. omega arith, λ h. omega arith))
-text_not SIGNATURE c e = (λ h. omega arith, (λ h. omega arith, λ h. omega arith))
-
-pub array_of : (t : TypeTree) → first t ≡ 97 → (u : TypeTree) × (t ≡ ArrayType u)
-array_of (NumberType k) e = absurd ((number_not k 97 e).0 refl)
-array_of (TextType k) e = absurd ((text_not k 97 e).0 refl)
-array_of VariantType e = absurd (omega arith)
-array_of (ArrayType u) e = (u, refl)
-array_of (StructType ts) e = absurd (omega arith)
-array_of (EntryType k v) e = absurd (omega arith)
-
-pub struct_of : (t : TypeTree) → first t ≡ 40 → (ts : TypeTrees) × (t ≡ StructType ts)
-struct_of (NumberType k) e = absurd ((number_not k 40 e).1.0 refl)
-struct_of (TextType k) e = absurd ((text_not k 40 e).1.0 refl)
-struct_of VariantType e = absurd (omega arith)
-struct_of (ArrayType u) e = absurd (omega arith)
-struct_of (StructType ts) e = (ts, refl)
-struct_of (EntryType k v) e = absurd (omega arith)
-
-pub entry_of : (t : TypeTree) → first t ≡ 123 → (k : TypeTree) × ((v : TypeTree) × (t ≡ EntryType k v))
-entry_of (NumberType k) e = absurd ((number_not k 123 e).1.1.0 refl)
-entry_of (TextType k) e = absurd ((text_not k 123 e).1.1 refl)
-entry_of VariantType e = absurd (omega arith)
-entry_of (ArrayType u) e = absurd (omega arith)
-entry_of (StructType ts) e = absurd (omega arith)
-entry_of (EntryType k v) e = (k, (v, refl))
-
-pub number_no_text : (k : NumberCode) (c : ℕ) → number_code k ≡ c → (c ≡ 103) ⊎ ((c ≡ 111) ⊎ (c ≡ 115)) → ⊥
-number_no_text BYTE c e h = elim h [ inl a ↦ omega arith | inr b ↦ elim b [ inl a ↦ omega arith | inr a ↦ omega arith ] ]
-number_no_text BOOLEAN c e h = elim h [ inl a ↦ omega arith | inr b ↦ elim b [ inl a ↦ omega arith | inr a ↦ omega arith ] ]
-number_no_text INT16 c e h = elim h [ inl a ↦ omega arith | inr b ↦ elim b [ inl a ↦ omega arith | inr a ↦ omega arith ] ]
-number_no_text UINT16 c e h = elim h [ inl a ↦ omega arith | inr b ↦ elim b [ inl a ↦ omega arith | inr a ↦ omega arith ] ]
-number_no_text INT32 c e h = elim h [ inl a ↦ omega arith | inr b ↦ elim b [ inl a ↦ omega arith | inr a ↦ omega arith ] ]
-number_no_text UINT32 c e h = elim h [ inl a ↦ omega arith | inr b ↦ elim b [ inl a ↦ omega arith | inr a ↦ omega arith ] ]
-number_no_text INT64 c e h = elim h [ inl a ↦ omega arith | inr b ↦ elim b [ inl a ↦ omega arith | inr a ↦ omega arith ] ]
-number_no_text UINT64 c e h = elim h [ inl a ↦ omega arith | inr b ↦ elim b [ inl a ↦ omega arith | inr a ↦ omega arith ] ]
-number_no_text DOUBLE c e h = elim h [ inl a ↦ omega arith | inr b ↦ elim b [ inl a ↦ omega arith | inr a ↦ omega arith ] ]
-number_no_text UNIX_FD c e h = elim h [ inl a ↦ omega arith | inr b ↦ elim b [ inl a ↦ omega arith | inr a ↦ omega arith ] ]
-
-pub text_of : (t : TypeTree) (c : ℕ) → first t ≡ c → (c ≡ 103) ⊎ ((c ≡ 111) ⊎ (c ≡ 115)) → (k : TextCode) × (t ≡ TextType k)
-text_of (NumberType k) c e h = absurd (number_no_text k c e h)
-text_of (TextType k) c e h = (k, refl)
-text_of VariantType c e h = absurd (elim h [ inl a ↦ omega arith | inr b ↦ elim b [ inl a ↦ omega arith | inr a ↦ omega arith ] ])
-text_of (ArrayType u) c e h = absurd (elim h [ inl a ↦ omega arith | inr b ↦ elim b [ inl a ↦ omega arith | inr a ↦ omega arith ] ])
-text_of (StructType ts) c e h = absurd (elim h [ inl a ↦ omega arith | inr b ↦ elim b [ inl a ↦ omega arith | inr a ↦ omega arith ] ])
-text_of (EntryType k v) c e h = absurd (elim h [ inl a ↦ omega arith | inr b ↦ elim b [ inl a ↦ omega arith | inr a ↦ omega arith ] ])
-
-pub number_type : (t : TypeTree) (c : ℕ) → first t ≡ c → (c ≡ 97 → ⊥) → (c ≡ 40 → ⊥) → (c ≡ 123 → ⊥) → (c ≡ 103 → ⊥) → (c ≡ 111 → ⊥) → (c ≡ 115 → ⊥) → (c ≡ 118 → ⊥) → (k : NumberCode) × (t ≡ NumberType k)
+pub number_type : (t : TypeTree) (c : ℕ) → first_code t ≡ c → (c ≡ 97 → ⊥) → (c ≡ 40 → ⊥) → (c ≡ 123 → ⊥) → (c ≡ 103 → ⊥) → (c ≡ 111 → ⊥) → (c ≡ 115 → ⊥) → (c ≡ 118 → ⊥) → (k : NumberCode) × (t ≡ NumberType k)
 number_type (NumberType k) c e n1 n2 n3 n4 n5 n6 n7 = (k, refl)
 number_type (TextType STRING) c e n1 n2 n3 n4 n5 n6 n7 = absurd (n6 (sym e))
 number_type (TextType OBJECT_PATH) c e n1 n2 n3 n4 n5 n6 n7 = absurd (n5 (sym e))
@@ -223,7 +126,7 @@ entry_complete b t k v e h = complete_pair b k v (subst (λ (u : TypeTree). IsSh
     complete_pair false k v h = absurd h
 
 pub sigs_some : (t : TypeTree) (ts : TypeTrees) → 0 < length (sigs (MoreTypes t ts))
-sigs_some t ts = let e = ap (λ (l : List ℕ). length l) (first_is t) in omega (arith, e, length-append (sig t) (sigs ts))
+sigs_some t ts = let e = ap (λ (l : List ℕ). length l) (begins t) in omega (arith, e, length-append (sig t) (sigs ts))
 
 pub parts_some : (b : Bool) (t : TypeTree) (ts : TypeTrees) → t ≡ StructType ts → IsShaped b t → 0 < length (sigs ts)
 parts_some b t ts e h = some_in b ts (subst (λ (u : TypeTree). IsShaped b u) e h)

@@ -1,7 +1,7 @@
 -- A variant's signature is noted after those that are in use.
 use Rattle.std.proofs.Common.{◌≡◌, ℕ, suc, ◌+◌, ◌*◌, ◌<◌, ◌≤◌, List, [], ◌∷◌, ◌++◌, length, reverse, take, drop, get_or, false, Ok, Err, refl, sym, ap, subst, ◌∙◌, arith}
 use Rattle.std.proofs.lemmas.List.{reverse-append, length-append, length-reverse, length-take, take-take, take_at, drop_at, take_all, append-nil}
-use Rattle.dbus_texts.specs.Types.{NumberCode, BYTE, BOOLEAN, INT16, UINT16, INT32, UINT32, INT64, UINT64, DOUBLE, UNIX_FD, STRING, OBJECT_PATH, SIGNATURE, TypeTree, NumberType, TextType, VariantType, ArrayType, StructType, EntryType, NoTypes, MoreTypes, number_code, sig, sigs}
+use Rattle.dbus_texts.specs.Types.{TypeTree, VariantType, NoTypes, MoreTypes, sig, sigs}
 use Rattle.dbus_texts.specs.ComputedKinds.{type_spelled}
 use Rattle.dbus_texts.specs.Kinds.{IsKind}
 use Rattle.dbus_texts.specs.declared.text_kind.TextKind.TheVariants as kinds
@@ -23,7 +23,7 @@ use Rattle.dbus_value_checker.specs.Denotations.{Answer, rest_of, Goes, Wants, a
 use Rattle.dbus_value_checker.specs.Moves.{Moves}
 use Rattle.dbus_value_checker.proofs.Suspension.{works_as, variant_begins, after_after, after_same, parts_more}
 use Rattle.dbus_value_checker.proofs.FrameLaws.{frames_reach, end_small, inner_of, within}
-use Rattle.dbus_value_checker.proofs.TypeCodes.{first}
+use Rattle.dbus_type_codes.proofs.TypeCodes.{variant_is}
 use Rattle.dbus_value_checker.proofs.FrontSteps.{front_taken, front_waits, front_refused}
 use Rattle.dbus_value_checker.proofs.PaddedValues.{code_first}
 
@@ -58,32 +58,10 @@ frames_same reach low high bottom a b (f ∷ fs) [] e h = absurd h
 
 -- ---- a variant that is wanted
 
-number_variant : (k : NumberCode) → number_code k ≡ 118 → ⊥
-number_variant BYTE e = omega arith
-number_variant BOOLEAN e = omega arith
-number_variant INT16 e = omega arith
-number_variant UINT16 e = omega arith
-number_variant INT32 e = omega arith
-number_variant UINT32 e = omega arith
-number_variant INT64 e = omega arith
-number_variant UINT64 e = omega arith
-number_variant DOUBLE e = omega arith
-number_variant UNIX_FD e = omega arith
-
-variant_of : (t : TypeTree) → first t ≡ 118 → t ≡ VariantType
-variant_of (NumberType k) e = absurd (number_variant k e)
-variant_of (TextType STRING) e = absurd (omega arith)
-variant_of (TextType OBJECT_PATH) e = absurd (omega arith)
-variant_of (TextType SIGNATURE) e = absurd (omega arith)
-variant_of VariantType e = refl
-variant_of (ArrayType t) e = absurd (omega arith)
-variant_of (StructType ts) e = absurd (omega arith)
-variant_of (EntryType k v) e = absurd (omega arith)
-
 module _ (x : Values) (pos stop : ℕ) (answer : Answer) (w : Wants x pos stop answer) (there : get_or x.text.items pos 0 ≡ 118) where
   variant_same : (c : List ℕ) → own x.bounds x.order x.inner.end (own_of x.inner.room VariantType) (rest_of answer x w.ws) x.offset c ≡ answer.to c
   variant_same c =
-      let e = variant_of w.type (code_first x pos stop answer w 118 there) in
+      let e = variant_is w.type (code_first x pos stop answer w 118 there) in
       sym (variant_begins x.bounds x.order x.inner.room x.inner.end x.offset c (rest_of answer x w.ws))
       ∙ subst (λ (t : TypeTree). onward (value x.bounds x.order x.inner.room x.inner.end t) (rest_of answer x w.ws) x.offset c ≡ answer.to c) e (w.same c)
 

@@ -3,8 +3,9 @@
 
 ghost use Rattle.std.specs.Prelude.{◌≡◌, ◌+◌, ◌-◌, ◌<◌, ◌≤◌, ◌^◌, length, slice_index, true, IfOk};
 
-use crate::codes::{gap, plain_width, skip};
+use crate::codes::skip;
 use crate::values::{Doing, Frame, Values};
+use dbus_type_codes::{free_width, gap};
 use dbus_value_model::{Reason, Stop, refuse};
 
 impl Values {
@@ -37,7 +38,7 @@ impl Values {
         ensures { (answer : Answer) → Goes self.now answer →
             denotes result (record self.now { doing = result }) answer }
     {
-        let width = plain_width(self.text.as_slice()[self.inner.pos]);
+        let width = free_width(self.text.as_slice()[self.inner.pos]);
         if width == 0
             || gap(width, self.offset) > 0
             || self.inner.end - self.offset < usize::from(width)

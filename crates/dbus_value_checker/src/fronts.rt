@@ -19,12 +19,13 @@ ghost use Rattle.dbus_value_model.specs.WantedTexts.{Of};
 ghost use Rattle.dbus_value_model.specs.Items.{text_reason};
 ghost use Rattle.dbus_value_model.specs.ValueItems.{number_row, text_row, array_row};
 ghost use Rattle.dbus_value_model.specs.ValueReaders.{array_frame};
-ghost use Rattle.dbus_value_checker.specs.Codes.{code_width, code_alignment};
+ghost use Rattle.dbus_type_codes.specs.Codes.{code_boundary};
+ghost use Rattle.dbus_value_checker.specs.Codes.{code_width};
 ghost use Rattle.dbus_value_model.specs.declared.stop.Stop.TheVariants.{Partial};
 ghost use Rattle.dbus_value_checker.specs.Fronts.{Fronts, IsThere, IsWord, IsByte};
 ghost use Rattle.dbus_value_checker.specs.Suspended.{onward, done, held_text};
 
-use crate::codes::{alignment, gap};
+use dbus_type_codes::{boundary, gap};
 use dbus_types::{TextKind, text_break};
 use dbus_value_model::{Bounds, Order, Reason, Stop, refuse};
 
@@ -236,7 +237,7 @@ pub fn array_front(
 ) -> Result<(usize, usize), Stop>
     requires at_most { offset ≤ end }
     requires near { end < 2 ^ 32 }
-    ensures gives { (t : TypeTree) → code_alignment code ≡ alignment_of t →
+    ensures gives { (t : TypeTree) → code_boundary code ≡ alignment_of t →
         Fronts (λ x. x) offset bytes.now result (array_frame bounds order end t) }
     ensures moves { IfOk result (λ x. (4 ≤ x.1) × (x.1 ≤ length bytes.now) ×
         (offset + x.1 + x.0 ≤ end)) }
@@ -250,7 +251,7 @@ pub fn array_front(
         return refuse(offset, Reason::ArrayTooLong);
     }
     let n = n as usize;
-    let boundary = alignment(code);
+    let boundary = boundary(code);
     if end - (offset + 4) < gap(boundary, offset + 4) + n {
         return refuse(offset, Reason::Overrun);
     }

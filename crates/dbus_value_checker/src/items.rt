@@ -3,9 +3,9 @@
 
 ghost use Rattle.std.specs.Prelude.{◌≡◌, ◌≢◌, ◌-◌, ◌<◌, length, slice_index, IfOk, IfErr, ◌⊎◌};
 
-use crate::codes::alignment;
 use crate::fronts::{array_front, front, number_front, padding, rest_after, variant_front};
 use crate::values::{Frame, Values};
+use dbus_type_codes::boundary;
 use dbus_value_model::{Reason, Stop, refuse};
 
 impl Values {
@@ -190,7 +190,7 @@ impl Values {
         if code == b'v' {
             return self.variant(pos, stop, bytes);
         }
-        match padding(bytes, self.offset, self.inner.end, alignment(code)) {
+        match padding(bytes, self.offset, self.inner.end, boundary(code)) {
             Ok(n) => match self.item(pos, stop, n, code, rest_after(bytes, n)) {
                 Ok(more) => Ok(n + more),
                 Err(stop) => Err(stop),

@@ -26,7 +26,7 @@ item-requires-clause-valid c =
     let there = sym (ap (λ (t : List ℕ). get_or t c.args.pos 0) c.as_slice.ensures.value) in
     let m = c.in-Ok.ensures.moves in (
       after_piece answer (take c.in-Ok.n c.args.bytes.now),
-      wants_ready x c.args.pos c.args.stop answer c.requires.valid.1 code there c.if-code-eq118.false c.alignment.result c.alignment.ensures.value c.args.bytes.now c.in-Ok.n c.in-Ok.ensures.gives m.1,
+      wants_ready x c.args.pos c.args.stop answer c.requires.valid.1 code there c.if-code-eq118.false c.boundary.result c.boundary.ensures.value c.args.bytes.now c.in-Ok.n c.in-Ok.ensures.gives m.1,
     )
 
 pub returns-in-Ok-item-clause-moves : goal.returns-in-Ok-item-clause-moves
@@ -37,7 +37,7 @@ returns-in-Ok-item-clause-moves c = λ answer w.
     let code = get_or c.as_slice.result.now c.args.pos 0 in
     let there = sym (ap (λ (t : List ℕ). get_or t c.args.pos 0) c.as_slice.ensures.value) in
     let m = c.in-Ok.ensures.moves in
-    let r = wants_ready x c.args.pos c.args.stop answer w code there c.if-code-eq118.false c.alignment.result c.alignment.ensures.value s n c.in-Ok.ensures.gives m.1 in
+    let r = wants_ready x c.args.pos c.args.stop answer w code there c.if-code-eq118.false c.boundary.result c.boundary.ensures.value s n c.in-Ok.ensures.gives m.1 in
     after_ok x c.item.new.self s n m.2 answer c.in-Ok-item.more
     (subst (λ (u : List ℕ). Moves x u (Ok c.in-Ok-item.more) c.item.new.self (after_piece answer (take n s))) c.rest_after.ensures (c.in-Ok-item.ensures.moves (after_piece answer (take n s)) r))
 
@@ -49,7 +49,7 @@ returns-in-Err-item-clause-moves c = λ answer w.
     let code = get_or c.as_slice.result.now c.args.pos 0 in
     let there = sym (ap (λ (t : List ℕ). get_or t c.args.pos 0) c.as_slice.ensures.value) in
     let m = c.in-Ok.ensures.moves in
-    let r = wants_ready x c.args.pos c.args.stop answer w code there c.if-code-eq118.false c.alignment.result c.alignment.ensures.value s n c.in-Ok.ensures.gives m.1 in
+    let r = wants_ready x c.args.pos c.args.stop answer w code there c.if-code-eq118.false c.boundary.result c.boundary.ensures.value s n c.in-Ok.ensures.gives m.1 in
     after_err x c.item.new.self s n m.2 answer c.in-Err-item.stop
     (subst (λ (u : List ℕ). Moves x u (Err c.in-Err-item.stop) c.item.new.self (after_piece answer (take n s))) c.rest_after.ensures (c.in-Err-item.ensures.moves (after_piece answer (take n s)) r))
 
@@ -58,7 +58,7 @@ returns-in-Err-clause-moves c = λ answer w.
     let x = c.args.self.now in
     let code = get_or c.as_slice.result.now c.args.pos 0 in
     let there = sym (ap (λ (t : List ℕ). get_or t c.args.pos 0) c.as_slice.ensures.value) in
-    wants_stops x c.args.pos c.args.stop answer w code there c.if-code-eq118.false c.alignment.result c.alignment.ensures.value c.args.bytes.now c.in-Err.stop c.in-Err.ensures.gives
+    wants_stops x c.args.pos c.args.stop answer w code there c.if-code-eq118.false c.boundary.result c.boundary.ensures.value c.args.bytes.now c.in-Err.stop c.in-Err.ensures.gives
 
 pub overflow_add-result : goal.overflow_add-result
 overflow_add-result c =
@@ -69,7 +69,7 @@ overflow_add-result c =
     let code = get_or c.as_slice.result.now c.args.pos 0 in
     let there = sym (ap (λ (t : List ℕ). get_or t c.args.pos 0) c.as_slice.ensures.value) in
     let m = c.in-Ok.ensures.moves in
-    let r = wants_ready x c.args.pos c.args.stop answer c.requires.valid.1 code there c.if-code-eq118.false c.alignment.result c.alignment.ensures.value s n c.in-Ok.ensures.gives m.1 in
+    let r = wants_ready x c.args.pos c.args.stop answer c.requires.valid.1 code there c.if-code-eq118.false c.boundary.result c.boundary.ensures.value s n c.in-Ok.ensures.gives m.1 in
     let b = (after_ok x c.item.new.self s n m.2 answer c.in-Ok-item.more
     (subst (λ (u : List ℕ). Moves x u (Ok c.in-Ok-item.more) c.item.new.self (after_piece answer (take n s))) c.rest_after.ensures (c.in-Ok-item.ensures.moves (after_piece answer (take n s)) r))).0 in
     omega arith
