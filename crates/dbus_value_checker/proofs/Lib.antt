@@ -1,6 +1,5 @@
 pub mod Suspension
 pub mod FrontSteps
-pub mod CodeLaws
 pub mod TypeCodes
 pub mod Slices
 pub mod FrameLaws

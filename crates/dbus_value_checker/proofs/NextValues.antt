@@ -8,14 +8,14 @@ use Rattle.dbus_value_model.specs.Reading.{value}
 use Rattle.dbus_value_checker.specs.declared.values.Values.{Values}
 use Rattle.dbus_value_checker.specs.declared.values.Frame.{Frame}
 use Rattle.dbus_value_checker.specs.declared.values.Doing.TheVariants as rust
-use Rattle.dbus_value_checker.specs.Codes.{skipped}
+use Rattle.dbus_type_codes.specs.Codes.{type_length}
+use Rattle.dbus_type_codes.proofs.TypeEnds.{type_ends}
 use Rattle.dbus_value_checker.specs.Suspended.{onward, Work, Parts, Elements}
 use Rattle.dbus_value_checker.specs.Frames.{slice, AreFrames}
 use Rattle.dbus_value_checker.specs.Denotations.{Answer, rest_of, HasFrames, Goes, Wants}
 use Rattle.dbus_value_checker.proofs.Suspension.{parts_more, elements_more, elements_none}
 use Rattle.dbus_value_checker.proofs.FrameLaws.{within, frames_reach}
 use Rattle.dbus_value_checker.proofs.TypeCodes.{sigs_some}
-use Rattle.dbus_value_checker.proofs.CodeLaws.{skipped_type}
 use Rattle.dbus_value_checker.proofs.Slices.{slice_room, slice_whole, slice_after, slice_first}
 
 pub low_of : (reach low high bottom : ℕ) (text : List ℕ) (f : Frame) (fs : List Frame) (ws : List Work) → AreFrames reach low high bottom text (f ∷ fs) ws → low ≤ f.end
@@ -65,7 +65,7 @@ next_element x answer g a lt = next_element_at x answer g.ws g.frames g.same a l
 
 -- ---- a part is wanted
 
-pub next_part_at : (x : Values) (answer : Answer) (ws : List Work) (q : ℕ) → q ≡ x.inner.pos + skipped 0 (slice x.text.items x.inner.pos x.inner.stop) → HasFrames (suc x.offset) x ws
+pub next_part_at : (x : Values) (answer : Answer) (ws : List Work) (q : ℕ) → q ≡ x.inner.pos + type_length 0 (slice x.text.items x.inner.pos x.inner.stop) → HasFrames (suc x.offset) x ws
     → ((c : List ℕ) → rest_of answer x ws x.offset c ≡ answer.to c) → x.inner.array ≡ false → x.inner.pos < x.inner.stop → x.inner.stop ≤ length x.text.items
     → Wants (record x { inner = record x.inner { pos = q } }) x.inner.pos q answer
 next_part_at x answer [] q is h same a lt le = absurd h
@@ -75,7 +75,7 @@ next_part_at x answer (Parts room end NoTypes ∷ ws) q is h same a lt le =
     absurd (omega arith)
 next_part_at x answer (Parts room end (MoreTypes t ts) ∷ ws) q is h same a lt le =
     let f = h.0.is in
-    let skip : q ≡ x.inner.pos + length (sig t) = is ∙ ap (λ (s : List ℕ). x.inner.pos + skipped 0 s) f.types ∙ ap (λ (n : ℕ). x.inner.pos + n) (skipped_type t (sigs ts)) in
+    let past : q ≡ x.inner.pos + length (sig t) = is ∙ ap (λ (s : List ℕ). x.inner.pos + type_length 0 s) f.types ∙ ap (λ (n : ℕ). x.inner.pos + n) (type_ends t (sigs ts)) in
     let room_in : x.inner.pos + length (sig t ++ sigs ts) ≤ x.inner.stop = slice_room x.text.items x.inner.pos x.inner.stop (sig t ++ sigs ts) h.0.pos_is f.types in
     let n : length (sig t ++ sigs ts) ≡ length (sig t) + length (sigs ts) = length-append (sig t) (sigs ts) in
     let top = h.0.stop_is in
@@ -90,11 +90,11 @@ next_part_at x answer (Parts room end (MoreTypes t ts) ∷ ws) q is h same a lt 
           pos_is = omega arith;
           count_is = h.0.count_is;
           room_is = h.0.room_is;
-          is = record { parts = f.parts; room_is = f.room_is; end_is = f.end_is; types = subst (λ (p : ℕ). slice x.text.items p x.inner.stop ≡ sigs ts) (sym skip) (slice_after x.text.items x.inner.pos x.inner.stop (sig t) (sigs ts) f.types); complete = f.complete.1 };
+          is = record { parts = f.parts; room_is = f.room_is; end_is = f.end_is; types = subst (λ (p : ℕ). slice x.text.items p x.inner.stop ≡ sigs ts) (sym past) (slice_after x.text.items x.inner.pos x.inner.stop (sig t) (sigs ts) f.types); complete = f.complete.1 };
         },
         h.1,
       );
-      text = subst (λ (p : ℕ). slice x.text.items x.inner.pos p ≡ sig t) (sym skip) (slice_first x.text.items x.inner.pos x.inner.stop (sig t) (sigs ts) h.0.pos_is f.types);
+      text = subst (λ (p : ℕ). slice x.text.items x.inner.pos p ≡ sig t) (sym past) (slice_first x.text.items x.inner.pos x.inner.stop (sig t) (sigs ts) h.0.pos_is f.types);
       complete = subst (λ (b : Bool). IsShaped b t) (sym a) f.complete.0;
       pos_is = omega arith;
       stop_is = omega arith;
@@ -104,7 +104,7 @@ next_part_at x answer (Parts room end (MoreTypes t ts) ∷ ws) q is h same a lt 
           (sym (parts_more x.bounds x.order room end t ts (rest_of answer x ws) x.offset c) ∙ same c));
     }
 
-pub next_part : (x : Values) (answer : Answer) (q : ℕ) → q ≡ x.inner.pos + skipped 0 (slice x.text.items x.inner.pos x.inner.stop) → Goes x answer → x.inner.array ≡ false → x.inner.pos < x.inner.stop → x.inner.stop ≤ length x.text.items
+pub next_part : (x : Values) (answer : Answer) (q : ℕ) → q ≡ x.inner.pos + type_length 0 (slice x.text.items x.inner.pos x.inner.stop) → Goes x answer → x.inner.array ≡ false → x.inner.pos < x.inner.stop → x.inner.stop ≤ length x.text.items
     → Wants (record x { inner = record x.inner { pos = q } }) x.inner.pos q answer
 next_part x answer q is g a lt le =
     next_part_at x answer g.ws q is (frames_reach x.offset (suc x.offset) x.offset (length x.text.items) x.end x.text.items (x.inner ∷ reverse x.frames.items) g.ws (omega arith) g.frames) g.same a lt le

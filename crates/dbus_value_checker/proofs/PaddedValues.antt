@@ -224,7 +224,7 @@ module _ (x : Values) (pos stop n : ℕ) (answer : Answer) (r : Ready x pos stop
       sym (ready_as Closed [] (own_deep_struct x.inner.room r.type u.0 u.1 room) (opened_deep_struct x.inner.room x.inner.end r.type u.0 u.1 room) c)
 
   -- there is room for a struct's frame and for an entry's
-  pub bracket_fits : (code ≡ 40) × (0 < x.inner.room) ⊎ (code ≡ 123) → (length x.frames.items < 128) × (pos + 1 ≤ stop - 1) × (1 ≤ stop)
+  pub bracket_fits : (code ≡ 40) × (0 < x.inner.room) ⊎ (code ≡ 123) → (length x.frames.items < 128) × (pos + 1 < stop - 1) × (1 ≤ stop)
   bracket_fits h = elim h [
     | inl h ↦
         let u = struct_of r.type (ready_first ∙ h.0) in
@@ -233,6 +233,7 @@ module _ (x : Values) (pos stop n : ℕ) (answer : Answer) (r : Ready x pos stop
         let inside = slice_inner x.text.items pos stop 40 41 (sigs u.0) r.pos_is ready_offset.3 text in
         let size = inside.1 in
         let some = h.1 in
+        let parts = parts_some x.inner.array r.type u.0 u.1 r.complete in
         ((let a = i.count in omega arith), omega arith, omega arith)
     | inr h ↦
         let u = entry_of r.type (ready_first ∙ h) in
@@ -243,6 +244,7 @@ module _ (x : Values) (pos stop n : ℕ) (answer : Answer) (r : Ready x pos stop
         let size = inside.1 in
         let c = entry_complete x.inner.array r.type u.0 u.1.0 u.1.1 r.complete in
         let one : extra x.inner.array ≡ 1 = ap extra c.0 in
+        let parts = sigs_some u.0 (MoreTypes u.1.0 NoTypes) in
         ((let a = i.count in omega arith), omega arith, omega arith)
   ]
 

@@ -11,7 +11,7 @@ use Rattle.dbus_value_checker.specs.declared.values.Values.{Values}
 use Rattle.dbus_value_checker.specs.declared.values.Frame.{Frame}
 use Rattle.dbus_value_checker.specs.declared.values.Doing.{Doing}
 use Rattle.dbus_value_checker.specs.declared.values.Doing.TheVariants as doing
-use Rattle.dbus_value_checker.specs.Codes.{skipped}
+use Rattle.dbus_type_codes.specs.Codes.{type_length}
 use Rattle.dbus_value_checker.specs.Suspended.{On, onward}
 use Rattle.dbus_value_checker.specs.Frames.{slice}
 use Rattle.dbus_value_checker.specs.Denotations.{Answer, after_piece, Wants, Denotes}
@@ -44,7 +44,7 @@ pub record Pushed (x y : Values) (f : Frame) : Type 0 where
 abbrev pub Enters : Values → (pos stop n room : ℕ) → Answer → Type 0
 Enters x pos stop n room answer =
     (y : Values) → Pushed (record x { offset = x.offset + n }) y (record { array = false; pos = pos + 1; stop = stop - 1; top = x.inner.top; end = x.inner.end; room = room })
-    → (q : ℕ) → q ≡ y.inner.pos + skipped 0 (slice y.text.items y.inner.pos y.inner.stop) → Wants (record y { inner = record y.inner { pos = q } }) y.inner.pos q answer
+    → (q : ℕ) → q ≡ y.inner.pos + type_length 0 (slice y.text.items y.inner.pos y.inner.stop) → Wants (record y { inner = record y.inner { pos = q } }) y.inner.pos q answer
 
 -- something is wanted still
 abbrev pub IsLive : Doing → Type 0

@@ -3,29 +3,28 @@
 
 ghost use Rattle.std.specs.Prelude.{◌≡◌, ◌+◌, ◌-◌, ◌<◌, ◌≤◌, ◌^◌, length, slice_index, true, IfOk};
 
-use crate::codes::skip;
 use crate::values::{Doing, Frame, Values};
-use dbus_type_codes::{free_width, gap};
+use dbus_type_codes::{free_width, gap, type_end};
 use dbus_value_model::{Reason, Stop, refuse};
 
 impl Values {
-    ghost use Rattle.dbus_value_checker.specs.Codes.{skipped};
+    ghost use Rattle.dbus_type_codes.specs.Codes.{type_length};
     ghost use Rattle.dbus_value_checker.specs.Frames.{slice};
     ghost use Rattle.dbus_value_checker.specs.Denotations.{Answer, Denotes, Goes, Ready, denotes};
     ghost use Rattle.dbus_value_checker.specs.Moves.{Opens, Enters, wide};
 
     /// The type of the next part is no longer wanted: where it ends.
     pub(crate) fn part(&mut self) -> usize
-        requires pos { self.old.inner.pos ≤ self.old.inner.stop }
+        requires pos { self.old.inner.pos < self.old.inner.stop }
         requires stop { self.old.inner.stop ≤ length self.old.text.items }
         ensures value { result ≡
             self.old.inner.pos +
-            skipped 0 (slice self.old.text.items self.old.inner.pos self.old.inner.stop) }
+            type_length 0 (slice self.old.text.items self.old.inner.pos self.old.inner.stop) }
         ensures moved { self.new ≡ record self.old
             { inner = record self.old.inner { pos = result } } }
         ensures within { result ≤ self.old.inner.stop }
     {
-        let stop = skip(&self.text.as_slice()[..self.inner.stop], self.inner.pos);
+        let stop = type_end(&self.text.as_slice()[..self.inner.stop], self.inner.pos);
         self.inner.pos = stop;
         stop
     }
@@ -79,7 +78,7 @@ impl Values {
     pub(crate) fn inside(&mut self, pos: usize, stop: usize, n: usize, room: u8)
         requires near { self.old.offset + n < 2 ^ 63 }
         requires few { length self.old.frames.items < 128 }
-        requires some { pos + 1 ≤ stop - 1 }
+        requires some { pos + 1 < stop - 1 }
         requires there { stop ≤ length self.old.text.items }
         ensures opens { (answer : Answer) → Enters self.old pos stop n room answer →
             Denotes self.new answer }

@@ -4,7 +4,6 @@
 //! alone may be long: it is scanned as its bytes come.
 #![tactic(auto)]
 
-mod codes;
 mod frames;
 mod fronts;
 mod items;
