@@ -22,6 +22,7 @@ fn open_after(deep: usize, code: u8) -> usize
 }
 
 /// Where the complete type that begins at `pos` ends, or the end of the text where none does.
+/// D-Bus Specification, "Valid Signatures", "Container types".
 #[inline]
 pub fn type_end(types: &[u8], pos: usize) -> usize
     requires { pos < length types.now }
@@ -44,7 +45,7 @@ pub fn type_end(types: &[u8], pos: usize) -> usize
     at
 }
 
-/// The boundary of a type that begins with this byte.
+/// The boundary of a type that begins with this byte. D-Bus Specification, "Summary of D-Bus marshaling".
 #[inline]
 pub fn boundary(code: u8) -> u8
     ensures value { result ≡ code_boundary code }
@@ -60,6 +61,7 @@ pub fn boundary(code: u8) -> u8
 }
 
 /// How many bytes a number has of a type that begins with this byte, if every number of the type may stand; else 0.
+/// D-Bus Specification, "Basic types", "Summary of D-Bus marshaling".
 #[inline]
 pub fn free_width(code: u8) -> u8
     ensures value { result ≡ free_width code }
@@ -74,7 +76,8 @@ pub fn free_width(code: u8) -> u8
     }
 }
 
-/// How many zeros reach the boundary. Those that there are stand as constants, so that nothing is divided.
+/// How many zeros reach the boundary. Those boundaries that there are stand as constants, so that nothing is divided.
+/// D-Bus Specification, "Marshaling (Wire Format)".
 #[inline]
 pub fn gap(boundary: u8, at: usize) -> usize
     requires { 0 < boundary }

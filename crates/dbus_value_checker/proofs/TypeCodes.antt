@@ -3,9 +3,9 @@ use Rattle.std.proofs.Common.{◌≡◌, ℕ, zero, suc, ◌<◌, List, [], ◌�
 use Rattle.std.proofs.lemmas.List.{length-append, append-nil}
 use Rattle.std.specs.Prelude.{◌⊎◌}
 use Rattle.std.proofs.Common.{inl, inr}
-use Rattle.dbus_texts.specs.Types.{NumberCode, TextCode, STRING, OBJECT_PATH, SIGNATURE, TypeTree, NumberType, TextType, VariantType, ArrayType, StructType, EntryType, TypeTrees, NoTypes, MoreTypes, sig, sigs, IsShaped, AreShaped, IsBasic}
+use Rattle.dbus_texts.specs.Types.{NumberCode, TextCode, STRING, OBJECT_PATH, SIGNATURE, TypeTree, NumberType, TextType, VariantType, ArrayType, StructType, EntryType, TypeTrees, NoTypes, MoreTypes, sig, sigs, IsShaped, AreShaped}
 use Rattle.dbus_type_codes.specs.Codes.{first_code}
-use Rattle.dbus_type_codes.proofs.TypeCodes.{begins, code_is, array_is, struct_is, entry_is, text_is}
+use Rattle.dbus_type_codes.proofs.TypeCodes.{begins, code_is, array_is, struct_is, entry_is, entry_shaped, text_is}
 use Rattle.dbus_value_checker.specs.Suspended.{Parts, ANumber, ALength, AnArray, own_of, opened_by, Opened, Closed, AHead}
 
 -- ---- which type begins with the code of a container, of a text, of a number
@@ -113,16 +113,8 @@ entry_text k v = simp (append_assoc, append-nil)
 pub entry_complete : (b : Bool) (t k v : TypeTree) → t ≡ EntryType k v → IsShaped b t → (b ≡ true) × AreShaped (MoreTypes k (MoreTypes v NoTypes))
 entry_complete b t k v e h = complete_pair b k v (subst (λ (u : TypeTree). IsShaped b u) e h)
   where
-    basic_complete : (k : TypeTree) → IsBasic k → IsShaped false k
-    basic_complete (NumberType n) h = tt
-    basic_complete (TextType n) h = tt
-    basic_complete VariantType h = tt
-    basic_complete (ArrayType u) h = absurd h
-    basic_complete (StructType ts) h = absurd h
-    basic_complete (EntryType k v) h = absurd h
-
     complete_pair : (b : Bool) (k v : TypeTree) → IsShaped b (EntryType k v) → (b ≡ true) × AreShaped (MoreTypes k (MoreTypes v NoTypes))
-    complete_pair true k v h = (refl, (basic_complete k h.0, (h.1, tt)))
+    complete_pair true k v h = (refl, entry_shaped k v h)
     complete_pair false k v h = absurd h
 
 pub sigs_some : (t : TypeTree) (ts : TypeTrees) → 0 < length (sigs (MoreTypes t ts))
