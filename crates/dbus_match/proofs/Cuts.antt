@@ -2,7 +2,7 @@
 use Rattle.std.proofs.Common.{◌≡◌, ◌≢◌, ℕ, ◌+◌, Bool, true, false, ◌&&◌, eqb, List, [], ◌∷◌, ◌++◌, ◌⊎◌, ⊎_elim, inl, inr, refl, sym, ap, ◌∙◌, subst, append_assoc, append-nil, length, arith, length-append}
 use Rattle.std.specs.List.{AllByRecursion}
 use Rattle.std.proofs.lemmas.Bool.{cond_both, eqb-true, eqb-false, false≢true}
-use Rattle.dbus_match.specs.declared.value.Mode.TheVariants.{Outside, Escape, Inside}
+use Rattle.dbus_match.specs.declared.value_cut.Mode.TheVariants.{Outside, Escape, Inside}
 use Rattle.dbus_match.specs.Values.{Piece, quoted, escaped, plain, piece_text, piece_value, pieces_text, pieces_value, NoQuoteFirst, IsPiece}
 use Rattle.dbus_match.specs.Readings.{IsClosed, IsOpen, IsReading}
 use Rattle.dbus_match.specs.Scans.{Reading, closed, open_at, quote_first, scan}

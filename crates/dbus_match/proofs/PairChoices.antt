@@ -12,7 +12,7 @@ use Rattle.dbus_match.specs.declared.key.Key.TheVariants.{MessageType, Sender, I
 use Rattle.dbus_match.specs.declared.fault.RuleFault.TheVariants.{Bad}
 use Rattle.dbus_match.specs.declared.fault.RuleReason.{RuleReason}
 use Rattle.dbus_match.specs.declared.fault.RuleReason.TheVariants.{NoEquals, KeyName, KeyTwice, PathAndNamespace, OpenQuote, BadValue}
-use Rattle.dbus_match.specs.declared.value.Mode.TheVariants.{Outside}
+use Rattle.dbus_match.specs.declared.value_cut.Mode.TheVariants.{Outside}
 use Rattle.dbus_match.specs.Faults.{Excluded, NoSpaceFirst}
 use Rattle.dbus_match.specs.KeyReadings.{IsNamed}
 use Rattle.dbus_match.specs.Keys.{key_text, IsKey, IsValueOf}

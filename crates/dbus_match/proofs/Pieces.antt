@@ -2,7 +2,7 @@
 use Rattle.std.proofs.lemmas.Bool.{eqb-true}
 use Rattle.std.proofs.Common.{◌≡◌, ◌≢◌, ℕ, ◌+◌, Bool, true, false, ◌&&◌, eqb, List, [], ◌∷◌, ◌++◌, refl, sym, ap, ◌∙◌, append_assoc, append-nil, length, arith, length-append}
 use Rattle.std.specs.List.{AllByRecursion}
-use Rattle.dbus_match.specs.declared.value.Mode.TheVariants.{Outside, Inside}
+use Rattle.dbus_match.specs.declared.value_cut.Mode.TheVariants.{Outside, Inside}
 use Rattle.dbus_match.specs.Values.{Piece, quoted, escaped, plain, piece_text, piece_value, pieces_text, pieces_value, NoQuoteFirst, IsPiece, ArePieces}
 use Rattle.dbus_match.specs.Scans.{Reading, closed, open_at, quote_first, scan}
 use Rattle.dbus_match.specs.Readings.{Ends}

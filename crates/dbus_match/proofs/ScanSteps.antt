@@ -2,7 +2,7 @@
 use Rattle.std.proofs.Common.{◌≡◌, ◌≢◌, ℕ, ◌+◌, Bool, true, false, ◌&&◌, eqb, List, [], ◌∷◌, ◌++◌, refl, sym, ap, ◌∙◌}
 use Rattle.std.proofs.lemmas.Bool.{cond-true, cond-false, eqb-true}
 use Rattle.std.proofs.Common.{eq-eqb}
-use Rattle.dbus_match.specs.declared.value.Mode.TheVariants.{Outside, Escape, Inside}
+use Rattle.dbus_match.specs.declared.value_cut.Mode.TheVariants.{Outside, Escape, Inside}
 use Rattle.dbus_match.specs.Scans.{closed, quote_first, scan}
 
 pub ne-eqb : (m n : ℕ) → m ≢ n → eqb m n ≡ false

@@ -1,8 +1,8 @@
 -- What a cut of a value says of the text.
 use Rattle.std.proofs.Common.{◌≡◌, ℕ, List, [], drop, sym, ap, ◌∙◌, subst, Vec}
-use Rattle.dbus_match.specs.declared.value.Mode.TheVariants.{Outside}
-use Rattle.dbus_match.specs.declared.value.Cut.{Cut}
-use Rattle.dbus_match.specs.declared.value.Cut.TheVariants.{Closed, Open}
+use Rattle.dbus_match.specs.declared.value_cut.Mode.TheVariants.{Outside}
+use Rattle.dbus_match.specs.declared.value_cut.Cut.{Cut}
+use Rattle.dbus_match.specs.declared.value_cut.Cut.TheVariants.{Closed, Open}
 use Rattle.dbus_match.specs.Scans.{closed, open_at, scan}
 use Rattle.dbus_match.specs.Cuts.{cut_of}
 use Rattle.dbus_match.specs.Readings.{IsClosed, IsOpen, IsReading}

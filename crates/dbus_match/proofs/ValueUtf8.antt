@@ -5,7 +5,7 @@ use Rattle.std.specs.Str.{IsUtf8}
 use Rattle.std.proofs.lemmas.Bool.{cond_both, false≢true, ltb-true, ltb-false}
 use Rattle.std.proofs.lemmas.Str.{IsUtf8-append, IsUtf8-nil, encode_ascii, inside_one, length-encode, len_utf8_bounds}
 use lib.Utf8.{encode, encodes, scalar, scalars}
-use Rattle.dbus_match.specs.declared.value.Mode.TheVariants.{Outside, Escape, Inside}
+use Rattle.dbus_match.specs.declared.value_cut.Mode.TheVariants.{Outside, Escape, Inside}
 use Rattle.dbus_match.specs.Scans.{Reading, closed, quote_first, scan}
 use Rattle.dbus_match.proofs.ScanSteps.{at_plain, no_escape, after_escape, in_quote}
 use Rattle.dbus_match.proofs.Pieces.{reading_value}

@@ -1,8 +1,8 @@
 -- What the reading of a value's text answers, as a reading: after the value stands the rest of the text.
 -- D-Bus Specification, "Match Rules".
 use Rattle.std.specs.Prelude.{ℕ, List, drop}
-use Rattle.dbus_match.specs.declared.value.Cut.{Cut}
-use Rattle.dbus_match.specs.declared.value.Cut.TheVariants.{Closed, Open}
+use Rattle.dbus_match.specs.declared.value_cut.Cut.{Cut}
+use Rattle.dbus_match.specs.declared.value_cut.Cut.TheVariants.{Closed, Open}
 use Rattle.dbus_match.specs.Scans.{Reading, closed, open_at}
 
 abbrev pub cut_of : {A : Type 0} → List ℕ → Cut A → Reading

@@ -1,8 +1,8 @@
 -- A value's text at the start of a text, read byte by byte.
 -- D-Bus Specification, "Match Rules".
 use Rattle.std.specs.Prelude.{ℕ, ◌+◌, Bool, false, ◌&&◌, List, [], ◌∷◌, ◌++◌, ◌==◌, if◌then◌else◌}
-use Rattle.dbus_match.specs.declared.value.Mode.{Mode}
-use Rattle.dbus_match.specs.declared.value.Mode.TheVariants.{Outside, Escape, Inside}
+use Rattle.dbus_match.specs.declared.value_cut.Mode.{Mode}
+use Rattle.dbus_match.specs.declared.value_cut.Mode.TheVariants.{Outside, Escape, Inside}
 
 -- what a value's text gives: the value, and the place and text after it; or the place of the
 -- apostrophe that is not closed

@@ -17,7 +17,7 @@ mod parse;
 mod rule;
 mod texts;
 mod to_text;
-mod value;
+mod value_cut;
 mod value_kinds;
 mod view_matching;
 mod within;

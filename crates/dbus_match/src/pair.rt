@@ -13,7 +13,7 @@ use crate::condition::Condition;
 use crate::fault::{RuleFault, RuleReason};
 use crate::key::Key;
 use crate::key_name::key_of;
-use crate::value::{Cut, cut_value};
+use crate::value_cut::{Cut, cut_value};
 use std::alloc::{AllocError, Allocator};
 
 /// The place of the first `=` from `from` on; where a comma or the text's end comes before one, its place.

@@ -1,7 +1,7 @@
 use Rattle.std.proofs.Common.{◌≡◌, [], drop}
-use Rattle.dbus_match.specs.declared.value.Mode.TheVariants.{Outside}
+use Rattle.dbus_match.specs.declared.value_cut.Mode.TheVariants.{Outside}
 use Rattle.dbus_match.specs.Scans.{scan}
-use Rattle.dbus_match.proofs.value.cut_value.Given as goal
+use Rattle.dbus_match.proofs.value_cut.cut_value.Given as goal
 
 -- what is left gives the reading of the whole
 abbrev pub invariant-loop-i : goal.invariant-loop-i

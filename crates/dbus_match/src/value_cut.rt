@@ -1,8 +1,8 @@
-//! The text of a value, read byte by byte.
+//! The value of a pair, cut out of a rule's text byte by byte.
 #![tactic(auto)]
 
 ghost use Rattle.std.specs.Prelude.{◌≡◌, ℕ, ◌≤◌, List, [], drop, length, vec_items, IfOk};
-ghost use Rattle.dbus_match.specs.declared.value.Mode.TheVariants.{Outside};
+ghost use Rattle.dbus_match.specs.declared.value_cut.Mode.TheVariants.{Outside};
 ghost use Rattle.dbus_match.specs.Scans.{scan, quote_first};
 ghost use Rattle.dbus_match.specs.Cuts.{cut_of};
 
