@@ -16,6 +16,8 @@ pub mod PairFaults
 pub mod KeyReadings
 pub mod ValueUtf8
 pub mod ConditionLists
+pub mod CopiedRules
+pub mod SameRules
 pub mod ValueCuts
 pub mod NameReadings
 pub mod PairReadings

@@ -12,6 +12,10 @@ use Rattle.dbus_match.specs.RuleReadings.{IsRuleFault}
 abbrev pub rule_pairs : {A : Type 0} → Rule A → List Pair
 rule_pairs r = condition_pairs r.conditions.items
 
+-- the two have the same keys with the same values
+abbrev pub AreSameRule : {A B : Type 0} → Rule A → Rule B → Type 0
+AreSameRule r s = rule_pairs r ≡ rule_pairs s
+
 -- the rule that the text spells, or the text's fault
 abbrev pub IsRuleReading : {A : Type 0} → List ℕ → Result (Rule A) RuleFault → Type 0
 IsRuleReading w (Ok r) = SpellsRule w (rule_pairs r)

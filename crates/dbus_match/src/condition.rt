@@ -6,6 +6,7 @@ use std::alloc::Allocator;
 
 /// A key of a rule and its value.
 #[derive(Debug, Drop)]
+#[derive_where(PartialEq, Eq)]
 pub(crate) struct Condition<A: Allocator> {
     pub(crate) key: Key,
     pub(crate) value: String<A>,

@@ -1,7 +1,12 @@
-//! The laws of rules. Each function does nothing: its contract is the law.
+//! The laws of rules. None of these functions does anything, beyond comparing: their contracts are the laws.
 #![tactic(auto)]
 
+ghost use Rattle.std.specs.Prelude.{◌↔◌, IsTrue};
 ghost use Rattle.dbus_match.specs.Laws.{CanonicalSpells, Decided, NotBoth, OneFault, OneRule, SomeReading};
+ghost use Rattle.dbus_match.specs.RuleViews.{AreSameRule};
+
+use crate::rule::Rule;
+use std::alloc::Allocator;
 
 /// A text spells at most one rule.
 pub fn one_rule()
@@ -32,3 +37,10 @@ pub fn not_both()
 pub fn decided()
     ensures { Decided }
 {}
+
+/// `==` of two rules: they are equal exactly where they have the same keys with the same values.
+pub fn equal_rules<A: Allocator>(a: &Rule<A>, b: &Rule<A>) -> bool
+    ensures { IsTrue result ↔ AreSameRule a.now b.now }
+{
+    a == b
+}

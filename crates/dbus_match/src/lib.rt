@@ -5,6 +5,7 @@ mod asked;
 mod compare;
 mod condition;
 mod conditions;
+mod copies;
 mod fault;
 mod fault_text;
 mod key;

@@ -12,6 +12,7 @@ use std::alloc::{Allocator, Global};
 ///
 /// `parse_rule` makes one of its text, and `rule_text` gives its canonical text.
 #[derive(Debug, Drop)]
+#[derive_where(PartialEq, Eq)]
 pub struct Rule<A: Allocator = Global> {
     /// In canonical order.
     pub(crate) conditions: Vec<Condition<A>, A>,
