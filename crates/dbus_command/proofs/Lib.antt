@@ -1,4 +1,5 @@
 pub mod Nothing
 pub mod Numbers
 pub mod Options
+pub mod SameCommands
 pub mod Tells

@@ -3,7 +3,7 @@ use dbus_match::Rule;
 use dbus_value::Order;
 
 /// What the program does with the messages that it reads.
-#[derive(Debug, Drop)]
+#[derive(PartialEq, Eq, Debug, Drop)]
 pub enum Command {
     /// Writes each message as text.
     Show,

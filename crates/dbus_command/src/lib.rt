@@ -3,7 +3,9 @@
 
 mod command;
 mod command_line;
+mod copies;
 mod help;
+pub mod laws;
 mod limits_named;
 mod usage_fault;
 mod wire;
