@@ -245,3 +245,13 @@ const USAGES: &[(&[&str], &str)] = &[
 fn usages(rt: HostRuntime) -> Result<(), Fail> {
     each_tells(&rt, USAGES, Text::Usage)
 }
+
+#[test]
+fn copied_commands(rt: HostRuntime) -> Result<(), Fail> {
+    let Ok((command, _)) = answer_to(rt.alloc(), &["filter", "member='X'"])? else {
+        return Err(Fail::new("no command"));
+    };
+    assert!(rt; command.clone()? == command);
+    assert!(rt; command != Command::Check);
+    Ok(())
+}
