@@ -7,7 +7,7 @@
 # make test-memory runs dbus-wire with each growth of its memory refused in turn
 # make install     puts the proved dbus-wire, its manual page and its completions, and the library for C, below PREFIX
 # make instructions prints the instructions a byte of each command, by valgrind, and of libdbus where its headers are
-# make bench       MB/s of each command on a sample repeated to 64 MB, and of the calls of the libraries
+# make bench       MB/s of each command on several streams, by user and system time, and of the calls of the libraries
 
 PREFIX ?= /usr/local
 PROGRAM = crates/dbus_wire/out/dbus_wire
@@ -45,7 +45,7 @@ instructions: build
 	bench/instructions.sh $(PROGRAM)
 
 bench: build
-	bench/commands.sh $(PROGRAM) samples/session.dbus
+	bench/commands.sh $(PROGRAM)
 	cd crates/dbus_bench && rt run -- 64 < ../../samples/session.dbus
 
 install: build library

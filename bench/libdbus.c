@@ -1,5 +1,5 @@
 /* Reads the messages of standard input by libdbus, one after the other, and says how many they are: what bench/instructions.sh
- * measures the commands beside. */
+ * and bench/commands.sh measure the commands beside. */
 #include <dbus/dbus.h>
 #include <stdio.h>
 #include <stdlib.h>
@@ -10,8 +10,15 @@ int main(void) {
     DBusError fault;
     if (!bytes)
         return 3;
-    while ((got = fread(bytes + size, 1, room - size, stdin)) > 0)
+    while ((got = fread(bytes + size, 1, room - size, stdin)) > 0) {
         size += got;
+        if (size == room) {
+            char *more = realloc(bytes, room *= 2);
+            if (!more)
+                return 3;
+            bytes = more;
+        }
+    }
     dbus_error_init(&fault);
     while (at < size) {
         int length = dbus_message_demarshal_bytes_needed(bytes + at, (int)(size - at));

@@ -1,0 +1,91 @@
+#!/usr/bin/env python3
+"""speed.py PROGRAM [LIBDBUS]: MB a second of user and system time of each command of PROGRAM, and of LIBDBUS, a build of libdbus.c.
+
+The streams are the sample captures and the shapes of shapes.py, each repeated to about 32 MB, and one message of 64 MB. Each
+command line is run once to warm up and then five times; a row has the median of these and, in brackets, the best.
+"""
+
+import os
+import resource
+import statistics
+import subprocess
+import sys
+import tempfile
+
+HERE = os.path.dirname(os.path.abspath(__file__))
+SAMPLES = os.path.join(HERE, "..", "samples")
+SHAPES = ("dictionaries", "texts", "structs", "bytes", "doubles")
+SIZE = 32_000_000
+RUNS = 5
+COMMANDS = {
+    "check": ("check",),
+    "filter": ("filter", "type='signal'"),
+    "swap l": ("swap", "--to", "l"),
+    "swap B": ("swap", "--to", "B"),
+    "show": ("show",),
+}
+# A method return in little endian, whose body is one array of 64,000,000 bytes.
+LONG_HEADER = (
+    b"l\x02\x00\x01\x04\x90\xd0\x03\x01\x00\x00\x00\x10\x00\x00\x00"
+    b"\x05\x01u\x00\x01\x00\x00\x00\x08\x01g\x00\x02ay\x00"
+    b"\x00\x90\xd0\x03"
+)
+
+
+def write_repeated(path, source):
+    """The bytes of a file, again and again."""
+    with open(source, "rb") as file:
+        once = file.read()
+    with open(path, "wb") as file:
+        for _ in range(SIZE // len(once)):
+            file.write(once)
+
+
+def write_streams(folder):
+    """The paths of the streams, by name."""
+    once = os.path.join(folder, "once")
+    os.mkdir(once)
+    subprocess.run([os.path.join(HERE, "shapes.py"), once], check=True)
+    sources = {name: os.path.join(SAMPLES, f"{name}.dbus") for name in ("session", "big-endian")}
+    sources.update({name: os.path.join(once, f"{name}.dbus") for name in SHAPES})
+    paths = {}
+    for name, source in sources.items():
+        paths[name] = os.path.join(folder, name)
+        write_repeated(paths[name], source)
+    paths["one message"] = os.path.join(folder, "long")
+    with open(paths["one message"], "wb") as file:
+        file.write(LONG_HEADER)
+        file.write(bytes(64_000_000))
+    return paths
+
+
+def seconds(command_line, path):
+    """The user and system time of one run."""
+    before = resource.getrusage(resource.RUSAGE_CHILDREN)
+    with open(path, "rb") as stream:
+        subprocess.run(command_line, stdin=stream, stdout=subprocess.DEVNULL, check=True)
+    after = resource.getrusage(resource.RUSAGE_CHILDREN)
+    return after.ru_utime - before.ru_utime + after.ru_stime - before.ru_stime
+
+
+def speed(command_line, path):
+    """The median and the best of the runs."""
+    seconds(command_line, path)
+    megabytes = os.path.getsize(path) / 1e6
+    speeds = [megabytes / seconds(command_line, path) for _ in range(RUNS)]
+    return f"{statistics.median(speeds):.0f} ({max(speeds):.0f})"
+
+
+def main():
+    program, *libdbus = sys.argv[1:]
+    command_lines = {name: (program, *words) for name, words in COMMANDS.items()}
+    if libdbus:
+        command_lines["libdbus"] = tuple(libdbus)
+    print(f"{'MB/s':14}" + "".join(f"{name:>14}" for name in command_lines))
+    with tempfile.TemporaryDirectory() as folder:
+        for name, path in write_streams(folder).items():
+            print(f"{name:14}" + "".join(f"{speed(line, path):>14}" for line in command_lines.values()), flush=True)
+
+
+if __name__ == "__main__":
+    main()
