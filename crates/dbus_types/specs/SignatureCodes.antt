@@ -1,8 +1,7 @@
 -- Types as the bytes of a signature: which byte each begins with, and where it ends.
 -- D-Bus Specification, "Valid Signatures", "Summary of types".
-use Rattle.std.specs.Prelude.{◌≡◌, ℕ, zero, suc, List, [], ◌∷◌, ◌||◌, ◌==◌, if◌then◌else◌, Option, None}
+use Rattle.std.specs.Prelude.{◌≡◌, ℕ, zero, suc, List, [], ◌∷◌, ◌||◌, ◌==◌, if◌then◌else◌}
 use Rattle.dbus_texts.specs.Types.{NumberCode, TypeTree, NumberType, TextType, VariantType, ArrayType, StructType, EntryType, number_code, text_code}
-use Rattle.dbus_value_model.specs.ValueItems.{number_row}
 
 -- the first byte of a type's text
 abbrev pub first_code : TypeTree → ℕ
@@ -48,7 +47,3 @@ free_width c =
     else (if (c == 110) || (c == 113) then 2
     else (if (c == 105) || (c == 117) then 4
     else (if (c == 120) || ((c == 116) || (c == 100)) then 8 else 0)))
-
--- every number may stand
-abbrev pub IsFree : Option ℕ → NumberCode → Type 0
-IsFree fds k = (p n : ℕ) → number_row fds k p n ≡ None

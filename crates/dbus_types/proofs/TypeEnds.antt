@@ -2,7 +2,7 @@
 use Rattle.std.proofs.Common.{◌≡◌, ℕ, suc, ◌+◌, List, [], ◌∷◌, ◌++◌, length, refl, ap, ◌∙◌, arith, append_assoc}
 use Rattle.std.proofs.lemmas.List.{length-append}
 use Rattle.dbus_texts.specs.Types.{NumberCode, BYTE, BOOLEAN, INT16, UINT16, INT32, UINT32, INT64, UINT64, DOUBLE, UNIX_FD, TextCode, STRING, OBJECT_PATH, SIGNATURE, TypeTree, NumberType, TextType, VariantType, ArrayType, StructType, EntryType, TypeTrees, NoTypes, MoreTypes, number_code, text_code, sig, sigs}
-use Rattle.dbus_type_codes.specs.Codes.{type_length, unless_closed}
+use Rattle.dbus_types.specs.SignatureCodes.{type_length, unless_closed}
 
 number_ends : (deep : ℕ) (k : NumberCode) (s : List ℕ) → type_length deep (number_code k ∷ s) ≡ suc (unless_closed deep (λ n. type_length n s))
 number_ends deep BYTE s = refl

@@ -3,10 +3,7 @@
 #![tactic(auto)]
 
 ghost use Rattle.std.specs.Prelude.{◌≡◌, ◌+◌, ◌<◌, ◌≤◌, ◌^◌, length, drop};
-ghost use Rattle.dbus_value_model.specs.Bytes.{gap_to};
-ghost use Rattle.dbus_type_codes.specs.Codes.{open_after, type_length, code_boundary, free_width};
-
-use dbus_value_model::padding_length;
+ghost use Rattle.dbus_types.specs.SignatureCodes.{open_after, type_length, code_boundary, free_width};
 
 /// How many brackets are open after a byte, where so many are before it.
 #[inline]
@@ -74,21 +71,4 @@ pub fn free_width(code: u8) -> u8
         b'x' | b't' | b'd' => 8,
         _ => 0,
     }
-}
-
-/// How many zeros reach the boundary. Those boundaries that there are stand as constants, so that nothing is divided.
-/// D-Bus Specification, "Marshaling (Wire Format)".
-#[inline]
-pub fn gap(boundary: u8, at: usize) -> usize
-    requires { 0 < boundary }
-    ensures { result ≡ gap_to boundary at }
-{
-    let at = at as u64;
-    usize::from(match boundary {
-        1 => padding_length(1, at),
-        2 => padding_length(2, at),
-        4 => padding_length(4, at),
-        8 => padding_length(8, at),
-        other => padding_length(other, at),
-    })
 }

@@ -1,6 +1,6 @@
 use Rattle.std.proofs.Common.{◌≡◌, ◌+◌, ◌-◌, ◌≤◌, length, drop}
-use Rattle.dbus_type_codes.specs.Codes.{type_length}
-use Rattle.dbus_type_codes.proofs.codes.type_end.Given as goal
+use Rattle.dbus_types.specs.SignatureCodes.{type_length}
+use Rattle.dbus_types.proofs.signature_codes.type_end.Given as goal
 
 abbrev pub invariant-loop-at : goal.invariant-loop-at
 invariant-loop-at l = record {
