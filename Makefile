@@ -6,6 +6,7 @@
 # make test-c      builds the examples for C and Rust over it, and holds what they write against dbus-wire check
 # make test-memory runs dbus-wire with each growth of its memory refused in turn
 # make install     puts the proved dbus-wire, its manual page and its completions, and the library for C, below PREFIX
+# make wrong-bodies prints the wrong bodies that the prover refuses, and what refuses each
 # make instructions prints the instructions a byte of each command, by valgrind, and of libdbus where its headers are
 # make bench       MB/s of each command on several streams, by user and system time, and of the calls of the libraries
 
@@ -17,7 +18,7 @@ INSTALLED = bin/dbus-wire share/man/man1/dbus-wire.1 share/bash-completion/compl
 	share/zsh/site-functions/_dbus-wire share/fish/vendor_completions.d/dbus-wire.fish \
 	include/dbus_wire.h lib/libdbus_wire.a lib/pkgconfig/dbus-wire.pc
 
-.PHONY: run build library test test-c test-memory gate-times instructions bench install uninstall
+.PHONY: run build library test test-c test-memory gate-times wrong-bodies instructions bench install uninstall
 
 run:
 	@echo "dbus-wire as it is, built without its proofs (make build proves it):"
@@ -40,6 +41,9 @@ test-memory: build
 
 gate-times:
 	bench/gate_times.py
+
+wrong-bodies:
+	bench/wrong_bodies.py
 
 instructions: build
 	bench/instructions.sh $(PROGRAM)
