@@ -1,8 +1,11 @@
-# make run         builds dbus-wire without its proofs, in 40 seconds, and checks a sample capture
-# make build       proves dbus-wire and all below it, and builds it: three quarters of an hour on four cores; with -j4 side by side
-# make test        the gate: every proof from nothing, the must-fail edits, the tests and the program's stored run
+# make run         builds dbus-wire without its proofs, in 40 seconds, and checks a sample capture; ARGS='show' FILE=my.dbus for
+#                  another command and capture
+# make quick-test  the tests and the programs that hold every case, without proofs: some minutes
+# make build       proves dbus-wire and all below it, on all processors, and builds it: three quarters of an hour on four
+# make test        the gate: every proof from nothing, the must-fail edits, the tests and the programs' stored runs
 # make gate-times  the gate, and the processor minutes of each of its steps
 # make library     proves and builds the static library for C
+# make peers       holds the message cases against libdbus, GDBus and sd-bus, and writes docs/PEERS.md
 # make test-c      builds the examples for C and Rust over it, and holds what they write against dbus-wire check
 # make test-memory runs dbus-wire with each growth of its memory refused in turn
 # make install     puts the proved dbus-wire, its manual page and its completions, and the library for C, below PREFIX
@@ -18,19 +21,30 @@ INSTALLED = bin/dbus-wire share/man/man1/dbus-wire.1 share/bash-completion/compl
 	share/zsh/site-functions/_dbus-wire share/fish/vendor_completions.d/dbus-wire.fish \
 	include/dbus_wire.h lib/libdbus_wire.a lib/pkgconfig/dbus-wire.pc
 
-.PHONY: run build library test test-c test-memory gate-times wrong-bodies instructions bench install uninstall
+# What make run does, and with which capture.
+ARGS = check
+FILE = samples/session.dbus
 
-run:
-	@echo "dbus-wire as it is, built without its proofs (make build proves it):"
-	cd crates/dbus_wire && rt try -- check < ../../samples/session.dbus
+.PHONY: kit run quick-test build library test test-c test-memory gate-times wrong-bodies peers instructions bench install uninstall
 
-build: lib-dbus_stream lib-dbus_tool
-	cd crates/dbus_wire && rt run -- check < /dev/null > /dev/null
+run: kit
+	@echo "dbus-wire without its proofs (make build proves it), which takes at most 64 MiB in and gives 1 MiB out:" >&2
+	@(cd crates/dbus_wire && rt try -- $(ARGS)) < "$(FILE)"
 
-library: lib-dbus_c
+kit:
+	@command -v rt > /dev/null || { echo "rt is missing: the bin folder of the Rattle kit has to be on the PATH" >&2; exit 1; }
+
+quick-test: kit
+	bench/quick_test.py
+
+build: kit
+	bench/build.py dbus_wire
+
+library: kit
+	bench/build.py dbus_c
 	cp crates/dbus_c/out/libdbus_c.a $(ARCHIVE)
 
-test:
+test: kit
 	rt ci
 
 test-c: build library
@@ -39,11 +53,14 @@ test-c: build library
 test-memory: build
 	bench/refused_memory.py $(PROGRAM) samples/big-endian.dbus
 
-gate-times:
+gate-times: kit
 	bench/gate_times.py
 
 wrong-bodies:
 	bench/wrong_bodies.py
+
+peers:
+	cases/peers/compare.py
 
 instructions: build
 	bench/instructions.sh $(PROGRAM)
@@ -65,15 +82,3 @@ install: build library
 
 uninstall:
 	rm -f $(addprefix $(DESTDIR)$(PREFIX)/,$(INSTALLED))
-
-# A library is proved once those that it stands on are, and so beside those that it does not stand on: from each line
-# `NAME: DEP DEP ..` of crates.txt a rule `lib-NAME: lib-DEP lib-DEP ..`. The kit's own libraries are proved already.
-# A line `NAME staticlib: DEP ..` gives the same rule.
-out/crates.mk: crates.txt
-	@mkdir -p out
-	@sed -nE '/^[a-z]/ { s/ staticlib//; s/[a-z_]+/lib-&/g; p }' $< > $@
-
-include out/crates.mk
-
-lib-%:
-	@if [ -d crates/$* ]; then cd crates/$* && rt lib; fi

@@ -1,0 +1,31 @@
+"""What the scripts share: the crates of crates.txt, which has a line `NAME: LIBRARY ..` for each, lowest first, and the machine."""
+
+import os
+import pathlib
+
+ROOT = pathlib.Path(__file__).resolve().parent.parent
+# A check takes about so much memory.
+GIGABYTES_A_CHECK = 2
+
+
+def read_lines():
+    """The line of each crate, in the order of the list."""
+    lines = [it for it in (ROOT / "crates.txt").read_text().splitlines() if ":" in it and it[0] != "#"]
+    return {line.split(":")[0].split()[0]: line for line in lines}
+
+
+def read_crates():
+    """Of each crate, the libraries of this repository that its line names."""
+    lines = read_lines()
+    return {name: [it for it in line.split(":")[1].split() if it in lines] for name, line in lines.items()}
+
+
+def folder_of(name):
+    return ROOT / "crates" / name
+
+
+def lanes():
+    """How many checks fit side by side: one a processor, if memory is there for each."""
+    with open("/proc/meminfo") as file:
+        kilobytes = next(int(line.split()[1]) for line in file if line.startswith("MemAvailable:"))
+    return max(1, min(len(os.sched_getaffinity(0)), kilobytes // 1024**2 // GIGABYTES_A_CHECK))
