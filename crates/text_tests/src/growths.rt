@@ -1,15 +1,13 @@
 //! Each growth refused in turn: the call answers want of memory, no block leaks, and what is changed by calls answers the
 //! same call made again as if nothing had been.
 
-use crate::lines::Sender::{Client, Server};
-use crate::lines::{Sender, cut, written_again};
-use crate::machines::{client_receive, client_start, server_receive};
-use crate::samples::{OK_LINE, client_end, did, server_end};
+use crate::end_growths::{EndTurn, client_takes, server_takes};
+use crate::line_growths::{CutTurn, client_line, cuts, server_line};
+use crate::machine_growths::{ClientTurn, ServerTurn, client_hears, server_hears};
+use crate::samples::OK_LINE;
 use crate::shown::{SIGNAL, SIGNAL_TEXT, message_of};
-use dbus_auth::Status;
-use dbus_auth_lines::{
-    LineCutter, LineFault, TextFault, client_text, read_client, read_server, server_text,
-};
+use dbus_auth::{ClientState, ServerState, Status};
+use dbus_auth_lines::LineFault;
 use dbus_match::{RuleFault, RuleReason, parse_rule, rule_text};
 use dbus_message::Message;
 use dbus_show::{show_into, show_message};
@@ -19,29 +17,23 @@ use std::alloc::AllocError;
 use std::process::Abort;
 use std::test::Fail;
 
-/// A call that takes memory.
+/// A call that takes memory, or several in turn.
 #[derive(Clone, Copy)]
 enum Call {
-    /// A line is read and written again as this text.
-    Line(Sender, &'static [u8], &'static [u8]),
-    /// A line is read.
-    LineRead(Sender, &'static [u8], &'static [u8]),
-    /// A line that was read is written as this text.
-    LineText(Sender, &'static [u8], &'static [u8]),
-    /// A cutter that was handed some bytes takes others, and gives this.
-    Cut(&'static [u8], &'static [u8], Result<(usize, Option<usize>), LineFault>),
-    /// A server's machine, which offers ANONYMOUS, answers this text to a line.
-    ServerReceive(&'static [u8], &'static [u8]),
-    /// A client's machine starts.
-    MachineStart,
-    /// A client's machine that started answers this text to a line.
-    ClientReceive(&'static [u8], &'static [u8]),
-    /// A server's end takes the byte 0 and a line.
-    ServerTake,
-    /// A client's end starts.
-    EndStart,
-    /// A client's end takes a line.
-    ClientTake,
+    /// A line of a client is read and written as this text, or no line spells it.
+    ClientLine(&'static [u8], Option<&'static [u8]>),
+    /// The same of a line of a server.
+    ServerLine(&'static [u8], Option<&'static [u8]>),
+    /// A cutter takes pieces.
+    Cuts(&'static [CutTurn]),
+    /// A server's machine, which offers ANONYMOUS or not, receives lines.
+    ServerHears(bool, &'static [ServerTurn]),
+    /// A client's machine, which tries ANONYMOUS with a trace as its second mechanism or not, starts and receives lines.
+    ClientHears(Option<&'static [u8]>, &'static [ClientTurn]),
+    /// A server's end takes pieces.
+    ServerTakes(&'static [EndTurn]),
+    /// The end of such a client starts and takes pieces.
+    ClientTakes(Option<&'static [u8]>, &'static [EndTurn]),
     /// A rule is read, or has this fault.
     RuleRead(&'static str, Option<RuleFault>),
     /// A rule is written.
@@ -52,85 +44,238 @@ enum Call {
     ShowInto,
 }
 
-/// Calls, and how many growths each asks for at least.
-const CALLS: &[(Call, u64)] = &[
+/// Lines of clients and servers, and cutters of lines, up to the longest line.
+const LINES: &[(Call, u64)] = &[
     (
-        Call::Line(
-            Client,
+        Call::ClientLine(
             b"AUTH EXTERNAL 31303030",
-            b"AUTH EXTERNAL 31303030\r\n",
+            Some(b"AUTH EXTERNAL 31303030\r\n"),
         ),
-        1,
+        3,
     ),
-    (Call::Line(Client, b"DATA 00", b"DATA 00\r\n"), 1),
-    (Call::Line(Client, b"ERROR x", b"ERROR x\r\n"), 1),
-    (Call::Line(Client, b"BEGIN", b"BEGIN\r\n"), 1),
+    (Call::ClientLine(b"AUTH EXTERNAL 3", None), 0),
+    (Call::ClientLine(b"DATA 00", Some(b"DATA 00\r\n")), 2),
+    (Call::ClientLine(b"ERROR x", Some(b"ERROR x\r\n")), 2),
+    (Call::ClientLine(b"BEGIN", Some(b"BEGIN\r\n")), 1),
     (
-        Call::Line(
-            Server,
+        Call::ServerLine(
             b"REJECTED EXTERNAL ANONYMOUS",
-            b"REJECTED EXTERNAL ANONYMOUS\r\n",
+            Some(b"REJECTED EXTERNAL ANONYMOUS\r\n"),
+        ),
+        3,
+    ),
+    (
+        Call::ServerLine(b"OK 0123456789abcdef0123456789abcdef", Some(OK_LINE)),
+        1,
+    ),
+    (Call::ServerLine(b"DATA", Some(b"DATA\r\n")), 1),
+    (Call::ServerLine(b"DATA 00", Some(b"DATA 00\r\n")), 2),
+    (Call::Cuts(&[(0, b"BEGIN\r\nl", Ok((7, Some(5))))]), 1),
+    (
+        Call::Cuts(&[
+            (0, b"BEG", Ok((3, None))),
+            (0, b"IN\r\nl", Ok((4, Some(5)))),
+        ]),
+        2,
+    ),
+    (
+        Call::Cuts(&[
+            (0, b"BEG", Ok((3, None))),
+            (0, b"IN\n", Err(LineFault::BadByte { at: 5 })),
+        ]),
+        1,
+    ),
+    (
+        Call::Cuts(&[(16_381, b"\r\n", Ok((16_383, Some(16_381))))]),
+        1,
+    ),
+    (
+        Call::Cuts(&[(16_382, b"\r\n", Ok((16_384, Some(16_382))))]),
+        1,
+    ),
+    (Call::Cuts(&[(16_383, b"\r\n", Err(LineFault::TooLong))]), 0),
+    (
+        Call::Cuts(&[
+            (16_382, b"\r", Ok((16_383, None))),
+            (0, b"\n", Ok((1, Some(16_382)))),
+        ]),
+        2,
+    ),
+];
+
+/// Servers as user 1000, by their machine and by their end.
+const SERVERS: &[(Call, u64)] = &[
+    (
+        Call::ServerHears(
+            false,
+            &[(
+                b"AUTH EXTERNAL 31303030",
+                OK_LINE,
+                ServerState::WaitingForBegin,
+            )],
         ),
         1,
     ),
     (
-        Call::Line(Server, b"OK 0123456789abcdef0123456789abcdef", OK_LINE),
-        1,
-    ),
-    (Call::Line(Server, b"DATA", b"DATA\r\n"), 1),
-    (
-        Call::LineRead(
-            Client,
-            b"AUTH EXTERNAL 31303030",
-            b"AUTH EXTERNAL 31303030\r\n",
+        Call::ServerHears(
+            false,
+            &[(
+                b"AUTH EXTERNAL 31303031",
+                b"REJECTED EXTERNAL\r\n",
+                ServerState::WaitingForAuth,
+            )],
         ),
         2,
     ),
-    (Call::LineRead(Client, b"BEGIN", b"BEGIN\r\n"), 0),
     (
-        Call::LineRead(
-            Server,
-            b"REJECTED EXTERNAL ANONYMOUS",
-            b"REJECTED EXTERNAL ANONYMOUS\r\n",
-        ),
-        2,
-    ),
-    (Call::LineRead(Server, b"DATA 00", b"DATA 00\r\n"), 1),
-    (
-        Call::LineText(
-            Client,
-            b"AUTH EXTERNAL 31303030",
-            b"AUTH EXTERNAL 31303030\r\n",
-        ),
-        1,
-    ),
-    (
-        Call::LineText(
-            Server,
-            b"REJECTED EXTERNAL ANONYMOUS",
-            b"REJECTED EXTERNAL ANONYMOUS\r\n",
-        ),
-        1,
-    ),
-    (Call::Cut(b"", b"BEGIN\r\nl", Ok((7, Some(5)))), 1),
-    (Call::Cut(b"", b"BEG", Ok((3, None))), 1),
-    (Call::Cut(b"BEG", b"IN\r\nl", Ok((4, Some(5)))), 1),
-    (
-        Call::Cut(b"BEG", b"IN\n", Err(LineFault::BadByte { at: 5 })),
+        Call::ServerHears(false, &[(b"BEGIN", b"", ServerState::Closed)]),
         0,
     ),
     (
-        Call::ServerReceive(b"AUTH", b"REJECTED EXTERNAL ANONYMOUS\r\n"),
+        Call::ServerHears(
+            false,
+            &[
+                (b"AUTH EXTERNAL", b"DATA\r\n", ServerState::WaitingForData),
+                (b"DATA", OK_LINE, ServerState::WaitingForBegin),
+                (
+                    b"NEGOTIATE_UNIX_FD",
+                    b"ERROR\r\n",
+                    ServerState::WaitingForBegin,
+                ),
+                (b"BEGIN", b"", ServerState::Begun),
+            ],
+        ),
+        0,
+    ),
+    (
+        Call::ServerHears(
+            true,
+            &[(
+                b"AUTH",
+                b"REJECTED EXTERNAL ANONYMOUS\r\n",
+                ServerState::WaitingForAuth,
+            )],
+        ),
         2,
     ),
-    (Call::MachineStart, 1),
     (
-        Call::ClientReceive(b"REJECTED EXTERNAL ANONYMOUS", b"AUTH ANONYMOUS 78\r\n"),
+        Call::ServerTakes(&[(
+            b"\0AUTH EXTERNAL 31303030\r\nBEGIN",
+            (25, OK_LINE, Status::Talking),
+        )]),
         1,
     ),
-    (Call::ServerTake, 1),
-    (Call::EndStart, 1),
-    (Call::ClientTake, 1),
+    (
+        Call::ServerTakes(&[(
+            b"\0AUTH EXTERNAL 31303031\r\n",
+            (25, b"REJECTED EXTERNAL\r\n", Status::Talking),
+        )]),
+        1,
+    ),
+    (
+        Call::ServerTakes(&[(b"\0BEGIN\r\n", (8, b"", Status::Closed))]),
+        1,
+    ),
+    (
+        Call::ServerTakes(&[
+            (
+                b"\0AUTH EXTERNAL\r\nDATA\r\nNEGOTIATE_UNIX_FD\r\nBEGIN\r\nl",
+                (16, b"DATA\r\n", Status::Talking),
+            ),
+            (
+                b"DATA\r\nNEGOTIATE_UNIX_FD\r\nBEGIN\r\nl",
+                (6, OK_LINE, Status::Talking),
+            ),
+            (
+                b"NEGOTIATE_UNIX_FD\r\nBEGIN\r\nl",
+                (19, b"ERROR\r\n", Status::Talking),
+            ),
+            (b"BEGIN\r\nl", (7, b"", Status::Begun)),
+            (b"l", (0, b"", Status::Begun)),
+        ]),
+        4,
+    ),
+    (
+        Call::ServerTakes(&[
+            (b"\0AUTH", (5, b"", Status::Talking)),
+            (b"\r\n", (2, b"REJECTED EXTERNAL\r\n", Status::Talking)),
+        ]),
+        2,
+    ),
+];
+
+/// Clients as user 1000, by their machine and by their end.
+const CLIENTS: &[(Call, u64)] = &[
+    (
+        Call::ClientHears(
+            Some(b"x"),
+            &[
+                (
+                    None,
+                    b"AUTH EXTERNAL 31303030\r\n",
+                    ClientState::WaitingForOk,
+                ),
+                (
+                    Some(b"REJECTED EXTERNAL ANONYMOUS"),
+                    b"AUTH ANONYMOUS 78\r\n",
+                    ClientState::WaitingForOk,
+                ),
+                (
+                    Some(b"OK 0123456789abcdef0123456789abcdef"),
+                    b"",
+                    ClientState::Begun,
+                ),
+            ],
+        ),
+        2,
+    ),
+    (
+        Call::ClientHears(
+            None,
+            &[
+                (
+                    None,
+                    b"AUTH EXTERNAL 31303030\r\n",
+                    ClientState::WaitingForOk,
+                ),
+                (Some(b"DATA"), b"CANCEL\r\n", ClientState::WaitingForReject),
+                (
+                    Some(b"OK 0123456789abcdef0123456789abcdef"),
+                    b"",
+                    ClientState::Closed,
+                ),
+            ],
+        ),
+        1,
+    ),
+    (
+        Call::ClientTakes(
+            Some(b"x"),
+            &[
+                (
+                    b"REJECTED EXTERNAL ANONYMOUS\r\n",
+                    (29, b"AUTH ANONYMOUS 78\r\n", Status::Talking),
+                ),
+                (OK_LINE, (37, b"BEGIN\r\n", Status::Begun)),
+                (b"l", (0, b"", Status::Begun)),
+            ],
+        ),
+        3,
+    ),
+    (
+        Call::ClientTakes(
+            None,
+            &[
+                (b"DATA\r\n", (6, b"CANCEL\r\n", Status::Talking)),
+                (OK_LINE, (37, b"", Status::Closed)),
+            ],
+        ),
+        3,
+    ),
+];
+
+/// Rules and printed messages.
+const TEXTS: &[(Call, u64)] = &[
     (Call::RuleRead(RULE, None), 2),
     (
         Call::RuleRead(
@@ -149,8 +294,16 @@ const CALLS: &[(Call, u64)] = &[
 
 #[test]
 fn each_growth_refused(rt: HostRuntime) -> Result<(), Fail> {
-    for (row, (call, least)) in CALLS.iter().enumerate() {
-        let growths = growths_of(&rt, row, *call)?;
+    for calls in [LINES, SERVERS, CLIENTS, TEXTS] {
+        all_refused(&rt, calls)?;
+    }
+    Ok(())
+}
+
+/// Calls, and how many growths each asks for at least.
+fn all_refused(rt: &(impl Abort + AllocGlobal), calls: &[(Call, u64)]) -> Result<(), Fail> {
+    for (row, (call, least)) in calls.iter().enumerate() {
+        let growths = growths_of(rt, row, *call)?;
         assert!(rt; growths >= *least, "row {row}: {growths}");
     }
     Ok(())
@@ -176,181 +329,24 @@ fn growths_of(rt: &(impl Abort + AllocGlobal), row: usize, call: Call) -> Result
 
 /// Whether the call answered want of memory, with its `n`th growth refused. It is then made again, and answers as if nothing
 /// had been; where none is refused, so does the first.
-fn is_refused(rt: &impl Abort, heap: &Refusing, n: u64, call: Call) -> Result<bool, Fail> {
+fn is_refused(
+    rt: &(impl Abort + AllocGlobal),
+    heap: &Refusing,
+    n: u64,
+    call: Call,
+) -> Result<bool, Fail> {
     match call {
-        Call::Line(sender, line, want) => line_again(rt, heap, n, sender, line, want),
-        Call::LineRead(sender, line, want) => line_read(rt, heap, n, sender, line, want),
-        Call::LineText(Client, line, want) => client_line(rt, heap, n, line, want),
-        Call::LineText(Server, line, want) => server_line(rt, heap, n, line, want),
-        Call::Cut(front, rest, want) => Ok(line_cut(rt, heap, n, front, rest, want)),
-        Call::ServerReceive(line, want) => server_receive(rt, heap, n, line, want),
-        Call::MachineStart => client_start(rt, heap, n, b"AUTH EXTERNAL 31303030\r\n"),
-        Call::ClientReceive(line, want) => client_receive(rt, heap, n, line, want),
-        Call::ServerTake => server_take(rt, heap, n),
-        Call::EndStart => end_start(rt, heap, n),
-        Call::ClientTake => client_take(rt, heap, n),
+        Call::ClientLine(line, want) => client_line(rt, heap, n, line, want),
+        Call::ServerLine(line, want) => server_line(rt, heap, n, line, want),
+        Call::Cuts(turns) => cuts(rt, heap, n, turns),
+        Call::ServerHears(anonymous, turns) => server_hears(rt, heap, n, anonymous, turns),
+        Call::ClientHears(trace, turns) => client_hears(rt, heap, n, trace, turns),
+        Call::ServerTakes(turns) => server_takes(rt, heap, n, turns),
+        Call::ClientTakes(trace, turns) => client_takes(rt, heap, n, trace, turns),
         Call::RuleRead(text, want) => Ok(rule_read(rt, heap, n, text, want)),
         Call::RuleText => rule_written(rt, heap, n),
         Call::Show => show(rt, heap, n),
         Call::ShowInto => show_kept(rt, heap, n),
-    }
-}
-
-fn line_again(
-    rt: &impl Abort,
-    heap: &Refusing,
-    n: u64,
-    sender: Sender,
-    line: &[u8],
-    want: &[u8],
-) -> Result<bool, Fail> {
-    heap.refuse_nth(n);
-    match written_again(heap, sender, line) {
-        Ok(text) => {
-            assert_eq!(rt; text.as_slice(), want);
-            Ok(false)
-        }
-        Err(fault) => {
-            assert_eq!(rt; fault, TextFault::Memory);
-            is_written(rt, written_again(heap, sender, line), want)
-        }
-    }
-}
-
-/// The text is this.
-fn is_written(
-    rt: &impl Abort,
-    text: Result<Vec<u8, &Refusing>, TextFault>,
-    want: &[u8],
-) -> Result<bool, Fail> {
-    assert_eq!(rt; text?.as_slice(), want);
-    Ok(true)
-}
-
-fn line_read(
-    rt: &impl Abort,
-    heap: &Refusing,
-    n: u64,
-    sender: Sender,
-    line: &[u8],
-    want: &[u8],
-) -> Result<bool, Fail> {
-    heap.refuse_nth(n);
-    let is_read = match sender {
-        Client => read_client(heap, line).is_ok(),
-        Server => read_server(heap, line).is_ok(),
-    };
-    if is_read {
-        return Ok(false);
-    }
-    is_written(rt, written_again(heap, sender, line), want)
-}
-
-fn client_line(
-    rt: &impl Abort,
-    heap: &Refusing,
-    n: u64,
-    line: &[u8],
-    want: &[u8],
-) -> Result<bool, Fail> {
-    let line = read_client(heap, line)?;
-    heap.refuse_nth(n);
-    match client_text(heap, &line) {
-        Err(TextFault::Memory) => is_written(rt, client_text(heap, &line), want),
-        text => Ok(!is_written(rt, text, want)?),
-    }
-}
-
-fn server_line(
-    rt: &impl Abort,
-    heap: &Refusing,
-    n: u64,
-    line: &[u8],
-    want: &[u8],
-) -> Result<bool, Fail> {
-    let line = read_server(heap, line)?;
-    heap.refuse_nth(n);
-    match server_text(heap, &line) {
-        Err(TextFault::Memory) => is_written(rt, server_text(heap, &line), want),
-        text => Ok(!is_written(rt, text, want)?),
-    }
-}
-
-fn line_cut(
-    rt: &impl Abort,
-    heap: &Refusing,
-    n: u64,
-    front: &[u8],
-    rest: &[u8],
-    want: Result<(usize, Option<usize>), LineFault>,
-) -> bool {
-    let mut cutter = LineCutter::new(heap);
-    assert_eq!(rt; cut(&mut cutter, front), Ok((front.len(), None)));
-    heap.refuse_nth(n);
-    let first = cut(&mut cutter, rest);
-    let refused = first == Err(LineFault::Memory);
-    let last = if refused {
-        cut(&mut cutter, rest)
-    } else {
-        first
-    };
-    assert_eq!(rt; last, want);
-    refused
-}
-
-fn server_take(rt: &impl Abort, heap: &Refusing, n: u64) -> Result<bool, Fail> {
-    let mut end = server_end(heap, false);
-    assert_eq!(rt; heap.growths(), 0);
-    let piece = b"\0AUTH EXTERNAL 31303030\r\nBEGIN".as_slice();
-    let want = (25, OK_LINE, Status::Talking);
-    heap.refuse_nth(n);
-    match end.take(piece) {
-        Ok(step) => {
-            did(rt, 0, step, want);
-            Ok(false)
-        }
-        Err(AllocError) => {
-            did(rt, 1, end.take(piece)?, want);
-            Ok(true)
-        }
-    }
-}
-
-fn end_start(rt: &impl Abort, heap: &Refusing, n: u64) -> Result<bool, Fail> {
-    let mut end = client_end(heap, Some(1000), Some(b"x"))?;
-    heap.refuse_nth(n);
-    match end.start() {
-        Ok(sent) => {
-            is_first(rt, sent);
-            Ok(false)
-        }
-        Err(AllocError) => {
-            is_first(rt, end.start()?);
-            Ok(true)
-        }
-    }
-}
-
-/// What the client sends first.
-fn is_first(rt: &impl Abort, sent: Vec<u8, &Refusing>) {
-    assert_eq!(rt; sent.as_slice(), b"\0AUTH EXTERNAL 31303030\r\n".as_slice());
-}
-
-fn client_take(rt: &impl Abort, heap: &Refusing, n: u64) -> Result<bool, Fail> {
-    let mut end = client_end(heap, Some(1000), Some(b"x"))?;
-    drop(end.start()?);
-    let piece = b"REJECTED EXTERNAL ANONYMOUS\r\n".as_slice();
-    let want = (29, b"AUTH ANONYMOUS 78\r\n".as_slice(), Status::Talking);
-    heap.refuse_nth(n);
-    match end.take(piece) {
-        Ok(step) => {
-            did(rt, 0, step, want);
-            Ok(false)
-        }
-        Err(AllocError) => {
-            did(rt, 1, end.take(piece)?, want);
-            Ok(true)
-        }
     }
 }
 
@@ -440,36 +436,5 @@ fn shows<'a>(
 ) -> Result<(), AllocError> {
     show_into(kept, order, message, 1)?;
     assert_eq!(rt; kept.as_str(), SIGNAL_TEXT);
-    Ok(())
-}
-
-// A cutter that is refused its growth takes nothing, and the same piece once it is there.
-#[test]
-fn cutter_keeps_nothing(rt: HostRuntime) {
-    let heap = Refusing::none(rt.alloc());
-    let mut cutter = LineCutter::new(&heap);
-    for (piece, want) in [(b"BEG".as_slice(), (3, None)), (b"IN\r\nl", (4, Some(5)))] {
-        heap.refuse_nth(1);
-        let first = cut(&mut cutter, piece);
-        assert_eq!(rt;
-            (first, cut(&mut cutter, piece)),
-            (Err(LineFault::Memory), Ok(want))
-        );
-    }
-}
-
-// So it is with a server's end, here of a prefix of a line and the rest.
-#[test]
-fn server_keeps_nothing(rt: HostRuntime) -> Result<(), Fail> {
-    let heap = Refusing::none(rt.alloc());
-    let mut end = server_end(&heap, false);
-    for (at, piece, taken, sent) in [
-        (0, b"\0AUTH".as_slice(), 5, b"".as_slice()),
-        (1, b"\r\n", 2, b"REJECTED EXTERNAL\r\n"),
-    ] {
-        heap.refuse_nth(1);
-        assert!(rt; end.take(piece).is_err(), "take {at}");
-        did(&rt, at, end.take(piece)?, (taken, sent, Status::Talking));
-    }
     Ok(())
 }

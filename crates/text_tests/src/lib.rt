@@ -4,15 +4,17 @@
 #[cfg(test)]
 mod copies;
 #[cfg(test)]
+mod end_growths;
+#[cfg(test)]
 mod faults;
 #[cfg(test)]
 mod growths;
 #[cfg(test)]
-mod handshake;
+mod line_growths;
 #[cfg(test)]
-mod lines;
+mod long_trace;
 #[cfg(test)]
-mod machines;
+mod machine_growths;
 #[cfg(test)]
 mod rules;
 #[cfg(test)]
