@@ -1,7 +1,7 @@
 //! Cutters, which are handed a stream in two pieces and byte by byte.
 
 use crate::outcome::{Outcome, Rest, answered, contents_of};
-use crate::streams::Stream;
+use crate::streams::{SIZES, Stream};
 use crate::trail::Trail;
 use anyhow::Result;
 use case_files::{Answer, Tally};
@@ -84,13 +84,23 @@ fn cut_in_two(alloc: Global, stream: &Stream, at: usize) -> Result<(Outcome, Out
     Ok((first, cutting.outcome(stands)?))
 }
 
+// What a cutter makes of a stream in pieces of so many bytes. A fault stays, so all pieces are handed in.
+fn cut_by(alloc: Global, stream: &Stream, size: usize) -> Result<Outcome> {
+    let mut cutting = Cutting::new(alloc, stream);
+    let mut rest = Rest::Held(0);
+    for piece in stream.bytes.chunks(size.max(1)) {
+        rest = cutting.feed(piece)?;
+    }
+    cutting.outcome(rest)
+}
+
 // How far the offsets lie apart at which a stream is split. A long one is split at some of its offsets alone.
 fn stride(length: usize) -> usize {
     if length <= 600 { 1 } else { length / 40 + 1 }
 }
 
 /// Holds a cutter against decoding, of which the stream comes to this, in every split in two.
-pub(crate) fn cut_in_pieces(
+pub(crate) fn cut_in_two_pieces(
     rt: &HostRuntime,
     tally: &mut Tally,
     stream: &Stream,
@@ -129,6 +139,23 @@ fn stands(
         Answer::Partial => Ok(Rest::Held(under_way.len())),
         Answer::Refused(fault) => Ok(Rest::Refused(fault)),
     }
+}
+
+/// Holds a cutter against decoding, in pieces of a few bytes and of many.
+pub(crate) fn cut_by_sizes(
+    rt: &HostRuntime,
+    tally: &mut Tally,
+    stream: &Stream,
+    whole: &Outcome,
+) -> Result<()> {
+    for size in SIZES {
+        let got = cut_by(rt.alloc(), stream, size)?;
+        if got != *whole {
+            println!(rt; "in pieces of {size} bytes:")?;
+            tally.differs(rt, "cutter", whole, &got)?;
+        }
+    }
+    Ok(())
 }
 
 /// Holds a cutter against decoding, byte by byte: what it holds, and the fault as soon as its deciding byte is there.

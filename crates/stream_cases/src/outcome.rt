@@ -35,6 +35,17 @@ pub(crate) struct Outcome {
     pub(crate) rest: Rest,
 }
 
+impl Outcome {
+    /// How many bytes the messages have.
+    pub(crate) fn size(&self) -> usize {
+        let mut size = 0usize;
+        for length in &self.lengths {
+            size = size.saturating_add(*length);
+        }
+        size
+    }
+}
+
 impl fmt::Display for Outcome {
     fn fmt<W: fmt::Write>(&self, f: &mut fmt::Formatter<W>) -> fmt::Result {
         let Outcome { lengths, rest } = self;

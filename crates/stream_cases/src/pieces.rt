@@ -20,6 +20,11 @@ impl<'a> Pieces<'a> {
             calls: 0,
         }
     }
+
+    /// How many reads were made.
+    pub(crate) fn calls(&self) -> u64 {
+        self.calls
+    }
 }
 
 impl Source for Pieces<'_> {

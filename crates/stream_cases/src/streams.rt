@@ -1,6 +1,6 @@
 //! The cases of `streams.txt`.
 
-use crate::cutting::{cut_byte_by_byte, cut_in_pieces};
+use crate::cutting::{cut_by_sizes, cut_byte_by_byte, cut_in_two_pieces};
 use crate::outcome::{Contents, Rest, contents_of};
 use crate::reading::read_all;
 use crate::runs::{End, ran};
@@ -181,7 +181,8 @@ fn try_stream(rt: &HostRuntime, tally: &mut Tally, case: &Case) -> Result<()> {
     let line = line_of_column(alloc, case.column(3))?;
     tally.compare(rt, "decode", &line, &line_of(alloc, &contents)?)?;
     let whole = contents.outcome(alloc)?;
-    cut_in_pieces(rt, tally, &stream, &whole)?;
+    cut_in_two_pieces(rt, tally, &stream, &whole)?;
+    cut_by_sizes(rt, tally, &stream, &whole)?;
     cut_byte_by_byte(rt, tally, &stream, &whole)?;
     read_all(rt, tally, &stream, &whole)?;
     let held = Held {
