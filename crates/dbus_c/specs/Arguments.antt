@@ -4,7 +4,7 @@ use Rattle.std.specs.Prelude.{◌≡◌, ℕ, ◌+◌, ◌≤◌, List, length, 
 use Rattle.dbus_value_model.specs.declared.limits.Limits.{Limits}
 use Rattle.dbus_value_model.specs.declared.order.Order.{Order}
 use Rattle.dbus_value_model.specs.Values.{ValueTree, TextValue, type_of}
-use Rattle.dbus_value_judge.specs.Codes.{first_code}
+use Rattle.dbus_types.specs.SignatureCodes.{first_code}
 use Rattle.dbus_message_model.specs.Lookups.{body_value}
 use Rattle.dbus_message_model.specs.Messages.{MessageTree}
 use Rattle.dbus_decode.specs.MessageOutcomes.{IsWhole}

@@ -6,11 +6,13 @@ pub use Rattle.dbus_message_model.specs.Lookups
 pub use Rattle.dbus_message_model.specs.WantViews
 pub use Rattle.dbus_message_model.specs.SingleTypes
 pub use Rattle.dbus_message_model.specs.MissingFields
-pub use Rattle.dbus_message_model.specs.BuildFaults
-pub use Rattle.dbus_message_model.specs.MessageSizes
+pub use Rattle.dbus_build.specs.BuildFaults
+pub use Rattle.dbus_build.specs.MessageSizes
 pub use Rattle.dbus_message_model.specs.PackedParts
 pub use Rattle.dbus_message_model.specs.PackedMessages
 pub use Rattle.dbus_message_model.specs.LimitLaws
+pub use Rattle.dbus_message_model.specs.KeptLimits
+pub use Rattle.dbus_build.specs.PartLaws
 pub use Rattle.dbus_decode.specs.MessageItems
 pub use Rattle.dbus_decode.specs.MessageReading
 pub use Rattle.dbus_decode.specs.MessageLaws

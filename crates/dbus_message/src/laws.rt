@@ -4,10 +4,8 @@
 
 ghost use Rattle.dbus_decode.specs.MessageLaws.{ReadsMessages, ReadsMessageFaults};
 ghost use Rattle.dbus_decode.specs.OutcomeLaws.{OneMessage, OneLength, SomeOutcome, OneOutcome, OneWhole, OneFault, WholeForGood, RefusedForGood, WiderWhole};
-ghost use Rattle.dbus_message_model.specs.LimitLaws.{WiderLimits, ValidWithin, KeptParts};
+ghost use Rattle.dbus_message_model.specs.LimitLaws.{WiderLimits, ValidWithin};
 ghost use Rattle.dbus_decode.specs.StatedLaws.{StatedHolds, WholeStates, OneStated, SomeStated};
-
-use std::alloc::Allocator;
 
 /// No message's bytes begin another message's, and bytes spell at most one message in at most one order.
 pub fn one_message()
@@ -83,11 +81,6 @@ pub fn wider_whole()
 /// The messages that are valid within limits are the valid ones that keep them, as `Message::within` says.
 pub fn valid_within()
     ensures { ValidWithin }
-{}
-
-/// `Message::new_within` finds no fault in the parts of a message exactly where `Message::within` says that it keeps the limits.
-pub fn kept_parts<A: Allocator>()
-    ensures { KeptParts A }
 {}
 
 /// The plain reader gives a message exactly where the bytes begin with its spelling.

@@ -1,5 +1,6 @@
 pub mod Wants
 pub mod NameTexts
+pub mod TextValues
 pub mod FieldLists
 pub mod FieldCodes
 pub mod FieldStructs
@@ -8,12 +9,4 @@ pub mod MessageLengths
 pub mod BothOrders
 pub mod ShortParts
 pub mod BodyValues
-pub mod FaultyFields
-pub mod FaultyBody
-pub mod Nesting
-pub mod JudgedFields
-pub mod PartEnds
-pub mod Built
-pub mod PackedFacts
 pub mod Widening
-pub mod Accepting

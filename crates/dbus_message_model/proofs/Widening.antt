@@ -4,7 +4,7 @@ use Rattle.dbus_value_model.specs.declared.order.Order.{Order}
 use Rattle.dbus_value_model.specs.declared.order.Order.TheVariants.{Little}
 use Rattle.dbus_value_model.specs.declared.limits.Limits.{Limits}
 use Rattle.dbus_value_model.specs.Specification.{specification}
-use Rattle.dbus_message_model.specs.BuildFaults.{KeepsLimits}
+use Rattle.dbus_message_model.specs.KeptLimits.{KeepsLimits}
 use Rattle.dbus_value_model.specs.FdIndexes.{index_limit, AreAllBelow}
 use Rattle.dbus_value_model.specs.declared.fd_rule.FdRule.{FdRule}
 use Rattle.dbus_value_model.specs.declared.fd_rule.FdRule.TheVariants.{Any}

@@ -6,8 +6,7 @@ pub mod Lookups
 pub mod WantViews
 pub mod SingleTypes
 pub mod MissingFields
-pub mod BuildFaults
-pub mod MessageSizes
+pub mod KeptLimits
 pub mod PackedParts
 pub mod PackedMessages
 pub mod LimitLaws

@@ -4,12 +4,9 @@ use Rattle.std.specs.Prelude.{◌≡◌, ◌↔◌, ◌≤◌, ◌⊎◌}
 use Rattle.dbus_value_model.specs.declared.fd_rule.FdRule.TheVariants.{Any}
 use Rattle.dbus_value_model.specs.declared.limits.Limits.{Limits}
 use Rattle.dbus_value_model.specs.Specification.{specification}
-use Rattle.dbus_message_model.specs.BuildFaults.{KeepsLimits, NoFault}
+use Rattle.dbus_message_model.specs.KeptLimits.{KeepsLimits}
 use Rattle.dbus_message_model.specs.Messages.{MessageTree}
-use Rattle.dbus_message_model.specs.PackedParts.{PartsKeepBytes}
-use Rattle.dbus_message_model.specs.PartsViews.{parts_tree}
 use Rattle.dbus_message_model.specs.ValidMessages.{IsValidMessage}
-use Rattle.dbus_message_model.specs.declared.parts.Parts.{Parts}
 
 -- None of the wider limits is smaller. A rule on indexes of descriptors is not where it is the same, or where any may stand.
 abbrev pub AreWider : Limits → Limits → Type 0
@@ -23,7 +20,3 @@ WiderLimits = (limits wider : Limits) (m : MessageTree) → AreWider wider limit
 -- The messages that are valid within limits are the valid ones that keep them.
 abbrev pub ValidWithin : Type 0
 ValidWithin = (limits : Limits) (m : MessageTree) → IsValidMessage limits m ↔ (IsValidMessage specification m × KeepsLimits limits m)
-
--- Of the parts of a message, each array of bytes in which is `Bytes`, no case of fault holds exactly where they keep the limits.
-abbrev pub KeptParts : Type 0 → Type 0
-KeptParts A = (limits : Limits) (p : Parts A) → IsValidMessage specification (parts_tree p) → PartsKeepBytes p → NoFault limits p ↔ KeepsLimits limits (parts_tree p)

@@ -16,7 +16,7 @@ use std::alloc::Allocator;
 
 /// Whether a field of the code is there.
 #[tactic(auto, using(crate::proofs::FieldLists::has_here, crate::proofs::FieldLists::has_no_more))]
-pub(crate) fn has_field<A: Allocator>(fields: &[HeaderField<A>], code: u8) -> bool
+pub fn has_field<A: Allocator>(fields: &[HeaderField<A>], code: u8) -> bool
     ensures { result ≡ has_code code (field_trees fields.now) }
 {
     for field in fields {
@@ -60,7 +60,7 @@ pub fn missing_field<A: Allocator>(kind: u8, fields: &[HeaderField<A>]) -> Optio
 }
 
 /// The text that a value is, or nothing.
-pub(crate) fn text_in<A: Allocator>(value: &Value<A>) -> &[u8]
+pub fn text_in<A: Allocator>(value: &Value<A>) -> &[u8]
     ensures { result.now ≡ text_in (value_tree value.now) }
 {
     match value {

@@ -32,7 +32,7 @@ impl<A: Allocator> Message<A> {
     ghost use Rattle.dbus_message_model.specs.MessageViews.{message_tree};
 
     /// The message of these parts, which the caller knows to be valid, and to be spelled by so many bytes. Parts of which that
-    /// is not known are judged by [`Message::new`].
+    /// is not known are judged by `Message::new` of `dbus_build`.
     pub fn of_valid(parts: Parts<A>, size: usize) -> Self
         requires valid { IsValidMessage specification (parts_tree parts) }
         requires packed { PartsKeepBytes parts }
@@ -60,7 +60,7 @@ impl<A: Allocator> Message<A> {
         &self.parts
     }
 
-    /// What it was made of, which [`Message::new`] takes again. An array of BYTE in it is `Bytes`.
+    /// What it was made of, which `Message::new` takes again. An array of BYTE in it is `Bytes`.
     pub fn into_parts(self) -> Parts<A>
         ensures same { parts_tree result ≡ message_tree self }
         ensures valid { ∥ IsValidMessage specification (parts_tree result) ∥₁ }

@@ -14,7 +14,7 @@ use Rattle.dbus_value_model.specs.declared.order.Order.TheVariants.{Little, Big}
 use Rattle.dbus_value_model.specs.Spelling.{spelling, spellings}
 use Rattle.dbus_value_model.specs.Values.{ValueTree, ValueTrees, NoValues, MoreValues, NumberValue, TextValue, AllOf, IsNumber, IsWellFormed, AreWellFormed}
 use Rattle.dbus_unmarshal.proofs.StringSteps.{utf8_signature}
-use Rattle.dbus_value_judge.specs.Codes.{first_code}
+use Rattle.dbus_types.specs.SignatureCodes.{first_code}
 use Rattle.dbus_show.specs.ShownValues.{bytes_in}
 use Rattle.dbus_swap.proofs.NumberRuns.{number_of_type}
 

@@ -11,8 +11,8 @@ use Rattle.dbus_value_model.specs.Spelling.{spelling, spellings}
 use Rattle.dbus_value_model.specs.Values.{ValueTree, ValueTrees, NoValues, MoreValues, NumberValue, TextValue, VariantValue, ArrayValue, StructValue, EntryValue, value_trees, type_of}
 use Rattle.dbus_message_model.specs.Messages.{FieldTree, field_struct, field_array, is_known}
 use Rattle.dbus_unmarshal.proofs.ReadSteps.{one_byte}
-use Rattle.dbus_value_judge.specs.Codes.{first_code}
-use Rattle.dbus_value_judge.proofs.TypeCodes.{code_is}
+use Rattle.dbus_types.specs.SignatureCodes.{first_code}
+use Rattle.dbus_types.proofs.TypeCodes.{code_is}
 use Rattle.dbus_swap.specs.Turning.{Stands, AllStand, ElementsStand}
 use Rattle.dbus_swap.proofs.Containers.{VariantStands, array_stands, array_begins, array_counts, elements_there}
 use Rattle.dbus_swap.proofs.Enclosed.{struct_stands, enclosed_there, stands_positive}

@@ -11,8 +11,8 @@ use Rattle.dbus_value_model.specs.declared.order.Order.{Order}
 use Rattle.dbus_value_model.specs.Spelling.{spelling, spellings, contents_start}
 use Rattle.dbus_value_model.specs.Values.{ValueTree, ValueTrees, NoValues, MoreValues, ArrayValue, StructValue, EntryValue, type_of, AllOf, IsNumber, IsWellFormed}
 use Rattle.dbus_value_model.proofs.Numbers.{length-num}
-use Rattle.dbus_value_judge.specs.Codes.{first_code}
-use Rattle.dbus_value_judge.proofs.TypeCodes.{code_is, struct_is, entry_is}
+use Rattle.dbus_types.specs.SignatureCodes.{first_code}
+use Rattle.dbus_types.proofs.TypeCodes.{code_is, struct_is, entry_is}
 use Rattle.dbus_swap.specs.Turning.{other, Stands}
 use Rattle.dbus_swap.proofs.Containers as containers
 use Rattle.dbus_swap.proofs.Containers.{VariantStands, ArrayStands}

@@ -8,7 +8,7 @@ use Rattle.dbus_texts.proofs.TypeTexts.{sig_positive}
 use Rattle.dbus_value_model.specs.declared.order.Order.{Order}
 use Rattle.dbus_value_model.specs.Spelling.{spelling, spellings}
 use Rattle.dbus_value_model.specs.Values.{ValueTree, ValueTrees, NoValues, MoreValues, type_of, types_of}
-use Rattle.dbus_value_judge.specs.Codes.{type_length}
+use Rattle.dbus_types.specs.SignatureCodes.{type_length}
 use Rattle.dbus_swap.specs.Turning.{Stands, AllStand, ElementsStand}
 use Rattle.dbus_swap.proofs.Enclosed.{stands_positive}
 use Rattle.dbus_swap.proofs.Lists.{first_element, other_elements, first_value, other_values}

@@ -11,7 +11,7 @@ ghost use Rattle.dbus_show.specs.ShownMessages.{body_line};
 
 use crate::values::write_value_at;
 use dbus_show::Draft;
-use dbus_value_judge::type_end;
+use dbus_types::type_end;
 use dbus_value_model::Order;
 use std::alloc::Allocator;
 

@@ -15,8 +15,7 @@ use crate::texts::{long_text_at, short_text_at};
 use crate::values::write_value_at;
 use dbus_message_model::field_table::is_known;
 use dbus_show::{Draft, write_field_name, write_integer};
-use dbus_value_judge::gap;
-use dbus_value_model::Order;
+use dbus_value_model::{Order, gap};
 use std::alloc::Allocator;
 
 /// Appends a text or a UINT32 alone, and of any other type the text of the value, which stands at `at`: the offset after it.

@@ -10,8 +10,7 @@ ghost use Rattle.dbus_show.specs.ShownValues.{quoted};
 ghost use Rattle.dbus_show_view.specs.Showing.{IsTextAt, IsShown};
 
 use dbus_show::{Draft, write_quoted};
-use dbus_value_judge::gap;
-use dbus_value_model::Order;
+use dbus_value_model::{Order, gap};
 use std::alloc::Allocator;
 use std::str;
 

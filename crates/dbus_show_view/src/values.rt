@@ -18,8 +18,8 @@ use crate::numbers::write_number_at;
 use crate::texts::{write_long_text, write_short_text, write_types};
 use dbus_show::{Draft, write_hex};
 use dbus_swap::number_width;
-use dbus_value_judge::{boundary, gap, type_end};
-use dbus_value_model::Order;
+use dbus_types::{boundary, type_end};
+use dbus_value_model::{Order, gap};
 use std::alloc::Allocator;
 
 /// Appends the text of the value at `at`, of the one type that `types` spell: the offset after it.

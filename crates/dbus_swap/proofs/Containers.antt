@@ -12,9 +12,9 @@ use Rattle.dbus_value_model.proofs.Numbers.{length-num}
 use Rattle.dbus_message_model.proofs.BothOrders.{any_lengths}
 use Rattle.dbus_unmarshal.proofs.ReadSteps.{one_byte}
 use Rattle.dbus_unmarshal.proofs.ValueSteps.{single_shaped}
-use Rattle.dbus_value_judge.specs.Codes.{code_boundary}
+use Rattle.dbus_types.specs.SignatureCodes.{code_boundary}
 use Rattle.dbus_value_judge.proofs.NumberArrays.{comes_aligned}
-use Rattle.dbus_value_judge.proofs.TypeCodes.{code_is, boundary_is, variant_is, array_is}
+use Rattle.dbus_types.proofs.TypeCodes.{code_is, boundary_is, variant_is, array_is}
 use Rattle.dbus_swap.specs.Turning.{other, Stands, ElementsStand, IsPut, IsTurned}
 use Rattle.dbus_swap.specs.Widths.{number_width}
 use Rattle.dbus_swap.proofs.Parts.{number_is}

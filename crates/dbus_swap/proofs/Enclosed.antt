@@ -8,7 +8,7 @@ use Rattle.dbus_value_model.specs.declared.order.Order.{Order}
 use Rattle.dbus_value_model.specs.Spelling.{spelling, spellings, IsWithinLimits}
 use Rattle.dbus_value_model.specs.Values.{ValueTree, ValueTrees, NoValues, MoreValues, NumberValue, TextValue, VariantValue, ArrayValue, StructValue, EntryValue, type_of, types_of, IsWellFormed, AreWellFormed}
 use Rattle.dbus_unmarshal.proofs.ValueItemLaws.{positive}
-use Rattle.dbus_value_judge.proofs.TypeCodes.{struct_is, entry_is, struct_shaped, entry_shaped, within}
+use Rattle.dbus_types.proofs.TypeCodes.{struct_is, entry_is, struct_shaped, entry_shaped, within}
 use Rattle.dbus_swap.specs.Turning.{other, Stands, AllStand, IsPut, IsTurned}
 use Rattle.dbus_swap.proofs.Seams.{put_same, put_more, there_within, stands_after}
 

@@ -8,8 +8,8 @@ use Rattle.dbus_value_model.specs.Spelling.{spelling, spellings}
 use Rattle.dbus_value_model.specs.Values.{ValueTree, ValueTrees, NoValues, MoreValues, type_of, types_of}
 use Rattle.dbus_message_model.proofs.BothOrders.{any_lengths}
 use Rattle.dbus_unmarshal.proofs.ValueSteps.{shaped_inside}
-use Rattle.dbus_value_judge.specs.Codes.{type_length}
-use Rattle.dbus_value_judge.proofs.TypeEnds.{type_ends}
+use Rattle.dbus_types.specs.SignatureCodes.{type_length}
+use Rattle.dbus_types.proofs.TypeEnds.{type_ends}
 use Rattle.dbus_swap.specs.Turning.{other, Stands, AllStand, ElementsStand, IsPut, IsTurned}
 use Rattle.dbus_swap.proofs.Enclosed.{stands_positive}
 use Rattle.dbus_swap.proofs.Remaining.{Remaining, less_remain, none_remain}

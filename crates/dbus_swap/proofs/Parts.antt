@@ -13,8 +13,8 @@ use Rattle.dbus_value_model.specs.Spelling.{spelling}
 use Rattle.dbus_value_model.specs.Values.{ValueTree, NumberValue, TextValue, VariantValue, ArrayValue, StructValue, EntryValue, type_of, IsWellFormed}
 use Rattle.dbus_value_model.proofs.Numbers.{length-num}
 use Rattle.dbus_unmarshal.proofs.ReadSteps.{one_byte}
-use Rattle.dbus_value_judge.specs.Codes.{first_code}
-use Rattle.dbus_value_judge.proofs.TypeCodes.{code_is, text_is, variant_is}
+use Rattle.dbus_types.specs.SignatureCodes.{first_code}
+use Rattle.dbus_types.proofs.TypeCodes.{code_is, text_is, variant_is}
 use Rattle.dbus_swap.specs.Turning.{other, Stands, IsTurned}
 use Rattle.dbus_swap.specs.Widths.{number_width}
 use Rattle.dbus_swap.proofs.NumberRuns.{number_of_type}

@@ -11,7 +11,7 @@ ghost use Rattle.dbus_value_model.specs.Values.{ValueTrees, AllOf};
 ghost use Rattle.dbus_swap.specs.Turning.{other, IsPut};
 ghost use Rattle.dbus_swap.specs.Widths.{number_width};
 
-use dbus_value_judge::free_width;
+use dbus_types::free_width;
 
 /// How many bytes a number has of a type that begins with this byte; else 0. D-Bus Specification, "Summary of types".
 #[inline]

@@ -14,8 +14,8 @@ ghost use Rattle.dbus_swap.specs.Widths.{number_width};
 ghost use Rattle.dbus_swap.specs.Turning.{other, Stands, StandsThere, AllStand, AllStandThere, ElementsStand, ElementsThere, IsPut, IsTurned};
 
 use crate::numbers::{number_width, turn_4, turn_number, turn_numbers};
-use dbus_value_judge::{boundary, gap, type_end};
-use dbus_value_model::Order;
+use dbus_types::{boundary, type_end};
+use dbus_value_model::{Order, gap};
 
 /// A value of the one type that `types` spell: the offset after it.
 #[cycle(values)]

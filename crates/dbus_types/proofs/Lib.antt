@@ -1,4 +1,6 @@
 pub mod TypeViews
+pub mod TypeEnds
+pub mod TypeCodes
 mod Prefixes
 mod PrefixSteps
 mod Parsing

@@ -1,5 +1,6 @@
 pub mod Alignments
 pub mod SigTypes
+pub mod SignatureCodes
 pub mod TypeReads
 pub mod Parses
 pub mod Laws

@@ -6,6 +6,7 @@ pub mod laws;
 mod parse;
 mod shape;
 mod sig_type;
+mod signature_codes;
 mod spell;
 mod type_codes;
 
@@ -16,5 +17,6 @@ pub use dbus_texts::{
 pub use parse::{parse_signature, parse_single, spelled_type, spelled_types};
 pub use shape::{alignment, is_byte, type_ok};
 pub use sig_type::SigType;
+pub use signature_codes::{boundary, free_width, type_end};
 pub use spell::{push_type, signature_text};
 pub use type_codes::type_code;

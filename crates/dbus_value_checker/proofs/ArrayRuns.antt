@@ -4,8 +4,8 @@ use Rattle.std.proofs.lemmas.List.{length-take}
 use Rattle.dbus_texts.specs.Types.{TypeTree, NumberType, sig}
 use Rattle.dbus_types.specs.Alignments.{width}
 use Rattle.dbus_value_model.specs.Bytes.{gap_to}
-use Rattle.dbus_type_codes.specs.Codes.{first_code, free_width}
-use Rattle.dbus_type_codes.proofs.TypeCodes.{begins, after_code}
+use Rattle.dbus_types.specs.SignatureCodes.{first_code, free_width}
+use Rattle.dbus_types.proofs.TypeCodes.{begins, after_code}
 use Rattle.dbus_value_model.specs.Reading.{Partial}
 use Rattle.dbus_value_checker.specs.declared.values.Values.{Values}
 use Rattle.dbus_value_checker.specs.declared.values.Doing.{Doing}

@@ -13,7 +13,7 @@ use Rattle.std.proofs.Common.{suc, ◌<◌}
 use Rattle.dbus_texts.specs.Types.{sig}
 use Rattle.dbus_value_checker.proofs.Slices.{slice_room}
 use Rattle.dbus_value_checker.proofs.FrameLaws.{inner_of}
-use Rattle.dbus_type_codes.proofs.TypeCodes.{begins}
+use Rattle.dbus_types.proofs.TypeCodes.{begins}
 use Rattle.dbus_value_checker.specs.Denotations.{Answer, denotes, Denotes, Wants, after_piece}
 use Rattle.dbus_value_checker.specs.Moves.{Moves, Opens, IsLive, offset_of, wide}
 use Rattle.dbus_value_checker.proofs.FrontSteps.{take-both, split-at}

@@ -18,7 +18,7 @@ use Rattle.dbus_types.specs.Alignments.{width, length_width, alignment_of}
 use Rattle.dbus_value_model.specs.ValueItems.{number_row, text_row, array_row}
 use Rattle.dbus_value_model.specs.ValueReaders.{array_frame}
 use Rattle.dbus_texts.specs.Types.{TypeTree}
-use Rattle.dbus_type_codes.specs.Codes.{code_boundary}
+use Rattle.dbus_types.specs.SignatureCodes.{code_boundary}
 use Rattle.dbus_value_model.specs.declared.stop.Stop.{Stop}
 use Rattle.dbus_value_model.specs.declared.stop.Stop.TheVariants as stops
 use Rattle.dbus_value_checker.specs.Codes.{code_width}

@@ -8,8 +8,8 @@ use Rattle.dbus_value_model.specs.Reading.{value}
 use Rattle.dbus_value_checker.specs.declared.values.Values.{Values}
 use Rattle.dbus_value_checker.specs.declared.values.Frame.{Frame}
 use Rattle.dbus_value_checker.specs.declared.values.Doing.TheVariants as rust
-use Rattle.dbus_type_codes.specs.Codes.{type_length}
-use Rattle.dbus_type_codes.proofs.TypeEnds.{type_ends}
+use Rattle.dbus_types.specs.SignatureCodes.{type_length}
+use Rattle.dbus_types.proofs.TypeEnds.{type_ends}
 use Rattle.dbus_value_checker.specs.Suspended.{onward, Work, Parts, Elements}
 use Rattle.dbus_value_checker.specs.Frames.{slice, AreFrames}
 use Rattle.dbus_value_checker.specs.Denotations.{Answer, rest_of, HasFrames, Goes, Wants}

@@ -9,8 +9,8 @@ use Rattle.dbus_value_model.specs.declared.order.Order.{Order}
 use Rattle.dbus_value_model.specs.Bytes.{gap_to}
 use Rattle.dbus_value_model.specs.ValueItems.{number_row}
 use Rattle.dbus_value_model.specs.Reading.{Partial, after, zeros, number_of}
-use Rattle.dbus_type_codes.specs.Codes.{first_code, free_width}
-use Rattle.dbus_type_codes.proofs.TypeCodes.{free_is}
+use Rattle.dbus_types.specs.SignatureCodes.{first_code, free_width}
+use Rattle.dbus_value_model.proofs.FreeNumbers.{free_is}
 use Rattle.dbus_value_checker.specs.Suspended.{On, Elements, work, ANumber, own, own_of, opened_by, works}
 use Rattle.dbus_value_checker.proofs.Suspension.{elements_more, value_begins, padding_zeros, head_passed, head_waits}
 

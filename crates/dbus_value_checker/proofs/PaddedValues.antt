@@ -18,8 +18,8 @@ use Rattle.dbus_value_model.specs.ValueReaders.{array_frame}
 use Rattle.dbus_value_model.specs.Reading.{Reader, Outcome, Done, Faulty, Partial, after, padding, number, text, nul, value}
 use Rattle.dbus_value_checker.specs.declared.values.Values.{Values}
 use Rattle.dbus_value_checker.specs.declared.values.Frame.{Frame}
-use Rattle.dbus_type_codes.specs.Codes.{first_code, code_boundary}
-use Rattle.dbus_type_codes.proofs.TypeCodes.{begins, after_code, boundary_is}
+use Rattle.dbus_types.specs.SignatureCodes.{first_code, code_boundary}
+use Rattle.dbus_types.proofs.TypeCodes.{begins, after_code, boundary_is}
 use Rattle.dbus_value_checker.specs.Codes.{IsNumberCode}
 use Rattle.dbus_value_checker.specs.Suspended.{On, onward, done, Work, Parts, Elements, elements, work, works, ANumber, ALength, AnArray, AVariant, head, head_width, head_row, tail, own, own_of, opened_by, Opened, Closed, AHead}
 use Rattle.dbus_value_checker.specs.Fronts.{Fronts}

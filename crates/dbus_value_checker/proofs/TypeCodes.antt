@@ -4,8 +4,8 @@ use Rattle.std.proofs.lemmas.List.{length-append, append-nil}
 use Rattle.std.specs.Prelude.{◌⊎◌}
 use Rattle.std.proofs.Common.{inl, inr}
 use Rattle.dbus_texts.specs.Types.{NumberCode, TextCode, STRING, OBJECT_PATH, SIGNATURE, TypeTree, NumberType, TextType, VariantType, ArrayType, StructType, EntryType, TypeTrees, NoTypes, MoreTypes, sig, sigs, IsShaped, AreShaped}
-use Rattle.dbus_type_codes.specs.Codes.{first_code}
-use Rattle.dbus_type_codes.proofs.TypeCodes.{begins, code_is, array_is, struct_is, entry_is, entry_shaped, text_is}
+use Rattle.dbus_types.specs.SignatureCodes.{first_code}
+use Rattle.dbus_types.proofs.TypeCodes.{begins, code_is, array_is, struct_is, entry_is, entry_shaped, text_is}
 use Rattle.dbus_value_checker.specs.Suspended.{Parts, ANumber, ALength, AnArray, own_of, opened_by, Opened, Closed, AHead}
 
 -- ---- which type begins with the code of a container, of a text, of a number

@@ -23,7 +23,7 @@ use Rattle.dbus_value_checker.specs.Denotations.{Answer, rest_of, Goes, Wants, a
 use Rattle.dbus_value_checker.specs.Moves.{Moves}
 use Rattle.dbus_value_checker.proofs.Suspension.{works_as, variant_begins, after_after, after_same, parts_more}
 use Rattle.dbus_value_checker.proofs.FrameLaws.{frames_reach, end_small, inner_of, within}
-use Rattle.dbus_type_codes.proofs.TypeCodes.{variant_is}
+use Rattle.dbus_types.proofs.TypeCodes.{variant_is}
 use Rattle.dbus_value_checker.proofs.FrontSteps.{front_taken, front_waits, front_refused}
 use Rattle.dbus_value_checker.proofs.PaddedValues.{code_first}
 

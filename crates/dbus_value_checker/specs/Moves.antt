@@ -11,7 +11,7 @@ use Rattle.dbus_value_checker.specs.declared.values.Values.{Values}
 use Rattle.dbus_value_checker.specs.declared.values.Frame.{Frame}
 use Rattle.dbus_value_checker.specs.declared.values.Doing.{Doing}
 use Rattle.dbus_value_checker.specs.declared.values.Doing.TheVariants as doing
-use Rattle.dbus_type_codes.specs.Codes.{type_length}
+use Rattle.dbus_types.specs.SignatureCodes.{type_length}
 use Rattle.dbus_value_checker.specs.Suspended.{On, onward}
 use Rattle.dbus_value_checker.specs.Frames.{slice}
 use Rattle.dbus_value_checker.specs.Denotations.{Answer, after_piece, Wants, Denotes}

@@ -4,11 +4,11 @@
 ghost use Rattle.std.specs.Prelude.{◌≡◌, ◌+◌, ◌-◌, ◌<◌, ◌≤◌, ◌^◌, length, slice_index, true, IfOk};
 
 use crate::values::{Doing, Frame, Values};
-use dbus_type_codes::{free_width, gap, type_end};
-use dbus_value_model::{Reason, Stop, refuse};
+use dbus_types::{free_width, type_end};
+use dbus_value_model::{Reason, Stop, gap, refuse};
 
 impl Values {
-    ghost use Rattle.dbus_type_codes.specs.Codes.{type_length};
+    ghost use Rattle.dbus_types.specs.SignatureCodes.{type_length};
     ghost use Rattle.dbus_value_checker.specs.Frames.{slice};
     ghost use Rattle.dbus_value_checker.specs.Denotations.{Answer, Denotes, Goes, Ready, denotes};
     ghost use Rattle.dbus_value_checker.specs.Moves.{Opens, Enters, wide};

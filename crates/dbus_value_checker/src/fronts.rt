@@ -19,15 +19,14 @@ ghost use Rattle.dbus_value_model.specs.WantedTexts.{Of};
 ghost use Rattle.dbus_value_model.specs.Items.{text_reason};
 ghost use Rattle.dbus_value_model.specs.ValueItems.{number_row, text_row, array_row};
 ghost use Rattle.dbus_value_model.specs.ValueReaders.{array_frame};
-ghost use Rattle.dbus_type_codes.specs.Codes.{code_boundary};
+ghost use Rattle.dbus_types.specs.SignatureCodes.{code_boundary};
 ghost use Rattle.dbus_value_checker.specs.Codes.{code_width};
 ghost use Rattle.dbus_value_model.specs.declared.stop.Stop.TheVariants.{Partial};
 ghost use Rattle.dbus_value_checker.specs.Fronts.{Fronts, IsThere, IsWord, IsByte};
 ghost use Rattle.dbus_value_checker.specs.Suspended.{onward, done, held_text};
 
-use dbus_type_codes::{boundary, gap};
-use dbus_types::{TextKind, text_break};
-use dbus_value_model::{Bounds, Order, Reason, Stop, refuse};
+use dbus_types::{TextKind, boundary, text_break};
+use dbus_value_model::{Bounds, Order, Reason, Stop, gap, refuse};
 
 /// The bytes after the first n.
 pub fn rest_after(bytes: &[u8], n: usize) -> &[u8]

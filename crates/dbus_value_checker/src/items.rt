@@ -5,7 +5,7 @@ ghost use Rattle.std.specs.Prelude.{◌≡◌, ◌≢◌, ◌-◌, ◌<◌, leng
 
 use crate::fronts::{array_front, front, number_front, padding, rest_after, variant_front};
 use crate::values::{Frame, Values};
-use dbus_type_codes::boundary;
+use dbus_types::boundary;
 use dbus_value_model::{Reason, Stop, refuse};
 
 impl Values {

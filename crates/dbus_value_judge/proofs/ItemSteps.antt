@@ -21,7 +21,7 @@ use Rattle.dbus_unmarshal.proofs.TextSteps.{text_there}
 use Rattle.dbus_unmarshal.proofs.StringSteps.{sig_done}
 use Rattle.dbus_unmarshal.proofs.ArraySteps.{row_fits, frame_done}
 use Rattle.std.proofs.lemmas.List.{length-take, length-drop}
-use Rattle.dbus_type_codes.specs.Codes.{IsFree}
+use Rattle.dbus_value_model.specs.FreeNumbers.{IsFree}
 use Rattle.dbus_value_judge.specs.Endings.{EndsAt, EndedText}
 
 -- ---- numbers

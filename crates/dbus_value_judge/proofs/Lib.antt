@@ -1,5 +1,3 @@
-pub use Rattle.dbus_type_codes.proofs.TypeEnds
-pub use Rattle.dbus_type_codes.proofs.TypeCodes
 pub mod ReadParts
 pub mod ReadContainers
 mod ItemSteps

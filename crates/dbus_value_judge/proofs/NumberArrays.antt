@@ -11,12 +11,12 @@ use Rattle.dbus_value_model.specs.Values.{ValueTree}
 use Rattle.dbus_value_model.specs.Reading.{Reader, Done, after, pure, padding, up_to, contents, value}
 use Rattle.dbus_unmarshal.proofs.ReadSteps.{padding_is}
 use Rattle.dbus_unmarshal.proofs.ValueSteps.{value_number}
-use Rattle.dbus_type_codes.specs.Codes.{IsFree}
+use Rattle.dbus_value_model.specs.FreeNumbers.{IsFree}
 use Rattle.dbus_value_judge.specs.Endings.{EndsAt, IsNotRead}
 use Rattle.dbus_value_judge.proofs.ReadParts.{not_partial, not_same, not_first, not_second}
 use Rattle.dbus_value_judge.proofs.ItemRefusals.{number_short}
 use Rattle.dbus_value_judge.proofs.ItemSteps.{free_ends}
-use Rattle.dbus_type_codes.proofs.TypeCodes.{FreeType}
+use Rattle.dbus_value_model.proofs.FreeNumbers.{FreeType}
 
 some_bytes : (k : NumberCode) → 0 < width k
 some_bytes BYTE = omega arith

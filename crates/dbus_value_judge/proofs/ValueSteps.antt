@@ -15,10 +15,10 @@ use Rattle.dbus_value_model.specs.ValueReaders.{number_value, text_value, varian
 use Rattle.dbus_unmarshal.proofs.Agreement.{after_done}
 use Rattle.dbus_unmarshal.proofs.KindLaws.{single_text}
 use Rattle.dbus_unmarshal.proofs.ValueSteps.{value_number, value_text, value_variant, value_array, value_struct, value_entry, variant_opens, array_opens, open_done, struct_done, with_front, front_none, goes_on_at, ends_in, shaped_inside, single_shaped}
-use Rattle.dbus_type_codes.specs.Codes.{type_length}
+use Rattle.dbus_types.specs.SignatureCodes.{type_length}
 use Rattle.dbus_value_judge.specs.Endings.{EndsAt, IsNotRead, EndedText}
 use Rattle.dbus_value_judge.proofs.ReadParts.{not_partial, not_same, not_first, not_second, done_at}
-use Rattle.dbus_type_codes.proofs.TypeEnds.{type_ends}
+use Rattle.dbus_types.proofs.TypeEnds.{type_ends}
 
 -- ---- values of some types, one after another
 

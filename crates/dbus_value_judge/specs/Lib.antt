@@ -1,2 +1,1 @@
-pub use Rattle.dbus_type_codes.specs.Codes
 pub mod Endings

@@ -4,13 +4,12 @@
 ghost use Rattle.std.specs.Prelude.{◌≡◌, ℕ, ◌+◌, ◌≤◌, length, drop, None, IfSome};
 ghost use Rattle.dbus_texts.specs.Types.{TypeTree, IsBasic};
 ghost use Rattle.dbus_value_model.specs.Reading.{value};
-ghost use Rattle.dbus_type_codes.specs.Codes.{first_code};
+ghost use Rattle.dbus_types.specs.SignatureCodes.{first_code};
 ghost use Rattle.dbus_value_judge.specs.Endings.{EndsAt, IsNotRead};
 
 use crate::numbers::{boolean, descriptor, free_number};
 use crate::texts::{long_text, signature};
-use dbus_type_codes::free_width;
-use dbus_types::TextKind;
+use dbus_types::{TextKind, free_width};
 use dbus_value_model::{Bounds, Order};
 
 /// A value of the basic type that has this code: the offset after it. Of all other codes None says nothing.

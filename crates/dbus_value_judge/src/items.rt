@@ -12,9 +12,8 @@ ghost use Rattle.dbus_value_model.specs.Items.{no_row};
 ghost use Rattle.dbus_value_model.specs.Reading.{Done, padding, number};
 ghost use Rattle.dbus_value_judge.specs.Endings.{EndedText, IsNotRead};
 
-use dbus_type_codes::gap;
 use dbus_types::{TextKind, text_break};
-use dbus_value_model::Order;
+use dbus_value_model::{Order, gap};
 
 /// The zeros up to the next multiple of `boundary`: the offset after them.
 #[inline]

@@ -13,7 +13,6 @@ mod numbers;
 mod texts;
 mod values;
 
-pub use dbus_type_codes::{boundary, free_width, gap, type_end};
 pub use items::{is_ended_text, padding, word};
 pub use judging::{judge_value, judge_values};
 pub use texts::short_text;

@@ -7,7 +7,7 @@ ghost use Rattle.dbus_types.specs.Alignments.{width};
 ghost use Rattle.dbus_value_model.specs.declared.order.Order.{Order};
 ghost use Rattle.dbus_value_model.specs.ValueReaders.{number_value};
 ghost use Rattle.dbus_value_judge.specs.Endings.{EndsAt, IsNotRead};
-ghost use Rattle.dbus_type_codes.specs.Codes.{IsFree};
+ghost use Rattle.dbus_value_model.specs.FreeNumbers.{IsFree};
 
 use crate::items::{padding, word};
 use dbus_value_model::Order;

@@ -16,8 +16,7 @@ use crate::arrays::frame;
 use crate::basic::basic_value;
 use crate::items::padding;
 use crate::texts::short_text;
-use dbus_type_codes::{boundary, free_width, type_end};
-use dbus_types::TextKind;
+use dbus_types::{TextKind, boundary, free_width, type_end};
 use dbus_value_model::{Bounds, Order};
 
 /// A value of the one type that `types` spell.

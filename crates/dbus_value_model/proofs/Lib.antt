@@ -14,3 +14,5 @@ pub mod RangeSteps
 pub mod Indexes
 pub mod ShortLaws
 pub mod PartRanges
+pub mod FreeNumbers
+pub mod Gaps

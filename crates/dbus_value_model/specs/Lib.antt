@@ -6,6 +6,7 @@ pub mod FdIndexes
 pub mod Spelling
 pub mod Items
 pub mod ValueItems
+pub mod FreeNumbers
 pub mod Outcomes
 pub mod Laws
 pub mod Reading

@@ -29,7 +29,7 @@ pub use fd_rule::FdRule;
 pub use got::Got;
 pub use limits::{ARRAY_LIMIT, Bounds, DEPTH_LIMIT, Limits, MESSAGE_LIMIT};
 pub use order::Order;
-pub use padding::padding_length;
+pub use padding::{gap, padding_length};
 pub use ranges::{all_numbers_in_range, numbers_in_range};
 pub use stop::{Stop, refuse};
 pub use typing::{plain_type_of, type_of};

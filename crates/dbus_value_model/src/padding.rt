@@ -16,3 +16,20 @@ pub fn padding_length(alignment: u8, at: u64) -> u8
     let alignment = u64::from(alignment);
     ((alignment - at % alignment) % alignment) as u8
 }
+
+/// How many zeros reach the boundary. Those boundaries that there are stand as constants, so that nothing is divided.
+/// D-Bus Specification, "Marshaling (Wire Format)".
+#[inline]
+pub fn gap(boundary: u8, at: usize) -> usize
+    requires { 0 < boundary }
+    ensures { result ≡ gap_to boundary at }
+{
+    let at = at as u64;
+    usize::from(match boundary {
+        1 => padding_length(1, at),
+        2 => padding_length(2, at),
+        4 => padding_length(4, at),
+        8 => padding_length(8, at),
+        other => padding_length(other, at),
+    })
+}

@@ -9,9 +9,9 @@ use Rattle.dbus_value_model.specs.declared.order.Order.{Order}
 use Rattle.dbus_value_model.specs.Spelling.{Spelled, spelling}
 use Rattle.dbus_value_model.specs.Values.{ValueTree, NumberValue, TextValue, VariantValue, ArrayValue, StructValue, EntryValue, type_of}
 use Rattle.dbus_value_model.proofs.Numbers.{length-num}
-use Rattle.dbus_message_model.proofs.JudgedFields.{text_of}
-use Rattle.dbus_value_judge.specs.Codes.{first_code}
-use Rattle.dbus_value_judge.proofs.TypeCodes as codes
+use Rattle.dbus_message_model.proofs.TextValues.{text_of}
+use Rattle.dbus_types.specs.SignatureCodes.{first_code}
+use Rattle.dbus_types.proofs.TypeCodes as codes
 use Rattle.dbus_view.specs.Bodies.{IsOther, StandsIn, IsTextIn, IsTextPlace}
 use Rattle.dbus_view.specs.declared.arg_place.ArgPlace.{ArgPlace}
 use Rattle.dbus_view.specs.declared.values.Spot.{Spot}

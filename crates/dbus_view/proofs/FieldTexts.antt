@@ -8,7 +8,7 @@ use Rattle.dbus_value_model.specs.Measures.{coded}
 use Rattle.dbus_value_model.specs.Values.{ValueTree, NumberValue, TextValue, IsWellFormed, AreWellFormed, type_of, value_trees}
 use Rattle.dbus_message_model.specs.Lookups.{field_value}
 use Rattle.dbus_message_model.specs.Messages.{FieldTree, Want, Anything, OfType, Name, Serial, want, is_particular, is_known, Suits, AreFields, field_struct, field_array, text_in, number_in, body_signature}
-use Rattle.dbus_message_model.proofs.JudgedFields.{text_of}
+use Rattle.dbus_message_model.proofs.TextValues.{text_of}
 use Rattle.dbus_judge.specs.Seen.{AreNoted, IsNotedOf, StandsAt}
 use Rattle.dbus_judge.specs.declared.seen.Place.{Place}
 use Rattle.dbus_judge.specs.declared.seen.Seen.{Seen}

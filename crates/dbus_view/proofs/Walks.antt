@@ -10,11 +10,11 @@ use Rattle.dbus_value_model.specs.Spelling.{Spelled, SpelledAll, spelling, spell
 use Rattle.dbus_value_model.specs.Values.{ValueTree, ValueTrees, NoValues, MoreValues, type_of, types_of}
 use Rattle.dbus_message_model.specs.Lookups.{body_value}
 use Rattle.dbus_unmarshal.proofs.ValueSteps.{shaped_inside}
-use Rattle.dbus_value_judge.specs.Codes.{type_length, first_code}
+use Rattle.dbus_types.specs.SignatureCodes.{type_length, first_code}
 use Rattle.dbus_value_judge.specs.Endings.{IsSpelledTo, IsNotSpelled}
 use Rattle.dbus_value_judge.proofs.Spelled.{value_spelled_read}
-use Rattle.dbus_value_judge.proofs.TypeCodes.{begins}
-use Rattle.dbus_value_judge.proofs.TypeEnds.{type_ends}
+use Rattle.dbus_types.proofs.TypeCodes.{begins}
+use Rattle.dbus_types.proofs.TypeEnds.{type_ends}
 use Rattle.dbus_view.specs.Bodies.{AreBody, StandsThere}
 use Rattle.dbus_view.specs.declared.values.Spot.{Spot}
 

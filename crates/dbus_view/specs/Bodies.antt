@@ -7,7 +7,7 @@ use Rattle.dbus_value_model.specs.declared.limits.Bounds.{Bounds}
 use Rattle.dbus_value_model.specs.declared.order.Order.{Order}
 use Rattle.dbus_value_model.specs.Spelling.{Spelled, SpelledAll}
 use Rattle.dbus_value_model.specs.Values.{ValueTree, ValueTrees, TextValue, type_of, types_of}
-use Rattle.dbus_value_judge.specs.Codes.{first_code}
+use Rattle.dbus_types.specs.SignatureCodes.{first_code}
 use Rattle.dbus_view.specs.declared.arg_place.ArgPlace.{ArgPlace}
 use Rattle.dbus_view.specs.declared.arg_view.ArgView.{ArgView}
 use Rattle.dbus_view.specs.declared.arg_view.ArgView.TheVariants as view

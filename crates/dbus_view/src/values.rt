@@ -8,7 +8,8 @@ ghost use Rattle.dbus_judge.specs.Judging.{IsJudgedWhole};
 
 use crate::arg_place::ArgPlace;
 use dbus_judge::Judged;
-use dbus_value_judge::{judge_value, type_end};
+use dbus_types::type_end;
+use dbus_value_judge::judge_value;
 use dbus_value_model::{Bounds, Limits, Order, padding_length};
 use std::str;
 

@@ -1,7 +1,7 @@
 //! Calls of the methods of the message bus, which take nothing. D-Bus Specification, "Message Bus Messages".
 
 use anyhow::{Result, anyhow};
-use dbus_message::{HeaderField, Message, Parts, field_code, message_type};
+use dbus_message::{Build, HeaderField, Message, Parts, field_code, message_type};
 use dbus_value::Value;
 use std::alloc::{AllocError, Global};
 

@@ -7,7 +7,7 @@
 
 use anyhow::{Result, anyhow, bail};
 use dbus_message::{
-    Answer, HeaderField, Message, Parts, decode, encode, field, field_code, message_type,
+    Answer, Build, HeaderField, Message, Parts, decode, encode, field, field_code, message_type,
 };
 use dbus_value::Value;
 use std::alloc::{AllocError, Global};

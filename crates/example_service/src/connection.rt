@@ -3,7 +3,7 @@
 use crate::replies::reply;
 use anyhow::{Result, anyhow, bail, ensure};
 use dbus_auth::{Guid, Server, ServerEnd, Status};
-use dbus_message::{Message, encode, flag, message_type};
+use dbus_message::{Build, Message, encode, flag, message_type};
 use dbus_stream::Cutter;
 use dbus_value::Order;
 use std::alloc::Global;

@@ -2,7 +2,7 @@
 #![tactic(auto)]
 
 use crate::answers::{bytes_of, is_encoded, whole};
-use dbus_message::{BuildFault, HeaderField, Message, Parts};
+use dbus_message::{Build, BuildFault, HeaderField, Message, Parts, Within};
 use dbus_types::SigType;
 use dbus_value::{FdRule, Limits, Order, Value};
 use std::alloc::{AllocError, Global};

@@ -1,7 +1,7 @@
 //! Each growth of decoding, of encoding and of making a message of its parts refused in turn.
 #![tactic(auto)]
 
-use dbus_message::{Answer, BuildFault, Message, Parts, decode, encode, encode_into};
+use dbus_message::{Answer, Build, BuildFault, Message, Parts, decode, encode, encode_into};
 use dbus_value::{Fault, Order, Reason, Refusal};
 use refusing_alloc::Refusing;
 use std::alloc::{Allocator, Global};

@@ -1,8 +1,9 @@
 use Rattle.std.proofs.Common.{refl, sym, ap, ◌∙◌}
 use Rattle.std.proofs.lemmas.Option.{IfSome_then}
 use Rattle.dbus_texts.specs.Types.{BOOLEAN, UNIX_FD, STRING, OBJECT_PATH, SIGNATURE}
-use Rattle.dbus_type_codes.specs.Codes.{free_width}
-use Rattle.dbus_type_codes.proofs.TypeCodes.{free_is, text_is, boolean_is, descriptor_is}
+use Rattle.dbus_types.specs.SignatureCodes.{free_width}
+use Rattle.dbus_types.proofs.TypeCodes.{text_is, boolean_is, descriptor_is}
+use Rattle.dbus_value_model.proofs.FreeNumbers.{free_is}
 use Rattle.dbus_value_judge.proofs.ValueRefusals.{no_number, no_text}
 use Rattle.dbus_value_judge.proofs.ValueSteps.{as_number, as_text}
 use Rattle.dbus_value_judge.proofs.basic.basic_value.Goals as goal

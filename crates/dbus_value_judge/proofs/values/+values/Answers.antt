@@ -5,8 +5,9 @@ use Rattle.dbus_texts.specs.Types.{TypeTree, NoTypes, MoreTypes, IsShaped}
 use Rattle.dbus_types.specs.Alignments.{alignment_of}
 use Rattle.dbus_value_model.specs.Bytes.{gap_to}
 use Rattle.dbus_value_model.specs.Reading.{value}
-use Rattle.dbus_type_codes.specs.Codes.{code_boundary, free_width}
-use Rattle.dbus_type_codes.proofs.TypeCodes.{no_text_of, code_is, boundary_is, free_is, variant_is, array_is, struct_is, entry_is, struct_shaped, entry_shaped}
+use Rattle.dbus_types.specs.SignatureCodes.{code_boundary, free_width}
+use Rattle.dbus_types.proofs.TypeCodes.{no_text_of, code_is, boundary_is, variant_is, array_is, struct_is, entry_is, struct_shaped, entry_shaped}
+use Rattle.dbus_value_model.proofs.FreeNumbers.{free_is}
 use Rattle.dbus_value_judge.proofs.NumberArrays.{free_elements_end, uneven_elements}
 use Rattle.dbus_value_judge.proofs.ValueRefusals.{no_variant, no_array, no_struct, no_entry, variant_too_deep, variant_unsigned, variant_unheld, array_too_deep, array_unpadded, array_unframed, array_unfilled, struct_too_deep, struct_unpadded, struct_unfilled, entry_unpadded, entry_unfilled}
 use Rattle.dbus_value_judge.proofs.ValueSteps.{less_left, left_unread, left_ends, lacks_all, lacks_on, lacks_element, lacks_end, leads_all, leads_on, leads_end, variant_ends, array_ends, struct_ends, entry_ends, as_variant, as_array, as_struct, as_entry}

@@ -1,0 +1,44 @@
+-- Going over a body's values for the first that is at fault, and for their types.
+use Rattle.std.proofs.Common.{◌≡◌, inl, inr, ℕ, ◌+◌, ◌-◌, ◌<◌, ◌≤◌, List, [], ◌∷◌, ◌++◌, length, get_or, drop, Option, Some, None, refl, sym, ap, subst, ◌∙◌, arith, append_assoc}
+use Rattle.std.proofs.lemmas.List.{drop_more, drop_all, length-append, append-nil}
+use Rattle.dbus_texts.specs.Types.{sig, sigs}
+use Rattle.dbus_value_model.specs.Values.{type_of, types_of}
+use Rattle.dbus_value_model.specs.ValueViews.{value_tree, value_trees_of}
+use Rattle.dbus_value_model.specs.declared.value.Value.{Value}
+use Rattle.dbus_build.specs.BuildFaults.{IsSound, IsFirstUnsound}
+
+module _ {A : Type 0} where
+  pub none_unsound : (n : ℕ) (v : Value A) (vs : List (Value A)) → IsFirstUnsound n (v ∷ vs) None → IsSound v × IsFirstUnsound (n + 1) vs None
+  none_unsound n v vs h = elim h [ inl x ↦ absurd cc | inr y ↦ y ]
+
+module _ {A : Type 0} (values : List (Value A)) (i : ℕ) where
+  from : (v : Value A) → i < length values → v ≡ get_or values i v → drop i values ≡ v ∷ drop (i + 1) values
+  from v h is = drop_more values i v h ∙ ap (λ (u : Value A). u ∷ drop (i + 1) values) (sym is)
+
+  pub unsound_here : (v : Value A) (n : ℕ) → i < length values → v ≡ get_or values i v → (IsSound v → ⊥) → IsFirstUnsound n (drop i values) (Some n)
+  unsound_here v n h is p = subst (λ (vs : List (Value A)). IsFirstUnsound n vs (Some n)) (sym (from v h is)) (inl (p, refl))
+
+  pub unsound_later : (v : Value A) (n : ℕ) (r : Option ℕ) → i < length values → v ≡ get_or values i v → IsSound v → IsFirstUnsound (n + 1) (drop (i + 1) values) r → IsFirstUnsound n (drop i values) r
+  unsound_later v n r h is p w = subst (λ (vs : List (Value A)). IsFirstUnsound n vs r) (sym (from v h is)) (inr (p, w))
+
+  pub sound_from : (v : Value A) (n : ℕ) → i < length values → v ≡ get_or values i v → IsFirstUnsound n (drop i values) None → IsSound v × IsFirstUnsound (n + 1) (drop (i + 1) values) None
+  sound_from v n h is w = none_unsound n v (drop (i + 1) values) (subst (λ (vs : List (Value A)). IsFirstUnsound n vs None) (from v h is) w)
+
+  -- the types from i on
+  pub types_from : (v : Value A) → i < length values → v ≡ get_or values i v → sigs (types_of (value_trees_of (drop i values))) ≡ sig (type_of (value_tree v)) ++ sigs (types_of (value_trees_of (drop (i + 1) values)))
+  types_from v h is = rw (from v h is) refl
+
+  pub no_types_from : length values ≤ i → sigs (types_of (value_trees_of (drop i values))) ≡ []
+  no_types_from h = rw (drop_all i values h) refl
+
+-- what is spelled so far and the rest are the whole
+pub spelled_on : (out next head rest tail whole : List ℕ) → rest ≡ head ++ tail → out ++ rest ≡ whole → next ≡ out ++ head → next ++ tail ≡ whole
+spelled_on out next head rest tail whole is all on = ap (λ (t : List ℕ). t ++ tail) on ∙ append_assoc out head tail ∙ ap (λ (t : List ℕ). out ++ t) (sym is) ∙ all
+
+-- too long for the text
+pub spelled_past : (out head rest tail whole text : List ℕ) → rest ≡ head ++ tail → out ++ rest ≡ whole → length text - length out < length head → whole ≡ text → ⊥
+spelled_past out head rest tail whole text is all long same =
+    omega (arith, length-append out rest, length-append head tail, ap length is, ap length all, ap length same, long)
+
+pub spelled_whole : (out rest whole : List ℕ) → rest ≡ [] → out ++ rest ≡ whole → out ≡ whole
+spelled_whole out rest whole is all = sym (append-nil out) ∙ ap (λ (t : List ℕ). out ++ t) (sym is) ∙ all

@@ -1,0 +1,8 @@
+pub mod FaultyFields
+pub mod FaultyBody
+pub mod Nesting
+pub mod JudgedFields
+pub mod PartEnds
+pub mod Built
+pub mod PackedFacts
+pub mod Accepting

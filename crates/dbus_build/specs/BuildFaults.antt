@@ -1,0 +1,174 @@
+-- Why parts make no message: the cases, and which of them is the first that holds.
+-- D-Bus Specification, "Message Format", "Header Fields" and "Invalid Protocol and Spec Extensions".
+use Rattle.std.specs.Prelude.{◌≡◌, ◌⊎◌, ℕ, ◌+◌, List, [], ◌∷◌, ◌++◌, true, false, ◌&&◌, if◌then◌else◌, Option, Some, None, Result, Ok, Err}
+use Rattle.dbus_texts.specs.Types.{UINT32, STRING, TypeTree, NumberType, TextType, sigs}
+use Rattle.dbus_value_model.specs.declared.fault.Reason.TheVariants as reasons
+use Rattle.dbus_value_model.specs.declared.limits.Limits.{Limits}
+use Rattle.dbus_value_model.specs.Checks.{IsTyped}
+use Rattle.dbus_value_model.specs.FdIndexes.{IsFirstPast}
+use Rattle.dbus_value_model.specs.Forming.{IsNamed}
+use Rattle.dbus_value_model.specs.Values.{ValueTree, NumberValue, type_of, types_of}
+use Rattle.dbus_value_model.specs.ValueViews.{value_tree}
+use Rattle.dbus_value_model.specs.declared.value.Value.{Value}
+use Rattle.dbus_value_model.specs.WantedTexts.{WantedText, IsWanted, kind_of}
+use Rattle.dbus_message_model.specs.Messages.{FieldTree, MessageTree, Want, Anything, OfType, Name, Serial, want, is_known, has_code, lacks, required, text_in, body_signature, body_fds, KeepsIndexes}
+use Rattle.dbus_message_model.specs.KeptLimits.{IsShallow, KeepsArrays, IsLong}
+use Rattle.dbus_message_model.specs.PackedParts.{PartsKeepBytes}
+use Rattle.dbus_message_model.specs.PartsViews.{parts_tree}
+use Rattle.dbus_message_model.specs.ValidMessages.{IsValidMessage}
+use Rattle.dbus_message_model.specs.MessageViews.{message_tree}
+use Rattle.dbus_message_model.specs.declared.header_field.HeaderField.{HeaderField}
+use Rattle.dbus_message_model.specs.declared.parts.Parts.{Parts}
+use Rattle.dbus_message_model.specs.declared.message.Message.{Message}
+use Rattle.dbus_build.specs.declared.build_fault.BuildFault.{BuildFault}
+use Rattle.dbus_build.specs.declared.build_fault.BuildFault.TheVariants as faults
+
+-- ---- fields
+
+-- r is the code of the first field without the property, or nothing where all have it
+abbrev pub IsFirstWithout : (FieldTree → Type 0) → List FieldTree → Option ℕ → Type 0
+IsFirstWithout P [] r = r ≡ None
+IsFirstWithout P (f ∷ fs) r = ((P f → ⊥) × (r ≡ Some f.code)) ⊎ (P f × IsFirstWithout P fs r)
+
+-- no REPLY_SERIAL of 0
+abbrev pub IsNonzero : FieldTree → Type 0
+IsNonzero f = want f.code ≡ Serial → f.value ≡ NumberValue UINT32 0 → ⊥
+
+-- the code of the first known field that stands after one of its code; before are those in front
+abbrev pub twice : List FieldTree → List FieldTree → Option ℕ
+twice before [] = None
+twice before (f ∷ fs) = if is_known f.code && has_code f.code before then Some f.code else twice (before ++ f ∷ []) fs
+
+-- the type that is wanted, where one is
+abbrev pub type_wanted : Want → Option TypeTree
+type_wanted Anything = None
+type_wanted (OfType t) = Some t
+type_wanted (Name k) = Some (TextType STRING)
+type_wanted Serial = Some (NumberType UINT32)
+
+abbrev pub IsOfType : Option TypeTree → ValueTree → Type 0
+IsOfType None v = Unit {0}
+IsOfType (Some t) v = type_of v ≡ t
+
+-- a known field is of its own type
+abbrev pub HasOwnType : FieldTree → Type 0
+HasOwnType f = IsOfType (type_wanted (want f.code)) f.value
+
+-- the texts that are wanted, where a text is
+abbrev pub text_wanted : Want → Option WantedText
+text_wanted (OfType (TextType k)) = Some (kind_of k)
+text_wanted (Name k) = Some k
+text_wanted _ = None
+
+abbrev pub IsOf : Option WantedText → List ℕ → Type 0
+IsOf None t = Unit {0}
+IsOf (Some k) t = IsWanted k t
+
+-- the text of a known field is of its kind
+abbrev pub HasOwnKind : FieldTree → Type 0
+HasOwnKind f = IsOf (text_wanted (want f.code)) (text_in f.value)
+
+-- ---- values
+
+-- its types fit together and its texts are of their kinds
+abbrev pub IsSound : {A : Type 0} → Value A → Type 0
+IsSound v = IsTyped v × IsNamed (value_tree v)
+
+-- an unknown field's value is sound
+abbrev pub HoldsSound : {A : Type 0} → HeaderField A → Type 0
+HoldsSound f = is_known f.code ≡ false → IsSound f.value
+
+-- r is the code of the first unknown field whose value is not sound, or nothing where all are
+abbrev pub IsFirstUnsoundField : {A : Type 0} → List (HeaderField A) → Option ℕ → Type 0
+IsFirstUnsoundField [] r = r ≡ None
+IsFirstUnsoundField (f ∷ fs) r = ((HoldsSound f → ⊥) × (r ≡ Some f.code)) ⊎ (HoldsSound f × IsFirstUnsoundField fs r)
+
+-- r is the number of the first value that is not sound, or nothing where all are; n is the number of the first value
+abbrev pub IsFirstUnsound : {A : Type 0} → ℕ → List (Value A) → Option ℕ → Type 0
+IsFirstUnsound n [] r = r ≡ None
+IsFirstUnsound n (v ∷ vs) r = ((IsSound v → ⊥) × (r ≡ Some n)) ⊎ (IsSound v × IsFirstUnsound (n + 1) vs r)
+
+-- ---- none of the cases holds, from the first up to one
+
+abbrev pub KindPasses : MessageTree → Type 0
+KindPasses m = m.kind ≡ 0 → ⊥
+
+abbrev pub SerialsPass : MessageTree → Type 0
+SerialsPass m = KindPasses m × (m.serial ≡ 0 → ⊥) × IsFirstWithout IsNonzero m.fields None
+
+abbrev pub CodesPass : MessageTree → Type 0
+CodesPass m = SerialsPass m × (has_code 0 m.fields ≡ false)
+
+abbrev pub NoneIsTwice : MessageTree → Type 0
+NoneIsTwice m = CodesPass m × (twice [] m.fields ≡ None)
+
+abbrev pub TypesPass : MessageTree → Type 0
+TypesPass m = NoneIsTwice m × IsFirstWithout HasOwnType m.fields None
+
+abbrev pub NoneIsMissing : MessageTree → Type 0
+NoneIsMissing m = TypesPass m × (lacks (required m.kind) m.fields ≡ None)
+
+abbrev pub DepthPasses : Limits → MessageTree → Type 0
+DepthPasses limits m = NoneIsMissing m × IsShallow limits m
+
+abbrev pub NamesPass : Limits → MessageTree → Type 0
+NamesPass limits m = DepthPasses limits m × IsFirstWithout HasOwnKind m.fields None
+
+-- That an array of bytes is not an `Array` is no matter of trees, so that from here on the parts are spoken of.
+abbrev pub FieldValuesPass : {A : Type 0} → Limits → Parts A → Type 0
+FieldValuesPass limits p = NamesPass limits (parts_tree p) × IsFirstUnsoundField p.fields.items None
+
+abbrev pub ValuesPass : {A : Type 0} → Limits → Parts A → Type 0
+ValuesPass limits p = FieldValuesPass limits p × IsFirstUnsound 0 p.body.items None
+
+abbrev pub HasOwnSignature : MessageTree → Type 0
+HasOwnSignature m = sigs (types_of m.body) ≡ body_signature m.fields
+
+abbrev pub SignaturePasses : {A : Type 0} → Limits → Parts A → Type 0
+SignaturePasses limits p = ValuesPass limits p × HasOwnSignature (parts_tree p)
+
+abbrev pub ArraysPass : {A : Type 0} → Limits → Parts A → Type 0
+ArraysPass limits p = SignaturePasses limits p × KeepsArrays limits (parts_tree p)
+
+abbrev pub SizePasses : {A : Type 0} → Limits → Parts A → Type 0
+SizePasses limits p = ArraysPass limits p × (IsLong limits (parts_tree p) → ⊥)
+
+-- no case holds
+abbrev pub NoFault : {A : Type 0} → Limits → Parts A → Type 0
+NoFault limits p = SizePasses limits p × KeepsIndexes limits (parts_tree p)
+
+-- The case holds, and none before it does. Memory is answered only where a growth was refused, which says nothing of the
+-- parts.
+abbrev pub IsFirstFault : {A : Type 0} → Limits → Parts A → BuildFault → Type 0
+IsFirstFault limits p faults.Memory = Unit {0}
+IsFirstFault limits p faults.Kind = p.kind ≡ 0
+IsFirstFault limits p faults.ZeroSerial = let m = parts_tree p in KindPasses m × ((m.serial ≡ 0) ⊎ ((c : ℕ) × IsFirstWithout IsNonzero m.fields (Some c)))
+IsFirstFault limits p faults.FieldCode = let m = parts_tree p in SerialsPass m × (has_code 0 m.fields ≡ true)
+IsFirstFault limits p (faults.FieldTwice c) = let m = parts_tree p in CodesPass m × (twice [] m.fields ≡ Some c)
+IsFirstFault limits p (faults.FieldType c) = let m = parts_tree p in NoneIsTwice m × IsFirstWithout HasOwnType m.fields (Some c)
+IsFirstFault limits p (faults.FieldMissing c) = let m = parts_tree p in TypesPass m × (lacks (required m.kind) m.fields ≡ Some (reasons.FieldMissing c))
+IsFirstFault limits p faults.TooDeep = let m = parts_tree p in NoneIsMissing m × (IsShallow limits m → ⊥)
+IsFirstFault limits p (faults.Name c) = let m = parts_tree p in DepthPasses limits m × IsFirstWithout HasOwnKind m.fields (Some c)
+IsFirstFault limits p (faults.FieldValue c) = NamesPass limits (parts_tree p) × IsFirstUnsoundField p.fields.items (Some c)
+IsFirstFault limits p (faults.Value n) = FieldValuesPass limits p × IsFirstUnsound 0 p.body.items (Some n)
+IsFirstFault limits p faults.SignatureDiffers = ValuesPass limits p × (HasOwnSignature (parts_tree p) → ⊥)
+IsFirstFault limits p faults.ArrayTooLong = SignaturePasses limits p × (KeepsArrays limits (parts_tree p) → ⊥)
+IsFirstFault limits p faults.MessageTooLong = ArraysPass limits p × IsLong limits (parts_tree p)
+IsFirstFault limits p (faults.FdIndex n) = let m = parts_tree p in SizePasses limits p × IsFirstPast (body_fds limits m.fields) 0 m.body (Some n)
+
+-- ---- what is built
+
+-- a message of these parts where no case holds, else the parts and the first case that does
+abbrev pub IsBuilt : {A : Type 0} → Limits → Parts A → Result (Message A) (Parts A × BuildFault) → Type 0
+IsBuilt limits p (Ok message) = (message_tree message ≡ parts_tree p) × NoFault limits p
+IsBuilt limits p (Err refused) = (refused.0 ≡ p) × IsFirstFault limits p refused.1
+
+-- where no case holds, nothing is refused but for want of memory
+abbrev pub IsAccepted : {A : Type 0} → Limits → Parts A → Result (Message A) (Parts A × BuildFault) → Type 0
+IsAccepted limits p (Ok message) = Unit {0}
+IsAccepted limits p (Err refused) = NoFault limits p → refused.1 ≡ faults.Memory
+
+-- where the parts are valid within the limits, and each array of bytes in them is `Bytes`, nothing is refused but for want of memory
+abbrev pub IsTaken : {A : Type 0} → Limits → Parts A → Result (Message A) (Parts A × BuildFault) → Type 0
+IsTaken limits p (Ok message) = Unit {0}
+IsTaken limits p (Err refused) = IsValidMessage limits (parts_tree p) → PartsKeepBytes p → refused.1 ≡ faults.Memory

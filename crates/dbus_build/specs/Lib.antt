@@ -1,0 +1,3 @@
+pub mod BuildFaults
+pub mod MessageSizes
+pub mod PartLaws

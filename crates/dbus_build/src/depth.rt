@@ -1,0 +1,41 @@
+//! How deep the parts of a message nest.
+#![tactic(auto)]
+
+ghost use Rattle.std.specs.Prelude.{◌↔◌, IsTrue};
+ghost use Rattle.dbus_value_model.specs.Forming.{NestsWithin};
+ghost use Rattle.dbus_message_model.specs.KeptLimits.{IsShallow};
+ghost use Rattle.dbus_message_model.specs.Messages.{field_array, field_struct};
+ghost use Rattle.dbus_message_model.specs.PartsViews.{field_tree, field_trees, parts_tree};
+
+use dbus_message_model::{HeaderField, Parts};
+use dbus_value_model::{Limits, nest_within, nests_within};
+use std::alloc::Allocator;
+
+/// Whether a field opens no more containers than may be open there: its struct, its variant, and those of its value.
+fn field_nests<A: Allocator>(field: &HeaderField<A>, room: u8) -> bool
+    ensures { IsTrue result ↔ NestsWithin room (field_struct (field_tree field.now)) }
+{
+    1 < room && nests_within(&field.value, room - 2)
+}
+
+/// Whether the field array opens no more containers than may be open, itself among them.
+fn fields_nest<A: Allocator>(fields: &[HeaderField<A>], room: u8) -> bool
+    ensures { IsTrue result ↔ NestsWithin room (field_array (field_trees fields.now)) }
+{
+    if room == 0 {
+        return false;
+    }
+    for field in fields {
+        if !field_nests(field, room - 1) {
+            return false;
+        }
+    }
+    true
+}
+
+/// Whether no more arrays, structs and variants are open at once than the limits' depth.
+pub fn is_shallow<A: Allocator>(parts: &Parts<A>, limits: Limits) -> bool
+    ensures { IsTrue result ↔ IsShallow limits (parts_tree parts.now) }
+{
+    fields_nest(&parts.fields, limits.depth) && nest_within(&parts.body, limits.depth)
+}

@@ -1,0 +1,134 @@
+//! The first field of a header that is at fault.
+#![tactic(auto)]
+
+ghost use Rattle.std.specs.Prelude.{◌≡◌, ◌↔◌, [], IsTrue, IfOk, option_map};
+ghost use Rattle.dbus_value_model.specs.WantedTexts.{Of};
+ghost use Rattle.dbus_build.specs.BuildFaults.{IsFirstWithout, IsFirstUnsoundField, IsNonzero, HasOwnType, HasOwnKind, HoldsSound, text_wanted, twice};
+ghost use Rattle.dbus_message_model.specs.Messages.{want};
+ghost use Rattle.dbus_message_model.specs.PartsViews.{field_tree, field_trees};
+
+use crate::faulty_body::is_sound;
+use dbus_message_model::HeaderField;
+use dbus_message_model::field_table::{Wanted, is_known, want};
+use dbus_message_model::known_fields::{is_again, text_in};
+use dbus_types::{TextKind, text_break};
+use dbus_value_model::Value;
+use std::alloc::{AllocError, Allocator};
+
+/// Whether a field is no REPLY_SERIAL of 0.
+fn is_nonzero<A: Allocator>(field: &HeaderField<A>) -> bool
+    ensures { IsTrue result ↔ IsNonzero (field_tree field.now) }
+{
+    match want(field.code) {
+        Wanted::Serial => !matches!(field.value, Value::U32(0)),
+        _ => true,
+    }
+}
+
+/// Whether a field is of its own type, where it is known.
+fn has_own_type<A: Allocator>(field: &HeaderField<A>) -> bool
+    ensures { IsTrue result ↔ HasOwnType (field_tree field.now) }
+{
+    match want(field.code) {
+        Wanted::Anything => true,
+        Wanted::Path => matches!(field.value, Value::Path(_)),
+        Wanted::Name(_) => matches!(field.value, Value::Str(_)),
+        Wanted::Serial | Wanted::Number => matches!(field.value, Value::U32(_)),
+        Wanted::Signature => matches!(field.value, Value::Sig(_)),
+    }
+}
+
+/// What the text of a known field is.
+fn own_kind(code: u8) -> Option<TextKind>
+    ensures { option_map Of result ≡ text_wanted (want code) }
+{
+    match want(code) {
+        Wanted::Path => Some(TextKind::Path),
+        Wanted::Name(kind) => Some(kind),
+        Wanted::Signature => Some(TextKind::Signature),
+        Wanted::Anything | Wanted::Serial | Wanted::Number => None,
+    }
+}
+
+/// Whether the text of a field is of its kind, where it is known.
+fn has_own_kind<A: Allocator>(field: &HeaderField<A>) -> bool
+    ensures { IsTrue result ↔ HasOwnKind (field_tree field.now) }
+{
+    match own_kind(field.code) {
+        None => true,
+        Some(kind) => text_break(kind, text_in(&field.value)).is_none(),
+    }
+}
+
+/// The code of the first REPLY_SERIAL of 0.
+pub fn first_zero_reply<A: Allocator>(fields: &[HeaderField<A>]) -> Option<u8>
+    ensures { IsFirstWithout IsNonzero (field_trees fields.now) result }
+{
+    for field in fields {
+        if !is_nonzero(field) {
+            return Some(field.code);
+        }
+    }
+    None
+}
+
+/// The code of the first known field that stands after one of its code.
+pub fn first_twice<A: Allocator>(fields: &[HeaderField<A>]) -> Option<u8>
+    ensures { result ≡ twice [] (field_trees fields.now) }
+{
+    for (i, field) in fields.iter().enumerate() {
+        if is_again(&fields[..i], field.code) {
+            return Some(field.code);
+        }
+    }
+    None
+}
+
+/// The code of the first known field of another type than its own.
+pub fn first_mistyped<A: Allocator>(fields: &[HeaderField<A>]) -> Option<u8>
+    ensures { IsFirstWithout HasOwnType (field_trees fields.now) result }
+{
+    for field in fields {
+        if !has_own_type(field) {
+            return Some(field.code);
+        }
+    }
+    None
+}
+
+/// The code of the first known field whose text is not of its kind.
+pub fn first_misnamed<A: Allocator>(fields: &[HeaderField<A>]) -> Option<u8>
+    ensures { IsFirstWithout HasOwnKind (field_trees fields.now) result }
+{
+    for field in fields {
+        if !has_own_kind(field) {
+            return Some(field.code);
+        }
+    }
+    None
+}
+
+/// Whether the value of a field is sound, where the field is unknown.
+fn holds_sound<A: Allocator + Copy>(alloc: A, field: &HeaderField<A>) -> Result<bool, AllocError>
+    ensures { IfOk result (λ answer. IsTrue answer ↔ HoldsSound field.now) }
+{
+    if is_known(field.code) {
+        return Ok(true);
+    }
+    is_sound(alloc, &field.value)
+}
+
+/// The code of the first unknown field whose value is not sound. The error is that a growth of memory was refused.
+pub fn first_unsound_field<A: Allocator + Copy>(
+    alloc: A,
+    fields: &[HeaderField<A>],
+) -> Result<Option<u8>, AllocError>
+    ensures { IfOk result (λ code. IsFirstUnsoundField fields.now code) }
+{
+    for field in fields {
+        if !holds_sound(alloc, field)? {
+            return Ok(Some(field.code));
+        }
+    }
+    Ok(None)
+}

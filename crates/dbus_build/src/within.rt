@@ -1,0 +1,55 @@
+//! Whether a message keeps limits that are handed in.
+#![tactic(auto)]
+
+ghost use Rattle.std.specs.Prelude.{◌↔◌, map, IsTrue};
+ghost use Rattle.dbus_value_model.specs.ShortSignatures.{HaveShortSignatures};
+ghost use Rattle.dbus_value_model.specs.Values.{value_trees};
+ghost use Rattle.dbus_message_model.specs.KeptLimits.{KeepsArrays, KeepsLimits};
+ghost use Rattle.dbus_message_model.specs.Messages.{field_struct, KeepsIndexes};
+ghost use Rattle.dbus_message_model.specs.MessageViews.{message_tree};
+ghost use Rattle.dbus_message_model.specs.PartsViews.{parts_tree};
+
+use crate::depth::is_shallow;
+use crate::message_size::fields_end;
+use dbus_marshal::measure_all;
+use dbus_message_model::known_fields::fd_count;
+use dbus_message_model::{Message, Parts};
+use dbus_value_model::{Limits, first_past, padding_length};
+use std::alloc::Allocator;
+
+/// Whether the field array, and each array in the parts, has no more bytes than the limits' array.
+fn keeps_arrays<A: Allocator>(parts: &Parts<A>, limits: Limits) -> bool
+    requires fields_signed { HaveShortSignatures
+        (value_trees (map field_struct (parts_tree parts.now).fields)) }
+    requires body_signed { HaveShortSignatures (parts_tree parts.now).body }
+    ensures { IsTrue result ↔ KeepsArrays limits (parts_tree parts.now) }
+{
+    let end = match fields_end(&parts.fields, limits) {
+        Some(end) => end,
+        None => return false,
+    };
+    let start = end + u64::from(padding_length(8, end));
+    match measure_all(&parts.body, start, limits) {
+        Some(_) => true,
+        None => false,
+    }
+}
+
+/// Whether every index of a descriptor in the body is below the number that the limits' rule asks for.
+fn keeps_indexes<A: Allocator>(parts: &Parts<A>, limits: Limits) -> bool
+    ensures { IsTrue result ↔ KeepsIndexes limits (parts_tree parts.now) }
+{
+    let fds = limits.fds.index_limit(fd_count(&parts.fields));
+    first_past(&parts.body, fds).is_none()
+}
+
+/// Whether the message keeps the limits.
+pub(crate) fn keeps_limits<A: Allocator>(message: &Message<A>, limits: Limits) -> bool
+    ensures { IsTrue result ↔ KeepsLimits limits (message_tree message.now) }
+{
+    if message.size() > limits.message as usize {
+        return false;
+    }
+    let parts = message.parts();
+    is_shallow(parts, limits) && keeps_arrays(parts, limits) && keeps_indexes(parts, limits)
+}

@@ -1,3 +1,0 @@
-pub mod TypeEnds
-pub mod TypeCodes
-pub mod Gaps

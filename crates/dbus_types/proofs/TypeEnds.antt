@@ -1,0 +1,62 @@
+-- Where a type's text ends.
+use Rattle.std.proofs.Common.{◌≡◌, ℕ, suc, ◌+◌, List, [], ◌∷◌, ◌++◌, length, refl, ap, ◌∙◌, arith, append_assoc}
+use Rattle.std.proofs.lemmas.List.{length-append}
+use Rattle.dbus_texts.specs.Types.{NumberCode, BYTE, BOOLEAN, INT16, UINT16, INT32, UINT32, INT64, UINT64, DOUBLE, UNIX_FD, TextCode, STRING, OBJECT_PATH, SIGNATURE, TypeTree, NumberType, TextType, VariantType, ArrayType, StructType, EntryType, TypeTrees, NoTypes, MoreTypes, number_code, text_code, sig, sigs}
+use Rattle.dbus_types.specs.SignatureCodes.{type_length, unless_closed}
+
+number_ends : (deep : ℕ) (k : NumberCode) (s : List ℕ) → type_length deep (number_code k ∷ s) ≡ suc (unless_closed deep (λ n. type_length n s))
+number_ends deep BYTE s = refl
+number_ends deep BOOLEAN s = refl
+number_ends deep INT16 s = refl
+number_ends deep UINT16 s = refl
+number_ends deep INT32 s = refl
+number_ends deep UINT32 s = refl
+number_ends deep INT64 s = refl
+number_ends deep UINT64 s = refl
+number_ends deep DOUBLE s = refl
+number_ends deep UNIX_FD s = refl
+
+text_ends : (deep : ℕ) (k : TextCode) (s : List ℕ) → type_length deep (text_code k ∷ s) ≡ suc (unless_closed deep (λ n. type_length n s))
+text_ends deep STRING s = refl
+text_ends deep OBJECT_PATH s = refl
+text_ends deep SIGNATURE s = refl
+
+struct_parts : (ts : TypeTrees) (r : List ℕ) → (sigs ts ++ 41 ∷ []) ++ r ≡ sigs ts ++ 41 ∷ r
+struct_parts ts r = append_assoc (sigs ts) (41 ∷ []) r
+
+entry_parts : (k v : TypeTree) (r : List ℕ) → (sig k ++ (sig v ++ 125 ∷ [])) ++ r ≡ sig k ++ (sig v ++ 125 ∷ r)
+entry_parts k v r = simp append_assoc
+
+-- within brackets a type's text is passed over whole
+mutual
+  inside : (t : TypeTree) (deep : ℕ) (r : List ℕ) → type_length (suc deep) (sig t ++ r) ≡ length (sig t) + type_length (suc deep) r
+  inside (NumberType k) deep r = number_ends (suc deep) k r ∙ omega arith
+  inside (TextType k) deep r = text_ends (suc deep) k r ∙ omega arith
+  inside VariantType deep r = omega arith
+  inside (ArrayType t) deep r = ap suc (inside t deep r) ∙ omega arith
+  inside (StructType ts) deep r =
+      ap (λ (s : List ℕ). suc (type_length (suc (suc deep)) s)) (struct_parts ts r) ∙ ap suc (all_inside ts (suc deep) (41 ∷ r))
+      ∙ omega (arith, length-append (sigs ts) (41 ∷ []))
+  inside (EntryType k v) deep r =
+      ap (λ (s : List ℕ). suc (type_length (suc (suc deep)) s)) (entry_parts k v r)
+      ∙ ap suc (inside k (suc deep) (sig v ++ 125 ∷ r) ∙ ap (λ (n : ℕ). length (sig k) + n) (inside v (suc deep) (125 ∷ r)))
+      ∙ omega (arith, length-append (sig k) (sig v ++ 125 ∷ []), length-append (sig v) (125 ∷ []))
+
+  all_inside : (ts : TypeTrees) (deep : ℕ) (r : List ℕ) → type_length (suc deep) (sigs ts ++ r) ≡ length (sigs ts) + type_length (suc deep) r
+  all_inside NoTypes deep r = omega arith
+  all_inside (MoreTypes t ts) deep r =
+      ap (λ (s : List ℕ). type_length (suc deep) s) (append_assoc (sig t) (sigs ts) r) ∙ inside t deep (sigs ts ++ r)
+      ∙ ap (λ (n : ℕ). length (sig t) + n) (all_inside ts deep r) ∙ omega (arith, length-append (sig t) (sigs ts))
+
+-- outside of brackets the first type ends where its text does
+pub type_ends : (t : TypeTree) (r : List ℕ) → type_length 0 (sig t ++ r) ≡ length (sig t)
+type_ends (NumberType k) r = number_ends 0 k r
+type_ends (TextType k) r = text_ends 0 k r
+type_ends VariantType r = refl
+type_ends (ArrayType t) r = ap suc (type_ends t r)
+type_ends (StructType ts) r =
+    ap (λ (s : List ℕ). suc (type_length 1 s)) (struct_parts ts r) ∙ ap suc (all_inside ts 0 (41 ∷ r)) ∙ omega (arith, length-append (sigs ts) (41 ∷ []))
+type_ends (EntryType k v) r =
+    ap (λ (s : List ℕ). suc (type_length 1 s)) (entry_parts k v r)
+    ∙ ap suc (inside k 0 (sig v ++ 125 ∷ r) ∙ ap (λ (n : ℕ). length (sig k) + n) (inside v 0 (125 ∷ r)))
+    ∙ omega (arith, length-append (sig k) (sig v ++ 125 ∷ []), length-append (sig v) (125 ∷ []))
