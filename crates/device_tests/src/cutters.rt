@@ -1,17 +1,13 @@
-//! Cutters on messages in pieces of every size, and with each growth refused in turn.
-
-ghost use Rattle.std.specs.Prelude.{◌<◌};
+//! Cutters with each growth refused in turn.
 
 use crate::captures::*;
-use crate::spelling::{is_spelled, spell};
+use crate::spelling::is_spelled;
 use dbus_stream::{Cutter, StreamFault};
 use dbus_value::{Fault, Reason};
 use refusing_alloc::Refusing;
-use std::alloc::{Allocator, Global};
+use std::alloc::Allocator;
 use std::process::Abort;
 use std::test::Fail;
-
-const MESSAGES: &[&[u8]] = &[RETURN, BIG_RETURN, NUMBER_AND_ARRAY, EMPTY_ARRAY, SIGNAL];
 
 // Of this piece the cutter takes so many bytes, gives the message that these bytes spell in its order, or none where they
 // are none, and holds so many bytes then.
@@ -29,84 +25,6 @@ fn takes<A: Allocator + Copy>(
     };
     assert_eq!(rt; [taken, cutter.held()], [count, held], "at {count}");
     assert!(rt; is_spelled(alloc, given, message)?, "at {count}");
-    Ok(())
-}
-
-#[test]
-fn a_message_and_a_prefix_of_it(rt: HostRuntime) -> Result<(), Fail> {
-    let alloc = rt.alloc();
-    let piece = joined(alloc, &[RETURN, FRONT])?;
-    let piece = piece.as_slice();
-    let mut cutter = Cutter::new(alloc);
-    takes(&rt, alloc, &mut cutter, piece, 24, RETURN, 0)?;
-    assert_eq!(rt; cutter.finish(), Ok(()));
-    takes(&rt, alloc, &mut cutter, FRONT, 5, b"", 5)?;
-    let fault = Fault {
-        at: 5,
-        reason: Reason::Truncated,
-    };
-    assert_eq!(rt; cutter.finish(), Err(fault));
-    Ok(())
-}
-
-#[test]
-fn a_message_in_pieces_of_one_byte(rt: HostRuntime) -> Result<(), Fail> {
-    let mut cutter = Cutter::new(rt.alloc());
-    for (i, piece) in RETURN.chunks(1).enumerate() {
-        let (message, held) = if i == 23 {
-            (RETURN, 0)
-        } else {
-            (b"".as_slice(), i + 1)
-        };
-        takes(&rt, rt.alloc(), &mut cutter, piece, 1, message, held)?;
-    }
-    Ok(())
-}
-
-// Each prefix wants more bytes, and gives the message with the rest.
-#[test]
-fn messages_in_two_pieces(rt: HostRuntime) -> Result<(), Fail> {
-    let alloc = rt.alloc();
-    for message in MESSAGES {
-        for n in 0..message.len() {
-            let mut cutter = Cutter::new(alloc);
-            let (front, rest) = message.split_at(n);
-            takes(&rt, alloc, &mut cutter, front, n, b"", n)?;
-            takes(&rt, alloc, &mut cutter, rest, rest.len(), message, 0)?;
-        }
-    }
-    Ok(())
-}
-
-// Whether these bytes are messages that a cutter gives where it is handed pieces of so many bytes, and again what it leaves
-// of one; and nothing is left of a piece, or held in the end.
-fn are_cut(alloc: Global, bytes: &[u8], size: usize) -> Result<bool, Fail>
-    requires { 0 < size }
-{
-    let mut cutter = Cutter::new(alloc);
-    let mut all = Vec::new(alloc);
-    let mut left = 0usize;
-    for piece in bytes.chunks(size) {
-        let mut rest = piece;
-        for _ in 0..bytes.len() {
-            if rest.is_empty() {
-                break;
-            }
-            let (count, given) = cutter.take(rest)?;
-            rest = &rest[count..];
-            spell(alloc, given, &mut all)?;
-        }
-        left = left.saturating_add(rest.len());
-    }
-    Ok(left == 0 && cutter.held() == 0 && all.as_slice() == bytes)
-}
-
-#[test]
-fn messages_in_pieces_of_each_size(rt: HostRuntime) -> Result<(), Fail> {
-    let bytes = joined(rt.alloc(), MESSAGES)?;
-    for size in 1..240usize {
-        assert!(rt; are_cut(rt.alloc(), bytes.as_slice(), size)?, "at {size}");
-    }
     Ok(())
 }
 
@@ -186,12 +104,13 @@ fn a_piece_within_a_message_takes_one_growth(rt: HostRuntime) -> Result<(), Fail
 }
 
 // The call with this piece, made again and again, each time with its next growth refused: each is refused memory and changes
-// nothing that is held, and the one that meets no refusal takes the piece and gives this message, or none.
+// nothing that is held, and the one that meets no refusal takes so many bytes and gives this message, or none.
 fn takes_in_the_end<'a>(
     rt: &impl Abort,
     heap: &'a Refusing,
     cutter: &mut Cutter<&'a Refusing>,
     piece: &[u8],
+    count: usize,
     message: &[u8],
 ) -> Result<(), Fail> {
     let before = cutter.held();
@@ -204,7 +123,7 @@ fn takes_in_the_end<'a>(
             }
             Ok((taken, given)) => {
                 assert_eq!(rt; heap.refusals(), 0, "at {n}");
-                assert_eq!(rt; taken, piece.len(), "at {n}");
+                assert_eq!(rt; taken, count, "at {n}");
                 heap.refuse_none();
                 assert!(rt; is_spelled(heap, given, message)?, "at {n}");
                 return Ok(());
@@ -225,7 +144,7 @@ fn a_call_that_is_refused_memory_is_made_again(rt: HostRuntime) -> Result<(), Fa
         for piece in SIGNAL.chunks(size) {
             left = left.saturating_sub(piece.len());
             let message = if left == 0 { SIGNAL } else { b"".as_slice() };
-            takes_in_the_end(&rt, &heap, &mut cutter, piece, message)?;
+            takes_in_the_end(&rt, &heap, &mut cutter, piece, piece.len(), message)?;
         }
         assert_eq!(rt; cutter.held(), 0, "at {size}");
     }
@@ -256,4 +175,20 @@ fn a_fault_never_becomes_want_of_memory(rt: HostRuntime) -> Result<(), Fail> {
 // Whether the cutter answers this fault.
 fn is_fault<A: Allocator + Copy>(cutter: &mut Cutter<A>, piece: &[u8], fault: StreamFault) -> bool {
     matches!(cutter.take(piece), Err(found) if found == fault)
+}
+
+// A reply followed by its first bytes, as one piece and then what was left of it, with each growth of each call refused.
+#[test]
+fn a_message_and_a_prefix_with_each_growth_refused(rt: HostRuntime) -> Result<(), Fail> {
+    let heap = Refusing::none(rt.alloc());
+    let mut cutter = Cutter::new(&heap);
+    let piece = joined(rt.alloc(), &[RETURN, FRONT])?;
+    takes_in_the_end(&rt, &heap, &mut cutter, &piece, 24, RETURN)?;
+    takes_in_the_end(&rt, &heap, &mut cutter, FRONT, 5, b"")?;
+    let truncated = Fault {
+        at: 5,
+        reason: Reason::Truncated,
+    };
+    assert_eq!(rt; cutter.finish(), Err(truncated));
+    Ok(())
 }

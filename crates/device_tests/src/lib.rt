@@ -18,8 +18,6 @@ mod growths;
 #[cfg(test)]
 mod help_texts;
 #[cfg(test)]
-mod limits;
-#[cfg(test)]
 mod narrow;
 #[cfg(test)]
 mod orders;

@@ -37,11 +37,6 @@ const FAILED: Given = Fails(ReadFault::Device);
 
 const TOO_MANY: Given = Fails(ReadFault::TooManyReads);
 
-const TRUNCATED_AT_23: Given = Fails(ReadFault::Format(Fault {
-    at: 23,
-    reason: Reason::Truncated,
-}));
-
 const NO_REPLY_SERIAL: Given = Fails(ReadFault::Format(Fault {
     at: 16,
     reason: Reason::FieldMissing(5),
@@ -168,19 +163,7 @@ const READ: &[(&[u8], usize, u64, u32, &[(Call, Given<'static>)], [u64; 3])] = &
         ],
         [24, 25, 0],
     ),
-    (
-        ALL_BUT_ONE,
-        1,
-        0,
-        100,
-        &[
-            (Next, TRUNCATED_AT_23),
-            (Advance, TRUNCATED_AT_23),
-            (AdvanceKept, TRUNCATED_AT_23),
-        ],
-        [0, 24, 0],
-    ),
-    // A fault is answered at the read that brings its deciding byte.
+    // A fault stays, also for a call that reads nothing.
     (
         BARE,
         1,
@@ -207,21 +190,40 @@ fn messages_and_faults(rt: HostRuntime) {
     }
 }
 
-#[test]
-fn messages_in_reads_of_each_size(rt: HostRuntime) -> Result<(), Fail> {
-    let bytes = joined(rt.alloc(), &[RETURN, SIGNAL, BIG_RETURN])?;
-    let script = [
-        (Advance, Gives(RETURN)),
-        (Next, Gives(SIGNAL)),
-        (Advance, Gives(BIG_RETURN)),
+// The one message of these bytes, of one byte a read, where the read of this number fails, the last of which finds their end.
+fn read_fails(rt: &(impl Abort + AllocGlobal), bytes: &[u8], n: u64) {
+    let size = bytes.len() as u64;
+    let within = [
+        (Next, FAILED),
+        (AdvanceKept, NOTHING),
+        (Advance, Gives(bytes)),
         (Next, NOTHING),
     ];
-    for size in 1..bytes.len() + 1 {
-        let source = Pieces::new(bytes.as_slice(), size, 0);
-        let mut reader = RawReader::new(rt.alloc(), source);
-        calls_give(&rt, size as u64, &mut reader, script.as_slice());
+    let after = [
+        (Next, Gives(bytes)),
+        (Advance, FAILED),
+        (Advance, NOTHING),
+        (Next, NOTHING),
+    ];
+    let mut reader = RawReader::new(rt.alloc(), Pieces::new(bytes, 1, n));
+    let script = if n <= size { within } else { after };
+    calls_give(rt, n, &mut reader, script.as_slice());
+    let done = reader.done();
+    let source = reader.into_source();
+    assert_eq!(rt;
+        [done, source.calls, source.failures],
+        [size, size + 2, 1],
+        "at {n}"
+    );
+}
+
+#[test]
+fn each_read_fails_once(rt: HostRuntime) {
+    for bytes in [RETURN, SIGNAL] {
+        for n in 0..bytes.len() + 1 {
+            read_fails(&rt, bytes, n as u64 + 1);
+        }
     }
-    Ok(())
 }
 
 // So many messages that the last of them is cut by the end of the reader's buffer.

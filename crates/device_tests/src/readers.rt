@@ -36,12 +36,10 @@ const FAILED: Given = Fails(ReadFault::Device);
 const TOO_MANY: Given = Fails(ReadFault::TooManyReads);
 
 // The end of the input within a message.
-fn truncated(at: u64) -> Given<'static> {
-    Fails(ReadFault::Format(Fault {
-        at,
-        reason: Reason::Truncated,
-    }))
-}
+const TRUNCATED_AT_5: Given = Fails(ReadFault::Format(Fault {
+    at: 5,
+    reason: Reason::Truncated,
+}));
 
 fn call_of<R: Source, A: Allocator + Copy>(
     reader: &mut MessageReader<R, A>,
@@ -92,10 +90,10 @@ fn a_message_and_a_prefix_of_it(rt: HostRuntime) -> Result<(), Fail> {
         (Next, Gives(RETURN)),
         (NextKept, NOTHING),
         // A fault stays.
-        (Next, truncated(5)),
-        (NextKept, truncated(5)),
-        (Next, truncated(5)),
-        (NextKept, truncated(5)),
+        (Next, TRUNCATED_AT_5),
+        (NextKept, TRUNCATED_AT_5),
+        (Next, TRUNCATED_AT_5),
+        (NextKept, TRUNCATED_AT_5),
     ];
     calls_give(&rt, 0, rt.alloc(), &mut reader, script.as_slice())?;
     assert_eq!(rt; reader.done(), 24);
@@ -163,13 +161,6 @@ fn readers_of_few_reads(rt: HostRuntime) -> Result<(), Fail> {
     Ok(())
 }
 
-#[test]
-fn ends_within_a_message(rt: HostRuntime) -> Result<(), Fail> {
-    let source = Pieces::new(ALL_BUT_ONE, 1, 0);
-    let script = [(Next, truncated(23)), (Next, truncated(23))];
-    reads(&rt, source, script.as_slice(), [0, 24, 0])
-}
-
 // A message is given at the read that ends it, a short one and a long one.
 #[test]
 fn gives_a_message_at_once(rt: HostRuntime) -> Result<(), Fail> {
@@ -183,49 +174,6 @@ fn gives_a_message_at_once(rt: HostRuntime) -> Result<(), Fail> {
         (Next, Gives(long.as_slice())),
     ];
     reads(&rt, source, script.as_slice(), [5060, 5061, 1])
-}
-
-// Prefixes of messages whose stated length is 4,096, and the place, the reason and the deciding byte's number of their fault.
-const FAULTY: &[(&[u8], u64, Reason, u64)] = &[
-    (
-        b"l\x02\0\x01\xe8\x0f\0\0\x01\0\0\0\x08\0\0\0\0\x01u\0",
-        16,
-        Reason::FieldCode,
-        17,
-    ),
-    (
-        b"l\x02\0\x01\xe8\x0f\0\0\x01\0\0\0\x08\0\0\0\x05\x01u\0\0\0\0\0",
-        20,
-        Reason::ZeroSerial,
-        24,
-    ),
-    (
-        b"l\x02\0\x01\xe0\x0f\0\0\x01\0\0\0\x0f\0\0\0\x05\x01u\0\x01\0\0\0\x08\x01g\0\x01s\0\0\xdb\x0f\0\0a\xff",
-        37,
-        Reason::Text,
-        38,
-    ),
-];
-
-// A fault is answered at the read that brings its deciding byte, however long the message is.
-#[test]
-fn answers_a_fault_at_once(rt: HostRuntime) -> Result<(), Fail> {
-    for (front, at, reason, calls) in FAULTY {
-        let mut bytes = joined(rt.alloc(), &[front])?;
-        bytes.resize(4096, 0)?;
-        let fault = Fails(ReadFault::Format(Fault {
-            at: *at,
-            reason: *reason,
-        }));
-        let source = Pieces::new(bytes.as_slice(), 1, 0);
-        reads(
-            &rt,
-            source,
-            [(Next, fault), (Next, fault)].as_slice(),
-            [0, *calls, 0],
-        )?;
-    }
-    Ok(())
 }
 
 // The one message of these bytes, where each read in turn fails, the last of which finds their end.
@@ -259,17 +207,23 @@ fn each_read_fails_once(rt: HostRuntime) -> Result<(), Fail> {
 }
 
 // A reader that finds a growth refused: its input, and how many bytes of it come with each read; the calls before, and how
-// many bytes the messages have that they gave; the call that finds it, and that gives the signal where none is refused;
-// how many bytes the messages have in the end, and how many reads there were.
+// many bytes the messages have that they gave; the call that finds it, which asks for more growths than this, and the message
+// that it gives where none is refused; what the calls after it give; how many bytes the messages have in the end, and how many
+// reads there were.
 struct Refused {
     input: &'static [&'static [u8]],
     size: usize,
     before: &'static [(Call, Given<'static>)],
     done_before: u64,
     call: Call,
+    least: u64,
+    message: &'static [u8],
+    after: &'static [(Call, Given<'static>)],
     done: u64,
     calls: u64,
 }
+
+const AT_END: &[(Call, Given<'static>)] = &[(NextKept, NOTHING), (Next, NOTHING)];
 
 const REFUSED: &[Refused] = &[
     Refused {
@@ -278,6 +232,9 @@ const REFUSED: &[Refused] = &[
         before: &[],
         done_before: 0,
         call: Next,
+        least: 5,
+        message: SIGNAL,
+        after: AT_END,
         done: 96,
         calls: 97,
     },
@@ -288,7 +245,27 @@ const REFUSED: &[Refused] = &[
         before: &[(Next, Gives(RETURN))],
         done_before: 24,
         call: NextKept,
+        least: 5,
+        message: SIGNAL,
+        after: AT_END,
         done: 120,
+        calls: 2,
+    },
+    // A prefix of another message stands after it.
+    Refused {
+        input: &[RETURN, FRONT],
+        size: 1000,
+        before: &[],
+        done_before: 0,
+        call: Next,
+        least: 0,
+        message: RETURN,
+        after: &[
+            (NextKept, NOTHING),
+            (Next, TRUNCATED_AT_5),
+            (NextKept, TRUNCATED_AT_5),
+        ],
+        done: 24,
         calls: 2,
     },
 ];
@@ -303,12 +280,9 @@ fn goes_on<A: Allocator + Copy>(
 ) -> Result<(), Fail> {
     let mut reader = reader;
     assert_eq!(rt; reader.done(), row.done_before, "at {n}");
-    let script = [
-        (row.call, Gives(SIGNAL)),
-        (NextKept, NOTHING),
-        (Next, NOTHING),
-    ];
+    let script = [(row.call, Gives(row.message))];
     calls_give(rt, n, alloc, &mut reader, script.as_slice())?;
+    calls_give(rt, n, alloc, &mut reader, row.after)?;
     let done = reader.done();
     assert_eq!(rt;
         [done, reader.into_source().calls],
@@ -368,7 +342,7 @@ fn growths_of(rt: &(impl Abort + AllocGlobal), row: &Refused) -> Result<u64, Fai
 fn calls_with_each_growth_refused(rt: HostRuntime) -> Result<(), Fail> {
     for row in REFUSED {
         let met = growths_of(&rt, row)?;
-        assert!(rt; met > 5, "{met}");
+        assert!(rt; met > row.least, "{met}");
     }
     Ok(())
 }

@@ -8,22 +8,6 @@ use dbus_value::{Fault, Reason, Refusal};
 use dbus_view::MessageView;
 use std::alloc::Global;
 
-// A reader that answers as decoding does.
-#[derive(Clone, Copy)]
-enum Reader {
-    // A checker, that is handed the bytes at once.
-    Whole,
-    // A checker, that is handed them in two pieces.
-    Checker,
-    // A cutter, that is handed them in two pieces.
-    Cutter,
-    // A view of them.
-    View,
-}
-
-// All of them.
-const READERS: [Reader; 4] = [Reader::Whole, Reader::Checker, Reader::Cutter, Reader::View];
-
 /// What decoding answers.
 pub(crate) fn decoded(alloc: Global, bytes: &[u8]) -> Answer {
     match decode(alloc, bytes) {
@@ -68,21 +52,21 @@ fn unseen(bytes: &[u8], right: Answer) -> Option<Fault> {
     })
 }
 
-// What a checker answers of the first bytes and, where more are wanted, of the others.
-fn checked_in_two(checker: &mut Checker, front: &[u8], rest: &[u8]) -> Answer {
+// What a checker answers of the first bytes, and then of all. An answer other than that more are wanted stands.
+fn checked_in_two(checker: &mut Checker, front: &[u8], rest: &[u8]) -> [Answer; 2] {
     checker.restart();
     match checked(checker, 0, front) {
-        Answer::Partial => checked(checker, front.len(), rest),
-        answer => answer,
+        Answer::Partial => [Answer::Partial, checked(checker, front.len(), rest)],
+        answer => [answer; 2],
     }
 }
 
 // What a cutter answers of them.
-fn cut_in_two(alloc: Global, front: &[u8], rest: &[u8]) -> Answer {
+fn cut_in_two(alloc: Global, front: &[u8], rest: &[u8]) -> [Answer; 2] {
     let mut cutter = Cutter::new(alloc);
     match cut(&mut cutter, 0, front) {
-        Answer::Partial => cut(&mut cutter, front.len(), rest),
-        answer => answer,
+        Answer::Partial => [Answer::Partial, cut(&mut cutter, front.len(), rest)],
+        answer => [answer; 2],
     }
 }
 
@@ -96,25 +80,18 @@ pub(crate) struct Readers {
 }
 
 impl Readers {
-    // How many answers of a checker are another, in every split in two.
-    fn checker_differs(&mut self, bytes: &[u8], right: Answer) -> u64 {
+    // How many answers of a checker and of a cutter are another in every split in two: of the first piece, which decoding of
+    // that piece tells, and of both.
+    fn in_two_differs(&mut self, bytes: &[u8], right: Answer) -> u64 {
         let mut count = 0u64;
         for n in 0..bytes.len() + 1 {
             let (front, rest) = bytes.split_at(n);
-            if checked_in_two(&mut self.checker, front, rest) != right {
-                count = count.saturating_add(1);
-            }
-        }
-        count
-    }
-
-    // How many answers of a cutter are another, in every split in two.
-    fn cutter_differs(&self, bytes: &[u8], right: Answer) -> u64 {
-        let mut count = 0u64;
-        for n in 0..bytes.len() + 1 {
-            let (front, rest) = bytes.split_at(n);
-            if cut_in_two(self.alloc, front, rest) != right {
-                count = count.saturating_add(1);
+            let wanted = [decoded(self.alloc, front), right];
+            for given in [
+                checked_in_two(&mut self.checker, front, rest),
+                cut_in_two(self.alloc, front, rest),
+            ] {
+                count = count.saturating_add(u64::from(given != wanted));
             }
         }
         count
@@ -133,17 +110,9 @@ impl Readers {
 
     /// How many answers of all readers are another than this.
     pub(crate) fn differing(&mut self, bytes: &[u8], right: Answer) -> u64 {
-        let mut count = 0u64;
-        for reader in READERS {
-            let differs = match reader {
-                Reader::Whole => self.whole_differs(bytes, right),
-                Reader::Checker => self.checker_differs(bytes, right),
-                Reader::Cutter => self.cutter_differs(bytes, right),
-                Reader::View => self.view_differs(bytes, right),
-            };
-            count = count.saturating_add(differs);
-        }
-        count
+        self.whole_differs(bytes, right)
+            .saturating_add(self.in_two_differs(bytes, right))
+            .saturating_add(self.view_differs(bytes, right))
     }
 
     /// How many of a message's proper prefixes are partial for decoding and for all readers.

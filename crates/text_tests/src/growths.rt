@@ -5,7 +5,7 @@ use crate::end_growths::{EndTurn, client_takes, server_takes};
 use crate::line_growths::{CutTurn, client_line, cuts, server_line};
 use crate::machine_growths::{ClientTurn, ServerTurn, client_hears, server_hears};
 use crate::samples::OK_LINE;
-use crate::shown::{SIGNAL, SIGNAL_TEXT, message_of};
+use crate::signal::{SIGNAL, SIGNAL_TEXT, message_of};
 use dbus_auth::{ClientState, ServerState, Status};
 use dbus_auth_lines::LineFault;
 use dbus_match::{RuleFault, RuleReason, parse_rule, rule_text};
@@ -36,8 +36,8 @@ enum Call {
     ClientTakes(Option<&'static [u8]>, &'static [EndTurn]),
     /// A rule is read, or has this fault.
     RuleRead(&'static str, Option<RuleFault>),
-    /// A rule is written.
-    RuleText,
+    /// The rule that a text spells is written as another.
+    RuleText(&'static str, &'static str),
     /// A message is shown.
     Show,
     /// A message is shown in a string kept from before.
@@ -276,7 +276,82 @@ const CLIENTS: &[(Call, u64)] = &[
 
 /// Rules and printed messages.
 const TEXTS: &[(Call, u64)] = &[
+    (Call::RuleRead("", None), 0),
+    (Call::RuleRead("type='signal',", None), 2),
+    (Call::RuleRead("arg0='it'\\''s'", None), 2),
+    (Call::RuleRead("arg0=a\\b", None), 2),
+    (Call::RuleRead("type=signal, member='X'", None), 2),
     (Call::RuleRead(RULE, None), 2),
+    (
+        Call::RuleRead(
+            "arg64='x'",
+            Some(RuleFault::Bad {
+                at: 0,
+                reason: RuleReason::KeyName,
+            }),
+        ),
+        0,
+    ),
+    (
+        Call::RuleRead(
+            "path='/a',path_namespace='/a'",
+            Some(RuleFault::Bad {
+                at: 10,
+                reason: RuleReason::PathAndNamespace,
+            }),
+        ),
+        1,
+    ),
+    (
+        Call::RuleRead(
+            "type='signal',type='error'",
+            Some(RuleFault::Bad {
+                at: 14,
+                reason: RuleReason::KeyTwice,
+            }),
+        ),
+        1,
+    ),
+    (
+        Call::RuleRead(
+            "type='signal",
+            Some(RuleFault::Bad {
+                at: 5,
+                reason: RuleReason::OpenQuote,
+            }),
+        ),
+        0,
+    ),
+    (
+        Call::RuleRead(
+            "type",
+            Some(RuleFault::Bad {
+                at: 4,
+                reason: RuleReason::NoEquals,
+            }),
+        ),
+        0,
+    ),
+    (
+        Call::RuleRead(
+            "type='call'",
+            Some(RuleFault::Bad {
+                at: 5,
+                reason: RuleReason::BadValue,
+            }),
+        ),
+        0,
+    ),
+    (
+        Call::RuleRead(
+            ",",
+            Some(RuleFault::Bad {
+                at: 0,
+                reason: RuleReason::NoEquals,
+            }),
+        ),
+        0,
+    ),
     (
         Call::RuleRead(
             "type='signal',arg0='it'\\''s',arg64='x'",
@@ -287,7 +362,15 @@ const TEXTS: &[(Call, u64)] = &[
         ),
         1,
     ),
-    (Call::RuleText, 1),
+    (Call::RuleText("", ""), 0),
+    (Call::RuleText("type='signal',", "type='signal'"), 1),
+    (Call::RuleText("arg0='it'\\''s'", "arg0='it'\\''s'"), 1),
+    (Call::RuleText("arg0=a\\b", "arg0='a\\b'"), 1),
+    (
+        Call::RuleText("type=signal, member='X'", "type='signal',member='X'"),
+        1,
+    ),
+    (Call::RuleText(RULE, RULE_TEXT), 1),
     (Call::Show, 1),
     (Call::ShowInto, 1),
 ];
@@ -344,7 +427,7 @@ fn is_refused(
         Call::ServerTakes(turns) => server_takes(rt, heap, n, turns),
         Call::ClientTakes(trace, turns) => client_takes(rt, heap, n, trace, turns),
         Call::RuleRead(text, want) => Ok(rule_read(rt, heap, n, text, want)),
-        Call::RuleText => rule_written(rt, heap, n),
+        Call::RuleText(text, want) => rule_written(rt, heap, n, text, want),
         Call::Show => show(rt, heap, n),
         Call::ShowInto => show_kept(rt, heap, n),
     }
@@ -375,14 +458,23 @@ fn rule_read(
     refused
 }
 
-fn rule_written(rt: &impl Abort, heap: &Refusing, n: u64) -> Result<bool, Fail> {
-    let rule = parse_rule(heap, RULE)?;
+fn rule_written(
+    rt: &impl Abort,
+    heap: &Refusing,
+    n: u64,
+    text: &str,
+    want: &str,
+) -> Result<bool, Fail> {
+    let rule = parse_rule(heap, text)?;
     heap.refuse_nth(n);
-    let refused = match rule_text(heap, &rule) {
-        Ok(_) => return Ok(false),
-        Err(AllocError) => true,
+    let first = rule_text(heap, &rule);
+    let refused = first.is_err();
+    let last = if refused {
+        rule_text(heap, &rule)
+    } else {
+        first
     };
-    assert_eq!(rt; rule_text(heap, &rule)?.as_str(), RULE_TEXT);
+    assert_eq!(rt; last?.as_str(), want);
     Ok(refused)
 }
 

@@ -1,4 +1,4 @@
-//! Tests of the handshake's lines and ends, of match rules, of printed messages, and of the texts of faults.
+//! Tests of the handshake's lines and ends; of rules and printed texts with growths refused; of copies, and of the texts of faults.
 #![tactic(auto)]
 
 #[cfg(test)]
@@ -16,8 +16,6 @@ mod long_trace;
 #[cfg(test)]
 mod machine_growths;
 #[cfg(test)]
-mod rules;
-#[cfg(test)]
 mod samples;
 #[cfg(test)]
-mod shown;
+mod signal;
