@@ -1,38 +1,41 @@
 //! The calls on types and values that take memory, with each growth refused in turn: want of memory is answered exactly
 //! where a growth was refused, the same call made again answers what it should, and no block is left.
 
-ghost use Rattle.dbus_value_model.specs.ShortSignatures.{HasShortSignatures};
-ghost use Rattle.dbus_value_model.specs.ValueViews.{value_tree};
-
-use crate::examples::{PAIRS, value_of};
-use crate::reading::{self, Asked, read};
-use dbus_marshal::put;
+use crate::made::{Made, NUMBERS, NUMBERS_BYTES, PAIRS, PAIRS_BYTES, make};
+use crate::reading::{self, read};
+use crate::types;
 use dbus_types::{SigFault, SigType, parse_signature, parse_single, signature_text};
-use dbus_value_model::{Fault, Order, Reason, Value, ValueFault, check_value, copy, type_of};
+use dbus_value_model::{
+    Fault, Limits, Reason, Value, ValueFault, check_value, check_value_within, copy, type_of,
+};
 use refusing_alloc::Refusing;
 use std::alloc::{AllocError, Allocator, Global};
-use std::process::Abort;
 use std::test::*;
 
+// A call, and what it is made of.
 #[derive(Clone, Copy, Debug)]
 enum Call {
-    // Of this text.
     ParseSignature(&'static [u8]),
     ParseSingle(&'static [u8]),
-    SignatureText,
-    // Of these bytes.
-    Get(&'static [u8]),
+    SignatureText(types::Made),
+    // Of a type, the bytes of a value, where that ends at the latest, and limits.
+    Get(&'static str, &'static [u8], usize, (u32, u32, u8)),
     // With so many containers open around the value.
-    CheckValue(u8),
-    Copy,
-    TypeOf,
+    CheckValue(Made, u8),
+    // Under limits on messages, arrays and open containers.
+    CheckValueWithin(Made, (u32, u32, u8)),
+    Copy(Made),
+    TypeOf(Made),
 }
 
 #[derive(Clone, Copy, PartialEq, Eq, Debug)]
 enum Answer {
     Done,
+    // More bytes are wanted.
+    Partial,
     // The types of a text, or none at this byte.
     Bad(usize),
+    TooLong,
     // The bytes, or the value, are at fault.
     Format(Fault),
     Value(ValueFault),
@@ -40,29 +43,171 @@ enum Answer {
     Other,
 }
 
+// Limits of the specification, and smaller ones.
+const SPECIFICATION: (u32, u32, u8) = (134_217_728, 67_108_864, 64);
+
+const SMALL: (u32, u32, u8) = (16, 8, 1);
+
+const SMALL_ARRAY: (u32, u32, u8) = (134_217_728, 7, 64);
+
+const NO_DEPTH: (u32, u32, u8) = (134_217_728, 67_108_864, 0);
+
+const SMALL_MESSAGE: (u32, u32, u8) = (15, 67_108_864, 64);
+
 // The pairs, whose text is no UTF-8 in its second byte.
 const FAULTY_PAIRS: &[u8] = b"\x0b\0\0\0\0\0\0\0\x07\x01s\0\x02\0\0\0h\xff\0";
+
+// The numbers without their last byte.
+const NUMBERS_FRONT: &[u8] = b"\x08\0\0\0\0\0\0\0\x05\0\0\0\0\0\0";
+
+// A variant, which holds 1.
+const VARIANT: Made = Made::Read("v", b"\x01y\0\x01");
 
 // Each call, a number of growths that it takes at least, and what it answers where none is refused.
 const CALLS: &[(Call, u64, Answer)] = &[
     (Call::ParseSignature(b"a{sv}(ua(yv))"), 4, Answer::Done),
     (Call::ParseSignature(b"(ua(yv))a{vs}"), 0, Answer::Bad(10)),
+    (Call::ParseSignature(b""), 0, Answer::Done),
+    (Call::ParseSignature(b"a{sv}"), 4, Answer::Done),
+    (Call::ParseSignature(b"()"), 0, Answer::Bad(1)),
+    (Call::ParseSignature(b"a{vs}"), 0, Answer::Bad(2)),
+    (Call::ParseSignature(b"{sv}"), 0, Answer::Bad(0)),
+    (Call::ParseSignature(b"a"), 0, Answer::Bad(1)),
+    (Call::ParseSignature(b"a{sv"), 0, Answer::Bad(4)),
+    (Call::ParseSignature(b"a{s}"), 0, Answer::Bad(3)),
+    (Call::ParseSignature(b"yr"), 0, Answer::Bad(1)),
+    (
+        Call::ParseSignature(b"aaaaaaaaaaaaaaaaaaaaaaaaaaaaaaaay"),
+        33,
+        Answer::Done,
+    ),
+    (Call::ParseSignature(&[b'a'; 33]), 0, Answer::Bad(32)),
+    (Call::ParseSignature(&[b'y'; 255]), 1, Answer::Done),
+    (Call::ParseSignature(&[b'y'; 256]), 0, Answer::TooLong),
     (Call::ParseSingle(b"a{s(ua(yv))}"), 1, Answer::Done),
     (Call::ParseSingle(b"a(yv)u"), 0, Answer::Bad(5)),
-    (Call::SignatureText, 1, Answer::Done),
-    (Call::Get(PAIRS), 4, Answer::Done),
+    (Call::ParseSingle(b""), 0, Answer::Bad(0)),
+    (Call::ParseSingle(b"yy"), 0, Answer::Bad(1)),
+    (Call::ParseSingle(b"y"), 0, Answer::Done),
+    (Call::SignatureText(types::Made::Entries), 1, Answer::Done),
+    (Call::SignatureText(types::Made::Nothing), 0, Answer::Done),
     (
-        Call::Get(FAULTY_PAIRS),
+        Call::SignatureText(types::Made::Struct(0)),
+        1,
+        Answer::Bad(1),
+    ),
+    (
+        Call::SignatureText(types::Made::LoneEntry),
+        1,
+        Answer::Bad(0),
+    ),
+    (
+        Call::SignatureText(types::Made::Bytes(255)),
+        1,
+        Answer::Done,
+    ),
+    (
+        Call::SignatureText(types::Made::Bytes(256)),
+        1,
+        Answer::TooLong,
+    ),
+    (
+        Call::Get("a(yv)", PAIRS_BYTES, 19, SPECIFICATION),
+        4,
+        Answer::Done,
+    ),
+    (
+        Call::Get("a(yv)", FAULTY_PAIRS, 19, SPECIFICATION),
         1,
         Answer::Format(Fault {
             at: 17,
             reason: Reason::Text,
         }),
     ),
-    (Call::CheckValue(0), 1, Answer::Done),
-    (Call::CheckValue(62), 0, Answer::Value(ValueFault::TooDeep)),
-    (Call::Copy, 4, Answer::Done),
-    (Call::TypeOf, 1, Answer::Done),
+    (
+        Call::Get("at", NUMBERS_BYTES, 16, SPECIFICATION),
+        2,
+        Answer::Done,
+    ),
+    (
+        Call::Get("at", NUMBERS_FRONT, 16, SPECIFICATION),
+        1,
+        Answer::Partial,
+    ),
+    (
+        Call::Get("at", NUMBERS_BYTES, 15, SPECIFICATION),
+        1,
+        Answer::Format(Fault {
+            at: 0,
+            reason: Reason::Overrun,
+        }),
+    ),
+    (Call::Get("at", NUMBERS_BYTES, 16, SMALL), 2, Answer::Done),
+    (
+        Call::Get("at", NUMBERS_BYTES, 16, SMALL_ARRAY),
+        1,
+        Answer::Format(Fault {
+            at: 0,
+            reason: Reason::ArrayTooLong,
+        }),
+    ),
+    (
+        Call::Get("at", NUMBERS_BYTES, 16, NO_DEPTH),
+        1,
+        Answer::Format(Fault {
+            at: 0,
+            reason: Reason::TooDeep,
+        }),
+    ),
+    (
+        Call::Get("at", NUMBERS_BYTES, 16, SMALL_MESSAGE),
+        2,
+        Answer::Done,
+    ),
+    (Call::CheckValue(PAIRS, 0), 1, Answer::Done),
+    (
+        Call::CheckValue(PAIRS, 62),
+        0,
+        Answer::Value(ValueFault::TooDeep),
+    ),
+    (Call::CheckValue(NUMBERS, 0), 0, Answer::Done),
+    (
+        Call::CheckValue(VARIANT, 64),
+        0,
+        Answer::Value(ValueFault::TooDeep),
+    ),
+    (
+        Call::CheckValue(Made::OtherItem, 0),
+        0,
+        Answer::Value(ValueFault::Mixed),
+    ),
+    (
+        Call::CheckValue(Made::Path('a'), 0),
+        0,
+        Answer::Value(ValueFault::Name),
+    ),
+    (Call::CheckValueWithin(NUMBERS, SMALL), 0, Answer::Done),
+    (
+        Call::CheckValueWithin(NUMBERS, SMALL_ARRAY),
+        0,
+        Answer::Done,
+    ),
+    (
+        Call::CheckValueWithin(NUMBERS, NO_DEPTH),
+        0,
+        Answer::Value(ValueFault::TooDeep),
+    ),
+    (
+        Call::CheckValueWithin(NUMBERS, SMALL_MESSAGE),
+        0,
+        Answer::Done,
+    ),
+    (Call::Copy(PAIRS), 4, Answer::Done),
+    (Call::Copy(NUMBERS), 1, Answer::Done),
+    (Call::Copy(Made::OtherItem), 1, Answer::Done),
+    (Call::TypeOf(PAIRS), 1, Answer::Done),
+    (Call::TypeOf(NUMBERS), 1, Answer::Done),
+    (Call::TypeOf(Made::OtherItem), 1, Answer::Done),
 ];
 
 // What a call has to say for itself that fails for want of memory alone.
@@ -78,23 +223,18 @@ fn of_signature<T: Drop>(outcome: Result<T, SigFault>) -> Answer {
         Ok(_) => Answer::Done,
         Err(SigFault::Memory) => Answer::Memory,
         Err(SigFault::Bad { at }) => Answer::Bad(at),
-        Err(SigFault::TooLong) => Answer::Other,
+        Err(SigFault::TooLong) => Answer::TooLong,
     }
 }
 
 // The type is read too.
-fn of_pairs<A: Allocator + Copy>(alloc: A, bytes: &[u8]) -> Answer {
-    let asked = Asked {
-        signature: "a(yv)",
-        order: Order::Little,
-        end: bytes.len(),
-        depth: 0,
-    };
-    match read(alloc, asked, bytes) {
+fn of_bytes(answer: reading::Answer) -> Answer {
+    match answer {
         reading::Answer::Done(_) => Answer::Done,
+        reading::Answer::Partial => Answer::Partial,
         reading::Answer::Memory => Answer::Memory,
         reading::Answer::Refused(fault) => Answer::Format(fault),
-        _ => Answer::Other,
+        reading::Answer::NotAsked => Answer::Other,
     }
 }
 
@@ -106,7 +246,14 @@ fn of_check(outcome: Result<(), ValueFault>) -> Answer {
     }
 }
 
-// What a call answers of a value and its type. What it made is given back.
+fn check_within<A: Allocator + Copy>(alloc: A, value: &Value<A>, limits: (u32, u32, u8)) -> Answer {
+    match Limits::new(limits.0, limits.1, limits.2) {
+        Some(limits) => of_check(check_value_within(alloc, value, 0, limits)),
+        None => Answer::Other,
+    }
+}
+
+// What a call answers of a value, or of types. What it made is given back.
 fn answer_of<A: Allocator + Copy>(
     alloc: A,
     call: Call,
@@ -116,16 +263,38 @@ fn answer_of<A: Allocator + Copy>(
     match call {
         Call::ParseSignature(text) => of_signature(parse_signature(alloc, text)),
         Call::ParseSingle(text) => of_signature(parse_single(alloc, text)),
-        Call::SignatureText => of_signature(signature_text(alloc, types)),
-        Call::Get(bytes) => of_pairs(alloc, bytes),
-        Call::CheckValue(depth) if depth <= 64 => of_check(check_value(alloc, value, depth)),
-        Call::CheckValue(_) => Answer::Other,
-        Call::Copy => of_growth(copy(alloc, value)),
-        Call::TypeOf => of_growth(type_of(alloc, value)),
+        Call::SignatureText(_) => of_signature(signature_text(alloc, types)),
+        Call::Get(signature, bytes, end, limits) => {
+            of_bytes(read(alloc, signature, bytes, end, limits))
+        }
+        Call::CheckValue(_, depth) if depth <= 64 => of_check(check_value(alloc, value, depth)),
+        Call::CheckValue(_, _) => Answer::Other,
+        Call::CheckValueWithin(_, limits) => check_within(alloc, value, limits),
+        Call::Copy(_) => of_growth(copy(alloc, value)),
+        Call::TypeOf(_) => of_growth(type_of(alloc, value)),
     }
 }
 
-// What a call answers of the pairs, with its growth `n` refused, and again; and what the allocator counted.
+// The value that a call is made of, or another.
+fn value_for(call: Call) -> Made {
+    match call {
+        Call::CheckValue(value, _)
+        | Call::CheckValueWithin(value, _)
+        | Call::Copy(value)
+        | Call::TypeOf(value) => value,
+        _ => VARIANT,
+    }
+}
+
+// The types that a call is made of, or none.
+fn types_for(call: Call) -> types::Made {
+    match call {
+        Call::SignatureText(types) => types,
+        _ => types::Made::Nothing,
+    }
+}
+
+// What a call answers with its growth `n` refused, and again; and what the allocator counted.
 #[derive(Clone, Copy)]
 struct Run {
     answer: Answer,
@@ -159,9 +328,9 @@ fn run_of<'a, A: Allocator>(
     }
 }
 
-fn run_on_pairs(heap: &Refusing<Global>, call: Call, n: u64) -> Result<Run, SigFault> {
-    let types = parse_signature(heap, b"a(yv)")?;
-    let value = value_of(heap, "a(yv)", PAIRS, Order::Little)?;
+fn run_call(heap: &Refusing<Global>, call: Call, n: u64) -> Result<Run, AllocError> {
+    let types = types::make(heap, types_for(call))?;
+    let value = make(heap, value_for(call))?;
     Ok(run_of(heap, call, n, &value, &types))
 }
 
@@ -172,7 +341,7 @@ fn each_growth_refused(rt: HostRuntime) -> Result<(), Fail> {
         let mut met = None;
         for n in 1..100 {
             let heap = Refusing::none(rt.alloc());
-            let run = run_on_pairs(&heap, *call, n)?;
+            let run = run_call(&heap, *call, n)?;
             let wanted = if run.refusals == 1 {
                 Answer::Memory
             } else {
@@ -192,47 +361,6 @@ fn each_growth_refused(rt: HostRuntime) -> Result<(), Fail> {
             }
         }
         assert!(rt; met >= Some(*least), "{call:?}: {met:?}");
-    }
-    Ok(())
-}
-
-// What a vector holds that the pairs are put into, and then: the value's padding counts from the vector's first byte.
-const PUT: &[(&[u8], &[u8])] = &[
-    (b"", PAIRS),
-    (b"\x2a", b"\x2a\0\0\0\x0b\0\0\0\x07\x01s\0\x02\0\0\0hi\0"),
-];
-
-// What putting a value into a short vector answers.
-fn put_short<A: Allocator>(out: &mut Vec<u8, A>, value: &Value<A>) -> Result<(), ValueFault>
-    requires { HasShortSignatures (value_tree value.now) }
-{
-    if out.len() > 100 {
-        return Err(ValueFault::TooLong);
-    }
-    put(out, Order::Little, value)
-}
-
-// Putting the pairs into a vector that holds some bytes, with its growth refused, and then into the same vector again.
-fn put_refused(rt: &impl Abort, heap: &Refusing, held: &[u8], whole: &[u8]) -> Result<(), Fail> {
-    let value = value_of(heap, "a(yv)", PAIRS, Order::Little)?;
-    let mut out = Vec::from_slice(heap, held)?;
-    heap.refuse_nth(1);
-    let refused = put_short(&mut out, &value);
-    assert!(rt; refused == Err(ValueFault::Memory) && heap.refusals() == 1);
-    assert!(rt; out.as_slice() == held);
-    let again = put_short(&mut out, &value);
-    assert!(rt; again == Ok(()) && heap.growths() == 2);
-    assert!(rt; out.as_slice() == whole);
-    heap.refuse_none();
-    Ok(())
-}
-
-// One growth is asked for. Where it is refused the vector holds what it held, and the same call made again puts the value.
-#[test]
-fn put_with_its_growth_refused(rt: HostRuntime) -> Result<(), Fail> {
-    let heap = Refusing::none(rt.alloc());
-    for (held, whole) in PUT {
-        put_refused(&rt, &heap, held, whole)?;
     }
     Ok(())
 }

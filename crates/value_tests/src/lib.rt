@@ -1,5 +1,5 @@
-//! Tests of types, of values, of how values are written and read, of the memory that they take, and of the allocator that
-//! refuses growths.
+//! Tests of types and values that no bytes spell, of the memory that types and values take, and of the allocator that refuses
+//! growths. What texts and bytes come to is in the files of `value_cases`.
 #![tactic(auto)]
 
 #[cfg(test)]
@@ -7,24 +7,20 @@ mod allocator;
 #[cfg(test)]
 mod checks;
 #[cfg(test)]
-mod examples;
-#[cfg(test)]
-mod fd_indexes;
-#[cfg(test)]
-mod fronts;
-#[cfg(test)]
 mod growths;
 #[cfg(test)]
-mod limits;
+mod indexes;
+#[cfg(test)]
+mod made;
 #[cfg(test)]
 mod measures;
 #[cfg(test)]
 mod memory;
 #[cfg(test)]
+mod put_growths;
+#[cfg(test)]
 mod reading;
 #[cfg(test)]
 mod sharing;
-#[cfg(test)]
-mod there_and_back;
 #[cfg(test)]
 mod types;

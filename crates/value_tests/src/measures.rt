@@ -1,32 +1,14 @@
-//! What a measure answers, against ends counted by hand, and beside a size where both answer.
+//! What a measure answers of values at the limit of messages and of arrays, beside a size if both answer.
 
 ghost use Rattle.std.specs.Prelude.{IfOk};
 ghost use Rattle.dbus_value_model.specs.ShortSignatures.{HasShortSignatures};
 ghost use Rattle.dbus_value_model.specs.ValueViews.{value_tree};
 
-use crate::examples::value_of;
 use dbus_marshal::{measure, measure_all, measure_header_field, size_after};
 use dbus_types::SigType;
-use dbus_value_model::{Limits, Order, Value, ValueFault};
+use dbus_value_model::{Limits, Value, ValueFault};
 use std::alloc::{AllocError, Allocator, Global};
 use std::test::*;
-
-// A type and a value's bytes in little order, where the value begins, and where it ends.
-const ENDS: &[(&str, &[u8], u64, u64)] = &[
-    // The padding before an array's elements is there without any element.
-    ("at", b"\0\0\0\0\0\0\0\0", 0, 8),
-    ("at", b"\0\0\0\0\0\0\0\0", 1, 8),
-    ("at", b"\0\0\0\0\0\0\0\0", 4, 8),
-    ("at", b"\0\0\0\0\0\0\0\0", 5, 16),
-    ("at", b"\0\0\0\0\0\0\0\0", 16, 24),
-    // What a variant holds has its own padding.
-    (
-        "v",
-        b"\x01x\0\0\0\0\0\0\xfe\xff\xff\xff\xff\xff\xff\xff",
-        5,
-        16,
-    ),
-];
 
 // Where 67,108,864 bytes begin, the most that an array may have, and where they end. Past the limit of messages an end is
 // one of eight.
@@ -57,15 +39,6 @@ fn ends_at<A: Allocator>(value: &Value<A>, at: u64, end: u64) -> bool
     at < OFFSETS
         && measure(value, at, Limits::specification()) == Some(end)
         && (at > LIMIT || size_after(value, at) == size)
-}
-
-#[test]
-fn ends_of_values(rt: HostRuntime) -> Result<(), Fail> {
-    for (signature, bytes, at, end) in ENDS {
-        let value = value_of(rt.alloc(), signature, bytes, Order::Little)?;
-        assert!(rt; ends_at(&value, *at, *end), "{signature} from {at}");
-    }
-    Ok(())
 }
 
 // What a header's field has after its code has the padding of its own type.

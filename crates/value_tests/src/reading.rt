@@ -6,15 +6,6 @@ use dbus_value_model::{Fault, Got, Limits, Order, Refusal};
 use refusing_alloc::Refusing;
 use std::alloc::{Allocator, Global};
 
-/// What is asked for: a value of a type, that is to end at `end` at the latest, with `depth` containers open around it.
-#[derive(Clone, Copy)]
-pub struct Asked<'a> {
-    pub signature: &'a str,
-    pub order: Order,
-    pub end: usize,
-    pub depth: u8,
-}
-
 /// What is answered.
 #[derive(Clone, Copy, PartialEq, Eq, Debug)]
 pub enum Answer {
@@ -26,7 +17,7 @@ pub enum Answer {
     Refused(Fault),
     /// A growth was refused, of the type that is wanted or of the value.
     Memory,
-    /// No type or no depth is asked for.
+    /// No type or no limits are asked for.
     NotAsked,
 }
 
@@ -39,41 +30,32 @@ fn answer_of<A: Allocator>(outcome: Result<Got<A>, Refusal>) -> Answer {
     }
 }
 
-/// What reading answers of bytes from their first on.
-pub fn read<A: Allocator + Copy>(alloc: A, asked: Asked<'_>, bytes: &[u8]) -> Answer {
-    let Asked {
-        signature,
-        order,
-        end,
-        depth,
-    } = asked;
-    match parse_single(alloc, signature.as_bytes()) {
-        Ok(wanted) if depth <= 64 => answer_of(get(alloc, bytes, 0, end, order, &wanted, depth)),
-        Err(SigFault::Memory) => Answer::Memory,
-        _ => Answer::NotAsked,
-    }
-}
-
-/// What reading answers under limits, where the indexes of descriptors are to be below a number.
-pub fn read_within<A: Allocator + Copy>(
+/// What reading answers of bytes that begin with a value, which ends at `end` at the latest, under limits on messages, arrays and
+/// open containers.
+pub fn read<A: Allocator + Copy>(
     alloc: A,
-    asked: Asked<'_>,
+    signature: &str,
     bytes: &[u8],
-    limits: Limits,
-    fds: Option<u32>,
+    end: usize,
+    limits: (u32, u32, u8),
 ) -> Answer {
-    let Asked {
-        signature,
-        order,
-        end,
-        depth,
-    } = asked;
+    let Some(limits) = Limits::new(limits.0, limits.1, limits.2) else {
+        return Answer::NotAsked;
+    };
     match parse_single(alloc, signature.as_bytes()) {
-        Ok(wanted) if depth <= limits.depth => {
-            answer_of(get_within(alloc, bytes, 0, end, order, &wanted, depth, limits, fds))
-        }
+        Ok(wanted) => answer_of(get_within(
+            alloc,
+            bytes,
+            0,
+            end,
+            Order::Little,
+            &wanted,
+            0,
+            limits,
+            None,
+        )),
         Err(SigFault::Memory) => Answer::Memory,
-        _ => Answer::NotAsked,
+        Err(_) => Answer::NotAsked,
     }
 }
 
