@@ -1,0 +1,86 @@
+//! Messages judged, by their first 16 bytes or by all, and viewed.
+
+use crate::engine::Engine;
+use crate::input::Input;
+use anyhow::Result;
+use case_files::Answer;
+use dbus_judge::judge;
+use dbus_message::stated_length_within;
+use dbus_value::{Fault, Reason};
+use dbus_view::MessageView;
+
+/// Judging. Of bytes that begin with no message it says no more.
+#[derive(Clone, Copy)]
+pub(crate) struct Judging;
+
+impl Engine for Judging {
+    fn name(&self) -> &'static str {
+        "judging"
+    }
+
+    fn answer(&mut self, input: &Input, count: usize) -> Result<Answer> {
+        match (judge(input.front(count), input.limits), input.wanted(count)) {
+            (Some(judged), _) => Ok(Answer::Whole(judged.length)),
+            (None, Answer::Whole(_)) => Ok(Answer::Partial),
+            (None, wanted) => Ok(wanted),
+        }
+    }
+}
+
+/// The length that the first 16 bytes state. Of bytes after them it says nothing, and so of no fault there.
+#[derive(Clone, Copy)]
+pub(crate) struct Stating;
+
+impl Engine for Stating {
+    fn name(&self) -> &'static str {
+        "the stated length"
+    }
+
+    fn answer(&mut self, input: &Input, count: usize) -> Result<Answer> {
+        let stated = stated_length_within(input.front(count), input.limits);
+        match (stated, input.wanted(count)) {
+            (Err(fault), _) => Ok(Answer::Refused(fault)),
+            (Ok(Some(length)), Answer::Whole(wanted)) if length == wanted as u64 => {
+                Ok(Answer::Whole(wanted))
+            }
+            (Ok(_), Answer::Whole(_)) => Ok(Answer::Partial),
+            (Ok(_), Answer::Refused(fault)) if fault.at < 16 => Ok(Answer::Partial),
+            (Ok(_), wanted) => Ok(wanted),
+        }
+    }
+}
+
+/// A view of exactly the bytes.
+#[derive(Clone, Copy)]
+pub(crate) struct Viewing;
+
+/// What a view of so many bytes is to answer, or a reader whose input ends with them, where others answer so.
+pub(crate) fn at_end(answer: Answer, count: usize) -> Answer {
+    let (at, reason) = match answer {
+        Answer::Partial => (count, Reason::Truncated),
+        Answer::Whole(length) if length != count => (length, Reason::Trailing),
+        answer => return answer,
+    };
+    Answer::Refused(Fault {
+        at: at as u64,
+        reason,
+    })
+}
+
+impl Engine for Viewing {
+    fn name(&self) -> &'static str {
+        "a view"
+    }
+
+    fn answer(&mut self, input: &Input, count: usize) -> Result<Answer> {
+        let bytes = input.front(count);
+        match MessageView::of_within(bytes, input.limits) {
+            Ok(_) => Ok(Answer::Whole(bytes.len())),
+            Err(fault) => Ok(Answer::Refused(fault)),
+        }
+    }
+
+    fn wanted(&self, input: &Input, count: usize) -> Answer {
+        at_end(input.wanted(count), count)
+    }
+}
