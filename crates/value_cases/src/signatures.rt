@@ -6,10 +6,9 @@ use crate::texts::try_text;
 use crate::verdict::{Verdict, signature_verdict, verdict_of};
 use anyhow::Result;
 use case_files::{Case, Tally, cases};
-use dbus_type_codes::{boundary, type_end};
 use dbus_types::{
-    SigFault, SigType, TextKind, alignment, check_signature, check_single, first_break,
-    parse_signature, parse_single, signature_text, type_ok,
+    SigFault, SigType, TextKind, alignment, boundary, check_signature, check_single, first_break,
+    parse_signature, parse_single, signature_text, type_end, type_ok,
 };
 use std::alloc::{AllocError, Global};
 use std::fs;
