@@ -5,7 +5,7 @@ ghost use Rattle.dbus_value_model.specs.ShortSignatures.{HasShortSignatures};
 ghost use Rattle.dbus_value_model.specs.ValueViews.{value_tree};
 
 use crate::made::{NUMBERS_BYTES, PAIRS_BYTES, value_of};
-use dbus_marshal::put_within;
+use dbus_marshal::{put, put_within};
 use dbus_value_model::{Limits, Order, Value, ValueFault};
 use refusing_alloc::Refusing;
 use std::alloc::{AllocError, Allocator};
@@ -65,7 +65,8 @@ const ROWS: &[Row] = &[
     ),
 ];
 
-// What putting a value into a vector answers, that holds few bytes.
+// What putting a value into a vector answers, that holds few bytes. The call without limits is asked if they are those of the
+// specification.
 fn put_short<A: Allocator>(
     out: &mut Vec<u8, A>,
     value: &Value<A>,
@@ -78,6 +79,9 @@ fn put_short<A: Allocator>(
     };
     if out.len() > limits.message as usize {
         return Err(ValueFault::Mixed);
+    }
+    if limits == Limits::specification() {
+        return put(out, Order::Little, value);
     }
     put_within(out, Order::Little, value, limits)
 }

@@ -31,7 +31,7 @@ fn answer_of<A: Allocator>(outcome: Result<Got<A>, Refusal>) -> Answer {
 }
 
 /// What reading answers of bytes that begin with a value, which ends at `end` at the latest, under limits on messages, arrays and
-/// open containers.
+/// open containers; the call without limits is asked if they are those of the specification.
 pub fn read<A: Allocator + Copy>(
     alloc: A,
     signature: &str,
@@ -43,6 +43,9 @@ pub fn read<A: Allocator + Copy>(
         return Answer::NotAsked;
     };
     match parse_single(alloc, signature.as_bytes()) {
+        Ok(wanted) if limits == Limits::specification() => {
+            answer_of(get(alloc, bytes, 0, end, Order::Little, &wanted, 0))
+        }
         Ok(wanted) => answer_of(get_within(
             alloc,
             bytes,
