@@ -52,8 +52,14 @@ fn ended_as(refused: bool) -> Ending {
     }
 }
 
+// Decoding under limits, by the call without them where they are the specification's.
 fn decoded<A: Allocator + Copy>(alloc: A, bytes: &[u8], limits: Limits) -> Ending {
-    match decode_within(alloc, bytes, limits) {
+    let answer = if limits == Limits::specification() {
+        decode(alloc, bytes)
+    } else {
+        decode_within(alloc, bytes, limits)
+    };
+    match answer {
         Ok(Answer::Whole { used, .. }) if used == bytes.len() => Ending::Done,
         Err(Refusal::Memory) => Ending::WantsMemory,
         Err(Refusal::Format(fault)) => Ending::Refused(fault),
@@ -338,6 +344,19 @@ fn parts_of<A: Allocator + Copy>(alloc: A, bytes: &[u8], change: Change) -> Resu
     Ok(parts)
 }
 
+// A message made of its parts under limits, by the call without them where they are the specification's.
+fn made<A: Allocator + Copy>(
+    alloc: A,
+    parts: Parts<A>,
+    limits: Limits,
+) -> Result<Message<A>, (Parts<A>, BuildFault)> {
+    if limits == Limits::specification() {
+        Message::new(alloc, parts)
+    } else {
+        Message::new_within(alloc, parts, limits)
+    }
+}
+
 // How making a message ended that was made: it is that of the bytes.
 fn made_as<A: Allocator + Copy>(
     alloc: A,
@@ -363,15 +382,15 @@ fn refused_as(fault: BuildFault) -> Ending {
 // Where memory is wanted, the same call made again with the parts that came back answers as if nothing had been.
 fn built_again<A: Allocator + Copy>(
     alloc: A,
-    made: Result<Message<A>, (Parts<A>, BuildFault)>,
+    answer: Result<Message<A>, (Parts<A>, BuildFault)>,
     limits: Limits,
     bytes: &[u8],
     right: Ending,
 ) -> Result<Ending, Fail> {
-    match made {
+    match answer {
         Ok(message) => made_as(alloc, &message, bytes),
         Err((back, BuildFault::Memory)) => {
-            let again = match Message::new_within(alloc, back, limits) {
+            let again = match made(alloc, back, limits) {
                 Ok(message) => made_as(alloc, &message, bytes)?,
                 Err((_back, fault)) => refused_as(fault),
             };
@@ -394,10 +413,10 @@ fn new_refused(rt: &impl Abort, alloc: Global, n: usize, row: Row) -> Result<Opt
     let heap = Refusing::none(alloc);
     let parts = parts_of(&heap, bytes, change)?;
     heap.refuse_nth(n as u64);
-    let made = Message::new_within(&heap, parts, limits);
+    let answer = made(&heap, parts, limits);
     let (growths, refused) = (heap.growths(), heap.refusals() == 1);
     heap.refuse_none();
-    let ended = built_again(&heap, made, limits, bytes, right)?;
+    let ended = built_again(&heap, answer, limits, bytes, right)?;
     let wanted = if refused { Ending::WantsMemory } else { right };
     ends(rt, n, (ended, heap.blocks()), (wanted, 0));
     Ok(if refused { None } else { Some(growths) })
