@@ -44,7 +44,9 @@ library: kit
 	bench/build.py dbus_c
 	cp crates/dbus_c/out/libdbus_c.a $(ARCHIVE)
 
+# (what a killed build left, rt ci would refuse)
 test: kit
+	rm -rf out/building
 	rt ci
 
 test-c: build library
@@ -54,6 +56,7 @@ test-memory: build
 	bench/refused_memory.py $(PROGRAM) samples/big-endian.dbus
 
 gate-times: kit
+	rm -rf out/building
 	bench/gate_times.py
 
 wrong-bodies:

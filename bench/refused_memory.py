@@ -3,7 +3,10 @@
 
 Each command line below is run once with nothing refused, and then once for each growth. Where a growth is refused the
 program has to end with status 3 and the line `out of memory`, and its output has to be a front of what it is otherwise. The
-exit status is 1 where a run ended in another way, as where it ended as if nothing had been refused.
+exit status is 1 where a run ended in another way, and where more runs than are named below ended as if nothing had been refused.
+
+Those that do are of growths that the kit's libraries do without: one in each run, room asked for ahead where the words of the
+command line are collected; and where an option is wrong, those of the search for a similar one, after which none is proposed.
 """
 
 import os
@@ -12,20 +15,21 @@ import sys
 import tempfile
 
 HERE = os.path.dirname(os.path.abspath(__file__))
+# Each with how many growths pass unseen.
 COMMAND_LINES = (
-    ("check",),
-    ("show",),
-    ("swap", "--to", "B"),
-    ("filter", "type='signal',path_namespace='/org',arg0='x'"),
-    ("check", "--max-array", "1000"),
-    ("filter", "type='nothing'"),
-    ("filter", "arg64='x'"),
-    ("swap",),
-    ("swap", "--to", "M"),
-    ("show", "--depth"),
-    ("help", "filter"),
-    ("--version",),
-    (),
+    (("check",), 1),
+    (("show",), 1),
+    (("swap", "--to", "B"), 1),
+    (("filter", "type='signal',path_namespace='/org',arg0='x'"), 1),
+    (("check", "--max-array", "1000"), 1),
+    (("filter", "type='nothing'"), 1),
+    (("filter", "arg64='x'"), 1),
+    (("swap",), 1),
+    (("swap", "--to", "M"), 1),
+    (("show", "--depth"), 22),
+    (("help", "filter"), 1),
+    (("--version",), 1),
+    ((), 1),
 )
 
 
@@ -43,9 +47,10 @@ def is_right(refused, plain):
 
 
 def try_words(program, words, sample, library, folder):
-    """How many growths a run asks for, and at which of them it went wrong."""
+    """How many growths a run asks for, which of them passed unseen, and at which it went wrong."""
     mark = os.path.join(folder, "refused")
     plain = run(program, words, sample, dict(os.environ))
+    unseen = []
     wrong = []
     number = 0
     while True:
@@ -55,9 +60,11 @@ def try_words(program, words, sample, library, folder):
         if not os.path.exists(mark):
             if done != plain:
                 wrong.append(number)
-            return number - 1, wrong
+            return number - 1, unseen, wrong
         os.remove(mark)
-        if not is_right(done, plain):
+        if done == plain:
+            unseen.append(number)
+        elif not is_right(done, plain):
             wrong.append(number)
 
 
@@ -68,11 +75,11 @@ def main():
         library = os.path.join(folder, "refuse_nth.so")
         compiler = os.environ.get("CC", "cc")
         subprocess.run([compiler, "-O2", "-shared", "-fPIC", "-o", library, os.path.join(HERE, "refuse_nth.c")], check=True)
-        for words in COMMAND_LINES:
-            growths, wrong = try_words(program, words, sample, library, folder)
-            failed = failed or bool(wrong)
+        for words, most in COMMAND_LINES:
+            growths, unseen, wrong = try_words(program, words, sample, library, folder)
+            failed = failed or bool(wrong) or len(unseen) > most
             named = " ".join(("dbus-wire",) + words)
-            print(f"{named}: {growths} growths refused in turn; wrong: {wrong if wrong else 'none'}", flush=True)
+            print(f"{named}: {growths} growths refused in turn; unseen: {unseen}, of {most}; wrong: {wrong}", flush=True)
     return 1 if failed else 0
 
 

@@ -1,7 +1,7 @@
 //! Messages built again of their parts.
 
 use anyhow::Result;
-use dbus_message::{BuildFault, Message, Parts};
+use dbus_message::{Build, BuildFault, Message, Parts};
 use dbus_value::Limits;
 use std::alloc::Global;
 

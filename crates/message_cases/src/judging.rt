@@ -27,6 +27,23 @@ impl Engine for Judging {
     }
 }
 
+// The answer where a length or none is stated of a message of this length.
+fn stated_whole(stated: Option<u64>, length: usize) -> Answer {
+    match stated {
+        Some(stated) if stated == length as u64 => Answer::Whole(length),
+        _ => Answer::Partial,
+    }
+}
+
+// The answer where no fault is stated of bytes that have this one.
+fn passed_over(fault: Fault) -> Answer {
+    if fault.at < 16 {
+        Answer::Partial
+    } else {
+        Answer::Refused(fault)
+    }
+}
+
 /// The length that the first 16 bytes state. Of bytes after them it says nothing, and so of no fault there.
 #[derive(Clone, Copy)]
 pub(crate) struct Stating;
@@ -37,15 +54,14 @@ impl Engine for Stating {
     }
 
     fn answer(&mut self, input: &Input, count: usize) -> Result<Answer> {
-        let stated = stated_length_within(input.front(count), input.limits);
-        match (stated, input.wanted(count)) {
-            (Err(fault), _) => Ok(Answer::Refused(fault)),
-            (Ok(Some(length)), Answer::Whole(wanted)) if length == wanted as u64 => {
-                Ok(Answer::Whole(wanted))
-            }
-            (Ok(_), Answer::Whole(_)) => Ok(Answer::Partial),
-            (Ok(_), Answer::Refused(fault)) if fault.at < 16 => Ok(Answer::Partial),
-            (Ok(_), wanted) => Ok(wanted),
+        let stated = match stated_length_within(input.front(count), input.limits) {
+            Ok(stated) => stated,
+            Err(fault) => return Ok(Answer::Refused(fault)),
+        };
+        match input.wanted(count) {
+            Answer::Whole(length) => Ok(stated_whole(stated, length)),
+            Answer::Refused(fault) => Ok(passed_over(fault)),
+            Answer::Partial => Ok(Answer::Partial),
         }
     }
 }

@@ -53,48 +53,62 @@ const READERS: [(Reader, &str); 3] = [
 // How many bytes the device gives a read.
 const SIZES: [usize; 3] = [1, 7, 4096];
 
-// What a reader gives that found a message of so many bytes, or the end, or a fault.
-fn given_by(found: Result<Option<usize>, ReadFault>) -> Given {
-    match found {
-        Ok(Some(length)) => Given::Message(length),
-        Ok(None) => Given::End,
-        Err(ReadFault::Format(fault)) => Given::Refused(fault),
-        Err(_) => Given::Failed,
+// What a reader gives that answers this fault.
+fn failed(fault: ReadFault) -> Given {
+    match fault {
+        ReadFault::Format(fault) => Given::Refused(fault),
+        _ => Given::Failed,
     }
 }
 
-// What it gives first and then.
-fn read_messages(input: &Input, size: usize) -> [Given; 2] {
-    let source = Pieces::new(input.bytes(), size);
-    let mut reader = MessageReader::within(input.alloc, source, MOST_READS, input.limits);
-    let mut next = || given_by(
-        reader
-            .next()
-            .map(|found| found.map(|(_, message)| message.size())),
-    );
-    [next(), next()]
+fn next_message(reader: &mut MessageReader<Pieces>) -> Given {
+    match reader.next() {
+        Ok(Some((_, message))) => Given::Message(message.size()),
+        Ok(None) => Given::End,
+        Err(fault) => failed(fault),
+    }
 }
 
-fn read_checks(input: &Input, size: usize) -> [Given; 2] {
-    let source = Pieces::new(input.bytes(), size);
-    let mut reader = CheckReader::within(source, MOST_READS, input.limits);
-    let mut next = || given_by(
-        reader
-            .next()
-            .map(|found| found.map(|length| length as usize)),
-    );
-    [next(), next()]
+fn next_checked(reader: &mut CheckReader<Pieces>) -> Given {
+    match reader.next() {
+        Ok(Some(length)) => Given::Message(length as usize),
+        Ok(None) => Given::End,
+        Err(fault) => failed(fault),
+    }
 }
 
 // A message has the first bytes of the input.
-fn read_raw(input: &Input, size: usize) -> [Given; 2] {
+fn next_raw(reader: &mut RawReader<Pieces>, input: &Input) -> Given {
+    match reader.next() {
+        Ok(Some(bytes)) => {
+            if bytes.as_slice() == input.front(bytes.len()) {
+                Given::Message(bytes.len())
+            } else {
+                Given::Failed
+            }
+        }
+        Ok(None) => Given::End,
+        Err(fault) => failed(fault),
+    }
+}
+
+// What a reader gives first and then, of a device that gives so many bytes a read.
+fn read(reader: Reader, input: &Input, size: usize) -> [Given; 2] {
     let source = Pieces::new(input.bytes(), size);
-    let mut reader = RawReader::within(input.alloc, source, MOST_READS, input.limits);
-    let mut next = || match reader.next() {
-        Ok(Some(bytes)) if bytes.as_slice() != input.front(bytes.len()) => Given::Failed,
-        found => given_by(found.map(|found| found.map(|bytes| bytes.len()))),
-    };
-    [next(), next()]
+    match reader {
+        Reader::Messages => {
+            let mut reader = MessageReader::within(input.alloc, source, MOST_READS, input.limits);
+            [next_message(&mut reader), next_message(&mut reader)]
+        }
+        Reader::Checks => {
+            let mut reader = CheckReader::within(source, MOST_READS, input.limits);
+            [next_checked(&mut reader), next_checked(&mut reader)]
+        }
+        Reader::Raw => {
+            let mut reader = RawReader::within(input.alloc, source, MOST_READS, input.limits);
+            [next_raw(&mut reader, input), next_raw(&mut reader, input)]
+        }
+    }
 }
 
 // What a reader is to give first and then: a fault stays.
@@ -111,11 +125,7 @@ pub(crate) fn try_readers(rt: &HostRuntime, tally: &mut Tally, input: &Input) ->
     let [first, then] = wanted(input);
     for (reader, name) in READERS {
         for size in SIZES {
-            let [found, after] = match reader {
-                Reader::Messages => read_messages(input, size),
-                Reader::Checks => read_checks(input, size),
-                Reader::Raw => read_raw(input, size),
-            };
+            let [found, after] = read(reader, input, size);
             tally.compare(rt, name, &first, &found)?;
             tally.compare(rt, name, &then, &after)?;
         }

@@ -8,7 +8,7 @@ use crate::turning::copy_turned;
 use crate::viewing::gives_message;
 use anyhow::Result;
 use case_files::{Answer, Tally};
-use dbus_message::{Message, encode};
+use dbus_message::{Message, Within, encode};
 use dbus_value::Order;
 use std::alloc::Global;
 

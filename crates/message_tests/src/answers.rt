@@ -2,7 +2,7 @@
 #![tactic(auto)]
 
 use dbus_message::{Answer, Message, decode, encode};
-use dbus_value::{Fault, Order, Refusal};
+use dbus_value::Order;
 use std::alloc::Global;
 use std::process::Abort;
 use std::test::Fail;
@@ -58,13 +58,4 @@ pub fn bytes_of(
     let bytes = encode(alloc, message, order)?;
     whole(rt, alloc, row, &bytes, order)?;
     Ok(bytes)
-}
-
-/// The fault of bytes of a row, or none where more bytes are wanted.
-pub fn refused(rt: &impl Abort, alloc: Global, row: usize, bytes: &[u8]) -> Option<Fault> {
-    match decode(alloc, bytes) {
-        Ok(Answer::Partial) => None,
-        Err(Refusal::Format(fault)) => Some(fault),
-        _ => panic!(rt; "neither partial nor refused at {row}"),
-    }
 }

@@ -1,8 +1,11 @@
 //! Each growth of decoding, of encoding and of making a message of its parts refused in turn.
 #![tactic(auto)]
 
-use dbus_message::{Answer, Build, BuildFault, Message, Parts, decode, encode, encode_into};
-use dbus_value::{Fault, Order, Reason, Refusal};
+use dbus_message::{
+    Answer, Build, BuildFault, HeaderField, Message, Parts, decode, decode_within, encode,
+    encode_into,
+};
+use dbus_value::{Fault, Limits, Order, Reason, Refusal, Value};
 use refusing_alloc::Refusing;
 use std::alloc::{Allocator, Global};
 use std::process::Abort;
@@ -16,13 +19,28 @@ const SIGNAL: &[u8] =
 const PADDED: &[u8] =
     b"l\x04\0\x01\x18\0\0\0\x02\0\0\0\x38\0\0\0\x01\x01o\0\x02\0\0\0/a\0\0\0\0\0\0\x02\x01s\0\x03\0\0\0a.b\0\0\0\0\0\x03\x01s\0\x01\0\0\0C\0\0\0\0\0\0\0\x08\x01g\0\x02sv\0\x02\0\0\0hi\0\x02au\0\x01\x08\0\0\0\x01\0\0\0\x02\0\0\0";
 
+// A reply to serial 1, without a body.
+const REPLY: &[u8] = b"l\x02\x01\x01\0\0\0\0\x01\0\0\0\x08\0\0\0\x05\x01u\0\x01\0\0\0";
+
+// Limits on messages, arrays and open containers.
+type Numbers = (u32, u32, u8);
+
+// Those of the specification, and those that the reply is at.
+const SPECIFICATION: Numbers = (134_217_728, 67_108_864, 64);
+
+const OF_REPLY: Numbers = (24, 8, 3);
+
+fn limits_of(rt: &impl Abort, (message, array, depth): Numbers) -> Limits {
+    Limits::new(message, array, depth).expect(rt, "limits in range")
+}
+
 // How a call ended that takes memory.
 #[derive(Clone, Copy, PartialEq, Eq, Debug)]
 enum Ending {
     Done,
     WantsMemory,
     Refused(Fault),
-    SignatureDiffers,
+    Unbuilt(BuildFault),
     Other,
 }
 
@@ -34,9 +52,15 @@ fn ended_as(refused: bool) -> Ending {
     }
 }
 
-fn decoded<A: Allocator + Copy>(alloc: A, bytes: &[u8]) -> Ending {
-    match decode(alloc, bytes) {
-        Ok(Answer::Whole { used: 96, .. }) => Ending::Done,
+// Decoding under limits, by the call without them where they are the specification's.
+fn decoded<A: Allocator + Copy>(alloc: A, bytes: &[u8], limits: Limits) -> Ending {
+    let answer = if limits == Limits::specification() {
+        decode(alloc, bytes)
+    } else {
+        decode_within(alloc, bytes, limits)
+    };
+    match answer {
+        Ok(Answer::Whole { used, .. }) if used == bytes.len() => Ending::Done,
         Err(Refusal::Memory) => Ending::WantsMemory,
         Err(Refusal::Format(fault)) => Ending::Refused(fault),
         _ => Ending::Other,
@@ -48,17 +72,19 @@ fn ends(rt: &impl Abort, row: usize, found: (Ending, u64), wanted: (Ending, u64)
     assert_eq!(rt; found, wanted, "at {row}");
 }
 
-// What is decoded, how that ends, and a number of growths that it takes more than.
-const DECODED: &[(&[u8], Ending, u64)] = &[
-    (SIGNAL, Ending::Done, 5),
+// What is decoded, under which limits, how that ends, and a number of growths that it takes at least.
+const DECODED: &[(&[u8], Numbers, Ending, u64)] = &[
+    (SIGNAL, SPECIFICATION, Ending::Done, 6),
     (
         PADDED,
+        SPECIFICATION,
         Ending::Refused(Fault {
             at: 83,
             reason: Reason::Padding,
         }),
-        3,
+        4,
     ),
+    (REPLY, OF_REPLY, Ending::Done, 1),
 ];
 
 // Decoding with the nth growth refused, and then again. The answer is how many growths there were, where none was refused.
@@ -67,16 +93,18 @@ fn decode_refused(
     alloc: Global,
     n: usize,
     bytes: &[u8],
+    limits: Limits,
     right: Ending,
 ) -> Option<u64> {
     let heap = Refusing::nth(alloc, n as u64);
-    let ended = decoded(&heap, bytes);
+    let ended = decoded(&heap, bytes, limits);
     if heap.refusals() == 0 {
         ends(rt, n, (ended, heap.blocks()), (right, 0));
         return Some(heap.growths());
     }
     ends(rt, n, (ended, heap.blocks()), (Ending::WantsMemory, 0));
-    ends(rt, n, (decoded(&heap, bytes), heap.blocks()), (right, 0));
+    let ended = decoded(&heap, bytes, limits);
+    ends(rt, n, (ended, heap.blocks()), (right, 0));
     None
 }
 
@@ -84,15 +112,16 @@ fn decode_refused(
 // answers the message or the fault. Where none is refused the fault is answered.
 #[test]
 fn decode_with_each_growth_refused(rt: HostRuntime) {
-    for (bytes, right, least) in DECODED {
+    for (bytes, numbers, right, least) in DECODED {
+        let limits = limits_of(&rt, *numbers);
         let mut met = 0;
         for n in 1..100 {
-            if let Some(growths) = decode_refused(&rt, rt.alloc(), n, bytes, *right) {
+            if let Some(growths) = decode_refused(&rt, rt.alloc(), n, bytes, limits, *right) {
                 met = growths;
                 break;
             }
         }
-        assert!(rt; met > *least, "{met}");
+        assert!(rt; met >= *least, "{met}");
     }
 }
 
@@ -184,25 +213,158 @@ fn encode_into_with_its_growth_refused(rt: HostRuntime) -> Result<(), Fail> {
 const PARTS: &[u8] =
     b"l\x05\0\x01\x08\0\0\0\x01\0\0\0\x19\0\0\0\x0a\x03(u)\0\0\0\x01\0\0\0\0\0\0\0\x08\x01g\0\x03ayv\0\0\0\0\0\0\0\0\0\0\0\0\x01y\0\x01";
 
-// Whether all of these parts are taken or all but the last value, how making a message of them ends, and a number of growths
-// that it takes more than.
-const TAKEN: &[(bool, Ending, u64)] = &[
-    (true, Ending::Done, 2),
-    (false, Ending::SignatureDiffers, 0),
+// What is changed in the parts of a message before a message is made of them.
+#[derive(Clone, Copy)]
+enum Change {
+    Nothing,
+    // The last value of the body is gone.
+    LastValue,
+    NoFields,
+    Serial(u32),
+    // The first field has this number.
+    FirstNumber(u32),
+    // The first field has a text.
+    FirstText,
+    // A second REPLY_SERIAL.
+    ReplySerial,
+    // A body of a number, without a signature.
+    Number,
+    // A body of a number in so many variants, and the signature of a variant.
+    Variants(usize),
+}
+
+// The bytes of a message, what is changed in its parts, the limits under which a message is made of them, how that ends, and a
+// number of growths that it takes at least.
+const BUILT: &[(&[u8], Change, Numbers, Ending, u64)] = &[
+    (PARTS, Change::Nothing, SPECIFICATION, Ending::Done, 3),
+    (
+        PARTS,
+        Change::LastValue,
+        SPECIFICATION,
+        Ending::Unbuilt(BuildFault::SignatureDiffers),
+        1,
+    ),
+    (REPLY, Change::Nothing, OF_REPLY, Ending::Done, 0),
+    (
+        REPLY,
+        Change::NoFields,
+        SPECIFICATION,
+        Ending::Unbuilt(BuildFault::FieldMissing(5)),
+        0,
+    ),
+    (
+        REPLY,
+        Change::Serial(0),
+        SPECIFICATION,
+        Ending::Unbuilt(BuildFault::ZeroSerial),
+        0,
+    ),
+    (
+        REPLY,
+        Change::FirstNumber(0),
+        SPECIFICATION,
+        Ending::Unbuilt(BuildFault::ZeroSerial),
+        0,
+    ),
+    (
+        REPLY,
+        Change::FirstText,
+        SPECIFICATION,
+        Ending::Unbuilt(BuildFault::FieldType(5)),
+        0,
+    ),
+    (
+        REPLY,
+        Change::ReplySerial,
+        SPECIFICATION,
+        Ending::Unbuilt(BuildFault::FieldTwice(5)),
+        0,
+    ),
+    (
+        REPLY,
+        Change::Number,
+        SPECIFICATION,
+        Ending::Unbuilt(BuildFault::SignatureDiffers),
+        0,
+    ),
+    (
+        REPLY,
+        Change::Variants(1000),
+        SPECIFICATION,
+        Ending::Unbuilt(BuildFault::TooDeep),
+        0,
+    ),
 ];
 
-fn parts_of<A: Allocator + Copy>(alloc: A, all: bool) -> Result<Parts<A>, Fail> {
-    let mut parts = message_of(alloc, PARTS)?.into_parts();
-    if !all {
-        drop(parts.body.pop());
+// A number in so many variants.
+fn nested<A: Allocator + Copy>(alloc: A, count: usize) -> Result<Value<A>, Fail> {
+    let mut value = Value::U32(7);
+    for _ in 0..count {
+        value = Value::Variant(Box::new(alloc, value)?);
     }
+    Ok(value)
+}
+
+// Puts the value in the place of the first field's.
+fn put_first<A: Allocator>(parts: &mut Parts<A>, value: Value<A>) {
+    if let Some(field) = parts.fields.get_mut(0) {
+        field.value = value;
+    }
+}
+
+fn change_parts<A: Allocator + Copy>(
+    alloc: A,
+    parts: &mut Parts<A>,
+    change: Change,
+) -> Result<(), Fail> {
+    match change {
+        Change::Nothing => {}
+        Change::LastValue => drop(parts.body.pop()),
+        Change::NoFields => parts.fields.clear(),
+        Change::Serial(number) => parts.serial = number,
+        Change::FirstNumber(number) => put_first(parts, Value::U32(number)),
+        Change::FirstText => put_first(parts, Value::Str(String::from_str(alloc, "1")?)),
+        Change::ReplySerial => parts.fields.push(HeaderField {
+            code: 5,
+            value: Value::U32(2),
+        })?,
+        Change::Number => parts.body.push(Value::U32(7))?,
+        Change::Variants(count) => {
+            parts.body.push(nested(alloc, count)?)?;
+            let value = Value::Sig(String::from_str(alloc, "v")?);
+            parts.fields.push(HeaderField { code: 8, value })?;
+        }
+    }
+    Ok(())
+}
+
+fn parts_of<A: Allocator + Copy>(alloc: A, bytes: &[u8], change: Change) -> Result<Parts<A>, Fail> {
+    let mut parts = message_of(alloc, bytes)?.into_parts();
+    change_parts(alloc, &mut parts, change)?;
     Ok(parts)
 }
 
+// A message made of its parts under limits, by the call without them where they are the specification's.
+fn made<A: Allocator + Copy>(
+    alloc: A,
+    parts: Parts<A>,
+    limits: Limits,
+) -> Result<Message<A>, (Parts<A>, BuildFault)> {
+    if limits == Limits::specification() {
+        Message::new(alloc, parts)
+    } else {
+        Message::new_within(alloc, parts, limits)
+    }
+}
+
 // How making a message ended that was made: it is that of the bytes.
-fn made_as<A: Allocator + Copy>(alloc: A, message: &Message<A>) -> Result<Ending, Fail> {
-    let bytes = encode(alloc, message, Order::Little)?;
-    Ok(if bytes.as_slice() == PARTS {
+fn made_as<A: Allocator + Copy>(
+    alloc: A,
+    message: &Message<A>,
+    bytes: &[u8],
+) -> Result<Ending, Fail> {
+    let made = encode(alloc, message, Order::Little)?;
+    Ok(if made.as_slice() == bytes {
         Ending::Done
     } else {
         Ending::Other
@@ -213,51 +375,48 @@ fn made_as<A: Allocator + Copy>(alloc: A, message: &Message<A>) -> Result<Ending
 fn refused_as(fault: BuildFault) -> Ending {
     match fault {
         BuildFault::Memory => Ending::WantsMemory,
-        BuildFault::SignatureDiffers => Ending::SignatureDiffers,
-        _ => Ending::Other,
-    }
-}
-
-// How making a message of the parts ends.
-fn built<A: Allocator + Copy>(alloc: A, parts: Parts<A>) -> Result<Ending, Fail> {
-    match Message::new(alloc, parts) {
-        Ok(message) => made_as(alloc, &message),
-        Err((_back, fault)) => Ok(refused_as(fault)),
+        fault => Ending::Unbuilt(fault),
     }
 }
 
 // Where memory is wanted, the same call made again with the parts that came back answers as if nothing had been.
 fn built_again<A: Allocator + Copy>(
     alloc: A,
-    made: Result<Message<A>, (Parts<A>, BuildFault)>,
+    answer: Result<Message<A>, (Parts<A>, BuildFault)>,
+    limits: Limits,
+    bytes: &[u8],
     right: Ending,
 ) -> Result<Ending, Fail> {
-    match made {
-        Ok(message) => made_as(alloc, &message),
-        Err((back, fault)) => {
-            if fault == BuildFault::Memory && built(alloc, back)? != right {
-                return Ok(Ending::Other);
-            }
-            Ok(refused_as(fault))
+    match answer {
+        Ok(message) => made_as(alloc, &message, bytes),
+        Err((back, BuildFault::Memory)) => {
+            let again = match made(alloc, back, limits) {
+                Ok(message) => made_as(alloc, &message, bytes)?,
+                Err((_back, fault)) => refused_as(fault),
+            };
+            Ok(if again == right {
+                Ending::WantsMemory
+            } else {
+                Ending::Other
+            })
         }
+        Err((_back, fault)) => Ok(refused_as(fault)),
     }
 }
 
+// A row of the table, and the limits that its numbers are.
+type Row = (&'static [u8], Change, Limits, Ending);
+
 // Making a message of its parts with the nth growth refused. The answer is how many growths there were, where none was.
-fn new_refused(
-    rt: &impl Abort,
-    alloc: Global,
-    n: usize,
-    all: bool,
-    right: Ending,
-) -> Result<Option<u64>, Fail> {
+fn new_refused(rt: &impl Abort, alloc: Global, n: usize, row: Row) -> Result<Option<u64>, Fail> {
+    let (bytes, change, limits, right) = row;
     let heap = Refusing::none(alloc);
-    let parts = parts_of(&heap, all)?;
+    let parts = parts_of(&heap, bytes, change)?;
     heap.refuse_nth(n as u64);
-    let made = Message::new(&heap, parts);
+    let answer = made(&heap, parts, limits);
     let (growths, refused) = (heap.growths(), heap.refusals() == 1);
     heap.refuse_none();
-    let ended = built_again(&heap, made, right)?;
+    let ended = built_again(&heap, answer, limits, bytes, right)?;
     let wanted = if refused { Ending::WantsMemory } else { right };
     ends(rt, n, (ended, heap.blocks()), (wanted, 0));
     Ok(if refused { None } else { Some(growths) })
@@ -267,15 +426,16 @@ fn new_refused(
 // answered.
 #[test]
 fn new_with_each_growth_refused(rt: HostRuntime) -> Result<(), Fail> {
-    for (all, right, least) in TAKEN {
-        let mut met = 0;
+    for (bytes, change, numbers, right, least) in BUILT {
+        let row = (*bytes, *change, limits_of(&rt, *numbers), *right);
+        let mut met = None;
         for n in 1..100 {
-            if let Some(growths) = new_refused(&rt, rt.alloc(), n, *all, *right)? {
-                met = growths;
+            met = new_refused(&rt, rt.alloc(), n, row)?;
+            if met.is_some() {
                 break;
             }
         }
-        assert!(rt; met > *least, "{met}");
+        assert!(rt; matches!(met, Some(met) if met >= *least), "{met:?}");
     }
     Ok(())
 }

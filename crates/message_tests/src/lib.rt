@@ -1,5 +1,5 @@
-//! Tests of `dbus_message`, `dbus_check`, `dbus_judge`, `dbus_view` and `dbus_swap`: messages decoded, checked in pieces, judged,
-//! viewed, turned, encoded and built of their parts, stated lengths, limits that are handed in, each fault, and each growth refused.
+//! Tests of `dbus_message` and `dbus_check`: messages built of their parts, looked up and encoded into what held others, stated
+//! lengths, checkers that begin again, and each growth refused. The bytes of messages are cases of `message_cases`.
 #![tactic(auto)]
 
 #[cfg(test)]
@@ -9,18 +9,8 @@ mod building;
 #[cfg(test)]
 mod checking;
 #[cfg(test)]
-mod faults;
-#[cfg(test)]
 mod growths;
 #[cfg(test)]
-mod judging;
-#[cfg(test)]
-mod limits;
+mod lookups;
 #[cfg(test)]
 mod stated;
-#[cfg(test)]
-mod turning;
-#[cfg(test)]
-mod views;
-#[cfg(test)]
-mod whole;

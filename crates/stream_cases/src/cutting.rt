@@ -1,5 +1,7 @@
 //! Cutters, which are handed a stream in two pieces and byte by byte.
 
+ghost use Rattle.std.specs.Prelude.{◌<◌};
+
 use crate::outcome::{Outcome, Rest, answered, contents_of};
 use crate::streams::{SIZES, Stream};
 use crate::trail::Trail;
@@ -95,7 +97,9 @@ fn cut_by(alloc: Global, stream: &Stream, size: usize) -> Result<Outcome> {
 }
 
 // How far the offsets lie apart at which a stream is split. A long one is split at some of its offsets alone.
-fn stride(length: usize) -> usize {
+fn stride(length: usize) -> usize
+    ensures { 0 < result }
+{
     if length <= 600 { 1 } else { length / 40 + 1 }
 }
 

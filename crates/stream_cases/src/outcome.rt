@@ -100,7 +100,7 @@ pub(crate) fn contents_of(alloc: Global, bytes: &[u8], limits: Limits) -> Result
                 },
             ) => {
                 messages.push((order, message))?;
-                rest = &rest[used..];
+                rest = rest.get(used..).unwrap_or(&[]);
             }
             Ok(dbus_message::Answer::Partial) => break,
             Err(Refusal::Format(fault)) => {

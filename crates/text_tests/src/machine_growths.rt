@@ -2,7 +2,7 @@
 
 use crate::samples::{GUID, mechanisms};
 use dbus_auth::{Client, ClientAct, ClientState, Server, ServerAct, ServerState};
-use dbus_auth_lines::{ClientLine, ServerLine, client_text, read_client, read_server, server_text};
+use dbus_auth_lines::{client_text, read_client, read_server, server_text};
 use refusing_alloc::Refusing;
 use std::process::Abort;
 use std::test::Fail;
@@ -22,18 +22,29 @@ pub fn server_hears(
     let mut server = Server::new(GUID, Some(1000), anonymous);
     let mut refused = false;
     heap.refuse_nth(n);
-    for (line, sent, state) in turns {
-        let first = server_act(&mut server, heap, read_client(&lines, line)?)?;
-        let act = match first {
-            Some(act) => Some(act),
-            None => {
-                refused = true;
-                server_act(&mut server, heap, read_client(&lines, line)?)?
-            }
-        };
-        server_sends(rt, &lines, act, sent)?;
-        assert_eq!(rt; server.state(), *state);
+    for turn in turns {
+        if server_turn(rt, &mut server, heap, &lines, *turn)? {
+            refused = true;
+        }
     }
+    Ok(refused)
+}
+
+// Whether the server was refused memory in this turn. The lines take theirs from the second heap.
+fn server_turn<'a>(
+    rt: &impl Abort,
+    server: &mut Server,
+    heap: &'a Refusing,
+    lines: &'a Refusing,
+    turn: ServerTurn,
+) -> Result<bool, Fail> {
+    let (line, sent, state) = turn;
+    let (act, refused) = match server_act(server, heap, lines, line)? {
+        Some(act) => (Some(act), false),
+        None => (server_act(server, heap, lines, line)?, true),
+    };
+    server_sends(rt, lines, act, sent)?;
+    assert_eq!(rt; server.state(), state);
     Ok(refused)
 }
 
@@ -41,8 +52,10 @@ pub fn server_hears(
 fn server_act<'a>(
     server: &mut Server,
     heap: &'a Refusing,
-    line: ClientLine<&'a Refusing>,
+    lines: &'a Refusing,
+    line: &[u8],
 ) -> Result<Option<ServerAct<&'a Refusing>>, Fail> {
+    let line = read_client(lines, line)?;
     match server.state() {
         ServerState::WaitingForAuth | ServerState::WaitingForData | ServerState::WaitingForBegin =>
             Ok(server.receive(heap, line).ok()),

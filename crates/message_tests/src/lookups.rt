@@ -1,26 +1,14 @@
-//! Whole messages in both orders, what is looked up in them, and their prefixes.
+//! What is looked up in messages, and messages encoded into a vector that holds others.
 #![tactic(auto)]
 
-use crate::answers::{is_encoded, refused, whole};
-use dbus_message::{Parts, arg, encode_into, field};
+use crate::answers::{is_encoded, whole};
+use dbus_message::{arg, encode_into, field};
 use dbus_value::{Order, Value};
-use std::alloc::Global;
-use std::process::Abort;
 use std::test::Fail;
 
 // A reply to serial 1, without a body.
 const REPLY: &[u8] =
     b"\x6c\x02\x01\x01\x00\x00\x00\x00\x01\x00\x00\x00\x08\x00\x00\x00\x05\x01\x75\x00\x01\x00\x00\x00";
-
-// The same in the other order.
-const BIG_REPLY: &[u8] =
-    b"\x42\x02\x01\x01\x00\x00\x00\x00\x00\x00\x00\x01\x00\x00\x00\x08\x05\x01\x75\x00\x00\x00\x00\x01";
-
-// A message of type 5, without fields.
-const UNKNOWN_TYPE: &[u8] = b"\x6c\x05\x00\x01\x00\x00\x00\x00\x01\x00\x00\x00\x00\x00\x00\x00";
-
-// The same in the other order.
-const BIG_UNKNOWN_TYPE: &[u8] = b"\x42\x05\x00\x01\x00\x00\x00\x00\x00\x00\x00\x01\x00\x00\x00\x00";
 
 // A reply whose body is the number 7 and the text `hi`.
 const TEXTS: &[u8] =
@@ -33,18 +21,6 @@ const BIG_TEXTS: &[u8] =
 // A message of type 5 with two fields of code 10.
 const UNKNOWN_FIELDS: &[u8] =
     b"\x6c\x05\x00\x01\x00\x00\x00\x00\x01\x00\x00\x00\x0d\x00\x00\x00\x0a\x01\x79\x00\x05\x00\x00\x00\x0a\x01\x79\x00\x06\x00\x00\x00";
-
-// The same in the other order.
-const BIG_UNKNOWN_FIELDS: &[u8] =
-    b"\x42\x05\x00\x01\x00\x00\x00\x00\x00\x00\x00\x01\x00\x00\x00\x0d\x0a\x01\x79\x00\x05\x00\x00\x00\x0a\x01\x79\x00\x06\x00\x00\x00";
-
-/// A message in each order; its type, flags and serial, and how many fields and values it has.
-pub const MESSAGES: &[(&[u8], &[u8], (u8, u8, u32, usize, usize))] = &[
-    (REPLY, BIG_REPLY, (2, 1, 1, 1, 0)),
-    (TEXTS, BIG_TEXTS, (2, 0, 1, 2, 2)),
-    (UNKNOWN_TYPE, BIG_UNKNOWN_TYPE, (5, 0, 1, 0, 0)),
-    (UNKNOWN_FIELDS, BIG_UNKNOWN_FIELDS, (5, 0, 1, 2, 0)),
-];
 
 // What is looked up in a message.
 #[derive(Clone, Copy)]
@@ -83,18 +59,6 @@ const ORDERS: &[(Order, &[u8])] = &[(Order::Big, BIG_TEXTS), (Order::Little, TEX
 // How many bytes a vector holds that a message is encoded into.
 const HELD: &[usize] = &[0, 1, TEXTS.len() - 1, TEXTS.len(), TEXTS.len() + 1, 200];
 
-// A row's parts have these numbers, and so many fields and values.
-fn has_outline(rt: &impl Abort, row: usize, parts: &Parts, wanted: (u8, u8, u32, usize, usize)) {
-    let found = (
-        parts.kind,
-        parts.flags,
-        parts.serial,
-        parts.fields.len(),
-        parts.body.len(),
-    );
-    assert_eq!(rt; found, wanted, "at {row}");
-}
-
 fn holds(found: Option<&Value>, wanted: Held) -> bool {
     match (found, wanted) {
         (None, Held::Nothing) => true,
@@ -104,34 +68,6 @@ fn holds(found: Option<&Value>, wanted: Held) -> bool {
         (Some(Value::Sig(text)), Held::Sig(other)) => text.as_str() == other,
         _ => false,
     }
-}
-
-// The bytes of a row are a message in the first order, whose bytes in the other are these and whose outline is this.
-fn turns(
-    rt: &impl Abort,
-    alloc: Global,
-    row: usize,
-    (bytes, order): (&[u8], Order),
-    (turned, other): (&[u8], Order),
-    wanted: (u8, u8, u32, usize, usize),
-) -> Result<(), Fail> {
-    let message = whole(rt, alloc, row, bytes, order)?;
-    is_encoded(rt, alloc, row, &message, other, turned)?;
-    has_outline(rt, row, message.parts(), wanted);
-    has_outline(rt, row, &message.into_parts(), wanted);
-    Ok(())
-}
-
-#[test]
-fn messages_in_both_orders(rt: HostRuntime) -> Result<(), Fail> {
-    let alloc = rt.alloc();
-    for (row, (little, big, wanted)) in MESSAGES.iter().enumerate() {
-        let little = (*little, Order::Little);
-        let big = (*big, Order::Big);
-        turns(&rt, alloc, row, little, big, *wanted)?;
-        turns(&rt, alloc, row, big, little, *wanted)?;
-    }
-    Ok(())
 }
 
 #[test]
@@ -162,20 +98,4 @@ fn encode_into_takes_the_place_of_what_was_there(rt: HostRuntime) -> Result<(), 
         }
     }
     Ok(())
-}
-
-#[test]
-fn every_prefix_of_a_message_is_partial(rt: HostRuntime) {
-    let alloc = rt.alloc();
-    for (row, (little, big, _)) in MESSAGES.iter().enumerate() {
-        for bytes in [*little, *big] {
-            for n in 0..bytes.len() {
-                assert_eq!(rt;
-                    refused(&rt, alloc, row, &bytes[..n]),
-                    None,
-                    "{n} bytes at {row}"
-                );
-            }
-        }
-    }
 }

@@ -1,0 +1,41 @@
+#!/usr/bin/env python3
+"""read_cases.py FILE..: says how many cases each file has. Other scripts import it to read the cases; docs/CASES.md has the format."""
+
+import re
+import sys
+
+ITEM = re.compile(r'(?:(\d+)\*)?(?:"((?:[^"\\]|\\.)*)"|((?:[0-9a-f]{2})+))(?:\s+|$)')
+ESCAPE = re.compile(rb'\\(?:x([0-9a-f]{2})|(["\\]))')
+
+
+def read_cases(path):
+    """The columns of each case, of which the first is its name."""
+    with open(path, encoding="utf-8") as file:
+        lines = [line.strip() for line in file]
+    return [[it.strip() for it in re.split(r" \|(?= |$)", line)] for line in lines if line and line[0] != "#"]
+
+
+def read_bytes(column):
+    """The bytes that a column spells, or None if it spells none."""
+    found, at = b"", 0
+    while at < len(column):
+        item = ITEM.match(column, at)
+        if not item:
+            return None
+        times, text, digits = item.groups()
+        plain = text is not None and ESCAPE.sub(lambda it: bytes.fromhex(it[1].decode()) if it[1] else it[2], text.encode())
+        found += int(times or 1) * (bytes.fromhex(digits) if digits else plain)
+        at = item.end()
+    return found
+
+
+def main(*paths):
+    for path in paths:
+        cases = read_cases(path)
+        spelled = sum(read_bytes(column) is not None for case in cases for column in case[1:] if column)
+        assert len({case[0] for case in cases}) == len(cases) and len({len(case) for case in cases}) == 1, path
+        print(f"{path}: {len(cases)} cases of {len(cases[0])} columns, {spelled} of them bytes")
+
+
+if __name__ == "__main__":
+    main(*sys.argv[1:])
