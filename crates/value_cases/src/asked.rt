@@ -90,6 +90,8 @@ pub(crate) struct Wanted<'a> {
     pub(crate) after: Option<usize>,
     /// The value as it is printed, or nothing if that is not said.
     pub(crate) text: &'a str,
+    /// What writing does with it.
+    pub(crate) writing: &'a str,
 }
 
 impl Wanted<'_> {
@@ -116,19 +118,23 @@ fn usize_of(digits: &str) -> Option<usize> {
 }
 
 // What a column says after the word `done`.
-fn done_of(words: &str) -> Option<Wanted<'_>> {
+fn done_of<'a>(words: &'a str, writing: &'a str) -> Option<Wanted<'a>> {
     let (end, text) = words.split_once(' ').unwrap_or((words, ""));
     Some(Wanted {
         answer: Answer::Done(usize_of(end)?),
         after: None,
         text,
+        writing,
     })
 }
 
-/// What a column says is wanted, or nothing if it says nothing.
-pub(crate) fn wanted_of(alloc: Global, column: &str) -> Result<Option<Wanted<'_>>, AllocError> {
+/// What two columns say is wanted of reading and of writing, or nothing if the first says nothing.
+pub(crate) fn wanted_of<'a>(
+    alloc: Global,
+    (column, writing): (&'a str, &'a str),
+) -> Result<Option<Wanted<'a>>, AllocError> {
     if let Some(words) = column.strip_prefix("done ") {
-        return Ok(done_of(words));
+        return Ok(done_of(words, writing));
     }
     let (words, after) = match column.split_once(" after ") {
         Some((words, digits)) => (words, usize_of(digits)),
@@ -143,5 +149,6 @@ pub(crate) fn wanted_of(alloc: Global, column: &str) -> Result<Option<Wanted<'_>
         answer,
         after,
         text: "",
+        writing,
     }))
 }

@@ -6,6 +6,7 @@
 #![tactic(auto)]
 
 mod asked;
+mod checking;
 mod judging;
 mod names;
 mod reading;

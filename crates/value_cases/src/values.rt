@@ -1,6 +1,7 @@
 //! Values: each case in both byte orders.
 
 use crate::asked::{Asked, Wanted, wanted_of};
+use crate::checking::try_checking;
 use crate::judging::try_judging;
 use crate::reading::{try_reading, value_of};
 use crate::settings::{Settings, settings_of};
@@ -60,8 +61,7 @@ fn try_order(
     case: &Case<'_>,
     settings: Settings,
     wanted: Wanted<'_>,
-    order: Order,
-    column: usize,
+    (order, column): (Order, usize),
 ) -> Result<()> {
     let types = case.bytes(rt.alloc(), TYPE)?;
     let bytes = message_of(rt.alloc(), settings.at, &case.bytes(rt.alloc(), column)?)?;
@@ -84,13 +84,13 @@ fn try_order(
     };
     let followed = followed_by(rt.alloc(), &bytes, end)?;
     try_reading(rt, tally, asked, &bytes, &followed, wanted)?;
+    try_checking(rt, tally, asked, &bytes, wanted)?;
     if end <= FURTHEST {
         try_judging(rt, tally, asked, &bytes, &followed, wanted)?;
     }
-    let writing = case.column(WRITING);
     match value_of(rt.alloc(), asked, &bytes) {
-        Some(value) => try_writing(rt, tally, value, asked, &bytes, wanted, writing)?,
-        None => tally.compare(rt, "any value", &writing, &"-")?,
+        Some(value) => try_writing(rt, tally, value, asked, &bytes, wanted)?,
+        None => tally.compare(rt, "any value", &wanted.writing, &"-")?,
     }
     Ok(())
 }
@@ -99,11 +99,12 @@ fn try_value(rt: &HostRuntime, tally: &mut Tally<'_>, case: &Case<'_>) -> Result
     let Some(settings) = settings_of(case.column(SETTINGS)) else {
         return Err(case.malformed("no settings").into());
     };
-    let Some(wanted) = wanted_of(rt.alloc(), case.column(READING))? else {
+    let columns = (case.column(READING), case.column(WRITING));
+    let Some(wanted) = wanted_of(rt.alloc(), columns)? else {
         return Err(case.malformed("no answer to a value's bytes").into());
     };
-    try_order(rt, tally, case, settings, wanted, Order::Little, LITTLE)?;
-    try_order(rt, tally, case, settings, wanted, Order::Big, BIG)
+    try_order(rt, tally, case, settings, wanted, (Order::Little, LITTLE))?;
+    try_order(rt, tally, case, settings, wanted, (Order::Big, BIG))
 }
 
 /// Compares each case of the file, and prints how many differ.

@@ -187,10 +187,9 @@ pub(crate) fn try_writing(
     asked: Asked<'_>,
     bytes: &[u8],
     wanted: Wanted<'_>,
-    writing: &str,
 ) -> Result<()> {
     let past = wanted.answer.is_refused_for(Reason::FdIndex);
     tally.compare(rt, "first_past", &past, &is_past(&value, asked))?;
-    try_writers(rt, tally, &value, asked, bytes, writing)?;
+    try_writers(rt, tally, &value, asked, bytes, wanted.writing)?;
     try_text(rt, tally, value, asked, wanted.text)
 }

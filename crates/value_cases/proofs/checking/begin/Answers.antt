@@ -1,0 +1,8 @@
+use Rattle.value_cases.proofs.Signing.{signature_types, begun}
+use Rattle.value_cases.proofs.checking.begin.Goals as goal
+
+pub begin-requires-clause-types : goal.begin-requires-clause-types
+begin-requires-clause-types c = signature_types _ (rw c.in-Ok.is at c.check_signature.ensures)
+
+pub returns-in-Ok : goal.returns-in-Ok
+returns-in-Ok c taken = begun _ _ _ _ _ _ _ (rw c.in-Ok.is at c.check_signature.ensures) c.begin.ensures
