@@ -61,7 +61,7 @@ good_value (OfType (EntryType k t)) ok v h = absurd ok.1
 good_value (Name k) ok v h =
     let t = text_of STRING v h.typed in
     let there = text_there k STRING v t.0 t.1 h.kind in
-    ((t.0, t.1, there, ok.1 t.0 there), subst IsFormed (sym t.1) (text_formed STRING t.0 (tt, omega arith) (name_is_text k t.0 ok.0 there)))
+    ((t.0, t.1, there), subst IsFormed (sym t.1) (text_formed STRING t.0 (tt, omega arith) (name_is_text k t.0 ok.0 there)))
 good_value Serial ok v h =
     let n = number_of UINT32 v h.typed in
     let some : n.0 ≡ 0 → ⊥ = λ z. h.nonzero refl (n.1 ∙ ap (λ (m : ℕ). NumberValue UINT32 m) z) in

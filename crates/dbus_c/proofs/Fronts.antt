@@ -1,17 +1,16 @@
 -- The message that bytes begin with, taken by itself.
-use Rattle.std.proofs.Common.{◌≡◌, ℕ, ◌+◌, ◌-◌, ◌≤◌, List, length, take, drop, sym, ap, subst, ◌∙◌, arith}
-use Rattle.std.proofs.lemmas.List.{drop-take, length-take-le, take-take}
+use Rattle.std.proofs.Common.{◌≡◌, ℕ, ◌+◌, ◌-◌, List, length, take, drop, take_all, sym, ap, subst, ◌∙◌, arith}
+use Rattle.std.proofs.lemmas.List.{length-drop, length-take-le}
 use Rattle.dbus_value_model.specs.declared.limits.Limits.{Limits}
-use Rattle.dbus_value_model.specs.Values.{ValueTree, NumberValue, TextValue, VariantValue, ArrayValue, StructValue, EntryValue}
+use Rattle.dbus_message_model.specs.Messages.{body_bytes}
+use Rattle.dbus_message_model.proofs.MessageLengths.{message_length}
 use Rattle.dbus_decode.specs.MessageOutcomes.{IsWhole}
+use Rattle.dbus_decode.proofs.OutcomeLaws.{whole_bytes}
 use Rattle.dbus_judge.specs.declared.judging.Judged.{Judged}
-use Rattle.dbus_judge.specs.Judging.{IsJudgedFirst}
+use Rattle.dbus_judge.specs.Judging.{IsJudged, IsJudgedFirst}
 use Rattle.dbus_judge.proofs.Firsts.{followed}
-use Rattle.dbus_view.specs.Bodies.{IsTextPlace}
-use Rattle.dbus_view.specs.declared.arg_place.ArgPlace.{ArgPlace}
 use Rattle.dbus_view.specs.Views.{ViewState, IsViewOf}
-use Rattle.dbus_c.specs.Arguments.{IsFirstView, IsTextOf}
-use Rattle.dbus_c.specs.declared.arguments.Argument.{Argument}
+use Rattle.dbus_c.specs.Arguments.{IsFirstView}
 
 -- a view of the message that is judged is of the one that all of them begin with
 pub front_viewed : (limits : Limits) (b : List ℕ) (j : Judged) (v : ViewState) → IsJudgedFirst limits b j → IsViewOf limits (take j.length b) v → IsFirstView limits b v
@@ -30,18 +29,18 @@ front_viewed limits b j v first is =
       front = is.1 ∙ ap (λ (i : ℕ). take i b) (sym same);
     }
 
-inside : (n start count : ℕ) (b : List ℕ) → start + count ≤ n → take count (drop start (take n b)) ≡ take count (drop start b)
-inside n start count b fits =
-    let long : n ≡ start + (n - start) = omega arith in
-    ap (λ (i : ℕ). take count (drop start (take i b))) long ∙ ap (take count) (drop-take start (n - start) b) ∙ take-take count (n - start) (drop start b) (omega arith)
+-- the parts of the message that is judged are those of the one that all of the bytes begin with
+module _ (limits : Limits) (b : List ℕ) (j : Judged) (first : IsJudgedFirst limits b j) where
+  abbrev judged : IsJudged limits (take j.length b) j
+  judged = first.judged.judged
 
--- a text that stands in the message stands in the bytes that begin with it
-pub text_of : (x : ValueTree) (s b : List ℕ) (p : ArgPlace) (a : Argument) → s ≡ take (length s) b → IsTextPlace s x p → a.offset ≡ p.start → a.length ≡ p.length → IsTextOf x b (length s) a
-text_of (TextValue k t) s b p a front at offset length_is =
-    let there = at.text ∙ ap (λ (l : List ℕ). take p.length (drop p.start l)) front ∙ inside (length s) p.start p.length b at.inside in
-    (there ∙ ap (λ (i : ℕ). take p.length (drop i b)) (sym offset) ∙ ap (λ (i : ℕ). take i (drop a.offset b)) (sym length_is), omega (arith, at.inside))
-text_of (NumberValue k n) s b p a front at offset length_is = (offset ∙ at.0, length_is ∙ at.1)
-text_of (VariantValue x) s b p a front at offset length_is = (offset ∙ at.0, length_is ∙ at.1)
-text_of (ArrayValue t xs) s b p a front at offset length_is = (offset ∙ at.0, length_is ∙ at.1)
-text_of (StructValue xs) s b p a front at offset length_is = (offset ∙ at.0, length_is ∙ at.1)
-text_of (EntryValue k v) s b p a front at offset length_is = (offset ∙ at.0, length_is ∙ at.1)
+  pub first_whole : IsWhole limits b j.order judged.message j.length
+  first_whole = followed limits b j.order judged.message j.length j.length judged.whole
+
+  pub first_body_length : j.length ≡ j.body + length (body_bytes j.order judged.message)
+  first_body_length = omega (arith, (whole_bytes limits b j.order judged.message j.length first_whole).1, message_length j.order judged.message, judged.body.0)
+
+  pub first_body : drop j.body (take j.length b) ≡ body_bytes j.order judged.message
+  first_body =
+      let all = take_all (j.length - j.body) (drop j.body (take j.length b)) (omega (arith, length-drop j.body (take j.length b), length-take-le j.length b first.fits)) in
+      sym all ∙ sym judged.body.1

@@ -1,16 +1,16 @@
 -- The parts of the message that bytes begin with, in numbers.
 -- D-Bus Specification, "Message Format" and "Header Fields".
-use Rattle.std.specs.Prelude.{◌≡◌, ℕ, ◌+◌, ◌-◌, ◌≤◌, List, length, take, drop, Option, Some, None}
+use Rattle.std.specs.Prelude.{◌≡◌, ℕ, ◌+◌, ◌≤◌, List, length, take, drop, Option, Some, None}
 use Rattle.dbus_value_model.specs.declared.limits.Limits.{Limits}
 use Rattle.dbus_value_model.specs.declared.order.Order.{Order}
 use Rattle.dbus_value_model.specs.Values.{ValueTree}
 use Rattle.dbus_message_model.specs.Lookups.{field_value}
-use Rattle.dbus_message_model.specs.Messages.{FieldTree, MessageTree, order_byte, body_bytes, text_in, number_in}
+use Rattle.dbus_message_model.specs.Messages.{FieldTree, MessageTree, order_byte, body_start, body_bytes, text_in, number_in}
 use Rattle.dbus_decode.specs.MessageOutcomes.{IsWhole}
 use Rattle.dbus_c.specs.declared.parts.Parts.{Parts}
 use Rattle.dbus_c.specs.declared.parts.TextPlace.{TextPlace}
 
--- where the text of a field's value stands in the bytes; of no value all is 0
+-- where the text of a field's value stands among a message's bytes; of no value all is 0
 abbrev pub IsPlaceOf : Option ValueTree → List ℕ → TextPlace → Type 0
 IsPlaceOf None b p = p ≡ record { offset = 0; length = 0; is_there = 0 }
 IsPlaceOf (Some v) b p = (p.is_there ≡ 1) × (text_in v ≡ take p.length (drop p.offset b)) × (p.offset + p.length ≤ length b)
@@ -32,12 +32,15 @@ pub record HasFields (fs : List FieldTree) (b : List ℕ) (p : Parts) : Type 0 w
   pub signature : IsPlaceOf (field_value 8 fs) b p.signature
   pub unix_fds : p.unix_fds ≡ number_of (field_value 9 fs)
 
--- the bytes begin with a message within the limits that has these parts
+-- the bytes begin with a message within the limits that has these parts: its fields stand among its own bytes, and its body begins
+-- after the header and the padding to 8, and ends where the message does
 pub record HasParts (limits : Limits) (b : List ℕ) (p : Parts) : Type 0 where
   pub order : Order
   pub message : MessageTree
   pub whole : IsWhole limits b order message p.length
   pub order_is : p.order ≡ order_byte order
   pub numbers : (p.kind ≡ message.kind) × (p.flags ≡ message.flags) × (p.serial ≡ message.serial)
-  pub fields : HasFields message.fields b p
-  pub body : body_bytes order message ≡ take (p.length - p.body) (drop p.body b)
+  pub fields : HasFields message.fields (take p.length b) p
+  pub body : p.body ≡ body_start order message.fields
+  pub body_length : p.length ≡ p.body + length (body_bytes order message)
+  pub body_bytes : drop p.body (take p.length b) ≡ body_bytes order message

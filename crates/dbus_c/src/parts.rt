@@ -10,7 +10,7 @@ ghost use Rattle.dbus_message_model.specs.Lookups.{field_value};
 ghost use Rattle.dbus_message_model.specs.Messages.{FieldTree, is_known, order_byte};
 
 use crate::given_limits::{WireLimits, given_limits};
-use dbus_judge::{Seen, judge};
+use dbus_judge::{Seen, judge_first};
 use dbus_message_model::field_code::{
     DESTINATION, ERROR_NAME, INTERFACE, MEMBER, PATH, REPLY_SERIAL, SENDER, SIGNATURE, UNIX_FDS,
 };
@@ -34,7 +34,8 @@ pub struct TextPlace {
 pub struct Parts {
     /// How many bytes it has.
     pub length: u64,
-    /// The offset of its body, which ends where the message does.
+    /// The offset of its body, which begins after the header and its padding, and ends where the message does: also where it is
+    /// empty.
     pub body: u64,
     /// Its first byte, `l` or `B`, which names its byte order.
     pub order: u32,
@@ -65,7 +66,8 @@ pub struct Parts {
 }
 
 /// Writes the parts of the message within the limits that the bytes begin with, and answers 1; where they begin with none it
-/// answers 0, and `out` stays as it is: [`crate::dbus_wire_check`] tells why. It takes no memory.
+/// answers 0, and `out` stays as it is: [`crate::dbus_wire_check`] tells why. Each part lies within the message, whatever
+/// bytes follow it. It takes no memory.
 ///
 /// D-Bus Specification, "Message Format" and "Header Fields".
 #[unsafe(no_mangle)]
@@ -75,7 +77,7 @@ pub extern "C" fn dbus_wire_parts_of(bytes: &[u8], limits: &WireLimits, out: &mu
     ensures none { result ≡ 0 → BeginsWithNone (limits_of limits.now) bytes.now }
     ensures unchanged { result ≡ 0 → out.new ≡ out.old }
 {
-    match judge(bytes, given_limits(limits)) {
+    match judge_first(bytes, given_limits(limits)) {
         Some(judged) => {
             let seen = &judged.fields;
             *out = Parts {

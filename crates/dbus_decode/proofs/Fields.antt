@@ -40,10 +40,10 @@ single_kinds (OfType u) ok t h = rw (← only_is (sig u) t h) (text_single u ok.
 single_kinds (Name k) ok t h = rw (← only_is (sig (TextType STRING)) t h) (text_single (TextType STRING) (tt, omega arith)).0
 single_kinds Serial ok t h = rw (← only_is (sig (NumberType UINT32)) t h) (text_single (NumberType UINT32) (tt, omega arith)).0
 
-name_row_fits : (end p n : ℕ) → name_row end p n ≡ None → (n < 256) × (text_row end p n ≡ None)
+name_row_fits : (end p n : ℕ) → name_row end p n ≡ None → text_row end p n ≡ None
 name_row_fits end p n e = elim (chosen (ltb 255 n) _ _ _ e) [
   | inl h ↦ absurd (cc (h.1))
-  | inr h ↦ (let le : n ≤ 255 = ltb-false _ _ h.0 in omega arith, h.1)
+  | inr h ↦ h.1
 ]
 
 fits_name_row : (end p n : ℕ) → n < 256 → text_row end p n ≡ None → name_row end p n ≡ None
@@ -70,8 +70,8 @@ module _ (bounds : Bounds) (order : Order) (inner end : ℕ) where
       let b = a.4 in
       let rows = name_row_fits end a.1 a.0 a.3.4 in
       let spelled = text_to bounds order inner (value bounds order inner) end STRING o s x q r
-      (h.0, h.1, h.2, h.3, (a.0, a.1, a.2, (a.3.0, a.3.1, a.3.2, a.3.3, rows.1), (b.0, b.1, b.2, (b.3.0, b.3.1, name_is_text k b.0 ok.0 b.3.2, b.3.3), b.4))) in
-      (subst (λ (u : TypeTree). Spelled bounds order inner end u o s x q r) same spelled, (b.0, b.4.4.0, b.3.2, omega (arith, rows.0, b.3.1)))
+      (h.0, h.1, h.2, h.3, (a.0, a.1, a.2, (a.3.0, a.3.1, a.3.2, a.3.3, rows), (b.0, b.1, b.2, (b.3.0, b.3.1, name_is_text k b.0 ok.0 b.3.2, b.3.3), b.4))) in
+      (subst (λ (u : TypeTree). Spelled bounds order inner end u o s x q r) same spelled, (b.0, b.4.4.0, b.3.2))
   wanted_to Serial t o s x q r ok is h =
       let same : NumberType UINT32 ≡ t = sig_injective (NumberType UINT32) t (only_is (sig (NumberType UINT32)) (sig t) is) in
       let a = h.4 in
@@ -95,17 +95,17 @@ module _ (bounds : Bounds) (order : Order) (inner end : ℕ) where
       let same : n ≡ a.0 = cc (a.4.0) in
       (h.0, h.1, h.2, h.3, (a.0, a.1, a.2, (a.3.0, a.3.1, a.3.2, a.3.3, fits_not_zero reasons.ZeroSerial a.1 a.0 (omega (arith, same))), a.4))
 
-  wanted_from : (w : Want) (t : TypeTree) (o : ℕ) (s : List ℕ) (x : ValueTree) (q : ℕ) (r : List ℕ) → IsSingleType t → Spelled bounds order inner end t o s x q r → Suits w x → (IsWanted (kind_wanted w) (sig t)) × (value_wanted bounds order inner end w t).Passed o s x q r
-  wanted_from Anything t o s x q r single spelled suits = ((text_single t single).0, (value_inside bounds order inner end t o s x q r).1 spelled)
-  wanted_from (OfType u) t o s x q r single spelled suits =
+  wanted_from : (w : Want) (t : TypeTree) (o : ℕ) (s : List ℕ) (x : ValueTree) (q : ℕ) (r : List ℕ) → WantOk w → IsSingleType t → Spelled bounds order inner end t o s x q r → Suits w x → (IsWanted (kind_wanted w) (sig t)) × (value_wanted bounds order inner end w t).Passed o s x q r
+  wanted_from Anything t o s x q r ok single spelled suits = ((text_single t single).0, (value_inside bounds order inner end t o s x q r).1 spelled)
+  wanted_from (OfType u) t o s x q r ok single spelled suits =
       let same : t ≡ u = sym spelled.has_type ∙ suits in
       (rw same (only_same (sig u)), (value_inside bounds order inner end t o s x q r).1 spelled)
-  wanted_from (Name k) t o s x q r single spelled suits =
+  wanted_from (Name k) t o s x q r ok single spelled suits =
       let name = suits.0 in
       let same : t ≡ TextType STRING = sym spelled.has_type ∙ ap type_of suits.1 in
       let spelled' : Spelled bounds order inner end (TextType STRING) o s (TextValue STRING name) q r = subst (λ (v : ValueTree). Spelled bounds order inner end (TextType STRING) o s v q r) suits.1 (subst (λ (u : TypeTree). Spelled bounds order inner end u o s x q r) same spelled) in
-      (rw same (only_same (sig (TextType STRING))), subst (λ (v : ValueTree). (value_wanted bounds order inner end (Name k) t).Passed o s v q r) (sym suits.1) (name_from k o s name q r spelled' suits.2 suits.3))
-  wanted_from Serial t o s x q r single spelled suits =
+      (rw same (only_same (sig (TextType STRING))), subst (λ (v : ValueTree). (value_wanted bounds order inner end (Name k) t).Passed o s v q r) (sym suits.1) (name_from k o s name q r spelled' suits.2 (ok.1 name suits.2)))
+  wanted_from Serial t o s x q r ok single spelled suits =
       let n = suits.0 in
       let same : t ≡ NumberType UINT32 = sym spelled.has_type ∙ ap type_of suits.1 in
       let spelled' : Spelled bounds order inner end (NumberType UINT32) o s (NumberValue UINT32 n) q r = subst (λ (v : ValueTree). Spelled bounds order inner end (NumberType UINT32) o s v q r) suits.1 (subst (λ (u : TypeTree). Spelled bounds order inner end u o s x q r) same spelled) in
@@ -258,7 +258,7 @@ module _ (bounds : Bounds) (order : Order) (room end : ℕ) (before : List Field
       let v = variant_parts bounds order inner end a.2 a.3 f.value q r a.6 in
       let x = f.value in
       let t = sig (type_of x) in
-      let wanted = wanted_from bounds order inner end (want f.code) (type_of x) v.0 v.1 x q r v.4 v.5 is.suits in
+      let wanted = wanted_from bounds order inner end (want f.code) (type_of x) v.0 v.1 x q r (want_ok f.code) v.4 v.5 is.suits in
       let fits : v.0 ≤ end = omega (arith, forward bounds order inner end (type_of x) v.0 v.1 x q r v.5, v.5.bound) in
       let row = fits_code_row before a.2 f.code is.not_zero is.not_again in (
         tt,

@@ -169,9 +169,9 @@ member_that_is_no_text : answer (108 ∷ 4 ∷ 0 ∷ 1 ∷ 0 ∷ 0 ∷ 0 ∷ 0 �
 unfolding is_kind break_at computed.is_kind computed.break_at parse type_spelled types_spelled gap_to padding number number_of text ends value byte_order
 member_that_is_no_text = refl
 
-call_without_path : answer (108 ∷ 4 ∷ 0 ∷ 1 ∷ 0 ∷ 0 ∷ 0 ∷ 0 ∷ 1 ∷ 0 ∷ 0 ∷ 0 ∷ 0 ∷ 0 ∷ 0 ∷ 0 ∷ []) ≡ Refused (fault 16 (reasons.FieldMissing 1))
+signal_without_path : answer (108 ∷ 4 ∷ 0 ∷ 1 ∷ 0 ∷ 0 ∷ 0 ∷ 0 ∷ 1 ∷ 0 ∷ 0 ∷ 0 ∷ 0 ∷ 0 ∷ 0 ∷ 0 ∷ []) ≡ Refused (fault 16 (reasons.FieldMissing 1))
 unfolding is_kind break_at computed.is_kind computed.break_at parse type_spelled types_spelled gap_to padding number number_of text ends value byte_order
-call_without_path = refl
+signal_without_path = refl
 
 body_without_signature : answer (108 ∷ 5 ∷ 0 ∷ 1 ∷ 1 ∷ 0 ∷ 0 ∷ 0 ∷ 1 ∷ 0 ∷ 0 ∷ 0 ∷ 0 ∷ 0 ∷ 0 ∷ 0 ∷ []) ≡ Refused (fault 16 reasons.Trailing)
 unfolding is_kind break_at computed.is_kind computed.break_at parse type_spelled types_spelled gap_to padding number number_of text ends value byte_order

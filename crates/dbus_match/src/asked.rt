@@ -7,7 +7,7 @@ ghost use Rattle.dbus_match.specs.Matching.{IsInNamespace, IsOwned, IsWithin, Pa
 use crate::compare::paths_meet;
 use crate::owner::Owner;
 use crate::within::{is_in_namespace, is_within};
-use dbus_message::message_type::{ERROR, METHOD_CALL, METHOD_RETURN, SIGNAL};
+use dbus_message_model::message_type::{ERROR, METHOD_CALL, METHOD_RETURN, SIGNAL};
 use std::alloc::Allocator;
 
 /// Whether the message type is the one of this name.

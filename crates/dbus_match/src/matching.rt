@@ -12,8 +12,8 @@ use crate::key::Key;
 use crate::owner::Owner;
 use crate::rule::Rule;
 use crate::texts::{field_text, string_arg, string_or_path_arg};
-use dbus_message::Message;
-use dbus_message::field_code::{DESTINATION, INTERFACE, MEMBER, PATH, SENDER};
+use dbus_message_model::Message;
+use dbus_message_model::field_code::{DESTINATION, INTERFACE, MEMBER, PATH, SENDER};
 use std::alloc::Allocator;
 
 /// Whether the condition holds of the message.

@@ -7,7 +7,7 @@ ghost use Rattle.dbus_message_model.specs.Lookups.{body_value, field_value};
 ghost use Rattle.dbus_message_model.specs.MessageViews.{message_tree};
 ghost use Rattle.dbus_match.specs.Matching.{string_of, string_or_path_of, text_of};
 
-use dbus_message::{Message, arg, field};
+use dbus_message_model::{Message, arg, field};
 use dbus_value::Value;
 use std::alloc::Allocator;
 

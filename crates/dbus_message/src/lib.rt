@@ -1,13 +1,15 @@
 //! Messages of the D-Bus wire format: what they are, and how they are encoded and decoded. D-Bus Specification, "Message
 //! Protocol".
 //!
-//! One name for four crates: the messages and the relation that spells them (`dbus_message_model`), how they are made of their
-//! parts (`dbus_build`), decoding (`dbus_decode`) and encoding (`dbus_encode`); and the laws that join them.
+//! One name for six crates: the messages and the relation that spells them (`dbus_message_model`), how they are made of their
+//! parts (`dbus_build`), decoding (`dbus_decode`), encoding (`dbus_encode`), checking in pieces (`dbus_check`) and views that
+//! borrow a message's bytes (`dbus_view`); and the laws that join them.
 #![tactic(auto)]
 
 pub mod laws;
 
 pub use dbus_build::{Build, BuildFault, Within};
+pub use dbus_check::{Check, Checker};
 pub use dbus_decode::{
     Answer, FIXED_HEADER_LENGTH, decode, decode_within, stated_length, stated_length_within,
 };
@@ -15,3 +17,4 @@ pub use dbus_encode::{encode, encode_into};
 pub use dbus_message_model::{
     HeaderField, Message, Parts, arg, field, field_code, flag, message_type,
 };
+pub use dbus_view::{ArgPlace, ArgView, MessageView};

@@ -89,7 +89,7 @@ is_known code = is_particular (want code)
 abbrev pub Suits : Want → ValueTree → Type 0
 Suits Anything v = Unit {0}
 Suits (OfType t) v = type_of v ≡ t
-Suits (Name k) v = (t : List ℕ) × (v ≡ TextValue STRING t) × IsWanted k t × (length t < 256)
+Suits (Name k) v = (t : List ℕ) × (v ≡ TextValue STRING t) × IsWanted k t
 Suits Serial v = (n : ℕ) × (v ≡ NumberValue UINT32 n) × (0 < n)
 
 -- whether a code stands among fields

@@ -85,7 +85,7 @@ asks_serial : Asks Serial
 asks_serial k t (n, is, positive) w = cc
 
 asks_name : (kind : TextKind) → ((w : List ℕ) → IsKind kind w → IsOneLine w) → Asks (Name (Of kind))
-asks_name kind line k t (u, is, wanted, short) w = let same : u ≡ t = cc in subst IsOneLine same (line u wanted)
+asks_name kind line k t (u, is, wanted) w = let same : u ≡ t = cc in subst IsOneLine same (line u wanted)
 
 abbrev KnownAsks : Want → Type 0
 KnownAsks w = is_particular w ≡ true → Asks w

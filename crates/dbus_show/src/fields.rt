@@ -12,7 +12,7 @@ ghost use Rattle.dbus_show.specs.ShownMessages.{bare, field_name, field_text, fi
 use crate::draft::Draft;
 use crate::numbers::write_integer;
 use crate::values::write_value;
-use dbus_message::HeaderField;
+use dbus_message_model::HeaderField;
 use dbus_value::Value;
 use std::alloc::Allocator;
 

@@ -16,7 +16,7 @@ use crate::fields::write_fields;
 use crate::hexadecimal::write_hex;
 use crate::numbers::write_integer;
 use crate::values::write_value;
-use dbus_message::{Message, Parts};
+use dbus_message_model::{Message, Parts};
 use dbus_value::{Order, Value};
 use std::alloc::{AllocError, Allocator};
 

@@ -1,22 +1,18 @@
 -- Types and texts as they are written, and the bytes of an array of BYTE.
-use Rattle.std.proofs.Common.{◌≡◌, ℕ, ◌+◌, ◌-◌, ◌^◌, ◌%◌, ◌<◌, List, [], ◌∷◌, ◌++◌, length, take, drop, replicate, IsUtf8, false, refl, sym, ap, subst, ◌∙◌, arith, lit<, take_all}
+use Rattle.std.proofs.Common.{◌≡◌, ℕ, ◌+◌, ◌^◌, ◌%◌, ◌<◌, List, [], ◌∷◌, ◌++◌, length, replicate, false, refl, sym, ap, subst, ◌∙◌, arith, lit<}
 use Rattle.std.specs.Str.{IsAscii}
 use Rattle.std.proofs.lemmas.Str.{IsAscii-append}
 use Rattle.std.proofs.lemmas.Str.Ascii.{IsAscii-nil, IsAscii-cons}
-use Rattle.dbus_texts.specs.Kinds.{IsKind}
 use Rattle.dbus_texts.specs.Types.{NumberCode, BYTE, BOOLEAN, INT16, UINT16, INT32, UINT32, INT64, UINT64, DOUBLE, UNIX_FD, TextCode, STRING, OBJECT_PATH, SIGNATURE, TypeTree, NumberType, TextType, VariantType, ArrayType, StructType, EntryType, TypeTrees, NoTypes, MoreTypes, number_code, text_code, sig, sigs, is_byte}
-use Rattle.dbus_texts.specs.declared.text_kind.TextKind.TheVariants.{Text, Path, Signature}
-use Rattle.dbus_texts.proofs.KindFacts.{text_utf8, kind_is, is_kind_of, path_is_text}
 use Rattle.dbus_types.specs.Alignments.{width}
 use Rattle.dbus_value_model.specs.Bytes.{gap_to, low_first, num}
 use Rattle.dbus_value_model.specs.declared.order.Order.{Order}
 use Rattle.dbus_value_model.specs.declared.order.Order.TheVariants.{Little, Big}
 use Rattle.dbus_value_model.specs.Spelling.{spelling, spellings}
-use Rattle.dbus_value_model.specs.Values.{ValueTree, ValueTrees, NoValues, MoreValues, NumberValue, TextValue, AllOf, IsNumber, IsWellFormed, AreWellFormed}
-use Rattle.dbus_unmarshal.proofs.StringSteps.{utf8_signature}
+use Rattle.dbus_value_model.specs.Values.{ValueTree, ValueTrees, NoValues, MoreValues, NumberValue, AllOf, IsNumber, IsWellFormed, AreWellFormed}
 use Rattle.dbus_types.specs.SignatureCodes.{first_code}
 use Rattle.dbus_show.specs.ShownValues.{bytes_in}
-use Rattle.dbus_swap.proofs.NumberRuns.{number_of_type}
+use Rattle.dbus_walk.proofs.NumberFacts.{number_of_type}
 
 -- ---- a type's text is ASCII
 

@@ -1,11 +1,10 @@
 //! Numbers as text, from where they stand. D-Bus Specification, "Marshaling (Wire Format)".
 #![tactic(auto)]
 
-ghost use Rattle.std.specs.Prelude.{◌≡◌, ℕ, ◌+◌, ◌≤◌, length, take, drop};
+ghost use Rattle.std.specs.Prelude.{◌≡◌, ◌+◌, ◌≤◌, length, take, drop};
 ghost use Rattle.dbus_texts.specs.Types.{NumberCode, number_code};
 ghost use Rattle.dbus_types.specs.Alignments.{width};
 ghost use Rattle.dbus_value_model.specs.Reading.{number_of};
-ghost use Rattle.dbus_swap.specs.Widths.{number_width};
 ghost use Rattle.dbus_show.specs.Gains.{Gains};
 ghost use Rattle.dbus_show.specs.ShownValues.{number_text};
 
@@ -21,7 +20,8 @@ pub(crate) fn write_number_at<A: Allocator>(
     order: Order,
     code: u8,
 )
-    requires { at + number_width code ≤ length bytes.now }
+    requires { (k : NumberCode) → number_code k ≡ code →
+        at + width k ≤ length bytes.now }
     ensures { (k : NumberCode) → number_code k ≡ code →
         Gains draft.old (number_text k (number_of order (take (width k) (drop at bytes.now))))
         draft.new }

@@ -1,10 +1,5 @@
-pub mod Seams
 pub mod Turned
 pub mod NumberRuns
-pub mod Parts
-pub mod Remaining
-pub mod Containers
-pub mod Enclosed
-pub mod Lists
+pub mod Leaves
 mod Signed
 pub mod MessageParts

@@ -1,29 +1,14 @@
 //! Numbers, each turned where it stands. D-Bus Specification, "Marshaling (Wire Format)".
 #![tactic(auto)]
 
-ghost use Rattle.std.specs.Prelude.{◌≡◌, ℕ, ◌+◌, ◌<◌, ◌≤◌, ◌++◌, List, length, take, drop, reverse};
+ghost use Rattle.std.specs.Prelude.{◌≡◌, ◌+◌, ◌<◌, ◌≤◌, ◌++◌, length, take, drop, reverse};
 ghost use Rattle.dbus_texts.specs.Types.{NumberCode, NumberType};
 ghost use Rattle.dbus_types.specs.Alignments.{width};
 ghost use Rattle.dbus_value_model.specs.Bytes.{gap_to};
 ghost use Rattle.dbus_value_model.specs.declared.order.Order.{Order};
 ghost use Rattle.dbus_value_model.specs.Spelling.{spellings};
 ghost use Rattle.dbus_value_model.specs.Values.{ValueTrees, AllOf};
-ghost use Rattle.dbus_swap.specs.Turning.{other, IsPut};
-ghost use Rattle.dbus_swap.specs.Widths.{number_width};
-
-use dbus_types::free_width;
-
-/// How many bytes a number has of a type that begins with this byte; else 0. D-Bus Specification, "Summary of types".
-#[inline]
-pub fn number_width(code: u8) -> u8
-    ensures value { result ≡ number_width code }
-    ensures few { result ≤ 8 }
-{
-    match code {
-        b'b' | b'h' => 4,
-        other => free_width(other),
-    }
-}
+ghost use Rattle.dbus_swap.specs.Turning.{other, Replaces};
 
 /// The number of four bytes at `at`, turned.
 #[inline]
@@ -58,11 +43,10 @@ pub(crate) fn turn_numbers(out: &mut [u8], at: usize, end: usize, size: u8)
     requires some { 0 < size }
     requires at_most { at ≤ end }
     requires inside { end ≤ length out.old }
-    ensures { (order : Order) (k : NumberCode) (xs : ValueTrees) (rest : List ℕ) → width k ≡ size →
+    ensures { (order : Order) (k : NumberCode) (xs : ValueTrees) → width k ≡ size →
         AllOf (NumberType k) xs → gap_to size at ≡ 0 →
-        drop at out.old ≡ spellings order at xs ++ rest →
         end ≡ at + length (spellings order at xs) →
-        IsPut at (spellings (other order) at xs) rest out.old out.new }
+        Replaces at (spellings order at xs) (spellings (other order) at xs) out.old out.new }
 {
     let step = usize::from(size);
     let mut place = at;

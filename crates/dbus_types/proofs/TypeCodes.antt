@@ -1,9 +1,9 @@
 -- Which type begins with a byte.
-use Rattle.std.proofs.Common.{◌≡◌, ℕ, suc, ◌-◌, ◌<◌, List, [], ◌∷◌, ◌++◌, length, get_or, take, drop, Bool, true, false, ◌||◌, ◌==◌, refl, sym, ap, subst, ◌∙◌, arith, append_assoc}
+use Rattle.std.proofs.Common.{◌≡◌, ℕ, suc, ◌-◌, List, [], ◌∷◌, ◌++◌, length, get_or, take, drop, Bool, true, false, ◌||◌, ◌==◌, if◌then◌else◌, refl, sym, ap, subst, ◌∙◌, arith, append_assoc}
 use Rattle.std.proofs.lemmas.List.{length-append, length-drop, append-nil, take_at, take_all}
 use Rattle.dbus_texts.specs.Types.{NumberCode, BYTE, BOOLEAN, INT16, UINT16, INT32, UINT32, INT64, UINT64, DOUBLE, UNIX_FD, TextCode, STRING, OBJECT_PATH, SIGNATURE, TypeTree, NumberType, TextType, VariantType, ArrayType, StructType, EntryType, TypeTrees, NoTypes, MoreTypes, number_code, text_code, sig, sigs, IsShaped, AreShaped, IsBasic}
 use Rattle.dbus_types.specs.Alignments.{alignment_of}
-use Rattle.dbus_types.specs.SignatureCodes.{first_code, code_boundary}
+use Rattle.dbus_types.specs.SignatureCodes.{first_code, free_width_of}
 
 -- ---- the first byte, and what follows it
 
@@ -33,7 +33,15 @@ rest_is t s e = ap (λ (l : List ℕ). drop 1 l) (sym (begins t) ∙ e)
 pub no_text_of : (t : TypeTree) (s : List ℕ) → sig t ≡ s → length s ≡ 0 → ⊥
 no_text_of t s e none = absurd (omega (arith, none, ap (λ (l : List ℕ). length l) (sym e ∙ begins t)))
 
-pub boundary_is : (t : TypeTree) → code_boundary (first_code t) ≡ alignment_of t
+-- ---- what the code answers by the first byte, and that it is what the type has
+
+abbrev pub code_boundary : ℕ → ℕ
+code_boundary c =
+    if (c == 121) || ((c == 103) || (c == 118)) then 1
+    else (if (c == 110) || (c == 113) then 2
+    else (if (c == 120) || ((c == 116) || ((c == 100) || ((c == 40) || (c == 123)))) then 8 else 4))
+
+boundary_is : (t : TypeTree) → code_boundary (first_code t) ≡ alignment_of t
 boundary_is (NumberType BYTE) = refl
 boundary_is (NumberType BOOLEAN) = refl
 boundary_is (NumberType INT16) = refl
@@ -51,6 +59,38 @@ boundary_is VariantType = refl
 boundary_is (ArrayType t) = refl
 boundary_is (StructType ts) = refl
 boundary_is (EntryType k v) = refl
+
+pub boundary_by : (c b : ℕ) → b ≡ code_boundary c → (t : TypeTree) → first_code t ≡ c → b ≡ alignment_of t
+boundary_by c b is t e = is ∙ ap code_boundary (sym e) ∙ boundary_is t
+
+abbrev pub code_free_width : ℕ → ℕ
+code_free_width c =
+    if c == 121 then 1
+    else (if (c == 110) || (c == 113) then 2
+    else (if (c == 105) || (c == 117) then 4
+    else (if (c == 120) || ((c == 116) || (c == 100)) then 8 else 0)))
+
+free_width_is : (t : TypeTree) → code_free_width (first_code t) ≡ free_width_of t
+free_width_is (NumberType BYTE) = refl
+free_width_is (NumberType BOOLEAN) = refl
+free_width_is (NumberType INT16) = refl
+free_width_is (NumberType UINT16) = refl
+free_width_is (NumberType INT32) = refl
+free_width_is (NumberType UINT32) = refl
+free_width_is (NumberType INT64) = refl
+free_width_is (NumberType UINT64) = refl
+free_width_is (NumberType DOUBLE) = refl
+free_width_is (NumberType UNIX_FD) = refl
+free_width_is (TextType STRING) = refl
+free_width_is (TextType OBJECT_PATH) = refl
+free_width_is (TextType SIGNATURE) = refl
+free_width_is VariantType = refl
+free_width_is (ArrayType t) = refl
+free_width_is (StructType ts) = refl
+free_width_is (EntryType k v) = refl
+
+pub free_width_by : (c w : ℕ) → w ≡ code_free_width c → (t : TypeTree) → first_code t ≡ c → w ≡ free_width_of t
+free_width_by c w is t e = is ∙ ap code_free_width (sym e) ∙ free_width_is t
 
 -- ---- codes of containers and of texts are no codes of numbers
 

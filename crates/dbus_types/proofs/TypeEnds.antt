@@ -1,8 +1,24 @@
--- Where a type's text ends.
-use Rattle.std.proofs.Common.{◌≡◌, ℕ, suc, ◌+◌, List, [], ◌∷◌, ◌++◌, length, refl, ap, ◌∙◌, arith, append_assoc}
+-- Where a type's text ends, as the code counts brackets, and that this is where the text itself does.
+use Rattle.std.proofs.Common.{◌≡◌, ℕ, zero, suc, pred, ◌+◌, ◌||◌, ◌==◌, if◌then◌else◌, List, [], ◌∷◌, ◌++◌, length, drop, refl, ap, ◌∙◌, arith, append_assoc}
 use Rattle.std.proofs.lemmas.List.{length-append}
 use Rattle.dbus_texts.specs.Types.{NumberCode, BYTE, BOOLEAN, INT16, UINT16, INT32, UINT32, INT64, UINT64, DOUBLE, UNIX_FD, TextCode, STRING, OBJECT_PATH, SIGNATURE, TypeTree, NumberType, TextType, VariantType, ArrayType, StructType, EntryType, TypeTrees, NoTypes, MoreTypes, number_code, text_code, sig, sigs}
-use Rattle.dbus_types.specs.SignatureCodes.{type_length, unless_closed}
+use Rattle.dbus_types.specs.SignatureCodes.{IsTypeEnd}
+
+-- how many brackets are open after a byte, where so many are before it
+abbrev open_after : ℕ → ℕ → ℕ
+open_after deep c =
+    if (c == 40) || (c == 123) then suc deep
+    else (if (c == 41) || (c == 125) then pred deep else deep)
+
+-- nothing more, unless a bracket is open
+abbrev unless_closed : ℕ → (ℕ → ℕ) → ℕ
+unless_closed zero more = 0
+unless_closed (suc deep) more = more (suc deep)
+
+-- up to the first byte, other than that of an array, after which no bracket is open
+abbrev pub type_length : ℕ → List ℕ → ℕ
+type_length deep [] = 0
+type_length deep (c ∷ s) = suc (if c == 97 then type_length deep s else unless_closed (open_after deep c) (λ n. type_length n s))
 
 number_ends : (deep : ℕ) (k : NumberCode) (s : List ℕ) → type_length deep (number_code k ∷ s) ≡ suc (unless_closed deep (λ n. type_length n s))
 number_ends deep BYTE s = refl
@@ -60,3 +76,7 @@ type_ends (EntryType k v) r =
     ap (λ (s : List ℕ). suc (type_length 1 s)) (entry_parts k v r)
     ∙ ap suc (inside k 0 (sig v ++ 125 ∷ r) ∙ ap (λ (n : ℕ). length (sig k) + n) (inside v 0 (125 ∷ r)))
     ∙ omega (arith, length-append (sig k) (sig v ++ 125 ∷ []), length-append (sig v) (125 ∷ []))
+
+-- so a count of the brackets from a place on ends where the type there does
+pub ends_there : (types : List ℕ) (pos at : ℕ) → at ≡ pos + type_length 0 (drop pos types) → IsTypeEnd types pos at
+ends_there types pos at is t more e = is ∙ ap (λ (s : List ℕ). pos + type_length 0 s) e ∙ ap (λ (n : ℕ). pos + n) (type_ends t more)

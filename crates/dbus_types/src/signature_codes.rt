@@ -2,14 +2,18 @@
 //! D-Bus Specification, "Valid Signatures", "Summary of D-Bus marshaling".
 #![tactic(auto)]
 
-ghost use Rattle.std.specs.Prelude.{◌≡◌, ◌+◌, ◌<◌, ◌≤◌, ◌^◌, length, drop};
-ghost use Rattle.dbus_types.specs.SignatureCodes.{open_after, type_length, code_boundary, free_width};
+ghost use Rattle.std.specs.Prelude.{◌≡◌, suc, pred, ◌+◌, ◌<◌, ◌≤◌, ◌^◌, ◌||◌, ◌==◌, if◌then◌else◌, length};
+ghost use Rattle.dbus_texts.specs.Types.{TypeTree};
+ghost use Rattle.dbus_types.specs.Alignments.{alignment_of};
+ghost use Rattle.dbus_types.specs.SignatureCodes.{first_code, IsTypeEnd, free_width_of};
 
 /// How many brackets are open after a byte, where so many are before it.
 #[inline]
 fn open_after(deep: usize, code: u8) -> usize
     requires { deep + 1 < 2 ^ 64 }
-    ensures { result ≡ open_after deep code }
+    ensures { result ≡
+        (if (code == 40) || (code == 123) then suc deep
+        else (if (code == 41) || (code == 125) then pred deep else deep)) }
 {
     match code {
         b'(' | b'{' => deep + 1,
@@ -18,12 +22,12 @@ fn open_after(deep: usize, code: u8) -> usize
     }
 }
 
-/// Where the complete type that begins at `pos` ends, or the end of the text where none does.
-/// D-Bus Specification, "Valid Signatures", "Container types".
+/// Where the complete type that begins at `pos` ends, whatever follows it. Where none begins there, it is some place after
+/// `pos`. D-Bus Specification, "Valid Signatures", "Container types".
 #[inline]
 pub fn type_end(types: &[u8], pos: usize) -> usize
     requires { pos < length types.now }
-    ensures value { result ≡ pos + type_length 0 (drop pos types.now) }
+    ensures value { IsTypeEnd types.now pos result }
     ensures some { pos < result }
     ensures within { result ≤ length types.now }
 {
@@ -43,9 +47,10 @@ pub fn type_end(types: &[u8], pos: usize) -> usize
 }
 
 /// The boundary of a type that begins with this byte. D-Bus Specification, "Summary of D-Bus marshaling".
+#[tactic(auto, using(crate::proofs::TypeCodes::boundary_by))]
 #[inline]
 pub fn boundary(code: u8) -> u8
-    ensures value { result ≡ code_boundary code }
+    ensures value { (t : TypeTree) → first_code t ≡ code → result ≡ alignment_of t }
     ensures some { 0 < result }
     ensures few { result ≤ 8 }
 {
@@ -57,11 +62,12 @@ pub fn boundary(code: u8) -> u8
     }
 }
 
-/// How many bytes a number has of a type that begins with this byte, if every number of the type may stand; else 0.
+/// How many bytes a number has of the type that begins with this byte, if these bytes may be any; else 0.
 /// D-Bus Specification, "Basic types", "Summary of D-Bus marshaling".
+#[tactic(auto, using(crate::proofs::TypeCodes::free_width_by))]
 #[inline]
 pub fn free_width(code: u8) -> u8
-    ensures value { result ≡ free_width code }
+    ensures value { (t : TypeTree) → first_code t ≡ code → result ≡ free_width_of t }
     ensures few { result ≤ 8 }
 {
     match code {

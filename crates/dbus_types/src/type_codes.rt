@@ -1,8 +1,9 @@
 //! The codes of types in a signature. D-Bus Specification, "Summary of types".
 //!
-//! Which code each type has, and which type each code spells; `dbus_texts` says which bytes are codes. No other table has
-//! the code of a type without parts. Those of the containers, `a`, `(` with `)` and `{` with `}`, stand also where these
-//! are read and written.
+//! Which code each type has, and which type each code spells. Other tables follow the codes: in `dbus_texts` which bytes
+//! are codes, in `signature_codes` what a code says of boundaries and widths, and in the crates that go along a signature's
+//! bytes (`dbus_value_checker`, `dbus_value_judge`, `dbus_swap`, `dbus_show_view`) what they do with a value of the type.
+//! The codes of the containers, `a`, `(` with `)` and `{` with `}`, stand also where these are read and written.
 #![tactic(auto)]
 
 ghost use Rattle.std.specs.Prelude.{◌≡◌, ◌∷◌, [], get_or, MatchOption, false};

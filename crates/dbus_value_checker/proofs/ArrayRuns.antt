@@ -4,7 +4,7 @@ use Rattle.std.proofs.lemmas.List.{length-take}
 use Rattle.dbus_texts.specs.Types.{TypeTree, NumberType, sig}
 use Rattle.dbus_types.specs.Alignments.{width}
 use Rattle.dbus_value_model.specs.Bytes.{gap_to}
-use Rattle.dbus_types.specs.SignatureCodes.{first_code, free_width}
+use Rattle.dbus_types.specs.SignatureCodes.{first_code, free_width_of}
 use Rattle.dbus_types.proofs.TypeCodes.{begins, after_code}
 use Rattle.dbus_value_model.specs.Reading.{Partial}
 use Rattle.dbus_value_checker.specs.declared.values.Values.{Values}
@@ -33,7 +33,7 @@ pub element_code : (x : Values) (answer : Answer) → Goes x answer → x.inner.
 element_code x answer g a = element_at x g.ws g.frames a
 
 numbers_at : (x : Values) (d : Doing) (answer : Answer) (c w : ℕ) (ws : List Work) → HasFrames x.offset x ws → ((s : List ℕ) → rest_of answer x ws x.offset s ≡ answer.to s) → x.inner.array ≡ true → get_or x.text.items x.inner.pos 0 ≡ c
-    → w ≡ free_width c → 0 < w → gap_to w x.offset ≡ 0 → x.offset + w ≤ x.inner.end → Numbers (record x { doing = d }) w answer
+    → ((t : TypeTree) → first_code t ≡ c → w ≡ free_width_of t) → 0 < w → gap_to w x.offset ≡ 0 → x.offset + w ≤ x.inner.end → Numbers (record x { doing = d }) w answer
 numbers_at x d answer c w [] h same a code is some aligned fits = absurd h
 numbers_at x d answer c w (Parts room end ts ∷ ws) h same a code is some aligned fits = absurd (differ x.inner.array h.0.is.parts a)
 numbers_at x d answer c w (Elements turns room end t ∷ ws) h same a code is some aligned fits =
@@ -53,7 +53,7 @@ numbers_at x d answer c w (Elements turns room end t ∷ ws) h same a code is so
       same = λ s. subst (λ (u : TypeTree). rest_of answer x (Elements turns room end u ∷ ws) x.offset s ≡ answer.to s) k.1.0 (same s);
     }
 
-pub numbers_begin : (x : Values) (d : Doing) (answer : Answer) (c w : ℕ) → Goes x answer → x.inner.array ≡ true → get_or x.text.items x.inner.pos 0 ≡ c → w ≡ free_width c → 0 < w → gap_to w x.offset ≡ 0 → x.offset + w ≤ x.inner.end → Numbers (record x { doing = d }) w answer
+pub numbers_begin : (x : Values) (d : Doing) (answer : Answer) (c w : ℕ) → Goes x answer → x.inner.array ≡ true → get_or x.text.items x.inner.pos 0 ≡ c → ((t : TypeTree) → first_code t ≡ c → w ≡ free_width_of t) → 0 < w → gap_to w x.offset ≡ 0 → x.offset + w ≤ x.inner.end → Numbers (record x { doing = d }) w answer
 numbers_begin x d answer c w g a code is some aligned fits = numbers_at x d answer c w g.ws g.frames g.same a code is some aligned fits
 
 module _ (x : Values) (w : ℕ) (answer : Answer) (b : Numbers x w answer) where

@@ -17,11 +17,11 @@ use Rattle.dbus_texts.specs.Types.{NumberCode, BYTE, BOOLEAN, INT16, UINT16, INT
 use Rattle.dbus_types.specs.Alignments.{width, length_width, alignment_of}
 use Rattle.dbus_value_model.specs.ValueItems.{number_row, text_row, array_row}
 use Rattle.dbus_value_model.specs.ValueReaders.{array_frame}
-use Rattle.dbus_texts.specs.Types.{TypeTree}
-use Rattle.dbus_types.specs.SignatureCodes.{code_boundary}
+use Rattle.dbus_texts.specs.Types.{TypeTree, NumberType}
+use Rattle.dbus_types.proofs.TypeCodes.{boolean_is, descriptor_is}
+use Rattle.dbus_types.specs.SignatureCodes.{first_code}
 use Rattle.dbus_value_model.specs.declared.stop.Stop.{Stop}
 use Rattle.dbus_value_model.specs.declared.stop.Stop.TheVariants as stops
-use Rattle.dbus_value_checker.specs.Codes.{code_width}
 use Rattle.dbus_value_checker.specs.Fronts.{Fronts, Lack}
 use Rattle.dbus_value_checker.specs.Suspended.{On, onward, done, held_text}
 use Rattle.dbus_value_model.specs.Items.{text_reason}
@@ -124,21 +124,9 @@ module _ (order : Order) (w end : ℕ) (row : ℕ → ℕ → Option Reason) (o 
 
 -- ---- the numbers of a type
 
-number_width : (k : NumberCode) (c : ℕ) → number_code k ≡ c → code_width c ≡ width k
-number_width BYTE c e = ap code_width (sym e)
-number_width BOOLEAN c e = ap code_width (sym e)
-number_width INT16 c e = ap code_width (sym e)
-number_width UINT16 c e = ap code_width (sym e)
-number_width INT32 c e = ap code_width (sym e)
-number_width UINT32 c e = ap code_width (sym e)
-number_width INT64 c e = ap code_width (sym e)
-number_width UINT64 c e = ap code_width (sym e)
-number_width DOUBLE c e = ap code_width (sym e)
-number_width UNIX_FD c e = ap code_width (sym e)
-
 -- a BOOLEAN and an index have four bytes
-pub word_width : (c : ℕ) → (c ≡ 98) ⊎ (c ≡ 104) → 4 ≡ code_width c
-word_width c h = elim h [ inl e ↦ rw e refl | inr e ↦ rw e refl ]
+pub word_width : (k : NumberCode) (c : ℕ) → number_code k ≡ c → (c ≡ 98) ⊎ (c ≡ 104) → 4 ≡ width k
+word_width k c e h = elim h [ inl a ↦ sym (ap alignment_of (boolean_is (NumberType k) (e ∙ a))) | inr a ↦ sym (ap alignment_of (descriptor_is (NumberType k) (e ∙ a))) ]
 
 -- neither a BOOLEAN nor an index
 pub plain_row : (fds : Option ℕ) (k : NumberCode) (c n p : ℕ) → number_code k ≡ c → (c ≡ 98 → ⊥) → (c ≡ 104 → ⊥) → number_row fds k p n ≡ None
@@ -166,22 +154,22 @@ forgets_stop o s run stops.Partial h = ap (λ (r : Outcome ℕ). after r (λ x. 
 forgets_stop o s run (stops.Refused f) h = λ c. ap (λ (r : Outcome ℕ). after r (λ x. done)) (h c)
 
 module _ (fds : Option ℕ) (order : Order) (end o code : ℕ) (s : List ℕ) (k : NumberCode) (is : number_code k ≡ code) where
-  pub number_stop : (w : ℕ) (e : Stop) → w ≡ code_width code → Lack w o end s e → Fronts (λ (n : ℕ). (tt, n)) o s (Err e) (onward (number order (width k) end (number_row fds k)) done)
+  pub number_stop : (w : ℕ) (e : Stop) → w ≡ width k → Lack w o end s e → Fronts (λ (n : ℕ). (tt, n)) o s (Err e) (onward (number order (width k) end (number_row fds k)) done)
   number_stop w e w_is h =
       forgets_stop o s (number order (width k) end (number_row fds k)) e
-      (lacks_number (λ (x : ℕ × ℕ). x) order (width k) end (number_row fds k) o s e (subst (λ (v : ℕ). Lack v o end s e) (w_is ∙ number_width k code is) h))
+      (lacks_number (λ (x : ℕ × ℕ). x) order (width k) end (number_row fds k) o s e (subst (λ (v : ℕ). Lack v o end s e) w_is h))
 
-  pub number_there : (w n : ℕ) → w ≡ code_width code → w ≤ length s → o + w ≤ end → n ≡ number_of order (take w s) → number_row fds k (o + w) n ≡ None → Fronts (λ (n : ℕ). (tt, n)) o s (Ok w) (onward (number order (width k) end (number_row fds k)) done)
+  pub number_there : (w n : ℕ) → w ≡ width k → w ≤ length s → o + w ≤ end → n ≡ number_of order (take w s) → number_row fds k (o + w) n ≡ None → Fronts (λ (n : ℕ). (tt, n)) o s (Ok w) (onward (number order (width k) end (number_row fds k)) done)
   number_there w n w_is there fits n_is good =
-      let e : w ≡ width k = w_is ∙ number_width k code is in (
+      let e : w ≡ width k = w_is in (
         there,
         λ c. subst (λ (v : ℕ). onward (number order v end (number_row fds k)) done o (take w s ++ c) ≡ Done tt (o + w) c) e
             (ap (λ (r : Outcome ℕ). after r (λ x. done)) (number_taken order w end (number_row fds k) o s n there fits n_is good c)),
       )
 
-  pub number_judged : (w n : ℕ) (why : Reason) → w ≡ code_width code → w ≤ length s → o + w ≤ end → n ≡ number_of order (take w s) → number_row fds k (o + w) n ≡ Some why → Fronts (λ (n : ℕ). (tt, n)) o s (Err (stops.Refused (fault o why))) (onward (number order (width k) end (number_row fds k)) done)
+  pub number_judged : (w n : ℕ) (why : Reason) → w ≡ width k → w ≤ length s → o + w ≤ end → n ≡ number_of order (take w s) → number_row fds k (o + w) n ≡ Some why → Fronts (λ (n : ℕ). (tt, n)) o s (Err (stops.Refused (fault o why))) (onward (number order (width k) end (number_row fds k)) done)
   number_judged w n why w_is there fits n_is bad =
-      let e : w ≡ width k = w_is ∙ number_width k code is in
+      let e : w ≡ width k = w_is in
       λ c. subst (λ (v : ℕ). onward (number order v end (number_row fds k)) done o (s ++ c) ≡ Faulty (fault o why)) e
       (ap (λ (r : Outcome ℕ). after r (λ x. done)) (number_refused order w end (number_row fds k) o s n there fits n_is why bad c))
 
@@ -239,9 +227,9 @@ module _ (bounds : Bounds) (order : Order) (end o : ℕ) (s : List ℕ) (t : Typ
         let row : array_row bounds t end (o + 4) n ≡ Some reasons.ArrayTooLong = rw (lt-ltb bounds.array n h) refl in
         rw (number_refused order 4 end (array_row bounds t end) o s n there low n_is reasons.ArrayTooLong row c) refl
 
-    module _ (short : n ≤ bounds.array) (code : ℕ) (code_is : code_boundary code ≡ alignment_of t) (a : ℕ) (a_is : a ≡ code_boundary code) where
+    module _ (short : n ≤ bounds.array) (code : ℕ) (code_is : first_code t ≡ code) (a : ℕ) (a_is : (u : TypeTree) → first_code u ≡ code → a ≡ alignment_of u) where
       boundary : a ≡ alignment_of t
-      boundary = a_is ∙ code_is
+      boundary = a_is t code_is
 
       pub array_past : end < o + 4 + gap_to a (o + 4) + n → Fronts (λ (x : ℕ × ℕ). x) o s (Err (stops.Refused (fault o reasons.Overrun))) (array_frame bounds order end t)
       unfolding array_frame

@@ -1,5 +1,5 @@
 -- What is wanted next.
-use Rattle.std.proofs.Common.{◌≡◌, ℕ, zero, suc, ◌+◌, ◌<◌, ◌≤◌, List, [], ◌∷◌, ◌++◌, length, reverse, Bool, true, false, refl, sym, ap, subst, ◌∙◌, arith}
+use Rattle.std.proofs.Common.{◌≡◌, ℕ, zero, suc, ◌+◌, ◌<◌, ◌≤◌, List, [], ◌∷◌, ◌++◌, length, take, reverse, Bool, true, false, refl, sym, ap, subst, ◌∙◌, arith}
 use Rattle.std.specs.Prelude.{◌⊎◌}
 use Rattle.std.proofs.Common.{inl, inr}
 use Rattle.std.proofs.lemmas.List.{length-append, reverse-append}
@@ -8,8 +8,7 @@ use Rattle.dbus_value_model.specs.Reading.{value}
 use Rattle.dbus_value_checker.specs.declared.values.Values.{Values}
 use Rattle.dbus_value_checker.specs.declared.values.Frame.{Frame}
 use Rattle.dbus_value_checker.specs.declared.values.Doing.TheVariants as rust
-use Rattle.dbus_types.specs.SignatureCodes.{type_length}
-use Rattle.dbus_types.proofs.TypeEnds.{type_ends}
+use Rattle.dbus_types.specs.SignatureCodes.{IsTypeEnd}
 use Rattle.dbus_value_checker.specs.Suspended.{onward, Work, Parts, Elements}
 use Rattle.dbus_value_checker.specs.Frames.{slice, AreFrames}
 use Rattle.dbus_value_checker.specs.Denotations.{Answer, rest_of, HasFrames, Goes, Wants}
@@ -65,7 +64,7 @@ next_element x answer g a lt = next_element_at x answer g.ws g.frames g.same a l
 
 -- ---- a part is wanted
 
-pub next_part_at : (x : Values) (answer : Answer) (ws : List Work) (q : ℕ) → q ≡ x.inner.pos + type_length 0 (slice x.text.items x.inner.pos x.inner.stop) → HasFrames (suc x.offset) x ws
+pub next_part_at : (x : Values) (answer : Answer) (ws : List Work) (q : ℕ) → IsTypeEnd (take x.inner.stop x.text.items) x.inner.pos q → HasFrames (suc x.offset) x ws
     → ((c : List ℕ) → rest_of answer x ws x.offset c ≡ answer.to c) → x.inner.array ≡ false → x.inner.pos < x.inner.stop → x.inner.stop ≤ length x.text.items
     → Wants (record x { inner = record x.inner { pos = q } }) x.inner.pos q answer
 next_part_at x answer [] q is h same a lt le = absurd h
@@ -75,7 +74,7 @@ next_part_at x answer (Parts room end NoTypes ∷ ws) q is h same a lt le =
     absurd (omega arith)
 next_part_at x answer (Parts room end (MoreTypes t ts) ∷ ws) q is h same a lt le =
     let f = h.0.is in
-    let past : q ≡ x.inner.pos + length (sig t) = is ∙ ap (λ (s : List ℕ). x.inner.pos + type_length 0 s) f.types ∙ ap (λ (n : ℕ). x.inner.pos + n) (type_ends t (sigs ts)) in
+    let past : q ≡ x.inner.pos + length (sig t) = is t (sigs ts) f.types in
     let room_in : x.inner.pos + length (sig t ++ sigs ts) ≤ x.inner.stop = slice_room x.text.items x.inner.pos x.inner.stop (sig t ++ sigs ts) h.0.pos_is f.types in
     let n : length (sig t ++ sigs ts) ≡ length (sig t) + length (sigs ts) = length-append (sig t) (sigs ts) in
     let top = h.0.stop_is in
@@ -104,7 +103,7 @@ next_part_at x answer (Parts room end (MoreTypes t ts) ∷ ws) q is h same a lt 
           (sym (parts_more x.bounds x.order room end t ts (rest_of answer x ws) x.offset c) ∙ same c));
     }
 
-pub next_part : (x : Values) (answer : Answer) (q : ℕ) → q ≡ x.inner.pos + type_length 0 (slice x.text.items x.inner.pos x.inner.stop) → Goes x answer → x.inner.array ≡ false → x.inner.pos < x.inner.stop → x.inner.stop ≤ length x.text.items
+pub next_part : (x : Values) (answer : Answer) (q : ℕ) → IsTypeEnd (take x.inner.stop x.text.items) x.inner.pos q → Goes x answer → x.inner.array ≡ false → x.inner.pos < x.inner.stop → x.inner.stop ≤ length x.text.items
     → Wants (record x { inner = record x.inner { pos = q } }) x.inner.pos q answer
 next_part x answer q is g a lt le =
     next_part_at x answer g.ws q is (frames_reach x.offset (suc x.offset) x.offset (length x.text.items) x.end x.text.items (x.inner ∷ reverse x.frames.items) g.ws (omega arith) g.frames) g.same a lt le

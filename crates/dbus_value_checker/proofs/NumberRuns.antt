@@ -9,7 +9,7 @@ use Rattle.dbus_value_model.specs.declared.order.Order.{Order}
 use Rattle.dbus_value_model.specs.Bytes.{gap_to}
 use Rattle.dbus_value_model.specs.ValueItems.{number_row}
 use Rattle.dbus_value_model.specs.Reading.{Partial, after, zeros, number_of}
-use Rattle.dbus_types.specs.SignatureCodes.{first_code, free_width}
+use Rattle.dbus_types.specs.SignatureCodes.{first_code, free_width_of}
 use Rattle.dbus_value_model.proofs.FreeNumbers.{free_is}
 use Rattle.dbus_value_checker.specs.Suspended.{On, Elements, work, ANumber, own, own_of, opened_by, works}
 use Rattle.dbus_value_checker.proofs.Suspension.{elements_more, value_begins, padding_zeros, head_passed, head_waits}
@@ -81,8 +81,8 @@ no_number DOUBLE there e = omega arith
 no_number UNIX_FD there e = omega arith
 
 -- a type of which every number may stand
-pub plain_type : (t : TypeTree) (c w : ℕ) → first_code t ≡ c → w ≡ free_width c → 0 < w → (k : NumberCode) × ((t ≡ NumberType k) × (width k ≡ w) × ((fds : Option ℕ) (p n : ℕ) → number_row fds k p n ≡ None))
-plain_type t c w e d some = let f = free_is t w some (d ∙ ap free_width (sym e)) in (f.code, (f.is, f.wide, f.free))
+pub plain_type : (t : TypeTree) (c w : ℕ) → first_code t ≡ c → ((u : TypeTree) → first_code u ≡ c → w ≡ free_width_of u) → 0 < w → (k : NumberCode) × ((t ≡ NumberType k) × (width k ≡ w) × ((fds : Option ℕ) (p n : ℕ) → number_row fds k p n ≡ None))
+plain_type t c w e d some = let f = free_is t w some (d t e) in (f.code, (f.is, f.wide, f.free))
 
 -- ---- elements
 

@@ -18,8 +18,8 @@ use Rattle.dbus_value_model.specs.ValueReaders.{array_frame}
 use Rattle.dbus_value_model.specs.Reading.{Reader, Outcome, Done, Faulty, Partial, after, padding, number, text, nul, value}
 use Rattle.dbus_value_checker.specs.declared.values.Values.{Values}
 use Rattle.dbus_value_checker.specs.declared.values.Frame.{Frame}
-use Rattle.dbus_types.specs.SignatureCodes.{first_code, code_boundary}
-use Rattle.dbus_types.proofs.TypeCodes.{begins, after_code, boundary_is}
+use Rattle.dbus_types.specs.SignatureCodes.{first_code}
+use Rattle.dbus_types.proofs.TypeCodes.{begins, after_code}
 use Rattle.dbus_value_checker.specs.Codes.{IsNumberCode}
 use Rattle.dbus_value_checker.specs.Suspended.{On, onward, done, Work, Parts, Elements, elements, work, works, ANumber, ALength, AnArray, AVariant, head, head_width, head_row, tail, own, own_of, opened_by, Opened, Closed, AHead}
 use Rattle.dbus_value_checker.specs.Fronts.{Fronts}
@@ -46,14 +46,14 @@ module _ (x : Values) (pos stop : ℕ) (answer : Answer) (w : Wants x pos stop a
   pub wants_offset : (x.offset ≤ x.inner.end) × (x.offset < 4294967296) × (stop ≤ length x.text.items)
   wants_offset = (wants_low, frames_small (suc x.offset) x.offset (length x.text.items) x.end x.text.items (x.inner ∷ reverse x.frames.items) w.ws w.frames, (let i = inner_of x (suc x.offset) w.ws w.frames in let a = i.high in let b = w.stop_is in omega arith))
 
-  module _ (other : code ≡ 118 → ⊥) (a : ℕ) (a_is : a ≡ code_boundary code) where
+  module _ (other : code ≡ 118 → ⊥) (a : ℕ) (a_is : (t : TypeTree) → first_code t ≡ code → a ≡ alignment_of t) where
     abbrev begun : Unit {0} → On
     begun z = own x.bounds x.order x.inner.end (own_of x.inner.room w.type) (works x.bounds x.order (rest_of answer x w.ws) (opened_by x.inner.room x.inner.end w.type))
 
     padded_same : (c : List ℕ) → after (padding a x.inner.end x.offset c) begun ≡ answer.to c
     padded_same c =
         let not_variant : w.type ≡ VariantType → ⊥ = λ h. other (sym code_first ∙ ap first_code h) in
-        let is : alignment_of w.type ≡ a = sym (boundary_is w.type) ∙ ap code_boundary code_first ∙ sym a_is in
+        let is : alignment_of w.type ≡ a = sym (a_is w.type code_first) in
         subst (λ (b : ℕ). after (padding b x.inner.end x.offset c) begun ≡ answer.to c) is
         (sym (value_begins x.bounds x.order x.inner.room x.inner.end w.type x.offset c (rest_of answer x w.ws) not_variant) ∙ w.same c)
 
@@ -268,11 +268,11 @@ module _ (x : Values) (pos stop n : ℕ) (answer : Answer) (r : Ready x pos stop
         let le = p.3 in
         (omega arith, omega arith)
 
-    pub element_code : (c : ℕ) → get_or x.text.items (pos + 1) 0 ≡ c → code_boundary c ≡ alignment_of ready_array.0
+    pub element_code : (c : ℕ) → get_or x.text.items (pos + 1) 0 ≡ c → first_code ready_array.0 ≡ c
     element_code c e =
         let le = element_there.0 in
         let h = slice_head x.text.items (pos + 1) stop (first_code ready_array.0) (after_code ready_array.0) (omega arith) (element_text ∙ begins ready_array.0) in
-        ap code_boundary (sym e ∙ h) ∙ boundary_is ready_array.0
+        sym h ∙ e
 
     pub deep_array : x.inner.room ≡ 0 → (c : List ℕ) → answer.to c ≡ Faulty (fault (x.offset + n) reasons.TooDeep)
     deep_array room c = sym (ready_as Closed [] (own_deep_array x.inner.room r.type ready_array.0 ready_array.1 room) (opened_array x.inner.room x.inner.end r.type ready_array.0 ready_array.1) c)

@@ -11,9 +11,8 @@ use Rattle.dbus_value_checker.specs.declared.values.Values.{Values}
 use Rattle.dbus_value_checker.specs.declared.values.Frame.{Frame}
 use Rattle.dbus_value_checker.specs.declared.values.Doing.{Doing}
 use Rattle.dbus_value_checker.specs.declared.values.Doing.TheVariants as doing
-use Rattle.dbus_types.specs.SignatureCodes.{type_length}
+use Rattle.dbus_types.specs.SignatureCodes.{IsTypeEnd}
 use Rattle.dbus_value_checker.specs.Suspended.{On, onward}
-use Rattle.dbus_value_checker.specs.Frames.{slice}
 use Rattle.dbus_value_checker.specs.Denotations.{Answer, after_piece, Wants, Denotes}
 
 -- a call that was handed the bytes s: it took so many; or they end within what is wanted, and nothing changed; or a fault shows
@@ -44,7 +43,7 @@ pub record Pushed (x y : Values) (f : Frame) : Type 0 where
 abbrev pub Enters : Values → (pos stop n room : ℕ) → Answer → Type 0
 Enters x pos stop n room answer =
     (y : Values) → Pushed (record x { offset = x.offset + n }) y (record { array = false; pos = pos + 1; stop = stop - 1; top = x.inner.top; end = x.inner.end; room = room })
-    → (q : ℕ) → q ≡ y.inner.pos + type_length 0 (slice y.text.items y.inner.pos y.inner.stop) → Wants (record y { inner = record y.inner { pos = q } }) y.inner.pos q answer
+    → (q : ℕ) → IsTypeEnd (take y.inner.stop y.text.items) y.inner.pos q → Wants (record y { inner = record y.inner { pos = q } }) y.inner.pos q answer
 
 -- something is wanted still
 abbrev pub IsLive : Doing → Type 0

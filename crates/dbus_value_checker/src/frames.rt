@@ -1,15 +1,14 @@
 //! The containers that are open: which value is wanted next, and how a container is entered and left.
 #![tactic(auto)]
 
-ghost use Rattle.std.specs.Prelude.{◌≡◌, ◌+◌, ◌-◌, ◌<◌, ◌≤◌, ◌^◌, length, slice_index, true, IfOk};
+ghost use Rattle.std.specs.Prelude.{◌≡◌, ◌+◌, ◌-◌, ◌<◌, ◌≤◌, ◌^◌, length, take, slice_index, true, IfOk};
 
 use crate::values::{Doing, Frame, Values};
 use dbus_types::{free_width, type_end};
 use dbus_value_model::{Reason, Stop, gap, refuse};
 
 impl Values {
-    ghost use Rattle.dbus_types.specs.SignatureCodes.{type_length};
-    ghost use Rattle.dbus_value_checker.specs.Frames.{slice};
+    ghost use Rattle.dbus_types.specs.SignatureCodes.{IsTypeEnd};
     ghost use Rattle.dbus_value_checker.specs.Denotations.{Answer, Denotes, Goes, Ready, denotes};
     ghost use Rattle.dbus_value_checker.specs.Moves.{Opens, Enters, wide};
 
@@ -17,9 +16,8 @@ impl Values {
     pub(crate) fn part(&mut self) -> usize
         requires pos { self.old.inner.pos < self.old.inner.stop }
         requires stop { self.old.inner.stop ≤ length self.old.text.items }
-        ensures value { result ≡
-            self.old.inner.pos +
-            type_length 0 (slice self.old.text.items self.old.inner.pos self.old.inner.stop) }
+        ensures value { IsTypeEnd (take self.old.inner.stop self.old.text.items) self.old.inner.pos
+            result }
         ensures moved { self.new ≡ record self.old
             { inner = record self.old.inner { pos = result } } }
         ensures within { result ≤ self.old.inner.stop }

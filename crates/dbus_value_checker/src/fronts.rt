@@ -10,7 +10,7 @@
 ghost use Rattle.std.specs.Prelude.{◌≡◌, ◌+◌, ◌<◌, ◌≤◌, ◌^◌, ℕ, length, take, drop, IfOk, IfErr};
 ghost use Rattle.dbus_value_model.specs.Bytes.{gap_to};
 ghost use Rattle.dbus_texts.specs.Types.{NumberCode, TextCode, TypeTree, number_code, text_code};
-ghost use Rattle.dbus_types.specs.Alignments.{width, length_width, alignment_of};
+ghost use Rattle.dbus_types.specs.Alignments.{width, length_width};
 ghost use Rattle.dbus_value_model.specs.Reading.{padding, number, text, nul};
 ghost use Rattle.dbus_texts.specs.Kinds.{IsKind};
 ghost use Rattle.dbus_texts.specs.declared.text_kind.TextKind.TheVariants.{Single};
@@ -19,8 +19,7 @@ ghost use Rattle.dbus_value_model.specs.WantedTexts.{Of};
 ghost use Rattle.dbus_value_model.specs.Items.{text_reason};
 ghost use Rattle.dbus_value_model.specs.ValueItems.{number_row, text_row, array_row};
 ghost use Rattle.dbus_value_model.specs.ValueReaders.{array_frame};
-ghost use Rattle.dbus_types.specs.SignatureCodes.{code_boundary};
-ghost use Rattle.dbus_value_checker.specs.Codes.{code_width};
+ghost use Rattle.dbus_types.specs.SignatureCodes.{first_code};
 ghost use Rattle.dbus_value_model.specs.declared.stop.Stop.TheVariants.{Partial};
 ghost use Rattle.dbus_value_checker.specs.Fronts.{Fronts, IsThere, IsWord, IsByte};
 ghost use Rattle.dbus_value_checker.specs.Suspended.{onward, done, held_text};
@@ -112,20 +111,6 @@ pub fn byte(bytes: &[u8], offset: usize, end: usize) -> Result<u8, Stop>
     }
 }
 
-/// How many bytes a number has whose type has this code.
-fn code_width(code: u8) -> usize
-    ensures value { result ≡ code_width code }
-    ensures some { 0 < result }
-    ensures few { result ≤ 8 }
-{
-    match code {
-        b'y' => 1,
-        b'n' | b'q' => 2,
-        b'x' | b't' | b'd' => 8,
-        _ => 4,
-    }
-}
-
 /// The row of the fault table that a number of the type that has this code meets: that of BOOLEAN or of UNIX_FD.
 fn row_of(code: u8, n: u32, fds: Option<u32>) -> Option<Reason>
     ensures { (k : NumberCode) (p : ℕ) → number_code k ≡ code → result ≡ number_row fds k p n }
@@ -170,7 +155,8 @@ pub fn number_front(
             Err(stop) => Err(stop),
         };
     }
-    let width = code_width(code);
+    // A number's boundary is its width.
+    let width = usize::from(boundary(code));
     match fixed(bytes, offset, end, width) {
         Ok(()) => Ok(width),
         Err(stop) => Err(stop),
@@ -236,7 +222,7 @@ pub fn array_front(
 ) -> Result<(usize, usize), Stop>
     requires at_most { offset ≤ end }
     requires near { end < 2 ^ 32 }
-    ensures gives { (t : TypeTree) → code_boundary code ≡ alignment_of t →
+    ensures gives { (t : TypeTree) → first_code t ≡ code →
         Fronts (λ x. x) offset bytes.now result (array_frame bounds order end t) }
     ensures moves { IfOk result (λ x. (4 ≤ x.1) × (x.1 ≤ length bytes.now) ×
         (offset + x.1 + x.0 ≤ end)) }

@@ -41,7 +41,8 @@ pub(crate) enum Doing {
 }
 
 /// Values that are checked as their bytes come, up to an end. It has a fixed size, about 22,000 bytes, takes no memory, and
-/// holds no byte of what it took but the signatures of the variants that are open.
+/// holds no byte of what it took but signatures of variants: of those that are open and, until the next variant begins, of
+/// some that are over.
 ///
 /// [`Values::begin`] says which values are wanted, [`Values::run`] takes their bytes in pieces of any length, and
 /// [`Values::is_live`] says whether more of them are wanted.
@@ -57,7 +58,8 @@ pub struct Values {
     pub(crate) inner: Frame,
     /// Those around it, the outermost first: 64 containers, and in each array a dict entry, which takes no room.
     pub(crate) frames: ArrayVec<Frame, 128>,
-    /// The signatures: that of the values, then those of the variants that are open, each at most 255 bytes.
+    /// The signatures: that of the values, then those of the variants that are open, each at most 255 bytes. After them may
+    /// stand what is left of variants that are over.
     pub(crate) text: ArrayVec<u8, 16640>,
     /// A text that is under way.
     pub(crate) scan: TextScan,

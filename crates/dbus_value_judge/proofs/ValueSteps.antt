@@ -15,10 +15,9 @@ use Rattle.dbus_value_model.specs.ValueReaders.{number_value, text_value, varian
 use Rattle.dbus_unmarshal.proofs.Agreement.{after_done}
 use Rattle.dbus_unmarshal.proofs.KindLaws.{single_text}
 use Rattle.dbus_unmarshal.proofs.ValueSteps.{value_number, value_text, value_variant, value_array, value_struct, value_entry, variant_opens, array_opens, open_done, struct_done, with_front, front_none, goes_on_at, ends_in, shaped_inside, single_shaped}
-use Rattle.dbus_types.specs.SignatureCodes.{type_length}
+use Rattle.dbus_types.specs.SignatureCodes.{IsTypeEnd}
 use Rattle.dbus_value_judge.specs.Endings.{EndsAt, IsNotRead, EndedText}
 use Rattle.dbus_value_judge.proofs.ReadParts.{not_partial, not_same, not_first, not_second, done_at}
-use Rattle.dbus_types.proofs.TypeEnds.{type_ends}
 
 -- ---- values of some types, one after another
 
@@ -40,15 +39,14 @@ module _ (part : TypeTree → Reader ValueTree) (bytes types : List ℕ) (ts : T
   none_more : (place q : ℕ) (t : TypeTree) (us : TypeTrees) → EndsAt bytes q (part t place (drop place bytes)) → IsNotRead (fields part us q (drop q bytes)) → IsNotRead (fields part (MoreTypes t us) place (drop place bytes))
   none_more place q t us one unread = not_second (part t place (drop place bytes)) _ one.0 q (drop q bytes) one.1 (not_first (fields part us q (drop q bytes)) _ unread)
 
-  module _ (place pos next : ℕ) (lt : pos < length types) (is : next ≡ pos + type_length 0 (drop pos types)) where
+  module _ (place pos next : ℕ) (lt : pos < length types) (is : IsTypeEnd types pos next) where
     -- the type at the start of those that are left
     front_is : (t : TypeTree) (us : TypeTrees) → sigs (MoreTypes t us) ≡ drop pos types → (sig t ≡ take (next - pos) (drop pos types)) × (sigs us ≡ drop next types)
     front_is t us text =
-        let n : type_length 0 (drop pos types) ≡ length (sig t) = ap (type_length 0) (sym text) ∙ type_ends t (sigs us) in
+        let there : next ≡ pos + length (sig t) = is t (sigs us) (sym text) in
         let long : next - pos ≡ length (sig t) = omega arith in
         let front : take (length (sig t)) (drop pos types) ≡ sig t = ap (take (length (sig t))) (sym text) ∙ take_at (sig t) (sigs us) (length (sig t)) refl in
         let here : sig t ≡ take (next - pos) (drop pos types) = sym front ∙ ap (λ (m : ℕ). take m (drop pos types)) (sym long) in
-        let there : next ≡ pos + length (sig t) = is ∙ ap (λ (m : ℕ). pos + m) n in
         let rest : drop (length (sig t)) (drop pos types) ≡ sigs us = ap (drop (length (sig t))) (sym text) ∙ drop_at (sig t) (sigs us) (length (sig t)) refl in
         (here, sym rest ∙ drop-drop (length (sig t)) pos types ∙ ap (λ (m : ℕ). drop m types) (sym there))
 

@@ -1,8 +1,8 @@
--- By its first byte, which type has numbers that may all stand.
+-- Which types have numbers that may all stand.
 use Rattle.std.proofs.Common.{◌≡◌, ℕ, ◌<◌, Option, refl, sym, arith}
-use Rattle.dbus_texts.specs.Types.{NumberCode, BYTE, BOOLEAN, INT16, UINT16, INT32, UINT32, INT64, UINT64, DOUBLE, UNIX_FD, STRING, OBJECT_PATH, SIGNATURE, TypeTree, NumberType, TextType, VariantType, ArrayType, StructType, EntryType}
+use Rattle.dbus_texts.specs.Types.{NumberCode, BYTE, BOOLEAN, INT16, UINT16, INT32, UINT32, INT64, UINT64, DOUBLE, UNIX_FD, TypeTree, NumberType, TextType, VariantType, ArrayType, StructType, EntryType}
 use Rattle.dbus_types.specs.Alignments.{width}
-use Rattle.dbus_types.specs.SignatureCodes.{first_code, free_width}
+use Rattle.dbus_types.specs.SignatureCodes.{free_width_of}
 use Rattle.dbus_value_model.specs.FreeNumbers.{IsFree}
 
 -- a type of which every number may stand
@@ -19,7 +19,7 @@ free_number t k w e h f = record { code = k; is = e; wide = h; free = f }
 no_width : {A : Type 0} (w v : ℕ) → 0 < w → w ≡ v → v ≡ 0 → A
 no_width w v some e z = absurd (omega arith)
 
-pub free_is : (t : TypeTree) (w : ℕ) → 0 < w → w ≡ free_width (first_code t) → FreeType t w
+pub free_is : (t : TypeTree) (w : ℕ) → 0 < w → w ≡ free_width_of t → FreeType t w
 free_is (NumberType BYTE) w some e = free_number (NumberType BYTE) BYTE w refl (sym e) (λ fds p n. refl)
 free_is (NumberType BOOLEAN) w some e = no_width w 0 some e refl
 free_is (NumberType INT16) w some e = free_number (NumberType INT16) INT16 w refl (sym e) (λ fds p n. refl)
@@ -30,9 +30,7 @@ free_is (NumberType INT64) w some e = free_number (NumberType INT64) INT64 w ref
 free_is (NumberType UINT64) w some e = free_number (NumberType UINT64) UINT64 w refl (sym e) (λ fds p n. refl)
 free_is (NumberType DOUBLE) w some e = free_number (NumberType DOUBLE) DOUBLE w refl (sym e) (λ fds p n. refl)
 free_is (NumberType UNIX_FD) w some e = no_width w 0 some e refl
-free_is (TextType STRING) w some e = no_width w 0 some e refl
-free_is (TextType OBJECT_PATH) w some e = no_width w 0 some e refl
-free_is (TextType SIGNATURE) w some e = no_width w 0 some e refl
+free_is (TextType k) w some e = no_width w 0 some e refl
 free_is VariantType w some e = no_width w 0 some e refl
 free_is (ArrayType u) w some e = no_width w 0 some e refl
 free_is (StructType ts) w some e = no_width w 0 some e refl

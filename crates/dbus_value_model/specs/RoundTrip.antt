@@ -18,8 +18,8 @@ use Rattle.dbus_value_model.specs.Spelling.{spelling}
 use Rattle.dbus_value_model.specs.Values.{ValueTree, type_of}
 use Rattle.dbus_value_model.specs.ValueViews.{value_tree}
 
--- what passes a check where room more containers may be opened, with indexes of descriptors below fds. No `Value` holds a
--- number that is out of its range.
+-- What passes a check where room more containers may be opened, as `check_value_within` says by its clauses `checks` and
+-- `numbers`; and its indexes of descriptors are below fds, where that is something, which no check asks.
 pub record PassesCheck (room : ℕ) (fds : Option ℕ) (v : ValueTree) : Type 0 where
   pub single : IsSingleType (type_of v)
   pub nests : NestsWithin room v

@@ -2,15 +2,18 @@
 #![tactic(auto)]
 
 ghost use Rattle.std.specs.Prelude.{◌↔◌, ◌≤◌, IsTrue, IfOk};
+ghost use Rattle.std.specs.Bool.{OnTrue};
 ghost use Rattle.dbus_texts.specs.Kinds.{IsKind};
 ghost use Rattle.dbus_value_model.specs.Checks.{Checks};
 ghost use Rattle.dbus_value_model.specs.declared.limits.TheConstants.{DEPTH_LIMIT};
 ghost use Rattle.dbus_value_model.specs.Forming.{NestsWithin, NestWithin, IsNamed, AreNamed};
+ghost use Rattle.dbus_value_model.specs.Ranges.{HoldsNumbers, HoldNumbers};
 ghost use Rattle.dbus_value_model.specs.Specification.{specification};
 ghost use Rattle.dbus_value_model.specs.ShortSignatures.{HasShortSignatures};
 ghost use Rattle.dbus_value_model.specs.ValueViews.{value_tree, value_trees_of};
 
 use crate::limits::Limits;
+use crate::ranges::numbers_in_range;
 use crate::uniformity::is_typed;
 use crate::value::Value;
 use crate::value_fault::ValueFault;
@@ -29,6 +32,7 @@ pub fn check_value<A: Allocator + Copy>(
     requires { depth ≤ DEPTH_LIMIT }
     ensures checks { Checks specification depth value.now result }
     ensures short { IfOk result (λ _. HasShortSignatures (value_tree value.now)) }
+    ensures numbers { IfOk result (λ _. HoldsNumbers (value_tree value.now)) }
 {
     check_value_within(alloc, value, depth, Limits::specification())
 }
@@ -40,7 +44,8 @@ pub fn check_value<A: Allocator + Copy>(
 /// open at once than the limits' depth; `Mixed` where an item has another type than its array's, an array of BYTE is not
 /// `Bytes`, a dict entry stands outside an array or its key is not basic, a struct is empty, or a type spells no signature
 /// within the limits; `Name` where an object path or a signature is none, or a text has U+0000. `Memory` where a growth of
-/// memory was refused. A value that passes has short signatures, as writing and measuring ask.
+/// memory was refused. A value that passes has short signatures, as writing and measuring ask, and as every value has it,
+/// numbers in the ranges of their types.
 /// D-Bus Specification, "Type System", "Valid Signatures" and "Message Protocol".
 #[tactic(auto, using(crate::proofs::ShortLaws::short_of))]
 pub fn check_value_within<A: Allocator + Copy>(
@@ -52,6 +57,7 @@ pub fn check_value_within<A: Allocator + Copy>(
     requires { depth ≤ limits.depth }
     ensures checks { Checks limits depth value.now result }
     ensures short { IfOk result (λ _. HasShortSignatures (value_tree value.now)) }
+    ensures numbers { IfOk result (λ _. HoldsNumbers (value_tree value.now)) }
 {
     if !nests_within(value, limits.depth - depth) {
         return Err(ValueFault::TooDeep);
@@ -94,26 +100,35 @@ pub fn nest_within<A: Allocator>(values: &[Value<A>], room: u8) -> bool
 }
 
 /// Whether every text is one of its kind: a path's an object path, a signature's a signature, and a text without U+0000.
+/// The numbers, of which no `Value` holds one out of its range, are looked at for the clause alone.
 #[cycle(named)]
 pub fn is_named<A: Allocator>(value: &Value<A>) -> bool
-    ensures { IsTrue result ↔ IsNamed (value_tree value.now) }
+    ensures named { IsTrue result ↔ IsNamed (value_tree value.now) }
+    ensures numbers { OnTrue result (HoldsNumbers (value_tree value.now)) }
 {
     match value {
         Value::Str(text) => is_of_kind(TextKind::Text, text.as_bytes()),
         Value::Path(text) => is_of_kind(TextKind::Path, text.as_bytes()),
         Value::Sig(text) => is_of_kind(TextKind::Signature, text.as_bytes()),
-        Value::Bytes(_) => true,
+        Value::Bytes(_) => {
+            numbers_in_range(value);
+            true
+        }
         Value::Array(_, items) => are_named(items),
         Value::Struct(fields) => are_named(fields),
         Value::Entry(entry) => is_named(&entry.key) && is_named(&entry.value),
         Value::Variant(inner) => is_named(inner),
-        _ => true,
+        _ => {
+            numbers_in_range(value);
+            true
+        }
     }
 }
 
 #[cycle(named)]
 fn are_named<A: Allocator>(values: &[Value<A>]) -> bool
-    ensures { IsTrue result ↔ AreNamed (value_trees_of values.now) }
+    ensures named { IsTrue result ↔ AreNamed (value_trees_of values.now) }
+    ensures numbers { OnTrue result (HoldNumbers (value_trees_of values.now)) }
 {
     for value in values {
         if !is_named(value) {

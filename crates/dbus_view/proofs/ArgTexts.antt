@@ -1,5 +1,5 @@
 -- Texts of values, where they stand.
-use Rattle.std.proofs.Common.{◌≡◌, ℕ, ◌+◌, List, [], ◌∷◌, ◌++◌, length, take, drop, refl, sym, ap, subst, ◌∙◌, arith, append_assoc}
+use Rattle.std.proofs.Common.{◌≡◌, ℕ, ◌+◌, List, [], ◌∷◌, ◌++◌, length, take, drop, Some, refl, sym, ap, subst, ◌∙◌, arith, append_assoc}
 use Rattle.std.proofs.lemmas.List.{length-append, length-replicate, take_at, drop_at, drop-drop}
 use Rattle.dbus_texts.specs.Types.{TextCode, STRING, OBJECT_PATH, SIGNATURE, TextType, text_code}
 use Rattle.dbus_types.specs.Alignments.{length_width}
@@ -9,10 +9,12 @@ use Rattle.dbus_value_model.specs.declared.order.Order.{Order}
 use Rattle.dbus_value_model.specs.Spelling.{Spelled, spelling}
 use Rattle.dbus_value_model.specs.Values.{ValueTree, NumberValue, TextValue, VariantValue, ArrayValue, StructValue, EntryValue, type_of}
 use Rattle.dbus_value_model.proofs.Numbers.{length-num}
+use Rattle.dbus_message_model.specs.Lookups.{body_value}
+use Rattle.dbus_message_model.specs.Messages.{MessageTree, body_start}
 use Rattle.dbus_message_model.proofs.TextValues.{text_of}
 use Rattle.dbus_types.specs.SignatureCodes.{first_code}
 use Rattle.dbus_types.proofs.TypeCodes as codes
-use Rattle.dbus_view.specs.Bodies.{IsOther, StandsIn, IsTextIn, IsTextPlace}
+use Rattle.dbus_view.specs.Bodies.{IsOther, IsPlaceThere, IsTextAt, IsTextIn, IsTextPlace, StandsIn, StandsSomehow, value_start}
 use Rattle.dbus_view.specs.declared.arg_place.ArgPlace.{ArgPlace}
 use Rattle.dbus_view.specs.declared.values.Spot.{Spot}
 use Rattle.dbus_judge.proofs.FormedTexts.{formed_utf8}
@@ -44,14 +46,14 @@ module _ (bounds : Bounds) (order : Order) (room : ℕ) (bytes : List ℕ) (s : 
       }
 
   -- a value whose type begins with a text's code is a text, and it stands there
-  pub text_there : (x : ValueTree) (k : TextCode) → StandsIn bounds order room bytes x s → s.code ≡ text_code k → (t : List ℕ) × (x ≡ TextValue k t) × IsTextIn bytes (length_width k) s.start s.after t
+  text_there : (x : ValueTree) (k : TextCode) → StandsIn bounds order room bytes x s → s.code ≡ text_code k → (t : List ℕ) × (x ≡ TextValue k t) × IsTextIn bytes (length_width k) s.start s.after t
   text_there x k h e =
       let typed : type_of x ≡ TextType k = codes.text_is (type_of x) k (h.code ∙ e) in
       let u = text_of k x typed in
       let one = subst (λ (v : ValueTree). Spelled bounds order room (length bytes) (type_of v) s.start (drop s.start bytes) v s.after (drop s.after bytes)) u.1 h.spelled in
       (u.0, u.1, text_spelled k u.0 (length bytes) refl one)
 
-pub other_there : (c : ℕ) (x : ValueTree) → first_code (type_of x) ≡ c → (c ≡ 115 → ⊥) → (c ≡ 111 → ⊥) → (c ≡ 103 → ⊥) → IsOther c x
+other_there : (c : ℕ) (x : ValueTree) → first_code (type_of x) ≡ c → (c ≡ 115 → ⊥) → (c ≡ 111 → ⊥) → (c ≡ 103 → ⊥) → IsOther c x
 other_there c (NumberValue k n) e str path sign = e
 other_there c (TextValue STRING t) e str path sign = str (sym e)
 other_there c (TextValue OBJECT_PATH t) e str path sign = path (sym e)
@@ -62,10 +64,34 @@ other_there c (StructValue xs) e str path sign = e
 other_there c (EntryValue k v) e str path sign = e
 
 -- of a value that is no text no place is told
-pub other_place : (c : ℕ) (x : ValueTree) (bytes : List ℕ) (p : ArgPlace) → IsOther c x → p.start ≡ 0 → p.length ≡ 0 → (first_code (type_of x) ≡ c) × IsTextPlace bytes x p
-other_place c (TextValue k t) bytes p is start length = absurd is
-other_place c (NumberValue k n) bytes p is start length = (is, (start, length))
-other_place c (VariantValue x) bytes p is start length = (is, (start, length))
-other_place c (ArrayValue t xs) bytes p is start length = (is, (start, length))
-other_place c (StructValue xs) bytes p is start length = (is, (start, length))
-other_place c (EntryValue k v) bytes p is start length = (is, (start, length))
+other_place : (c : ℕ) (x : ValueTree) (bytes : List ℕ) (from : ℕ) (p : ArgPlace) → IsOther c x → p.start ≡ 0 → p.length ≡ 0 → (first_code (type_of x) ≡ c) × IsTextPlace bytes from x p
+other_place c (TextValue k t) bytes from p is start length = absurd is
+other_place c (NumberValue k n) bytes from p is start length = (is, (start, length))
+other_place c (VariantValue x) bytes from p is start length = (is, (start, length))
+other_place c (ArrayValue t xs) bytes from p is start length = (is, (start, length))
+other_place c (StructValue xs) bytes from p is start length = (is, (start, length))
+other_place c (EntryValue k v) bytes from p is start length = (is, (start, length))
+
+-- value n of a message's body, which stands there
+module _ (order : Order) (room : ℕ) (bytes : List ℕ) (m : MessageTree) (n : ℕ) (s : Spot) (found : StandsSomehow order room bytes (body_start order m.fields) n m.body s) where
+  module _ (k : TextCode) (is : s.code ≡ text_code k) where
+    pub arg_text : (t : List ℕ) × (body_value n m.body ≡ Some (TextValue k t)) × IsTextIn bytes (length_width k) s.start s.after t
+    arg_text =
+        let t = text_there found.0 order room bytes s found.1.0 k found.1.2 is in
+        (t.0, found.1.1 ∙ ap (λ (x : ValueTree). Some x) t.1, t.2)
+
+    pub text_told : (p : ArgPlace) → p.code ≡ s.code → ((t : List ℕ) → IsTextIn bytes (length_width k) s.start s.after t → IsTextAt bytes (length_width k) s.start t p) → IsPlaceThere order m n bytes p
+    text_told p code at =
+        let t = arg_text in
+        let here = subst (λ (o : ℕ). IsTextAt bytes (length_width k) o t.0 p) found.1.3 (at t.0 t.2) in
+        (TextValue k t.0, t.1, sym (code ∙ is), here)
+
+  module _ (str : s.code ≡ 115 → ⊥) (path : s.code ≡ 111 → ⊥) (sign : s.code ≡ 103 → ⊥) where
+    pub arg_other : (x : ValueTree) × (body_value n m.body ≡ Some x) × IsOther s.code x
+    arg_other = (found.1.0, found.1.1, other_there s.code found.1.0 found.1.2.code str path sign)
+
+    pub other_told : (p : ArgPlace) → p.code ≡ s.code → p.start ≡ 0 → p.length ≡ 0 → IsPlaceThere order m n bytes p
+    other_told p code start length =
+        let x = arg_other in
+        let place = other_place s.code x.0 bytes (value_start order (body_start order m.fields) n m.body) p x.2 start length in
+        (x.0, x.1, place.0 ∙ sym code, place.1)

@@ -10,8 +10,9 @@ use Rattle.dbus_value_model.specs.declared.limits.Limits.{Limits}
 use Rattle.dbus_value_model.specs.declared.order.Order.{Order}
 use Rattle.dbus_value_model.specs.Specification.{bounds_with}
 use Rattle.dbus_value_model.specs.Spelling.{AreWithinLimits, spellings}
-use Rattle.dbus_value_model.specs.Values.{ValueTree, types_of}
+use Rattle.dbus_value_model.specs.Values.{ValueTrees, types_of}
 use Rattle.dbus_unmarshal.proofs.KindLaws.{signature_text}
+use Rattle.dbus_message_model.specs.Lookups.{body_value}
 use Rattle.dbus_message_model.specs.Messages.{MessageTree, body_signature, body_fds, fd_count, body_bytes}
 use Rattle.dbus_judge.specs.declared.judging.Judged.{Judged}
 use Rattle.dbus_view.specs.Bodies.{AreBody, StandsThere, StandsSomehow}
@@ -59,6 +60,6 @@ module _ (limits : Limits) (bytes : List ℕ) (j : Judged) (h : IsJudgedWhole li
       subst (λ (b : Bounds). AreBody b j.order limits.depth j.body bytes types read.body) (sym bound) within
 
 -- what stands there under these bounds does so under some
-pub somehow : (bounds : Bounds) (order : Order) (room : ℕ) (bytes : List ℕ) (v : Option ValueTree) (found : Option Spot) → MatchOption found (v ≡ None) (λ s. StandsThere bounds order room bytes v s) → MatchOption found (v ≡ None) (λ s. StandsSomehow order room bytes v s)
-somehow bounds order room bytes v None none = none
-somehow bounds order room bytes v (Some s) there = (bounds, there)
+pub somehow : (bounds : Bounds) (order : Order) (room : ℕ) (bytes : List ℕ) (at start n : ℕ) (xs : ValueTrees) (found : Option Spot) → at ≡ start → MatchOption found (body_value n xs ≡ None) (λ s. StandsThere bounds order room bytes at n xs s) → MatchOption found (body_value n xs ≡ None) (λ s. StandsSomehow order room bytes start n xs s)
+somehow bounds order room bytes at start n xs None same none = none
+somehow bounds order room bytes at start n xs (Some s) same there = (bounds, subst (λ (o : ℕ). StandsThere bounds order room bytes o n xs s) same there)

@@ -10,29 +10,51 @@ use Rattle.dbus_value_model.specs.Spelling.{Spelled, SpelledAll, spelling, spell
 use Rattle.dbus_value_model.specs.Values.{ValueTree, ValueTrees, NoValues, MoreValues, type_of, types_of}
 use Rattle.dbus_message_model.specs.Lookups.{body_value}
 use Rattle.dbus_unmarshal.proofs.ValueSteps.{shaped_inside}
-use Rattle.dbus_types.specs.SignatureCodes.{type_length, first_code}
+use Rattle.dbus_types.specs.SignatureCodes.{first_code, IsTypeEnd}
 use Rattle.dbus_value_judge.specs.Endings.{IsSpelledTo, IsNotSpelled}
 use Rattle.dbus_value_judge.proofs.Spelled.{value_spelled_read}
 use Rattle.dbus_types.proofs.TypeCodes.{begins}
-use Rattle.dbus_types.proofs.TypeEnds.{type_ends}
-use Rattle.dbus_view.specs.Bodies.{AreBody, StandsThere}
+use Rattle.dbus_view.specs.Bodies.{AreBody, StandsThere, first_values, value_start}
 use Rattle.dbus_view.specs.declared.values.Spot.{Spot}
 
 none_in : (n : ℕ) → body_value n NoValues ≡ None
 none_in zero = refl
 none_in (suc n) = refl
 
-module _ (bounds : Bounds) (order : Order) (room : ℕ) (bytes types : List ℕ) (xs : ValueTrees) where
+-- after the first of some values the others begin where it ends
+after_first : (order : Order) (at n : ℕ) (x : ValueTree) (xs : ValueTrees) → value_start order at (suc n) (MoreValues x xs) ≡ value_start order (at + length (spelling order at x)) n xs
+unfolding spelling
+after_first order at n x xs =
+    let one = spelling order at x in
+    omega (arith, length-append one (spellings order (at + length one) (first_values n xs)))
+
+-- the next value begins where one ends
+next_start : (order : Order) (at n : ℕ) (xs : ValueTrees) (x : ValueTree) → body_value n xs ≡ Some x → value_start order at (suc n) xs ≡ value_start order at n xs + length (spelling order (value_start order at n xs) x)
+unfolding spelling
+next_start order at zero NoValues x e = absurd cc
+next_start order at (suc n) NoValues x e = absurd cc
+next_start order at zero (MoreValues y ys) x e =
+    let same : y ≡ x = cc in
+    let none : value_start order at zero (MoreValues y ys) ≡ at = omega arith in
+    let first : value_start order at (suc zero) (MoreValues y ys) ≡ at + length (spelling order at y) = after_first order at zero y ys ∙ omega arith in
+    first ∙ ap (λ (v : ValueTree). at + length (spelling order at v)) same ∙ ap (λ (o : ℕ). o + length (spelling order o x)) (sym none)
+next_start order at (suc n) (MoreValues y ys) x e =
+    let next = at + length (spelling order at y) in
+    after_first order at (suc n) y ys ∙ next_start order next n ys x e ∙ ap (λ (o : ℕ). o + length (spelling order o x)) (sym (after_first order at n y ys))
+
+module _ (bounds : Bounds) (order : Order) (room at : ℕ) (bytes types : List ℕ) (xs : ValueTrees) where
   -- k values are passed over, up to a place and a type, and the rest are left
   pub record Walked (k place pos : ℕ) : Type 0 where
     pub rest : ValueTrees
     pub numbered : (i : ℕ) → body_value (k + i) xs ≡ body_value i rest
+    pub begins : place ≡ value_start order at k xs
     pub shaped : AreShaped (types_of rest)
     pub text : sigs (types_of rest) ≡ drop pos types
     pub spelled : SpelledAll bounds order room place (drop place bytes) rest (length bytes) (drop (length bytes) bytes)
 
-  pub walked_none : (at : ℕ) → AreBody bounds order room at bytes types xs → Walked 0 at 0
-  walked_none at h = record { rest = xs; numbered = λ i. ap (λ (n : ℕ). body_value n xs) (omega arith); shaped = h.shaped; text = h.signature; spelled = h.spelled }
+  pub walked_none : AreBody bounds order room at bytes types xs → Walked 0 at 0
+  unfolding spelling
+  walked_none h = record { rest = xs; numbered = λ i. ap (λ (n : ℕ). body_value n xs) (omega arith); begins = omega arith; shaped = h.shaped; text = h.signature; spelled = h.spelled }
 
   -- the first value of those that are left
   pub record Front (k place pos next : ℕ) : Type 0 where
@@ -48,14 +70,13 @@ module _ (bounds : Bounds) (order : Order) (room : ℕ) (bytes types : List ℕ)
     pub others_text : sigs (types_of others) ≡ drop next types
     pub others_spelled : SpelledAll bounds order room after (drop after bytes) others (length bytes) (drop (length bytes) bytes)
 
-  module _ (k place pos next : ℕ) (lt : pos < length types) (is : next ≡ pos + type_length 0 (drop pos types)) where
+  module _ (k place pos next : ℕ) (lt : pos < length types) (is : IsTypeEnd types pos next) where
     front_is : (t : TypeTree) (us : TypeTrees) → sigs (MoreTypes t us) ≡ drop pos types → (sig t ≡ take (next - pos) (drop pos types)) × (sigs us ≡ drop next types)
     front_is t us text =
-        let n : type_length 0 (drop pos types) ≡ length (sig t) = ap (type_length 0) (sym text) ∙ type_ends t (sigs us) in
+        let there : next ≡ pos + length (sig t) = is t (sigs us) (sym text) in
         let long : next - pos ≡ length (sig t) = omega arith in
         let front : take (length (sig t)) (drop pos types) ≡ sig t = ap (take (length (sig t))) (sym text) ∙ take_at (sig t) (sigs us) (length (sig t)) refl in
         let here : sig t ≡ take (next - pos) (drop pos types) = sym front ∙ ap (λ (m : ℕ). take m (drop pos types)) (sym long) in
-        let there : next ≡ pos + length (sig t) = is ∙ ap (λ (m : ℕ). pos + m) n in
         let rest : drop (length (sig t)) (drop pos types) ≡ sigs us = ap (drop (length (sig t))) (sym text) ∙ drop_at (sig t) (sigs us) (length (sig t)) refl in
         (here, sym rest ∙ drop-drop (length (sig t)) pos types ∙ ap (λ (m : ℕ). drop m types) (sym there))
 
@@ -113,21 +134,24 @@ module _ (bounds : Bounds) (order : Order) (room : ℕ) (bytes types : List ℕ)
       some none = none (type_of f.x) f.one f.shaped f.after (f.x, f.spelled)
 
       module _ (q : ℕ) (here : q ≡ f.after) where
+        number : body_value k xs ≡ Some f.x
+        number = ap (λ (n : ℕ). body_value n xs) (omega arith) ∙ f.numbered 0
+
         pub walked_on : Walked (k + 1) q next
-        walked_on = record {
+        walked_on = let more : suc k ≡ k + 1 = omega arith in record {
           rest = f.others;
           numbered = λ i. ap (λ (n : ℕ). body_value n xs) (omega arith) ∙ f.numbered (suc i);
+          begins = here ∙ f.spelled.place ∙ ap (λ (o : ℕ). o + length (spelling order o f.x)) w.begins ∙ sym (next_start order at k xs f.x number) ∙ ap (λ (n : ℕ). value_start order at n xs) more;
           shaped = f.others_shaped;
           text = f.others_text;
           spelled = subst (λ (p : ℕ). SpelledAll bounds order room p (drop p bytes) f.others (length bytes) (drop (length bytes) bytes)) (sym here) f.others_spelled;
         }
 
-        pub found : (s : Spot) → s.start ≡ place → s.after ≡ q → s.code ≡ get_or types pos 0 → StandsThere bounds order room bytes (body_value k xs) s
+        pub found : (s : Spot) → s.start ≡ place → s.after ≡ q → s.code ≡ get_or types pos 0 → StandsThere bounds order room bytes at k xs s
         found s start after code =
-            let number : body_value k xs ≡ Some f.x = ap (λ (n : ℕ). body_value n xs) (omega arith) ∙ f.numbered 0 in
             let from : Spelled bounds order room (length bytes) (type_of f.x) s.start (drop s.start bytes) f.x f.after (drop f.after bytes) = subst (λ (p : ℕ). Spelled bounds order room (length bytes) (type_of f.x) p (drop p bytes) f.x f.after (drop f.after bytes)) (sym start) f.spelled in
             let to : Spelled bounds order room (length bytes) (type_of f.x) s.start (drop s.start bytes) f.x s.after (drop s.after bytes) = subst (λ (p : ℕ). Spelled bounds order room (length bytes) (type_of f.x) s.start (drop s.start bytes) f.x p (drop p bytes)) (sym (after ∙ here)) from in
-            (f.x, number, record { spelled = to; code = f.code ∙ sym code })
+            (f.x, number, record { spelled = to; code = f.code ∙ sym code }, start ∙ w.begins)
 
   -- no type is left, and so no value
   no_more : (k pos n : ℕ) (rest : ValueTrees) → length types ≤ pos → sigs (types_of rest) ≡ drop pos types → ((i : ℕ) → body_value (k + i) xs ≡ body_value i rest) → k ≤ n → body_value n xs ≡ None

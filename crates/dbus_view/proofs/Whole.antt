@@ -28,7 +28,7 @@ module _ (limits : Limits) (bytes : List ℕ) (j : Judged) (h : IsJudgedWhole li
   pub valid : IsMessage limits j.order message
   valid = whole_message limits bytes j.order message j.length h.judged.whole
 
-  abbrev state : ViewState
+  abbrev pub state : ViewState
   state = record { limits = limits; bytes = bytes }
 
   module _ (v : ViewState) (is : state ≡ v) where
@@ -39,3 +39,9 @@ module _ (limits : Limits) (bytes : List ℕ) (j : Judged) (h : IsJudgedWhole li
     same order m w =
         let both = one_whole limits bytes j.order order message m (length bytes) (length bytes) all_whole (subst (λ (u : ViewState). Views u order m) (sym is) w) in
         (both.0, both.1)
+
+    -- so what holds of the one that was judged holds of it
+    pub as_viewed : (P : ViewState → Order → MessageTree → Type 0) → P state j.order message → (order : Order) (m : MessageTree) → Views v order m → P v order m
+    as_viewed P holds order m w =
+        let both = same order m w in
+        subst (λ (u : MessageTree). P v order u) both.1 (subst (λ (o : Order). P v o message) both.0 (subst (λ (u : ViewState). P u j.order message) is holds))

@@ -4,6 +4,7 @@
 ghost use Rattle.std.specs.Prelude.{◌≡◌, ◌≤◌, ℕ, List, length, None, MatchOption, IfSome};
 ghost use Rattle.dbus_value_model.specs.Values.{ValueTrees};
 ghost use Rattle.dbus_message_model.specs.Lookups.{body_value};
+ghost use Rattle.dbus_message_model.specs.Messages.{body_start};
 ghost use Rattle.dbus_judge.specs.Judging.{IsJudgedWhole};
 
 use crate::arg_place::ArgPlace;
@@ -39,7 +40,7 @@ pub(crate) fn spot_of(
     requires { at ≤ length bytes.now }
     ensures { (xs : ValueTrees) → AreBody bounds order room at bytes.now types.now xs →
         MatchOption result (body_value n xs ≡ None) (λ s.
-        StandsThere bounds order room bytes.now (body_value n xs) s) }
+        StandsThere bounds order room bytes.now at n xs s) }
 {
     let mut place = at;
     let mut pos = 0;
@@ -69,9 +70,10 @@ pub(crate) fn spot_of(
 pub(crate) fn spot_in(bytes: &[u8], limits: Limits, judged: &Judged, n: usize) -> Option<Spot>
     requires { IsJudgedWhole limits bytes.now judged.now }
     ensures { (h : IsJudgedWhole limits bytes.now judged.now) →
-        MatchOption result (body_value n h.judged.message.body ≡ None) (λ s.
-        StandsSomehow judged.now.order limits.depth bytes.now (body_value n h.judged.message.body)
-        s) }
+        let m = h.judged.message in
+        MatchOption result (body_value n m.body ≡ None) (λ s.
+        StandsSomehow judged.now.order limits.depth bytes.now
+        (body_start judged.now.order m.fields) n m.body s) }
 {
     let fields = &judged.fields;
     let types = fields.signature(bytes);
@@ -107,7 +109,7 @@ pub(crate) fn text_place(bytes: &[u8], spot: Spot, width: u8) -> ArgPlace
     requires text { (t : List ℕ) × IsTextIn bytes.now width spot.start spot.after t }
     ensures code { result.code ≡ spot.code }
     ensures text { (t : List ℕ) → IsTextIn bytes.now width spot.start spot.after t →
-        IsTextAt bytes.now t result }
+        IsTextAt bytes.now width spot.start t result }
 {
     let gap = usize::from(padding_length(width, spot.start as u64));
     let first = spot.start + gap + usize::from(width);

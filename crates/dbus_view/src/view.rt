@@ -238,7 +238,7 @@ impl<'a> MessageView<'a> {
     pub fn arg_place(&self, n: usize) -> Option<ArgPlace>
         ensures { (order : Order) (m : MessageTree) → Views self.now order m →
             MatchOption result (body_value n m.body ≡ None) (λ p.
-            IsPlaceThere self.now.bytes (body_value n m.body) p) }
+            IsPlaceThere order m n self.now.bytes p) }
     {
         let bytes = self.bytes;
         let spot = spot_in(bytes, self.limits, &self.judged, n)?;

@@ -1,11 +1,11 @@
-use Rattle.std.proofs.Common.{◌≡◌, length, refl, sym, ap, subst, ◌∙◌}
+use Rattle.std.proofs.Common.{◌≡◌, ℕ, List, length, take, sym, ap, subst, ◌∙◌}
 use Rattle.dbus_value_model.specs.declared.limits.Limits.{Limits}
 use Rattle.dbus_message_model.specs.Lookups.{body_value}
 use Rattle.dbus_message_model.specs.Messages.{MessageTree}
 use Rattle.dbus_decode.specs.MessageOutcomes.{IsWhole}
 use Rattle.dbus_decode.proofs.OutcomeLaws.{one_whole}
+use Rattle.dbus_view.specs.Bodies.{IsPlaceThere}
 use Rattle.dbus_c.specs.GivenLimits.{limits_of}
-use Rattle.dbus_c.proofs.Fronts.{text_of}
 use Rattle.dbus_c.proofs.arguments.dbus_wire_argument_of.Goals as goal
 
 pub returns-in-Some-arg_place-clause-argument : goal.returns-in-Some-arg_place-clause-argument
@@ -15,15 +15,13 @@ returns-in-Some-arg_place-clause-argument c = λ told.
     let is = c.in-Some.ensures.viewed in
     let place = c.in-Some-arg_place.place in
     let there = c.in-Some-arg_place.ensures is.order is.message is.views in
+    let front = subst (λ (s : List ℕ). IsPlaceThere is.order is.message c.args.number s place) is.front there in
     record {
       order = is.order;
       message = is.message;
       count = length view.bytes;
       whole = subst (λ (l : Limits). IsWhole l b is.order is.message (length view.bytes)) c.given_limits.ensures is.whole;
-      value = there.0;
-      there = there.1;
-      code = c.from.ensures ∙ sym there.2;
-      text = text_of there.0 view.bytes b place _ is.front there.3 refl refl;
+      value = subst (λ (code : ℕ). IsPlaceThere is.order is.message c.args.number (take (length view.bytes) b) (record { code = code; start = place.start; length = place.length })) (sym c.from.ensures) front;
     }
 
 pub returns-in-None-arg_place-clause-none : goal.returns-in-None-arg_place-clause-none

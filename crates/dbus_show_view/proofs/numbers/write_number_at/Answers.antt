@@ -1,25 +1,53 @@
-use Rattle.std.proofs.Common.{◌≡◌, ℕ, ◌+◌, ◌<◌, ◌≤◌, length, take, drop, decimal, sym, ap, subst, ◌∙◌, arith}
+use Rattle.std.proofs.Common.{◌≡◌, ℕ, take, drop, decimal, sym, ap, subst, ◌∙◌, arith}
 use Rattle.hex.specs.Hex.{encode_lower}
-use Rattle.dbus_texts.specs.Types.{NumberCode, BYTE, DOUBLE}
+use Rattle.dbus_texts.specs.Types.{NumberCode, BYTE, BOOLEAN, INT16, UINT16, INT32, UINT32, INT64, UINT64, DOUBLE, UNIX_FD}
 use Rattle.dbus_types.specs.Alignments.{width}
 use Rattle.dbus_value_model.specs.Bytes.{num}
 use Rattle.dbus_value_model.specs.Reading.{number_of}
 use Rattle.dbus_value_model.specs.declared.order.Order.TheVariants.{Big}
 use Rattle.dbus_value_model.proofs.NumberBytes.{num_64_big}
 use Rattle.dbus_unmarshal.proofs.ReadSteps.{one_byte}
-use Rattle.dbus_swap.specs.Widths.{number_width}
 use Rattle.dbus_show.specs.Gains.{Gains}
 use Rattle.dbus_show.specs.ShownValues.{number_text}
 use Rattle.dbus_show_view.proofs.Codes.{byte_code, double_code}
 use Rattle.dbus_show_view.proofs.numbers.write_number_at.Goals as goal
 
+pub bounds-bytes-at : goal.bounds-bytes-at
+bounds-bytes-at g c = let here = c.requires BYTE (sym c.in-121.is) in omega (arith, here)
+
+pub u32_at-requires : goal.u32_at-requires
+u32_at-requires g c = c.requires BOOLEAN (sym c.in-98.is)
+
+pub u16_at-requires : goal.u16_at-requires
+u16_at-requires g c = c.requires INT16 (sym c.in-110.is)
+
+pub u16_at-requires-in-113 : goal.u16_at-requires-in-113
+u16_at-requires-in-113 g c = c.requires UINT16 (sym c.in-113.is)
+
+pub u32_at-requires-in-105 : goal.u32_at-requires-in-105
+u32_at-requires-in-105 g c = c.requires INT32 (sym c.in-105.is)
+
+pub u32_at-requires-in-117 : goal.u32_at-requires-in-117
+u32_at-requires-in-117 g c = c.requires UINT32 (sym c.in-117.is)
+
+pub u64_at-requires : goal.u64_at-requires
+u64_at-requires g c = c.requires INT64 (sym c.in-120.is)
+
+pub u64_at-requires-in-116 : goal.u64_at-requires-in-116
+u64_at-requires-in-116 g c = c.requires UINT64 (sym c.in-116.is)
+
+pub u64_at-requires-in-100 : goal.u64_at-requires-in-100
+u64_at-requires-in-100 g c = c.requires DOUBLE (sym c.in-100.is)
+
+pub u32_at-requires-in-104 : goal.u32_at-requires-in-104
+u32_at-requires-in-104 g c = c.requires UNIX_FD (sym c.in-104.is)
+
 pub returns-in-121 : goal.returns-in-121
 returns-in-121 g c = λ k e.
     let is : k ≡ BYTE = byte_code k (e ∙ c.in-121.is) in
-    let inside : c.args.at + number_width 121 ≤ length c.args.bytes.now = subst (λ (n : ℕ). c.args.at + number_width n ≤ length c.args.bytes.now) c.in-121.is c.requires in
-    let here : c.args.at < length c.args.bytes.now = omega (arith, inside) in
+    let here = c.requires BYTE (sym c.in-121.is) in
     subst (λ (j : NumberCode). Gains c.args.draft.now (number_text j (number_of c.args.order (take (width j) (drop c.args.at c.args.bytes.now)))) c.write_integer.new.draft) (sym is)
-    (subst (λ (n : ℕ). Gains c.args.draft.now (decimal n) c.write_integer.new.draft) (one_byte c.args.order c.args.bytes.now c.args.at here) c.write_integer.ensures)
+    (subst (λ (n : ℕ). Gains c.args.draft.now (decimal n) c.write_integer.new.draft) (one_byte c.args.order c.args.bytes.now c.args.at (omega (arith, here))) c.write_integer.ensures)
 
 pub returns-in-100 : goal.returns-in-100
 returns-in-100 g c = λ k e.

@@ -1,5 +1,5 @@
 use Rattle.std.proofs.Common.{◌≡◌, ◌+◌, ◌-◌, ◌≤◌, length, drop}
-use Rattle.dbus_types.specs.SignatureCodes.{type_length}
+use Rattle.dbus_types.proofs.TypeEnds.{type_length}
 use Rattle.dbus_types.proofs.signature_codes.type_end.Given as goal
 
 abbrev pub invariant-loop-at : goal.invariant-loop-at

@@ -1,7 +1,6 @@
 use Rattle.std.proofs.Common.{refl, sym, ap, ◌∙◌}
 use Rattle.std.proofs.lemmas.Option.{IfSome_then}
 use Rattle.dbus_texts.specs.Types.{BOOLEAN, UNIX_FD, STRING, OBJECT_PATH, SIGNATURE}
-use Rattle.dbus_types.specs.SignatureCodes.{free_width}
 use Rattle.dbus_types.proofs.TypeCodes.{text_is, boolean_is, descriptor_is}
 use Rattle.dbus_value_model.proofs.FreeNumbers.{free_is}
 use Rattle.dbus_value_judge.proofs.ValueRefusals.{no_number, no_text}
@@ -10,7 +9,7 @@ use Rattle.dbus_value_judge.proofs.basic.basic_value.Goals as goal
 
 pub returns-then-width-gt0-clause-gives : goal.returns-then-width-gt0-clause-gives
 returns-then-width-gt0-clause-gives c = IfSome_then c.free_number.result c.free_number.ensures.gives (λ q h room t e.
-    let free = free_is t c.free_width-width.result c.if-width-gt0.true (c.free_width-width.ensures.value ∙ ap free_width (sym e)) in
+    let free = free_is t c.free_width-width.result c.if-width-gt0.true (c.free_width-width.ensures.value t e) in
     as_number c.args.bounds c.args.order room c.args.end c.args.at q c.args.bytes.now t free.code free.is (h c.args.bounds.fds c.args.order free.code free.wide (free.free c.args.bounds.fds)))
 
 pub returns-then-code-eq115-clause-gives : goal.returns-then-code-eq115-clause-gives
@@ -30,7 +29,7 @@ returns-then-code-eq104-clause-gives c = IfSome_then c.descriptor.result c.descr
 
 pub returns-then-width-gt0-clause-none : goal.returns-then-width-gt0-clause-none
 returns-then-width-gt0-clause-none c = λ none room t e basic.
-    let free = free_is t c.free_width-width.result c.if-width-gt0.true (c.free_width-width.ensures.value ∙ ap free_width (sym e)) in
+    let free = free_is t c.free_width-width.result c.if-width-gt0.true (c.free_width-width.ensures.value t e) in
     no_number c.args.bounds c.args.order room c.args.end c.args.at c.args.bytes.now t free.code free.is (c.free_number.ensures.none none c.args.bounds.fds c.args.order free.code free.wide)
 
 pub returns-then-code-eq115-clause-none : goal.returns-then-code-eq115-clause-none

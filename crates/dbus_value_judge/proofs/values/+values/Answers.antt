@@ -5,8 +5,7 @@ use Rattle.dbus_texts.specs.Types.{TypeTree, NoTypes, MoreTypes, IsShaped}
 use Rattle.dbus_types.specs.Alignments.{alignment_of}
 use Rattle.dbus_value_model.specs.Bytes.{gap_to}
 use Rattle.dbus_value_model.specs.Reading.{value}
-use Rattle.dbus_types.specs.SignatureCodes.{code_boundary, free_width}
-use Rattle.dbus_types.proofs.TypeCodes.{no_text_of, code_is, boundary_is, variant_is, array_is, struct_is, entry_is, struct_shaped, entry_shaped}
+use Rattle.dbus_types.proofs.TypeCodes.{no_text_of, code_is, variant_is, array_is, struct_is, entry_is, struct_shaped, entry_shaped}
 use Rattle.dbus_value_model.proofs.FreeNumbers.{free_is}
 use Rattle.dbus_value_judge.proofs.NumberArrays.{free_elements_end, uneven_elements}
 use Rattle.dbus_value_judge.proofs.ValueRefusals.{no_variant, no_array, no_struct, no_entry, variant_too_deep, variant_unsigned, variant_unheld, array_too_deep, array_unpadded, array_unframed, array_unfilled, struct_too_deep, struct_unpadded, struct_unfilled, entry_unpadded, entry_unfilled}
@@ -33,8 +32,8 @@ all_values-returns-clause-gives t c = λ ts e shaped.
 pub array-returns-then-n-from-eq0-clause-gives : goal.array-returns-then-n-from-eq0-clause-gives
 array-returns-then-n-from-eq0-clause-gives t c = λ u e shaped.
     let code = code_is u c.args.types.now e in
-    let bounded = c.boundary.ensures.value ∙ ap code_boundary (sym code) ∙ boundary_is u in
-    let free = free_is u c.free_width-width.result c.if-width-gt0.true (c.free_width-width.ensures.value ∙ ap free_width (sym code)) in
+    let bounded = c.boundary.ensures.value u code in
+    let free = free_is u c.free_width-width.result c.if-width-gt0.true (c.free_width-width.ensures.value u code) in
     let even : c.in_ok-n.n % c.free_width-width.result ≡ 0 = subst (λ (w : ℕ). c.in_ok-n.n % w ≡ 0) c.from.ensures c.if-n-from-eq0.true in
     let wide : c.boundary.result ≡ c.free_width-width.result = bounded ∙ ap alignment_of free.is ∙ free.wide in
     let begins = c.in_ok-n.ensures.begins ∙ ap (λ (w : ℕ). c.in_ok-start.start + 4 + gap_to w (c.in_ok-start.start + 4)) wide in
@@ -44,7 +43,7 @@ array-returns-then-n-from-eq0-clause-gives t c = λ u e shaped.
 pub array-returns-clause-gives : goal.array-returns-clause-gives
 array-returns-clause-gives t c = IfSome_then c.elements.result c.elements.ensures.gives (λ q h u e shaped.
     let code = code_is u c.args.types.now e in
-    let bounded = c.boundary.ensures.value ∙ ap code_boundary (sym code) ∙ boundary_is u in
+    let bounded = c.boundary.ensures.value u code in
     array_ends c.args.bounds c.args.order c.args.room c.args.end c.args.at c.args.bytes.now c.in_ok-start.start u c.in_ok-start.ensures.gives (omega arith) c.in_ok-n.n c.in_ok-n.first q (c.in_ok-n.ensures.gives u bounded) (h u e shaped))
 
 pub elements-returns-then-place-end-clause-gives : goal.elements-returns-then-place-end-clause-gives
@@ -130,14 +129,14 @@ array-returns-in_err-start-clause-none t c = λ none u e shaped. array_unpadded 
 
 pub array-returns-in_err-n-clause-none : goal.array-returns-in_err-n-clause-none
 array-returns-in_err-n-clause-none t c = λ none u e shaped.
-    let bounded = c.boundary.ensures.value ∙ ap code_boundary (sym (code_is u c.args.types.now e)) ∙ boundary_is u in
+    let bounded = c.boundary.ensures.value u (code_is u c.args.types.now e) in
     array_unframed c.args.bounds c.args.order c.args.room c.args.end c.args.at c.args.bytes.now u c.in_ok-start.start c.in_ok-start.ensures.gives (c.frame.ensures.none c.in_err-n.was u bounded)
 
 pub array-returns-else-n-from-eq0-clause-none : goal.array-returns-else-n-from-eq0-clause-none
 array-returns-else-n-from-eq0-clause-none t c = λ none u e shaped.
     let code = code_is u c.args.types.now e in
-    let bounded = c.boundary.ensures.value ∙ ap code_boundary (sym code) ∙ boundary_is u in
-    let free = free_is u c.free_width-width.result c.if-width-gt0.true (c.free_width-width.ensures.value ∙ ap free_width (sym code)) in
+    let bounded = c.boundary.ensures.value u code in
+    let free = free_is u c.free_width-width.result c.if-width-gt0.true (c.free_width-width.ensures.value u code) in
     let wide : c.boundary.result ≡ c.free_width-width.result = bounded ∙ ap alignment_of free.is ∙ free.wide in
     let begins = c.in_ok-n.ensures.begins ∙ ap (λ (w : ℕ). c.in_ok-start.start + 4 + gap_to w (c.in_ok-start.start + 4)) wide in
     array_unfilled c.args.bounds c.args.order c.args.room c.args.end c.args.at c.args.bytes.now u c.in_ok-start.start c.in_ok-start.ensures.gives c.in_ok-n.n c.in_ok-n.first (c.in_ok-n.ensures.gives u bounded)
@@ -145,7 +144,7 @@ array-returns-else-n-from-eq0-clause-none t c = λ none u e shaped.
 
 pub array-returns-clause-none : goal.array-returns-clause-none
 array-returns-clause-none t c = λ none u e shaped.
-    let bounded = c.boundary.ensures.value ∙ ap code_boundary (sym (code_is u c.args.types.now e)) ∙ boundary_is u in
+    let bounded = c.boundary.ensures.value u (code_is u c.args.types.now e) in
     array_unfilled c.args.bounds c.args.order c.args.room c.args.end c.args.at c.args.bytes.now u c.in_ok-start.start c.in_ok-start.ensures.gives c.in_ok-n.n c.in_ok-n.first (c.in_ok-n.ensures.gives u bounded) (c.elements.ensures.none none u e shaped)
 
 pub elements-returns-in_err-place-clause-none : goal.elements-returns-in_err-place-clause-none

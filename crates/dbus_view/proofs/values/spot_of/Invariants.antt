@@ -8,5 +8,5 @@ abbrev pub invariant-loop-number : goal.invariant-loop-number
 invariant-loop-number l = record {
   inside : l.place ≤ length l.bytes;
   types : l.pos ≤ length l.types;
-  walked : (xs : ValueTrees) → AreBody l.fn.bounds l.fn.order l.fn.room l.fn.at l.bytes l.types xs → Walked l.fn.bounds l.fn.order l.fn.room l.bytes l.types xs l._number l.place l.pos;
+  walked : (xs : ValueTrees) → AreBody l.fn.bounds l.fn.order l.fn.room l.fn.at l.bytes l.types xs → Walked l.fn.bounds l.fn.order l.fn.room l.fn.at l.bytes l.types xs l._number l.place l.pos;
 }

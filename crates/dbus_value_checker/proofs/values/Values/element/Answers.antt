@@ -18,5 +18,5 @@ returns c = λ answer g.
     let e = c.from.ensures in
     let le = c.if-self-from.false in
     let lt = c.requires.more in
-    numbers_begin x _ answer (get_or c.as_slice.result.now x.inner.pos 0) c.from-2.result g c.requires.array (sym (ap (λ (t : List ℕ). get_or t x.inner.pos 0) c.as_slice.ensures.value)) (same ∙ c.free_width-width.ensures.value) (omega arith)
+    numbers_begin x _ answer (get_or c.as_slice.result.now x.inner.pos 0) c.from-2.result g c.requires.array (sym (ap (λ (t : List ℕ). get_or t x.inner.pos 0) c.as_slice.ensures.value)) (λ t e. same ∙ c.free_width-width.ensures.value t e) (omega arith)
     (subst (λ (v : ℕ). gap_to v x.offset ≡ 0) (sym same) aligned) (omega arith)

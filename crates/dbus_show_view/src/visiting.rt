@@ -1,0 +1,154 @@
+//! Values as text, from where they stand. D-Bus Specification, "Marshaling (Wire Format)".
+#![tactic(auto)]
+
+ghost use Rattle.std.specs.Prelude.{◌≡◌, ◌==◌, map};
+ghost use Rattle.dbus_show.specs.ShownValues.{value_text, joined};
+ghost use Rattle.dbus_show_view.specs.Visits.{close_text, part_text, Shows, Opens, Stays};
+ghost use Rattle.dbus_show_view.specs.VisitLaws.{none_shown, more_shown, whole_shown};
+
+use crate::numbers::write_number_at;
+use crate::shower::Shower;
+use crate::texts::{text_in, write_coded, write_types};
+use dbus_show::write_hex;
+use dbus_walk::{Container, Run, Source, Spot, Visitor};
+use std::alloc::Allocator;
+use std::convert::Infallible;
+
+impl<A: Allocator> Visitor for Shower<'_, '_, A> {
+    type One = ();
+
+    type Many = ();
+
+    type Stop = Infallible;
+
+    ghost ready = { λ _ _. Unit {0} };
+
+    ghost strokes = { λ code. code == 121 };
+
+    ghost one = { λ s _ _ v _ t. Shows s (value_text v) t };
+
+    ghost many = { λ s _ _ _ xs _ t. Shows s (joined (map value_text xs)) t };
+
+    ghost opens = { λ s _ _ v _ t. Opens s v t };
+
+    ghost closes = { λ s _ v _ t. Shows s (close_text v) t };
+
+    ghost parted = { λ s is_first t. Shows s (part_text is_first) t };
+
+    ghost pushes = { λ s _ _ _ t. Stays s t };
+
+    #[inline]
+    fn at_one_stroke(code: u8) -> bool
+        ensures { result ≡ (code == 121) }
+    {
+        code == b'y'
+    }
+
+    #[inline]
+    fn number(
+        &mut self,
+        source: &Source<'_>,
+        spot: &Spot<'_>,
+        start: usize,
+        _size: u8,
+    ) -> Result<(), Infallible> {
+        let code = spot.types[0];
+        self.draft.push_code(code);
+        self.draft.push_code(b':');
+        write_number_at(self.draft, source.bytes, start, source.order, code);
+        Ok(())
+    }
+
+    #[inline]
+    fn long_text(
+        &mut self,
+        source: &Source<'_>,
+        spot: &Spot<'_>,
+        start: usize,
+        size: usize,
+    ) -> Result<(), Infallible> {
+        write_coded(
+            self.draft,
+            spot.types[0],
+            text_in(source.bytes, start + 4, size),
+        );
+        Ok(())
+    }
+
+    #[inline]
+    fn short_text(
+        &mut self,
+        source: &Source<'_>,
+        spot: &Spot<'_>,
+        size: usize,
+    ) -> Result<(), Infallible> {
+        write_coded(self.draft, b'g', text_in(source.bytes, spot.at + 1, size));
+        Ok(())
+    }
+
+    #[inline]
+    fn numbers(
+        &mut self,
+        source: &Source<'_>,
+        spot: &Spot<'_>,
+        run: Run,
+    ) -> Result<(), Infallible> {
+        write_types(self.draft, spot.types);
+        self.draft.push_code(b':');
+        write_hex(self.draft, &source.bytes[run.first..run.end]);
+        Ok(())
+    }
+
+    #[inline]
+    fn open_array(
+        &mut self,
+        _source: &Source<'_>,
+        spot: &Spot<'_>,
+        _start: usize,
+    ) -> Result<(), Infallible> {
+        write_types(self.draft, spot.types);
+        self.draft.push_code(b':');
+        self.draft.push_code(b'[');
+        Ok(())
+    }
+
+    #[inline]
+    fn open(&mut self, kind: Container, _length: usize) -> Result<(), Infallible> {
+        match kind {
+            Container::Variant => self.draft.push_code(b'<'),
+            Container::Array => {}
+            Container::Struct => self.draft.push_code(b'('),
+            Container::Entry => self.draft.push_code(b'{'),
+        }
+        Ok(())
+    }
+
+    #[inline]
+    fn close(&mut self, kind: Container, _gathered: (), _length: usize) -> Result<(), Infallible> {
+        self.draft.push_code(match kind {
+            Container::Variant => b'>',
+            Container::Array => b']',
+            Container::Struct => b')',
+            Container::Entry => b'}',
+        });
+        Ok(())
+    }
+
+    #[inline]
+    fn part(&mut self, is_first: bool, _length: usize) {
+        self.draft.push_str(if is_first { "" } else { ", " });
+    }
+
+    #[inline]
+    fn push(&mut self, _gathered: (), _made: (), _length: usize) -> Result<(), Infallible> {
+        Ok(())
+    }
+
+    ghost none = { λ s _ _ _. none_shown s };
+
+    ghost more = { λ s before parted taken after _ _ _ _ _ _ _ done v first between _ second stays.
+        more_shown s before parted taken after done v first between second stays };
+
+    ghost whole = { λ s opened filled after _ _ _ kind _ _ v xs is_of opens has many closes.
+        whole_shown s opened filled after kind v xs is_of opens has many closes };
+}

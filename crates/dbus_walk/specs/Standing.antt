@@ -1,0 +1,73 @@
+-- Values as they stand among a message's bytes.
+-- D-Bus Specification, "Marshaling (Wire Format)".
+use Rattle.std.specs.Prelude.{◌≡◌, ℕ, ◌+◌, ◌<◌, ◌≤◌, ◌^◌, List, ◌++◌, length, drop, true}
+use Rattle.dbus_texts.specs.Types.{TypeTree, sig, sigs, IsShaped, AreShaped}
+use Rattle.dbus_value_model.specs.declared.order.Order.{Order}
+use Rattle.dbus_value_model.specs.Spelling.{spelling, spellings, IsWithinLimits, AreWithinLimits}
+use Rattle.dbus_value_model.specs.Values.{ValueTree, ValueTrees, type_of, types_of, AllOf, IsWellFormed, AreWellFormed}
+use Rattle.dbus_walk.specs.declared.spot.Source.{Source}
+use Rattle.dbus_walk.specs.declared.spot.Spot.{Spot}
+
+-- A value whose type has this text stands in the bytes from an offset on, and rest are the bytes after it. So many containers may
+-- be open in it, and the length of each array in it fits into its four bytes.
+pub record Stands (order : Order) (room : ℕ) (types : List ℕ) (at : ℕ) (bytes : List ℕ) (v : ValueTree) (rest : List ℕ) : Type 0 where
+  pub text : sig (type_of v) ≡ types
+  pub shaped : IsShaped true (type_of v)
+  pub formed : IsWellFormed room v
+  pub array : ℕ
+  pub small : array < 256 ^ 4
+  pub within : IsWithinLimits array order at v
+  pub spelled : drop at bytes ≡ spelling order at v ++ rest
+
+-- it stands at this spot
+abbrev pub StandsAt : Source → Spot → ValueTree → (rest : List ℕ) → Type 0
+StandsAt source spot v rest = Stands source.order spot.room spot.types.now spot.at source.bytes.now v rest
+
+-- some value does
+abbrev pub StandsThere : Source → Spot → Type 0
+StandsThere source spot = (v : ValueTree) × (rest : List ℕ) × StandsAt source spot v rest
+
+-- the offset after it
+abbrev pub end_of : Source → Spot → ValueTree → ℕ
+end_of source spot v = spot.at + length (spelling source.order spot.at v)
+
+-- values whose types have this text stand in the bytes, one after another
+pub record AllStand (order : Order) (room : ℕ) (types : List ℕ) (at : ℕ) (bytes : List ℕ) (vs : ValueTrees) (rest : List ℕ) : Type 0 where
+  pub text : sigs (types_of vs) ≡ types
+  pub shaped : AreShaped (types_of vs)
+  pub formed : AreWellFormed room vs
+  pub array : ℕ
+  pub small : array < 256 ^ 4
+  pub within : AreWithinLimits array order at vs
+  pub spelled : drop at bytes ≡ spellings order at vs ++ rest
+  pub inside : at ≤ length bytes
+
+abbrev pub AllStandAt : Source → Spot → ValueTrees → (rest : List ℕ) → Type 0
+AllStandAt source spot vs rest = AllStand source.order spot.room spot.types.now spot.at source.bytes.now vs rest
+
+abbrev pub AllStandThere : Source → Spot → Type 0
+AllStandThere source spot = (vs : ValueTrees) × (rest : List ℕ) × AllStandAt source spot vs rest
+
+-- the offset after them
+abbrev pub end_of_all : Source → Spot → ValueTrees → ℕ
+end_of_all source spot vs = spot.at + length (spellings source.order spot.at vs)
+
+-- elements whose one type has this text stand in the bytes, one after another, up to an end
+pub record ElementsStand (order : Order) (room : ℕ) (types : List ℕ) (at end : ℕ) (bytes : List ℕ) (vs : ValueTrees) (rest : List ℕ) : Type 0 where
+  pub type : TypeTree
+  pub text : sig type ≡ types
+  pub shaped : IsShaped true type
+  pub all : AllOf type vs
+  pub formed : AreWellFormed room vs
+  pub array : ℕ
+  pub small : array < 256 ^ 4
+  pub within : AreWithinLimits array order at vs
+  pub spelled : drop at bytes ≡ spellings order at vs ++ rest
+  pub ends : end ≡ at + length (spellings order at vs)
+  pub inside : at ≤ length bytes
+
+abbrev pub ElementsStandAt : Source → Spot → (end : ℕ) → ValueTrees → (rest : List ℕ) → Type 0
+ElementsStandAt source spot end vs rest = ElementsStand source.order spot.room spot.types.now spot.at end source.bytes.now vs rest
+
+abbrev pub ElementsStandThere : Source → Spot → (end : ℕ) → Type 0
+ElementsStandThere source spot end = (vs : ValueTrees) × (rest : List ℕ) × ElementsStandAt source spot end vs rest

@@ -1,0 +1,19 @@
+//! Values walked where they stand in bytes that were judged.
+//!
+//! One walk goes along the bytes and hands what stands there to a visitor: a number, a text, the opening and the closing of a
+//! container. The visitor says what it makes of each. The walk itself takes no memory and refuses nothing.
+#![tactic(auto)]
+
+mod container;
+mod numbers;
+mod skip;
+mod spot;
+mod visitor;
+mod walk;
+
+pub use container::Container;
+pub use numbers::number_width;
+pub use skip::{Skip, skip_value};
+pub use spot::{Run, Source, Spot};
+pub use visitor::Visitor;
+pub use walk::{walk_value, walk_values};

@@ -1,0 +1,134 @@
+//! Values passed over. D-Bus Specification, "Marshaling (Wire Format)".
+#![tactic(auto)]
+
+ghost use Rattle.std.specs.Prelude.{◌≡◌, ℕ, List, true};
+ghost use Rattle.dbus_value_model.specs.Values.{ValueTree};
+ghost use Rattle.dbus_walk.specs.Standing.{StandsAt, StandsThere, end_of};
+
+use crate::container::Container;
+use crate::spot::{Run, Source, Spot};
+use crate::visitor::Visitor;
+use crate::walk::walk_value;
+use std::convert::Infallible;
+
+/// Makes nothing of the values that it visits.
+#[derive(Clone, Copy)]
+pub struct Skip;
+
+impl Visitor for Skip {
+    type One = ();
+
+    type Many = ();
+
+    type Stop = Infallible;
+
+    ghost ready = { λ _ _. Unit {0} };
+
+    ghost strokes = { λ _. true };
+
+    ghost one = { λ _ _ _ _ _ _. Unit {0} };
+
+    ghost many = { λ _ _ _ _ _ _ _. Unit {0} };
+
+    ghost opens = { λ _ _ _ _ _ _. Unit {0} };
+
+    ghost closes = { λ _ _ _ _ _. Unit {0} };
+
+    ghost parted = { λ _ _ _. Unit {0} };
+
+    ghost pushes = { λ _ _ _ _ _. Unit {0} };
+
+    #[inline]
+    fn at_one_stroke(_code: u8) -> bool {
+        true
+    }
+
+    #[inline]
+    fn number(
+        &mut self,
+        _source: &Source<'_>,
+        _spot: &Spot<'_>,
+        _start: usize,
+        _size: u8,
+    ) -> Result<(), Infallible> {
+        Ok(())
+    }
+
+    #[inline]
+    fn long_text(
+        &mut self,
+        _source: &Source<'_>,
+        _spot: &Spot<'_>,
+        _start: usize,
+        _size: usize,
+    ) -> Result<(), Infallible> {
+        Ok(())
+    }
+
+    #[inline]
+    fn short_text(
+        &mut self,
+        _source: &Source<'_>,
+        _spot: &Spot<'_>,
+        _size: usize,
+    ) -> Result<(), Infallible> {
+        Ok(())
+    }
+
+    #[inline]
+    fn numbers(
+        &mut self,
+        _source: &Source<'_>,
+        _spot: &Spot<'_>,
+        _run: Run,
+    ) -> Result<(), Infallible> {
+        Ok(())
+    }
+
+    #[inline]
+    fn open_array(
+        &mut self,
+        _source: &Source<'_>,
+        _spot: &Spot<'_>,
+        _start: usize,
+    ) -> Result<(), Infallible> {
+        Ok(())
+    }
+
+    #[inline]
+    fn open(&mut self, _kind: Container, _length: usize) -> Result<(), Infallible> {
+        Ok(())
+    }
+
+    #[inline]
+    fn close(&mut self, _kind: Container, _gathered: (), _length: usize) -> Result<(), Infallible> {
+        Ok(())
+    }
+
+    #[inline]
+    fn part(&mut self, _is_first: bool, _length: usize) {}
+
+    #[inline]
+    fn push(&mut self, _gathered: (), _made: (), _length: usize) -> Result<(), Infallible> {
+        Ok(())
+    }
+
+    ghost none = { λ _ _ _ _. tt };
+
+    ghost more = { λ _ _ _ _ _ _ _ _ _ _ _ _ _ _ _ _ _ _ _. tt };
+
+    ghost whole = { λ _ _ _ _ _ _ _ _ _ _ _ _ _ _ _ _ _. tt };
+}
+
+/// The offset after the value that stands at a spot.
+pub fn skip_value(source: &Source<'_>, spot: &Spot<'_>) -> usize
+    requires stands { StandsThere source.now spot.now }
+    ensures { (v : ValueTree) (rest : List ℕ) → StandsAt source.now spot.now v rest →
+        result ≡ end_of source.now spot.now v }
+{
+    let mut skip = Skip;
+    match walk_value(&mut skip, source, spot) {
+        Ok((_, after)) => after,
+        Err(never) => match never {},
+    }
+}

@@ -1,0 +1,209 @@
+//! What takes the values that a walk comes to.
+#![tactic(auto)]
+
+ghost use Rattle.std.specs.Prelude.{◌≡◌, ℕ, ◌+◌, ◌<◌, ◌∷◌, ◌⊎◌, List, [], ◌++◌, length, take, drop, slice_index, Bool, true, false, IfOk};
+ghost use Rattle.dbus_texts.specs.Types.{TypeTree};
+ghost use Rattle.dbus_types.specs.Alignments.{alignment_of};
+ghost use Rattle.dbus_types.specs.SignatureCodes.{first_code};
+ghost use Rattle.dbus_value_model.specs.Bytes.{gap_to};
+ghost use Rattle.dbus_value_model.specs.Reading.{number_of};
+ghost use Rattle.dbus_value_model.specs.declared.order.Order.{Order};
+ghost use Rattle.dbus_value_model.specs.Spelling.{spellings};
+ghost use Rattle.dbus_value_model.specs.Values.{ValueTree, ValueTrees, value_trees};
+ghost use Rattle.dbus_walk.specs.Widths.{number_width};
+ghost use Rattle.dbus_walk.specs.Standing.{StandsAt, StandsThere};
+ghost use Rattle.dbus_walk.specs.declared.container.Container.{Container};
+ghost use Rattle.dbus_walk.specs.declared.container.Container.TheVariants.{Array};
+ghost use Rattle.dbus_walk.specs.Containers.{IsOf, inside, parts, is_none};
+
+use crate::container::Container;
+use crate::spot::{Run, Source, Spot};
+use dbus_value_model::Order;
+
+/// What takes the values that a walk comes to, and makes something of each.
+///
+/// Each method is handed a value where it stands, or says what stands around values. Its relations say what each of them makes,
+/// and its three laws say that this adds up: to what is made of several values, and of a container.
+pub trait Visitor {
+    /// What it makes of a value.
+    type One: Drop;
+
+    /// What it gathers of several values.
+    type Many: Drop;
+
+    /// Why it stops the walk.
+    type Stop: Drop;
+
+    // It can take the values of a message of so many bytes.
+    ghost ready: { Self → ℕ → Type 0 };
+
+    // It takes arrays of the numbers whose type has this code whole, and not number by number.
+    ghost strokes: { ℕ → Bool };
+
+    // What it makes of a value that stands at an offset.
+    ghost one: { Self → Order → ℕ → ValueTree → Self.One → Self → Type 0 };
+
+    // What it gathers of values that stand one after another from an offset on: what was gathered before them, and after.
+    ghost many: { Self → Self.Many → Order → ℕ → List ValueTree → Self.Many → Self → Type 0 };
+
+    // A container opens: what is gathered of its parts at first.
+    ghost opens: { Self → Order → ℕ → ValueTree → Self.Many → Self → Type 0 };
+
+    // A container closes: what it makes of the container by what was gathered of the parts.
+    ghost closes: { Self → Self.Many → ValueTree → Self.One → Self → Type 0 };
+
+    // A part comes next, the first one or a later one.
+    ghost parted: { Self → Bool → Self → Type 0 };
+
+    // What it made of a part is gathered.
+    ghost pushes: { Self → Self.Many → Self.One → Self.Many → Self → Type 0 };
+
+    /// Whether it takes an array of numbers, whose type has this code, at one stroke: by `numbers`, and not number by number.
+    fn at_one_stroke(code: u8) -> bool
+        ensures { result ≡ strokes code };
+
+    /// Takes a number of `size` bytes, which begins at `start`.
+    fn number(
+        &mut self,
+        source: &Source<'_>,
+        spot: &Spot<'_>,
+        start: usize,
+        size: u8,
+    ) -> Result<Self::One, Self::Stop>
+        requires ready { ready self.old (length source.now.bytes.now) }
+        requires stands { StandsThere source.now spot.now }
+        requires some { 0 < size }
+        requires wide { (t : TypeTree) → first_code t ≡ slice_index spot.now.types.now 0 →
+            size ≡ number_width t }
+        requires begins { start ≡ spot.now.at + gap_to size spot.now.at }
+        ensures ready { ready self.new (length source.now.bytes.now) }
+        ensures takes { (v : ValueTree) (rest : List ℕ) → StandsAt source.now spot.now v rest →
+            IfOk result (λ r. one self.old source.now.order spot.now.at v r self.new) };
+
+    /// Takes a STRING or an OBJECT_PATH of `size` bytes. Its length stands at `start`.
+    fn long_text(
+        &mut self,
+        source: &Source<'_>,
+        spot: &Spot<'_>,
+        start: usize,
+        size: usize,
+    ) -> Result<Self::One, Self::Stop>
+        requires ready { ready self.old (length source.now.bytes.now) }
+        requires stands { StandsThere source.now spot.now }
+        requires code { (slice_index spot.now.types.now 0 ≡ 115) ⊎ (slice_index spot.now.types.now 0 ≡ 111) }
+        requires begins { start ≡ spot.now.at + gap_to 4 spot.now.at }
+        requires counts { size ≡ number_of source.now.order (take 4 (drop start source.now.bytes.now)) }
+        ensures ready { ready self.new (length source.now.bytes.now) }
+        ensures takes { (v : ValueTree) (rest : List ℕ) → StandsAt source.now spot.now v rest →
+            IfOk result (λ r. one self.old source.now.order spot.now.at v r self.new) };
+
+    /// Takes a SIGNATURE of `size` bytes. Its length stands where it begins.
+    fn short_text(
+        &mut self,
+        source: &Source<'_>,
+        spot: &Spot<'_>,
+        size: usize,
+    ) -> Result<Self::One, Self::Stop>
+        requires ready { ready self.old (length source.now.bytes.now) }
+        requires stands { StandsThere source.now spot.now }
+        requires code { slice_index spot.now.types.now 0 ≡ 103 }
+        requires counts { size ≡ slice_index source.now.bytes.now spot.now.at }
+        ensures ready { ready self.new (length source.now.bytes.now) }
+        ensures takes { (v : ValueTree) (rest : List ℕ) → StandsAt source.now spot.now v rest →
+            IfOk result (λ r. one self.old source.now.order spot.now.at v r self.new) };
+
+    /// Takes an array of numbers at one stroke.
+    fn numbers(
+        &mut self,
+        source: &Source<'_>,
+        spot: &Spot<'_>,
+        run: Run,
+    ) -> Result<Self::One, Self::Stop>
+        requires ready { ready self.old (length source.now.bytes.now) }
+        requires stands { StandsThere source.now spot.now }
+        requires code { slice_index spot.now.types.now 0 ≡ 97 }
+        requires stroke { strokes (slice_index spot.now.types.now 1) ≡ true }
+        requires some { 0 < run.size }
+        requires wide { (t : TypeTree) → first_code t ≡ slice_index spot.now.types.now 1 →
+            run.size ≡ number_width t }
+        requires begins { run.start ≡ spot.now.at + gap_to 4 spot.now.at }
+        requires parts { (t : TypeTree) → first_code t ≡ slice_index spot.now.types.now 1 →
+            run.first ≡ run.start + 4 + gap_to (alignment_of t) (run.start + 4) }
+        requires ends { run.end ≡
+            run.first + number_of source.now.order (take 4 (drop run.start source.now.bytes.now)) }
+        ensures ready { ready self.new (length source.now.bytes.now) }
+        ensures takes { (v : ValueTree) (rest : List ℕ) → StandsAt source.now spot.now v rest →
+            IfOk result (λ r. one self.old source.now.order spot.now.at v r self.new) };
+
+    /// Opens an array whose elements come one by one. Its length stands at `start`.
+    fn open_array(
+        &mut self,
+        source: &Source<'_>,
+        spot: &Spot<'_>,
+        start: usize,
+    ) -> Result<Self::Many, Self::Stop>
+        requires ready { ready self.old (length source.now.bytes.now) }
+        requires stands { StandsThere source.now spot.now }
+        requires code { slice_index spot.now.types.now 0 ≡ 97 }
+        requires listed { (t : TypeTree) → first_code t ≡ slice_index spot.now.types.now 1 →
+            (number_width t ≡ 0) ⊎ (strokes (slice_index spot.now.types.now 1) ≡ false) }
+        requires begins { start ≡ spot.now.at + gap_to 4 spot.now.at }
+        ensures ready { ready self.new (length source.now.bytes.now) }
+        ensures takes { (v : ValueTree) (rest : List ℕ) → StandsAt source.now spot.now v rest →
+            IfOk result (λ r. opens self.old source.now.order spot.now.at v r self.new) };
+
+    /// Opens a variant, a struct or a dict entry of a message of `length` bytes.
+    fn open(&mut self, kind: Container, length: usize) -> Result<Self::Many, Self::Stop>
+        requires ready { ready self.old length }
+        requires kind { kind ≡ Array → ⊥ }
+        ensures ready { ready self.new length }
+        ensures takes { (order : Order) (at : ℕ) (v : ValueTree) → IsOf kind v →
+            IfOk result (λ r. opens self.old order at v r self.new) };
+
+    /// Closes a container, of whose parts this was gathered.
+    fn close(
+        &mut self,
+        kind: Container,
+        gathered: Self::Many,
+        length: usize,
+    ) -> Result<Self::One, Self::Stop>
+        requires ready { ready self.old length }
+        ensures ready { ready self.new length }
+        ensures takes { (v : ValueTree) → IsOf kind v →
+            IfOk result (λ r. closes self.old gathered v r self.new) };
+
+    /// Says that a part of a container, or one of several values, comes next.
+    fn part(&mut self, is_first: bool, length: usize)
+        requires ready { ready self.old length }
+        ensures ready { ready self.new length }
+        ensures takes { parted self.old is_first self.new };
+
+    /// Gathers what was made of a part.
+    fn push(
+        &mut self,
+        gathered: Self::Many,
+        made: Self::One,
+        length: usize,
+    ) -> Result<Self::Many, Self::Stop>
+        requires ready { ready self.old length }
+        ensures ready { ready self.new length }
+        ensures takes { IfOk result (λ r. pushes self.old gathered made r self.new) };
+
+    // No values change nothing.
+    ghost none: { (s : Self) (m : Self.Many) (order : Order) (at : ℕ) → many s m order at [] m s };
+
+    // Values, and one value more.
+    ghost more: { (s before between taken after : Self) (m gathered later : Self.Many)
+        (r : Self.One) (order : Order) (at place : ℕ) (done : List ValueTree) (v : ValueTree) →
+        many s m order at done gathered before → parted before (is_none done) between →
+        place ≡ at + length (spellings order at (value_trees done)) →
+        one between order place v r taken → pushes taken gathered r later after →
+        many s m order at (done ++ v ∷ []) later after };
+
+    // A container: its parts, between its opening and its closing.
+    ghost whole: { (s opened filled after : Self) (m gathered : Self.Many) (r : Self.One)
+        (kind : Container) (order : Order) (at : ℕ) (v : ValueTree) (xs : List ValueTree) →
+        IsOf kind v → opens s order at v m opened → parts v ≡ value_trees xs →
+        many opened m order (inside order at v) xs gathered filled →
+        closes filled gathered v r after → one s order at v r after };
+}
