@@ -9,7 +9,8 @@ use Rattle.dbus_judge.specs.declared.judging.Judged.{Judged}
 use Rattle.dbus_judge.specs.Judging.{IsJudgedWhole}
 use Rattle.dbus_stream.specs.declared.read_fault.ReadFault.{ReadFault}
 use Rattle.dbus_stream.specs.declared.read_fault.ReadFault.TheVariants.{Memory, Format, Device, TooManyReads}
-use Rattle.dbus_stream.specs.Next.{RisesBy, IsCutShort}
+use Rattle.dbus_device.specs.Device.{RisesBy}
+use Rattle.dbus_stream.specs.Next.{IsCutShort}
 use Rattle.dbus_raw_reader.specs.declared.raw_reader.RawReader.{RawReader}
 use Rattle.dbus_raw_reader.specs.Reading.{limits_of, kept, lent_of, source_of, done_of, reads_of, most_reads_of, is_ended, stopped_of}
 

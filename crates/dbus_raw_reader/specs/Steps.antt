@@ -5,7 +5,7 @@ use Rattle.dbus_decode.specs.MessageOutcomes.{IsRefused, IsPartial}
 use Rattle.dbus_judge.specs.declared.judging.Judged.{Judged}
 use Rattle.dbus_stream.specs.declared.read_fault.ReadFault.{ReadFault}
 use Rattle.dbus_stream.specs.declared.read_fault.ReadFault.TheVariants.{Memory, Format, Device, TooManyReads}
-use Rattle.dbus_stream.specs.declared.device_fault.DeviceFault.{DeviceFault}
+use Rattle.dbus_device.specs.declared.device_fault.DeviceFault.{DeviceFault}
 use Rattle.dbus_stream.specs.Next.{IsCutShort}
 use Rattle.dbus_raw_reader.specs.declared.raw_reader.RawReader.{RawReader}
 use Rattle.dbus_raw_reader.specs.Reading.{limits_of, kept, lent_of, source_of, done_of, is_ended, stopped_of}

@@ -50,7 +50,7 @@ impl<R: Source, A: Allocator + Copy> RawReader<R, A> {
     ghost use Rattle.dbus_value_model.specs.Specification.{specification};
     ghost use Rattle.dbus_decode.specs.MessageOutcomes.{IsPartial};
     ghost use Rattle.dbus_stream.specs.declared.read_fault.ReadFault.{ReadFault};
-    ghost use Rattle.dbus_stream.specs.Device.{ReadCounts, one_more};
+    ghost use Rattle.dbus_device.specs.Device.{ReadCounts, one_more};
     ghost use Rattle.dbus_stream.specs.Next.{DeviceCounts};
     ghost use Rattle.dbus_raw_reader.specs.Reading.{limits_of, kept, lent_of, source_of, done_of, reads_of, most_reads_of, stopped_of, IsNewReader};
     ghost use Rattle.dbus_raw_reader.specs.Next.{Advances, NextAnswers, KeptAnswers, Reads, ReadsNothing};

@@ -7,8 +7,7 @@ use Rattle.dbus_decode.specs.MessageOutcomes.{IsWhole, IsRefused, IsPartial}
 use Rattle.dbus_stream.specs.declared.check_reader.CheckReader.{CheckReader}
 use Rattle.dbus_stream.specs.declared.read_fault.ReadFault.{ReadFault}
 use Rattle.dbus_stream.specs.declared.read_fault.ReadFault.TheVariants.{Memory, Format, Device, TooManyReads}
-use Rattle.dbus_stream.specs.Device.{one_more}
-use Rattle.dbus_stream.specs.Next.{RisesBy}
+use Rattle.dbus_device.specs.Device.{one_more, RisesBy}
 use Rattle.dbus_check.specs.Checks.{Stands}
 use Rattle.dbus_stream.specs.CheckReading.{limits_of, source_of, done_of, reads_of, most_reads_of, is_ended, stopped_of, Keeps}
 use Rattle.dbus_stream.specs.CheckNext.{CheckAnswers, Reads, GivesLength, ReadsNothing}

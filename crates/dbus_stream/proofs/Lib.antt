@@ -1,5 +1,4 @@
 pub mod Lists
-pub mod WriteSteps
 pub mod NextSteps
 pub mod CheckNextSteps
 pub mod CutLaws

@@ -11,10 +11,10 @@ use Rattle.dbus_message_model.specs.MessageViews.{message_tree}
 use Rattle.dbus_stream.specs.declared.message_reader.MessageReader.{MessageReader}
 use Rattle.dbus_stream.specs.declared.read_fault.ReadFault.{ReadFault}
 use Rattle.dbus_stream.specs.declared.read_fault.ReadFault.TheVariants.{Memory, Format, Device, TooManyReads}
-use Rattle.dbus_stream.specs.Device.{one_more}
+use Rattle.dbus_device.specs.Device.{one_more, RisesBy}
 use Rattle.dbus_stream.specs.Reader.{limits_of, kept, source_of, done_of, reads_of, most_reads_of, is_ended, stopped_of}
 use Rattle.dbus_stream.specs.Lasting.{is_lasting}
-use Rattle.dbus_stream.specs.Next.{NextAnswers, KeptAnswers, DeviceCounts, Reads, RisesBy, KeepsAll, GivesMessage, IsCutShort, ReadsNothing}
+use Rattle.dbus_stream.specs.Next.{NextAnswers, KeptAnswers, DeviceCounts, Reads, KeepsAll, GivesMessage, IsCutShort, ReadsNothing}
 use Rattle.dbus_stream.specs.Steps.{TakesKept, KeepsOn, Finishes, GivesUp, FillsBy, FillsNone}
 
 -- a count that rose by k rises once more

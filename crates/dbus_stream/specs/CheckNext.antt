@@ -9,7 +9,8 @@ use Rattle.dbus_stream.specs.declared.check_reader.CheckReader.{CheckReader}
 use Rattle.dbus_stream.specs.declared.read_fault.ReadFault.{ReadFault}
 use Rattle.dbus_stream.specs.declared.read_fault.ReadFault.TheVariants.{Memory, Format, Device, TooManyReads}
 use Rattle.dbus_stream.specs.CheckReading.{limits_of, source_of, done_of, reads_of, most_reads_of, is_ended, stopped_of, Keeps}
-use Rattle.dbus_stream.specs.Next.{RisesBy, IsCutShort}
+use Rattle.dbus_device.specs.Device.{RisesBy}
+use Rattle.dbus_stream.specs.Next.{IsCutShort}
 
 -- what a call read where w was kept, and that it counted it
 pub record Reads {R : Type 0} (left : R → Option (List ℕ)) (calls : R → ℕ) (w : List ℕ) (old new : CheckReader R) : Type 0 where

@@ -8,7 +8,7 @@ use Rattle.dbus_decode.specs.MessageOutcomes.{IsWhole, IsRefused, IsPartial}
 use Rattle.dbus_stream.specs.declared.check_reader.CheckReader.{CheckReader}
 use Rattle.dbus_stream.specs.declared.read_fault.ReadFault.{ReadFault}
 use Rattle.dbus_stream.specs.declared.read_fault.ReadFault.TheVariants.{Memory, Format, Device, TooManyReads}
-use Rattle.dbus_stream.specs.declared.device_fault.DeviceFault.{DeviceFault}
+use Rattle.dbus_device.specs.declared.device_fault.DeviceFault.{DeviceFault}
 use Rattle.dbus_stream.specs.Cut.{truncated}
 use Rattle.dbus_stream.specs.CheckReading.{limits_of, source_of, done_of, is_ended, stopped_of}
 use Rattle.dbus_stream.specs.CheckNext.{KeepsAll, GivesLength}

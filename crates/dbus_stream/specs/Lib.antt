@@ -1,6 +1,4 @@
 pub mod Lasting
-pub mod Device
-pub mod From
 pub mod Write
 pub mod Cut
 pub mod Reader

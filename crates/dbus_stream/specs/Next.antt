@@ -10,12 +10,9 @@ use Rattle.dbus_decode.specs.MessageOutcomes.{IsWhole, IsRefused, IsPartial}
 use Rattle.dbus_stream.specs.declared.message_reader.MessageReader.{MessageReader}
 use Rattle.dbus_stream.specs.declared.read_fault.ReadFault.{ReadFault}
 use Rattle.dbus_stream.specs.declared.read_fault.ReadFault.TheVariants.{Memory, Format, Device, TooManyReads}
+use Rattle.dbus_device.specs.Device.{RisesBy}
 use Rattle.dbus_stream.specs.Cut.{truncated}
 use Rattle.dbus_stream.specs.Reader.{limits_of, kept, source_of, done_of, reads_of, most_reads_of, is_ended, stopped_of}
-
--- a count, modulo 2^64, rises by k
-abbrev pub RisesBy : ℕ → ℕ → ℕ → Type 0
-RisesBy k old new = new % 2 ^ 64 ≡ (old + k) % 2 ^ 64
 
 -- what a call read, and that it counted it
 pub record Reads {R A : Type 0} (left : R → Option (List ℕ)) (calls : R → ℕ) (old new : MessageReader R A) : Type 0 where

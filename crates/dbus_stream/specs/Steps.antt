@@ -7,7 +7,7 @@ use Rattle.dbus_decode.specs.MessageOutcomes.{IsRefused, IsPartial}
 use Rattle.dbus_stream.specs.declared.message_reader.MessageReader.{MessageReader}
 use Rattle.dbus_stream.specs.declared.read_fault.ReadFault.{ReadFault}
 use Rattle.dbus_stream.specs.declared.read_fault.ReadFault.TheVariants.{Memory, Format, Device, TooManyReads}
-use Rattle.dbus_stream.specs.declared.device_fault.DeviceFault.{DeviceFault}
+use Rattle.dbus_device.specs.declared.device_fault.DeviceFault.{DeviceFault}
 use Rattle.dbus_stream.specs.Reader.{limits_of, kept, source_of, is_ended, stopped_of}
 use Rattle.dbus_stream.specs.Next.{KeepsAll, GivesMessage, IsCutShort}
 

@@ -1,25 +1,8 @@
--- What a write of several calls did.
-use Rattle.std.specs.Prelude.{◌≡◌, ◌≤◌, ℕ, List, length, take, Option, Result, Ok, Err}
-use Rattle.std.specs.Io.KnownBytes.{Appends}
-use Rattle.dbus_stream.specs.Device.{one_more}
+-- What a write of a message did.
+use Rattle.std.specs.Prelude.{◌≡◌, ℕ, List, Option, Result, Ok, Err}
+use Rattle.dbus_device.specs.Write.{Wrote, Stopped}
 use Rattle.dbus_stream.specs.declared.write_fault.WriteFault.{WriteFault}
 use Rattle.dbus_stream.specs.declared.write_fault.WriteFault.TheVariants.{Memory, Device}
-use Rattle.dbus_stream.specs.declared.writing.WrittenOnly.{WrittenOnly}
-
--- all the bytes were written, and no call failed
-pub record Wrote {W : Type 0} (held : W → Option (List ℕ)) (failures : W → ℕ) (old : W) (bytes : List ℕ) (new : W) : Type 0 where
-  pub appended : Appends (held old) (held new) bytes
-  pub failed : failures new ≡ failures old
-
--- the first n bytes were written, and then a call failed or took none
-pub record Stopped {W : Type 0} (held : W → Option (List ℕ)) (failures : W → ℕ) (old : W) (bytes : List ℕ) (n : ℕ) (new : W) : Type 0 where
-  pub within : n ≤ length bytes
-  pub appended : Appends (held old) (held new) (take n bytes)
-  pub failed : failures new ≡ one_more (failures old)
-
-abbrev pub WritesAll : {W : Type 0} → (W → Option (List ℕ)) → (W → ℕ) → W → List ℕ → W → Result (Unit {0}) WrittenOnly → Type 0
-WritesAll held failures old bytes new (Ok x) = Wrote held failures old bytes new
-WritesAll held failures old bytes new (Err n) = Stopped held failures old bytes n.0 new
 
 -- nothing is written for want of memory
 abbrev pub WritesMessage : {W : Type 0} → (W → Option (List ℕ)) → (W → ℕ) → W → List ℕ → W → Result (Unit {0}) WriteFault → Type 0

@@ -4,11 +4,10 @@ ghost use Rattle.dbus_check.specs.Checks as checks;
 ghost use Rattle.dbus_stream.specs.Checked.{HasTaken};
 ghost use Rattle.dbus_stream.specs.Lasting.{is_lasting};
 
-use crate::device_fault::DeviceFault;
 use crate::read_fault::ReadFault;
 use crate::reads::MOST_READS;
-use crate::source::Source;
 use dbus_check::{Check, Checker};
+use dbus_device::{DeviceFault, Source};
 use dbus_judge::judge;
 use dbus_value::{Fault, Limits, Reason};
 
@@ -55,7 +54,7 @@ impl<R: Source> CheckReader<R> {
     ghost use Rattle.dbus_stream.specs.CheckNext.{CheckAnswers, Reads, ReadsNothing};
     ghost use Rattle.dbus_stream.specs.Next.{DeviceCounts};
     ghost use Rattle.dbus_stream.specs.CheckReadSteps.{LiesWhole, TakesKept, HoldsAll, IsDrained, Fills, Finishes, GivesUp};
-    ghost use Rattle.dbus_stream.specs.Device.{ReadCounts, one_more};
+    ghost use Rattle.dbus_device.specs.Device.{ReadCounts, one_more};
 
     /// A reader as [`CheckReader::within`] makes it, of at most 2^32 reads and under the limits of the specification.
     pub fn new(source: R) -> Self

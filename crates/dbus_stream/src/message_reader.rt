@@ -3,11 +3,10 @@ ghost use Rattle.std.specs.Prelude.{◌≡◌, ◌≤◌, ◌<◌, ◌+◌, ◌*
 ghost use Rattle.dbus_stream.specs.Lasting.{is_lasting};
 
 use crate::cutter::Cutter;
-use crate::device_fault::DeviceFault;
 use crate::read_fault::ReadFault;
 use crate::reads::MOST_READS;
-use crate::source::Source;
 use crate::stream_fault::StreamFault;
+use dbus_device::{DeviceFault, Source};
 use dbus_message::Message;
 use dbus_value::{Fault, Limits, Order, Reason};
 use std::alloc::{Allocator, Global};
@@ -47,7 +46,7 @@ impl<R: Source, A: Allocator + Copy> MessageReader<R, A> {
     ghost use Rattle.dbus_stream.specs.Next.{NextAnswers, KeptAnswers, DeviceCounts, Reads, ReadsNothing};
     ghost use Rattle.dbus_stream.specs.Steps.{TakesKept, IsDrained, Fills, Finishes, GivesUp};
     ghost use Rattle.dbus_decode.specs.MessageOutcomes.{IsPartial};
-    ghost use Rattle.dbus_stream.specs.Device.{ReadCounts, one_more};
+    ghost use Rattle.dbus_device.specs.Device.{ReadCounts, one_more};
 
     /// A reader as [`MessageReader::within`] makes it, of at most 2^32 reads and under the limits of the specification.
     pub fn new(alloc: A, source: R) -> Self

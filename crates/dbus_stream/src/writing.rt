@@ -1,40 +1,14 @@
-//! Bytes and messages to a sink.
+//! Messages to a sink.
 ghost use Rattle.std.specs.Prelude.{◌≡◌};
 ghost use Rattle.dbus_message_model.specs.Messages.{message_bytes};
 ghost use Rattle.dbus_message_model.specs.MessageViews.{message_tree};
-ghost use Rattle.dbus_stream.specs.Write.{WritesAll, WritesMessage};
+ghost use Rattle.dbus_stream.specs.Write.{WritesMessage};
 
-use crate::sink::Sink;
 use crate::write_fault::WriteFault;
+use dbus_device::{Sink, WrittenOnly, write_all};
 use dbus_message::{Message, encode};
 use dbus_value::Order;
 use std::alloc::Allocator;
-
-/// Only this many of the first bytes were written.
-#[derive(Clone, Copy, Debug, PartialEq, Eq)]
-pub struct WrittenOnly(pub usize);
-
-/// Writes all the bytes, in as many calls as the sink takes.
-///
-/// `WrittenOnly`: a call failed or took none, and the bytes before it went out. Then the sink is not called again.
-pub fn write_all<W: Sink>(sink: &mut W, bytes: &[u8]) -> Result<(), WrittenOnly>
-    ensures writes { WritesAll W.held W.failures sink.old bytes.now sink.new result }
-    ensures same_reference { W.reference sink.new ≡ W.reference sink.old }
-{
-    let mut rest = bytes;
-    'writing: while !rest.is_empty() {
-        match sink.write(rest) {
-            Ok(count) => {
-                if count == 0 {
-                    return Err(WrittenOnly(bytes.len() - rest.len()));
-                }
-                rest = &rest[count..];
-            }
-            Err(_) => return Err(WrittenOnly(bytes.len() - rest.len())),
-        }
-    }
-    Ok(())
-}
 
 /// Writes the bytes that spell the message in this order.
 ///

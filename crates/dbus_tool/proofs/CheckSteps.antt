@@ -1,6 +1,6 @@
 -- What a write of a line that stopped comes to.
 use Rattle.std.proofs.Common.{◌≡◌, ℕ, List, Option, take, drop, sym, ◌∙◌, take-append-drop}
-use Rattle.dbus_stream.specs.Write.{Stopped}
+use Rattle.dbus_device.specs.Write.{Stopped}
 use Rattle.dbus_tool.specs.Checking.{WritesPrefix}
 use Rattle.dbus_tool.specs.declared.ending.Cause.TheVariants.{WriteFailed}
 

@@ -8,7 +8,7 @@ use Rattle.dbus_decode.specs.MessageOutcomes.{IsWhole, IsRefused, IsPartial}
 use Rattle.dbus_decode.proofs.OutcomeLaws.{whole_inside}
 use Rattle.dbus_judge.specs.declared.judging.Judged.{Judged}
 use Rattle.dbus_stream.specs.Cut.{CutMessage, BeginWith, Ended, Unfinished, Refused, truncated, sizes}
-use Rattle.dbus_stream.specs.Next.{RisesBy}
+use Rattle.dbus_device.specs.Device.{RisesBy}
 use Rattle.dbus_raw_reader.specs.Next.{Reads, Advances, Lends, KeepsAll}
 use Rattle.dbus_raw_reader.specs.Reading.{IsNewReader, limits_of, kept, source_of, done_of, reads_of, most_reads_of, is_ended, stopped_of}
 use Rattle.dbus_raw_reader.specs.declared.raw_reader.RawReader.{RawReader}

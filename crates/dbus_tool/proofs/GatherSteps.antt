@@ -2,8 +2,8 @@
 use Rattle.std.proofs.Common.{◌≡◌, ℕ, List, [], ◌++◌, Option, take, drop, refl, sym, ap, ◌∙◌, subst, append_assoc, append-nil, take-append-drop}
 use Rattle.std.specs.Io.KnownBytes.{Appends}
 use Rattle.std.proofs.KnownBytes.{Appends-nil, Appends-trans}
-use Rattle.dbus_stream.specs.Device.{one_more}
-use Rattle.dbus_stream.specs.Write.{Wrote, Stopped}
+use Rattle.dbus_device.specs.Device.{one_more}
+use Rattle.dbus_device.specs.Write.{Wrote, Stopped}
 use Rattle.dbus_tool.specs.Gathering.{Passes, Breaks}
 
 module _ {W : Type 0} (held : W → Option (List ℕ)) (failures : W → ℕ) where

@@ -4,7 +4,8 @@ use Rattle.std.specs.Io.KnownBytes.{Consumes}
 use Rattle.dbus_decode.specs.MessageOutcomes.{IsWhole, IsRefused, IsPartial}
 use Rattle.dbus_judge.specs.declared.judging.Judged.{Judged}
 use Rattle.dbus_judge.specs.Judging.{IsJudgedWhole}
-use Rattle.dbus_stream.specs.Next.{RisesBy, IsCutShort, DeviceCounts}
+use Rattle.dbus_device.specs.Device.{RisesBy}
+use Rattle.dbus_stream.specs.Next.{IsCutShort, DeviceCounts}
 use Rattle.dbus_stream.specs.declared.read_fault.ReadFault.{ReadFault}
 use Rattle.dbus_stream.specs.declared.read_fault.ReadFault.TheVariants as read
 use Rattle.dbus_raw_reader.specs.Next.{Reads, ReadsNothing, KeepsAll, Lends, Advances, KeptAnswers}

@@ -2,9 +2,9 @@
 use Rattle.std.proofs.Common.{◌≡◌, ℕ, List, [], ◌++◌, Ok, Err, Option, Result, length, sym, ap, ◌∙◌, subst, arith, append_assoc, append-nil, inl, inr}
 use Rattle.std.specs.Io.KnownBytes.{Appends}
 use Rattle.std.proofs.KnownBytes.{Appends-trans}
-use Rattle.dbus_stream.specs.Device.{one_more}
+use Rattle.dbus_device.specs.Device.{one_more}
 use Rattle.dbus_stream.specs.Cut.{CutMessage, IsCut, CutOutcome, fault_at_end, sizes}
-use Rattle.dbus_stream.specs.Write.{Wrote}
+use Rattle.dbus_device.specs.Write.{Wrote}
 use Rattle.dbus_stream.proofs.CutLaws.{BeginWith-first, IsCut-one}
 use Rattle.dbus_value_model.specs.declared.limits.Limits.{Limits}
 use Rattle.dbus_command.specs.declared.command.Command.{Command}

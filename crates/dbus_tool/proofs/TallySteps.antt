@@ -5,9 +5,9 @@ use Rattle.std.proofs.KnownBytes.{Consumes-nil, Consumes-trans}
 use Rattle.dbus_value_model.specs.declared.fault.Fault.{Fault}
 use Rattle.dbus_value_model.specs.declared.limits.Limits.{Limits}
 use Rattle.dbus_decode.specs.MessageOutcomes.{IsWhole, IsRefused, IsPartial}
-use Rattle.dbus_stream.specs.Device.{one_more}
+use Rattle.dbus_device.specs.Device.{one_more, RisesBy}
 use Rattle.dbus_stream.specs.Cut.{CutMessage, BeginWith, Ended, Unfinished, Refused, sizes}
-use Rattle.dbus_stream.specs.Next.{RisesBy, DeviceCounts}
+use Rattle.dbus_stream.specs.Next.{DeviceCounts}
 use Rattle.dbus_stream.specs.CheckReading.{limits_of, source_of, done_of, reads_of, most_reads_of, is_ended, stopped_of, Keeps}
 use Rattle.dbus_stream.specs.CheckNext.{Reads, CheckAnswers, GivesLength}
 use Rattle.dbus_stream.specs.declared.check_reader.CheckReader.{CheckReader}

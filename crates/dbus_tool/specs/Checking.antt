@@ -5,9 +5,8 @@ use Rattle.std.specs.Io.KnownBytes.{Appends, Consumes, IsAtEnd}
 use Rattle.dbus_value_model.specs.declared.fault.Fault.{Fault}
 use Rattle.dbus_value_model.specs.declared.limits.Limits.{Limits}
 use Rattle.dbus_decode.specs.MessageOutcomes.{IsPartial}
-use Rattle.dbus_stream.specs.Device.{one_more}
-use Rattle.dbus_stream.specs.Next.{RisesBy}
-use Rattle.dbus_stream.specs.Write.{Wrote}
+use Rattle.dbus_device.specs.Device.{one_more, RisesBy}
+use Rattle.dbus_device.specs.Write.{Wrote}
 use Rattle.dbus_stream.specs.Cut.{CutMessage, BeginWith, IsCut, CutOutcome, Refused, fault_at_end, sizes}
 use Rattle.dbus_command.specs.declared.command.Command.{Command}
 use Rattle.dbus_tool.specs.Output.{IsOutputOfAll, IsFirstOutput, second_output, status_of, IsPrefixTo}

@@ -3,7 +3,7 @@ use Rattle.std.specs.Prelude.{◌≡◌, ◌⊎◌, ℕ, List, ◌++◌, Option}
 use Rattle.std.specs.Io.KnownBytes.{Appends}
 use Rattle.dbus_value_model.specs.declared.fault.Fault.{Fault}
 use Rattle.dbus_command.specs.declared.command.Command.{Command}
-use Rattle.dbus_stream.specs.Write.{Wrote}
+use Rattle.dbus_device.specs.Write.{Wrote}
 use Rattle.dbus_tool.specs.Output.{last_line, second_output, status_of, IsPrefixTo}
 use Rattle.dbus_tool.specs.Checking.{IsWriteCause, WritesPrefix}
 use Rattle.dbus_tool.specs.Devices.{Writing}

@@ -1,7 +1,7 @@
 -- Bytes that are gathered before they are written. g0 and g1 are what is gathered before and after.
 use Rattle.std.specs.Prelude.{◌≡◌, ℕ, List, [], ◌++◌, Option, Result, Ok, Err}
 use Rattle.std.specs.Io.KnownBytes.{Appends}
-use Rattle.dbus_stream.specs.Device.{one_more}
+use Rattle.dbus_device.specs.Device.{one_more}
 use Rattle.dbus_tool.specs.Output.{IsPrefixTo}
 use Rattle.dbus_tool.specs.declared.gathering.Unwritten.{Unwritten}
 use Rattle.dbus_tool.specs.declared.ending.Cause.{Cause}

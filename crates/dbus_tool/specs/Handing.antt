@@ -7,9 +7,9 @@ use Rattle.dbus_value_model.specs.declared.order.Order.{Order}
 use Rattle.dbus_message_model.specs.Messages.{MessageTree}
 use Rattle.dbus_decode.specs.MessageOutcomes.{IsPartial}
 use Rattle.dbus_judge.specs.declared.judging.Judged.{Judged}
-use Rattle.dbus_stream.specs.Device.{one_more}
+use Rattle.dbus_device.specs.Device.{one_more, RisesBy}
 use Rattle.dbus_stream.specs.Cut.{CutMessage, BeginWith}
-use Rattle.dbus_stream.specs.Next.{RisesBy, DeviceCounts}
+use Rattle.dbus_stream.specs.Next.{DeviceCounts}
 use Rattle.dbus_raw_reader.specs.Next.{Reads, Advances}
 use Rattle.dbus_raw_reader.specs.Reading.{kept, source_of}
 use Rattle.dbus_raw_reader.specs.declared.raw_reader.RawReader.{RawReader}

@@ -4,8 +4,7 @@ use Rattle.std.specs.Prelude.{◌≡◌, ℕ, List, [], false, Option, None, Res
 use Rattle.std.specs.Io.KnownBytes.{Consumes}
 use Rattle.dbus_value_model.specs.declared.limits.Limits.{Limits}
 use Rattle.dbus_decode.specs.MessageOutcomes.{IsPartial}
-use Rattle.dbus_stream.specs.Device.{one_more}
-use Rattle.dbus_stream.specs.Next.{RisesBy}
+use Rattle.dbus_device.specs.Device.{one_more, RisesBy}
 use Rattle.dbus_stream.specs.Cut.{CutMessage, BeginWith}
 use Rattle.dbus_stream.specs.CheckReading.{done_of, reads_of, is_ended, stopped_of, Keeps}
 use Rattle.dbus_stream.specs.declared.check_reader.CheckReader.{CheckReader}

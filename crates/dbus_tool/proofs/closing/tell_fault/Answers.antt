@@ -1,5 +1,5 @@
 use Rattle.std.proofs.Common.{◌≡◌, ◌∙◌, ◌+◌, subst, List, ℕ, inl, refl}
-use Rattle.dbus_stream.specs.Write.{Wrote}
+use Rattle.dbus_device.specs.Write.{Wrote}
 use Rattle.dbus_tool.specs.Lines.{refused_line}
 use Rattle.dbus_tool.proofs.closing.tell_fault.Goals as goal
 

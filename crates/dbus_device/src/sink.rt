@@ -2,7 +2,7 @@
 ghost use Rattle.std.specs.Prelude.{◌≡◌, ◌≤◌, ℕ, List, length, IfOk, Option, Some};
 ghost use Rattle.std.specs.Io.KnownBytes.{WriteAppends};
 ghost use Rattle.std.specs.Borrow.{GName};
-ghost use Rattle.dbus_stream.specs.Device.{WriteCounts};
+ghost use Rattle.dbus_device.specs.Device.{WriteCounts};
 
 use crate::device_fault::DeviceFault;
 

@@ -1,7 +1,7 @@
 -- What a clause reads of a reader or a writer of std's that is made a device.
 use Rattle.std.specs.Prelude.{ℕ}
-use Rattle.dbus_stream.specs.declared.from_read.FromRead.{FromRead}
-use Rattle.dbus_stream.specs.declared.from_write.FromWrite.{FromWrite}
+use Rattle.dbus_device.specs.declared.from_read.FromRead.{FromRead}
+use Rattle.dbus_device.specs.declared.from_write.FromWrite.{FromWrite}
 
 abbrev pub reader_of : {R : Type 0} → FromRead R → R
 reader_of s = s.reader

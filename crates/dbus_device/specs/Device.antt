@@ -5,6 +5,10 @@ use Rattle.std.specs.Prelude.{◌≡◌, ℕ, ◌+◌, ◌^◌, ◌%◌, Result,
 abbrev pub one_more : ℕ → ℕ
 one_more n = (n + 1) % 2 ^ 64
 
+-- a count of calls, modulo 2^64, rises by k
+abbrev pub RisesBy : ℕ → ℕ → ℕ → Type 0
+RisesBy k old new = new % 2 ^ 64 ≡ (old + k) % 2 ^ 64
+
 -- a read counts as failed exactly where it failed
 abbrev pub ReadCounts : {T E : Type 0} → ℕ → ℕ → Result T E → Type 0
 ReadCounts old new (Ok n) = new ≡ old

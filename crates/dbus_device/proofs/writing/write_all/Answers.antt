@@ -1,8 +1,8 @@
 use Rattle.std.proofs.Common.{subst, sym, ◌∙◌}
 use Rattle.std.proofs.lemmas.List.{take_rest}
-use Rattle.dbus_stream.specs.declared.device_fault.DeviceFault.{DeviceFault}
-use Rattle.dbus_stream.proofs.WriteSteps.{WritesUpTo, more_written}
-use Rattle.dbus_stream.proofs.writing.write_all.Goals as goal
+use Rattle.dbus_device.specs.declared.device_fault.DeviceFault.{DeviceFault}
+use Rattle.dbus_device.proofs.WriteSteps.{WritesUpTo, more_written}
+use Rattle.dbus_device.proofs.writing.write_all.Goals as goal
 
 pub writing-preserved : goal.writing-preserved
 writing-preserved g c =

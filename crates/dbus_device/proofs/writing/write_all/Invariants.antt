@@ -1,6 +1,6 @@
 use Rattle.std.proofs.Common.{◌≡◌, length}
-use Rattle.dbus_stream.proofs.WriteSteps.{WritesUpTo}
-use Rattle.dbus_stream.proofs.writing.write_all.Given as goal
+use Rattle.dbus_device.proofs.WriteSteps.{WritesUpTo}
+use Rattle.dbus_device.proofs.writing.write_all.Given as goal
 
 abbrev pub invariant-writing : goal.invariant-writing
 invariant-writing g l =

@@ -2,7 +2,7 @@
 ghost use Rattle.std.specs.Prelude.{◌≡◌, ◌≤◌, ℕ, List, length, IfOk, Option, Some};
 ghost use Rattle.std.specs.Io.KnownBytes.{ReadConsumes};
 ghost use Rattle.std.specs.Borrow.{GName};
-ghost use Rattle.dbus_stream.specs.Device.{one_more, ReadCounts};
+ghost use Rattle.dbus_device.specs.Device.{one_more, ReadCounts};
 
 use crate::device_fault::DeviceFault;
 

@@ -3,8 +3,8 @@ use Rattle.std.proofs.Common.{◌≡◌, ◌≢◌, ℕ, zero, suc, ◌-◌, ◌
 use Rattle.std.proofs.Math.Seq.{take-append_seam}
 use Rattle.std.specs.Io.KnownBytes.{Appends, Keeps}
 use Rattle.std.proofs.KnownBytes.{Appends-nil, Appends-trans, Appends-kept}
-use Rattle.dbus_stream.specs.Device.{one_more, WriteCounts}
-use Rattle.dbus_stream.specs.Write.{Wrote, Stopped}
+use Rattle.dbus_device.specs.Device.{one_more, WriteCounts}
+use Rattle.dbus_device.specs.Write.{Wrote, Stopped}
 
 -- the prefix of the bytes was written, and the rest is left
 pub record WritesUpTo {W : Type 0} (held : W → Option (List ℕ)) (failures : W → ℕ) (old : W) (bytes rest : List ℕ) (now : W) : Type 0 where
