@@ -1,13 +1,11 @@
 -- The known fields of a message, and where their values stand.
-use Rattle.std.proofs.Common.{◌≡◌, ℕ, zero, suc, Bool, true, false, cond, eqb, List, [], ◌∷◌, map, Option, Some, None, slice_index_or, refl, sym, ap, subst, ◌∙◌, arith}
+use Rattle.std.proofs.Common.{◌≡◌, ℕ, zero, suc, Bool, true, false, cond, eqb, List, [], ◌∷◌, map, Option, Some, None, slice_index_or, refl, sym, ap, subst, ◌∙◌}
 use Rattle.std.proofs.lemmas.Bool.{eqb-true}
-use Rattle.dbus_texts.specs.Kinds.{IsKind}
-use Rattle.dbus_texts.specs.declared.text_kind.TextKind.TheVariants.{Signature}
-use Rattle.dbus_texts.specs.Types.{TextCode, STRING, SIGNATURE, UINT32, NumberType, TextType, VariantType, ArrayType, StructType, EntryType, NoTypes}
+use Rattle.dbus_texts.specs.Types.{TextCode, STRING, UINT32, NumberType, TextType, VariantType, ArrayType, StructType, EntryType}
 use Rattle.dbus_value_model.specs.Measures.{coded}
-use Rattle.dbus_value_model.specs.Values.{ValueTree, NumberValue, TextValue, IsWellFormed, AreWellFormed, type_of, value_trees}
+use Rattle.dbus_value_model.specs.Values.{ValueTree, NumberValue, TextValue, IsWellFormed, AreWellFormed, value_trees}
 use Rattle.dbus_message_model.specs.Lookups.{field_value}
-use Rattle.dbus_message_model.specs.Messages.{FieldTree, Want, Anything, OfType, Name, Serial, want, is_particular, is_known, Suits, AreFields, field_struct, field_array, text_in, number_in, body_signature}
+use Rattle.dbus_message_model.specs.Messages.{FieldTree, Want, Anything, OfType, Name, Serial, want, is_particular, is_known, Suits, AreFields, field_struct, field_array, text_in, number_in}
 use Rattle.dbus_message_model.proofs.TextValues.{text_of}
 use Rattle.dbus_judge.specs.Seen.{AreNoted, IsNotedOf, StandsAt}
 use Rattle.dbus_judge.specs.declared.seen.Place.{Place}
@@ -79,33 +77,6 @@ text_known Anything wants = absurd wants
 text_known (OfType t) wants = refl
 text_known (Name k) wants = refl
 text_known Serial wants = refl
-
--- ---- the signature of the body
-
-abbrev text_or_none : Option ValueTree → List ℕ
-text_or_none None = []
-text_or_none (Some v) = text_in v
-
-signature_is : (fs : List FieldTree) → body_signature fs ≡ text_or_none (field_value 8 fs)
-signature_is [] = refl
-signature_is (f ∷ fs) = elim (eqb f.code 8) as (λ b. cond b (text_in f.value) (body_signature fs) ≡ text_or_none (cond b (Some f.value) (field_value 8 fs))) [ true ↦ refl | false ↦ signature_is fs ]
-
-signature_kind : (v : ValueTree) (r : ℕ) → type_of v ≡ TextType SIGNATURE → IsWellFormed r v → IsKind Signature (text_in v)
-signature_kind v r typed formed =
-    let u = text_of SIGNATURE v typed in
-    subst (λ (t : List ℕ). IsKind Signature t) (sym (ap text_in u.1)) (subst (λ (x : ValueTree). IsWellFormed r x) u.1 formed).0
-
-no_types : IsKind Signature []
-no_types = ((NoTypes, tt, refl), omega arith)
-
-pub signed : (depth : ℕ) (fs : List FieldTree) → AreFields [] fs → IsWellFormed depth (field_array fs) → IsKind Signature (body_signature fs)
-signed depth fs are formed = go (field_value 8 fs) refl
-  where
-    go : (o : Option ValueTree) → field_value 8 fs ≡ o → IsKind Signature (body_signature fs)
-    go None is = subst (λ (t : List ℕ). IsKind Signature t) (sym (signature_is fs ∙ ap text_or_none is)) no_types
-    go (Some v) is =
-        let f = formed_of depth 8 fs formed v is in
-        subst (λ (t : List ℕ). IsKind Signature t) (sym (signature_is fs ∙ ap text_or_none is)) (signature_kind v f.0 (suits_of 8 [] fs are v is) f.1)
 
 -- ---- and as a number
 

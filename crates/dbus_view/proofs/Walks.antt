@@ -1,21 +1,20 @@
--- The values of a body, as the code passes them over.
-use Rattle.std.proofs.Common.{◌≡◌, ℕ, zero, suc, ◌+◌, ◌-◌, ◌<◌, ◌≤◌, List, ◌++◌, length, take, drop, get_or, true, Some, None, refl, sym, ap, subst, ◌∙◌, arith, append_assoc}
-use Rattle.std.proofs.lemmas.List.{length-append, length-drop, take_at, drop_at, drop-drop, drop_more}
-use Rattle.dbus_texts.specs.Types.{TypeTree, TypeTrees, MoreTypes, sig, sigs, IsShaped, AreShaped}
+-- The values of a body, as they are passed over.
+use Rattle.std.proofs.Common.{◌≡◌, ℕ, zero, suc, ◌+◌, ◌-◌, ◌<◌, ◌≤◌, List, [], ◌++◌, length, take, drop, get_or, Some, None, refl, sym, ap, subst, ◌∙◌, arith}
+use Rattle.std.proofs.lemmas.List.{length-append}
+use Rattle.dbus_texts.specs.Types.{TypeTree, TypeTrees, MoreTypes, sig, sigs}
 use Rattle.dbus_texts.proofs.TypeTexts.{sig_positive}
-use Rattle.dbus_value_model.specs.declared.limits.Bounds.{Bounds}
 use Rattle.dbus_value_model.specs.declared.order.Order.{Order}
-use Rattle.dbus_value_model.specs.Reading as reading
-use Rattle.dbus_value_model.specs.Spelling.{Spelled, SpelledAll, spelling, spellings}
+use Rattle.dbus_value_model.specs.Spelling.{spelling, spellings}
 use Rattle.dbus_value_model.specs.Values.{ValueTree, ValueTrees, NoValues, MoreValues, type_of, types_of}
 use Rattle.dbus_message_model.specs.Lookups.{body_value}
-use Rattle.dbus_unmarshal.proofs.ValueSteps.{shaped_inside}
 use Rattle.dbus_types.specs.SignatureCodes.{first_code, IsTypeEnd}
-use Rattle.dbus_value_judge.specs.Endings.{IsSpelledTo, IsNotSpelled}
-use Rattle.dbus_value_judge.proofs.Spelled.{value_spelled_read}
 use Rattle.dbus_types.proofs.TypeCodes.{begins}
-use Rattle.dbus_view.specs.Bodies.{AreBody, StandsThere, first_values, value_start}
-use Rattle.dbus_view.specs.declared.values.Spot.{Spot}
+use Rattle.dbus_walk.specs.Standing.{Stands, AllStand, AllStandAt}
+use Rattle.dbus_walk.proofs.Walks.{Left, NextValue, next_value}
+use Rattle.dbus_walk.specs.declared.spot.Source.{Source}
+use Rattle.dbus_walk.specs.declared.spot.Spot.{Spot}
+use Rattle.dbus_view.specs.Bodies.{IsFirst, StandsThere, first_values, value_start}
+use Rattle.dbus_view.specs.declared.values.Found.{Found}
 
 none_in : (n : ℕ) → body_value n NoValues ≡ None
 none_in zero = refl
@@ -42,122 +41,64 @@ next_start order at (suc n) (MoreValues y ys) x e =
     let next = at + length (spelling order at y) in
     after_first order at (suc n) y ys ∙ next_start order next n ys x e ∙ ap (λ (o : ℕ). o + length (spelling order o x)) (sym (after_first order at n y ys))
 
-module _ (bounds : Bounds) (order : Order) (room at : ℕ) (bytes types : List ℕ) (xs : ValueTrees) where
-  -- k values are passed over, up to a place and a type, and the rest are left
-  pub record Walked (k place pos : ℕ) : Type 0 where
-    pub rest : ValueTrees
-    pub numbered : (i : ℕ) → body_value (k + i) xs ≡ body_value i rest
-    pub begins : place ≡ value_start order at k xs
-    pub shaped : AreShaped (types_of rest)
-    pub text : sigs (types_of rest) ≡ drop pos types
-    pub spelled : SpelledAll bounds order room place (drop place bytes) rest (length bytes) (drop (length bytes) bytes)
+-- the first of some types begins with the first code
+pub code_of : (t : TypeTree) (us : TypeTrees) (types : List ℕ) → sigs (MoreTypes t us) ≡ types → first_code t ≡ get_or types 0 0
+code_of t us types text = ap (λ (s : List ℕ). get_or s 0 0) (ap (λ (s : List ℕ). s ++ sigs us) (sym (begins t)) ∙ text)
 
-  pub walked_none : AreBody bounds order room at bytes types xs → Walked 0 at 0
+-- no values have no types
+pub none_left : (xs : ValueTrees) (types : List ℕ) → sigs (types_of xs) ≡ types → length types ≡ 0 → xs ≡ NoValues
+none_left NoValues types text none = refl
+none_left (MoreValues x us) types text none = absurd (omega (arith, ap length text, none, length-append (sig (type_of x)) (sigs (types_of us)), sig_positive (type_of x)))
+
+module _ (source : Source) (spot : Spot) (next : ℕ) (some : 0 < length spot.types.now) (is : IsTypeEnd spot.types.now 0 next) (xs : ValueTrees) (rest : List ℕ) (all : AllStandAt source spot xs rest) where
+  abbrev left : Left source.order spot.at xs (λ q us. AllStand source.order spot.room (drop 0 spot.types.now) q source.bytes.now us rest) (λ done. Unit {0}) spot.at
+  left = record { us = xs; keeps = all; done = []; joins = refl; ends = refl; walked = tt }
+
+  pub first : NextValue spot.types.now 0 left next
+  first = next_value spot.types.now 0 left next some is
+
+  pub first_stands : Stands source.order spot.room (take next spot.types.now) spot.at source.bytes.now first.v (spellings source.order (spot.at + length (spelling source.order spot.at first.v)) first.us ++ rest)
+  first_stands =
+      let e : next - 0 ≡ next = omega arith in
+      subst (λ (k : ℕ). Stands source.order spot.room (take k spot.types.now) spot.at source.bytes.now first.v (spellings source.order (spot.at + length (spelling source.order spot.at first.v)) first.us ++ rest)) e first.stands
+
+  pub first_coded : first_code (type_of first.v) ≡ get_or spot.types.now 0 0
+  first_coded =
+      let e : xs ≡ MoreValues first.v first.us = first.begins in
+      code_of (type_of first.v) (types_of first.us) spot.types.now (ap (λ (u : ValueTrees). sigs (types_of u)) (sym e) ∙ all.text)
+
+module _ (source : Source) (at : ℕ) (xs : ValueTrees) (rest : List ℕ) where
+  -- k values are passed over, and the others are left, at a spot
+  pub record Passed (k : ℕ) (left : Spot) : Type 0 where
+    pub us : ValueTrees
+    pub numbered : (i : ℕ) → body_value (k + i) xs ≡ body_value i us
+    pub begins : left.at ≡ value_start source.order at k xs
+    pub stand : AllStandAt source left us rest
+
+  pub none_passed : (spot : Spot) → spot.at ≡ at → AllStandAt source spot xs rest → Passed 0 spot
   unfolding spelling
-  walked_none h = record { rest = xs; numbered = λ i. ap (λ (n : ℕ). body_value n xs) (omega arith); begins = omega arith; shaped = h.shaped; text = h.signature; spelled = h.spelled }
+  none_passed spot here all = record { us = xs; numbered = λ i. ap (λ (n : ℕ). body_value n xs) (omega arith); begins = omega (arith, here); stand = all }
 
-  -- the first value of those that are left
-  pub record Front (k place pos next : ℕ) : Type 0 where
-    pub x : ValueTree
-    pub others : ValueTrees
-    pub numbered : (i : ℕ) → body_value (k + i) xs ≡ body_value i (MoreValues x others)
-    pub one : sig (type_of x) ≡ take (next - pos) (drop pos types)
-    pub code : first_code (type_of x) ≡ get_or types pos 0
-    pub after : ℕ
-    pub shaped : IsShaped true (type_of x)
-    pub spelled : Spelled bounds order room (length bytes) (type_of x) place (drop place bytes) x after (drop after bytes)
-    pub others_shaped : AreShaped (types_of others)
-    pub others_text : sigs (types_of others) ≡ drop next types
-    pub others_spelled : SpelledAll bounds order room after (drop after bytes) others (length bytes) (drop (length bytes) bytes)
+  module _ (k : ℕ) (left : Spot) (p : Passed k left) where
+    -- none are left
+    pub all_passed : (n : ℕ) → p.us ≡ NoValues → k ≤ n → body_value n xs ≡ None
+    all_passed n none le = ap (λ (i : ℕ). body_value i xs) (omega arith) ∙ p.numbered (n - k) ∙ ap (λ (u : ValueTrees). body_value (n - k) u) none ∙ none_in (n - k)
 
-  module _ (k place pos next : ℕ) (lt : pos < length types) (is : IsTypeEnd types pos next) where
-    front_is : (t : TypeTree) (us : TypeTrees) → sigs (MoreTypes t us) ≡ drop pos types → (sig t ≡ take (next - pos) (drop pos types)) × (sigs us ≡ drop next types)
-    front_is t us text =
-        let there : next ≡ pos + length (sig t) = is t (sigs us) (sym text) in
-        let long : next - pos ≡ length (sig t) = omega arith in
-        let front : take (length (sig t)) (drop pos types) ≡ sig t = ap (take (length (sig t))) (sym text) ∙ take_at (sig t) (sigs us) (length (sig t)) refl in
-        let here : sig t ≡ take (next - pos) (drop pos types) = sym front ∙ ap (λ (m : ℕ). take m (drop pos types)) (sym long) in
-        let rest : drop (length (sig t)) (drop pos types) ≡ sigs us = ap (drop (length (sig t))) (sym text) ∙ drop_at (sig t) (sigs us) (length (sig t)) refl in
-        (here, sym rest ∙ drop-drop (length (sig t)) pos types ∙ ap (λ (m : ℕ). drop m types) (sym there))
+    module _ (s : Found) (others : Spot) (f : IsFirst source left p.us rest s others) where
+      number : body_value k xs ≡ Some f.x
+      number = ap (λ (n : ℕ). body_value n xs) (omega arith) ∙ p.numbered 0 ∙ ap (λ (u : ValueTrees). body_value 0 u) f.begins
 
-    code_there : (t : TypeTree) (us : TypeTrees) → sigs (MoreTypes t us) ≡ drop pos types → first_code t ≡ get_or types pos 0
-    code_there t us text =
-        let first = begins t in
-        let there = drop_more types pos 0 lt in
-        let both = ap (λ (s : List ℕ). s ++ sigs us) (sym first) ∙ text ∙ there in
-        ap (λ (s : List ℕ). get_or s 0 0) both
+      starts : s.start ≡ value_start source.order at k xs
+      starts = f.starts ∙ p.begins
 
-    first_of : (rest : ValueTrees) → ((i : ℕ) → body_value (k + i) xs ≡ body_value i rest) → AreShaped (types_of rest) → sigs (types_of rest) ≡ drop pos types
-        → SpelledAll bounds order room place (drop place bytes) rest (length bytes) (drop (length bytes) bytes) → Front k place pos next
-    unfolding spelling
-    first_of NoValues numbered shaped text spelled = absurd (omega (arith, ap length text, length-drop pos types))
-    first_of (MoreValues x others) numbered shaped text spelled =
-        let w = front_is (type_of x) (types_of others) text in
-        let one = spelling order place x in
-        let after = place + length one in
-        let more = spellings order after others ++ drop (length bytes) bytes in
-        let here : drop place bytes ≡ one ++ more = spelled.bytes ∙ append_assoc one (spellings order after others) (drop (length bytes) bytes) in
-        let suffix : drop after bytes ≡ more = ap (λ (n : ℕ). drop n bytes) (omega arith) ∙ sym (drop-drop (length one) place bytes) ∙ ap (drop (length one)) here ∙ drop_at one more (length one) refl in
-        let long = length-append one (spellings order after others) in
-        record {
-          x = x;
-          others = others;
-          numbered = numbered;
-          one = w.0;
-          code = code_there (type_of x) (types_of others) text;
-          after = after;
-          shaped = shaped_inside (type_of x) shaped.0;
-          spelled = record { has_type = refl; formed = spelled.formed.0; within = spelled.within.0; indexes = spelled.indexes.0; bytes = here ∙ ap (λ (r : List ℕ). one ++ r) (sym suffix); place = refl; bound = omega (arith, spelled.place, long) };
-          others_shaped = shaped.1;
-          others_text = w.1;
-          others_spelled = record { formed = spelled.formed.1; within = spelled.within.1; indexes = spelled.indexes.1; bytes = suffix; place = omega (arith, spelled.place, long) };
-        }
+      -- the first of them is value k
+      pub first_there : StandsThere source.order source.bytes.now at k xs s
+      first_there = (f.x, number, f.found, starts)
 
-    pub front : Walked k place pos → Front k place pos next
-    front w = first_of w.rest w.numbered w.shaped w.text w.spelled
-
-    module _ (w : Walked k place pos) where
-      abbrev f : Front k place pos next
-      f = front w
-
-      -- a value is judged there, so it is the one that is there
-      pub ends : (are : (i : ℕ) → get_or bytes i 0 < 256) (q : ℕ) → ((t : TypeTree) → sig t ≡ take (next - pos) (drop pos types) → IsShaped true t → IsSpelledTo bounds order room (length bytes) t place bytes q) → q ≡ f.after
-      ends are q judged =
-          let t = type_of f.x in
-          let one = value_spelled_read bounds order room (length bytes) t place q bytes f.shaped are (judged t f.one f.shaped) in
-          let two = value_spelled_read bounds order room (length bytes) t place f.after bytes f.shaped are (f.x, f.spelled) in
-          let e : reading.Done one.0 q (drop q bytes) ≡ reading.Done two.0 f.after (drop f.after bytes) = sym one.1 ∙ two.1 in
-          cc
-
-      -- one is there, so one is judged
-      pub some : ((t : TypeTree) → sig t ≡ take (next - pos) (drop pos types) → IsShaped true t → IsNotSpelled bounds order room (length bytes) t place bytes) → ⊥
-      some none = none (type_of f.x) f.one f.shaped f.after (f.x, f.spelled)
-
-      module _ (q : ℕ) (here : q ≡ f.after) where
-        number : body_value k xs ≡ Some f.x
-        number = ap (λ (n : ℕ). body_value n xs) (omega arith) ∙ f.numbered 0
-
-        pub walked_on : Walked (k + 1) q next
-        walked_on = let more : suc k ≡ k + 1 = omega arith in record {
-          rest = f.others;
-          numbered = λ i. ap (λ (n : ℕ). body_value n xs) (omega arith) ∙ f.numbered (suc i);
-          begins = here ∙ f.spelled.place ∙ ap (λ (o : ℕ). o + length (spelling order o f.x)) w.begins ∙ sym (next_start order at k xs f.x number) ∙ ap (λ (n : ℕ). value_start order at n xs) more;
-          shaped = f.others_shaped;
-          text = f.others_text;
-          spelled = subst (λ (p : ℕ). SpelledAll bounds order room p (drop p bytes) f.others (length bytes) (drop (length bytes) bytes)) (sym here) f.others_spelled;
-        }
-
-        pub found : (s : Spot) → s.start ≡ place → s.after ≡ q → s.code ≡ get_or types pos 0 → StandsThere bounds order room bytes at k xs s
-        found s start after code =
-            let from : Spelled bounds order room (length bytes) (type_of f.x) s.start (drop s.start bytes) f.x f.after (drop f.after bytes) = subst (λ (p : ℕ). Spelled bounds order room (length bytes) (type_of f.x) p (drop p bytes) f.x f.after (drop f.after bytes)) (sym start) f.spelled in
-            let to : Spelled bounds order room (length bytes) (type_of f.x) s.start (drop s.start bytes) f.x s.after (drop s.after bytes) = subst (λ (p : ℕ). Spelled bounds order room (length bytes) (type_of f.x) s.start (drop s.start bytes) f.x p (drop p bytes)) (sym (after ∙ here)) from in
-            (f.x, number, record { spelled = to; code = f.code ∙ sym code }, start ∙ w.begins)
-
-  -- no type is left, and so no value
-  no_more : (k pos n : ℕ) (rest : ValueTrees) → length types ≤ pos → sigs (types_of rest) ≡ drop pos types → ((i : ℕ) → body_value (k + i) xs ≡ body_value i rest) → k ≤ n → body_value n xs ≡ None
-  no_more k pos n NoValues over text numbered le = ap (λ (i : ℕ). body_value i xs) (omega arith) ∙ numbered (n - k) ∙ none_in (n - k)
-  no_more k pos n (MoreValues x others) over text numbered le =
-      absurd (omega (arith, ap length text, length-append (sig (type_of x)) (sigs (types_of others)), sig_positive (type_of x), length-drop pos types))
-
-  pub walked_all : (k place pos n : ℕ) → Walked k place pos → length types ≤ pos → k ≤ n → body_value n xs ≡ None
-  walked_all k place pos n w over le = no_more k pos n w.rest over w.text w.numbered le
+      pub one_passed : Passed (k + 1) others
+      one_passed = let more : suc k ≡ k + 1 = omega arith in record {
+        us = f.us;
+        numbered = λ i. ap (λ (n : ℕ). body_value n xs) (omega arith) ∙ p.numbered (suc i) ∙ ap (λ (u : ValueTrees). body_value (suc i) u) f.begins;
+        begins = f.next ∙ f.found.after ∙ ap (λ (o : ℕ). o + length (spelling source.order o f.x)) starts ∙ sym (next_start source.order at k xs f.x number) ∙ ap (λ (n : ℕ). value_start source.order at n xs) more;
+        stand = f.left;
+      }

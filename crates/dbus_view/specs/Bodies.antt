@@ -1,20 +1,22 @@
 -- The values of a body, and where each stands.
 -- D-Bus Specification, "Message Format", "Marshaling (Wire Format)".
 use Rattle.std.specs.Prelude.{◌≡◌, ℕ, zero, suc, ◌+◌, ◌≤◌, List, length, take, drop, Option, Some, IsUtf8}
-use Rattle.dbus_texts.specs.Types.{STRING, OBJECT_PATH, SIGNATURE, sigs, AreShaped}
+use Rattle.dbus_texts.specs.Types.{STRING, OBJECT_PATH, SIGNATURE}
 use Rattle.dbus_types.specs.Alignments.{length_width}
 use Rattle.dbus_value_model.specs.Bytes.{gap_to}
-use Rattle.dbus_value_model.specs.declared.limits.Bounds.{Bounds}
 use Rattle.dbus_value_model.specs.declared.order.Order.{Order}
-use Rattle.dbus_value_model.specs.Spelling.{Spelled, SpelledAll, spellings}
-use Rattle.dbus_value_model.specs.Values.{ValueTree, ValueTrees, NoValues, MoreValues, TextValue, type_of, types_of}
+use Rattle.dbus_value_model.specs.Spelling.{spelling, spellings}
+use Rattle.dbus_value_model.specs.Values.{ValueTree, ValueTrees, NoValues, MoreValues, TextValue, type_of}
 use Rattle.dbus_types.specs.SignatureCodes.{first_code}
 use Rattle.dbus_message_model.specs.Lookups.{body_value}
 use Rattle.dbus_message_model.specs.Messages.{MessageTree, body_start}
 use Rattle.dbus_view.specs.declared.arg_place.ArgPlace.{ArgPlace}
 use Rattle.dbus_view.specs.declared.arg_view.ArgView.{ArgView}
 use Rattle.dbus_view.specs.declared.arg_view.ArgView.TheVariants as view
-use Rattle.dbus_view.specs.declared.values.Spot.{Spot}
+use Rattle.dbus_view.specs.declared.values.Found.{Found}
+use Rattle.dbus_walk.specs.Standing.{Stands, AllStandAt}
+use Rattle.dbus_walk.specs.declared.spot.Source.{Source}
+use Rattle.dbus_walk.specs.declared.spot.Spot.{Spot}
 
 -- the value is no text, and its type begins with the code
 abbrev pub IsOther : ℕ → ValueTree → Type 0
@@ -60,25 +62,29 @@ IsPlaceThere order m n bytes p =
     (x : ValueTree) × (body_value n m.body ≡ Some x) × (first_code (type_of x) ≡ p.code)
     × IsTextPlace bytes (value_start order (body_start order m.fields) n m.body) x p
 
--- from an offset up to the end the bytes spell the values, whose types have that signature
-pub record AreBody (bounds : Bounds) (order : Order) (room at : ℕ) (bytes types : List ℕ) (xs : ValueTrees) : Type 0 where
-  pub shaped : AreShaped (types_of xs)
-  pub signature : sigs (types_of xs) ≡ types
-  pub spelled : SpelledAll bounds order room at (drop at bytes) xs (length bytes) (drop (length bytes) bytes)
-
 -- a value stands there, and its type begins with the code
-pub record StandsIn (bounds : Bounds) (order : Order) (room : ℕ) (bytes : List ℕ) (x : ValueTree) (s : Spot) : Type 0 where
-  pub spelled : Spelled bounds order room (length bytes) (type_of x) s.start (drop s.start bytes) x s.after (drop s.after bytes)
+pub record IsFound (order : Order) (bytes : List ℕ) (x : ValueTree) (s : Found) : Type 0 where
+  pub room : ℕ
+  pub types : List ℕ
+  pub rest : List ℕ
+  pub stands : Stands order room types s.start bytes x rest
+  pub after : s.after ≡ s.start + length (spelling order s.start x)
   pub code : first_code (type_of x) ≡ s.code
 
--- value n of some that begin at an offset is there, and stands there
-abbrev pub StandsThere : Bounds → Order → (room : ℕ) → List ℕ → (at n : ℕ) → ValueTrees → Spot → Type 0
-StandsThere bounds order room bytes at n xs s =
-    (x : ValueTree) × (body_value n xs ≡ Some x) × StandsIn bounds order room bytes x s × (s.start ≡ value_start order at n xs)
+-- it is the first of some values that stand at a spot, and the others stand at another
+pub record IsFirst (source : Source) (spot : Spot) (xs : ValueTrees) (rest : List ℕ) (s : Found) (others : Spot) : Type 0 where
+  pub x : ValueTree
+  pub us : ValueTrees
+  pub begins : xs ≡ MoreValues x us
+  pub found : IsFound source.order source.bytes.now x s
+  pub starts : s.start ≡ spot.at
+  pub left : AllStandAt source others us rest
+  pub next : others.at ≡ s.after
 
--- under some bounds it does
-abbrev pub StandsSomehow : Order → (room : ℕ) → List ℕ → (at n : ℕ) → ValueTrees → Spot → Type 0
-StandsSomehow order room bytes at n xs s = (bounds : Bounds) × StandsThere bounds order room bytes at n xs s
+-- value n of some that begin at an offset is there, and stands there
+abbrev pub StandsThere : Order → List ℕ → (at n : ℕ) → ValueTrees → Found → Type 0
+StandsThere order bytes at n xs s =
+    (x : ValueTree) × (body_value n xs ≡ Some x) × IsFound order bytes x s × (s.start ≡ value_start order at n xs)
 
 -- a text with its length, in so many bytes, before it, and one byte after it, has those bytes
 pub record IsTextIn (bytes : List ℕ) (width start after : ℕ) (t : List ℕ) : Type 0 where

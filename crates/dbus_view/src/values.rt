@@ -1,22 +1,23 @@
 //! The values of a body, one after another. D-Bus Specification, "Message Format", "Marshaling (Wire Format)".
 #![tactic(auto)]
 
-ghost use Rattle.std.specs.Prelude.{◌≡◌, ◌≤◌, ℕ, List, length, None, MatchOption, IfSome};
-ghost use Rattle.dbus_value_model.specs.Values.{ValueTrees};
+ghost use Rattle.std.specs.Prelude.{◌≡◌, ◌≤◌, ℕ, List, length, None, MatchOption};
+ghost use Rattle.dbus_value_model.specs.Values.{ValueTrees, NoValues};
 ghost use Rattle.dbus_message_model.specs.Lookups.{body_value};
 ghost use Rattle.dbus_message_model.specs.Messages.{body_start};
 ghost use Rattle.dbus_judge.specs.Judging.{IsJudgedWhole};
+ghost use Rattle.dbus_walk.specs.Standing.{AllStandAt, AllStandThere};
 
 use crate::arg_place::ArgPlace;
 use dbus_judge::Judged;
 use dbus_types::type_end;
-use dbus_value_judge::judge_value;
-use dbus_value_model::{Bounds, Limits, Order, padding_length};
+use dbus_value_model::{Limits, padding_length};
+use dbus_walk::{Source, Spot, skip_value};
 use std::str;
 
 /// Where a value of a body stands.
 #[derive(Clone, Copy)]
-pub(crate) struct Spot {
+pub(crate) struct Found {
     /// The offset where it begins, padding with it.
     pub start: usize,
     /// The offset after it.
@@ -25,69 +26,71 @@ pub(crate) struct Spot {
     pub code: u8,
 }
 
-ghost use Rattle.dbus_view.specs.Bodies.{AreBody, StandsThere, StandsSomehow, IsTextIn, IsTextAt};
+ghost use Rattle.dbus_view.specs.Bodies.{IsFirst, StandsThere, IsTextIn, IsTextAt};
 
-/// Where value `n`, counted from 0, stands of the values that `types` spell, which begin at `at` and end with the bytes.
-pub(crate) fn spot_of(
-    bytes: &[u8],
-    at: usize,
-    order: Order,
-    types: &[u8],
-    room: u8,
-    bounds: Bounds,
-    n: usize,
-) -> Option<Spot>
-    requires { at ≤ length bytes.now }
-    ensures { (xs : ValueTrees) → AreBody bounds order room at bytes.now types.now xs →
-        MatchOption result (body_value n xs ≡ None) (λ s.
-        StandsThere bounds order room bytes.now at n xs s) }
+/// Passes over the first of the values that stand at a spot: where it stands, and where the others do. `None` if there are none.
+fn pass<'a>(source: &Source<'_>, spot: &Spot<'a>) -> Option<(Found, Spot<'a>)>
+    requires stand { AllStandThere source.now spot.now }
+    ensures { (xs : ValueTrees) (rest : List ℕ) → AllStandAt source.now spot.now xs rest →
+        MatchOption result (xs ≡ NoValues) (λ r. IsFirst source.now spot.now xs rest r.0 r.1) }
 {
-    let mut place = at;
-    let mut pos = 0;
-    for _number in 0..n {
-        if pos == types.len() {
-            return None;
-        }
-        let next = type_end(types, pos);
-        let one = &types[pos..next];
-        place = judge_value(bytes, place, bytes.len(), order, one, room, bounds)?;
-        pos = next;
-    }
-    if pos == types.len() {
+    if spot.types.is_empty() {
         return None;
     }
-    let next = type_end(types, pos);
-    let one = &types[pos..next];
-    let after = judge_value(bytes, place, bytes.len(), order, one, room, bounds)?;
-    Some(Spot {
-        start: place,
+    let end = type_end(spot.types, 0);
+    let one = Spot {
+        at: spot.at,
+        types: &spot.types[..end],
+        room: spot.room,
+    };
+    let after = skip_value(source, &one);
+    let found = Found {
+        start: spot.at,
         after,
-        code: types[pos],
-    })
+        code: spot.types[0],
+    };
+    let others = Spot {
+        at: after,
+        types: &spot.types[end..],
+        room: spot.room,
+    };
+    Some((found, others))
+}
+
+/// Where value `n`, counted from 0, stands of the values that stand at a spot, if there are so many. Those before it are passed over.
+pub(crate) fn found_at(source: &Source<'_>, spot: &Spot<'_>, n: usize) -> Option<Found>
+    requires stand { AllStandThere source.now spot.now }
+    ensures { (xs : ValueTrees) (rest : List ℕ) → AllStandAt source.now spot.now xs rest →
+        MatchOption result (body_value n xs ≡ None) (λ s.
+        StandsThere source.now.order source.now.bytes.now spot.now.at n xs s) }
+{
+    let mut left = *spot;
+    for _number in 0..n {
+        let (_first, others) = pass(source, &left)?;
+        left = others;
+    }
+    let (found, _others) = pass(source, &left)?;
+    Some(found)
 }
 
 /// Where value `n` of the body, counted from 0, stands of the message that the bytes, all of them, were judged to be.
-pub(crate) fn spot_in(bytes: &[u8], limits: Limits, judged: &Judged, n: usize) -> Option<Spot>
+pub(crate) fn found_in(bytes: &[u8], limits: Limits, judged: &Judged, n: usize) -> Option<Found>
     requires { IsJudgedWhole limits bytes.now judged.now }
     ensures { (h : IsJudgedWhole limits bytes.now judged.now) →
         let m = h.judged.message in
         MatchOption result (body_value n m.body ≡ None) (λ s.
-        StandsSomehow judged.now.order limits.depth bytes.now
-        (body_start judged.now.order m.fields) n m.body s) }
+        StandsThere judged.now.order bytes.now (body_start judged.now.order m.fields) n m.body s) }
 {
-    let fields = &judged.fields;
-    let types = fields.signature(bytes);
-    let fds = limits.fds.index_limit(fields.fd_count());
-    let bounds = limits.bounds_with(fds);
-    spot_of(
+    let source = Source {
         bytes,
-        judged.body,
-        judged.order,
-        types,
-        limits.depth,
-        bounds,
-        n,
-    )
+        order: judged.order,
+    };
+    let spot = Spot {
+        at: judged.body,
+        types: judged.fields.signature(bytes),
+        room: limits.depth,
+    };
+    found_at(&source, &spot, n)
 }
 
 /// The text that stands from `start` up to `after`, after its length in `width` bytes, and with a zero after it.
@@ -104,18 +107,18 @@ pub(crate) fn text_in(bytes: &[u8], start: usize, after: usize, width: u8) -> &s
 }
 
 /// Where the text stands of a value that stands there, after its length in `width` bytes, and with a zero after it.
-pub(crate) fn text_place(bytes: &[u8], spot: Spot, width: u8) -> ArgPlace
+pub(crate) fn text_place(bytes: &[u8], found: Found, width: u8) -> ArgPlace
     requires some { 1 ≤ width }
-    requires text { (t : List ℕ) × IsTextIn bytes.now width spot.start spot.after t }
-    ensures code { result.code ≡ spot.code }
-    ensures text { (t : List ℕ) → IsTextIn bytes.now width spot.start spot.after t →
-        IsTextAt bytes.now width spot.start t result }
+    requires text { (t : List ℕ) × IsTextIn bytes.now width found.start found.after t }
+    ensures code { result.code ≡ found.code }
+    ensures text { (t : List ℕ) → IsTextIn bytes.now width found.start found.after t →
+        IsTextAt bytes.now width found.start t result }
 {
-    let gap = usize::from(padding_length(width, spot.start as u64));
-    let first = spot.start + gap + usize::from(width);
+    let gap = usize::from(padding_length(width, found.start as u64));
+    let first = found.start + gap + usize::from(width);
     ArgPlace {
-        code: spot.code,
+        code: found.code,
         start: first,
-        length: spot.after - 1 - first,
+        length: found.after - 1 - first,
     }
 }

@@ -14,7 +14,7 @@ ghost use Rattle.dbus_judge.specs.Judging.{IsJudged};
 use crate::arg_place::ArgPlace;
 use crate::arg_view::ArgView;
 use crate::fault::fault_of;
-use crate::values::{spot_in, text_in, text_place};
+use crate::values::{found_in, text_in, text_place};
 use dbus_judge::{Judged, judge};
 use dbus_message_model::field_code::{
     DESTINATION, ERROR_NAME, INTERFACE, MEMBER, PATH, REPLY_SERIAL, SENDER,
@@ -224,11 +224,11 @@ impl<'a> MessageView<'a> {
             IsArgThere (body_value n m.body) a) }
     {
         let bytes = self.bytes;
-        let spot = spot_in(bytes, self.limits, &self.judged, n)?;
-        match spot.code {
-            b's' => Some(ArgView::Str(text_in(bytes, spot.start, spot.after, 4))),
-            b'o' => Some(ArgView::Path(text_in(bytes, spot.start, spot.after, 4))),
-            b'g' => Some(ArgView::Sig(text_in(bytes, spot.start, spot.after, 1))),
+        let found = found_in(bytes, self.limits, &self.judged, n)?;
+        match found.code {
+            b's' => Some(ArgView::Str(text_in(bytes, found.start, found.after, 4))),
+            b'o' => Some(ArgView::Path(text_in(bytes, found.start, found.after, 4))),
+            b'g' => Some(ArgView::Sig(text_in(bytes, found.start, found.after, 1))),
             code => Some(ArgView::Other(code)),
         }
     }
@@ -241,11 +241,11 @@ impl<'a> MessageView<'a> {
             IsPlaceThere order m n self.now.bytes p) }
     {
         let bytes = self.bytes;
-        let spot = spot_in(bytes, self.limits, &self.judged, n)?;
-        match spot.code {
-            b's' => Some(text_place(bytes, spot, 4)),
-            b'o' => Some(text_place(bytes, spot, 4)),
-            b'g' => Some(text_place(bytes, spot, 1)),
+        let found = found_in(bytes, self.limits, &self.judged, n)?;
+        match found.code {
+            b's' => Some(text_place(bytes, found, 4)),
+            b'o' => Some(text_place(bytes, found, 4)),
+            b'g' => Some(text_place(bytes, found, 1)),
             code => Some(ArgPlace {
                 code,
                 start: 0,
