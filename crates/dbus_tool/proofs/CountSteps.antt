@@ -16,6 +16,7 @@ use Rattle.dbus_stream.specs.declared.read_fault.ReadFault.TheVariants as read
 use Rattle.dbus_stream.proofs.CutLaws.{BeginWith-last, BeginWith-more}
 use Rattle.dbus_stream.proofs.NextSteps.{both_ways}
 use Rattle.dbus_tool.specs.Counting.{CountsAll}
+use Rattle.dbus_tool.specs.Devices.{RisesAtMost}
 
 pub RisesBy-both : (j k total a b c : ℕ) → RisesBy j a b → RisesBy k b c → total ≡ j + k → RisesBy total a c
 RisesBy-both j k total a b c p q e = omega (arith, p, q, e)
@@ -79,6 +80,11 @@ module _ {R A : Type 0} (left : R → Option (List ℕ)) (calls failures : R →
     pub limits_are : limits_of new ≡ limits
     pub at_end : is_ended new ≡ true → IsAtEnd (left (source_of new))
 
+  -- no more reads than may be made
+  pub few_called : (old mid new : RawReader R A) (bytes : List ℕ) (items : List CutMessage) (more : List ℕ) → MoreRead old mid new bytes items more
+      → RisesAtMost most (calls (source_of old)) (calls (source_of new))
+  few_called old mid new bytes items more m = (reads_of new, subst (λ (n : ℕ). reads_of new ≤ n) m.most_reads new.few_reads, m.called)
+
   still_at_end : (mid new : RawReader R A) (b : Bool) → is_ended mid ≡ b → (is_ended mid ≡ true → IsAtEnd (left (source_of mid))) → Reads left calls mid new
       → is_ended new ≡ true → IsAtEnd (left (source_of new))
   still_at_end mid new true e before r t = subst (λ s. IsAtEnd (left s)) (sym (r.settled e).3) (before e)
@@ -128,7 +134,7 @@ module _ {R A : Type 0} (left : R → Option (List ℕ)) (calls failures : R →
 
   pub counts_ended : (old mid new : RawReader R A) (count : ℕ) (h : HasCounted old mid) (r : Reads left calls mid new) → count ≡ length h.items
       → Advances (kept mid ++ r.bytes) mid new (Ok None)
-      → (all : CountsAll left limits (record { count = count; size = done_of new; fault = None }) (source_of old) (source_of new)) × (all.items ≡ h.items)
+      → (all : CountsAll left calls limits most (record { count = count; size = done_of new; fault = None }) (source_of old) (source_of new)) × (all.items ≡ h.items)
   counts_ended old mid new count h r c answer =
       let m = more_read old mid new h r in (
         record {
@@ -142,13 +148,14 @@ module _ {R A : Type 0} (left : R → Option (List ℕ)) (calls failures : R →
           size_is = answer.2.done ∙ h.done;
           fault_is = refl;
           at_end = λ _. m.at_end answer.1;
+          called = few_called old mid new h.bytes h.items r.bytes m;
         },
         refl,
       )
 
   pub counts_refused : (old mid new : RawReader R A) (count : ℕ) (fault : Fault) (h : HasCounted old mid) (r : Reads left calls mid new) → count ≡ length h.items
       → Advances (kept mid ++ r.bytes) mid new (Err (read.Format fault))
-      → (all : CountsAll left limits (record { count = count; size = done_of new; fault = Some fault }) (source_of old) (source_of new)) × (all.items ≡ h.items)
+      → (all : CountsAll left calls limits most (record { count = count; size = done_of new; fault = Some fault }) (source_of old) (source_of new)) × (all.items ≡ h.items)
   counts_refused old mid new count fault h r c answer =
       let m = more_read old mid new h r in
       let k = answer.0 in
@@ -165,6 +172,7 @@ module _ {R A : Type 0} (left : R → Option (List ℕ)) (calls failures : R →
             size_is = k.done ∙ h.done;
             fault_is = refl;
             at_end = λ none. absurd (none fault refl);
+            called = few_called old mid new h.bytes h.items r.bytes m;
           },
           refl,
         )
@@ -183,6 +191,7 @@ module _ {R A : Type 0} (left : R → Option (List ℕ)) (calls failures : R →
             size_is = k.done ∙ h.done;
             fault_is = ap Some (short.0.2 ∙ ap truncated (sym k.kept));
             at_end = λ _. m.at_end short.1;
+            called = few_called old mid new h.bytes h.items r.bytes m;
           },
           refl,
         )

@@ -14,10 +14,7 @@ module _ {W : Type 0} (held : W → Option (List ℕ)) (failures : W → ℕ) wh
   pub passes_none : (g : List ℕ) (old : W) → Passes held failures [] g g old old
   passes_none g old = passes_kept [] g g old (sym (append-nil g))
 
-  -- all that is gathered is written
-  pub passes_out : (g0 bytes : List ℕ) (old new : W) → bytes ≡ g0 → Wrote held failures old bytes new → Passes held failures [] g0 [] old new
-  passes_out g0 bytes old new e w = record { written = bytes; appended = w.appended; joined = ap (λ l. l ++ []) (sym e); failed = w.failed }
-
+  -- of what is gathered a prefix was written
   pub breaks_out : (g0 bytes : List ℕ) (n : ℕ) (old new : W) → bytes ≡ g0 → Stopped held failures old bytes n new → Breaks held failures [] g0 old new
   breaks_out g0 bytes n old new e s = record {
     written = take n bytes;

@@ -14,10 +14,17 @@ use Rattle.dbus_raw_reader.specs.declared.raw_reader.RawReader.{RawReader}
 use Rattle.dbus_raw_reader.proofs.NextSteps.{starts, unread}
 use Rattle.dbus_tool.specs.Devices.{writing}
 use Rattle.dbus_tool.specs.Gathering.{Breaks}
-use Rattle.dbus_tool.specs.Handing.{GivesNext}
+use Rattle.dbus_tool.specs.Handing.{GivesNext, IsWrittenOut}
 use Rattle.dbus_tool.specs.declared.ending.NoMessage.{NoMessage}
 use Rattle.dbus_tool.specs.declared.ending.NoMessage.TheVariants.{Reader, Writer}
 use Rattle.dbus_tool.proofs.GatherSteps.{passes_none}
+
+-- all that was gathered was written
+pub written_out : (fault : ReadFault) (g : List ℕ) → g ≡ [] → IsWrittenOut fault g
+written_out read.Memory g e = tt
+written_out (read.Format fault) g e = tt
+written_out read.Device g e = e
+written_out read.TooManyReads g e = e
 
 module _ {R A : Type 0} (left : R → Option (List ℕ)) (calls failures : R → ℕ) where
   -- what is read after a step that reads nothing and keeps all
@@ -85,6 +92,13 @@ module _ {R A : Type 0} (left : R → Option (List ℕ)) (calls failures : R →
   kept_fault old new read.Device k = absurd k
   kept_fault old new read.TooManyReads k = absurd k
 
+  -- where no read was tried, what is gathered need not be written
+  kept_unwritten : (old new : RawReader R A) (fault : ReadFault) (g : List ℕ) → KeptAnswers old new (Err fault) → IsWrittenOut fault g
+  kept_unwritten old new read.Memory g k = tt
+  kept_unwritten old new (read.Format fault) g k = tt
+  kept_unwritten old new read.Device g k = absurd k
+  kept_unwritten old new read.TooManyReads g k = absurd k
+
   module _ {W : Type 0} (held : W → Option (List ℕ)) (write_failures : W → ℕ) where
     pub gives_after : (old mid new : RawReader R A) (g0 g1 : List ℕ) (w0 w1 : W) (res : Result (Option Judged) NoMessage) → ReadsNothing old mid
         → KeepsAll (kept old) old mid → GivesNext left calls failures mid new (writing held write_failures w0 w1) g0 g1 res → GivesNext left calls failures old new (writing held write_failures w0 w1) g0 g1 res
@@ -93,7 +107,7 @@ module _ {R A : Type 0} (left : R → Option (List ℕ)) (calls failures : R →
         (both.0, both.1, g.2 ∙ ap failures n.source, g.3)
     gives_after old mid new g0 g1 w0 w1 (Err (Reader fault)) n k g =
         let both = both_after old mid new (Err fault) n k g.0 g.1 in
-        (both.0, both.1, subst (λ (x : ℕ). DeviceCounts {T = Option Judged} x (failures (source_of new)) (Err fault)) (ap failures n.source) g.2, g.3)
+        (both.0, both.1, subst (λ (x : ℕ). DeviceCounts {T = Option Judged} x (failures (source_of new)) (Err fault)) (ap failures n.source) g.2, g.3, g.4)
     gives_after old mid new g0 g1 w0 w1 (Err Writer) n k g = (reads_after old mid new n k g.0, g.1, g.2 ∙ ap failures n.source)
 
     -- a message that is kept
@@ -114,6 +128,7 @@ module _ {R A : Type 0} (left : R → Option (List ℕ)) (calls failures : R →
       subst (λ (v : List ℕ). Advances v old new (Err fault)) (sym (append-nil (kept old))) (kept_fault old new fault k),
       counts,
       passes_none held write_failures g w,
+      kept_unwritten old new fault g k,
     )
 
     -- what is gathered was not written, and nothing was read

@@ -18,14 +18,14 @@ use Rattle.dbus_tool.specs.Devices.{reading, writing}
 use Rattle.dbus_tool.specs.Counting.{ended_by, stopped_by}
 use Rattle.dbus_tool.specs.Output.{IsOutputOf, IsOutputOfAll}
 use Rattle.dbus_tool.specs.Gathering.{Passes, Breaks, Leaves}
-use Rattle.dbus_tool.specs.Handing.{HandsOne, GivesNext, HandsAll, HandsSome, Hands, IsReadCause, AreAll}
+use Rattle.dbus_tool.specs.Handing.{HandsOne, GivesNext, HandsAll, HandsSome, Hands, IsReadCause, AreAll, IsWrittenOut}
 use Rattle.dbus_tool.specs.declared.ending.Cause.{Cause}
 use Rattle.dbus_tool.specs.declared.ending.Cause.TheVariants.{Memory, ReadFailed, WriteFailed, TooManyReads}
 use Rattle.dbus_tool.specs.declared.ending.NoMessage.{NoMessage}
 use Rattle.dbus_tool.specs.declared.ending.NoMessage.TheVariants.{Reader, Writer}
 use Rattle.dbus_tool.proofs.GatherSteps.{passes_none, passes_both, passes_nothing, breaks_after, breaks_nothing}
 use Rattle.dbus_tool.proofs.OutputSteps.{output_last}
-use Rattle.dbus_tool.proofs.CountSteps.{HasCounted, counts_none, counts_more, counts_ended, counts_refused, more_read, called_all}
+use Rattle.dbus_tool.proofs.CountSteps.{HasCounted, counts_none, counts_more, counts_ended, counts_refused, more_read, few_called, called_all}
 
 module _ {R A W : Type 0} (left : R → Option (List ℕ)) (calls failures : R → ℕ) (held : W → Option (List ℕ)) (write_failures : W → ℕ) (limits : Limits) (most : ℕ)
     (command : Command) where
@@ -115,21 +115,24 @@ module _ {R A W : Type 0} (left : R → Option (List ℕ)) (calls failures : R �
         all = all;
         output = h.output;
         leaves = leaves;
+        called = few_called left calls failures limits most old mid new h.counted.bytes h.counted.items r.bytes m;
         caused = caused;
       }
 
   -- the reader has a fault
   hands_faulted : (fault : ReadFault) (count : ℕ) (old mid new : RawReader R A) (g0 g1 g2 : List ℕ) (w0 w1 w2 : W) (h : HasHanded count old mid g0 g1 w0 w1)
       (r : Reads left calls mid new) → Advances (kept mid ++ r.bytes) mid new (Err fault)
-      → DeviceCounts {T = Option Judged} (failures (source_of mid)) (failures (source_of new)) (Err fault) → Passes held write_failures [] g1 g2 w1 w2
+      → DeviceCounts {T = Option Judged} (failures (source_of mid)) (failures (source_of new)) (Err fault) → Passes held write_failures [] g1 g2 w1 w2 → IsWrittenOut fault g2
       → Hands (reading left calls failures (source_of old) (source_of new)) (writing held write_failures w0 w2) limits most command g0 g2 (ended_by count (done_of new) fault)
-  hands_faulted (read.Format fault) count old mid new g0 g1 g2 w0 w1 w2 h r answer counts p = hands_refused count old mid new g0 g1 g2 w0 w1 w2 fault h r answer counts p
-  hands_faulted read.Memory count old mid new g0 g1 g2 w0 w1 w2 h r answer counts p =
+  hands_faulted (read.Format fault) count old mid new g0 g1 g2 w0 w1 w2 h r answer counts p o = hands_refused count old mid new g0 g1 g2 w0 w1 w2 fault h r answer counts p
+  hands_faulted read.Memory count old mid new g0 g1 g2 w0 w1 w2 h r answer counts p o =
       hands_some Memory count old mid new g0 g1 g2 w0 w1 w2 h r tt (passes_nothing held write_failures h.out g0 g1 g2 w0 w1 w2 h.passes p) (counts ∙ h.counted.failed)
-  hands_faulted read.Device count old mid new g0 g1 g2 w0 w1 w2 h r answer counts p =
-      hands_some ReadFailed count old mid new g0 g1 g2 w0 w1 w2 h r (subst (λ w. IsPartial w (kept mid ++ r.bytes)) h.counted.limits_are answer.2) (passes_nothing held write_failures h.out g0 g1 g2 w0 w1 w2 h.passes p) (counts.0 ∙ ap one_more h.counted.failed)
-  hands_faulted read.TooManyReads count old mid new g0 g1 g2 w0 w1 w2 h r answer counts p =
-      hands_some TooManyReads count old mid new g0 g1 g2 w0 w1 w2 h r (subst (λ w. IsPartial w (kept mid ++ r.bytes)) h.counted.limits_are answer.2) (passes_nothing held write_failures h.out g0 g1 g2 w0 w1 w2 h.passes p)
+  hands_faulted read.Device count old mid new g0 g1 g2 w0 w1 w2 h r answer counts p o =
+      hands_some ReadFailed count old mid new g0 g1 g2 w0 w1 w2 h r (subst (λ w. IsPartial w (kept mid ++ r.bytes)) h.counted.limits_are answer.2)
+      (subst (λ g. Passes held write_failures h.out g0 g w0 w2) o (passes_nothing held write_failures h.out g0 g1 g2 w0 w1 w2 h.passes p)) (counts.0 ∙ ap one_more h.counted.failed)
+  hands_faulted read.TooManyReads count old mid new g0 g1 g2 w0 w1 w2 h r answer counts p o =
+      hands_some TooManyReads count old mid new g0 g1 g2 w0 w1 w2 h r (subst (λ w. IsPartial w (kept mid ++ r.bytes)) h.counted.limits_are answer.2)
+      (subst (λ g. Passes held write_failures h.out g0 g w0 w2) o (passes_nothing held write_failures h.out g0 g1 g2 w0 w1 w2 h.passes p))
       (counts ∙ h.counted.failed, called_all left calls failures limits most old mid new h.counted r answer.3)
 
   -- what is gathered was not written
@@ -142,7 +145,7 @@ module _ {R A W : Type 0} (left : R → Option (List ℕ)) (calls failures : R �
   pub hands_stopped : (stop : NoMessage) (count : ℕ) (old mid new : RawReader R A) (g0 g1 g2 : List ℕ) (w0 w1 w2 : W) (h : HasHanded count old mid g0 g1 w0 w1)
       → GivesNext left calls failures mid new (writing held write_failures w1 w2) g1 g2 (Err stop)
       → Hands (reading left calls failures (source_of old) (source_of new)) (writing held write_failures w0 w2) limits most command g0 g2 (stopped_by count (done_of new) stop)
-  hands_stopped (Reader fault) count old mid new g0 g1 g2 w0 w1 w2 h given = hands_faulted fault count old mid new g0 g1 g2 w0 w1 w2 h given.0 given.1 given.2 given.3
+  hands_stopped (Reader fault) count old mid new g0 g1 g2 w0 w1 w2 h given = hands_faulted fault count old mid new g0 g1 g2 w0 w1 w2 h given.0 given.1 given.2 given.3 given.4
   hands_stopped Writer count old mid new g0 g1 g2 w0 w1 w2 h given = hands_unwritten count old mid new g0 g1 g2 w0 w1 w2 h given.0 given.1 given.2
 
   -- a message was not written
@@ -172,5 +175,6 @@ module _ {R A W : Type 0} (left : R → Option (List ℕ)) (calls failures : R �
         all = tt;
         output = output_last command 1 h.counted.items item h.out one.0 h.output (subst (λ n. IsOutputOf command l.gives.order l.gives.message n one.0) number one.1);
         leaves = breaks_after held write_failures h.out one.0 g0 g2 w0 w2 w3 (passes_nothing held write_failures h.out g0 g1 g2 w0 w1 w2 h.passes p) one.2;
+        called = few_called left calls failures limits most old mid new h.counted.bytes h.counted.items r.bytes m;
         caused = same ∙ h.counted.failed;
       }

@@ -8,5 +8,4 @@ pub mod TalliedHands
 pub mod GivenSteps
 pub mod HandSteps
 pub mod ThroughSteps
-pub mod CheckSteps
 pub mod RunSteps

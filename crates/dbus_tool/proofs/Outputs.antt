@@ -11,6 +11,7 @@ use Rattle.dbus_match.proofs.Decided.{decided}
 use Rattle.dbus_command.specs.declared.command.Command.{Command}
 use Rattle.dbus_command.specs.declared.command.Command.TheVariants.{Show, Check, Swap, Filter}
 use Rattle.dbus_tool.specs.Output.{IsFiltered, IsOutputOf, IsOutputOfAll, IsFirstOutput, last_line}
+use Rattle.dbus_tool.proofs.OutputSteps.{output_all_one}
 
 -- ---- there is one
 
@@ -40,30 +41,7 @@ some_output command items fault =
 
 -- ---- and no other
 
-one_filtered : (pairs : List Pair) (order : Order) (message : MessageTree) (x y : List ℕ)
-    → IsFiltered pairs order message x → IsFiltered pairs order message y → x ≡ y
-one_filtered pairs order message x y (inl h) (inl k) = h.1 ∙ sym k.1
-one_filtered pairs order message x y (inl h) (inr k) = absurd (k.0 h.0)
-one_filtered pairs order message x y (inr h) (inl k) = absurd (h.0 k.0)
-one_filtered pairs order message x y (inr h) (inr k) = h.1 ∙ sym k.1
-
-one_of_one : (command : Command) (order : Order) (message : MessageTree) (n : ℕ) (x y : List ℕ)
-    → IsOutputOf command order message n x → IsOutputOf command order message n y → x ≡ y
-one_of_one Show order message n x y h k = h ∙ sym k
-one_of_one Check order message n x y h k = h ∙ sym k
-one_of_one (Swap wanted) order message n x y h k = h ∙ sym k
-one_of_one (Filter rule) order message n x y h k = one_filtered (rule_pairs rule) order message x y h k
-
-one_of_all : (command : Command) (n : ℕ) (items : List CutMessage) (x y : List ℕ)
-    → IsOutputOfAll command n items x → IsOutputOfAll command n items y → x ≡ y
-one_of_all command n [] x y h k = h ∙ sym k
-one_of_all command n (item ∷ items) x y h k =
-    let first : h.0 ≡ k.0 = one_of_one command item.order item.message n h.0 k.0 h.3 k.3 in
-    let more : h.1 ≡ k.1 = one_of_all command (n + 1) items h.1 k.1 h.4 k.4 in
-    let joined : h.0 ++ h.1 ≡ k.0 ++ k.1 = cc (first, more) in
-    h.2 ∙ joined ∙ sym k.2
-
 pub one_output : (command : Command) (items : List CutMessage) (fault : Option Fault) (x y : List ℕ)
     → IsFirstOutput command items fault x → IsFirstOutput command items fault y → x ≡ y
 one_output command items fault x y h k =
-    h.joined ∙ ap (λ a. a ++ last_line command (length items) (sizes items) fault) (one_of_all command 1 items h.written k.written h.each k.each) ∙ sym k.joined
+    h.joined ∙ ap (λ a. a ++ last_line command (length items) (sizes items) fault) (output_all_one command 1 items h.written k.written h.each k.each) ∙ sym k.joined

@@ -19,17 +19,17 @@ no_output n (item ∷ items) = ([], [], refl, refl, no_output (n + 1) items)
 
 module _ {R W : Type 0} (left : R → Option (List ℕ)) (calls failures : R → ℕ) (held : W → Option (List ℕ)) (write_failures : W → ℕ)
     (limits : Limits) (most : ℕ) where
-  pub hands_tallied : (old new : R) (g : List ℕ) (w : W) (res : Result Counted Cause) → Tallies left calls failures limits most old new res
-      → Hands (reading left calls failures old new) (writing held write_failures w w) limits most Check g g res
-  hands_tallied old new g w (Ok counted) t = record {
+  pub hands_tallied : (old new : R) (w : W) (res : Result Counted Cause) → Tallies left calls failures limits most old new res
+      → Hands (reading left calls failures old new) (writing held write_failures w w) limits most Check [] [] res
+  hands_tallied old new w (Ok counted) t = record {
     counts = t.counts;
     out = [];
     output = no_output 1 t.counts.items;
-    passes = passes_none held write_failures g w;
+    passes = passes_none held write_failures [] w;
     failed = t.failed;
   }
-  hands_tallied old new g w (Err Memory) t = absurd t.caused
-  hands_tallied old new g w (Err ReadFailed) t = record {
+  hands_tallied old new w (Err Memory) t = absurd t.caused
+  hands_tallied old new w (Err ReadFailed) t = record {
     bytes = t.bytes;
     items = t.items;
     rest = t.rest;
@@ -38,11 +38,12 @@ module _ {R W : Type 0} (left : R → Option (List ℕ)) (calls failures : R →
     messages = t.messages;
     all = t.partial;
     output = no_output 1 t.items;
-    leaves = passes_none held write_failures g w;
+    leaves = passes_none held write_failures [] w;
+    called = t.called;
     caused = t.caused;
   }
-  hands_tallied old new g w (Err WriteFailed) t = absurd t.caused
-  hands_tallied old new g w (Err TooManyReads) t = record {
+  hands_tallied old new w (Err WriteFailed) t = absurd t.caused
+  hands_tallied old new w (Err TooManyReads) t = record {
     bytes = t.bytes;
     items = t.items;
     rest = t.rest;
@@ -51,6 +52,7 @@ module _ {R W : Type 0} (left : R → Option (List ℕ)) (calls failures : R →
     messages = t.messages;
     all = t.partial;
     output = no_output 1 t.items;
-    leaves = passes_none held write_failures g w;
+    leaves = passes_none held write_failures [] w;
+    called = t.called;
     caused = t.caused;
   }

@@ -1,5 +1,5 @@
 -- The turns in which messages are counted and none is built.
-use Rattle.std.proofs.Common.{◌≡◌, ℕ, ◌+◌, List, [], ◌∷◌, ◌++◌, Bool, true, false, None, Some, Ok, Err, Option, length, drop, sym, ap, ◌∙◌, subst, refl, inl, inr}
+use Rattle.std.proofs.Common.{◌≡◌, ℕ, ◌+◌, ◌≤◌, List, [], ◌∷◌, ◌++◌, Bool, true, false, None, Some, Ok, Err, Option, length, drop, sym, ap, ◌∙◌, subst, refl, inl, inr}
 use Rattle.std.specs.Io.KnownBytes.{Consumes, IsAtEnd}
 use Rattle.std.proofs.KnownBytes.{Consumes-nil, Consumes-trans}
 use Rattle.dbus_value_model.specs.declared.fault.Fault.{Fault}
@@ -16,6 +16,7 @@ use Rattle.dbus_stream.specs.declared.read_fault.ReadFault.TheVariants as read
 use Rattle.dbus_stream.proofs.CutLaws.{BeginWith-last, BeginWith-more}
 use Rattle.dbus_stream.proofs.NextSteps.{both_ways}
 use Rattle.dbus_tool.specs.Counting.{ended_by}
+use Rattle.dbus_tool.specs.Devices.{RisesAtMost}
 use Rattle.dbus_tool.specs.Tallying.{IsUnread, Tallies, TalliesAll, TalliesSome, GaveUpFor}
 use Rattle.dbus_tool.specs.declared.ending.Cause.{Cause}
 use Rattle.dbus_tool.specs.declared.ending.Cause.TheVariants.{Memory, ReadFailed, WriteFailed, TooManyReads}
@@ -65,6 +66,10 @@ module _ {R : Type 0} (left : R → Option (List ℕ)) (calls failures : R → �
     pub most_reads : most_reads_of new ≡ most
     pub limits_are : limits_of new ≡ limits
     pub at_end : is_ended new ≡ true → IsAtEnd (left (source_of new))
+
+  few_called : (old new : CheckReader R) (bytes : List ℕ) (items : List CutMessage) (rest : List ℕ) → MoreRead old new bytes items rest
+      → RisesAtMost most (calls (source_of old)) (calls (source_of new))
+  few_called old new bytes items rest m = (reads_of new, subst (λ (n : ℕ). reads_of new ≤ n) m.most_reads new.few_reads, m.called)
 
   still_at_end : (w : List ℕ) (mid new : CheckReader R) (b : Bool) → is_ended mid ≡ b → (is_ended mid ≡ true → IsAtEnd (left (source_of mid))) → Reads left calls w mid new
       → is_ended new ≡ true → IsAtEnd (left (source_of new))
@@ -123,6 +128,7 @@ module _ {R : Type 0} (left : R → Option (List ℕ)) (calls failures : R → �
           size_is = answer.2.done ∙ h.done;
           fault_is = refl;
           at_end = λ _. m.at_end answer.1;
+          called = few_called old new (h.bytes ++ r.bytes) h.items (h.rest ++ r.bytes) m;
         };
         failed = same ∙ h.failed;
       }
@@ -145,6 +151,7 @@ module _ {R : Type 0} (left : R → Option (List ℕ)) (calls failures : R → �
             size_is = answer.0 ∙ h.done;
             fault_is = refl;
             at_end = λ none. absurd (none fault refl);
+            called = few_called old new (h.bytes ++ r.bytes) h.items (h.rest ++ r.bytes) m;
           };
           failed = same ∙ h.failed;
         }
@@ -160,6 +167,7 @@ module _ {R : Type 0} (left : R → Option (List ℕ)) (calls failures : R → �
             size_is = answer.0 ∙ h.done;
             fault_is = ap Some short.0.2;
             at_end = λ _. m.at_end short.1;
+            called = few_called old new (h.bytes ++ r.bytes) h.items (h.rest ++ r.bytes) m;
           };
           failed = same ∙ h.failed;
         }
@@ -177,6 +185,7 @@ module _ {R : Type 0} (left : R → Option (List ℕ)) (calls failures : R → �
         consumed = m.consumed;
         messages = m.messages;
         partial = subst (λ w. IsPartial w (h.rest ++ r.bytes)) h.limits_are partial;
+        called = few_called old new (h.bytes ++ r.bytes) h.items (h.rest ++ r.bytes) m;
         caused = caused;
       }
 
@@ -215,6 +224,7 @@ module _ {Q R : Type 0} (now : Q → R) (left : R → Option (List ℕ)) (calls 
       size_is = a.counts.size_is;
       fault_is = a.counts.fault_is;
       at_end = a.counts.at_end;
+      called = a.counts.called;
     };
     failed = a.failed;
   }
@@ -225,5 +235,6 @@ module _ {Q R : Type 0} (now : Q → R) (left : R → Option (List ℕ)) (calls 
     consumed = s.consumed;
     messages = s.messages;
     partial = s.partial;
+    called = s.called;
     caused = cause_through old new cause s.caused;
   }

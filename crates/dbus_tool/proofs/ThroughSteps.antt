@@ -1,5 +1,5 @@
 -- What is said of references to a device holds of the device.
-use Rattle.std.proofs.Common.{ℕ, List, Option, Result, Ok, Err}
+use Rattle.std.proofs.Common.{ℕ, List, [], Option, Result, Ok, Err}
 use Rattle.dbus_value_model.specs.declared.limits.Limits.{Limits}
 use Rattle.dbus_command.specs.declared.command.Command.{Command}
 use Rattle.dbus_tool.specs.Devices.{reading, writing}
@@ -17,10 +17,10 @@ module _ {Q R W : Type 0} (now : Q → R) (left : R → Option (List ℕ)) (call
   cause_through old new WriteFailed c = c
   cause_through old new TooManyReads c = c
 
-  pub hands_through : (command : Command) (old new : Q) (g0 g1 : List ℕ) (w0 w1 : W) (res : Result Counted Cause)
-      → Hands (reading (λ q. left (now q)) (λ q. calls (now q)) (λ q. failures (now q)) old new) (writing held write_failures w0 w1) limits most command g0 g1 res
-      → Hands (reading left calls failures (now old) (now new)) (writing held write_failures w0 w1) limits most command g0 g1 res
-  hands_through command old new g0 g1 w0 w1 (Ok counted) a = record {
+  pub hands_through : (command : Command) (old new : Q) (w0 w1 : W) (res : Result Counted Cause)
+      → Hands (reading (λ q. left (now q)) (λ q. calls (now q)) (λ q. failures (now q)) old new) (writing held write_failures w0 w1) limits most command [] [] res
+      → Hands (reading left calls failures (now old) (now new)) (writing held write_failures w0 w1) limits most command [] [] res
+  hands_through command old new w0 w1 (Ok counted) a = record {
     counts = record {
       bytes = a.counts.bytes;
       items = a.counts.items;
@@ -32,13 +32,14 @@ module _ {Q R W : Type 0} (now : Q → R) (left : R → Option (List ℕ)) (call
       size_is = a.counts.size_is;
       fault_is = a.counts.fault_is;
       at_end = a.counts.at_end;
+      called = a.counts.called;
     };
     out = a.out;
     output = a.output;
     passes = a.passes;
     failed = a.failed;
   }
-  hands_through command old new g0 g1 w0 w1 (Err cause) s = record {
+  hands_through command old new w0 w1 (Err cause) s = record {
     bytes = s.bytes;
     items = s.items;
     rest = s.rest;
@@ -48,5 +49,6 @@ module _ {Q R W : Type 0} (now : Q → R) (left : R → Option (List ℕ)) (call
     all = s.all;
     output = s.output;
     leaves = s.leaves;
+    called = s.called;
     caused = cause_through old new cause s.caused;
   }

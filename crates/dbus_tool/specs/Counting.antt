@@ -6,6 +6,7 @@ use Rattle.dbus_value_model.specs.declared.limits.Limits.{Limits}
 use Rattle.dbus_stream.specs.Cut.{CutMessage, IsCut, CutOutcome, Refused, fault_at_end, sizes}
 use Rattle.dbus_stream.specs.declared.read_fault.ReadFault.{ReadFault}
 use Rattle.dbus_stream.specs.declared.read_fault.ReadFault.TheVariants as read
+use Rattle.dbus_tool.specs.Devices.{RisesAtMost}
 use Rattle.dbus_tool.specs.declared.ending.Cause.{Cause}
 use Rattle.dbus_tool.specs.declared.ending.Cause.TheVariants.{Memory, ReadFailed, WriteFailed, TooManyReads}
 use Rattle.dbus_tool.specs.declared.ending.Counted.{Counted}
@@ -24,8 +25,9 @@ abbrev pub stopped_by : ℕ → ℕ → NoMessage → Result Counted Cause
 stopped_by count size (Reader fault) = ended_by count size fault
 stopped_by count size Writer = Err WriteFailed
 
--- all messages within the limits of what was read were counted, up to the end of the input or a fault
-pub record CountsAll {R : Type 0} (left : R → Option (List ℕ)) (limits : Limits) (counted : Counted) (old new : R) : Type 0 where
+-- all messages within the limits of what was read were counted, up to the end of the input or a fault. most is how many reads
+-- may be made
+pub record CountsAll {R : Type 0} (left : R → Option (List ℕ)) (calls : R → ℕ) (limits : Limits) (most : ℕ) (counted : Counted) (old new : R) : Type 0 where
   pub bytes : List ℕ
   pub items : List CutMessage
   pub rest : List ℕ
@@ -37,3 +39,4 @@ pub record CountsAll {R : Type 0} (left : R → Option (List ℕ)) (limits : Lim
   pub fault_is : counted.fault ≡ fault_at_end rest outcome
   -- without a fault that bytes show, all was read
   pub at_end : ((f : Fault) → outcome ≡ Refused f → ⊥) → IsAtEnd (left new)
+  pub called : RisesAtMost most (calls old) (calls new)

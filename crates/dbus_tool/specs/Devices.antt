@@ -1,5 +1,10 @@
 -- A source and a writer before and after a call, with what is known of it, so that a relation takes each as one argument.
-use Rattle.std.specs.Prelude.{ℕ, List, Option}
+use Rattle.std.specs.Prelude.{◌≤◌, ℕ, List, Option}
+use Rattle.dbus_device.specs.Device.{RisesBy}
+
+-- a count, modulo 2^64, rises by at most so many
+abbrev pub RisesAtMost : ℕ → ℕ → ℕ → Type 0
+RisesAtMost most old new = (n : ℕ) × (n ≤ most) × RisesBy n old new
 
 -- the bytes that are left in a source, the calls that it had, and those that failed
 pub record Reading (R : Type 0) : Type 0 where

@@ -34,9 +34,9 @@ module _ {W : Type 0} (held : W → Option (List ℕ)) (failures : W → ℕ) wh
   GathersOrNot bytes g0 g1 old new (Err WriteFailed) = Breaks bytes g0 old new
   GathersOrNot bytes g0 g1 old new (Err TooManyReads) = ⊥
 
-  -- what was done with bytes where this is why no more follow
+  -- what was done with bytes where this is why no more follow: before a read all was written
   abbrev pub Leaves : Cause → List ℕ → List ℕ → List ℕ → W → W → Type 0
   Leaves Memory bytes g0 g1 old new = Passes bytes g0 g1 old new
-  Leaves ReadFailed bytes g0 g1 old new = Passes bytes g0 g1 old new
+  Leaves ReadFailed bytes g0 g1 old new = Passes bytes g0 [] old new
   Leaves WriteFailed bytes g0 g1 old new = Breaks bytes g0 old new
-  Leaves TooManyReads bytes g0 g1 old new = Passes bytes g0 g1 old new
+  Leaves TooManyReads bytes g0 g1 old new = Passes bytes g0 [] old new

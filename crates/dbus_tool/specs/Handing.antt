@@ -13,10 +13,12 @@ use Rattle.dbus_stream.specs.Next.{DeviceCounts}
 use Rattle.dbus_raw_reader.specs.Next.{Reads, Advances}
 use Rattle.dbus_raw_reader.specs.Reading.{kept, source_of}
 use Rattle.dbus_raw_reader.specs.declared.raw_reader.RawReader.{RawReader}
+use Rattle.dbus_stream.specs.declared.read_fault.ReadFault.{ReadFault}
+use Rattle.dbus_stream.specs.declared.read_fault.ReadFault.TheVariants as read
 use Rattle.dbus_command.specs.declared.command.Command.{Command}
 use Rattle.dbus_match.specs.Rules.{Pair}
 use Rattle.dbus_tool.specs.Counting.{CountsAll}
-use Rattle.dbus_tool.specs.Devices.{Reading, Writing}
+use Rattle.dbus_tool.specs.Devices.{Reading, Writing, RisesAtMost}
 use Rattle.dbus_tool.specs.Output.{IsFiltered, IsOutputOf, IsOutputOfAll}
 use Rattle.dbus_tool.specs.Gathering.{Passes, Breaks, GathersOrNot, Leaves}
 use Rattle.dbus_tool.specs.declared.ending.Cause.{Cause}
@@ -42,13 +44,20 @@ AreAll limits ReadFailed rest = IsPartial limits rest
 AreAll limits WriteFailed rest = Unit {0}
 AreAll limits TooManyReads rest = IsPartial limits rest
 
+-- all that was gathered was written, where a read was tried
+abbrev pub IsWrittenOut : ReadFault → List ℕ → Type 0
+IsWrittenOut read.Memory g = Unit {0}
+IsWrittenOut (read.Format fault) g = Unit {0}
+IsWrittenOut read.Device g = g ≡ []
+IsWrittenOut read.TooManyReads g = g ≡ []
+
 module _ {R W : Type 0} (left : R → Option (List ℕ)) (calls read_failures : R → ℕ) where
   -- what a reader judges of its next message, which it lends, where what is gathered may have been written before
   abbrev pub GivesNext : {A : Type 0} → RawReader R A → RawReader R A → Writing W → List ℕ → List ℕ → Result (Option Judged) NoMessage → Type 0
   GivesNext old new w g0 g1 (Ok judged) = (r : Reads left calls old new) × Advances (kept old ++ r.bytes) old new (Ok judged)
       × (read_failures (source_of new) ≡ read_failures (source_of old)) × Passes w.held w.failures [] g0 g1 w.old w.new
   GivesNext old new w g0 g1 (Err (Reader fault)) = (r : Reads left calls old new) × Advances (kept old ++ r.bytes) old new (Err fault)
-      × DeviceCounts {T = Option Judged} (read_failures (source_of old)) (read_failures (source_of new)) (Err fault) × Passes w.held w.failures [] g0 g1 w.old w.new
+      × DeviceCounts {T = Option Judged} (read_failures (source_of old)) (read_failures (source_of new)) (Err fault) × Passes w.held w.failures [] g0 g1 w.old w.new × IsWrittenOut fault g1
   GivesNext old new w g0 g1 (Err Writer) = Reads left calls old new × Breaks w.held w.failures [] g0 w.old w.new × (read_failures (source_of new) ≡ read_failures (source_of old))
 
 module _ {R W : Type 0} (left : R → Option (List ℕ)) (calls read_failures : R → ℕ) (held : W → Option (List ℕ)) (write_failures : W → ℕ)
@@ -62,7 +71,7 @@ module _ {R W : Type 0} (left : R → Option (List ℕ)) (calls read_failures : 
 
   -- all messages of what was read were handed to the command, up to the end of the input or a fault
   pub record HandsAll (command : Command) (counted : Counted) (old new : R) (g0 g1 : List ℕ) (w0 w1 : W) : Type 0 where
-    pub counts : CountsAll left limits counted old new
+    pub counts : CountsAll left calls limits most counted old new
     pub out : List ℕ
     pub output : IsOutputOfAll command 1 counts.items out
     pub passes : Passes held write_failures out g0 g1 w0 w1
@@ -79,6 +88,7 @@ module _ {R W : Type 0} (left : R → Option (List ℕ)) (calls read_failures : 
     pub all : AreAll limits cause rest
     pub output : IsOutputOfAll command 1 items out
     pub leaves : Leaves held write_failures cause out g0 g1 w0 w1
+    pub called : RisesAtMost most (calls old) (calls new)
     pub caused : IsReadCause old new cause
 
 -- what is read of r was handed to the command, which writes by w

@@ -1,9 +1,9 @@
 -- What a command does with what it reads. limits are those that each message keeps, and most is how many reads may be
 -- made.
 use Rattle.std.specs.Prelude.{◌≡◌, ◌⊎◌, ℕ, List, Option}
-use Rattle.std.specs.Io.KnownBytes.{Appends}
 use Rattle.dbus_value_model.specs.declared.limits.Limits.{Limits}
 use Rattle.dbus_command.specs.declared.command.Command.{Command}
+use Rattle.dbus_device.specs.Write.{Wrote, Stopped}
 use Rattle.dbus_tool.specs.Lines.{cause_line}
 use Rattle.dbus_tool.specs.Checking.{Answers, Fails}
 use Rattle.dbus_tool.specs.Devices.{Reading, Writing}
@@ -11,9 +11,9 @@ use Rattle.dbus_tool.specs.declared.ending.ExitStatus.{ExitStatus}
 use Rattle.dbus_tool.specs.declared.ending.ExitStatus.TheVariants as status
 use Rattle.dbus_tool.specs.declared.ending.Cause.{Cause}
 
--- the second writer was told the cause, unless a write to it failed
+-- the second writer was told the cause, or a write failed after the first bytes of that
 abbrev pub Told : {E : Type 0} → (E → Option (List ℕ)) → (E → ℕ) → E → E → Cause → Type 0
-Told held failures old new cause = failures new ≡ failures old → Appends (held old) (held new) (cause_line cause)
+Told held failures old new cause = Wrote held failures old (cause_line cause) new ⊎ ((n : ℕ) × Stopped held failures old (cause_line cause) n new)
 
 module _ {R W E : Type 0} (left : R → Option (List ℕ)) (calls read_failures : R → ℕ) (held : W → Option (List ℕ)) (write_failures : W → ℕ)
     (second_held : E → Option (List ℕ)) (second_failures : E → ℕ) (limits : Limits) (most : ℕ) (command : Command) where
@@ -21,11 +21,11 @@ module _ {R W E : Type 0} (left : R → Option (List ℕ)) (calls read_failures 
   pub record GaveUp (r0 r1 : R) (w0 w1 : W) (e0 e1 : E) (end : ExitStatus) : Type 0 where
     pub failed : end ≡ status.Failed
     pub cause : Cause
-    pub fails : Fails left calls read_failures held write_failures second_held second_failures limits most command cause r0 r1 w0 w1 e0 e1
+    pub fails : Fails left calls read_failures held write_failures limits most command cause r0 r1 w0 w1
     pub told : Told second_held second_failures e0 e1 cause
 
 -- what a command does with what r reads, by the writers w and e
 abbrev pub Runs : {R W E : Type 0} → Reading R → Writing W → Writing E → Limits → ℕ → Command → ExitStatus → Type 0
 Runs r w e limits most command end =
-    Answers r.left r.calls r.failures w.held w.failures e.held e.failures limits most command r.old r.new w.old w.new e.old e.new end
+    Answers r.left r.calls r.failures w.held w.failures limits most command e.held e.failures r.old r.new w.old w.new e.old e.new end
     ⊎ GaveUp r.left r.calls r.failures w.held w.failures e.held e.failures limits most command r.old r.new w.old w.new e.old e.new end

@@ -9,6 +9,7 @@ use Rattle.dbus_stream.specs.Cut.{CutMessage, BeginWith}
 use Rattle.dbus_stream.specs.CheckReading.{done_of, reads_of, is_ended, stopped_of, Keeps}
 use Rattle.dbus_stream.specs.declared.check_reader.CheckReader.{CheckReader}
 use Rattle.dbus_tool.specs.Counting.{CountsAll}
+use Rattle.dbus_tool.specs.Devices.{RisesAtMost}
 use Rattle.dbus_tool.specs.declared.ending.Cause.{Cause}
 use Rattle.dbus_tool.specs.declared.ending.Cause.TheVariants.{Memory, ReadFailed, WriteFailed, TooManyReads}
 use Rattle.dbus_tool.specs.declared.ending.Counted.{Counted}
@@ -31,7 +32,7 @@ module _ {R : Type 0} (left : R → Option (List ℕ)) (calls failures : R → �
 
   -- all messages of what was read were counted, and no call failed
   pub record TalliesAll (counted : Counted) (old new : R) : Type 0 where
-    pub counts : CountsAll left limits counted old new
+    pub counts : CountsAll left calls limits most counted old new
     pub failed : failures new ≡ failures old
 
   -- reading was given up after the first messages of the input
@@ -42,6 +43,7 @@ module _ {R : Type 0} (left : R → Option (List ℕ)) (calls failures : R → �
     pub consumed : Consumes (left old) (left new) bytes
     pub messages : BeginWith limits bytes items rest
     pub partial : IsPartial limits rest
+    pub called : RisesAtMost most (calls old) (calls new)
     pub caused : GaveUpFor old new cause
 
   abbrev pub Tallies : R → R → Result Counted Cause → Type 0

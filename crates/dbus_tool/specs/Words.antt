@@ -1,13 +1,12 @@
 -- What the program does for the words of its command line.
 use Rattle.std.specs.Prelude.{◌≡◌, ◌⊎◌, ℕ, ◌^◌, List, Option, Result, Ok, Err, IfOk, string_bytes}
-use Rattle.std.specs.Io.KnownBytes.{Appends}
 use Rattle.clap.specs.Words.{Text}
 use Rattle.dbus_value_model.specs.declared.limits.Limits.{Limits}
 use Rattle.dbus_match.specs.declared.fault.RuleFault.{RuleFault}
 use Rattle.dbus_match.specs.declared.fault.RuleFault.TheVariants as rule_fault
+use Rattle.dbus_device.specs.Write.{Wrote, Stopped}
 use Rattle.dbus_command.specs.Named.{IsNamedBy}
 use Rattle.dbus_command.specs.Told.{TellsFault}
-use Rattle.dbus_tool.specs.Checking.{WritesPrefix}
 use Rattle.dbus_tool.specs.Devices.{Reading, Writing}
 use Rattle.dbus_tool.specs.RuleLines.{rule_line}
 use Rattle.dbus_tool.specs.Running.{Runs, Told}
@@ -19,10 +18,10 @@ use Rattle.dbus_tool.specs.declared.ending.ExitStatus.TheVariants as status
 use Rattle.dbus_tool.specs.declared.ending.Cause.TheVariants as cause
 
 module _ {E : Type 0} (held : E → Option (List ℕ)) (failures : E → ℕ) where
-  -- the text was written, or a write failed
+  -- the text was written, or a write failed after its first bytes
   abbrev pub ShowsUsage : List ℕ → E → E → ExitStatus → Type 0
-  ShowsUsage text old new end = ((end ≡ status.Usage) × Appends (held old) (held new) text)
-      ⊎ ((end ≡ status.Failed) × WritesPrefix held failures text cause.WriteFailed old new)
+  ShowsUsage text old new end = ((end ≡ status.Usage) × Wrote held failures old text new)
+      ⊎ ((end ≡ status.Failed) × (n : ℕ) × Stopped held failures old text n new)
 
   -- memory was wanted, and that was told
   abbrev pub WantsMemory : E → E → ExitStatus → Type 0
@@ -33,10 +32,10 @@ module _ {E : Type 0} (held : E → Option (List ℕ)) (failures : E → ℕ) wh
   RefusesRule rule_fault.Memory old new end = WantsMemory old new end
   RefusesRule (rule_fault.Bad at why) old new end = ShowsUsage (rule_line at why) old new end ⊎ WantsMemory old new end
 
--- the text was written, or a write failed, which the second writer was told
+-- the text was written, or a write failed after its first bytes, which the second writer was told
 abbrev pub ShowsText : {W E : Type 0} → Writing W → Writing E → List ℕ → ExitStatus → Type 0
-ShowsText w e text end = ((end ≡ status.Done) × Appends (w.held w.old) (w.held w.new) text × (e.new ≡ e.old))
-    ⊎ ((end ≡ status.Failed) × WritesPrefix w.held w.failures text cause.WriteFailed w.old w.new × Told e.held e.failures e.old e.new cause.WriteFailed)
+ShowsText w e text end = ((end ≡ status.Done) × Wrote w.held w.failures w.old text w.new × (e.new ≡ e.old))
+    ⊎ ((end ≡ status.Failed) × Told e.held e.failures e.old e.new cause.WriteFailed × (n : ℕ) × Stopped w.held w.failures w.old text n w.new)
 
 module _ {R W E : Type 0} (r : Reading R) (w : Writing W) (e : Writing E) where
   -- what is done for a command under its limits, or for words that name none

@@ -1,55 +1,49 @@
 //! What is written after the messages of an input.
-ghost use Rattle.std.specs.Prelude.{◌≡◌, ◌++◌, IfOk, string_bytes};
-ghost use Rattle.dbus_tool.specs.Checking.{WritesLine};
+ghost use Rattle.std.specs.Prelude.{◌≡◌, IfOk, string_bytes};
 ghost use Rattle.dbus_tool.specs.Devices.{writing};
-ghost use Rattle.dbus_tool.specs.Closing.{Closes, TellsSecond, WritesRest};
+ghost use Rattle.dbus_tool.specs.Closing.{Closes, TellsSecond, WritesLine};
 ghost use Rattle.dbus_tool.specs.Output.{status_of, check_line, last_line, fault_line, second_output};
-ghost use Rattle.dbus_tool.specs.Running.{Told};
 
 use crate::ending::{Cause, Counted, ExitStatus};
 use crate::failing::give_up;
-use crate::gathering::{Gathered, Unwritten, write_after, write_out};
 use crate::lines::{ok_line, refused_line};
 use dbus_command::Command;
 use dbus_stream::{Sink, WrittenOnly, write_all};
 use dbus_value::Fault;
 use std::alloc::{AllocError, Allocator};
 
-/// Writes what is gathered, the last line of the command and the fault, where it has these.
+/// Writes the last line of the command and the fault, where it has these.
 pub(crate) fn close<A: Allocator + Copy, W: Sink, E: Sink>(
     alloc: A,
     command: &Command,
     counted: Counted,
-    gathered: &mut Gathered,
     first: &mut W,
     second: &mut E,
 ) -> ExitStatus
     ensures { Closes (writing W.held W.failures first.old first.new)
-        (writing E.held E.failures second.old second.new) command.now counted gathered.old.items
-        result }
+        (writing E.held E.failures second.old second.new) command.now counted result }
 {
-    match close_first(alloc, command, counted, gathered, first) {
+    match close_first(alloc, command, counted, first) {
         Ok(()) => close_second(alloc, command, counted, second),
         Err(cause) => give_up(cause, second),
     }
 }
 
-// Writes what is gathered, and then the last line.
+// Writes the last line.
 fn close_first<A: Allocator + Copy, W: Sink>(
     alloc: A,
     command: &Command,
     counted: Counted,
-    gathered: &mut Gathered,
     first: &mut W,
 ) -> Result<(), Cause>
     ensures { WritesLine W.held W.failures
-        (gathered.old.items ++ last_line command.now counted.count counted.size counted.fault)
-        first.old first.new result }
+        (last_line command.now counted.count counted.size counted.fault) first.old first.new
+        result }
 {
     match last_line(alloc, command, counted) {
-        Ok(line) => match write_after(line.as_bytes(), gathered, first) {
+        Ok(line) => match write_all(first, line.as_bytes()) {
             Ok(()) => Ok(()),
-            Err(Unwritten) => Err(Cause::WriteFailed),
+            Err(WrittenOnly(_)) => Err(Cause::WriteFailed),
         },
         Err(_) => Err(Cause::Memory),
     }
@@ -129,33 +123,5 @@ fn status_of(fault: Option<Fault>) -> ExitStatus
     match fault {
         None => ExitStatus::Done,
         Some(_) => ExitStatus::Refused,
-    }
-}
-
-/// Writes what is gathered, unless a write failed before, and tells the second writer the cause. That is the first
-/// cause, also where this write fails as well.
-pub(crate) fn break_off<W: Sink, E: Sink>(
-    cause: Cause,
-    gathered: &mut Gathered,
-    first: &mut W,
-    second: &mut E,
-) -> ExitStatus
-    ensures failed { result ≡ ExitStatus.Failed }
-    ensures rest { WritesRest W.held W.failures cause gathered.old.items first.old first.new }
-    ensures told { Told E.held E.failures second.old second.new cause }
-{
-    write_rest(cause, gathered, first);
-    give_up(cause, second)
-}
-
-// Writes what is gathered, unless a write failed before.
-fn write_rest<W: Sink>(cause: Cause, gathered: &mut Gathered, first: &mut W)
-    ensures { WritesRest W.held W.failures cause gathered.old.items first.old first.new }
-{
-    match cause {
-        Cause::WriteFailed => {}
-        Cause::Memory | Cause::ReadFailed | Cause::TooManyReads => {
-            let _ = write_out(gathered, first);
-        }
     }
 }

@@ -1,12 +1,11 @@
 //! The messages of a source are counted, and none is built.
-ghost use Rattle.std.specs.Prelude.{◌≡◌, ◌≤◌, ◌^◌};
+ghost use Rattle.std.specs.Prelude.{◌≡◌, ◌≤◌, ◌^◌, []};
 ghost use Rattle.dbus_stream.specs.CheckReading.{limits_of, source_of, most_reads_of};
 ghost use Rattle.dbus_tool.specs.Tallying.{Tallies, IsUnread};
 ghost use Rattle.dbus_tool.specs.Devices.{reading, writing};
 ghost use Rattle.dbus_tool.specs.Handing.{Hands};
 
 use crate::ending::{Cause, Counted};
-use crate::gathering::Gathered;
 use crate::handing::{ended_by, hand_over};
 use dbus_command::Command;
 use dbus_stream::{CheckReader, Sink, Source};
@@ -69,16 +68,14 @@ pub(crate) fn count_or_hand<R: Source, A: Allocator + Copy, W: Sink>(
     limits: Limits,
     reads: u64,
     source: &mut R,
-    gathered: &mut Gathered,
     first: &mut W,
 ) -> Result<Counted, Cause>
     requires { reads ≤ 2 ^ 32 }
     ensures { Hands (reading R.left R.calls R.failures source.old source.new)
-        (writing W.held W.failures first.old first.new) limits reads command.now
-        gathered.old.items gathered.new.items result }
+        (writing W.held W.failures first.old first.new) limits reads command.now [] [] result }
 {
     match command {
         Command::Check => count_over(limits, reads, source),
-        _ => hand_over(alloc, command, limits, reads, source, gathered, first),
+        _ => hand_over(alloc, command, limits, reads, source, first),
     }
 }

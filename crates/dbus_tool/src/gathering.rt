@@ -43,15 +43,14 @@ pub(crate) fn put_out<W: Sink>(
     }
 }
 
-/// Writes what is gathered, and then these bytes.
-pub(crate) fn write_after<W: Sink>(
+// Writes what is gathered, and then these bytes.
+fn write_after<W: Sink>(
     bytes: &[u8],
     gathered: &mut Gathered,
     first: &mut W,
 ) -> Result<(), Unwritten>
-    ensures gathers { Gathers W.held W.failures bytes.now gathered.old.items gathered.new.items
-        first.old first.new result }
-    ensures emptied { gathered.new.items ≡ [] }
+    ensures { Gathers W.held W.failures bytes.now gathered.old.items gathered.new.items first.old
+        first.new result }
 {
     match write_out(gathered, first) {
         Ok(()) => match write_all(first, bytes) {

@@ -1,8 +1,9 @@
 //! The messages of a reader are handed to a command.
-ghost use Rattle.std.specs.Prelude.{◌≡◌, ◌≤◌, ◌^◌, ℕ, List, None, IfOk};
+ghost use Rattle.std.specs.Prelude.{◌≡◌, ◌≤◌, ◌^◌, ℕ, List, [], None, Err, IfOk};
 ghost use Rattle.dbus_raw_reader.specs.Reading.{IsNewReader, source_of, done_of, most_reads_of, stopped_of};
 ghost use Rattle.dbus_tool.specs.Counting.{ended_by, stopped_by};
 ghost use Rattle.dbus_tool.specs.Devices.{reading, writing};
+ghost use Rattle.dbus_tool.specs.Gathering.{GathersOrNot};
 ghost use Rattle.dbus_tool.specs.Handing.{GivesNext, Hands};
 
 use crate::ending::{Cause, Counted, NoMessage};
@@ -132,6 +133,46 @@ pub(crate) fn ended_by(count: u64, size: u64, fault: ReadFault) -> Result<Counte
     }
 }
 
+// Hands each message of the reader to the command, and then writes what is gathered.
+fn hand_and_write<R: Source, A: Allocator + Copy, W: Sink>(
+    alloc: A,
+    command: &Command,
+    limits: Limits,
+    messages: &mut RawReader<R, A>,
+    first: &mut W,
+) -> Result<Counted, Cause>
+    requires { IsNewReader (source_of messages.old) (most_reads_of messages.old) limits
+        messages.old }
+    ensures hands { Hands
+        (reading R.left R.calls R.failures (source_of messages.old) (source_of messages.new))
+        (writing W.held W.failures first.old first.new) limits (most_reads_of messages.old)
+        command.now [] [] result }
+    ensures same_reference { R.reference (source_of messages.new) ≡
+        R.reference (source_of messages.old) }
+{
+    let mut gathered = Gathered::new();
+    match hand_all(alloc, command, limits, messages, &mut gathered, first) {
+        Ok(counted) => match write_out(&mut gathered, first) {
+            Ok(()) => Ok(counted),
+            Err(Unwritten) => Err(Cause::WriteFailed),
+        },
+        Err(Cause::Memory) => Err(out_of_memory(&mut gathered, first)),
+        Err(cause) => Err(cause),
+    }
+}
+
+// Writes what is gathered where memory ran out, and answers why the run fails.
+fn out_of_memory<W: Sink>(gathered: &mut Gathered, first: &mut W) -> Cause
+    ensures gathers { GathersOrNot W.held W.failures [] gathered.old.items gathered.new.items
+        first.old first.new (Err result) }
+    ensures emptied { gathered.new.items ≡ [] }
+{
+    match write_out(gathered, first) {
+        Ok(()) => Cause::Memory,
+        Err(Unwritten) => Cause::WriteFailed,
+    }
+}
+
 // Hands the messages of a source to the command, and hands the source back.
 fn hand_through<R: Source + Drop, A: Allocator + Copy, W: Sink>(
     alloc: A,
@@ -139,17 +180,15 @@ fn hand_through<R: Source + Drop, A: Allocator + Copy, W: Sink>(
     limits: Limits,
     reads: u64,
     source: R,
-    gathered: &mut Gathered,
     first: &mut W,
 ) -> (Result<Counted, Cause>, R)
     requires { reads ≤ 2 ^ 32 }
     ensures hands { Hands (reading R.left R.calls R.failures source result.1)
-        (writing W.held W.failures first.old first.new) limits reads command.now
-        gathered.old.items gathered.new.items result.0 }
+        (writing W.held W.failures first.old first.new) limits reads command.now [] [] result.0 }
     ensures same_reference { R.reference result.1 ≡ R.reference source }
 {
     let mut messages = RawReader::within(alloc, source, reads, limits);
-    let counted = hand_all(alloc, command, limits, &mut messages, gathered, first);
+    let counted = hand_and_write(alloc, command, limits, &mut messages, first);
     (counted, messages.into_source())
 }
 
@@ -160,14 +199,12 @@ pub(crate) fn hand_over<R: Source, A: Allocator + Copy, W: Sink>(
     limits: Limits,
     reads: u64,
     source: &mut R,
-    gathered: &mut Gathered,
     first: &mut W,
 ) -> Result<Counted, Cause>
     requires { reads ≤ 2 ^ 32 }
     ensures { Hands (reading R.left R.calls R.failures source.old source.new)
-        (writing W.held W.failures first.old first.new) limits reads command.now
-        gathered.old.items gathered.new.items result }
+        (writing W.held W.failures first.old first.new) limits reads command.now [] [] result }
 {
-    let (counted, _source) = hand_through(alloc, command, limits, reads, source, gathered, first);
+    let (counted, _source) = hand_through(alloc, command, limits, reads, source, first);
     counted
 }

@@ -4,10 +4,10 @@ ghost use Rattle.dbus_value_model.specs.Specification.{specification};
 ghost use Rattle.dbus_tool.specs.Devices.{reading, writing};
 ghost use Rattle.dbus_tool.specs.Running.{Runs};
 
-use crate::closing::{break_off, close};
+use crate::closing::close;
 use crate::counting::count_or_hand;
 use crate::ending::ExitStatus;
-use crate::gathering::Gathered;
+use crate::failing::give_up;
 use dbus_command::Command;
 use dbus_stream::{MOST_READS, Sink, Source};
 use dbus_value::Limits;
@@ -64,12 +64,14 @@ pub fn run_reads<A: Allocator + Copy, R: Source, W: Sink, E: Sink>(
 /// the start of the input and the name of the reason. `Check` writes that line on the first writer; or, where the input is
 /// messages alone, `ok N messages B bytes`, how many they are and of how many bytes.
 ///
-/// Where the run fails, it writes `read failed`, `write failed`, `too many reads` or `out of memory` on the second
-/// writer, the first of these that was met. Each line ends in LF. What is written is gathered up to 16,384 bytes, and
-/// goes out before each read and before the status is given. The run holds at most the bytes of one message and of one
-/// read, room for the longest output of a message so far, and what is gathered.
-/// `Swap` makes that room only for messages that it turns, and `Filter` makes none. `Check` holds no message and no byte of one
-/// but those of one read, and takes no memory for them.
+/// Where the run fails, it stops at the first cause that it meets, and writes `read failed`, `write failed`, `too many reads`
+/// or `out of memory` on the second writer. Each line ends in LF. What is written is gathered up to 16,384 bytes, and goes
+/// out before each read and before the status is given, also where memory ran out; if it does not go out then, the line is
+/// `write failed`. A writer gets no more after a write to it failed.
+///
+/// The run holds at most the bytes of one message and of one read, room for the longest output of a message so far, and what
+/// is gathered. `Swap` makes that room only for messages that it turns, and `Filter` makes none. `Check` holds no message and
+/// no byte of one but those of one read, and takes no memory for them.
 ///
 /// `Done`, `Refused`: all was written, no read and no write failed, and the status says which. `Failed`: a read failed, a
 /// write to either writer failed or took none of its bytes, as many reads were made as may be, or a growth was refused. It
@@ -89,28 +91,8 @@ pub fn run_within<A: Allocator + Copy, R: Source, W: Sink, E: Sink>(
         (writing E.held E.failures second.old second.new)
         limits reads command result }
 {
-    run_command(alloc, &command, limits, reads, reader, first, second)
-}
-
-// The same, of a command that is lent.
-fn run_command<A: Allocator + Copy, R: Source, W: Sink, E: Sink>(
-    alloc: A,
-    command: &Command,
-    limits: Limits,
-    reads: u64,
-    reader: &mut R,
-    first: &mut W,
-    second: &mut E,
-) -> ExitStatus
-    requires { reads ≤ 2 ^ 32 }
-    ensures { Runs (reading R.left R.calls R.failures reader.old reader.new)
-        (writing W.held W.failures first.old first.new)
-        (writing E.held E.failures second.old second.new)
-        limits reads command.now result }
-{
-    let mut gathered = Gathered::new();
-    match count_or_hand(alloc, command, limits, reads, reader, &mut gathered, first) {
-        Ok(counted) => close(alloc, command, counted, &mut gathered, first, second),
-        Err(cause) => break_off(cause, &mut gathered, first, second),
+    match count_or_hand(alloc, &command, limits, reads, reader, first) {
+        Ok(counted) => close(alloc, &command, counted, first, second),
+        Err(cause) => give_up(cause, second),
     }
 }

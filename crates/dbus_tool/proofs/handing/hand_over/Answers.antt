@@ -1,4 +1,4 @@
-use Rattle.std.proofs.Common.{rules, subst, MutBor}
+use Rattle.std.proofs.Common.{[], rules, subst, MutBor}
 use Rattle.dbus_tool.specs.Devices.{reading, writing}
 use Rattle.dbus_tool.specs.Handing.{Hands}
 use Rattle.dbus_tool.proofs.ThroughSteps.{hands_through}
@@ -8,6 +8,6 @@ pub returns : goal.returns
 returns g c =
     subst (λ (s : g.row.R.Denot). Hands (reading g.R.Source.left g.R.Source.calls g.R.Source.failures c.args.source.now s)
     (writing g.W.Sink.held g.W.Sink.failures c.args.first.now c.hand_through-counted.new.first) c.args.limits c.args.reads c.args.command.now
-    c.args.gathered.now.items c.hand_through-counted.new.gathered.items c.hand_through-counted.result.0) (search rules)
+    [] [] c.hand_through-counted.result.0) (search rules)
     (hands_through (λ (r : MutBor g.row.R.Denot). r.now) g.R.Source.left g.R.Source.calls g.R.Source.failures g.W.Sink.held g.W.Sink.failures c.args.limits c.args.reads c.args.command.now _ c.hand_through-counted.result.1
-    c.args.gathered.now.items c.hand_through-counted.new.gathered.items c.args.first.now c.hand_through-counted.new.first c.hand_through-counted.result.0 c.hand_through-counted.ensures.hands)
+    c.args.first.now c.hand_through-counted.new.first c.hand_through-counted.result.0 c.hand_through-counted.ensures.hands)

@@ -1,4 +1,4 @@
-use Rattle.dbus_tool.proofs.GivenSteps.{gives_unwritten}
+use Rattle.dbus_tool.proofs.GivenSteps.{gives_unwritten, written_out}
 use Rattle.dbus_tool.proofs.handing.read_message.Goals as goal
 
 pub returns-in-Ok-advance-clause-gives : goal.returns-in-Ok-advance-clause-gives
@@ -9,7 +9,7 @@ returns-in-Ok-advance-clause-gives g c =
 pub returns-in-Err-advance-clause-gives : goal.returns-in-Err-advance-clause-gives
 returns-in-Err-advance-clause-gives g c =
     let read = c.in-Err-advance.ensures.read in
-    (read.0, read.1 c.requires, c.in-Err-advance.ensures.failed, c.in-Ok.ensures.gathers)
+    (read.0, read.1 c.requires, c.in-Err-advance.ensures.failed, c.in-Ok.ensures.gathers, written_out c.in-Err-advance.fault c.write_out.new.gathered.items c.in-Ok.ensures.emptied)
 
 pub returns-in-Err-clause-gives : goal.returns-in-Err-clause-gives
 returns-in-Err-clause-gives g c =
