@@ -6,3 +6,4 @@ mod PrefixSteps
 mod Parsing
 mod Spelling
 mod Shapes
+pub mod TypeLengths

@@ -9,6 +9,7 @@ mod sig_type;
 mod signature_codes;
 mod spell;
 mod type_codes;
+mod type_lengths;
 
 pub use dbus_texts::{
     NameFault, SigFault, TextKind, TextScan, check_bus_name, check_error_name, check_interface,
@@ -20,3 +21,4 @@ pub use sig_type::SigType;
 pub use signature_codes::{boundary, free_width, type_end};
 pub use spell::{push_type, signature_text};
 pub use type_codes::type_code;
+pub use type_lengths::{lengths_in, note_lengths};
