@@ -9,7 +9,7 @@ use crate::pieces::Pieces;
 use dbus_value_model::{Fault, Limits};
 use std::marker::Model;
 
-/// A checker of one message after another, whose bytes come in pieces of any length. It has a fixed size, about 23,000 bytes,
+/// A checker of one message after another, whose bytes come in pieces of any length. It has a fixed size, about 40,000 bytes,
 /// takes no memory, and holds no byte of a message but the signatures of its body and of the variants that are open, and
 /// fewer than 288 bytes of an item that is not whole. The limits of its messages are those that it was made with.
 ///

@@ -10,7 +10,7 @@ use Rattle.dbus_value_model.specs.Reading.{Partial}
 use Rattle.dbus_value_checker.specs.declared.values.Values.{Values}
 use Rattle.dbus_value_checker.specs.declared.values.Doing.{Doing}
 use Rattle.dbus_value_checker.specs.Suspended.{Work, Parts, Elements, work}
-use Rattle.dbus_value_checker.specs.Denotations.{Answer, rest_of, HasFrames, Goes, Numbers, after_piece}
+use Rattle.dbus_value_checker.specs.Denotations.{Answer, rest_of, HasFrames, HasNotes, Goes, Numbers, after_piece}
 use Rattle.dbus_value_checker.proofs.NumberRuns.{width_some, whole_numbers, plain_type, numbers_wait, numbers_run}
 use Rattle.dbus_value_checker.proofs.Slices.{slice_head, slice_room}
 use Rattle.dbus_value_checker.proofs.FrameLaws.{frames_reach, frames_small}
@@ -32,11 +32,11 @@ element_at x (Elements turns room end t ∷ ws) h a =
 pub element_code : (x : Values) (answer : Answer) → Goes x answer → x.inner.array ≡ true → x.inner.pos < length x.text.items
 element_code x answer g a = element_at x g.ws g.frames a
 
-numbers_at : (x : Values) (d : Doing) (answer : Answer) (c w : ℕ) (ws : List Work) → HasFrames x.offset x ws → ((s : List ℕ) → rest_of answer x ws x.offset s ≡ answer.to s) → x.inner.array ≡ true → get_or x.text.items x.inner.pos 0 ≡ c
+numbers_at : (x : Values) (d : Doing) (answer : Answer) (c w : ℕ) (ws : List Work) → HasFrames x.offset x ws → HasNotes x → ((s : List ℕ) → rest_of answer x ws x.offset s ≡ answer.to s) → x.inner.array ≡ true → get_or x.text.items x.inner.pos 0 ≡ c
     → ((t : TypeTree) → first_code t ≡ c → w ≡ free_width_of t) → 0 < w → gap_to w x.offset ≡ 0 → x.offset + w ≤ x.inner.end → Numbers (record x { doing = d }) w answer
-numbers_at x d answer c w [] h same a code is some aligned fits = absurd h
-numbers_at x d answer c w (Parts room end ts ∷ ws) h same a code is some aligned fits = absurd (differ x.inner.array h.0.is.parts a)
-numbers_at x d answer c w (Elements turns room end t ∷ ws) h same a code is some aligned fits =
+numbers_at x d answer c w [] h noted same a code is some aligned fits = absurd h
+numbers_at x d answer c w (Parts room end ts ∷ ws) h noted same a code is some aligned fits = absurd (differ x.inner.array h.0.is.parts a)
+numbers_at x d answer c w (Elements turns room end t ∷ ws) h noted same a code is some aligned fits =
     let there = slice_head x.text.items x.inner.pos x.inner.stop (first_code t) (after_code t) h.0.pos_is (h.0.is.type ∙ begins t) in
     let k = plain_type t c w (sym there ∙ code) is some in
     record {
@@ -48,13 +48,14 @@ numbers_at x d answer c w (Elements turns room end t ∷ ws) h same a code is so
       width_is = k.1.1;
       plain = k.1.2;
       frames = subst (λ (u : TypeTree). HasFrames x.offset x (Elements turns room end u ∷ ws)) k.1.0 h;
+      noted = noted;
       aligned = aligned;
       more = fits;
       same = λ s. subst (λ (u : TypeTree). rest_of answer x (Elements turns room end u ∷ ws) x.offset s ≡ answer.to s) k.1.0 (same s);
     }
 
 pub numbers_begin : (x : Values) (d : Doing) (answer : Answer) (c w : ℕ) → Goes x answer → x.inner.array ≡ true → get_or x.text.items x.inner.pos 0 ≡ c → ((t : TypeTree) → first_code t ≡ c → w ≡ free_width_of t) → 0 < w → gap_to w x.offset ≡ 0 → x.offset + w ≤ x.inner.end → Numbers (record x { doing = d }) w answer
-numbers_begin x d answer c w g a code is some aligned fits = numbers_at x d answer c w g.ws g.frames g.same a code is some aligned fits
+numbers_begin x d answer c w g a code is some aligned fits = numbers_at x d answer c w g.ws g.frames g.noted g.same a code is some aligned fits
 
 module _ (x : Values) (w : ℕ) (answer : Answer) (b : Numbers x w answer) where
   pub numbers_small : (x.offset + w ≤ x.inner.end) × (x.inner.end < 4294967296) × (0 < w)
@@ -104,6 +105,7 @@ module _ (x : Values) (w : ℕ) (answer : Answer) (b : Numbers x w answer) where
           },
           frames_reach x.offset (x.offset + n) x.inner.end x.inner.top x.end x.text.items (reverse x.frames.items) b.ws (omega arith) b.frames.1,
         );
+        noted = b.noted;
         same = λ c.
             subst (λ (q : ℕ). work x.bounds x.order (Elements (b.turns - m) b.room b.stop (NumberType b.code)) rest_on q c ≡ answer.to (take n s ++ c)) at
             (sym (numbers_run x.bounds x.order b.code b.plain b.room b.stop rest_on m (b.turns - m) x.offset (take n s) c size (omega arith) aligned_to)

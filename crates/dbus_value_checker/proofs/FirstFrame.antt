@@ -5,16 +5,18 @@ use Rattle.dbus_texts.specs.Types.{TypeTrees, sigs, AreShaped}
 use Rattle.dbus_value_checker.specs.declared.values.Values.{Values}
 use Rattle.dbus_value_checker.specs.declared.values.Frame.{Frame}
 use Rattle.dbus_value_checker.specs.Suspended.{On, Parts, Work}
-use Rattle.dbus_value_checker.specs.Frames.{slice, AreFrames}
+use Rattle.dbus_value_checker.specs.Frames.{slice, AreFrames, AreNoted}
 use Rattle.dbus_value_checker.specs.Denotations.{Goes}
 use Rattle.dbus_value_checker.specs.Moves.{values_on}
+use Rattle.dbus_types.specs.TypeLengths.{AreLengths}
+use Rattle.dbus_value_checker.proofs.Notes.{after_noted}
 
 -- a state whose only frame is that of these types
 pub begun_goes : (x : Values) (types : List ℕ) (room : ℕ) (ts : TypeTrees) (last : On)
-    → x.frames.items ≡ [] → x.text.items ≡ types → x.inner ≡ record { array = false; pos = 0; stop = length types; top = length types; end = x.end; room = room }
+    → x.frames.items ≡ [] → x.text.items ≡ types → AreLengths types x.lengths.items → x.inner ≡ record { array = false; pos = 0; stop = length types; top = length types; end = x.end; room = room }
     → x.offset ≤ x.end → x.end < 4294967296 → room ≤ 64 → length types ≤ 255 → types ≡ sigs ts → AreShaped ts
     → Goes x (values_on x.bounds x.order room x.end ts last x.offset)
-begun_goes x types room ts last none text inner at_most near few short spelled complete =
+begun_goes x types room ts last none text lengths inner at_most near few short spelled complete =
     let w : Work = Parts room x.end ts in
     let begun : Frame = record { array = false; pos = 0; stop = length types; top = length types; end = x.end; room = room } in
     let back : reverse x.frames.items ≡ [] = ap (λ (fs : List Frame). reverse fs) none in
@@ -31,8 +33,10 @@ begun_goes x types room ts last none text inner at_most near few short spelled c
       },
       (omega arith, near),
     ) in
+    let notes : (length x.lengths.items ≡ length types) × AreNoted types x.lengths.items (begun ∷ []) = (lengths.same, (after_noted [] [] types x.lengths.items 0 (length types) lengths refl refl (omega arith), tt)) in
     record {
       ws = w ∷ [];
       frames = rw (back, text, inner) here;
+      noted = rw (back, text, inner) notes;
       same = λ c. refl;
     }

@@ -3,6 +3,7 @@ pub mod FrontSteps
 pub mod TypeCodes
 pub mod Slices
 pub mod FrameLaws
+pub mod Notes
 pub mod FirstFrame
 pub mod NextValues
 pub mod PaddedValues

@@ -10,10 +10,11 @@ use Rattle.dbus_value_checker.specs.declared.values.Frame.{Frame}
 use Rattle.dbus_value_checker.specs.declared.values.Doing.TheVariants as rust
 use Rattle.dbus_types.specs.SignatureCodes.{IsTypeEnd}
 use Rattle.dbus_value_checker.specs.Suspended.{onward, Work, Parts, Elements}
-use Rattle.dbus_value_checker.specs.Frames.{slice, AreFrames}
-use Rattle.dbus_value_checker.specs.Denotations.{Answer, rest_of, HasFrames, Goes, Wants}
+use Rattle.dbus_value_checker.specs.Frames.{slice, AreFrames, AreNoted}
+use Rattle.dbus_value_checker.specs.Denotations.{Answer, rest_of, HasFrames, HasNotes, Goes, Wants}
 use Rattle.dbus_value_checker.proofs.Suspension.{parts_more, elements_more, elements_none}
 use Rattle.dbus_value_checker.proofs.FrameLaws.{within, frames_reach}
+use Rattle.dbus_value_checker.proofs.Notes.{part_noted, same_notes}
 use Rattle.dbus_value_checker.proofs.TypeCodes.{sigs_some}
 use Rattle.dbus_value_checker.proofs.Slices.{slice_room, slice_whole, slice_after, slice_first}
 
@@ -26,11 +27,11 @@ low_of reach low high bottom text f fs (w ∷ ws) h = h.0.low_is
 false_true : (b : Bool) → b ≡ false → b ≡ true → ⊥
 false_true b e d = cc
 
-next_element_at : (x : Values) (answer : Answer) (ws : List Work) → HasFrames x.offset x ws → ((c : List ℕ) → rest_of answer x ws x.offset c ≡ answer.to c) → x.inner.array ≡ true → x.offset < x.inner.end → Wants x x.inner.pos x.inner.stop answer
-next_element_at x answer [] h same a lt = absurd h
-next_element_at x answer (Parts room end ts ∷ ws) h same a lt = absurd (false_true x.inner.array h.0.is.parts a)
-next_element_at x answer (Elements zero room end t ∷ ws) h same a lt = absurd (let n = h.0.is.turns_is in omega arith)
-next_element_at x answer (Elements (suc turns) room end t ∷ ws) h same a lt =
+next_element_at : (x : Values) (answer : Answer) (ws : List Work) → HasFrames x.offset x ws → HasNotes x → ((c : List ℕ) → rest_of answer x ws x.offset c ≡ answer.to c) → x.inner.array ≡ true → x.offset < x.inner.end → Wants x x.inner.pos x.inner.stop answer
+next_element_at x answer [] h noted same a lt = absurd h
+next_element_at x answer (Parts room end ts ∷ ws) h noted same a lt = absurd (false_true x.inner.array h.0.is.parts a)
+next_element_at x answer (Elements zero room end t ∷ ws) h noted same a lt = absurd (let n = h.0.is.turns_is in omega arith)
+next_element_at x answer (Elements (suc turns) room end t ∷ ws) h noted same a lt =
     let is = h.0.is in
     let n = is.turns_is in
     let e = is.end_is in
@@ -49,7 +50,9 @@ next_element_at x answer (Elements (suc turns) room end t ∷ ws) h same a lt =
         },
         frames_reach x.offset (suc x.offset) x.inner.end x.inner.top x.end x.text.items (reverse x.frames.items) ws (omega arith) h.1,
       );
+      noted = noted;
       text = is.type;
+      type_noted = noted.1.0;
       complete = subst (λ (b : Bool). IsShaped b t) (sym a) is.complete;
       pos_is = h.0.pos_is;
       stop_is = h.0.stop_is;
@@ -60,19 +63,19 @@ next_element_at x answer (Elements (suc turns) room end t ∷ ws) h same a lt =
     }
 
 pub next_element : (x : Values) (answer : Answer) → Goes x answer → x.inner.array ≡ true → x.offset < x.inner.end → Wants x x.inner.pos x.inner.stop answer
-next_element x answer g a lt = next_element_at x answer g.ws g.frames g.same a lt
+next_element x answer g a lt = next_element_at x answer g.ws g.frames g.noted g.same a lt
 
 -- ---- a part is wanted
 
-pub next_part_at : (x : Values) (answer : Answer) (ws : List Work) (q : ℕ) → IsTypeEnd (take x.inner.stop x.text.items) x.inner.pos q → HasFrames (suc x.offset) x ws
+pub next_part_at : (x : Values) (answer : Answer) (ws : List Work) (q : ℕ) → IsTypeEnd (take x.inner.stop x.text.items) x.inner.pos q → HasFrames (suc x.offset) x ws → HasNotes x
     → ((c : List ℕ) → rest_of answer x ws x.offset c ≡ answer.to c) → x.inner.array ≡ false → x.inner.pos < x.inner.stop → x.inner.stop ≤ length x.text.items
     → Wants (record x { inner = record x.inner { pos = q } }) x.inner.pos q answer
-next_part_at x answer [] q is h same a lt le = absurd h
-next_part_at x answer (Elements turns room end t ∷ ws) q is h same a lt le = absurd (false_true x.inner.array a h.0.is.elements)
-next_part_at x answer (Parts room end NoTypes ∷ ws) q is h same a lt le =
+next_part_at x answer [] q is h noted same a lt le = absurd h
+next_part_at x answer (Elements turns room end t ∷ ws) q is h noted same a lt le = absurd (false_true x.inner.array a h.0.is.elements)
+next_part_at x answer (Parts room end NoTypes ∷ ws) q is h noted same a lt le =
     let n = slice_whole x.text.items x.inner.pos x.inner.stop [] (omega arith) le h.0.is.types in
     absurd (omega arith)
-next_part_at x answer (Parts room end (MoreTypes t ts) ∷ ws) q is h same a lt le =
+next_part_at x answer (Parts room end (MoreTypes t ts) ∷ ws) q is h noted same a lt le =
     let f = h.0.is in
     let past : q ≡ x.inner.pos + length (sig t) = is t (sigs ts) f.types in
     let room_in : x.inner.pos + length (sig t ++ sigs ts) ≤ x.inner.stop = slice_room x.text.items x.inner.pos x.inner.stop (sig t ++ sigs ts) h.0.pos_is f.types in
@@ -93,6 +96,8 @@ next_part_at x answer (Parts room end (MoreTypes t ts) ∷ ws) q is h same a lt 
         },
         h.1,
       );
+      noted = (noted.0, (part_noted x.text.items x.lengths.items x.inner.pos x.inner.stop q x.inner.stop noted.1.0 (omega arith) (omega arith), noted.1.1));
+      type_noted = part_noted x.text.items x.lengths.items x.inner.pos x.inner.stop x.inner.pos q noted.1.0 (omega arith) (omega arith);
       text = subst (λ (p : ℕ). slice x.text.items x.inner.pos p ≡ sig t) (sym past) (slice_first x.text.items x.inner.pos x.inner.stop (sig t) (sigs ts) h.0.pos_is f.types);
       complete = subst (λ (b : Bool). IsShaped b t) (sym a) f.complete.0;
       pos_is = omega arith;
@@ -106,7 +111,7 @@ next_part_at x answer (Parts room end (MoreTypes t ts) ∷ ws) q is h same a lt 
 pub next_part : (x : Values) (answer : Answer) (q : ℕ) → IsTypeEnd (take x.inner.stop x.text.items) x.inner.pos q → Goes x answer → x.inner.array ≡ false → x.inner.pos < x.inner.stop → x.inner.stop ≤ length x.text.items
     → Wants (record x { inner = record x.inner { pos = q } }) x.inner.pos q answer
 next_part x answer q is g a lt le =
-    next_part_at x answer g.ws q is (frames_reach x.offset (suc x.offset) x.offset (length x.text.items) x.end x.text.items (x.inner ∷ reverse x.frames.items) g.ws (omega arith) g.frames) g.same a lt le
+    next_part_at x answer g.ws q is (frames_reach x.offset (suc x.offset) x.offset (length x.text.items) x.end x.text.items (x.inner ∷ reverse x.frames.items) g.ws (omega arith) g.frames) g.noted g.same a lt le
 
 -- ---- nothing more is wanted of the innermost container
 
@@ -147,14 +152,16 @@ pub record Popped (x y : Values) (f : Frame) : Type 0 where
   pub end : y.end ≡ x.end
   pub offset : y.offset ≡ x.offset
   pub text : y.text.items ≡ x.text.items
+  pub lengths : y.lengths.items ≡ x.lengths.items
   pub inner : y.inner ≡ f
   pub frames : x.frames.items ≡ y.frames.items ++ f ∷ []
 
-popped_at : (x y : Values) (f : Frame) (answer : Answer) (ws : List Work) → HasFrames x.offset x ws → ((c : List ℕ) → rest_of answer x ws x.offset c ≡ answer.to c) → IsOver x → Popped x y f → Goes y answer
-popped_at x y f answer [] h same over p = absurd h
-popped_at x y f answer (w ∷ ws) h same over p =
+popped_at : (x y : Values) (f : Frame) (answer : Answer) (ws : List Work) → HasFrames x.offset x ws → HasNotes x → ((c : List ℕ) → rest_of answer x ws x.offset c ≡ answer.to c) → IsOver x → Popped x y f → Goes y answer
+popped_at x y f answer [] h noted same over p = absurd h
+popped_at x y f answer (w ∷ ws) h noted same over p =
     let back : reverse x.frames.items ≡ f ∷ reverse y.frames.items = ap (λ (fs : List Frame). reverse fs) p.frames ∙ reverse-append y.frames.items (f ∷ []) in
     let tail : AreFrames x.offset x.inner.end x.inner.top x.end x.text.items (f ∷ reverse y.frames.items) ws = subst (λ (fs : List Frame). AreFrames x.offset x.inner.end x.inner.top x.end x.text.items fs ws) back h.1 in
+    let left : AreNoted x.text.items x.lengths.items (f ∷ reverse y.frames.items) = subst (λ (fs : List Frame). AreNoted x.text.items x.lengths.items fs) back noted.1.1 in
     let low = h.0.low_is in
     let high = h.0.high_is in
     let below = low_of x.offset x.inner.end x.inner.top x.end x.text.items f (reverse y.frames.items) ws tail in
@@ -164,11 +171,12 @@ popped_at x y f answer (w ∷ ws) h same over p =
     record {
       ws = ws;
       frames = rw (p.offset, p.end, p.text, p.inner) here;
+      noted = same_notes x.text.items y.text.items x.lengths.items y.lengths.items (f ∷ reverse y.frames.items) (y.inner ∷ reverse y.frames.items) (sym p.text) (sym p.lengths) (ap (λ (g : Frame). g ∷ reverse y.frames.items) (sym p.inner)) (noted.0, left);
       same = rw (p.offset, p.bounds, p.order) (over_at x answer w ws h same over);
     }
 
 pub next_popped : (x y : Values) (f : Frame) (answer : Answer) → Goes x answer → IsOver x → Popped x y f → Goes y answer
-next_popped x y f answer g over p = popped_at x y f answer g.ws g.frames g.same over p
+next_popped x y f answer g over p = popped_at x y f answer g.ws g.frames g.noted g.same over p
 
 last_at : (x : Values) (answer : Answer) (ws : List Work) (fs : List Frame) → fs ≡ reverse x.frames.items → AreFrames x.offset x.offset (length x.text.items) x.end x.text.items (x.inner ∷ fs) ws → ((c : List ℕ) → rest_of answer x ws x.offset c ≡ answer.to c) → HasFrames x.offset x ws → IsOver x → fs ≡ []
     → (x.offset ≤ x.end) × (x.end < 4294967296) × ((c : List ℕ) → answer.last x.offset c ≡ answer.to c)
@@ -183,4 +191,4 @@ next_last x answer g over none =
 
 -- the type that is wanted is noted
 pub wants_doing : (x : Values) (pos stop p s : ℕ) (answer : Answer) → Wants x pos stop answer → Wants (record x { doing = rust.Wanted p s }) pos stop answer
-wants_doing x pos stop p s answer w = record { ws = w.ws; type = w.type; frames = w.frames; text = w.text; complete = w.complete; pos_is = w.pos_is; stop_is = w.stop_is; same = w.same }
+wants_doing x pos stop p s answer w = record { ws = w.ws; type = w.type; frames = w.frames; noted = w.noted; text = w.text; type_noted = w.type_noted; complete = w.complete; pos_is = w.pos_is; stop_is = w.stop_is; same = w.same }

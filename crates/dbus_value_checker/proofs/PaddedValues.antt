@@ -33,6 +33,7 @@ use Rattle.dbus_value_checker.specs.Suspended as suspended
 use Rattle.dbus_value_checker.proofs.FrameLaws.{frames_reach, frames_small, end_small, pushed_frames, inner_of, within}
 use Rattle.dbus_value_checker.proofs.TypeCodes.{array_of, struct_of, entry_of, text_of, number_type, own_text, opened_text, own_number, opened_number, own_array, opened_array, own_deep_array, own_struct, opened_struct, own_deep_struct, opened_deep_struct, own_entry, opened_entry, array_complete, struct_complete, entry_complete, entry_text, parts_some, sigs_some}
 use Rattle.dbus_value_checker.proofs.NextValues.{next_part_at}
+use Rattle.dbus_value_checker.proofs.Notes.{part_noted, pushed_notes}
 
 -- ---- the padding of a value
 
@@ -62,7 +63,9 @@ module _ (x : Values) (pos stop : ℕ) (answer : Answer) (w : Wants x pos stop a
       ws = w.ws;
       type = w.type;
       frames = w.frames;
+      noted = w.noted;
       text = w.text;
+      type_noted = w.type_noted;
       complete = w.complete;
       pos_is = w.pos_is;
       stop_is = w.stop_is;
@@ -147,6 +150,7 @@ module _ (x : Values) (pos stop n : ℕ) (answer : Answer) (r : Ready x pos stop
     number_goes s w h some fits = record {
       ws = r.ws;
       frames = further (x.offset + n + w) (omega arith) fits;
+      noted = r.noted;
       same = λ c. sym (onto run (rest_of answer x r.ws) (x.offset + n) (x.offset + n + w) (take w s ++ c) c (h.1 c)) ∙ number_same (take w s ++ c);
     }
 
@@ -190,6 +194,7 @@ module _ (x : Values) (pos stop n : ℕ) (answer : Answer) (r : Ready x pos stop
         let in_stop : y.inner.stop ≡ stop - 1 = ap (λ (g : Frame). g.stop) p.inner in
         let size_is : length y.text.items ≡ length x.text.items = ap length p.text in
         next_part_at y answer (w ∷ r.ws) q q_is (subst (λ (k : ℕ). HasFrames (suc k) y (w ∷ r.ws)) (sym at) frames)
+        (pushed_notes z y f p r.noted (part_noted x.text.items x.lengths.items pos stop (pos + 1) (stop - 1) r.type_noted (omega arith) (omega arith)))
         (λ c. subst (λ (k : ℕ). works y.bounds y.order answer.last (w ∷ r.ws) k c ≡ answer.to c) (sym at) (works_as y.bounds x.bounds y.order x.order p.bounds p.order answer.last (w ∷ r.ws) (x.offset + n) c (answer.to c) (same c)))
         (ap (λ (g : Frame). g.array) p.inner) (omega arith) (let a = i.high in let b = r.stop_is in omega arith)
 
@@ -319,6 +324,7 @@ module _ (x : Values) (pos stop n : ℕ) (answer : Answer) (r : Ready x pos stop
           record {
             ws = w ∷ r.ws;
             frames = subst (λ (o : ℕ). HasFrames o y (w ∷ r.ws)) (sym p.offset) frames;
+            noted = pushed_notes z y g p r.noted (part_noted x.text.items x.lengths.items pos stop (pos + 1) stop r.type_noted (omega arith) (omega arith));
             same = λ c. subst (λ (o : ℕ). works y.bounds y.order answer.last (w ∷ r.ws) o c ≡ answer.to (take k s ++ c)) (sym p.offset)
                 (works_as y.bounds x.bounds y.order x.order p.bounds p.order answer.last (w ∷ r.ws) q c (answer.to (take k s ++ c))
                 (front_taken (λ (m : ℕ × ℕ). m) (x.offset + n) s frame fill answer.to array_same (size, k) h c));
@@ -356,6 +362,7 @@ module _ (x : Values) (pos stop n : ℕ) (answer : Answer) (r : Ready x pos stop
       start = x.offset + n + k;
       bytes = [];
       frames = further (x.offset + n + k) (omega arith) (omega arith);
+      noted = r.noted;
       kind_is = text_is;
       scans = scans_is;
       stands = stands;
@@ -382,6 +389,7 @@ module _ (x : Values) (pos stop n : ℕ) (answer : Answer) (r : Ready x pos stop
             record {
               ws = r.ws;
               frames = further (x.offset + n + k + size) (omega arith) (omega arith);
+              noted = r.noted;
               fits = fits;
               same = λ c.
                   front_taken named (x.offset + n + k) (drop k s) (text (kind_of ready_text.0) size) (λ t. onward nul (rest_of answer x r.ws)) (λ c. answer.to (take k s ++ c)) letters_same tt f c

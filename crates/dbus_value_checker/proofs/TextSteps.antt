@@ -87,6 +87,7 @@ module _ (x : Values) (code left : ℕ) (answer : Answer) (t : Texts x code left
         start = t.start;
         bytes = t.bytes ++ take m s;
         frames = moved_on x t.ws (x.offset + m) t.frames (omega arith) (let f = t.fits in omega arith);
+        noted = t.noted;
         kind_is = t.kind_is;
         scans = ap Of kind ∙ t.scans;
         stands = stands;
@@ -142,6 +143,7 @@ module _ (x : Values) (code left : ℕ) (answer : Answer) (t : Texts x code left
         record {
           ws = t.ws;
           frames = t.frames;
+          noted = t.noted;
           fits = (let f = t.fits in omega arith);
           same = λ c. subst (λ (q : ℕ). onward nul (rest_of answer x t.ws) q c ≡ answer.to c) at
               (sym (ap (λ (r : Outcome (List ℕ)). after r (λ u. onward nul (rest_of answer x t.ws))) (text_ends (kind_of t.kind) t.size t.start t.bytes c whole is)) ∙ t.same c);
@@ -167,6 +169,7 @@ module _ (x : Values) (answer : Answer) (u : Nuls x answer) where
   nuls_pass s h = record {
     ws = u.ws;
     frames = moved_on x u.ws (x.offset + 1) u.frames (omega arith) u.fits;
+    noted = u.noted;
     same = front_taken seen x.offset s nul (λ z. rest_of answer x u.ws) answer.to u.same tt h;
   }
 
@@ -184,7 +187,7 @@ empty_list (b ∷ s) h = absurd (omega arith)
 
 -- what is under way is noted
 pub texts_doing : (x : Values) (d : Doing) (code left : ℕ) (answer : Answer) → Texts x code left answer → Texts (record x { doing = d }) code left answer
-texts_doing x d code left answer t = record { ws = t.ws; kind = t.kind; size = t.size; start = t.start; bytes = t.bytes; frames = t.frames; kind_is = t.kind_is; scans = t.scans; stands = t.stands; offset = t.offset; left_is = t.left_is; fits = t.fits; same = t.same }
+texts_doing x d code left answer t = record { ws = t.ws; kind = t.kind; size = t.size; start = t.start; bytes = t.bytes; frames = t.frames; noted = t.noted; kind_is = t.kind_is; scans = t.scans; stands = t.stands; offset = t.offset; left_is = t.left_is; fits = t.fits; same = t.same }
 
 pub nuls_doing : (x : Values) (d : Doing) (answer : Answer) → Nuls x answer → Nuls (record x { doing = d }) answer
-nuls_doing x d answer u = record { ws = u.ws; frames = u.frames; fits = u.fits; same = u.same }
+nuls_doing x d answer u = record { ws = u.ws; frames = u.frames; noted = u.noted; fits = u.fits; same = u.same }

@@ -18,12 +18,14 @@ use Rattle.dbus_value_checker.specs.declared.values.Values.{Values}
 use Rattle.dbus_value_checker.specs.declared.values.Frame.{Frame}
 use Rattle.dbus_value_checker.specs.Suspended.{On, onward, Work, Parts, Elements, works, held_text, own, own_of}
 use Rattle.dbus_value_checker.specs.Fronts.{Fronts}
-use Rattle.dbus_value_checker.specs.Frames.{slice, IsFrame, Framed, AreFrames}
+use Rattle.dbus_value_checker.specs.Frames.{slice, IsFrame, Framed, AreFrames, AreNoted}
 use Rattle.dbus_value_checker.specs.Denotations.{Answer, rest_of, Goes, Wants, after_piece}
 use Rattle.dbus_value_checker.specs.Moves.{Moves}
 use Rattle.dbus_value_checker.proofs.Suspension.{works_as, variant_begins, after_after, after_same, parts_more}
 use Rattle.dbus_value_checker.proofs.FrameLaws.{frames_reach, end_small, inner_of, within}
 use Rattle.dbus_types.proofs.TypeCodes.{variant_is}
+use Rattle.dbus_types.specs.TypeLengths.{AreLengths}
+use Rattle.dbus_value_checker.proofs.Notes.{notes_same, after_noted, same_notes}
 use Rattle.dbus_value_checker.proofs.FrontSteps.{front_taken, front_waits, front_refused}
 use Rattle.dbus_value_checker.proofs.PaddedValues.{code_first}
 
@@ -98,10 +100,10 @@ module _ (x : Values) (pos stop : ℕ) (answer : Answer) (w : Wants x pos stop a
       t : List ℕ
       t = take n (drop 1 s)
 
-      pub variant_goes : (y : Values) → y.bounds ≡ x.bounds → y.order ≡ x.order → y.end ≡ x.end → y.offset ≡ x.offset + (n + 2) → y.text.items ≡ take x.inner.top x.text.items ++ take n (drop 1 s) → y.frames.items ≡ x.frames.items ++ x.inner ∷ []
+      pub variant_goes : (y : Values) (more : List ℕ) → AreLengths (take n (drop 1 s)) more → y.lengths.items ≡ take x.inner.top x.lengths.items ++ more → y.bounds ≡ x.bounds → y.order ≡ x.order → y.end ≡ x.end → y.offset ≡ x.offset + (n + 2) → y.text.items ≡ take x.inner.top x.text.items ++ take n (drop 1 s) → y.frames.items ≡ x.frames.items ++ x.inner ∷ []
           → y.inner ≡ record { array = false; pos = x.inner.top; stop = x.inner.top + n; top = x.inner.top + n; end = x.inner.end; room = inner } → Goes y (after_piece answer (take (n + 2) s))
       unfolding t
-      variant_goes y bounds order end offset text_is frames_are inner_is =
+      variant_goes y more told lengths_are bounds order end offset text_is frames_are inner_is =
           let i = inner_of x (suc x.offset) w.ws w.frames in
           let q = x.offset + (n + 2) in
           let g : Frame = record { array = false; pos = x.inner.top; stop = x.inner.top + n; top = x.inner.top + n; end = x.inner.end; room = inner } in
@@ -133,6 +135,15 @@ module _ (x : Values) (pos stop : ℕ) (answer : Answer) (w : Wants x pos stop a
           (frames_same q x.offset x.inner.top x.end old new (x.inner ∷ reverse x.frames.items) w.ws kept
           (within q x.offset (length old) x.offset x.inner.top x.end old x.inner (reverse x.frames.items) w.ws i.low (omega arith)
           (frames_reach (suc x.offset) q x.offset (length old) x.end old (x.inner ∷ reverse x.frames.items) w.ws (omega arith) w.frames))) in
+          let noted = w.noted in
+          let l = x.lengths.items in
+          let l_size : length (take x.inner.top l) ≡ x.inner.top = omega (arith, noted.0, length-take x.inner.top l) in
+          let l_kept : take x.inner.top l ≡ take x.inner.top (take x.inner.top l ++ more) = sym (take_at (take x.inner.top l) more x.inner.top l_size) in
+          let same_size : length (take x.inner.top l ++ more) ≡ length new = omega (arith, told.same, size, whole_size, l_size, length-append (take x.inner.top l) more) in
+          let own_noted = after_noted (take x.inner.top old) (take x.inner.top l) t more x.inner.top (x.inner.top + n) told front_size l_size (omega (arith, size)) in
+          let below_noted = notes_same old new l (take x.inner.top l ++ more) (suc x.offset) x.offset x.inner.top x.end (x.inner ∷ reverse x.frames.items) w.ws kept l_kept
+          (within (suc x.offset) x.offset (length old) x.offset x.inner.top x.end old x.inner (reverse x.frames.items) w.ws i.low (omega arith) w.frames) noted.1 in
+          let notes : (length (take x.inner.top l ++ more) ≡ length new) × AreNoted new (take x.inner.top l ++ more) (g ∷ (x.inner ∷ reverse x.frames.items)) = (same_size, (own_noted, below_noted)) in
           let here : AreFrames q q (length new) x.end new (g ∷ (x.inner ∷ reverse x.frames.items)) (work_is ∷ w.ws) =
           (subst (λ (k : ℕ). Framed q q (length new) k new g work_is) count framed, below) in
           record {
@@ -143,6 +154,7 @@ module _ (x : Values) (pos stop : ℕ) (answer : Answer) (w : Wants x pos stop a
                 (subst (λ (e : ℕ). AreFrames q q (length new) e new (y.inner ∷ reverse y.frames.items) (work_is ∷ w.ws)) (sym end)
                 (subst (λ (f : Frame). AreFrames q q (length new) x.end new (f ∷ reverse y.frames.items) (work_is ∷ w.ws)) (sym inner_is)
                 (subst (λ (fs : List Frame). AreFrames q q (length new) x.end new (g ∷ fs) (work_is ∷ w.ws)) (sym back) here))));
+            noted = same_notes new y.text.items (take x.inner.top l ++ more) y.lengths.items (g ∷ (x.inner ∷ reverse x.frames.items)) (y.inner ∷ reverse y.frames.items) (sym text_is) (sym lengths_are) (sym (rw (inner_is, back) refl)) notes;
             same = λ c. subst (λ (o : ℕ). works y.bounds y.order answer.last (work_is ∷ w.ws) o c ≡ answer.to (take (n + 2) s ++ c)) (sym offset)
                 (works_as y.bounds x.bounds y.order x.order bounds order answer.last (work_is ∷ w.ws) q c (answer.to (take (n + 2) s ++ c))
                 (parts_more x.bounds x.order inner x.inner.end (type_spelled t) NoTypes (rest_of answer x w.ws) q c

@@ -12,7 +12,7 @@ use Rattle.dbus_value_checker.specs.declared.values.Values.{Values}
 use Rattle.dbus_value_checker.specs.declared.values.Doing.{Doing}
 use Rattle.dbus_value_checker.specs.declared.values.Doing.TheVariants as doing
 use Rattle.dbus_value_checker.specs.Suspended.{On, onward, Work, Elements, works, own, own_of, opened_by}
-use Rattle.dbus_value_checker.specs.Frames.{slice, AreFrames}
+use Rattle.dbus_value_checker.specs.Frames.{slice, AreFrames, AreNoted, IsNoted}
 
 -- what is read after the values, and what is answered to the bytes still to come
 pub record Answer : Type 0 where
@@ -29,10 +29,15 @@ rest_of answer x ws = works x.bounds x.order answer.last ws
 abbrev pub HasFrames : ℕ → Values → List Work → Type 0
 HasFrames reach x ws = AreFrames reach x.offset (length x.text.items) x.end x.text.items (x.inner ∷ reverse x.frames.items) ws
 
+-- the lengths of the types are noted
+abbrev pub HasNotes : Values → Type 0
+HasNotes x = (length x.lengths.items ≡ length x.text.items) × AreNoted x.text.items x.lengths.items (x.inner ∷ reverse x.frames.items)
+
 -- the containers go on
 pub record Goes (x : Values) (answer : Answer) : Type 0 where
   pub ws : List Work
   pub frames : HasFrames x.offset x ws
+  pub noted : HasNotes x
   pub same : (c : List ℕ) → rest_of answer x ws x.offset c ≡ answer.to c
 
 -- a value of the type that stands there is wanted
@@ -40,7 +45,9 @@ pub record Wants (x : Values) (pos stop : ℕ) (answer : Answer) : Type 0 where
   pub ws : List Work
   pub type : TypeTree
   pub frames : HasFrames (suc x.offset) x ws
+  pub noted : HasNotes x
   pub text : slice x.text.items pos stop ≡ sig type
+  pub type_noted : IsNoted x.text.items x.lengths.items pos stop
   pub complete : IsShaped (x.inner.array) type
   pub pos_is : pos ≤ stop
   pub stop_is : stop ≤ x.inner.top
@@ -51,7 +58,9 @@ pub record Ready (x : Values) (pos stop n : ℕ) (answer : Answer) : Type 0 wher
   pub ws : List Work
   pub type : TypeTree
   pub frames : HasFrames (suc x.offset) x ws
+  pub noted : HasNotes x
   pub text : slice x.text.items pos stop ≡ sig type
+  pub type_noted : IsNoted x.text.items x.lengths.items pos stop
   pub complete : IsShaped (x.inner.array) type
   pub pos_is : pos ≤ stop
   pub stop_is : stop ≤ x.inner.top
@@ -66,6 +75,7 @@ pub record Texts (x : Values) (code left : ℕ) (answer : Answer) : Type 0 where
   pub start : ℕ
   pub bytes : List ℕ
   pub frames : HasFrames x.offset x ws
+  pub noted : HasNotes x
   pub kind_is : text_code kind ≡ code
   pub scans : Of (scans.kind_of x.scan) ≡ kind_of kind
   pub stands : Stands x.scan bytes
@@ -78,6 +88,7 @@ pub record Texts (x : Values) (code left : ℕ) (answer : Answer) : Type 0 where
 pub record Nuls (x : Values) (answer : Answer) : Type 0 where
   pub ws : List Work
   pub frames : HasFrames x.offset x ws
+  pub noted : HasNotes x
   pub fits : x.offset + 1 ≤ x.inner.end
   pub same : (c : List ℕ) → onward nul (rest_of answer x ws) x.offset c ≡ answer.to c
 
@@ -91,6 +102,7 @@ pub record Numbers (x : Values) (w : ℕ) (answer : Answer) : Type 0 where
   pub width_is : width code ≡ w
   pub plain : (fds : Option ℕ) (p n : ℕ) → number_row fds code p n ≡ None
   pub frames : HasFrames x.offset x (Elements turns room stop (NumberType code) ∷ ws)
+  pub noted : HasNotes x
   pub aligned : gap_to w x.offset ≡ 0
   pub more : x.offset + w ≤ x.inner.end
   pub same : (c : List ℕ) → rest_of answer x (Elements turns room stop (NumberType code) ∷ ws) x.offset c ≡ answer.to c

@@ -1,5 +1,5 @@
 -- What the frames of `Values` stand for: the containers that are open.
-use Rattle.std.specs.Prelude.{◌≡◌, ℕ, ◌+◌, ◌*◌, ◌<◌, ◌≤◌, List, [], ◌∷◌, length, take, drop, Bool, true, false}
+use Rattle.std.specs.Prelude.{◌≡◌, ℕ, ◌+◌, ◌*◌, ◌<◌, ◌≤◌, List, [], ◌∷◌, ◌++◌, get_or, length, take, drop, Bool, true, false}
 use Rattle.dbus_texts.specs.Types.{TypeTree, TypeTrees, sig, sigs, IsShaped, AreShaped}
 use Rattle.dbus_value_checker.specs.declared.values.Frame.{Frame}
 use Rattle.dbus_value_checker.specs.Suspended.{Work, Parts, Elements}
@@ -7,6 +7,15 @@ use Rattle.dbus_value_checker.specs.Suspended.{Work, Parts, Elements}
 -- the part of the signatures from pos up to stop
 abbrev pub slice : List ℕ → ℕ → ℕ → List ℕ
 slice text pos stop = drop pos (take stop text)
+
+-- Of each place from pos up to stop the length of the type that begins there is noted.
+abbrev pub IsNoted : (text lengths : List ℕ) → (pos stop : ℕ) → Type 0
+IsNoted text lengths pos stop = (at : ℕ) (t : TypeTree) (more : List ℕ) → pos ≤ at → at < stop → slice text at stop ≡ sig t ++ more → get_or lengths at 0 ≡ length (sig t)
+
+-- it is of the types of each frame
+abbrev pub AreNoted : (text lengths : List ℕ) → List Frame → Type 0
+AreNoted text lengths [] = Unit {0}
+AreNoted text lengths (f ∷ fs) = IsNoted text lengths f.pos f.stop × AreNoted text lengths fs
 
 -- a frame whose values of these types are still wanted
 pub record IsParts (text : List ℕ) (f : Frame) (room end : ℕ) (ts : TypeTrees) : Type 0 where

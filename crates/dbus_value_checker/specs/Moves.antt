@@ -36,6 +36,7 @@ pub record Pushed (x y : Values) (f : Frame) : Type 0 where
   pub end : y.end ≡ x.end
   pub offset : y.offset ≡ x.offset
   pub text : y.text.items ≡ x.text.items
+  pub lengths : y.lengths.items ≡ x.lengths.items
   pub inner : y.inner ≡ f
   pub frames : y.frames.items ≡ x.frames.items ++ x.inner ∷ []
 

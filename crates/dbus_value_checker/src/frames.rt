@@ -4,25 +4,28 @@
 ghost use Rattle.std.specs.Prelude.{◌≡◌, ◌+◌, ◌-◌, ◌<◌, ◌≤◌, ◌^◌, length, take, slice_index, true, IfOk};
 
 use crate::values::{Doing, Frame, Values};
-use dbus_types::{free_width, type_end};
+use dbus_types::free_width;
 use dbus_value_model::{Reason, Stop, gap, refuse};
 
 impl Values {
     ghost use Rattle.dbus_types.specs.SignatureCodes.{IsTypeEnd};
-    ghost use Rattle.dbus_value_checker.specs.Denotations.{Answer, Denotes, Goes, Ready, denotes};
+    ghost use Rattle.dbus_value_checker.specs.Denotations.{Answer, Denotes, Goes, HasNotes, Ready, denotes};
+    ghost use Rattle.dbus_value_checker.specs.Frames.{IsNoted};
     ghost use Rattle.dbus_value_checker.specs.Moves.{Opens, Enters, wide};
 
     /// The type of the next part is no longer wanted: where it ends.
     pub(crate) fn part(&mut self) -> usize
         requires pos { self.old.inner.pos < self.old.inner.stop }
         requires stop { self.old.inner.stop ≤ length self.old.text.items }
+        requires noted { HasNotes self.old }
         ensures value { IsTypeEnd (take self.old.inner.stop self.old.text.items) self.old.inner.pos
             result }
         ensures moved { self.new ≡ record self.old
             { inner = record self.old.inner { pos = result } } }
         ensures within { result ≤ self.old.inner.stop }
     {
-        let stop = type_end(&self.text.as_slice()[..self.inner.stop], self.inner.pos);
+        let n = usize::from(self.lengths.as_slice()[self.inner.pos]);
+        let stop = self.inner.stop.min(self.inner.pos + n);
         self.inner.pos = stop;
         stop
     }
@@ -78,6 +81,8 @@ impl Values {
         requires few { length self.old.frames.items < 128 }
         requires some { pos + 1 < stop - 1 }
         requires there { stop ≤ length self.old.text.items }
+        requires noted { HasNotes self.old }
+        requires type_noted { IsNoted self.old.text.items self.old.lengths.items pos stop }
         ensures opens { (answer : Answer) → Enters self.old pos stop n room answer →
             Denotes self.new answer }
         ensures narrower { wide self.new.doing < stop - pos }

@@ -4,6 +4,7 @@
 ghost use Rattle.std.specs.Prelude.{◌≡◌, ◌≢◌, ◌-◌, ◌<◌, length, slice_index, IfOk, IfErr, ◌⊎◌};
 
 use crate::fronts::{array_front, front, number_front, padding, rest_after, variant_front};
+use crate::signatures::sign;
 use crate::values::{Frame, Values};
 use dbus_types::boundary;
 use dbus_value_model::{Reason, Stop, refuse};
@@ -116,15 +117,8 @@ impl Values {
         match variant_front(bytes, self.offset, self.inner.end) {
             Ok(size) => {
                 let top = self.inner.top;
-                self.text.truncate(top);
-                match self
-                    .text
-                    .try_extend_from_slice(front(rest_after(bytes, 1), size))
-                {
-                    Ok(()) => {}
-                    // There is room for it.
-                    Err(_) => return Err(Stop::Memory),
-                }
+                let types = front(rest_after(bytes, 1), size);
+                sign(&mut self.text, &mut self.lengths, top, types);
                 self.frames.push(self.inner);
                 self.inner = Frame {
                     array: false,

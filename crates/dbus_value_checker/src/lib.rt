@@ -7,6 +7,7 @@
 mod frames;
 mod fronts;
 mod items;
+mod signatures;
 mod texts;
 mod values;
 

@@ -4,6 +4,7 @@
 ghost use Rattle.std.specs.Prelude.{◌≡◌, ◌+◌, ◌*◌, ◌<◌, ◌≤◌, ◌^◌, ℕ, length, drop, IfOk, IfErr, ◌⊎◌, ◌↔◌, IsTrue};
 
 use crate::fronts::rest_after;
+use crate::signatures::sign;
 use arrayvec::ArrayVec;
 use dbus_types::{TextKind, TextScan};
 use dbus_value_model::{Bounds, Fault, Limits, Order, Stop};
@@ -40,7 +41,7 @@ pub(crate) enum Doing {
     Over,
 }
 
-/// Values that are checked as their bytes come, up to an end. It has a fixed size, about 22,000 bytes, takes no memory, and
+/// Values that are checked as their bytes come, up to an end. It has a fixed size, about 40,000 bytes, takes no memory, and
 /// holds no byte of what it took but signatures of variants: of those that are open and, until the next variant begins, of
 /// some that are over.
 ///
@@ -61,6 +62,8 @@ pub struct Values {
     /// The signatures: that of the values, then those of the variants that are open, each at most 255 bytes. After them may
     /// stand what is left of variants that are over.
     pub(crate) text: ArrayVec<u8, 16640>,
+    /// Of each byte of the signatures in use how many the type has that begins there.
+    pub(crate) lengths: ArrayVec<u8, 16640>,
     /// A text that is under way.
     pub(crate) scan: TextScan,
     pub(crate) doing: Doing,
@@ -85,6 +88,7 @@ impl Values {
             inner: Frame::default(),
             frames: ArrayVec::new(),
             text: ArrayVec::new(),
+            lengths: ArrayVec::new(),
             scan: TextScan::new(TextKind::Text),
             doing: Doing::Over,
         }
@@ -114,12 +118,7 @@ impl Values {
         self.offset = offset;
         self.end = end;
         self.frames.clear();
-        self.text.clear();
-        match self.text.try_extend_from_slice(types) {
-            Ok(()) => {}
-            // There is room for it.
-            Err(_) => return,
-        }
+        sign(&mut self.text, &mut self.lengths, 0, types);
         let stop = types.len();
         self.inner = Frame {
             array: false,

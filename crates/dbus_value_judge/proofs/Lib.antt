@@ -1,6 +1,7 @@
 pub mod ReadParts
 pub mod ReadContainers
 mod ItemSteps
+mod NotedTypes
 pub mod ItemRefusals
 pub mod NumberArrays
 mod ValueSteps

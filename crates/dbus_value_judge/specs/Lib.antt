@@ -1,1 +1,3 @@
 pub mod Endings
+pub mod NotedTypes
+pub mod Sources

@@ -5,7 +5,9 @@ ghost use Rattle.std.specs.Prelude.{◌≡◌, ◌≤◌, length, true, None, If
 ghost use Rattle.dbus_texts.specs.Types.{TypeTree, TypeTrees, sig, sigs, IsShaped, AreShaped};
 ghost use Rattle.dbus_value_judge.specs.Endings.{IsSpelledTo, AreSpelledTo, IsNotSpelled, AreNotSpelled};
 
-use crate::values::{all_values, one_value};
+use crate::ends::wants_lengths;
+use crate::source::Source;
+use crate::values::{all_values, noted_values, own_value};
 use dbus_value_model::{Bounds, Order};
 
 /// The offset after values of the types that a signature spells, if the bytes spell such values.
@@ -34,7 +36,16 @@ pub fn judge_values(
         AreNotSpelled bounds order room end ts at bytes.now }
     ensures moves { IfSome result (λ after. (at ≤ after) × (after ≤ end)) }
 {
-    all_values(bytes, at, end, order, types, room, bounds)
+    let source = Source {
+        bytes,
+        order,
+        bounds,
+        lengths: &[],
+    };
+    if wants_lengths(types) {
+        return noted_values(&source, at, end, types, room);
+    }
+    all_values(&source, at, end, types, 0, room)
 }
 
 /// The offset after a value of the one type that a signature spells, if the bytes spell one: as [`judge_values`] says of several.
@@ -58,5 +69,11 @@ pub fn judge_value(
         IsNotSpelled bounds order room end t at bytes.now }
     ensures moves { IfSome result (λ after. (at ≤ after) × (after ≤ end)) }
 {
-    one_value(bytes, at, end, order, types, room, bounds)
+    let source = Source {
+        bytes,
+        order,
+        bounds,
+        lengths: &[],
+    };
+    own_value(&source, at, end, types, room)
 }

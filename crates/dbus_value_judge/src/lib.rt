@@ -7,9 +7,11 @@
 
 mod arrays;
 mod basic;
+mod ends;
 mod items;
 mod judging;
 mod numbers;
+mod source;
 mod texts;
 mod values;
 

@@ -1,42 +1,44 @@
 //! Values of any type, along the bytes of their signature.
 //!
-//! `bytes` begin at the message's first byte, from which offsets count. A value begins at `at` and is to end at or before `end`,
-//! up to which the bytes are there; `room` containers may be opened in it. Each call gives the offset after what
-//! it judged, or None where the bytes do not begin with it.
+//! A value begins at `at` and is to end at or before `end`, up to which the bytes are there; `room` containers may be opened in
+//! it. `types` are the bytes of its type, or of several, and begin at `pos` of the signature of which lengths may be noted. Each
+//! call gives the offset after what it judged, or None where the bytes do not begin with it.
 //! D-Bus Specification, "Marshaling (Wire Format)".
 #![tactic(auto)]
 
 ghost use Rattle.std.specs.Prelude.{◌≡◌, ℕ, ◌+◌, ◌<◌, ◌≤◌, ◌^◌, length, drop, true, None, IfSome};
 ghost use Rattle.dbus_texts.specs.Types.{TypeTree, TypeTrees, NoTypes, MoreTypes, sig, sigs, IsShaped, AreShaped};
-ghost use Rattle.dbus_value_model.specs.Reading.{value, fields, contents};
-ghost use Rattle.dbus_value_model.specs.ValueReaders.{variant_value, array_value, struct_value, entry_value};
 ghost use Rattle.dbus_value_judge.specs.Endings.{EndsAt, IsNotRead};
+ghost use Rattle.dbus_value_judge.specs.NotedTypes.{AreNoted};
+ghost use Rattle.dbus_value_judge.specs.Sources.{value_in, values_in, elements_in, variant_in, array_in, struct_in, entry_in};
 
 use crate::arrays::frame;
 use crate::basic::basic_value;
+use crate::ends::{end_of, wants_lengths};
 use crate::items::padding;
+use crate::source::Source;
 use crate::texts::short_text;
-use dbus_types::{TextKind, boundary, free_width, type_end};
-use dbus_value_model::{Bounds, Order};
+use dbus_types::{TextKind, boundary, free_width, lengths_in};
 
 /// A value of the one type that `types` spell.
 #[cycle(values)]
 pub(crate) fn one_value(
-    bytes: &[u8],
+    source: &Source<'_>,
     at: usize,
     end: usize,
-    order: Order,
     types: &[u8],
+    pos: usize,
     room: u8,
-    bounds: Bounds,
 ) -> Option<usize>
     requires at_most { at ≤ end }
-    requires inside { end ≤ length bytes.now }
+    requires inside { end ≤ length source.now.bytes.now }
+    requires near { pos + length types.now < 2 ^ 64 }
+    requires noted { AreNoted types.now source.now.lengths.now pos }
     ensures gives { IfSome result (λ q. (t : TypeTree) →
         sig t ≡ types.now → IsShaped true t →
-        EndsAt bytes.now q (value bounds order room end t at (drop at bytes.now))) }
+        EndsAt source.now.bytes.now q (value_in source.now room end t at)) }
     ensures none { result ≡ None → (t : TypeTree) → sig t ≡ types.now → IsShaped true t →
-        IsNotRead (value bounds order room end t at (drop at bytes.now)) }
+        IsNotRead (value_in source.now room end t at) }
     ensures moves { IfSome result (λ q. (at ≤ q) × (q ≤ end)) }
 {
     if types.is_empty() {
@@ -44,106 +46,183 @@ pub(crate) fn one_value(
     }
     let code = types[0];
     if code == b'v' {
-        return variant(bytes, at, end, order, room, bounds);
+        return variant(source, at, end, room);
     }
     if code == b'a' {
-        return array(bytes, at, end, order, &types[1..], room, bounds);
+        return array(source, at, end, &types[1..], pos + 1, room);
     }
     if code == b'(' && types.len() > 1 {
         let inner = &types[1..types.len() - 1];
-        return structure(bytes, at, end, order, inner, room, bounds);
+        return structure(source, at, end, inner, pos + 1, room);
     }
     if code == b'{' && types.len() > 1 {
         let inner = &types[1..types.len() - 1];
-        return entry(bytes, at, end, order, inner, room, bounds);
+        return entry(source, at, end, inner, pos + 1, room);
     }
-    basic_value(bytes, at, end, order, code, bounds)
+    basic_value(source.bytes, at, end, source.order, code, source.bounds)
 }
 
 /// Values of the types that `types` spell, one after another.
 #[cycle(values)]
 pub(crate) fn all_values(
-    bytes: &[u8],
+    source: &Source<'_>,
     at: usize,
     end: usize,
-    order: Order,
     types: &[u8],
+    pos: usize,
     room: u8,
-    bounds: Bounds,
 ) -> Option<usize>
     requires at_most { at ≤ end }
-    requires inside { end ≤ length bytes.now }
+    requires inside { end ≤ length source.now.bytes.now }
+    requires near { pos + length types.now < 2 ^ 64 }
+    requires noted { AreNoted types.now source.now.lengths.now pos }
     ensures gives { IfSome result (λ q. (ts : TypeTrees) →
         sigs ts ≡ types.now → AreShaped ts →
-        EndsAt bytes.now q (fields (value bounds order room end) ts at (drop at bytes.now))) }
+        EndsAt source.now.bytes.now q (values_in source.now room end ts at)) }
     ensures none { result ≡ None → (ts : TypeTrees) → sigs ts ≡ types.now → AreShaped ts →
-        IsNotRead (fields (value bounds order room end) ts at (drop at bytes.now)) }
+        IsNotRead (values_in source.now room end ts at) }
     ensures moves { IfSome result (λ q. (at ≤ q) × (q ≤ end)) }
 {
     let mut place = at;
-    let mut pos = 0;
-    while pos < types.len() {
-        let next = type_end(types, pos);
-        let one = &types[pos..next];
-        place = one_value(bytes, place, end, order, one, room, bounds)?;
-        pos = next;
+    let mut first = 0;
+    while first < types.len() {
+        let next = end_of(types, first, source.lengths, pos);
+        let one = &types[first..next];
+        place = one_value(source, place, end, one, pos + first, room)?;
+        first = next;
     }
     Some(place)
 }
 
-/// A variant.
-#[cycle(values)]
-fn variant(
-    bytes: &[u8],
+/// The same, with the lengths of the types noted first.
+pub(crate) fn noted_values(
+    source: &Source<'_>,
     at: usize,
     end: usize,
-    order: Order,
+    types: &[u8],
     room: u8,
-    bounds: Bounds,
 ) -> Option<usize>
     requires at_most { at ≤ end }
-    requires inside { end ≤ length bytes.now }
+    requires inside { end ≤ length source.now.bytes.now }
+    requires few { length types.now ≤ 255 }
+    ensures gives { IfSome result (λ q. (ts : TypeTrees) →
+        sigs ts ≡ types.now → AreShaped ts →
+        EndsAt source.now.bytes.now q (values_in source.now room end ts at)) }
+    ensures none { result ≡ None → (ts : TypeTrees) → sigs ts ≡ types.now → AreShaped ts →
+        IsNotRead (values_in source.now room end ts at) }
+    ensures moves { IfSome result (λ q. (at ≤ q) × (q ≤ end)) }
+{
+    let mut table = [0; 255];
+    let noted = Source {
+        bytes: source.bytes,
+        order: source.order,
+        bounds: source.bounds,
+        lengths: lengths_in(types, &mut table),
+    };
+    all_values(&noted, at, end, types, 0, room)
+}
+
+/// A variant.
+#[cycle(values)]
+fn variant(source: &Source<'_>, at: usize, end: usize, room: u8) -> Option<usize>
+    requires at_most { at ≤ end }
+    requires inside { end ≤ length source.now.bytes.now }
     ensures gives { IfSome result (λ q.
-        EndsAt bytes.now q (variant_value bounds order room end at (drop at bytes.now))) }
+        EndsAt source.now.bytes.now q (variant_in source.now room end at)) }
     ensures none { result ≡ None →
-        IsNotRead (variant_value bounds order room end at (drop at bytes.now)) }
+        IsNotRead (variant_in source.now room end at) }
     ensures moves { IfSome result (λ q. (at ≤ q) × (q ≤ end)) }
 {
     if room == 0 {
         return None;
     }
-    let n = short_text(bytes, at, end, TextKind::Single)?;
+    let n = short_text(source.bytes, at, end, TextKind::Single)?;
     let first = at + 1;
-    let held = &bytes[first..first + n];
-    one_value(bytes, first + n + 1, end, order, held, room - 1, bounds)
+    let held = &source.bytes[first..first + n];
+    own_value(source, first + n + 1, end, held, room - 1)
+}
+
+/// A value of the one type that `types` spell, which are a signature of their own.
+#[cycle(values)]
+pub(crate) fn own_value(
+    source: &Source<'_>,
+    at: usize,
+    end: usize,
+    types: &[u8],
+    room: u8,
+) -> Option<usize>
+    requires at_most { at ≤ end }
+    requires inside { end ≤ length source.now.bytes.now }
+    ensures gives { IfSome result (λ q. (t : TypeTree) →
+        sig t ≡ types.now → IsShaped true t →
+        EndsAt source.now.bytes.now q (value_in source.now room end t at)) }
+    ensures none { result ≡ None → (t : TypeTree) → sig t ≡ types.now → IsShaped true t →
+        IsNotRead (value_in source.now room end t at) }
+    ensures moves { IfSome result (λ q. (at ≤ q) × (q ≤ end)) }
+{
+    if wants_lengths(types) {
+        return noted_value(source, at, end, types, room);
+    }
+    one_value(source, at, end, types, source.lengths.len(), room)
+}
+
+/// The same, with the lengths of the types noted first.
+#[cycle(values)]
+fn noted_value(source: &Source<'_>, at: usize, end: usize, types: &[u8], room: u8) -> Option<usize>
+    requires at_most { at ≤ end }
+    requires inside { end ≤ length source.now.bytes.now }
+    requires few { length types.now ≤ 255 }
+    ensures gives { IfSome result (λ q. (t : TypeTree) →
+        sig t ≡ types.now → IsShaped true t →
+        EndsAt source.now.bytes.now q (value_in source.now room end t at)) }
+    ensures none { result ≡ None → (t : TypeTree) → sig t ≡ types.now → IsShaped true t →
+        IsNotRead (value_in source.now room end t at) }
+    ensures moves { IfSome result (λ q. (at ≤ q) × (q ≤ end)) }
+{
+    let mut table = [0; 255];
+    let noted = Source {
+        bytes: source.bytes,
+        order: source.order,
+        bounds: source.bounds,
+        lengths: lengths_in(types, &mut table),
+    };
+    one_value(&noted, at, end, types, 0, room)
 }
 
 /// An array, whose elements are of the one type that `types` spell.
 #[cycle(values)]
 fn array(
-    bytes: &[u8],
+    source: &Source<'_>,
     at: usize,
     end: usize,
-    order: Order,
     types: &[u8],
+    pos: usize,
     room: u8,
-    bounds: Bounds,
 ) -> Option<usize>
     requires at_most { at ≤ end }
-    requires inside { end ≤ length bytes.now }
+    requires inside { end ≤ length source.now.bytes.now }
+    requires near { pos + length types.now < 2 ^ 64 }
+    requires noted { AreNoted types.now source.now.lengths.now pos }
     ensures gives { IfSome result (λ q. (t : TypeTree) →
         sig t ≡ types.now → IsShaped true t →
-        EndsAt bytes.now q (array_value bounds order room end t at (drop at bytes.now))) }
+        EndsAt source.now.bytes.now q (array_in source.now room end t at)) }
     ensures none { result ≡ None → (t : TypeTree) → sig t ≡ types.now → IsShaped true t →
-        IsNotRead (array_value bounds order room end t at (drop at bytes.now)) }
+        IsNotRead (array_in source.now room end t at) }
     ensures moves { IfSome result (λ q. (at ≤ q) × (q ≤ end)) }
 {
     if room == 0 || types.is_empty() {
         return None;
     }
     let code = types[0];
-    let start = padding(bytes, at, end, 4)?;
-    let (n, first) = frame(bytes, start, end, order, boundary(code), bounds)?;
+    let start = padding(source.bytes, at, end, 4)?;
+    let (n, first) = frame(
+        source.bytes,
+        start,
+        end,
+        source.order,
+        boundary(code),
+        source.bounds,
+    )?;
     let width = free_width(code);
     if width > 0 {
         return if n % usize::from(width) == 0 {
@@ -152,28 +231,27 @@ fn array(
             None
         };
     }
-    elements(bytes, first, n, order, types, room - 1, bounds)
+    elements(source, first, n, types, pos, room - 1)
 }
 
 /// Elements of the one type that `types` spell, up to the end of the next n bytes.
 #[cycle(values)]
 fn elements(
-    bytes: &[u8],
+    source: &Source<'_>,
     at: usize,
     n: usize,
-    order: Order,
     types: &[u8],
+    pos: usize,
     room: u8,
-    bounds: Bounds,
 ) -> Option<usize>
-    requires { at + n ≤ length bytes.now }
+    requires inside { at + n ≤ length source.now.bytes.now }
+    requires near { pos + length types.now < 2 ^ 64 }
+    requires noted { AreNoted types.now source.now.lengths.now pos }
     ensures gives { IfSome result (λ q. (t : TypeTree) →
         sig t ≡ types.now → IsShaped true t →
-        EndsAt bytes.now q
-        (contents n (λ end before. value bounds order room end t) at (drop at bytes.now))) }
+        EndsAt source.now.bytes.now q (elements_in source.now n room t at)) }
     ensures none { result ≡ None → (t : TypeTree) → sig t ≡ types.now → IsShaped true t →
-        IsNotRead
-        (contents n (λ end before. value bounds order room end t) at (drop at bytes.now)) }
+        IsNotRead (elements_in source.now n room t at) }
     ensures ends { IfSome result (λ q. q ≡ at + n) }
 {
     let end = at + n;
@@ -183,7 +261,7 @@ fn elements(
         if place == end {
             return Some(end);
         }
-        place = one_value(bytes, place, end, order, types, room, bounds)?;
+        place = one_value(source, place, end, types, pos, room)?;
     }
     if place == end { Some(end) } else { None }
 }
@@ -191,53 +269,55 @@ fn elements(
 /// A struct, whose fields are of the types that `types` spell.
 #[cycle(values)]
 fn structure(
-    bytes: &[u8],
+    source: &Source<'_>,
     at: usize,
     end: usize,
-    order: Order,
     types: &[u8],
+    pos: usize,
     room: u8,
-    bounds: Bounds,
 ) -> Option<usize>
     requires at_most { at ≤ end }
-    requires inside { end ≤ length bytes.now }
+    requires inside { end ≤ length source.now.bytes.now }
+    requires near { pos + length types.now < 2 ^ 64 }
+    requires noted { AreNoted types.now source.now.lengths.now pos }
     ensures gives { IfSome result (λ q. (ts : TypeTrees) →
         sigs ts ≡ types.now → AreShaped ts →
-        EndsAt bytes.now q (struct_value bounds order room end ts at (drop at bytes.now))) }
+        EndsAt source.now.bytes.now q (struct_in source.now room end ts at)) }
     ensures none { result ≡ None → (ts : TypeTrees) → sigs ts ≡ types.now → AreShaped ts →
-        IsNotRead (struct_value bounds order room end ts at (drop at bytes.now)) }
+        IsNotRead (struct_in source.now room end ts at) }
     ensures moves { IfSome result (λ q. (at ≤ q) × (q ≤ end)) }
 {
     if room == 0 {
         return None;
     }
-    let start = padding(bytes, at, end, 8)?;
-    all_values(bytes, start, end, order, types, room - 1, bounds)
+    let start = padding(source.bytes, at, end, 8)?;
+    all_values(source, start, end, types, pos, room - 1)
 }
 
 /// A dict entry, whose key and value are of the two types that `types` spell.
 #[cycle(values)]
 fn entry(
-    bytes: &[u8],
+    source: &Source<'_>,
     at: usize,
     end: usize,
-    order: Order,
     types: &[u8],
+    pos: usize,
     room: u8,
-    bounds: Bounds,
 ) -> Option<usize>
     requires at_most { at ≤ end }
-    requires inside { end ≤ length bytes.now }
+    requires inside { end ≤ length source.now.bytes.now }
+    requires near { pos + length types.now < 2 ^ 64 }
+    requires noted { AreNoted types.now source.now.lengths.now pos }
     ensures gives { IfSome result (λ q. (k v : TypeTree) →
         sigs (MoreTypes k (MoreTypes v NoTypes)) ≡ types.now →
         AreShaped (MoreTypes k (MoreTypes v NoTypes)) →
-        EndsAt bytes.now q (entry_value bounds order room end k v at (drop at bytes.now))) }
+        EndsAt source.now.bytes.now q (entry_in source.now room end k v at)) }
     ensures none { result ≡ None → (k v : TypeTree) →
         sigs (MoreTypes k (MoreTypes v NoTypes)) ≡ types.now →
         AreShaped (MoreTypes k (MoreTypes v NoTypes)) →
-        IsNotRead (entry_value bounds order room end k v at (drop at bytes.now)) }
+        IsNotRead (entry_in source.now room end k v at) }
     ensures moves { IfSome result (λ q. (at ≤ q) × (q ≤ end)) }
 {
-    let start = padding(bytes, at, end, 8)?;
-    all_values(bytes, start, end, order, types, room, bounds)
+    let start = padding(source.bytes, at, end, 8)?;
+    all_values(source, start, end, types, pos, room)
 }

@@ -1,4 +1,4 @@
-use Rattle.std.proofs.Common.{refl, sym, ap, ◌∙◌}
+use Rattle.std.proofs.Common.{refl, ◌∙◌}
 use Rattle.std.proofs.lemmas.Option.{IfSome_then}
 use Rattle.dbus_texts.specs.Types.{BOOLEAN, UNIX_FD, STRING, OBJECT_PATH, SIGNATURE}
 use Rattle.dbus_types.proofs.TypeCodes.{text_is, boolean_is, descriptor_is}

@@ -15,6 +15,12 @@ decreases-all_values l = 4 * (256 * l.room + length l.types.now) + 1
 abbrev pub decreases-variant : goal.decreases-variant
 decreases-variant l = 4 * (256 * l.room) + 1
 
+abbrev pub decreases-own_value : goal.decreases-own_value
+decreases-own_value l = 4 * (256 * l.room + length l.types.now) + 2
+
+abbrev pub decreases-noted_value : goal.decreases-noted_value
+decreases-noted_value l = 4 * (256 * l.room + length l.types.now) + 1
+
 abbrev pub decreases-array : goal.decreases-array
 decreases-array l = 4 * (256 * l.room + length l.types.now) + 3
 
@@ -27,20 +33,20 @@ decreases-structure l = 4 * (256 * l.room + length l.types.now) + 3
 abbrev pub decreases-entry : goal.decreases-entry
 decreases-entry l = 4 * (256 * l.room + length l.types.now) + 3
 
-abbrev pub invariant-all_values-loop-pos : goal.invariant-all_values-loop-pos
-invariant-all_values-loop-pos l = record {
+abbrev pub invariant-all_values-loop-first : goal.invariant-all_values-loop-first
+invariant-all_values-loop-first l = record {
   begun : l.fn.at ≤ l.place;
   at_most : l.place ≤ l.end;
-  within : l.pos ≤ length l.types;
-  left : (ts : TypeTrees) → sigs ts ≡ l.types → AreShaped ts → Left (value l.bounds l.order l.room l.end) l.bytes l.types ts l.fn.at l.place l.pos;
+  within : l.first ≤ length l.types;
+  left : (ts : TypeTrees) → sigs ts ≡ l.types → AreShaped ts → Left (value l.source.bounds l.source.order l.room l.end) l.source.bytes.now l.types ts l.fn.at l.place l.first;
 }
 
-abbrev pub decreases-all_values-loop-pos : goal.decreases-all_values-loop-pos
-decreases-all_values-loop-pos l = length l.types - l.pos
+abbrev pub decreases-all_values-loop-first : goal.decreases-all_values-loop-first
+decreases-all_values-loop-first l = length l.types - l.first
 
 abbrev pub invariant-elements-loop-turn : goal.invariant-elements-loop-turn
 invariant-elements-loop-turn l = record {
   at_most : l.place ≤ l.end;
-  leads : (t : TypeTree) → sig t ≡ l.types → IsShaped true t → LeadsTo (value l.bounds l.order l.room l.end t) l.bytes l.n (l.n - l._turn) l.end l.fn.at l.place;
-  lacks : (t : TypeTree) → sig t ≡ l.types → IsShaped true t → LacksAll (value l.bounds l.order l.room l.end t) l.bytes l.n (l.n - l._turn) l.end l.fn.at l.place;
+  leads : (t : TypeTree) → sig t ≡ l.types → IsShaped true t → LeadsTo (value l.source.bounds l.source.order l.room l.end t) l.source.bytes.now l.n (l.n - l._turn) l.end l.fn.at l.place;
+  lacks : (t : TypeTree) → sig t ≡ l.types → IsShaped true t → LacksAll (value l.source.bounds l.source.order l.room l.end t) l.source.bytes.now l.n (l.n - l._turn) l.end l.fn.at l.place;
 }

@@ -38,7 +38,7 @@ next-requires c =
       valid = (
         after_piece answer (take k c.args.bytes.now),
         array_goes x c.args.pos c.args.stop c.args.n answer r 97 c.requires.code refl (x.inner.room - 1) (omega arith) y c.args.bytes.now size k (c.in-Ok.ensures.gives (ready_array x c.args.pos c.args.stop c.args.n answer r 97 c.requires.code refl).0 u) m.0 m.2
-            (record { bounds = refl; order = refl; end = refl; offset = refl; text = refl; inner = refl; frames = c.push.ensures.items }),
+            (record { bounds = refl; order = refl; end = refl; offset = refl; text = refl; lengths = refl; inner = refl; frames = c.push.ensures.items }),
       );
     }
 
@@ -53,7 +53,7 @@ returns-in-Ok-clause-moves c = λ answer r.
       m.1,
       c.next.ensures (after_piece answer (take k c.args.bytes.now))
           (array_goes x c.args.pos c.args.stop c.args.n answer r 97 c.requires.code refl (x.inner.room - 1) (omega arith) y c.args.bytes.now size k (c.in-Ok.ensures.gives (ready_array x c.args.pos c.args.stop c.args.n answer r 97 c.requires.code refl).0 u) m.0 m.2
-          (record { bounds = refl; order = refl; end = refl; offset = refl; text = refl; inner = refl; frames = c.push.ensures.items })),
+          (record { bounds = refl; order = refl; end = refl; offset = refl; text = refl; lengths = refl; inner = refl; frames = c.push.ensures.items })),
     )
 
 pub returns-in-Err-clause-moves : goal.returns-in-Err-clause-moves

@@ -7,7 +7,7 @@ inside-requires c =
     let p = ready_offset c.args.self.now c.args.pos c.args.stop c.args.n c.requires.valid.0 c.requires.valid.1 123 c.requires.code in
     let f = bracket_fits c.args.self.now c.args.pos c.args.stop c.args.n c.requires.valid.0 c.requires.valid.1 123 c.requires.code (inr refl) in
     let a = p.1 in let b = p.2 in
-    record { near = omega arith; few = f.0; some = f.1; there = p.3 }
+    record { near = omega arith; few = f.0; some = f.1; there = p.3; noted = c.requires.valid.1.noted; type_noted = c.requires.valid.1.type_noted }
 
 pub returns-clause-opens : goal.returns-clause-opens
 returns-clause-opens c = λ answer r. c.inside.ensures.opens answer (entry_opens c.args.self.now c.args.pos c.args.stop c.args.n answer r 123 c.requires.code c.args.self.now.inner.room refl refl)

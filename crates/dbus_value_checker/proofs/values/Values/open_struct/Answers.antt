@@ -12,7 +12,7 @@ inside-requires c =
     let p = ready_offset c.args.self.now c.args.pos c.args.stop c.args.n c.requires.valid.0 c.requires.valid.1 40 c.requires.code in
     let f = bracket_fits c.args.self.now c.args.pos c.args.stop c.args.n c.requires.valid.0 c.requires.valid.1 40 c.requires.code (inl (refl, omega arith)) in
     let a = p.1 in let b = p.2 in
-    record { near = omega arith; few = f.0; some = f.1; there = p.3 }
+    record { near = omega arith; few = f.0; some = f.1; there = p.3; noted = c.requires.valid.1.noted; type_noted = c.requires.valid.1.type_noted }
 
 pub returns-then-room-eq0-clause-opens : goal.returns-then-room-eq0-clause-opens
 returns-then-room-eq0-clause-opens c = λ answer r. rw c.refuse.ensures (deep_struct c.args.self.now c.args.pos c.args.stop c.args.n answer r 40 c.requires.code refl c.if-room-eq0.true)
