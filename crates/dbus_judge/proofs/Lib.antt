@@ -8,4 +8,3 @@ mod BodyPlaces
 mod WholeSteps
 mod WholeRefusals
 pub mod Firsts
-pub mod FormedTexts

@@ -1,18 +1,18 @@
 -- Types and texts as they are written, and the bytes of an array of BYTE.
-use Rattle.std.proofs.Common.{◌≡◌, ℕ, ◌+◌, ◌^◌, ◌%◌, ◌<◌, List, [], ◌∷◌, ◌++◌, length, replicate, false, refl, sym, ap, subst, ◌∙◌, arith, lit<}
+use Rattle.std.proofs.Common.{◌≡◌, ℕ, ◌+◌, ◌%◌, ◌<◌, List, [], ◌∷◌, ◌++◌, length, replicate, false, refl, sym, ap, subst, ◌∙◌, arith, lit<}
 use Rattle.std.specs.Str.{IsAscii}
 use Rattle.std.proofs.lemmas.Str.{IsAscii-append}
 use Rattle.std.proofs.lemmas.Str.Ascii.{IsAscii-nil, IsAscii-cons}
 use Rattle.dbus_texts.specs.Types.{NumberCode, BYTE, BOOLEAN, INT16, UINT16, INT32, UINT32, INT64, UINT64, DOUBLE, UNIX_FD, TextCode, STRING, OBJECT_PATH, SIGNATURE, TypeTree, NumberType, TextType, VariantType, ArrayType, StructType, EntryType, TypeTrees, NoTypes, MoreTypes, number_code, text_code, sig, sigs, is_byte}
-use Rattle.dbus_types.specs.Alignments.{width}
-use Rattle.dbus_value_model.specs.Bytes.{gap_to, low_first, num}
+use Rattle.dbus_value_model.specs.Bytes.{low_first, num}
 use Rattle.dbus_value_model.specs.declared.order.Order.{Order}
 use Rattle.dbus_value_model.specs.declared.order.Order.TheVariants.{Little, Big}
 use Rattle.dbus_value_model.specs.Spelling.{spelling, spellings}
-use Rattle.dbus_value_model.specs.Values.{ValueTree, ValueTrees, NoValues, MoreValues, NumberValue, AllOf, IsNumber, IsWellFormed, AreWellFormed}
+use Rattle.dbus_value_model.specs.Values.{ValueTree, ValueTrees, NoValues, MoreValues, NumberValue, AllOf, IsWellFormed, AreWellFormed}
 use Rattle.dbus_types.specs.SignatureCodes.{first_code}
 use Rattle.dbus_show.specs.ShownValues.{bytes_in}
 use Rattle.dbus_walk.proofs.NumberFacts.{number_of_type}
+use Rattle.dbus_walk.proofs.Parts.{no_gap}
 
 -- ---- a type's text is ASCII
 
@@ -54,20 +54,6 @@ mutual
 pub types_ascii : (t : TypeTree) (types : List ℕ) → sig t ≡ types → IsAscii types
 types_ascii t types e = subst IsAscii e (sig_ascii t)
 
--- ---- numbers
-
-pub number_fits : (k : NumberCode) (n : ℕ) → IsNumber k n → n < 256 ^ width k
-number_fits BYTE n h = omega arith
-number_fits BOOLEAN n h = omega arith
-number_fits INT16 n h = h
-number_fits UINT16 n h = h
-number_fits INT32 n h = h
-number_fits UINT32 n h = h
-number_fits INT64 n h = h
-number_fits UINT64 n h = h
-number_fits DOUBLE n h = h
-number_fits UNIX_FD n h = h
-
 -- ---- arrays of BYTE
 
 pub byte_is : (t : TypeTree) → first_code t ≡ 121 → t ≡ NumberType BYTE
@@ -88,9 +74,6 @@ byte_is VariantType e = absurd (omega arith)
 byte_is (ArrayType u) e = absurd (omega arith)
 byte_is (StructType ts) e = absurd (omega arith)
 byte_is (EntryType k v) e = absurd (omega arith)
-
-pub byte_code : (k : NumberCode) → number_code k ≡ 121 → k ≡ BYTE
-byte_code k e = let same : NumberType k ≡ NumberType BYTE = byte_is (NumberType k) e in cc
 
 pub double_code : (k : NumberCode) → number_code k ≡ 100 → k ≡ DOUBLE
 double_code BYTE e = absurd (omega arith)
@@ -120,10 +103,6 @@ not_byte VariantType h = refl
 not_byte (ArrayType u) h = refl
 not_byte (StructType ts) h = refl
 not_byte (EntryType k v) h = refl
-
-pub no_gap : (o : ℕ) → gap_to 1 o ≡ 0
-unfolding gap_to
-no_gap o = omega arith
 
 one_num : (order : Order) (n : ℕ) → n < 256 → num order 1 n ≡ n ∷ []
 unfolding num low_first

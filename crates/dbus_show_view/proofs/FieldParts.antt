@@ -19,15 +19,16 @@ use Rattle.dbus_walk.specs.Widths.{number_width}
 use Rattle.dbus_walk.proofs.Containers.{VariantStands, variant_ends, array_stands, array_found, elements_there}
 use Rattle.dbus_walk.proofs.Enclosed.{struct_stands, enclosed_there, enclosed_ends, stands_positive}
 use Rattle.dbus_walk.proofs.Lists.{none_ends, some_ends, first_element, other_elements, first_value, other_values}
-use Rattle.dbus_walk.proofs.Parts.{NumberStands, TextStands, number_stands, number_ends}
+use Rattle.dbus_walk.proofs.Parts.{NumberStands, TextStands, no_gap, number_stands, number_ends}
+use Rattle.dbus_walk.proofs.ReadThere.{number_read}
 use Rattle.dbus_show.specs.declared.draft.Draft.{Draft}
 use Rattle.dbus_show.specs.Gains.{Gains}
 use Rattle.dbus_show.specs.ShownValues.{value_text}
 use Rattle.dbus_show.specs.ShownMessages.{bare, field_name, field_text}
 use Rattle.dbus_show.proofs.Gaining.{then as both}
 use Rattle.dbus_show_view.specs.Showing.{IsWritten}
-use Rattle.dbus_show_view.proofs.Codes.{no_gap, byte_is}
-use Rattle.dbus_show_view.proofs.Shown.{number_read, number_coded}
+use Rattle.dbus_show_view.proofs.Codes.{byte_is}
+use Rattle.dbus_show_view.proofs.Shown.{number_coded}
 
 -- ---- values alone
 

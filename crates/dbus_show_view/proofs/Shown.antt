@@ -1,33 +1,30 @@
 -- Values that stand in the bytes, shown: numbers, texts, and arrays as they open.
-use Rattle.std.proofs.Common.{◌≡◌, ℕ, ◌+◌, ◌-◌, ◌^◌, ◌<◌, List, [], ◌∷◌, ◌++◌, length, get_or, take, drop, true, false, IsUtf8, refl, sym, ap, subst, ◌∙◌, arith, append_assoc, ◌⊎◌, inl, inr}
+use Rattle.std.proofs.Common.{◌≡◌, ℕ, ◌+◌, ◌-◌, ◌<◌, List, [], ◌∷◌, ◌++◌, length, get_or, take, drop, true, false, refl, sym, ap, subst, ◌∙◌, arith, ◌⊎◌, inl, inr}
 use Rattle.std.specs.Prelude.{◌==◌}
 use Rattle.std.proofs.lemmas.Bool.{eqb-true}
 use Rattle.std.specs.Str.{IsAscii}
-use Rattle.std.proofs.lemmas.List.{length-append, length-replicate, take_at}
+use Rattle.std.proofs.lemmas.List.{take_at}
 use Rattle.hex.specs.Hex.{encode_lower}
 use Rattle.dbus_texts.specs.Types.{NumberCode, BYTE, TypeTree, NumberType, ArrayType, number_code, text_code, sig, is_byte}
 use Rattle.dbus_types.specs.Alignments.{width}
 use Rattle.dbus_types.specs.SignatureCodes.{first_code}
 use Rattle.dbus_types.proofs.TypeCodes.{code_is}
-use Rattle.dbus_value_model.specs.Bytes.{gap_to, pad, num}
+use Rattle.dbus_value_model.specs.Bytes.{gap_to}
 use Rattle.dbus_value_model.specs.Reading.{number_of}
 use Rattle.dbus_value_model.specs.declared.order.Order.{Order}
 use Rattle.dbus_value_model.specs.Spelling.{spellings, contents_start}
-use Rattle.dbus_value_model.specs.Values.{ValueTree, ArrayValue, type_of, AllOf, IsNumber, IsWellFormed}
-use Rattle.dbus_value_model.proofs.Numbers.{length-num}
+use Rattle.dbus_value_model.specs.Values.{ValueTree, ArrayValue, type_of, AllOf}
 use Rattle.dbus_walk.specs.Standing.{Stands}
 use Rattle.dbus_walk.specs.Widths.{number_width}
 use Rattle.dbus_walk.proofs.Containers.{ArrayStands, elements_there}
 use Rattle.dbus_walk.proofs.Parts.{NumberStands, TextStands}
-use Rattle.dbus_walk.proofs.Seams.{stands_after}
-use Rattle.dbus_walk.proofs.NumberFacts.{number_there}
+use Rattle.dbus_walk.proofs.ReadThere.{number_read}
 use Rattle.dbus_show.specs.declared.draft.Draft.{Draft}
 use Rattle.dbus_show.specs.Gains.{Gains}
 use Rattle.dbus_show.specs.ShownValues.{number_text, quoted, value_text, bytes_in}
 use Rattle.dbus_show.proofs.Gaining.{then}
-use Rattle.dbus_judge.proofs.FormedTexts.{formed_utf8}
 use Rattle.dbus_show_view.specs.Visits.{open_text, IsListed}
-use Rattle.dbus_show_view.proofs.Codes.{types_ascii, number_fits, byte_is, not_byte, bytes_spelled}
+use Rattle.dbus_show_view.proofs.Codes.{types_ascii, byte_is, not_byte, bytes_spelled}
 
 module _ {order : Order} {room : ℕ} {types : List ℕ} {at : ℕ} {bytes : List ℕ} {v : ValueTree} {rest : List ℕ} (s : Stands order room types at bytes v rest) where
   pub all_ascii : IsAscii types
@@ -39,21 +36,13 @@ module _ {order : Order} {room : ℕ} {types : List ℕ} {at : ℕ} {bytes : Lis
   -- ---- numbers
 
   module _ (size start : ℕ) (p : NumberStands s size) (place : start ≡ at + gap_to size at) where
-    pub number_read : number_of order (take size (drop start bytes)) ≡ p.n
-    number_read =
-        let formed : IsNumber p.code p.n = subst (λ (u : ValueTree). IsWellFormed room u) p.is s.formed in
-        let fits : p.n < 256 ^ size = subst (λ (k : ℕ). p.n < 256 ^ k) p.wide (number_fits p.code p.n formed) in
-        let there : drop start bytes ≡ num order size p.n ++ rest =
-        stands_after at start (pad size at) (num order size p.n ++ rest) bytes p.padded (omega (arith, place, length-replicate {A = ℕ} (gap_to size at) 0)) in
-        number_there order size p.n start bytes rest there fits
-
     pub number_coded : number_code p.code ≡ get_or types 0 0
     number_coded = ap (λ (u : ValueTree). first_code (type_of u)) (sym p.is) ∙ code_is (type_of v) types s.text
 
     pub number_shown : {A : Type 0} (a b c d : Draft A) → Gains a (get_or types 0 0 ∷ []) b → Gains b (58 ∷ []) c
         → ((k : NumberCode) → number_code k ≡ get_or types 0 0 → Gains c (number_text k (number_of order (take (width k) (drop start bytes)))) d) → Gains a (value_text v) d
     number_shown a b c d coded parted shown =
-        let read : number_of order (take (width p.code) (drop start bytes)) ≡ p.n = ap (λ (k : ℕ). number_of order (take k (drop start bytes))) p.wide ∙ number_read in
+        let read : number_of order (take (width p.code) (drop start bytes)) ≡ p.n = ap (λ (k : ℕ). number_of order (take k (drop start bytes))) p.wide ∙ number_read s size start p place in
         let text : get_or types 0 0 ∷ (58 ∷ number_text p.code (number_of order (take (width p.code) (drop start bytes)))) ≡ value_text v =
         ap (λ (k : ℕ). get_or types 0 0 ∷ (58 ∷ number_text p.code k)) read ∙ ap (λ (k : ℕ). k ∷ (58 ∷ number_text p.code p.n)) (sym number_coded) ∙ sym (ap value_text p.is) in
         subst (λ (l : List ℕ). Gains a l d) text (then coded (then parted (shown p.code number_coded)))
@@ -61,17 +50,6 @@ module _ {order : Order} {room : ℕ} {types : List ℕ} {at : ℕ} {bytes : Lis
   -- ---- texts
 
   module _ (size : ℕ) (p : TextStands s size) where
-    pub text_there : (first k : ℕ) → first ≡ at + gap_to size at + size → k ≡ length p.text → take k (drop first bytes) ≡ p.text
-    text_there first k place long =
-        let front = pad size at ++ num order size (length p.text) in
-        let joined : drop at bytes ≡ front ++ ((p.text ++ 0 ∷ []) ++ rest) = p.padded ∙ sym (append_assoc (pad size at) (num order size (length p.text)) ((p.text ++ 0 ∷ []) ++ rest)) in
-        let there = stands_after at first front ((p.text ++ 0 ∷ []) ++ rest) bytes joined
-        (omega (arith, place, length-append (pad size at) (num order size (length p.text)), length-replicate {A = ℕ} (gap_to size at) 0, length-num order size (length p.text))) in
-        ap (take k) (there ∙ append_assoc p.text (0 ∷ []) rest) ∙ take_at p.text (0 ∷ rest) k (sym long)
-
-    pub text_utf8 : (first k : ℕ) → first ≡ at + gap_to size at + size → k ≡ length p.text → IsUtf8 (take k (drop first bytes))
-    text_utf8 first k place long = subst IsUtf8 (sym (text_there first k place long)) (formed_utf8 room p.code p.text (subst (λ (u : ValueTree). IsWellFormed room u) p.is s.formed))
-
     pub text_shown : {A : Type 0} (code : ℕ) (t : List ℕ) (a b : Draft A) → code ≡ get_or types 0 0 → t ≡ p.text → Gains a (code ∷ (58 ∷ quoted t)) b → Gains a (value_text v) b
     text_shown code t a b e is shown =
         let same : text_code p.code ≡ code = ap (λ (u : ValueTree). first_code (type_of u)) (sym p.is) ∙ code_is (type_of v) types s.text ∙ sym e in

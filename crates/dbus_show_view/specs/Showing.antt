@@ -19,6 +19,10 @@ pub record IsWritten {A : Type 0} (order : Order) (at : ℕ) (v : ValueTree) (te
   pub gained : Gains before text now
   pub ends : after ≡ at + length (spelling order at v)
 
+-- a value whose type has this text stands at an offset
+abbrev pub TypedStands : Source → (room : ℕ) → (types : List ℕ) → (at : ℕ) → ValueTree → (rest : List ℕ) → Type 0
+TypedStands source room types at v rest = Stands source.order room types at source.bytes.now v rest
+
 -- a variant that holds the value stands at an offset
 abbrev pub HeldStands : Source → (room at : ℕ) → ValueTree → (rest : List ℕ) → Type 0
 HeldStands source room at x rest = Stands source.order room (118 ∷ []) at source.bytes.now (VariantValue x) rest

@@ -3,6 +3,7 @@
 
 ghost use Rattle.std.specs.Prelude.{ℕ, List};
 ghost use Rattle.std.specs.List.{flat_map};
+ghost use Rattle.dbus_types.specs.TypeLengths.{AreLengths};
 ghost use Rattle.dbus_value_model.specs.Values.{ValueTrees};
 ghost use Rattle.dbus_walk.specs.Standing.{AllStandAt, AllStandThere};
 ghost use Rattle.dbus_show.specs.Gains.{Gains};
@@ -11,23 +12,24 @@ ghost use Rattle.dbus_show.specs.ShownMessages.{body_line};
 
 use crate::values::write_value_at;
 use dbus_show::Draft;
-use dbus_types::type_end;
 use dbus_walk::{Source, Spot};
 use std::alloc::Allocator;
 
 /// Appends a line for each of the values that stand one after another at a spot.
 pub(crate) fn write_body<A: Allocator>(draft: &mut Draft<A>, source: &Source<'_>, spot: &Spot<'_>)
     requires stand { AllStandThere source.now spot.now }
+    requires noted { AreLengths spot.now.types.now spot.now.lengths.now }
     ensures shown { (vs : ValueTrees) (rest : List ℕ) → AllStandAt source.now spot.now vs rest →
         Gains draft.old (flat_map body_line (value_texts vs)) draft.new }
 {
     let mut place = spot.at;
     let mut pos = 0;
     while pos < spot.types.len() {
-        let end = type_end(spot.types, pos);
+        let end = pos + usize::from(spot.lengths[pos]);
         let next = Spot {
             at: place,
             types: &spot.types[pos..end],
+            lengths: &spot.lengths[pos..end],
             room: spot.room,
         };
         draft.push_str("  ");

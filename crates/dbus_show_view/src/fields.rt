@@ -1,48 +1,56 @@
 //! Header fields as text, from where they stand. D-Bus Specification, "Header Fields".
 #![tactic(auto)]
 
-ghost use Rattle.std.specs.Prelude.{◌≡◌, ℕ, ◌∷◌, [], List, if◌then◌else◌};
+ghost use Rattle.std.specs.Prelude.{◌≡◌, ℕ, ◌≤◌, ◌∷◌, [], List, length, if◌then◌else◌};
 ghost use Rattle.std.specs.List.{flat_map};
 ghost use Rattle.dbus_value_model.specs.Values.{ValueTree, VariantValue};
 ghost use Rattle.dbus_message_model.specs.Messages.{FieldTree, field_struct};
-ghost use Rattle.dbus_walk.specs.Standing.{StandsAt, StandsThere};
 ghost use Rattle.dbus_show.specs.Gains.{Gains};
 ghost use Rattle.dbus_show.specs.ShownValues.{value_text};
 ghost use Rattle.dbus_show.specs.ShownMessages.{bare as bare_text, field_text};
-ghost use Rattle.dbus_show_view.specs.Showing.{IsWritten, HeldStands, FieldStands, FieldsStand};
+ghost use Rattle.dbus_show_view.specs.Showing.{IsWritten, TypedStands, HeldStands, FieldStands, FieldsStand};
 
-use crate::texts::text_in;
-use crate::values::write_value_at;
+use crate::values::write_typed_at;
 use dbus_message_model::field_table::is_known;
 use dbus_show::{Draft, write_field_name, write_integer};
 use dbus_value_model::gap;
-use dbus_walk::{Source, Spot};
+use dbus_walk::{Source, text_in};
 use std::alloc::Allocator;
 
-/// Appends a text or a UINT32 alone, and of any other type the text of the value, which stands at a spot: the offset after it.
-fn write_bare_at<A: Allocator>(draft: &mut Draft<A>, source: &Source<'_>, spot: &Spot<'_>) -> usize
-    requires stands { StandsThere source.now spot.now }
-    ensures shown { (v : ValueTree) (rest : List ℕ) → StandsAt source.now spot.now v rest →
-        IsWritten source.now.order spot.now.at v (bare_text v) draft.old draft.new result }
+/// Appends a text or a UINT32 alone, and of any other type the text of the value, which stands at `at`, and whose type these bytes
+/// spell: the offset after it.
+fn write_bare_at<A: Allocator>(
+    draft: &mut Draft<A>,
+    source: &Source<'_>,
+    at: usize,
+    types: &[u8],
+    room: u8,
+) -> usize
+    requires few { length types.now ≤ 255 }
+    requires stands { (v : ValueTree) × (rest : List ℕ) ×
+        TypedStands source.now room types.now at v rest }
+    ensures shown { (v : ValueTree) (rest : List ℕ) →
+        TypedStands source.now room types.now at v rest →
+        IsWritten source.now.order at v (bare_text v) draft.old draft.new result }
 {
-    let code = spot.types[0];
+    let code = types[0];
     if code == b's' || code == b'o' {
-        let start = spot.at + gap(4, spot.at);
+        let start = at + gap(4, at);
         let size = source.order.u32_at(source.bytes, start) as usize;
         draft.push_str(text_in(source.bytes, start + 4, size));
         return start + 4 + size + 1;
     }
     if code == b'g' {
-        let size = usize::from(source.bytes[spot.at]);
-        draft.push_str(text_in(source.bytes, spot.at + 1, size));
-        return spot.at + 1 + size + 1;
+        let size = usize::from(source.bytes[at]);
+        draft.push_str(text_in(source.bytes, at + 1, size));
+        return at + 1 + size + 1;
     }
     if code == b'u' {
-        let start = spot.at + gap(4, spot.at);
+        let start = at + gap(4, at);
         write_integer(draft, source.order.u32_at(source.bytes, start));
         return start + 4;
     }
-    write_value_at(draft, source, spot)
+    write_typed_at(draft, source, at, types, room)
 }
 
 /// Appends the value that the variant at `at` holds, alone where it is of a known field: the offset after it.
@@ -60,15 +68,12 @@ fn write_held<A: Allocator>(
 {
     let size = usize::from(source.bytes[at]);
     let first = at + 1;
-    let held = Spot {
-        at: first + size + 1,
-        types: &source.bytes[first..first + size],
-        room: room - 1,
-    };
+    let types = &source.bytes[first..first + size];
+    let start = first + size + 1;
     if known {
-        return write_bare_at(draft, source, &held);
+        return write_bare_at(draft, source, start, types, room - 1);
     }
-    write_value_at(draft, source, &held)
+    write_typed_at(draft, source, start, types, room - 1)
 }
 
 /// Appends the field at `at`, after a space: the offset after it.

@@ -1,7 +1,7 @@
 //! Texts, from where they stand. D-Bus Specification, "Marshaling (Wire Format)".
 #![tactic(auto)]
 
-ghost use Rattle.std.specs.Prelude.{◌≡◌, ◌+◌, ◌<◌, ◌≤◌, ◌∷◌, length, take, drop, IsUtf8};
+ghost use Rattle.std.specs.Prelude.{◌<◌, ◌∷◌};
 ghost use Rattle.std.specs.Str.{IsAscii};
 ghost use Rattle.dbus_show.specs.Gains.{Gains};
 ghost use Rattle.dbus_show.specs.ShownValues.{quoted};
@@ -9,17 +9,6 @@ ghost use Rattle.dbus_show.specs.ShownValues.{quoted};
 use dbus_show::{Draft, write_quoted};
 use std::alloc::Allocator;
 use std::str;
-
-/// The text of `size` bytes that begins at `first`.
-#[inline]
-pub(crate) fn text_in(bytes: &[u8], first: usize, size: usize) -> &str
-    requires inside { first + size ≤ length bytes.now }
-    requires utf8 { IsUtf8 (take size (drop first bytes.now)) }
-    ensures { result.now ≡ take size (drop first bytes.now) }
-{
-    // The bytes were judged, so UTF-8 is not looked for again.
-    unsafe { str::from_utf8_unchecked(&bytes[first..][..size]) }
-}
 
 /// Appends a code, a colon and a text between quotation marks.
 pub(crate) fn write_coded<A: Allocator>(draft: &mut Draft<A>, code: u8, text: &str)

@@ -8,9 +8,9 @@ ghost use Rattle.dbus_show_view.specs.VisitLaws.{none_shown, more_shown, whole_s
 
 use crate::numbers::write_number_at;
 use crate::shower::Shower;
-use crate::texts::{text_in, write_coded, write_types};
+use crate::texts::{write_coded, write_types};
 use dbus_show::write_hex;
-use dbus_walk::{Container, Run, Source, Spot, Visitor};
+use dbus_walk::{Container, Run, Source, Spot, Visitor, text_in};
 use std::alloc::Allocator;
 use std::convert::Infallible;
 

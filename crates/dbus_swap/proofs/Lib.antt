@@ -1,4 +1,5 @@
 pub mod Turned
+mod FieldLengths
 pub mod NumberRuns
 pub mod Leaves
 pub mod MessageParts

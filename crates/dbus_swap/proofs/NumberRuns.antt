@@ -3,7 +3,7 @@ use Rattle.std.proofs.Common.{◌≡◌, ℕ, ◌+◌, ◌<◌, List, [], ◌++�
 use Rattle.std.proofs.lemmas.List.{length-append, append-nil}
 use Rattle.dbus_texts.specs.Types.{NumberCode, NumberType}
 use Rattle.dbus_types.specs.Alignments.{width}
-use Rattle.dbus_value_model.specs.Bytes.{gap_to, num}
+use Rattle.dbus_value_model.specs.Bytes.{gap_to, pad, num}
 use Rattle.dbus_value_model.specs.declared.order.Order.{Order}
 use Rattle.dbus_value_model.specs.Spelling.{spelling, spellings}
 use Rattle.dbus_value_model.specs.Values.{ValueTree, ValueTrees, NumberValue, NoValues, MoreValues, AllOf}
@@ -12,7 +12,7 @@ use Rattle.dbus_value_judge.proofs.NumberArrays.{stays_aligned}
 use Rattle.dbus_walk.proofs.NumberFacts.{number_of_type}
 use Rattle.dbus_swap.specs.Turning.{other, Replaces}
 use Rattle.dbus_swap.specs.TurnLaws.{nothing_put, then_put}
-use Rattle.dbus_swap.proofs.Turned.{number_put}
+use Rattle.dbus_swap.proofs.Turned.{one_byte, number_put}
 
 -- Of the numbers xs, which stand from `at` to `end`, us are left, from `place` on. Those before them are turned.
 pub record TurnedTo (order : Order) (k : NumberCode) (at end : ℕ) (xs : ValueTrees) (before : List ℕ) (place : ℕ) (now : List ℕ) : Type 0 where
@@ -35,6 +35,19 @@ unfolding spelling spellings
 first_spelled k any place n us aligned =
     let is : spelling any place (NumberValue k n) ≡ num any (width k) n = ap (λ (g : ℕ). replicate g 0 ++ num any (width k) n) aligned in
     ap (λ (l : List ℕ). l ++ spellings any (place + length l) us) is ∙ ap (λ (m : ℕ). num any (width k) n ++ spellings any (place + m) us) (length-num any (width k) n)
+
+-- bytes are the same in both orders
+pub bytes_same : (order : Order) (k : NumberCode) (at : ℕ) (xs : ValueTrees) → width k ≡ 1 → AllOf (NumberType k) xs → spellings order at xs ≡ spellings (other order) at xs
+unfolding spelling spellings
+bytes_same order k at NoValues wide all = refl
+bytes_same order k at (MoreValues v xs) wide all =
+    let n = number_of_type v k all.0 in
+    let byte : pad (width k) at ++ num order (width k) n.0 ≡ pad (width k) at ++ num (other order) (width k) n.0 =
+    subst (λ (w : ℕ). pad w at ++ num order w n.0 ≡ pad w at ++ num (other order) w n.0) (sym wide) (ap (λ (l : List ℕ). pad 1 at ++ l) (one_byte order n.0)) in
+    let first : spelling order at v ≡ spelling (other order) at v =
+    ap (λ (x : ValueTree). spelling order at x) n.1 ∙ byte ∙ sym (ap (λ (x : ValueTree). spelling (other order) at x) n.1) in
+    let own = spelling (other order) at v in
+    ap (λ (l : List ℕ). l ++ spellings order (at + length l) xs) first ∙ ap (λ (l : List ℕ). own ++ l) (bytes_same order k (at + length own) xs wide all.1)
 
 module _ {order : Order} {k : NumberCode} {at end : ℕ} {xs : ValueTrees} where
   pub none_turned : (before : List ℕ) → AllOf (NumberType k) xs → gap_to (width k) at ≡ 0 → end ≡ at + length (spellings order at xs) → TurnedTo order k at end xs before at before

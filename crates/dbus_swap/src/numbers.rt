@@ -48,6 +48,10 @@ pub(crate) fn turn_numbers(out: &mut [u8], at: usize, end: usize, size: u8)
         end ≡ at + length (spellings order at xs) →
         Replaces at (spellings order at xs) (spellings (other order) at xs) out.old out.new }
 {
+    if size == 1 {
+        // A byte is the same in both orders.
+        return;
+    }
     let step = usize::from(size);
     let mut place = at;
     while end - place >= step {

@@ -2,6 +2,7 @@
 #![tactic(auto)]
 
 ghost use Rattle.std.specs.Prelude.{◌≡◌, ℕ, ◌+◌, List, length, drop};
+ghost use Rattle.dbus_types.specs.TypeLengths.{AreLengths};
 ghost use Rattle.dbus_value_model.specs.Values.{ValueTree, ValueTrees};
 ghost use Rattle.dbus_value_model.specs.Spelling.{spelling, spellings};
 ghost use Rattle.dbus_walk.specs.Standing.{StandsAt, StandsThere, AllStandAt, AllStandThere};
@@ -13,6 +14,7 @@ use dbus_walk::{Source, Spot, walk_value, walk_values};
 /// Turns the value at a spot, in `out`: a copy of the bytes, whose bytes from the spot on are those of the source.
 pub(crate) fn turn_value(source: &Source<'_>, out: &mut [u8], spot: &Spot<'_>)
     requires stands { StandsThere source.now spot.now }
+    requires noted { AreLengths spot.now.types.now spot.now.lengths.now }
     requires copied { drop spot.now.at out.old ≡ drop spot.now.at source.now.bytes.now }
     requires as_long { length out.old ≡ length source.now.bytes.now }
     ensures turned { (v : ValueTree) (rest : List ℕ) → StandsAt source.now spot.now v rest →
@@ -28,6 +30,7 @@ pub(crate) fn turn_value(source: &Source<'_>, out: &mut [u8], spot: &Spot<'_>)
 /// Turns the values at a spot, one after another, as `turn_value` does.
 pub(crate) fn turn_values(source: &Source<'_>, out: &mut [u8], spot: &Spot<'_>)
     requires stand { AllStandThere source.now spot.now }
+    requires noted { AreLengths spot.now.types.now spot.now.lengths.now }
     requires copied { drop spot.now.at out.old ≡ drop spot.now.at source.now.bytes.now }
     requires as_long { length out.old ≡ length source.now.bytes.now }
     ensures turned { (vs : ValueTrees) (rest : List ℕ) → AllStandAt source.now spot.now vs rest →

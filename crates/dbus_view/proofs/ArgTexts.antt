@@ -1,55 +1,46 @@
 -- Texts of values, where they stand.
-use Rattle.std.proofs.Common.{◌≡◌, ℕ, ◌+◌, List, [], ◌∷◌, ◌++◌, length, take, drop, Some, refl, sym, ap, subst, ◌∙◌, arith, append_assoc}
-use Rattle.std.proofs.lemmas.List.{length-append, length-replicate, take_at}
+use Rattle.std.proofs.Common.{◌≡◌, ℕ, ◌+◌, List, length, get_or, Some, refl, sym, ap, subst, ◌∙◌, arith, inl, inr}
 use Rattle.dbus_texts.specs.Types.{TextCode, STRING, OBJECT_PATH, SIGNATURE, TextType, text_code}
 use Rattle.dbus_types.specs.Alignments.{length_width}
-use Rattle.dbus_value_model.specs.Bytes.{num, gap_to, pad}
+use Rattle.dbus_value_model.specs.Bytes.{gap_to}
 use Rattle.dbus_value_model.specs.declared.order.Order.{Order}
-use Rattle.dbus_value_model.specs.Spelling.{spelling}
-use Rattle.dbus_value_model.specs.Values.{ValueTree, NumberValue, TextValue, VariantValue, ArrayValue, StructValue, EntryValue, type_of}
-use Rattle.dbus_value_model.proofs.Numbers.{length-num}
+use Rattle.dbus_value_model.specs.Values.{ValueTree, NumberValue, TextValue, VariantValue, ArrayValue, StructValue, EntryValue, type_of, IsWellFormed}
 use Rattle.dbus_message_model.specs.Lookups.{body_value}
 use Rattle.dbus_message_model.specs.Messages.{MessageTree, body_start}
-use Rattle.dbus_message_model.proofs.TextValues.{text_of}
 use Rattle.dbus_types.specs.SignatureCodes.{first_code}
 use Rattle.dbus_types.proofs.TypeCodes as codes
 use Rattle.dbus_view.specs.Bodies.{IsOther, IsFound, IsPlaceThere, IsTextAt, IsTextIn, IsTextPlace, StandsThere, value_start}
 use Rattle.dbus_view.specs.declared.arg_place.ArgPlace.{ArgPlace}
 use Rattle.dbus_view.specs.declared.values.Found.{Found}
-use Rattle.dbus_walk.proofs.Seams.{there_within, stands_after}
-use Rattle.dbus_judge.proofs.FormedTexts.{formed_utf8}
+use Rattle.dbus_walk.proofs.Parts.{TextStands, long_stands, short_stands, text_ends}
+use Rattle.dbus_walk.proofs.ReadThere.{formed_utf8, text_there}
 
-parts_length : (order : Order) (w start : ℕ) (t : List ℕ) → length (pad w start ++ num order w (length t)) ≡ gap_to w start + w
-parts_length order w start t = omega (arith, length-append (pad w start) (num order w (length t)), length-replicate {A = ℕ} (gap_to w start) 0, length-num order w (length t))
-
-regrouped : (p n t r : List ℕ) → (p ++ (n ++ (t ++ 0 ∷ []))) ++ r ≡ (p ++ n) ++ (t ++ 0 ∷ r)
-regrouped p n t r = simp append_assoc
-
-module _ (order : Order) (bytes : List ℕ) (s : Found) where
-  text_spelled : (k : TextCode) (t : List ℕ) → IsFound order bytes (TextValue k t) s → IsTextIn bytes (length_width k) s.start s.after t
-  unfolding spelling
-  text_spelled k t h =
-      let w = length_width k in
-      let p = pad w s.start in
-      let n = num order w (length t) in
-      let rest = 0 ∷ h.rest in
-      let front = parts_length order w s.start t in
-      let here : drop s.start bytes ≡ (p ++ n) ++ (t ++ rest) = h.stands.spelled ∙ regrouped p n t h.rest in
-      let suffix : drop (s.start + gap_to w s.start + w) bytes ≡ t ++ rest = stands_after s.start (s.start + gap_to w s.start + w) (p ++ n) (t ++ rest) bytes here (omega (arith, front)) in
-      let all : length (p ++ (n ++ (t ++ 0 ∷ []))) ≡ gap_to w s.start + w + length t + 1 = omega (arith, length-append p (n ++ (t ++ 0 ∷ [])), length-append n (t ++ 0 ∷ []), length-append t (0 ∷ []), length-append p n, front) in
+module _ (order : Order) (bytes : List ℕ) (s : Found) (x : ValueTree) (h : IsFound order bytes x s) where
+  -- a text is where it stands
+  in_place : (w : ℕ) (p : TextStands h.stands w) → IsTextIn bytes w s.start s.after p.text
+  in_place w p =
+      let first = s.start + gap_to w s.start + w in
+      let ends = text_ends h.stands w (s.start + gap_to w s.start) p refl in
       record {
-        after_is = omega (arith, h.after, all);
-        inside = omega (arith, h.after, there_within s.start (spelling order s.start (TextValue k t)) h.rest bytes h.stands.spelled (omega (arith, all)));
-        text = sym (ap (take (length t)) suffix ∙ take_at t rest (length t) refl);
-        utf8 = formed_utf8 h.room k t h.stands.formed;
+        after_is = omega (arith, h.after, ends);
+        inside = omega (arith, h.after, ends, p.inside);
+        text = sym (text_there h.stands w p first (length p.text) refl refl);
+        utf8 = formed_utf8 h.room p.code p.text (subst (λ (v : ValueTree). IsWellFormed h.room v) p.is h.stands.formed);
       }
 
   -- a value whose type begins with a text's code is a text, and it stands there
-  text_there : (x : ValueTree) (k : TextCode) → IsFound order bytes x s → s.code ≡ text_code k → (t : List ℕ) × (x ≡ TextValue k t) × IsTextIn bytes (length_width k) s.start s.after t
-  text_there x k h e =
+  text_of_code : (k : TextCode) → s.code ≡ text_code k → (t : List ℕ) × (x ≡ TextValue k t) × IsTextIn bytes (length_width k) s.start s.after t
+  text_of_code k e =
       let typed : type_of x ≡ TextType k = codes.text_is (type_of x) k (h.code ∙ e) in
-      let u = text_of k x typed in
-      (u.0, u.1, text_spelled k u.0 (subst (λ (v : ValueTree). IsFound order bytes v s) u.1 h))
+      of k (sym (codes.code_is (type_of x) h.types h.stands.text) ∙ h.code ∙ e) typed
+    where
+      same : (k : TextCode) (w : ℕ) (p : TextStands h.stands w) → type_of x ≡ TextType k → x ≡ TextValue k p.text
+      same k w p typed = let code : TextType p.code ≡ TextType k = sym (ap type_of p.is) ∙ typed in let is : p.code ≡ k = cc in p.is ∙ ap (λ (c : TextCode). TextValue c p.text) is
+
+      of : (k : TextCode) → get_or h.types 0 0 ≡ text_code k → type_of x ≡ TextType k → (t : List ℕ) × (x ≡ TextValue k t) × IsTextIn bytes (length_width k) s.start s.after t
+      of STRING c typed = let p = long_stands h.stands (inl c) in (p.text, same STRING 4 p typed, in_place 4 p)
+      of OBJECT_PATH c typed = let p = long_stands h.stands (inr c) in (p.text, same OBJECT_PATH 4 p typed, in_place 4 p)
+      of SIGNATURE c typed = let p = short_stands h.stands c in (p.text, same SIGNATURE 1 p typed, in_place 1 p)
 
 other_there : (c : ℕ) (x : ValueTree) → first_code (type_of x) ≡ c → (c ≡ 115 → ⊥) → (c ≡ 111 → ⊥) → (c ≡ 103 → ⊥) → IsOther c x
 other_there c (NumberValue k n) e str path sign = e
@@ -75,7 +66,7 @@ module _ (order : Order) (bytes : List ℕ) (m : MessageTree) (n : ℕ) (s : Fou
   module _ (k : TextCode) (is : s.code ≡ text_code k) where
     pub arg_text : (t : List ℕ) × (body_value n m.body ≡ Some (TextValue k t)) × IsTextIn bytes (length_width k) s.start s.after t
     arg_text =
-        let t = text_there order bytes s found.0 k found.2 is in
+        let t = text_of_code order bytes s found.0 found.2 k is in
         (t.0, found.1 ∙ ap (λ (x : ValueTree). Some x) t.1, t.2)
 
     pub text_told : (p : ArgPlace) → p.code ≡ s.code → ((t : List ℕ) → IsTextIn bytes (length_width k) s.start s.after t → IsTextAt bytes (length_width k) s.start t p) → IsPlaceThere order m n bytes p

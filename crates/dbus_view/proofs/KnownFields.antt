@@ -10,7 +10,7 @@ use Rattle.dbus_judge.specs.declared.seen.Place.{Place}
 use Rattle.dbus_view.specs.Fields.{WantsText, IsTextOf}
 use Rattle.dbus_judge.specs.Judging.{IsJudgedWhole}
 use Rattle.dbus_view.proofs.FieldTexts.{suits_of, formed_of, has_text, text_known, has_number, stands, absent}
-use Rattle.dbus_judge.proofs.FormedTexts.{formed_utf8}
+use Rattle.dbus_walk.proofs.ReadThere.{formed_utf8}
 use Rattle.dbus_view.proofs.Whole.{message, valid}
 
 module _ (limits : Limits) (bytes : List ℕ) (j : Judged) (h : IsJudgedWhole limits bytes j) where

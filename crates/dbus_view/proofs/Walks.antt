@@ -8,7 +8,9 @@ use Rattle.dbus_value_model.specs.Spelling.{spelling, spellings}
 use Rattle.dbus_value_model.specs.Values.{ValueTree, ValueTrees, NoValues, MoreValues, type_of, types_of}
 use Rattle.dbus_message_model.specs.Lookups.{body_value}
 use Rattle.dbus_types.specs.SignatureCodes.{first_code, IsTypeEnd}
+use Rattle.dbus_types.specs.TypeLengths.{AreLengths}
 use Rattle.dbus_types.proofs.TypeCodes.{begins}
+use Rattle.dbus_types.proofs.TypeLengths.{ends_by}
 use Rattle.dbus_walk.specs.Standing.{Stands, AllStand, AllStandAt}
 use Rattle.dbus_walk.proofs.Walks.{Left, NextValue, next_value}
 use Rattle.dbus_walk.specs.declared.spot.Source.{Source}
@@ -44,6 +46,10 @@ next_start order at (suc n) (MoreValues y ys) x e =
 -- the first of some types begins with the first code
 pub code_of : (t : TypeTree) (us : TypeTrees) (types : List ℕ) → sigs (MoreTypes t us) ≡ types → first_code t ≡ get_or types 0 0
 code_of t us types text = ap (λ (s : List ℕ). get_or s 0 0) (ap (λ (s : List ℕ). s ++ sigs us) (sym (begins t)) ∙ text)
+
+-- the first of some types ends after as many bytes as are noted of it
+pub first_ends : (types lengths : List ℕ) → AreLengths types lengths → (end : ℕ) → end ≡ get_or lengths 0 0 → IsTypeEnd types 0 end
+first_ends types lengths noted end is t more e = omega (arith, is, ends_by types lengths noted 0 t more e)
 
 -- no values have no types
 pub none_left : (xs : ValueTrees) (types : List ℕ) → sigs (types_of xs) ≡ types → length types ≡ 0 → xs ≡ NoValues

@@ -8,6 +8,7 @@ use Rattle.dbus_value_model.specs.declared.order.Order.{Order}
 use Rattle.dbus_value_model.specs.Spelling.{spelling, spellings}
 use Rattle.dbus_value_model.specs.Values.{ValueTree, ValueTrees, NoValues, MoreValues, TextValue, type_of}
 use Rattle.dbus_types.specs.SignatureCodes.{first_code}
+use Rattle.dbus_types.specs.TypeLengths.{AreLengths}
 use Rattle.dbus_message_model.specs.Lookups.{body_value}
 use Rattle.dbus_message_model.specs.Messages.{MessageTree, body_start}
 use Rattle.dbus_view.specs.declared.arg_place.ArgPlace.{ArgPlace}
@@ -71,7 +72,7 @@ pub record IsFound (order : Order) (bytes : List ℕ) (x : ValueTree) (s : Found
   pub after : s.after ≡ s.start + length (spelling order s.start x)
   pub code : first_code (type_of x) ≡ s.code
 
--- it is the first of some values that stand at a spot, and the others stand at another
+-- it is the first of some values that stand at a spot, and the others stand at another, which notes how long their types are
 pub record IsFirst (source : Source) (spot : Spot) (xs : ValueTrees) (rest : List ℕ) (s : Found) (others : Spot) : Type 0 where
   pub x : ValueTree
   pub us : ValueTrees
@@ -79,6 +80,7 @@ pub record IsFirst (source : Source) (spot : Spot) (xs : ValueTrees) (rest : Lis
   pub found : IsFound source.order source.bytes.now x s
   pub starts : s.start ≡ spot.at
   pub left : AllStandAt source others us rest
+  pub noted : AreLengths others.types.now others.lengths.now
   pub next : others.at ≡ s.after
 
 -- value n of some that begin at an offset is there, and stands there

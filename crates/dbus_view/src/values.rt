@@ -2,6 +2,7 @@
 #![tactic(auto)]
 
 ghost use Rattle.std.specs.Prelude.{◌≡◌, ◌≤◌, ℕ, List, length, None, MatchOption};
+ghost use Rattle.dbus_types.specs.TypeLengths.{AreLengths};
 ghost use Rattle.dbus_value_model.specs.Values.{ValueTrees, NoValues};
 ghost use Rattle.dbus_message_model.specs.Lookups.{body_value};
 ghost use Rattle.dbus_message_model.specs.Messages.{body_start};
@@ -10,10 +11,8 @@ ghost use Rattle.dbus_walk.specs.Standing.{AllStandAt, AllStandThere};
 
 use crate::arg_place::ArgPlace;
 use dbus_judge::Judged;
-use dbus_types::type_end;
 use dbus_value_model::{Limits, padding_length};
-use dbus_walk::{Source, Spot, skip_value};
-use std::str;
+use dbus_walk::{Source, Spot, lengths_of, skip_value, text_in};
 
 /// Where a value of a body stands.
 #[derive(Clone, Copy)]
@@ -31,16 +30,18 @@ ghost use Rattle.dbus_view.specs.Bodies.{IsFirst, StandsThere, IsTextIn, IsTextA
 /// Passes over the first of the values that stand at a spot: where it stands, and where the others do. `None` if there are none.
 fn pass<'a>(source: &Source<'_>, spot: &Spot<'a>) -> Option<(Found, Spot<'a>)>
     requires stand { AllStandThere source.now spot.now }
+    requires noted { AreLengths spot.now.types.now spot.now.lengths.now }
     ensures { (xs : ValueTrees) (rest : List ℕ) → AllStandAt source.now spot.now xs rest →
         MatchOption result (xs ≡ NoValues) (λ r. IsFirst source.now spot.now xs rest r.0 r.1) }
 {
     if spot.types.is_empty() {
         return None;
     }
-    let end = type_end(spot.types, 0);
+    let end = usize::from(spot.lengths[0]);
     let one = Spot {
         at: spot.at,
         types: &spot.types[..end],
+        lengths: &spot.lengths[..end],
         room: spot.room,
     };
     let after = skip_value(source, &one);
@@ -52,6 +53,7 @@ fn pass<'a>(source: &Source<'_>, spot: &Spot<'a>) -> Option<(Found, Spot<'a>)>
     let others = Spot {
         at: after,
         types: &spot.types[end..],
+        lengths: &spot.lengths[end..],
         room: spot.room,
     };
     Some((found, others))
@@ -60,6 +62,7 @@ fn pass<'a>(source: &Source<'_>, spot: &Spot<'a>) -> Option<(Found, Spot<'a>)>
 /// Where value `n`, counted from 0, stands of the values that stand at a spot, if there are so many. Those before it are passed over.
 pub(crate) fn found_at(source: &Source<'_>, spot: &Spot<'_>, n: usize) -> Option<Found>
     requires stand { AllStandThere source.now spot.now }
+    requires noted { AreLengths spot.now.types.now spot.now.lengths.now }
     ensures { (xs : ValueTrees) (rest : List ℕ) → AllStandAt source.now spot.now xs rest →
         MatchOption result (body_value n xs ≡ None) (λ s.
         StandsThere source.now.order source.now.bytes.now spot.now.at n xs s) }
@@ -85,25 +88,15 @@ pub(crate) fn found_in(bytes: &[u8], limits: Limits, judged: &Judged, n: usize) 
         bytes,
         order: judged.order,
     };
+    let types = judged.fields.signature(bytes);
+    let mut table = [0; 255];
     let spot = Spot {
         at: judged.body,
-        types: judged.fields.signature(bytes),
+        types,
+        lengths: lengths_of(types, &mut table),
         room: limits.depth,
     };
     found_at(&source, &spot, n)
-}
-
-/// The text that stands from `start` up to `after`, after its length in `width` bytes, and with a zero after it.
-pub(crate) fn text_in(bytes: &[u8], start: usize, after: usize, width: u8) -> &str
-    requires some { 1 ≤ width }
-    requires text { (t : List ℕ) × IsTextIn bytes.now width start after t }
-    ensures { (t : List ℕ) → IsTextIn bytes.now width start after t → result.now ≡ t }
-{
-    let gap = usize::from(padding_length(width, start as u64));
-    let first = start + gap + usize::from(width);
-    let text = &bytes[first..after - 1];
-    // The bytes were judged, so UTF-8 is not looked for again.
-    unsafe { str::from_utf8_unchecked(text) }
 }
 
 /// Where the text stands of a value that stands there, after its length in `width` bytes, and with a zero after it.
@@ -121,4 +114,14 @@ pub(crate) fn text_place(bytes: &[u8], found: Found, width: u8) -> ArgPlace
         start: first,
         length: found.after - 1 - first,
     }
+}
+
+/// The text of a value that stands there, after its length in `width` bytes, and with a zero after it.
+pub(crate) fn found_text(bytes: &[u8], found: Found, width: u8) -> &str
+    requires some { 1 ≤ width }
+    requires text { (t : List ℕ) × IsTextIn bytes.now width found.start found.after t }
+    ensures { (t : List ℕ) → IsTextIn bytes.now width found.start found.after t → result.now ≡ t }
+{
+    let place = text_place(bytes, found, width);
+    text_in(bytes, place.start, place.length)
 }

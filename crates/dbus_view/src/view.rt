@@ -14,7 +14,7 @@ ghost use Rattle.dbus_judge.specs.Judging.{IsJudged};
 use crate::arg_place::ArgPlace;
 use crate::arg_view::ArgView;
 use crate::fault::fault_of;
-use crate::values::{found_in, text_in, text_place};
+use crate::values::{found_in, found_text, text_place};
 use dbus_judge::{Judged, judge};
 use dbus_message_model::field_code::{
     DESTINATION, ERROR_NAME, INTERFACE, MEMBER, PATH, REPLY_SERIAL, SENDER,
@@ -226,9 +226,9 @@ impl<'a> MessageView<'a> {
         let bytes = self.bytes;
         let found = found_in(bytes, self.limits, &self.judged, n)?;
         match found.code {
-            b's' => Some(ArgView::Str(text_in(bytes, found.start, found.after, 4))),
-            b'o' => Some(ArgView::Path(text_in(bytes, found.start, found.after, 4))),
-            b'g' => Some(ArgView::Sig(text_in(bytes, found.start, found.after, 1))),
+            b's' => Some(ArgView::Str(found_text(bytes, found, 4))),
+            b'o' => Some(ArgView::Path(found_text(bytes, found, 4))),
+            b'g' => Some(ArgView::Sig(found_text(bytes, found, 1))),
             code => Some(ArgView::Other(code)),
         }
     }

@@ -35,7 +35,7 @@ array_of_type (ArrayValue t xs) u e = let same : t ≡ u = cc in (xs, ap (λ (w 
 array_of_type (StructValue xs) u e = absurd cc
 array_of_type (EntryValue x y) u e = absurd cc
 
-formed_variant : (room : ℕ) (x : ValueTree) → IsWellFormed room (VariantValue x) → (0 < room) × IsSingleType (type_of x) × IsWellFormed (room - 1) x
+pub formed_variant : (room : ℕ) (x : ValueTree) → IsWellFormed room (VariantValue x) → (0 < room) × IsSingleType (type_of x) × IsWellFormed (room - 1) x
 formed_variant zero x h = absurd h
 formed_variant (suc room) x h = let less : room ≡ suc room - 1 = omega arith in (omega arith, h.0, subst (λ (r : ℕ). IsWellFormed r x) less h.1)
 

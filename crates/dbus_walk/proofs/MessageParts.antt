@@ -12,7 +12,7 @@ use Rattle.dbus_message_model.specs.Messages.{MessageTree, order_byte, field_arr
 use Rattle.dbus_message_model.proofs.BothOrders.{any_length}
 use Rattle.dbus_walk.specs.Standing.{Stands, AllStand}
 use Rattle.dbus_walk.proofs.Put.{rest_next}
-use Rattle.dbus_walk.proofs.Signed.{body_shaped}
+use Rattle.dbus_walk.proofs.Signed.{array_signed, body_shaped}
 
 -- the order's byte, the type, the flags and the version
 abbrev pub head : Order → MessageTree → List ℕ
@@ -79,6 +79,10 @@ module _ (limits : Limits) (order : Order) (m : MessageTree) (bytes : List ℕ) 
       within = valid.within_fields;
       spelled = fields_spelled;
     }
+
+    -- the body's types have few bytes
+    pub body_few : (types : List ℕ) → types ≡ body_signature m.fields → length types ≤ 255
+    body_few types typed = let k = array_signed limits.depth m.fields valid.fields valid.formed_fields in omega (arith, k.1, ap length typed)
 
     pub body_stands : (types : List ℕ) (at : ℕ) → types ≡ body_signature m.fields → body_start order m.fields ≡ at → AllStand order limits.depth types at bytes m.body []
     body_stands types at typed here =

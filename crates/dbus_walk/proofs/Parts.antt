@@ -20,7 +20,7 @@ use Rattle.dbus_walk.proofs.Seams.{there_within, stands_after}
 
 -- ---- which type it is
 
-some_bytes : (k : NumberCode) → 0 < width k
+pub some_bytes : (k : NumberCode) → 0 < width k
 some_bytes BYTE = omega arith
 some_bytes BOOLEAN = omega arith
 some_bytes INT16 = omega arith
@@ -61,7 +61,7 @@ text_of_type (EntryValue x y) k e = absurd cc
 
 -- ---- numbers
 
-no_gap : (o : ℕ) → gap_to 1 o ≡ 0
+pub no_gap : (o : ℕ) → gap_to 1 o ≡ 0
 unfolding gap_to
 no_gap o = omega arith
 

@@ -111,6 +111,8 @@ module _ {order : Order} {room : ℕ} {bytes rest : List ℕ} {at : ℕ} {vs : V
     pub v : ValueTree
     pub us : ValueTrees
     pub begins : l.us ≡ MoreValues v us
+    pub some : pos < next
+    pub inside : next ≤ length types
     pub stands : Stands order room (take (next - pos) (drop pos types)) place bytes v (spellings order (place + length (spelling order place v)) us ++ rest)
     pub others : AllStand order room (drop next types) (place + length (spelling order place v)) bytes us rest
 
@@ -124,7 +126,9 @@ module _ {order : Order} {room : ℕ} {bytes rest : List ℕ} {at : ℕ} {vs : V
       of NoValues e = absurd (omega (arith, lt, ap length (all_as NoValues e).text, length-drop pos types))
       of (MoreValues v us) e =
           let keeps = all_as (MoreValues v us) e in
-          record { v = v; us = us; begins = e; stands = first_value types pos next is keeps; others = other_values types pos next is keeps }
+          let ends : next ≡ pos + length (sig (type_of v)) = is (type_of v) (sigs (types_of us)) (sym keeps.text) in
+          let long = length-append (sig (type_of v)) (sigs (types_of us)) in
+          record { v = v; us = us; begins = e; some = omega (arith, ends, sig_positive (type_of v)); inside = omega (arith, lt, ends, long, ap length keeps.text, length-drop pos types); stands = first_value types pos next is keeps; others = other_values types pos next is keeps }
 
   pub value_left : (Q' : List ValueTree → Type 0) (next : ℕ) (n : NextValue next) (q : ℕ) → q ≡ place + length (spelling order place n.v) → Q' (l.done ++ n.v ∷ [])
       → Left order at vs (λ p us. AllStand order room (drop next types) p bytes us rest) Q' q

@@ -5,15 +5,21 @@
 #![tactic(auto)]
 
 mod container;
+mod layouts;
+mod lengths;
 mod numbers;
 mod skip;
 mod spot;
+mod texts;
 mod visitor;
 mod walk;
 
 pub use container::Container;
+pub use layouts::layout;
+pub use lengths::lengths_of;
 pub use numbers::number_width;
 pub use skip::{Skip, skip_value};
-pub use spot::{Run, Source, Spot};
+pub use spot::{Layout, Run, Source, Spot};
+pub use texts::text_in;
 pub use visitor::Visitor;
 pub use walk::{walk_value, walk_values};

@@ -3,6 +3,7 @@
 
 ghost use Rattle.std.specs.Prelude.{◌≡◌, ℕ, List, true};
 ghost use Rattle.dbus_value_model.specs.Values.{ValueTree};
+ghost use Rattle.dbus_types.specs.TypeLengths.{AreLengths};
 ghost use Rattle.dbus_walk.specs.Standing.{StandsAt, StandsThere, end_of};
 
 use crate::container::Container;
@@ -123,6 +124,7 @@ impl Visitor for Skip {
 /// The offset after the value that stands at a spot.
 pub fn skip_value(source: &Source<'_>, spot: &Spot<'_>) -> usize
     requires stands { StandsThere source.now spot.now }
+    requires noted { AreLengths spot.now.types.now spot.now.lengths.now }
     ensures { (v : ValueTree) (rest : List ℕ) → StandsAt source.now spot.now v rest →
         result ≡ end_of source.now spot.now v }
 {

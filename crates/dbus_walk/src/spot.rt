@@ -19,19 +19,64 @@ pub struct Spot<'a> {
     pub at: usize,
     /// The bytes of its signature.
     pub types: &'a [u8],
+    /// Of each of these bytes how many the type has that begins there.
+    pub lengths: &'a [u8],
     /// How many containers may be open in it.
     pub room: u8,
 }
 
-/// Where the numbers of an array stand.
+/// Where the elements of an array stand.
 #[derive(Clone, Copy)]
 pub struct Run {
     /// The offset of the array's length.
     pub start: usize,
-    /// The offset of the first number.
+    /// The offset of the first element, with its padding.
     pub first: usize,
-    /// The offset after the last number.
+    /// The offset after the last element.
     pub end: usize,
-    /// How many bytes each number has.
+    /// How many bytes each number has, or 0 if the elements are no numbers.
     pub size: u8,
+}
+
+/// What a value is, and where in it what stands. D-Bus Specification, "Marshaling (Wire Format)".
+#[derive(Clone, Copy)]
+pub enum Layout<'a> {
+    /// A number.
+    Number {
+        /// The offset of its first byte.
+        start: usize,
+        /// How many bytes it has.
+        size: u8,
+    },
+    /// A STRING or an OBJECT_PATH.
+    LongText {
+        /// The offset of its length, which has 4 bytes.
+        start: usize,
+        /// How many bytes the text has.
+        size: usize,
+    },
+    /// A SIGNATURE, whose length has one byte, the value's first.
+    ShortText {
+        /// How many bytes the text has.
+        size: usize,
+    },
+    /// A VARIANT.
+    Variant {
+        /// The type of the value that it holds.
+        types: &'a [u8],
+        /// The offset at which that value begins, with its padding.
+        at: usize,
+    },
+    /// An ARRAY.
+    Array(Run),
+    /// A STRUCT.
+    Struct {
+        /// The offset of its first field.
+        start: usize,
+    },
+    /// A DICT_ENTRY.
+    Entry {
+        /// The offset of its key.
+        start: usize,
+    },
 }

@@ -5,19 +5,18 @@
 //! D-Bus Specification, "Marshaling (Wire Format)".
 #![tactic(auto)]
 
-ghost use Rattle.std.specs.Prelude.{◌≡◌, ℕ, ◌<◌, ◌⊎◌, List, length, slice_index, IfOk};
-ghost use Rattle.dbus_texts.specs.Types.{TypeTree};
-ghost use Rattle.dbus_types.specs.SignatureCodes.{first_code};
+ghost use Rattle.std.specs.Prelude.{◌≡◌, ℕ, ◌-◌, ◌<◌, ◌≤◌, List, length, IfOk};
+ghost use Rattle.dbus_types.specs.TypeLengths.{AreLengths};
 ghost use Rattle.dbus_value_model.specs.Values.{ValueTree, ValueTrees, value_trees};
-ghost use Rattle.dbus_walk.specs.Widths.{number_width};
+ghost use Rattle.dbus_walk.specs.declared.container.Container.TheVariants.{Array, Variant};
+ghost use Rattle.dbus_walk.specs.Layouts.{of_parts, ArePartsAt, IsArrayAt};
 ghost use Rattle.dbus_walk.specs.Standing.{StandsAt, StandsThere, AllStandAt, AllStandThere, ElementsStandAt, ElementsStandThere, end_of, end_of_all};
 
 use crate::container::Container;
-use crate::numbers::number_width;
-use crate::spot::{Run, Source, Spot};
+use crate::layouts::layout;
+use crate::spot::{Layout, Run, Source, Spot};
 use crate::visitor::Visitor;
-use dbus_types::{boundary, type_end};
-use dbus_value_model::gap;
+use dbus_types::lengths_in;
 
 /// Walks over the value at a spot: what the visitor makes of it, and the offset after it.
 ///
@@ -30,169 +29,178 @@ pub fn walk_value<V: Visitor>(
 ) -> Result<(V::One, usize), V::Stop>
     requires ready { V.ready visitor.old (length source.now.bytes.now) }
     requires stands { StandsThere source.now spot.now }
+    requires noted { AreLengths spot.now.types.now spot.now.lengths.now }
     ensures ready { V.ready visitor.new (length source.now.bytes.now) }
     ensures walked { (v : ValueTree) (rest : List ℕ) → StandsAt source.now spot.now v rest →
         IfOk result (λ r. V.one visitor.old source.now.order spot.now.at v r.0 visitor.new ×
         (r.1 ≡ end_of source.now spot.now v)) }
 {
-    let code = spot.types[0];
-    let size = number_width(code);
-    if size > 0 {
-        return number(visitor, source, spot, size);
+    match layout(source, spot) {
+        Layout::Number { start, size } => {
+            let one = visitor.number(source, spot, start, size)?;
+            Ok((one, start + usize::from(size)))
+        }
+        Layout::LongText { start, size } => {
+            let one = visitor.long_text(source, spot, start, size)?;
+            Ok((one, start + 4 + size + 1))
+        }
+        Layout::ShortText { size } => {
+            let one = visitor.short_text(source, spot, size)?;
+            Ok((one, spot.at + 1 + size + 1))
+        }
+        Layout::Variant { types, at } => variant(visitor, source, spot, types, at),
+        Layout::Array(run) => array(visitor, source, spot, run),
+        Layout::Struct { start } => {
+            let held = inner(spot, start, spot.room - 1);
+            parts(visitor, source, spot, Container::Struct, &held)
+        }
+        Layout::Entry { start } => {
+            let held = inner(spot, start, spot.room);
+            parts(visitor, source, spot, Container::Entry, &held)
+        }
     }
-    if code == b's' || code == b'o' {
-        return long_text(visitor, source, spot);
-    }
-    if code == b'g' {
-        return short_text(visitor, source, spot);
-    }
-    if code == b'v' {
-        return variant(visitor, source, spot);
-    }
-    if code == b'a' {
-        return array(visitor, source, spot);
-    }
-    brackets(visitor, source, spot)
 }
 
-/// A number of so many bytes.
+/// What stands between the brackets of a type, for what begins at `start` and has this room.
 #[inline]
-fn number<V: Visitor>(
-    visitor: &mut V,
-    source: &Source<'_>,
-    spot: &Spot<'_>,
-    size: u8,
-) -> Result<(V::One, usize), V::Stop>
-    requires ready { V.ready visitor.old (length source.now.bytes.now) }
-    requires stands { StandsThere source.now spot.now }
-    requires some { 0 < size }
-    requires wide { (t : TypeTree) → first_code t ≡ slice_index spot.now.types.now 0 →
-        size ≡ number_width t }
-    ensures ready { V.ready visitor.new (length source.now.bytes.now) }
-    ensures walked { (v : ValueTree) (rest : List ℕ) → StandsAt source.now spot.now v rest →
-        IfOk result (λ r. V.one visitor.old source.now.order spot.now.at v r.0 visitor.new ×
-        (r.1 ≡ end_of source.now spot.now v)) }
+fn inner<'a>(spot: &Spot<'a>, start: usize, room: u8) -> Spot<'a>
+    requires noted { AreLengths spot.now.types.now spot.now.lengths.now }
+    requires long { 2 ≤ length spot.now.types.now }
+    ensures at { result.at ≡ start }
+    ensures room { result.room ≡ room }
+    ensures types { result.types.now ≡ of_parts spot.now.types.now }
+    ensures noted { AreLengths result.types.now result.lengths.now }
 {
-    let start = spot.at + gap(size, spot.at);
-    let one = visitor.number(source, spot, start, size)?;
-    Ok((one, start + usize::from(size)))
+    let last = spot.types.len() - 1;
+    Spot {
+        at: start,
+        types: &spot.types[1..last],
+        lengths: &spot.lengths[1..last],
+        room,
+    }
 }
 
-/// A STRING or an OBJECT_PATH.
-#[inline]
-fn long_text<V: Visitor>(
-    visitor: &mut V,
-    source: &Source<'_>,
-    spot: &Spot<'_>,
-) -> Result<(V::One, usize), V::Stop>
-    requires ready { V.ready visitor.old (length source.now.bytes.now) }
-    requires stands { StandsThere source.now spot.now }
-    requires code { (slice_index spot.now.types.now 0 ≡ 115) ⊎ (slice_index spot.now.types.now 0 ≡ 111) }
-    ensures ready { V.ready visitor.new (length source.now.bytes.now) }
-    ensures walked { (v : ValueTree) (rest : List ℕ) → StandsAt source.now spot.now v rest →
-        IfOk result (λ r. V.one visitor.old source.now.order spot.now.at v r.0 visitor.new ×
-        (r.1 ≡ end_of source.now spot.now v)) }
-{
-    let start = spot.at + gap(4, spot.at);
-    let size = source.order.u32_at(source.bytes, start) as usize;
-    let one = visitor.long_text(source, spot, start, size)?;
-    Ok((one, start + 4 + size + 1))
-}
-
-/// A SIGNATURE.
-#[inline]
-fn short_text<V: Visitor>(
-    visitor: &mut V,
-    source: &Source<'_>,
-    spot: &Spot<'_>,
-) -> Result<(V::One, usize), V::Stop>
-    requires ready { V.ready visitor.old (length source.now.bytes.now) }
-    requires stands { StandsThere source.now spot.now }
-    requires code { slice_index spot.now.types.now 0 ≡ 103 }
-    ensures ready { V.ready visitor.new (length source.now.bytes.now) }
-    ensures walked { (v : ValueTree) (rest : List ℕ) → StandsAt source.now spot.now v rest →
-        IfOk result (λ r. V.one visitor.old source.now.order spot.now.at v r.0 visitor.new ×
-        (r.1 ≡ end_of source.now spot.now v)) }
-{
-    let size = usize::from(source.bytes[spot.at]);
-    let one = visitor.short_text(source, spot, size)?;
-    Ok((one, spot.at + 1 + size + 1))
-}
-
-/// A variant.
+/// A variant. What it holds has this type, and begins at `at`.
 #[cycle(walk)]
 fn variant<V: Visitor>(
     visitor: &mut V,
     source: &Source<'_>,
     spot: &Spot<'_>,
+    types: &[u8],
+    at: usize,
 ) -> Result<(V::One, usize), V::Stop>
     requires ready { V.ready visitor.old (length source.now.bytes.now) }
     requires stands { StandsThere source.now spot.now }
-    requires code { slice_index spot.now.types.now 0 ≡ 118 }
+    requires some { 0 < spot.now.room }
+    requires few { length types.now ≤ 255 }
+    requires laid { (v : ValueTree) (rest : List ℕ) → StandsAt source.now spot.now v rest →
+        ArePartsAt source.now spot.now v rest Variant (spot.now.room - 1) types.now at }
     ensures ready { V.ready visitor.new (length source.now.bytes.now) }
     ensures walked { (v : ValueTree) (rest : List ℕ) → StandsAt source.now spot.now v rest →
         IfOk result (λ r. V.one visitor.old source.now.order spot.now.at v r.0 visitor.new ×
         (r.1 ≡ end_of source.now spot.now v)) }
 {
-    let size = usize::from(source.bytes[spot.at]);
-    let first = spot.at + 1;
+    if types.len() == 1 {
+        let held = Spot {
+            at,
+            types,
+            lengths: &[1],
+            room: spot.room - 1,
+        };
+        return parts(visitor, source, spot, Container::Variant, &held);
+    }
+    noted_variant(visitor, source, spot, types, at)
+}
+
+/// A variant whose type has several bytes. How long the types in it are is noted first, in room that no other variant takes.
+#[cycle(walk)]
+#[inline(never)]
+fn noted_variant<V: Visitor>(
+    visitor: &mut V,
+    source: &Source<'_>,
+    spot: &Spot<'_>,
+    types: &[u8],
+    at: usize,
+) -> Result<(V::One, usize), V::Stop>
+    requires ready { V.ready visitor.old (length source.now.bytes.now) }
+    requires stands { StandsThere source.now spot.now }
+    requires some { 0 < spot.now.room }
+    requires few { length types.now ≤ 255 }
+    requires laid { (v : ValueTree) (rest : List ℕ) → StandsAt source.now spot.now v rest →
+        ArePartsAt source.now spot.now v rest Variant (spot.now.room - 1) types.now at }
+    ensures ready { V.ready visitor.new (length source.now.bytes.now) }
+    ensures walked { (v : ValueTree) (rest : List ℕ) → StandsAt source.now spot.now v rest →
+        IfOk result (λ r. V.one visitor.old source.now.order spot.now.at v r.0 visitor.new ×
+        (r.1 ≡ end_of source.now spot.now v)) }
+{
+    let mut table = [0; 255];
     let held = Spot {
-        at: first + size + 1,
-        types: &source.bytes[first..first + size],
+        at,
+        types,
+        lengths: lengths_in(types, &mut table),
         room: spot.room - 1,
     };
-    let none = visitor.open(Container::Variant, source.bytes.len())?;
-    visitor.part(true, source.bytes.len());
-    let (one, after) = walk_value(visitor, source, &held)?;
-    let many = visitor.push(none, one, source.bytes.len())?;
-    let closed = visitor.close(Container::Variant, many, source.bytes.len())?;
+    parts(visitor, source, spot, Container::Variant, &held)
+}
+
+/// A container other than an array: the parts that it holds at a spot of their own.
+#[cycle(walk)]
+fn parts<V: Visitor>(
+    visitor: &mut V,
+    source: &Source<'_>,
+    spot: &Spot<'_>,
+    kind: Container,
+    held: &Spot<'_>,
+) -> Result<(V::One, usize), V::Stop>
+    requires ready { V.ready visitor.old (length source.now.bytes.now) }
+    requires stands { StandsThere source.now spot.now }
+    requires kind { kind ≡ Array → ⊥ }
+    requires noted { AreLengths held.now.types.now held.now.lengths.now }
+    requires laid { (v : ValueTree) (rest : List ℕ) → StandsAt source.now spot.now v rest →
+        ArePartsAt source.now spot.now v rest kind held.now.room held.now.types.now held.now.at }
+    ensures ready { V.ready visitor.new (length source.now.bytes.now) }
+    ensures walked { (v : ValueTree) (rest : List ℕ) → StandsAt source.now spot.now v rest →
+        IfOk result (λ r. V.one visitor.old source.now.order spot.now.at v r.0 visitor.new ×
+        (r.1 ≡ end_of source.now spot.now v)) }
+{
+    let none = visitor.open(kind, source.bytes.len())?;
+    let (many, after) = walk_values(visitor, none, source, held)?;
+    let closed = visitor.close(kind, many, source.bytes.len())?;
     Ok((closed, after))
 }
 
-/// An array.
+/// An array, whose elements stand in this run.
 #[cycle(walk)]
 fn array<V: Visitor>(
     visitor: &mut V,
     source: &Source<'_>,
     spot: &Spot<'_>,
+    run: Run,
 ) -> Result<(V::One, usize), V::Stop>
     requires ready { V.ready visitor.old (length source.now.bytes.now) }
     requires stands { StandsThere source.now spot.now }
-    requires code { slice_index spot.now.types.now 0 ≡ 97 }
+    requires noted { AreLengths spot.now.types.now spot.now.lengths.now }
+    requires laid { (v : ValueTree) (rest : List ℕ) → StandsAt source.now spot.now v rest →
+        IsArrayAt source.now spot.now v rest run }
     ensures ready { V.ready visitor.new (length source.now.bytes.now) }
     ensures walked { (v : ValueTree) (rest : List ℕ) → StandsAt source.now spot.now v rest →
         IfOk result (λ r. V.one visitor.old source.now.order spot.now.at v r.0 visitor.new ×
         (r.1 ≡ end_of source.now spot.now v)) }
 {
-    let code = spot.types[1];
-    let start = spot.at + gap(4, spot.at);
-    let n = source.order.u32_at(source.bytes, start) as usize;
-    let after = start + 4;
-    let first = after + gap(boundary(code), after);
-    let end = first + n;
-    let size = number_width(code);
-    if size > 0 && V::at_one_stroke(code) {
-        let one = visitor.numbers(
-            source,
-            spot,
-            Run {
-                start,
-                first,
-                end,
-                size,
-            },
-        )?;
-        return Ok((one, end));
+    if run.size > 0 && V::at_one_stroke(spot.types[1]) {
+        let one = visitor.numbers(source, spot, run)?;
+        return Ok((one, run.end));
     }
-    let none = visitor.open_array(source, spot, start)?;
+    let none = visitor.open_array(source, spot, run.start)?;
     let held = Spot {
-        at: first,
+        at: run.first,
         types: &spot.types[1..],
+        lengths: &spot.lengths[1..],
         room: spot.room - 1,
     };
-    let many = elements(visitor, none, source, &held, end)?;
+    let many = elements(visitor, none, source, &held, run.end)?;
     let closed = visitor.close(Container::Array, many, source.bytes.len())?;
-    Ok((closed, end))
+    Ok((closed, run.end))
 }
 
 /// Elements of one type, up to `end`.
@@ -206,6 +214,7 @@ fn elements<V: Visitor>(
 ) -> Result<V::Many, V::Stop>
     requires ready { V.ready visitor.old (length source.now.bytes.now) }
     requires stand { ElementsStandThere source.now spot.now end }
+    requires noted { AreLengths spot.now.types.now spot.now.lengths.now }
     ensures ready { V.ready visitor.new (length source.now.bytes.now) }
     ensures walked { (vs : ValueTrees) (rest : List ℕ) → ElementsStandAt source.now spot.now end vs rest →
         IfOk result (λ r. (xs : List ValueTree) × (vs ≡ value_trees xs) ×
@@ -219,6 +228,7 @@ fn elements<V: Visitor>(
         let next = Spot {
             at: place,
             types: spot.types,
+            lengths: spot.lengths,
             room: spot.room,
         };
         let (one, after) = walk_value(visitor, source, &next)?;
@@ -227,45 +237,6 @@ fn elements<V: Visitor>(
         is_first = false;
     }
     Ok(many)
-}
-
-/// A struct or a dict entry.
-#[cycle(walk)]
-fn brackets<V: Visitor>(
-    visitor: &mut V,
-    source: &Source<'_>,
-    spot: &Spot<'_>,
-) -> Result<(V::One, usize), V::Stop>
-    requires ready { V.ready visitor.old (length source.now.bytes.now) }
-    requires stands { StandsThere source.now spot.now }
-    requires code { (slice_index spot.now.types.now 0 ≡ 40) ⊎ (slice_index spot.now.types.now 0 ≡ 123) }
-    ensures ready { V.ready visitor.new (length source.now.bytes.now) }
-    ensures walked { (v : ValueTree) (rest : List ℕ) → StandsAt source.now spot.now v rest →
-        IfOk result (λ r. V.one visitor.old source.now.order spot.now.at v r.0 visitor.new ×
-        (r.1 ≡ end_of source.now spot.now v)) }
-{
-    let start = spot.at + gap(8, spot.at);
-    let inner = &spot.types[1..spot.types.len() - 1];
-    if spot.types[0] == b'(' {
-        let none = visitor.open(Container::Struct, source.bytes.len())?;
-        let held = Spot {
-            at: start,
-            types: inner,
-            room: spot.room - 1,
-        };
-        let (many, after) = walk_values(visitor, none, source, &held)?;
-        let closed = visitor.close(Container::Struct, many, source.bytes.len())?;
-        return Ok((closed, after));
-    }
-    let none = visitor.open(Container::Entry, source.bytes.len())?;
-    let held = Spot {
-        at: start,
-        types: inner,
-        room: spot.room,
-    };
-    let (many, after) = walk_values(visitor, none, source, &held)?;
-    let closed = visitor.close(Container::Entry, many, source.bytes.len())?;
-    Ok((closed, after))
 }
 
 /// Walks over values one after another, one of each type that the signature at the spot has: what the visitor gathers of them,
@@ -281,6 +252,7 @@ pub fn walk_values<V: Visitor>(
 ) -> Result<(V::Many, usize), V::Stop>
     requires ready { V.ready visitor.old (length source.now.bytes.now) }
     requires stand { AllStandThere source.now spot.now }
+    requires noted { AreLengths spot.now.types.now spot.now.lengths.now }
     ensures ready { V.ready visitor.new (length source.now.bytes.now) }
     ensures walked { (vs : ValueTrees) (rest : List ℕ) → AllStandAt source.now spot.now vs rest →
         IfOk result (λ r. ((xs : List ValueTree) × (vs ≡ value_trees xs) ×
@@ -292,11 +264,12 @@ pub fn walk_values<V: Visitor>(
     let mut is_first = true;
     let mut many = none;
     while pos < spot.types.len() {
-        let end = type_end(spot.types, pos);
+        let end = pos + usize::from(spot.lengths[pos]);
         visitor.part(is_first, source.bytes.len());
         let next = Spot {
             at: place,
             types: &spot.types[pos..end],
+            lengths: &spot.lengths[pos..end],
             room: spot.room,
         };
         let (one, after) = walk_value(visitor, source, &next)?;

@@ -1,4 +1,6 @@
-use Rattle.std.proofs.Common.{◌+◌, ◌++◌, length, drop, arith}
+use Rattle.std.proofs.Common.{ℕ, ◌+◌, ◌-◌, ◌++◌, length, drop, ap, ◌∙◌, arith}
+use Rattle.dbus_types.specs.SignatureCodes.{IsTypeEnd}
+use Rattle.dbus_types.proofs.TypeLengths.{ends_by, lengths_within}
 use Rattle.dbus_value_model.specs.Spelling.{spelling, spellings}
 use Rattle.dbus_walk.specs.Standing.{AllStand}
 use Rattle.dbus_walk.proofs.Walks.{all_left, next_value, value_left, no_value}
@@ -14,27 +16,61 @@ loop-pos-init g c = record {
       (AreLines c.args.draft.now c.args.draft.now) e (nothing c.args.draft.now);
 }
 
+pub slice_bounds-next-end : goal.slice_bounds-next-end
+slice_bounds-next-end g c =
+    let there = c.requires.stand in
+    let types = c.args.spot.now.types.now in
+    let pos = c.loop-pos.pos in
+    let end = pos + c.from.result in
+    let is : IsTypeEnd types pos end = λ t more e. ap (λ (k : ℕ). pos + k) c.from.ensures ∙ ends_by types c.args.spot.now.lengths.now c.requires.noted pos t more e in
+    let n = next_value types pos (c.loop-pos.invariant.left there.0 there.1 there.2) end c.loop-pos-test.true is in
+    omega (arith, n.inside)
+
+pub loop-pos-smaller : goal.loop-pos-smaller
+loop-pos-smaller g c =
+    let there = c.requires.stand in
+    let types = c.args.spot.now.types.now in
+    let pos = c.loop-pos.pos in
+    let end = pos + c.from.result in
+    let is : IsTypeEnd types pos end = λ t more e. ap (λ (k : ℕ). pos + k) c.from.ensures ∙ ends_by types c.args.spot.now.lengths.now c.requires.noted pos t more e in
+    let n = next_value types pos (c.loop-pos.invariant.left there.0 there.1 there.2) end c.loop-pos-test.true is in
+    omega (arith, n.some, n.inside)
+
 pub write_value_at-place-requires : goal.write_value_at-place-requires
 write_value_at-place-requires g c =
     let there = c.requires.stand in
     let order = c.args.source.now.order in
+    let types = c.args.spot.now.types.now in
+    let lengths = c.args.spot.now.lengths.now in
+    let pos = c.loop-pos.pos in
     let place = c.loop-pos.place in
-    let n = next_value c.args.spot.now.types.now c.loop-pos.pos (c.loop-pos.invariant.left there.0 there.1 there.2) c.type_end-end.result c.loop-pos-test.true c.type_end-end.ensures.value in
-    record { stands = (n.v, spellings order (place + length (spelling order place n.v)) n.us ++ there.1, n.stands) }
+    let end = pos + c.from.result in
+    let is : IsTypeEnd types pos end = λ t more e. ap (λ (k : ℕ). pos + k) c.from.ensures ∙ ends_by types lengths c.requires.noted pos t more e in
+    let n = next_value types pos (c.loop-pos.invariant.left there.0 there.1 there.2) end c.loop-pos-test.true is in
+    record {
+      stands = (n.v, spellings order (place + length (spelling order place n.v)) n.us ++ there.1, n.stands);
+      noted = lengths_within types lengths c.requires.noted pos (end - pos);
+    }
 
 pub loop-pos-preserved : goal.loop-pos-preserved
-loop-pos-preserved g c = record {
-  within = c.type_end-end.ensures.within;
-  left = λ vs rest e.
-      let order = c.args.source.now.order in
-      let place = c.loop-pos.place in
-      let types = c.args.spot.now.types.now in
-      let l = c.loop-pos.invariant.left vs rest e in
-      let n = next_value types c.loop-pos.pos l c.type_end-end.result c.loop-pos-test.true c.type_end-end.ensures.value in
-      let w = c.write_value_at-place.ensures.shown n.v (spellings order (place + length (spelling order place n.v)) n.us ++ rest) n.stands in
-      value_left types c.loop-pos.pos l (AreLines c.args.draft.now c.push_code.new.self) c.type_end-end.result n c.write_value_at-place.result w.ends
-      (more_lines c.args.draft.now c.loop-pos.draft c.push_str.new.self c.write_value_at-place.new.draft c.push_code.new.self l.done n.v l.walked c.push_str.ensures w.gained c.push_code.ensures);
-}
+loop-pos-preserved g c =
+    let there = c.requires.stand in
+    let order = c.args.source.now.order in
+    let types = c.args.spot.now.types.now in
+    let pos = c.loop-pos.pos in
+    let place = c.loop-pos.place in
+    let end = pos + c.from.result in
+    let is : IsTypeEnd types pos end = λ t more e. ap (λ (k : ℕ). pos + k) c.from.ensures ∙ ends_by types c.args.spot.now.lengths.now c.requires.noted pos t more e in
+    let one = next_value types pos (c.loop-pos.invariant.left there.0 there.1 there.2) end c.loop-pos-test.true is in
+    record {
+      within = one.inside;
+      left = λ vs rest e.
+          let l = c.loop-pos.invariant.left vs rest e in
+          let n = next_value types pos l end c.loop-pos-test.true is in
+          let w = c.write_value_at-place.ensures.shown n.v (spellings order (place + length (spelling order place n.v)) n.us ++ rest) n.stands in
+          value_left types pos l (AreLines c.args.draft.now c.push_code.new.self) end n c.write_value_at-place.result w.ends
+          (more_lines c.args.draft.now c.loop-pos.draft c.push_str.new.self c.write_value_at-place.new.draft c.push_code.new.self l.done n.v l.walked c.push_str.ensures w.gained c.push_code.ensures);
+    }
 
 pub returns : goal.returns
 returns g c = record {

@@ -6,6 +6,7 @@ use Rattle.dbus_view.proofs.values.found_at.Goals as goal
 pub loop-number-init : goal.loop-number-init
 loop-number-init c = record {
   there = c.requires.stand;
+  noted = c.requires.noted;
   passed = λ xs rest all. none_passed c.args.source.now c.args.spot.now.at xs rest c.args.spot.now refl all;
 }
 
@@ -22,6 +23,7 @@ loop-number-preserved c =
     let f = c.in_ok-_first.ensures t.0 t.1 t.2 in
     record {
       there = (f.us, t.1, f.left);
+      noted = f.noted;
       passed = λ xs rest all.
           let p = l.invariant.passed xs rest all in
           one_passed c.args.source.now c.args.spot.now.at xs rest l._number l.left p c.in_ok-_first._first c.in_ok-_first.others (c.in_ok-_first.ensures p.us rest p.stand);

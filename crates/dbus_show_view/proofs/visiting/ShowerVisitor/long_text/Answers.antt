@@ -1,6 +1,7 @@
 use Rattle.std.proofs.Common.{◌+◌, refl, ◌∙◌, arith}
 use Rattle.dbus_walk.proofs.Parts.{long_stands, long_counts}
-use Rattle.dbus_show_view.proofs.Shown.{code_ascii, text_there, text_utf8, text_shown}
+use Rattle.dbus_walk.proofs.ReadThere.{text_there, text_utf8}
+use Rattle.dbus_show_view.proofs.Shown.{code_ascii, text_shown}
 use Rattle.dbus_show_view.proofs.visiting.ShowerVisitor.long_text.Goals as goal
 
 pub overflow_add-start : goal.overflow_add-start

@@ -1,7 +1,7 @@
 use Rattle.std.proofs.Common.{◌+◌, refl, sym, ◌∙◌, arith}
-use Rattle.dbus_walk.proofs.Parts.{short_stands, short_counts}
-use Rattle.dbus_show_view.proofs.Codes.{no_gap}
-use Rattle.dbus_show_view.proofs.Shown.{text_there, text_utf8, text_shown}
+use Rattle.dbus_walk.proofs.Parts.{no_gap, short_stands, short_counts}
+use Rattle.dbus_walk.proofs.ReadThere.{text_there, text_utf8}
+use Rattle.dbus_show_view.proofs.Shown.{text_shown}
 use Rattle.dbus_show_view.proofs.visiting.ShowerVisitor.short_text.Goals as goal
 
 pub overflow_add-spot : goal.overflow_add-spot

@@ -1,0 +1,176 @@
+use Rattle.std.proofs.Common.{◌-◌, length, drop, refl, sym, ap, subst, ◌∙◌, arith}
+use Rattle.std.proofs.lemmas.List.{length-take}
+use Rattle.dbus_walk.specs.Containers.{parts}
+use Rattle.dbus_walk.specs.Layouts.{IsLaidOut}
+use Rattle.dbus_walk.specs.declared.spot.Layout.{Layout}
+use Rattle.dbus_values.proofs.Views.{number_coded, number_inside, number_seen, text_utf8, string_seen, path_seen, signature_seen, variant_seen, struct_seen, entry_seen, array_type}
+use Rattle.dbus_values.specs.States.{ValuesState, AreLeft, ElementsState, ElementsAreLeft}
+use Rattle.dbus_values.proofs.seeing.view_of.Goals as goal
+
+pub number_view-requires-clause-inside : goal.number_view-requires-clause-inside
+number_view-requires-clause-inside c =
+    let there = c.requires.stands in
+    let p = subst (λ (l : Layout). IsLaidOut c.args.source.now c.args.spot.now there.0 there.1 l) c.in-Number.is (c.requires.laid there.0 there.1 there.2) in
+    number_inside c.args.source.now c.args.spot.now there.0 there.1 there.2 c.in-Number.start _ p
+
+pub number_view-requires-clause-known : goal.number_view-requires-clause-known
+number_view-requires-clause-known c =
+    let there = c.requires.stands in
+    let p = subst (λ (l : Layout). IsLaidOut c.args.source.now c.args.spot.now there.0 there.1 l) c.in-Number.is (c.requires.laid there.0 there.1 there.2) in
+    (p.code, number_coded c.args.source.now c.args.spot.now there.0 there.1 there.2 c.in-Number.start _ p)
+
+pub returns-in-Number-clause-seen : goal.returns-in-Number-clause-seen
+returns-in-Number-clause-seen c =
+    λ v rest s.
+    let p = subst (λ (l : Layout). IsLaidOut c.args.source.now c.args.spot.now v rest l) c.in-Number.is (c.requires.laid v rest s) in
+    number_seen c.args.source.now c.args.spot.now v rest s c.in-Number.start _ p c.number_view.result c.number_view.ensures.seen
+
+pub overflow_add-start : goal.overflow_add-start
+overflow_add-start c =
+    let there = c.requires.stands in
+    let p = subst (λ (l : Layout). IsLaidOut c.args.source.now c.args.spot.now there.0 there.1 l) c.in-LongText.is (c.requires.laid there.0 there.1 there.2) in
+    omega (arith, p.inside)
+
+pub text_in-text-requires-clause-inside : goal.text_in-text-requires-clause-inside
+text_in-text-requires-clause-inside c =
+    let there = c.requires.stands in
+    let p = subst (λ (l : Layout). IsLaidOut c.args.source.now c.args.spot.now there.0 there.1 l) c.in-LongText.is (c.requires.laid there.0 there.1 there.2) in
+    omega (arith, p.inside)
+
+pub text_in-text-requires-clause-utf8 : goal.text_in-text-requires-clause-utf8
+text_in-text-requires-clause-utf8 c =
+    let there = c.requires.stands in
+    let p = subst (λ (l : Layout). IsLaidOut c.args.source.now c.args.spot.now there.0 there.1 l) c.in-LongText.is (c.requires.laid there.0 there.1 there.2) in
+    text_utf8 c.args.source.now c.args.spot.now there.0 there.1 there.2 4 c.in-LongText.start c.in-LongText.size p
+
+pub returns-then-spot-eq115-clause-seen : goal.returns-then-spot-eq115-clause-seen
+returns-then-spot-eq115-clause-seen c =
+    λ v rest s.
+    let p = subst (λ (l : Layout). IsLaidOut c.args.source.now c.args.spot.now v rest l) c.in-LongText.is (c.requires.laid v rest s) in
+    string_seen c.args.source.now c.args.spot.now v rest s 4 c.in-LongText.start c.in-LongText.size p c.text_in-text.result.now c.if-spot-eq115.true c.text_in-text.ensures
+
+pub returns-else-spot-eq115-clause-seen : goal.returns-else-spot-eq115-clause-seen
+returns-else-spot-eq115-clause-seen c =
+    λ v rest s.
+    let p = subst (λ (l : Layout). IsLaidOut c.args.source.now c.args.spot.now v rest l) c.in-LongText.is (c.requires.laid v rest s) in
+    path_seen c.args.source.now c.args.spot.now v rest s 4 c.in-LongText.start c.in-LongText.size p c.text_in-text.result.now refl c.if-spot-eq115.false c.text_in-text.ensures
+
+pub overflow_add-spot : goal.overflow_add-spot
+overflow_add-spot c =
+    let there = c.requires.stands in
+    let p = subst (λ (l : Layout). IsLaidOut c.args.source.now c.args.spot.now there.0 there.1 l) c.in-ShortText.is (c.requires.laid there.0 there.1 there.2) in
+    omega (arith, p.inside)
+
+pub text_in-requires-clause-inside : goal.text_in-requires-clause-inside
+text_in-requires-clause-inside c =
+    let there = c.requires.stands in
+    let p = subst (λ (l : Layout). IsLaidOut c.args.source.now c.args.spot.now there.0 there.1 l) c.in-ShortText.is (c.requires.laid there.0 there.1 there.2) in
+    omega (arith, p.inside)
+
+pub text_in-requires-clause-utf8 : goal.text_in-requires-clause-utf8
+text_in-requires-clause-utf8 c =
+    let there = c.requires.stands in
+    let p = subst (λ (l : Layout). IsLaidOut c.args.source.now c.args.spot.now there.0 there.1 l) c.in-ShortText.is (c.requires.laid there.0 there.1 there.2) in
+    text_utf8 c.args.source.now c.args.spot.now there.0 there.1 there.2 1 c.args.spot.now.at c.in-ShortText.size p
+
+pub returns-in-ShortText-clause-seen : goal.returns-in-ShortText-clause-seen
+returns-in-ShortText-clause-seen c =
+    λ v rest s.
+    let p = subst (λ (l : Layout). IsLaidOut c.args.source.now c.args.spot.now v rest l) c.in-ShortText.is (c.requires.laid v rest s) in
+    signature_seen c.args.source.now c.args.spot.now v rest s 1 c.args.spot.now.at c.in-ShortText.size p c.text_in.result.now refl c.text_in.ensures
+
+pub overflow_sub-spot : goal.overflow_sub-spot
+overflow_sub-spot c =
+    let there = c.requires.stands in
+    let p = subst (λ (l : Layout). IsLaidOut c.args.source.now c.args.spot.now there.0 there.1 l) c.in-Variant.is (c.requires.laid there.0 there.1 there.2) in
+    omega (arith, p.0)
+
+pub new-requires : goal.new-requires
+new-requires c =
+    let there = c.requires.stands in
+    let p = subst (λ (l : Layout). IsLaidOut c.args.source.now c.args.spot.now there.0 there.1 l) c.in-Variant.is (c.requires.laid there.0 there.1 there.2) in
+    (p.1, parts there.0, there.1, p.2.held)
+
+pub returns-in-Variant-clause-seen : goal.returns-in-Variant-clause-seen
+returns-in-Variant-clause-seen c =
+    λ v rest s.
+    let p = subst (λ (l : Layout). IsLaidOut c.args.source.now c.args.spot.now v rest l) c.in-Variant.is (c.requires.laid v rest s) in
+    variant_seen v rest c.new.result p.2.is (subst (λ (l : ValuesState). AreLeft l (parts v) rest) (sym c.new.ensures) p.2.held)
+
+pub returns-in-Variant-clause-less : goal.returns-in-Variant-clause-less
+returns-in-Variant-clause-less c =
+    let there = c.requires.stands in
+    let p = subst (λ (l : Layout). IsLaidOut c.args.source.now c.args.spot.now there.0 there.1 l) c.in-Variant.is (c.requires.laid there.0 there.1 there.2) in
+    omega (arith, p.0, p.1, ap (λ (l : ValuesState). l.room) c.new.ensures, ap (λ (l : ValuesState). length l.types) c.new.ensures)
+
+pub overflow_sub-spot-in-Array : goal.overflow_sub-spot-in-Array
+overflow_sub-spot-in-Array c =
+    let there = c.requires.stands in
+    let p = subst (λ (l : Layout). IsLaidOut c.args.source.now c.args.spot.now there.0 there.1 l) c.in-Array.is (c.requires.laid there.0 there.1 there.2) in
+    omega (arith, p.some)
+
+pub new-requires-in-Array : goal.new-requires-in-Array
+new-requires-in-Array c =
+    let there = c.requires.stands in
+    let p = subst (λ (l : Layout). IsLaidOut c.args.source.now c.args.spot.now there.0 there.1 l) c.in-Array.is (c.requires.laid there.0 there.1 there.2) in
+    (omega (arith, c.requires.few, length-take (length c.args.spot.now.types.now - 1) (drop 1 c.args.spot.now.types.now)), p.xs, there.1, p.held)
+
+pub returns-in-Array-clause-seen : goal.returns-in-Array-clause-seen
+returns-in-Array-clause-seen c =
+    λ v rest s.
+    let p = subst (λ (l : Layout). IsLaidOut c.args.source.now c.args.spot.now v rest l) c.in-Array.is (c.requires.laid v rest s) in
+    (p.type, p.xs, rest, p.is, array_type c.args.source.now c.args.spot.now v rest s p.type p.xs p.is ∙ ap (λ (l : ElementsState). l.type) (sym c.new-in-Array.ensures), subst (λ (l : ElementsState). ElementsAreLeft l p.xs rest) (sym c.new-in-Array.ensures) p.held)
+
+pub slice_bounds-fields-count : goal.slice_bounds-fields-count
+slice_bounds-fields-count c =
+    let there = c.requires.stands in
+    let p = subst (λ (l : Layout). IsLaidOut c.args.source.now c.args.spot.now there.0 there.1 l) c.in-Struct.is (c.requires.laid there.0 there.1 there.2) in
+    omega (arith, p.0)
+
+pub slice_bounds-fields-start : goal.slice_bounds-fields-start
+slice_bounds-fields-start c =
+    let there = c.requires.stands in
+    let p = subst (λ (l : Layout). IsLaidOut c.args.source.now c.args.spot.now there.0 there.1 l) c.in-Struct.is (c.requires.laid there.0 there.1 there.2) in
+    omega (arith, p.0)
+
+pub overflow_sub-spot-in-Struct : goal.overflow_sub-spot-in-Struct
+overflow_sub-spot-in-Struct c =
+    let there = c.requires.stands in
+    let p = subst (λ (l : Layout). IsLaidOut c.args.source.now c.args.spot.now there.0 there.1 l) c.in-Struct.is (c.requires.laid there.0 there.1 there.2) in
+    omega (arith, p.1)
+
+pub new-requires-in-Struct : goal.new-requires-in-Struct
+new-requires-in-Struct c =
+    let there = c.requires.stands in
+    let p = subst (λ (l : Layout). IsLaidOut c.args.source.now c.args.spot.now there.0 there.1 l) c.in-Struct.is (c.requires.laid there.0 there.1 there.2) in
+    (omega (arith, c.requires.few, length-take (length c.args.spot.now.types.now - 1 - 1) (drop 1 c.args.spot.now.types.now)), parts there.0, there.1, p.2.held)
+
+pub returns-in-Struct-clause-seen : goal.returns-in-Struct-clause-seen
+returns-in-Struct-clause-seen c =
+    λ v rest s.
+    let p = subst (λ (l : Layout). IsLaidOut c.args.source.now c.args.spot.now v rest l) c.in-Struct.is (c.requires.laid v rest s) in
+    struct_seen v rest c.new-in-Struct.result p.2.is (subst (λ (l : ValuesState). AreLeft l (parts v) rest) (sym c.new-in-Struct.ensures) p.2.held)
+
+pub slice_bounds-both-count : goal.slice_bounds-both-count
+slice_bounds-both-count c =
+    let there = c.requires.stands in
+    let p = subst (λ (l : Layout). IsLaidOut c.args.source.now c.args.spot.now there.0 there.1 l) c.in-Entry.is (c.requires.laid there.0 there.1 there.2) in
+    omega (arith, p.0)
+
+pub slice_bounds-both-start : goal.slice_bounds-both-start
+slice_bounds-both-start c =
+    let there = c.requires.stands in
+    let p = subst (λ (l : Layout). IsLaidOut c.args.source.now c.args.spot.now there.0 there.1 l) c.in-Entry.is (c.requires.laid there.0 there.1 there.2) in
+    omega (arith, p.0)
+
+pub new-requires-in-Entry : goal.new-requires-in-Entry
+new-requires-in-Entry c =
+    let there = c.requires.stands in
+    let p = subst (λ (l : Layout). IsLaidOut c.args.source.now c.args.spot.now there.0 there.1 l) c.in-Entry.is (c.requires.laid there.0 there.1 there.2) in
+    (omega (arith, c.requires.few, length-take (length c.args.spot.now.types.now - 1 - 1) (drop 1 c.args.spot.now.types.now)), parts there.0, there.1, p.1.held)
+
+pub returns-in-Entry-clause-seen : goal.returns-in-Entry-clause-seen
+returns-in-Entry-clause-seen c =
+    λ v rest s.
+    let p = subst (λ (l : Layout). IsLaidOut c.args.source.now c.args.spot.now v rest l) c.in-Entry.is (c.requires.laid v rest s) in
+    entry_seen v rest c.new-in-Entry.result p.1.is (subst (λ (l : ValuesState). AreLeft l (parts v) rest) (sym c.new-in-Entry.ensures) p.1.held)

@@ -1,0 +1,46 @@
+-- How a value is seen where it stands, and which values are left after it.
+-- D-Bus Specification, "Type System".
+use Rattle.std.specs.Prelude.{◌≡◌, ℕ, List, if◌then◌else◌}
+use Rattle.std.specs.Int.{cast_unsigned, w16, w32, w64}
+use Rattle.dbus_texts.specs.Types.{BYTE, BOOLEAN, INT16, UINT16, INT32, UINT32, INT64, UINT64, DOUBLE, UNIX_FD, STRING, OBJECT_PATH, SIGNATURE, TypeTree, sig}
+use Rattle.dbus_value_model.specs.Values.{ValueTree, ValueTrees, NumberValue, TextValue, VariantValue, ArrayValue, StructValue, EntryValue, NoValues, MoreValues}
+use Rattle.dbus_walk.specs.Layouts.{weight}
+use Rattle.dbus_values.specs.States.{ValuesState, AreLeft, ElementsState, ElementsAreLeft}
+use Rattle.dbus_values.specs.declared.view.ValueView.{ValueView}
+use Rattle.dbus_values.specs.declared.view.ValueView.TheVariants as view
+
+-- The tree that a value seen so is: a number, a signed one as its two's complement and a DOUBLE as its 64 bits; a text; or a
+-- container, whose parts are left where they stand.
+abbrev pub IsSeen : ValueView → ValueTree → Type 0
+IsSeen (view.Byte n) v = v ≡ NumberValue BYTE n
+IsSeen (view.Bool b) v = v ≡ NumberValue BOOLEAN (if b then 1 else 0)
+IsSeen (view.I16 z) v = v ≡ NumberValue INT16 (cast_unsigned w16 z)
+IsSeen (view.U16 n) v = v ≡ NumberValue UINT16 n
+IsSeen (view.I32 z) v = v ≡ NumberValue INT32 (cast_unsigned w32 z)
+IsSeen (view.U32 n) v = v ≡ NumberValue UINT32 n
+IsSeen (view.I64 z) v = v ≡ NumberValue INT64 (cast_unsigned w64 z)
+IsSeen (view.U64 n) v = v ≡ NumberValue UINT64 n
+IsSeen (view.Double n) v = v ≡ NumberValue DOUBLE n
+IsSeen (view.Fd n) v = v ≡ NumberValue UNIX_FD n
+IsSeen (view.Str s) v = v ≡ TextValue STRING s.now
+IsSeen (view.Path s) v = v ≡ TextValue OBJECT_PATH s.now
+IsSeen (view.Sig s) v = v ≡ TextValue SIGNATURE s.now
+IsSeen (view.Array e) v = (t : TypeTree) × (xs : ValueTrees) × (rest : List ℕ) × (v ≡ ArrayValue t xs) × (sig t ≡ e.type) × ElementsAreLeft e xs rest
+IsSeen (view.Struct s) v = (xs : ValueTrees) × (rest : List ℕ) × (v ≡ StructValue xs) × AreLeft s xs rest
+IsSeen (view.Entry s) v = (x : ValueTree) × (y : ValueTree) × (rest : List ℕ) × (v ≡ EntryValue x y) × AreLeft s (MoreValues x (MoreValues y NoValues)) rest
+IsSeen (view.Variant s) v = (x : ValueTree) × (rest : List ℕ) × (v ≡ VariantValue x) × AreLeft s (MoreValues x NoValues) rest
+
+-- the first of some trees is seen so, and the others are left
+abbrev pub IsFirst : ValuesState → ValueTrees → (rest : List ℕ) → ValueView → Type 0
+IsFirst left xs rest seen = (x : ValueTree) × (us : ValueTrees) × (xs ≡ MoreValues x us) × IsSeen seen x × AreLeft left us rest
+
+abbrev pub IsFirstElement : ElementsState → ValueTrees → (rest : List ℕ) → ValueView → Type 0
+IsFirstElement left xs rest seen = (x : ValueTree) × (us : ValueTrees) × (xs ≡ MoreValues x us) × IsSeen seen x × ElementsAreLeft left us rest
+
+-- the weight of what is in a value; in a number and in a text there is nothing
+abbrev pub weight_in : ValueView → ℕ
+weight_in (view.Array e) = weight e.room e.type
+weight_in (view.Struct s) = weight s.room s.types
+weight_in (view.Entry s) = weight s.room s.types
+weight_in (view.Variant s) = weight s.room s.types
+weight_in _ = 0

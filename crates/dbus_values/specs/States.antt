@@ -1,0 +1,45 @@
+-- Values of a message that are still to be seen, and which trees stand there.
+-- D-Bus Specification, "Marshaling (Wire Format)".
+use Rattle.std.specs.Prelude.{◌≡◌, ℕ, ◌-◌, ◌<◌, ◌≤◌, List, length}
+use Rattle.dbus_value_model.specs.declared.order.Order.{Order}
+use Rattle.dbus_value_model.specs.Values.{ValueTrees}
+use Rattle.dbus_walk.specs.Standing.{AllStand, ElementsStand}
+
+-- several values: the bytes of the message and their order, where the first value begins, the types that are left, and how many
+-- containers may be open in each value
+pub record ValuesState : Type 0 where
+  pub order : Order
+  pub bytes : List ℕ
+  pub at : ℕ
+  pub types : List ℕ
+  pub room : ℕ
+
+-- these trees stand there, one of each type, and rest are the bytes after them
+abbrev pub AreLeft : ValuesState → ValueTrees → (rest : List ℕ) → Type 0
+AreLeft s xs rest = AllStand s.order s.room s.types s.at s.bytes xs rest
+
+-- the types are those of a signature, and some trees stand there
+abbrev pub SomeAreLeft : ValuesState → Type 0
+SomeAreLeft s = (length s.types ≤ 255) × (xs : ValueTrees) × (rest : List ℕ) × AreLeft s xs rest
+
+-- elements of an array, up to an end, all of one type
+pub record ElementsState : Type 0 where
+  pub order : Order
+  pub bytes : List ℕ
+  pub at : ℕ
+  pub end : ℕ
+  pub type : List ℕ
+  pub room : ℕ
+
+abbrev pub ElementsAreLeft : ElementsState → ValueTrees → (rest : List ℕ) → Type 0
+ElementsAreLeft s xs rest = ElementsStand s.order s.room s.type s.at s.end s.bytes xs rest
+
+abbrev pub SomeElementsAreLeft : ElementsState → Type 0
+SomeElementsAreLeft s = (length s.type ≤ 255) × (xs : ValueTrees) × (rest : List ℕ) × ElementsAreLeft s xs rest
+
+-- fewer values are left, and they may have as many open containers
+abbrev pub AreFewer : ValuesState → ValuesState → Type 0
+AreFewer left before = (left.room ≡ before.room) × (length left.types < length before.types)
+
+abbrev pub AreFewerElements : ElementsState → ElementsState → Type 0
+AreFewerElements left before = (left.room ≡ before.room) × (left.type ≡ before.type) × (left.end - left.at < before.end - before.at)
