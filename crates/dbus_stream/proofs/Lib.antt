@@ -1,6 +1,9 @@
 pub mod Lists
 pub mod NextSteps
-pub mod CheckNextSteps
+pub mod Gathered
+pub mod GathererSteps
+pub mod RawSteps
+pub mod MessageSteps
 pub mod CutLaws
 pub mod WholeLaws
 pub mod CutterSteps

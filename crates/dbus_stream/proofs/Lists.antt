@@ -1,8 +1,8 @@
 -- Lists of bytes that are kept in parts.
-use Rattle.std.proofs.Common.{◌≡◌, ◌+◌, ◌-◌, ◌≤◌, ℕ, List, [], ◌++◌, length, take, drop, arith, refl, sym, ap, ◌∙◌, append_assoc, take-append-drop}
+use Rattle.std.proofs.Common.{◌≡◌, ◌+◌, ◌-◌, ◌≤◌, ◌<◌, ℕ, zero, suc, List, [], ◌++◌, length, take, drop, arith, refl, sym, ap, ◌∙◌, append_assoc, take-append-drop}
 use Rattle.std.specs.List.{slice_range}
 use Rattle.std.proofs.Math.Nat.{min-le_left}
-use Rattle.std.proofs.lemmas.List.{drop-take, drop-drop, take-take, drop_at, length-take}
+use Rattle.std.proofs.lemmas.List.{drop-take, drop-drop, take-take, drop_at, length-take, length-take-le, length-drop}
 
 -- what is left of a part, where some of it was taken
 pub left_of : (buffer : List ℕ) (start end taken : ℕ) → start + taken ≤ end
@@ -47,3 +47,30 @@ pub left_after : (held buffer : List ℕ) (start end taken : ℕ) → start + ta
     → slice_range buffer (start + taken) end ≡ drop (length held + taken) (held ++ slice_range buffer start end)
 left_after held buffer start end taken within =
     sym (left_of buffer start end taken within) ∙ (ap (drop taken) (sym (drop_at held (slice_range buffer start end) (length held) refl)) ∙ drop-drop taken (length held) (held ++ slice_range buffer start end))
+
+-- the first bytes of a part
+pub front_of : (buffer : List ℕ) (start end n : ℕ) → start + n ≤ end → slice_range buffer start (start + n) ≡ take n (slice_range buffer start end)
+front_of buffer start end n within =
+    let front : (start + n) - start ≡ n = omega arith in
+    ap (λ k. take k (drop start buffer)) front ∙ sym (take-take n (end - start) (drop start buffer) (omega (arith, within)))
+
+-- a part has as many bytes as lie between its ends
+pub part_size : (buffer : List ℕ) (start end : ℕ) → start ≤ end → end ≤ length buffer → length (slice_range buffer start end) ≡ end - start
+part_size buffer start end ordered inside =
+    let left = length-drop start buffer in
+    length-take-le (end - start) (drop start buffer) (omega (arith, left, ordered, inside))
+
+module _ (held buffer : List ℕ) (start end : ℕ) where
+  -- what is left of a buffer, and a part before it, where nothing is held then
+  pub kept_again : (lent : ℕ) → lent ≤ start → start ≤ end → (0 < lent → held ≡ [])
+      → held ++ slice_range buffer (start - lent) end ≡ slice_range buffer (start - lent) start ++ (held ++ slice_range buffer start end)
+  kept_again zero before ordered alone =
+      let same : start - 0 ≡ start = omega arith in
+      ap (λ k. held ++ slice_range buffer k end) same ∙ sym (ap (λ l. l ++ (held ++ slice_range buffer start end)) (no_part buffer (start - 0) start same))
+  kept_again (suc n) before ordered alone =
+      let none = alone (omega arith) in
+      let first = start - suc n in
+      let again : first + suc n ≡ start = omega (arith, before) in
+      ap (λ l. l ++ slice_range buffer first end) none
+      ∙ (sym (ap (λ k. slice_range buffer first k ++ slice_range buffer k end) (sym again) ∙ gathered [] buffer first end (suc n) (omega (arith, before, ordered)))
+      ∙ ap (λ l. slice_range buffer first start ++ (l ++ slice_range buffer start end)) (sym none))

@@ -4,18 +4,18 @@ ghost use Rattle.dbus_value_model.specs.Specification.{specification};
 ghost use Rattle.dbus_value_model.specs.declared.fault.Fault.{Fault};
 ghost use Rattle.dbus_message_model.specs.MessageViews.{message_tree};
 ghost use Rattle.dbus_decode.specs.MessageOutcomes.{IsWhole, IsPartial};
-ghost use Rattle.dbus_check.specs.Checks.{Stands, limits_of};
-ghost use Rattle.dbus_stream.specs.Checked.{IsOneMessage};
 ghost use Rattle.dbus_stream.specs.Cut.{truncated};
 ghost use Rattle.dbus_stream.specs.CutterState.{fresh};
 ghost use Rattle.dbus_stream.specs.Cutting.{Takes, TakeAnswers};
+ghost use Rattle.dbus_stream.specs.CutterTaking.{cutting};
 
 use crate::decoded::{decode_one, decoded};
+use crate::gatherer::Gatherer;
 use crate::stream_fault::StreamFault;
-use dbus_check::{Check, Checker};
+use crate::taker::Taker;
 use dbus_message::{Answer, Message, stated_length_within};
 use dbus_value::{Fault, Limits, Order, Reason, Refusal};
-use std::alloc::{AllocError, Allocator, Global};
+use std::alloc::{Allocator, Global};
 use std::marker::Model;
 
 /// Cuts messages out of bytes that come in pieces of any length. It keeps the bytes of the message under way, so at
@@ -24,22 +24,21 @@ use std::marker::Model;
 #[derive(Drop)]
 pub struct Cutter<A: Allocator = Global> {
     alloc: A,
-    limits: Limits,
-    held: Vec<u8, A>,
-    // It was handed the bytes that are held, where no fault was met.
-    checker: Checker,
+    // It holds the bytes of the message under way.
+    gatherer: Gatherer<A>,
     fault: Option<Fault>,
 }
 
 impl<A: Allocator> Model for Cutter<A> {
     ghost use Rattle.dbus_stream.specs.CutterState.{CutterState};
-    ghost use Rattle.dbus_stream.specs.Checked.{IsChecked};
+    ghost use Rattle.dbus_stream.specs.Gathering.{IsUnderWay};
 
     ghost Value = { CutterState };
 
-    ghost view = { λ c. record { limits = c.limits; held = c.held.items; fault = c.fault } };
+    ghost view = { λ c.
+        record { limits = c.gatherer.limits; held = c.gatherer.held; fault = c.fault } };
 
-    ghost invariant = { λ c. IsChecked c.limits c.held.items c.fault c.checker };
+    ghost invariant = { λ c. IsUnderWay c.gatherer };
 }
 
 impl<A: Allocator + Copy> Cutter<A> {
@@ -56,9 +55,7 @@ impl<A: Allocator + Copy> Cutter<A> {
     {
         Cutter {
             alloc,
-            limits,
-            held: Vec::new(alloc),
-            checker: Checker::within(limits),
+            gatherer: Gatherer::within(alloc, limits),
             fault: None,
         }
     }
@@ -80,7 +77,7 @@ impl<A: Allocator + Copy> Cutter<A> {
         if let Some(fault) = self.fault {
             return Err(StreamFault::Format(fault));
         }
-        if !self.held.is_empty() {
+        if !self.gatherer.bytes().is_empty() {
             return self.take_checked(piece);
         }
         match self.take_stated(piece) {
@@ -99,11 +96,12 @@ impl<A: Allocator + Copy> Cutter<A> {
         ensures answers { IfSome result (λ answer. TakeAnswers self.old piece.now self.new answer) }
         ensures same { result ≡ None → self.new ≡ self.old }
     {
-        match stated_length_within(piece, self.limits) {
+        let limits = self.gatherer.limits();
+        match stated_length_within(piece, limits) {
             Ok(Some(stated)) if stated <= piece.len() as u64 => {}
             _ => return None,
         }
-        match decoded(self.alloc, piece, self.limits) {
+        match decoded(self.alloc, piece, limits) {
             Ok(
                 Answer::Whole {
                     order,
@@ -128,27 +126,23 @@ impl<A: Allocator + Copy> Cutter<A> {
         requires { self.old.fault ≡ None }
         ensures { TakeAnswers self.old piece.now self.new result }
     {
-        match self.checker.take(piece) {
-            Check::Partial => {
-                if self.held.extend_from_slice(piece).is_err() {
-                    check_again(&mut self.checker, self.held.as_slice());
-                    return Err(StreamFault::Memory);
-                }
-                Ok((piece.len(), None))
-            }
-            Check::Done(count) => {
-                match end_with(self.alloc, &mut self.held, &piece[..count], self.limits) {
+        match self.gatherer.gather(piece) {
+            Ok(Some(count)) => {
+                let limits = self.gatherer.limits();
+                match decode_one(self.alloc, self.gatherer.bytes(), limits) {
                     Ok(given) => {
-                        self.checker.restart();
+                        self.gatherer.begin();
                         Ok((count, Some(given)))
                     }
                     Err(_) => {
-                        check_again(&mut self.checker, self.held.as_slice());
+                        self.gatherer.take_back(count);
                         Err(StreamFault::Memory)
                     }
                 }
             }
-            Check::Refused(fault) => {
+            Ok(None) => Ok((piece.len(), None)),
+            Err(StreamFault::Memory) => Err(StreamFault::Memory),
+            Err(StreamFault::Format(fault)) => {
                 self.fault = Some(fault);
                 Err(StreamFault::Format(fault))
             }
@@ -159,7 +153,7 @@ impl<A: Allocator + Copy> Cutter<A> {
     pub fn held(&self) -> usize
         ensures { result ≡ length self.now.held }
     {
-        self.held.len()
+        self.gatherer.bytes().len()
     }
 
     /// The input ended here: nothing is held.
@@ -175,50 +169,26 @@ impl<A: Allocator + Copy> Cutter<A> {
         if let Some(fault) = self.fault {
             return Err(fault);
         }
-        if self.held.is_empty() {
+        if self.gatherer.bytes().is_empty() {
             return Ok(());
         }
         Err(Fault {
-            at: self.held.len() as u64,
+            at: self.gatherer.bytes().len() as u64,
             reason: Reason::Truncated,
         })
     }
 }
 
-// The message that the bytes held and these are. Then nothing is held; where the memory is not there, what was held.
-fn end_with<A: Allocator + Copy>(
-    alloc: A,
-    held: &mut Vec<u8, A>,
-    last: &[u8],
-    limits: Limits,
-) -> Result<(Order, Message<A>), AllocError>
-    requires { IsOneMessage limits (held.old.items ++ last.now) }
-    ensures gives { IfOk result (λ given.
-        IsWhole limits (held.old.items ++ last.now) given.0 (message_tree given.1)
-        (length held.old.items + length last.now)) }
-    ensures cleared { IfOk result (λ given. held.new.items ≡ []) }
-    ensures kept { IfErr result (λ e. held.new.items ≡ held.old.items) }
-{
-    let before = held.len();
-    held.extend_from_slice(last)?;
-    match decode_one(alloc, held.as_slice(), limits) {
-        Ok(given) => {
-            held.clear();
-            Ok(given)
-        }
-        Err(error) => {
-            held.truncate(before);
-            Err(error)
-        }
-    }
-}
+impl<A: Allocator + Copy> Taker for Cutter<A> {
+    type Given = (Order, Message<A>);
 
-// Brings a checker back to the bytes that it was handed before.
-fn check_again(checker: &mut Checker, held: &[u8])
-    requires { IsPartial (limits_of checker.old) held.now }
-    ensures stands { Stands checker.new held.now }
-    ensures limits { limits_of checker.new ≡ limits_of checker.old }
-{
-    checker.restart();
-    checker.take(held);
+    ghost known = { cutting A };
+
+    fn take_piece(
+        &mut self,
+        _held: u64,
+        piece: &[u8],
+    ) -> Result<(usize, Option<(Order, Message<A>)>), StreamFault> {
+        self.take(piece)
+    }
 }

@@ -9,9 +9,9 @@ use Rattle.dbus_decode.proofs.OutcomeLaws.{whole_inside}
 use Rattle.dbus_judge.specs.declared.judging.Judged.{Judged}
 use Rattle.dbus_stream.specs.Cut.{CutMessage, BeginWith, Ended, Unfinished, Refused, truncated, sizes}
 use Rattle.dbus_device.specs.Device.{RisesBy}
-use Rattle.dbus_raw_reader.specs.Next.{Reads, Advances, Lends, KeepsAll}
-use Rattle.dbus_raw_reader.specs.Reading.{IsNewReader, limits_of, kept, source_of, done_of, reads_of, most_reads_of, is_ended, stopped_of}
-use Rattle.dbus_raw_reader.specs.declared.raw_reader.RawReader.{RawReader}
+use Rattle.dbus_stream.specs.RawNext.{Reads, Advances, Lends, KeepsAll}
+use Rattle.dbus_stream.specs.RawReading.{IsNewReader, limits_of, kept, source_of, done_of, reads_of, most_reads_of, is_ended, stopped_of}
+use Rattle.dbus_stream.specs.declared.raw_reader.RawReader.{RawReader}
 use Rattle.dbus_stream.specs.declared.read_fault.ReadFault.TheVariants as read
 use Rattle.dbus_stream.proofs.CutLaws.{BeginWith-last, BeginWith-more}
 use Rattle.dbus_stream.proofs.NextSteps.{both_ways}
@@ -83,7 +83,7 @@ module _ {R A : Type 0} (left : R → Option (List ℕ)) (calls failures : R →
   -- no more reads than may be made
   pub few_called : (old mid new : RawReader R A) (bytes : List ℕ) (items : List CutMessage) (more : List ℕ) → MoreRead old mid new bytes items more
       → RisesAtMost most (calls (source_of old)) (calls (source_of new))
-  few_called old mid new bytes items more m = (reads_of new, subst (λ (n : ℕ). reads_of new ≤ n) m.most_reads new.few_reads, m.called)
+  few_called old mid new bytes items more m = (reads_of new, subst (λ (n : ℕ). reads_of new ≤ n) m.most_reads new.reader.few_reads, m.called)
 
   still_at_end : (mid new : RawReader R A) (b : Bool) → is_ended mid ≡ b → (is_ended mid ≡ true → IsAtEnd (left (source_of mid))) → Reads left calls mid new
       → is_ended new ≡ true → IsAtEnd (left (source_of new))

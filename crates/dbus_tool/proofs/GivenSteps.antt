@@ -8,10 +8,10 @@ use Rattle.dbus_device.specs.Device.{RisesBy}
 use Rattle.dbus_stream.specs.Next.{IsCutShort, DeviceCounts}
 use Rattle.dbus_stream.specs.declared.read_fault.ReadFault.{ReadFault}
 use Rattle.dbus_stream.specs.declared.read_fault.ReadFault.TheVariants as read
-use Rattle.dbus_raw_reader.specs.Next.{Reads, ReadsNothing, KeepsAll, Lends, Advances, KeptAnswers}
-use Rattle.dbus_raw_reader.specs.Reading.{limits_of, kept, lent_of, source_of, is_ended}
-use Rattle.dbus_raw_reader.specs.declared.raw_reader.RawReader.{RawReader}
-use Rattle.dbus_raw_reader.proofs.NextSteps.{starts, unread}
+use Rattle.dbus_stream.specs.RawNext.{Reads, ReadsNothing, KeepsAll, Lends, Advances, KeptAnswers}
+use Rattle.dbus_stream.specs.RawReading.{limits_of, kept, lent_of, source_of, is_ended}
+use Rattle.dbus_stream.specs.declared.raw_reader.RawReader.{RawReader}
+use Rattle.dbus_stream.proofs.RawSteps.{starts, unread}
 use Rattle.dbus_tool.specs.Devices.{writing}
 use Rattle.dbus_tool.specs.Gathering.{Breaks}
 use Rattle.dbus_tool.specs.Handing.{GivesNext, IsWrittenOut}
@@ -33,10 +33,14 @@ module _ {R A : Type 0} (left : R → Option (List ℕ)) (calls failures : R →
     bytes = r.bytes;
     count = r.count;
     consumed = subst (λ (s : R). Consumes (left s) (left (source_of new)) r.bytes) n.source r.consumed;
+    few = r.few;
     last = r.last;
     before = r.before;
     joined = r.joined;
     last_fits = r.last_fits;
+    between = r.between;
+    came = subst (λ (s : R). Consumes (left s) (left r.between) r.before) n.source r.came;
+    one_call = r.one_call;
     needed = λ some. subst (λ l. IsPartial (limits_of old) (l ++ r.before)) k.kept
         (subst (λ limits. IsPartial limits (kept mid ++ r.before)) n.limits (r.needed some));
     reads = r.reads ∙ ap (λ x. x + r.count) n.reads;
@@ -76,7 +80,7 @@ module _ {R A : Type 0} (left : R → Option (List ℕ)) (calls failures : R →
     subst (λ limits. IsRefused limits w fault ⊎ (IsCutShort limits w fault × (is_ended new ≡ true))) same a.2,
   )
   answers_after w old mid new (Err read.Device) same k a = (keeps_after w old mid new k a.0, a.1, subst (λ limits. IsPartial limits w) same a.2)
-  answers_after w old mid new (Err read.TooManyReads) same k a = (keeps_after w old mid new k a.0, a.1, subst (λ limits. IsPartial limits w) same a.2, a.3)
+  answers_after w old mid new (Err read.TooManyReads) same k a = (keeps_after w old mid new k a.0, a.1, subst (λ limits. IsPartial limits w) same a.2, a.3, a.4)
 
   both_after : (old mid new : RawReader R A) (res : Result (Option Judged) ReadFault) → ReadsNothing old mid → KeepsAll (kept old) old mid
       → (r : Reads left calls mid new) → Advances (kept mid ++ r.bytes) mid new res → (s : Reads left calls old new) × Advances (kept old ++ s.bytes) old new res
@@ -114,7 +118,7 @@ module _ {R A : Type 0} (left : R → Option (List ℕ)) (calls failures : R →
     pub gives_kept : (j : Judged) (old new : RawReader R A) (g : List ℕ) (w : W) → Lends (kept old) j old new → ReadsNothing old new
         → GivesNext left calls failures old new (writing held write_failures w w) g g (Ok (Some j))
     gives_kept j old new g w l n = (
-      unread left calls failures old old new (starts left calls failures old) n,
+      unread left calls old old new (starts left calls old) n,
       subst (λ (v : List ℕ). Lends v j old new) (sym (append-nil (kept old))) l,
       ap failures n.source,
       passes_none held write_failures g w,
@@ -124,7 +128,7 @@ module _ {R A : Type 0} (left : R → Option (List ℕ)) (calls failures : R →
         → DeviceCounts {T = Option Judged} (failures (source_of old)) (failures (source_of new)) (Err fault)
         → GivesNext left calls failures old new (writing held write_failures w w) g g (Err (Reader fault))
     gives_kept_fault old new fault g w k n counts = (
-      unread left calls failures old old new (starts left calls failures old) n,
+      unread left calls old old new (starts left calls old) n,
       subst (λ (v : List ℕ). Advances v old new (Err fault)) (sym (append-nil (kept old))) (kept_fault old new fault k),
       counts,
       passes_none held write_failures g w,
@@ -134,4 +138,4 @@ module _ {R A : Type 0} (left : R → Option (List ℕ)) (calls failures : R →
     -- what is gathered was not written, and nothing was read
     pub gives_unwritten : (old : RawReader R A) (g0 g1 : List ℕ) (w0 w1 : W) → Breaks held write_failures [] g0 w0 w1
         → GivesNext left calls failures old old (writing held write_failures w0 w1) g0 g1 (Err Writer)
-    gives_unwritten old g0 g1 w0 w1 b = (starts left calls failures old, b, refl)
+    gives_unwritten old g0 g1 w0 w1 b = (starts left calls old, b, refl)

@@ -7,9 +7,9 @@ use Rattle.dbus_judge.specs.declared.judging.Judged.{Judged}
 use Rattle.dbus_device.specs.Device.{one_more}
 use Rattle.dbus_stream.specs.Cut.{CutMessage, BeginWith}
 use Rattle.dbus_stream.specs.Next.{DeviceCounts}
-use Rattle.dbus_raw_reader.specs.Next.{Reads, Advances, Lends}
-use Rattle.dbus_raw_reader.specs.Reading.{IsNewReader, kept, source_of, done_of}
-use Rattle.dbus_raw_reader.specs.declared.raw_reader.RawReader.{RawReader}
+use Rattle.dbus_stream.specs.RawNext.{Reads, Advances, Lends}
+use Rattle.dbus_stream.specs.RawReading.{IsNewReader, kept, source_of, done_of}
+use Rattle.dbus_stream.specs.declared.raw_reader.RawReader.{RawReader}
 use Rattle.dbus_stream.specs.declared.read_fault.ReadFault.{ReadFault}
 use Rattle.dbus_stream.specs.declared.read_fault.ReadFault.TheVariants as read
 use Rattle.dbus_stream.proofs.CutLaws.{BeginWith-last}

@@ -8,9 +8,9 @@ use Rattle.dbus_decode.specs.MessageOutcomes.{IsWhole}
 use Rattle.dbus_decode.proofs.OutcomeLaws.{one_whole, whole_bytes, whole_valid, valid_whole}
 use Rattle.dbus_judge.specs.declared.judging.Judged.{Judged}
 use Rattle.dbus_judge.specs.Judging.{IsJudgedWhole}
-use Rattle.dbus_raw_reader.specs.Next.{Lends}
-use Rattle.dbus_raw_reader.specs.Reading.{limits_of, lent_of}
-use Rattle.dbus_raw_reader.specs.declared.raw_reader.RawReader.{RawReader}
+use Rattle.dbus_stream.specs.RawNext.{Lends}
+use Rattle.dbus_stream.specs.RawReading.{limits_of, lent_of}
+use Rattle.dbus_stream.specs.declared.raw_reader.RawReader.{RawReader}
 use Rattle.dbus_view.specs.Views.{ViewState, Views, IsViewOf}
 
 module _ (limits : Limits) where

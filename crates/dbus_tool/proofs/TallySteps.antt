@@ -8,9 +8,8 @@ use Rattle.dbus_decode.specs.MessageOutcomes.{IsWhole, IsRefused, IsPartial}
 use Rattle.dbus_device.specs.Device.{one_more, RisesBy}
 use Rattle.dbus_stream.specs.Cut.{CutMessage, BeginWith, Ended, Unfinished, Refused, sizes}
 use Rattle.dbus_stream.specs.Next.{DeviceCounts}
-use Rattle.dbus_stream.specs.CheckReading.{limits_of, source_of, done_of, reads_of, most_reads_of, is_ended, stopped_of, Keeps}
-use Rattle.dbus_stream.specs.CheckNext.{Reads, CheckAnswers, GivesLength}
-use Rattle.dbus_stream.specs.declared.check_reader.CheckReader.{CheckReader}
+use Rattle.dbus_stream.specs.CheckReading.{CheckAnswers, CheckReader, GivesLength, Keeps, limits_of, Reads}
+use Rattle.dbus_stream.specs.Reading.{done_of, is_ended, most_reads_of, reads_of, source_of, stopped_of}
 use Rattle.dbus_stream.specs.declared.read_fault.ReadFault.{ReadFault}
 use Rattle.dbus_stream.specs.declared.read_fault.ReadFault.TheVariants as read
 use Rattle.dbus_stream.proofs.CutLaws.{BeginWith-last, BeginWith-more}
@@ -146,7 +145,7 @@ module _ {R : Type 0} (left : R → Option (List ℕ)) (calls failures : R → �
             rest = h.rest ++ r.bytes;
             outcome = Refused fault;
             consumed = m.consumed;
-            cut = record { messages = m.messages; outcome_is = subst (λ w. IsRefused w (h.rest ++ r.bytes) fault) h.limits_are refused };
+            cut = record { messages = m.messages; outcome_is = subst (λ w. IsRefused w (h.rest ++ r.bytes) fault) h.limits_are refused.refused };
             count_is = h.count_is;
             size_is = answer.0 ∙ h.done;
             fault_is = refl;
@@ -194,7 +193,7 @@ module _ {R : Type 0} (left : R → Option (List ℕ)) (calls failures : R → �
       → CheckAnswers (h.rest ++ r.bytes) mid new (Err fault) → DeviceCounts {T = Option ℕ} (failures (source_of mid)) (failures (source_of new)) (Err fault)
       → Tallies left calls failures limits most (source_of old) (source_of new) (ended_by count (done_of new) fault)
   tallies_faulted (read.Format fault) count old mid new h r answer counts = tallies_refused count old mid new fault h r answer counts
-  tallies_faulted read.Memory count old mid new h r answer counts = absurd answer
+  tallies_faulted read.Memory count old mid new h r answer counts = absurd answer.0
   tallies_faulted read.Device count old mid new h r answer counts = tallies_some ReadFailed count old mid new h r answer.2 (counts.0 ∙ ap one_more h.failed)
   tallies_faulted read.TooManyReads count old mid new h r answer counts =
       let m = more_read count old mid new h r in

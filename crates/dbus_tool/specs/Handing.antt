@@ -10,9 +10,9 @@ use Rattle.dbus_judge.specs.declared.judging.Judged.{Judged}
 use Rattle.dbus_device.specs.Device.{one_more, RisesBy}
 use Rattle.dbus_stream.specs.Cut.{CutMessage, BeginWith}
 use Rattle.dbus_stream.specs.Next.{DeviceCounts}
-use Rattle.dbus_raw_reader.specs.Next.{Reads, Advances}
-use Rattle.dbus_raw_reader.specs.Reading.{kept, source_of}
-use Rattle.dbus_raw_reader.specs.declared.raw_reader.RawReader.{RawReader}
+use Rattle.dbus_stream.specs.RawNext.{Reads, Advances}
+use Rattle.dbus_stream.specs.RawReading.{kept, source_of}
+use Rattle.dbus_stream.specs.declared.raw_reader.RawReader.{RawReader}
 use Rattle.dbus_stream.specs.declared.read_fault.ReadFault.{ReadFault}
 use Rattle.dbus_stream.specs.declared.read_fault.ReadFault.TheVariants as read
 use Rattle.dbus_command.specs.declared.command.Command.{Command}

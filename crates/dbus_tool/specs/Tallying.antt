@@ -6,8 +6,8 @@ use Rattle.dbus_value_model.specs.declared.limits.Limits.{Limits}
 use Rattle.dbus_decode.specs.MessageOutcomes.{IsPartial}
 use Rattle.dbus_device.specs.Device.{one_more, RisesBy}
 use Rattle.dbus_stream.specs.Cut.{CutMessage, BeginWith}
-use Rattle.dbus_stream.specs.CheckReading.{done_of, reads_of, is_ended, stopped_of, Keeps}
-use Rattle.dbus_stream.specs.declared.check_reader.CheckReader.{CheckReader}
+use Rattle.dbus_stream.specs.CheckReading.{CheckReader, Keeps}
+use Rattle.dbus_stream.specs.Reading.{done_of, is_ended, reads_of, stopped_of}
 use Rattle.dbus_tool.specs.Counting.{CountsAll}
 use Rattle.dbus_tool.specs.Devices.{RisesAtMost}
 use Rattle.dbus_tool.specs.declared.ending.Cause.{Cause}

@@ -1,6 +1,7 @@
 //! The messages of a source are counted, and none is built.
 ghost use Rattle.std.specs.Prelude.{◌≡◌, ◌≤◌, ◌^◌, []};
-ghost use Rattle.dbus_stream.specs.CheckReading.{limits_of, source_of, most_reads_of};
+ghost use Rattle.dbus_stream.specs.CheckReading.{limits_of};
+ghost use Rattle.dbus_stream.specs.Reading.{most_reads_of, source_of};
 ghost use Rattle.dbus_tool.specs.Tallying.{Tallies, IsUnread};
 ghost use Rattle.dbus_tool.specs.Devices.{reading, writing};
 ghost use Rattle.dbus_tool.specs.Handing.{Hands};

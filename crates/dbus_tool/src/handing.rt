@@ -1,6 +1,6 @@
 //! The messages of a reader are handed to a command.
 ghost use Rattle.std.specs.Prelude.{◌≡◌, ◌≤◌, ◌^◌, ℕ, List, [], None, Err, IfOk};
-ghost use Rattle.dbus_raw_reader.specs.Reading.{IsNewReader, source_of, done_of, most_reads_of, stopped_of};
+ghost use Rattle.dbus_stream.specs.RawReading.{IsNewReader, source_of, done_of, most_reads_of, stopped_of};
 ghost use Rattle.dbus_tool.specs.Counting.{ended_by, stopped_by};
 ghost use Rattle.dbus_tool.specs.Devices.{reading, writing};
 ghost use Rattle.dbus_tool.specs.Gathering.{GathersOrNot};
@@ -12,8 +12,7 @@ use crate::output::write_one;
 use crate::spare::Spare;
 use dbus_command::Command;
 use dbus_judge::Judged;
-use dbus_raw_reader::RawReader;
-use dbus_stream::{ReadFault, Sink, Source};
+use dbus_stream::{RawReader, ReadFault, Sink, Source};
 use dbus_value::Limits;
 use std::alloc::Allocator;
 

@@ -4,8 +4,7 @@
 use crate::captures::*;
 use crate::pieces::Pieces;
 use dbus_judge::Judged;
-use dbus_raw_reader::RawReader;
-use dbus_stream::ReadFault;
+use dbus_stream::{RawReader, ReadFault};
 use dbus_value::{Fault, Reason};
 use refusing_alloc::Refusing;
 use std::alloc::Allocator;

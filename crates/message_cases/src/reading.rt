@@ -5,8 +5,7 @@ use crate::judging::at_end;
 use crate::pieces::Pieces;
 use anyhow::Result;
 use case_files::{Answer, Tally};
-use dbus_raw_reader::RawReader;
-use dbus_stream::{CheckReader, MOST_READS, MessageReader, ReadFault};
+use dbus_stream::{CheckReader, MOST_READS, MessageReader, RawReader, ReadFault};
 use dbus_value::Fault;
 use std::fmt;
 

@@ -6,8 +6,7 @@ use crate::streams::{SIZES, Stream};
 use crate::trail::Trail;
 use anyhow::Result;
 use case_files::{Answer, Tally};
-use dbus_raw_reader::RawReader;
-use dbus_stream::{CheckReader, MOST_READS, MessageReader, ReadFault};
+use dbus_stream::{CheckReader, MOST_READS, MessageReader, RawReader, ReadFault};
 use std::alloc::Global;
 
 // A reader, or a way to ask it.

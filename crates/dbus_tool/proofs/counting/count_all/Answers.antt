@@ -1,7 +1,7 @@
 use Rattle.std.proofs.Common.{◌≡◌, ◌≤◌, ◌<◌, ◌^◌, ◌++◌, ℕ, None, arith, refl, sym, ap, ◌∙◌, subst}
 use Rattle.dbus_decode.proofs.OutcomeLaws.{whole_inside}
-use Rattle.dbus_stream.specs.CheckReading.{limits_of, done_of, most_reads_of, source_of}
-use Rattle.dbus_stream.specs.CheckNext.{Reads, GivesLength}
+use Rattle.dbus_stream.specs.CheckReading.{GivesLength, limits_of, Reads}
+use Rattle.dbus_stream.specs.Reading.{done_of, most_reads_of, source_of}
 use Rattle.dbus_tool.specs.Counting.{ended_by}
 use Rattle.dbus_tool.specs.Tallying.{Tallies, TalliesAll}
 use Rattle.dbus_tool.proofs.CountSteps.{length-sizes}
@@ -18,7 +18,8 @@ given : (g : _) (c : In-Ok-Some g) → (r : Reads g.R.Source.left g.R.Source.cal
 given g c =
     let h = c.messages.invariant.0 in
     let read = rw c.in-Ok-Some.field-0-is at (c.in-Ok-Some.ensures.read h.rest h.kept) in
-    (read.0, read.1 h.unstopped)
+    let gives = read.1 h.unstopped in
+    (read.0, subst (λ size. GivesLength (h.rest ++ read.0.bytes) size c.messages.messages c.next.new.self) (sym gives.2) gives.1)
 
 pub overflow_add-count : goal.overflow_add-count
 overflow_add-count g c =

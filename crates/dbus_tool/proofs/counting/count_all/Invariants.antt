@@ -1,5 +1,6 @@
 use Rattle.std.proofs.Common.{◌≡◌, ◌-◌, ◌^◌}
-use Rattle.dbus_stream.specs.CheckReading.{limits_of, done_of, most_reads_of, source_of}
+use Rattle.dbus_stream.specs.CheckReading.{limits_of}
+use Rattle.dbus_stream.specs.Reading.{done_of, most_reads_of, source_of}
 use Rattle.dbus_tool.proofs.TallySteps.{HasTallied}
 use Rattle.dbus_tool.proofs.counting.count_all.Given as goal
 

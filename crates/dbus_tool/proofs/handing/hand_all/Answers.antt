@@ -1,7 +1,7 @@
 use Rattle.std.proofs.Common.{◌≡◌, ◌≤◌, ◌<◌, ◌^◌, ◌++◌, ℕ, None, arith, refl, sym, ap, ◌∙◌, subst}
 use Rattle.dbus_decode.proofs.OutcomeLaws.{whole_inside}
-use Rattle.dbus_raw_reader.specs.Next.{Lends}
-use Rattle.dbus_raw_reader.specs.Reading.{limits_of, done_of, most_reads_of, source_of, kept}
+use Rattle.dbus_stream.specs.RawNext.{Lends}
+use Rattle.dbus_stream.specs.RawReading.{limits_of, done_of, most_reads_of, source_of, kept}
 use Rattle.dbus_tool.specs.Counting.{stopped_by}
 use Rattle.dbus_tool.specs.Devices.{reading, writing}
 use Rattle.dbus_tool.specs.Handing.{HandsAll, Hands}

@@ -1,5 +1,5 @@
 use Rattle.std.proofs.Common.{◌≡◌, ◌-◌, ◌^◌}
-use Rattle.dbus_raw_reader.specs.Reading.{done_of, most_reads_of, source_of}
+use Rattle.dbus_stream.specs.RawReading.{done_of, most_reads_of, source_of}
 use Rattle.dbus_tool.proofs.HandSteps.{HasHanded}
 use Rattle.dbus_tool.proofs.handing.hand_all.Given as goal
 

@@ -1,5 +1,5 @@
 use Rattle.std.proofs.Common.{List, ℕ, [], subst}
-use Rattle.dbus_raw_reader.specs.Reading.{most_reads_of, source_of}
+use Rattle.dbus_stream.specs.RawReading.{most_reads_of, source_of}
 use Rattle.dbus_tool.specs.Gathering.{Passes}
 use Rattle.dbus_tool.specs.Handing.{HandsAll}
 use Rattle.dbus_tool.proofs.GatherSteps.{passes_nothing, breaks_nothing}

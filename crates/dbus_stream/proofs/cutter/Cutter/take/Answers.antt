@@ -22,14 +22,14 @@ returns-then-not-is_empty-clause-within g c = answer_fits c.args.self.now c.args
 
 pub returns-then-not-is_empty-clause-moves : goal.returns-then-not-is_empty-clause-moves
 returns-then-not-is_empty-clause-moves g c = answer_moves c.args.self.now c.args.piece.now c.take_checked.new.self c.take_checked.result
-    (partial c.self.inside.limits c.self.inside.held.items c.args.self.now (ap (λ (s : CutterState). s.limits) c.self.view_is) (ap (λ (s : CutterState). s.held) c.self.view_is) c.self.invariant.partial) c.take_checked.ensures
+    (partial c.self.inside.gatherer.limits c.self.inside.gatherer.held c.args.self.now (ap (λ (s : CutterState). s.limits) c.self.view_is) (ap (λ (s : CutterState). s.held) c.self.view_is) c.self.invariant.partial) c.take_checked.ensures
 
 pub returns-in-Some-take_stated-clause-within : goal.returns-in-Some-take_stated-clause-within
 returns-in-Some-take_stated-clause-within g c = answer_fits c.args.self.now c.args.piece.now c.take_stated.new.self c.in-Some-take_stated.answer (stated g (goal.at.returns-in-Some-take_stated-clause-within g c).In-Some-take_stated)
 
 pub returns-in-Some-take_stated-clause-moves : goal.returns-in-Some-take_stated-clause-moves
 returns-in-Some-take_stated-clause-moves g c = answer_moves c.args.self.now c.args.piece.now c.take_stated.new.self c.in-Some-take_stated.answer
-    (partial c.self.inside.limits c.self.inside.held.items c.args.self.now (ap (λ (s : CutterState). s.limits) c.self.view_is) (ap (λ (s : CutterState). s.held) c.self.view_is) c.self.invariant.partial)
+    (partial c.self.inside.gatherer.limits c.self.inside.gatherer.held c.args.self.now (ap (λ (s : CutterState). s.limits) c.self.view_is) (ap (λ (s : CutterState). s.held) c.self.view_is) c.self.invariant.partial)
     (stated g (goal.at.returns-in-Some-take_stated-clause-moves g c).In-Some-take_stated)
 
 pub returns-in-None-clause-within : goal.returns-in-None-clause-within
@@ -37,5 +37,5 @@ returns-in-None-clause-within g c = answer_fits c.args.self.now c.args.piece.now
 
 pub returns-in-None-clause-moves : goal.returns-in-None-clause-moves
 returns-in-None-clause-moves g c = answer_moves c.args.self.now c.args.piece.now c.take_checked-in-None.new.self c.take_checked-in-None.result
-    (partial c.self.inside.limits c.self.inside.held.items c.args.self.now (ap (λ (s : CutterState). s.limits) c.self.view_is) (ap (λ (s : CutterState). s.held) c.self.view_is) c.self.invariant.partial)
+    (partial c.self.inside.gatherer.limits c.self.inside.gatherer.held c.args.self.now (ap (λ (s : CutterState). s.limits) c.self.view_is) (ap (λ (s : CutterState). s.held) c.self.view_is) c.self.invariant.partial)
     (checked c.args.self.now c.take_stated.new.self c.args.piece.now c.take_checked-in-None.new.self c.take_checked-in-None.result (c.take_stated.ensures.same c.in-None.is) c.take_checked-in-None.ensures)

@@ -1,42 +1,59 @@
-use Rattle.std.proofs.Common.{◌+◌, ◌≤◌, ℕ, List, ◌++◌, length, refl, sym, ap, subst, ◌∙◌}
-use Rattle.dbus_value_model.specs.declared.order.Order.{Order}
-use Rattle.dbus_message_model.specs.Messages.{MessageTree}
+use Rattle.std.proofs.Common.{◌≡◌, ◌+◌, ◌++◌, [], None, ℕ, List, length, take, sym, ap, subst, ◌∙◌}
+use Rattle.std.proofs.lemmas.List.{length-append}
 use Rattle.dbus_message_model.specs.MessageViews.{message_tree}
 use Rattle.dbus_decode.specs.MessageOutcomes.{IsWhole, IsPartial}
 use Rattle.dbus_decode.proofs.OutcomeLaws.{nothing_partial}
-use Rattle.dbus_check.specs.Checks.{Stands, Takes}
-use Rattle.dbus_stream.specs.CutterState.{CutterState}
+use Rattle.dbus_stream.specs.Checked.{IsOneMessage}
+use Rattle.dbus_stream.specs.CutterState.{CutterState, fresh}
+use Rattle.dbus_stream.specs.Gathering.{GathererState, Gathered, under_way}
 use Rattle.dbus_stream.proofs.CutterSteps.{one_message, begins_with}
 use Rattle.dbus_stream.proofs.cutter.Cutter.take_checked.Goals as goal
-use Rattle.dbus_stream.proofs.cutter.Cutter.take_checked.Goals.{In-Done}
+use Rattle.dbus_stream.proofs.cutter.Cutter.take_checked.Goals.{In-Ok-Some}
 
--- the message ends within the piece
-ends : (g : _) (c : In-Done g) → (c.in-Done.count ≤ length c.args.piece.now)
-    × (order : Order) × (m : MessageTree) × IsWhole c.self.inside.limits (c.self.inside.held.items ++ c.args.piece.now) order m (length c.self.inside.held.items + c.in-Done.count)
-ends g c =
-    let held = c.self.inside.held.items in
-    let open_ = ap (λ (s : CutterState). s.fault) c.self.view_is ∙ c.requires in
-    let answers = c.take.ensures.answers held (c.self.invariant.stands open_) in
-    let within = subst (λ limits. Takes limits held c.args.piece.now c.take.result) c.self.invariant.same_limits answers in
-    rw c.in-Done.is at within
+-- the message ends within the piece, and is held
+gathered : (g : _) (c : In-Ok-Some g) → Gathered c.self.inside.gatherer c.args.piece.now c.in-Ok-Some.count c.gather.new.self
+gathered g c = rw c.in-Ok-Some.field-0-is at c.in-Ok-Some.ensures
 
-pub end_with-requires : goal.end_with-requires
-end_with-requires g c =
-    let e = ends g (goal.at.end_with-requires g c).In-Done in
-    one_message c.self.inside.limits c.self.inside.held.items c.args.piece.now c.in-Done.count e.0 e.1 e.2 e.3
+pub decode_one-requires : goal.decode_one-requires
+decode_one-requires g c =
+    let old = c.self.inside.gatherer in
+    let piece = c.args.piece.now in
+    let n = c.in-Ok-Some.count in
+    let e = gathered g (goal.at.decode_one-requires g c).In-Ok-Some in
+    let limits_are = c.limits-limits.ensures ∙ ap (λ (s : GathererState). s.limits) e.state in
+    let bytes_are = c.bytes.ensures ∙ ap (λ (s : GathererState). s.held) e.state in
+    subst (λ l. IsOneMessage l c.bytes.result.now) (sym limits_are)
+    (subst (λ (b : List ℕ). IsOneMessage old.limits b) (sym bytes_are) (one_message old.limits old.held piece n e.fits e.order e.message e.whole))
 
-pub invariant_of-self-in-Ok : goal.invariant_of-self-in-Ok
-invariant_of-self-in-Ok g c =
-    let none = sym c.in-Ok.ensures.cleared in
+pub invariant_of-self : goal.invariant_of-self
+invariant_of-self g c =
+    let e = gathered g (goal.at.invariant_of-self g c).In-Ok-Some in
+    let next = c.begin.new.self in
+    let none : next.held ≡ [] = ap (λ (s : GathererState). s.held) c.begin.ensures ∙ ap (λ (s : GathererState). under_way s.whole c.gather.new.self.held) e.state in
     record {
-      partial = subst (λ l. IsPartial c.self.inside.limits l) none (nothing_partial c.self.inside.limits);
-      same_limits = c.restart.ensures.limits ∙ (c.take.ensures.limits ∙ c.self.invariant.same_limits);
-      stands = λ _. subst (λ (l : List ℕ). Stands c.restart.new.self l) none c.restart.ensures.stands;
+      partial = subst (λ l. IsPartial next.limits l) (sym none) (nothing_partial next.limits);
+      not_whole = ap (λ (s : GathererState). s.whole) c.begin.ensures;
+      unlent = ap (λ (s : GathererState). s.lent) c.begin.ensures;
     }
 
 pub returns-in-Ok : goal.returns-in-Ok
 returns-in-Ok g c =
-    let e = ends g (goal.at.returns-in-Ok g c).In-Done in
-    let whole = begins_with c.self.inside.limits c.self.inside.held.items c.args.piece.now c.in-Done.count e.0 c.in-Ok.given.0 (message_tree c.in-Ok.given.1) c.in-Ok.ensures.gives in
-    let open_ = ap (λ (s : CutterState). s.fault) c.self.view_is ∙ c.requires in
-    rw (c.in-Ok.ensures.cleared, open_, ← c.self.view_is) (whole, refl)
+    let old = c.self.inside.gatherer in
+    let next = c.begin.new.self in
+    let piece = c.args.piece.now in
+    let n = c.in-Ok-Some.count in
+    let order = c.in-Ok.given.0 in
+    let m = message_tree c.in-Ok.given.1 in
+    let e = gathered g (goal.at.returns-in-Ok g c).In-Ok-Some in
+    let limits_are = c.limits-limits.ensures ∙ ap (λ (s : GathererState). s.limits) e.state in
+    let bytes_are = c.bytes.ensures ∙ ap (λ (s : GathererState). s.held) e.state in
+    let all = old.held ++ take n piece in
+    let own : IsWhole old.limits all order m (length all) = subst (λ (b : List ℕ). IsWhole old.limits b order m (length b)) bytes_are (subst (λ l. IsWhole l c.bytes.result.now order m (length c.bytes.result.now)) limits_are c.in-Ok.ensures) in
+    let whole = begins_with old.limits old.held piece n e.fits order m (subst (λ k. IsWhole old.limits all order m k) (length-append old.held (take n piece)) own) in
+    let limits_now : next.limits ≡ old.limits = ap (λ (s : GathererState). s.limits) c.begin.ensures ∙ ap (λ (s : GathererState). s.limits) e.state in
+    let none : next.held ≡ [] = ap (λ (s : GathererState). s.held) c.begin.ensures ∙ ap (λ (s : GathererState). under_way s.whole c.gather.new.self.held) e.state in
+    let open_ : c.self.inside.fault ≡ None = ap (λ (s : CutterState). s.fault) c.self.view_is ∙ c.requires in
+    let state : (record { limits = next.limits; held = next.held; fault = c.self.inside.fault }) ≡ fresh old.limits = λ i. record { limits = limits_now i; held = none i; fault = open_ i } in (
+      subst (λ (s : CutterState). IsWhole s.limits (s.held ++ piece) order m (length s.held + n)) c.self.view_is whole,
+      state ∙ ap (λ (s : CutterState). fresh s.limits) c.self.view_is,
+    )

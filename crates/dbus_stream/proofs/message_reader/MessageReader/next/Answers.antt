@@ -1,73 +1,22 @@
-use Rattle.std.proofs.Common.{◌≡◌, ◌≤◌, None, Some, Ok, Err, refl, ap, arith, sym, subst, ◌∙◌}
-use Rattle.std.specs.Prelude.{Option}
-use Rattle.dbus_value_model.specs.declared.order.Order.{Order}
-use Rattle.dbus_message_model.specs.declared.message.Message.{Message}
-use Rattle.dbus_decode.specs.MessageOutcomes.{IsPartial}
-use Rattle.dbus_stream.specs.Reader.{limits_of, kept, source_of, stopped_of}
-use Rattle.dbus_stream.specs.Steps.{TakesKept}
-use Rattle.dbus_stream.proofs.NextSteps.{HasRead, lasts, starts, begins, holds_all, given, finished, gave_up, failed_read, filled}
+use Rattle.std.proofs.Common.{◌≡◌, None, Some, sym, ◌∙◌}
+use Rattle.dbus_stream.specs.CutterTaking.{cutting}
+use Rattle.dbus_stream.specs.MessageReaders.{kept}
+use Rattle.dbus_stream.proofs.MessageSteps.{keeps, stands_next}
+use Rattle.dbus_stream.proofs.NextSteps.{starts}
 use Rattle.dbus_stream.proofs.message_reader.MessageReader.next.Goals as goal
-use Rattle.dbus_stream.proofs.message_reader.MessageReader.next.Goals.{In-Ok-None}
 
 pub returns-in-Some-clause-read : goal.returns-in-Some-clause-read
 returns-in-Some-clause-read g c = (
-  starts g.R.Source.left g.R.Source.calls g.R.Source.failures c.args.self.now,
+  starts (cutting g.row.A.Denot) g.R.Source.left g.R.Source.calls (kept c.args.self.now) c.args.self.now.reader,
   λ unstopped. let none : Some c.in-Some.fault ≡ None = sym c.in-Some.is ∙ unstopped in cc,
 )
 
-pub returns-in-Some-clause-failed : goal.returns-in-Some-clause-failed
-returns-in-Some-clause-failed g c =
-    lasts (Option (Order × Message g.row.A.Denot)) (g.R.Source.failures (source_of c.args.self.now)) (stopped_of c.args.self.now) c.in-Some.fault c.in-Some.is c.args.self.now.lasting
+pub invariant_of-self : goal.invariant_of-self
+invariant_of-self g c =
+    let old = c.args.self.now in
+    let read = c.next.ensures.read (kept old) (keeps old c.in_default.is) in
+    let stands = stands_next _ old.reader c.next.new.self c.next.result (read.1 c.in_default.is) in
+    record { unfaulted = λ open_. (stands open_).unfaulted; held_counted = λ open_. (stands open_).held }
 
-pub reading-init : goal.reading-init
-reading-init g c = (begins g.R.Source.left g.R.Source.calls g.R.Source.failures c.args.self.now c.in_default.is, refl)
-
-pub returns-in-Ok-Some-clause-read : goal.returns-in-Ok-Some-clause-read
-returns-in-Ok-Some-clause-read g c =
-    let takes : TakesKept c.reading.self c.take_kept.new.self (Ok (Some c.in-Ok-Some.given)) = rw c.in-Ok-Some.field-0-is at c.in-Ok-Some.ensures.takes in
-    given g.R.Source.left g.R.Source.calls g.R.Source.failures c.args.self.now c.reading.self c.take_kept.new.self (Ok (Some c.in-Ok-Some.given))
-    c.reading.invariant.0 (λ e. cc) takes c.take_kept.ensures.unread
-
-pub returns-in-Err-clause-read : goal.returns-in-Err-clause-read
-returns-in-Err-clause-read g c =
-    given g.R.Source.left g.R.Source.calls g.R.Source.failures c.args.self.now c.reading.self c.take_kept.new.self (Err c.in-Err.fault)
-    c.reading.invariant.0 (λ e. cc) c.in-Err.ensures.takes c.take_kept.ensures.unread
-
--- all of what is kept is held
-held : (g : _) (c : In-Ok-None g) → HasRead g.R.Source.left g.R.Source.calls g.R.Source.failures c.args.self.now c.take_kept.new.self
-    × IsPartial (limits_of c.take_kept.new.self) (kept c.take_kept.new.self)
-held g c =
-    let takes : TakesKept c.reading.self c.take_kept.new.self (Ok None) = rw c.in-Ok-None.field-0-is at c.in-Ok-None.ensures.takes in
-    let unread = c.take_kept.ensures.unread in (
-      holds_all g.R.Source.left g.R.Source.calls g.R.Source.failures c.args.self.now c.reading.self c.take_kept.new.self c.reading.invariant.0 takes.0 unread,
-      subst (λ limits. IsPartial limits (kept c.take_kept.new.self)) (sym unread.limits) takes.2,
-    )
-
-pub returns-then-self-clause-read : goal.returns-then-self-clause-read
-returns-then-self-clause-read g c =
-    finished g.R.Source.left g.R.Source.calls g.R.Source.failures c.args.self.now c.take_kept.new.self c.finish.new.self c.finish.result
-    (held g (goal.at.returns-then-self-clause-read g c).In-Ok-None).0 c.if-self.true c.finish.ensures.finishes c.finish.ensures.unread
-
-pub returns-then-self-2-clause-read : goal.returns-then-self-2-clause-read
-returns-then-self-2-clause-read g c =
-    let r = c.take_kept.new.self in
-    let few : r.reads ≤ r.most_reads = r.few_reads in
-    let all : r.reads ≡ r.most_reads = omega arith in
-    gave_up g.R.Source.left g.R.Source.calls g.R.Source.failures c.args.self.now r c.give_up.new.self c.give_up.result
-    (held g (goal.at.returns-then-self-2-clause-read g c).In-Ok-None).0 all c.give_up.ensures.gives_up c.give_up.ensures.unread
-
-pub returns-in-Err-fill-clause-read : goal.returns-in-Err-fill-clause-read
-returns-in-Err-fill-clause-read g c =
-    let fill = c.in-Err-fill.ensures in
-    let h = held g (goal.at.returns-in-Err-fill-clause-read g c).In-Ok-None in
-    failed_read g.R.Source.left g.R.Source.calls g.R.Source.failures c.args.self.now c.take_kept.new.self c.fill.new.self
-    h.0 h.1 c.if-self.false fill.fills fill.reads fill.called fill.most_reads fill.limits fill.done fill.stopped
-
-pub reading-preserved : goal.reading-preserved
-reading-preserved g c =
-    let fill = c.in-Ok.ensures in
-    let h = held g (goal.at.reading-preserved g c).In-Ok-None in (
-      filled g.R.Source.left g.R.Source.calls g.R.Source.failures c.args.self.now c.take_kept.new.self c.fill.new.self fill.fills.0
-          h.0 h.1 c.if-self.false fill.fills.1 fill.failed fill.reads fill.called fill.most_reads fill.limits fill.done fill.stopped,
-      fill.same_reference ∙ (ap g.R.Source.reference c.take_kept.ensures.unread.source ∙ c.reading.invariant.1),
-    )
+pub returns-clause-read : goal.returns-clause-read
+returns-clause-read g c = c.next.ensures.read (kept c.args.self.now) (keeps c.args.self.now c.in_default.is)

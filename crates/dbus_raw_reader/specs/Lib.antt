@@ -1,4 +1,0 @@
-pub mod Gathering
-pub mod Reading
-pub mod Next
-pub mod Steps

@@ -1,0 +1,84 @@
+-- What a gatherer makes of a piece, as the taker of a reader.
+use Rattle.std.proofs.Common.{◌≡◌, ℕ, ◌+◌, List, [], ◌++◌, true, false, Ok, Err, None, Bool, length, take, refl, sym, ap, ◌∙◌, subst, arith, inl, inr}
+use Rattle.std.proofs.Math.Nat.{zero-add}
+use Rattle.std.proofs.Math.Seq.{take-append-add}
+use Rattle.dbus_value_model.specs.declared.limits.Limits.{Limits}
+use Rattle.dbus_decode.specs.MessageOutcomes.{IsWhole, IsRefused, IsPartial}
+use Rattle.dbus_judge.specs.declared.judging.Judged.{Judged}
+use Rattle.dbus_judge.specs.Judging.{IsJudgedFirst, IsJudgedWhole}
+use Rattle.dbus_judge.proofs.Firsts.{followed}
+use Rattle.dbus_stream.specs.Gathering.{GathererState, gathering, begun, under_way, Gathered, Gathers}
+use Rattle.dbus_stream.specs.Taking.{Completes, Takes}
+use Rattle.dbus_stream.specs.declared.stream_fault.StreamFault.{StreamFault}
+use Rattle.dbus_stream.specs.declared.stream_fault.StreamFault.TheVariants.{Memory, Format}
+
+module _ (old : GathererState) (piece : List ℕ) where
+  -- nothing is held once the next message is begun, and the piece begins with a message
+  pub lends_first : (limits : Limits) (held : List ℕ) (whole : Bool) (lent : ℕ) (w : List ℕ) (j : Judged)
+      → ◌≡◌ {A = GathererState} (record { limits = limits; held = held; whole = whole; lent = lent }) (begun old) → under_way old.whole old.held ≡ w → held ≡ [] → IsJudgedFirst limits piece j
+      → Completes gathering old w piece (record { limits = limits; held = held; whole = whole; lent = j.length }) j.length j
+  lends_first limits held whole lent w j e holds none first =
+      let own = first.judged.judged in
+      let same : limits ≡ old.limits = ap (λ (s : GathererState). s.limits) e in
+      let open_ : whole ≡ false = ap (λ (s : GathererState). s.whole) e in
+      let nothing : [] ≡ w = sym none ∙ (ap (λ (s : GathererState). s.held) e ∙ holds) in
+      let new : GathererState = record { limits = limits; held = held; whole = whole; lent = j.length } in
+      let message = followed limits piece j.order own.message j.length j.length own.whole in
+      subst (λ v. Completes gathering old v piece new j.length j) nothing (record {
+        order = j.order;
+        message = own.message;
+        whole = subst (λ n. IsWhole old.limits piece j.order own.message n) (sym (zero-add j.length)) (subst (λ l. IsWhole l piece j.order own.message j.length) same message);
+        gives = record {
+          judged = subst (λ n. IsJudgedWhole limits (take n piece) j) (sym (zero-add j.length)) first.judged;
+          place = inr (open_, none, sym (zero-add j.length));
+        };
+        holds = ap (λ b. under_way b held) open_ ∙ none;
+        lends = λ some. (refl, refl);
+      })
+
+  -- the message that was gathered
+  pub gathered : (w : List ℕ) (n : ℕ) (new : GathererState) (j : Judged) → under_way old.whole old.held ≡ w → Gathered (begun old) piece n new
+      → IsJudgedWhole new.limits new.held j → Completes gathering old w piece new n j
+  gathered w n new j holds e judged =
+      let held = under_way old.whole old.held in
+      let held_is : new.held ≡ take (length held + n) (held ++ piece) = ap (λ (s : GathererState). s.held) e.state ∙ sym (take-append-add held piece n) in
+      let unlent : new.lent ≡ 0 = ap (λ (s : GathererState). s.lent) e.state in
+      let whole : new.whole ≡ true = ap (λ (s : GathererState). s.whole) e.state in
+      subst (λ v. Completes gathering old v piece new n j) holds (record {
+        order = e.order;
+        message = e.message;
+        whole = e.whole;
+        gives = record {
+          judged = subst (λ b. IsJudgedWhole new.limits b j) held_is judged;
+          place = inl (whole, held_is, unlent);
+        };
+        holds = ap (λ b. under_way b new.held) whole;
+        lends = λ some. absurd (omega (arith, some, unlent));
+      })
+
+  -- the message does not end there
+  pub waits : (w : List ℕ) (new : GathererState) → under_way old.whole old.held ≡ w → Gathers (begun old) piece new (Ok None)
+      → Takes gathering old w piece new (Ok (length piece, None))
+  waits w new holds g = (
+    subst (λ v. IsPartial old.limits (v ++ piece)) holds g.0,
+    refl,
+    record {
+      holds = ap (λ (s : GathererState). under_way s.whole s.held) g.1 ∙ ap (λ v. v ++ piece) holds;
+      rests = (ap (λ (s : GathererState). s.whole) g.1, ap (λ (s : GathererState). s.lent) g.1);
+    },
+  )
+
+  -- nothing was taken
+  pub fails : (w : List ℕ) (new : GathererState) (fault : StreamFault) → under_way old.whole old.held ≡ w → Gathers (begun old) piece new (Err fault)
+      → Takes gathering old w piece new (Err fault)
+  fails w new Memory holds g = (
+    tt,
+    record {
+      holds = ap (λ (s : GathererState). under_way s.whole s.held) g ∙ holds;
+      rests = (ap (λ (s : GathererState). s.whole) g, ap (λ (s : GathererState). s.lent) g);
+    },
+  )
+  fails w new (Format fault) holds g = (
+    subst (λ v. IsRefused old.limits (v ++ piece) fault) holds g.0,
+    (ap (λ (s : GathererState). s.held) g.1 ∙ holds, (ap (λ (s : GathererState). s.whole) g.1, ap (λ (s : GathererState). s.lent) g.1)),
+  )

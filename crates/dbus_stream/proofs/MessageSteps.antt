@@ -1,0 +1,76 @@
+-- A cutter as the taker of a reader, and where the reader stands after each answer.
+use Rattle.std.proofs.Common.{◌≡◌, ℕ, List, ◌++◌, None, Some, Ok, Err, Option, Result, length, refl, sym, ap, ◌∙◌, subst, ◌+◌, arith}
+use Rattle.dbus_value_model.specs.declared.order.Order.{Order}
+use Rattle.dbus_message_model.specs.declared.message.Message.{Message}
+use Rattle.dbus_message_model.specs.MessageViews.{message_tree}
+use Rattle.dbus_decode.specs.MessageOutcomes.{IsWhole, IsRefused, IsPartial}
+use Rattle.dbus_stream.specs.CutterState.{CutterState}
+use Rattle.dbus_stream.specs.Cutting.{TakeAnswer, TakeAnswers}
+use Rattle.dbus_stream.specs.CutterTaking.{cutting}
+use Rattle.dbus_stream.specs.MessageReaders.{kept, stopped_of}
+use Rattle.dbus_stream.specs.Next.{NextAnswers, KeptAnswers}
+use Rattle.dbus_stream.specs.Reading as reading
+use Rattle.dbus_stream.specs.declared.buffer.Buffer.{Ghosts}
+use Rattle.dbus_stream.specs.declared.message_reader.MessageReader.{MessageReader}
+use Rattle.dbus_stream.specs.declared.read_fault.ReadFault.{ReadFault}
+use Rattle.dbus_stream.specs.declared.read_fault.ReadFault.TheVariants.{Memory, Format, Device, TooManyReads}
+use Rattle.dbus_stream.specs.declared.reader.Reader.{Reader}
+use Rattle.dbus_stream.specs.declared.stream_fault.StreamFault.TheVariants as refusals
+use Rattle.dbus_stream.specs.Taking.{Takes}
+
+-- what a cutter makes of a piece, as a taker
+pub cuts : {A : Type 0} (old : CutterState) (w piece : List ℕ) (new : CutterState) (res : TakeAnswer A) → old.held ≡ w → TakeAnswers old piece new res → old.fault ≡ None
+    → Takes (cutting A) old w piece new res
+cuts old w piece new (Ok (n, Some given)) held t open_ =
+    let whole = subst (λ v. IsWhole old.limits (v ++ piece) given.0 (message_tree given.1) (length v + n)) held t.0 in
+    record {
+      order = given.0;
+      message = message_tree given.1;
+      whole = whole;
+      gives = subst (λ limits. IsWhole limits (w ++ piece) given.0 (message_tree given.1) (length w + n)) (sym (ap (λ (s : CutterState). s.limits) t.1)) whole;
+      holds = (ap (λ (s : CutterState). s.held) t.1, ap (λ (s : CutterState). s.fault) t.1);
+      lends = λ some. absurd (omega (arith, some));
+    }
+cuts old w piece new (Ok (n, None)) held t open_ = (
+  subst (λ v. IsPartial old.limits (v ++ piece)) held t.0,
+  t.1,
+  record { holds = (ap (λ (s : CutterState). s.held) t.2 ∙ ap (λ v. v ++ piece) held, ap (λ (s : CutterState). s.fault) t.2); rests = tt },
+)
+cuts old w piece new (Err refusals.Memory) held t open_ =
+    (tt, record { holds = (ap (λ (s : CutterState). s.held) t ∙ held, ap (λ (s : CutterState). s.fault) t ∙ open_); rests = tt })
+cuts old w piece new (Err (refusals.Format fault)) held t open_ =
+    (subst (λ v. IsRefused old.limits (v ++ piece) fault) held t.0, ap (λ (s : CutterState). s.held) t.1 ∙ held)
+
+-- what a reader keeps, as the reader below does
+pub keeps : {R A : Type 0} (r : MessageReader R A) → stopped_of r ≡ None → reading.Keeps (cutting A) r.reader (kept r)
+keeps r open_ = record { held = r.reader.taker.held; holds = (refl, r.unfaulted open_); size = r.held_counted open_; bytes = refl }
+
+-- its cutter met no fault, and holds as many bytes as are counted
+pub record IsStanding {R B : Type 0} {b : Ghosts B} (r : Reader R CutterState B b) : Type 0 where
+  pub unfaulted : r.taker.fault ≡ None
+  pub held : r.held ≡ length r.taker.held
+
+stopped_not : {R B : Type 0} {b : Ghosts B} (r : Reader R CutterState B b) (f : ReadFault) → reading.stopped_of r ≡ Some f → reading.stopped_of r ≡ None → IsStanding r
+stopped_not r f stopped open_ = let never : Some f ≡ None = sym stopped ∙ open_ in absurd cc
+
+module _ {R A B : Type 0} {b : Ghosts B} where
+  standing : (r : Reader R CutterState B b) (w : List ℕ) → reading.Keeps (cutting A) r w → IsStanding r
+  standing r w k = record { unfaulted = k.holds.1; held = k.size ∙ ap length (sym k.holds.0) }
+
+  pub stands_next : (w : List ℕ) (old new : Reader R CutterState B b) (res : Result (Option (Order × Message A)) ReadFault) → NextAnswers (cutting A) w old new res
+      → reading.stopped_of new ≡ None → IsStanding new
+  stands_next w old new (Ok (Some given)) a open_ = standing new _ a.1.kept
+  stands_next w old new (Ok None) a open_ = standing new w a.2.kept
+  stands_next w old new (Err Memory) a open_ = standing new w a.1.kept
+  stands_next w old new (Err (Format fault)) a open_ = stopped_not new (Format fault) a.1 open_
+  stands_next w old new (Err Device) a open_ = standing new w a.0.kept
+  stands_next w old new (Err TooManyReads) a open_ = standing new w a.0.kept
+
+  pub stands_kept : (w : List ℕ) (old new : Reader R CutterState B b) (res : Result (Option (Order × Message A)) ReadFault) → KeptAnswers (cutting A) w old new res
+      → reading.stopped_of new ≡ None → IsStanding new
+  stands_kept w old new (Ok (Some given)) a open_ = standing new _ a.1.kept
+  stands_kept w old new (Ok None) a open_ = standing new w a.0.kept
+  stands_kept w old new (Err Memory) a open_ = standing new w a.1.kept
+  stands_kept w old new (Err (Format fault)) a open_ = stopped_not new (Format fault) a.1 open_
+  stands_kept w old new (Err Device) a open_ = absurd a
+  stands_kept w old new (Err TooManyReads) a open_ = absurd a

@@ -1,0 +1,36 @@
+use Rattle.std.proofs.Common.{rules, ◌≡◌, ◌-◌, ◌≤◌, ◌++◌, false, arith, refl, sym, ap, ◌∙◌, length}
+use Rattle.std.specs.List.{slice_range}
+use Rattle.dbus_stream.specs.Gathering.{GathererState, under_way}
+use Rattle.dbus_stream.specs.RawReading.{whole_or}
+use Rattle.dbus_stream.proofs.Lists.{no_part, kept_again, part_size}
+use Rattle.dbus_stream.proofs.raw_reader.RawReader.give.Goals as goal
+
+pub returns-clause-gives : goal.returns-clause-gives
+returns-clause-gives g c =
+    let raw = c.args.self.now in
+    let r = raw.reader in
+    let held = r.taker.held in
+    let bytes = r.buffer.bytes in
+    let n = c.lent-lent.result in
+    let n_is = c.lent-lent.ensures in
+    let whole : r.taker.whole ≡ false = sym c.is_whole.ensures ∙ c.if-is_whole.false in
+    let rest = slice_range bytes r.start r.end in
+    let lent = slice_range bytes (r.start - r.taker.lent) r.start in
+    let all = slice_range bytes (r.start - n) r.end in
+    let ordered = r.in_order in
+    let before = raw.lent_before in
+    let room : r.start ≤ length bytes = search rules in
+    let size = part_size bytes (r.start - r.taker.lent) r.start (omega arith) room in
+    let counted = raw.lent_counted in
+    let lent_is = ap (λ b. length (whole_or b held lent)) whole in
+    record {
+      kept = ap (λ (s : GathererState). under_way s.whole s.held ++ all) c.begin.ensures
+          ∙ (ap (λ b. under_way b held ++ all) whole
+          ∙ (ap (λ k. held ++ slice_range bytes (r.start - k) r.end) n_is
+          ∙ (kept_again held bytes r.start r.end r.taker.lent before ordered raw.lent_alone
+          ∙ sym (ap (λ b. whole_or b held lent ++ (under_way b held ++ rest)) whole))));
+      done = omega (arith, before, size, counted, lent_is, n_is);
+      stopped = refl;
+      lent = ap (λ (s : GathererState). whole_or s.whole s.held (slice_range bytes ((r.start - n) - s.lent) (r.start - n))) c.begin.ensures
+          ∙ (ap (λ b. whole_or false (under_way b held) (slice_range bytes ((r.start - n) - 0) (r.start - n))) whole ∙ no_part bytes ((r.start - n) - 0) (r.start - n) (omega arith));
+    }

@@ -1,0 +1,85 @@
+use Rattle.std.proofs.Common.{◌≡◌, ◌≤◌, ◌+◌, ◌-◌, ◌++◌, [], append-nil, arith, ap, refl, sym, subst, ◌∙◌, List, ℕ, length, drop, take}
+use Rattle.std.specs.List.{slice_range}
+use Rattle.std.proofs.lemmas.List.{length-append}
+use Rattle.dbus_decode.specs.MessageOutcomes.{IsWhole, IsPartial, IsRefused}
+use Rattle.dbus_stream.specs.Reading.{limits_of}
+use Rattle.dbus_stream.specs.Taking.{Completes, Waits}
+use Rattle.dbus_stream.proofs.Lists.{left_after, no_part, part_fits, front_of}
+use Rattle.dbus_stream.proofs.reader.Reader.take_kept.Goals as goal
+
+pub returns-in-Ok-default-Some-clause-takes : goal.returns-in-Ok-default-Some-clause-takes
+returns-in-Ok-default-Some-clause-takes g c = λ w kept.
+    let k = g.T.Taker.known in
+    let r = c.args.self.now in
+    let n = c.in-Ok-default-Some.count in
+    let part = slice_range (g.B.Buffer.room.bytes r.buffer) r.start r.end in
+    let e : Completes k r.taker kept.held part c.take_piece.new.self n c.in-Ok-default-Some.given =
+    subst (λ piece. Completes k r.taker kept.held piece c.take_piece.new.self n c.in-Ok-default-Some.given) c.part-piece.ensures
+    (rw (c.in-Ok-default-Some.is, c.in-Ok-default-Some.field-0-1-is) at (c.take_piece.ensures.takes kept.held kept.holds kept.size)) in
+    let taken : n ≤ length part = subst (λ (piece : List ℕ). n ≤ length piece) c.part-piece.ensures c.in-Ok-default-Some.ensures.within in
+    let ends = part_fits (g.B.Buffer.room.bytes r.buffer) r.start r.end in
+    let ordered = r.in_order in
+    let fits : r.start + n ≤ r.end = omega (arith, taken, ends, ordered) in
+    let size = length kept.held + n in (
+      size,
+      record {
+        order = e.order;
+        message = e.message;
+        whole = subst (λ l. IsWhole (limits_of k r) l e.order e.message size) (sym kept.bytes) e.whole;
+        kept = record {
+          held = [];
+          holds = e.holds;
+          size = refl;
+          bytes = ap (drop size) kept.bytes ∙ sym (left_after kept.held (g.B.Buffer.room.bytes r.buffer) r.start r.end n fits);
+        };
+        done = ap (λ x. r.done + (x + n)) kept.size;
+        unstopped = c.requires;
+      },
+      subst (λ l. k.gives c.take_piece.new.self l size c.in-Ok-default-Some.given) (sym kept.bytes) e.gives,
+      λ some.
+          let l = e.lends some in
+          let none = ap length l.0 in
+          let same : size ≡ n = omega (arith, none) in
+          let first : (r.start + n) - size ≡ r.start = omega (arith, same) in
+          let all : w ≡ part = kept.bytes ∙ ap (λ (l : List ℕ). l ++ part) l.0 in (
+            l.1 ∙ sym same,
+            omega (arith, same),
+            ap (λ x. slice_range (g.B.Buffer.room.bytes r.buffer) x (r.start + n)) first ∙ (front_of (g.B.Buffer.room.bytes r.buffer) r.start r.end n fits ∙ (ap (λ x. take x part) (sym same) ∙ ap (take size) (sym all))),
+          ),
+    )
+
+pub returns-in-Ok-default-None-clause-takes : goal.returns-in-Ok-default-None-clause-takes
+returns-in-Ok-default-None-clause-takes g c = λ w kept.
+    let k = g.T.Taker.known in
+    let r = c.args.self.now in
+    let part = slice_range (g.B.Buffer.room.bytes r.buffer) r.start r.end in
+    let all = kept.held ++ part in
+    let piece = c.part-piece.result.now in
+    let there : IsPartial (k.limits r.taker) (kept.held ++ piece) × (c.in-Ok-default-None.field-0-0 ≡ length piece) × Waits k (kept.held ++ piece) c.take_piece.new.self =
+    rw (c.in-Ok-default-None.is, c.in-Ok-default-None.field-0-1-is) at (c.take_piece.ensures.takes kept.held kept.holds kept.size) in
+    let e : IsPartial (k.limits r.taker) all × Waits k all c.take_piece.new.self =
+    subst (λ piece. IsPartial (k.limits r.taker) (kept.held ++ piece) × Waits k (kept.held ++ piece) c.take_piece.new.self) c.part-piece.ensures (there.0, there.2) in (
+      record {
+        kept = record {
+          held = all;
+          holds = e.1.holds;
+          size = ap (λ x. x + length piece) kept.size ∙ (ap (λ (l : List ℕ). length kept.held + length l) c.part-piece.ensures ∙ sym (length-append kept.held part));
+          bytes = kept.bytes ∙ (sym (append-nil all) ∙ ap (λ l. all ++ l) (sym (no_part (g.B.Buffer.room.bytes r.buffer) r.end r.end refl)));
+        };
+        done = refl;
+        rests = e.1.rests;
+      },
+      c.requires,
+      subst (λ l. IsPartial (limits_of k r) l) (sym kept.bytes) e.0,
+    )
+
+pub returns-in-Err-Format-clause-takes : goal.returns-in-Err-Format-clause-takes
+returns-in-Err-Format-clause-takes g c = λ w kept.
+    let k = g.T.Taker.known in
+    let r = c.args.self.now in
+    let part = slice_range (g.B.Buffer.room.bytes r.buffer) r.start r.end in
+    let there : IsRefused (k.limits r.taker) (kept.held ++ c.part-piece.result.now) c.in-Err-Format.fault × k.keeps c.take_piece.new.self kept.held =
+    rw (c.in-Err-Format.is, c.in-Err-Format.field-0-is) at (c.take_piece.ensures.takes kept.held kept.holds kept.size) in
+    let whole : kept.held ++ c.part-piece.result.now ≡ w = ap (λ (l : List ℕ). kept.held ++ l) c.part-piece.ensures ∙ sym kept.bytes in
+    let refused = subst (λ l. IsRefused (limits_of k r) l c.in-Err-Format.fault) whole there.0 in
+    rw c.in-Err-Format.field-0-is (refl, refl, record { refused = refused; held = kept.held; keeps = there.1; size = kept.size; bytes = kept.bytes })

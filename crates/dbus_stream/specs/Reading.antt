@@ -1,0 +1,58 @@
+-- What a reader keeps to, keeps and counts. k is what is known of its taker.
+use Rattle.std.specs.Prelude.{◌≡◌, ℕ, List, [], ◌++◌, length, Bool, false, slice_range, Option, None}
+use Rattle.dbus_value_model.specs.declared.limits.Limits.{Limits}
+use Rattle.dbus_stream.specs.declared.read_fault.ReadFault.{ReadFault}
+use Rattle.dbus_stream.specs.declared.buffer.Buffer.{Ghosts}
+use Rattle.dbus_stream.specs.declared.reader.Reader.{Reader}
+use Rattle.dbus_stream.specs.Taking.{Taking}
+
+module _ {R T B : Type 0} {b : Ghosts B} where
+  -- the device below
+  abbrev pub source_of : Reader R T B b → R
+  source_of r = r.source
+
+  -- what takes the bytes
+  abbrev pub taker_of : Reader R T B b → T
+  taker_of r = r.taker
+
+  -- how many bytes all the messages have that were given
+  abbrev pub done_of : Reader R T B b → ℕ
+  done_of r = r.done
+
+  -- how many reads were made, and how many may be made in all
+  abbrev pub reads_of : Reader R T B b → ℕ
+  reads_of r = r.reads
+
+  abbrev pub most_reads_of : Reader R T B b → ℕ
+  most_reads_of r = r.most_reads
+
+  -- a read gave the end
+  abbrev pub is_ended : Reader R T B b → Bool
+  is_ended r = r.ended
+
+  -- the fault that it answers for good, where it met one
+  abbrev pub stopped_of : Reader R T B b → Option ReadFault
+  stopped_of r = r.stopped
+
+  module _ {G : Type 0} (k : Taking T G) where
+    -- the limits that its messages keep
+    abbrev pub limits_of : Reader R T B b → Limits
+    limits_of r = k.limits r.taker
+
+    -- w was read and not yet given: what the taker holds, and then what is left of the buffer
+    pub record Keeps (r : Reader R T B b) (w : List ℕ) : Type 0 where
+      pub held : List ℕ
+      pub holds : k.holds r.taker held
+      pub size : r.held ≡ length held
+      pub bytes : w ≡ held ++ slice_range (b.room.bytes r.buffer) r.start r.end
+
+    -- a reader of the device, which may make so many reads in all, keeps to the limits, and read nothing yet
+    pub record IsNewReader (device : R) (most : ℕ) (within : Limits) (r : Reader R T B b) : Type 0 where
+      pub source : source_of r ≡ device
+      pub most_reads : most_reads_of r ≡ most
+      pub limits : limits_of r ≡ within
+      pub kept : Keeps r []
+      pub done : done_of r ≡ 0
+      pub reads : reads_of r ≡ 0
+      pub ended : is_ended r ≡ false
+      pub stopped : stopped_of r ≡ None

@@ -1,0 +1,69 @@
+//! Room for what one read gives.
+ghost use Rattle.std.specs.Prelude.{◌≡◌, ◌≤◌, ◌<◌, List, length, slice_range, IfOk};
+ghost use Rattle.std.specs.Io.KnownBytes.{ReadConsumes};
+ghost use Rattle.dbus_device.specs.Device.{one_more, ReadCounts};
+ghost use Rattle.dbus_stream.specs.Rooms.{Room};
+
+use dbus_device::{DeviceFault, Source};
+
+/// Room for the bytes that one read gives.
+pub trait Buffer: Drop {
+    // How many bytes it has room for, at most 65,536, and which bytes are there.
+    ghost room: { Room Self };
+
+    /// Reads once, into all of the room.
+    ///
+    /// `DeviceFault`: the read failed.
+    fn read_from<R: Source>(&mut self, source: &mut R) -> Result<usize, DeviceFault>
+        ensures some { 0 < length (room.bytes self.new) }
+        ensures bound { IfOk result (λ n. n ≤ room.size) }
+        ensures bytes { ReadConsumes (R.left source.old) (R.left source.new) result
+            (room.bytes self.new) }
+        ensures failed { ReadCounts (R.failures source.old) (R.failures source.new) result }
+        ensures called { R.calls source.new ≡ one_more (R.calls source.old) }
+        ensures same_reference { R.reference source.new ≡ R.reference source.old };
+
+    /// The bytes from `start` up to `end`.
+    fn part(&self, start: usize, end: usize) -> &[u8]
+        requires in_order { start ≤ end }
+        requires within { end ≤ room.size }
+        ensures { result.now ≡ slice_range (room.bytes self.now) start end };
+}
+
+/// Room for 4,096 bytes.
+#[derive(Drop)]
+pub struct Small {
+    pub(crate) bytes: [u8; 4_096],
+}
+
+impl Buffer for Small {
+    ghost room = { record { size = 4096; bytes = λ b. b.bytes } };
+
+    fn read_from<R: Source>(&mut self, source: &mut R) -> Result<usize, DeviceFault> {
+        source.read(&mut self.bytes)
+    }
+
+    fn part(&self, start: usize, end: usize) -> &[u8] {
+        let bytes: &[u8] = &self.bytes;
+        &bytes[start..end]
+    }
+}
+
+/// Room for 65,536 bytes: so many that nearly every message lies whole in what one read gives.
+#[derive(Drop)]
+pub struct Large {
+    pub(crate) bytes: [u8; 65_536],
+}
+
+impl Buffer for Large {
+    ghost room = { record { size = 65536; bytes = λ b. b.bytes } };
+
+    fn read_from<R: Source>(&mut self, source: &mut R) -> Result<usize, DeviceFault> {
+        source.read(&mut self.bytes)
+    }
+
+    fn part(&self, start: usize, end: usize) -> &[u8] {
+        let bytes: &[u8] = &self.bytes;
+        &bytes[start..end]
+    }
+}

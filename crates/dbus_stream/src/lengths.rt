@@ -1,0 +1,61 @@
+//! The lengths of messages, as their bytes come.
+ghost use Rattle.std.specs.Prelude.{◌≡◌, ℕ, List};
+ghost use Rattle.dbus_check.specs.Checks.{Stands, limits_of};
+
+use crate::stream_fault::StreamFault;
+use crate::taker::Taker;
+use dbus_check::{Check, Checker};
+use dbus_judge::judge;
+use dbus_value::Limits;
+
+/// Takes the bytes of messages, and gives the length of each. It holds no byte but what its checker holds, and takes no
+/// memory: it has a fixed size, about 23,000 bytes.
+#[derive(Drop)]
+pub struct Lengths {
+    limits: Limits,
+    // It was handed the bytes of the message under way.
+    checker: Checker,
+    ghost same_limits: { limits_of checker ≡ limits },
+    ghost handed: { ∥ ((held : List ℕ) × Stands checker held) ∥₁ },
+}
+
+impl Lengths {
+    ghost use Rattle.std.specs.Prelude.{[]};
+    ghost use Rattle.dbus_stream.specs.Lengths.{lengths};
+
+    /// It holds nothing, and takes messages that keep these limits.
+    pub(crate) fn within(limits: Limits) -> Self
+        ensures limits { lengths.limits result ≡ limits }
+        ensures nothing { lengths.holds result [] }
+    {
+        Lengths {
+            limits,
+            checker: Checker::within(limits),
+        }
+    }
+}
+
+impl Taker for Lengths {
+    ghost use Rattle.dbus_stream.specs.Lengths.{lengths};
+
+    type Given = u64;
+
+    ghost known = { lengths };
+
+    fn take_piece(&mut self, held: u64, piece: &[u8]) -> Result<(usize, Option<u64>), StreamFault> {
+        // A message that lies whole in the piece is judged there.
+        if held == 0 {
+            if let Some(judged) = judge(piece, self.limits) {
+                return Ok((judged.length, Some(judged.length as u64)));
+            }
+        }
+        match self.checker.take(piece) {
+            Check::Done(count) => {
+                self.checker.restart();
+                Ok((count, Some(held + count as u64)))
+            }
+            Check::Partial => Ok((piece.len(), None)),
+            Check::Refused(fault) => Err(StreamFault::Format(fault)),
+        }
+    }
+}

@@ -1,0 +1,198 @@
+//! Raw messages from a source.
+ghost use Rattle.std.specs.Prelude.{◌≡◌, ◌≤◌, ◌<◌, ◌+◌, ◌-◌, ◌^◌, ◌++◌, [], length};
+ghost use Rattle.dbus_stream.specs.Gathering.{under_way};
+
+use crate::buffer::{Buffer, Large};
+use crate::gatherer::Gatherer;
+use crate::read_fault::ReadFault;
+use crate::reader::Reader;
+use crate::reads::MOST_READS;
+use dbus_device::Source;
+use dbus_judge::Judged;
+use dbus_value::Limits;
+use std::alloc::{Allocator, Global};
+
+/// Reads messages from a source, one after another, by a buffer of 65,536 bytes inside it, and lends or copies their bytes.
+///
+/// It accepts and refuses what a [`crate::MessageReader`] does, and builds no message. A message that lies whole in the
+/// buffer is judged there, and lent where it lies; any other is checked as it comes, and its bytes are gathered. It keeps the
+/// bytes that it read and did not give yet: at most those of one message and one buffer. The limits of its messages, and how
+/// many reads it makes at most in its life, are those that it was made with.
+#[derive(Drop)]
+pub struct RawReader<R, A: Allocator = Global> {
+    alloc: A,
+    // Its taker holds the bytes of the message under way that came by earlier reads, or those of the one that is lent.
+    reader: Reader<R, Gatherer<A>, Large>,
+    ghost lent_before: { reader.taker.lent ≤ reader.start },
+    ghost lent_counted: { reader.taker.lent ≤ reader.done },
+    ghost lent_alone: { 0 < reader.taker.lent → reader.taker.held ≡ [] },
+    ghost held_counted: { reader.held ≡ length (under_way reader.taker.whole reader.taker.held) },
+}
+
+impl<R: Source, A: Allocator + Copy> RawReader<R, A> {
+    ghost use Rattle.std.specs.Prelude.{None, Some};
+    ghost use Rattle.dbus_value_model.specs.Specification.{specification};
+    ghost use Rattle.dbus_stream.specs.declared.read_fault.ReadFault.{ReadFault};
+    ghost use Rattle.dbus_stream.specs.Next.{DeviceCounts};
+    ghost use Rattle.dbus_stream.specs.RawReading.{limits_of, kept, lent_of, source_of, done_of, reads_of, most_reads_of, stopped_of, IsNewReader};
+    ghost use Rattle.dbus_stream.specs.RawNext.{Advances, CopyAnswers, KeptAnswers, Reads, ReadsNothing, GivesLent};
+
+    /// A reader as [`RawReader::within`] makes it, of at most 2^32 reads and under the limits of the specification.
+    pub fn new(alloc: A, source: R) -> Self
+        ensures { IsNewReader source (2 ^ 32) specification result }
+    {
+        RawReader::with_reads(alloc, source, MOST_READS)
+    }
+
+    /// A reader as [`RawReader::within`] makes it, under the limits of the specification.
+    pub fn with_reads(alloc: A, source: R, reads: u64) -> Self
+        requires { reads ≤ 2 ^ 32 }
+        ensures { IsNewReader source reads specification result }
+    {
+        RawReader::within(alloc, source, reads, Limits::specification())
+    }
+
+    /// A reader of what the source gives, which read nothing yet. It makes at most so many reads in its life, the one that
+    /// finds the end of the input among them, and gives messages that keep these limits. What it keeps outside its buffer, and
+    /// each copy, is allocated by `alloc`.
+    pub fn within(alloc: A, source: R, reads: u64, limits: Limits) -> Self
+        requires { reads ≤ 2 ^ 32 }
+        ensures { IsNewReader source reads limits result }
+    {
+        RawReader {
+            alloc,
+            reader: Reader::over(
+                source,
+                Gatherer::within(alloc, limits),
+                Large { bytes: [0; 65_536] },
+                reads,
+            ),
+        }
+    }
+
+    /// Gives the source back. Bytes that are kept are lost.
+    pub fn into_source(self) -> R
+        ensures { result ≡ source_of self }
+    {
+        self.reader.into_source()
+    }
+
+    /// How many bytes all the messages have that it gave.
+    pub fn done(&self) -> u64
+        ensures { result ≡ done_of self.now }
+    {
+        self.reader.done
+    }
+
+    /// The bytes of the message that the last call gave, if that was [`RawReader::advance`] or [`RawReader::advance_kept`];
+    /// none where it gave no message.
+    pub fn message(&self) -> &[u8]
+        ensures { result.now ≡ lent_of self.now }
+    {
+        if self.reader.taker.is_whole() {
+            return self.reader.taker.bytes();
+        }
+        let start = self.reader.start;
+        self.reader
+            .buffer
+            .part(start - self.reader.taker.lent(), start)
+    }
+
+    /// Goes on to the next message, and answers what is judged of its bytes, which [`RawReader::message`] lends then; None at the
+    /// end of the input. Bytes after the message are kept. After the end each call answers the same, without reading. A read is
+    /// made only where no whole message is kept, so a message is given at the read that ends it. Memory is taken only for a
+    /// message that does not lie whole in the buffer. D-Bus Specification, "Message Protocol".
+    ///
+    /// `Format`: the bytes begin with no message within the limits; or the input ended within one, and then the reason is
+    /// `Truncated`, at their number. `TooManyReads`: as many reads were made as it may make, none of them found the end, and
+    /// no whole message is kept. Both stay for good. `Device`: a read failed in this call. `Memory`: a growth was refused.
+    /// After these two all that was read is kept, and the call may be made again.
+    pub fn advance(&mut self) -> Result<Option<Judged>, ReadFault>
+        // Of what was kept and then read it lends the message that that begins with, and judges it.
+        ensures read { (r : Reads R.left R.calls self.old self.new) ×
+            (stopped_of self.old ≡ None →
+            Advances (kept self.old ++ r.bytes) self.old self.new result) }
+        ensures failed { DeviceCounts (R.failures (source_of self.old))
+            (R.failures (source_of self.new)) result }
+        ensures same_reference { R.reference (source_of self.new) ≡
+            R.reference (source_of self.old) }
+        ensures few { done_of self.new ≤ 2 ^ 48 }
+        // A fault of the bytes stays for good, and so does the number of reads.
+        ensures stays { (f : ReadFault) → stopped_of self.old ≡ Some f →
+            (result ≡ Err f) × (self.new ≡ self.old) }
+    {
+        if let Some(fault) = self.reader.stopped {
+            return Err(fault);
+        }
+        self.reader.next()
+    }
+
+    /// Goes on to the next message out of what was read already: no read is made. Bytes after the message are kept. None where
+    /// what is kept begins with no whole message; then `advance` goes on from there and reads more.
+    ///
+    /// `Format`: the bytes begin with no message within the limits. It stays for good, and so does a fault that `advance`
+    /// answers for good. `Memory`: a growth was refused. Then all that was read is kept, and the call may be made again.
+    pub fn advance_kept(&mut self) -> Result<Option<Judged>, ReadFault>
+        // It lends the message that the bytes that are kept begin with, and judges it.
+        ensures kept { stopped_of self.old ≡ None → KeptAnswers self.old self.new result }
+        ensures unread { ReadsNothing self.old self.new }
+        ensures failed { DeviceCounts (R.failures (source_of self.old))
+            (R.failures (source_of self.new)) result }
+        ensures few { done_of self.new ≤ 2 ^ 48 }
+        // A fault of the bytes stays for good, and so does the number of reads.
+        ensures stays { (f : ReadFault) → stopped_of self.old ≡ Some f →
+            (result ≡ Err f) × (self.new ≡ self.old) }
+    {
+        if let Some(fault) = self.reader.stopped {
+            return Err(fault);
+        }
+        self.reader.next_kept()
+    }
+
+    /// The bytes of the next message, or None at the end of the input: of what [`RawReader::advance`] lends, a copy, or those
+    /// that were gathered. Then no message is lent. Faults are those of `advance`, and `Memory` besides where the copy was
+    /// refused: then the message is kept, and the same call gives it again.
+    pub fn next(&mut self) -> Result<Option<Vec<u8, A>>, ReadFault>
+        // Of what was kept and then read it gives the bytes of the message that that begins with.
+        ensures read { (r : Reads R.left R.calls self.old self.new) ×
+            (stopped_of self.old ≡ None →
+            CopyAnswers (kept self.old ++ r.bytes) self.old self.new result) }
+        ensures failed { DeviceCounts (R.failures (source_of self.old))
+            (R.failures (source_of self.new)) result }
+        ensures same_reference { R.reference (source_of self.new) ≡
+            R.reference (source_of self.old) }
+        ensures few { done_of self.new ≤ 2 ^ 48 }
+        // A fault of the bytes stays for good, and so does the number of reads.
+        ensures stays { (f : ReadFault) → stopped_of self.old ≡ Some f →
+            (result ≡ Err f) × (self.new ≡ self.old) }
+    {
+        match self.advance() {
+            Ok(Some(_judged)) => self.give(),
+            Ok(None) => Ok(None),
+            Err(fault) => Err(fault),
+        }
+    }
+
+    // The bytes of the message that is lent. Where the memory is not there, the message is kept again.
+    fn give(&mut self) -> Result<Option<Vec<u8, A>>, ReadFault>
+        ensures gives { GivesLent self.old self.new result }
+        ensures unread { ReadsNothing self.old self.new }
+    {
+        if self.reader.taker.is_whole() {
+            return Ok(Some(self.reader.taker.give()));
+        }
+        let lent = self.reader.taker.lent();
+        let start = self.reader.start;
+        let mut bytes = Vec::new(self.alloc);
+        let is_copied = bytes
+            .extend_from_slice(self.reader.buffer.part(start - lent, start))
+            .is_ok();
+        self.reader.taker.begin();
+        if is_copied {
+            return Ok(Some(bytes));
+        }
+        self.reader.done -= lent as u64;
+        self.reader.start -= lent;
+        Err(ReadFault::Memory)
+    }
+}

@@ -1,0 +1,235 @@
+//! Messages from a source, by what takes their bytes.
+ghost use Rattle.std.specs.Prelude.{◌≡◌, ◌≤◌, ◌<◌, ◌+◌, ◌*◌, ◌-◌, ◌^◌, ◌++◌, ℕ, [], List, true, None, Some};
+ghost use Rattle.dbus_stream.specs.Lasting.{is_lasting};
+
+use crate::buffer::Buffer;
+use crate::read_fault::ReadFault;
+use crate::stream_fault::StreamFault;
+use crate::taker::Taker;
+use dbus_device::{DeviceFault, Source};
+use dbus_value::{Fault, Reason};
+
+/// Reads messages from a source, one after another, by a buffer inside it, and gives what its taker makes of
+/// each: a [`crate::MessageReader`] the message, a [`crate::CheckReader`] its length.
+///
+/// It keeps the bytes that it read and did not give in a message yet: what its taker holds, which is at most one message, and
+/// what is left of the buffer. The limits of its messages, and how many reads it makes at most in its life, are those that it
+/// was made with.
+#[derive(Drop)]
+pub struct Reader<R, T, B: Buffer> {
+    source: R,
+    // It holds the bytes of the message under way that came by earlier reads.
+    pub(crate) taker: T,
+    // How many bytes these are.
+    held: u64,
+    // What the last read gave, and which of it is left.
+    pub(crate) buffer: B,
+    pub(crate) start: usize,
+    end: usize,
+    pub(crate) done: u64,
+    reads: u64,
+    most_reads: u64,
+    ended: bool,
+    pub(crate) stopped: Option<ReadFault>,
+    ghost in_order: { start ≤ end },
+    ghost in_buffer: { end ≤ B.room.size },
+    ghost small: { B.room.size ≤ 65536 },
+    ghost few_reads: { reads ≤ most_reads },
+    ghost low_most: { most_reads ≤ 2 ^ 32 },
+    ghost lasting: { is_lasting stopped ≡ true },
+    ghost counted: { done + held + (end - start) ≤ B.room.size * reads },
+}
+
+impl<R: Source, T: Taker, B: Buffer> Reader<R, T, B> {
+    ghost use Rattle.dbus_stream.specs.declared.read_fault.ReadFault.{ReadFault};
+    ghost use Rattle.dbus_device.specs.Device.{ReadCounts, one_more};
+    ghost use Rattle.dbus_stream.specs.Reading.{limits_of, source_of, taker_of, done_of, reads_of, most_reads_of, stopped_of, Keeps, IsNewReader};
+    ghost use Rattle.dbus_stream.specs.Next.{NextAnswers, KeptAnswers, DeviceCounts, Reads, ReadsNothing};
+    ghost use Rattle.dbus_stream.specs.Steps.{IsDrained, TakesAll, Fills, Finishes, GivesUp};
+
+    /// A reader of what the source gives to a taker that holds nothing. It read nothing yet, and makes at most so many reads
+    /// in its life, the one that finds the end of the input among them.
+    pub(crate) fn over(source: R, taker: T, buffer: B, reads: u64) -> Self
+        requires small { B.room.size ≤ 65536 }
+        requires few { reads ≤ 2 ^ 32 }
+        requires nothing { T.known.holds taker [] }
+        ensures new { IsNewReader T.known source reads (T.known.limits taker) result }
+        ensures taker { taker_of result ≡ taker }
+    {
+        Reader {
+            source,
+            taker,
+            held: 0,
+            buffer,
+            start: 0,
+            end: 0,
+            done: 0,
+            reads: 0,
+            most_reads: reads,
+            ended: false,
+            stopped: None,
+        }
+    }
+
+    /// Gives the source back. Bytes that are kept are lost.
+    pub fn into_source(self) -> R
+        ensures { result ≡ source_of self }
+    {
+        self.source
+    }
+
+    /// How many bytes all the messages have that it gave.
+    pub fn done(&self) -> u64
+        ensures { result ≡ done_of self.now }
+    {
+        self.done
+    }
+
+    /// What its taker makes of the next message, or None at the end of the input. Bytes after the message are kept. After
+    /// the end each call answers the same, without reading. A read is made only where no whole message is kept, so a
+    /// message is given at the read that ends it. D-Bus Specification, "Message Protocol".
+    ///
+    /// `Format`: the bytes begin with no message within the limits; or the input ended within one, and then the reason is
+    /// `Truncated`, at their number. `TooManyReads`: as many reads were made as it may make, none of them found the end, and
+    /// no whole message is kept. Both stay for good. `Device`: a read failed in this call. `Memory`: a growth was refused.
+    /// After these two all that was read is kept, and the call may be made again.
+    pub fn next(&mut self) -> Result<Option<T::Given>, ReadFault>
+        // Of what was kept and then read it gives what that begins with.
+        ensures read { (w : List ℕ) → Keeps T.known self.old w →
+            (r : Reads T.known R.left R.calls w self.old self.new) ×
+            (stopped_of self.old ≡ None →
+            NextAnswers T.known (w ++ r.bytes) self.old self.new result) }
+        ensures failed { DeviceCounts (R.failures (source_of self.old))
+            (R.failures (source_of self.new)) result }
+        ensures same_reference { R.reference (source_of self.new) ≡
+            R.reference (source_of self.old) }
+        ensures few { done_of self.new ≤ B.room.size * 2 ^ 32 }
+        // A fault of the bytes stays for good, and so does the number of reads.
+        ensures stays { (f : ReadFault) → stopped_of self.old ≡ Some f →
+            (result ≡ Err f) × (self.new ≡ self.old) }
+    {
+        if let Some(fault) = self.stopped {
+            return Err(fault);
+        }
+        'reading: loop {
+            match self.take_kept() {
+                Ok(Some(given)) => return Ok(Some(given)),
+                Ok(None) => {}
+                Err(fault) => return Err(fault),
+            }
+            if self.ended {
+                return self.finish();
+            }
+            if self.reads >= self.most_reads {
+                return self.give_up();
+            }
+            match self.fill() {
+                Ok(()) => {}
+                Err(DeviceFault) => return Err(ReadFault::Device),
+            }
+        }
+    }
+
+    /// What its taker makes of the next message out of what was read already: no read is made. Bytes after the message are
+    /// kept. None where what is kept begins with no whole message; then `next` goes on from there and reads more.
+    ///
+    /// `Format`: the bytes begin with no message within the limits. It stays for good, and so does a fault that `next`
+    /// answers for good. `Memory`: a growth was refused. Then all that was read is kept, and the call may be made again.
+    pub fn next_kept(&mut self) -> Result<Option<T::Given>, ReadFault>
+        // It gives what the bytes that are kept begin with.
+        ensures kept { (w : List ℕ) → Keeps T.known self.old w → stopped_of self.old ≡ None →
+            KeptAnswers T.known w self.old self.new result }
+        ensures unread { ReadsNothing T.known self.old self.new }
+        ensures failed { DeviceCounts (R.failures (source_of self.old))
+            (R.failures (source_of self.new)) result }
+        ensures few { done_of self.new ≤ B.room.size * 2 ^ 32 }
+        // A fault of the bytes stays for good, and so does the number of reads.
+        ensures stays { (f : ReadFault) → stopped_of self.old ≡ Some f →
+            (result ≡ Err f) × (self.new ≡ self.old) }
+    {
+        if let Some(fault) = self.stopped {
+            return Err(fault);
+        }
+        self.take_kept()
+    }
+
+    // What the end of the input comes to.
+    fn finish(&mut self) -> Result<Option<T::Given>, ReadFault>
+        ensures finishes { Finishes self.old self.new result }
+        ensures unread { ReadsNothing T.known self.old self.new }
+    {
+        if self.held == 0 {
+            return Ok(None);
+        }
+        let fault = ReadFault::Format(Fault {
+            at: self.held,
+            reason: Reason::Truncated,
+        });
+        self.stopped = Some(fault);
+        Err(fault)
+    }
+
+    // What it comes to that no more reads may be made.
+    fn give_up(&mut self) -> Result<Option<T::Given>, ReadFault>
+        ensures gives_up { GivesUp self.old self.new result }
+        ensures unread { ReadsNothing T.known self.old self.new }
+    {
+        self.stopped = Some(ReadFault::TooManyReads);
+        Err(ReadFault::TooManyReads)
+    }
+
+    // What the taker makes of what is left of the buffer. Where no message ends there, it takes all of that.
+    fn take_kept(&mut self) -> Result<Option<T::Given>, ReadFault>
+        requires { stopped_of self.old ≡ None }
+        ensures takes { (w : List ℕ) → Keeps T.known self.old w →
+            KeptAnswers T.known w self.old self.new result }
+        ensures takes_all { TakesAll self.new result }
+        ensures unread { ReadsNothing T.known self.old self.new }
+        ensures no_device { DeviceCounts (R.failures (source_of self.old))
+            (R.failures (source_of self.new)) result }
+    {
+        let piece = self.buffer.part(self.start, self.end);
+        match self.taker.take_piece(self.held, piece) {
+            Ok((count, Some(given))) => {
+                self.start += count;
+                self.done += self.held + count as u64;
+                self.held = 0;
+                Ok(Some(given))
+            }
+            Ok((_, None)) => {
+                self.held += piece.len() as u64;
+                self.start = self.end;
+                Ok(None)
+            }
+            Err(StreamFault::Memory) => Err(ReadFault::Memory),
+            Err(StreamFault::Format(fault)) => {
+                self.stopped = Some(ReadFault::Format(fault));
+                Err(ReadFault::Format(fault))
+            }
+        }
+    }
+
+    // One more read, into the buffer, which has nothing left.
+    fn fill(&mut self) -> Result<(), DeviceFault>
+        requires drained { IsDrained self.old }
+        requires more { reads_of self.old < most_reads_of self.old }
+        ensures fills { Fills R.left self.old self.new result }
+        ensures failed { ReadCounts (R.failures (source_of self.old))
+            (R.failures (source_of self.new)) result }
+        ensures reads { reads_of self.new ≡ reads_of self.old + 1 }
+        ensures called { R.calls (source_of self.new) ≡ one_more (R.calls (source_of self.old)) }
+        ensures same_reference { R.reference (source_of self.new) ≡
+            R.reference (source_of self.old) }
+        ensures most_reads { most_reads_of self.new ≡ most_reads_of self.old }
+        ensures done { done_of self.new ≡ done_of self.old }
+        ensures stopped { stopped_of self.new ≡ stopped_of self.old }
+    {
+        self.reads += 1;
+        self.start = 0;
+        self.end = 0;
+        let count = self.buffer.read_from(&mut self.source)?;
+        self.end = count;
+        self.ended = count == 0;
+        Ok(())
+    }
+}
