@@ -1,9 +1,10 @@
 //! Messages of the D-Bus wire format: what they are, and how they are encoded and decoded. D-Bus Specification, "Message
 //! Protocol".
 //!
-//! One name for six crates: the messages and the relation that spells them (`dbus_message_model`), how they are made of their
-//! parts (`dbus_build`), decoding (`dbus_decode`), encoding (`dbus_encode`), checking in pieces (`dbus_check`) and views that
-//! borrow a message's bytes (`dbus_view`); and the laws that join them.
+//! One name for seven crates: the messages and the relation that spells them (`dbus_message_model`), how they are made of their
+//! parts (`dbus_build`), decoding (`dbus_decode`), encoding (`dbus_encode`), checking in pieces (`dbus_check`), views that
+//! borrow a message's bytes (`dbus_view`), and the values that are seen in them one by one (`dbus_values`); and the laws that
+//! join them.
 #![tactic(auto)]
 
 pub mod laws;
@@ -17,4 +18,5 @@ pub use dbus_encode::{encode, encode_into};
 pub use dbus_message_model::{
     HeaderField, Message, Parts, arg, field, field_code, flag, message_type,
 };
+pub use dbus_values::{Elements, ValueView, Values};
 pub use dbus_view::{ArgPlace, ArgView, MessageView};

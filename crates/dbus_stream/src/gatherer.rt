@@ -70,6 +70,7 @@ impl<A: Allocator + Copy> Gatherer<A> {
     ///
     /// `Format`: the bytes that are held and the piece begin with no message. `Memory`: a growth was refused. Then nothing is
     /// taken.
+    #[inline(always)]
     pub(crate) fn gather(&mut self, piece: &[u8]) -> Result<Option<usize>, StreamFault>
         requires { self.old.whole ≡ false }
         ensures { Gathers self.old piece.now self.new result }

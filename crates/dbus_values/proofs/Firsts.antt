@@ -1,14 +1,16 @@
 -- The first of the values that are left, and the others.
-use Rattle.std.proofs.Common.{◌≡◌, ℕ, ◌+◌, ◌-◌, ◌<◌, ◌≤◌, List, ◌++◌, length, take, take_all, drop, refl, sym, ap, subst, arith}
+use Rattle.std.proofs.Common.{◌≡◌, ℕ, ◌+◌, ◌-◌, ◌<◌, ◌≤◌, List, ◌++◌, length, get_or, take, take_all, drop, refl, sym, ap, subst, ◌∙◌, arith}
 use Rattle.std.proofs.lemmas.List.{length-append, length-drop}
 use Rattle.dbus_texts.specs.Types.{sig, sigs}
 use Rattle.dbus_texts.proofs.TypeTexts.{sig_positive}
 use Rattle.dbus_types.specs.SignatureCodes.{IsTypeEnd}
+use Rattle.dbus_types.proofs.TypeCodes.{begins}
 use Rattle.dbus_value_model.specs.Spelling.{spelling, spellings}
 use Rattle.dbus_value_model.specs.Values.{ValueTree, ValueTrees, NoValues, MoreValues, type_of, types_of}
 use Rattle.dbus_walk.specs.Standing.{Stands, AllStand, ElementsStand}
 use Rattle.dbus_walk.proofs.Enclosed.{stands_positive}
 use Rattle.dbus_walk.proofs.Lists.{first_element, other_elements, first_value, other_values, none_ends, some_ends}
+use Rattle.dbus_values.specs.Seen.{IsFirstCode}
 use Rattle.dbus_values.specs.States.{ValuesState, AreLeft, ElementsState, ElementsAreLeft}
 
 -- ---- elements of an array
@@ -35,6 +37,11 @@ element_of e (MoreValues x us) rest l some = record { x = x; us = us; begins = r
 pub no_values : (s : ValuesState) (xs : ValueTrees) (rest : List ℕ) → AreLeft s xs rest → length s.types ≡ 0 → xs ≡ NoValues
 no_values s NoValues rest l none = refl
 no_values s (MoreValues x us) rest l none = absurd (omega (arith, ap length l.text, none, length-append (sig (type_of x)) (sigs (types_of us)), sig_positive (type_of x)))
+
+-- the first type begins with the first code
+pub first_coded : (s : ValuesState) (xs : ValueTrees) (rest : List ℕ) → AreLeft s xs rest → 0 < length s.types → IsFirstCode xs (get_or s.types 0 0)
+first_coded s NoValues rest l some = absurd (omega (arith, some, ap length l.text))
+first_coded s (MoreValues x us) rest l some = (x, us, refl, ap (λ (t : List ℕ). get_or t 0 0) (ap (λ (t : List ℕ). t ++ sigs (types_of us)) (sym (begins (type_of x))) ∙ l.text))
 
 -- the first type ends at `end`
 pub record FirstValue (s : ValuesState) (xs : ValueTrees) (rest : List ℕ) (end : ℕ) : Type 0 where

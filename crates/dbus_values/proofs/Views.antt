@@ -1,23 +1,24 @@
 -- How values are seen where they stand.
-use Rattle.std.proofs.Common.{◌≡◌, ℕ, ◌+◌, ◌-◌, ◌≤◌, List, ◌∷◌, length, get_or, take, take_all, drop, IsUtf8, refl, sym, ap, subst, ◌∙◌, arith}
-use Rattle.std.proofs.lemmas.List.{length-drop}
-use Rattle.dbus_texts.specs.Types.{NumberCode, TextCode, STRING, OBJECT_PATH, SIGNATURE, TypeTree, NumberType, TextType, number_code, text_code, sig}
+use Rattle.std.proofs.Common.{◌≡◌, ℕ, ◌+◌, ◌-◌, ◌≤◌, List, [], ◌∷◌, ◌++◌, length, get_or, take, false, take_all, drop, IsUtf8, refl, sym, ap, subst, ◌∙◌, arith, ◌⊎◌, inl, inr}
+use Rattle.std.proofs.lemmas.List.{append-nil, length-append, length-drop}
+use Rattle.dbus_texts.specs.Types.{NumberCode, TextCode, STRING, OBJECT_PATH, SIGNATURE, TypeTree, NumberType, TextType, number_code, text_code, sig, sigs, IsShaped}
+use Rattle.dbus_texts.proofs.TypeTexts.{shaped_of}
 use Rattle.dbus_types.specs.Alignments.{width, length_width}
 use Rattle.dbus_types.specs.SignatureCodes.{first_code}
 use Rattle.dbus_types.proofs.TypeCodes.{code_is, text_is}
+use Rattle.dbus_value_model.specs.declared.order.Order.{Order}
 use Rattle.dbus_value_model.specs.Reading.{number_of}
-use Rattle.dbus_value_model.specs.Values.{ValueTree, ValueTrees, NumberValue, TextValue, VariantValue, ArrayValue, StructValue, EntryValue, type_of, IsNumber, IsWellFormed}
+use Rattle.dbus_value_model.specs.Spelling.{spelling}
+use Rattle.dbus_value_model.specs.Values.{ValueTree, ValueTrees, NumberValue, TextValue, ArrayValue, StructValue, EntryValue, NoValues, MoreValues, type_of, types_of, IsNumber, IsWellFormed}
 use Rattle.dbus_walk.specs.declared.spot.Source.{Source}
 use Rattle.dbus_walk.specs.declared.spot.Spot.{Spot}
-use Rattle.dbus_walk.specs.declared.container.Container.TheVariants as kind
-use Rattle.dbus_walk.specs.Containers.{IsOf, parts}
-use Rattle.dbus_walk.specs.Layouts.{IsNumberAt, IsTextAt, of_elements}
-use Rattle.dbus_walk.specs.Standing.{StandsAt}
+use Rattle.dbus_walk.specs.Layouts.{IsNumberAt, IsTextAt, IsVariantAt, of_elements}
+use Rattle.dbus_walk.specs.Standing.{Stands, AllStand, StandsAt}
+use Rattle.dbus_walk.proofs.Enclosed.{stands_positive}
+use Rattle.dbus_walk.proofs.Seams.{there_within}
 use Rattle.dbus_walk.proofs.ReadThere.{formed_utf8}
-use Rattle.dbus_values.specs.States.{ValuesState, AreLeft}
 use Rattle.dbus_values.specs.Seen.{IsSeen}
 use Rattle.dbus_values.specs.declared.view.ValueView.{ValueView}
-use Rattle.dbus_values.specs.declared.view.ValueView.TheVariants as view
 
 path_left : (k : TextCode) → length_width k ≡ 4 → (text_code k ≡ 115 → ⊥) → k ≡ OBJECT_PATH
 path_left STRING wide not = absurd (not refl)
@@ -29,40 +30,19 @@ signature_left STRING wide = absurd (omega (arith, wide))
 signature_left OBJECT_PATH wide = absurd (omega (arith, wide))
 signature_left SIGNATURE wide = refl
 
--- ---- containers whose parts are left
-
-pub variant_seen : (v : ValueTree) (rest : List ℕ) (left : ValuesState) → IsOf kind.Variant v → AreLeft left (parts v) rest → IsSeen (view.Variant left) v
-variant_seen (NumberValue k n) rest left is l = absurd is
-variant_seen (TextValue k t) rest left is l = absurd is
-variant_seen (VariantValue x) rest left is l = (x, rest, refl, l)
-variant_seen (ArrayValue t xs) rest left is l = absurd is
-variant_seen (StructValue xs) rest left is l = absurd is
-variant_seen (EntryValue x y) rest left is l = absurd is
-
--- a variant's own type has one byte
-pub variant_short : (v : ValueTree) (types : List ℕ) → IsOf kind.Variant v → sig (type_of v) ≡ types → length types ≡ 1
-variant_short (NumberValue k n) types is text = absurd is
-variant_short (TextValue k t) types is text = absurd is
-variant_short (VariantValue x) types is text = ap length (sym text)
-variant_short (ArrayValue t xs) types is text = absurd is
-variant_short (StructValue xs) types is text = absurd is
-variant_short (EntryValue x y) types is text = absurd is
-
-pub struct_seen : (v : ValueTree) (rest : List ℕ) (left : ValuesState) → IsOf kind.Struct v → AreLeft left (parts v) rest → IsSeen (view.Struct left) v
-struct_seen (NumberValue k n) rest left is l = absurd is
-struct_seen (TextValue k t) rest left is l = absurd is
-struct_seen (VariantValue x) rest left is l = absurd is
-struct_seen (ArrayValue t xs) rest left is l = absurd is
-struct_seen (StructValue xs) rest left is l = (xs, rest, refl, l)
-struct_seen (EntryValue x y) rest left is l = absurd is
-
-pub entry_seen : (v : ValueTree) (rest : List ℕ) (left : ValuesState) → IsOf kind.Entry v → AreLeft left (parts v) rest → IsSeen (view.Entry left) v
-entry_seen (NumberValue k n) rest left is l = absurd is
-entry_seen (TextValue k t) rest left is l = absurd is
-entry_seen (VariantValue x) rest left is l = absurd is
-entry_seen (ArrayValue t xs) rest left is l = absurd is
-entry_seen (StructValue xs) rest left is l = absurd is
-entry_seen (EntryValue x y) rest left is l = (x, y, rest, refl, l)
+-- one value that stands there is all of some
+one_left : {order : Order} {room : ℕ} {types : List ℕ} {at : ℕ} {bytes : List ℕ} {v : ValueTree} {rest : List ℕ} → Stands order room types at bytes v rest → IsShaped false (type_of v) → AllStand order room types at bytes (MoreValues v NoValues) rest
+unfolding spelling
+one_left {order} {room} {types} {at} {bytes} {v} {rest} s shaped = record {
+  text = append-nil (sig (type_of v)) ∙ s.text;
+  shaped = (shaped, tt);
+  formed = (s.formed, tt);
+  array = s.array;
+  small = s.small;
+  within = (s.within, tt);
+  spelled = s.spelled ∙ ap (λ (l : List ℕ). l ++ rest) (sym (append-nil (spelling order at v)));
+  inside = omega (arith, there_within at (spelling order at v) rest bytes s.spelled (stands_positive order v at s.shaped));
+}
 
 module _ (source : Source) (spot : Spot) (v : ValueTree) (rest : List ℕ) (s : StandsAt source spot v rest) where
   coded : first_code (type_of v) ≡ get_or spot.types.now 0 0
@@ -77,13 +57,13 @@ module _ (source : Source) (spot : Spot) (v : ValueTree) (rest : List ℕ) (s : 
     pub number_inside : (k : NumberCode) → number_code k ≡ get_or spot.types.now 0 0 → start + width k ≤ length source.bytes.now
     number_inside k e = omega (arith, p.inside, p.widths (NumberType k) e)
 
-    pub number_seen : (seen_as : ValueView)
-        → ((k : NumberCode) (n : ℕ) → number_code k ≡ get_or spot.types.now 0 0 → IsNumber k n → number_of source.order (take (width k) (drop start source.bytes.now)) ≡ n → IsSeen seen_as (NumberValue k n))
-        → IsSeen seen_as v
-    number_seen seen_as seen =
+    pub number_seen : (view : ValueView)
+        → ((k : NumberCode) (n : ℕ) → number_code k ≡ get_or spot.types.now 0 0 → IsNumber k n → number_of source.order (take (width k) (drop start source.bytes.now)) ≡ n → IsSeen view (NumberValue k n))
+        → IsSeen view v
+    number_seen view seen =
         let formed : IsNumber p.code p.n = subst (λ (u : ValueTree). IsWellFormed spot.room u) p.is s.formed in
         let read : number_of source.order (take (width p.code) (drop start source.bytes.now)) ≡ p.n = ap (λ (k : ℕ). number_of source.order (take k (drop start source.bytes.now))) p.wide ∙ p.read in
-        subst (λ (u : ValueTree). IsSeen seen_as u) (sym p.is) (seen p.code p.n number_coded formed read)
+        subst (λ (u : ValueTree). IsSeen view u) (sym p.is) (seen p.code p.n number_coded formed read)
 
   -- ---- texts
 
@@ -109,9 +89,23 @@ module _ (source : Source) (spot : Spot) (v : ValueTree) (rest : List ℕ) (s : 
     pub signature_seen : (t : List ℕ) → size ≡ 1 → t ≡ take n (drop (start + size) source.bytes.now) → v ≡ TextValue SIGNATURE t
     signature_seen t one read = text_seen SIGNATURE t (signature_left p.code (p.wide ∙ one)) read
 
-  -- ---- arrays
+  -- ---- containers
+
+  pub variant_left : (types : List ℕ) (at : ℕ) (p : IsVariantAt source spot v rest types at) → AllStand source.order (spot.room - 1) types at source.bytes.now (MoreValues p.x NoValues) rest
+  variant_left types at p = one_left p.held (shaped_of (type_of p.x) false 0 0 p.single.0)
 
   pub array_type : (t : TypeTree) (xs : ValueTrees) → v ≡ ArrayValue t xs → sig t ≡ of_elements spot.types.now
   array_type t xs is =
       let whole : 97 ∷ sig t ≡ spot.types.now = ap (λ (u : ValueTree). sig (type_of u)) (sym is) ∙ s.text in
       ap (λ (l : List ℕ). drop 1 l) whole ∙ sym (take_all (length spot.types.now - 1) (drop 1 spot.types.now) (omega (arith, length-drop 1 spot.types.now)))
+
+  -- brackets stand around the types of parts
+  pub parts_long : ((xs : ValueTrees) × (v ≡ StructValue xs)) ⊎ ((x : ValueTree) × (y : ValueTree) × (v ≡ EntryValue x y)) → 2 ≤ length spot.types.now
+  parts_long (inl (xs, is)) =
+      let whole : 40 ∷ (sigs (types_of xs) ++ 41 ∷ []) ≡ spot.types.now = ap (λ (u : ValueTree). sig (type_of u)) (sym is) ∙ s.text in
+      omega (arith, ap length whole, length-append (sigs (types_of xs)) (41 ∷ []))
+  parts_long (inr (x, y, is)) =
+      let t = sig (type_of x) in
+      let u = sig (type_of y) in
+      let whole : 123 ∷ (t ++ (u ++ 125 ∷ [])) ≡ spot.types.now = ap (λ (w : ValueTree). sig (type_of w)) (sym is) ∙ s.text in
+      omega (arith, ap length whole, length-append t (u ++ 125 ∷ []), length-append u (125 ∷ []))

@@ -3,9 +3,9 @@
 use Rattle.std.specs.Prelude.{◌≡◌, ℕ, List, if◌then◌else◌}
 use Rattle.std.specs.Int.{cast_unsigned, w16, w32, w64}
 use Rattle.dbus_texts.specs.Types.{BYTE, BOOLEAN, INT16, UINT16, INT32, UINT32, INT64, UINT64, DOUBLE, UNIX_FD, STRING, OBJECT_PATH, SIGNATURE, TypeTree, sig}
-use Rattle.dbus_value_model.specs.Values.{ValueTree, ValueTrees, NumberValue, TextValue, VariantValue, ArrayValue, StructValue, EntryValue, NoValues, MoreValues}
-use Rattle.dbus_walk.specs.Layouts.{weight}
-use Rattle.dbus_values.specs.States.{ValuesState, AreLeft, ElementsState, ElementsAreLeft}
+use Rattle.dbus_types.specs.SignatureCodes.{first_code}
+use Rattle.dbus_value_model.specs.Values.{ValueTree, ValueTrees, NumberValue, TextValue, VariantValue, ArrayValue, StructValue, EntryValue, NoValues, MoreValues, type_of}
+use Rattle.dbus_values.specs.States.{ValuesState, AreLeft, ElementsState, ElementsAreLeft, weight}
 use Rattle.dbus_values.specs.declared.view.ValueView.{ValueView}
 use Rattle.dbus_values.specs.declared.view.ValueView.TheVariants as view
 
@@ -33,6 +33,10 @@ IsSeen (view.Variant s) v = (x : ValueTree) × (rest : List ℕ) × (v ≡ Varia
 -- the first of some trees is seen so, and the others are left
 abbrev pub IsFirst : ValuesState → ValueTrees → (rest : List ℕ) → ValueView → Type 0
 IsFirst left xs rest seen = (x : ValueTree) × (us : ValueTrees) × (xs ≡ MoreValues x us) × IsSeen seen x × AreLeft left us rest
+
+-- the type of the first of some trees begins with the code
+abbrev pub IsFirstCode : ValueTrees → (code : ℕ) → Type 0
+IsFirstCode xs code = (x : ValueTree) × (us : ValueTrees) × (xs ≡ MoreValues x us) × (first_code (type_of x) ≡ code)
 
 abbrev pub IsFirstElement : ElementsState → ValueTrees → (rest : List ℕ) → ValueView → Type 0
 IsFirstElement left xs rest seen = (x : ValueTree) × (us : ValueTrees) × (xs ≡ MoreValues x us) × IsSeen seen x × ElementsAreLeft left us rest

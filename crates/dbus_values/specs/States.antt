@@ -1,8 +1,9 @@
 -- Values of a message that are still to be seen, and which trees stand there.
 -- D-Bus Specification, "Marshaling (Wire Format)".
-use Rattle.std.specs.Prelude.{◌≡◌, ℕ, ◌-◌, ◌<◌, ◌≤◌, List, length}
+use Rattle.std.specs.Prelude.{◌≡◌, ℕ, ◌+◌, ◌-◌, ◌*◌, ◌<◌, ◌≤◌, List, length}
 use Rattle.dbus_value_model.specs.declared.order.Order.{Order}
-use Rattle.dbus_value_model.specs.Values.{ValueTrees}
+use Rattle.dbus_value_model.specs.Spelling.{spelling}
+use Rattle.dbus_value_model.specs.Values.{ValueTree, ValueTrees}
 use Rattle.dbus_walk.specs.Standing.{AllStand, ElementsStand}
 
 -- several values: the bytes of the message and their order, where the first value begins, the types that are left, and how many
@@ -22,6 +23,10 @@ AreLeft s xs rest = AllStand s.order s.room s.types s.at s.bytes xs rest
 abbrev pub SomeAreLeft : ValuesState → Type 0
 SomeAreLeft s = (length s.types ≤ 255) × (xs : ValueTrees) × (rest : List ℕ) × AreLeft s xs rest
 
+-- the values after one are left, in the same bytes: they begin where its spelling ends
+abbrev pub IsAfter : ValuesState → ValueTree → ValuesState → Type 0
+IsAfter before x left = (left.order ≡ before.order) × (left.bytes ≡ before.bytes) × (left.at ≡ before.at + length (spelling before.order before.at x))
+
 -- elements of an array, up to an end, all of one type
 pub record ElementsState : Type 0 where
   pub order : Order
@@ -36,6 +41,11 @@ ElementsAreLeft s xs rest = ElementsStand s.order s.room s.type s.at s.end s.byt
 
 abbrev pub SomeElementsAreLeft : ElementsState → Type 0
 SomeElementsAreLeft s = (length s.type ≤ 255) × (xs : ValueTrees) × (rest : List ℕ) × ElementsAreLeft s xs rest
+
+-- An array, a struct or a variant takes one of the room for the values in it, and what is in a dict entry has a shorter signature.
+-- So this number is less for what is in a value than for the value.
+abbrev pub weight : (room : ℕ) (types : List ℕ) → ℕ
+weight room types = 256 * room + length types
 
 -- fewer values are left, and they may have as many open containers
 abbrev pub AreFewer : ValuesState → ValuesState → Type 0

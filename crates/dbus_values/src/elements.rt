@@ -44,8 +44,7 @@ impl<'a> Model for Elements<'a> {
 }
 
 impl<'a> Elements<'a> {
-    ghost use Rattle.dbus_values.specs.States.{AreFewerElements, ElementsAreLeft, SomeElementsAreLeft};
-    ghost use Rattle.dbus_walk.specs.Layouts.{weight};
+    ghost use Rattle.dbus_values.specs.States.{AreFewerElements, ElementsAreLeft, SomeElementsAreLeft, weight};
     ghost use Rattle.dbus_values.specs.Seen.{IsFirstElement, weight_in};
 
     /// The elements of a run in the bytes, which have this type. So many containers may be open in each.

@@ -3,9 +3,10 @@
 
 ghost use Rattle.std.specs.Prelude.{◌≡◌, ◌<◌, ◌≤◌, ℕ, List, length};
 ghost use Rattle.dbus_value_model.specs.Values.{ValueTree};
-ghost use Rattle.dbus_walk.specs.Layouts.{IsLaidOut, weight};
+ghost use Rattle.dbus_walk.specs.Layouts.{IsLaidOut};
 ghost use Rattle.dbus_walk.specs.Standing.{StandsAt, StandsThere, end_of};
 ghost use Rattle.dbus_values.specs.Seen.{IsSeen, weight_in};
+ghost use Rattle.dbus_values.specs.States.{weight};
 
 use crate::seeing::view_of;
 use crate::view::ValueView;

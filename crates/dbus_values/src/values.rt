@@ -2,7 +2,7 @@
 #![tactic(auto)]
 
 ghost use Rattle.std.specs.Prelude.{◌≡◌, ◌<◌, ◌≤◌, ℕ, List, length, IfSome, MatchOption};
-ghost use Rattle.dbus_value_model.specs.Values.{ValueTrees, NoValues};
+ghost use Rattle.dbus_value_model.specs.Values.{ValueTree, ValueTrees, NoValues, MoreValues};
 
 use crate::passing::pass;
 use crate::view::ValueView;
@@ -43,9 +43,8 @@ impl<'a> Model for Values<'a> {
 }
 
 impl<'a> Values<'a> {
-    ghost use Rattle.dbus_values.specs.States.{AreFewer, AreLeft, SomeAreLeft};
-    ghost use Rattle.dbus_walk.specs.Layouts.{weight};
-    ghost use Rattle.dbus_values.specs.Seen.{IsFirst, weight_in};
+    ghost use Rattle.dbus_values.specs.States.{AreFewer, AreLeft, IsAfter, SomeAreLeft, weight};
+    ghost use Rattle.dbus_values.specs.Seen.{IsFirst, IsFirstCode, weight_in};
 
     /// The values that stand in the bytes from `at` on, one of each type of the signature. So many containers may be open in them.
     pub fn new(source: &Source<'a>, at: usize, types: &'a [u8], room: u8) -> Values<'a>
@@ -84,11 +83,32 @@ impl<'a> Values<'a> {
         }
     }
 
+    /// The offset in the bytes where the first of the values begins, padding with it, or where the last one ended.
+    pub fn at(&self) -> usize
+        ensures { result ≡ self.now.at }
+    {
+        self.at
+    }
+
+    /// The first code of the first value's type, as `a` of an array. `None` if there are no values.
+    /// D-Bus Specification, "Type System".
+    pub fn first_code(&self) -> Option<u8>
+        ensures { (xs : ValueTrees) (rest : List ℕ) → AreLeft self.now xs rest →
+            MatchOption result (xs ≡ NoValues) (λ code. IsFirstCode xs code) }
+    {
+        if self.types.is_empty() {
+            return None;
+        }
+        Some(self.types[0])
+    }
+
     /// The first of the values, which are then the others. `None` if there are none.
     pub fn next(&mut self) -> Option<ValueView<'a>>
         ensures first { (xs : ValueTrees) (rest : List ℕ) → AreLeft self.old xs rest →
             MatchOption result ((xs ≡ NoValues) × AreLeft self.new xs rest)
             (λ seen. IsFirst self.new xs rest seen) }
+        ensures after { (x : ValueTree) (us : ValueTrees) (rest : List ℕ) →
+            AreLeft self.old (MoreValues x us) rest → IsAfter self.old x self.new }
         ensures fewer { IfSome result (λ seen.
             (weight_in seen < weight self.old.room self.old.types) × AreFewer self.new self.old) }
     {

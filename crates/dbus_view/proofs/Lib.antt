@@ -3,5 +3,5 @@ mod Whole
 mod KnownFields
 mod BodyThere
 mod Faults
-mod Walks
+mod Numbered
 mod ArgTexts

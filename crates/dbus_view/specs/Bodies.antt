@@ -1,23 +1,23 @@
 -- The values of a body, and where each stands.
 -- D-Bus Specification, "Message Format", "Marshaling (Wire Format)".
-use Rattle.std.specs.Prelude.{◌≡◌, ℕ, zero, suc, ◌+◌, ◌≤◌, List, length, take, drop, Option, Some, IsUtf8}
-use Rattle.dbus_texts.specs.Types.{STRING, OBJECT_PATH, SIGNATURE}
+use Rattle.std.specs.Prelude.{◌≡◌, ℕ, zero, suc, ◌+◌, ◌≤◌, List, length, take, drop, Option, Some}
+use Rattle.dbus_texts.specs.Types.{STRING, OBJECT_PATH, SIGNATURE, sig}
 use Rattle.dbus_types.specs.Alignments.{length_width}
 use Rattle.dbus_value_model.specs.Bytes.{gap_to}
 use Rattle.dbus_value_model.specs.declared.order.Order.{Order}
 use Rattle.dbus_value_model.specs.Spelling.{spelling, spellings}
 use Rattle.dbus_value_model.specs.Values.{ValueTree, ValueTrees, NoValues, MoreValues, TextValue, type_of}
 use Rattle.dbus_types.specs.SignatureCodes.{first_code}
-use Rattle.dbus_types.specs.TypeLengths.{AreLengths}
 use Rattle.dbus_message_model.specs.Lookups.{body_value}
-use Rattle.dbus_message_model.specs.Messages.{MessageTree, body_start}
+use Rattle.dbus_message_model.specs.Messages.{MessageTree, body_start, body_signature}
+use Rattle.dbus_values.specs.Seen.{IsSeen}
+use Rattle.dbus_values.specs.States.{ValuesState}
+use Rattle.dbus_view.specs.Views.{ViewState}
+use Rattle.dbus_view.specs.declared.arg.Arg.{Arg}
 use Rattle.dbus_view.specs.declared.arg_place.ArgPlace.{ArgPlace}
 use Rattle.dbus_view.specs.declared.arg_view.ArgView.{ArgView}
 use Rattle.dbus_view.specs.declared.arg_view.ArgView.TheVariants as view
-use Rattle.dbus_view.specs.declared.values.Found.{Found}
-use Rattle.dbus_walk.specs.Standing.{Stands, AllStandAt}
-use Rattle.dbus_walk.specs.declared.spot.Source.{Source}
-use Rattle.dbus_walk.specs.declared.spot.Spot.{Spot}
+use Rattle.dbus_walk.specs.Standing.{Stands}
 
 -- the value is no text, and its type begins with the code
 abbrev pub IsOther : ℕ → ValueTree → Type 0
@@ -63,34 +63,20 @@ IsPlaceThere order m n bytes p =
     (x : ValueTree) × (body_value n m.body ≡ Some x) × (first_code (type_of x) ≡ p.code)
     × IsTextPlace bytes (value_start order (body_start order m.fields) n m.body) x p
 
--- a value stands there, and its type begins with the code
-pub record IsFound (order : Order) (bytes : List ℕ) (x : ValueTree) (s : Found) : Type 0 where
+-- the values of a message's body, none of them seen yet: they begin after the header, have the types of the body's signature, and
+-- as many containers may be open in each as the limits allow
+abbrev pub all_values : ViewState → Order → MessageTree → ValuesState
+all_values v order m = record { order = order; bytes = v.bytes; at = body_start order m.fields; types = body_signature m.fields; room = v.limits.depth }
+
+-- it is what was found of a value that stands at an offset: how it is seen, the first code of its type, and the offset after it
+pub record IsFound (order : Order) (bytes : List ℕ) (from : ℕ) (x : ValueTree) (a : Arg) : Type 0 where
   pub room : ℕ
-  pub types : List ℕ
   pub rest : List ℕ
-  pub stands : Stands order room types s.start bytes x rest
-  pub after : s.after ≡ s.start + length (spelling order s.start x)
-  pub code : first_code (type_of x) ≡ s.code
+  pub stands : Stands order room (sig (type_of x)) from bytes x rest
+  pub seen : IsSeen a.seen x
+  pub code : first_code (type_of x) ≡ a.code
+  pub after : a.after ≡ from + length (spelling order from x)
 
--- it is the first of some values that stand at a spot, and the others stand at another, which notes how long their types are
-pub record IsFirst (source : Source) (spot : Spot) (xs : ValueTrees) (rest : List ℕ) (s : Found) (others : Spot) : Type 0 where
-  pub x : ValueTree
-  pub us : ValueTrees
-  pub begins : xs ≡ MoreValues x us
-  pub found : IsFound source.order source.bytes.now x s
-  pub starts : s.start ≡ spot.at
-  pub left : AllStandAt source others us rest
-  pub noted : AreLengths others.types.now others.lengths.now
-  pub next : others.at ≡ s.after
-
--- value n of some that begin at an offset is there, and stands there
-abbrev pub StandsThere : Order → List ℕ → (at n : ℕ) → ValueTrees → Found → Type 0
-StandsThere order bytes at n xs s =
-    (x : ValueTree) × (body_value n xs ≡ Some x) × IsFound order bytes x s × (s.start ≡ value_start order at n xs)
-
--- a text with its length, in so many bytes, before it, and one byte after it, has those bytes
-pub record IsTextIn (bytes : List ℕ) (width start after : ℕ) (t : List ℕ) : Type 0 where
-  pub after_is : after ≡ start + gap_to width start + width + length t + 1
-  pub inside : after ≤ length bytes
-  pub text : t ≡ take (length t) (drop (start + gap_to width start + width) bytes)
-  pub utf8 : IsUtf8 t
+-- value n of some that are left is there, and it is what was found of it
+abbrev pub IsNumbered : ValuesState → (n : ℕ) → ValueTrees → Arg → Type 0
+IsNumbered s n xs a = (x : ValueTree) × (body_value n xs ≡ Some x) × IsFound s.order s.bytes (value_start s.order s.at n xs) x a

@@ -4,10 +4,10 @@
 //! that it gives are the message's own bytes, so the bytes stay as they are while one of them is in use.
 #![tactic(auto)]
 
+mod arg;
 mod arg_place;
 mod arg_view;
 mod fault;
-mod values;
 mod view;
 
 pub use arg_place::ArgPlace;

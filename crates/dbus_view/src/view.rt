@@ -1,7 +1,7 @@
 //! A view of a message. D-Bus Specification, "Message Format".
 #![tactic(auto)]
 
-ghost use Rattle.std.specs.Prelude.{◌≡◌, ℕ, length, Some, None, IsOk, IfOk, IfErr, MatchOption};
+ghost use Rattle.std.specs.Prelude.{◌≡◌, ℕ, [], length, Some, None, IsOk, IfOk, IfErr, MatchOption};
 ghost use Rattle.dbus_texts.specs.Types.{UINT32, STRING, OBJECT_PATH};
 ghost use Rattle.dbus_value_model.specs.Values.{NumberValue, TextValue};
 ghost use Rattle.dbus_value_model.specs.declared.order.Order.{Order};
@@ -11,17 +11,18 @@ ghost use Rattle.dbus_message_model.specs.Lookups.{field_value, body_value};
 ghost use Rattle.dbus_decode.specs.MessageOutcomes.{IsWhole};
 ghost use Rattle.dbus_judge.specs.Judging.{IsJudged};
 
+use crate::arg::{arg_at, place_of, view_of};
 use crate::arg_place::ArgPlace;
 use crate::arg_view::ArgView;
 use crate::fault::fault_of;
-use crate::values::{found_in, found_text, text_place};
 use dbus_judge::{Judged, judge};
 use dbus_message_model::field_code::{
     DESTINATION, ERROR_NAME, INTERFACE, MEMBER, PATH, REPLY_SERIAL, SENDER,
 };
 use dbus_value_model::{Fault, Limits, Order, Reason};
+use dbus_values::Values;
+use dbus_walk::{Source, text_in};
 use std::marker::Model;
-use std::str;
 
 /// A view of a message, which borrows its bytes. D-Bus Specification, "Message Format".
 ///
@@ -46,7 +47,8 @@ impl<'a> Model for MessageView<'a> {
 }
 
 impl<'a> MessageView<'a> {
-    ghost use Rattle.dbus_view.specs.Bodies.{IsArgThere, IsPlaceThere};
+    ghost use Rattle.dbus_values.specs.States.{AreLeft};
+    ghost use Rattle.dbus_view.specs.Bodies.{IsArgThere, IsPlaceThere, all_values};
     ghost use Rattle.dbus_view.specs.Fields.{WantsText, IsTextOf};
     ghost use Rattle.dbus_view.specs.Opening.{IsViewFault};
     ghost use Rattle.dbus_view.specs.Views.{Views, ViewsOne, IsViewOf};
@@ -147,9 +149,7 @@ impl<'a> MessageView<'a> {
             IsTextOf (want code) (field_value code m.fields) s.now) }
     {
         let place = self.judged.fields.get(code)?;
-        let text = place.text(self.bytes);
-        // The bytes were judged, so UTF-8 is not looked for again.
-        Some(unsafe { str::from_utf8_unchecked(text) })
+        Some(text_in(self.bytes, place.start as usize, place.length as usize))
     }
 
     /// The PATH field, if there is one. D-Bus Specification, "Header Fields".
@@ -216,6 +216,31 @@ impl<'a> MessageView<'a> {
         self.text(SENDER)
     }
 
+    /// The values of the body, none of them seen yet. D-Bus Specification, "Message Format".
+    ///
+    /// The values of a `NameOwnerChanged` signal are three texts: a name, its old owner and its new one. This prints them:
+    ///
+    /// ```text
+    /// let mut values = view.body();
+    /// for _ in 0..3 {
+    ///     if let Some(ValueView::Str(text)) = values.next() {
+    ///         println!(rt; "{text}")?;
+    ///     }
+    /// }
+    /// ```
+    pub fn body(&self) -> Values<'a>
+        ensures all { (order : Order) (m : MessageTree) → Views self.now order m → result ≡ all_values self.now order m }
+        ensures left { (order : Order) (m : MessageTree) → Views self.now order m → AreLeft result m.body [] }
+        ensures one { ViewsOne self.now }
+    {
+        let source = Source {
+            bytes: self.bytes,
+            order: self.judged.order,
+        };
+        let types = self.judged.fields.signature(self.bytes);
+        Values::new(&source, self.judged.body, types, self.limits.depth)
+    }
+
     /// Value `n` of the body, counted from 0, if there are so many. The values before it are passed over.
     /// D-Bus Specification, "Message Format".
     pub fn arg(&self, n: usize) -> Option<ArgView<'a>>
@@ -223,14 +248,8 @@ impl<'a> MessageView<'a> {
             MatchOption result (body_value n m.body ≡ None) (λ a.
             IsArgThere (body_value n m.body) a) }
     {
-        let bytes = self.bytes;
-        let found = found_in(bytes, self.limits, &self.judged, n)?;
-        match found.code {
-            b's' => Some(ArgView::Str(found_text(bytes, found, 4))),
-            b'o' => Some(ArgView::Path(found_text(bytes, found, 4))),
-            b'g' => Some(ArgView::Sig(found_text(bytes, found, 1))),
-            code => Some(ArgView::Other(code)),
-        }
+        let arg = arg_at(self.body(), n)?;
+        Some(view_of(arg))
     }
 
     /// Where the text of value `n` of the body stands in the bytes, the values counted from 0, and the first code of its type, if
@@ -240,17 +259,7 @@ impl<'a> MessageView<'a> {
             MatchOption result (body_value n m.body ≡ None) (λ p.
             IsPlaceThere order m n self.now.bytes p) }
     {
-        let bytes = self.bytes;
-        let found = found_in(bytes, self.limits, &self.judged, n)?;
-        match found.code {
-            b's' => Some(text_place(bytes, found, 4)),
-            b'o' => Some(text_place(bytes, found, 4)),
-            b'g' => Some(text_place(bytes, found, 1)),
-            code => Some(ArgPlace {
-                code,
-                start: 0,
-                length: 0,
-            }),
-        }
+        let arg = arg_at(self.body(), n)?;
+        Some(place_of(arg))
     }
 }

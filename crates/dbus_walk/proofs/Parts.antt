@@ -20,7 +20,7 @@ use Rattle.dbus_walk.proofs.Seams.{there_within, stands_after}
 
 -- ---- which type it is
 
-pub some_bytes : (k : NumberCode) → 0 < width k
+some_bytes : (k : NumberCode) → 0 < width k
 some_bytes BYTE = omega arith
 some_bytes BOOLEAN = omega arith
 some_bytes INT16 = omega arith

@@ -1,5 +1,5 @@
 -- Values one after another of which the first are walked: those that are left.
-use Rattle.std.proofs.Common.{◌≡◌, ℕ, ◌+◌, ◌-◌, ◌<◌, ◌≤◌, List, [], ◌∷◌, ◌++◌, length, take, drop, Bool, true, false, refl, sym, ap, subst, ◌∙◌, arith, append_assoc}
+use Rattle.std.proofs.Common.{◌≡◌, ℕ, ◌+◌, ◌-◌, ◌<◌, ◌≤◌, List, [], ◌∷◌, ◌++◌, length, take, drop, Bool, true, false, refl, sym, ap, subst, ◌∙◌, arith, append_assoc, Result, IfOk}
 use Rattle.std.proofs.lemmas.List.{length-append, length-drop, append-nil}
 use Rattle.dbus_texts.specs.Types.{sig, sigs}
 use Rattle.dbus_texts.proofs.TypeTexts.{sig_positive}
@@ -183,3 +183,7 @@ more_taken {order = order} {at = at} {place = place} M' done v q t after m =
 pub starts : (order : Order) (q : ℕ) → q ≡ q + length (spellings order q (value_trees []))
 unfolding spellings
 starts order q = omega arith
+
+-- what was made of a value, and where it ends
+pub made_of : {X E : Type 0} (r : Result (X × ℕ) E) (P : ValueTree → X → Type 0) {u v : ValueTree} {q end : ℕ} → u ≡ v → q ≡ end → IfOk r (λ x. P u x.0 × (x.1 ≡ q)) → IfOk r (λ x. P v x.0 × (x.1 ≡ end))
+made_of r P {u} {v} {q} {end} is ends h = subst (λ (k : ℕ). IfOk r (λ x. P v x.0 × (x.1 ≡ k))) ends (subst (λ (w : ValueTree). IfOk r (λ x. P w x.0 × (x.1 ≡ q))) is h)

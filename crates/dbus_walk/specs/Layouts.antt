@@ -1,18 +1,16 @@
 -- How a value is laid out: what it is, and where its number, its text or its parts stand.
 -- D-Bus Specification, "Marshaling (Wire Format)".
-use Rattle.std.specs.Prelude.{◌≡◌, ℕ, ◌+◌, ◌-◌, ◌*◌, ◌<◌, ◌≤◌, List, length, take, drop, slice_index}
-use Rattle.dbus_texts.specs.Types.{NumberCode, TextCode, TypeTree}
+use Rattle.std.specs.Prelude.{◌≡◌, ℕ, ◌+◌, ◌-◌, ◌<◌, ◌≤◌, List, length, take, drop, slice_index}
+use Rattle.dbus_texts.specs.Types.{NumberCode, TextCode, TypeTree, IsSingleType}
 use Rattle.dbus_types.specs.Alignments.{width, length_width, alignment_of}
 use Rattle.dbus_types.specs.SignatureCodes.{first_code}
 use Rattle.dbus_value_model.specs.Bytes.{gap_to}
 use Rattle.dbus_value_model.specs.Reading.{number_of}
-use Rattle.dbus_value_model.specs.Spelling.{spellings}
-use Rattle.dbus_value_model.specs.Values.{ValueTree, ValueTrees, NumberValue, TextValue, ArrayValue}
-use Rattle.dbus_walk.specs.Containers.{IsOf, inside, parts}
-use Rattle.dbus_walk.specs.Standing.{AllStand, ElementsStand, end_of}
+use Rattle.dbus_value_model.specs.Spelling.{spelling, spellings}
+use Rattle.dbus_value_model.specs.Values.{ValueTree, ValueTrees, NumberValue, TextValue, VariantValue, ArrayValue, StructValue, EntryValue, NoValues, MoreValues, type_of}
+use Rattle.dbus_walk.specs.Containers.{inside}
+use Rattle.dbus_walk.specs.Standing.{Stands, AllStand, ElementsStand, end_of}
 use Rattle.dbus_walk.specs.Widths.{number_width}
-use Rattle.dbus_walk.specs.declared.container.Container.{Container}
-use Rattle.dbus_walk.specs.declared.container.Container.TheVariants as kind
 use Rattle.dbus_walk.specs.declared.spot.Layout.{Layout}
 use Rattle.dbus_walk.specs.declared.spot.Layout.TheVariants as layout
 use Rattle.dbus_walk.specs.declared.spot.Run.{Run}
@@ -27,17 +25,13 @@ of_elements types = take (length types - 1) (drop 1 types)
 abbrev pub of_parts : List ℕ → List ℕ
 of_parts types = take (length types - 1 - 1) (drop 1 types)
 
--- An array, a struct or a variant takes one of the room for what is in it, and what is in a dict entry has a shorter signature.
--- So this number is less for what is in a value than for the value.
-abbrev pub weight : (room : ℕ) (types : List ℕ) → ℕ
-weight room types = 256 * room + length types
-
 -- a number of so many bytes begins at an offset, and each number has so many whose type begins so
 pub record IsNumberAt (source : Source) (spot : Spot) (v : ValueTree) (start size : ℕ) : Type 0 where
   pub code : NumberCode
   pub n : ℕ
   pub is : v ≡ NumberValue code n
   pub wide : width code ≡ size
+  pub some : 0 < size
   pub widths : (t : TypeTree) → first_code t ≡ slice_index spot.types.now 0 → size ≡ number_width t
   pub begins : start ≡ spot.at + gap_to size spot.at
   pub inside : start + size ≤ length source.bytes.now
@@ -51,40 +45,68 @@ pub record IsTextAt (source : Source) (spot : Spot) (v : ValueTree) (size start 
   pub is : v ≡ TextValue code text
   pub wide : length_width code ≡ size
   pub begins : start ≡ spot.at + gap_to size spot.at
-  pub counts : number_of source.order (take size (drop start source.bytes.now)) ≡ n
+  pub counts : n ≡ number_of source.order (take size (drop start source.bytes.now))
   pub inside : start + size + n + 1 ≤ length source.bytes.now
   pub read : take n (drop (start + size) source.bytes.now) ≡ text
   pub ends : start + size + n + 1 ≡ end_of source spot v
 
--- an array's elements stand from an offset up to another, after the array's length; each that is a number has so many bytes
+-- what a variant holds has this type, a single one, and stands at an offset
+pub record IsVariantAt (source : Source) (spot : Spot) (v : ValueTree) (rest : List ℕ) (types : List ℕ) (at : ℕ) : Type 0 where
+  pub x : ValueTree
+  pub is : v ≡ VariantValue x
+  pub some : 0 < spot.room
+  pub single : IsSingleType (type_of x)
+  pub few : length types ≤ 255
+  pub begins : at ≡ inside source.order spot.at v
+  pub held : Stands source.order (spot.room - 1) types at source.bytes.now x rest
+  pub ends : at + length (spelling source.order at x) ≡ end_of source spot v
+
+-- the bytes of an array begin at the spot, and of its elements, as its type and its length say, the places and the width are these
+pub record IsRunAt (source : Source) (spot : Spot) (run : Run) : Type 0 where
+  pub code : slice_index spot.types.now 0 ≡ 97
+  pub long : 2 ≤ length spot.types.now
+  pub wide : (t : TypeTree) → first_code t ≡ slice_index spot.types.now 1 → run.size ≡ number_width t
+  pub begins : run.start ≡ spot.at + gap_to 4 spot.at
+  pub parts : (t : TypeTree) → first_code t ≡ slice_index spot.types.now 1 → run.first ≡ run.start + 4 + gap_to (alignment_of t) (run.start + 4)
+  pub ends : run.end ≡ run.first + number_of source.order (take 4 (drop run.start source.bytes.now))
+
+-- an array's elements stand from an offset up to another, and each that is a number has so many bytes
 pub record IsArrayAt (source : Source) (spot : Spot) (v : ValueTree) (rest : List ℕ) (run : Run) : Type 0 where
   pub type : TypeTree
   pub xs : ValueTrees
   pub is : v ≡ ArrayValue type xs
-  pub begins : run.start ≡ spot.at + gap_to 4 spot.at
-  pub first : (t : TypeTree) → first_code t ≡ slice_index spot.types.now 1 → run.first ≡ run.start + 4 + gap_to (alignment_of t) (run.start + 4)
-  pub counts : run.end ≡ run.first + number_of source.order (take 4 (drop run.start source.bytes.now))
-  pub widths : (t : TypeTree) → first_code t ≡ slice_index spot.types.now 1 → run.size ≡ number_width t
-  pub long : 2 ≤ length spot.types.now
   pub some : 0 < spot.room
-  pub deeper : weight (spot.room - 1) (of_elements spot.types.now) < weight spot.room spot.types.now
+  pub wide : number_width type ≡ run.size
+  pub found : IsRunAt source spot run
+  pub begins : run.first ≡ inside source.order spot.at v
   pub held : ElementsStand source.order (spot.room - 1) (of_elements spot.types.now) run.first run.end source.bytes.now xs rest
-  pub starts : run.first ≡ inside source.order spot.at v
   pub ends : run.end ≡ end_of source spot v
 
--- the parts of another container stand from an offset on, of these types and with this room
-pub record ArePartsAt (source : Source) (spot : Spot) (v : ValueTree) (rest : List ℕ) (what : Container) (room : ℕ) (types : List ℕ) (at : ℕ) : Type 0 where
-  pub is : IsOf what v
-  pub deeper : weight room types < weight spot.room spot.types.now
-  pub held : AllStand source.order room types at source.bytes.now (parts v) rest
-  pub starts : at ≡ inside source.order spot.at v
-  pub ends : at + length (spellings source.order at (parts v)) ≡ end_of source spot v
+-- a struct's fields stand from an offset on
+pub record IsStructAt (source : Source) (spot : Spot) (v : ValueTree) (rest : List ℕ) (start : ℕ) : Type 0 where
+  pub xs : ValueTrees
+  pub is : v ≡ StructValue xs
+  pub some : 0 < spot.room
+  pub long : 2 ≤ length spot.types.now
+  pub begins : start ≡ inside source.order spot.at v
+  pub held : AllStand source.order (spot.room - 1) (of_parts spot.types.now) start source.bytes.now xs rest
+  pub ends : start + length (spellings source.order start xs) ≡ end_of source spot v
+
+-- a dict entry's key and its value stand from an offset on
+pub record IsEntryAt (source : Source) (spot : Spot) (v : ValueTree) (rest : List ℕ) (start : ℕ) : Type 0 where
+  pub x : ValueTree
+  pub y : ValueTree
+  pub is : v ≡ EntryValue x y
+  pub long : 2 ≤ length spot.types.now
+  pub begins : start ≡ inside source.order spot.at v
+  pub held : AllStand source.order spot.room (of_parts spot.types.now) start source.bytes.now (MoreValues x (MoreValues y NoValues)) rest
+  pub ends : start + length (spellings source.order start (MoreValues x (MoreValues y NoValues))) ≡ end_of source spot v
 
 abbrev pub IsLaidOut : Source → Spot → ValueTree → (rest : List ℕ) → Layout → Type 0
 IsLaidOut source spot v rest (layout.Number start size) = IsNumberAt source spot v start size
 IsLaidOut source spot v rest (layout.LongText start n) = IsTextAt source spot v 4 start n
 IsLaidOut source spot v rest (layout.ShortText n) = IsTextAt source spot v 1 spot.at n
-IsLaidOut source spot v rest (layout.Variant types at) = (0 < spot.room) × (length types.now ≤ 255) × ArePartsAt source spot v rest kind.Variant (spot.room - 1) types.now at
+IsLaidOut source spot v rest (layout.Variant types at) = IsVariantAt source spot v rest types.now at
 IsLaidOut source spot v rest (layout.Array run) = IsArrayAt source spot v rest run
-IsLaidOut source spot v rest (layout.Struct start) = (2 ≤ length spot.types.now) × (0 < spot.room) × ArePartsAt source spot v rest kind.Struct (spot.room - 1) (of_parts spot.types.now) start
-IsLaidOut source spot v rest (layout.Entry start) = (2 ≤ length spot.types.now) × ArePartsAt source spot v rest kind.Entry spot.room (of_parts spot.types.now) start
+IsLaidOut source spot v rest (layout.Struct start) = IsStructAt source spot v rest start
+IsLaidOut source spot v rest (layout.Entry start) = IsEntryAt source spot v rest start

@@ -12,7 +12,7 @@ use dbus_types::boundary;
 use dbus_value_model::gap;
 
 /// How the value at a spot is laid out. Nothing in it is gone through. D-Bus Specification, "Marshaling (Wire Format)".
-#[inline]
+#[inline(always)]
 pub fn layout<'a>(source: &Source<'a>, spot: &Spot<'_>) -> Layout<'a>
     requires stands { StandsThere source.now spot.now }
     ensures { (v : ValueTree) (rest : List ℕ) → StandsAt source.now spot.now v rest →
@@ -34,9 +34,9 @@ pub fn layout<'a>(source: &Source<'a>, spot: &Spot<'_>) -> Layout<'a>
         },
         b'v' => variant(source, spot),
         b'a' => Layout::Array(array(source, spot)),
-        _ => {
+        brackets => {
             let start = spot.at + gap(8, spot.at);
-            if code == b'(' {
+            if brackets == b'(' {
                 return Layout::Struct { start };
             }
             Layout::Entry { start }

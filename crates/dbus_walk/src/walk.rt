@@ -5,12 +5,14 @@
 //! D-Bus Specification, "Marshaling (Wire Format)".
 #![tactic(auto)]
 
-ghost use Rattle.std.specs.Prelude.{◌≡◌, ℕ, ◌-◌, ◌<◌, ◌≤◌, List, length, IfOk};
+ghost use Rattle.std.specs.Prelude.{◌≡◌, ℕ, ◌+◌, ◌≤◌, List, length, IfOk};
 ghost use Rattle.dbus_types.specs.TypeLengths.{AreLengths};
-ghost use Rattle.dbus_value_model.specs.Values.{ValueTree, ValueTrees, value_trees};
-ghost use Rattle.dbus_walk.specs.declared.container.Container.TheVariants.{Array, Variant};
-ghost use Rattle.dbus_walk.specs.Layouts.{of_parts, ArePartsAt, IsArrayAt};
-ghost use Rattle.dbus_walk.specs.Standing.{StandsAt, StandsThere, AllStandAt, AllStandThere, ElementsStandAt, ElementsStandThere, end_of, end_of_all};
+ghost use Rattle.dbus_value_model.specs.Spelling.{spellings};
+ghost use Rattle.dbus_value_model.specs.Values.{ValueTree, ValueTrees, VariantValue, value_trees};
+ghost use Rattle.dbus_walk.specs.Containers.{IsOf, inside, parts};
+ghost use Rattle.dbus_walk.specs.Layouts.{IsVariantAt, IsArrayAt, IsRunAt, of_parts};
+ghost use Rattle.dbus_walk.specs.Standing.{AllStand, StandsAt, StandsThere, AllStandAt, AllStandThere, ElementsStandAt, ElementsStandThere, end_of, end_of_all};
+ghost use Rattle.dbus_walk.specs.declared.container.Container.TheVariants.{Array};
 
 use crate::container::Container;
 use crate::layouts::layout;
@@ -35,52 +37,39 @@ pub fn walk_value<V: Visitor>(
         IfOk result (λ r. V.one visitor.old source.now.order spot.now.at v r.0 visitor.new ×
         (r.1 ≡ end_of source.now spot.now v)) }
 {
+    // If a number or a text returns from its own arm, no result is copied.
     match layout(source, spot) {
         Layout::Number { start, size } => {
             let one = visitor.number(source, spot, start, size)?;
-            Ok((one, start + usize::from(size)))
+            return Ok((one, start + usize::from(size)));
         }
         Layout::LongText { start, size } => {
             let one = visitor.long_text(source, spot, start, size)?;
-            Ok((one, start + 4 + size + 1))
+            return Ok((one, start + 4 + size + 1));
         }
         Layout::ShortText { size } => {
             let one = visitor.short_text(source, spot, size)?;
-            Ok((one, spot.at + 1 + size + 1))
+            return Ok((one, spot.at + 1 + size + 1));
         }
         Layout::Variant { types, at } => variant(visitor, source, spot, types, at),
         Layout::Array(run) => array(visitor, source, spot, run),
         Layout::Struct { start } => {
-            let held = inner(spot, start, spot.room - 1);
-            parts(visitor, source, spot, Container::Struct, &held)
+            brackets(
+                visitor,
+                source,
+                spot,
+                Container::Struct,
+                start,
+                spot.room - 1,
+            )
         }
         Layout::Entry { start } => {
-            let held = inner(spot, start, spot.room);
-            parts(visitor, source, spot, Container::Entry, &held)
+            brackets(visitor, source, spot, Container::Entry, start, spot.room)
         }
     }
 }
 
-/// What stands between the brackets of a type, for what begins at `start` and has this room.
-#[inline]
-fn inner<'a>(spot: &Spot<'a>, start: usize, room: u8) -> Spot<'a>
-    requires noted { AreLengths spot.now.types.now spot.now.lengths.now }
-    requires long { 2 ≤ length spot.now.types.now }
-    ensures at { result.at ≡ start }
-    ensures room { result.room ≡ room }
-    ensures types { result.types.now ≡ of_parts spot.now.types.now }
-    ensures noted { AreLengths result.types.now result.lengths.now }
-{
-    let last = spot.types.len() - 1;
-    Spot {
-        at: start,
-        types: &spot.types[1..last],
-        lengths: &spot.lengths[1..last],
-        room,
-    }
-}
-
-/// A variant. What it holds has this type, and begins at `at`.
+/// A variant, by the type of what it holds, and where that begins.
 #[cycle(walk)]
 fn variant<V: Visitor>(
     visitor: &mut V,
@@ -91,25 +80,23 @@ fn variant<V: Visitor>(
 ) -> Result<(V::One, usize), V::Stop>
     requires ready { V.ready visitor.old (length source.now.bytes.now) }
     requires stands { StandsThere source.now spot.now }
-    requires some { 0 < spot.now.room }
-    requires few { length types.now ≤ 255 }
     requires laid { (v : ValueTree) (rest : List ℕ) → StandsAt source.now spot.now v rest →
-        ArePartsAt source.now spot.now v rest Variant (spot.now.room - 1) types.now at }
+        IsVariantAt source.now spot.now v rest types.now at }
     ensures ready { V.ready visitor.new (length source.now.bytes.now) }
     ensures walked { (v : ValueTree) (rest : List ℕ) → StandsAt source.now spot.now v rest →
         IfOk result (λ r. V.one visitor.old source.now.order spot.now.at v r.0 visitor.new ×
         (r.1 ≡ end_of source.now spot.now v)) }
 {
+    let held = Spot {
+        at,
+        types,
+        lengths: &[1],
+        room: spot.room - 1,
+    };
     if types.len() == 1 {
-        let held = Spot {
-            at,
-            types,
-            lengths: &[1],
-            room: spot.room - 1,
-        };
-        return parts(visitor, source, spot, Container::Variant, &held);
+        return variant_of(visitor, source, &held);
     }
-    noted_variant(visitor, source, spot, types, at)
+    noted_variant(visitor, source, &held)
 }
 
 /// A variant whose type has several bytes. How long the types in it are is noted first, in room that no other variant takes.
@@ -118,58 +105,50 @@ fn variant<V: Visitor>(
 fn noted_variant<V: Visitor>(
     visitor: &mut V,
     source: &Source<'_>,
-    spot: &Spot<'_>,
-    types: &[u8],
-    at: usize,
-) -> Result<(V::One, usize), V::Stop>
-    requires ready { V.ready visitor.old (length source.now.bytes.now) }
-    requires stands { StandsThere source.now spot.now }
-    requires some { 0 < spot.now.room }
-    requires few { length types.now ≤ 255 }
-    requires laid { (v : ValueTree) (rest : List ℕ) → StandsAt source.now spot.now v rest →
-        ArePartsAt source.now spot.now v rest Variant (spot.now.room - 1) types.now at }
-    ensures ready { V.ready visitor.new (length source.now.bytes.now) }
-    ensures walked { (v : ValueTree) (rest : List ℕ) → StandsAt source.now spot.now v rest →
-        IfOk result (λ r. V.one visitor.old source.now.order spot.now.at v r.0 visitor.new ×
-        (r.1 ≡ end_of source.now spot.now v)) }
-{
-    let mut table = [0; 255];
-    let held = Spot {
-        at,
-        types,
-        lengths: lengths_in(types, &mut table),
-        room: spot.room - 1,
-    };
-    parts(visitor, source, spot, Container::Variant, &held)
-}
-
-/// A container other than an array: the parts that it holds at a spot of their own.
-#[cycle(walk)]
-fn parts<V: Visitor>(
-    visitor: &mut V,
-    source: &Source<'_>,
-    spot: &Spot<'_>,
-    kind: Container,
     held: &Spot<'_>,
 ) -> Result<(V::One, usize), V::Stop>
     requires ready { V.ready visitor.old (length source.now.bytes.now) }
-    requires stands { StandsThere source.now spot.now }
-    requires kind { kind ≡ Array → ⊥ }
-    requires noted { AreLengths held.now.types.now held.now.lengths.now }
-    requires laid { (v : ValueTree) (rest : List ℕ) → StandsAt source.now spot.now v rest →
-        ArePartsAt source.now spot.now v rest kind held.now.room held.now.types.now held.now.at }
+    requires stands { StandsThere source.now held.now }
+    requires few { length held.now.types.now ≤ 255 }
     ensures ready { V.ready visitor.new (length source.now.bytes.now) }
-    ensures walked { (v : ValueTree) (rest : List ℕ) → StandsAt source.now spot.now v rest →
-        IfOk result (λ r. V.one visitor.old source.now.order spot.now.at v r.0 visitor.new ×
-        (r.1 ≡ end_of source.now spot.now v)) }
+    ensures walked { (begin : ℕ) (x : ValueTree) (rest : List ℕ) → StandsAt source.now held.now x rest →
+        held.now.at ≡ inside source.now.order begin (VariantValue x) →
+        IfOk result (λ r. V.one visitor.old source.now.order begin (VariantValue x) r.0 visitor.new ×
+        (r.1 ≡ end_of source.now held.now x)) }
 {
-    let none = visitor.open(kind, source.bytes.len())?;
-    let (many, after) = walk_values(visitor, none, source, held)?;
-    let closed = visitor.close(kind, many, source.bytes.len())?;
+    let mut table = [0; 255];
+    let noted = Spot {
+        lengths: lengths_in(held.types, &mut table),
+        ..*held
+    };
+    variant_of(visitor, source, &noted)
+}
+
+/// A variant, by what it holds.
+#[cycle(walk)]
+fn variant_of<V: Visitor>(
+    visitor: &mut V,
+    source: &Source<'_>,
+    held: &Spot<'_>,
+) -> Result<(V::One, usize), V::Stop>
+    requires ready { V.ready visitor.old (length source.now.bytes.now) }
+    requires stands { StandsThere source.now held.now }
+    requires noted { AreLengths held.now.types.now held.now.lengths.now }
+    ensures ready { V.ready visitor.new (length source.now.bytes.now) }
+    ensures walked { (begin : ℕ) (x : ValueTree) (rest : List ℕ) → StandsAt source.now held.now x rest →
+        held.now.at ≡ inside source.now.order begin (VariantValue x) →
+        IfOk result (λ r. V.one visitor.old source.now.order begin (VariantValue x) r.0 visitor.new ×
+        (r.1 ≡ end_of source.now held.now x)) }
+{
+    let none = visitor.open(Container::Variant, source.bytes.len())?;
+    visitor.part(true, source.bytes.len());
+    let (one, after) = walk_value(visitor, source, held)?;
+    let many = visitor.push(none, one, source.bytes.len())?;
+    let closed = visitor.close(Container::Variant, many, source.bytes.len())?;
     Ok((closed, after))
 }
 
-/// An array, whose elements stand in this run.
+/// An array.
 #[cycle(walk)]
 fn array<V: Visitor>(
     visitor: &mut V,
@@ -180,6 +159,7 @@ fn array<V: Visitor>(
     requires ready { V.ready visitor.old (length source.now.bytes.now) }
     requires stands { StandsThere source.now spot.now }
     requires noted { AreLengths spot.now.types.now spot.now.lengths.now }
+    requires found { IsRunAt source.now spot.now run }
     requires laid { (v : ValueTree) (rest : List ℕ) → StandsAt source.now spot.now v rest →
         IsArrayAt source.now spot.now v rest run }
     ensures ready { V.ready visitor.new (length source.now.bytes.now) }
@@ -237,6 +217,40 @@ fn elements<V: Visitor>(
         is_first = false;
     }
     Ok(many)
+}
+
+/// A struct or a dict entry, by where its parts begin, and how many containers may be open in them.
+#[cycle(walk)]
+fn brackets<V: Visitor>(
+    visitor: &mut V,
+    source: &Source<'_>,
+    spot: &Spot<'_>,
+    kind: Container,
+    start: usize,
+    room: u8,
+) -> Result<(V::One, usize), V::Stop>
+    requires ready { V.ready visitor.old (length source.now.bytes.now) }
+    requires stand { (vs : ValueTrees) × (rest : List ℕ) ×
+        AllStand source.now.order room (of_parts spot.now.types.now) start source.now.bytes.now vs rest }
+    requires noted { AreLengths spot.now.types.now spot.now.lengths.now }
+    requires long { 2 ≤ length spot.now.types.now }
+    requires kind { kind ≡ Array → ⊥ }
+    ensures ready { V.ready visitor.new (length source.now.bytes.now) }
+    ensures walked { (v : ValueTree) (rest : List ℕ) → IsOf kind v → start ≡ inside source.now.order spot.now.at v →
+        AllStand source.now.order room (of_parts spot.now.types.now) start source.now.bytes.now (parts v) rest →
+        IfOk result (λ r. V.one visitor.old source.now.order spot.now.at v r.0 visitor.new ×
+        (r.1 ≡ start + length (spellings source.now.order start (parts v)))) }
+{
+    let held = Spot {
+        at: start,
+        types: &spot.types[1..spot.types.len() - 1],
+        lengths: &spot.lengths[1..spot.types.len() - 1],
+        room,
+    };
+    let none = visitor.open(kind, source.bytes.len())?;
+    let (many, after) = walk_values(visitor, none, source, &held)?;
+    let closed = visitor.close(kind, many, source.bytes.len())?;
+    Ok((closed, after))
 }
 
 /// Walks over values one after another, one of each type that the signature at the spot has: what the visitor gathers of them,

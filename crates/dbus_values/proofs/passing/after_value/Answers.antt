@@ -1,8 +1,9 @@
-use Rattle.std.proofs.Common.{subst, arith}
+use Rattle.std.proofs.Common.{length, ap, sym, subst, ◌∙◌, arith}
+use Rattle.dbus_texts.specs.Types.{sig}
 use Rattle.dbus_types.proofs.TypeLengths.{one_length}
+use Rattle.dbus_value_model.specs.Values.{ValueTree, type_of}
 use Rattle.dbus_walk.specs.Layouts.{IsLaidOut}
 use Rattle.dbus_walk.specs.declared.spot.Layout.{Layout}
-use Rattle.dbus_values.proofs.Views.{variant_short}
 use Rattle.dbus_values.proofs.passing.after_value.Goals as goal
 
 pub overflow_add-result : goal.overflow_add-result
@@ -51,7 +52,7 @@ pub skip_value-requires-clause-noted : goal.skip_value-requires-clause-noted
 skip_value-requires-clause-noted c =
     let there = c.requires.stands in
     let p = subst (λ (l : Layout). IsLaidOut c.args.source.now c.args.spot.now there.0 there.1 l) c.in-Variant.is (c.requires.laid there.0 there.1 there.2) in
-    one_length c.args.spot.now.types.now (variant_short there.0 c.args.spot.now.types.now p.2.is there.2.text)
+    one_length c.args.spot.now.types.now (ap length (sym there.2.text) ∙ ap (λ (u : ValueTree). length (sig (type_of u))) p.is)
 
 pub returns-in-Number : goal.returns-in-Number
 returns-in-Number c = λ v rest s.

@@ -1,9 +1,9 @@
-use Rattle.std.proofs.Common.{◌-◌, length, drop, refl, sym, ap, subst, ◌∙◌, arith}
+use Rattle.std.proofs.Common.{◌-◌, length, drop, refl, sym, ap, subst, ◌∙◌, arith, inl, inr}
 use Rattle.std.proofs.lemmas.List.{length-take}
-use Rattle.dbus_walk.specs.Containers.{parts}
+use Rattle.dbus_value_model.specs.Values.{NoValues, MoreValues}
 use Rattle.dbus_walk.specs.Layouts.{IsLaidOut}
 use Rattle.dbus_walk.specs.declared.spot.Layout.{Layout}
-use Rattle.dbus_values.proofs.Views.{number_coded, number_inside, number_seen, text_utf8, string_seen, path_seen, signature_seen, variant_seen, struct_seen, entry_seen, array_type}
+use Rattle.dbus_values.proofs.Views.{number_coded, number_inside, number_seen, text_utf8, string_seen, path_seen, signature_seen, variant_left, array_type, parts_long}
 use Rattle.dbus_values.specs.States.{ValuesState, AreLeft, ElementsState, ElementsAreLeft}
 use Rattle.dbus_values.proofs.seeing.view_of.Goals as goal
 
@@ -83,25 +83,25 @@ pub overflow_sub-spot : goal.overflow_sub-spot
 overflow_sub-spot c =
     let there = c.requires.stands in
     let p = subst (λ (l : Layout). IsLaidOut c.args.source.now c.args.spot.now there.0 there.1 l) c.in-Variant.is (c.requires.laid there.0 there.1 there.2) in
-    omega (arith, p.0)
+    omega (arith, p.some)
 
 pub new-requires : goal.new-requires
 new-requires c =
     let there = c.requires.stands in
     let p = subst (λ (l : Layout). IsLaidOut c.args.source.now c.args.spot.now there.0 there.1 l) c.in-Variant.is (c.requires.laid there.0 there.1 there.2) in
-    (p.1, parts there.0, there.1, p.2.held)
+    (p.few, MoreValues p.x NoValues, there.1, variant_left c.args.source.now c.args.spot.now there.0 there.1 there.2 c.in-Variant.types.now c.in-Variant.at p)
 
 pub returns-in-Variant-clause-seen : goal.returns-in-Variant-clause-seen
 returns-in-Variant-clause-seen c =
     λ v rest s.
     let p = subst (λ (l : Layout). IsLaidOut c.args.source.now c.args.spot.now v rest l) c.in-Variant.is (c.requires.laid v rest s) in
-    variant_seen v rest c.new.result p.2.is (subst (λ (l : ValuesState). AreLeft l (parts v) rest) (sym c.new.ensures) p.2.held)
+    (p.x, rest, p.is, subst (λ (l : ValuesState). AreLeft l (MoreValues p.x NoValues) rest) (sym c.new.ensures) (variant_left c.args.source.now c.args.spot.now v rest s c.in-Variant.types.now c.in-Variant.at p))
 
 pub returns-in-Variant-clause-less : goal.returns-in-Variant-clause-less
 returns-in-Variant-clause-less c =
     let there = c.requires.stands in
     let p = subst (λ (l : Layout). IsLaidOut c.args.source.now c.args.spot.now there.0 there.1 l) c.in-Variant.is (c.requires.laid there.0 there.1 there.2) in
-    omega (arith, p.0, p.1, ap (λ (l : ValuesState). l.room) c.new.ensures, ap (λ (l : ValuesState). length l.types) c.new.ensures)
+    omega (arith, p.some, p.few, ap (λ (l : ValuesState). l.room) c.new.ensures, ap (λ (l : ValuesState). length l.types) c.new.ensures)
 
 pub overflow_sub-spot-in-Array : goal.overflow_sub-spot-in-Array
 overflow_sub-spot-in-Array c =
@@ -125,52 +125,52 @@ pub slice_bounds-fields-count : goal.slice_bounds-fields-count
 slice_bounds-fields-count c =
     let there = c.requires.stands in
     let p = subst (λ (l : Layout). IsLaidOut c.args.source.now c.args.spot.now there.0 there.1 l) c.in-Struct.is (c.requires.laid there.0 there.1 there.2) in
-    omega (arith, p.0)
+    omega (arith, parts_long c.args.source.now c.args.spot.now there.0 there.1 there.2 (inl (p.xs, p.is)))
 
 pub slice_bounds-fields-start : goal.slice_bounds-fields-start
 slice_bounds-fields-start c =
     let there = c.requires.stands in
     let p = subst (λ (l : Layout). IsLaidOut c.args.source.now c.args.spot.now there.0 there.1 l) c.in-Struct.is (c.requires.laid there.0 there.1 there.2) in
-    omega (arith, p.0)
+    omega (arith, parts_long c.args.source.now c.args.spot.now there.0 there.1 there.2 (inl (p.xs, p.is)))
 
 pub overflow_sub-spot-in-Struct : goal.overflow_sub-spot-in-Struct
 overflow_sub-spot-in-Struct c =
     let there = c.requires.stands in
     let p = subst (λ (l : Layout). IsLaidOut c.args.source.now c.args.spot.now there.0 there.1 l) c.in-Struct.is (c.requires.laid there.0 there.1 there.2) in
-    omega (arith, p.1)
+    omega (arith, p.some)
 
 pub new-requires-in-Struct : goal.new-requires-in-Struct
 new-requires-in-Struct c =
     let there = c.requires.stands in
     let p = subst (λ (l : Layout). IsLaidOut c.args.source.now c.args.spot.now there.0 there.1 l) c.in-Struct.is (c.requires.laid there.0 there.1 there.2) in
-    (omega (arith, c.requires.few, length-take (length c.args.spot.now.types.now - 1 - 1) (drop 1 c.args.spot.now.types.now)), parts there.0, there.1, p.2.held)
+    (omega (arith, c.requires.few, length-take (length c.args.spot.now.types.now - 1 - 1) (drop 1 c.args.spot.now.types.now)), p.xs, there.1, p.held)
 
 pub returns-in-Struct-clause-seen : goal.returns-in-Struct-clause-seen
 returns-in-Struct-clause-seen c =
     λ v rest s.
     let p = subst (λ (l : Layout). IsLaidOut c.args.source.now c.args.spot.now v rest l) c.in-Struct.is (c.requires.laid v rest s) in
-    struct_seen v rest c.new-in-Struct.result p.2.is (subst (λ (l : ValuesState). AreLeft l (parts v) rest) (sym c.new-in-Struct.ensures) p.2.held)
+    (p.xs, rest, p.is, subst (λ (l : ValuesState). AreLeft l p.xs rest) (sym c.new-in-Struct.ensures) p.held)
 
 pub slice_bounds-both-count : goal.slice_bounds-both-count
 slice_bounds-both-count c =
     let there = c.requires.stands in
     let p = subst (λ (l : Layout). IsLaidOut c.args.source.now c.args.spot.now there.0 there.1 l) c.in-Entry.is (c.requires.laid there.0 there.1 there.2) in
-    omega (arith, p.0)
+    omega (arith, parts_long c.args.source.now c.args.spot.now there.0 there.1 there.2 (inr (p.x, p.y, p.is)))
 
 pub slice_bounds-both-start : goal.slice_bounds-both-start
 slice_bounds-both-start c =
     let there = c.requires.stands in
     let p = subst (λ (l : Layout). IsLaidOut c.args.source.now c.args.spot.now there.0 there.1 l) c.in-Entry.is (c.requires.laid there.0 there.1 there.2) in
-    omega (arith, p.0)
+    omega (arith, parts_long c.args.source.now c.args.spot.now there.0 there.1 there.2 (inr (p.x, p.y, p.is)))
 
 pub new-requires-in-Entry : goal.new-requires-in-Entry
 new-requires-in-Entry c =
     let there = c.requires.stands in
     let p = subst (λ (l : Layout). IsLaidOut c.args.source.now c.args.spot.now there.0 there.1 l) c.in-Entry.is (c.requires.laid there.0 there.1 there.2) in
-    (omega (arith, c.requires.few, length-take (length c.args.spot.now.types.now - 1 - 1) (drop 1 c.args.spot.now.types.now)), parts there.0, there.1, p.1.held)
+    (omega (arith, c.requires.few, length-take (length c.args.spot.now.types.now - 1 - 1) (drop 1 c.args.spot.now.types.now)), MoreValues p.x (MoreValues p.y NoValues), there.1, p.held)
 
 pub returns-in-Entry-clause-seen : goal.returns-in-Entry-clause-seen
 returns-in-Entry-clause-seen c =
     λ v rest s.
     let p = subst (λ (l : Layout). IsLaidOut c.args.source.now c.args.spot.now v rest l) c.in-Entry.is (c.requires.laid v rest s) in
-    entry_seen v rest c.new-in-Entry.result p.1.is (subst (λ (l : ValuesState). AreLeft l (parts v) rest) (sym c.new-in-Entry.ensures) p.1.held)
+    (p.x, p.y, rest, p.is, subst (λ (l : ValuesState). AreLeft l (MoreValues p.x (MoreValues p.y NoValues)) rest) (sym c.new-in-Entry.ensures) p.held)

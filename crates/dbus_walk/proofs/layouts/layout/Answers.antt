@@ -37,15 +37,15 @@ overflow_add-start c =
     let enclosed = enclosed_is type code none (λ e. omega (arith, not, e)) (λ e. omega (arith, not, e)) (λ e. omega (arith, not, e)) (λ e. omega (arith, not, e)) (λ e. omega (arith, not, e)) in
     omega (arith, enclosed_within s enclosed, c.gap-in_default.ensures)
 
-pub returns-then-code-eq40 : goal.returns-then-code-eq40
-returns-then-code-eq40 c = λ v rest s.
-    struct_laid c.args.source.now c.args.spot.now v rest s (c.args.spot.now.at + c.gap-in_default.result) c.if-code-eq40.true (omega (arith, c.gap-in_default.ensures))
+pub returns-then-brackets-eq40 : goal.returns-then-brackets-eq40
+returns-then-brackets-eq40 c = λ v rest s.
+    struct_laid c.args.source.now c.args.spot.now v rest s (c.args.spot.now.at + c.gap-in_default.result) c.if-brackets-eq40.true (omega (arith, c.gap-in_default.ensures))
 
-pub returns-else-code-eq40 : goal.returns-else-code-eq40
-returns-else-code-eq40 c = λ v rest s.
+pub returns-else-brackets-eq40 : goal.returns-else-brackets-eq40
+returns-else-brackets-eq40 c = λ v rest s.
     let type = type_of v in
     let code = code_is type c.args.spot.now.types.now s.text in
     let none : 0 < number_width type → ⊥ = λ some. omega (arith, some, c.if-size-gt0.false, c.number_width-size.ensures.value type code) in
     let not = c.in_default in
     let enclosed = enclosed_is type code none (λ e. omega (arith, not, e)) (λ e. omega (arith, not, e)) (λ e. omega (arith, not, e)) (λ e. omega (arith, not, e)) (λ e. omega (arith, not, e)) in
-    entry_laid c.args.source.now c.args.spot.now v rest s (c.args.spot.now.at + c.gap-in_default.result) (entry_left enclosed c.if-code-eq40.false) (omega (arith, c.gap-in_default.ensures))
+    entry_laid c.args.source.now c.args.spot.now v rest s (c.args.spot.now.at + c.gap-in_default.result) (entry_left enclosed c.if-brackets-eq40.false) (omega (arith, c.gap-in_default.ensures))

@@ -1,277 +1,18 @@
-use Rattle.std.proofs.Common.{ℕ, ◌+◌, ◌-◌, List, ◌++◌, length, drop, Bool, true, false, inl, inr, refl, sym, ap, subst, ◌∙◌, arith}
+use Rattle.std.proofs.Common.{ℕ, ◌+◌, ◌-◌, List, [], ◌∷◌, ◌++◌, length, drop, Bool, true, false, refl, sym, ap, subst, ◌∙◌, arith}
 use Rattle.std.proofs.lemmas.List.{length-take}
-use Rattle.dbus_types.specs.SignatureCodes.{IsTypeEnd}
+use Rattle.dbus_types.specs.SignatureCodes.{IsTypeEnd, first_code}
+use Rattle.dbus_types.proofs.TypeCodes.{code_is}
 use Rattle.dbus_types.proofs.TypeLengths.{ends_by, lengths_within, lengths_rest, one_length}
 use Rattle.dbus_value_model.specs.Spelling.{spelling, spellings}
-use Rattle.dbus_value_model.specs.Values.{ValueTree}
+use Rattle.dbus_value_model.specs.Values.{ValueTree, NoValues, MoreValues, VariantValue, StructValue, EntryValue, type_of}
+use Rattle.dbus_unmarshal.proofs.ReadSteps.{one_byte}
 use Rattle.dbus_walk.specs.declared.container.Container.TheVariants as kind
 use Rattle.dbus_walk.specs.Standing.{AllStand, ElementsStand}
-use Rattle.dbus_walk.specs.Containers.{IsOf, parts}
+use Rattle.dbus_walk.specs.Containers.{IsOf, inside, parts}
+use Rattle.dbus_walk.proofs.Laid.{long_coded, short_coded, laid_as}
 use Rattle.dbus_walk.proofs.Parts.{types_some}
-use Rattle.dbus_walk.specs.Layouts.{IsLaidOut}
-use Rattle.dbus_walk.specs.declared.spot.Layout.{Layout}
-use Rattle.dbus_walk.proofs.Laid.{number_some, long_coded, short_coded, short_counted, array_coded, parts_as}
-use Rattle.dbus_walk.proofs.Walks.{Taken, none_taken, more_taken, all_left, next_element, element_left, no_element, next_value, value_left, no_value}
-use Rattle.dbus_walk.proofs.walk.+walk.Goals.{array-else-run-gt0-via-then-run-gt0+else-at_one_stroke, array-else-run-gt0-via-else-run-gt0}
+use Rattle.dbus_walk.proofs.Walks.{made_of, Taken, none_taken, more_taken, starts, all_left, next_element, element_left, no_element, next_value, value_left, no_value}
 use Rattle.dbus_walk.proofs.walk.+walk.Goals as goal
-
-pub walk_value-number-requires-clause-some : goal.walk_value-number-requires-clause-some
-walk_value-number-requires-clause-some g t c =
-    let there = c.requires.stands in
-    let p = subst (λ (l : Layout). IsLaidOut c.args.source.now c.args.spot.now there.0 there.1 l) c.in-Number.is (c.layout.ensures there.0 there.1 there.2) in
-    number_some c.args.source.now c.args.spot.now there.0 there.1 there.2 p
-
-pub walk_value-number-requires-clause-wide : goal.walk_value-number-requires-clause-wide
-walk_value-number-requires-clause-wide g t c =
-    let there = c.requires.stands in
-    let p = subst (λ (l : Layout). IsLaidOut c.args.source.now c.args.spot.now there.0 there.1 l) c.in-Number.is (c.layout.ensures there.0 there.1 there.2) in
-    p.widths
-
-pub walk_value-number-requires-clause-begins : goal.walk_value-number-requires-clause-begins
-walk_value-number-requires-clause-begins g t c =
-    let there = c.requires.stands in
-    let p = subst (λ (l : Layout). IsLaidOut c.args.source.now c.args.spot.now there.0 there.1 l) c.in-Number.is (c.layout.ensures there.0 there.1 there.2) in
-    p.begins
-
-pub walk_value-overflow_add-result : goal.walk_value-overflow_add-result
-walk_value-overflow_add-result g t c =
-    let there = c.requires.stands in
-    let p = subst (λ (l : Layout). IsLaidOut c.args.source.now c.args.spot.now there.0 there.1 l) c.in-Number.is (c.layout.ensures there.0 there.1 there.2) in
-    omega (arith, p.inside, c.from.ensures)
-
-pub walk_value-returns-in_ok-one-in-Number-clause-walked : goal.walk_value-returns-in_ok-one-in-Number-clause-walked
-walk_value-returns-in_ok-one-in-Number-clause-walked g t c =
-    λ v rest s.
-    let p = subst (λ (l : Layout). IsLaidOut c.args.source.now c.args.spot.now v rest l) c.in-Number.is (c.layout.ensures v rest s) in
-    (c.in_ok-one-in-Number.ensures.takes v rest s, omega (arith, p.ends, c.from.ensures))
-
-pub walk_value-long_text-requires-clause-code : goal.walk_value-long_text-requires-clause-code
-walk_value-long_text-requires-clause-code g t c =
-    let there = c.requires.stands in
-    let p = subst (λ (l : Layout). IsLaidOut c.args.source.now c.args.spot.now there.0 there.1 l) c.in-LongText.is (c.layout.ensures there.0 there.1 there.2) in
-    long_coded c.args.source.now c.args.spot.now there.0 there.1 there.2 p refl
-
-pub walk_value-long_text-requires-clause-begins : goal.walk_value-long_text-requires-clause-begins
-walk_value-long_text-requires-clause-begins g t c =
-    let there = c.requires.stands in
-    let p = subst (λ (l : Layout). IsLaidOut c.args.source.now c.args.spot.now there.0 there.1 l) c.in-LongText.is (c.layout.ensures there.0 there.1 there.2) in
-    p.begins
-
-pub walk_value-long_text-requires-clause-counts : goal.walk_value-long_text-requires-clause-counts
-walk_value-long_text-requires-clause-counts g t c =
-    let there = c.requires.stands in
-    let p = subst (λ (l : Layout). IsLaidOut c.args.source.now c.args.spot.now there.0 there.1 l) c.in-LongText.is (c.layout.ensures there.0 there.1 there.2) in
-    sym p.counts
-
-pub walk_value-overflow_add-result-in-LongText : goal.walk_value-overflow_add-result-in-LongText
-walk_value-overflow_add-result-in-LongText g t c =
-    let there = c.requires.stands in
-    let p = subst (λ (l : Layout). IsLaidOut c.args.source.now c.args.spot.now there.0 there.1 l) c.in-LongText.is (c.layout.ensures there.0 there.1 there.2) in
-    omega (arith, p.inside)
-
-pub walk_value-overflow_add-result-in-LongText-2 : goal.walk_value-overflow_add-result-in-LongText-2
-walk_value-overflow_add-result-in-LongText-2 g t c =
-    let there = c.requires.stands in
-    let p = subst (λ (l : Layout). IsLaidOut c.args.source.now c.args.spot.now there.0 there.1 l) c.in-LongText.is (c.layout.ensures there.0 there.1 there.2) in
-    omega (arith, p.inside)
-
-pub walk_value-overflow_add-result-in-LongText-3 : goal.walk_value-overflow_add-result-in-LongText-3
-walk_value-overflow_add-result-in-LongText-3 g t c =
-    let there = c.requires.stands in
-    let p = subst (λ (l : Layout). IsLaidOut c.args.source.now c.args.spot.now there.0 there.1 l) c.in-LongText.is (c.layout.ensures there.0 there.1 there.2) in
-    omega (arith, p.inside)
-
-pub walk_value-returns-in_ok-one-in-LongText-clause-walked : goal.walk_value-returns-in_ok-one-in-LongText-clause-walked
-walk_value-returns-in_ok-one-in-LongText-clause-walked g t c =
-    λ v rest s.
-    let p = subst (λ (l : Layout). IsLaidOut c.args.source.now c.args.spot.now v rest l) c.in-LongText.is (c.layout.ensures v rest s) in
-    (c.in_ok-one-in-LongText.ensures.takes v rest s, p.ends)
-
-pub walk_value-short_text-requires-clause-code : goal.walk_value-short_text-requires-clause-code
-walk_value-short_text-requires-clause-code g t c =
-    let there = c.requires.stands in
-    let p = subst (λ (l : Layout). IsLaidOut c.args.source.now c.args.spot.now there.0 there.1 l) c.in-ShortText.is (c.layout.ensures there.0 there.1 there.2) in
-    short_coded c.args.source.now c.args.spot.now there.0 there.1 there.2 p refl
-
-pub walk_value-short_text-requires-clause-counts : goal.walk_value-short_text-requires-clause-counts
-walk_value-short_text-requires-clause-counts g t c =
-    let there = c.requires.stands in
-    let p = subst (λ (l : Layout). IsLaidOut c.args.source.now c.args.spot.now there.0 there.1 l) c.in-ShortText.is (c.layout.ensures there.0 there.1 there.2) in
-    short_counted c.args.source.now c.args.spot.now there.0 there.1 there.2 p
-
-pub walk_value-overflow_add-result-in-ShortText : goal.walk_value-overflow_add-result-in-ShortText
-walk_value-overflow_add-result-in-ShortText g t c =
-    let there = c.requires.stands in
-    let p = subst (λ (l : Layout). IsLaidOut c.args.source.now c.args.spot.now there.0 there.1 l) c.in-ShortText.is (c.layout.ensures there.0 there.1 there.2) in
-    omega (arith, p.inside)
-
-pub walk_value-overflow_add-result-in-ShortText-2 : goal.walk_value-overflow_add-result-in-ShortText-2
-walk_value-overflow_add-result-in-ShortText-2 g t c =
-    let there = c.requires.stands in
-    let p = subst (λ (l : Layout). IsLaidOut c.args.source.now c.args.spot.now there.0 there.1 l) c.in-ShortText.is (c.layout.ensures there.0 there.1 there.2) in
-    omega (arith, p.inside)
-
-pub walk_value-overflow_add-result-in-ShortText-3 : goal.walk_value-overflow_add-result-in-ShortText-3
-walk_value-overflow_add-result-in-ShortText-3 g t c =
-    let there = c.requires.stands in
-    let p = subst (λ (l : Layout). IsLaidOut c.args.source.now c.args.spot.now there.0 there.1 l) c.in-ShortText.is (c.layout.ensures there.0 there.1 there.2) in
-    omega (arith, p.inside)
-
-pub walk_value-returns-in_ok-one-in-ShortText-clause-walked : goal.walk_value-returns-in_ok-one-in-ShortText-clause-walked
-walk_value-returns-in_ok-one-in-ShortText-clause-walked g t c =
-    λ v rest s.
-    let p = subst (λ (l : Layout). IsLaidOut c.args.source.now c.args.spot.now v rest l) c.in-ShortText.is (c.layout.ensures v rest s) in
-    (c.in_ok-one-in-ShortText.ensures.takes v rest s, p.ends)
-
-pub walk_value-variant-requires : goal.walk_value-variant-requires
-walk_value-variant-requires g t c κs within =
-    let there = c.requires.stands in
-    let p = subst (λ (l : Layout). IsLaidOut c.args.source.now c.args.spot.now there.0 there.1 l) c.in-Variant.is (c.layout.ensures there.0 there.1 there.2) in
-    (omega (arith, types_some there.2), (within.0, (within.1.0, (within.1.1.0, (within.1.1.1, (c.requires.ready, (c.requires.stands, (p.0, (p.1, λ v rest s. (subst (λ (l : Layout). IsLaidOut c.args.source.now c.args.spot.now v rest l) c.in-Variant.is (c.layout.ensures v rest s)).2)))))))))
-
-pub walk_value-overflow_sub-spot : goal.walk_value-overflow_sub-spot
-walk_value-overflow_sub-spot g t c =
-    let there = c.requires.stands in
-    let p = subst (λ (l : Layout). IsLaidOut c.args.source.now c.args.spot.now there.0 there.1 l) c.in-Struct.is (c.layout.ensures there.0 there.1 there.2) in
-    omega (arith, p.1)
-
-pub walk_value-inner-held-requires-clause-long : goal.walk_value-inner-held-requires-clause-long
-walk_value-inner-held-requires-clause-long g t c =
-    let there = c.requires.stands in
-    let p = subst (λ (l : Layout). IsLaidOut c.args.source.now c.args.spot.now there.0 there.1 l) c.in-Struct.is (c.layout.ensures there.0 there.1 there.2) in
-    p.0
-
-pub walk_value-parts-requires : goal.walk_value-parts-requires
-walk_value-parts-requires g t c κs within =
-    let there = c.requires.stands in
-    let p = subst (λ (l : Layout). IsLaidOut c.args.source.now c.args.spot.now there.0 there.1 l) c.in-Struct.is (c.layout.ensures there.0 there.1 there.2) in
-    let h = c.inner-held.result in
-    let e = c.inner-held.ensures in
-    (omega (arith, p.2.deeper, e.room, ap length e.types), (within.0, (within.1.0, (within.1.1.0, (within.1.1.1, (c.requires.ready, (c.requires.stands, (λ same. cc, (e.noted, λ v rest s. parts_as c.args.source.now c.args.spot.now v rest s (subst (λ (l : Layout). IsLaidOut c.args.source.now c.args.spot.now v rest l) c.in-Struct.is (c.layout.ensures v rest s)).2 h e.room e.types e.at)))))))))
-
-pub walk_value-inner-held-requires-in-Entry-clause-long : goal.walk_value-inner-held-requires-in-Entry-clause-long
-walk_value-inner-held-requires-in-Entry-clause-long g t c =
-    let there = c.requires.stands in
-    let p = subst (λ (l : Layout). IsLaidOut c.args.source.now c.args.spot.now there.0 there.1 l) c.in-Entry.is (c.layout.ensures there.0 there.1 there.2) in
-    p.0
-
-pub walk_value-parts-requires-in-Entry : goal.walk_value-parts-requires-in-Entry
-walk_value-parts-requires-in-Entry g t c κs within =
-    let there = c.requires.stands in
-    let p = subst (λ (l : Layout). IsLaidOut c.args.source.now c.args.spot.now there.0 there.1 l) c.in-Entry.is (c.layout.ensures there.0 there.1 there.2) in
-    let h = c.inner-held-in-Entry.result in
-    let e = c.inner-held-in-Entry.ensures in
-    (omega (arith, p.1.deeper, e.room, ap length e.types), (within.0, (within.1.0, (within.1.1.0, (within.1.1.1, (c.requires.ready, (c.requires.stands, (λ same. cc, (e.noted, λ v rest s. parts_as c.args.source.now c.args.spot.now v rest s (subst (λ (l : Layout). IsLaidOut c.args.source.now c.args.spot.now v rest l) c.in-Entry.is (c.layout.ensures v rest s)).1 h e.room e.types e.at)))))))))
-
-pub variant-parts-requires : goal.variant-parts-requires
-variant-parts-requires g t c κs within =
-    let there = c.requires.stands in
-    let p = c.requires.laid there.0 there.1 there.2 in
-    (omega (arith, p.deeper), (within.0, (within.1.0, (within.1.1.0, (within.1.1.1, (c.requires.ready, (c.requires.stands, (λ same. cc, (one_length c.args.types.now c.if-types-eq1.true, c.requires.laid)))))))))
-
-pub parts-walk_values-requires : goal.parts-walk_values-requires
-parts-walk_values-requires g t c κs within =
-    let there = c.requires.stands in
-    let p = c.requires.laid there.0 there.1 there.2 in
-    (omega arith, (within.0, (within.1.0, (within.1.1.0, (within.1.1.1, (c.in_ok-none.ensures.ready, ((parts there.0, there.1, p.held), c.requires.noted)))))))
-
-pub parts-returns-clause-walked : goal.parts-returns-clause-walked
-parts-returns-clause-walked g t c =
-    λ v rest s.
-    let p = c.requires.laid v rest s in
-    let order = c.args.source.now.order in
-    let at = c.args.spot.now.at in
-    let held = c.in_ok-many.ensures.walked (parts v) rest p.held in
-    let many = subst (λ (q : ℕ). g.V.Visitor.many c.open.new.self c.in_ok-none.none order q held.0.0 c.in_ok-many.many c.walk_values.new.visitor) p.starts held.0.2 in (
-      g.met.V.Visitor.whole c.args.visitor.now c.open.new.self c.walk_values.new.visitor c.close.new.self c.in_ok-none.none c.in_ok-many.many c.in_ok-closed.closed c.args.kind order at v held.0.0 p.is (c.in_ok-none.ensures.takes order at v p.is) held.0.1 many (c.in_ok-closed.ensures.takes v p.is),
-      held.1 ∙ p.ends,
-    )
-
-pub array-bounds-spot-1 : goal.array-bounds-spot-1
-array-bounds-spot-1 g t c =
-    let there = c.requires.stands in
-    let p = c.requires.laid there.0 there.1 there.2 in
-    omega (arith, p.long)
-
-pub array-numbers-requires-clause-code : goal.array-numbers-requires-clause-code
-array-numbers-requires-clause-code g t c =
-    let there = c.requires.stands in
-    let p = c.requires.laid there.0 there.1 there.2 in
-    array_coded c.args.source.now c.args.spot.now there.0 there.1 there.2 p
-
-pub array-numbers-requires-clause-wide : goal.array-numbers-requires-clause-wide
-array-numbers-requires-clause-wide g t c =
-    let there = c.requires.stands in
-    let p = c.requires.laid there.0 there.1 there.2 in
-    p.widths
-
-pub array-numbers-requires-clause-begins : goal.array-numbers-requires-clause-begins
-array-numbers-requires-clause-begins g t c =
-    let there = c.requires.stands in
-    let p = c.requires.laid there.0 there.1 there.2 in
-    p.begins
-
-pub array-numbers-requires-clause-parts : goal.array-numbers-requires-clause-parts
-array-numbers-requires-clause-parts g t c =
-    let there = c.requires.stands in
-    let p = c.requires.laid there.0 there.1 there.2 in
-    p.first
-
-pub array-numbers-requires-clause-ends : goal.array-numbers-requires-clause-ends
-array-numbers-requires-clause-ends g t c =
-    let there = c.requires.stands in
-    let p = c.requires.laid there.0 there.1 there.2 in
-    p.counts
-
-pub array-returns-then-at_one_stroke-clause-walked : goal.array-returns-then-at_one_stroke-clause-walked
-array-returns-then-at_one_stroke-clause-walked g t c =
-    λ v rest s. (c.in_ok-one.ensures.takes v rest s, (c.requires.laid v rest s).ends)
-
-pub array-open_array-requires-clause-code : goal.array-open_array-requires-clause-code
-array-open_array-requires-clause-code g t c =
-    let there = c.requires.stands in
-    let p = c.requires.laid there.0 there.1 there.2 in
-    array_coded c.args.source.now c.args.spot.now there.0 there.1 there.2 p
-
-pub array-open_array-requires-clause-listed : goal.array-open_array-requires-clause-listed
-array-open_array-requires-clause-listed g t c = λ type e.
-    let there = c.requires.stands in
-    let p = c.requires.laid there.0 there.1 there.2 in
-    elim c.else-run-gt0.branch [
-      | array-else-run-gt0-via-then-run-gt0+else-at_one_stroke w ↦ inr (sym w.at_one_stroke.ensures ∙ w.if-at_one_stroke.false)
-      | array-else-run-gt0-via-else-run-gt0 w ↦ inl (omega (arith, w.if-run-gt0.false, p.widths type e))
-    ]
-
-pub array-open_array-requires-clause-begins : goal.array-open_array-requires-clause-begins
-array-open_array-requires-clause-begins g t c =
-    let there = c.requires.stands in
-    let p = c.requires.laid there.0 there.1 there.2 in
-    p.begins
-
-pub array-overflow_sub-held : goal.array-overflow_sub-held
-array-overflow_sub-held g t c =
-    let there = c.requires.stands in
-    let p = c.requires.laid there.0 there.1 there.2 in
-    omega (arith, p.some)
-
-pub array-elements-requires : goal.array-elements-requires
-array-elements-requires g t c κs within =
-    let there = c.requires.stands in
-    let p = c.requires.laid there.0 there.1 there.2 in
-    (omega (arith, p.deeper), (within.0, (within.1.0, (within.1.1.0, (within.1.1.1, (c.in_ok-none.ensures.ready, ((p.xs, there.1, p.held), lengths_rest c.args.spot.now.types.now c.args.spot.now.lengths.now c.requires.noted 1)))))))
-
-pub array-returns-clause-walked : goal.array-returns-clause-walked
-array-returns-clause-walked g t c =
-    λ v rest s.
-    let p = c.requires.laid v rest s in
-    let order = c.args.source.now.order in
-    let at = c.args.spot.now.at in
-    let held = c.in_ok-many.ensures.walked p.xs rest p.held in
-    let is_of : IsOf kind.Array v = subst (IsOf kind.Array) (sym p.is) tt in
-    let many = subst (λ (q : ℕ). g.V.Visitor.many c.open_array.new.self c.in_ok-none.none order q held.0 c.in_ok-many.many c.elements.new.visitor) p.starts held.2 in (
-      g.met.V.Visitor.whole c.args.visitor.now c.open_array.new.self c.elements.new.visitor c.close.new.self c.in_ok-none.none c.in_ok-many.many c.in_ok-closed.closed kind.Array order at v held.0 is_of (c.in_ok-none.ensures.takes v rest s) (ap parts p.is ∙ held.1) many (c.in_ok-closed.ensures.takes v is_of),
-      p.ends,
-    )
 
 pub elements-loop-place-init : goal.elements-loop-place-init
 elements-loop-place-init g t c =
@@ -393,3 +134,158 @@ walk_values-returns-clause-walked g t c = λ vs rest e.
     let l = c.loop-pos.invariant.left vs rest e in
     let ended = no_value c.args.spot.now.types.now c.loop-pos.pos l c.loop-pos-test.false in
     ((l.done, ended.0, l.walked.taken), ended.1)
+
+pub array-returns-then-at_one_stroke-clause-walked : goal.array-returns-then-at_one_stroke-clause-walked
+array-returns-then-at_one_stroke-clause-walked g t c = λ v rest s. (c.in_ok-one.ensures.takes v rest s, (c.requires.laid v rest s).ends)
+
+pub array-overflow_sub-held : goal.array-overflow_sub-held
+array-overflow_sub-held g t c = let s = c.requires.stands in omega (arith, (c.requires.laid s.0 s.1 s.2).some)
+
+pub array-elements-requires : goal.array-elements-requires
+array-elements-requires g t c κs within =
+    let s = c.requires.stands in
+    let p = c.requires.laid s.0 s.1 s.2 in
+    let types = c.args.spot.now.types.now in
+    (omega (arith, p.some, c.requires.found.long, length-take (length types - 1) (drop 1 types)), (within.0, (within.1.0, (within.1.1.0, (within.1.1.1, (c.in_ok-none.ensures.ready, ((p.xs, s.1, p.held), lengths_rest types c.args.spot.now.lengths.now c.requires.noted 1)))))))
+
+pub array-returns-clause-walked : goal.array-returns-clause-walked
+array-returns-clause-walked g t c = λ v rest s.
+    let p = c.requires.laid v rest s in
+    let order = c.args.source.now.order in
+    let held = c.in_ok-many.ensures.walked p.xs rest p.held in
+    let is_of : IsOf kind.Array v = subst (IsOf kind.Array) (sym p.is) tt in
+    let many = subst (λ (q : ℕ). g.V.Visitor.many c.open_array.new.self c.in_ok-none.none order q held.0 c.in_ok-many.many c.elements.new.visitor) p.begins held.2 in (
+      g.met.V.Visitor.whole c.args.visitor.now c.open_array.new.self c.elements.new.visitor c.close.new.self c.in_ok-none.none c.in_ok-many.many c.in_ok-closed.closed kind.Array order c.args.spot.now.at v held.0 is_of (c.in_ok-none.ensures.takes v rest s) (ap parts p.is ∙ held.1) many (c.in_ok-closed.ensures.takes v is_of),
+      p.ends,
+    )
+
+pub brackets-walk_values-requires : goal.brackets-walk_values-requires
+brackets-walk_values-requires g t c κs within =
+    let types = c.args.spot.now.types.now in
+    let s = c.requires.stand in
+    (omega (arith, c.requires.long, length-take (length types - 1 - 1) (drop 1 types)), (within.0, (within.1.0, (within.1.1.0, (within.1.1.1, (c.in_ok-none.ensures.ready, (s, lengths_within types c.args.spot.now.lengths.now c.requires.noted 1 (length types - 1 - 1))))))))
+
+pub brackets-returns-clause-walked : goal.brackets-returns-clause-walked
+brackets-returns-clause-walked g t c = λ v rest is_of begins all.
+    let order = c.args.source.now.order in
+    let held = c.in_ok-many.ensures.walked (parts v) rest all in
+    let many = subst (λ (q : ℕ). g.V.Visitor.many c.open.new.self c.in_ok-none.none order q held.0.0 c.in_ok-many.many c.walk_values.new.visitor) begins held.0.2 in (
+      g.met.V.Visitor.whole c.args.visitor.now c.open.new.self c.walk_values.new.visitor c.close.new.self c.in_ok-none.none c.in_ok-many.many c.in_ok-closed.closed c.args.kind order c.args.spot.now.at v held.0.0 is_of (c.in_ok-none.ensures.takes order c.args.spot.now.at v is_of) held.0.1 many (c.in_ok-closed.ensures.takes v is_of),
+      held.1,
+    )
+
+pub variant-overflow_sub-held : goal.variant-overflow_sub-held
+variant-overflow_sub-held g t c = let s = c.requires.stands in omega (arith, (c.requires.laid s.0 s.1 s.2).some)
+
+pub variant-variant_of-requires : goal.variant-variant_of-requires
+variant-variant_of-requires g t c κs within =
+    let s = c.requires.stands in
+    let p = c.requires.laid s.0 s.1 s.2 in
+    (omega (arith, p.some, p.few), (within.0, (within.1.0, (within.1.1.0, (within.1.1.1, (c.requires.ready, ((p.x, s.1, p.held), one_length c.args.types.now c.if-types-eq1.true)))))))
+
+pub variant-noted_variant-requires : goal.variant-noted_variant-requires
+variant-noted_variant-requires g t c κs within =
+    let s = c.requires.stands in
+    let p = c.requires.laid s.0 s.1 s.2 in
+    (omega (arith, p.some, p.few), (within.0, (within.1.0, (within.1.1.0, (within.1.1.1, (c.requires.ready, ((p.x, s.1, p.held), p.few)))))))
+
+pub variant-returns-then-types-eq1-clause-walked : goal.variant-returns-then-types-eq1-clause-walked
+variant-returns-then-types-eq1-clause-walked g t c = λ v rest s.
+    let p = c.requires.laid v rest s in
+    let order = c.args.source.now.order in
+    let at = c.args.spot.now.at in
+    made_of c.variant_of.result (λ u x. g.V.Visitor.one c.args.visitor.now order at u x c.variant_of.new.visitor) (sym p.is) p.ends (c.variant_of.ensures.walked at p.x rest p.held (p.begins ∙ ap (inside order at) p.is))
+
+pub variant-returns-clause-walked : goal.variant-returns-clause-walked
+variant-returns-clause-walked g t c = λ v rest s.
+    let p = c.requires.laid v rest s in
+    let order = c.args.source.now.order in
+    let at = c.args.spot.now.at in
+    made_of c.noted_variant.result (λ u x. g.V.Visitor.one c.args.visitor.now order at u x c.noted_variant.new.visitor) (sym p.is) p.ends (c.noted_variant.ensures.walked at p.x rest p.held (p.begins ∙ ap (inside order at) p.is))
+
+pub variant_of-returns-clause-walked : goal.variant_of-returns-clause-walked
+variant_of-returns-clause-walked g t c = λ begin x rest s begins.
+    let order = c.args.source.now.order in
+    let q = c.args.held.now.at in
+    let w = c.in_ok-one.ensures.walked x rest s in
+    let opened = c.open.new.self in
+    let filled = c.push.new.self in
+    let held = g.met.V.Visitor.more opened opened c.part.new.self c.walk_value.new.visitor filled c.in_ok-none.none c.in_ok-none.none c.in_ok-many.many c.in_ok-one.one order q q [] x (g.met.V.Visitor.none opened c.in_ok-none.none order q) c.part.ensures.takes (starts order q) w.0 c.in_ok-many.ensures.takes in
+    let many = subst (λ (k : ℕ). g.V.Visitor.many opened c.in_ok-none.none order k (x ∷ []) c.in_ok-many.many filled) begins held in (
+      g.met.V.Visitor.whole c.args.visitor.now opened filled c.close.new.self c.in_ok-none.none c.in_ok-many.many c.in_ok-closed.closed kind.Variant order begin (VariantValue x) (x ∷ []) tt (c.in_ok-none.ensures.takes order begin (VariantValue x) tt) refl many (c.in_ok-closed.ensures.takes (VariantValue x) tt),
+      w.1,
+    )
+
+pub walk_value-number-requires : goal.walk_value-number-requires
+walk_value-number-requires g t c = let s = c.requires.stands in let p = laid_as c.args.source.now c.args.spot.now c.in-Number.is c.layout.ensures s.0 s.1 s.2 in record { ready = c.requires.ready; stands = s; some = p.some; wide = p.widths; begins = p.begins }
+
+pub walk_value-overflow_add-result : goal.walk_value-overflow_add-result
+walk_value-overflow_add-result g t c = let s = c.requires.stands in let p = laid_as c.args.source.now c.args.spot.now c.in-Number.is c.layout.ensures s.0 s.1 s.2 in omega (arith, p.inside, c.from.ensures)
+
+pub walk_value-long_text-requires : goal.walk_value-long_text-requires
+walk_value-long_text-requires g t c = let s = c.requires.stands in let p = laid_as c.args.source.now c.args.spot.now c.in-LongText.is c.layout.ensures s.0 s.1 s.2 in
+    record { ready = c.requires.ready; stands = s; code = long_coded p.code p.wide (sym (code_is (type_of s.0) c.args.spot.now.types.now s.2.text) ∙ ap (λ (u : ValueTree). first_code (type_of u)) p.is); begins = p.begins; counts = p.counts }
+
+pub walk_value-overflow_add-result-in-LongText : goal.walk_value-overflow_add-result-in-LongText
+walk_value-overflow_add-result-in-LongText g t c = let s = c.requires.stands in let p = laid_as c.args.source.now c.args.spot.now c.in-LongText.is c.layout.ensures s.0 s.1 s.2 in omega (arith, p.inside)
+
+pub walk_value-overflow_add-result-in-LongText-2 : goal.walk_value-overflow_add-result-in-LongText-2
+walk_value-overflow_add-result-in-LongText-2 g t c = let s = c.requires.stands in let p = laid_as c.args.source.now c.args.spot.now c.in-LongText.is c.layout.ensures s.0 s.1 s.2 in omega (arith, p.inside)
+
+pub walk_value-overflow_add-result-in-LongText-3 : goal.walk_value-overflow_add-result-in-LongText-3
+walk_value-overflow_add-result-in-LongText-3 g t c = let s = c.requires.stands in let p = laid_as c.args.source.now c.args.spot.now c.in-LongText.is c.layout.ensures s.0 s.1 s.2 in omega (arith, p.inside)
+
+pub walk_value-short_text-requires : goal.walk_value-short_text-requires
+walk_value-short_text-requires g t c = let s = c.requires.stands in let p = laid_as c.args.source.now c.args.spot.now c.in-ShortText.is c.layout.ensures s.0 s.1 s.2 in
+    record { ready = c.requires.ready; stands = s; code = short_coded p.code p.wide (sym (code_is (type_of s.0) c.args.spot.now.types.now s.2.text) ∙ ap (λ (u : ValueTree). first_code (type_of u)) p.is); counts = p.counts ∙ sym (one_byte c.args.source.now.order c.args.source.now.bytes.now c.args.spot.now.at (omega (arith, p.inside))) }
+
+pub walk_value-overflow_add-result-in-ShortText : goal.walk_value-overflow_add-result-in-ShortText
+walk_value-overflow_add-result-in-ShortText g t c = let s = c.requires.stands in let p = laid_as c.args.source.now c.args.spot.now c.in-ShortText.is c.layout.ensures s.0 s.1 s.2 in omega (arith, p.inside)
+
+pub walk_value-overflow_add-result-in-ShortText-2 : goal.walk_value-overflow_add-result-in-ShortText-2
+walk_value-overflow_add-result-in-ShortText-2 g t c = let s = c.requires.stands in let p = laid_as c.args.source.now c.args.spot.now c.in-ShortText.is c.layout.ensures s.0 s.1 s.2 in omega (arith, p.inside)
+
+pub walk_value-overflow_add-result-in-ShortText-3 : goal.walk_value-overflow_add-result-in-ShortText-3
+walk_value-overflow_add-result-in-ShortText-3 g t c = let s = c.requires.stands in let p = laid_as c.args.source.now c.args.spot.now c.in-ShortText.is c.layout.ensures s.0 s.1 s.2 in omega (arith, p.inside)
+
+pub walk_value-variant-requires : goal.walk_value-variant-requires
+walk_value-variant-requires g t c κs within =
+    (omega (arith, types_some c.requires.stands.2), (within.0, (within.1.0, (within.1.1.0, (within.1.1.1, (c.requires.ready, (c.requires.stands, laid_as c.args.source.now c.args.spot.now c.in-Variant.is c.layout.ensures)))))))
+
+pub walk_value-array-requires : goal.walk_value-array-requires
+walk_value-array-requires g t c κs within = let s = c.requires.stands in let p = laid_as c.args.source.now c.args.spot.now c.in-Array.is c.layout.ensures s.0 s.1 s.2 in
+    (omega (arith, types_some s.2), (within.0, (within.1.0, (within.1.1.0, (within.1.1.1, (c.requires.ready, (s, (c.requires.noted, (p.found, laid_as c.args.source.now c.args.spot.now c.in-Array.is c.layout.ensures)))))))))
+
+pub walk_value-overflow_sub-spot : goal.walk_value-overflow_sub-spot
+walk_value-overflow_sub-spot g t c = let s = c.requires.stands in let p = laid_as c.args.source.now c.args.spot.now c.in-Struct.is c.layout.ensures s.0 s.1 s.2 in omega (arith, p.some)
+
+pub walk_value-brackets-requires : goal.walk_value-brackets-requires
+walk_value-brackets-requires g t c κs within = let s = c.requires.stands in let p = laid_as c.args.source.now c.args.spot.now c.in-Struct.is c.layout.ensures s.0 s.1 s.2 in
+    (omega (arith, p.some, p.long), (within.0, (within.1.0, (within.1.1.0, (within.1.1.1, (c.requires.ready, ((p.xs, s.1, p.held), (c.requires.noted, (p.long, λ e. absurd cc)))))))))
+
+pub walk_value-brackets-requires-in-Entry : goal.walk_value-brackets-requires-in-Entry
+walk_value-brackets-requires-in-Entry g t c κs within = let s = c.requires.stands in let p = laid_as c.args.source.now c.args.spot.now c.in-Entry.is c.layout.ensures s.0 s.1 s.2 in
+    (omega (arith, p.long), (within.0, (within.1.0, (within.1.1.0, (within.1.1.1, (c.requires.ready, ((MoreValues p.x (MoreValues p.y NoValues), s.1, p.held), (c.requires.noted, (p.long, λ e. absurd cc)))))))))
+
+pub walk_value-returns-in-Number-clause-walked : goal.walk_value-returns-in-Number-clause-walked
+walk_value-returns-in-Number-clause-walked g t c = λ v rest s. let p = laid_as c.args.source.now c.args.spot.now c.in-Number.is c.layout.ensures v rest s in (c.in_ok-one-in-Number.ensures.takes v rest s, omega (arith, p.ends, c.from.ensures))
+
+pub walk_value-returns-in-LongText-clause-walked : goal.walk_value-returns-in-LongText-clause-walked
+walk_value-returns-in-LongText-clause-walked g t c = λ v rest s. let p = laid_as c.args.source.now c.args.spot.now c.in-LongText.is c.layout.ensures v rest s in (c.in_ok-one-in-LongText.ensures.takes v rest s, p.ends)
+
+pub walk_value-returns-in-ShortText-clause-walked : goal.walk_value-returns-in-ShortText-clause-walked
+walk_value-returns-in-ShortText-clause-walked g t c = λ v rest s. let p = laid_as c.args.source.now c.args.spot.now c.in-ShortText.is c.layout.ensures v rest s in (c.in_ok-one-in-ShortText.ensures.takes v rest s, p.ends)
+
+pub walk_value-returns-in-Struct-clause-walked : goal.walk_value-returns-in-Struct-clause-walked
+walk_value-returns-in-Struct-clause-walked g t c = λ v rest s.
+    let p = laid_as c.args.source.now c.args.spot.now c.in-Struct.is c.layout.ensures v rest s in
+    let order = c.args.source.now.order in
+    let at = c.args.spot.now.at in
+    made_of c.brackets.result (λ u x. g.V.Visitor.one c.args.visitor.now order at u x c.brackets.new.visitor) (sym p.is) p.ends (c.brackets.ensures.walked (StructValue p.xs) rest tt (p.begins ∙ ap (inside order at) p.is) p.held)
+
+pub walk_value-returns-in-Entry-clause-walked : goal.walk_value-returns-in-Entry-clause-walked
+walk_value-returns-in-Entry-clause-walked g t c = λ v rest s.
+    let p = laid_as c.args.source.now c.args.spot.now c.in-Entry.is c.layout.ensures v rest s in
+    let order = c.args.source.now.order in
+    let at = c.args.spot.now.at in
+    made_of c.brackets-in-Entry.result (λ u x. g.V.Visitor.one c.args.visitor.now order at u x c.brackets-in-Entry.new.visitor) (sym p.is) p.ends (c.brackets-in-Entry.ensures.walked (EntryValue p.x p.y) rest tt (p.begins ∙ ap (inside order at) p.is) p.held)

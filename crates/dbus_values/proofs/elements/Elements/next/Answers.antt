@@ -1,7 +1,6 @@
 use Rattle.std.proofs.Common.{◌≡◌, ℕ, ◌-◌, ◌<◌, ◌∙◌, refl, sym, ap, subst, arith}
-use Rattle.dbus_walk.specs.Layouts.{weight}
 use Rattle.dbus_walk.specs.Standing.{ElementsStand}
-use Rattle.dbus_values.specs.States.{ElementsState, ElementsAreLeft}
+use Rattle.dbus_values.specs.States.{ElementsState, ElementsAreLeft, weight}
 use Rattle.dbus_values.specs.Seen.{weight_in}
 use Rattle.dbus_values.proofs.Firsts.{no_elements, element_of}
 use Rattle.dbus_values.proofs.elements.Elements.next.Goals as goal

@@ -1,8 +1,10 @@
-use Rattle.std.proofs.Common.{◌<◌, ◌-◌, ℕ, ◌∙◌, length, take, drop, sym, ap, subst, arith}
+use Rattle.std.proofs.Common.{◌≡◌, ◌<◌, ◌+◌, ◌-◌, ℕ, ◌∙◌, refl, length, take, drop, sym, ap, subst, arith}
 use Rattle.std.proofs.lemmas.Bool.{eqb-true}
 use Rattle.std.proofs.lemmas.List.{length-take}
 use Rattle.dbus_walk.specs.Standing.{AllStand}
-use Rattle.dbus_values.specs.States.{ValuesState, AreLeft}
+use Rattle.dbus_value_model.specs.Spelling.{spelling}
+use Rattle.dbus_value_model.specs.Values.{ValueTree, MoreValues}
+use Rattle.dbus_values.specs.States.{ValuesState, AreLeft, IsAfter}
 use Rattle.dbus_values.proofs.Firsts.{no_values, value_of}
 use Rattle.dbus_values.proofs.values.Values.next.Goals as goal
 
@@ -41,3 +43,17 @@ returns-clause-first c = λ xs rest l.
     let f = value_of s xs rest end here some c.type_end-end.ensures.value in
     let w = c.pass-seen.ensures.seen f.x _ f.stands in
     (f.x, f.us, f.begins, w.0, subst (λ (k : ℕ). AllStand s.order s.room (take (length s.types - end) (drop end s.types)) k s.bytes f.us rest) (sym w.1) f.others)
+
+pub returns-clause-after : goal.returns-clause-after
+returns-clause-after c = λ x us rest l.
+    let i = c.self.inside in
+    let s : ValuesState = record { order = i.source.order; bytes = i.source.bytes.now; at = i.at; types = i.types.now; room = i.room } in
+    let some : 0 < length s.types = omega arith in
+    let here = subst (λ (u : ValuesState). AreLeft u (MoreValues x us) rest) (sym c.self.view_is) l in
+    let f = value_of s (MoreValues x us) rest c.type_end-end.result here some c.type_end-end.ensures.value in
+    let w = c.pass-seen.ensures.seen f.x _ f.stands in
+    let begins : MoreValues x us ≡ MoreValues f.x f.us = f.begins in
+    let same : f.x ≡ x = cc in
+    let ends : c.pass-seen.result.1 ≡ s.at + length (spelling s.order s.at x) = w.1 ∙ ap (λ (u : ValueTree). s.at + length (spelling s.order s.at u)) same in
+    let after : IsAfter s x (record { order = s.order; bytes = s.bytes; at = c.pass-seen.result.1; types = s.types; room = s.room }) = (refl, refl, ends) in
+    subst (λ (u : ValuesState). (s.order ≡ u.order) × (s.bytes ≡ u.bytes) × (c.pass-seen.result.1 ≡ u.at + length (spelling u.order u.at x))) c.self.view_is after

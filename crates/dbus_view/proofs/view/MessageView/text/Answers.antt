@@ -1,4 +1,4 @@
-use Rattle.std.proofs.Common.{◌≡◌, ℕ, List, IsUtf8, Option, Some, sym, ap, subst, ◌∙◌}
+use Rattle.std.proofs.Common.{◌≡◌, ℕ, List, Option, Some, sym, ap, subst, ◌∙◌}
 use Rattle.dbus_value_model.specs.Values.{ValueTree}
 use Rattle.dbus_message_model.specs.Lookups.{field_value}
 use Rattle.dbus_message_model.specs.Messages.{MessageTree, want}
@@ -14,20 +14,21 @@ returns-in_err-place c = λ order m w.
     let none = no_text v.limits v.bytes.now v.judged c.self.invariant c.args.code c.requires (sym c.in_err-place.was ∙ c.get.ensures) in
     rw c.from_residual.ensures (ap (λ (u : MessageTree). field_value c.args.code u.fields) (sym both.1) ∙ none)
 
-pub from_utf8_unchecked-requires : goal.from_utf8_unchecked-requires
-from_utf8_unchecked-requires c =
+pub text_in-requires-clause-inside : goal.text_in-requires-clause-inside
+text_in-requires-clause-inside c =
     let v = c.self.inside in
-    let p = c.in_ok-place.place in
-    let there = text_there v.limits v.bytes.now v.judged c.self.invariant c.args.code c.requires p (sym c.in_ok-place.was ∙ c.get.ensures) in
-    subst IsUtf8 (sym c.text-text.ensures) there.utf8
+    (text_there v.limits v.bytes.now v.judged c.self.invariant c.args.code c.requires c.in_ok-place.place (sym c.in_ok-place.was ∙ c.get.ensures)).inside
+
+pub text_in-requires-clause-utf8 : goal.text_in-requires-clause-utf8
+text_in-requires-clause-utf8 c =
+    let v = c.self.inside in
+    (text_there v.limits v.bytes.now v.judged c.self.invariant c.args.code c.requires c.in_ok-place.place (sym c.in_ok-place.was ∙ c.get.ensures)).utf8
 
 pub returns : goal.returns
 returns c = λ order m w.
     let v = c.self.inside in
-    let p = c.in_ok-place.place in
     let both = same v.limits v.bytes.now v.judged c.self.invariant c.args.self.now c.self.view_is order m w in
-    let there = text_there v.limits v.bytes.now v.judged c.self.invariant c.args.code c.requires p (sym c.in_ok-place.was ∙ c.get.ensures) in
-    let text = c.from_utf8_unchecked.ensures ∙ c.text-text.ensures in
+    let there = text_there v.limits v.bytes.now v.judged c.self.invariant c.args.code c.requires c.in_ok-place.place (sym c.in_ok-place.was ∙ c.get.ensures) in
     let value : Some there.value ≡ field_value c.args.code m.fields = sym there.is ∙ ap (λ (u : MessageTree). field_value c.args.code u.fields) both.1 in
-    subst (λ (x : Option ValueTree). IsTextOf (want c.args.code) x c.from_utf8_unchecked.result.now) value
-    (subst (λ (t : List ℕ). IsTextOf (want c.args.code) (Some there.value) t) (sym text) there.text)
+    subst (λ (x : Option ValueTree). IsTextOf (want c.args.code) x c.text_in.result.now) value
+    (subst (λ (t : List ℕ). IsTextOf (want c.args.code) (Some there.value) t) (sym c.text_in.ensures) there.text)
