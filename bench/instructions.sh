@@ -1,7 +1,7 @@
 #!/usr/bin/env bash
 # bench/instructions.sh PROGRAM: instructions a byte of each command of PROGRAM, as valgrind counts them, over the sample captures
-# and the shapes of bench/shapes.py; and of libdbus, which reads each message and lets it go, where its headers are. They do not
-# depend on what else the machine does.
+# and the shapes of bench/shapes.py, then over its worst shapes; and of libdbus, which reads each message and lets it go, where its
+# headers are. They do not depend on what else the machine does.
 set -euo pipefail
 program=$1 here=$(cd "$(dirname "$0")" && pwd)
 folder=$(mktemp -d)
@@ -24,15 +24,21 @@ count() {
     awk -v said="$(sed -n 's/.*Collected : //p' <<< "$said")" -v bytes="$(stat -c %s "$input")" 'BEGIN { printf "%8.1f", said / bytes }'
 }
 
+count_each() {
+    printf '%-14s' "$(basename "${1%.*}")"
+    count "$1" "$program" check
+    count "$1" "$program" filter "type='signal'"
+    count "$1" "$program" swap --to l
+    count "$1" "$program" swap --to B
+    count "$1" "$program" show
+    if [ -n "$libdbus" ]; then count "$1" "$libdbus"; fi
+    echo
+}
+
 printf '%-14s%8s%8s%8s%8s%8s%8s\n' stream check filter 'swap l' 'swap B' show libdbus
 for stream in session big-endian dictionaries texts structs bytes doubles; do
-    input=$folder/$stream.dbus
-    printf '%-14s' "$stream"
-    count "$input" "$program" check
-    count "$input" "$program" filter "type='signal'"
-    count "$input" "$program" swap --to l
-    count "$input" "$program" swap --to B
-    count "$input" "$program" show
-    if [ -n "$libdbus" ]; then count "$input" "$libdbus"; fi
-    echo
+    count_each "$folder/$stream.dbus"
+done
+for stream in "$folder"/*.worst; do
+    count_each "$stream"
 done

@@ -3,6 +3,9 @@
 
 dictionaries: a signal PropertiesChanged with twelve properties; texts: an array of 200 texts; structs: an array of 100 structs
 a(iiuxsb); bytes: an array of 32,000 bytes; doubles: an array of 1,000 doubles. All are in little endian.
+
+FOLDER/NAME.worst has the most work a byte that a legal message asks for: one message of about 1 MB, an array of elements that are
+small, or nested, or wide; `fields` has header fields of no meaning in its place.
 """
 
 import random
@@ -100,8 +103,56 @@ SHAPES = {
 }
 
 
+def array_message(types, alignment, unit, last=b""):
+    """A signal whose body is a number and an array, of this type, of these bytes again and again, from a boundary of 8 on."""
+    units = unit * (WORST_SIZE // len(unit)) + last
+    body = bytearray(struct.pack("<II", 0, len(units)))
+    align(body, alignment)
+    body.extend(units)
+    return header("u" + types, len(body)) + bytes(body)
+
+
+def header(types, length, more=b""):
+    out = bytearray(struct.pack("<cBBBII", b"l", 4, 0, 1, length, 1))
+    put(out, "a(yv)", [*FIELDS, (8, ("g", types))])
+    if more:
+        align(out, 8)
+        out.extend(more)
+        struct.pack_into("<I", out, 12, len(out) - 16)
+    align(out, 8)
+    return bytes(out)
+
+
+def field_message():
+    """A signal whose header has fields of no meaning, each of a byte."""
+    return header("", 0, (b"\xc8\x01y\0\x07" + bytes(3)) * (WORST_SIZE // 8) + b"\xc8\x01y\0\x07")
+
+
+NESTED = "(" * 31 + "a(" + "y" * 188 + ")" + ")" * 31
+PATH = struct.pack("<I", 1) + b"/\0"
+WORST_SIZE = 1_000_000
+WORST = {
+    "nested": lambda: array_message("a" + NESTED, 8, bytes(8)),
+    "wide": lambda: array_message("a(" + "y" * 248 + ")", 8, bytes(248)),
+    "empty": lambda: array_message("aay", 4, bytes(4)),
+    "deep": lambda: array_message("a" + "(a" * 31 + "y" + ")" * 31, 8, bytes(8)),
+    "entries": lambda: array_message("a{y(y)}", 8, bytes(16), bytes(9)),
+    "variants": lambda: array_message("av", 1, b"\x01y\0\0"),
+    "chained": lambda: array_message("av", 1, b"\x01v\0" * 62 + b"\x01y\0\0"),
+    "spelled": lambda: array_message("av", 1, bytes([253]) + b"a(" + b"y" * 250 + b")\0" + bytes(1) + bytes(8)),
+    "signatures": lambda: array_message("ag", 1, bytes([254]) + b"y" * 254 + b"\0"),
+    "texts": lambda: array_message("as", 4, bytes(8), bytes(5)),
+    "paths": lambda: array_message("ao", 4, PATH + bytes(2), PATH),
+    "booleans": lambda: array_message("ab", 4, bytes(4)),
+    "fields": field_message,
+}
+
+
 def main():
     random.seed(7)
+    for name, shape in WORST.items():
+        with open(f"{sys.argv[1]}/{name}.worst", "wb") as file:
+            file.write(shape())
     for name, shape in SHAPES.items():
         with open(f"{sys.argv[1]}/{name}.dbus", "wb") as file:
             written = serial = 0

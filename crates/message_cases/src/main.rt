@@ -14,6 +14,7 @@ mod judging;
 mod pieces;
 mod reading;
 mod same;
+mod seeing;
 mod showing;
 mod turning;
 mod viewing;

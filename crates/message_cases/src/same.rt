@@ -3,6 +3,7 @@
 use crate::building::built;
 use crate::decoding::message_of;
 use crate::input::Input;
+use crate::seeing::sees_body;
 use crate::showing::is_shown;
 use crate::turning::copy_turned;
 use crate::viewing::gives_message;
@@ -21,6 +22,22 @@ fn is_encoded(alloc: Global, message: &Message, columns: [&[u8]; 2]) -> Result<[
     ])
 }
 
+// What is to hold of a view of the input, which is the message.
+fn try_view(
+    rt: &HostRuntime,
+    tally: &mut Tally,
+    input: &Input,
+    order: Order,
+    message: &Message,
+) -> Result<()> {
+    let (bytes, limits) = (input.bytes(), input.limits);
+    let is_viewed = gives_message(bytes, limits, order, message);
+    tally.compare(rt, "a view gives what the message has", &true, &is_viewed)?;
+    let is_seen = sees_body(bytes, limits, message);
+    tally.compare(rt, "the body's values are seen one by one", &true, &is_seen)?;
+    Ok(())
+}
+
 // What is to hold of a message of an input that has these bytes in little and in big endian.
 fn try_message(
     rt: &HostRuntime,
@@ -29,7 +46,7 @@ fn try_message(
     (order, message): (Order, Message),
     columns: [&[u8]; 2],
 ) -> Result<()> {
-    let (alloc, bytes, limits) = (input.alloc, input.bytes(), input.limits);
+    let (alloc, limits) = (input.alloc, input.limits);
     let [little, big] = columns;
     let [in_little, in_big] = is_encoded(alloc, &message, columns)?;
     tally.compare(
@@ -51,8 +68,7 @@ fn try_message(
     let turned = copy_turned(alloc, input.all(), limits)?;
     let is_turned = matches!(&turned, Some(copy) if copy.as_slice() == other);
     tally.compare(rt, "turned, it is the other column", &true, &is_turned)?;
-    let is_seen = gives_message(bytes, limits, order, &message);
-    tally.compare(rt, "a view gives what the message has", &true, &is_seen)?;
+    try_view(rt, tally, input, order, &message)?;
     let is_shown = is_shown(alloc, input.all(), limits, order, &message)?;
     tally.compare(rt, "the bytes are shown as the message", &true, &is_shown)?;
     tally.compare(

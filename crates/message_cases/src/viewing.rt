@@ -20,8 +20,8 @@ fn reply_of(message: &Message) -> Option<u32> {
     }
 }
 
-// The first code of a value's type.
-fn code_of(value: &Value) -> u8 {
+/// The first code of a value's type.
+pub(crate) fn code_of(value: &Value) -> u8 {
     match value {
         Value::Byte(_) => b'y',
         Value::Bool(_) => b'b',
