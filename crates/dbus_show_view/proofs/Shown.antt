@@ -83,14 +83,13 @@ module _ {order : Order} {room : ℕ} {types : List ℕ} {at : ℕ} {bytes : Lis
         let text : types ++ (58 ∷ 91 ∷ []) ≡ open_text v = ap (λ (l : List ℕ). l ++ (58 ∷ 91 ∷ [])) array_text ∙ sym (ap open_text p.is) in
         subst (λ (l : List ℕ). Gains a l d) text (then typed (then parted bracket))
 
-    pub array_listed : ((t : TypeTree) → first_code t ≡ get_or types 1 0 → (number_width t ≡ 0) ⊎ ((get_or types 1 0 == 121) ≡ false)) → IsListed v
-    array_listed listed =
-        let test : is_byte p.type ≡ false = not_byte p.type (λ e. other p.type e (listed p.type p.code) (sym p.code ∙ e)) in
+    pub array_listed : (get_or types 1 0 == 121) ≡ false → IsListed v
+    array_listed differs =
+        let test : is_byte p.type ≡ false = not_byte p.type (λ e. other (sym p.code ∙ e)) in
         subst IsListed (sym p.is) test
       where
-        other : (t : TypeTree) → first_code t ≡ 121 → (number_width t ≡ 0) ⊎ ((get_or types 1 0 == 121) ≡ false) → get_or types 1 0 ≡ 121 → ⊥
-        other t e (inl none) byte = let some : number_width t ≡ 1 = ap number_width (byte_is t e) in omega (arith, none, some)
-        other t e (inr differs) byte = let z : (121 == 121) ≡ false = subst (λ (k : ℕ). (k == 121) ≡ false) byte differs in cc
+        other : get_or types 1 0 ≡ 121 → ⊥
+        other byte = let z : (121 == 121) ≡ false = subst (λ (k : ℕ). (k == 121) ≡ false) byte differs in cc
 
 pub stroke_is : (c : ℕ) → (c == 121) ≡ true → c ≡ 121
 stroke_is c e = eqb-true c 121 e

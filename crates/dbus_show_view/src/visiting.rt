@@ -23,7 +23,7 @@ impl<A: Allocator> Visitor for Shower<'_, '_, A> {
 
     ghost ready = { λ _ _. Unit {0} };
 
-    ghost strokes = { λ code. code == 121 };
+    ghost strokes = { λ code _. code == 121 };
 
     ghost one = { λ s _ _ v _ t. Shows s (value_text v) t };
 
@@ -38,7 +38,7 @@ impl<A: Allocator> Visitor for Shower<'_, '_, A> {
     ghost pushes = { λ s _ _ _ t. Stays s t };
 
     #[inline]
-    fn at_one_stroke(code: u8) -> bool
+    fn at_one_stroke(code: u8, _size: u8) -> bool
         ensures { result ≡ (code == 121) }
     {
         code == b'y'
@@ -87,7 +87,7 @@ impl<A: Allocator> Visitor for Shower<'_, '_, A> {
     }
 
     #[inline]
-    fn numbers(
+    fn whole_array(
         &mut self,
         source: &Source<'_>,
         spot: &Spot<'_>,

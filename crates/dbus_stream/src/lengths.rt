@@ -9,7 +9,7 @@ use dbus_judge::judge;
 use dbus_value::Limits;
 
 /// Takes the bytes of messages, and gives the length of each. It holds no byte but what its checker holds, and takes no
-/// memory: it has a fixed size, about 23,000 bytes.
+/// memory: it has a fixed size, about 40,000 bytes.
 #[derive(Drop)]
 pub struct Lengths {
     limits: Limits,

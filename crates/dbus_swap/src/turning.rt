@@ -1,7 +1,7 @@
 //! Values turned where they stand. D-Bus Specification, "Marshaling (Wire Format)".
 #![tactic(auto)]
 
-ghost use Rattle.std.specs.Prelude.{◌≡◌, length, true};
+ghost use Rattle.std.specs.Prelude.{◌≡◌, length, nat_lt};
 ghost use Rattle.dbus_value_model.specs.Spelling.{spelling, spellings};
 ghost use Rattle.dbus_value_model.specs.Values.{value_trees};
 ghost use Rattle.dbus_walk.specs.Containers.{front};
@@ -23,7 +23,7 @@ impl Visitor for Turner<'_> {
 
     ghost ready = { λ t n. length t.out.now ≡ n };
 
-    ghost strokes = { λ _. true };
+    ghost strokes = { λ _ size. nat_lt 0 size };
 
     ghost one = { λ s order at v _ t.
         Turns at (spelling order at v) (spelling (other order) at v) s t };
@@ -40,10 +40,10 @@ impl Visitor for Turner<'_> {
     ghost pushes = { λ s _ _ _ t. Stays s t };
 
     #[inline]
-    fn at_one_stroke(_code: u8) -> bool
-        ensures { result ≡ true }
+    fn at_one_stroke(_code: u8, size: u8) -> bool
+        ensures { result ≡ nat_lt 0 size }
     {
-        true
+        size > 0
     }
 
     #[inline]
@@ -81,7 +81,7 @@ impl Visitor for Turner<'_> {
     }
 
     #[inline]
-    fn numbers(
+    fn whole_array(
         &mut self,
         _source: &Source<'_>,
         _spot: &Spot<'_>,

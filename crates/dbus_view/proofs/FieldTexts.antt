@@ -2,7 +2,6 @@
 use Rattle.std.proofs.Common.{◌≡◌, ℕ, zero, suc, Bool, true, false, cond, eqb, List, [], ◌∷◌, map, Option, Some, None, slice_index_or, refl, sym, ap, subst, ◌∙◌}
 use Rattle.std.proofs.lemmas.Bool.{eqb-true}
 use Rattle.dbus_texts.specs.Types.{TextCode, STRING, UINT32, NumberType, TextType, VariantType, ArrayType, StructType, EntryType}
-use Rattle.dbus_value_model.specs.Measures.{coded}
 use Rattle.dbus_value_model.specs.Values.{ValueTree, NumberValue, TextValue, IsWellFormed, AreWellFormed, value_trees}
 use Rattle.dbus_message_model.specs.Lookups.{field_value}
 use Rattle.dbus_message_model.specs.Messages.{FieldTree, Want, Anything, OfType, Name, Serial, want, is_particular, is_known, Suits, AreFields, field_struct, field_array, text_in, number_in}
@@ -10,6 +9,7 @@ use Rattle.dbus_message_model.proofs.TextValues.{text_of}
 use Rattle.dbus_judge.specs.Seen.{AreNoted, IsNotedOf, StandsAt}
 use Rattle.dbus_judge.specs.declared.seen.Place.{Place}
 use Rattle.dbus_judge.specs.declared.seen.Seen.{Seen}
+use Rattle.dbus_walk.proofs.Signed.{held_formed}
 use Rattle.dbus_view.specs.Fields.{WantsText, IsTextOf}
 
 -- ---- the first field of a code
@@ -25,11 +25,6 @@ module _ (c : ℕ) where
           let same : f.value ≡ v = cc in
           subst (λ (x : ValueTree). Suits (want c) x) same (subst (λ (k : ℕ). Suits (want k) f.value) code h.0.suits)
       go false is g more = more g
-
-held_formed : (room code : ℕ) (v : ValueTree) → IsWellFormed room (coded code v) → (r : ℕ) × IsWellFormed r v
-held_formed zero code v h = absurd h
-held_formed (suc zero) code v h = absurd h.1.0
-held_formed (suc (suc r)) code v h = (r, h.1.0.1)
 
 each_formed : (room c : ℕ) (fs : List FieldTree) → AreWellFormed room (value_trees (map field_struct fs)) → (v : ValueTree) → field_value c fs ≡ Some v → (r : ℕ) × IsWellFormed r v
 each_formed room c [] h v e = absurd cc

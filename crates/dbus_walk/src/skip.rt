@@ -12,7 +12,7 @@ use crate::visitor::Visitor;
 use crate::walk::walk_value;
 use std::convert::Infallible;
 
-/// Makes nothing of the values that it visits.
+/// Makes nothing of the values that it visits. It takes every array at one stroke.
 #[derive(Clone, Copy)]
 pub struct Skip;
 
@@ -25,7 +25,7 @@ impl Visitor for Skip {
 
     ghost ready = { λ _ _. Unit {0} };
 
-    ghost strokes = { λ _. true };
+    ghost strokes = { λ _ _. true };
 
     ghost one = { λ _ _ _ _ _ _. Unit {0} };
 
@@ -40,7 +40,7 @@ impl Visitor for Skip {
     ghost pushes = { λ _ _ _ _ _. Unit {0} };
 
     #[inline]
-    fn at_one_stroke(_code: u8) -> bool {
+    fn at_one_stroke(_code: u8, _size: u8) -> bool {
         true
     }
 
@@ -77,7 +77,7 @@ impl Visitor for Skip {
     }
 
     #[inline]
-    fn numbers(
+    fn whole_array(
         &mut self,
         _source: &Source<'_>,
         _spot: &Spot<'_>,
@@ -121,7 +121,7 @@ impl Visitor for Skip {
     ghost whole = { λ _ _ _ _ _ _ _ _ _ _ _ _ _ _ _ _ _. tt };
 }
 
-/// The offset after the value that stands at a spot.
+/// The offset after the value that stands at a spot. The elements of arrays are not gone through.
 pub fn skip_value(source: &Source<'_>, spot: &Spot<'_>) -> usize
     requires stands { StandsThere source.now spot.now }
     requires noted { AreLengths spot.now.types.now spot.now.lengths.now }

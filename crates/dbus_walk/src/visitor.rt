@@ -37,8 +37,9 @@ pub trait Visitor {
     // It can take the values of a message of so many bytes.
     ghost ready: { Self → ℕ → Type 0 };
 
-    // It takes arrays of the numbers whose type has this code whole, and not number by number.
-    ghost strokes: { ℕ → Bool };
+    // It takes arrays at one stroke, and not element by element, if their elements' type begins with this code, and the elements
+    // have so many bytes each if they are numbers, or else 0.
+    ghost strokes: { ℕ → ℕ → Bool };
 
     // What it makes of a value that stands at an offset.
     ghost one: { Self → Order → ℕ → ValueTree → Self.One → Self → Type 0 };
@@ -58,9 +59,10 @@ pub trait Visitor {
     // What it made of a part is gathered.
     ghost pushes: { Self → Self.Many → Self.One → Self.Many → Self → Type 0 };
 
-    /// Whether it takes an array of numbers, whose type has this code, at one stroke: by `numbers`, and not number by number.
-    fn at_one_stroke(code: u8) -> bool
-        ensures { result ≡ strokes code };
+    /// Whether it takes an array at one stroke, by `whole_array`, and not element by element: by the first code of its elements'
+    /// type, and by how many bytes each number has, or 0 if the elements are no numbers.
+    fn at_one_stroke(code: u8, size: u8) -> bool
+        ensures { result ≡ strokes code size };
 
     /// Takes a number of `size` bytes, which begins at `start`.
     fn number(
@@ -112,8 +114,8 @@ pub trait Visitor {
         ensures takes { (v : ValueTree) (rest : List ℕ) → StandsAt source.now spot.now v rest →
             IfOk result (λ r. one self.old source.now.order spot.now.at v r self.new) };
 
-    /// Takes an array of numbers at one stroke.
-    fn numbers(
+    /// Takes an array at one stroke.
+    fn whole_array(
         &mut self,
         source: &Source<'_>,
         spot: &Spot<'_>,
@@ -122,8 +124,7 @@ pub trait Visitor {
         requires ready { ready self.old (length source.now.bytes.now) }
         requires stands { StandsThere source.now spot.now }
         requires code { slice_index spot.now.types.now 0 ≡ 97 }
-        requires stroke { strokes (slice_index spot.now.types.now 1) ≡ true }
-        requires some { 0 < run.size }
+        requires stroke { strokes (slice_index spot.now.types.now 1) run.size ≡ true }
         requires wide { (t : TypeTree) → first_code t ≡ slice_index spot.now.types.now 1 →
             run.size ≡ number_width t }
         requires begins { run.start ≡ spot.now.at + gap_to 4 spot.now.at }
@@ -146,7 +147,7 @@ pub trait Visitor {
         requires stands { StandsThere source.now spot.now }
         requires code { slice_index spot.now.types.now 0 ≡ 97 }
         requires listed { (t : TypeTree) → first_code t ≡ slice_index spot.now.types.now 1 →
-            (number_width t ≡ 0) ⊎ (strokes (slice_index spot.now.types.now 1) ≡ false) }
+            strokes (slice_index spot.now.types.now 1) (number_width t) ≡ false }
         requires begins { start ≡ spot.now.at + gap_to 4 spot.now.at }
         ensures ready { ready self.new (length source.now.bytes.now) }
         ensures takes { (v : ValueTree) (rest : List ℕ) → StandsAt source.now spot.now v rest →

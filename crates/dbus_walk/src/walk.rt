@@ -167,8 +167,8 @@ fn array<V: Visitor>(
         IfOk result (λ r. V.one visitor.old source.now.order spot.now.at v r.0 visitor.new ×
         (r.1 ≡ end_of source.now spot.now v)) }
 {
-    if run.size > 0 && V::at_one_stroke(spot.types[1]) {
-        let one = visitor.numbers(source, spot, run)?;
+    if V::at_one_stroke(spot.types[1], run.size) {
+        let one = visitor.whole_array(source, spot, run)?;
         return Ok((one, run.end));
     }
     let none = visitor.open_array(source, spot, run.start)?;

@@ -138,6 +138,9 @@ walk_values-returns-clause-walked g t c = λ vs rest e.
 pub array-returns-then-at_one_stroke-clause-walked : goal.array-returns-then-at_one_stroke-clause-walked
 array-returns-then-at_one_stroke-clause-walked g t c = λ v rest s. (c.in_ok-one.ensures.takes v rest s, (c.requires.laid v rest s).ends)
 
+pub array-open_array-requires-clause-listed : goal.array-open_array-requires-clause-listed
+array-open_array-requires-clause-listed g t c = λ u e. ap (g.V.Visitor.strokes _) (sym (c.requires.found.wide u e)) ∙ sym c.at_one_stroke.ensures ∙ c.if-at_one_stroke.false
+
 pub array-overflow_sub-held : goal.array-overflow_sub-held
 array-overflow_sub-held g t c = let s = c.requires.stands in omega (arith, (c.requires.laid s.0 s.1 s.2).some)
 

@@ -1,7 +1,7 @@
 use Rattle.std.proofs.Common.{ℕ, ◌+◌, get_or, refl, ap, ◌∙◌, arith}
 use Rattle.dbus_walk.proofs.Containers.{array_stands, array_begins, array_counts}
 use Rattle.dbus_show_view.proofs.Shown.{all_ascii, bytes_shown, stroke_is}
-use Rattle.dbus_show_view.proofs.visiting.ShowerVisitor.numbers.Goals as goal
+use Rattle.dbus_show_view.proofs.visiting.ShowerVisitor.whole_array.Goals as goal
 
 pub write_types-requires : goal.write_types-requires
 write_types-requires g c = all_ascii c.requires.stands.2

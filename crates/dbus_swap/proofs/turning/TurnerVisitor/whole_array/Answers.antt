@@ -1,4 +1,5 @@
 use Rattle.std.proofs.Common.{ℕ, ◌+◌, ap, subst, sym, refl, ◌∙◌, arith}
+use Rattle.std.proofs.lemmas.Bool.{ltb-true}
 use Rattle.dbus_value_model.specs.Spelling.{spelling}
 use Rattle.dbus_value_model.specs.Values.{ValueTree, ArrayValue}
 use Rattle.dbus_walk.specs.declared.container.Container.TheVariants as kind
@@ -6,7 +7,7 @@ use Rattle.dbus_walk.proofs.Containers.{array_stands, array_begins, array_counts
 use Rattle.dbus_swap.specs.Turning.{other, Replaces}
 use Rattle.dbus_swap.specs.TurnLaws.{whole_put}
 use Rattle.dbus_swap.proofs.Leaves.{array_opens, numbers_turn}
-use Rattle.dbus_swap.proofs.turning.TurnerVisitor.numbers.Goals as goal
+use Rattle.dbus_swap.proofs.turning.TurnerVisitor.whole_array.Goals as goal
 
 pub turn_4-requires : goal.turn_4-requires
 turn_4-requires c = let p = array_stands c.requires.stands.2 c.requires.code in omega (arith, p.inside, c.requires.begins, c.requires.ready)
@@ -31,7 +32,7 @@ returns-clause-takes c = λ v rest s.
     let begins = array_begins s p run.start run.first c.requires.begins c.requires.parts in
     let ends = c.requires.ends ∙ ap (λ (k : ℕ). run.first + k) (array_counts s p run.start _ c.requires.begins refl) in
     let opened = array_opens order at run.start out half p.type p.xs c.requires.begins c.turn_4.ensures in
-    let filled = numbers_turn s p run.first run.end run.size half now c.requires.some c.requires.wide begins ends c.turn_numbers.ensures in
+    let filled = numbers_turn s p run.first run.end run.size half now (ltb-true 0 run.size c.requires.stroke) c.requires.wide begins ends c.turn_numbers.ensures in
     record {
       same = refl;
       replaced = subst (λ (x : ValueTree). Replaces at (spelling order at x) (spelling (other order) at x) out now) (sym p.is) (whole_put order at (ArrayValue p.type p.xs) kind.Array tt out half now opened filled);
