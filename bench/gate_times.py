@@ -1,5 +1,7 @@
 #!/usr/bin/env python3
-"""Runs the gate, `rt ci`, and prints the processor minutes of each of its steps, crate by crate.
+"""gate_times.py [WORD..]: runs the gate, `rt ci` with these words, and prints the processor minutes of each of its steps, crate by crate.
+
+With `--anew` nothing counts that earlier runs kept; with names of crates it runs for these and those below them alone.
 
 A step's processes are looked at twice a second, so each process may be counted half a second short. What is left over,
 as building and running the tests, stands under `other`. Last it says how long the gate would take on two and on four
@@ -125,7 +127,7 @@ def simulate(minutes, processors):
 
 def main():
     began, used, ended = time.time(), {}, threading.Event()
-    gate = subprocess.Popen(["rt", "ci"])
+    gate = subprocess.Popen(["rt", "ci", *sys.argv[1:]])
     watcher = threading.Thread(target=watch, args=(gate.pid, used, ended))
     watcher.start()
     _, status, resources = os.wait4(gate.pid, 0)
