@@ -1,5 +1,5 @@
 -- What a gatherer makes of a piece, as the taker of a reader.
-use Rattle.std.proofs.Common.{◌≡◌, ℕ, ◌+◌, List, [], ◌++◌, true, false, Ok, Err, None, Bool, length, take, refl, sym, ap, ◌∙◌, subst, arith, inl, inr}
+use Rattle.std.proofs.Common.{◌≡◌, ℕ, ◌+◌, List, [], ◌++◌, true, false, Ok, Err, None, Option, Bool, length, take, refl, sym, ap, ◌∙◌, subst, arith, inl, inr}
 use Rattle.std.proofs.Math.Nat.{zero-add}
 use Rattle.std.proofs.Math.Seq.{take-append-add}
 use Rattle.dbus_value_model.specs.declared.limits.Limits.{Limits}
@@ -58,7 +58,7 @@ module _ (old : GathererState) (piece : List ℕ) where
 
   -- the message does not end there
   pub waits : (w : List ℕ) (new : GathererState) → under_way old.whole old.held ≡ w → Gathers (begun old) piece new (Ok None)
-      → Takes gathering old w piece new (Ok (length piece, None))
+      → Takes gathering old w piece new (Ok (length piece)) None
   waits w new holds g = (
     subst (λ v. IsPartial old.limits (v ++ piece)) holds g.0,
     refl,
@@ -69,16 +69,16 @@ module _ (old : GathererState) (piece : List ℕ) where
   )
 
   -- nothing was taken
-  pub fails : (w : List ℕ) (new : GathererState) (fault : StreamFault) → under_way old.whole old.held ≡ w → Gathers (begun old) piece new (Err fault)
-      → Takes gathering old w piece new (Err fault)
-  fails w new Memory holds g = (
+  pub fails : (w : List ℕ) (new : GathererState) (fault : StreamFault) (given : Option Judged) → under_way old.whole old.held ≡ w → Gathers (begun old) piece new (Err fault)
+      → Takes gathering old w piece new (Err fault) given
+  fails w new Memory given holds g = (
     tt,
     record {
       holds = ap (λ (s : GathererState). under_way s.whole s.held) g ∙ holds;
       rests = (ap (λ (s : GathererState). s.whole) g, ap (λ (s : GathererState). s.lent) g);
     },
   )
-  fails w new (Format fault) holds g = (
+  fails w new (Format fault) given holds g = (
     subst (λ v. IsRefused old.limits (v ++ piece) fault) holds g.0,
     (ap (λ (s : GathererState). s.held) g.1 ∙ holds, (ap (λ (s : GathererState). s.whole) g.1, ap (λ (s : GathererState). s.lent) g.1)),
   )

@@ -1,11 +1,12 @@
 -- A cutter as the taker of a reader, and where the reader stands after each answer.
 use Rattle.std.proofs.Common.{◌≡◌, ℕ, List, ◌++◌, None, Some, Ok, Err, Option, Result, length, refl, sym, ap, ◌∙◌, subst, ◌+◌, arith}
 use Rattle.dbus_value_model.specs.declared.order.Order.{Order}
+use Rattle.dbus_value_model.specs.declared.fault.Fault.{Fault}
 use Rattle.dbus_message_model.specs.declared.message.Message.{Message}
 use Rattle.dbus_message_model.specs.MessageViews.{message_tree}
 use Rattle.dbus_decode.specs.MessageOutcomes.{IsWhole, IsRefused, IsPartial}
 use Rattle.dbus_stream.specs.CutterState.{CutterState}
-use Rattle.dbus_stream.specs.Cutting.{TakeAnswer, TakeAnswers}
+use Rattle.dbus_stream.specs.Cutting.{TakeAnswers, Takes as CutterTakes}
 use Rattle.dbus_stream.specs.CutterTaking.{cutting}
 use Rattle.dbus_stream.specs.MessageReaders.{kept, stopped_of}
 use Rattle.dbus_stream.specs.Next.{NextAnswers, KeptAnswers}
@@ -15,13 +16,14 @@ use Rattle.dbus_stream.specs.declared.message_reader.MessageReader.{MessageReade
 use Rattle.dbus_stream.specs.declared.read_fault.ReadFault.{ReadFault}
 use Rattle.dbus_stream.specs.declared.read_fault.ReadFault.TheVariants.{Memory, Format, Device, TooManyReads}
 use Rattle.dbus_stream.specs.declared.reader.Reader.{Reader}
+use Rattle.dbus_stream.specs.declared.stream_fault.StreamFault.{StreamFault}
 use Rattle.dbus_stream.specs.declared.stream_fault.StreamFault.TheVariants as refusals
 use Rattle.dbus_stream.specs.Taking.{Takes}
 
 -- what a cutter makes of a piece, as a taker
-pub cuts : {A : Type 0} (old : CutterState) (w piece : List ℕ) (new : CutterState) (res : TakeAnswer A) → old.held ≡ w → TakeAnswers old piece new res → old.fault ≡ None
-    → Takes (cutting A) old w piece new res
-cuts old w piece new (Ok (n, Some given)) held t open_ =
+pub cuts : {A : Type 0} (old : CutterState) (w piece : List ℕ) (new : CutterState) (n : ℕ) (given : Option (Order × Message A)) → old.held ≡ w → TakeAnswers old piece new (Ok (n, given)) → old.fault ≡ None
+    → Takes (cutting A) old w piece new (Ok n) given
+cuts old w piece new n (Some given) held t open_ =
     let whole = subst (λ v. IsWhole old.limits (v ++ piece) given.0 (message_tree given.1) (length v + n)) held t.0 in
     record {
       order = given.0;
@@ -31,15 +33,26 @@ cuts old w piece new (Ok (n, Some given)) held t open_ =
       holds = (ap (λ (s : CutterState). s.held) t.1, ap (λ (s : CutterState). s.fault) t.1);
       lends = λ some. absurd (omega (arith, some));
     }
-cuts old w piece new (Ok (n, None)) held t open_ = (
+cuts old w piece new n None held t open_ = (
   subst (λ v. IsPartial old.limits (v ++ piece)) held t.0,
   t.1,
   record { holds = (ap (λ (s : CutterState). s.held) t.2 ∙ ap (λ v. v ++ piece) held, ap (λ (s : CutterState). s.fault) t.2); rests = tt },
 )
-cuts old w piece new (Err refusals.Memory) held t open_ =
+
+-- what a cutter that refuses a piece is then
+pub refuses : {A : Type 0} (old : CutterState) (w piece : List ℕ) (new : CutterState) (fault : StreamFault) (given : Option (Order × Message A)) → old.held ≡ w
+    → TakeAnswers {A = A} old piece new (Err fault) → old.fault ≡ None → Takes (cutting A) old w piece new (Err fault) given
+refuses old w piece new refusals.Memory given held t open_ =
     (tt, record { holds = (ap (λ (s : CutterState). s.held) t ∙ held, ap (λ (s : CutterState). s.fault) t ∙ open_); rests = tt })
-cuts old w piece new (Err (refusals.Format fault)) held t open_ =
+refuses old w piece new (refusals.Format fault) given held t open_ =
     (subst (λ v. IsRefused old.limits (v ++ piece) fault) held t.0, ap (λ (s : CutterState). s.held) t.1 ∙ held)
+
+-- its limits stay, whether or not it met a fault before
+pub limits_stay : {A : Type 0} (old : CutterState) (piece : List ℕ) (new : CutterState) (n : ℕ) (given : Option (Order × Message A)) (fault : Option Fault) → old.fault ≡ fault
+    → CutterTakes old piece new (Ok (n, given)) → new.limits ≡ old.limits
+limits_stay old piece new n given (Some f) met t = ap (λ (s : CutterState). s.limits) (t.stays f met).1
+limits_stay old piece new n (Some given) None open_ t = ap (λ (s : CutterState). s.limits) (t.answers open_).1
+limits_stay old piece new n None None open_ t = ap (λ (s : CutterState). s.limits) (t.answers open_).2
 
 -- what a reader keeps, as the reader below does
 pub keeps : {R A : Type 0} (r : MessageReader R A) → stopped_of r ≡ None → reading.Keeps (cutting A) r.reader (kept r)

@@ -39,8 +39,9 @@ module _ {T G : Type 0} (k : Taking T G) where
     pub holds : k.holds new w
     pub rests : k.rests new
 
-  abbrev pub Takes : T → List ℕ → List ℕ → T → Result (ℕ × Option G) StreamFault → Type 0
-  Takes old w piece new (Ok (n, Some given)) = Completes old w piece new n given
-  Takes old w piece new (Ok (n, None)) = IsPartial (k.limits old) (w ++ piece) × (n ≡ length piece) × Waits (w ++ piece) new
-  Takes old w piece new (Err Memory) = k.grows × Waits w new
-  Takes old w piece new (Err (Format fault)) = IsRefused (k.limits old) (w ++ piece) fault × k.keeps new w
+  -- how many bytes of the piece were taken, and what is given
+  abbrev pub Takes : T → List ℕ → List ℕ → T → Result ℕ StreamFault → Option G → Type 0
+  Takes old w piece new (Ok n) (Some given) = Completes old w piece new n given
+  Takes old w piece new (Ok n) None = IsPartial (k.limits old) (w ++ piece) × (n ≡ length piece) × Waits (w ++ piece) new
+  Takes old w piece new (Err Memory) given = k.grows × Waits w new
+  Takes old w piece new (Err (Format fault)) given = IsRefused (k.limits old) (w ++ piece) fault × k.keeps new w

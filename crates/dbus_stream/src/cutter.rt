@@ -188,7 +188,14 @@ impl<A: Allocator + Copy> Taker for Cutter<A> {
         &mut self,
         _held: u64,
         piece: &[u8],
-    ) -> Result<(usize, Option<(Order, Message<A>)>), StreamFault> {
-        self.take(piece)
+        given: &mut Option<(Order, Message<A>)>,
+    ) -> Result<usize, StreamFault> {
+        match self.take(piece) {
+            Ok((count, message)) => {
+                *given = message;
+                Ok(count)
+            }
+            Err(fault) => Err(fault),
+        }
     }
 }

@@ -1,9 +1,10 @@
 //! The bytes of a message that come in pieces, judged.
-ghost use Rattle.std.specs.Prelude.{◌≡◌, ◌≤◌, ◌-◌, true, false, length, take};
+ghost use Rattle.std.specs.Prelude.{◌≡◌, ◌≤◌, ◌-◌, ℕ, List, true, false, length, take, IfOk};
 ghost use Rattle.dbus_check.specs.Checks.{Stands, limits_of};
 ghost use Rattle.dbus_decode.specs.MessageOutcomes.{IsPartial};
 ghost use Rattle.dbus_judge.specs.Judging.{IsJudgedWhole};
-ghost use Rattle.dbus_stream.specs.Gathering.{gathering, fresh, begun, Gathers};
+ghost use Rattle.dbus_stream.specs.Gathering.{GathererState, gathering, fresh, begun, under_way, Gathers};
+ghost use Rattle.dbus_stream.specs.Taking.{Takes};
 
 use crate::stream_fault::StreamFault;
 use crate::taker::Taker;
@@ -156,6 +157,35 @@ impl<A: Allocator + Copy> Gatherer<A> {
         }
     }
 
+    // Takes a piece that begins with no whole message, or goes on with one that is held, and writes into `given` what is judged of
+    // the message that ends there, if one does. It is not inlined: where a message lies whole in a piece, nothing makes room for it.
+    #[inline(never)]
+    fn take_gathered(
+        &mut self,
+        piece: &[u8],
+        given: &mut Option<Judged>,
+    ) -> Result<usize, StreamFault>
+        requires { self.old.whole ≡ false }
+        ensures within { IfOk result (λ n. n ≤ length piece.now) }
+        ensures limits { self.new.limits ≡ self.old.limits }
+        // Before the last message was let go, it stood otherwise.
+        ensures takes { (before : GathererState) (w : List ℕ) → self.old ≡ begun before →
+            under_way before.whole before.held ≡ w →
+            Takes gathering before w piece.now self.new result given.new }
+    {
+        match self.gather(piece) {
+            Ok(Some(count)) => {
+                *given = Some(self.judged_whole());
+                Ok(count)
+            }
+            Ok(None) => {
+                *given = None;
+                Ok(piece.len())
+            }
+            Err(fault) => Err(fault),
+        }
+    }
+
     /// Gives the whole message that it holds, and holds nothing.
     pub(crate) fn give(&mut self) -> Vec<u8, A>
         requires { self.old.whole ≡ true }
@@ -177,18 +207,19 @@ impl<A: Allocator + Copy> Taker for Gatherer<A> {
         &mut self,
         _held: u64,
         piece: &[u8],
-    ) -> Result<(usize, Option<Judged>), StreamFault> {
+        given: &mut Option<Judged>,
+    ) -> Result<usize, StreamFault> {
         self.begin();
-        if self.held.is_empty() {
-            if let Some(judged) = judge_first(piece, self.limits) {
-                self.lent = judged.length;
-                return Ok((judged.length, Some(judged)));
-            }
+        if !self.held.is_empty() {
+            return self.take_gathered(piece, given);
         }
-        match self.gather(piece) {
-            Ok(Some(count)) => Ok((count, Some(self.judged_whole()))),
-            Ok(None) => Ok((piece.len(), None)),
-            Err(fault) => Err(fault),
+        *given = judge_first(piece, self.limits);
+        match given {
+            Some(judged) => {
+                self.lent = judged.length;
+                Ok(judged.length)
+            }
+            None => self.take_gathered(piece, given),
         }
     }
 }

@@ -42,19 +42,29 @@ impl Taker for Lengths {
 
     ghost known = { lengths };
 
-    fn take_piece(&mut self, held: u64, piece: &[u8]) -> Result<(usize, Option<u64>), StreamFault> {
+    fn take_piece(
+        &mut self,
+        held: u64,
+        piece: &[u8],
+        given: &mut Option<u64>,
+    ) -> Result<usize, StreamFault> {
         // A message that lies whole in the piece is judged there.
         if held == 0 {
             if let Some(judged) = judge(piece, self.limits) {
-                return Ok((judged.length, Some(judged.length as u64)));
+                *given = Some(judged.length as u64);
+                return Ok(judged.length);
             }
         }
         match self.checker.take(piece) {
             Check::Done(count) => {
                 self.checker.restart();
-                Ok((count, Some(held + count as u64)))
+                *given = Some(held + count as u64);
+                Ok(count)
             }
-            Check::Partial => Ok((piece.len(), None)),
+            Check::Partial => {
+                *given = None;
+                Ok(piece.len())
+            }
             Check::Refused(fault) => Err(StreamFault::Format(fault)),
         }
     }

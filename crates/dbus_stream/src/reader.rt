@@ -189,24 +189,24 @@ impl<R: Source, T: Taker, B: Buffer> Reader<R, T, B> {
             (R.failures (source_of self.new)) result }
     {
         let piece = self.buffer.part(self.start, self.end);
-        match self.taker.take_piece(self.held, piece) {
-            Ok((count, Some(given))) => {
-                self.start += count;
-                self.done += self.held + count as u64;
-                self.held = 0;
-                Ok(Some(given))
-            }
-            Ok((_, None)) => {
-                self.held += piece.len() as u64;
-                self.start = self.end;
-                Ok(None)
-            }
-            Err(StreamFault::Memory) => Err(ReadFault::Memory),
+        let mut given = None;
+        let count = match self.taker.take_piece(self.held, piece, &mut given) {
+            Ok(count) => count,
+            Err(StreamFault::Memory) => return Err(ReadFault::Memory),
             Err(StreamFault::Format(fault)) => {
                 self.stopped = Some(ReadFault::Format(fault));
-                Err(ReadFault::Format(fault))
+                return Err(ReadFault::Format(fault));
             }
+        };
+        if given.is_none() {
+            self.held += piece.len() as u64;
+            self.start = self.end;
+            return Ok(None);
         }
+        self.start += count;
+        self.done += self.held + count as u64;
+        self.held = 0;
+        Ok(given)
     }
 
     // One more read, into the buffer, which has nothing left.

@@ -13,8 +13,9 @@ pub trait Taker: Drop {
     // Its limits, which bytes it holds of the message under way, what it gives of a message and what it lends.
     ghost known: { Taking Self Self.Given };
 
-    /// Takes the bytes of the piece up to the end of the message under way, and gives what it makes of that message; or the
-    /// whole piece, where its end is not there yet. It says how many bytes of the piece were taken.
+    /// Takes the bytes of the piece up to the end of the message under way, and writes into `given` what it makes of that
+    /// message; or the whole piece, where its end is not there yet, and then writes None there. It says how many bytes of the
+    /// piece were taken.
     ///
     /// `Format`: the bytes that it holds and the piece are no message within its limits. `Memory`: a growth was refused.
     /// Then nothing was taken. `held` is how many bytes it holds of the message under way.
@@ -22,10 +23,11 @@ pub trait Taker: Drop {
         &mut self,
         held: u64,
         piece: &[u8],
-    ) -> Result<(usize, Option<Self::Given>), StreamFault>
+        given: &mut Option<Self::Given>,
+    ) -> Result<usize, StreamFault>
         requires few { held ≤ 2 ^ 48 }
-        ensures within { IfOk result (λ r. r.0 ≤ length piece.now) }
+        ensures within { IfOk result (λ n. n ≤ length piece.now) }
         ensures limits { known.limits self.new ≡ known.limits self.old }
         ensures takes { (w : List ℕ) → known.holds self.old w → held ≡ length w →
-            Takes known self.old w piece.now self.new result };
+            Takes known self.old w piece.now self.new result given.new };
 }

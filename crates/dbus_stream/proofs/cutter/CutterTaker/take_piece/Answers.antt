@@ -1,5 +1,12 @@
-use Rattle.dbus_stream.proofs.MessageSteps.{cuts}
+use Rattle.std.proofs.Common.{refl}
+use Rattle.dbus_stream.proofs.MessageSteps.{cuts, refuses, limits_stay}
 use Rattle.dbus_stream.proofs.cutter.CutterTaker.take_piece.Goals as goal
 
-pub returns-clause-takes : goal.returns-clause-takes
-returns-clause-takes g c = λ w holds size. cuts c.args.self.now w c.args.piece.now c.take.new.self c.take.result holds.0 (c.take.ensures.takes.answers holds.1) holds.1
+pub returns-in-Ok-clause-limits : goal.returns-in-Ok-clause-limits
+returns-in-Ok-clause-limits g c = limits_stay c.args.self.now c.args.piece.now c.take.new.self c.in-Ok.count c.in-Ok.message c.args.self.now.fault refl (rw c.in-Ok.is at c.take.ensures.takes)
+
+pub returns-in-Ok-clause-takes : goal.returns-in-Ok-clause-takes
+returns-in-Ok-clause-takes g c = λ w holds size. cuts c.args.self.now w c.args.piece.now c.take.new.self c.in-Ok.count c.in-Ok.message holds.0 (rw c.in-Ok.is at (c.take.ensures.takes.answers holds.1)) holds.1
+
+pub returns-in-Err-clause-takes : goal.returns-in-Err-clause-takes
+returns-in-Err-clause-takes g c = λ w holds size. refuses c.args.self.now w c.args.piece.now c.take.new.self c.in-Err.fault c.args.given.now holds.0 (rw c.in-Err.is at (c.take.ensures.takes.answers holds.1)) holds.1

@@ -1,5 +1,6 @@
-use Rattle.std.proofs.Common.{◌≡◌, ◌≤◌, ◌+◌, ◌-◌, ◌++◌, [], append-nil, arith, ap, refl, sym, subst, ◌∙◌, List, ℕ, length, drop, take}
+use Rattle.std.proofs.Common.{◌≡◌, ◌≤◌, ◌+◌, ◌-◌, ◌++◌, [], append-nil, arith, ap, refl, sym, subst, ◌∙◌, List, ℕ, length, drop, take, true, false, not, Option, None, Some}
 use Rattle.std.specs.List.{slice_range}
+use Rattle.std.specs.Option.{is_some}
 use Rattle.std.proofs.lemmas.List.{length-append}
 use Rattle.dbus_decode.specs.MessageOutcomes.{IsWhole, IsPartial, IsRefused}
 use Rattle.dbus_stream.specs.Reading.{limits_of}
@@ -7,20 +8,30 @@ use Rattle.dbus_stream.specs.Taking.{Completes, Waits}
 use Rattle.dbus_stream.proofs.Lists.{left_after, no_part, part_fits, front_of}
 use Rattle.dbus_stream.proofs.reader.Reader.take_kept.Goals as goal
 
-pub returns-in-Ok-default-Some-clause-takes : goal.returns-in-Ok-default-Some-clause-takes
-returns-in-Ok-default-Some-clause-takes g c = λ w kept.
+-- what is given
+given_one : {G : Type 0} (o : Option G) → is_some o ≡ true → (given : G) × (o ≡ Some given)
+given_one (Some given) there = (given, refl)
+given_one None there = absurd cc
+
+given_none : {G : Type 0} (o : Option G) → is_some o ≡ false → o ≡ None
+given_none None none = refl
+given_none (Some given) none = absurd cc
+
+pub returns-clause-takes : goal.returns-clause-takes
+returns-clause-takes g c = λ w kept.
     let k = g.T.Taker.known in
     let r = c.args.self.now in
-    let n = c.in-Ok-default-Some.count in
+    let n = c.in-Ok.count in
+    let one = given_one c.take_piece.new.given (c.is_none.ensures ∙ ap not c.if-is_none.false) in
     let part = slice_range (g.B.Buffer.room.bytes r.buffer) r.start r.end in
-    let e : Completes k r.taker kept.held part c.take_piece.new.self n c.in-Ok-default-Some.given =
-    subst (λ piece. Completes k r.taker kept.held piece c.take_piece.new.self n c.in-Ok-default-Some.given) c.part-piece.ensures
-    (rw (c.in-Ok-default-Some.is, c.in-Ok-default-Some.field-0-1-is) at (c.take_piece.ensures.takes kept.held kept.holds kept.size)) in
-    let taken : n ≤ length part = subst (λ (piece : List ℕ). n ≤ length piece) c.part-piece.ensures c.in-Ok-default-Some.ensures.within in
+    let e : Completes k r.taker kept.held part c.take_piece.new.self n one.0 =
+    subst (λ piece. Completes k r.taker kept.held piece c.take_piece.new.self n one.0) c.part-piece.ensures
+    (rw (c.in-Ok.is, one.1) at (c.take_piece.ensures.takes kept.held kept.holds kept.size)) in
+    let taken : n ≤ length part = subst (λ (piece : List ℕ). n ≤ length piece) c.part-piece.ensures c.in-Ok.ensures.within in
     let ends = part_fits (g.B.Buffer.room.bytes r.buffer) r.start r.end in
     let ordered = r.in_order in
     let fits : r.start + n ≤ r.end = omega (arith, taken, ends, ordered) in
-    let size = length kept.held + n in (
+    let size = length kept.held + n in rw one.1 (
       size,
       record {
         order = e.order;
@@ -35,7 +46,7 @@ returns-in-Ok-default-Some-clause-takes g c = λ w kept.
         done = ap (λ x. r.done + (x + n)) kept.size;
         unstopped = c.requires;
       },
-      subst (λ l. k.gives c.take_piece.new.self l size c.in-Ok-default-Some.given) (sym kept.bytes) e.gives,
+      subst (λ l. k.gives c.take_piece.new.self l size one.0) (sym kept.bytes) e.gives,
       λ some.
           let l = e.lends some in
           let none = ap length l.0 in
@@ -48,15 +59,15 @@ returns-in-Ok-default-Some-clause-takes g c = λ w kept.
           ),
     )
 
-pub returns-in-Ok-default-None-clause-takes : goal.returns-in-Ok-default-None-clause-takes
-returns-in-Ok-default-None-clause-takes g c = λ w kept.
+pub returns-then-is_none-clause-takes : goal.returns-then-is_none-clause-takes
+returns-then-is_none-clause-takes g c = λ w kept.
     let k = g.T.Taker.known in
     let r = c.args.self.now in
     let part = slice_range (g.B.Buffer.room.bytes r.buffer) r.start r.end in
     let all = kept.held ++ part in
     let piece = c.part-piece.result.now in
-    let there : IsPartial (k.limits r.taker) (kept.held ++ piece) × (c.in-Ok-default-None.field-0-0 ≡ length piece) × Waits k (kept.held ++ piece) c.take_piece.new.self =
-    rw (c.in-Ok-default-None.is, c.in-Ok-default-None.field-0-1-is) at (c.take_piece.ensures.takes kept.held kept.holds kept.size) in
+    let there : IsPartial (k.limits r.taker) (kept.held ++ piece) × (c.in-Ok.count ≡ length piece) × Waits k (kept.held ++ piece) c.take_piece.new.self =
+    rw (c.in-Ok.is, given_none c.take_piece.new.given (c.is_none.ensures ∙ ap not c.if-is_none.true)) at (c.take_piece.ensures.takes kept.held kept.holds kept.size) in
     let e : IsPartial (k.limits r.taker) all × Waits k all c.take_piece.new.self =
     subst (λ piece. IsPartial (k.limits r.taker) (kept.held ++ piece) × Waits k (kept.held ++ piece) c.take_piece.new.self) c.part-piece.ensures (there.0, there.2) in (
       record {
