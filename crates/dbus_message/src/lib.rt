@@ -19,4 +19,4 @@ pub use dbus_message_model::{
     HeaderField, Message, Parts, arg, field, field_code, flag, message_type,
 };
 pub use dbus_values::{Elements, ValueView, Values};
-pub use dbus_view::{ArgPlace, ArgView, MessageView};
+pub use dbus_view::{ArgPlace, ArgView, FieldView, Fields, MessageView};

@@ -1,25 +1,23 @@
 -- Header fields that stand in the bytes, taken apart, and shown.
-use Rattle.std.proofs.Common.{◌≡◌, ℕ, ◌+◌, ◌-◌, ◌<◌, ◌≤◌, List, [], ◌∷◌, ◌++◌, length, get_or, take, drop, map, decimal, Bool, if◌then◌else◌, refl, sym, ap, subst, ◌∙◌, arith, append_assoc}
+use Rattle.std.proofs.Common.{◌≡◌, ℕ, ◌+◌, List, [], ◌∷◌, ◌++◌, length, get_or, take, drop, decimal, Bool, if◌then◌else◌, refl, sym, ap, subst, ◌∙◌, arith}
 use Rattle.std.specs.List.{flat_map}
-use Rattle.std.proofs.lemmas.List.{length-append, append-nil}
+use Rattle.std.proofs.lemmas.List.{append-nil}
 use Rattle.std.proofs.lemmas.List.Concat.{flat_map-append}
 use Rattle.dbus_texts.specs.Types.{NumberCode, BYTE, BOOLEAN, INT16, UINT16, INT32, UINT32, INT64, UINT64, DOUBLE, UNIX_FD, STRING, OBJECT_PATH, SIGNATURE, TypeTree, NumberType, TextType, VariantType, ArrayType, StructType, EntryType, number_code}
 use Rattle.dbus_value_model.specs.Bytes.{gap_to}
 use Rattle.dbus_value_model.specs.Reading.{number_of}
 use Rattle.dbus_value_model.specs.declared.order.Order.{Order}
-use Rattle.dbus_value_model.specs.Spelling.{spelling, spellings}
-use Rattle.dbus_value_model.specs.Values.{ValueTree, ValueTrees, NoValues, MoreValues, NumberValue, TextValue, VariantValue, ArrayValue, StructValue, EntryValue, value_trees, type_of}
-use Rattle.dbus_message_model.specs.Messages.{FieldTree, field_struct, field_array, is_known}
-use Rattle.dbus_unmarshal.proofs.ReadSteps.{one_byte}
-use Rattle.dbus_types.proofs.TypeEnds.{ends_there}
+use Rattle.dbus_value_model.specs.Spelling.{spelling}
+use Rattle.dbus_value_model.specs.Values.{ValueTree, NumberValue, TextValue, VariantValue, ArrayValue, StructValue, EntryValue, type_of}
+use Rattle.dbus_message_model.specs.Messages.{FieldTree, field_struct, is_known}
 use Rattle.dbus_types.specs.SignatureCodes.{first_code}
-use Rattle.dbus_types.proofs.TypeCodes.{boundary_by, code_is}
-use Rattle.dbus_walk.specs.Standing.{Stands, AllStand, ElementsStand}
+use Rattle.dbus_types.proofs.TypeCodes.{code_is}
+use Rattle.dbus_walk.specs.Fields.{IsFieldAt}
+use Rattle.dbus_walk.specs.Standing.{Stands}
 use Rattle.dbus_walk.specs.Widths.{number_width}
-use Rattle.dbus_walk.proofs.Containers.{VariantStands, variant_ends, array_stands, array_found, elements_there}
-use Rattle.dbus_walk.proofs.Enclosed.{struct_stands, enclosed_there, enclosed_ends, stands_positive}
-use Rattle.dbus_walk.proofs.Lists.{none_ends, some_ends, first_element, other_elements, first_value, other_values}
-use Rattle.dbus_walk.proofs.Parts.{NumberStands, TextStands, no_gap, number_stands, number_ends}
+use Rattle.dbus_walk.specs.declared.fields.FieldSpot.{FieldSpot}
+use Rattle.dbus_walk.specs.declared.spot.Source.{Source}
+use Rattle.dbus_walk.proofs.Parts.{NumberStands, TextStands, number_ends}
 use Rattle.dbus_walk.proofs.ReadThere.{number_read}
 use Rattle.dbus_show.specs.declared.draft.Draft.{Draft}
 use Rattle.dbus_show.specs.Gains.{Gains}
@@ -27,7 +25,6 @@ use Rattle.dbus_show.specs.ShownValues.{value_text}
 use Rattle.dbus_show.specs.ShownMessages.{bare, field_name, field_text}
 use Rattle.dbus_show.proofs.Gaining.{then as both}
 use Rattle.dbus_show_view.specs.Showing.{IsWritten}
-use Rattle.dbus_show_view.proofs.Codes.{byte_is}
 use Rattle.dbus_show_view.proofs.Shown.{number_coded}
 
 -- ---- values alone
@@ -93,155 +90,22 @@ module _ {order : Order} {room : ℕ} {types : List ℕ} {at : ℕ} {bytes : Lis
       let same = bare_other v (λ e. not_s (sym code ∙ e)) (λ e. not_o (sym code ∙ e)) (λ e. not_g (sym code ∙ e)) (λ e. not_u (sym code ∙ e)) in
       record { gained = subst (λ (l : List ℕ). Gains a l b) (sym same) shown.gained; ends = shown.ends }
 
--- ---- the value that a variant holds
-
-module _ {order : Order} {room at : ℕ} {bytes : List ℕ} {x : ValueTree} {rest : List ℕ} (s : Stands order room (118 ∷ []) at bytes (VariantValue x) rest) (p : VariantStands s) where
-  held_is : p.x ≡ x
-  held_is = let e = p.is in cc
-
-  pub held_written : {A : Type 0} (text : ValueTree → List ℕ) (n after : ℕ) (a b : Draft A) → n ≡ p.n → IsWritten order (at + 1 + n + 1) p.x (text p.x) a b after → IsWritten order at (VariantValue x) (text x) a b after
-  held_written text n after a b count held = record {
-    gained = subst (λ (u : ValueTree). Gains a (text u) b) held_is held.gained;
-    ends = held.ends ∙ ap (λ (k : ℕ). at + 1 + k + 1 + length (spelling order (at + 1 + k + 1) p.x)) count ∙ variant_ends s p;
-  }
-
 -- ---- a field
 
-abbrev field_types : List ℕ
-field_types = 40 ∷ 121 ∷ 118 ∷ 41 ∷ []
-
-module _ {order : Order} {room at : ℕ} {bytes : List ℕ} (f : FieldTree) {rest : List ℕ} (s : Stands order room field_types at bytes (field_struct f) rest) where
-  abbrev start : ℕ
-  start = at + gap_to 8 at
-
-  abbrev coded_values : ValueTrees
-  coded_values = MoreValues (NumberValue BYTE f.code) (MoreValues (VariantValue f.value) NoValues)
-
-  pub record FieldApart : Type 0 where
-    pub some : 0 < room
-    pub inside : at + gap_to 8 at + 1 ≤ length bytes
-    pub code : get_or bytes (at + gap_to 8 at) 0 ≡ f.code
-    pub held : Stands order (room - 1) (118 ∷ []) (at + gap_to 8 at + 1) bytes (VariantValue f.value) rest
-    pub ends : at + gap_to 8 at + 1 + length (spelling order (at + gap_to 8 at + 1) (VariantValue f.value)) ≡ at + length (spelling order at (field_struct f))
-
-  pub field_apart : FieldApart
-  unfolding spellings
-  field_apart =
-      let p = struct_stands s refl in
-      let is : p.1.vs ≡ coded_values = sym p.1.has in
-      let all = subst (λ (us : ValueTrees). AllStand order (room - 1) (121 ∷ 118 ∷ []) start bytes us rest) is (enclosed_there s p.1 start refl) in
-      let first = first_value (121 ∷ 118 ∷ []) 0 1 (ends_there (121 ∷ 118 ∷ []) 0 1 refl) all in
-      let more = other_values (121 ∷ 118 ∷ []) 0 1 (ends_there (121 ∷ 118 ∷ []) 0 1 refl) all in
-      let one = spelling order start (NumberValue BYTE f.code) in
-      let after = start + length one in
-      let second = first_value (118 ∷ []) 0 1 (ends_there (118 ∷ []) 0 1 refl) more in
-      let number = number_stands first 1 (omega arith) (λ t e. sym (ap number_width (byte_is t e))) in
-      let none = no_gap start in
-      let same_n : number.n ≡ f.code = let e = number.is in cc in
-      let begin : start ≡ start + gap_to 1 start = omega (arith, none) in
-      let read = number_read first 1 start number begin in
-      let place : after ≡ start + 1 = sym (number_ends first 1 start number begin) in
-      let two = spelling order after (VariantValue f.value) in
-      let whole : length (spellings order start p.1.vs) ≡ length one + (length two + 0) =
-      ap (λ (us : ValueTrees). length (spellings order start us)) is ∙ length-append one (two ++ []) ∙ ap (λ (k : ℕ). length one + k) (length-append two []) in
-      let ended = enclosed_ends s p.1 start refl in
-      let same_two : length two ≡ length (spelling order (start + 1) (VariantValue f.value)) = ap (λ (k : ℕ). length (spelling order k (VariantValue f.value))) place in
-      record {
-        some = p.0;
-        inside = omega (arith, number.inside, none);
-        code = one_byte order bytes start (omega (arith, number.inside, none)) ∙ read ∙ same_n;
-        held = subst (λ (k : ℕ). Stands order (room - 1) (118 ∷ []) k bytes (VariantValue f.value) rest) place second;
-        ends = omega (arith, ended, whole, place, same_two);
-      }
-
-  pub field_written : {A : Type 0} (code after : ℕ) (known : Bool) (a b c d e : Draft A) → code ≡ f.code → known ≡ is_known code → Gains a (32 ∷ []) b → Gains b (field_name code) c → Gains c (61 ∷ []) d
-      → IsWritten order (at + gap_to 8 at + 1) (VariantValue f.value) (if known then bare f.value else value_text f.value) d e after → IsWritten order at (field_struct f) (field_text f) a e after
-  field_written code after known a b c d e coded knows spaced named parted held =
-      let same : known ≡ is_known f.code = knows ∙ ap is_known coded in
-      let name = subst (λ (k : ℕ). Gains b (field_name k) c) coded named in
+module _ {A : Type 0} (source : Source) (at : ℕ) (f : FieldTree) (rest : List ℕ) (spot : FieldSpot) (p : IsFieldAt source at f rest spot) (a b c d e : Draft A) where
+  pub field_written : (known : Bool) → known ≡ is_known spot.code → Gains a (32 ∷ []) b → Gains b (field_name spot.code) c → Gains c (61 ∷ []) d → (after : ℕ)
+      → IsWritten source.order spot.at f.value (if known then bare f.value else value_text f.value) d e after → IsWritten source.order at (field_struct f) (field_text f) a e after
+  field_written known knows spaced named parted after held =
+      let same : known ≡ is_known f.code = knows ∙ ap is_known (sym p.code) in
+      let name = subst (λ (k : ℕ). Gains b (field_name k) c) (sym p.code) named in
       let shown = subst (λ (k : Bool). Gains d (if k then bare f.value else value_text f.value) e) same held.gained in
-      record { gained = both spaced (both name (both parted shown)); ends = held.ends ∙ field_apart.ends }
+      record { gained = both spaced (both name (both parted shown)); ends = held.ends ∙ p.ends }
 
--- ---- a message's fields
+-- ---- one field more is shown
 
-abbrev pub trees : List FieldTree → ValueTrees
-trees fs = value_trees (map field_struct fs)
-
-gaps : (gap_to 4 12 ≡ 0) × (gap_to 8 16 ≡ 0)
-unfolding gap_to
-gaps = (refl, refl)
-
-module _ {order : Order} {room : ℕ} {bytes : List ℕ} (fs : List FieldTree) {rest : List ℕ} (s : Stands order room (97 ∷ field_types) 12 bytes (field_array fs) rest) where
-  pub record FieldsApart (n : ℕ) : Type 0 where
-    pub some : 0 < room
-    pub inside : 16 + n ≤ length bytes
-    pub all : ElementsStand order (room - 1) (40 ∷ 121 ∷ 118 ∷ 41 ∷ []) 16 (16 + n) bytes (trees fs) rest
-
-  pub fields_apart : (n : ℕ) → n ≡ number_of order (take 4 (drop 12 bytes)) → FieldsApart n
-  fields_apart n read =
-      let p = array_stands s refl in
-      let found = array_found s p {g = 0} {b = 8} {h = 0} {n = n} (sym gaps.0) (boundary_by 40 8 refl) (sym gaps.1) read in
-      let is : p.xs ≡ trees fs = let e = p.is in cc in
-      record {
-        some = p.some;
-        inside = omega (arith, p.inside, found.0, found.1);
-        all = subst (λ (us : ValueTrees). ElementsStand order (room - 1) field_types 16 (16 + n) bytes us rest) is (elements_there s p 16 n found.0 found.1);
-      }
-
--- Of the fields fs, gs are left, which stand from `place` on; those before them are shown.
-pub record FieldsLeft {A : Type 0} (order : Order) (room end : ℕ) (bytes : List ℕ) (fs : List FieldTree) (rest : List ℕ) (before now : Draft A) (place : ℕ) : Type 0 where
-  pub gs : List FieldTree
-  pub keeps : ElementsStand order room (40 ∷ 121 ∷ 118 ∷ 41 ∷ []) place end bytes (trees gs) rest
-  pub done : List FieldTree
-  pub joins : fs ≡ done ++ gs
-  pub shown : Gains before (flat_map field_text done) now
-
-module _ {A : Type 0} {order : Order} {room end : ℕ} {bytes : List ℕ} {fs : List FieldTree} {rest : List ℕ} {before now : Draft A} {place : ℕ} (l : FieldsLeft order room end bytes fs rest before now place) where
-  pub record NextField : Type 0 where
-    pub f : FieldTree
-    pub gs : List FieldTree
-    pub begins : l.gs ≡ f ∷ gs
-    pub stands : Stands order room field_types place bytes (field_struct f) (spellings order (place + length (spelling order place (field_struct f))) (trees gs) ++ rest)
-    pub some : 0 < length (spelling order place (field_struct f))
-    pub others : ElementsStand order room field_types (place + length (spelling order place (field_struct f))) end bytes (trees gs) rest
-
-  pub next_field : place < end → NextField
-  next_field lt = of l.gs refl
-    where
-      of : (gs : List FieldTree) → l.gs ≡ gs → NextField
-      of [] e = absurd (omega (arith, lt, none_ends (subst (λ (u : List FieldTree). ElementsStand order room field_types place end bytes (trees u) rest) e l.keeps)))
-      of (f ∷ gs) e =
-          let keeps = subst (λ (u : List FieldTree). ElementsStand order room field_types place end bytes (trees u) rest) e l.keeps in
-          let s = first_element keeps in
-          record {
-            f = f;
-            gs = gs;
-            begins = e;
-            stands = s;
-            some = stands_positive order (field_struct f) place s.shaped;
-            others = other_elements keeps;
-          }
-
-  pub field_left : (next : Draft A) (n : NextField) (q : ℕ) → IsWritten order place (field_struct n.f) (field_text n.f) now next q → FieldsLeft order room end bytes fs rest before next q
-  field_left next n q w =
-      let more : flat_map field_text (l.done ++ n.f ∷ []) ≡ flat_map field_text l.done ++ field_text n.f =
-      flat_map-append field_text l.done (n.f ∷ []) ∙ ap (λ (t : List ℕ). flat_map field_text l.done ++ t) (append-nil (field_text n.f)) in
-      record {
-        gs = n.gs;
-        keeps = subst (λ (k : ℕ). ElementsStand order room field_types k end bytes (trees n.gs) rest) (sym w.ends) n.others;
-        done = l.done ++ n.f ∷ [];
-        joins = l.joins ∙ ap (λ (u : List FieldTree). l.done ++ u) n.begins ∙ sym (append_assoc l.done (n.f ∷ []) n.gs);
-        shown = subst (λ (t : List ℕ). Gains before t next) (sym more) (both l.shown w.gained);
-      }
-
-  pub fields_shown : end ≤ place → Gains before (flat_map field_text fs) now
-  fields_shown le =
-      let joins : fs ≡ l.done = l.joins ∙ ap (λ (u : List FieldTree). l.done ++ u) (none l.gs refl) ∙ append-nil l.done in
-      subst (λ (u : List FieldTree). Gains before (flat_map field_text u) now) (sym joins) l.shown
-    where
-      none : (gs : List FieldTree) → l.gs ≡ gs → l.gs ≡ []
-      none [] e = e
-      none (f ∷ gs) e =
-          let keeps = subst (λ (u : List FieldTree). ElementsStand order room field_types place end bytes (trees u) rest) e l.keeps in
-          let s = first_element keeps in
-          absurd (omega (arith, le, some_ends keeps, stands_positive order (field_struct f) place s.shaped))
+module _ {A : Type 0} where
+  pub more_fields : (before now next : Draft A) (done : List FieldTree) (f : FieldTree) → Gains before (flat_map field_text done) now → Gains now (field_text f) next → Gains before (flat_map field_text (done ++ f ∷ [])) next
+  more_fields before now next done f h one =
+      let more : flat_map field_text (done ++ f ∷ []) ≡ flat_map field_text done ++ field_text f =
+      flat_map-append field_text done (f ∷ []) ∙ ap (λ (t : List ℕ). flat_map field_text done ++ t) (append-nil (field_text f)) in
+      subst (λ (t : List ℕ). Gains before t next) (sym more) (both h one)

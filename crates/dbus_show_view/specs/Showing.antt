@@ -5,8 +5,8 @@ use Rattle.std.specs.List.{concat}
 use Rattle.hex.specs.Hex.{encode_lower}
 use Rattle.dbus_value_model.specs.declared.order.Order.{Order}
 use Rattle.dbus_value_model.specs.Spelling.{spelling}
-use Rattle.dbus_value_model.specs.Values.{ValueTree, VariantValue}
-use Rattle.dbus_message_model.specs.Messages.{FieldTree, field_struct, field_array, order_byte}
+use Rattle.dbus_value_model.specs.Values.{ValueTree}
+use Rattle.dbus_message_model.specs.Messages.{order_byte}
 use Rattle.dbus_judge.specs.declared.judging.Judged.{Judged}
 use Rattle.dbus_walk.specs.declared.spot.Source.{Source}
 use Rattle.dbus_walk.specs.Standing.{Stands}
@@ -22,18 +22,6 @@ pub record IsWritten {A : Type 0} (order : Order) (at : ℕ) (v : ValueTree) (te
 -- a value whose type has this text stands at an offset
 abbrev pub TypedStands : Source → (room : ℕ) → (types : List ℕ) → (at : ℕ) → ValueTree → (rest : List ℕ) → Type 0
 TypedStands source room types at v rest = Stands source.order room types at source.bytes.now v rest
-
--- a variant that holds the value stands at an offset
-abbrev pub HeldStands : Source → (room at : ℕ) → ValueTree → (rest : List ℕ) → Type 0
-HeldStands source room at x rest = Stands source.order room (118 ∷ []) at source.bytes.now (VariantValue x) rest
-
--- a header field stands at an offset: a struct of the type (yv)
-abbrev pub FieldStands : Source → (room at : ℕ) → FieldTree → (rest : List ℕ) → Type 0
-FieldStands source room at f rest = Stands source.order room (40 ∷ 121 ∷ 118 ∷ 41 ∷ []) at source.bytes.now (field_struct f) rest
-
--- a message's header fields stand in it: an array of the type a(yv), at offset 12
-abbrev pub FieldsStand : Source → (room : ℕ) → List FieldTree → (rest : List ℕ) → Type 0
-FieldsStand source room fs rest = Stands source.order room (97 ∷ 40 ∷ 121 ∷ 118 ∷ 41 ∷ []) 12 source.bytes.now (field_array fs) rest
 
 -- the line of a message's header as far as its fields
 abbrev pub start_text : Judged → ℕ → List ℕ

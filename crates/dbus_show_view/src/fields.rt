@@ -1,20 +1,20 @@
 //! Header fields as text, from where they stand. D-Bus Specification, "Header Fields".
 #![tactic(auto)]
 
-ghost use Rattle.std.specs.Prelude.{◌≡◌, ℕ, ◌≤◌, ◌∷◌, [], List, length, if◌then◌else◌};
+ghost use Rattle.std.specs.Prelude.{◌≡◌, ℕ, ◌≤◌, List, length};
 ghost use Rattle.std.specs.List.{flat_map};
-ghost use Rattle.dbus_value_model.specs.Values.{ValueTree, VariantValue};
+ghost use Rattle.dbus_value_model.specs.Values.{ValueTree};
 ghost use Rattle.dbus_message_model.specs.Messages.{FieldTree, field_struct};
+ghost use Rattle.dbus_walk.specs.Fields.{FieldStands, FieldsStand};
 ghost use Rattle.dbus_show.specs.Gains.{Gains};
-ghost use Rattle.dbus_show.specs.ShownValues.{value_text};
 ghost use Rattle.dbus_show.specs.ShownMessages.{bare as bare_text, field_text};
-ghost use Rattle.dbus_show_view.specs.Showing.{IsWritten, TypedStands, HeldStands, FieldStands, FieldsStand};
+ghost use Rattle.dbus_show_view.specs.Showing.{IsWritten, TypedStands};
 
 use crate::values::write_typed_at;
 use dbus_message_model::field_table::is_known;
 use dbus_show::{Draft, write_field_name, write_integer};
 use dbus_value_model::gap;
-use dbus_walk::{Source, text_in};
+use dbus_walk::{FIELDS_START, Source, field_at, fields_end, text_in};
 use std::alloc::Allocator;
 
 /// Appends a text or a UINT32 alone, and of any other type the text of the value, which stands at `at`, and whose type these bytes
@@ -53,29 +53,6 @@ fn write_bare_at<A: Allocator>(
     write_typed_at(draft, source, at, types, room)
 }
 
-/// Appends the value that the variant at `at` holds, alone where it is of a known field: the offset after it.
-fn write_held<A: Allocator>(
-    draft: &mut Draft<A>,
-    source: &Source<'_>,
-    at: usize,
-    room: u8,
-    known: bool,
-) -> usize
-    requires stands { (x : ValueTree) × (rest : List ℕ) × HeldStands source.now room at x rest }
-    ensures shown { (x : ValueTree) (rest : List ℕ) → HeldStands source.now room at x rest →
-        IsWritten source.now.order at (VariantValue x)
-        (if known then bare_text x else value_text x) draft.old draft.new result }
-{
-    let size = usize::from(source.bytes[at]);
-    let first = at + 1;
-    let types = &source.bytes[first..first + size];
-    let start = first + size + 1;
-    if known {
-        return write_bare_at(draft, source, start, types, room - 1);
-    }
-    write_typed_at(draft, source, start, types, room - 1)
-}
-
 /// Appends the field at `at`, after a space: the offset after it.
 fn write_field<A: Allocator>(
     draft: &mut Draft<A>,
@@ -87,12 +64,14 @@ fn write_field<A: Allocator>(
     ensures shown { (f : FieldTree) (rest : List ℕ) → FieldStands source.now room at f rest →
         IsWritten source.now.order at (field_struct f) (field_text f) draft.old draft.new result }
 {
-    let start = at + gap(8, at);
-    let code = source.bytes[start];
+    let field = field_at(source, at, room);
     draft.push_code(b' ');
-    write_field_name(draft, code);
+    write_field_name(draft, field.code);
     draft.push_code(b'=');
-    write_held(draft, source, start + 1, room - 1, is_known(code))
+    if is_known(field.code) {
+        return write_bare_at(draft, source, field.at, field.types, field.room);
+    }
+    write_typed_at(draft, source, field.at, field.types, field.room)
 }
 
 /// Appends a message's fields in their order.
@@ -101,10 +80,9 @@ pub(crate) fn write_fields<A: Allocator>(draft: &mut Draft<A>, source: &Source<'
     ensures shown { (fs : List FieldTree) (rest : List ℕ) → FieldsStand source.now room fs rest →
         Gains draft.old (flat_map field_text fs) draft.new }
 {
-    let n = source.order.u32_at(source.bytes, 12) as usize;
-    let end = 16 + n;
-    let mut place = 16;
+    let end = fields_end(source);
+    let mut place = FIELDS_START;
     while place < end {
-        place = write_field(draft, source, place, room - 1);
+        place = write_field(draft, source, place, room);
     }
 }

@@ -1,2 +1,3 @@
-mod Views
+pub mod Views
 mod Firsts
+mod NumberRuns

@@ -1,7 +1,7 @@
 -- How values are seen where they stand.
 use Rattle.std.proofs.Common.{◌≡◌, ℕ, ◌+◌, ◌-◌, ◌≤◌, List, [], ◌∷◌, ◌++◌, length, get_or, take, false, take_all, drop, IsUtf8, refl, sym, ap, subst, ◌∙◌, arith, ◌⊎◌, inl, inr}
 use Rattle.std.proofs.lemmas.List.{append-nil, length-append, length-drop}
-use Rattle.dbus_texts.specs.Types.{NumberCode, TextCode, STRING, OBJECT_PATH, SIGNATURE, TypeTree, NumberType, TextType, number_code, text_code, sig, sigs, IsShaped}
+use Rattle.dbus_texts.specs.Types.{NumberCode, BYTE, TextCode, STRING, OBJECT_PATH, SIGNATURE, TypeTree, NumberType, TextType, number_code, text_code, sig, sigs, IsShaped}
 use Rattle.dbus_texts.proofs.TypeTexts.{shaped_of}
 use Rattle.dbus_types.specs.Alignments.{width, length_width}
 use Rattle.dbus_types.specs.SignatureCodes.{first_code}
@@ -10,14 +10,18 @@ use Rattle.dbus_value_model.specs.declared.order.Order.{Order}
 use Rattle.dbus_value_model.specs.Reading.{number_of}
 use Rattle.dbus_value_model.specs.Spelling.{spelling}
 use Rattle.dbus_value_model.specs.Values.{ValueTree, ValueTrees, NumberValue, TextValue, ArrayValue, StructValue, EntryValue, NoValues, MoreValues, type_of, types_of, IsNumber, IsWellFormed}
+use Rattle.dbus_value_model.specs.ValueViews.{byte_values}
+use Rattle.dbus_walk.specs.declared.spot.Run.{Run}
 use Rattle.dbus_walk.specs.declared.spot.Source.{Source}
 use Rattle.dbus_walk.specs.declared.spot.Spot.{Spot}
-use Rattle.dbus_walk.specs.Layouts.{IsNumberAt, IsTextAt, IsVariantAt, of_elements}
+use Rattle.dbus_walk.specs.Layouts.{IsNumberAt, IsTextAt, IsVariantAt, IsArrayAt, of_elements}
 use Rattle.dbus_walk.specs.Standing.{Stands, AllStand, StandsAt}
 use Rattle.dbus_walk.proofs.Enclosed.{stands_positive}
+use Rattle.dbus_walk.proofs.Parts.{number_is}
 use Rattle.dbus_walk.proofs.Seams.{there_within}
 use Rattle.dbus_walk.proofs.ReadThere.{formed_utf8}
 use Rattle.dbus_values.specs.Seen.{IsSeen}
+use Rattle.dbus_values.proofs.NumberRuns.{one_byte, bytes_there}
 use Rattle.dbus_values.specs.declared.view.ValueView.{ValueView}
 
 path_left : (k : TextCode) → length_width k ≡ 4 → (text_code k ≡ 115 → ⊥) → k ≡ OBJECT_PATH
@@ -31,7 +35,7 @@ signature_left OBJECT_PATH wide = absurd (omega (arith, wide))
 signature_left SIGNATURE wide = refl
 
 -- one value that stands there is all of some
-one_left : {order : Order} {room : ℕ} {types : List ℕ} {at : ℕ} {bytes : List ℕ} {v : ValueTree} {rest : List ℕ} → Stands order room types at bytes v rest → IsShaped false (type_of v) → AllStand order room types at bytes (MoreValues v NoValues) rest
+pub one_left : {order : Order} {room : ℕ} {types : List ℕ} {at : ℕ} {bytes : List ℕ} {v : ValueTree} {rest : List ℕ} → Stands order room types at bytes v rest → IsShaped false (type_of v) → AllStand order room types at bytes (MoreValues v NoValues) rest
 unfolding spelling
 one_left {order} {room} {types} {at} {bytes} {v} {rest} s shaped = record {
   text = append-nil (sig (type_of v)) ∙ s.text;
@@ -98,6 +102,17 @@ module _ (source : Source) (spot : Spot) (v : ValueTree) (rest : List ℕ) (s : 
   array_type t xs is =
       let whole : 97 ∷ sig t ≡ spot.types.now = ap (λ (u : ValueTree). sig (type_of u)) (sym is) ∙ s.text in
       ap (λ (l : List ℕ). drop 1 l) whole ∙ sym (take_all (length spot.types.now - 1) (drop 1 spot.types.now) (omega (arith, length-drop 1 spot.types.now)))
+
+  -- elements of one byte are the bytes of an array of BYTE
+  pub array_of_bytes : (run : Run) (p : IsArrayAt source spot v rest run) → run.size ≡ 1 → v ≡ ArrayValue (NumberType BYTE) (byte_values (take (run.end - run.first) (drop run.first source.bytes.now)))
+  array_of_bytes run p one =
+      let type = array_type p.type p.xs p.is in
+      let whole : 97 ∷ sig p.type ≡ spot.types.now = ap (λ (u : ValueTree). sig (type_of u)) (sym p.is) ∙ s.text in
+      let byte = λ (t : TypeTree) (text : sig t ≡ of_elements spot.types.now).
+      let wide = p.found.wide t (code_is t (sig p.type) (text ∙ sym type) ∙ ap (λ (l : List ℕ). get_or l 1 0) whole) in
+      let k = number_is t 1 (omega arith) (sym one ∙ wide) in
+      k.1 ∙ ap NumberType (one_byte k.0 k.2) in
+      p.is ∙ ap (λ (t : TypeTree). ArrayValue t p.xs) (byte p.type type) ∙ ap (ArrayValue (NumberType BYTE)) (bytes_there p.held (byte p.held.type p.held.text))
 
   -- brackets stand around the types of parts
   pub parts_long : ((xs : ValueTrees) × (v ≡ StructValue xs)) ⊎ ((x : ValueTree) × (y : ValueTree) × (v ≡ EntryValue x y)) → 2 ≤ length spot.types.now

@@ -1,16 +1,17 @@
 -- How a value is seen where it stands, and which values are left after it.
 -- D-Bus Specification, "Type System".
-use Rattle.std.specs.Prelude.{◌≡◌, ℕ, List, if◌then◌else◌}
+use Rattle.std.specs.Prelude.{◌≡◌, ℕ, ◌<◌, List, if◌then◌else◌, Option, IfSome, MatchOption}
 use Rattle.std.specs.Int.{cast_unsigned, w16, w32, w64}
-use Rattle.dbus_texts.specs.Types.{BYTE, BOOLEAN, INT16, UINT16, INT32, UINT32, INT64, UINT64, DOUBLE, UNIX_FD, STRING, OBJECT_PATH, SIGNATURE, TypeTree, sig}
+use Rattle.dbus_texts.specs.Types.{BYTE, BOOLEAN, INT16, UINT16, INT32, UINT32, INT64, UINT64, DOUBLE, UNIX_FD, STRING, OBJECT_PATH, SIGNATURE, TypeTree, NumberType, sig}
 use Rattle.dbus_types.specs.SignatureCodes.{first_code}
 use Rattle.dbus_value_model.specs.Values.{ValueTree, ValueTrees, NumberValue, TextValue, VariantValue, ArrayValue, StructValue, EntryValue, NoValues, MoreValues, type_of}
-use Rattle.dbus_values.specs.States.{ValuesState, AreLeft, ElementsState, ElementsAreLeft, weight}
+use Rattle.dbus_value_model.specs.ValueViews.{byte_values}
+use Rattle.dbus_values.specs.States.{ValuesState, AreLeft, AreFewer, IsAfter, ElementsState, ElementsAreLeft, AreFewerElements, weight}
 use Rattle.dbus_values.specs.declared.view.ValueView.{ValueView}
 use Rattle.dbus_values.specs.declared.view.ValueView.TheVariants as view
 
--- The tree that a value seen so is: a number, a signed one as its two's complement and a DOUBLE as its 64 bits; a text; or a
--- container, whose parts are left where they stand.
+-- The tree that a value seen so is: a number, a signed one as its two's complement and a DOUBLE as its 64 bits; a text; the bytes
+-- of an array of BYTE; or another container, whose parts are left where they stand.
 abbrev pub IsSeen : ValueView → ValueTree → Type 0
 IsSeen (view.Byte n) v = v ≡ NumberValue BYTE n
 IsSeen (view.Bool b) v = v ≡ NumberValue BOOLEAN (if b then 1 else 0)
@@ -25,7 +26,8 @@ IsSeen (view.Fd n) v = v ≡ NumberValue UNIX_FD n
 IsSeen (view.Str s) v = v ≡ TextValue STRING s.now
 IsSeen (view.Path s) v = v ≡ TextValue OBJECT_PATH s.now
 IsSeen (view.Sig s) v = v ≡ TextValue SIGNATURE s.now
-IsSeen (view.Array e) v = (t : TypeTree) × (xs : ValueTrees) × (rest : List ℕ) × (v ≡ ArrayValue t xs) × (sig t ≡ e.type) × ElementsAreLeft e xs rest
+IsSeen (view.Bytes b) v = v ≡ ArrayValue (NumberType BYTE) (byte_values b.now)
+IsSeen (view.Array e) v = (t : TypeTree) × (xs : ValueTrees) × (rest : List ℕ) × (v ≡ ArrayValue t xs) × (t ≡ NumberType BYTE → ⊥) × (sig t ≡ e.type) × ElementsAreLeft e xs rest
 IsSeen (view.Struct s) v = (xs : ValueTrees) × (rest : List ℕ) × (v ≡ StructValue xs) × AreLeft s xs rest
 IsSeen (view.Entry s) v = (x : ValueTree) × (y : ValueTree) × (rest : List ℕ) × (v ≡ EntryValue x y) × AreLeft s (MoreValues x (MoreValues y NoValues)) rest
 IsSeen (view.Variant s) v = (x : ValueTree) × (rest : List ℕ) × (v ≡ VariantValue x) × AreLeft s (MoreValues x NoValues) rest
@@ -48,3 +50,14 @@ weight_in (view.Struct s) = weight s.room s.types
 weight_in (view.Entry s) = weight s.room s.types
 weight_in (view.Variant s) = weight s.room s.types
 weight_in _ = 0
+
+-- A call of `next`: what is left before it, what it answers, and what is left after it. The first of the trees is seen, and the
+-- others are left; or there are none. The others begin where the first ends, and both are less than what was left.
+pub record PassesValue (before : ValuesState) (result : Option ValueView) (left : ValuesState) : Type 0 where
+  pub first : (xs : ValueTrees) (rest : List ℕ) → AreLeft before xs rest → MatchOption result ((xs ≡ NoValues) × AreLeft left xs rest) (λ seen. IsFirst left xs rest seen)
+  pub after : (x : ValueTree) (us : ValueTrees) (rest : List ℕ) → AreLeft before (MoreValues x us) rest → IsAfter before x left
+  pub fewer : IfSome result (λ seen. (weight_in seen < weight before.room before.types) × AreFewer left before)
+
+pub record PassesElement (before : ElementsState) (result : Option ValueView) (left : ElementsState) : Type 0 where
+  pub first : (xs : ValueTrees) (rest : List ℕ) → ElementsAreLeft before xs rest → MatchOption result ((xs ≡ NoValues) × ElementsAreLeft left xs rest) (λ seen. IsFirstElement left xs rest seen)
+  pub fewer : IfSome result (λ seen. (weight_in seen < weight before.room before.type) × AreFewerElements left before)

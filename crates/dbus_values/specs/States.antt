@@ -1,9 +1,13 @@
 -- Values of a message that are still to be seen, and which trees stand there.
 -- D-Bus Specification, "Marshaling (Wire Format)".
-use Rattle.std.specs.Prelude.{◌≡◌, ℕ, ◌+◌, ◌-◌, ◌*◌, ◌<◌, ◌≤◌, List, length}
+use Rattle.std.specs.Prelude.{◌≡◌, ℕ, ◌+◌, ◌-◌, ◌*◌, ◌<◌, ◌≤◌, List, [], ◌∷◌, length, map}
+use Rattle.std.specs.List.{flat_map}
+use Rattle.dbus_texts.specs.Types.{NumberCode, number_code}
+use Rattle.dbus_types.specs.Alignments.{width}
+use Rattle.dbus_value_model.specs.Bytes.{num}
 use Rattle.dbus_value_model.specs.declared.order.Order.{Order}
 use Rattle.dbus_value_model.specs.Spelling.{spelling}
-use Rattle.dbus_value_model.specs.Values.{ValueTree, ValueTrees}
+use Rattle.dbus_value_model.specs.Values.{ValueTree, ValueTrees, NumberValue, value_trees}
 use Rattle.dbus_walk.specs.Standing.{AllStand, ElementsStand}
 
 -- several values: the bytes of the message and their order, where the first value begins, the types that are left, and how many
@@ -41,6 +45,18 @@ ElementsAreLeft s xs rest = ElementsStand s.order s.room s.type s.at s.end s.byt
 
 abbrev pub SomeElementsAreLeft : ElementsState → Type 0
 SomeElementsAreLeft s = (length s.type ≤ 255) × (xs : ValueTrees) × (rest : List ℕ) × ElementsAreLeft s xs rest
+
+-- the type is none of numbers
+abbrev pub IsOfNoNumbers : (type : List ℕ) → Type 0
+IsOfNoNumbers type = (k : NumberCode) → type ≡ number_code k ∷ [] → ⊥
+
+-- elements of a type are numbers, and bytes are theirs, with nothing before them or between
+pub record AreNumbersIn (order : Order) (type : List ℕ) (xs : ValueTrees) (bytes : List ℕ) : Type 0 where
+  pub code : NumberCode
+  pub numbers : List ℕ
+  pub typed : type ≡ number_code code ∷ []
+  pub are : xs ≡ value_trees (map (NumberValue code) numbers)
+  pub spelled : bytes ≡ flat_map (num order (width code)) numbers
 
 -- An array, a struct or a variant takes one of the room for the values in it, and what is in a dict entry has a shorter signature.
 -- So this number is less for what is in a value than for the value.

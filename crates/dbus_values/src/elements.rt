@@ -1,12 +1,13 @@
 //! Elements of an array.
 #![tactic(auto)]
 
-ghost use Rattle.std.specs.Prelude.{◌≡◌, ◌<◌, ◌≤◌, ℕ, List, length, IfSome, MatchOption};
-ghost use Rattle.dbus_value_model.specs.Values.{ValueTrees, NoValues};
+ghost use Rattle.std.specs.Prelude.{◌≡◌, ◌-◌, ℕ, List, length, MatchOption};
+ghost use Rattle.dbus_value_model.specs.Values.{ValueTrees};
 
 use crate::passing::pass;
 use crate::view::ValueView;
-use dbus_walk::{Run, Source, Spot};
+use dbus_value_model::{Order, gap};
+use dbus_walk::{Run, Source, Spot, number_width};
 use std::marker::Model;
 
 /// Elements of an array, which stand one after another. All have one type. D-Bus Specification, "Marshaling (Wire Format)".
@@ -44,8 +45,8 @@ impl<'a> Model for Elements<'a> {
 }
 
 impl<'a> Elements<'a> {
-    ghost use Rattle.dbus_values.specs.States.{AreFewerElements, ElementsAreLeft, SomeElementsAreLeft, weight};
-    ghost use Rattle.dbus_values.specs.Seen.{IsFirstElement, weight_in};
+    ghost use Rattle.dbus_value_model.specs.Spelling.{spellings};
+    ghost use Rattle.dbus_values.specs.States.{AreNumbersIn, ElementsAreLeft, IsOfNoNumbers, SomeElementsAreLeft};
 
     /// The elements of a run in the bytes, which have this type. So many containers may be open in each.
     pub(crate) fn new(source: &Source<'a>, run: Run, element: &'a [u8], room: u8) -> Elements<'a>
@@ -76,7 +77,7 @@ impl<'a> Elements<'a> {
     }
 
     /// The same elements, to be seen once more.
-    pub fn copied(&self) -> Elements<'a>
+    pub fn again(&self) -> Elements<'a>
         ensures { result ≡ self.now }
     {
         Elements {
@@ -88,14 +89,61 @@ impl<'a> Elements<'a> {
         }
     }
 
-    /// The first of the elements, which are then the others. `None` if there are none.
-    pub fn next(&mut self) -> Option<ValueView<'a>>
-        ensures first { (xs : ValueTrees) (rest : List ℕ) → ElementsAreLeft self.old xs rest →
-            MatchOption result ((xs ≡ NoValues) × ElementsAreLeft self.new xs rest)
-            (λ seen. IsFirstElement self.new xs rest seen) }
-        ensures fewer { IfSome result (λ seen.
-            (weight_in seen < weight self.old.room self.old.type) × AreFewerElements self.new self.old) }
+    /// The elements' one type, as text. D-Bus Specification, "Type System".
+    pub fn types(&self) -> &'a [u8]
+        ensures { result.now ≡ self.now.type }
     {
+        self.element
+    }
+
+    /// The order of the bytes of each number. D-Bus Specification, "Message Format".
+    pub fn order(&self) -> Order
+        ensures { result ≡ self.now.order }
+    {
+        self.source.order
+    }
+
+    /// How many bytes the elements that are left have, with all padding. It counts no elements.
+    /// D-Bus Specification, "Marshaling (Wire Format)".
+    pub fn bytes_left(&self) -> usize
+        ensures { (xs : ValueTrees) (rest : List ℕ) → ElementsAreLeft self.now xs rest →
+            result ≡ length (spellings self.now.order self.now.at xs) }
+    {
+        self.end - self.at
+    }
+
+    /// The bytes of the numbers that are left, one number after another, each in the order that [`Elements::order`] gives. `None`
+    /// if the elements are no numbers. D-Bus Specification, "Marshaling (Wire Format)".
+    pub fn number_bytes(&self) -> Option<&'a [u8]>
+        ensures { (xs : ValueTrees) (rest : List ℕ) → ElementsAreLeft self.now xs rest →
+            MatchOption result (IsOfNoNumbers self.now.type) (λ bytes.
+            AreNumbersIn self.now.order self.now.type xs bytes.now) }
+    {
+        let width = number_width(self.element[0]);
+        if width == 0 {
+            return None;
+        }
+        if self.at == self.end {
+            return Some(&[]);
+        }
+        let start = self.at + gap(width, self.at);
+        Some(&self.source.bytes[start..self.end])
+    }
+}
+
+impl<'a> Iterator for Elements<'a> {
+    ghost use Rattle.std.specs.Iterator.{at_most};
+    ghost use Rattle.dbus_values.specs.Seen.{PassesElement};
+
+    type Item = ValueView<'a>;
+
+    ghost next_gives = { PassesElement };
+
+    // Each element has a byte at least.
+    ghost remaining = { λ s. at_most (s.end - s.at) };
+
+    /// The first of the elements, which are then the others. `None` if there are none.
+    fn next(&mut self) -> Option<ValueView<'a>> {
         if self.at == self.end {
             return None;
         }

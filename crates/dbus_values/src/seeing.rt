@@ -39,6 +39,10 @@ pub(crate) fn view_of<'a>(source: &Source<'a>, spot: &Spot<'a>, parts: Layout<'a
             ValueView::Variant(Values::new(source, at, types, spot.room - 1))
         }
         Layout::Array(run) => {
+            // Of all numbers only a BYTE has one byte.
+            if run.size == 1 {
+                return ValueView::Bytes(&source.bytes[run.first..run.end]);
+            }
             ValueView::Array(Elements::new(source, run, &spot.types[1..], spot.room - 1))
         }
         Layout::Struct { start } => {

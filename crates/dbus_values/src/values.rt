@@ -1,8 +1,8 @@
 //! Several values, one after another.
 #![tactic(auto)]
 
-ghost use Rattle.std.specs.Prelude.{◌≡◌, ◌<◌, ◌≤◌, ℕ, List, length, IfSome, MatchOption};
-ghost use Rattle.dbus_value_model.specs.Values.{ValueTree, ValueTrees, NoValues, MoreValues};
+ghost use Rattle.std.specs.Prelude.{◌≡◌, ℕ, List, length, MatchOption};
+ghost use Rattle.dbus_value_model.specs.Values.{ValueTrees, NoValues};
 
 use crate::passing::pass;
 use crate::view::ValueView;
@@ -43,8 +43,8 @@ impl<'a> Model for Values<'a> {
 }
 
 impl<'a> Values<'a> {
-    ghost use Rattle.dbus_values.specs.States.{AreFewer, AreLeft, IsAfter, SomeAreLeft, weight};
-    ghost use Rattle.dbus_values.specs.Seen.{IsFirst, IsFirstCode, weight_in};
+    ghost use Rattle.dbus_values.specs.States.{AreLeft, SomeAreLeft};
+    ghost use Rattle.dbus_values.specs.Seen.{IsFirstCode};
 
     /// The values that stand in the bytes from `at` on, one of each type of the signature. So many containers may be open in them.
     pub fn new(source: &Source<'a>, at: usize, types: &'a [u8], room: u8) -> Values<'a>
@@ -72,7 +72,7 @@ impl<'a> Values<'a> {
     }
 
     /// The same values, to be seen once more.
-    pub fn copied(&self) -> Values<'a>
+    pub fn again(&self) -> Values<'a>
         ensures { result ≡ self.now }
     {
         Values {
@@ -101,17 +101,20 @@ impl<'a> Values<'a> {
         }
         Some(self.types[0])
     }
+}
+
+impl<'a> Iterator for Values<'a> {
+    ghost use Rattle.std.specs.Iterator.{at_most};
+    ghost use Rattle.dbus_values.specs.Seen.{PassesValue};
+
+    type Item = ValueView<'a>;
+
+    ghost next_gives = { PassesValue };
+
+    ghost remaining = { λ s. at_most (length s.types) };
 
     /// The first of the values, which are then the others. `None` if there are none.
-    pub fn next(&mut self) -> Option<ValueView<'a>>
-        ensures first { (xs : ValueTrees) (rest : List ℕ) → AreLeft self.old xs rest →
-            MatchOption result ((xs ≡ NoValues) × AreLeft self.new xs rest)
-            (λ seen. IsFirst self.new xs rest seen) }
-        ensures after { (x : ValueTree) (us : ValueTrees) (rest : List ℕ) →
-            AreLeft self.old (MoreValues x us) rest → IsAfter self.old x self.new }
-        ensures fewer { IfSome result (λ seen.
-            (weight_in seen < weight self.old.room self.old.types) × AreFewer self.new self.old) }
-    {
+    fn next(&mut self) -> Option<ValueView<'a>> {
         if self.types.is_empty() {
             return None;
         }

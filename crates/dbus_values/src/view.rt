@@ -33,7 +33,9 @@ pub enum ValueView<'a> {
     Path(&'a str),
     /// SIGNATURE.
     Sig(&'a str),
-    /// ARRAY: its elements.
+    /// ARRAY of BYTE: its bytes.
+    Bytes(&'a [u8]),
+    /// ARRAY of another type: its elements.
     Array(Elements<'a>),
     /// STRUCT: its fields.
     Struct(Values<'a>),

@@ -1,11 +1,13 @@
--- The body of a message that is judged.
-use Rattle.std.proofs.Common.{◌≡◌, ℕ, ◌^◌, ◌<◌, List, [], length, take_all, refl, sym, ap, subst, ◌∙◌, arith}
+-- The fields and the body of a message that is judged.
+use Rattle.std.proofs.Common.{◌≡◌, ℕ, ◌^◌, ◌<◌, List, [], ◌∷◌, length, take_all, refl, sym, ap, subst, ◌∙◌, arith}
 use Rattle.dbus_value_model.specs.declared.limits.Limits.{Limits}
-use Rattle.dbus_message_model.specs.Messages.{body_start, body_signature, message_bytes}
+use Rattle.dbus_message_model.specs.Messages.{field_array, body_start, body_signature, message_bytes}
 use Rattle.dbus_decode.proofs.OutcomeLaws.{whole_bytes}
 use Rattle.dbus_judge.specs.declared.judging.Judged.{Judged}
 use Rattle.dbus_judge.specs.Judging.{IsJudgedWhole}
-use Rattle.dbus_walk.proofs.MessageParts.{body_stands, body_few}
+use Rattle.dbus_walk.proofs.MessageParts.{fields_stand, body_stands, body_few}
+use Rattle.dbus_walk.specs.Fields.{field_types}
+use Rattle.dbus_walk.specs.Standing.{Stands}
 use Rattle.dbus_values.specs.States.{ValuesState, AreLeft, SomeAreLeft}
 use Rattle.dbus_view.specs.Bodies.{all_values}
 use Rattle.dbus_view.proofs.Whole.{message, all_whole, valid, state}
@@ -18,6 +20,10 @@ module _ (limits : Limits) (bytes : List ℕ) (j : Judged) (h : IsJudgedWhole li
   all = all_values (state limits bytes j h) j.order (message limits bytes j h)
 
   module _ (small : limits.array < 256 ^ 4) where
+    -- its fields stand there
+    pub fields_there : (rest : List ℕ) × Stands j.order limits.depth (97 ∷ field_types) 12 bytes (field_array (message limits bytes j h).fields) rest
+    fields_there = (_, fields_stand limits j.order (message limits bytes j h) bytes all_bytes (valid limits bytes j h) small)
+
     -- its values are left, all of them
     pub body_left : AreLeft all (message limits bytes j h).body []
     body_left =

@@ -5,3 +5,4 @@ mod BodyThere
 mod Faults
 mod Numbered
 mod ArgTexts
+mod FieldSteps

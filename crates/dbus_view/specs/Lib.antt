@@ -2,3 +2,4 @@ pub mod Views
 pub mod Opening
 pub mod Fields
 pub mod Bodies
+pub mod FieldViews

@@ -8,8 +8,10 @@ mod arg;
 mod arg_place;
 mod arg_view;
 mod fault;
+mod fields;
 mod view;
 
 pub use arg_place::ArgPlace;
 pub use arg_view::ArgView;
+pub use fields::{FieldView, Fields};
 pub use view::MessageView;

@@ -15,6 +15,7 @@ use crate::arg::{arg_at, place_of, view_of};
 use crate::arg_place::ArgPlace;
 use crate::arg_view::ArgView;
 use crate::fault::fault_of;
+use crate::fields::Fields;
 use dbus_judge::{Judged, judge};
 use dbus_message_model::field_code::{
     DESTINATION, ERROR_NAME, INTERFACE, MEMBER, PATH, REPLY_SERIAL, SENDER,
@@ -49,6 +50,7 @@ impl<'a> Model for MessageView<'a> {
 impl<'a> MessageView<'a> {
     ghost use Rattle.dbus_values.specs.States.{AreLeft};
     ghost use Rattle.dbus_view.specs.Bodies.{IsArgThere, IsPlaceThere, all_values};
+    ghost use Rattle.dbus_view.specs.FieldViews.{FieldsAreLeft};
     ghost use Rattle.dbus_view.specs.Fields.{WantsText, IsTextOf};
     ghost use Rattle.dbus_view.specs.Opening.{IsViewFault};
     ghost use Rattle.dbus_view.specs.Views.{Views, ViewsOne, IsViewOf};
@@ -216,14 +218,25 @@ impl<'a> MessageView<'a> {
         self.text(SENDER)
     }
 
+    /// The header fields, those of unknown codes too, none of them seen yet. D-Bus Specification, "Header Fields".
+    pub fn fields(&self) -> Fields<'a>
+        ensures left { (order : Order) (m : MessageTree) → Views self.now order m → FieldsAreLeft result m.fields }
+        ensures one { ViewsOne self.now }
+    {
+        let source = Source {
+            bytes: self.bytes,
+            order: self.judged.order,
+        };
+        Fields::new(&source, self.limits.depth)
+    }
+
     /// The values of the body, none of them seen yet. D-Bus Specification, "Message Format".
     ///
     /// The values of a `NameOwnerChanged` signal are three texts: a name, its old owner and its new one. This prints them:
     ///
     /// ```text
-    /// let mut values = view.body();
-    /// for _ in 0..3 {
-    ///     if let Some(ValueView::Str(text)) = values.next() {
+    /// for value in view.body() {
+    ///     if let ValueView::Str(text) = value {
     ///         println!(rt; "{text}")?;
     ///     }
     /// }

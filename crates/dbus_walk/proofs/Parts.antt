@@ -74,7 +74,7 @@ module _ {order : Order} {room : ℕ} {types : List ℕ} {at : ℕ} {bytes : Lis
     pub padded : drop at bytes ≡ pad size at ++ (num order size n ++ rest)
     pub inside : at + gap_to size at + size ≤ length bytes
 
-  number_of_width : (size : ℕ) (k : NumberCode) (n : ℕ) → width k ≡ size → 0 < size → v ≡ NumberValue k n → NumberStands size
+  pub number_of_width : (size : ℕ) (k : NumberCode) (n : ℕ) → width k ≡ size → 0 < size → v ≡ NumberValue k n → NumberStands size
   unfolding spelling
   number_of_width size k n wide some is =
       let spelled : drop at bytes ≡ (pad size at ++ num order size n) ++ rest =

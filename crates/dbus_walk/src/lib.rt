@@ -5,6 +5,7 @@
 #![tactic(auto)]
 
 mod container;
+mod fields;
 mod layouts;
 mod lengths;
 mod numbers;
@@ -15,6 +16,7 @@ mod visitor;
 mod walk;
 
 pub use container::Container;
+pub use fields::{FIELDS_START, FieldSpot, field_at, fields_end};
 pub use layouts::layout;
 pub use lengths::lengths_of;
 pub use numbers::number_width;

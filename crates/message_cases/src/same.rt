@@ -3,7 +3,7 @@
 use crate::building::built;
 use crate::decoding::message_of;
 use crate::input::Input;
-use crate::seeing::sees_body;
+use crate::seeing::sees_message;
 use crate::showing::is_shown;
 use crate::turning::copy_turned;
 use crate::viewing::gives_message;
@@ -33,8 +33,13 @@ fn try_view(
     let (bytes, limits) = (input.bytes(), input.limits);
     let is_viewed = gives_message(bytes, limits, order, message);
     tally.compare(rt, "a view gives what the message has", &true, &is_viewed)?;
-    let is_seen = sees_body(bytes, limits, message);
-    tally.compare(rt, "the body's values are seen one by one", &true, &is_seen)?;
+    let is_seen = sees_message(bytes, limits, message);
+    tally.compare(
+        rt,
+        "the fields and the values are seen one by one",
+        &true,
+        &is_seen,
+    )?;
     Ok(())
 }
 

@@ -1,9 +1,12 @@
-use Rattle.std.proofs.Common.{◌-◌, length, drop, refl, sym, ap, subst, ◌∙◌, arith, inl, inr}
+use Rattle.std.proofs.Common.{◌≡◌, ◌-◌, length, drop, refl, sym, ap, subst, ◌∙◌, arith, inl, inr}
 use Rattle.std.proofs.lemmas.List.{length-take}
 use Rattle.dbus_value_model.specs.Values.{NoValues, MoreValues}
+use Rattle.dbus_texts.specs.Types.{BYTE, NumberType}
 use Rattle.dbus_walk.specs.Layouts.{IsLaidOut}
+use Rattle.dbus_walk.specs.Widths.{number_width}
 use Rattle.dbus_walk.specs.declared.spot.Layout.{Layout}
-use Rattle.dbus_values.proofs.Views.{number_coded, number_inside, number_seen, text_utf8, string_seen, path_seen, signature_seen, variant_left, array_type, parts_long}
+use Rattle.dbus_values.proofs.Views.{number_coded, number_inside, number_seen, text_utf8, string_seen, path_seen, signature_seen, variant_left, array_type, array_of_bytes, parts_long}
+use Rattle.dbus_values.proofs.NumberRuns.{elements_within}
 use Rattle.dbus_values.specs.States.{ValuesState, AreLeft, ElementsState, ElementsAreLeft}
 use Rattle.dbus_values.proofs.seeing.view_of.Goals as goal
 
@@ -103,6 +106,30 @@ returns-in-Variant-clause-less c =
     let p = subst (λ (l : Layout). IsLaidOut c.args.source.now c.args.spot.now there.0 there.1 l) c.in-Variant.is (c.requires.laid there.0 there.1 there.2) in
     omega (arith, p.some, p.few, ap (λ (l : ValuesState). l.room) c.new.ensures, ap (λ (l : ValuesState). length l.types) c.new.ensures)
 
+pub slice_bounds-result-count : goal.slice_bounds-result-count
+slice_bounds-result-count c =
+    let there = c.requires.stands in
+    let p = subst (λ (l : Layout). IsLaidOut c.args.source.now c.args.spot.now there.0 there.1 l) c.in-Array.is (c.requires.laid there.0 there.1 there.2) in
+    omega (arith, elements_within p.held)
+
+pub slice_bounds-result-start : goal.slice_bounds-result-start
+slice_bounds-result-start c =
+    let there = c.requires.stands in
+    let p = subst (λ (l : Layout). IsLaidOut c.args.source.now c.args.spot.now there.0 there.1 l) c.in-Array.is (c.requires.laid there.0 there.1 there.2) in
+    omega (arith, elements_within p.held)
+
+pub slice_bounds-result-end : goal.slice_bounds-result-end
+slice_bounds-result-end c =
+    let there = c.requires.stands in
+    let p = subst (λ (l : Layout). IsLaidOut c.args.source.now c.args.spot.now there.0 there.1 l) c.in-Array.is (c.requires.laid there.0 there.1 there.2) in
+    omega (arith, elements_within p.held)
+
+pub returns-then-run-eq1-clause-seen : goal.returns-then-run-eq1-clause-seen
+returns-then-run-eq1-clause-seen c =
+    λ v rest s.
+    let p = subst (λ (l : Layout). IsLaidOut c.args.source.now c.args.spot.now v rest l) c.in-Array.is (c.requires.laid v rest s) in
+    array_of_bytes c.args.source.now c.args.spot.now v rest s _ p c.if-run-eq1.true
+
 pub overflow_sub-spot-in-Array : goal.overflow_sub-spot-in-Array
 overflow_sub-spot-in-Array c =
     let there = c.requires.stands in
@@ -115,11 +142,12 @@ new-requires-in-Array c =
     let p = subst (λ (l : Layout). IsLaidOut c.args.source.now c.args.spot.now there.0 there.1 l) c.in-Array.is (c.requires.laid there.0 there.1 there.2) in
     (omega (arith, c.requires.few, length-take (length c.args.spot.now.types.now - 1) (drop 1 c.args.spot.now.types.now)), p.xs, there.1, p.held)
 
-pub returns-in-Array-clause-seen : goal.returns-in-Array-clause-seen
-returns-in-Array-clause-seen c =
+pub returns-else-run-eq1-clause-seen : goal.returns-else-run-eq1-clause-seen
+returns-else-run-eq1-clause-seen c =
     λ v rest s.
     let p = subst (λ (l : Layout). IsLaidOut c.args.source.now c.args.spot.now v rest l) c.in-Array.is (c.requires.laid v rest s) in
-    (p.type, p.xs, rest, p.is, array_type c.args.source.now c.args.spot.now v rest s p.type p.xs p.is ∙ ap (λ (l : ElementsState). l.type) (sym c.new-in-Array.ensures), subst (λ (l : ElementsState). ElementsAreLeft l p.xs rest) (sym c.new-in-Array.ensures) p.held)
+    let other = λ (byte : p.type ≡ NumberType BYTE). c.if-run-eq1.false (sym p.wide ∙ ap number_width byte) in
+    (p.type, p.xs, rest, p.is, other, array_type c.args.source.now c.args.spot.now v rest s p.type p.xs p.is ∙ ap (λ (l : ElementsState). l.type) (sym c.new-in-Array.ensures), subst (λ (l : ElementsState). ElementsAreLeft l p.xs rest) (sym c.new-in-Array.ensures) p.held)
 
 pub slice_bounds-fields-count : goal.slice_bounds-fields-count
 slice_bounds-fields-count c =

@@ -11,15 +11,15 @@ pub returns-in_err-_passed : goal.returns-in_err-_passed
 returns-in_err-_passed c = λ xs rest all.
     let l = c.loop-number in
     let p = l.invariant.passed xs rest all in
-    rw c.from_residual.ensures (all_passed c.args.values xs rest l._number l.left p c.args.n (c.in_err-_passed.ensures.first p.us rest p.stand).0 (omega arith))
+    rw c.from_residual.ensures (all_passed c.args.values xs rest l._number l.left p c.args.n (c.in_err-_passed.ensures.steps.first p.us rest p.stand).0 (omega arith))
 
 pub loop-number-preserved : goal.loop-number-preserved
 loop-number-preserved c = record {
   passed = λ xs rest all.
       let l = c.loop-number in
       let p = l.invariant.passed xs rest all in
-      let f = c.in_ok-_passed.ensures.first p.us rest p.stand in
-      let after = c.in_ok-_passed.ensures.after f.0 f.1 rest (stands c.args.values xs rest l._number l.left p f.0 f.1 f.2) in
+      let f = c.in_ok-_passed.ensures.steps.first p.us rest p.stand in
+      let after = c.in_ok-_passed.ensures.steps.after f.0 f.1 rest (stands c.args.values xs rest l._number l.left p f.0 f.1 f.2) in
       one_passed c.args.values xs rest l._number l.left p f.0 f.1 f.2 c.next.new.self after f.4;
 }
 
@@ -33,15 +33,15 @@ pub returns-in_err-seen : goal.returns-in_err-seen
 returns-in_err-seen c = λ xs rest all.
     let l = c.loop-number in
     let p = l.invariant.passed xs rest all in
-    rw c.from_residual-in_err-seen.ensures (all_passed c.args.values xs rest l._number l.left p c.args.n (c.in_err-seen.ensures.first p.us rest p.stand).0 (omega arith))
+    rw c.from_residual-in_err-seen.ensures (all_passed c.args.values xs rest l._number l.left p c.args.n (c.in_err-seen.ensures.steps.first p.us rest p.stand).0 (omega arith))
 
 pub returns : goal.returns
 returns c = λ xs rest all.
     let l = c.loop-number in
     let p = l.invariant.passed xs rest all in
     let coded = c.in_ok-code.ensures p.us rest p.stand in
-    let f = c.in_ok-seen.ensures.first p.us rest p.stand in
-    let after = c.in_ok-seen.ensures.after f.0 f.1 rest (stands c.args.values xs rest l._number l.left p f.0 f.1 f.2) in
+    let f = c.in_ok-seen.ensures.steps.first p.us rest p.stand in
+    let after = c.in_ok-seen.ensures.steps.after f.0 f.1 rest (stands c.args.values xs rest l._number l.left p f.0 f.1 f.2) in
     let both : MoreValues f.0 f.1 ≡ MoreValues coded.0 coded.1 = sym f.2 ∙ coded.2 in
     let same : f.0 ≡ coded.0 = cc in
     let code = ap (λ (x : ValueTree). first_code (type_of x)) same ∙ coded.3 in

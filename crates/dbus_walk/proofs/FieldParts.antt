@@ -1,0 +1,175 @@
+-- Header fields that stand in the bytes, taken apart, and one after another.
+use Rattle.std.proofs.Common.{◌≡◌, ℕ, ◌+◌, ◌-◌, ◌<◌, ◌≤◌, List, [], ◌∷◌, ◌++◌, length, get_or, take, drop, map, refl, sym, ap, subst, ◌∙◌, arith, append_assoc}
+use Rattle.std.proofs.lemmas.List.{length-append, append-nil}
+use Rattle.dbus_texts.specs.Types.{BYTE}
+use Rattle.dbus_types.proofs.TypeCodes.{boundary_by}
+use Rattle.dbus_types.proofs.TypeEnds.{ends_there}
+use Rattle.dbus_value_model.specs.Bytes.{gap_to}
+use Rattle.dbus_value_model.specs.Reading.{number_of}
+use Rattle.dbus_value_model.specs.Spelling.{spelling, spellings}
+use Rattle.dbus_value_model.specs.Values.{ValueTree, ValueTrees, NoValues, MoreValues, NumberValue, VariantValue, value_trees}
+use Rattle.dbus_message_model.specs.Messages.{FieldTree, field_struct}
+use Rattle.dbus_unmarshal.proofs.ReadSteps.{one_byte}
+use Rattle.dbus_walk.specs.Fields.{FieldsStand, FieldsLeft, FieldStands, field_types, field_end}
+use Rattle.dbus_walk.specs.Standing.{Stands, AllStand, ElementsStand}
+use Rattle.dbus_walk.specs.declared.spot.Source.{Source}
+use Rattle.dbus_walk.proofs.Containers.{variant_stands, variant_held, variant_ends, array_stands, array_found, elements_there}
+use Rattle.dbus_walk.proofs.Enclosed.{struct_stands, enclosed_there, enclosed_ends, stands_positive}
+use Rattle.dbus_walk.proofs.Lists.{none_ends, some_ends, first_element, other_elements, first_value, other_values}
+use Rattle.dbus_walk.proofs.Parts.{no_gap, number_of_width, number_ends}
+use Rattle.dbus_walk.proofs.ReadThere.{number_read}
+
+-- ---- a field
+
+module _ (source : Source) (room at : ℕ) (f : FieldTree) (rest : List ℕ) (s : FieldStands source room at f rest) (start : ℕ) (begins : start ≡ at + gap_to 8 at) where
+  abbrev bytes : List ℕ
+  bytes = source.bytes.now
+
+  abbrev coded_values : ValueTrees
+  coded_values = MoreValues (NumberValue BYTE f.code) (MoreValues (VariantValue f.value) NoValues)
+
+  -- its code and the variant stand one after the other
+  record Coded : Type 0 where
+    some : 0 < room - 1
+    inside : start + 1 ≤ length bytes
+    code : get_or bytes start 0 ≡ f.code
+    held : Stands source.order (room - 1 - 1) (118 ∷ []) (start + 1) bytes (VariantValue f.value) rest
+    ends : start + 1 + length (spelling source.order (start + 1) (VariantValue f.value)) ≡ field_end source at f
+
+  coded : Coded
+  unfolding spellings
+  coded =
+      let order = source.order in
+      let p = struct_stands s.stands refl in
+      let is : p.1.vs ≡ coded_values = sym p.1.has in
+      let all = subst (λ (us : ValueTrees). AllStand order (room - 1 - 1) (121 ∷ 118 ∷ []) start bytes us rest) is (enclosed_there s.stands p.1 start begins) in
+      let first = first_value (121 ∷ 118 ∷ []) 0 1 (ends_there (121 ∷ 118 ∷ []) 0 1 refl) all in
+      let more = other_values (121 ∷ 118 ∷ []) 0 1 (ends_there (121 ∷ 118 ∷ []) 0 1 refl) all in
+      let one = spelling order start (NumberValue BYTE f.code) in
+      let after = start + length one in
+      let second = first_value (118 ∷ []) 0 1 (ends_there (118 ∷ []) 0 1 refl) more in
+      let number = number_of_width first 1 BYTE f.code refl (omega arith) refl in
+      let none = no_gap start in
+      let begin : start ≡ start + gap_to 1 start = omega (arith, none) in
+      let read = number_read first 1 start number begin in
+      let same : number.n ≡ f.code = let e = number.is in cc in
+      let place : after ≡ start + 1 = sym (number_ends first 1 start number begin) in
+      let two = spelling order after (VariantValue f.value) in
+      let whole : length (spellings order start p.1.vs) ≡ length one + (length two + 0) =
+      ap (λ (us : ValueTrees). length (spellings order start us)) is ∙ length-append one (two ++ []) ∙ ap (λ (k : ℕ). length one + k) (length-append two []) in
+      let ended = enclosed_ends s.stands p.1 start begins in
+      let same_two : length two ≡ length (spelling order (start + 1) (VariantValue f.value)) = ap (λ (k : ℕ). length (spelling order k (VariantValue f.value))) place in
+      record {
+        some = p.0;
+        inside = omega (arith, number.inside, none);
+        code = one_byte order bytes start (omega (arith, number.inside, none)) ∙ read ∙ same;
+        held = subst (λ (k : ℕ). Stands order (room - 1 - 1) (118 ∷ []) k bytes (VariantValue f.value) rest) place second;
+        ends = omega (arith, ended, whole, place, same_two);
+      }
+
+  -- its code, and the value, whose signature has so many bytes
+  pub record FieldApart (n : ℕ) : Type 0 where
+    pub deep : 3 ≤ room
+    pub code : get_or bytes start 0 ≡ f.code
+    pub few : n < 256
+    pub inside : start + 1 + 1 + n + 1 ≤ length bytes
+    pub value : Stands source.order (room - 3) (take (start + 1 + 1 + n - (start + 1 + 1)) (drop (start + 1 + 1) bytes)) (start + 1 + 1 + n + 1) bytes f.value rest
+    pub ends : start + 1 + 1 + n + 1 + length (spelling source.order (start + 1 + 1 + n + 1) f.value) ≡ field_end source at f
+
+  pub field_apart : (n : ℕ) → n ≡ get_or bytes (start + 1) 0 → FieldApart n
+  field_apart n read =
+      let v = variant_stands coded.held refl in
+      let count : n ≡ v.n = read ∙ v.counts in
+      let deep : 3 ≤ room = omega (arith, v.some) in
+      let less : room - 1 - 1 - 1 ≡ room - 3 = omega arith in
+      let same : v.x ≡ f.value = let e = v.is in cc in
+      let q = start + 1 + 1 + n + 1 in
+      let types = take (start + 1 + 1 + n - (start + 1 + 1)) (drop (start + 1 + 1) bytes) in
+      let place : q + length (spelling source.order q v.x) ≡ start + 1 + 1 + v.n + 1 + length (spelling source.order (start + 1 + 1 + v.n + 1) v.x) =
+      ap (λ (k : ℕ). start + 1 + 1 + k + 1 + length (spelling source.order (start + 1 + 1 + k + 1) v.x)) count in
+      record {
+        deep = deep;
+        code = coded.code;
+        few = omega (arith, count, v.few);
+        inside = omega (arith, count, v.inside);
+        value = subst (λ (u : ValueTree). Stands source.order (room - 3) types q bytes u rest) same
+            (subst (λ (r : ℕ). Stands source.order r types q bytes v.x rest) less (variant_held coded.held v n count));
+        ends = ap (λ (u : ValueTree). q + length (spelling source.order q u)) (sym same) ∙ place ∙ variant_ends coded.held v ∙ coded.ends;
+      }
+
+-- ---- a message's fields
+
+gaps : (gap_to 4 12 ≡ 0) × (gap_to 8 16 ≡ 0)
+unfolding gap_to
+gaps = (refl, refl)
+
+module _ (source : Source) (room : ℕ) (fs : List FieldTree) (rest : List ℕ) (s : FieldsStand source room fs rest) where
+  pub fields_apart : (n : ℕ) → n ≡ number_of source.order (take 4 (drop 12 source.bytes.now)) → (16 + n ≤ length source.bytes.now) × FieldsLeft source room 16 (16 + n) fs rest
+  fields_apart n read =
+      let p = array_stands s refl in
+      let found = array_found s p {g = 0} {b = 8} {h = 0} {n = n} (sym gaps.0) (boundary_by 40 8 refl) (sym gaps.1) read in
+      let is : p.xs ≡ value_trees (map field_struct fs) = let e = p.is in cc in (
+        omega (arith, p.inside, found.0, found.1),
+        record {
+          some = p.some;
+          stand = subst (λ (us : ValueTrees). ElementsStand source.order (room - 1) field_types 16 (16 + n) source.bytes.now us rest) is (elements_there s p 16 n found.0 found.1);
+        },
+      )
+
+-- ---- fields one after another
+
+-- Of the fields fs, some are left, from `place` on; of those before them Q holds.
+pub record Walked (source : Source) (room end : ℕ) (fs : List FieldTree) (rest : List ℕ) (Q : List FieldTree → Type 0) (place : ℕ) : Type 0 where
+  pub left : List FieldTree
+  pub stand : FieldsLeft source room place end left rest
+  pub done : List FieldTree
+  pub joins : fs ≡ done ++ left
+  pub walked : Q done
+
+pub none_walked : (source : Source) (room at end : ℕ) (fs : List FieldTree) (rest : List ℕ) (Q : List FieldTree → Type 0) → FieldsLeft source room at end fs rest → Q [] → Walked source room end fs rest Q at
+none_walked source room at end fs rest Q stand walked = record { left = fs; stand = stand; done = []; joins = refl; walked = walked }
+
+-- the first of some fields, and those after it
+pub record FirstField (source : Source) (room place end : ℕ) (rest : List ℕ) (fs : List FieldTree) : Type 0 where
+  pub f : FieldTree
+  pub others : List FieldTree
+  pub begins : fs ≡ f ∷ others
+  pub after : List ℕ
+  pub stands : FieldStands source room place f after
+  pub some : place < field_end source place f
+  pub left : FieldsLeft source room (field_end source place f) end others rest
+
+module _ {source : Source} {room place end : ℕ} {rest : List ℕ} where
+  pub first_field : (fs : List FieldTree) → FieldsLeft source room place end fs rest → place < end → FirstField source room place end rest fs
+  first_field [] l lt = absurd (omega (arith, lt, none_ends l.stand))
+  first_field (f ∷ others) l lt =
+      let s = first_element l.stand in
+      record {
+        f = f;
+        others = others;
+        begins = refl;
+        after = spellings source.order (field_end source place f) (value_trees (map field_struct others)) ++ rest;
+        stands = record { some = l.some; stands = s };
+        some = omega (arith, stands_positive source.order (field_struct f) place s.shaped);
+        left = record { some = l.some; stand = other_elements l.stand };
+      }
+
+  pub no_field : (fs : List FieldTree) → FieldsLeft source room place end fs rest → end ≤ place → fs ≡ []
+  no_field [] l le = refl
+  no_field (f ∷ others) l le = absurd (omega (arith, le, some_ends l.stand, stands_positive source.order (field_struct f) place (first_element l.stand).shaped))
+
+  module _ {fs : List FieldTree} {Q : List FieldTree → Type 0} (w : Walked source room end fs rest Q place) where
+    pub next_field : place < end → FirstField source room place end rest w.left
+    next_field lt = first_field w.left w.stand lt
+
+    pub field_walked : (Q' : List FieldTree → Type 0) (n : FirstField source room place end rest w.left) (q : ℕ) → q ≡ field_end source place n.f → Q' (w.done ++ n.f ∷ []) → Walked source room end fs rest Q' q
+    field_walked Q' n q ends walked = record {
+      left = n.others;
+      stand = subst (λ (k : ℕ). FieldsLeft source room k end n.others rest) (sym ends) n.left;
+      done = w.done ++ n.f ∷ [];
+      joins = w.joins ∙ ap (λ (u : List FieldTree). w.done ++ u) n.begins ∙ sym (append_assoc w.done (n.f ∷ []) n.others);
+      walked = walked;
+    }
+
+    pub all_walked : end ≤ place → Q fs
+    all_walked le = subst Q (sym (w.joins ∙ ap (λ (u : List FieldTree). w.done ++ u) (no_field w.left w.stand le) ∙ append-nil w.done)) w.walked

@@ -1,0 +1,38 @@
+-- Header fields as they stand among a message's bytes.
+-- D-Bus Specification, "Message Format" and "Header Fields".
+use Rattle.std.specs.Prelude.{◌≡◌, ℕ, ◌+◌, ◌-◌, ◌<◌, ◌≤◌, List, [], ◌∷◌, length, map}
+use Rattle.dbus_value_model.specs.Spelling.{spelling}
+use Rattle.dbus_value_model.specs.Values.{value_trees}
+use Rattle.dbus_message_model.specs.Messages.{FieldTree, field_struct, field_array}
+use Rattle.dbus_walk.specs.Standing.{Stands, ElementsStand}
+use Rattle.dbus_walk.specs.declared.fields.FieldSpot.{FieldSpot}
+use Rattle.dbus_walk.specs.declared.spot.Source.{Source}
+
+-- the type (yv), as text
+abbrev pub field_types : List ℕ
+field_types = 40 ∷ 121 ∷ 118 ∷ 41 ∷ []
+
+-- A message's header fields stand in it: an array of the type a(yv), at offset 12. So many containers may be open in the message.
+abbrev pub FieldsStand : Source → (room : ℕ) → List FieldTree → (rest : List ℕ) → Type 0
+FieldsStand source room fs rest = Stands source.order room (97 ∷ field_types) 12 source.bytes.now (field_array fs) rest
+
+-- fields of that array stand from an offset up to its end, and rest are the bytes after it
+pub record FieldsLeft (source : Source) (room at end : ℕ) (fs : List FieldTree) (rest : List ℕ) : Type 0 where
+  pub some : 0 < room
+  pub stand : ElementsStand source.order (room - 1) field_types at end source.bytes.now (value_trees (map field_struct fs)) rest
+
+-- a field of that array stands at an offset: a struct of the type (yv)
+pub record FieldStands (source : Source) (room at : ℕ) (f : FieldTree) (rest : List ℕ) : Type 0 where
+  pub some : 0 < room
+  pub stands : Stands source.order (room - 1) field_types at source.bytes.now (field_struct f) rest
+
+-- the offset after it
+abbrev pub field_end : Source → ℕ → FieldTree → ℕ
+field_end source at f = at + length (spelling source.order at (field_struct f))
+
+-- the field that stands at an offset has this code, and its value stands here
+pub record IsFieldAt (source : Source) (at : ℕ) (f : FieldTree) (rest : List ℕ) (spot : FieldSpot) : Type 0 where
+  pub code : f.code ≡ spot.code
+  pub few : length spot.types.now ≤ 255
+  pub value : Stands source.order spot.room spot.types.now spot.at source.bytes.now f.value rest
+  pub ends : spot.at + length (spelling source.order spot.at f.value) ≡ field_end source at f
