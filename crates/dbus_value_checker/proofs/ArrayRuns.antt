@@ -58,7 +58,7 @@ pub numbers_begin : (x : Values) (d : Doing) (answer : Answer) (c w : ℕ) → G
 numbers_begin x d answer c w g a code is some aligned fits = numbers_at x d answer c w g.ws g.frames g.noted g.same a code is some aligned fits
 
 module _ (x : Values) (w : ℕ) (answer : Answer) (b : Numbers x w answer) where
-  pub numbers_small : (x.offset + w ≤ x.inner.end) × (x.inner.end < 4294967296) × (0 < w)
+  pub numbers_small : (x.offset + w ≤ x.inner.end) × (x.inner.end < 18446744073709551616) × (0 < w)
   numbers_small = (b.more, frames_small x.offset x.inner.end x.inner.top x.end x.text.items (reverse x.frames.items) b.ws b.frames.1, (let some = width_some b.code in let e = b.width_is in omega arith))
 
   some_turns : b.turns ≡ suc (b.turns - 1)

@@ -14,7 +14,7 @@ use Rattle.dbus_value_checker.proofs.Notes.{after_noted}
 -- a state whose only frame is that of these types
 pub begun_goes : (x : Values) (types : List ℕ) (room : ℕ) (ts : TypeTrees) (last : On)
     → x.frames.items ≡ [] → x.text.items ≡ types → AreLengths types x.lengths.items → x.inner ≡ record { array = false; pos = 0; stop = length types; top = length types; end = x.end; room = room }
-    → x.offset ≤ x.end → x.end < 4294967296 → room ≤ 64 → length types ≤ 255 → types ≡ sigs ts → AreShaped ts
+    → x.offset ≤ x.end → x.end < 18446744073709551616 → room ≤ 64 → length types ≤ 255 → types ≡ sigs ts → AreShaped ts
     → Goes x (values_on x.bounds x.order room x.end ts last x.offset)
 begun_goes x types room ts last none text lengths inner at_most near few short spelled complete =
     let w : Work = Parts room x.end ts in

@@ -23,14 +23,14 @@ frames_reach reach more low high bottom text [] (w ∷ ws) le h = absurd h
 frames_reach reach more low high bottom text (f ∷ fs) [] le h = absurd h
 
 -- no offset is far
-pub frames_small : (reach low high bottom : ℕ) (text : List ℕ) (fs : List Frame) (ws : List Work) → AreFrames reach low high bottom text fs ws → low < 4294967296
+pub frames_small : (reach low high bottom : ℕ) (text : List ℕ) (fs : List Frame) (ws : List Work) → AreFrames reach low high bottom text fs ws → low < 18446744073709551616
 frames_small reach low high bottom text [] [] h = let a = h.0 in let b = h.1 in omega arith
 frames_small reach low high bottom text (f ∷ fs) (w ∷ ws) h = let a = h.0.low_is in let b = frames_small reach f.end f.top bottom text fs ws h.1 in omega arith
 frames_small reach low high bottom text [] (w ∷ ws) h = absurd h
 frames_small reach low high bottom text (f ∷ fs) [] h = absurd h
 
 -- nor is an end
-pub end_small : (reach low high bottom : ℕ) (text : List ℕ) (f : Frame) (fs : List Frame) (ws : List Work) → AreFrames reach low high bottom text (f ∷ fs) ws → f.end < 4294967296
+pub end_small : (reach low high bottom : ℕ) (text : List ℕ) (f : Frame) (fs : List Frame) (ws : List Work) → AreFrames reach low high bottom text (f ∷ fs) ws → f.end < 18446744073709551616
 end_small reach low high bottom text f fs [] h = absurd h
 end_small reach low high bottom text f fs (w ∷ ws) h = frames_small reach f.end f.top bottom text fs ws h.1
 

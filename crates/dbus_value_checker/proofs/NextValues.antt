@@ -179,13 +179,13 @@ pub next_popped : (x y : Values) (f : Frame) (answer : Answer) → Goes x answer
 next_popped x y f answer g over p = popped_at x y f answer g.ws g.frames g.noted g.same over p
 
 last_at : (x : Values) (answer : Answer) (ws : List Work) (fs : List Frame) → fs ≡ reverse x.frames.items → AreFrames x.offset x.offset (length x.text.items) x.end x.text.items (x.inner ∷ fs) ws → ((c : List ℕ) → rest_of answer x ws x.offset c ≡ answer.to c) → HasFrames x.offset x ws → IsOver x → fs ≡ []
-    → (x.offset ≤ x.end) × (x.end < 4294967296) × ((c : List ℕ) → answer.last x.offset c ≡ answer.to c)
+    → (x.offset ≤ x.end) × (x.end < 18446744073709551616) × ((c : List ℕ) → answer.last x.offset c ≡ answer.to c)
 last_at x answer [] fs e h same g over none = absurd h
 last_at x answer (w ∷ []) [] e h same g over none = ((let a = h.0.low_is in let b = h.1.0 in omega arith), h.1.1, over_at x answer w [] g same over)
 last_at x answer (w ∷ (v ∷ ws)) [] e h same g over none = absurd h.1
 last_at x answer (w ∷ ws) (f ∷ fs) e h same g over none = absurd cc
 
-pub next_last : (x : Values) (answer : Answer) → Goes x answer → IsOver x → length x.frames.items ≡ 0 → (x.offset ≤ x.end) × (x.end < 4294967296) × ((c : List ℕ) → answer.last x.offset c ≡ answer.to c)
+pub next_last : (x : Values) (answer : Answer) → Goes x answer → IsOver x → length x.frames.items ≡ 0 → (x.offset ≤ x.end) × (x.end < 18446744073709551616) × ((c : List ℕ) → answer.last x.offset c ≡ answer.to c)
 next_last x answer g over none =
     last_at x answer g.ws (reverse x.frames.items) refl g.frames g.same g.frames over (empty_reverse x.frames.items none)
 

@@ -44,7 +44,7 @@ module _ (x : Values) (pos stop : ℕ) (answer : Answer) (w : Wants x pos stop a
   wants_low : x.offset ≤ x.inner.end
   wants_low = (inner_of x (suc x.offset) w.ws w.frames).low
 
-  pub wants_offset : (x.offset ≤ x.inner.end) × (x.offset < 4294967296) × (stop ≤ length x.text.items)
+  pub wants_offset : (x.offset ≤ x.inner.end) × (x.offset < 18446744073709551616) × (stop ≤ length x.text.items)
   wants_offset = (wants_low, frames_small (suc x.offset) x.offset (length x.text.items) x.end x.text.items (x.inner ∷ reverse x.frames.items) w.ws w.frames, (let i = inner_of x (suc x.offset) w.ws w.frames in let a = i.high in let b = w.stop_is in omega arith))
 
   module _ (other : code ≡ 118 → ⊥) (a : ℕ) (a_is : (t : TypeTree) → first_code t ≡ code → a ≡ alignment_of t) where
@@ -115,7 +115,7 @@ module _ (x : Values) (pos stop n : ℕ) (answer : Answer) (r : Ready x pos stop
   pub ready_first : first_code r.type ≡ code
   ready_first = sym (slice_head x.text.items pos stop (first_code r.type) (after_code r.type) r.pos_is (r.text ∙ begins r.type)) ∙ there
 
-  pub ready_offset : (x.offset ≤ x.inner.end) × (x.offset + n ≤ x.inner.end) × (x.inner.end < 4294967296) × (stop ≤ length x.text.items)
+  pub ready_offset : (x.offset ≤ x.inner.end) × (x.offset + n ≤ x.inner.end) × (x.inner.end < 18446744073709551616) × (stop ≤ length x.text.items)
   ready_offset =
       let i = inner_of x (suc x.offset) r.ws r.frames in
       (i.low, r.fits, end_small (suc x.offset) x.offset (length x.text.items) x.end x.text.items x.inner (reverse x.frames.items) r.ws r.frames, (let a = i.high in let b = r.stop_is in omega arith))

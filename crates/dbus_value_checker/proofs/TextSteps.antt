@@ -22,7 +22,7 @@ use Rattle.dbus_value_checker.specs.Moves.{Moves}
 use Rattle.dbus_value_checker.proofs.FrontSteps.{front_taken, front_waits, front_refused}
 use Rattle.std.proofs.Common.{Ok, Err}
 use Rattle.dbus_value_checker.proofs.Suspension.{text_waits, text_breaks, text_ends, text_not}
-use Rattle.dbus_value_checker.proofs.FrameLaws.{frames_reach, frames_small, inner_of, within}
+use Rattle.dbus_value_checker.proofs.FrameLaws.{frames_reach, frames_small, end_small, inner_of, within}
 use Rattle.dbus_unmarshal.proofs.KindLaws.{break_is, one_break, is_wanted, is_not_wanted}
 
 pub take_one : (s : List ℕ) (n : ℕ) (w : List ℕ) → n < length s → (w ++ take n s) ++ get_or s n 0 ∷ [] ≡ w ++ take (n + 1) s
@@ -65,12 +65,12 @@ moved_on x ws q h le fits =
     (frames_reach x.offset q x.offset (length x.text.items) x.end x.text.items (x.inner ∷ reverse x.frames.items) ws le h)
 
 module _ (x : Values) (code left : ℕ) (answer : Answer) (t : Texts x code left answer) where
-  pub texts_small : (x.offset < 4294967296) × (x.offset + left + 1 ≤ x.inner.end) × (x.inner.end < 4294967296)
-  texts_small = (frames_small x.offset x.offset (length x.text.items) x.end x.text.items (x.inner ∷ reverse x.frames.items) t.ws t.frames, t.fits, ends_small x x.offset t.ws t.frames)
-    where
-      ends_small : (x : Values) (reach : ℕ) (ws : List Work) → HasFrames reach x ws → x.inner.end < 4294967296
-      ends_small x reach [] h = absurd h
-      ends_small x reach (w ∷ ws) h = frames_small reach x.inner.end x.inner.top x.end x.text.items (reverse x.frames.items) ws h.1
+  pub texts_small : (x.offset < 18446744073709551616) × (x.offset + left + 1 ≤ x.inner.end) × (x.inner.end < 18446744073709551616)
+  texts_small = (
+    frames_small x.offset x.offset (length x.text.items) x.end x.text.items (x.inner ∷ reverse x.frames.items) t.ws t.frames,
+    t.fits,
+    end_small x.offset x.offset (length x.text.items) x.end x.text.items x.inner (reverse x.frames.items) t.ws t.frames,
+  )
 
   so_far : break_at (kind_of t.kind) t.bytes ≡ length t.bytes
   so_far = ap (λ (k : WantedText). break_at k t.bytes) (sym t.scans) ∙ prefix_break (scans.kind_of x.scan) t.bytes (stands_prefix x.scan t.bytes t.stands)
@@ -178,8 +178,11 @@ module _ (x : Values) (answer : Answer) (u : Nuls x answer) where
   nuls_stops s stops.Partial h = (refl, front_waits seen x.offset s nul (λ z. rest_of answer x u.ws) answer.to u.same h)
   nuls_stops s (stops.Refused f) h = front_refused seen x.offset s nul (λ z. rest_of answer x u.ws) answer.to u.same f h
 
-  pub nuls_small : x.offset < 4294967296
-  nuls_small = frames_small x.offset x.offset (length x.text.items) x.end x.text.items (x.inner ∷ reverse x.frames.items) u.ws u.frames
+  pub nuls_small : x.offset + 1 < 18446744073709551616
+  nuls_small =
+      let fits = u.fits in
+      let small = end_small x.offset x.offset (length x.text.items) x.end x.text.items x.inner (reverse x.frames.items) u.ws u.frames in
+      omega arith
 
 pub empty_list : (s : List ℕ) → length s ≡ 0 → s ≡ []
 empty_list [] h = refl

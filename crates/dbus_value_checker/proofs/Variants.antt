@@ -70,7 +70,7 @@ module _ (x : Values) (pos stop : ℕ) (answer : Answer) (w : Wants x pos stop a
   pub variant_deep : x.inner.room ≡ 0 → (c : List ℕ) → answer.to c ≡ Faulty (fault x.offset reasons.TooDeep)
   variant_deep none c = sym (subst (λ (r : ℕ). own x.bounds x.order x.inner.end (own_of r VariantType) (rest_of answer x w.ws) x.offset c ≡ answer.to c) none (variant_same c))
 
-  pub variant_known : (x.offset ≤ x.inner.end) × (x.inner.end < 4294967296) × (length x.frames.items + 2 * x.inner.room ≤ 128) × (x.inner.top ≤ length x.text.items) × (x.inner.top + 255 * x.inner.room ≤ 16575)
+  pub variant_known : (x.offset ≤ x.inner.end) × (x.inner.end < 18446744073709551616) × (length x.frames.items + 2 * x.inner.room ≤ 128) × (x.inner.top ≤ length x.text.items) × (x.inner.top + 255 * x.inner.room ≤ 16575)
   variant_known =
       let i = inner_of x (suc x.offset) w.ws w.frames in
       (i.low, end_small (suc x.offset) x.offset (length x.text.items) x.end x.text.items x.inner (reverse x.frames.items) w.ws w.frames, (let a = i.count in omega arith), i.high, (let a = i.room in omega arith))

@@ -112,7 +112,7 @@ denotes (doing.Wanted pos stop) x answer = Wants x pos stop answer
 denotes (doing.Text code left) x answer = (0 < left) × Texts x code left answer
 denotes (doing.Numbers w) x answer = Numbers x w answer
 denotes doing.Nul x answer = Nuls x answer
-denotes doing.Over x answer = (x.offset ≤ x.end) × (x.end < 4294967296) × ((c : List ℕ) → answer.last x.offset c ≡ answer.to c)
+denotes doing.Over x answer = (x.offset ≤ x.end) × (x.end < 18446744073709551616) × ((c : List ℕ) → answer.last x.offset c ≡ answer.to c)
 
 -- the fields stand for this answer
 abbrev pub Denotes : Values → Answer → Type 0

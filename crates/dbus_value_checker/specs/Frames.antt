@@ -56,7 +56,7 @@ pub record Framed (reach low high count : ℕ) (text : List ℕ) (f : Frame) (w 
 
 -- the innermost first; each ends within the next, and the outermost at bottom or earlier
 abbrev pub AreFrames : (reach low high bottom : ℕ) → List ℕ → List Frame → List Work → Type 0
-AreFrames reach low high bottom text [] [] = (low ≤ bottom) × (bottom < 4294967296)
+AreFrames reach low high bottom text [] [] = (low ≤ bottom) × (bottom < 18446744073709551616)
 AreFrames reach low high bottom text (f ∷ fs) (w ∷ ws) = Framed reach low high (length fs) text f w × AreFrames reach f.end f.top bottom text fs ws
 AreFrames reach low high bottom text [] (w ∷ ws) = ⊥
 AreFrames reach low high bottom text (f ∷ fs) [] = ⊥

@@ -77,7 +77,7 @@ impl Values {
 
     /// What stands within the brackets at `pos`, n bytes further.
     pub(crate) fn inside(&mut self, pos: usize, stop: usize, n: usize, room: u8)
-        requires near { self.old.offset + n < 2 ^ 63 }
+        requires near { self.old.offset + n < 2 ^ 64 }
         requires few { length self.old.frames.items < 128 }
         requires some { pos + 1 < stop - 1 }
         requires there { stop ≤ length self.old.text.items }

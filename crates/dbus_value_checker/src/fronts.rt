@@ -221,7 +221,6 @@ pub fn array_front(
     bounds: Bounds,
 ) -> Result<(usize, usize), Stop>
     requires at_most { offset ≤ end }
-    requires near { end < 2 ^ 32 }
     ensures gives { (t : TypeTree) → first_code t ≡ code →
         Fronts (λ x. x) offset bytes.now result (array_frame bounds order end t) }
     ensures moves { IfOk result (λ x. (4 ≤ x.1) × (x.1 ≤ length bytes.now) ×
@@ -257,7 +256,7 @@ pub fn text_front(
     offset: usize,
     reason: Reason,
 ) -> Result<(), Stop>
-    requires near { offset + n < 2 ^ 63 }
+    requires near { offset + n < 2 ^ 64 }
     requires reason { text_reason (Of kind) ≡ reason }
     ensures gives { Fronts (λ _. (take n bytes.now, n)) offset bytes.now result (text (Of kind) n) }
     ensures kind { IfOk result (λ _. IsKind kind (take n bytes.now)) }
@@ -295,7 +294,6 @@ pub fn nul_front(bytes: &[u8], offset: usize) -> Result<(), Stop>
 /// breaks, or is not of one complete type; else `Nul` at the byte after it that is not 0. D-Bus Specification, "Variant".
 pub fn variant_front(bytes: &[u8], offset: usize, end: usize) -> Result<usize, Stop>
     requires at_most { offset ≤ end }
-    requires near { end < 2 ^ 32 }
     ensures gives { (order : Order) →
         Fronts (λ n. (take n (drop 1 bytes.now), n + 2)) offset bytes.now result
         (held_text order end) }

@@ -106,7 +106,6 @@ impl Values {
         room: u8,
     )
         requires at_most { offset ≤ end }
-        requires near { end < 2 ^ 32 }
         requires few { room ≤ 64 }
         requires short { length types.now ≤ 255 }
         requires types { (ts : TypeTrees) × ((types.now ≡ sigs ts) × AreShaped ts) }

@@ -19,11 +19,6 @@ bounds-as_slice-pos c =
     let l = ap length c.as_slice.ensures.value in
     omega arith
 
-pub array_front-requires-clause-near : goal.array_front-requires-clause-near
-array_front-requires-clause-near c =
-    let p = ready_offset c.args.self.now c.args.pos c.args.stop c.args.n c.requires.valid.0 c.requires.valid.1 97 c.requires.code in
-    p.2
-
 pub next-requires : goal.next-requires
 next-requires c =
     let x = c.args.self.now in

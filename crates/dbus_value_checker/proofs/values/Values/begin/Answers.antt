@@ -1,4 +1,4 @@
-use Rattle.std.proofs.Common.{length, refl, false, sym, subst}
+use Rattle.std.proofs.Common.{length, refl, false, sym, subst, arith}
 use Rattle.dbus_types.specs.TypeLengths.{AreLengths}
 use Rattle.dbus_value_checker.specs.declared.values.Values.{Values}
 use Rattle.dbus_value_checker.specs.Suspended.{done}
@@ -16,7 +16,7 @@ next-requires c =
     record {
       valid = (
         values_on a.bounds a.order a.room a.end r.types.0 done a.offset,
-        begun_goes x a.types.now a.room r.types.0 done c.clear.ensures c.sign.ensures.text lengths refl r.at_most r.near r.few r.short r.types.1.0 r.types.1.1,
+        begun_goes x a.types.now a.room r.types.0 done c.clear.ensures c.sign.ensures.text lengths refl r.at_most (omega (arith, c.ranges.end)) r.few r.short r.types.1.0 r.types.1.1,
       );
     }
 
@@ -28,4 +28,4 @@ returns c = λ ts last types complete.
     let x : Values = record a.self.now { bounds = a.bounds; order = a.order; end = a.end; offset = a.offset; inner = record { array = false; pos = 0; stop = n; top = n; end = a.end; room = a.room }; frames = c.clear.new.self; text = c.sign.new.text; lengths = c.sign.new.lengths } in
     let lengths = subst (AreLengths a.types.now) (sym c.sign.ensures.lengths.2) c.sign.ensures.lengths.1 in
     c.next.ensures (values_on a.bounds a.order a.room a.end ts last a.offset)
-    (begun_goes x a.types.now a.room ts last c.clear.ensures c.sign.ensures.text lengths refl r.at_most r.near r.few r.short types complete)
+    (begun_goes x a.types.now a.room ts last c.clear.ensures c.sign.ensures.text lengths refl r.at_most (omega (arith, c.ranges.end)) r.few r.short types complete)

@@ -9,9 +9,6 @@ use Rattle.dbus_value_checker.proofs.values.Values.variant.Goals as goal
 pub returns-then-room-eq0-clause-moves : goal.returns-then-room-eq0-clause-moves
 returns-then-room-eq0-clause-moves c = λ answer w. rw c.refuse.ensures (λ s. variant_deep c.args.self.now c.args.pos c.args.stop answer w c.requires.code c.if-room-eq0.true _)
 
-pub variant_front-requires-clause-near : goal.variant_front-requires-clause-near
-variant_front-requires-clause-near c = (variant_known c.args.self.now c.args.pos c.args.stop c.requires.valid.0 c.requires.valid.1 c.requires.code).1
-
 pub returns-in-Err-clause-moves : goal.returns-in-Err-clause-moves
 returns-in-Err-clause-moves c = λ answer w.
     variant_stops c.args.self.now c.args.pos c.args.stop answer w c.requires.code (c.args.self.now.inner.room - 1) (omega arith) c.args.bytes.now c.in-Err.stop (c.in-Err.ensures.gives c.args.self.now.order)
