@@ -4,8 +4,8 @@ use Rattle.std.proofs.lemmas.List.{length-drop, length-take-le}
 use Rattle.dbus_value_model.specs.declared.limits.Limits.{Limits}
 use Rattle.dbus_message_model.specs.Messages.{body_bytes}
 use Rattle.dbus_message_model.proofs.MessageLengths.{message_length}
-use Rattle.dbus_decode.specs.MessageOutcomes.{IsWhole}
-use Rattle.dbus_decode.proofs.OutcomeLaws.{whole_bytes}
+use Rattle.dbus_header.specs.MessageOutcomes.{IsWhole}
+use Rattle.dbus_header.proofs.OutcomeLaws.{whole_bytes}
 use Rattle.dbus_judge.specs.declared.judging.Judged.{Judged}
 use Rattle.dbus_judge.specs.Judging.{IsJudged, IsJudgedFirst}
 use Rattle.dbus_judge.proofs.Firsts.{followed}

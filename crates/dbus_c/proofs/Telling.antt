@@ -4,8 +4,8 @@ use Rattle.dbus_value_model.specs.declared.fault.Fault.{Fault}
 use Rattle.dbus_value_model.specs.declared.limits.Limits.{Limits}
 use Rattle.dbus_value_model.specs.declared.order.Order.{Order}
 use Rattle.dbus_message_model.specs.Messages.{MessageTree}
-use Rattle.dbus_decode.specs.MessageOutcomes.{IsWhole, IsRefused, IsPartial}
-use Rattle.dbus_decode.proofs.OutcomeLaws.{one_outcome, one_whole, one_fault, whole_inside}
+use Rattle.dbus_header.specs.MessageOutcomes.{IsWhole, IsRefused, IsPartial}
+use Rattle.dbus_header.proofs.OutcomeLaws.{one_outcome, one_whole, one_fault, whole_inside}
 use Rattle.dbus_check.specs.Checks.{CheckerState, Stands, Takes}
 use Rattle.dbus_check.specs.declared.check.Check.{Check}
 use Rattle.dbus_check.specs.declared.check.Check.TheVariants as check

@@ -5,7 +5,7 @@ use Rattle.dbus_value_model.specs.declared.limits.Limits.{Limits}
 use Rattle.dbus_value_model.specs.declared.order.Order.{Order}
 use Rattle.dbus_message_model.specs.Lookups.{body_value}
 use Rattle.dbus_message_model.specs.Messages.{MessageTree}
-use Rattle.dbus_decode.specs.MessageOutcomes.{IsWhole}
+use Rattle.dbus_header.specs.MessageOutcomes.{IsWhole}
 use Rattle.dbus_view.specs.Bodies.{IsPlaceThere}
 use Rattle.dbus_view.specs.Views.{ViewState, Views}
 use Rattle.dbus_view.specs.declared.arg_place.ArgPlace.{ArgPlace}

@@ -5,7 +5,7 @@ use Rattle.dbus_value_model.specs.declared.limits.Limits.{Limits}
 use Rattle.dbus_value_model.specs.declared.order.Order.{Order}
 use Rattle.dbus_value_model.specs.declared.fault.Fault.{Fault}
 use Rattle.dbus_message_model.specs.Messages.{MessageTree, order_byte}
-use Rattle.dbus_decode.specs.MessageOutcomes.{IsWhole, IsRefused, IsPartial}
+use Rattle.dbus_header.specs.MessageOutcomes.{IsWhole, IsRefused, IsPartial}
 use Rattle.dbus_c.specs.ReasonNumbers.{reason_number, field_named}
 use Rattle.dbus_c.specs.declared.checking.TheConstants.{WHOLE, PARTIAL, REFUSED}
 use Rattle.dbus_c.specs.declared.checking.Checked.{Checked}

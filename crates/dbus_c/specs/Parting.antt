@@ -6,7 +6,7 @@ use Rattle.dbus_value_model.specs.declared.order.Order.{Order}
 use Rattle.dbus_value_model.specs.Values.{ValueTree}
 use Rattle.dbus_message_model.specs.Lookups.{field_value}
 use Rattle.dbus_message_model.specs.Messages.{FieldTree, MessageTree, order_byte, body_start, body_bytes, text_in, number_in}
-use Rattle.dbus_decode.specs.MessageOutcomes.{IsWhole}
+use Rattle.dbus_header.specs.MessageOutcomes.{IsWhole}
 use Rattle.dbus_c.specs.declared.parts.Parts.{Parts}
 use Rattle.dbus_c.specs.declared.parts.TextPlace.{TextPlace}
 

@@ -6,7 +6,7 @@ use Rattle.dbus_value_model.specs.declared.order.Order.{Order}
 use Rattle.dbus_value_model.specs.declared.order.Order.TheVariants.{Little, Big}
 use Rattle.dbus_value_model.specs.declared.fault.Fault.{Fault}
 use Rattle.dbus_message_model.specs.Messages.{MessageTree, message_bytes}
-use Rattle.dbus_decode.specs.MessageOutcomes.{IsWhole, IsRefused, IsPartial}
+use Rattle.dbus_header.specs.MessageOutcomes.{IsWhole, IsRefused, IsPartial}
 use Rattle.dbus_c.specs.Checking.{whole_told, nothing_told, fault_told}
 use Rattle.dbus_c.specs.declared.checking.Checked.{Checked}
 use Rattle.dbus_c.specs.declared.checking.TheConstants.{WHOLE, PARTIAL, REFUSED}

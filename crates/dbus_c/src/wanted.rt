@@ -6,7 +6,7 @@ ghost use Rattle.dbus_c.specs.GivenLimits.{limits_of};
 ghost use Rattle.dbus_c.specs.Wanting.{Wants};
 
 use crate::given_limits::{WireLimits, given_limits};
-use dbus_decode::stated_length_within;
+use dbus_header::stated_length_within;
 
 /// How many bytes the message has that the bytes begin with, as soon as 16 of them are there and none of their items is at
 /// fault under the limits; else 0. Whatever follows, a message that begins so has exactly so many bytes.

@@ -9,8 +9,8 @@ use Rattle.dbus_value_model.specs.Spelling.{spelling}
 use Rattle.dbus_value_model.specs.Values.{ValueTrees, MoreValues}
 use Rattle.dbus_value_model.specs.Reading.{Done, after, fields, value}
 use Rattle.dbus_value_model.proofs.Numbers.{IsBytes-rest}
-use Rattle.dbus_unmarshal.proofs.Agreement.{after_done}
-use Rattle.dbus_unmarshal.proofs.ValueOutcomes.{reads_spelled}
+use Rattle.dbus_value_laws.proofs.Agreement.{after_done}
+use Rattle.dbus_value_laws.proofs.ValueOutcomes.{reads_spelled}
 
 module _ (bounds : Bounds) (order : Order) (room end : ℕ) where
   -- the offset grows by the bytes that were read, and is not past the end

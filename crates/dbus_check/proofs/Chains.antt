@@ -13,21 +13,18 @@ use Rattle.dbus_value_checker.proofs.FrontSteps.{both_taken, both_waits, both_re
 -- readers that answer alike there
 pub fronts_same : {X A : Type 0} (v : X → A × ℕ) (o : ℕ) (s : List ℕ) (r : Result X Stop) (run other : Reader A) → ((s : List ℕ) → run o s ≡ other o s) → Fronts v o s r run → Fronts v o s r other
 fronts_same v o s (Ok x) run other same h = (h.0, λ c. sym (same (take (v x).1 s ++ c)) ∙ h.1 c)
-fronts_same v o s (Err stops.Memory) run other same h = absurd h
 fronts_same v o s (Err stops.Partial) run other same h = sym (same s) ∙ h
 fronts_same v o s (Err (stops.Refused f)) run other same h = λ c. sym (same (s ++ c)) ∙ h c
 
 -- the first stops
 pub first_err : {X A Y B : Type 0} (v : X → A × ℕ) (w : Y → B × ℕ) (o : ℕ) (s : List ℕ) (run : Reader A) (next : A → Reader B) (e : Stop)
     → Fronts v o s (Err e) run → Fronts w o s (Err e) (λ o s. after (run o s) next)
-first_err v w o s run next stops.Memory h = absurd h
 first_err v w o s run next stops.Partial h = ap (λ (r : Outcome _). after r next) h
 first_err v w o s run next (stops.Refused f) h = λ c. ap (λ (r : Outcome _). after r next) (h c)
 
 module _ {X A Y B Z : Type 0} (v : X → A × ℕ) (u : Y → B × ℕ) (w : Z → B × ℕ) (o : ℕ) (s : List ℕ) (run : Reader A) (next : A → Reader B) (x : X) (first : Fronts v o s (Ok x) run) where
   -- the first is passed, and the second stops
   pub then_err : (e : Stop) → Fronts u (o + (v x).1) (drop (v x).1 s) (Err e) (next (v x).0) → Fronts w o s (Err e) (λ o s. after (run o s) next)
-  then_err stops.Memory h = absurd h
   then_err stops.Partial h = both_waits run o s (v x).1 (v x).0 first.0 first.1 next h
   then_err (stops.Refused f) h = both_refused run o s (v x).1 (v x).0 first.0 first.1 next f h
 
@@ -51,7 +48,6 @@ front_as v w g o s run x h z value_is size_is =
 -- what was read is forgotten
 pub forgotten : {X A : Type 0} (v : X → A × ℕ) (o : ℕ) (s : List ℕ) (run : Reader A) (r : Result X Stop) → Fronts v o s r run → Fronts (λ (x : X). (tt, (v x).1)) o s r (onward run done)
 forgotten v o s run (Ok x) h = (h.0, λ c. ap (λ (r : Outcome _). after r (λ a. done)) (h.1 c))
-forgotten v o s run (Err stops.Memory) h = absurd h
 forgotten v o s run (Err stops.Partial) h = ap (λ (r : Outcome _). after r (λ a. done)) h
 forgotten v o s run (Err (stops.Refused f)) h = λ c. ap (λ (r : Outcome _). after r (λ a. done)) (h c)
 

@@ -2,7 +2,7 @@
 use Rattle.std.proofs.Common.{◌≡◌, ℕ, ◌+◌, List, ◌++◌, length, refl, ap, arith}
 use Rattle.dbus_value_model.specs.declared.limits.Limits.{Limits}
 use Rattle.dbus_value_model.specs.declared.fault.Fault.{Fault}
-use Rattle.dbus_decode.proofs.OutcomeLaws.{one_outcome, one_whole, one_fault}
+use Rattle.dbus_header.proofs.OutcomeLaws.{one_outcome, one_whole, one_fault}
 use Rattle.dbus_check.specs.Checks.{Takes, IsExact}
 use Rattle.dbus_check.specs.declared.check.Check.{Check}
 use Rattle.dbus_check.specs.declared.check.Check.TheVariants as check

@@ -13,10 +13,10 @@ use Rattle.dbus_value_model.specs.Values.{ValueTree, NumberValue, TextValue}
 use Rattle.dbus_value_model.specs.ValueItems.{text_row, number_row}
 use Rattle.dbus_value_model.specs.Reading.{Reader, after, pure, padding, number, text, nul, signature, value}
 use Rattle.dbus_message_model.specs.Messages.{Want, Name, Serial, want}
-use Rattle.dbus_decode.specs.MessageItems.{kind_wanted, name_row, not_zero_row}
-use Rattle.dbus_decode.specs.MessageReading.{opening, value_wanted}
-use Rattle.dbus_decode.specs.HeaderReading.{wanted_signature, wanted_value}
-use Rattle.dbus_decode.proofs.ReadingParts.{after_after, same_after}
+use Rattle.dbus_header.specs.MessageItems.{kind_wanted, name_row, not_zero_row}
+use Rattle.dbus_header.specs.MessageReading.{opening, value_wanted}
+use Rattle.dbus_header.specs.HeaderReading.{wanted_signature, wanted_value}
+use Rattle.dbus_header.proofs.ReadingParts.{after_after, same_after}
 use Rattle.dbus_value_checker.specs.Suspended.{On}
 use Rattle.dbus_check.specs.Heading.{seen_row, Kept, kept_of, field_on}
 use Rattle.dbus_check.specs.Fields.{field_code, counted_text, short_text, name_text, padded_number}

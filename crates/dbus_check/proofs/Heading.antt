@@ -10,11 +10,11 @@ use Rattle.dbus_value_model.specs.declared.fault.Reason.TheVariants as reasons
 use Rattle.dbus_value_model.specs.Items.{fault}
 use Rattle.dbus_value_model.specs.Reading.{Outcome, Done, Faulty, Partial, after, padding, number, judged, number_of, judge, bounded, up_to, contents, fields, value, ends}
 use Rattle.dbus_message_model.specs.Messages.{FieldTree, want, has_code, is_known, lacks, required, body_signature, text_in, number_in, fd_count, body_fds}
-use Rattle.dbus_decode.specs.MessageItems.{code_row}
-use Rattle.dbus_decode.specs.MessageReading.{opening}
-use Rattle.dbus_decode.specs.HeaderReading.{fixed_header, wanted_value, field_read, fields_read, body_read, message_read}
-use Rattle.dbus_decode.specs.declared.fixed_header.FixedHeader.{FixedHeader}
-use Rattle.dbus_decode.proofs.ReadingParts.{after_after, same_after}
+use Rattle.dbus_header.specs.MessageItems.{code_row}
+use Rattle.dbus_header.specs.MessageReading.{opening}
+use Rattle.dbus_header.specs.HeaderReading.{fixed_header, wanted_value, field_read, fields_read, body_read, message_read}
+use Rattle.dbus_header.specs.declared.fixed_header.FixedHeader.{FixedHeader}
+use Rattle.dbus_header.proofs.ReadingParts.{after_after, same_after}
 use Rattle.dbus_value_checker.specs.Suspended.{On, onward, done}
 use Rattle.dbus_check.specs.Heading.{has, seen_row, missing, Kept, nothing, kept_of, body_on, after_fields, field_on, fields_on, message_on}
 

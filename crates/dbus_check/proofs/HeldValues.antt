@@ -7,11 +7,11 @@ use Rattle.dbus_value_model.specs.declared.stop.Stop.{Stop}
 use Rattle.dbus_value_model.specs.declared.stop.Stop.TheVariants as stops
 use Rattle.dbus_value_model.specs.Values.{ValueTree}
 use Rattle.dbus_value_model.specs.Reading.{Reader, Outcome, after, value}
-use Rattle.dbus_decode.specs.HeaderReading.{wanted_value}
-use Rattle.dbus_decode.specs.MessageItems.{kind_wanted}
-use Rattle.dbus_decode.specs.MessageReading.{value_wanted}
+use Rattle.dbus_header.specs.HeaderReading.{wanted_value}
+use Rattle.dbus_header.specs.MessageItems.{kind_wanted}
+use Rattle.dbus_header.specs.MessageReading.{value_wanted}
 use Rattle.dbus_message_model.specs.Messages.{Want, Anything, OfType, want}
-use Rattle.dbus_decode.proofs.ReadingParts.{same_after}
+use Rattle.dbus_header.proofs.ReadingParts.{same_after}
 use Rattle.dbus_value_checker.specs.Fronts.{Fronts}
 use Rattle.dbus_value_checker.specs.Suspended.{On}
 use Rattle.dbus_check.specs.Fields.{short_text}
@@ -45,7 +45,6 @@ module _ (x : Progress) (code n : ℕ) (to : To) (w : WantsValue x code n to) (w
       ∙ w.same c
 
   pub held_stops : {X : Type 0} (view : X → List ℕ × ℕ) (e : Stop) → Fronts view (x.offset + n) s (Err e) (short_text x.order x.end (kind_wanted wanted)) → Moves x s (Err e) x to
-  held_stops view stops.Memory h = absurd h
   held_stops view stops.Partial h = (refl, sym (law s) ∙ ap (λ (r : Outcome (List ℕ)). after r held_run) h)
   held_stops view (stops.Refused f) h = λ c. sym (law (s ++ c)) ∙ ap (λ (r : Outcome (List ℕ)). after r held_run) (h c)
 

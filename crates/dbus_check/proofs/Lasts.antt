@@ -11,9 +11,9 @@ use Rattle.dbus_value_model.specs.declared.fault.Reason.{Reason}
 use Rattle.dbus_value_model.specs.declared.fault.Reason.TheVariants as reasons
 use Rattle.dbus_value_model.specs.Items.{fault}
 use Rattle.dbus_value_model.specs.Reading.{Reader, Outcome, Done, Faulty, Partial, after, pure, refuse, number, number_of, judged}
-use Rattle.dbus_decode.specs.MessageReading.{byte_order, opening}
-use Rattle.dbus_decode.specs.HeaderReading.{fixed_header}
-use Rattle.dbus_unmarshal.proofs.Agreement.{after_done, after_faulty}
+use Rattle.dbus_header.specs.MessageReading.{byte_order, opening}
+use Rattle.dbus_header.specs.HeaderReading.{fixed_header}
+use Rattle.dbus_value_laws.proofs.Agreement.{after_done, after_faulty}
 
 -- ---- what lasts
 

@@ -7,7 +7,7 @@ use Rattle.dbus_value_model.specs.declared.order.Order.{Order}
 use Rattle.dbus_value_model.specs.declared.stop.Stop.{Stop}
 use Rattle.dbus_value_model.specs.declared.stop.Stop.TheVariants as stops
 use Rattle.dbus_value_model.specs.Reading.{Reader, Outcome, after}
-use Rattle.dbus_decode.specs.HeaderReading.{wanted_value}
+use Rattle.dbus_header.specs.HeaderReading.{wanted_value}
 use Rattle.dbus_message_model.specs.Messages.{want, is_known}
 use Rattle.dbus_value_checker.specs.Fronts.{Fronts}
 use Rattle.dbus_value_checker.specs.Suspended.{On}
@@ -63,7 +63,6 @@ module _ (x : Progress) (to : To) (w : WantsFields x to) (more : x.offset < x.en
           same = λ c. sym (ap (λ (r : Outcome ℕ). after r value_run) (h.1 c)) ∙ law (take y.1 s ++ c);
         },
       )
-  field_coded (Err stops.Memory) h moves once = absurd h
   field_coded (Err stops.Partial) h moves once = sym (law s) ∙ ap (λ (r : Outcome ℕ). after r value_run) h
   field_coded (Err (stops.Refused f)) h moves once = λ c. sym (law (s ++ c)) ∙ ap (λ (r : Outcome ℕ). after r value_run) (h c)
 

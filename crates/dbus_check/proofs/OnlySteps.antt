@@ -8,7 +8,7 @@ use Rattle.dbus_value_model.specs.Items.{fault}
 use Rattle.dbus_value_model.specs.Reading.{Done, Faulty, text}
 use Rattle.dbus_value_model.specs.WantedTexts.{WantedText, Only, IsBreakOf, IsWanted}
 use Rattle.dbus_value_model.specs.ComputedTexts.{break_at}
-use Rattle.dbus_unmarshal.proofs.KindLaws.{break_le, break_is}
+use Rattle.dbus_value_laws.proofs.KindLaws.{break_le, break_is}
 use Rattle.dbus_value_checker.specs.Fronts.{Fronts}
 use Rattle.dbus_value_checker.proofs.FrontSteps.{text_breaks_at, text_waits_at, text_unlike_at, text_there_at}
 

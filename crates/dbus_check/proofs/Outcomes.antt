@@ -6,12 +6,12 @@ use Rattle.dbus_value_model.specs.declared.order.Order.{Order}
 use Rattle.dbus_value_model.specs.declared.fault.Fault.{Fault}
 use Rattle.dbus_value_model.specs.Bytes.{IsBytes}
 use Rattle.dbus_value_model.specs.Reading.{Outcome, Done, Faulty, Partial, after}
-use Rattle.dbus_decode.specs.HeaderReading.{message_read}
-use Rattle.dbus_decode.specs.MessageOutcomes.{IsWhole, IsRefused, IsPartial}
+use Rattle.dbus_header.specs.HeaderReading.{message_read}
+use Rattle.dbus_header.specs.MessageOutcomes.{IsWhole, IsRefused, IsPartial}
 use Rattle.dbus_message_model.specs.Messages.{MessageTree, message_bytes}
-use Rattle.dbus_decode.proofs.MessageOutcomes.{reads_messages}
-use Rattle.dbus_decode.proofs.ReadingParts.{message_is}
-use Rattle.dbus_decode.proofs.Decoded.{refused_read, partial_read}
+use Rattle.dbus_header.proofs.MessageOutcomes.{reads_messages}
+use Rattle.dbus_header.proofs.ReadingParts.{message_is}
+use Rattle.dbus_header.proofs.Decoded.{refused_read, partial_read}
 use Rattle.dbus_value_checker.specs.Suspended.{done}
 use Rattle.dbus_check.specs.Heading.{message_on}
 

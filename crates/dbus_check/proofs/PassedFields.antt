@@ -8,7 +8,7 @@ use Rattle.dbus_value_model.specs.declared.stop.Stop.TheVariants as stops
 use Rattle.dbus_value_model.specs.Values.{ValueTree}
 use Rattle.dbus_value_model.specs.Reading.{Reader, Outcome, after, pure}
 use Rattle.dbus_message_model.specs.Messages.{Want, Name, OfType, Serial, want, is_known, text_in, number_in}
-use Rattle.dbus_decode.proofs.ReadingParts.{after_after, same_after}
+use Rattle.dbus_header.proofs.ReadingParts.{after_after, same_after}
 use Rattle.dbus_value_checker.specs.Fronts.{Fronts}
 use Rattle.dbus_value_checker.specs.Suspended.{On}
 use Rattle.dbus_check.specs.Fields.{seen_as}
@@ -26,7 +26,6 @@ module _ {B : Type 0} (run : Reader ValueTree) (g : ValueTree → B) (kept_is : 
   value_taken view o s x h c = told_after o (take (view x).1 s ++ c) ∙ ap (λ (r : Outcome B). after r (λ b. more (told b))) (h.1 c)
 
   pub value_stops : {X : Type 0} (view : X → B × ℕ) (o : ℕ) (s : List ℕ) (e : Stop) → Fronts view o s (Err e) (seen_as g run) → (x : Progress) (to : To) → ((c : List ℕ) → after (run o c) (λ v. more (kept_is v)) ≡ to c) → Passes x s (Err e) x to
-  value_stops view o s stops.Memory h x to is = absurd h
   value_stops view o s stops.Partial h x to is = (refl, sym (is s) ∙ told_after o s ∙ ap (λ (r : Outcome B). after r (λ b. more (told b))) h)
   value_stops view o s (stops.Refused f) h x to is = λ c. sym (is (s ++ c)) ∙ told_after o (s ++ c) ∙ ap (λ (r : Outcome B). after r (λ b. more (told b))) (h c)
 

@@ -10,7 +10,6 @@ use Rattle.dbus_check.proofs.WholeFields.{both_move, second_stops}
 
 pub steps_of : (old new : Progress) (s : List ℕ) (r : Result ℕ Stop) (to : To) → Denotes old to → Moves old s r new to → Steps s r new to
 steps_of old new s (Ok n) to d h = h
-steps_of old new s (Err stops.Memory) to d h = h
 steps_of old new s (Err stops.Partial) to d h = (subst (λ (y : Progress). Denotes y to) (sym h.0) d, h.1)
 steps_of old new s (Err (stops.Refused f)) to d h = h
 

@@ -1,5 +1,5 @@
 -- A message under way, stage by stage.
-use Rattle.std.proofs.Common.{◌≡◌, ◌≢◌, ℕ, zero, suc, ◌+◌, ◌<◌, ◌≤◌, List, [], ◌++◌, length, take, drop, false, Option, Some, None, Ok, Err, refl, sym, ap, subst, ◌∙◌, arith}
+use Rattle.std.proofs.Common.{◌≡◌, ℕ, zero, suc, ◌+◌, ◌<◌, ◌≤◌, List, [], ◌++◌, length, take, drop, false, Option, Some, None, Ok, Err, refl, sym, ap, subst, ◌∙◌, arith}
 use Rattle.std.proofs.Math.Path.{fun_ext}
 use Rattle.std.proofs.lemmas.Bool.{le-ltb, eq-eqb}
 use Rattle.std.proofs.lemmas.List.{append-nil, take_all, drop_all, length-take}
@@ -8,7 +8,7 @@ use Rattle.dbus_texts.specs.Kinds.{IsKind}
 use Rattle.dbus_texts.proofs.KindFacts.{shaped_of}
 use Rattle.dbus_texts.specs.Types.{TypeTree, TypeTrees, NoTypes, MoreTypes, IsSingleType, sig, sigs, AreShaped}
 use Rattle.dbus_texts.specs.declared.text_kind.TextKind.TheVariants as kinds
-use Rattle.dbus_unmarshal.proofs.KindLaws.{signature_text}
+use Rattle.dbus_value_laws.proofs.KindLaws.{signature_text}
 use Rattle.dbus_value_model.specs.FdIndexes.{index_limit}
 use Rattle.dbus_value_model.specs.Specification.{bounds_with}
 use Rattle.dbus_value_model.specs.declared.limits.Bounds.{Bounds}
@@ -21,8 +21,8 @@ use Rattle.dbus_value_model.specs.Gives.{Stops}
 use Rattle.dbus_value_model.specs.Items.{fault}
 use Rattle.dbus_value_model.specs.Reading.{Outcome, Done, Faulty, Partial, after, judge, padding, fields, value, ends}
 use Rattle.dbus_message_model.specs.Messages.{required}
-use Rattle.dbus_decode.specs.HeaderReading.{fixed_header}
-use Rattle.dbus_decode.specs.declared.fixed_header.FixedHeader.{FixedHeader}
+use Rattle.dbus_header.specs.HeaderReading.{fixed_header}
+use Rattle.dbus_header.specs.declared.fixed_header.FixedHeader.{FixedHeader}
 use Rattle.dbus_value_checker.specs.Fronts.{Fronts}
 use Rattle.dbus_value_checker.specs.Suspended.{On, onward, done}
 use Rattle.dbus_value_checker.specs.Denotations as values
@@ -54,13 +54,12 @@ module _ (limits : Limits) (s : List ℕ) where
   pub header_short : fixed_header limits 0 (take 16 s) ≡ Partial → length s < 16
   header_short e = let h = (sized_fixed limits).waits 0 (take 16 s) e in omega (arith, length-take 16 s, h)
 
-  pub header_stops : (e : Stop) → e ≢ stops.Memory → Stops e (fixed_header limits 0 (take 16 s)) → (x : Progress) (to : To) → ((c : List ℕ) → message_on limits 0 c ≡ to c) → Moves x s (Err e) x to
-  header_stops stops.Memory not h x to same = absurd (not refl)
-  header_stops stops.Partial not h x to same =
+  pub header_stops : (e : Stop) → Stops e (fixed_header limits 0 (take 16 s)) → (x : Progress) (to : To) → ((c : List ℕ) → message_on limits 0 c ≡ to c) → Moves x s (Err e) x to
+  header_stops stops.Partial h x to same =
       let short = header_short h in
       let all : take 16 s ≡ s = take_all 16 s (omega arith) in
       (refl, sym (same s) ∙ message_on_is limits 0 s ∙ ap (λ (t : List ℕ). after (fixed_header limits 0 t) (after_fixed limits)) (sym all) ∙ ap (λ (r : Outcome FixedHeader). after r (after_fixed limits)) h)
-  header_stops (stops.Refused f) not h x to same = λ c.
+  header_stops (stops.Refused f) h x to same = λ c.
       sym (same (s ++ c)) ∙ ap (message_on limits 0) (split-at 16 s c) ∙ message_on_is limits 0 (take 16 s ++ (drop 16 s ++ c))
       ∙ ap (λ (r : Outcome FixedHeader). after r (after_fixed limits)) ((lasts_fixed limits).refuses 0 (take 16 s) f h (drop 16 s ++ c))
 
@@ -83,7 +82,6 @@ module _ (limits : Limits) (order : Order) (kind body : ℕ) (kept : Kept) where
   padding_taken o s n h c = ap (λ (r : Outcome (Unit {0})). after r (λ _. body_on limits order body kept)) (h.1 c)
 
   pub padding_stops : (e : Stop) (o : ℕ) (s : List ℕ) → Fronts (λ (n : ℕ). (tt, n)) o s (Err e) (padding 8 (o + 8)) → (x : Progress) (to : To) → ((c : List ℕ) → onward (padding 8 (o + 8)) (body_on limits order body kept) o c ≡ to c) → Moves x s (Err e) x to
-  padding_stops stops.Memory o s h x to same = absurd h
   padding_stops stops.Partial o s h x to same = (refl, sym (same s) ∙ ap (λ (r : Outcome (Unit {0})). after r (λ _. body_on limits order body kept)) h)
   padding_stops (stops.Refused f) o s h x to same = λ c. sym (same (s ++ c)) ∙ ap (λ (r : Outcome (Unit {0})). after r (λ _. body_on limits order body kept)) (h c)
 

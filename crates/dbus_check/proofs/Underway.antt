@@ -7,7 +7,7 @@ use Rattle.dbus_value_model.specs.declared.order.Order.{Order}
 use Rattle.dbus_value_model.specs.Bytes.{IsBytes}
 use Rattle.dbus_value_model.specs.Reading.{Done, fields, value}
 use Rattle.dbus_value_model.proofs.Numbers.{IsBytes-append, IsBytes-front}
-use Rattle.dbus_unmarshal.proofs.Agreement.{after_done}
+use Rattle.dbus_value_laws.proofs.Agreement.{after_done}
 use Rattle.dbus_value_checker.specs.Suspended.{On, onward, done}
 use Rattle.dbus_value_checker.specs.Denotations.{Answer, Denotes}
 use Rattle.dbus_value_checker.specs.Moves.{Runs, IsLive, offset_of}

@@ -12,11 +12,11 @@ use Rattle.dbus_value_model.specs.declared.stop.Stop.{Stop}
 use Rattle.dbus_value_model.specs.Values.{ValueTree}
 use Rattle.dbus_value_model.specs.ValueItems.{number_row}
 use Rattle.dbus_value_model.specs.Reading.{Reader, Outcome, Done, after, pure, padding, value}
-use Rattle.dbus_unmarshal.proofs.KindLaws.{spelled_sig}
-use Rattle.dbus_unmarshal.proofs.NumberSteps.{no_padding}
-use Rattle.dbus_decode.specs.HeaderReading.{wanted_value}
-use Rattle.dbus_decode.specs.MessageItems.{not_zero_row, kind_wanted}
-use Rattle.dbus_decode.specs.MessageReading.{value_wanted}
+use Rattle.dbus_value_laws.proofs.KindLaws.{spelled_sig}
+use Rattle.dbus_value_laws.proofs.ReadSteps.{no_padding}
+use Rattle.dbus_header.specs.HeaderReading.{wanted_value}
+use Rattle.dbus_header.specs.MessageItems.{not_zero_row, kind_wanted}
+use Rattle.dbus_header.specs.MessageReading.{value_wanted}
 use Rattle.dbus_message_model.specs.Messages.{Want, Name, OfType, Serial, number_in, text_in}
 use Rattle.dbus_value_checker.specs.Fronts.{Fronts}
 use Rattle.dbus_value_checker.specs.Suspended.{onward, done}

@@ -13,7 +13,6 @@ use Rattle.dbus_check.specs.declared.progress.Stage.TheVariants as stage
 -- after a field that was passed the next is wanted
 pub passed_moves : (old new : Progress) (s : List ℕ) (r : Result ℕ Stop) (to : To) → new.stage ≡ stage.Fields → Passes old s r new to → Moves old s r new to
 passed_moves old new s (Ok m) to at h = (h.0, subst (λ (st : Stage). denotes st new (after_bytes to (take m s))) (sym at) h.1)
-passed_moves old new s (Err stops.Memory) to at h = absurd h
 passed_moves old new s (Err stops.Partial) to at h = h
 passed_moves old new s (Err (stops.Refused f)) to at h = h
 
@@ -26,12 +25,10 @@ module _ (old new : Progress) (s : List ℕ) (n : ℕ) (there : n ≤ length s) 
       (omega (arith, a, l, there), subst (λ (t : To). Denotes new t) (fun_ext (λ c. ap to (sym (take-both n m s c there)))) h.1)
 
   pub second_stops : (e : Stop) → Moves old (drop n s) (Err e) new (after_bytes to (take n s)) → Moves old s (Err e) new to
-  second_stops stops.Memory h = absurd h
   second_stops stops.Partial h = (h.0, sym (ap to (take-append-drop n s)) ∙ h.1)
   second_stops (stops.Refused f) h = λ c. ap to (split-at n s c) ∙ h c
 
 -- the first of two parts
 pub coded_stops : (x : Progress) (s : List ℕ) (e : Stop) (to : To) → Coded x s (Err e) to → Moves x s (Err e) x to
-coded_stops x s stops.Memory to h = absurd h
 coded_stops x s stops.Partial to h = (refl, h)
 coded_stops x s (stops.Refused f) to h = h

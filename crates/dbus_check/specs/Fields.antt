@@ -7,8 +7,8 @@ use Rattle.dbus_value_model.specs.declared.fault.Reason.{Reason}
 use Rattle.dbus_value_model.specs.ValueItems.{text_row}
 use Rattle.dbus_value_model.specs.WantedTexts.{WantedText}
 use Rattle.dbus_value_model.specs.Reading.{Reader, after, ◌>>=◌, ◌>>◌, pure, padding, number, text, nul}
-use Rattle.dbus_decode.specs.MessageItems.{name_row}
-use Rattle.dbus_decode.specs.MessageReading.{opening}
+use Rattle.dbus_header.specs.MessageItems.{name_row}
+use Rattle.dbus_header.specs.MessageReading.{opening}
 use Rattle.dbus_check.specs.Heading.{seen_row}
 
 -- its padding, its struct, its code and its variant, after fields of these codes

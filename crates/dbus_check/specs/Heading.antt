@@ -11,8 +11,8 @@ use Rattle.dbus_value_model.specs.declared.fault.Reason.TheVariants as reasons
 use Rattle.dbus_value_model.specs.Values.{ValueTree}
 use Rattle.dbus_value_model.specs.Reading.{Partial, after, padding, number, judge, fields, value, ends}
 use Rattle.dbus_message_model.specs.Messages.{want, is_known, required, text_in, number_in}
-use Rattle.dbus_decode.specs.MessageReading.{opening}
-use Rattle.dbus_decode.specs.HeaderReading.{wanted_value, message_read}
+use Rattle.dbus_header.specs.MessageReading.{opening}
+use Rattle.dbus_header.specs.HeaderReading.{wanted_value, message_read}
 use Rattle.dbus_value_checker.specs.Suspended.{On, onward, done}
 
 -- whether a code stands among those seen

@@ -15,7 +15,7 @@ use Rattle.dbus_value_model.specs.Reading.{Outcome, Done, Faulty, Partial, after
 use Rattle.dbus_value_checker.specs.Suspended.{On, onward, done}
 use Rattle.dbus_value_checker.specs.Denotations as values
 use Rattle.dbus_value_checker.specs.declared.values.Values.{Values}
-use Rattle.dbus_decode.specs.HeaderReading.{wanted_value}
+use Rattle.dbus_header.specs.HeaderReading.{wanted_value}
 use Rattle.dbus_message_model.specs.Messages.{is_known, want}
 use Rattle.dbus_check.specs.Heading.{Kept, kept_of, has, body_on, fields_on, message_on}
 use Rattle.dbus_check.specs.Seen.{Sees}
@@ -100,21 +100,18 @@ after_bytes to w = λ c. to (w ++ c)
 -- a call that was handed the bytes s: it took so many; or they end within what is wanted, and nothing changed; or a fault shows
 abbrev pub Moves : Progress → List ℕ → Result ℕ Stop → Progress → To → Type 0
 Moves old s (Ok n) new to = (n ≤ length s) × Denotes new (after_bytes to (take n s))
-Moves old s (Err stops.Memory) new to = ⊥
 Moves old s (Err stops.Partial) new to = (new ≡ old) × (to s ≡ Partial)
 Moves old s (Err (stops.Refused f)) new to = (c : List ℕ) → to (s ++ c) ≡ Faulty f
 
 -- a call that needs no byte
 abbrev pub Turns : Result (Unit {0}) Stop → Progress → To → Type 0
 Turns (Ok x) new to = Denotes new to
-Turns (Err stops.Memory) new to = ⊥
 Turns (Err stops.Partial) new to = ⊥
 Turns (Err (stops.Refused f)) new to = (c : List ℕ) → to c ≡ Faulty f
 
 -- a step that was handed the bytes s: the same, but where they end within what is wanted, some of what is noted may have changed
 abbrev pub Steps : List ℕ → Result ℕ Stop → Progress → To → Type 0
 Steps s (Ok n) new to = (n ≤ length s) × Denotes new (after_bytes to (take n s))
-Steps s (Err stops.Memory) new to = ⊥
 Steps s (Err stops.Partial) new to = Denotes new to × (to s ≡ Partial)
 Steps s (Err (stops.Refused f)) new to = (c : List ℕ) → to (s ++ c) ≡ Faulty f
 
@@ -155,14 +152,12 @@ pub record WantsValue (x : Progress) (code n : ℕ) (to : To) : Type 0 where
 -- a field's value was passed, in so many bytes; or they end within it; or a fault shows
 abbrev pub Passes : Progress → List ℕ → Result ℕ Stop → Progress → To → Type 0
 Passes old s (Ok m) new to = (m ≤ length s) × WantsFields new (after_bytes to (take m s))
-Passes old s (Err stops.Memory) new to = ⊥
 Passes old s (Err stops.Partial) new to = (new ≡ old) × (to s ≡ Partial)
 Passes old s (Err (stops.Refused f)) new to = (c : List ℕ) → to (s ++ c) ≡ Faulty f
 
 -- a field's code was read, and what stands before it; the state is as it was
 abbrev pub Coded : Progress → List ℕ → Result (ℕ × ℕ) Stop → To → Type 0
 Coded x s (Ok y) to = (y.1 ≤ length s) × WantsValue x y.0 y.1 (after_bytes to (take y.1 s))
-Coded x s (Err stops.Memory) to = ⊥
 Coded x s (Err stops.Partial) to = to s ≡ Partial
 Coded x s (Err (stops.Refused f)) to = (c : List ℕ) → to (s ++ c) ≡ Faulty f
 

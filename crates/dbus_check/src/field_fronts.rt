@@ -14,7 +14,7 @@ ghost use Rattle.dbus_value_model.specs.Items.{text_reason};
 ghost use Rattle.dbus_value_model.specs.Reading.{number, text};
 ghost use Rattle.dbus_value_model.specs.ValueItems.{number_row, text_row};
 ghost use Rattle.dbus_value_model.specs.WantedTexts.{Of, Only};
-ghost use Rattle.dbus_decode.specs.MessageItems.{name_row, not_zero_row};
+ghost use Rattle.dbus_header.specs.MessageItems.{name_row, not_zero_row};
 ghost use Rattle.dbus_message_model.specs.Messages.{is_known};
 ghost use Rattle.dbus_value_checker.specs.Fronts.{Fronts};
 ghost use Rattle.dbus_value_checker.specs.Suspended.{onward, done};
@@ -23,9 +23,8 @@ ghost use Rattle.dbus_check.specs.Heading.{has};
 ghost use Rattle.dbus_check.specs.Seen.{Sees};
 
 use crate::seen::Seen;
-use dbus_decode::NAME_LIMIT;
+use dbus_header::NAME_LIMIT;
 use dbus_types::TextKind;
-use dbus_unmarshal::texts::text_reason;
 use dbus_value_checker::{byte, front, nul_front, padding, rest_after, text_front, word};
 use dbus_value_model::{Limits, Order, Reason, Stop, refuse};
 
@@ -205,6 +204,21 @@ fn name_length_front(bytes: &[u8], offset: usize, end: usize, order: Order) -> R
         return refuse(offset, Reason::Overrun);
     }
     Ok(n)
+}
+
+/// The reason of a text that is not of the kind that is wanted.
+fn text_reason(kind: TextKind) -> Reason
+    ensures { result ≡ text_reason (Of kind) }
+{
+    match kind {
+        TextKind::Text => Reason::Text,
+        TextKind::Path => Reason::Path,
+        TextKind::Interface => Reason::Interface,
+        TextKind::Member => Reason::Member,
+        TextKind::ErrorName => Reason::ErrorName,
+        TextKind::BusName => Reason::BusName,
+        TextKind::Signature | TextKind::Single => Reason::Signature,
+    }
 }
 
 /// A name of a kind after its padding: how many bytes its text has.

@@ -10,7 +10,7 @@ ghost use Rattle.dbus_message_model.specs.Messages.{Anything, Name, OfType, Seri
 use crate::field_fronts::{code_front, only_front, signature_front};
 use crate::field_values::{count_field, name_field, serial_field, text_field};
 use crate::progress::{Progress, Stage};
-use dbus_decode::FIELD_DEPTH;
+use dbus_header::FIELD_DEPTH;
 use dbus_message_model::field_table::{Wanted, want};
 use dbus_types::TextKind;
 use dbus_value_checker::{front, rest_after};
@@ -178,7 +178,7 @@ impl Progress {
                 {
                     Ok(()) => {}
                     // There is room for it.
-                    Err(_) => return Err(Stop::Memory),
+                    Err(_) => unreachable!(),
                 }
                 self.seen.note(code);
                 self.offset += n + size + 5;

@@ -13,7 +13,7 @@ ghost use Rattle.dbus_value_model.specs.WantedTexts.{Of};
 ghost use Rattle.dbus_value_model.specs.declared.limits.Limits.{Limits};
 ghost use Rattle.dbus_value_model.specs.declared.order.Order.{Order};
 ghost use Rattle.dbus_value_model.specs.declared.stop.Stop.TheVariants.{Partial};
-ghost use Rattle.dbus_decode.specs.HeaderReading.{wanted_value};
+ghost use Rattle.dbus_header.specs.HeaderReading.{wanted_value};
 ghost use Rattle.dbus_message_model.specs.Messages.{Name, OfType, Serial, number_in, text_in};
 ghost use Rattle.dbus_value_checker.specs.Fronts.{Fronts};
 ghost use Rattle.dbus_check.specs.Fields.{seen_as, nothing_of};

@@ -6,7 +6,7 @@ ghost use Rattle.dbus_value_model.specs.declared.stop.Stop.TheVariants.{Partial}
 
 use crate::seen::Seen;
 use arrayvec::ArrayVec;
-use dbus_decode::read_fixed_header;
+use dbus_header::read_fixed_header;
 use dbus_value_checker::{Values, front, padding};
 use dbus_value_model::{Limits, Order, Reason, Stop, refuse};
 

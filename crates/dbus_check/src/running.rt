@@ -57,8 +57,7 @@ impl Progress {
         while self.is_live() {
             match self.step(rest_after(bytes, n)) {
                 Ok(more) => n += more,
-                // Nothing takes memory.
-                Err(Stop::Partial | Stop::Memory) => return Ok(n),
+                Err(Stop::Partial) => return Ok(n),
                 Err(Stop::Refused(fault)) => return Err(fault),
             }
         }

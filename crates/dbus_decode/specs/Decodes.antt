@@ -6,7 +6,7 @@ use Rattle.dbus_value_model.specs.declared.fault.Refusal.{Refusal}
 use Rattle.dbus_value_model.specs.declared.fault.Refusal.TheVariants.{Memory, Format}
 use Rattle.dbus_decode.specs.declared.answer.Answer.{Answer}
 use Rattle.dbus_decode.specs.declared.answer.Answer.TheVariants.{Whole, Partial}
-use Rattle.dbus_decode.specs.MessageOutcomes.{IsWhole, IsRefused, IsPartial}
+use Rattle.dbus_header.specs.MessageOutcomes.{IsWhole, IsRefused, IsPartial}
 use Rattle.dbus_message_model.specs.MessageViews.{message_tree}
 
 abbrev pub Decodes : {A : Type 0} → Limits → List ℕ → Result (Answer A) Refusal → Type 0

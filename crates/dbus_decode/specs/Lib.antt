@@ -1,11 +1,3 @@
-pub mod MessageItems
-pub mod MessageReading
-pub mod MessageRelations
-pub mod MessageLaws
-pub mod MessageOutcomes
+pub mod Beginnings
 pub mod Decodes
-pub mod OutcomeLaws
-pub mod HeaderReading
 pub mod PackedAnswers
-pub mod StatedLengths
-pub mod StatedLaws

@@ -1,17 +1,11 @@
-//! Messages of the D-Bus wire format decoded, and the length that their first bytes state.
+//! Messages decoded: their bytes are judged, and then the message is built from them.
 #![tactic(auto)]
 
 mod answer;
+mod building;
 mod decoding;
-mod field_value;
-mod fixed_header;
-mod opening;
-mod read_body;
-mod read_fields;
-mod stated;
+mod fault;
 
 pub use answer::Answer;
+pub use building::build_message;
 pub use decoding::{decode, decode_within};
-pub use field_value::{FIELD_DEPTH, NAME_LIMIT};
-pub use fixed_header::{FixedHeader, read_fixed_header};
-pub use stated::{FIXED_HEADER_LENGTH, stated_length, stated_length_within};

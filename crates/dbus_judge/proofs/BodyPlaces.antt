@@ -10,8 +10,8 @@ use Rattle.dbus_value_model.specs.Spelling.{spelling, spellings}
 use Rattle.dbus_value_model.specs.Values.{value_trees}
 use Rattle.dbus_message_model.specs.Messages.{FieldTree, MessageTree, order_byte, field_struct, field_array, fields_end, body_start, body_bytes, message_bytes}
 use Rattle.dbus_message_model.proofs.MessageLengths.{fields_end_is, message_length}
-use Rattle.dbus_decode.specs.MessageItems.{field}
-use Rattle.dbus_decode.specs.MessageOutcomes.{IsWhole}
+use Rattle.dbus_header.specs.MessageItems.{field}
+use Rattle.dbus_header.specs.MessageOutcomes.{IsWhole}
 
 fields_length : (bounds : Bounds) (order : Order) (room end : ℕ) (fs before : List FieldTree) (o : ℕ) (s : List ℕ) (q : ℕ) (r : List ℕ) → Sequence (field bounds order room end) before fs o s q r → q ≡ o + length (spellings order o (value_trees (map field_struct fs)))
 unfolding spelling

@@ -11,10 +11,10 @@ use Rattle.dbus_value_model.specs.declared.order.Order.{Order}
 use Rattle.dbus_value_model.specs.Specification.{bounds_with}
 use Rattle.dbus_value_model.specs.Items.{fault}
 use Rattle.dbus_value_model.specs.Reading.{Done, value, fields}
-use Rattle.dbus_unmarshal.proofs.KindLaws.{signature_text}
+use Rattle.dbus_value_laws.proofs.KindLaws.{signature_text}
 use Rattle.dbus_message_model.specs.Messages.{FieldTree, body_signature, body_fds}
-use Rattle.dbus_decode.specs.HeaderReading.{body_read}
-use Rattle.dbus_decode.proofs.BodyLoop.{body_whole, body_trailing}
+use Rattle.dbus_header.specs.HeaderReading.{body_read}
+use Rattle.dbus_header.proofs.BodyLoop.{body_whole, body_trailing}
 use Rattle.dbus_value_judge.specs.Endings.{EndsAt, IsNotRead, AreSpelledTo, AreNotSpelled}
 use Rattle.dbus_value_judge.proofs.ReadParts.{not_first, not_faulty}
 use Rattle.dbus_value_judge.proofs.Spelled.{spelled_read, fields_unread}

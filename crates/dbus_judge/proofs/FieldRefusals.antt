@@ -6,15 +6,15 @@ use Rattle.dbus_value_model.specs.declared.order.Order.{Order}
 use Rattle.dbus_value_model.specs.Values.{ValueTree}
 use Rattle.dbus_value_model.specs.Items.{no_row}
 use Rattle.dbus_value_model.specs.Reading.{Reader, Done, padding, number, number_of, up_to}
-use Rattle.dbus_unmarshal.proofs.Agreement.{after_done}
-use Rattle.dbus_unmarshal.proofs.OwnItems.{chosen}
-use Rattle.dbus_unmarshal.proofs.ReadSteps.{one_byte}
+use Rattle.dbus_value_laws.proofs.Agreement.{after_done}
+use Rattle.dbus_value_laws.proofs.OwnItems.{chosen}
+use Rattle.dbus_value_laws.proofs.ReadSteps.{one_byte}
 use Rattle.dbus_message_model.specs.Messages.{FieldTree, want, is_known, has_code}
 use Rattle.dbus_message_model.proofs.FieldCodes.{has_reversed}
-use Rattle.dbus_decode.specs.HeaderReading.{wanted_value, field_read, fields_read}
-use Rattle.dbus_decode.specs.MessageItems.{code_row}
-use Rattle.dbus_decode.specs.MessageReading.{opening}
-use Rattle.dbus_decode.proofs.FieldLoop.{with_front}
+use Rattle.dbus_header.specs.HeaderReading.{wanted_value, field_read, fields_read}
+use Rattle.dbus_header.specs.MessageItems.{code_row}
+use Rattle.dbus_header.specs.MessageReading.{opening}
+use Rattle.dbus_header.proofs.FieldLoop.{with_front}
 use Rattle.dbus_value_judge.specs.Endings.{IsNotRead}
 use Rattle.dbus_value_judge.proofs.ItemRefusals.{same_place}
 use Rattle.dbus_value_judge.proofs.ReadParts.{same_done, not_same, not_first, not_partial, done_at, padding_read, number_read, number_plain}

@@ -6,8 +6,8 @@ use Rattle.dbus_value_model.specs.Values.{ValueTree}
 use Rattle.dbus_value_model.specs.Reading.{Done, up_to}
 use Rattle.dbus_message_model.specs.Messages.{FieldTree, want, is_known, has_code}
 use Rattle.dbus_message_model.proofs.FieldCodes.{has_reversed}
-use Rattle.dbus_decode.specs.HeaderReading.{field_read, fields_read}
-use Rattle.dbus_decode.proofs.FieldLoop.{with_front, goes_on, is_done, starts}
+use Rattle.dbus_header.specs.HeaderReading.{field_read, fields_read}
+use Rattle.dbus_header.proofs.FieldLoop.{with_front, goes_on, is_done, starts}
 use Rattle.dbus_judge.specs.declared.field_values.Held.{Held}
 use Rattle.dbus_judge.specs.declared.seen.Seen.{Seen}
 use Rattle.dbus_judge.specs.Held.{IsNoted, IsHeldField}

@@ -6,11 +6,11 @@ use Rattle.dbus_value_model.specs.declared.limits.Limits.{Limits}
 use Rattle.dbus_value_model.specs.declared.order.Order.{Order}
 use Rattle.dbus_value_model.proofs.Numbers.{length-num}
 use Rattle.dbus_message_model.specs.Messages.{MessageTree, message_bytes}
-use Rattle.dbus_decode.specs.MessageOutcomes.{IsWhole}
-use Rattle.dbus_decode.specs.StatedLengths.{StatesLength, Stated}
-use Rattle.dbus_decode.proofs.Fields.{open_to}
-use Rattle.dbus_decode.proofs.OutcomeLaws.{valid_whole, whole_bytes, whole_for_good, whole_valid}
-use Rattle.dbus_decode.proofs.StatedLengths.{stated_holds}
+use Rattle.dbus_header.specs.MessageOutcomes.{IsWhole}
+use Rattle.dbus_header.specs.StatedLengths.{StatesLength, Stated}
+use Rattle.dbus_header.proofs.Fields.{open_to}
+use Rattle.dbus_header.proofs.OutcomeLaws.{valid_whole, whole_bytes, whole_for_good, whole_valid}
+use Rattle.dbus_header.proofs.StatedLengths.{stated_holds}
 use Rattle.dbus_judge.specs.declared.judging.Judged.{Judged}
 use Rattle.dbus_judge.specs.Judging.{IsJudged, IsJudgedFirst}
 

@@ -17,17 +17,17 @@ use Rattle.dbus_value_model.specs.WantedTexts.{WantedText, Of, Only, IsWanted}
 use Rattle.dbus_value_model.specs.Reading.{Done, padding, number, number_of, text, signature, nul, value}
 use Rattle.dbus_value_model.specs.ValueReaders.{number_value, text_value}
 use Rattle.dbus_message_model.specs.Messages.{Want, Anything, OfType, Name, Serial}
-use Rattle.dbus_unmarshal.proofs.Agreement.{after_done}
-use Rattle.dbus_unmarshal.proofs.Composition.{row_fits}
-use Rattle.dbus_unmarshal.proofs.KindLaws.{single_text}
-use Rattle.dbus_unmarshal.proofs.ReadSteps.{one_byte}
-use Rattle.dbus_unmarshal.proofs.TextSteps.{text_there}
-use Rattle.dbus_unmarshal.proofs.ValueSteps.{single_shaped}
-use Rattle.dbus_decode.specs.HeaderReading.{wanted_signature, wanted_value}
-use Rattle.dbus_decode.specs.MessageItems.{kind_wanted, name_row, not_zero_row}
-use Rattle.dbus_decode.specs.MessageReading.{value_wanted}
-use Rattle.dbus_decode.proofs.Fields.{not_zero_fits}
-use Rattle.dbus_decode.proofs.FieldSteps.{long_name, name_overruns, typed_value, any_value}
+use Rattle.dbus_value_laws.proofs.Agreement.{after_done}
+use Rattle.dbus_value_laws.proofs.Composition.{row_fits}
+use Rattle.dbus_value_laws.proofs.KindLaws.{single_text}
+use Rattle.dbus_value_laws.proofs.ReadSteps.{one_byte}
+use Rattle.dbus_value_laws.proofs.StringSteps.{text_there}
+use Rattle.dbus_value_laws.proofs.ValueSteps.{single_shaped}
+use Rattle.dbus_header.specs.HeaderReading.{wanted_signature, wanted_value}
+use Rattle.dbus_header.specs.MessageItems.{kind_wanted, name_row, not_zero_row}
+use Rattle.dbus_header.specs.MessageReading.{value_wanted}
+use Rattle.dbus_header.proofs.Fields.{not_zero_fits}
+use Rattle.dbus_header.proofs.FieldSteps.{long_name, name_overruns, typed_value, any_value}
 use Rattle.dbus_value_judge.specs.Endings.{IsNotRead, EndedText, IsNotSpelled}
 use Rattle.dbus_value_judge.proofs.ItemRefusals.{same_place}
 use Rattle.dbus_value_judge.proofs.ReadParts.{same_done, not_same, not_first, not_second, done_at, number_read, number_plain, text_read, nul_read, ended_read}

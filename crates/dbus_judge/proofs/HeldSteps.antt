@@ -18,16 +18,15 @@ use Rattle.dbus_value_model.specs.WantedTexts.{Of, Only}
 use Rattle.dbus_value_model.specs.Reading.{Done, padding, number, value}
 use Rattle.dbus_value_model.specs.ValueReaders.{number_value, text_value}
 use Rattle.dbus_message_model.specs.Messages.{FieldTree, Anything, OfType, Name, Serial, want, is_known, has_code}
-use Rattle.dbus_unmarshal.proofs.KindLaws.{single_text}
-use Rattle.dbus_unmarshal.proofs.ReadSteps.{number_done, number_passes, text_fits, one_byte, nul_done}
-use Rattle.dbus_unmarshal.proofs.StringSteps.{sig_done}
-use Rattle.dbus_unmarshal.proofs.TextSteps.{only_done}
-use Rattle.dbus_unmarshal.proofs.ValueSteps.{value_number, value_text, single_shaped}
-use Rattle.dbus_decode.specs.HeaderReading.{wanted_signature, wanted_value, field_read}
-use Rattle.dbus_decode.specs.MessageItems.{name_row, not_zero_row, code_row}
-use Rattle.dbus_decode.specs.MessageReading.{opening}
-use Rattle.dbus_decode.proofs.Fields.{fits_not_zero}
-use Rattle.dbus_decode.proofs.FieldSteps.{name_fits, typed_value, any_value}
+use Rattle.dbus_value_laws.proofs.KindLaws.{single_text}
+use Rattle.dbus_value_laws.proofs.ReadSteps.{number_done, number_passes, text_fits, one_byte, nul_done}
+use Rattle.dbus_value_laws.proofs.StringSteps.{only_done, sig_done}
+use Rattle.dbus_value_laws.proofs.ValueSteps.{value_number, value_text, single_shaped}
+use Rattle.dbus_header.specs.HeaderReading.{wanted_signature, wanted_value, field_read}
+use Rattle.dbus_header.specs.MessageItems.{name_row, not_zero_row, code_row}
+use Rattle.dbus_header.specs.MessageReading.{opening}
+use Rattle.dbus_header.proofs.Fields.{fits_not_zero}
+use Rattle.dbus_header.proofs.FieldSteps.{name_fits, typed_value, any_value}
 use Rattle.dbus_value_judge.specs.Endings.{EndedText, IsSpelledTo}
 use Rattle.dbus_value_judge.proofs.Spelled.{value_spelled_read}
 use Rattle.dbus_judge.specs.declared.field_values.Held.{Held}

@@ -11,24 +11,23 @@ use Rattle.dbus_value_model.specs.Bytes.{IsBytes, gap_to}
 use Rattle.dbus_value_model.specs.Gives.{Stops}
 use Rattle.dbus_value_model.specs.Items.{fault}
 use Rattle.dbus_value_model.specs.Reading.{Outcome, Done, padding, judge}
-use Rattle.dbus_unmarshal.proofs.ReadSteps.{padding_is}
+use Rattle.dbus_value_laws.proofs.ReadSteps.{padding_is}
 use Rattle.dbus_message_model.specs.Messages.{FieldTree, lacks, required, body_signature, body_fds}
-use Rattle.dbus_decode.specs.declared.fixed_header.FixedHeader.{FixedHeader}
-use Rattle.dbus_decode.specs.HeaderReading.{fixed_header, fields_read, body_read, message_read}
-use Rattle.dbus_decode.specs.MessageOutcomes.{IsWhole}
-use Rattle.dbus_decode.proofs.MessageOutcomes.{reads_messages}
-use Rattle.dbus_decode.proofs.OutcomeLaws.{whole_for_good}
-use Rattle.dbus_decode.proofs.ReadingParts.{message_is}
-use Rattle.dbus_decode.proofs.StatedLengths.{header_states, stated_holds}
+use Rattle.dbus_header.specs.declared.fixed_header.FixedHeader.{FixedHeader}
+use Rattle.dbus_header.specs.HeaderReading.{fixed_header, fields_read, body_read, message_read}
+use Rattle.dbus_header.specs.MessageOutcomes.{IsWhole}
+use Rattle.dbus_header.proofs.MessageOutcomes.{reads_messages}
+use Rattle.dbus_header.proofs.OutcomeLaws.{whole_for_good}
+use Rattle.dbus_header.proofs.ReadingParts.{message_is}
+use Rattle.dbus_header.proofs.StatedLengths.{header_states, stated_holds}
 use Rattle.dbus_value_judge.specs.Endings.{IsNotRead}
 use Rattle.dbus_value_judge.proofs.ReadParts.{not_same, not_first, not_second, not_faulty, not_partial}
 use Rattle.dbus_judge.specs.Judging.{BeginsWithNone}
 
 -- where reading stops nothing is read
-pub stops_unread : {A : Type 0} (e : Stop) (read : Outcome A) → (e ≡ stops.Memory → ⊥) → Stops e read → IsNotRead read
-stops_unread stops.Memory read some h = absurd (some refl)
-stops_unread stops.Partial read some h = not_partial read h
-stops_unread (stops.Refused f) read some h = not_faulty read f h
+pub stops_unread : {A : Type 0} (e : Stop) (read : Outcome A) → Stops e read → IsNotRead read
+stops_unread stops.Partial read h = not_partial read h
+stops_unread (stops.Refused f) read h = not_faulty read f h
 
 judge_unread : (why : Option Reason) (o : ℕ) (s : List ℕ) → (why ≡ None → ⊥) → IsNotRead (judge why o s)
 judge_unread None o s some = absurd (some refl)

@@ -10,19 +10,18 @@ use Rattle.dbus_value_model.specs.Items.{Sequence}
 use Rattle.dbus_value_model.specs.Specification.{bounds_of}
 use Rattle.dbus_value_model.specs.Values.{ValueTrees}
 use Rattle.dbus_value_model.specs.Reading.{Done, padding}
-use Rattle.dbus_unmarshal.proofs.Contents.{Agrees-contents}
-use Rattle.dbus_unmarshal.proofs.ReadSteps.{padding_is}
+use Rattle.dbus_value_laws.proofs.Contents.{Agrees-contents}
+use Rattle.dbus_value_laws.proofs.ReadSteps.{padding_is, bytes_from, bytes_at}
 use Rattle.dbus_message_model.specs.Messages.{FieldTree, MessageTree, lacks, required, body_signature, body_fds}
-use Rattle.dbus_decode.specs.declared.fixed_header.FixedHeader.{FixedHeader}
-use Rattle.dbus_decode.specs.HeaderReading.{fixed_header, fields_read, body_read, message_read}
-use Rattle.dbus_decode.specs.MessageItems.{field}
-use Rattle.dbus_decode.specs.MessageReading as reads
-use Rattle.dbus_decode.specs.MessageOutcomes.{IsWhole}
-use Rattle.dbus_decode.proofs.Decoded.{whole_read}
-use Rattle.dbus_decode.proofs.Fields.{Agrees-field, field_moves}
-use Rattle.dbus_decode.proofs.MessageParts.{field_signature}
-use Rattle.dbus_decode.proofs.ReadingParts.{fields_are}
-use Rattle.dbus_decode.proofs.ReadMoves.{bytes_from, bytes_at}
+use Rattle.dbus_header.specs.declared.fixed_header.FixedHeader.{FixedHeader}
+use Rattle.dbus_header.specs.HeaderReading.{fixed_header, fields_read, body_read, message_read}
+use Rattle.dbus_header.specs.MessageItems.{field}
+use Rattle.dbus_header.specs.MessageReading as reads
+use Rattle.dbus_header.specs.MessageOutcomes.{IsWhole}
+use Rattle.dbus_header.proofs.Decoded.{whole_read}
+use Rattle.dbus_header.proofs.Fields.{Agrees-field, field_moves}
+use Rattle.dbus_header.proofs.MessageParts.{field_signature}
+use Rattle.dbus_header.proofs.ReadingParts.{fields_are}
 use Rattle.dbus_judge.specs.declared.seen.Seen.{Seen}
 use Rattle.dbus_judge.specs.Judging.{IsJudged}
 use Rattle.dbus_judge.specs.Seen.{AreNoted}

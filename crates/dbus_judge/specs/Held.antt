@@ -6,7 +6,7 @@ use Rattle.dbus_value_model.specs.declared.order.Order.{Order}
 use Rattle.dbus_value_model.specs.Values.{ValueTree}
 use Rattle.dbus_value_model.specs.Reading.{Done}
 use Rattle.dbus_message_model.specs.Messages.{FieldTree, want, Want, Anything, OfType, Name, Serial, text_in, number_in}
-use Rattle.dbus_decode.specs.HeaderReading.{wanted_value, field_read}
+use Rattle.dbus_header.specs.HeaderReading.{wanted_value, field_read}
 use Rattle.dbus_judge.specs.declared.field_values.Held.{Held}
 
 -- of a known field: its text stands there, and its number is this, where it has one

@@ -13,12 +13,12 @@ ghost use Rattle.dbus_value_model.specs.declared.order.Order.{Order};
 ghost use Rattle.dbus_value_model.specs.Reading.{Done};
 ghost use Rattle.dbus_value_model.specs.WantedTexts.{Of, Only};
 ghost use Rattle.dbus_message_model.specs.Messages.{Anything, OfType, Name, Serial, want};
-ghost use Rattle.dbus_decode.specs.HeaderReading.{wanted_signature, wanted_value};
-ghost use Rattle.dbus_decode.specs.declared.field_value.TheConstants.{FIELD_DEPTH};
+ghost use Rattle.dbus_header.specs.HeaderReading.{wanted_signature, wanted_value};
+ghost use Rattle.dbus_header.specs.declared.field_limits.TheConstants.{FIELD_DEPTH};
 ghost use Rattle.dbus_value_judge.specs.Endings.{IsNotRead};
 ghost use Rattle.dbus_judge.specs.Held.{IsHeld};
 
-use dbus_decode::{FIELD_DEPTH, NAME_LIMIT};
+use dbus_header::{FIELD_DEPTH, NAME_LIMIT};
 use dbus_message_model::field_table::{Wanted, want};
 use dbus_types::TextKind;
 use dbus_value_judge::{is_ended_text, judge_value, padding, short_text, word};

@@ -3,7 +3,7 @@
 
 ghost use Rattle.std.specs.Prelude.{◌≡◌, ◌+◌, ◌≤◌, ◌<◌, ◌^◌, List, [], length, drop, None, IfSome, false, true, ◌&&◌};
 ghost use Rattle.dbus_value_model.specs.Reading.{Done};
-ghost use Rattle.dbus_decode.specs.HeaderReading.{field_read, fields_read};
+ghost use Rattle.dbus_header.specs.HeaderReading.{field_read, fields_read};
 ghost use Rattle.dbus_message_model.specs.Messages.{FieldTree, is_known, has_code};
 ghost use Rattle.dbus_value_judge.specs.Endings.{IsNotRead};
 ghost use Rattle.dbus_judge.specs.Held.{IsHeldField};
@@ -11,7 +11,7 @@ ghost use Rattle.dbus_judge.specs.Seen.{AreNoted};
 
 use crate::field_values::{Held, judge_field_value};
 use crate::seen::Seen;
-use dbus_decode::FIELD_DEPTH;
+use dbus_header::FIELD_DEPTH;
 use dbus_value_judge::padding;
 use dbus_value_model::{Limits, Order};
 

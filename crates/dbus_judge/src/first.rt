@@ -3,7 +3,7 @@ ghost use Rattle.std.specs.Prelude.{◌≡◌, None, IfSome};
 ghost use Rattle.dbus_judge.specs.Judging.{IsJudgedFirst, BeginsWithNone};
 
 use crate::judging::{Judged, judge};
-use dbus_decode::stated_length_within;
+use dbus_header::stated_length_within;
 use dbus_value_model::Limits;
 
 /// The message within the limits that the bytes begin with, judged by itself, and where its parts stand.

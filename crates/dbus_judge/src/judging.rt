@@ -6,14 +6,14 @@ ghost use Rattle.dbus_texts.specs.ComputedKinds.{types_spelled};
 ghost use Rattle.dbus_texts.specs.Kinds.{IsKind};
 ghost use Rattle.dbus_texts.specs.declared.text_kind.TextKind.TheVariants.{Signature};
 ghost use Rattle.dbus_message_model.specs.Messages.{FieldTree, body_signature, body_fds};
-ghost use Rattle.dbus_decode.specs.HeaderReading.{body_read};
+ghost use Rattle.dbus_header.specs.HeaderReading.{body_read};
 ghost use Rattle.dbus_value_judge.specs.Endings.{EndsAt, IsNotRead};
 ghost use Rattle.dbus_judge.specs.Judging.{IsJudged, BeginsWithNone};
 ghost use Rattle.dbus_judge.specs.Seen.{AreNoted};
 
 use crate::fields::judge_fields;
 use crate::seen::Seen;
-use dbus_decode::read_fixed_header;
+use dbus_header::read_fixed_header;
 use dbus_value_judge::{judge_values, padding};
 use dbus_value_model::{Limits, Order};
 

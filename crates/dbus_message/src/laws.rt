@@ -2,10 +2,10 @@
 //! function's contract is a law; it does nothing when it runs.
 #![tactic(auto)]
 
-ghost use Rattle.dbus_decode.specs.MessageLaws.{ReadsMessages, ReadsMessageFaults};
-ghost use Rattle.dbus_decode.specs.OutcomeLaws.{OneMessage, OneLength, SomeOutcome, OneOutcome, OneWhole, OneFault, WholeForGood, RefusedForGood, WiderWhole};
+ghost use Rattle.dbus_header.specs.MessageLaws.{ReadsMessages, ReadsMessageFaults};
+ghost use Rattle.dbus_header.specs.OutcomeLaws.{OneMessage, OneLength, SomeOutcome, OneOutcome, OneWhole, OneFault, WholeForGood, RefusedForGood, WiderWhole};
 ghost use Rattle.dbus_message_model.specs.LimitLaws.{WiderLimits, ValidWithin};
-ghost use Rattle.dbus_decode.specs.StatedLaws.{StatedHolds, WholeStates, OneStated, SomeStated};
+ghost use Rattle.dbus_header.specs.StatedLaws.{StatedHolds, WholeStates, OneStated, SomeStated};
 
 /// No message's bytes begin another message's, and bytes spell at most one message in at most one order.
 pub fn one_message()

@@ -1,20 +1,19 @@
 //! Messages of the D-Bus wire format: what they are, and how they are encoded and decoded. D-Bus Specification, "Message
 //! Protocol".
 //!
-//! One name for seven crates: the messages and the relation that spells them (`dbus_message_model`), how they are made of their
-//! parts (`dbus_build`), decoding (`dbus_decode`), encoding (`dbus_encode`), checking in pieces (`dbus_check`), views that
-//! borrow a message's bytes (`dbus_view`), and the values that are seen in them one by one (`dbus_values`); and the laws that
-//! join them.
+//! One name for eight crates: the messages and the relation that spells them (`dbus_message_model`), how they are made of their
+//! parts (`dbus_build`), decoding (`dbus_decode`), the length that a header states (`dbus_header`), encoding (`dbus_encode`),
+//! checking in pieces (`dbus_check`), views that borrow a message's bytes (`dbus_view`), and the values that are seen in them one
+//! by one (`dbus_values`); and the laws that join them.
 #![tactic(auto)]
 
 pub mod laws;
 
 pub use dbus_build::{Build, BuildFault, Within};
 pub use dbus_check::{Check, Checker};
-pub use dbus_decode::{
-    Answer, FIXED_HEADER_LENGTH, decode, decode_within, stated_length, stated_length_within,
-};
+pub use dbus_decode::{Answer, decode, decode_within};
 pub use dbus_encode::{encode, encode_into};
+pub use dbus_header::{FIXED_HEADER_LENGTH, stated_length, stated_length_within};
 pub use dbus_message_model::{
     HeaderField, Message, Parts, arg, field, field_code, flag, message_type,
 };

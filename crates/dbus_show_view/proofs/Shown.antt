@@ -1,5 +1,5 @@
 -- Values that stand in the bytes, shown: numbers, texts, and arrays as they open.
-use Rattle.std.proofs.Common.{◌≡◌, ℕ, ◌+◌, ◌-◌, ◌<◌, List, [], ◌∷◌, ◌++◌, length, get_or, take, drop, true, false, refl, sym, ap, subst, ◌∙◌, arith, ◌⊎◌, inl, inr}
+use Rattle.std.proofs.Common.{◌≡◌, ℕ, ◌+◌, ◌-◌, ◌<◌, List, [], ◌∷◌, ◌++◌, length, get_or, take, drop, true, false, refl, sym, ap, subst, ◌∙◌, arith}
 use Rattle.std.specs.Prelude.{◌==◌}
 use Rattle.std.proofs.lemmas.Bool.{eqb-true}
 use Rattle.std.specs.Str.{IsAscii}
@@ -15,7 +15,6 @@ use Rattle.dbus_value_model.specs.declared.order.Order.{Order}
 use Rattle.dbus_value_model.specs.Spelling.{spellings, contents_start}
 use Rattle.dbus_value_model.specs.Values.{ValueTree, ArrayValue, type_of, AllOf}
 use Rattle.dbus_walk.specs.Standing.{Stands}
-use Rattle.dbus_walk.specs.Widths.{number_width}
 use Rattle.dbus_walk.proofs.Containers.{ArrayStands, elements_there}
 use Rattle.dbus_walk.proofs.Parts.{NumberStands, TextStands}
 use Rattle.dbus_walk.proofs.ReadThere.{number_read}

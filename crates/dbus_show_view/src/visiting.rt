@@ -113,7 +113,7 @@ impl<A: Allocator> Visitor for Shower<'_, '_, A> {
     }
 
     #[inline]
-    fn open(&mut self, kind: Container, _length: usize) -> Result<(), Infallible> {
+    fn open(&mut self, kind: Container, _types: &[u8], _length: usize) -> Result<(), Infallible> {
         match kind {
             Container::Variant => self.draft.push_code(b'<'),
             Container::Array => {}

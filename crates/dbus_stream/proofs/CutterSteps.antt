@@ -6,8 +6,8 @@ use Rattle.dbus_value_model.specs.declared.order.Order.{Order}
 use Rattle.dbus_value_model.specs.declared.limits.Limits.{Limits}
 use Rattle.dbus_message_model.specs.Messages.{MessageTree}
 use Rattle.dbus_message_model.specs.MessageViews.{message_tree}
-use Rattle.dbus_decode.specs.MessageOutcomes.{IsWhole, IsPartial}
-use Rattle.dbus_decode.proofs.OutcomeLaws.{one_outcome, whole_for_good, whole_inside}
+use Rattle.dbus_header.specs.MessageOutcomes.{IsWhole, IsPartial}
+use Rattle.dbus_header.proofs.OutcomeLaws.{one_outcome, whole_for_good, whole_inside}
 use Rattle.dbus_check.specs.declared.check.Check.{Check}
 use Rattle.dbus_check.specs.declared.check.Check.TheVariants as checks
 use Rattle.dbus_check.specs.Checks.{Takes, taken}

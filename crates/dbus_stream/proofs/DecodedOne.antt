@@ -3,11 +3,11 @@ use Rattle.std.proofs.Common.{ℕ, List, Ok, Err, Result, length, subst}
 use Rattle.dbus_value_model.specs.declared.fault.Refusal.{Refusal}
 use Rattle.dbus_value_model.specs.declared.fault.Refusal.TheVariants as refusals
 use Rattle.dbus_value_model.specs.declared.limits.Limits.{Limits}
-use Rattle.dbus_decode.specs.MessageOutcomes.{IsWhole}
+use Rattle.dbus_header.specs.MessageOutcomes.{IsWhole}
 use Rattle.dbus_decode.specs.declared.answer.Answer.{Answer}
 use Rattle.dbus_decode.specs.declared.answer.Answer.TheVariants.{Whole, Partial}
 use Rattle.dbus_decode.specs.Decodes.{Decodes}
-use Rattle.dbus_decode.proofs.OutcomeLaws.{one_outcome, one_whole}
+use Rattle.dbus_header.proofs.OutcomeLaws.{one_outcome, one_whole}
 use Rattle.dbus_message_model.specs.MessageViews.{message_tree}
 use Rattle.dbus_stream.specs.Checked.{IsOneMessage}
 

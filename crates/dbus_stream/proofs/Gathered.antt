@@ -5,8 +5,8 @@ use Rattle.std.proofs.lemmas.List.{length-append, length-take-le}
 use Rattle.dbus_value_model.specs.declared.limits.Limits.{Limits}
 use Rattle.dbus_value_model.specs.declared.order.Order.{Order}
 use Rattle.dbus_message_model.specs.Messages.{MessageTree}
-use Rattle.dbus_decode.specs.MessageOutcomes.{IsWhole}
-use Rattle.dbus_decode.proofs.OutcomeLaws.{one_whole}
+use Rattle.dbus_header.specs.MessageOutcomes.{IsWhole}
+use Rattle.dbus_header.proofs.OutcomeLaws.{one_whole}
 use Rattle.dbus_judge.specs.declared.judging.Judged.{Judged}
 use Rattle.dbus_judge.specs.Judging.{IsJudged, IsJudgedWhole}
 use Rattle.dbus_judge.proofs.Firsts.{alone}

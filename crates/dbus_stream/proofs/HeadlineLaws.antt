@@ -14,9 +14,9 @@ use Rattle.dbus_decode.specs.declared.answer.Answer.TheVariants.{Whole, Partial}
 use Rattle.dbus_message_model.specs.declared.message.Message.{Message}
 use Rattle.dbus_message_model.specs.Messages.{MessageTree, message_bytes}
 use Rattle.dbus_message_model.specs.MessageViews.{message_tree}
-use Rattle.dbus_decode.specs.MessageOutcomes.{IsWhole, IsRefused}
+use Rattle.dbus_header.specs.MessageOutcomes.{IsWhole, IsRefused}
 use Rattle.dbus_decode.specs.Decodes.{Decodes}
-use Rattle.dbus_decode.proofs.OutcomeLaws.{one_whole, one_fault, one_outcome, not_both, whole_bytes, whole_valid, valid_whole}
+use Rattle.dbus_header.proofs.OutcomeLaws.{one_whole, one_fault, one_outcome, not_both, whole_bytes, whole_valid, valid_whole}
 use Rattle.dbus_stream.specs.Cut.{CutMessage, BeginWith, Ended, IsCut}
 use Rattle.dbus_stream.specs.CutterState.{CutterState, fresh}
 use Rattle.dbus_stream.specs.Cutting.{TakeAnswer}

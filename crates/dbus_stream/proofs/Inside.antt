@@ -6,7 +6,7 @@ use Rattle.dbus_decode.specs.declared.answer.Answer.{Answer}
 use Rattle.dbus_decode.specs.declared.answer.Answer.TheVariants.{Whole, Partial}
 use Rattle.dbus_decode.specs.Decodes.{Decodes}
 use Rattle.dbus_message_model.specs.MessageViews.{message_tree}
-use Rattle.dbus_decode.proofs.OutcomeLaws.{whole_inside}
+use Rattle.dbus_header.proofs.OutcomeLaws.{whole_inside}
 use Rattle.dbus_stream.specs.Decoded.{IsInside}
 
 pub inside_of : {A : Type 0} (limits : Limits) (b : List ℕ) (result : Result (Answer A) Refusal) → Decodes limits b result → IsInside (length b) result

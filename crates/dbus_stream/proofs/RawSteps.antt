@@ -3,7 +3,7 @@ use Rattle.std.proofs.Common.{◌≡◌, ℕ, ◌-◌, ◌<◌, ◌≤◌, List,
 use Rattle.std.specs.List.{slice_range}
 use Rattle.std.proofs.lemmas.List.{length-take-le}
 use Rattle.dbus_value_model.specs.declared.fault.Fault.{Fault}
-use Rattle.dbus_decode.proofs.OutcomeLaws.{whole_inside}
+use Rattle.dbus_header.proofs.OutcomeLaws.{whole_inside}
 use Rattle.dbus_judge.specs.declared.judging.Judged.{Judged}
 use Rattle.dbus_judge.specs.Judging.{IsJudgedWhole}
 use Rattle.dbus_stream.specs.Gathering.{GathererState, gathering, under_way, Rests}

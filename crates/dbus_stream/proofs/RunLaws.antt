@@ -8,8 +8,8 @@ use Rattle.dbus_value_model.specs.declared.fault.Fault.{Fault}
 use Rattle.dbus_value_model.specs.declared.limits.Limits.{Limits}
 use Rattle.dbus_message_model.specs.declared.message.Message.{Message}
 use Rattle.dbus_message_model.specs.MessageViews.{message_tree}
-use Rattle.dbus_decode.specs.MessageOutcomes.{IsWhole, IsRefused, IsPartial}
-use Rattle.dbus_decode.proofs.OutcomeLaws.{whole_for_good, refused_for_good, whole_inside, nothing_partial}
+use Rattle.dbus_header.specs.MessageOutcomes.{IsWhole, IsRefused, IsPartial}
+use Rattle.dbus_header.proofs.OutcomeLaws.{whole_for_good, refused_for_good, whole_inside, nothing_partial}
 use Rattle.dbus_stream.specs.declared.stream_fault.StreamFault.TheVariants.{Memory, Format}
 use Rattle.dbus_stream.specs.Cut.{CutMessage, BeginWith, IsOutcome}
 use Rattle.dbus_stream.specs.CutterState.{CutterState, fresh}

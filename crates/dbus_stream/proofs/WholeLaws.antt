@@ -4,8 +4,8 @@ use Rattle.std.proofs.lemmas.List.{take-append-le}
 use Rattle.dbus_value_model.specs.declared.order.Order.{Order}
 use Rattle.dbus_value_model.specs.declared.limits.Limits.{Limits}
 use Rattle.dbus_message_model.specs.Messages.{MessageTree, message_bytes}
-use Rattle.dbus_decode.specs.MessageOutcomes.{IsWhole, IsPartial}
-use Rattle.dbus_decode.proofs.OutcomeLaws.{one_outcome, whole_bytes, whole_valid, valid_whole}
+use Rattle.dbus_header.specs.MessageOutcomes.{IsWhole, IsPartial}
+use Rattle.dbus_header.proofs.OutcomeLaws.{one_outcome, whole_bytes, whole_valid, valid_whole}
 
 -- a message that ends within the first of the bytes is one of these alone
 pub whole_within : (limits : Limits) (b c : List ℕ) (order : Order) (m : MessageTree) (n : ℕ) → n ≤ length b → IsWhole limits (b ++ c) order m n → IsWhole limits b order m n

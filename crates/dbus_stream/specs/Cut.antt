@@ -6,7 +6,7 @@ use Rattle.dbus_value_model.specs.declared.fault.Fault.{Fault}
 use Rattle.dbus_value_model.specs.declared.limits.Limits.{Limits}
 use Rattle.dbus_value_model.specs.declared.fault.Reason.TheVariants.{Truncated}
 use Rattle.dbus_message_model.specs.Messages.{MessageTree}
-use Rattle.dbus_decode.specs.MessageOutcomes.{IsWhole, IsRefused, IsPartial}
+use Rattle.dbus_header.specs.MessageOutcomes.{IsWhole, IsRefused, IsPartial}
 
 -- a message of a stream, with its byte order and how many bytes it has
 pub record CutMessage : Type 0 where

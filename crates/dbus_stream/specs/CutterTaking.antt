@@ -3,7 +3,7 @@ use Rattle.std.specs.Prelude.{◌≡◌, None}
 use Rattle.dbus_value_model.specs.declared.order.Order.{Order}
 use Rattle.dbus_message_model.specs.declared.message.Message.{Message}
 use Rattle.dbus_message_model.specs.MessageViews.{message_tree}
-use Rattle.dbus_decode.specs.MessageOutcomes.{IsWhole}
+use Rattle.dbus_header.specs.MessageOutcomes.{IsWhole}
 use Rattle.dbus_stream.specs.CutterState.{CutterState}
 use Rattle.dbus_stream.specs.Taking.{Taking}
 

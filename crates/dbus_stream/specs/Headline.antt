@@ -13,7 +13,7 @@ use Rattle.dbus_decode.specs.declared.answer.Answer.TheVariants.{Whole, Partial}
 use Rattle.dbus_message_model.specs.declared.message.Message.{Message}
 use Rattle.dbus_message_model.specs.Messages.{MessageTree, message_bytes}
 use Rattle.dbus_message_model.specs.MessageViews.{message_tree}
-use Rattle.dbus_decode.specs.MessageOutcomes.{IsRefused}
+use Rattle.dbus_header.specs.MessageOutcomes.{IsRefused}
 use Rattle.dbus_message_model.specs.ValidMessages.{IsValidMessage}
 use Rattle.dbus_decode.specs.Decodes.{Decodes}
 use Rattle.dbus_stream.specs.Cut.{CutMessage, BeginWith}

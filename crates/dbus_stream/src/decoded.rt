@@ -1,7 +1,7 @@
 //! One decoding, with how far it went.
 ghost use Rattle.std.specs.Prelude.{length, IfOk};
 ghost use Rattle.dbus_decode.specs.Decodes.{Decodes};
-ghost use Rattle.dbus_decode.specs.MessageOutcomes.{IsWhole};
+ghost use Rattle.dbus_header.specs.MessageOutcomes.{IsWhole};
 ghost use Rattle.dbus_message_model.specs.MessageViews.{message_tree};
 ghost use Rattle.dbus_stream.specs.Checked.{IsOneMessage};
 ghost use Rattle.dbus_stream.specs.Decoded.{IsInside};

@@ -1,7 +1,7 @@
 //! The bytes of a message that come in pieces, judged.
 ghost use Rattle.std.specs.Prelude.{◌≡◌, ◌≤◌, ◌-◌, ℕ, List, true, false, length, take, IfOk};
 ghost use Rattle.dbus_check.specs.Checks.{Stands, limits_of};
-ghost use Rattle.dbus_decode.specs.MessageOutcomes.{IsPartial};
+ghost use Rattle.dbus_header.specs.MessageOutcomes.{IsPartial};
 ghost use Rattle.dbus_judge.specs.Judging.{IsJudgedWhole};
 ghost use Rattle.dbus_stream.specs.Gathering.{GathererState, gathering, fresh, begun, under_way, Gathers};
 ghost use Rattle.dbus_stream.specs.Taking.{Takes};

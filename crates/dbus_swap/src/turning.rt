@@ -104,7 +104,7 @@ impl Visitor for Turner<'_> {
     }
 
     #[inline]
-    fn open(&mut self, _kind: Container, _length: usize) -> Result<(), Infallible> {
+    fn open(&mut self, _kind: Container, _types: &[u8], _length: usize) -> Result<(), Infallible> {
         Ok(())
     }
 

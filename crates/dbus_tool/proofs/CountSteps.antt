@@ -4,8 +4,8 @@ use Rattle.std.specs.Io.KnownBytes.{Consumes, IsAtEnd}
 use Rattle.std.proofs.KnownBytes.{Consumes-nil, Consumes-trans}
 use Rattle.dbus_value_model.specs.declared.fault.Fault.{Fault}
 use Rattle.dbus_value_model.specs.declared.limits.Limits.{Limits}
-use Rattle.dbus_decode.specs.MessageOutcomes.{IsWhole, IsRefused, IsPartial}
-use Rattle.dbus_decode.proofs.OutcomeLaws.{whole_inside}
+use Rattle.dbus_header.specs.MessageOutcomes.{IsWhole, IsRefused, IsPartial}
+use Rattle.dbus_header.proofs.OutcomeLaws.{whole_inside}
 use Rattle.dbus_judge.specs.declared.judging.Judged.{Judged}
 use Rattle.dbus_stream.specs.Cut.{CutMessage, BeginWith, Ended, Unfinished, Refused, truncated, sizes}
 use Rattle.dbus_device.specs.Device.{RisesBy}

@@ -1,7 +1,7 @@
 -- The next message, where nothing was read before it.
 use Rattle.std.proofs.Common.{◌≡◌, ◌⊎◌, true, ℕ, ◌+◌, List, [], ◌++◌, Some, None, Ok, Err, Option, Result, refl, sym, ap, ◌∙◌, subst, append-nil, inl}
 use Rattle.std.specs.Io.KnownBytes.{Consumes}
-use Rattle.dbus_decode.specs.MessageOutcomes.{IsWhole, IsRefused, IsPartial}
+use Rattle.dbus_header.specs.MessageOutcomes.{IsWhole, IsRefused, IsPartial}
 use Rattle.dbus_judge.specs.declared.judging.Judged.{Judged}
 use Rattle.dbus_judge.specs.Judging.{IsJudgedWhole}
 use Rattle.dbus_device.specs.Device.{RisesBy}

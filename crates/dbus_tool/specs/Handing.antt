@@ -5,7 +5,7 @@ use Rattle.std.specs.Io.KnownBytes.{Consumes}
 use Rattle.dbus_value_model.specs.declared.limits.Limits.{Limits}
 use Rattle.dbus_value_model.specs.declared.order.Order.{Order}
 use Rattle.dbus_message_model.specs.Messages.{MessageTree}
-use Rattle.dbus_decode.specs.MessageOutcomes.{IsPartial}
+use Rattle.dbus_header.specs.MessageOutcomes.{IsPartial}
 use Rattle.dbus_judge.specs.declared.judging.Judged.{Judged}
 use Rattle.dbus_device.specs.Device.{one_more, RisesBy}
 use Rattle.dbus_stream.specs.Cut.{CutMessage, BeginWith}

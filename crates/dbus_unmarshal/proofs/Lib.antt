@@ -1,14 +1,4 @@
-pub mod KindLaws
-pub mod Agreement
-pub mod OwnItems
-pub mod Contents
-pub mod Composition
-pub mod ValueItemLaws
-pub mod ValueOutcomes
-pub mod Frames
-pub mod ReadSteps
-pub mod TextSteps
-pub mod NumberSteps
-pub mod StringSteps
-pub mod ValueSteps
-pub mod ArraySteps
+mod NumberRows
+mod Gathering
+mod Leaves
+mod Judging

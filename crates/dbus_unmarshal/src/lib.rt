@@ -1,12 +1,17 @@
-//! Values of the D-Bus wire format read from bytes, and the laws over what bytes spell.
+//! Values as trees: built of bytes that were judged, and read from any bytes, which are checked first.
+//!
+//! One walk goes along judged bytes, and a value is made of each part where it stands. Nothing is judged again: the one error is
+//! that a growth of memory was refused.
 #![tactic(auto)]
 
-mod arrays;
-pub mod items;
-pub mod laws;
-mod number_values;
-mod reading;
-mod text_values;
-pub mod texts;
+mod building;
+mod gathered;
+mod getting;
+mod numbers;
+mod opening;
+mod rooms;
+mod type_text;
+mod values;
 
-pub use reading::{get, get_within, read_value};
+pub use getting::{get, get_within};
+pub use values::{build_typed, build_value, build_values};

@@ -21,9 +21,9 @@ use Rattle.dbus_value_model.specs.Reading as reading
 use Rattle.dbus_value_model.proofs.Formed.{formed_of}
 use Rattle.dbus_value_model.proofs.PartRanges.{ranged_of}
 use Rattle.dbus_marshal.proofs.SizeLaws.{size_ends}
-use Rattle.dbus_unmarshal.proofs.ValueItemLaws.{Agrees-value, value_inside}
-use Rattle.dbus_unmarshal.proofs.ValueOutcomes.{agreed_either, agreed_value}
-use Rattle.dbus_unmarshal.proofs.ValueSteps.{single_shaped}
+use Rattle.dbus_value_laws.proofs.ValueItemLaws.{Agrees-value, value_inside}
+use Rattle.dbus_value_laws.proofs.ValueOutcomes.{agreed_either, agreed_value}
+use Rattle.dbus_value_laws.proofs.ValueSteps.{single_shaped}
 
 written_spelled : (limits : Limits) (fds : Option ℕ) (order : Order) (room end o e : ℕ) (v : ValueTree) (more : List ℕ)
     → PassesCheck room fds v → o ≤ limits.message → sized limits v None o ≡ Ok e → e ≤ end

@@ -38,19 +38,16 @@ module _ (x y : Values) (s : List ℕ) (n : ℕ) (there : n ≤ length s) (answe
       (omega arith, denotes_same y answer.last (λ c. answer.to (take n s ++ (take m (drop n s) ++ c))) (λ c. answer.to (take (n + m) s ++ c)) (λ c. ap answer.to (sym (take-both n m s c there))) h.1)
 
   pub after_err : (e : Stop) → Moves x (drop n s) (Err e) y (after_piece answer (take n s)) → Moves x s (Err e) y answer
-  after_err stops.Memory h = absurd h
   after_err stops.Partial h = (h.0, ap answer.to (sym (take-append-drop n s)) ∙ h.1)
   after_err (stops.Refused f) h = λ c. ap answer.to (split-at n s c) ∙ h c
 
 -- a container that was not opened
 pub opens_err : (x y : Values) (s : List ℕ) (e : Stop) (answer : Answer) → Opens (Err e) y answer → Moves x s (Err e) y answer
-opens_err x y s stops.Memory answer h = absurd h
 opens_err x y s stops.Partial answer h = absurd h
 opens_err x y s (stops.Refused f) answer h = λ c. h (s ++ c)
 
 -- nor was one after n bytes
 pub opens_after : (x y : Values) (s : List ℕ) (n : ℕ) (e : Stop) (answer : Answer) → Opens (Err e) y (after_piece answer (take n s)) → Moves x s (Err e) y answer
-opens_after x y s n stops.Memory answer h = absurd h
 opens_after x y s n stops.Partial answer h = absurd h
 opens_after x y s n (stops.Refused f) answer h = λ c. ap answer.to (split-at n s c) ∙ h (drop n s ++ c)
 
@@ -86,7 +83,6 @@ run_refused x y s n answer f h c = ap answer.to (split-at n s c) ∙ h c
 
 -- a container's opening does not wait for bytes
 pub opens_at_once : (y : Values) (e : Stop) (answer : Answer) → Opens (Err e) y answer → e ≡ stops.Partial → ⊥
-opens_at_once y stops.Memory answer h is = h
 opens_at_once y stops.Partial answer h is = h
 opens_at_once y (stops.Refused f) answer h is = absurd cc
 

@@ -29,7 +29,7 @@ use Rattle.dbus_texts.specs.declared.text_kind.TextKind.TheVariants as kinds
 use Rattle.dbus_value_model.specs.Reading.{text, nul}
 use Rattle.dbus_value_model.specs.WantedTexts.{WantedText, Of, IsWanted, IsBreakOf}
 use Rattle.dbus_value_model.specs.ComputedTexts.{break_at}
-use Rattle.dbus_unmarshal.proofs.KindLaws.{break_le, break_is, one_break, break_whole, is_wanted, is_not_wanted}
+use Rattle.dbus_value_laws.proofs.KindLaws.{break_le, break_is, one_break, break_whole, is_wanted, is_not_wanted}
 use Rattle.dbus_value_checker.proofs.Suspension.{number_waits, number_over, number_read, text_waits, text_breaks, text_ends, text_not}
 
 -- ---- what is read after a front
@@ -143,13 +143,11 @@ plain_row fds UNIX_FD c n p e b f = absurd (f (sym e))
 
 -- the bytes of a number are not there
 pub lacks_number : {X : Type 0} (view : X → ℕ × ℕ) (order : Order) (w end : ℕ) (row : ℕ → ℕ → Option Reason) (o : ℕ) (s : List ℕ) (e : Stop) → Lack w o end s e → Fronts view o s (Err e) (number order w end row)
-lacks_number view order w end row o s stops.Memory h = absurd h
 lacks_number view order w end row o s stops.Partial h = number_lacks order w end row o s h.0 h.1
 lacks_number view order w end row o s (stops.Refused f) h = λ c. number_past order w end row o s h.0 c ∙ ap (λ (g : Fault). Faulty g) (sym h.1)
 
 -- the number is forgotten
 pub forgets_stop : (o : ℕ) (s : List ℕ) (run : Reader ℕ) (e : Stop) → Fronts (λ (x : ℕ × ℕ). x) o s (Err e) run → Fronts (λ (n : ℕ). (tt, n)) o s (Err e) (onward run done)
-forgets_stop o s run stops.Memory h = absurd h
 forgets_stop o s run stops.Partial h = ap (λ (r : Outcome ℕ). after r (λ x. done)) h
 forgets_stop o s run (stops.Refused f) h = λ c. ap (λ (r : Outcome ℕ). after r (λ x. done)) (h c)
 
@@ -213,7 +211,6 @@ split-at i s c = ap (λ (t : List ℕ). t ++ c) (sym (take-append-drop i s)) ∙
 module _ (bounds : Bounds) (order : Order) (end o : ℕ) (s : List ℕ) (t : TypeTree) where
   frame_stop : (e : Stop) → Lack 4 o end s e → Fronts (λ (x : ℕ × ℕ). x) o s (Err e) (array_frame bounds order end t)
   unfolding array_frame
-  frame_stop stops.Memory h = absurd h
   frame_stop stops.Partial h = rw (number_lacks order 4 end (array_row bounds t end) o s h.0 h.1) refl
   frame_stop (stops.Refused f) h = λ c. rw (number_past order 4 end (array_row bounds t end) o s h.0 c) (ap (λ (g : Fault). Faulty g) (sym h.1))
 
@@ -253,7 +250,6 @@ module _ (bounds : Bounds) (order : Order) (end o : ℕ) (s : List ℕ) (t : Typ
 
         pub array_padding : (e : Stop) → Fronts (λ (n : ℕ). (tt, n)) (o + 4) (drop 4 s) (Err e) (padding a end) → Fronts (λ (x : ℕ × ℕ). x) o s (Err e) (array_frame bounds order end t)
         unfolding array_frame
-        array_padding stops.Memory h = absurd h
         array_padding stops.Partial h =
             let waits : padding (alignment_of t) end (o + 4) (drop 4 s) ≡ Partial = subst (λ (b : ℕ). padding b end (o + 4) (drop 4 s) ≡ Partial) boundary h in
             let whole : s ≡ take 4 s ++ drop 4 s = sym (take-append-drop 4 s) in
@@ -335,7 +331,6 @@ module _ (order : Order) (end o : ℕ) (s : List ℕ) where
   named n p u = after (text (Of kinds.Single) n p u) (λ t q v. after (nul q v) (λ z. Done t))
 
   pub variant_stop : (e : Stop) → Lack 1 o end s e → Fronts seen o s (Err e) (held_text order end)
-  variant_stop stops.Memory h = absurd h
   variant_stop stops.Partial h = ap (λ (r : Outcome ℕ). after r named) (number_lacks order 1 end (text_row end) o s h.0 h.1)
   variant_stop (stops.Refused f) h = λ c. ap (λ (r : Outcome ℕ). after r named) (number_past order 1 end (text_row end) o s h.0 c) ∙ ap (λ (g : Fault). Faulty g) (sym h.1)
 
@@ -351,7 +346,6 @@ module _ (order : Order) (end o : ℕ) (s : List ℕ) where
 
       -- what stops within the text and the zero after it
       rest_stops : (e : Stop) → Fronts seen (o + 1) (drop 1 s) (Err e) (named n) → Fronts seen o s (Err e) (held_text order end)
-      rest_stops stops.Memory h = absurd h
       rest_stops stops.Partial h = both_waits numbered o s 1 n there first_taken named h
       rest_stops (stops.Refused f) h = both_refused numbered o s 1 n there first_taken named f h
 
@@ -359,7 +353,6 @@ module _ (order : Order) (end o : ℕ) (s : List ℕ) where
       zeroed t q v = after (nul q v) (λ z. Done t)
 
       text_stops : (e : Stop) → Fronts (λ (x : Unit {0}). (take n (drop 1 s), n)) (o + 1) (drop 1 s) (Err e) (text (Of kinds.Single) n) → Fronts seen (o + 1) (drop 1 s) (Err e) (named n)
-      text_stops stops.Memory h = absurd h
       text_stops stops.Partial h = ap (λ (r : Outcome (List ℕ)). after r zeroed) h
       text_stops (stops.Refused f) h = λ c. ap (λ (r : Outcome (List ℕ)). after r zeroed) (h c)
 
@@ -368,7 +361,6 @@ module _ (order : Order) (end o : ℕ) (s : List ℕ) where
 
       module _ (texted : Fronts (λ (x : Unit {0}). (take n (drop 1 s), n)) (o + 1) (drop 1 s) (Ok tt) (text (Of kinds.Single) n)) where
         nul_stops : (e : Stop) → Fronts (λ (x : Unit {0}). (tt, 1)) (o + 1 + n) (drop n (drop 1 s)) (Err e) nul → Fronts seen (o + 1) (drop 1 s) (Err e) (named n)
-        nul_stops stops.Memory h = absurd h
         nul_stops stops.Partial h = both_waits (text (Of kinds.Single) n) (o + 1) (drop 1 s) n (take n (drop 1 s)) texted.0 texted.1 zeroed (ap (λ (r : Outcome (Unit {0})). after r (λ z. Done (take n (drop 1 s)))) h)
         nul_stops (stops.Refused f) h = both_refused (text (Of kinds.Single) n) (o + 1) (drop 1 s) n (take n (drop 1 s)) texted.0 texted.1 zeroed f (λ c. ap (λ (r : Outcome (Unit {0})). after r (λ z. Done (take n (drop 1 s)))) (h c))
 

@@ -80,7 +80,6 @@ module _ (x : Values) (pos stop : ℕ) (answer : Answer) (w : Wants x pos stop a
     wants_refused s f h = front_refused (λ (n : ℕ). (tt, n)) x.offset s (padding a x.inner.end) begun answer.to padded_same f h
 
     pub wants_stops : (s : List ℕ) (e : Stop) → Fronts (λ (n : ℕ). (tt, n)) x.offset s (Err e) (padding a x.inner.end) → Moves x s (Err e) x answer
-    wants_stops s stops.Memory h = absurd h
     wants_stops s stops.Partial h = (refl, wants_waits s h)
     wants_stops s (stops.Refused f) h = wants_refused s f h
 
@@ -155,7 +154,6 @@ module _ (x : Values) (pos stop n : ℕ) (answer : Answer) (r : Ready x pos stop
     }
 
     pub number_stops : (s : List ℕ) (e : Stop) → Fronts (λ (m : ℕ). (tt, m)) (x.offset + n) s (Err e) (onward run done) → Moves x s (Err e) x answer
-    number_stops s stops.Memory h = absurd h
     number_stops s stops.Partial h = (refl, sym (number_same s) ∙ onto_partial run (rest_of answer x r.ws) (x.offset + n) s h)
     number_stops s (stops.Refused f) h = λ c. sym (number_same (s ++ c)) ∙ onto_faulty run (rest_of answer x r.ws) (x.offset + n) (s ++ c) f (h c)
 
@@ -297,7 +295,6 @@ module _ (x : Values) (pos stop n : ℕ) (answer : Answer) (r : Ready x pos stop
           ∙ ready_as (AHead (AnArray inner ready_array.0)) [] (own_array x.inner.room inner r.type ready_array.0 ready_array.1 room) (opened_array x.inner.room x.inner.end r.type ready_array.0 ready_array.1) c
 
       pub array_stops : (s : List ℕ) (e : Stop) → Fronts (λ (m : ℕ × ℕ). m) (x.offset + n) s (Err e) frame → Moves x s (Err e) x answer
-      array_stops s stops.Memory h = absurd h
       array_stops s stops.Partial h = (refl, front_waits (λ (m : ℕ × ℕ). m) (x.offset + n) s frame fill answer.to array_same h)
       array_stops s (stops.Refused f) h = front_refused (λ (m : ℕ × ℕ). m) (x.offset + n) s frame fill answer.to array_same f h
 
@@ -349,7 +346,6 @@ module _ (x : Values) (pos stop n : ℕ) (answer : Answer) (r : Ready x pos stop
     sized_same c = ready_as (AHead (ALength ready_text.0)) [] (own_text x.inner.room r.type ready_text.0 ready_text.1) (opened_text x.inner.room x.inner.end r.type ready_text.0 ready_text.1) c
 
     pub text_stops : (s : List ℕ) (e : Stop) → Fronts (λ (m : ℕ × ℕ). m) (x.offset + n) s (Err e) sized → Moves x s (Err e) x answer
-    text_stops s stops.Memory h = absurd h
     text_stops s stops.Partial h = (refl, front_waits (λ (m : ℕ × ℕ). m) (x.offset + n) s sized lettered answer.to sized_same h)
     text_stops s (stops.Refused f) h = front_refused (λ (m : ℕ × ℕ). m) (x.offset + n) s sized lettered answer.to sized_same f h
 
@@ -398,7 +394,6 @@ module _ (x : Values) (pos stop n : ℕ) (answer : Answer) (r : Ready x pos stop
           )
 
       pub text_whole_stops : (e : Stop) → Fronts named (x.offset + n + k) (drop k s) (Err e) (text (kind_of ready_text.0) size) → Moves x s (Err e) x answer
-      text_whole_stops stops.Memory f = absurd f
       text_whole_stops stops.Partial f =
           (refl, ap answer.to (sym (take-append-drop k s)) ∙ front_waits named (x.offset + n + k) (drop k s) (text (kind_of ready_text.0) size) (λ t. onward nul (rest_of answer x r.ws)) (λ c. answer.to (take k s ++ c)) letters_same f)
       text_whole_stops (stops.Refused g) f = λ c.

@@ -18,7 +18,7 @@ use Rattle.dbus_value_model.specs.declared.fault.Reason.TheVariants as reasons
 use Rattle.dbus_value_model.specs.Items.{fault, text_reason}
 use Rattle.dbus_value_model.specs.ValueItems.{number_row, text_row, array_row}
 use Rattle.dbus_value_model.specs.Reading.{Reader, Outcome, Done, Faulty, Partial, after, zeros, padding, judged, number_of, number, text, nul, up_to, contents, fields, items, signature, value, nowhere}
-use Rattle.dbus_unmarshal.proofs.KindLaws.{break_more, computed_whole}
+use Rattle.dbus_value_laws.proofs.KindLaws.{break_more, computed_whole}
 use Rattle.dbus_value_checker.specs.Suspended.{On, onward, Work, Parts, Elements, elements, work, works, Head, head_width, head_row, tail, head, own, own_of, opened_by, held_on}
 
 pub after_after : {A B C : Type 0} (r : Outcome A) (f : A → Reader B) (g : B → Reader C) → after (after r f) g ≡ after r (λ x o s. after (f x o s) g)

@@ -23,7 +23,7 @@ use Rattle.dbus_value_checker.proofs.FrontSteps.{front_taken, front_waits, front
 use Rattle.std.proofs.Common.{Ok, Err}
 use Rattle.dbus_value_checker.proofs.Suspension.{text_waits, text_breaks, text_ends, text_not}
 use Rattle.dbus_value_checker.proofs.FrameLaws.{frames_reach, frames_small, end_small, inner_of, within}
-use Rattle.dbus_unmarshal.proofs.KindLaws.{break_is, one_break, is_wanted, is_not_wanted}
+use Rattle.dbus_value_laws.proofs.KindLaws.{break_is, one_break, is_wanted, is_not_wanted}
 
 pub take_one : (s : List ℕ) (n : ℕ) (w : List ℕ) → n < length s → (w ++ take n s) ++ get_or s n 0 ∷ [] ≡ w ++ take (n + 1) s
 take_one s n w h = append_assoc w (take n s) (get_or s n 0 ∷ []) ∙ ap (λ (t : List ℕ). w ++ t) (sym (take_more s n 0 h))
@@ -174,7 +174,6 @@ module _ (x : Values) (answer : Answer) (u : Nuls x answer) where
   }
 
   pub nuls_stops : (s : List ℕ) (e : Stop) → Fronts seen x.offset s (Err e) nul → Moves x s (Err e) x answer
-  nuls_stops s stops.Memory h = absurd h
   nuls_stops s stops.Partial h = (refl, front_waits seen x.offset s nul (λ z. rest_of answer x u.ws) answer.to u.same h)
   nuls_stops s (stops.Refused f) h = front_refused seen x.offset s nul (λ z. rest_of answer x u.ws) answer.to u.same f h
 

@@ -6,7 +6,7 @@ use Rattle.dbus_texts.specs.ComputedKinds.{type_spelled}
 use Rattle.dbus_texts.specs.Kinds.{IsKind}
 use Rattle.dbus_texts.specs.declared.text_kind.TextKind.TheVariants as kinds
 use Rattle.dbus_texts.proofs.KindFacts.{shaped_of}
-use Rattle.dbus_unmarshal.proofs.KindLaws.{single_text}
+use Rattle.dbus_value_laws.proofs.KindLaws.{single_text}
 use Rattle.dbus_value_model.specs.WantedTexts.{Of}
 use Rattle.dbus_value_model.specs.declared.fault.Reason.TheVariants as reasons
 use Rattle.dbus_value_model.specs.declared.stop.Stop.{Stop}
@@ -92,7 +92,6 @@ module _ (x : Values) (pos stop : ℕ) (answer : Answer) (w : Wants x pos stop a
         ∙ subst (λ (r : ℕ). own x.bounds x.order x.inner.end (own_of r VariantType) rest x.offset c ≡ answer.to c) room (variant_same c)
 
     pub variant_stops : (s : List ℕ) (e : Stop) → Fronts (λ (n : ℕ). (take n (drop 1 s), n + 2)) x.offset s (Err e) read → Moves x s (Err e) x answer
-    variant_stops s stops.Memory h = absurd h
     variant_stops s stops.Partial h = (refl, front_waits (λ (n : ℕ). (take n (drop 1 s), n + 2)) x.offset s read held answer.to held_same h)
     variant_stops s (stops.Refused f) h = front_refused (λ (n : ℕ). (take n (drop 1 s), n + 2)) x.offset s read held answer.to held_same f h
 

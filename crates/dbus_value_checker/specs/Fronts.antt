@@ -11,13 +11,11 @@ use Rattle.dbus_value_model.specs.Reading.{Reader, Done, Faulty, Partial, number
 -- it; or a fault shows. `view` says of an answer what was read, and how many bytes were taken.
 abbrev pub Fronts : {X A : Type 0} → (X → A × ℕ) → ℕ → List ℕ → Result X Stop → Reader A → Type 0
 Fronts view o s (Ok x) run = ((view x).1 ≤ length s) × ((c : List ℕ) → run o (take (view x).1 s ++ c) ≡ Done (view x).0 (o + (view x).1) c)
-Fronts view o s (Err stops.Memory) run = ⊥
 Fronts view o s (Err stops.Partial) run = run o s ≡ Partial
 Fronts view o s (Err (stops.Refused f)) run = (c : List ℕ) → run o (s ++ c) ≡ Faulty f
 
 -- w bytes are not there
 abbrev pub Lack : ℕ → ℕ → ℕ → List ℕ → Stop → Type 0
-Lack w o end s stops.Memory = ⊥
 Lack w o end s stops.Partial = (length s < w) × (o + w ≤ end)
 Lack w o end s (stops.Refused f) = (end < o + w) × (f ≡ fault o reasons.Overrun)
 

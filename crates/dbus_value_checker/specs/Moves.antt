@@ -18,14 +18,12 @@ use Rattle.dbus_value_checker.specs.Denotations.{Answer, after_piece, Wants, Den
 -- a call that was handed the bytes s: it took so many; or they end within what is wanted, and nothing changed; or a fault shows
 abbrev pub Moves : Values → List ℕ → Result ℕ Stop → Values → Answer → Type 0
 Moves old s (Ok n) new answer = (n ≤ length s) × Denotes new (after_piece answer (take n s))
-Moves old s (Err stops.Memory) new answer = ⊥
 Moves old s (Err stops.Partial) new answer = (new ≡ old) × (answer.to s ≡ Partial)
 Moves old s (Err (stops.Refused f)) new answer = (c : List ℕ) → answer.to (s ++ c) ≡ Faulty f
 
 -- a container was opened, or a fault shows
 abbrev pub Opens : Result (Unit {0}) Stop → Values → Answer → Type 0
 Opens (Ok x) new answer = Denotes new answer
-Opens (Err stops.Memory) new answer = ⊥
 Opens (Err stops.Partial) new answer = ⊥
 Opens (Err (stops.Refused f)) new answer = (c : List ℕ) → answer.to c ≡ Faulty f
 

@@ -4,7 +4,7 @@
 //! `bytes` are those of a message from `offset` on, as far as they are there; `offset` counts from the message's first byte,
 //! and an item is to end at or before `end`. Each call gives what the item says and how many bytes it has, once all of them
 //! are there; `Partial` where the bytes end within it and show no fault; `Refused` with its first fault, whatever bytes
-//! follow. None takes memory, so none answers `Memory`.
+//! follow. None takes memory.
 #![tactic(auto)]
 
 ghost use Rattle.std.specs.Prelude.{◌≡◌, ◌+◌, ◌<◌, ◌≤◌, ◌^◌, ℕ, length, take, drop, IfOk, IfErr};

@@ -177,8 +177,7 @@ impl Values {
         while self.is_live() {
             match self.step(rest_after(bytes, n)) {
                 Ok(more) => n += more,
-                // Nothing takes memory.
-                Err(Stop::Partial | Stop::Memory) => return Ok(n),
+                Err(Stop::Partial) => return Ok(n),
                 Err(Stop::Refused(fault)) => return Err(fault),
             }
         }

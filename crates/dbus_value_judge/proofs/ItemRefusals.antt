@@ -15,7 +15,7 @@ use Rattle.dbus_value_model.specs.ValueItems.{number_row, text_row}
 use Rattle.dbus_value_model.specs.WantedTexts.{kind_of, Of}
 use Rattle.dbus_value_model.specs.Reading.{Outcome, Done, padding, number}
 use Rattle.dbus_value_model.specs.ValueReaders.{number_value, text_value, array_frame}
-use Rattle.dbus_unmarshal.proofs.Composition.{row_fits}
+use Rattle.dbus_value_laws.proofs.Composition.{row_fits}
 use Rattle.dbus_value_judge.specs.Endings.{IsNotRead, EndedText}
 use Rattle.dbus_value_judge.proofs.ReadParts.{same_done, padding_read, number_read, number_plain, number_value_read, text_value_read, frame_read}
 

@@ -16,10 +16,8 @@ use Rattle.dbus_value_model.specs.ValueItems.{number_row, text_row}
 use Rattle.dbus_value_model.specs.WantedTexts.{kind_of, Of}
 use Rattle.dbus_value_model.specs.Reading.{Done, padding, number, number_of}
 use Rattle.dbus_value_model.specs.ValueReaders.{number_value, text_value, array_frame}
-use Rattle.dbus_unmarshal.proofs.ReadSteps.{number_done, number_passes, text_fits, nul_done}
-use Rattle.dbus_unmarshal.proofs.TextSteps.{text_there}
-use Rattle.dbus_unmarshal.proofs.StringSteps.{sig_done}
-use Rattle.dbus_unmarshal.proofs.ArraySteps.{row_fits, frame_done}
+use Rattle.dbus_value_laws.proofs.ReadSteps.{number_done, number_passes, text_fits, row_fits, frame_done, nul_done}
+use Rattle.dbus_value_laws.proofs.StringSteps.{text_there, sig_done}
 use Rattle.std.proofs.lemmas.List.{length-take, length-drop}
 use Rattle.dbus_value_model.specs.FreeNumbers.{IsFree}
 use Rattle.dbus_value_judge.specs.Endings.{EndsAt, EndedText}

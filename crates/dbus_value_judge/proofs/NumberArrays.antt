@@ -9,8 +9,8 @@ use Rattle.dbus_value_model.specs.declared.order.Order.{Order}
 use Rattle.dbus_value_model.specs.Bytes.{gap_to}
 use Rattle.dbus_value_model.specs.Values.{ValueTree}
 use Rattle.dbus_value_model.specs.Reading.{Reader, Done, after, pure, padding, up_to, contents, value}
-use Rattle.dbus_unmarshal.proofs.ReadSteps.{padding_is}
-use Rattle.dbus_unmarshal.proofs.ValueSteps.{value_number}
+use Rattle.dbus_value_laws.proofs.ReadSteps.{padding_is}
+use Rattle.dbus_value_laws.proofs.ValueSteps.{value_number}
 use Rattle.dbus_value_model.specs.FreeNumbers.{IsFree}
 use Rattle.dbus_value_judge.specs.Endings.{EndsAt, IsNotRead}
 use Rattle.dbus_value_judge.proofs.ReadParts.{not_partial, not_same, not_first, not_second}

@@ -10,8 +10,8 @@ use Rattle.dbus_value_model.specs.ValueItems.{text_row}
 use Rattle.dbus_value_model.specs.WantedTexts.{Of}
 use Rattle.dbus_value_model.specs.Reading.{Reader, Done, opened, padding, number, text, signature, nul, contents, fields, value}
 use Rattle.dbus_value_model.specs.ValueReaders.{variant_value, held_value, array_frame, array_value, open_array, struct_value, open_struct, entry_value}
-use Rattle.dbus_unmarshal.proofs.Agreement.{after_done}
-use Rattle.dbus_unmarshal.proofs.Composition.{row_fits}
+use Rattle.dbus_value_laws.proofs.Agreement.{after_done}
+use Rattle.dbus_value_laws.proofs.Composition.{row_fits}
 use Rattle.dbus_value_judge.specs.Endings.{EndedText}
 use Rattle.dbus_value_judge.proofs.ReadParts.{same_done, done_at, padding_read, number_read, ended_read, frame_read}
 

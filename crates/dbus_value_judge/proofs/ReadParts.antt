@@ -18,11 +18,11 @@ use Rattle.dbus_value_model.specs.WantedTexts.{WantedText, Of, IsWanted, kind_of
 use Rattle.dbus_value_model.specs.ComputedTexts.{is_kind, break_at}
 use Rattle.dbus_value_model.specs.Reading.{Reader, Outcome, Done, Faulty, Partial, after, zeros, padding, number, number_of, judged, text, nul}
 use Rattle.dbus_value_model.specs.ValueReaders.{number_value, text_value, array_frame}
-use Rattle.dbus_unmarshal.proofs.Agreement.{after_done}
-use Rattle.dbus_unmarshal.proofs.Composition as rows
-use Rattle.dbus_unmarshal.proofs.KindLaws.{wanted_is}
-use Rattle.dbus_unmarshal.proofs.ReadSteps.{padding_is, padding_overruns, number_done, number_overrun}
-use Rattle.dbus_unmarshal.proofs.TextSteps.{text_there}
+use Rattle.dbus_value_laws.proofs.Agreement.{after_done}
+use Rattle.dbus_value_laws.proofs.Composition as rows
+use Rattle.dbus_value_laws.proofs.KindLaws.{wanted_is}
+use Rattle.dbus_value_laws.proofs.ReadSteps.{padding_is, padding_overruns, number_done, number_overrun}
+use Rattle.dbus_value_laws.proofs.StringSteps.{text_there}
 use Rattle.dbus_value_judge.specs.Endings.{IsNotRead, EndedText}
 
 -- ---- outcomes

@@ -7,10 +7,10 @@ use Rattle.dbus_value_model.specs.declared.order.Order.{Order}
 use Rattle.dbus_value_model.specs.Spelling.{Spelled, SpelledAll, spelling, spellings}
 use Rattle.dbus_value_model.specs.ValueItems as faults
 use Rattle.dbus_value_model.specs.Reading as reading
-use Rattle.dbus_unmarshal.proofs.Composition.{fields_from, fields_to}
-use Rattle.dbus_unmarshal.proofs.ValueItemLaws.{Agrees-value, value_inside, agrees_fields}
-use Rattle.dbus_unmarshal.proofs.ValueOutcomes.{reads_spelled}
-use Rattle.dbus_unmarshal.proofs.ValueSteps.{bytes_at}
+use Rattle.dbus_value_laws.proofs.Composition.{fields_from, fields_to}
+use Rattle.dbus_value_laws.proofs.ValueItemLaws.{Agrees-value, value_inside, agrees_fields}
+use Rattle.dbus_value_laws.proofs.ValueOutcomes.{reads_spelled}
+use Rattle.dbus_value_laws.proofs.ReadSteps.{bytes_at}
 use Rattle.dbus_value_judge.specs.Endings.{EndsAt, IsNotRead, IsSpelledTo, AreSpelledTo, IsNotSpelled, AreNotSpelled}
 
 pub spelled_to : (bounds : Bounds) (order : Order) (room end : ℕ) (ts : TypeTrees) (at after : ℕ) (bytes : List ℕ) → AreShaped ts → at ≤ end → ((i : ℕ) → get_or bytes i 0 < 256)

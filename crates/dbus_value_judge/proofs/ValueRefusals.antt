@@ -9,8 +9,8 @@ use Rattle.dbus_value_model.specs.Values.{ValueTree, NoValues, MoreValues}
 use Rattle.dbus_value_model.specs.ValueItems.{text_row}
 use Rattle.dbus_value_model.specs.Reading.{Done, padding, number, contents, fields, value}
 use Rattle.dbus_value_model.specs.ValueReaders.{number_value, text_value, variant_value, array_frame, array_value, struct_value, entry_value}
-use Rattle.dbus_unmarshal.proofs.KindLaws.{single_text}
-use Rattle.dbus_unmarshal.proofs.ValueSteps.{value_number, value_text, value_variant, value_array, value_struct, value_entry, single_shaped}
+use Rattle.dbus_value_laws.proofs.KindLaws.{single_text}
+use Rattle.dbus_value_laws.proofs.ValueSteps.{value_number, value_text, value_variant, value_array, value_struct, value_entry, single_shaped}
 use Rattle.dbus_value_judge.specs.Endings.{IsNotRead, EndedText}
 use Rattle.dbus_value_judge.proofs.ReadParts.{not_same}
 use Rattle.dbus_value_judge.proofs.ReadContainers.{ReadArray, variant_read, array_read, struct_read, entry_read}

@@ -12,9 +12,9 @@ use Rattle.dbus_value_model.specs.Values.{ValueTree, NoValues, MoreValues, Varia
 use Rattle.dbus_value_model.specs.ValueItems.{text_row}
 use Rattle.dbus_value_model.specs.Reading.{Reader, Done, Partial, after, pure, padding, number, up_to, contents, fields, value}
 use Rattle.dbus_value_model.specs.ValueReaders.{number_value, text_value, variant_value, held_value, array_frame, array_value, struct_value, entry_value}
-use Rattle.dbus_unmarshal.proofs.Agreement.{after_done}
-use Rattle.dbus_unmarshal.proofs.KindLaws.{single_text}
-use Rattle.dbus_unmarshal.proofs.ValueSteps.{value_number, value_text, value_variant, value_array, value_struct, value_entry, variant_opens, array_opens, open_done, struct_done, with_front, front_none, goes_on_at, ends_in, shaped_inside, single_shaped}
+use Rattle.dbus_value_laws.proofs.Agreement.{after_done}
+use Rattle.dbus_value_laws.proofs.KindLaws.{single_text}
+use Rattle.dbus_value_laws.proofs.ValueSteps.{value_number, value_text, value_variant, value_array, value_struct, value_entry, variant_opens, array_opens, open_done, struct_done, with_front, front_none, goes_on_at, ends_in, shaped_inside, single_shaped}
 use Rattle.dbus_types.specs.SignatureCodes.{IsTypeEnd}
 use Rattle.dbus_value_judge.specs.Endings.{EndsAt, IsNotRead, EndedText}
 use Rattle.dbus_value_judge.proofs.ReadParts.{not_partial, not_same, not_first, not_second, done_at}

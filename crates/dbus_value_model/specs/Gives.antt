@@ -5,9 +5,8 @@ use Rattle.dbus_value_model.specs.Reading as reading
 use Rattle.dbus_value_model.specs.declared.stop.Stop.{Stop}
 use Rattle.dbus_value_model.specs.declared.stop.Stop.TheVariants as stops
 
--- reading stops so too; memory may be refused anywhere
+-- reading stops so too
 abbrev pub Stops : {A : Type 0} → Stop → Outcome A → Type 0
-Stops stops.Memory read = Unit {0}
 Stops stops.Partial read = read ≡ reading.Partial
 Stops (stops.Refused f) read = read ≡ reading.Faulty f
 

@@ -1,6 +1,6 @@
 -- Reading from left to right: the same answers as the relations of Items and ValueItems give, computed, plain and slow. It is the bridge
--- from the relations to the code. Of public contracts only those of `Order` and of the modules `items` and `texts` name it, from which
--- values and messages are read; `get` and `decode` say the relations.
+-- from the relations to the code. Of public contracts only those of `Order`, of the fixed header and of the parts that values and
+-- messages are judged and checked by name it; what judges, checks and reads them whole says the relations.
 -- D-Bus Specification, "Marshaling (Wire Format)".
 use Rattle.std.specs.Prelude.{ℕ, zero, suc, ◌+◌, ◌*◌, List, [], ◌∷◌, length, take, drop, reverse, if◌then◌else◌, nat_lt, nat_eq, Option, Some, None}
 use Rattle.dbus_texts.specs.Types.{TypeTree, NumberType, TextType, VariantType, ArrayType, StructType, EntryType, TypeTrees, NoTypes, MoreTypes}

@@ -1,4 +1,4 @@
--- The computed reading of a value, one definition for each function of the code that reads one.
+-- The computed reading of a value, in the parts that the code judges and checks.
 -- D-Bus Specification, "Marshaling (Wire Format)".
 use Rattle.std.specs.Prelude.{ℕ, ◌-◌, Option}
 use Rattle.dbus_texts.specs.Types.{NumberCode, TextCode, TypeTree, TypeTrees}

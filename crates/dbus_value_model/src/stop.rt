@@ -1,38 +1,19 @@
-//! Why reading stops before a value is whole.
+//! Why reading stops before what is wanted is whole.
 #![tactic(auto)]
 
 ghost use Rattle.std.specs.Prelude.{◌≡◌, Err};
 ghost use Rattle.dbus_value_model.specs.Items.{fault};
-ghost use Rattle.dbus_value_model.specs.declared.stop.Stop.TheVariants.{Memory, Refused};
+ghost use Rattle.dbus_value_model.specs.declared.stop.Stop.TheVariants.{Refused};
 
 use crate::fault::{Fault, Reason};
-use std::alloc::{AllocError, AllocFailed};
 
 /// Why reading stops before what is wanted is whole.
 #[derive(Clone, Copy, PartialEq, Eq, Debug)]
 pub enum Stop {
-    /// A growth of memory was refused.
-    Memory,
     /// The bytes given end here, and show no fault.
     Partial,
     /// The bytes are refused.
     Refused(Fault),
-}
-
-impl From<AllocError> for Stop {
-    ghost from_gives = { λ _ e. e ≡ Memory };
-
-    fn from(_: AllocError) -> Self {
-        Stop::Memory
-    }
-}
-
-impl<T: Drop> From<AllocFailed<T>> for Stop {
-    ghost from_gives = { λ _ e. e ≡ Memory };
-
-    fn from(_: AllocFailed<T>) -> Self {
-        Stop::Memory
-    }
 }
 
 /// The answer that the bytes at a place are refused.

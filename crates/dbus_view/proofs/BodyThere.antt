@@ -2,7 +2,7 @@
 use Rattle.std.proofs.Common.{◌≡◌, ℕ, ◌^◌, ◌<◌, List, [], ◌∷◌, length, take_all, refl, sym, ap, subst, ◌∙◌, arith}
 use Rattle.dbus_value_model.specs.declared.limits.Limits.{Limits}
 use Rattle.dbus_message_model.specs.Messages.{field_array, body_start, body_signature, message_bytes}
-use Rattle.dbus_decode.proofs.OutcomeLaws.{whole_bytes}
+use Rattle.dbus_header.proofs.OutcomeLaws.{whole_bytes}
 use Rattle.dbus_judge.specs.declared.judging.Judged.{Judged}
 use Rattle.dbus_judge.specs.Judging.{IsJudgedWhole}
 use Rattle.dbus_walk.proofs.MessageParts.{fields_stand, body_stands, body_few}

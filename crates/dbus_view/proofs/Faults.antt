@@ -1,7 +1,7 @@
 -- What a checker says of bytes that begin with no message, and does not refuse.
 use Rattle.std.proofs.Common.{◌≡◌, ◌⊎◌, ◌+◌, inl, inr, ℕ, List, []}
 use Rattle.dbus_value_model.specs.declared.limits.Limits.{Limits}
-use Rattle.dbus_decode.specs.MessageOutcomes.{IsPartial}
+use Rattle.dbus_header.specs.MessageOutcomes.{IsPartial}
 use Rattle.dbus_check.specs.Checks.{Takes}
 use Rattle.dbus_check.specs.declared.check.Check.{Check}
 use Rattle.dbus_check.specs.declared.check.Check.TheVariants as check

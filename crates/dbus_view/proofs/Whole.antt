@@ -4,8 +4,8 @@ use Rattle.dbus_value_model.specs.declared.limits.Limits.{Limits}
 use Rattle.dbus_value_model.specs.declared.order.Order.{Order}
 use Rattle.dbus_message_model.specs.Messages.{MessageTree, IsMessage, body_start, body_bytes}
 use Rattle.dbus_message_model.proofs.MessageLengths.{message_length}
-use Rattle.dbus_decode.specs.MessageOutcomes.{IsWhole}
-use Rattle.dbus_decode.proofs.OutcomeLaws.{one_whole}
+use Rattle.dbus_header.specs.MessageOutcomes.{IsWhole}
+use Rattle.dbus_header.proofs.OutcomeLaws.{one_whole}
 use Rattle.dbus_judge.specs.declared.judging.Judged.{Judged}
 use Rattle.dbus_judge.specs.Judging.{IsJudgedWhole}
 use Rattle.dbus_view.specs.Views.{ViewState, Views, ViewsOne}

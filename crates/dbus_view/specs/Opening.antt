@@ -7,7 +7,7 @@ use Rattle.dbus_value_model.specs.declared.limits.Limits.{Limits}
 use Rattle.dbus_value_model.specs.declared.order.Order.{Order}
 use Rattle.dbus_value_model.specs.Items.{fault}
 use Rattle.dbus_message_model.specs.Messages.{MessageTree}
-use Rattle.dbus_decode.specs.MessageOutcomes.{IsWhole, IsRefused, IsPartial}
+use Rattle.dbus_header.specs.MessageOutcomes.{IsWhole, IsRefused, IsPartial}
 
 -- they are refused with the fault; or they are partial, and end too soon at their end; or they begin with a message after which
 -- others stand, the first of them at the message's end

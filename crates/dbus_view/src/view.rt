@@ -8,7 +8,7 @@ ghost use Rattle.dbus_value_model.specs.declared.order.Order.{Order};
 ghost use Rattle.dbus_value_model.specs.Specification.{specification};
 ghost use Rattle.dbus_message_model.specs.Messages.{MessageTree, want};
 ghost use Rattle.dbus_message_model.specs.Lookups.{field_value, body_value};
-ghost use Rattle.dbus_decode.specs.MessageOutcomes.{IsWhole};
+ghost use Rattle.dbus_header.specs.MessageOutcomes.{IsWhole};
 ghost use Rattle.dbus_judge.specs.Judging.{IsJudged};
 
 use crate::arg::{arg_at, place_of, view_of};

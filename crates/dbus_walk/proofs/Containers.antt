@@ -10,8 +10,8 @@ use Rattle.dbus_value_model.specs.declared.order.Order.{Order}
 use Rattle.dbus_value_model.specs.Spelling.{spelling, spellings, contents_start, ended_text, IsWithinLimits}
 use Rattle.dbus_value_model.specs.Values.{ValueTree, ValueTrees, NumberValue, TextValue, VariantValue, ArrayValue, StructValue, EntryValue, type_of, AllOf, IsWellFormed, AreWellFormed}
 use Rattle.dbus_value_model.proofs.Numbers.{length-num}
-use Rattle.dbus_unmarshal.proofs.ReadSteps.{one_byte}
-use Rattle.dbus_unmarshal.proofs.ValueSteps.{single_shaped}
+use Rattle.dbus_value_laws.proofs.ReadSteps.{one_byte}
+use Rattle.dbus_value_laws.proofs.ValueSteps.{single_shaped}
 use Rattle.dbus_types.specs.SignatureCodes.{first_code}
 use Rattle.dbus_types.proofs.TypeCodes.{begins, code_is, variant_is, array_is}
 use Rattle.dbus_walk.specs.Standing.{Stands, ElementsStand}

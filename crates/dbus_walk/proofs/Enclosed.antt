@@ -7,7 +7,7 @@ use Rattle.dbus_value_model.specs.declared.limits.Bounds.{Bounds}
 use Rattle.dbus_value_model.specs.declared.order.Order.{Order}
 use Rattle.dbus_value_model.specs.Spelling.{spelling, spellings, IsWithinLimits}
 use Rattle.dbus_value_model.specs.Values.{ValueTree, ValueTrees, NoValues, MoreValues, NumberValue, TextValue, VariantValue, ArrayValue, StructValue, EntryValue, type_of, types_of, IsWellFormed, AreWellFormed}
-use Rattle.dbus_unmarshal.proofs.ValueItemLaws.{positive}
+use Rattle.dbus_value_laws.proofs.ValueItemLaws.{positive}
 use Rattle.dbus_types.proofs.TypeCodes.{struct_is, entry_is, struct_shaped, entry_shaped, within}
 use Rattle.dbus_walk.specs.declared.container.Container.{Container}
 use Rattle.dbus_walk.specs.declared.container.Container.TheVariants as kind

@@ -1,19 +1,19 @@
 -- Header fields that stand in the bytes, taken apart, and one after another.
 use Rattle.std.proofs.Common.{◌≡◌, ℕ, ◌+◌, ◌-◌, ◌<◌, ◌≤◌, List, [], ◌∷◌, ◌++◌, length, get_or, take, drop, map, refl, sym, ap, subst, ◌∙◌, arith, append_assoc}
 use Rattle.std.proofs.lemmas.List.{length-append, append-nil}
-use Rattle.dbus_texts.specs.Types.{BYTE}
+use Rattle.dbus_texts.specs.Types.{BYTE, IsSingleType}
 use Rattle.dbus_types.proofs.TypeCodes.{boundary_by}
 use Rattle.dbus_types.proofs.TypeEnds.{ends_there}
 use Rattle.dbus_value_model.specs.Bytes.{gap_to}
 use Rattle.dbus_value_model.specs.Reading.{number_of}
 use Rattle.dbus_value_model.specs.Spelling.{spelling, spellings}
-use Rattle.dbus_value_model.specs.Values.{ValueTree, ValueTrees, NoValues, MoreValues, NumberValue, VariantValue, value_trees}
+use Rattle.dbus_value_model.specs.Values.{ValueTree, ValueTrees, NoValues, MoreValues, NumberValue, VariantValue, value_trees, type_of}
 use Rattle.dbus_message_model.specs.Messages.{FieldTree, field_struct}
-use Rattle.dbus_unmarshal.proofs.ReadSteps.{one_byte}
+use Rattle.dbus_value_laws.proofs.ReadSteps.{one_byte}
 use Rattle.dbus_walk.specs.Fields.{FieldsStand, FieldsLeft, FieldStands, field_types, field_end}
 use Rattle.dbus_walk.specs.Standing.{Stands, AllStand, ElementsStand}
 use Rattle.dbus_walk.specs.declared.spot.Source.{Source}
-use Rattle.dbus_walk.proofs.Containers.{variant_stands, variant_held, variant_ends, array_stands, array_found, elements_there}
+use Rattle.dbus_walk.proofs.Containers.{formed_variant, variant_stands, variant_held, variant_ends, array_stands, array_found, elements_there}
 use Rattle.dbus_walk.proofs.Enclosed.{struct_stands, enclosed_there, enclosed_ends, stands_positive}
 use Rattle.dbus_walk.proofs.Lists.{none_ends, some_ends, first_element, other_elements, first_value, other_values}
 use Rattle.dbus_walk.proofs.Parts.{no_gap, number_of_width, number_ends}
@@ -72,6 +72,7 @@ module _ (source : Source) (room at : ℕ) (f : FieldTree) (rest : List ℕ) (s 
     pub deep : 3 ≤ room
     pub code : get_or bytes start 0 ≡ f.code
     pub few : n < 256
+    pub single : IsSingleType (type_of f.value)
     pub inside : start + 1 + 1 + n + 1 ≤ length bytes
     pub value : Stands source.order (room - 3) (take (start + 1 + 1 + n - (start + 1 + 1)) (drop (start + 1 + 1) bytes)) (start + 1 + 1 + n + 1) bytes f.value rest
     pub ends : start + 1 + 1 + n + 1 + length (spelling source.order (start + 1 + 1 + n + 1) f.value) ≡ field_end source at f
@@ -91,6 +92,7 @@ module _ (source : Source) (room at : ℕ) (f : FieldTree) (rest : List ℕ) (s 
         deep = deep;
         code = coded.code;
         few = omega (arith, count, v.few);
+        single = (formed_variant (room - 1 - 1) f.value coded.held.formed).1;
         inside = omega (arith, count, v.inside);
         value = subst (λ (u : ValueTree). Stands source.order (room - 3) types q bytes u rest) same
             (subst (λ (r : ℕ). Stands source.order r types q bytes v.x rest) less (variant_held coded.held v n count));

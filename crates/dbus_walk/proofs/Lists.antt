@@ -5,7 +5,7 @@ use Rattle.dbus_texts.specs.Types.{sig, sigs, IsShaped}
 use Rattle.dbus_value_model.specs.declared.order.Order.{Order}
 use Rattle.dbus_value_model.specs.Spelling.{spelling, spellings}
 use Rattle.dbus_value_model.specs.Values.{ValueTree, ValueTrees, NoValues, MoreValues, type_of, types_of}
-use Rattle.dbus_unmarshal.proofs.ValueSteps.{shaped_inside}
+use Rattle.dbus_value_laws.proofs.ValueSteps.{shaped_inside}
 use Rattle.dbus_types.specs.SignatureCodes.{IsTypeEnd}
 use Rattle.dbus_walk.specs.Standing.{Stands, AllStand, ElementsStand}
 use Rattle.dbus_walk.proofs.Enclosed.{stands_positive}

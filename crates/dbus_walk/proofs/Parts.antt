@@ -10,7 +10,7 @@ use Rattle.dbus_value_model.specs.declared.order.Order.{Order}
 use Rattle.dbus_value_model.specs.Spelling.{spelling}
 use Rattle.dbus_value_model.specs.Values.{ValueTree, NumberValue, TextValue, VariantValue, ArrayValue, StructValue, EntryValue, type_of, IsWellFormed}
 use Rattle.dbus_value_model.proofs.Numbers.{length-num}
-use Rattle.dbus_unmarshal.proofs.ReadSteps.{one_byte}
+use Rattle.dbus_value_laws.proofs.ReadSteps.{one_byte}
 use Rattle.dbus_types.specs.SignatureCodes.{first_code}
 use Rattle.dbus_types.proofs.TypeCodes.{code_is, text_is}
 use Rattle.dbus_walk.specs.Standing.{Stands}

@@ -11,7 +11,7 @@ use Rattle.dbus_value_model.specs.Reading.{number_of}
 use Rattle.dbus_value_model.specs.declared.order.Order.{Order}
 use Rattle.dbus_value_model.specs.Values.{ValueTree, TextValue, IsNumber, IsWellFormed}
 use Rattle.dbus_value_model.proofs.Numbers.{length-num}
-use Rattle.dbus_unmarshal.proofs.StringSteps.{utf8_signature}
+use Rattle.dbus_value_laws.proofs.StringSteps.{utf8_signature}
 use Rattle.dbus_walk.specs.Standing.{Stands}
 use Rattle.dbus_walk.proofs.NumberFacts.{number_there}
 use Rattle.dbus_walk.proofs.Parts.{NumberStands, TextStands}

@@ -1,8 +1,9 @@
 -- Header fields as they stand among a message's bytes.
 -- D-Bus Specification, "Message Format" and "Header Fields".
 use Rattle.std.specs.Prelude.{◌≡◌, ℕ, ◌+◌, ◌-◌, ◌<◌, ◌≤◌, List, [], ◌∷◌, length, map}
+use Rattle.dbus_texts.specs.Types.{IsSingleType}
 use Rattle.dbus_value_model.specs.Spelling.{spelling}
-use Rattle.dbus_value_model.specs.Values.{value_trees}
+use Rattle.dbus_value_model.specs.Values.{value_trees, type_of}
 use Rattle.dbus_message_model.specs.Messages.{FieldTree, field_struct, field_array}
 use Rattle.dbus_walk.specs.Standing.{Stands, ElementsStand}
 use Rattle.dbus_walk.specs.declared.fields.FieldSpot.{FieldSpot}
@@ -30,9 +31,10 @@ pub record FieldStands (source : Source) (room at : ℕ) (f : FieldTree) (rest :
 abbrev pub field_end : Source → ℕ → FieldTree → ℕ
 field_end source at f = at + length (spelling source.order at (field_struct f))
 
--- the field that stands at an offset has this code, and its value stands here
+-- the field that stands at an offset has this code, and its value, of a single complete type, stands here
 pub record IsFieldAt (source : Source) (at : ℕ) (f : FieldTree) (rest : List ℕ) (spot : FieldSpot) : Type 0 where
   pub code : f.code ≡ spot.code
   pub few : length spot.types.now ≤ 255
+  pub single : IsSingleType (type_of f.value)
   pub value : Stands source.order spot.room spot.types.now spot.at source.bytes.now f.value rest
   pub ends : spot.at + length (spelling source.order spot.at f.value) ≡ field_end source at f

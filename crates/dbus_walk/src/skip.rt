@@ -97,7 +97,7 @@ impl Visitor for Skip {
     }
 
     #[inline]
-    fn open(&mut self, _kind: Container, _length: usize) -> Result<(), Infallible> {
+    fn open(&mut self, _kind: Container, _types: &[u8], _length: usize) -> Result<(), Infallible> {
         Ok(())
     }
 

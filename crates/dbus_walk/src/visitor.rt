@@ -2,18 +2,20 @@
 #![tactic(auto)]
 
 ghost use Rattle.std.specs.Prelude.{◌≡◌, ℕ, ◌+◌, ◌<◌, ◌∷◌, ◌⊎◌, List, [], ◌++◌, length, take, drop, slice_index, Bool, true, false, IfOk};
-ghost use Rattle.dbus_texts.specs.Types.{TypeTree};
+ghost use Rattle.dbus_texts.specs.Kinds.{IsKind};
+ghost use Rattle.dbus_texts.specs.Types.{TypeTree, sigs};
+ghost use Rattle.dbus_texts.specs.declared.text_kind.TextKind.TheVariants.{Single};
 ghost use Rattle.dbus_types.specs.Alignments.{alignment_of};
 ghost use Rattle.dbus_types.specs.SignatureCodes.{first_code};
 ghost use Rattle.dbus_value_model.specs.Bytes.{gap_to};
 ghost use Rattle.dbus_value_model.specs.Reading.{number_of};
 ghost use Rattle.dbus_value_model.specs.declared.order.Order.{Order};
 ghost use Rattle.dbus_value_model.specs.Spelling.{spellings};
-ghost use Rattle.dbus_value_model.specs.Values.{ValueTree, ValueTrees, value_trees};
+ghost use Rattle.dbus_value_model.specs.Values.{ValueTree, ValueTrees, types_of, value_trees};
 ghost use Rattle.dbus_walk.specs.Widths.{number_width};
 ghost use Rattle.dbus_walk.specs.Standing.{StandsAt, StandsThere};
 ghost use Rattle.dbus_walk.specs.declared.container.Container.{Container};
-ghost use Rattle.dbus_walk.specs.declared.container.Container.TheVariants.{Array};
+ghost use Rattle.dbus_walk.specs.declared.container.Container.TheVariants.{Array, Variant};
 ghost use Rattle.dbus_walk.specs.Containers.{IsOf, inside, parts, is_none};
 
 use crate::container::Container;
@@ -153,12 +155,19 @@ pub trait Visitor {
         ensures takes { (v : ValueTree) (rest : List ℕ) → StandsAt source.now spot.now v rest →
             IfOk result (λ r. opens self.old source.now.order spot.now.at v r self.new) };
 
-    /// Opens a variant, a struct or a dict entry of a message of `length` bytes.
-    fn open(&mut self, kind: Container, length: usize) -> Result<Self::Many, Self::Stop>
+    /// Opens a variant, a struct or a dict entry of a message of `length` bytes. `types` are those of its parts.
+    fn open(
+        &mut self,
+        kind: Container,
+        types: &[u8],
+        length: usize,
+    ) -> Result<Self::Many, Self::Stop>
         requires ready { ready self.old length }
         requires kind { kind ≡ Array → ⊥ }
+        requires single { kind ≡ Variant → IsKind Single types.now }
         ensures ready { ready self.new length }
         ensures takes { (order : Order) (at : ℕ) (v : ValueTree) → IsOf kind v →
+            sigs (types_of (parts v)) ≡ types.now →
             IfOk result (λ r. opens self.old order at v r self.new) };
 
     /// Closes a container, of whose parts this was gathered.

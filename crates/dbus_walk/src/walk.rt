@@ -6,13 +6,15 @@
 #![tactic(auto)]
 
 ghost use Rattle.std.specs.Prelude.{◌≡◌, ℕ, ◌+◌, ◌≤◌, List, length, IfOk};
+ghost use Rattle.dbus_texts.specs.Kinds.{IsKind};
+ghost use Rattle.dbus_texts.specs.declared.text_kind.TextKind.TheVariants.{Single};
 ghost use Rattle.dbus_types.specs.TypeLengths.{AreLengths};
 ghost use Rattle.dbus_value_model.specs.Spelling.{spellings};
 ghost use Rattle.dbus_value_model.specs.Values.{ValueTree, ValueTrees, VariantValue, value_trees};
 ghost use Rattle.dbus_walk.specs.Containers.{IsOf, inside, parts};
 ghost use Rattle.dbus_walk.specs.Layouts.{IsVariantAt, IsArrayAt, IsRunAt, of_parts};
 ghost use Rattle.dbus_walk.specs.Standing.{AllStand, StandsAt, StandsThere, AllStandAt, AllStandThere, ElementsStandAt, ElementsStandThere, end_of, end_of_all};
-ghost use Rattle.dbus_walk.specs.declared.container.Container.TheVariants.{Array};
+ghost use Rattle.dbus_walk.specs.declared.container.Container.TheVariants.{Array, Variant};
 
 use crate::container::Container;
 use crate::layouts::layout;
@@ -109,7 +111,7 @@ fn noted_variant<V: Visitor>(
 ) -> Result<(V::One, usize), V::Stop>
     requires ready { V.ready visitor.old (length source.now.bytes.now) }
     requires stands { StandsThere source.now held.now }
-    requires few { length held.now.types.now ≤ 255 }
+    requires single { IsKind Single held.now.types.now }
     ensures ready { V.ready visitor.new (length source.now.bytes.now) }
     ensures walked { (begin : ℕ) (x : ValueTree) (rest : List ℕ) → StandsAt source.now held.now x rest →
         held.now.at ≡ inside source.now.order begin (VariantValue x) →
@@ -133,6 +135,7 @@ fn variant_of<V: Visitor>(
 ) -> Result<(V::One, usize), V::Stop>
     requires ready { V.ready visitor.old (length source.now.bytes.now) }
     requires stands { StandsThere source.now held.now }
+    requires single { IsKind Single held.now.types.now }
     requires noted { AreLengths held.now.types.now held.now.lengths.now }
     ensures ready { V.ready visitor.new (length source.now.bytes.now) }
     ensures walked { (begin : ℕ) (x : ValueTree) (rest : List ℕ) → StandsAt source.now held.now x rest →
@@ -140,7 +143,7 @@ fn variant_of<V: Visitor>(
         IfOk result (λ r. V.one visitor.old source.now.order begin (VariantValue x) r.0 visitor.new ×
         (r.1 ≡ end_of source.now held.now x)) }
 {
-    let none = visitor.open(Container::Variant, source.bytes.len())?;
+    let none = visitor.open(Container::Variant, held.types, source.bytes.len())?;
     visitor.part(true, source.bytes.len());
     let (one, after) = walk_value(visitor, source, held)?;
     let many = visitor.push(none, one, source.bytes.len())?;
@@ -235,6 +238,7 @@ fn brackets<V: Visitor>(
     requires noted { AreLengths spot.now.types.now spot.now.lengths.now }
     requires long { 2 ≤ length spot.now.types.now }
     requires kind { kind ≡ Array → ⊥ }
+    requires bracketed { kind ≡ Variant → ⊥ }
     ensures ready { V.ready visitor.new (length source.now.bytes.now) }
     ensures walked { (v : ValueTree) (rest : List ℕ) → IsOf kind v → start ≡ inside source.now.order spot.now.at v →
         AllStand source.now.order room (of_parts spot.now.types.now) start source.now.bytes.now (parts v) rest →
@@ -247,7 +251,7 @@ fn brackets<V: Visitor>(
         lengths: &spot.lengths[1..spot.types.len() - 1],
         room,
     };
-    let none = visitor.open(kind, source.bytes.len())?;
+    let none = visitor.open(kind, held.types, source.bytes.len())?;
     let (many, after) = walk_values(visitor, none, source, &held)?;
     let closed = visitor.close(kind, many, source.bytes.len())?;
     Ok((closed, after))

@@ -4,7 +4,7 @@ use Rattle.dbus_texts.specs.ComputedKinds.{types_spelled}
 use Rattle.dbus_texts.specs.Kinds.{IsKind}
 use Rattle.dbus_texts.specs.Types.{TypeTrees, sigs, AreShaped}
 use Rattle.dbus_texts.specs.declared.text_kind.TextKind.TheVariants as kinds
-use Rattle.dbus_unmarshal.proofs.KindLaws.{signature_text}
+use Rattle.dbus_value_laws.proofs.KindLaws.{signature_text}
 use Rattle.dbus_value_model.specs.declared.limits.Bounds.{Bounds}
 use Rattle.dbus_value_model.specs.declared.order.Order.{Order}
 use Rattle.dbus_value_checker.specs.declared.values.Values.{Values}

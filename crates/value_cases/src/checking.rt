@@ -23,7 +23,7 @@ fn begin(values: &mut Values, asked: Asked<'_>) -> bool
         limits,
         fds,
     } = asked;
-    if at > end || end >= 1 << 32 || open > limits.depth {
+    if at > end || open > limits.depth {
         return false;
     }
     let bounds = limits.bounds_with(fds);

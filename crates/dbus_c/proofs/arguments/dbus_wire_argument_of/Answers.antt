@@ -2,8 +2,8 @@ use Rattle.std.proofs.Common.{◌≡◌, ℕ, List, length, take, sym, ap, subst
 use Rattle.dbus_value_model.specs.declared.limits.Limits.{Limits}
 use Rattle.dbus_message_model.specs.Lookups.{body_value}
 use Rattle.dbus_message_model.specs.Messages.{MessageTree}
-use Rattle.dbus_decode.specs.MessageOutcomes.{IsWhole}
-use Rattle.dbus_decode.proofs.OutcomeLaws.{one_whole}
+use Rattle.dbus_header.specs.MessageOutcomes.{IsWhole}
+use Rattle.dbus_header.proofs.OutcomeLaws.{one_whole}
 use Rattle.dbus_view.specs.Bodies.{IsPlaceThere}
 use Rattle.dbus_c.specs.GivenLimits.{limits_of}
 use Rattle.dbus_c.proofs.arguments.dbus_wire_argument_of.Goals as goal

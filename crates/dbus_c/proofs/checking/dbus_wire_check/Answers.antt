@@ -1,6 +1,6 @@
 use Rattle.std.proofs.Common.{subst}
 use Rattle.dbus_value_model.specs.declared.limits.Limits.{Limits}
-use Rattle.dbus_decode.specs.MessageOutcomes.{IsWhole}
+use Rattle.dbus_header.specs.MessageOutcomes.{IsWhole}
 use Rattle.dbus_c.specs.Checking.{Tells}
 use Rattle.dbus_c.specs.GivenLimits.{limits_of}
 use Rattle.dbus_c.proofs.Telling.{some_there, done_told, done_exact}

@@ -1,6 +1,6 @@
 use Rattle.std.proofs.Common.{take, refl, sym, subst, ◌∙◌}
 use Rattle.dbus_value_model.specs.declared.limits.Limits.{Limits}
-use Rattle.dbus_decode.specs.MessageOutcomes.{IsWhole}
+use Rattle.dbus_header.specs.MessageOutcomes.{IsWhole}
 use Rattle.dbus_c.proofs.Fronts.{first_whole, first_body_length, first_body}
 use Rattle.dbus_c.proofs.parts.dbus_wire_parts_of.Goals as goal
 

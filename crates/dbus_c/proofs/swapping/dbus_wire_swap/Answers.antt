@@ -2,7 +2,7 @@ use Rattle.std.proofs.Common.{◌++◌, drop, refl, ap, subst, ◌∙◌, arith}
 use Rattle.dbus_value_model.specs.declared.limits.Limits.{Limits}
 use Rattle.dbus_value_model.specs.declared.order.Order.{Order}
 use Rattle.dbus_message_model.specs.Messages.{message_bytes}
-use Rattle.dbus_decode.specs.MessageOutcomes.{IsWhole}
+use Rattle.dbus_header.specs.MessageOutcomes.{IsWhole}
 use Rattle.dbus_judge.specs.Judging.{BeginsWithNone}
 use Rattle.dbus_c.specs.Checking.{Tells}
 use Rattle.dbus_c.specs.GivenLimits.{limits_of}

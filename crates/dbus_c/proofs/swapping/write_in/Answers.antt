@@ -2,7 +2,7 @@ use Rattle.std.proofs.Common.{◌≡◌, ℕ, List, ◌++◌, drop, sym, ap, ◌
 use Rattle.std.proofs.lemmas.List.{length-take}
 use Rattle.dbus_value_model.specs.declared.order.Order.{Order}
 use Rattle.dbus_message_model.specs.Messages.{message_bytes}
-use Rattle.dbus_decode.proofs.OutcomeLaws.{whole_bytes, whole_inside}
+use Rattle.dbus_header.proofs.OutcomeLaws.{whole_bytes, whole_inside}
 use Rattle.dbus_swap.specs.Turning.{other}
 use Rattle.dbus_c.proofs.Swapped.{one_order, other_order}
 use Rattle.dbus_c.proofs.swapping.write_in.Goals as goal

@@ -1,7 +1,7 @@
 use Rattle.std.proofs.Common.{ℕ, ◌+◌, List, length, take, drop, Ok, Err, refl, ap, subst, arith}
 use Rattle.std.proofs.lemmas.List.{length-drop}
 use Rattle.dbus_value_model.specs.WantedTexts.{Of}
-use Rattle.dbus_decode.specs.MessageItems.{name_row}
+use Rattle.dbus_header.specs.MessageItems.{name_row}
 use Rattle.dbus_value_checker.specs.Fronts.{Fronts}
 use Rattle.dbus_check.specs.Fields.{counted_text}
 use Rattle.dbus_check.proofs.FieldSteps.{name_padding_stops, name_stops, name_there}

@@ -1,6 +1,6 @@
 use Rattle.std.proofs.Common.{ℕ, ◌+◌, arith}
 use Rattle.dbus_value_model.specs.declared.fault.Reason.TheVariants as reasons
-use Rattle.dbus_decode.specs.MessageItems.{name_row}
+use Rattle.dbus_header.specs.MessageItems.{name_row}
 use Rattle.dbus_value_checker.proofs.FrontSteps.{lacks_number, number_taken, number_refused}
 use Rattle.dbus_check.proofs.FieldSteps.{name_fits, name_past, name_long}
 use Rattle.dbus_check.proofs.field_fronts.name_length_front.Goals as goal

@@ -2,7 +2,7 @@ use Rattle.std.proofs.Common.{ℕ, ◌+◌, List, length, take, drop, Ok, Err, r
 use Rattle.std.proofs.lemmas.List.{length-drop}
 use Rattle.dbus_value_model.specs.Reading.{text, nul}
 use Rattle.dbus_value_model.specs.WantedTexts.{Of}
-use Rattle.dbus_decode.specs.MessageItems.{name_row}
+use Rattle.dbus_header.specs.MessageItems.{name_row}
 use Rattle.dbus_value_checker.specs.Fronts.{Fronts}
 use Rattle.dbus_check.proofs.FieldSteps.{length_stops, text_stops, nul_stops, text_there}
 use Rattle.dbus_check.proofs.field_fronts.name_text_front.Goals as goal

@@ -4,7 +4,7 @@ use Rattle.dbus_value_model.specs.declared.fault.Reason.TheVariants as reasons
 use Rattle.dbus_value_model.specs.declared.stop.Stop.TheVariants as stops
 use Rattle.dbus_value_model.specs.Items.{fault}
 use Rattle.dbus_value_model.specs.Reading.{number}
-use Rattle.dbus_decode.specs.MessageItems.{not_zero_row}
+use Rattle.dbus_header.specs.MessageItems.{not_zero_row}
 use Rattle.dbus_value_checker.specs.Fronts.{Fronts}
 use Rattle.dbus_value_checker.proofs.FrontSteps.{lacks_number, number_taken, number_refused}
 use Rattle.dbus_check.specs.Fields.{padded_number}

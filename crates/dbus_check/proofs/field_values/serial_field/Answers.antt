@@ -1,7 +1,7 @@
 use Rattle.std.proofs.Common.{ℕ, ◌+◌, List, length, Ok, Err, refl, ap, subst, arith}
 use Rattle.std.proofs.lemmas.List.{length-drop}
 use Rattle.dbus_value_model.specs.declared.fault.Reason.TheVariants as reasons
-use Rattle.dbus_decode.specs.MessageItems.{not_zero_row}
+use Rattle.dbus_header.specs.MessageItems.{not_zero_row}
 use Rattle.dbus_message_model.specs.Messages.{Serial}
 use Rattle.dbus_value_checker.specs.Fronts.{Fronts}
 use Rattle.dbus_value_checker.specs.Suspended.{onward, done}

@@ -1,7 +1,7 @@
 use Rattle.std.proofs.Common.{◌≡◌, ℕ, ◌≤◌, length, take, refl, subst, arith}
-use Rattle.dbus_decode.specs.MessageOutcomes.{IsWhole}
-use Rattle.dbus_decode.specs.StatedLengths.{StatesLength}
-use Rattle.dbus_decode.proofs.StatedLengths.{whole_states}
+use Rattle.dbus_header.specs.MessageOutcomes.{IsWhole}
+use Rattle.dbus_header.specs.StatedLengths.{StatesLength}
+use Rattle.dbus_header.proofs.StatedLengths.{whole_states}
 use Rattle.dbus_judge.proofs.Firsts.{alone, followed, has_stated, judged_first, none_stated, states}
 use Rattle.dbus_judge.proofs.first.judge_first.Goals as goal
 

@@ -1,6 +1,6 @@
 use Rattle.std.proofs.Common.{ℕ, ◌+◌, ◌<◌, get_or, length, arith}
-use Rattle.dbus_decode.specs.HeaderReading.{fixed_header}
-use Rattle.dbus_decode.proofs.ReadMoves.{bytes_from}
+use Rattle.dbus_header.specs.HeaderReading.{fixed_header}
+use Rattle.dbus_value_laws.proofs.ReadSteps.{bytes_from}
 use Rattle.dbus_judge.proofs.WholeRefusals.{stops_unread, no_header, too_short, no_fields, some_lacks, no_padding, no_body}
 use Rattle.dbus_judge.proofs.WholeSteps.{padded_to, signed, is_judged}
 use Rattle.dbus_judge.proofs.judging.judge.Goals as goal
@@ -18,7 +18,7 @@ returns-clause-judged c =
     is_judged c.args.limits b are h opened seen.0 seen.1 c.in-Ok.ensures.gives (c.has_required.ensures.accepts b seen.0 seen.2 c.if-not-has_required.false) start padded body.0 body.1 c.judge_fields.new.seen seen.2 c.in_ok-start.ensures.moves.0
 
 pub returns-in-Err-clause-none : goal.returns-in-Err-clause-none
-returns-in-Err-clause-none c = λ none. no_header c.args.limits c.args.bytes.now (bytes_from c.args.bytes.now (λ i. omega (arith, c.type_inv.bytes i))) (stops_unread c.in-Err.field-0 (fixed_header c.args.limits 0 c.args.bytes.now) c.in-Err.ensures.no_memory c.in-Err.ensures.gives)
+returns-in-Err-clause-none c = λ none. no_header c.args.limits c.args.bytes.now (bytes_from c.args.bytes.now (λ i. omega (arith, c.type_inv.bytes i))) (stops_unread c.in-Err.field-0 (fixed_header c.args.limits 0 c.args.bytes.now) c.in-Err.ensures.gives)
 
 pub returns-then-bytes-n-clause-none : goal.returns-then-bytes-n-clause-none
 returns-then-bytes-n-clause-none c = λ none. too_short c.args.limits c.args.bytes.now (bytes_from c.args.bytes.now (λ i. omega (arith, c.type_inv.bytes i))) c.in-Ok.header c.in-Ok.ensures.gives (omega (arith, c.if-bytes-n.true, c.in-Ok.ensures.there))

@@ -1,4 +1,4 @@
-use Rattle.dbus_decode.proofs.StatedLengths.{one_stated}
+use Rattle.dbus_header.proofs.StatedLengths.{one_stated}
 use Rattle.dbus_message.proofs.laws.one_stated.Goals as goal
 
 pub returns : goal.returns

@@ -1,4 +1,4 @@
-use Rattle.dbus_decode.proofs.OutcomeLaws.{some_outcome}
+use Rattle.dbus_header.proofs.OutcomeLaws.{some_outcome}
 use Rattle.dbus_message.proofs.laws.some_outcome.Goals as goal
 
 pub returns : goal.returns

@@ -1,4 +1,4 @@
-use Rattle.dbus_decode.proofs.StatedLengths.{stated_holds}
+use Rattle.dbus_header.proofs.StatedLengths.{stated_holds}
 use Rattle.dbus_message.proofs.laws.stated_holds.Goals as goal
 
 pub returns : goal.returns

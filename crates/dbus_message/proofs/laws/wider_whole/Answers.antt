@@ -1,4 +1,4 @@
-use Rattle.dbus_decode.proofs.OutcomeLaws.{wider_whole}
+use Rattle.dbus_header.proofs.OutcomeLaws.{wider_whole}
 use Rattle.dbus_message.proofs.laws.wider_whole.Goals as goal
 
 pub returns : goal.returns

@@ -1,5 +1,5 @@
 use Rattle.std.proofs.Common.{◌≡◌, ◌≤◌, ◌<◌, ◌^◌, ◌++◌, ℕ, None, arith, refl, sym, ap, ◌∙◌, subst}
-use Rattle.dbus_decode.proofs.OutcomeLaws.{whole_inside}
+use Rattle.dbus_header.proofs.OutcomeLaws.{whole_inside}
 use Rattle.dbus_stream.specs.CheckReading.{GivesLength, limits_of, Reads}
 use Rattle.dbus_stream.specs.Reading.{done_of, most_reads_of, source_of}
 use Rattle.dbus_tool.specs.Counting.{ended_by}

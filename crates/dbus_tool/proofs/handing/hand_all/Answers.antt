@@ -1,5 +1,5 @@
 use Rattle.std.proofs.Common.{◌≡◌, ◌≤◌, ◌<◌, ◌^◌, ◌++◌, ℕ, None, arith, refl, sym, ap, ◌∙◌, subst}
-use Rattle.dbus_decode.proofs.OutcomeLaws.{whole_inside}
+use Rattle.dbus_header.proofs.OutcomeLaws.{whole_inside}
 use Rattle.dbus_stream.specs.RawNext.{Lends}
 use Rattle.dbus_stream.specs.RawReading.{limits_of, done_of, most_reads_of, source_of, kept}
 use Rattle.dbus_tool.specs.Counting.{stopped_by}

@@ -1,6 +1,6 @@
 use Rattle.std.proofs.Common.{◌≡◌, ℕ, List, length, subst, sym, ap, ◌∙◌}
 use Rattle.dbus_value_model.specs.declared.order.Order.{Order}
-use Rattle.dbus_decode.specs.MessageOutcomes.{IsWhole}
+use Rattle.dbus_header.specs.MessageOutcomes.{IsWhole}
 use Rattle.dbus_show.specs.ShownMessages.{message_text}
 use Rattle.dbus_tool.specs.Gathering.{GathersOrNot}
 use Rattle.dbus_tool.proofs.LentSteps.{judged_order}

@@ -1,6 +1,6 @@
 use Rattle.std.proofs.Common.{◌≡◌, ℕ, List, length, drop, arith, subst, sym, ◌∙◌}
 use Rattle.std.proofs.lemmas.List.{take_at}
-use Rattle.dbus_decode.specs.MessageOutcomes.{IsWhole}
+use Rattle.dbus_header.specs.MessageOutcomes.{IsWhole}
 use Rattle.dbus_tool.specs.Gathering.{GathersOrNot}
 use Rattle.dbus_tool.proofs.swapping.put_turned.Goals as goal
 

@@ -1,7 +1,7 @@
 use Rattle.std.proofs.Common.{◌≡◌, ℕ, List, length, rules, subst, sym, ap, ◌∙◌}
 use Rattle.dbus_value_model.specs.declared.order.Order.{Order}
 use Rattle.dbus_message_model.specs.Messages.{message_bytes}
-use Rattle.dbus_decode.specs.MessageOutcomes.{IsWhole}
+use Rattle.dbus_header.specs.MessageOutcomes.{IsWhole}
 use Rattle.dbus_swap.specs.Turning.{other}
 use Rattle.dbus_tool.specs.Gathering.{GathersOrNot}
 use Rattle.dbus_tool.proofs.LentSteps.{bytes_are, judged_order}

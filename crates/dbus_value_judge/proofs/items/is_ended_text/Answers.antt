@@ -1,7 +1,7 @@
 use Rattle.std.proofs.Common.{◌≡◌, ◌+◌, ◌-◌, take, drop, ap, sym, subst, arith, ℕ}
 use Rattle.dbus_texts.specs.Kinds.{IsKind}
 use Rattle.dbus_value_model.specs.Reading.{nul}
-use Rattle.dbus_unmarshal.proofs.ReadSteps.{nul_faulty}
+use Rattle.dbus_value_laws.proofs.ReadSteps.{nul_faulty}
 use Rattle.dbus_value_judge.proofs.ReadParts.{not_faulty}
 use Rattle.dbus_value_judge.proofs.ItemSteps.{text_ends}
 use Rattle.dbus_value_judge.proofs.items.is_ended_text.Goals as goal

@@ -1,5 +1,5 @@
 use Rattle.std.proofs.Common.{◌≡◌, ◌+◌, ◌-◌, drop, arith, sym, ◌∙◌}
-use Rattle.dbus_unmarshal.proofs.ReadSteps.{goes_on_zeros, breaks_zeros, padding_is, padding_overruns, zeros_done}
+use Rattle.dbus_value_laws.proofs.ReadSteps.{goes_on_zeros, breaks_zeros, padding_is, padding_overruns, zeros_done}
 use Rattle.dbus_value_model.specs.Reading.{padding}
 use Rattle.dbus_value_judge.proofs.ReadParts.{not_faulty}
 use Rattle.dbus_value_judge.proofs.items.padding.Goals as goal

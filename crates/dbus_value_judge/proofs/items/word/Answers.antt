@@ -1,6 +1,6 @@
 use Rattle.std.proofs.Common.{arith, refl, drop}
 use Rattle.dbus_value_model.specs.Items.{no_row}
-use Rattle.dbus_unmarshal.proofs.ReadSteps.{number_done, number_overrun}
+use Rattle.dbus_value_laws.proofs.ReadSteps.{number_done, number_overrun}
 use Rattle.dbus_value_model.specs.Reading.{number}
 use Rattle.dbus_value_judge.proofs.ReadParts.{not_faulty}
 use Rattle.dbus_value_judge.proofs.items.word.Goals as goal

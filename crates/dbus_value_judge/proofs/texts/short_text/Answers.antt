@@ -1,6 +1,6 @@
 use Rattle.std.proofs.Common.{ℕ, ◌+◌, drop, subst, sym, ◌∙◌, arith}
 use Rattle.dbus_value_model.specs.ValueItems.{text_row}
-use Rattle.dbus_unmarshal.proofs.ReadSteps.{number_passes, text_fits}
+use Rattle.dbus_value_laws.proofs.ReadSteps.{number_passes, text_fits}
 use Rattle.dbus_value_judge.specs.Endings.{EndedText}
 use Rattle.dbus_value_judge.proofs.ItemRefusals.{short_number, short_length}
 use Rattle.dbus_value_judge.proofs.texts.short_text.Goals as goal

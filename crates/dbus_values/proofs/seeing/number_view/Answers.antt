@@ -1,7 +1,7 @@
 use Rattle.std.proofs.Common.{◌≡◌, ℕ, take, drop, get_or, sym, ap, ◌∙◌, arith}
 use Rattle.dbus_texts.specs.Types.{NumberCode, BYTE}
 use Rattle.dbus_types.specs.Alignments.{width}
-use Rattle.dbus_unmarshal.proofs.ReadSteps.{one_byte}
+use Rattle.dbus_value_laws.proofs.ReadSteps.{one_byte}
 use Rattle.dbus_value_model.specs.Reading.{number_of}
 use Rattle.dbus_value_model.specs.Values.{NumberValue}
 use Rattle.dbus_walk.proofs.ReadThere.{byte_code}

@@ -1,6 +1,6 @@
 use Rattle.std.proofs.Common.{[], inl, inr, refl, subst}
 use Rattle.dbus_value_model.specs.declared.limits.Limits.{Limits}
-use Rattle.dbus_decode.specs.MessageOutcomes.{IsRefused}
+use Rattle.dbus_header.specs.MessageOutcomes.{IsRefused}
 use Rattle.dbus_check.specs.Checks.{Takes}
 use Rattle.dbus_view.proofs.Faults.{is_partial}
 use Rattle.dbus_view.proofs.fault.fault_of.Goals as goal

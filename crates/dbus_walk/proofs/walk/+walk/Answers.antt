@@ -1,11 +1,12 @@
-use Rattle.std.proofs.Common.{ℕ, ◌+◌, ◌-◌, List, [], ◌∷◌, ◌++◌, length, drop, Bool, true, false, refl, sym, ap, subst, ◌∙◌, arith}
+use Rattle.std.proofs.Common.{ℕ, ◌+◌, ◌-◌, List, [], ◌∷◌, ◌++◌, length, drop, Bool, true, false, refl, sym, ap, subst, ◌∙◌, arith, append-nil}
+use Rattle.dbus_texts.specs.Types.{sig}
 use Rattle.std.proofs.lemmas.List.{length-take}
 use Rattle.dbus_types.specs.SignatureCodes.{IsTypeEnd, first_code}
 use Rattle.dbus_types.proofs.TypeCodes.{code_is}
 use Rattle.dbus_types.proofs.TypeLengths.{ends_by, lengths_within, lengths_rest, one_length}
 use Rattle.dbus_value_model.specs.Spelling.{spelling, spellings}
 use Rattle.dbus_value_model.specs.Values.{ValueTree, NoValues, MoreValues, VariantValue, StructValue, EntryValue, type_of}
-use Rattle.dbus_unmarshal.proofs.ReadSteps.{one_byte}
+use Rattle.dbus_value_laws.proofs.ReadSteps.{one_byte}
 use Rattle.dbus_walk.specs.declared.container.Container.TheVariants as kind
 use Rattle.dbus_walk.specs.Standing.{AllStand, ElementsStand}
 use Rattle.dbus_walk.specs.Containers.{IsOf, inside, parts}
@@ -168,12 +169,15 @@ brackets-walk_values-requires g t c κs within =
     let s = c.requires.stand in
     (omega (arith, c.requires.long, length-take (length types - 1 - 1) (drop 1 types)), (within.0, (within.1.0, (within.1.1.0, (within.1.1.1, (c.in_ok-none.ensures.ready, (s, lengths_within types c.args.spot.now.lengths.now c.requires.noted 1 (length types - 1 - 1))))))))
 
+pub brackets-open-requires-clause-single : goal.brackets-open-requires-clause-single
+brackets-open-requires-clause-single g t c = λ e. absurd (c.requires.bracketed e)
+
 pub brackets-returns-clause-walked : goal.brackets-returns-clause-walked
 brackets-returns-clause-walked g t c = λ v rest is_of begins all.
     let order = c.args.source.now.order in
     let held = c.in_ok-many.ensures.walked (parts v) rest all in
     let many = subst (λ (q : ℕ). g.V.Visitor.many c.open.new.self c.in_ok-none.none order q held.0.0 c.in_ok-many.many c.walk_values.new.visitor) begins held.0.2 in (
-      g.met.V.Visitor.whole c.args.visitor.now c.open.new.self c.walk_values.new.visitor c.close.new.self c.in_ok-none.none c.in_ok-many.many c.in_ok-closed.closed c.args.kind order c.args.spot.now.at v held.0.0 is_of (c.in_ok-none.ensures.takes order c.args.spot.now.at v is_of) held.0.1 many (c.in_ok-closed.ensures.takes v is_of),
+      g.met.V.Visitor.whole c.args.visitor.now c.open.new.self c.walk_values.new.visitor c.close.new.self c.in_ok-none.none c.in_ok-many.many c.in_ok-closed.closed c.args.kind order c.args.spot.now.at v held.0.0 is_of (c.in_ok-none.ensures.takes order c.args.spot.now.at v is_of all.text) held.0.1 many (c.in_ok-closed.ensures.takes v is_of),
       held.1,
     )
 
@@ -184,13 +188,13 @@ pub variant-variant_of-requires : goal.variant-variant_of-requires
 variant-variant_of-requires g t c κs within =
     let s = c.requires.stands in
     let p = c.requires.laid s.0 s.1 s.2 in
-    (omega (arith, p.some, p.few), (within.0, (within.1.0, (within.1.1.0, (within.1.1.1, (c.requires.ready, ((p.x, s.1, p.held), one_length c.args.types.now c.if-types-eq1.true)))))))
+    (omega (arith, p.some, p.few), (within.0, (within.1.0, (within.1.1.0, (within.1.1.1, (c.requires.ready, ((p.x, s.1, p.held), (((type_of p.x, p.single.0, sym p.held.text), p.few), one_length c.args.types.now c.if-types-eq1.true))))))))
 
 pub variant-noted_variant-requires : goal.variant-noted_variant-requires
 variant-noted_variant-requires g t c κs within =
     let s = c.requires.stands in
     let p = c.requires.laid s.0 s.1 s.2 in
-    (omega (arith, p.some, p.few), (within.0, (within.1.0, (within.1.1.0, (within.1.1.1, (c.requires.ready, ((p.x, s.1, p.held), p.few)))))))
+    (omega (arith, p.some, p.few), (within.0, (within.1.0, (within.1.1.0, (within.1.1.1, (c.requires.ready, ((p.x, s.1, p.held), ((type_of p.x, p.single.0, sym p.held.text), p.few))))))))
 
 pub variant-returns-then-types-eq1-clause-walked : goal.variant-returns-then-types-eq1-clause-walked
 variant-returns-then-types-eq1-clause-walked g t c = λ v rest s.
@@ -215,7 +219,7 @@ variant_of-returns-clause-walked g t c = λ begin x rest s begins.
     let filled = c.push.new.self in
     let held = g.met.V.Visitor.more opened opened c.part.new.self c.walk_value.new.visitor filled c.in_ok-none.none c.in_ok-none.none c.in_ok-many.many c.in_ok-one.one order q q [] x (g.met.V.Visitor.none opened c.in_ok-none.none order q) c.part.ensures.takes (starts order q) w.0 c.in_ok-many.ensures.takes in
     let many = subst (λ (k : ℕ). g.V.Visitor.many opened c.in_ok-none.none order k (x ∷ []) c.in_ok-many.many filled) begins held in (
-      g.met.V.Visitor.whole c.args.visitor.now opened filled c.close.new.self c.in_ok-none.none c.in_ok-many.many c.in_ok-closed.closed kind.Variant order begin (VariantValue x) (x ∷ []) tt (c.in_ok-none.ensures.takes order begin (VariantValue x) tt) refl many (c.in_ok-closed.ensures.takes (VariantValue x) tt),
+      g.met.V.Visitor.whole c.args.visitor.now opened filled c.close.new.self c.in_ok-none.none c.in_ok-many.many c.in_ok-closed.closed kind.Variant order begin (VariantValue x) (x ∷ []) tt (c.in_ok-none.ensures.takes order begin (VariantValue x) tt (append-nil (sig (type_of x)) ∙ s.text)) refl many (c.in_ok-closed.ensures.takes (VariantValue x) tt),
       w.1,
     )
 
@@ -264,11 +268,11 @@ walk_value-overflow_sub-spot g t c = let s = c.requires.stands in let p = laid_a
 
 pub walk_value-brackets-requires : goal.walk_value-brackets-requires
 walk_value-brackets-requires g t c κs within = let s = c.requires.stands in let p = laid_as c.args.source.now c.args.spot.now c.in-Struct.is c.layout.ensures s.0 s.1 s.2 in
-    (omega (arith, p.some, p.long), (within.0, (within.1.0, (within.1.1.0, (within.1.1.1, (c.requires.ready, ((p.xs, s.1, p.held), (c.requires.noted, (p.long, λ e. absurd cc)))))))))
+    (omega (arith, p.some, p.long), (within.0, (within.1.0, (within.1.1.0, (within.1.1.1, (c.requires.ready, ((p.xs, s.1, p.held), (c.requires.noted, (p.long, ((λ e. absurd cc), (λ e. absurd cc)))))))))))
 
 pub walk_value-brackets-requires-in-Entry : goal.walk_value-brackets-requires-in-Entry
 walk_value-brackets-requires-in-Entry g t c κs within = let s = c.requires.stands in let p = laid_as c.args.source.now c.args.spot.now c.in-Entry.is c.layout.ensures s.0 s.1 s.2 in
-    (omega (arith, p.long), (within.0, (within.1.0, (within.1.1.0, (within.1.1.1, (c.requires.ready, ((MoreValues p.x (MoreValues p.y NoValues), s.1, p.held), (c.requires.noted, (p.long, λ e. absurd cc)))))))))
+    (omega (arith, p.long), (within.0, (within.1.0, (within.1.1.0, (within.1.1.1, (c.requires.ready, ((MoreValues p.x (MoreValues p.y NoValues), s.1, p.held), (c.requires.noted, (p.long, ((λ e. absurd cc), (λ e. absurd cc)))))))))))
 
 pub walk_value-returns-in-Number-clause-walked : goal.walk_value-returns-in-Number-clause-walked
 walk_value-returns-in-Number-clause-walked g t c = λ v rest s. let p = laid_as c.args.source.now c.args.spot.now c.in-Number.is c.layout.ensures v rest s in (c.in_ok-one-in-Number.ensures.takes v rest s, omega (arith, p.ends, c.from.ensures))

@@ -1,5 +1,5 @@
 use Rattle.std.proofs.Common.{◌++◌, take, refl, sym, subst, arith}
-use Rattle.dbus_decode.proofs.ReadMoves.{bytes_from}
+use Rattle.dbus_value_laws.proofs.ReadSteps.{bytes_from}
 use Rattle.dbus_check.specs.Checks.{CheckerState, Stands, Takes}
 use Rattle.dbus_check.specs.declared.check.Check.TheVariants as check
 use Rattle.dbus_check.proofs.CheckSteps.{stays_refused, took_partial, took_done, took_refused}

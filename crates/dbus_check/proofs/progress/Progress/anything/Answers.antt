@@ -1,7 +1,7 @@
 use Rattle.std.proofs.Common.{◌≡◌, ℕ, ◌+◌, take, drop, refl, sym, ap, ◌∙◌, arith}
 use Rattle.dbus_texts.specs.Types.{sig}
 use Rattle.dbus_texts.specs.ComputedKinds.{type_spelled}
-use Rattle.dbus_unmarshal.proofs.KindLaws.{single_text}
+use Rattle.dbus_value_laws.proofs.KindLaws.{single_text}
 use Rattle.dbus_message_model.specs.Messages.{Anything}
 use Rattle.dbus_check.specs.Progress.{after_bytes}
 use Rattle.dbus_check.proofs.HeldValues.{any_plain, held_stops, held_there}

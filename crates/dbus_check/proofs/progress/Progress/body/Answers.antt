@@ -1,7 +1,7 @@
 use Rattle.std.proofs.Common.{ℕ, ◌++◌, take, drop, sym, ap, subst, refl, ◌∙◌, arith}
 use Rattle.dbus_value_checker.specs.Suspended.{done}
 use Rattle.dbus_value_checker.proofs.FrontSteps.{split-at}
-use Rattle.dbus_decode.proofs.ReadMoves.{bytes_from}
+use Rattle.dbus_value_laws.proofs.ReadSteps.{bytes_from}
 use Rattle.dbus_check.specs.Progress.{WantsBody, denotes, after_bytes}
 use Rattle.dbus_check.specs.declared.progress.Stage.{Stage}
 use Rattle.dbus_check.proofs.ValueStages.{body_goes, body_inside, body_waits, body_refused, body_trailing, body_over}

@@ -3,7 +3,7 @@ use Rattle.std.proofs.lemmas.List.{length-take}
 use Rattle.dbus_value_model.specs.declared.stop.Stop.{Stop}
 use Rattle.dbus_value_model.specs.Gives.{Stops}
 use Rattle.dbus_value_model.specs.Reading.{Done}
-use Rattle.dbus_decode.specs.HeaderReading.{fixed_header}
+use Rattle.dbus_header.specs.HeaderReading.{fixed_header}
 use Rattle.dbus_check.specs.Heading.{nothing}
 use Rattle.dbus_check.proofs.Stages.{no_signature, header_taken, header_stops, header_short}
 use Rattle.dbus_check.proofs.progress.Progress.header.Goals as goal
@@ -35,7 +35,7 @@ returns-in-Ok-clause-moves c = λ to same.
 
 pub returns-in-Err-clause-moves : goal.returns-in-Err-clause-moves
 returns-in-Err-clause-moves c = λ to same.
-    header_stops c.args.self.now.limits c.args.bytes.now c.in-Err.stop c.in-Err.ensures.no_memory
+    header_stops c.args.self.now.limits c.args.bytes.now c.in-Err.stop
     (subst (λ (u : List ℕ). Stops c.in-Err.stop (fixed_header c.args.self.now.limits 0 u)) c.front.ensures c.in-Err.ensures.gives) c.args.self.now to same
 
 pub returns-in-Err-clause-short : goal.returns-in-Err-clause-short

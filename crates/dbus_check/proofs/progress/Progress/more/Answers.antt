@@ -1,6 +1,6 @@
 use Rattle.std.proofs.Common.{ℕ, take, sym, subst, refl, arith}
 use Rattle.dbus_value_checker.specs.Suspended.{done}
-use Rattle.dbus_decode.proofs.ReadMoves.{bytes_from}
+use Rattle.dbus_value_laws.proofs.ReadSteps.{bytes_from}
 use Rattle.dbus_check.specs.Progress.{WantsMore, denotes, after_bytes}
 use Rattle.dbus_check.specs.declared.progress.Stage.{Stage}
 use Rattle.dbus_check.proofs.ValueStages.{more_goes, more_inside, more_waits, more_refused, more_over}

@@ -1,7 +1,7 @@
 use Rattle.std.proofs.Common.{◌≡◌, ◌+◌, [], ◌∷◌, take, refl, subst, arith}
 use Rattle.dbus_texts.specs.Types.{OBJECT_PATH, TextType, IsSingleType, sig}
 use Rattle.dbus_texts.specs.ComputedKinds.{type_spelled}
-use Rattle.dbus_unmarshal.proofs.KindLaws.{spelled_sig}
+use Rattle.dbus_value_laws.proofs.KindLaws.{spelled_sig}
 use Rattle.dbus_message_model.specs.Messages.{OfType}
 use Rattle.dbus_check.specs.Progress.{WantsHeld, after_bytes}
 use Rattle.dbus_check.proofs.HeldValues.{path_plain, held_stops, held_there}

@@ -1,5 +1,5 @@
 use Rattle.std.proofs.Common.{◌≡◌, ℕ, ◌+◌, ◌-◌, ◌<◌, ◌≤◌, List, [], ◌∷◌, length, take, drop, true, false, refl, sym, ap, subst, ◌∙◌, arith}
-use Rattle.dbus_decode.specs.HeaderReading.{wanted_value}
+use Rattle.dbus_header.specs.HeaderReading.{wanted_value}
 use Rattle.dbus_message_model.specs.Messages.{Want, want}
 use Rattle.dbus_value_checker.specs.Fronts.{Fronts}
 use Rattle.dbus_check.specs.Fields.{seen_as, nothing_of}

@@ -1,5 +1,5 @@
 use Rattle.std.proofs.Common.{◌≡◌, ℕ, ◌+◌, List, ◌∷◌, ◌++◌, take, drop, sym, ap, subst, ◌∙◌, arith}
-use Rattle.dbus_decode.specs.HeaderReading.{wanted_value}
+use Rattle.dbus_header.specs.HeaderReading.{wanted_value}
 use Rattle.dbus_message_model.specs.Messages.{Want, want, text_in}
 use Rattle.dbus_value_checker.specs.Fronts.{Fronts}
 use Rattle.std.proofs.Common.{Ok, Err}

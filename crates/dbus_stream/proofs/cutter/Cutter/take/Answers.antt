@@ -1,6 +1,6 @@
 use Rattle.std.proofs.Common.{◌≡◌, List, ℕ, subst, ap}
 use Rattle.std.specs.Prelude.{IfSome}
-use Rattle.dbus_decode.specs.MessageOutcomes.{IsPartial}
+use Rattle.dbus_header.specs.MessageOutcomes.{IsPartial}
 use Rattle.dbus_stream.specs.CutterState.{CutterState}
 use Rattle.dbus_stream.specs.Cutting.{TakeAnswer, TakeAnswers}
 use Rattle.dbus_stream.proofs.CutterSteps.{answer_fits, answer_moves}

@@ -1,8 +1,8 @@
 use Rattle.std.proofs.Common.{◌≡◌, ◌+◌, ◌++◌, [], None, ℕ, List, length, take, sym, ap, subst, ◌∙◌}
 use Rattle.std.proofs.lemmas.List.{length-append}
 use Rattle.dbus_message_model.specs.MessageViews.{message_tree}
-use Rattle.dbus_decode.specs.MessageOutcomes.{IsWhole, IsPartial}
-use Rattle.dbus_decode.proofs.OutcomeLaws.{nothing_partial}
+use Rattle.dbus_header.specs.MessageOutcomes.{IsWhole, IsPartial}
+use Rattle.dbus_header.proofs.OutcomeLaws.{nothing_partial}
 use Rattle.dbus_stream.specs.Checked.{IsOneMessage}
 use Rattle.dbus_stream.specs.CutterState.{CutterState, fresh}
 use Rattle.dbus_stream.specs.Gathering.{GathererState, Gathered, under_way}

@@ -1,7 +1,7 @@
 use Rattle.std.proofs.Common.{rules, ◌≡◌, false, ℕ, List, ◌++◌, take, subst, sym, ◌∙◌}
 use Rattle.dbus_check.specs.Checks.{Stands, Takes}
 use Rattle.dbus_check.specs.declared.check.Check.TheVariants as check
-use Rattle.dbus_decode.proofs.OutcomeLaws.{nothing_partial}
+use Rattle.dbus_header.proofs.OutcomeLaws.{nothing_partial}
 use Rattle.dbus_stream.specs.Checked.{IsOneMessage}
 use Rattle.dbus_stream.specs.Gathering.{under_way}
 use Rattle.dbus_stream.proofs.Gathered.{ended}

@@ -1,7 +1,7 @@
 use Rattle.std.proofs.Common.{List, ℕ, subst, sym}
 use Rattle.std.proofs.lemmas.Bool.{false≢true}
-use Rattle.dbus_decode.specs.MessageOutcomes.{IsPartial}
-use Rattle.dbus_decode.proofs.OutcomeLaws.{nothing_partial}
+use Rattle.dbus_header.specs.MessageOutcomes.{IsPartial}
+use Rattle.dbus_header.proofs.OutcomeLaws.{nothing_partial}
 use Rattle.dbus_check.specs.Checks.{Stands}
 use Rattle.dbus_stream.proofs.gatherer.Gatherer.within.Goals as goal
 

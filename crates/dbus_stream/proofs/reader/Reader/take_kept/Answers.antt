@@ -2,7 +2,7 @@ use Rattle.std.proofs.Common.{◌≡◌, ◌≤◌, ◌+◌, ◌-◌, ◌++◌, 
 use Rattle.std.specs.List.{slice_range}
 use Rattle.std.specs.Option.{is_some}
 use Rattle.std.proofs.lemmas.List.{length-append}
-use Rattle.dbus_decode.specs.MessageOutcomes.{IsWhole, IsPartial, IsRefused}
+use Rattle.dbus_header.specs.MessageOutcomes.{IsWhole, IsPartial, IsRefused}
 use Rattle.dbus_stream.specs.Reading.{limits_of}
 use Rattle.dbus_stream.specs.Taking.{Completes, Waits}
 use Rattle.dbus_stream.proofs.Lists.{left_after, no_part, part_fits, front_of}

@@ -3,7 +3,7 @@ use Rattle.std.proofs.lemmas.List.{length-take, length-drop}
 use Rattle.dbus_value_checker.specs.declared.values.Values.{Values}
 use Rattle.dbus_value_checker.specs.Denotations.{after_piece}
 use Rattle.dbus_types.specs.TypeLengths.{AreLengths}
-use Rattle.dbus_value_checker.proofs.Variants.{variant_deep, variant_known, variant_stops, variant_goes}
+use Rattle.dbus_value_checker.proofs.Variants.{variant_deep, variant_stops, variant_goes}
 use Rattle.dbus_value_checker.proofs.values.Values.variant.Goals as goal
 
 pub returns-then-room-eq0-clause-moves : goal.returns-then-room-eq0-clause-moves

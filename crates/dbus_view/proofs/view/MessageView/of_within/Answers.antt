@@ -1,5 +1,5 @@
 use Rattle.std.proofs.Common.{◌≡◌, length, inr, refl, arith}
-use Rattle.dbus_decode.proofs.OutcomeLaws.{one_whole, whole_inside}
+use Rattle.dbus_header.proofs.OutcomeLaws.{one_whole, whole_inside}
 use Rattle.dbus_view.proofs.Whole.{all_whole}
 use Rattle.dbus_view.proofs.view.MessageView.of_within.Goals as goal
 

@@ -1,0 +1,13 @@
+pub mod Fields
+pub mod MessageParts
+pub mod Whole
+pub mod MessageOutcomes
+pub mod OutcomeLaws
+pub mod FixedItems
+pub mod ReadingParts
+pub mod FieldSteps
+pub mod FieldLoop
+pub mod BodyLoop
+pub mod Decoded
+pub mod WorkedExamples
+pub mod StatedLengths

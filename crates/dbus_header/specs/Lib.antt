@@ -1,0 +1,9 @@
+pub mod MessageItems
+pub mod MessageReading
+pub mod MessageRelations
+pub mod MessageLaws
+pub mod MessageOutcomes
+pub mod OutcomeLaws
+pub mod HeaderReading
+pub mod StatedLengths
+pub mod StatedLaws

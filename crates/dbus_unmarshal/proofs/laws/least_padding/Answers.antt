@@ -1,5 +1,0 @@
-use Rattle.dbus_value_model.proofs.Numbers.{least_padding}
-use Rattle.dbus_unmarshal.proofs.laws.least_padding.Goals as goal
-
-pub returns : goal.returns
-returns c = least_padding

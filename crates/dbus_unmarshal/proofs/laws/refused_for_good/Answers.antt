@@ -1,5 +1,0 @@
-use Rattle.dbus_unmarshal.proofs.ValueOutcomes.{refused_for_good}
-use Rattle.dbus_unmarshal.proofs.laws.refused_for_good.Goals as goal
-
-pub returns : goal.returns
-returns c = refused_for_good

@@ -1,0 +1,18 @@
+use Rattle.std.proofs.Common.{◌≡◌, ℕ, take, drop, get_or, sym, ap, ◌∙◌, arith}
+use Rattle.dbus_texts.specs.Types.{NumberCode, BYTE}
+use Rattle.dbus_types.specs.Alignments.{width}
+use Rattle.dbus_value_laws.proofs.ReadSteps.{one_byte}
+use Rattle.dbus_value_model.proofs.ValueRows.{tree-Byte}
+use Rattle.dbus_value_model.specs.Reading.{number_of}
+use Rattle.dbus_value_model.specs.Values.{NumberValue}
+use Rattle.dbus_walk.proofs.ReadThere.{byte_code}
+use Rattle.dbus_unmarshal.proofs.numbers.number_at.Goals as goal
+
+pub returns-in-121-clause-built : goal.returns-in-121-clause-built
+returns-in-121-clause-built g c = λ k n e formed read.
+    let is : k ≡ BYTE = byte_code k (e ∙ c.in-121.is) in
+    let here = c.requires.inside BYTE (sym c.in-121.is) in
+    let bytes = c.args.source.now.bytes.now in
+    let byte : get_or bytes c.args.start 0 ≡ n =
+    one_byte c.args.source.now.order bytes c.args.start (omega (arith, here)) ∙ ap (λ (j : NumberCode). number_of c.args.source.now.order (take (width j) (drop c.args.start bytes))) (sym is) ∙ read in
+    tree-Byte g.row.A.Denot _ ∙ ap (λ (m : ℕ). NumberValue BYTE m) byte ∙ ap (λ (j : NumberCode). NumberValue j n) (sym is)

@@ -1,0 +1,3 @@
+pub mod Builds
+pub mod BuildLaws
+pub mod Judging

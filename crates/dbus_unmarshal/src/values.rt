@@ -1,0 +1,104 @@
+//! Values of any type as trees, from where they stand. D-Bus Specification, "Marshaling (Wire Format)".
+#![tactic(auto)]
+
+ghost use Rattle.std.specs.Prelude.{◌≡◌, ℕ, ◌+◌, ◌≤◌, List, length, IsTrue, IfOk};
+ghost use Rattle.dbus_texts.specs.Kinds.{IsKind};
+ghost use Rattle.dbus_texts.specs.Types.{sig};
+ghost use Rattle.dbus_texts.specs.declared.text_kind.TextKind.TheVariants.{Signature, Single};
+ghost use Rattle.dbus_types.specs.SigTypes.{type_tree};
+ghost use Rattle.dbus_types.specs.TypeLengths.{AreLengths};
+ghost use Rattle.dbus_value_model.specs.PackedBytes.{keeps_bytes, keep_bytes};
+ghost use Rattle.dbus_value_model.specs.Spelling.{spelling};
+ghost use Rattle.dbus_value_model.specs.ValueViews.{value_tree, value_trees_of};
+ghost use Rattle.dbus_value_model.specs.Values.{ValueTree, ValueTrees};
+ghost use Rattle.dbus_walk.specs.Standing.{Stands, StandsAt, StandsThere, AllStandAt, AllStandThere, end_of};
+
+use crate::gathered::{Builder, Gathered};
+use crate::opening::field_type;
+use dbus_types::{SigType, spelled_type, spelled_types};
+use dbus_value_model::Value;
+use dbus_walk::{Source, Spot, lengths_of, walk_value, walk_values};
+use std::alloc::{AllocError, Allocator};
+use std::sync::Arc;
+
+/// The value at a spot as a tree, and the offset after it. An array of BYTE comes as `Bytes`, also within the value.
+///
+/// `AllocError` if a growth of memory was refused. D-Bus Specification, "Marshaling (Wire Format)".
+pub fn build_value<A: Allocator + Copy>(
+    alloc: A,
+    source: &Source<'_>,
+    spot: &Spot<'_>,
+    wanted: &SigType<A>,
+) -> Result<(Value<A>, usize), AllocError>
+    requires stands { StandsThere source.now spot.now }
+    requires noted { AreLengths spot.now.types.now spot.now.lengths.now }
+    requires wanted { sig (type_tree wanted.now) ≡ spot.now.types.now }
+    ensures built { (v : ValueTree) (rest : List ℕ) → StandsAt source.now spot.now v rest →
+        IfOk result (λ r. (value_tree r.0 ≡ v) × (r.1 ≡ end_of source.now spot.now v)) }
+    ensures packed { IfOk result (λ r. IsTrue (keeps_bytes r.0)) }
+{
+    let mut builder = Builder {
+        alloc,
+        wanted: wanted.clone()?,
+    };
+    walk_value(&mut builder, source, spot)
+}
+
+/// The values that stand one after another at a spot, one of each type that the signature there has. They take one growth of
+/// memory besides what each takes.
+///
+/// `AllocError` if a growth of memory was refused. D-Bus Specification, "Marshaling (Wire Format)".
+pub fn build_values<A: Allocator + Copy>(
+    alloc: A,
+    source: &Source<'_>,
+    spot: &Spot<'_>,
+) -> Result<Vec<Value<A>, A>, AllocError>
+    requires stand { AllStandThere source.now spot.now }
+    requires signature { IsKind Signature spot.now.types.now }
+    requires noted { AreLengths spot.now.types.now spot.now.lengths.now }
+    ensures built { (vs : ValueTrees) (rest : List ℕ) → AllStandAt source.now spot.now vs rest →
+        IfOk result (λ r. value_trees_of r.items ≡ vs) }
+    ensures packed { IfOk result (λ r. IsTrue (keep_bytes r.items)) }
+{
+    let types = spelled_types(alloc, spot.types)?;
+    let room = Vec::with_capacity(alloc, types.len())?;
+    let wanted = field_type(&types, 0)?;
+    let mut builder = Builder { alloc, wanted };
+    let none = Gathered::Fields(Arc::new(alloc, types)?, room);
+    let (gathered, _) = walk_values(&mut builder, none, source, spot)?;
+    match gathered {
+        Gathered::Fields(_, values) => Ok(values),
+        _ => unreachable!(),
+    }
+}
+
+/// The value at `at`, whose one type these bytes spell, as a tree, and the offset after it. So many containers may be open in it.
+/// How long the types in it are is noted first.
+///
+/// `AllocError` if a growth of memory was refused. D-Bus Specification, "Marshaling (Wire Format)".
+pub fn build_typed<A: Allocator + Copy>(
+    alloc: A,
+    source: &Source<'_>,
+    at: usize,
+    types: &[u8],
+    room: u8,
+) -> Result<(Value<A>, usize), AllocError>
+    requires single { IsKind Single types.now }
+    requires stands { (v : ValueTree) × (rest : List ℕ) ×
+        Stands source.now.order room types.now at source.now.bytes.now v rest }
+    ensures built { (v : ValueTree) (rest : List ℕ) →
+        Stands source.now.order room types.now at source.now.bytes.now v rest →
+        IfOk result (λ r.
+        (value_tree r.0 ≡ v) × (r.1 ≡ at + length (spelling source.now.order at v))) }
+    ensures packed { IfOk result (λ r. IsTrue (keeps_bytes r.0)) }
+{
+    let wanted = spelled_type(alloc, types)?;
+    let mut table = [0; 255];
+    let spot = Spot {
+        at,
+        types,
+        lengths: lengths_of(types, &mut table),
+        room,
+    };
+    build_value(alloc, source, &spot, &wanted)
+}

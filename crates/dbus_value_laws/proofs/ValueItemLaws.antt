@@ -1,0 +1,217 @@
+-- A wanted value and its reader agree.
+use Rattle.std.proofs.Common.{ℕ, zero, suc, ◌+◌, ◌<◌, ◌↔◌, List, length, Bool, true, false, refl, sym, subst, arith}
+use Rattle.std.proofs.lemmas.List.{length-append}
+use Rattle.dbus_texts.specs.Types.{NumberCode, BYTE, BOOLEAN, INT16, UINT16, INT32, UINT32, INT64, UINT64, DOUBLE, UNIX_FD, TextCode, TypeTree, NumberType, TextType, VariantType, ArrayType, StructType, EntryType, TypeTrees, NoTypes, MoreTypes, IsShaped, AreShaped, IsBasic}
+use Rattle.dbus_types.specs.Alignments.{width, length_width, alignment_of}
+use Rattle.dbus_texts.proofs.KindFacts.{shaped_of}
+use Rattle.dbus_value_model.specs.WantedTexts.{kind_of, Of}
+use Rattle.dbus_value_model.specs.declared.limits.Bounds.{Bounds}
+use Rattle.dbus_value_model.specs.declared.order.Order.{Order}
+use Rattle.dbus_value_model.specs.Bytes.{gap_to}
+use Rattle.dbus_value_model.specs.Spelling.{spelling, Spelled}
+use Rattle.dbus_value_model.specs.Values.{ValueTree, value_trees, NoValues, MoreValues, NumberValue, TextValue, VariantValue, ArrayValue, StructValue, EntryValue, type_of}
+use Rattle.dbus_value_model.specs.Items.{Item}
+use Rattle.dbus_value_model.specs.Items as items
+use Rattle.dbus_value_model.specs.ValueItems.{number_row, text_row, array_row}
+use Rattle.dbus_value_model.specs.ValueItems as faults
+use Rattle.dbus_value_model.specs.Reading.{Reader, Outcome, Done, Faulty, Partial}
+use Rattle.dbus_value_model.specs.Reading as reading
+use Rattle.dbus_value_model.proofs.Numbers.{length-num}
+use Rattle.dbus_value_laws.proofs.Agreement.{Agrees, Agrees-then, Agrees-before, Agrees-as}
+use Rattle.dbus_value_laws.proofs.OwnItems.{Agrees-pure, Agrees-refuse, Agrees-padding, Agrees-number, Agrees-text, Agrees-nul, Agrees-signature}
+use Rattle.dbus_value_laws.proofs.Contents.{Moves, Agrees-contents}
+use Rattle.dbus_value_laws.proofs.Composition.{number_to, number_from, text_to, text_from, variant_to, variant_from, array_to, array_from, struct_to, struct_from, entry_to, entry_from}
+use Rattle.dbus_value_model.specs.declared.fault.Reason.TheVariants as reasons
+use Rattle.dbus_texts.specs.declared.text_kind.TextKind.TheVariants as kinds
+
+-- ---- a value of a complete type has at least one byte
+
+pub basic_complete : (b : Bool) (t : TypeTree) → IsBasic t → IsShaped b t
+basic_complete b (NumberType k) h = tt
+basic_complete b (TextType k) h = tt
+basic_complete b VariantType h = absurd h
+basic_complete b (ArrayType t) h = absurd h
+basic_complete b (StructType ts) h = absurd h
+basic_complete b (EntryType k v) h = absurd h
+
+width_positive : (k : NumberCode) → 0 < width k
+width_positive BYTE = omega arith
+width_positive BOOLEAN = omega arith
+width_positive INT16 = omega arith
+width_positive UINT16 = omega arith
+width_positive INT32 = omega arith
+width_positive UINT32 = omega arith
+width_positive INT64 = omega arith
+width_positive UINT64 = omega arith
+width_positive DOUBLE = omega arith
+width_positive UNIX_FD = omega arith
+
+pub positive : (bounds : Bounds) (order : Order) (v : ValueTree) (b : Bool) (o : ℕ) → IsShaped b (type_of v) → 0 < length (spelling order o v)
+unfolding spelling
+positive bounds order (NumberValue k n) b o h = simp (length-append, length-num) (omega (arith, width_positive k))
+positive bounds order (TextValue k t) b o h = simp (length-append, length-num) (omega arith)
+positive bounds order (VariantValue x) b o h = simp (length-append, length-num) (omega arith)
+positive bounds order (ArrayValue t xs) b o h = simp (length-append, length-num) (omega arith)
+positive bounds order (StructValue NoValues) b o h = absurd h
+positive bounds order (StructValue (MoreValues x xs)) b o h = simp length-append (omega (arith, positive bounds order x false (o + gap_to 8 o) h.0))
+positive bounds order (EntryValue k x) false o h = absurd h
+positive bounds order (EntryValue k x) true o h = simp length-append (omega (arith, positive bounds order k false (o + gap_to 8 o) (basic_complete false (type_of k) h.0)))
+
+-- ---- what the items pass is what is spelled
+
+abbrev pub IsInside : (bounds : Bounds) (order : Order) (room : ℕ) → (ℕ → TypeTree → Item ValueTree) → Type 0
+IsInside bounds order room inside = (end : ℕ) (t : TypeTree) (o : ℕ) (s : List ℕ) (v : ValueTree) (q : ℕ) (r : List ℕ) → (inside end t).Passed o s v q r ↔ Spelled bounds order room end t o s v q r
+
+module _ (bounds : Bounds) (order : Order) (inside : ℕ → TypeTree → Item ValueTree) where
+  to_zero : (end : ℕ) (t : TypeTree) (o : ℕ) (s : List ℕ) (v : ValueTree) (q : ℕ) (r : List ℕ) → (faults.items bounds order zero inside end t).Passed o s v q r → Spelled bounds order zero end t o s v q r
+  to_zero end (NumberType k) o s v q r w = number_to bounds order zero inside end k o s v q r w
+  to_zero end (TextType k) o s v q r w = text_to bounds order zero inside end k o s v q r w
+  to_zero end VariantType o s v q r w = absurd w
+  to_zero end (ArrayType t) o s v q r w = absurd w.4
+  to_zero end (StructType ts) o s v q r w = absurd w.4
+  to_zero end (EntryType k x) o s v q r w = entry_to bounds order zero inside end k x o s v q r w
+
+  from_zero : (end o : ℕ) (s : List ℕ) (v : ValueTree) (q : ℕ) (r : List ℕ) → Spelled bounds order zero end (type_of v) o s v q r → (faults.items bounds order zero inside end (type_of v)).Passed o s v q r
+  from_zero end o s (NumberValue k n) q r h = number_from bounds order zero inside end k o s n q r h
+  from_zero end o s (TextValue k t) q r h = text_from bounds order zero inside end k o s t q r h
+  from_zero end o s (VariantValue x) q r h = absurd h.formed
+  from_zero end o s (ArrayValue t xs) q r h = absurd h.formed
+  from_zero end o s (StructValue xs) q r h = absurd h.formed
+  from_zero end o s (EntryValue k x) q r h = entry_from bounds order zero inside end o s k x q r h
+
+  module _ (room : ℕ) (is_inside : IsInside bounds order room inside) where
+    to_suc : (end : ℕ) (t : TypeTree) (o : ℕ) (s : List ℕ) (v : ValueTree) (q : ℕ) (r : List ℕ) → (faults.items bounds order (suc room) inside end t).Passed o s v q r → Spelled bounds order (suc room) end t o s v q r
+    to_suc end (NumberType k) o s v q r w = number_to bounds order (suc room) inside end k o s v q r w
+    to_suc end (TextType k) o s v q r w = text_to bounds order (suc room) inside end k o s v q r w
+    to_suc end VariantType o s v q r w = variant_to bounds order room inside (λ e t o s v q r. (is_inside e t o s v q r).0) (λ e t o s v q r. (is_inside e t o s v q r).1) end o s v q r w
+    to_suc end (ArrayType t) o s v q r w = array_to bounds order room inside (λ e t o s v q r. (is_inside e t o s v q r).0) (λ e t o s v q r. (is_inside e t o s v q r).1) end t o s v q r w
+    to_suc end (StructType ts) o s v q r w = struct_to bounds order room inside (λ e t o s v q r. (is_inside e t o s v q r).0) (λ e t o s v q r. (is_inside e t o s v q r).1) end ts o s v q r w
+    to_suc end (EntryType k x) o s v q r w = entry_to bounds order (suc room) inside end k x o s v q r w
+
+    from_suc : (end o : ℕ) (s : List ℕ) (v : ValueTree) (q : ℕ) (r : List ℕ) → Spelled bounds order (suc room) end (type_of v) o s v q r → (faults.items bounds order (suc room) inside end (type_of v)).Passed o s v q r
+    from_suc end o s (NumberValue k n) q r h = number_from bounds order (suc room) inside end k o s n q r h
+    from_suc end o s (TextValue k t) q r h = text_from bounds order (suc room) inside end k o s t q r h
+    from_suc end o s (VariantValue x) q r h = variant_from bounds order room inside (λ e t o s v q r. (is_inside e t o s v q r).0) (λ e t o s v q r. (is_inside e t o s v q r).1) end o s x q r h
+    from_suc end o s (ArrayValue t xs) q r h = array_from bounds order room inside (λ e t o s v q r. (is_inside e t o s v q r).0) (λ e t o s v q r. (is_inside e t o s v q r).1) end t o s xs q r h
+    from_suc end o s (StructValue xs) q r h = struct_from bounds order room inside (λ e t o s v q r. (is_inside e t o s v q r).0) (λ e t o s v q r. (is_inside e t o s v q r).1) end o s xs q r h
+    from_suc end o s (EntryValue k x) q r h = entry_from bounds order (suc room) inside end o s k x q r h
+
+-- a spelled value has the type that was wanted, so it is enough to know its own type
+own_type : (bounds : Bounds) (order : Order) (room end : ℕ) (t : TypeTree) (o : ℕ) (s : List ℕ) (v : ValueTree) (q : ℕ) (r : List ℕ) → Spelled bounds order room end t o s v q r → Spelled bounds order room end (type_of v) o s v q r
+own_type bounds order room end t o s v q r h = record { has_type = refl; formed = h.formed; within = h.within; indexes = h.indexes; bytes = h.bytes; place = h.place; bound = h.bound }
+
+passed_zero : (bounds : Bounds) (order : Order) (inside : ℕ → TypeTree → Item ValueTree) → IsInside bounds order zero (faults.items bounds order zero inside)
+passed_zero bounds order inside end t o s v q r =
+    (to_zero bounds order inside end t o s v q r, λ h. subst (λ (u : TypeTree). (faults.items bounds order zero inside end u).Passed o s v q r) h.has_type (from_zero bounds order inside end o s v q r (own_type bounds order zero end t o s v q r h)))
+
+passed_suc : (bounds : Bounds) (order : Order) (room : ℕ) (inside : ℕ → TypeTree → Item ValueTree) → IsInside bounds order room inside → IsInside bounds order (suc room) (faults.items bounds order (suc room) inside)
+passed_suc bounds order room inside is_inside end t o s v q r =
+    (to_suc bounds order inside room is_inside end t o s v q r, λ h. subst (λ (u : TypeTree). (faults.items bounds order (suc room) inside end u).Passed o s v q r) h.has_type (from_suc bounds order inside room is_inside end o s v q r (own_type bounds order (suc room) end t o s v q r h)))
+
+pub value_inside : (bounds : Bounds) (order : Order) (room : ℕ) → IsInside bounds order room (faults.value bounds order room)
+value_inside bounds order zero end t o s v q r = (λ h. h, λ h. h)
+value_inside bounds order (suc room) end t o s v q r = (λ h. h, λ h. h)
+
+-- ---- the items of each type agree
+
+Agrees-whole : (bounds : Bounds) (order : Order) (room end : ℕ) (t : TypeTree) (item : Item ValueTree) (run : Reader ValueTree)
+    → ((o : ℕ) (s : List ℕ) (v : ValueTree) (q : ℕ) (r : List ℕ) → item.Passed o s v q r ↔ Spelled bounds order room end t o s v q r)
+    → Agrees item run → Agrees (faults.whole bounds order room end t item) run
+Agrees-whole bounds order room end t item run same a = Agrees-as item (faults.whole bounds order room end t item) run a same (λ o s f. (λ h. h, λ h. h))
+
+agrees_number : (bounds : Bounds) (order : Order) (room : ℕ) (inside : ℕ → TypeTree → Item ValueTree) (run : ℕ → TypeTree → Reader ValueTree) (end : ℕ) (k : NumberCode) → Agrees (faults.items bounds order room inside end (NumberType k)) (reading.items bounds order room run end (NumberType k))
+agrees_number bounds order room inside run end k =
+    Agrees-before (items.padding (width k) end) (reading.padding (width k) end) _ _ (Agrees-padding (width k) end) (λ _.
+    Agrees-before (items.number order (width k) end (number_row bounds.fds k)) (reading.number order (width k) end (number_row bounds.fds k)) _ _ (Agrees-number order (width k) end (number_row bounds.fds k)) (λ n.
+    Agrees-pure (NumberValue k n)))
+
+agrees_text : (bounds : Bounds) (order : Order) (room : ℕ) (inside : ℕ → TypeTree → Item ValueTree) (run : ℕ → TypeTree → Reader ValueTree) (end : ℕ) (k : TextCode) → Agrees (faults.items bounds order room inside end (TextType k)) (reading.items bounds order room run end (TextType k))
+agrees_text bounds order room inside run end k =
+    Agrees-before (items.padding (length_width k) end) (reading.padding (length_width k) end) _ _ (Agrees-padding (length_width k) end) (λ _.
+    Agrees-before (items.number order (length_width k) end (text_row end)) (reading.number order (length_width k) end (text_row end)) _ _ (Agrees-number order (length_width k) end (text_row end)) (λ n.
+    Agrees-before (items.text (kind_of k) n) (reading.text (kind_of k) n) _ _ (Agrees-text (kind_of k) n) (λ t.
+    Agrees-before items.nul reading.nul _ _ Agrees-nul (λ _.
+    Agrees-pure (TextValue k t)))))
+
+module _ (bounds : Bounds) (order : Order) (room : ℕ) (inside : ℕ → TypeTree → Item ValueTree) (run : ℕ → TypeTree → Reader ValueTree) (is_inside : IsInside bounds order room inside)
+    (agrees : (end : ℕ) (b : Bool) (t : TypeTree) → IsShaped b t → Agrees (inside end t) (run end t)) where
+  moves : (b : Bool) (t : TypeTree) → IsShaped b t → (end : ℕ) → Moves (inside end t)
+  moves b t complete end o s v q r h =
+      let spelled = (is_inside end t o s v q r).0 h in
+      omega (arith, spelled.place, positive bounds order v b o (subst (λ (u : TypeTree). IsShaped b u) (sym spelled.has_type) complete))
+
+  agrees_variant : (end : ℕ) → Agrees (faults.items bounds order (suc room) inside end VariantType) (reading.items bounds order (suc room) run end VariantType)
+  agrees_variant end =
+      Agrees-before (items.number order 1 end (text_row end)) (reading.number order 1 end (text_row end)) _ _ (Agrees-number order 1 end (text_row end)) (λ n.
+      Agrees-then (items.signature (Of kinds.Single) n) (reading.signature (Of kinds.Single) n) _ _ (Agrees-signature (Of kinds.Single) (λ t h. h) n) (λ held o s q r was.
+      Agrees-before items.nul reading.nul _ _ Agrees-nul (λ _.
+      Agrees-before (inside end held) (run end held) _ _ (agrees end false held (shaped_of held false 0 0 was.0.0)) (λ x.
+      Agrees-pure (VariantValue x)))))
+
+  agrees_array : (end : ℕ) (t : TypeTree) → IsShaped true t → Agrees (faults.items bounds order (suc room) inside end (ArrayType t)) (reading.items bounds order (suc room) run end (ArrayType t))
+  agrees_array end t complete =
+      Agrees-before (items.padding 4 end) (reading.padding 4 end) _ _ (Agrees-padding 4 end) (λ _.
+      Agrees-before (items.number order 4 end (array_row bounds t end)) (reading.number order 4 end (array_row bounds t end)) _ _ (Agrees-number order 4 end (array_row bounds t end)) (λ n.
+      Agrees-before (items.padding (alignment_of t) end) (reading.padding (alignment_of t) end) _ _ (Agrees-padding (alignment_of t) end) (λ _.
+      Agrees-before (items.contents n (λ e before. inside e t)) (reading.contents n (λ e before. run e t)) _ _
+      (Agrees-contents n (λ e before. inside e t) (λ e before. run e t) (λ e before. agrees e true t complete) (λ e before. moves true t complete e)) (λ xs.
+      Agrees-pure (ArrayValue t (value_trees xs))))))
+
+  pub agrees_fields : (end : ℕ) (ts : TypeTrees) → AreShaped ts → Agrees (faults.fields (inside end) ts) (reading.fields (run end) ts)
+  agrees_fields end NoTypes complete = Agrees-pure NoValues
+  agrees_fields end (MoreTypes t ts) complete =
+      Agrees-before (inside end t) (run end t) _ _ (agrees end false t complete.0) (λ v.
+      Agrees-before (faults.fields (inside end) ts) (reading.fields (run end) ts) _ _ (agrees_fields end ts complete.1) (λ vs.
+      Agrees-pure (MoreValues v vs)))
+
+  agrees_struct : (end : ℕ) (ts : TypeTrees) → AreShaped ts → Agrees (faults.items bounds order (suc room) inside end (StructType ts)) (reading.items bounds order (suc room) run end (StructType ts))
+  agrees_struct end ts complete =
+      Agrees-before (items.padding 8 end) (reading.padding 8 end) _ _ (Agrees-padding 8 end) (λ _.
+      Agrees-before (faults.fields (inside end) ts) (reading.fields (run end) ts) _ _ (agrees_fields end ts complete) (λ xs.
+      Agrees-pure (StructValue xs)))
+
+  struct_complete : (b : Bool) (ts : TypeTrees) → IsShaped b (StructType ts) → AreShaped ts
+  struct_complete b NoTypes h = absurd h
+  struct_complete b (MoreTypes t ts) h = h
+
+  agrees_suc : (end : ℕ) (b : Bool) (t : TypeTree) → IsShaped b t → Agrees (faults.items bounds order (suc room) inside end t) (reading.items bounds order (suc room) run end t)
+  agrees_suc end b (NumberType k) h = agrees_number bounds order (suc room) inside run end k
+  agrees_suc end b (TextType k) h = agrees_text bounds order (suc room) inside run end k
+  agrees_suc end b VariantType h = agrees_variant end
+  agrees_suc end b (ArrayType t) h = agrees_array end t h
+  agrees_suc end b (StructType ts) h = agrees_struct end ts (struct_complete b ts h)
+  agrees_suc end false (EntryType k v) h = absurd h
+  agrees_suc end true (EntryType k v) h =
+      let key = Agrees-whole bounds order (suc room) end k (faults.items bounds order (suc room) inside end k) (reading.items bounds order (suc room) run end k) (passed_suc bounds order room inside is_inside end k) (agrees_suc end false k (basic_complete false k h.0)) in
+      let held = Agrees-whole bounds order (suc room) end v (faults.items bounds order (suc room) inside end v) (reading.items bounds order (suc room) run end v) (passed_suc bounds order room inside is_inside end v) (agrees_suc end false v h.1) in
+      Agrees-before (items.padding 8 end) (reading.padding 8 end) _ _ (Agrees-padding 8 end) (λ _.
+      Agrees-before (faults.whole bounds order (suc room) end k (faults.items bounds order (suc room) inside end k)) (reading.items bounds order (suc room) run end k) _ _ key (λ x.
+      Agrees-before (faults.whole bounds order (suc room) end v (faults.items bounds order (suc room) inside end v)) (reading.items bounds order (suc room) run end v) _ _ held (λ y.
+      Agrees-pure (EntryValue x y))))
+
+module _ (bounds : Bounds) (order : Order) (inside : ℕ → TypeTree → Item ValueTree) (run : ℕ → TypeTree → Reader ValueTree) where
+  agrees_zero : (end : ℕ) (b : Bool) (t : TypeTree) → IsShaped b t → Agrees (faults.items bounds order zero inside end t) (reading.items bounds order zero run end t)
+  agrees_zero end b (NumberType k) h = agrees_number bounds order zero inside run end k
+  agrees_zero end b (TextType k) h = agrees_text bounds order zero inside run end k
+  agrees_zero end b VariantType h = Agrees-refuse reasons.TooDeep
+  agrees_zero end b (ArrayType t) h = Agrees-before (items.padding 4 end) (reading.padding 4 end) _ _ (Agrees-padding 4 end) (λ _. Agrees-refuse reasons.TooDeep)
+  agrees_zero end b (StructType ts) h = Agrees-before (items.padding 8 end) (reading.padding 8 end) _ _ (Agrees-padding 8 end) (λ _. Agrees-refuse reasons.TooDeep)
+  agrees_zero end false (EntryType k v) h = absurd h
+  agrees_zero end true (EntryType k v) h =
+      let key = Agrees-whole bounds order zero end k (faults.items bounds order zero inside end k) (reading.items bounds order zero run end k) (passed_zero bounds order inside end k) (agrees_zero end false k (basic_complete false k h.0)) in
+      let held = Agrees-whole bounds order zero end v (faults.items bounds order zero inside end v) (reading.items bounds order zero run end v) (passed_zero bounds order inside end v) (agrees_zero end false v h.1) in
+      Agrees-before (items.padding 8 end) (reading.padding 8 end) _ _ (Agrees-padding 8 end) (λ _.
+      Agrees-before (faults.whole bounds order zero end k (faults.items bounds order zero inside end k)) (reading.items bounds order zero run end k) _ _ key (λ x.
+      Agrees-before (faults.whole bounds order zero end v (faults.items bounds order zero inside end v)) (reading.items bounds order zero run end v) _ _ held (λ y.
+      Agrees-pure (EntryValue x y))))
+
+-- ---- what is read is what is spelled, and the faults are the table's
+
+pub Agrees-value : (bounds : Bounds) (order : Order) (room end : ℕ) (b : Bool) (t : TypeTree) → IsShaped b t → Agrees (faults.value bounds order room end t) (reading.value bounds order room end t)
+unfolding reading.value
+Agrees-value bounds order zero end b t h =
+    Agrees-whole bounds order zero end t (faults.items bounds order zero faults.nowhere end t) (reading.items bounds order zero reading.nowhere end t) (passed_zero bounds order faults.nowhere end t) (agrees_zero bounds order faults.nowhere reading.nowhere end b t h)
+Agrees-value bounds order (suc room) end b t h =
+    Agrees-whole bounds order (suc room) end t (faults.items bounds order (suc room) (faults.value bounds order room) end t) (reading.items bounds order (suc room) (reading.value bounds order room) end t)
+    (passed_suc bounds order room (faults.value bounds order room) (value_inside bounds order room) end t)
+    (agrees_suc bounds order room (faults.value bounds order room) (reading.value bounds order room) (value_inside bounds order room) (λ e b t h. Agrees-value bounds order room e b t h) end b t h)

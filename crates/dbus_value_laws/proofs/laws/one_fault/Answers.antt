@@ -1,0 +1,5 @@
+use Rattle.dbus_value_laws.proofs.ValueOutcomes.{one_fault}
+use Rattle.dbus_value_laws.proofs.laws.one_fault.Goals as goal
+
+pub returns : goal.returns
+returns c = one_fault

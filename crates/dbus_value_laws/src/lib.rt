@@ -1,0 +1,4 @@
+//! The laws over what bytes of the D-Bus wire format spell.
+#![tactic(auto)]
+
+pub mod laws;
