@@ -8,3 +8,4 @@ mod BodyPlaces
 mod WholeSteps
 mod WholeRefusals
 pub mod Firsts
+mod Headed

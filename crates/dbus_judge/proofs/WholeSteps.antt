@@ -54,25 +54,22 @@ module _ (limits : Limits) (bytes : List ℕ) (are : (i : ℕ) → get_or bytes 
   signed = field_signature (bounds_of limits) h.order (limits.depth - 1) (16 + h.fields) fs [] 16 (drop 16 bytes) (16 + h.fields) (drop (16 + h.fields) bytes) sequence
 
   module _ (headed : fixed_header limits 0 bytes ≡ Done h 16 (drop 16 bytes)) (none : lacks (required h.kind) fs ≡ None) (start : ℕ) (padded : padding 8 (16 + h.fields + 8) (16 + h.fields) (drop (16 + h.fields) bytes) ≡ Done tt start (drop start bytes)) where
-    module _ (vs : ValueTrees) (read : body_read limits (body_fds limits fs) h.order (types_spelled (body_signature fs)) (start + h.body) start (drop start bytes) ≡ Done vs (start + h.body) (drop (start + h.body) bytes)) where
-      abbrev made : MessageTree
+    module _ (vs : ValueTrees) where
+      abbrev pub made : MessageTree
       made = record { kind = h.kind; flags = h.flags; serial = h.serial; fields = fs; body = vs }
 
-      message_done : message_read limits 0 bytes ≡ Done (h.order, made) (start + h.body) (drop (start + h.body) bytes)
+      pub whole : body_read limits (body_fds limits fs) h.order (types_spelled (body_signature fs)) (start + h.body) start (drop start bytes) ≡ Done vs (start + h.body) (drop (start + h.body) bytes) → IsWhole limits bytes h.order made (start + h.body)
       unfolding message_read
-      message_done = rw (headed, fielded, none, padded, read) refl
+      whole read = whole_read limits bytes (bytes_from bytes are) h.order made (start + h.body) (drop (start + h.body) bytes) (rw (headed, fielded, none, padded, read) refl)
 
-      whole : IsWhole limits bytes h.order made (start + h.body)
-      whole = whole_read limits bytes (bytes_from bytes are) h.order made (start + h.body) (drop (start + h.body) bytes) message_done
-
-      pub is_judged : (seen : Seen) → AreNoted fs bytes seen → start ≡ 16 + h.fields + gap_to 8 (16 + h.fields)
+      pub is_judged : IsWhole limits bytes h.order made (start + h.body) → (seen : Seen) → AreNoted fs bytes seen → start ≡ 16 + h.fields + gap_to 8 (16 + h.fields)
           → IsJudged limits bytes (record { length = start + h.body; order = h.order; kind = h.kind; flags = h.flags; serial = h.serial; fields = seen; body = start })
-      is_judged seen noted suffix =
+      is_judged is seen noted suffix =
           let begins = body_begins (bounds_of limits) h.order (limits.depth - 1) h.fields start fs (drop 16 bytes) (drop (16 + h.fields) bytes) sequence suffix in
           record {
             message = made;
-            whole = whole;
+            whole = is;
             parts = (refl, refl, refl);
             fields = noted;
-            body = (begins, body_there h.order made limits bytes (start + h.body) start whole begins);
+            body = (begins, body_there h.order made limits bytes (start + h.body) start is begins);
           }

@@ -1,3 +1,4 @@
 pub mod Held
 pub mod Seen
 pub mod Judging
+pub mod Headed

@@ -1,19 +1,22 @@
 //! Messages judged. D-Bus Specification, "Message Format".
 #![tactic(auto)]
 
-ghost use Rattle.std.specs.Prelude.{◌≡◌, ◌≤◌, List, length, drop, true, false, None, IfSome};
+ghost use Rattle.std.specs.Prelude.{◌≡◌, ◌≤◌, List, [], length, drop, true, false, None, IfSome};
 ghost use Rattle.dbus_texts.specs.ComputedKinds.{types_spelled};
 ghost use Rattle.dbus_texts.specs.Kinds.{IsKind};
 ghost use Rattle.dbus_texts.specs.declared.text_kind.TextKind.TheVariants.{Signature};
-ghost use Rattle.dbus_message_model.specs.Messages.{FieldTree, body_signature, body_fds};
+ghost use Rattle.dbus_value_model.specs.declared.order.Order.{Order};
+ghost use Rattle.dbus_message_model.specs.Messages.{FieldTree, MessageTree, body_signature, body_fds};
 ghost use Rattle.dbus_header.specs.HeaderReading.{body_read};
+ghost use Rattle.dbus_header.specs.MessageOutcomes.{IsWhole};
 ghost use Rattle.dbus_value_judge.specs.Endings.{EndsAt, IsNotRead};
-ghost use Rattle.dbus_judge.specs.Judging.{IsJudged, BeginsWithNone};
+ghost use Rattle.dbus_judge.specs.Judging.{IsJudged, IsJudgedWhole, BeginsWithNone};
+ghost use Rattle.dbus_judge.specs.Headed.{IsHeaded, judged_of};
 ghost use Rattle.dbus_judge.specs.Seen.{AreNoted};
 
 use crate::fields::judge_fields;
 use crate::seen::Seen;
-use dbus_header::read_fixed_header;
+use dbus_header::{FixedHeader, read_fixed_header};
 use dbus_value_judge::{judge_values, padding};
 use dbus_value_model::{Limits, Order};
 
@@ -61,6 +64,68 @@ fn is_body(bytes: &[u8], at: usize, end: usize, order: Order, seen: &Seen, limit
     }
 }
 
+/// What stands before the body of a message, and where the body stands.
+#[derive(Clone, Copy)]
+pub(crate) struct Head {
+    /// The first sixteen bytes.
+    pub(crate) header: FixedHeader,
+    /// The offset of the body.
+    pub(crate) start: usize,
+    /// The offset after it.
+    pub(crate) end: usize,
+}
+
+impl Head {
+    /// What is judged of the message, with where the values of its known fields stand.
+    fn judged(&self, fields: Seen) -> Judged
+        ensures { result ≡ judged_of self.now fields }
+    {
+        Judged {
+            length: self.end,
+            order: self.header.order,
+            kind: self.header.kind,
+            flags: self.header.flags,
+            serial: self.header.serial,
+            fields,
+            body: self.start,
+        }
+    }
+}
+
+/// What stands before the body of a message within the limits that the bytes begin with, if all bytes of the body are there; at
+/// its values nothing is looked. Where the values of its known fields stand is noted in `seen`, where none was.
+#[inline(always)]
+fn read_head(bytes: &[u8], limits: Limits, seen: &mut Seen) -> Option<Head>
+    requires unseen { AreNoted [] bytes.now seen.old }
+    ensures headed { IfSome result (λ x. IsHeaded limits bytes.now x seen.new) }
+    ensures none { result ≡ None → BeginsWithNone limits bytes.now }
+{
+    let header = match read_fixed_header(bytes, limits) {
+        Ok(header) => header,
+        Err(_) => return None,
+    };
+    let n = header.fields as usize;
+    if bytes.len() - 16 < n {
+        return None;
+    }
+    if !judge_fields(bytes, 16, n, header.order, limits, seen) {
+        return None;
+    }
+    if !seen.has_required(header.kind) {
+        return None;
+    }
+    let start = padding(bytes, 16 + n, bytes.len(), 8)?;
+    let size = header.body as usize;
+    if bytes.len() - start < size {
+        return None;
+    }
+    Some(Head {
+        header,
+        start,
+        end: start + size,
+    })
+}
+
 /// The message within the limits that the bytes begin with, and where its parts stand.
 ///
 /// Some says that the bytes begin with a whole message within the limits, of the length that is answered: its order, type, flags
@@ -72,37 +137,31 @@ pub fn judge(bytes: &[u8], limits: Limits) -> Option<Judged>
     ensures judged { IfSome result (λ j. IsJudged limits bytes.now j) }
     ensures none { result ≡ None → BeginsWithNone limits bytes.now }
 {
-    let header = match read_fixed_header(bytes, limits) {
-        Ok(header) => header,
-        Err(_) => return None,
-    };
-    let n = header.fields as usize;
-    if bytes.len() - 16 < n {
-        return None;
-    }
     let mut seen = Seen::none();
-    if !judge_fields(bytes, 16, n, header.order, limits, &mut seen) {
+    let head = read_head(bytes, limits, &mut seen)?;
+    if !is_body(
+        bytes,
+        head.start,
+        head.end,
+        head.header.order,
+        &seen,
+        limits,
+    ) {
         return None;
     }
-    if !seen.has_required(header.kind) {
-        return None;
+    Some(head.judged(seen))
+}
+
+/// What is judged of bytes that are known to be one message within the limits, all of them, as a checker says it. The values of
+/// its body are not looked at again. No memory is taken. D-Bus Specification, "Message Format".
+pub fn judge_known(bytes: &[u8], limits: Limits) -> Judged
+    requires known { (order : Order) × (m : MessageTree) ×
+        IsWhole limits bytes.now order m (length bytes.now) }
+    ensures judged { IsJudgedWhole limits bytes.now result }
+{
+    let mut seen = Seen::none();
+    match read_head(bytes, limits, &mut seen) {
+        Some(head) => head.judged(seen),
+        None => unreachable!(),
     }
-    let start = padding(bytes, 16 + n, bytes.len(), 8)?;
-    let size = header.body as usize;
-    if bytes.len() - start < size {
-        return None;
-    }
-    let end = start + size;
-    if !is_body(bytes, start, end, header.order, &seen, limits) {
-        return None;
-    }
-    Some(Judged {
-        length: end,
-        order: header.order,
-        kind: header.kind,
-        flags: header.flags,
-        serial: header.serial,
-        fields: seen,
-        body: start,
-    })
 }

@@ -11,5 +11,5 @@ mod judging;
 mod seen;
 
 pub use first::judge_first;
-pub use judging::{Judged, judge};
+pub use judging::{Judged, judge, judge_known};
 pub use seen::{Place, Seen};

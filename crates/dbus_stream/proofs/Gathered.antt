@@ -6,9 +6,6 @@ use Rattle.dbus_value_model.specs.declared.limits.Limits.{Limits}
 use Rattle.dbus_value_model.specs.declared.order.Order.{Order}
 use Rattle.dbus_message_model.specs.Messages.{MessageTree}
 use Rattle.dbus_header.specs.MessageOutcomes.{IsWhole}
-use Rattle.dbus_header.proofs.OutcomeLaws.{one_whole}
-use Rattle.dbus_judge.specs.declared.judging.Judged.{Judged}
-use Rattle.dbus_judge.specs.Judging.{IsJudged, IsJudgedWhole}
 use Rattle.dbus_judge.proofs.Firsts.{alone}
 use Rattle.dbus_stream.specs.Checked.{IsOneMessage}
 
@@ -20,10 +17,3 @@ module _ (limits : Limits) where
       let size : length held + n ≡ length (held ++ take n piece) = sym (length-append held (take n piece) ∙ ap (λ k. length held + k) (length-take-le n piece fits)) in
       let own = subst (λ (b : List ℕ). IsWhole limits b order m (length held + n)) (take-append-add held piece n) (alone limits (held ++ piece) order m (length held + n) whole) in
       (order, m, subst (λ k. IsWhole limits (held ++ take n piece) order m k) size own)
-
-  -- what is judged of one message is judged of all its bytes
-  pub judged_all : (b : List ℕ) (j : Judged) → IsOneMessage limits b → IsJudged limits b j → IsJudgedWhole limits b j
-  judged_all b j one judged = record {
-    judged = judged;
-    all = (one_whole limits b j.order one.0 judged.message one.1 j.length (length b) judged.whole one.2).2;
-  }

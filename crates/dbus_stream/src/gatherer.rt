@@ -9,7 +9,7 @@ ghost use Rattle.dbus_stream.specs.Taking.{Takes};
 use crate::stream_fault::StreamFault;
 use crate::taker::Taker;
 use dbus_check::{Check, Checker};
-use dbus_judge::{Judged, judge, judge_first};
+use dbus_judge::{Judged, judge_first, judge_known};
 use dbus_value::Limits;
 use std::alloc::Allocator;
 use std::marker::Model;
@@ -146,15 +146,12 @@ impl<A: Allocator + Copy> Gatherer<A> {
         self.held.as_slice()
     }
 
-    // What is judged of the whole message that it holds.
+    // What is judged of the whole message that it holds, which the checker took: its body is not gone over again.
     fn judged_whole(&self) -> Judged
         requires { self.now.whole ≡ true }
         ensures { IsJudgedWhole self.now.limits self.now.held result }
     {
-        match judge(self.held.as_slice(), self.limits) {
-            Some(judged) => judged,
-            None => unreachable!(),
-        }
+        judge_known(self.held.as_slice(), self.limits)
     }
 
     // Takes a piece that begins with no whole message, or goes on with one that is held, and writes into `given` what is judged of

@@ -1,54 +1,26 @@
-use Rattle.std.proofs.Common.{ℕ, ◌+◌, ◌<◌, get_or, length, arith}
-use Rattle.dbus_header.specs.HeaderReading.{fixed_header}
-use Rattle.dbus_value_laws.proofs.ReadSteps.{bytes_from}
-use Rattle.dbus_judge.proofs.WholeRefusals.{stops_unread, no_header, too_short, no_fields, some_lacks, no_padding, no_body}
-use Rattle.dbus_judge.proofs.WholeSteps.{padded_to, signed, is_judged}
+use Rattle.std.proofs.Common.{ℕ, ◌<◌, get_or, sym, subst, arith}
+use Rattle.dbus_judge.specs.Judging.{IsJudged}
+use Rattle.dbus_judge.proofs.Headed.{types_signed, body_judged, body_refused}
 use Rattle.dbus_judge.proofs.judging.judge.Goals as goal
+
+pub read_head-requires : goal.read_head-requires
+read_head-requires c = record { unseen = c.none-seen.ensures c.args.bytes.now }
+
+pub is_body-requires : goal.is_body-requires
+is_body-requires c = let p = c.in_ok-head.ensures.headed in record { at_most = omega (arith, p.ends); inside = p.inside; noted = (p.fields, p.noted) }
 
 pub returns-clause-judged : goal.returns-clause-judged
 returns-clause-judged c =
-    let h = c.in-Ok.header in
     let b = c.args.bytes.now in
     let are : (i : ℕ) → get_or b i 0 < 256 = λ i. omega (arith, c.type_inv.bytes i) in
-    let start = c.in_ok-start.start in
-    let opened : 0 < c.args.limits.depth = c.in-Ok.ensures.there.0 in
-    let seen = (c.judge_fields.ensures.accepts c.if-not-judge_fields.false) in
-    let padded = padded_to (length b) (16 + h.fields) start b c.in_ok-start.ensures.moves.0 c.in_ok-start.ensures.moves.1 c.in_ok-start.ensures.gives in
-    let body = c.is_body.ensures.accepts c.if-not-is_body.false seen.0 seen.2 (signed c.args.limits b are h opened seen.0 seen.1) in
-    is_judged c.args.limits b are h opened seen.0 seen.1 c.in-Ok.ensures.gives (c.has_required.ensures.accepts b seen.0 seen.2 c.if-not-has_required.false) start padded body.0 body.1 c.judge_fields.new.seen seen.2 c.in_ok-start.ensures.moves.0
-
-pub returns-in-Err-clause-none : goal.returns-in-Err-clause-none
-returns-in-Err-clause-none c = λ none. no_header c.args.limits c.args.bytes.now (bytes_from c.args.bytes.now (λ i. omega (arith, c.type_inv.bytes i))) (stops_unread c.in-Err.field-0 (fixed_header c.args.limits 0 c.args.bytes.now) c.in-Err.ensures.gives)
-
-pub returns-then-bytes-n-clause-none : goal.returns-then-bytes-n-clause-none
-returns-then-bytes-n-clause-none c = λ none. too_short c.args.limits c.args.bytes.now (bytes_from c.args.bytes.now (λ i. omega (arith, c.type_inv.bytes i))) c.in-Ok.header c.in-Ok.ensures.gives (omega (arith, c.if-bytes-n.true, c.in-Ok.ensures.there))
-
-pub returns-then-not-judge_fields-clause-none : goal.returns-then-not-judge_fields-clause-none
-returns-then-not-judge_fields-clause-none c = λ none. no_fields c.args.limits c.args.bytes.now (bytes_from c.args.bytes.now (λ i. omega (arith, c.type_inv.bytes i))) c.in-Ok.header c.in-Ok.ensures.gives (c.judge_fields.ensures.refuses c.if-not-judge_fields.true)
-
-pub returns-then-not-has_required-clause-none : goal.returns-then-not-has_required-clause-none
-returns-then-not-has_required-clause-none c = λ none.
-    some_lacks c.args.limits c.args.bytes.now (bytes_from c.args.bytes.now (λ i. omega (arith, c.type_inv.bytes i))) c.in-Ok.header c.in-Ok.ensures.gives (c.judge_fields.ensures.accepts c.if-not-judge_fields.false).0 (c.judge_fields.ensures.accepts c.if-not-judge_fields.false).1
-    (c.has_required.ensures.refuses c.args.bytes.now (c.judge_fields.ensures.accepts c.if-not-judge_fields.false).0 (c.judge_fields.ensures.accepts c.if-not-judge_fields.false).2 c.if-not-has_required.true)
-
-pub returns-in_err-start-clause-none : goal.returns-in_err-start-clause-none
-returns-in_err-start-clause-none c = λ none.
-    no_padding c.args.limits c.args.bytes.now (bytes_from c.args.bytes.now (λ i. omega (arith, c.type_inv.bytes i))) c.in-Ok.header c.in-Ok.ensures.gives (c.judge_fields.ensures.accepts c.if-not-judge_fields.false).0 (c.judge_fields.ensures.accepts c.if-not-judge_fields.false).1
-    (c.has_required.ensures.accepts c.args.bytes.now (c.judge_fields.ensures.accepts c.if-not-judge_fields.false).0 (c.judge_fields.ensures.accepts c.if-not-judge_fields.false).2 c.if-not-has_required.false) (c.padding.ensures.none c.in_err-start.was)
-
-pub returns-then-bytes-start-clause-none : goal.returns-then-bytes-start-clause-none
-returns-then-bytes-start-clause-none c = λ none. too_short c.args.limits c.args.bytes.now (bytes_from c.args.bytes.now (λ i. omega (arith, c.type_inv.bytes i))) c.in-Ok.header c.in-Ok.ensures.gives (omega (arith, c.if-bytes-start.true, c.in_ok-start.ensures.moves))
+    let p = c.in_ok-head.ensures.headed in
+    let x = c.in_ok-head.head in
+    subst (IsJudged c.args.limits b) (sym c.judged.ensures) (body_judged c.args.limits b are x c.read_head.new.seen p (c.is_body.ensures.accepts c.if-not-is_body.false p.fields p.noted (types_signed c.args.limits b are x c.read_head.new.seen p)))
 
 pub returns-then-not-is_body-clause-none : goal.returns-then-not-is_body-clause-none
 returns-then-not-is_body-clause-none c = λ none.
-    let h = c.in-Ok.header in
     let b = c.args.bytes.now in
     let are : (i : ℕ) → get_or b i 0 < 256 = λ i. omega (arith, c.type_inv.bytes i) in
-    let start = c.in_ok-start.start in
-    let seen = (c.judge_fields.ensures.accepts c.if-not-judge_fields.false) in
-    let padded = padded_to (length b) (16 + h.fields) start b c.in_ok-start.ensures.moves.0 c.in_ok-start.ensures.moves.1 c.in_ok-start.ensures.gives in
-    no_body c.args.limits b (bytes_from b are) h c.in-Ok.ensures.gives seen.0 seen.1 (c.has_required.ensures.accepts b seen.0 seen.2 c.if-not-has_required.false) start padded
-    (c.is_body.ensures.refuses c.if-not-is_body.true seen.0 seen.2 (signed c.args.limits b are h c.in-Ok.ensures.there.0 seen.0 seen.1))
-
-pub judge_fields-requires-clause-unseen : goal.judge_fields-requires-clause-unseen
-judge_fields-requires-clause-unseen c = c.none-seen.ensures c.args.bytes.now
+    let p = c.in_ok-head.ensures.headed in
+    let x = c.in_ok-head.head in
+    body_refused c.args.limits b are x c.read_head.new.seen p (c.is_body.ensures.refuses c.if-not-is_body.true p.fields p.noted (types_signed c.args.limits b are x c.read_head.new.seen p))
