@@ -4,10 +4,10 @@
 //! and prints what it read and wrote. The messages are those of standard input.
 #![tactic(auto)]
 
-mod judged;
 mod messages;
 mod samples;
 mod timing;
+mod validated;
 mod values;
 
 use messages::bench_messages;

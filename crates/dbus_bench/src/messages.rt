@@ -1,6 +1,6 @@
 //! Messages, decoded, encoded, and cut out of a stream or checked in it.
-use crate::judged::bench_judged;
 use crate::timing::{Extent, Measure};
+use crate::validated::bench_validated;
 use dbus_check::{Check, Checker};
 use dbus_message::{Answer, Message, decode, encode};
 use dbus_stream::Cutter;
@@ -121,13 +121,13 @@ fn bench_encode(rt: &HostRuntime, bytes: &[u8], extent: Extent) -> io::Result<()
     measure.finish(rt, used, 1)
 }
 
-/// Measures `decode`, `encode`, the cutter, the checker, the judge and what stands on it on the messages of standard input.
+/// Measures `decode`, `encode`, the cutter, the checker, the validator and what stands on it on the messages of standard input.
 pub(crate) fn bench_messages(rt: &HostRuntime, extent: Extent) -> io::Result<()> {
     let mut bytes = Vec::new(rt.alloc());
     rt.stdin().read_to_end(&mut bytes)?;
     bench_decode(rt, &bytes, extent)?;
     bench_cut(rt, &bytes, extent)?;
     bench_check(rt, &bytes, extent)?;
-    bench_judged(rt, &bytes, extent)?;
+    bench_validated(rt, &bytes, extent)?;
     bench_encode(rt, &bytes, extent)
 }

@@ -67,9 +67,9 @@ record ArePassed {A : Type 0} (fs : List (HeaderField A)) : Type 0 where
 nonzero_eqb : (c : ℕ) → 0 < c → eqb c 0 ≡ false
 nonzero_eqb c h = ne_eqb c 0 (omega arith)
 
-passed : {A : Type 0} (room : ℕ) (before : List FieldTree) (fs : List (HeaderField A)) → AreFields before (field_trees fs) → AreWellFormed room (value_trees (map field_struct (field_trees fs)))
+passed : {A : Type 0} (depth_left : ℕ) (before : List FieldTree) (fs : List (HeaderField A)) → AreFields before (field_trees fs) → AreWellFormed depth_left (value_trees (map field_struct (field_trees fs)))
     → IsTrue (keep_bytes (field_values fs)) → ArePassed fs
-passed room before [] h formed kept = record { zero_code = refl; nonzero = refl; typed = refl; kind = refl; sound = refl }
+passed depth_left before [] h formed kept = record { zero_code = refl; nonzero = refl; typed = refl; kind = refl; sound = refl }
 passed zero before (f ∷ fs) h formed kept = absurd formed.0
 passed (suc zero) before (f ∷ fs) h formed kept = absurd formed.0.1.0
 passed (suc (suc inner)) before (f ∷ fs) h formed kept =
@@ -115,18 +115,18 @@ single_types ts w e k =
     let short : length (sigs ts) < 256 = omega (arith, k.1, ap length e) in
     each_single ts (subst (λ (us : TypeTrees). AreComplete us 0 0) (sym same) k.0.1) short
 
-values_pass : {A : Type 0} (room n : ℕ) (vs : List (Value A)) → AreSingleTypes (types_of (value_trees_of vs)) → AreWellFormed room (value_trees_of vs) → IsTrue (keep_bytes vs) → IsFirstUnsound n vs None
-values_pass room n [] single formed kept = refl
-values_pass room n (v ∷ vs) single formed kept =
-    let parts = parts_of room (value_tree v) formed.0 in
+values_pass : {A : Type 0} (depth_left n : ℕ) (vs : List (Value A)) → AreSingleTypes (types_of (value_trees_of vs)) → AreWellFormed depth_left (value_trees_of vs) → IsTrue (keep_bytes vs) → IsFirstUnsound n vs None
+values_pass depth_left n [] single formed kept = refl
+values_pass depth_left n (v ∷ vs) single formed kept =
+    let parts = parts_of depth_left (value_tree v) formed.0 in
     let packed = and_parts _ _ kept in
-    inr ((record { single = single.0; uniform = parts.1; packed = packed.0 }, parts.2), values_pass room (n + 1) vs single.1 formed.1 packed.1)
+    inr ((record { single = single.0; uniform = parts.1; packed = packed.0 }, parts.2), values_pass depth_left (n + 1) vs single.1 formed.1 packed.1)
 
 -- ---- all
 
-inside : (depth : ℕ) (fs : List FieldTree) → Rattle.dbus_value_model.specs.Values.IsWellFormed depth (field_array fs) → (room : ℕ) × AreWellFormed room (value_trees (map field_struct fs))
+inside : (depth : ℕ) (fs : List FieldTree) → Rattle.dbus_value_model.specs.Values.IsWellFormed depth (field_array fs) → (depth_left : ℕ) × AreWellFormed depth_left (value_trees (map field_struct fs))
 inside zero fs h = absurd h
-inside (suc room) fs h = (room, h.1)
+inside (suc depth_left) fs h = (depth_left, h.1)
 
 pub no_fault : {A : Type 0} (limits : Limits) (p : Parts A) → IsValidMessage limits (parts_tree p) → PartsKeepBytes p → NoFault limits p
 no_fault limits p valid packed =

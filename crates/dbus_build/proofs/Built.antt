@@ -31,7 +31,7 @@ use Rattle.dbus_message_model.specs.ValidMessages.{IsValidMessage}
 use Rattle.dbus_message_model.proofs.BothOrders.{valid_from}
 use Rattle.dbus_build.proofs.FaultyBody.{none_unsound}
 use Rattle.dbus_build.proofs.FaultyFields.{not_both}
-use Rattle.dbus_build.proofs.JudgedFields.{AreJudged, judged_all, rest_without, rest_unsound, formed_fields, fields_hold, are_fields}
+use Rattle.dbus_build.proofs.ValidatedFields.{AreValidated, validated_all, rest_without, rest_unsound, formed_fields, fields_hold, are_fields}
 use Rattle.dbus_build.proofs.PartEnds.{body_past, body_long, body_ends, body_kept}
 use Rattle.dbus_value_model.proofs.PartRanges.{ranged_of, all_ranged_of}
 use Rattle.dbus_value_model.proofs.ShortLaws.{all_short_of}
@@ -54,11 +54,11 @@ none_is_past fds vs (Some i) false past e = (λ t. absurd cc, λ below. absurd (
 module _ (limits : Limits) where
   -- ---- the fields and the body
 
-  pub judged : {A : Type 0} (p : Parts A) → SignaturePasses limits p → AreJudged (parts_tree p).fields
-  judged p s = judged_all p.fields.items s.0.0.0.0.0.0.0.0.1 s.0.0.0.0.0.0.0.0.0.2 s.0.0.0.0.0.0.1 s.0.0.0.1 s.0.0.1
+  pub validated : {A : Type 0} (p : Parts A) → SignaturePasses limits p → AreValidated (parts_tree p).fields
+  validated p s = validated_all p.fields.items s.0.0.0.0.0.0.0.0.1 s.0.0.0.0.0.0.0.0.0.2 s.0.0.0.0.0.0.1 s.0.0.0.1 s.0.0.1
 
   pub fields_short : {A : Type 0} (p : Parts A) → SignaturePasses limits p → HaveShortSignatures (value_trees (map field_struct (parts_tree p).fields))
-  fields_short p s = let formed = formed_fields (parts_tree p).fields (judged p s) in all_short_of (value_trees (map field_struct (parts_tree p).fields)) formed.uniform formed.named
+  fields_short p s = let formed = formed_fields (parts_tree p).fields (validated p s) in all_short_of (value_trees (map field_struct (parts_tree p).fields)) formed.uniform formed.named
 
   uniform_all : {A : Type 0} (n : ℕ) (vs : List (Value A)) → IsFirstUnsound n vs None → AreUniform (value_trees_of vs)
   uniform_all n [] h = tt
@@ -81,7 +81,7 @@ module _ (limits : Limits) where
       let m = parts_tree p in
       let short : length (message_bytes Little m) ≤ MESSAGE_LIMIT = omega (arith, limits.array_in, limits.message_in, long) in
       let inside = within_whole m in
-      let all = judged p s in
+      let all = validated p s in
       let fields = formed_fields m.fields all in
       let shallow = s.0.0.0.0.1 in
       let uniform = uniform_all 0 p.body.items s.0.1 in

@@ -1,7 +1,7 @@
 pub mod FaultyFields
 pub mod FaultyBody
 pub mod Nesting
-pub mod JudgedFields
+pub mod ValidatedFields
 pub mod PartEnds
 pub mod Built
 pub mod PackedFacts

@@ -14,7 +14,7 @@ use Rattle.dbus_message_model.specs.PartsViews.{field_tree, field_trees}
 use Rattle.dbus_message_model.specs.declared.header_field.HeaderField.{HeaderField}
 use Rattle.dbus_message_model.specs.declared.parts.Parts.{Parts}
 use Rattle.dbus_build.proofs.FaultyBody.{none_unsound}
-use Rattle.dbus_build.proofs.JudgedFields.{rest_without, rest_unsound}
+use Rattle.dbus_build.proofs.ValidatedFields.{rest_without, rest_unsound}
 use Rattle.dbus_message_model.proofs.Wants.{WantOk, want_ok}
 
 -- ---- values that hold no others

@@ -23,7 +23,7 @@ use dbus_message_model::{Message, Parts};
 use dbus_value_model::{Limits, first_past, padding_length};
 use std::alloc::Allocator;
 
-/// Judges the type, the serial, and which fields there are.
+/// Validates the type, the serial, and which fields there are.
 fn check_header<A: Allocator>(parts: &Parts<A>) -> Result<(), BuildFault>
     ensures { (limits : Limits) →
         MatchResult result (λ _. NoneIsMissing (parts_tree parts.now)) (λ f.
@@ -57,7 +57,7 @@ fn check_header<A: Allocator>(parts: &Parts<A>) -> Result<(), BuildFault>
     Ok(())
 }
 
-/// Judges how deep the values nest, the texts of the fields, the values, and their types.
+/// Validates how deep the values nest, the texts of the fields, the values, and their types.
 fn check_contents<A: Allocator + Copy>(
     alloc: A,
     parts: &Parts<A>,
@@ -114,7 +114,7 @@ fn measure<A: Allocator>(parts: &Parts<A>, limits: Limits) -> Result<usize, Buil
     }
 }
 
-/// Judges the indexes of descriptors.
+/// Validates the indexes of descriptors.
 fn check_indexes<A: Allocator>(parts: &Parts<A>, limits: Limits) -> Result<(), BuildFault>
     requires passed { SizePasses limits parts.now }
     ensures { MatchResult result (λ _. NoFault limits parts.now) (λ f.

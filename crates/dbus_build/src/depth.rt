@@ -12,21 +12,21 @@ use dbus_value_model::{Limits, nest_within, nests_within};
 use std::alloc::Allocator;
 
 /// Whether a field opens no more containers than may be open there: its struct, its variant, and those of its value.
-fn field_nests<A: Allocator>(field: &HeaderField<A>, room: u8) -> bool
-    ensures { IsTrue result ↔ NestsWithin room (field_struct (field_tree field.now)) }
+fn field_nests<A: Allocator>(field: &HeaderField<A>, depth_left: u8) -> bool
+    ensures { IsTrue result ↔ NestsWithin depth_left (field_struct (field_tree field.now)) }
 {
-    1 < room && nests_within(&field.value, room - 2)
+    1 < depth_left && nests_within(&field.value, depth_left - 2)
 }
 
 /// Whether the field array opens no more containers than may be open, itself among them.
-fn fields_nest<A: Allocator>(fields: &[HeaderField<A>], room: u8) -> bool
-    ensures { IsTrue result ↔ NestsWithin room (field_array (field_trees fields.now)) }
+fn fields_nest<A: Allocator>(fields: &[HeaderField<A>], depth_left: u8) -> bool
+    ensures { IsTrue result ↔ NestsWithin depth_left (field_array (field_trees fields.now)) }
 {
-    if room == 0 {
+    if depth_left == 0 {
         return false;
     }
     for field in fields {
-        if !field_nests(field, room - 1) {
+        if !field_nests(field, depth_left - 1) {
             return false;
         }
     }

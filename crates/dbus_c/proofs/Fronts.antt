@@ -6,14 +6,14 @@ use Rattle.dbus_message_model.specs.Messages.{body_bytes}
 use Rattle.dbus_message_model.proofs.MessageLengths.{message_length}
 use Rattle.dbus_header.specs.MessageOutcomes.{IsWhole}
 use Rattle.dbus_header.proofs.OutcomeLaws.{whole_bytes}
-use Rattle.dbus_judge.specs.declared.judging.Judged.{Judged}
-use Rattle.dbus_judge.specs.Judging.{IsJudged, IsJudgedFirst}
-use Rattle.dbus_judge.proofs.Firsts.{followed}
+use Rattle.dbus_validate.specs.declared.validating.Validated.{Validated}
+use Rattle.dbus_validate.specs.Validating.{IsValidated, IsValidatedFirst}
+use Rattle.dbus_validate.proofs.Firsts.{followed}
 use Rattle.dbus_view.specs.Views.{ViewState, IsViewOf}
 use Rattle.dbus_c.specs.Arguments.{IsFirstView}
 
--- a view of the message that is judged is of the one that all of them begin with
-pub front_viewed : (limits : Limits) (b : List ℕ) (j : Judged) (v : ViewState) → IsJudgedFirst limits b j → IsViewOf limits (take j.length b) v → IsFirstView limits b v
+-- a view of the message that is validated is of the one that all of them begin with
+pub front_viewed : (limits : Limits) (b : List ℕ) (j : Validated) (v : ViewState) → IsValidatedFirst limits b j → IsViewOf limits (take j.length b) v → IsFirstView limits b v
 front_viewed limits b j v first is =
     let order = is.2.0 in
     let m = is.2.1 in
@@ -29,18 +29,18 @@ front_viewed limits b j v first is =
       front = is.1 ∙ ap (λ (i : ℕ). take i b) (sym same);
     }
 
--- the parts of the message that is judged are those of the one that all of the bytes begin with
-module _ (limits : Limits) (b : List ℕ) (j : Judged) (first : IsJudgedFirst limits b j) where
-  abbrev judged : IsJudged limits (take j.length b) j
-  judged = first.judged.judged
+-- the parts of the message that is validated are those of the one that all of the bytes begin with
+module _ (limits : Limits) (b : List ℕ) (j : Validated) (first : IsValidatedFirst limits b j) where
+  abbrev validated : IsValidated limits (take j.length b) j
+  validated = first.validated.validated
 
-  pub first_whole : IsWhole limits b j.order judged.message j.length
-  first_whole = followed limits b j.order judged.message j.length j.length judged.whole
+  pub first_whole : IsWhole limits b j.order validated.message j.length
+  first_whole = followed limits b j.order validated.message j.length j.length validated.whole
 
-  pub first_body_length : j.length ≡ j.body + length (body_bytes j.order judged.message)
-  first_body_length = omega (arith, (whole_bytes limits b j.order judged.message j.length first_whole).1, message_length j.order judged.message, judged.body.0)
+  pub first_body_length : j.length ≡ j.body + length (body_bytes j.order validated.message)
+  first_body_length = omega (arith, (whole_bytes limits b j.order validated.message j.length first_whole).1, message_length j.order validated.message, validated.body.0)
 
-  pub first_body : drop j.body (take j.length b) ≡ body_bytes j.order judged.message
+  pub first_body : drop j.body (take j.length b) ≡ body_bytes j.order validated.message
   first_body =
       let all = take_all (j.length - j.body) (drop j.body (take j.length b)) (omega (arith, length-drop j.body (take j.length b), length-take-le j.length b first.fits)) in
-      sym all ∙ sym judged.body.1
+      sym all ∙ sym validated.body.1

@@ -4,10 +4,10 @@
 ghost use Rattle.std.specs.Prelude.{◌≡◌, ◌<◌, None, IfSome};
 ghost use Rattle.dbus_c.specs.Arguments.{HasArgument, HasNoArgument, IsFirstView};
 ghost use Rattle.dbus_c.specs.GivenLimits.{limits_of};
-ghost use Rattle.dbus_judge.specs.Judging.{BeginsWithNone};
+ghost use Rattle.dbus_validate.specs.Validating.{BeginsWithNone};
 
 use crate::given_limits::{WireLimits, given_limits};
-use dbus_judge::judge_first;
+use dbus_validate::validate_first;
 use dbus_value_model::Limits;
 use dbus_view::MessageView;
 
@@ -57,12 +57,12 @@ pub extern "C" fn dbus_wire_argument_of(
     }
 }
 
-// A view of the message within the limits that the bytes begin with, which is judged by itself.
+// A view of the message within the limits that the bytes begin with, which is validated by itself.
 fn first_view(bytes: &[u8], limits: Limits) -> Option<MessageView<'_>>
     ensures viewed { IfSome result (λ v. IsFirstView limits bytes.now v) }
     ensures none { result ≡ None → BeginsWithNone limits bytes.now }
 {
-    let judged = judge_first(bytes, limits)?;
-    let message = &bytes[..judged.length];
-    Some(MessageView::of_judged(message, limits, judged))
+    let validated = validate_first(bytes, limits)?;
+    let message = &bytes[..validated.length];
+    Some(MessageView::of_validated(message, limits, validated))
 }

@@ -12,7 +12,7 @@ ghost use Rattle.dbus_c.specs.GivenLimits.{limits_of};
 use crate::given_limits::{WireLimits, given_limits};
 use crate::reasons::{field_named, reason_number};
 use dbus_check::{Check, Checker};
-use dbus_judge::judge;
+use dbus_validate::validate;
 use dbus_value_model::{Fault, Limits};
 
 /// The answer that bytes begin with a message.
@@ -91,9 +91,9 @@ pub extern "C" fn dbus_wire_check(bytes: &[u8], limits: &WireLimits, out: &mut C
     ensures exact { IsExact (limits_of limits.now) bytes.now result out.new }
 {
     let within = given_limits(limits);
-    match judge(bytes, within) {
-        Some(judged) => {
-            *out = whole_told(bytes, judged.length);
+    match validate(bytes, within) {
+        Some(validated) => {
+            *out = whole_told(bytes, validated.length);
             WHOLE
         }
         None => check_all(bytes, within, out),

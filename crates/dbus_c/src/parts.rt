@@ -4,16 +4,16 @@
 ghost use Rattle.std.specs.Prelude.{◌≡◌, ◌<◌, List, ℕ, true};
 ghost use Rattle.dbus_c.specs.GivenLimits.{limits_of};
 ghost use Rattle.dbus_c.specs.Parting.{HasFields, HasParts, IsPlaceOf, number_of};
-ghost use Rattle.dbus_judge.specs.Judging.{BeginsWithNone};
-ghost use Rattle.dbus_judge.specs.Seen.{AreNoted};
+ghost use Rattle.dbus_validate.specs.Validating.{BeginsWithNone};
+ghost use Rattle.dbus_validate.specs.Seen.{AreNoted};
 ghost use Rattle.dbus_message_model.specs.Lookups.{field_value};
 ghost use Rattle.dbus_message_model.specs.Messages.{FieldTree, is_known, order_byte};
 
 use crate::given_limits::{WireLimits, given_limits};
-use dbus_judge::{Seen, judge_first};
 use dbus_message_model::field_code::{
     DESTINATION, ERROR_NAME, INTERFACE, MEMBER, PATH, REPLY_SERIAL, SENDER, SIGNATURE, UNIX_FDS,
 };
+use dbus_validate::{Seen, validate_first};
 use dbus_value_model::Order;
 
 /// Where the text of a header field stands among the bytes that were handed in.
@@ -77,16 +77,16 @@ pub extern "C" fn dbus_wire_parts_of(bytes: &[u8], limits: &WireLimits, out: &mu
     ensures none { result ≡ 0 → BeginsWithNone (limits_of limits.now) bytes.now }
     ensures unchanged { result ≡ 0 → out.new ≡ out.old }
 {
-    match judge_first(bytes, given_limits(limits)) {
-        Some(judged) => {
-            let seen = &judged.fields;
+    match validate_first(bytes, given_limits(limits)) {
+        Some(validated) => {
+            let seen = &validated.fields;
             *out = Parts {
-                length: judged.length as u64,
-                body: judged.body as u64,
-                order: order_byte(judged.order),
-                kind: u32::from(judged.kind),
-                flags: u32::from(judged.flags),
-                serial: judged.serial,
+                length: validated.length as u64,
+                body: validated.body as u64,
+                order: order_byte(validated.order),
+                kind: u32::from(validated.kind),
+                flags: u32::from(validated.flags),
+                serial: validated.serial,
                 reply_serial: number_of(seen, REPLY_SERIAL),
                 unix_fds: number_of(seen, UNIX_FDS),
                 path: place_of(seen, PATH),

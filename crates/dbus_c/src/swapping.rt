@@ -5,13 +5,13 @@ ghost use Rattle.std.specs.Prelude.{◌≡◌, ◌≤◌, ◌++◌, drop, length
 ghost use Rattle.dbus_c.specs.GivenLimits.{limits_of};
 ghost use Rattle.dbus_c.specs.Swapping.{IsSwapExact, Swaps, order_named};
 ghost use Rattle.dbus_header.specs.MessageOutcomes.{IsWhole};
-ghost use Rattle.dbus_judge.specs.Judging.{IsJudged};
+ghost use Rattle.dbus_validate.specs.Validating.{IsValidated};
 ghost use Rattle.dbus_message_model.specs.Messages.{MessageTree, message_bytes};
 
 use crate::checking::{Checked, PARTIAL, REFUSED, WHOLE, check_all, whole_told};
 use crate::given_limits::{WireLimits, given_limits};
-use dbus_judge::{Judged, judge};
-use dbus_swap::turn;
+use dbus_swap::byteswap;
+use dbus_validate::{Validated, validate};
 use dbus_value_model::{Limits, Order};
 
 /// The answer that the caller has too few bytes for what is to be written.
@@ -37,30 +37,30 @@ pub extern "C" fn dbus_wire_swap(
         out.old out.new }
 {
     let within = given_limits(limits);
-    match judge(bytes, within) {
-        Some(judged) => {
-            *told = whole_told(bytes, judged.length);
-            if out.len() < judged.length {
+    match validate(bytes, within) {
+        Some(validated) => {
+            *told = whole_told(bytes, validated.length);
+            if out.len() < validated.length {
                 return NO_ROOM;
             }
-            write_in(bytes, &judged, within, order_of(order), out);
+            write_in(bytes, &validated, within, order_of(order), out);
             WHOLE
         }
         None => check_all(bytes, within, told),
     }
 }
 
-// Writes a message that was judged to the start of bytes that have room for it, in this order.
-fn write_in(bytes: &[u8], judged: &Judged, limits: Limits, order: Order, out: &mut [u8])
-    requires judged { IsJudged limits bytes.now judged.now }
-    requires room { judged.now.length ≤ length out.old }
-    ensures { (m : MessageTree) → IsWhole limits bytes.now judged.now.order m judged.now.length →
-        out.new ≡ message_bytes order m ++ drop judged.now.length out.old }
+// Writes a message that was validated to the start of bytes that have room for it, in this order.
+fn write_in(bytes: &[u8], validated: &Validated, limits: Limits, order: Order, out: &mut [u8])
+    requires validated { IsValidated limits bytes.now validated.now }
+    requires room { validated.now.length ≤ length out.old }
+    ensures { (m : MessageTree) → IsWhole limits bytes.now validated.now.order m validated.now.length →
+        out.new ≡ message_bytes order m ++ drop validated.now.length out.old }
 {
-    let copy = &mut out[..judged.length];
-    copy.copy_from_slice(&bytes[..judged.length]);
-    if judged.order != order {
-        turn(bytes, copy, judged, limits);
+    let copy = &mut out[..validated.length];
+    copy.copy_from_slice(&bytes[..validated.length]);
+    if validated.order != order {
+        byteswap(bytes, copy, validated, limits);
     }
 }
 

@@ -1,11 +1,9 @@
 -- Fronts, one after another.
-use Rattle.std.proofs.Common.{◌≡◌, ℕ, ◌+◌, List, ◌++◌, take, drop, Result, Ok, Err, refl, sym, ap, ◌∙◌, arith}
+use Rattle.std.proofs.Common.{◌≡◌, ℕ, ◌+◌, List, ◌++◌, take, drop, Result, Ok, Err, sym, ap, ◌∙◌, arith}
 use Rattle.std.proofs.lemmas.List.{length-drop}
-use Rattle.dbus_value_model.specs.declared.fault.Reason.{Reason}
 use Rattle.dbus_value_model.specs.declared.stop.Stop.{Stop}
 use Rattle.dbus_value_model.specs.declared.stop.Stop.TheVariants as stops
-use Rattle.dbus_value_model.specs.Items.{fault}
-use Rattle.dbus_value_model.specs.Reading.{Reader, Outcome, Done, after, pure, refuse}
+use Rattle.dbus_value_model.specs.Reading.{Reader, Outcome, Done, after, pure}
 use Rattle.dbus_value_checker.specs.Fronts.{Fronts}
 use Rattle.dbus_value_checker.specs.Suspended.{onward, done}
 use Rattle.dbus_value_checker.proofs.FrontSteps.{both_taken, both_waits, both_refused}
@@ -50,7 +48,3 @@ pub forgotten : {X A : Type 0} (v : X → A × ℕ) (o : ℕ) (s : List ℕ) (ru
 forgotten v o s run (Ok x) h = (h.0, λ c. ap (λ (r : Outcome _). after r (λ a. done)) (h.1 c))
 forgotten v o s run (Err stops.Partial) h = ap (λ (r : Outcome _). after r (λ a. done)) h
 forgotten v o s run (Err (stops.Refused f)) h = λ c. ap (λ (r : Outcome _). after r (λ a. done)) (h c)
-
--- a fault that needs no byte
-pub refused_front : {X A : Type 0} (w : X → A × ℕ) (o : ℕ) (s : List ℕ) (why : Reason) → Fronts w o s (Err (stops.Refused (fault o why))) (refuse {A = A} why)
-refused_front w o s why = λ c. refl

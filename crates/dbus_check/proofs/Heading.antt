@@ -8,7 +8,7 @@ use Rattle.dbus_value_model.specs.declared.order.Order.{Order}
 use Rattle.dbus_value_model.specs.declared.fault.Reason.{Reason}
 use Rattle.dbus_value_model.specs.declared.fault.Reason.TheVariants as reasons
 use Rattle.dbus_value_model.specs.Items.{fault}
-use Rattle.dbus_value_model.specs.Reading.{Outcome, Done, Faulty, Partial, after, padding, number, judged, number_of, judge, bounded, up_to, contents, fields, value, ends}
+use Rattle.dbus_value_model.specs.Reading.{Outcome, Done, Faulty, Partial, after, padding, number, validated, number_of, validate, bounded, up_to, contents, fields, value, ends}
 use Rattle.dbus_message_model.specs.Messages.{FieldTree, want, has_code, is_known, lacks, required, body_signature, text_in, number_in, fd_count, body_fds}
 use Rattle.dbus_header.specs.MessageItems.{code_row}
 use Rattle.dbus_header.specs.MessageReading.{opening}
@@ -100,7 +100,7 @@ number_rows : (order : Order) (w end : ℕ) (row other : ℕ → ℕ → Option 
 unfolding number
 number_rows order w end row other h o s =
     let n = number_of order (take w s) in
-    ap (λ (r : Option Reason). cond (ltb end (o + w)) (Faulty (fault o reasons.Overrun)) (cond (ltb (length s) w) Partial (judged r n o (o + w) (drop w s)))) (h (o + w) n)
+    ap (λ (r : Option Reason). cond (ltb end (o + w)) (Faulty (fault o reasons.Overrun)) (cond (ltb (length s) w) Partial (validated r n o (o + w) (drop w s)))) (h (o + w) n)
 
 row_is : (before : List FieldTree) (p n : ℕ) → code_row before p n ≡ seen_row (codes_of before) p n
 row_is before p n = ap (λ (b : Bool). cond (eqb n 0) (Some reasons.FieldCode) (cond (is_known n && b) (Some reasons.FieldTwice) None)) (sym (has_codes n before))
@@ -139,7 +139,7 @@ module _ (limits : Limits) (order : Order) (end : ℕ) (before : List FieldTree)
 module _ (limits : Limits) (order : Order) (kind body : ℕ) where
   abbrev finish : List FieldTree → On
   finish fs o s =
-      after (judge (lacks (required kind) fs) o s) (λ _ p u. after (bounded 8 (padding 8) p u) (λ _ q v.
+      after (validate (lacks (required kind) fs) o s) (λ _ p u. after (bounded 8 (padding 8) p u) (λ _ q v.
       after (bounded body (body_read limits (body_fds limits fs) order (types_spelled (body_signature fs))) q v) (λ _. done)))
 
   body_is : (fs : List FieldTree) (o : ℕ) (s : List ℕ)
@@ -153,9 +153,9 @@ module _ (limits : Limits) (order : Order) (kind body : ℕ) where
 
   finish_is : (before : List FieldTree) (o : ℕ) (s : List ℕ) → finish (reverse before) o s ≡ after_fields limits order kind body (kept_from before) o s
   finish_is before o s =
-      same_after (judge (lacks (required kind) (reverse before)) o s) _ _ (λ _ p u.
+      same_after (validate (lacks (required kind) (reverse before)) o s) _ _ (λ _ p u.
       same_after (bounded 8 (padding 8) p u) _ _ (λ _ q v. body_is (reverse before) q v))
-      ∙ ap (λ (r : Option Reason). after (judge r o s) (λ _ p. onward (padding 8 (p + 8)) (body_on limits order body (kept_from before)) p)) (sym (missing_is (required kind) before))
+      ∙ ap (λ (r : Option Reason). after (validate r o s) (λ _ p. onward (padding 8 (p + 8)) (body_on limits order body (kept_from before)) p)) (sym (missing_is (required kind) before))
 
 -- ---- the fields
 
@@ -202,8 +202,8 @@ message_on_is limits o s =
     ∙ same_after (fixed_header limits o s) _ _ (λ h p u.
     after_after (contents h.fields (field_read limits h.order) p u) _ (λ _. done)
     ∙ same_after (contents h.fields (field_read limits h.order) p u) _ _ (λ fs q v.
-    after_after (judge (lacks (required h.kind) fs) q v) _ (λ _. done)
-    ∙ same_after (judge (lacks (required h.kind) fs) q v) _ _ (λ _ q v.
+    after_after (validate (lacks (required h.kind) fs) q v) _ (λ _. done)
+    ∙ same_after (validate (lacks (required h.kind) fs) q v) _ _ (λ _ q v.
     after_after (bounded 8 (padding 8) q v) _ (λ _. done)
     ∙ same_after (bounded 8 (padding 8) q v) _ _ (λ _ q v.
     after_after (bounded h.body (body_read limits (body_fds limits fs) h.order (types_spelled (body_signature fs))) q v) _ (λ _. done))))

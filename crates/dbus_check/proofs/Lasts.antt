@@ -10,7 +10,7 @@ use Rattle.dbus_value_model.specs.declared.fault.Fault.{Fault}
 use Rattle.dbus_value_model.specs.declared.fault.Reason.{Reason}
 use Rattle.dbus_value_model.specs.declared.fault.Reason.TheVariants as reasons
 use Rattle.dbus_value_model.specs.Items.{fault}
-use Rattle.dbus_value_model.specs.Reading.{Reader, Outcome, Done, Faulty, Partial, after, pure, refuse, number, number_of, judged}
+use Rattle.dbus_value_model.specs.Reading.{Reader, Outcome, Done, Faulty, Partial, after, pure, refuse, number, number_of, validated}
 use Rattle.dbus_header.specs.MessageReading.{byte_order, opening}
 use Rattle.dbus_header.specs.HeaderReading.{fixed_header}
 use Rattle.dbus_value_laws.proofs.Agreement.{after_done, after_faulty}
@@ -51,13 +51,13 @@ lasts_opening (suc room) = lasts_pure (suc room - 1)
 
 -- ---- numbers
 
-judged_more : (j : Option Reason) (n o q : ℕ) (s c : List ℕ) (x p : ℕ) (r : List ℕ) → judged j n o q s ≡ Done x p r → judged j n o q (s ++ c) ≡ Done x p (r ++ c)
-judged_more None n o q s c x p r e = let a : n ≡ x = cc in let b : q ≡ p = cc in let d : s ≡ r = cc in rw (a, b, d) refl
-judged_more (Some why) n o q s c x p r e = absurd cc
+validated_more : (j : Option Reason) (n o q : ℕ) (s c : List ℕ) (x p : ℕ) (r : List ℕ) → validated j n o q s ≡ Done x p r → validated j n o q (s ++ c) ≡ Done x p (r ++ c)
+validated_more None n o q s c x p r e = let a : n ≡ x = cc in let b : q ≡ p = cc in let d : s ≡ r = cc in rw (a, b, d) refl
+validated_more (Some why) n o q s c x p r e = absurd cc
 
-judged_still : (j : Option Reason) (n o q : ℕ) (s c : List ℕ) (f : Fault) → judged j n o q s ≡ Faulty f → judged j n o q (s ++ c) ≡ Faulty f
-judged_still None n o q s c f e = absurd cc
-judged_still (Some why) n o q s c f e = e
+validated_still : (j : Option Reason) (n o q : ℕ) (s c : List ℕ) (f : Fault) → validated j n o q s ≡ Faulty f → validated j n o q (s ++ c) ≡ Faulty f
+validated_still None n o q s c f e = absurd cc
+validated_still (Some why) n o q s c f e = e
 
 split-at : (i : ℕ) (s c : List ℕ) → s ++ c ≡ take i s ++ (drop i s ++ c)
 split-at i s c = ap (λ (t : List ℕ). t ++ c) (sym (take-append-drop i s)) ∙ append_assoc (take i s) (drop i s) c
@@ -74,7 +74,7 @@ module _ (order : Order) (w end : ℕ) (row : ℕ → ℕ → Option Reason) whe
   unfolding number
   number_over o s over = rw (lt-ltb _ _ over) refl
 
-  number_read : (o : ℕ) (got c : List ℕ) → length got ≡ w → o + w ≤ end → number order w end row o (got ++ c) ≡ judged (row (o + w) (number_of order got)) (number_of order got) o (o + w) c
+  number_read : (o : ℕ) (got c : List ℕ) → length got ≡ w → o + w ≤ end → number order w end row o (got ++ c) ≡ validated (row (o + w) (number_of order got)) (number_of order got) o (o + w) c
   unfolding number
   number_read o got c whole fits =
       let long : w ≤ length (got ++ c) = omega (arith, length-append got c) in
@@ -82,13 +82,13 @@ module _ (order : Order) (w end : ℕ) (row : ℕ → ℕ → Option Reason) whe
       let suffix : drop w (got ++ c) ≡ c = drop_at got c w whole in
       rw (le-ltb _ _ fits, le-ltb _ _ long, at, suffix) refl
 
-  there : (o : ℕ) (s c : List ℕ) → o + w ≤ end → w ≤ length s → run o (s ++ c) ≡ judged (row (o + w) (number_of order (take w s))) (number_of order (take w s)) o (o + w) (drop w s ++ c)
+  there : (o : ℕ) (s c : List ℕ) → o + w ≤ end → w ≤ length s → run o (s ++ c) ≡ validated (row (o + w) (number_of order (take w s))) (number_of order (take w s)) o (o + w) (drop w s ++ c)
   there o s c fits long =
       let size : length (take w s) ≡ w = omega (arith, length-take w s) in
       ap (run o) (split-at w s c) ∙ number_read o (take w s) (drop w s ++ c) size fits
 
-  alone : (o : ℕ) (s : List ℕ) → o + w ≤ end → w ≤ length s → run o s ≡ judged (row (o + w) (number_of order (take w s))) (number_of order (take w s)) o (o + w) (drop w s)
-  alone o s fits long = ap (run o) (sym (append-nil s)) ∙ there o s [] fits long ∙ ap (λ (t : List ℕ). judged (row (o + w) (number_of order (take w s))) (number_of order (take w s)) o (o + w) t) (append-nil (drop w s))
+  alone : (o : ℕ) (s : List ℕ) → o + w ≤ end → w ≤ length s → run o s ≡ validated (row (o + w) (number_of order (take w s))) (number_of order (take w s)) o (o + w) (drop w s)
+  alone o s fits long = ap (run o) (sym (append-nil s)) ∙ there o s [] fits long ∙ ap (λ (t : List ℕ). validated (row (o + w) (number_of order (take w s))) (number_of order (take w s)) o (o + w) t) (append-nil (drop w s))
 
   pub lasts_number : Lasts (number order w end row)
   lasts_number = record {
@@ -96,14 +96,14 @@ module _ (order : Order) (w end : ℕ) (row : ℕ → ℕ → Option Reason) whe
       | inl past ↦ let f = number_over o s past in absurd cc
       | inr fits ↦ elim (cases_lt (length s) w) [
         | inl short ↦ let p = number_waits o s short fits in absurd cc
-        | inr long ↦ there o s c fits long ∙ judged_more _ _ o (o + w) (drop w s) c x q r (sym (alone o s fits long) ∙ e)
+        | inr long ↦ there o s c fits long ∙ validated_more _ _ o (o + w) (drop w s) c x q r (sym (alone o s fits long) ∙ e)
       ]
     ];
     refuses = λ o s f e c. elim (cases_lt end (o + w)) [
       | inl past ↦ number_over o (s ++ c) past ∙ (sym (number_over o s past) ∙ e)
       | inr fits ↦ elim (cases_lt (length s) w) [
         | inl short ↦ let p = number_waits o s short fits in absurd cc
-        | inr long ↦ there o s c fits long ∙ judged_still _ _ o (o + w) (drop w s) c f (sym (alone o s fits long) ∙ e)
+        | inr long ↦ there o s c fits long ∙ validated_still _ _ o (o + w) (drop w s) c f (sym (alone o s fits long) ∙ e)
       ]
     ];
   }
@@ -185,26 +185,26 @@ pub sized_opening : (room : ℕ) → Sized 0 (opening room)
 sized_opening zero = sized_refuse reasons.TooDeep
 sized_opening (suc room) = sized_pure (suc room - 1)
 
-judged_takes : (j : Option Reason) (n o q : ℕ) (s : List ℕ) (x p : ℕ) (r : List ℕ) → judged j n o q s ≡ Done x p r → (s ≡ r) × (q ≡ p)
-judged_takes None n o q s x p r e = (cc, cc)
-judged_takes (Some why) n o q s x p r e = absurd cc
+validated_takes : (j : Option Reason) (n o q : ℕ) (s : List ℕ) (x p : ℕ) (r : List ℕ) → validated j n o q s ≡ Done x p r → (s ≡ r) × (q ≡ p)
+validated_takes None n o q s x p r e = (cc, cc)
+validated_takes (Some why) n o q s x p r e = absurd cc
 
-judged_decides : (j : Option Reason) (n o q : ℕ) (s : List ℕ) → judged j n o q s ≡ Partial → ⊥
-judged_decides None n o q s e = absurd cc
-judged_decides (Some why) n o q s e = absurd cc
+validated_decides : (j : Option Reason) (n o q : ℕ) (s : List ℕ) → validated j n o q s ≡ Partial → ⊥
+validated_decides None n o q s e = absurd cc
+validated_decides (Some why) n o q s e = absurd cc
 
 pub sized_number : (order : Order) (w end : ℕ) (row : ℕ → ℕ → Option Reason) → Sized w (number order w end row)
 sized_number order w end row = record {
   waits = λ o s e. elim (cases_lt end (o + w)) [
     | inl past ↦ let f = number_over order w end row o s past in absurd cc
-    | inr fits ↦ elim (cases_lt (length s) w) [ inl short ↦ short | inr long ↦ absurd (judged_decides _ _ o (o + w) (drop w s) (sym (alone order w end row o s fits long) ∙ e)) ]
+    | inr fits ↦ elim (cases_lt (length s) w) [ inl short ↦ short | inr long ↦ absurd (validated_decides _ _ o (o + w) (drop w s) (sym (alone order w end row o s fits long) ∙ e)) ]
   ];
   takes = λ o s x q r e. elim (cases_lt end (o + w)) [
     | inl past ↦ let f = number_over order w end row o s past in absurd cc
     | inr fits ↦ elim (cases_lt (length s) w) [
       | inl short ↦ let p = number_waits order w end row o s short fits in absurd cc
       | inr long ↦
-          let j = judged_takes _ _ o (o + w) (drop w s) x q r (sym (alone order w end row o s fits long) ∙ e) in
+          let j = validated_takes _ _ o (o + w) (drop w s) x q r (sym (alone order w end row o s fits long) ∙ e) in
           let l = length-drop w s in
           let d = ap length j.0 in
           let q_is = j.1 in

@@ -75,9 +75,6 @@ module _ (x : Pieces) (to : To) (h : Holds x to) (piece : List ℕ) (room : ℕ)
   abbrev Ran : Result ℕ Fault → Type 0
   Ran r = (to : To) → Denotes x.progress to → Runs both r p to
 
-  pub join_inside : (k : ℕ) → Ran (Ok k) → k ≤ length both
-  join_inside k runs = (runs h.from h.denotes).0
-
   -- the kept ones were passed
   pub join_back : (k : ℕ) → Ran (Ok k) → before ≤ k → (y : Pieces) → y.progress ≡ p → y.kept.items ≡ [] → Joined piece (Ok (k - before)) y to
   join_back k runs le y y_is none =
@@ -148,24 +145,6 @@ module _ (x : Pieces) (to : To) (h : Holds x to) (none : x.kept.items ≡ []) (p
   law : (c : List ℕ) → h.from c ≡ to c
   law c = ap (λ (t : List ℕ). h.from (t ++ c)) (sym none) ∙ h.same c
 
-  pub read_inside : (k : ℕ) → RanAlone (Ok k) → k ≤ length piece
-  read_inside k runs = (runs h.from h.denotes).0
-
-  -- it is whole
-  pub read_whole : (k : ℕ) → RanAlone (Ok k) → (IsLive p.stage → ⊥) → Fed piece (Ok k) (record x { progress = p }) to
-  read_whole k runs over =
-      let r = runs h.from h.denotes in (
-        r.0,
-        record {
-          from = after_bytes h.from (take k piece);
-          denotes = r.1;
-          same = λ c. ap (λ (t : List ℕ). h.from (take k piece ++ (t ++ c))) none ∙ law (take k piece ++ c);
-          few = let e = ap length none in omega (arith, e);
-          waits = λ some. let e = ap length none in absurd (omega (arith, e, some));
-        },
-        λ live. absurd (over live),
-      )
-
   -- the rest is kept
   pub read_kept : (k : ℕ) → RanAlone (Ok k) → IsLive p.stage → (IsLive p.stage → length piece < k + 288) → (y : Pieces) → y.progress ≡ p → y.kept.items ≡ x.kept.items ++ drop k piece → Fed piece (Ok (length piece)) y to
   read_kept k runs live short y y_is kept_is =
@@ -186,9 +165,6 @@ module _ (x : Pieces) (to : To) (h : Holds x to) (none : x.kept.items ≡ []) (p
         },
         λ _. (refl, waits),
       )
-
-  pub read_refused : (f : Fault) → RanAlone (Err f) → (c : List ℕ) → to (piece ++ c) ≡ Faulty f
-  read_refused f runs c = sym (law (piece ++ c)) ∙ runs h.from h.denotes c
 
 -- ---- one call after another
 

@@ -19,7 +19,7 @@ use Rattle.dbus_value_model.specs.declared.stop.Stop.{Stop}
 use Rattle.dbus_value_model.specs.declared.stop.Stop.TheVariants as stops
 use Rattle.dbus_value_model.specs.Gives.{Stops}
 use Rattle.dbus_value_model.specs.Items.{fault}
-use Rattle.dbus_value_model.specs.Reading.{Outcome, Done, Faulty, Partial, after, judge, padding, fields, value, ends}
+use Rattle.dbus_value_model.specs.Reading.{Outcome, Done, Faulty, Partial, after, validate, padding, fields, value, ends}
 use Rattle.dbus_message_model.specs.Messages.{required}
 use Rattle.dbus_header.specs.HeaderReading.{fixed_header}
 use Rattle.dbus_header.specs.declared.fixed_header.FixedHeader.{FixedHeader}
@@ -71,19 +71,15 @@ module _ (limits : Limits) (order : Order) (kind body : ℕ) (kept : Kept) where
   fields_over (suc turns) end o c e = let le : end ≤ o = omega arith in rw (le-ltb _ _ le, eq-eqb o end e) refl
 
   pub lacks_field : (why : Reason) (o : ℕ) (c : List ℕ) → missing (required kind) kept.codes ≡ Some why → after_fields limits order kind body kept o c ≡ Faulty (fault o why)
-  lacks_field why o c e = ap (λ (r : Option Reason). after (judge r o c) (λ _ o. onward (padding 8 (o + 8)) (body_on limits order body kept) o)) e
+  lacks_field why o c e = ap (λ (r : Option Reason). after (validate r o c) (λ _ o. onward (padding 8 (o + 8)) (body_on limits order body kept) o)) e
 
   pub lacks_none : (o : ℕ) (c : List ℕ) → missing (required kind) kept.codes ≡ None → after_fields limits order kind body kept o c ≡ onward (padding 8 (o + 8)) (body_on limits order body kept) o c
-  lacks_none o c e = ap (λ (r : Option Reason). after (judge r o c) (λ _ o. onward (padding 8 (o + 8)) (body_on limits order body kept) o)) e
+  lacks_none o c e = ap (λ (r : Option Reason). after (validate r o c) (λ _ o. onward (padding 8 (o + 8)) (body_on limits order body kept) o)) e
 
   -- ---- the padding before the body
 
   pub padding_taken : (o : ℕ) (s : List ℕ) (n : ℕ) → Fronts (λ (n : ℕ). (tt, n)) o s (Ok n) (padding 8 (o + 8)) → (c : List ℕ) → onward (padding 8 (o + 8)) (body_on limits order body kept) o (take n s ++ c) ≡ body_on limits order body kept (o + n) c
   padding_taken o s n h c = ap (λ (r : Outcome (Unit {0})). after r (λ _. body_on limits order body kept)) (h.1 c)
-
-  pub padding_stops : (e : Stop) (o : ℕ) (s : List ℕ) → Fronts (λ (n : ℕ). (tt, n)) o s (Err e) (padding 8 (o + 8)) → (x : Progress) (to : To) → ((c : List ℕ) → onward (padding 8 (o + 8)) (body_on limits order body kept) o c ≡ to c) → Moves x s (Err e) x to
-  padding_stops stops.Partial o s h x to same = (refl, sym (same s) ∙ ap (λ (r : Outcome (Unit {0})). after r (λ _. body_on limits order body kept)) h)
-  padding_stops (stops.Refused f) o s h x to same = λ c. sym (same (s ++ c)) ∙ ap (λ (r : Outcome (Unit {0})). after r (λ _. body_on limits order body kept)) (h c)
 
 -- ---- the body
 

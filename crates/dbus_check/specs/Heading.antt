@@ -9,7 +9,7 @@ use Rattle.dbus_value_model.specs.declared.order.Order.{Order}
 use Rattle.dbus_value_model.specs.declared.fault.Reason.{Reason}
 use Rattle.dbus_value_model.specs.declared.fault.Reason.TheVariants as reasons
 use Rattle.dbus_value_model.specs.Values.{ValueTree}
-use Rattle.dbus_value_model.specs.Reading.{Partial, after, padding, number, judge, fields, value, ends}
+use Rattle.dbus_value_model.specs.Reading.{Partial, after, padding, number, validate, fields, value, ends}
 use Rattle.dbus_message_model.specs.Messages.{want, is_known, required, text_in, number_in}
 use Rattle.dbus_header.specs.MessageReading.{opening}
 use Rattle.dbus_header.specs.HeaderReading.{wanted_value, message_read}
@@ -55,7 +55,7 @@ body_on limits order body kept o s =
 -- after the fields
 abbrev pub after_fields : Limits → Order → ℕ → ℕ → Kept → On
 after_fields limits order kind body kept =
-    onward (judge (missing (required kind) kept.codes)) (λ o. onward (padding 8 (o + 8)) (body_on limits order body kept) o)
+    onward (validate (missing (required kind) kept.codes)) (λ o. onward (padding 8 (o + 8)) (body_on limits order body kept) o)
 
 -- after a field's code
 abbrev pub field_value_on : Limits → Order → ℕ → Kept → (Kept → On) → ℕ → On

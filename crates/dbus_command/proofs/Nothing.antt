@@ -11,10 +11,6 @@ use Rattle.dbus_command.specs.Told.{IsNoCommand, NamesNothing}
 use Rattle.dbus_command.specs.declared.command.Command.{Command}
 use Rattle.dbus_command.specs.declared.command.Command.TheVariants.{Show, Check, Swap, Filter}
 
--- no subcommand
-pub none_names_nothing : NamesNothing None
-none_names_nothing = record { no_command = λ command limits named. named; no_rule = λ fault found. found }
-
 module _ (sub : Text × List Row) where
   -- options that name no limits
   pub unlimited_names_nothing : ((limits : Limits) → HasLimits sub.1 limits → ⊥) → NamesNothing (Some sub)
@@ -29,22 +25,6 @@ module _ (sub : Text × List Row) where
     no_command = λ command limits named. none.no_command command named.0;
     no_rule = λ fault found. none.no_fault fault found.0;
   }
-
-module _ (name : Text) (rows : List Row) (no_show : name ≡ codes "show" → ⊥) (no_check : name ≡ codes "check" → ⊥) (no_swap : name ≡ codes "swap" → ⊥)
-    (no_filter : name ≡ codes "filter" → ⊥) where
-  other_command : (command : Command) → NamesCommand name rows command → ⊥
-  other_command Show named = no_show named
-  other_command Check named = no_check named
-  other_command (Swap order) named = no_swap named.0
-  other_command (Filter rule) named = no_filter named.0
-
-  other_fault : (fault : RuleFault) → HasFault name rows fault → ⊥
-  other_fault Memory found = found
-  other_fault (Bad at reason) found = no_filter found.named
-
-  -- no name of a command
-  pub other_is_no_command : IsNoCommand name rows
-  other_is_no_command = record { no_command = other_command; no_fault = other_fault }
 
 module _ (rows : List Row) (no_order : (order : Order) → first_of (codes "to") rows ≡ Some (order_word order) → ⊥) where
   unordered_command : (command : Command) → NamesCommand (codes "swap") rows command → ⊥

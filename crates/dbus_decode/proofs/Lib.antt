@@ -1,1 +1,1 @@
-pub mod JudgedParts
+pub mod ValidatedParts

@@ -1,4 +1,4 @@
-//! Messages built from bytes that were judged. D-Bus Specification, "Message Format".
+//! Messages built from bytes that were validated. D-Bus Specification, "Message Format".
 #![tactic(auto)]
 
 ghost use Rattle.std.specs.Prelude.{◌≡◌, ℕ, List, IsTrue, IfOk};
@@ -7,12 +7,12 @@ ghost use Rattle.dbus_message_model.specs.Messages.{FieldTree, MessageTree};
 ghost use Rattle.dbus_message_model.specs.PackedParts.{PartsKeepBytes, field_values};
 ghost use Rattle.dbus_message_model.specs.PartsViews.{field_tree, field_trees, parts_tree};
 ghost use Rattle.dbus_header.specs.MessageOutcomes.{IsWhole};
-ghost use Rattle.dbus_judge.specs.Judging.{IsJudged};
+ghost use Rattle.dbus_validate.specs.Validating.{IsValidated};
 ghost use Rattle.dbus_walk.specs.Fields.{FieldsStand, FieldStands, field_end};
 
-use dbus_judge::Judged;
 use dbus_message_model::{HeaderField, Parts};
 use dbus_unmarshal::{build_typed, build_values};
+use dbus_validate::Validated;
 use dbus_value_model::Limits;
 use dbus_walk::{FIELDS_START, Source, Spot, field_at, fields_end, lengths_of};
 use std::alloc::{AllocError, Allocator};
@@ -20,32 +20,32 @@ use std::alloc::{AllocError, Allocator};
 /// For how many fields room is made at the start: most messages have no more.
 const FIELD_ROOM: usize = 8;
 
-/// The header field that begins at `at`, and the offset after it, where `room` containers may be open in the message.
+/// The header field that begins at `at`, and the offset after it, where `depth_left` containers may be open in the message.
 fn build_field<A: Allocator + Copy>(
     alloc: A,
     source: &Source<'_>,
     at: usize,
-    room: u8,
+    depth_left: u8,
 ) -> Result<(HeaderField<A>, usize), AllocError>
-    requires stands { (f : FieldTree) × (rest : List ℕ) × FieldStands source.now room at f rest }
-    ensures built { (f : FieldTree) (rest : List ℕ) → FieldStands source.now room at f rest →
+    requires stands { (f : FieldTree) × (rest : List ℕ) × FieldStands source.now depth_left at f rest }
+    ensures built { (f : FieldTree) (rest : List ℕ) → FieldStands source.now depth_left at f rest →
         IfOk result (λ r. (field_tree r.0 ≡ f) × (r.1 ≡ field_end source.now at f)) }
     ensures packed { IfOk result (λ r. IsTrue (keeps_bytes r.0.value)) }
 {
-    let field = field_at(source, at, room);
-    let (value, after) = build_typed(alloc, source, field.at, field.types, field.room)?;
+    let field = field_at(source, at, depth_left);
+    let (value, after) = build_typed(alloc, source, field.at, field.types, field.depth_left)?;
     let code = field.code;
     Ok((HeaderField { code, value }, after))
 }
 
-/// The header fields of a message in which `room` containers may be open.
+/// The header fields of a message in which `depth_left` containers may be open.
 fn build_fields<A: Allocator + Copy>(
     alloc: A,
     source: &Source<'_>,
-    room: u8,
+    depth_left: u8,
 ) -> Result<Vec<HeaderField<A>, A>, AllocError>
-    requires stand { (fs : List FieldTree) × (rest : List ℕ) × FieldsStand source.now room fs rest }
-    ensures built { (fs : List FieldTree) (rest : List ℕ) → FieldsStand source.now room fs rest →
+    requires stand { (fs : List FieldTree) × (rest : List ℕ) × FieldsStand source.now depth_left fs rest }
+    ensures built { (fs : List FieldTree) (rest : List ℕ) → FieldsStand source.now depth_left fs rest →
         IfOk result (λ fields. field_trees fields.items ≡ fs) }
     ensures packed { IfOk result (λ fields. IsTrue (keep_bytes (field_values fields.items))) }
 {
@@ -55,45 +55,45 @@ fn build_fields<A: Allocator + Copy>(
     let mut fields = Vec::with_capacity(alloc, some)?;
     let mut place = FIELDS_START;
     while place < end {
-        let (field, after) = build_field(alloc, source, place, room)?;
+        let (field, after) = build_field(alloc, source, place, depth_left)?;
         fields.push(field)?;
         place = after;
     }
     Ok(fields)
 }
 
-/// The message that the bytes begin with, which was judged in them under the limits: what it is made of. An array of BYTE in it is
+/// The message that the bytes begin with, which was validated in them under the limits: what it is made of. An array of BYTE in it is
 /// `Bytes`. The one error is that a growth of memory was refused. D-Bus Specification, "Message Format".
 pub fn build_message<A: Allocator + Copy>(
     alloc: A,
     bytes: &[u8],
-    judged: &Judged,
+    validated: &Validated,
     limits: Limits,
 ) -> Result<Parts<A>, AllocError>
-    requires judged { IsJudged limits bytes.now judged.now }
+    requires validated { IsValidated limits bytes.now validated.now }
     ensures built { (m : MessageTree) →
-        IsWhole limits bytes.now judged.now.order m judged.now.length →
+        IsWhole limits bytes.now validated.now.order m validated.now.length →
         IfOk result (λ parts. parts_tree parts ≡ m) }
     ensures packed { IfOk result PartsKeepBytes }
 {
     let source = Source {
-        bytes: &bytes[..judged.length],
-        order: judged.order,
+        bytes: &bytes[..validated.length],
+        order: validated.order,
     };
     let fields = build_fields(alloc, &source, limits.depth)?;
-    let types = judged.fields.signature(bytes);
+    let types = validated.fields.signature(bytes);
     let mut table = [0; 255];
     let spot = Spot {
-        at: judged.body,
+        at: validated.body,
         types,
         lengths: lengths_of(types, &mut table),
-        room: limits.depth,
+        depth_left: limits.depth,
     };
     let body = build_values(alloc, &source, &spot)?;
     Ok(Parts {
-        kind: judged.kind,
-        flags: judged.flags,
-        serial: judged.serial,
+        kind: validated.kind,
+        flags: validated.flags,
+        serial: validated.serial,
         fields,
         body,
     })

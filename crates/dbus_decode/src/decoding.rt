@@ -11,8 +11,8 @@ ghost use Rattle.dbus_decode.specs.Beginnings.{BeginsWithOne};
 use crate::answer::Answer;
 use crate::building::build_message;
 use crate::fault::fault_of;
-use dbus_judge::judge;
 use dbus_message_model::Message;
+use dbus_validate::validate;
 use dbus_value_model::{Limits, Refusal};
 use std::alloc::{AllocError, Allocator};
 
@@ -47,17 +47,17 @@ pub fn decode_within<A: Allocator + Copy>(
     ensures packed { IfOk result AnswerKeepsBytes }
     ensures memory { IfErr result (λ e. e ≡ Memory → BeginsWithOne limits bytes.now) }
 {
-    let Some(judged) = judge(bytes, limits) else {
+    let Some(validated) = validate(bytes, limits) else {
         return match fault_of(bytes, limits) {
             Some(fault) => Err(Refusal::Format(fault)),
             None => Ok(Answer::Partial),
         };
     };
-    match build_message(alloc, bytes, &judged, limits) {
+    match build_message(alloc, bytes, &validated, limits) {
         Ok(parts) => Ok(Answer::Whole {
-            order: judged.order,
-            message: Message::of_valid(parts, judged.length),
-            used: judged.length,
+            order: validated.order,
+            message: Message::of_valid(parts, validated.length),
+            used: validated.length,
         }),
         Err(AllocError) => Err(Refusal::Memory),
     }

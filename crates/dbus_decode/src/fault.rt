@@ -3,7 +3,7 @@
 
 ghost use Rattle.std.specs.Prelude.{MatchOption};
 ghost use Rattle.dbus_header.specs.MessageOutcomes.{IsRefused, IsPartial};
-ghost use Rattle.dbus_judge.specs.Judging.{BeginsWithNone};
+ghost use Rattle.dbus_validate.specs.Validating.{BeginsWithNone};
 
 use dbus_check::{Check, Checker};
 use dbus_value_model::{Fault, Limits};

@@ -1,4 +1,4 @@
-//! Messages decoded: their bytes are judged, and then the message is built from them.
+//! Messages decoded: their bytes are validated, and then the message is built from them.
 #![tactic(auto)]
 
 mod answer;

@@ -131,21 +131,21 @@ no_gap o = omega arith
 
 -- ---- opening
 
-pub open_to : (room o : ℕ) (s : List ℕ) (x q : ℕ) (r : List ℕ) → (opening room).Passed o s x q r → (room ≡ suc x) × (q ≡ o) × (r ≡ s)
+pub open_to : (depth_left o : ℕ) (s : List ℕ) (x q : ℕ) (r : List ℕ) → (opening depth_left).Passed o s x q r → (depth_left ≡ suc x) × (q ≡ o) × (r ≡ s)
 open_to zero o s x q r h = absurd h
-open_to (suc room) o s x q r h = (omega (arith, h.0), h.1, h.2)
+open_to (suc depth_left) o s x q r h = (omega (arith, h.0), h.1, h.2)
 
-pub opens : (room o : ℕ) (s : List ℕ) → (opening (suc room)).Passed o s room o s
-opens room o s = (omega arith, refl, refl)
+pub opens : (depth_left o : ℕ) (s : List ℕ) → (opening (suc depth_left)).Passed o s depth_left o s
+opens depth_left o s = (omega arith, refl, refl)
 
-pub Agrees-opening : (room : ℕ) → Agrees (opening room) (reads.opening room)
+pub Agrees-opening : (depth_left : ℕ) → Agrees (opening depth_left) (reads.opening depth_left)
 Agrees-opening zero = Agrees-refuse reasons.TooDeep
-Agrees-opening (suc room) = Agrees-pure (suc room - 1)
+Agrees-opening (suc depth_left) = Agrees-pure (suc depth_left - 1)
 
 -- ---- the field
 
-module _ (bounds : Bounds) (order : Order) (room end : ℕ) (before : List FieldTree) where
-  field_to : (o : ℕ) (s : List ℕ) (f : FieldTree) (q : ℕ) (r : List ℕ) → (field_items bounds order room end before).Passed o s f q r → (field bounds order room end before).Passed o s f q r
+module _ (bounds : Bounds) (order : Order) (depth_left end : ℕ) (before : List FieldTree) where
+  field_to : (o : ℕ) (s : List ℕ) (f : FieldTree) (q : ℕ) (r : List ℕ) → (field_items bounds order depth_left end before).Passed o s f q r → (field bounds order depth_left end before).Passed o s f q r
   unfolding spelling
   field_to o s f q r w =
       let struct = w.4 in
@@ -159,7 +159,7 @@ module _ (bounds : Bounds) (order : Order) (room end : ℕ) (before : List Field
       let code = a.0 in
       let x = e.0 in
       let inner = variant.0 in
-      let within = open_to room w.1 w.2 struct.0 struct.1 struct.2 struct.3 in
+      let within = open_to depth_left w.1 w.2 struct.0 struct.1 struct.2 struct.3 in
       let deeper = open_to struct.0 a.1 a.2 inner variant.1 variant.2 variant.3 in
       let rows = code_row_fits before a.1 code a.3.4 in
       let wanted = wanted_to bounds order inner end (want code) c.0 d.1 d.2 x e.1 e.2 (want_ok code) c.3.1 e.3 in
@@ -192,14 +192,14 @@ module _ (bounds : Bounds) (order : Order) (room end : ℕ) (before : List Field
       ) in
       let both : Spelled bounds order (suc (suc inner)) end field_type o s (field_struct f) q r × IsField before f =
       rw (g.0, g.1, g.2) (whole, record { not_zero = rows.0; not_again = rows.1; suits = wanted.1 }) in
-      let room_is : suc (suc inner) ≡ room = sym (within.0 ∙ ap suc deeper.0) in
+      let room_is : suc (suc inner) ≡ depth_left = sym (within.0 ∙ ap suc deeper.0) in
       (subst (λ (u : ℕ). Spelled bounds order u end field_type o s (field_struct f) q r) room_is both.0, both.1)
 
 -- a struct of two parts, taken apart
-two_parts : (bounds : Bounds) (order : Order) (room end : ℕ) (t : TypeTree) (o : ℕ) (s : List ℕ) (a b : ValueTree) (q : ℕ) (r : List ℕ) → Spelled bounds order (suc room) end t o s (StructValue (MoreValues a (MoreValues b NoValues))) q r
-    → (p : ℕ) × (u : List ℕ) × (p1 : ℕ) × (u1 : List ℕ) × ((s ≡ pad 8 o ++ u) × (p ≡ o + gap_to 8 o) × (p ≤ end)) × Spelled bounds order room end (type_of a) p u a p1 u1 × Spelled bounds order room end (type_of b) p1 u1 b q r
+two_parts : (bounds : Bounds) (order : Order) (depth_left end : ℕ) (t : TypeTree) (o : ℕ) (s : List ℕ) (a b : ValueTree) (q : ℕ) (r : List ℕ) → Spelled bounds order (suc depth_left) end t o s (StructValue (MoreValues a (MoreValues b NoValues))) q r
+    → (p : ℕ) × (u : List ℕ) × (p1 : ℕ) × (u1 : List ℕ) × ((s ≡ pad 8 o ++ u) × (p ≡ o + gap_to 8 o) × (p ≤ end)) × Spelled bounds order depth_left end (type_of a) p u a p1 u1 × Spelled bounds order depth_left end (type_of b) p1 u1 b q r
 unfolding spelling
-two_parts bounds order room end t o s a b q r h =
+two_parts bounds order depth_left end t o s a b q r h =
     let p = o + gap_to 8 o in
     let one = spelling order p a in
     let p1 = p + length one in
@@ -216,10 +216,10 @@ two_parts bounds order room end t o s a b q r h =
     )
 
 -- a variant, taken apart
-variant_parts : (bounds : Bounds) (order : Order) (room end o : ℕ) (s : List ℕ) (x : ValueTree) (q : ℕ) (r : List ℕ) → Spelled bounds order (suc room) end VariantType o s (VariantValue x) q r
-    → (p : ℕ) × (u : List ℕ) × (s ≡ num order 1 (length (sig (type_of x))) ++ (sig (type_of x) ++ 0 ∷ u)) × (p ≡ o + 1 + length (sig (type_of x)) + 1) × IsSingleType (type_of x) × Spelled bounds order room end (type_of x) p u x q r
+variant_parts : (bounds : Bounds) (order : Order) (depth_left end o : ℕ) (s : List ℕ) (x : ValueTree) (q : ℕ) (r : List ℕ) → Spelled bounds order (suc depth_left) end VariantType o s (VariantValue x) q r
+    → (p : ℕ) × (u : List ℕ) × (s ≡ num order 1 (length (sig (type_of x))) ++ (sig (type_of x) ++ 0 ∷ u)) × (p ≡ o + 1 + length (sig (type_of x)) + 1) × IsSingleType (type_of x) × Spelled bounds order depth_left end (type_of x) p u x q r
 unfolding spelling
-variant_parts bounds order room end o s x q r h =
+variant_parts bounds order depth_left end o s x q r h =
     let t = sig (type_of x) in
     let p = o + length (ended_text order 1 t) in
     let head : length (ended_text order 1 t) ≡ 1 + (length t + 1) = simp (length-append, length-num) in
@@ -233,25 +233,25 @@ variant_parts bounds order room end o s x q r h =
       record { has_type = refl; formed = h.formed.1; within = h.within; indexes = h.indexes; bytes = refl; place = ends; bound = h.bound },
     )
 
-byte_there : (bounds : Bounds) (order : Order) (room end o : ℕ) (s : List ℕ) (n q : ℕ) (r : List ℕ) → Spelled bounds order room end (NumberType BYTE) o s (NumberValue BYTE n) q r → (n < 256) × (s ≡ num order 1 n ++ r) × (q ≡ o + 1)
+byte_there : (bounds : Bounds) (order : Order) (depth_left end o : ℕ) (s : List ℕ) (n q : ℕ) (r : List ℕ) → Spelled bounds order depth_left end (NumberType BYTE) o s (NumberValue BYTE n) q r → (n < 256) × (s ≡ num order 1 n ++ r) × (q ≡ o + 1)
 unfolding spelling
-byte_there bounds order room end o s n q r h =
+byte_there bounds order depth_left end o s n q r h =
     let no_pad = no_gap o in
     let place : q ≡ o + length (pad 1 o ++ num order 1 n) = h.place in
     let bytes : s ≡ (pad 1 o ++ num order 1 n) ++ r = h.bytes in
     (h.formed, rw no_pad at bytes, place ∙ simp (length-append, length-num, length-replicate) (omega (arith, no_pad)))
 
-forward : (bounds : Bounds) (order : Order) (room end : ℕ) (t : TypeTree) (o : ℕ) (s : List ℕ) (v : ValueTree) (q : ℕ) (r : List ℕ) → Spelled bounds order room end t o s v q r → o ≤ q
-forward bounds order room end t o s v q r h = omega (arith, h.place)
+forward : (bounds : Bounds) (order : Order) (depth_left end : ℕ) (t : TypeTree) (o : ℕ) (s : List ℕ) (v : ValueTree) (q : ℕ) (r : List ℕ) → Spelled bounds order depth_left end t o s v q r → o ≤ q
+forward bounds order depth_left end t o s v q r h = omega (arith, h.place)
 
 -- a field's struct and its variant are two containers
-pub two_rooms : (room : ℕ) (f : FieldTree) → IsWellFormed room (field_struct f) → (inner : ℕ) × (room ≡ suc (suc inner))
+pub two_rooms : (depth_left : ℕ) (f : FieldTree) → IsWellFormed depth_left (field_struct f) → (inner : ℕ) × (depth_left ≡ suc (suc inner))
 two_rooms zero f h = absurd h
 two_rooms (suc zero) f h = absurd h.1.0
 two_rooms (suc (suc inner)) f h = (inner, refl)
 
-module _ (bounds : Bounds) (order : Order) (room end : ℕ) (before : List FieldTree) where
-  field_from : (inner o : ℕ) (s : List ℕ) (f : FieldTree) (q : ℕ) (r : List ℕ) → room ≡ suc (suc inner) → Spelled bounds order (suc (suc inner)) end field_type o s (field_struct f) q r → IsField before f → (field_items bounds order room end before).Passed o s f q r
+module _ (bounds : Bounds) (order : Order) (depth_left end : ℕ) (before : List FieldTree) where
+  field_from : (inner o : ℕ) (s : List ℕ) (f : FieldTree) (q : ℕ) (r : List ℕ) → depth_left ≡ suc (suc inner) → Spelled bounds order (suc (suc inner)) end field_type o s (field_struct f) q r → IsField before f → (field_items bounds order depth_left end before).Passed o s f q r
   field_from inner o s f q r room_is spelled is =
       let a = two_parts bounds order (suc inner) end field_type o s (NumberValue BYTE f.code) (VariantValue f.value) q r spelled in
       let code = byte_there bounds order (suc inner) end a.0 a.1 f.code a.2 a.3 a.5 in
@@ -304,14 +304,14 @@ module _ (bounds : Bounds) (order : Order) (room end : ℕ) (before : List Field
         ),
       )
 
-  field_back : (o : ℕ) (s : List ℕ) (f : FieldTree) (q : ℕ) (r : List ℕ) → (field bounds order room end before).Passed o s f q r → (field_items bounds order room end before).Passed o s f q r
+  field_back : (o : ℕ) (s : List ℕ) (f : FieldTree) (q : ℕ) (r : List ℕ) → (field bounds order depth_left end before).Passed o s f q r → (field_items bounds order depth_left end before).Passed o s f q r
   field_back o s f q r h =
-      let two = two_rooms room f h.0.formed in
+      let two = two_rooms depth_left f h.0.formed in
       field_from two.0 o s f q r two.1 (subst (λ (u : ℕ). Spelled bounds order u end field_type o s (field_struct f) q r) two.1 h.0) h.1
 
-  pub field_moves : (o : ℕ) (s : List ℕ) (f : FieldTree) (q : ℕ) (r : List ℕ) → (field bounds order room end before).Passed o s f q r → o < q
+  pub field_moves : (o : ℕ) (s : List ℕ) (f : FieldTree) (q : ℕ) (r : List ℕ) → (field bounds order depth_left end before).Passed o s f q r → o < q
   field_moves o s f q r h =
-      let two = two_rooms room f h.0.formed in
+      let two = two_rooms depth_left f h.0.formed in
       let inner = two.0 in
       let spelled = subst (λ (u : ℕ). Spelled bounds order u end field_type o s (field_struct f) q r) two.1 h.0 in
       let a = two_parts bounds order (suc inner) end field_type o s (NumberValue BYTE f.code) (VariantValue f.value) q r spelled in
@@ -332,10 +332,10 @@ module _ (bounds : Bounds) (order : Order) (room end : ℕ) (before : List Field
       Agrees-before (items.number order 4 end (not_zero_row reasons.ZeroSerial)) (reading.number order 4 end (not_zero_row reasons.ZeroSerial)) _ _ (Agrees-number order 4 end (not_zero_row reasons.ZeroSerial)) (λ n.
       Agrees-pure (NumberValue UINT32 n)))
 
-  agrees_field_items : Agrees (field_items bounds order room end before) (reads.field bounds order room end before)
+  agrees_field_items : Agrees (field_items bounds order depth_left end before) (reads.field bounds order depth_left end before)
   agrees_field_items =
       Agrees-before (items.padding 8 end) (reading.padding 8 end) _ _ (Agrees-padding 8 end) (λ _.
-      Agrees-before (opening room) (reads.opening room) _ _ (Agrees-opening room) (λ within.
+      Agrees-before (opening depth_left) (reads.opening depth_left) _ _ (Agrees-opening depth_left) (λ within.
       Agrees-before (items.number order 1 end (code_row before)) (reading.number order 1 end (code_row before)) _ _ (Agrees-number order 1 end (code_row before)) (λ code.
       Agrees-before (opening within) (reads.opening within) _ _ (Agrees-opening within) (λ inner.
       Agrees-before (items.number order 1 end (text_row end)) (reading.number order 1 end (text_row end)) _ _ (Agrees-number order 1 end (text_row end)) (λ n.
@@ -344,6 +344,6 @@ module _ (bounds : Bounds) (order : Order) (room end : ℕ) (before : List Field
       Agrees-before (value_wanted bounds order inner end (want code) held) (reads.value_wanted bounds order inner end (want code) held) _ _ (agrees_wanted inner (want code) held (want_ok code) was.0 was.1) (λ x.
       Agrees-pure (record { code = code; value = x })))))))))
 
-  pub Agrees-field : Agrees (field bounds order room end before) (reads.field bounds order room end before)
-  Agrees-field = Agrees-as (field_items bounds order room end before) (field bounds order room end before) (reads.field bounds order room end before) agrees_field_items
-      (λ o s f q r. (field_to bounds order room end before o s f q r, field_back o s f q r)) (λ o s f. (λ h. h, λ h. h))
+  pub Agrees-field : Agrees (field bounds order depth_left end before) (reads.field bounds order depth_left end before)
+  Agrees-field = Agrees-as (field_items bounds order depth_left end before) (field bounds order depth_left end before) (reads.field bounds order depth_left end before) agrees_field_items
+      (λ o s f q r. (field_to bounds order depth_left end before o s f q r, field_back o s f q r)) (λ o s f. (λ h. h, λ h. h))

@@ -13,7 +13,7 @@ use Rattle.dbus_value_model.specs.declared.order.Order.{Order}
 use Rattle.dbus_value_model.specs.declared.order.Order.TheVariants.{Little, Big}
 use Rattle.dbus_value_model.specs.Bytes.{gap_to}
 use Rattle.dbus_value_model.specs.Values.{IsWellFormed, ValueTree, NumberValue, TextValue, VariantValue, ArrayValue, StructValue, EntryValue, type_of}
-use Rattle.dbus_value_model.specs.Items.{Sequence, fault, judge, no_row}
+use Rattle.dbus_value_model.specs.Items.{Sequence, fault, validate, no_row}
 use Rattle.dbus_value_model.specs.declared.fault.Fault.{Fault}
 use Rattle.dbus_value_model.specs.declared.fault.Reason.{Reason}
 use Rattle.dbus_value_model.specs.Items as items
@@ -26,7 +26,7 @@ use Rattle.dbus_header.specs.MessageItems.{not_zero_row, version_row, fields_row
 use Rattle.dbus_header.specs.MessageReading as reads
 use Rattle.dbus_value_laws.proofs.KindLaws.{signature_text, spelled_sigs}
 use Rattle.dbus_value_laws.proofs.Agreement.{Agrees, Agrees-then, Agrees-before}
-use Rattle.dbus_value_laws.proofs.OwnItems.{chosen, same_fault, Agrees-pure, Agrees-padding, Agrees-number, Agrees-judge, Agrees-bounded, Agrees-ends}
+use Rattle.dbus_value_laws.proofs.OwnItems.{chosen, same_fault, Agrees-pure, Agrees-padding, Agrees-number, Agrees-validate, Agrees-bounded, Agrees-ends}
 use Rattle.dbus_value_laws.proofs.Contents.{Agrees-contents}
 use Rattle.dbus_value_laws.proofs.ValueItemLaws.{Agrees-value, value_inside, agrees_fields}
 use Rattle.dbus_header.proofs.Fields.{Agrees-opening, Agrees-field, field_moves, two_rooms}
@@ -34,13 +34,13 @@ use Rattle.dbus_value_model.specs.declared.fault.Reason.TheVariants as reasons
 
 -- ---- rows
 
-pub judge_passed : (row : Option Reason) (o : ℕ) (s : List ℕ) (x : Unit {0}) (q : ℕ) (r : List ℕ) → (judge row).Passed o s x q r → (row ≡ None) × (q ≡ o) × (r ≡ s)
-judge_passed None o s x q r h = (refl, h.1, h.2)
-judge_passed (Some why) o s x q r h = absurd h
+pub validate_passed : (row : Option Reason) (o : ℕ) (s : List ℕ) (x : Unit {0}) (q : ℕ) (r : List ℕ) → (validate row).Passed o s x q r → (row ≡ None) × (q ≡ o) × (r ≡ s)
+validate_passed None o s x q r h = (refl, h.1, h.2)
+validate_passed (Some why) o s x q r h = absurd h
 
-pub passes_judge : (row : Option Reason) (o : ℕ) (s : List ℕ) → row ≡ None → (judge row).Passed o s tt o s
-passes_judge None o s e = (refl, refl, refl)
-passes_judge (Some why) o s e = absurd cc
+pub passes_validate : (row : Option Reason) (o : ℕ) (s : List ℕ) → row ≡ None → (validate row).Passed o s tt o s
+passes_validate None o s e = (refl, refl, refl)
+passes_validate (Some why) o s e = absurd cc
 
 pub version_fits : (p n : ℕ) → version_row p n ≡ None → n ≡ 1
 version_fits p n e = elim (chosen (eqb n 1) _ _ _ e) [
@@ -122,8 +122,8 @@ signature_value inner (ArrayValue t xs) e h = absurd cc
 signature_value inner (StructValue xs) e h = absurd cc
 signature_value inner (EntryValue k x) e h = absurd cc
 
-module _ (bounds : Bounds) (order : Order) (room end : ℕ) where
-  pub field_signature : (fs before : List FieldTree) (o : ℕ) (s : List ℕ) (q : ℕ) (r : List ℕ) → Sequence (field bounds order room end) before fs o s q r → IsKind kinds.Signature (body_signature fs)
+module _ (bounds : Bounds) (order : Order) (depth_left end : ℕ) where
+  pub field_signature : (fs before : List FieldTree) (o : ℕ) (s : List ℕ) (q : ℕ) (r : List ℕ) → Sequence (field bounds order depth_left end) before fs o s q r → IsKind kinds.Signature (body_signature fs)
   field_signature [] before o s q r h = no_types
   field_signature (f ∷ fs) before o s q r h =
       let more = field_signature fs (f ∷ before) h.0 h.1 q r h.3 in
@@ -133,7 +133,7 @@ module _ (bounds : Bounds) (order : Order) (room end : ℕ) where
       go true e more =
           let is : f.code ≡ 8 = eqb-true _ _ e in
           let suits : Suits (want 8) f.value = subst (λ (c : ℕ). Suits (want c) f.value) is h.2.1.suits in
-          let two = two_rooms room f h.2.0.formed in
+          let two = two_rooms depth_left f h.2.0.formed in
           let formed = subst (λ (u : ℕ). IsWellFormed u (field_struct f)) two.1 h.2.0.formed in
           signature_value two.0 f.value suits formed.1.0.1
       go false e more = more
@@ -152,10 +152,10 @@ Agrees-types text ok = record {
   refuses_more = λ c o s f h. absurd h;
 }
 
-Agrees-body : (bounds : Bounds) (order : Order) (room : ℕ) (ts : TypeTrees) → AreShaped ts → (end : ℕ) → Agrees (body_items bounds order room ts end) (reads.body_items bounds order room ts end)
-Agrees-body bounds order room ts complete end =
-    Agrees-before (faults.fields (value bounds order room end) ts) (reading.fields (reading.value bounds order room end) ts) _ _
-    (agrees_fields bounds order room (value bounds order room) (reading.value bounds order room) (value_inside bounds order room) (λ e b t c. Agrees-value bounds order room e b t c) end ts complete) (λ xs.
+Agrees-body : (bounds : Bounds) (order : Order) (depth_left : ℕ) (ts : TypeTrees) → AreShaped ts → (end : ℕ) → Agrees (body_items bounds order depth_left ts end) (reads.body_items bounds order depth_left ts end)
+Agrees-body bounds order depth_left ts complete end =
+    Agrees-before (faults.fields (value bounds order depth_left end) ts) (reading.fields (reading.value bounds order depth_left end) ts) _ _
+    (agrees_fields bounds order depth_left (value bounds order depth_left) (reading.value bounds order depth_left) (value_inside bounds order depth_left) (λ e b t c. Agrees-value bounds order depth_left e b t c) end ts complete) (λ xs.
     Agrees-before (items.ends end) (reading.ends end) _ _ (Agrees-ends end) (λ _.
     Agrees-pure xs))
 
@@ -167,13 +167,13 @@ Agrees-message_items limits =
     Agrees-before (items.number order 1 16 version_row) (reading.number order 1 16 version_row) _ _ (Agrees-number order 1 16 version_row) (λ version.
     Agrees-before (items.number order 4 16 no_row) (reading.number order 4 16 no_row) _ _ (Agrees-number order 4 16 no_row) (λ body.
     Agrees-before (items.number order 4 16 (not_zero_row reasons.ZeroSerial)) (reading.number order 4 16 (not_zero_row reasons.ZeroSerial)) _ _ (Agrees-number order 4 16 (not_zero_row reasons.ZeroSerial)) (λ serial.
-    Agrees-before (opening limits.depth) (reads.opening limits.depth) _ _ (Agrees-opening limits.depth) (λ room.
+    Agrees-before (opening limits.depth) (reads.opening limits.depth) _ _ (Agrees-opening limits.depth) (λ depth_left.
     Agrees-before (items.number order 4 16 (fields_row limits body)) (reading.number order 4 16 (fields_row limits body)) _ _ (Agrees-number order 4 16 (fields_row limits body)) (λ n.
-    Agrees-then (items.contents n (field (bounds_of limits) order room)) (reading.contents n (reads.field (bounds_of limits) order room)) _ _
-    (Agrees-contents n (field (bounds_of limits) order room) (reads.field (bounds_of limits) order room) (λ end before. Agrees-field (bounds_of limits) order room end before) (λ end before. field_moves (bounds_of limits) order room end before)) (λ fs o s q r was.
-    Agrees-before (items.judge (lacks (required kind) fs)) (reading.judge (lacks (required kind) fs)) _ _ (Agrees-judge (lacks (required kind) fs)) (λ _.
+    Agrees-then (items.contents n (field (bounds_of limits) order depth_left)) (reading.contents n (reads.field (bounds_of limits) order depth_left)) _ _
+    (Agrees-contents n (field (bounds_of limits) order depth_left) (reads.field (bounds_of limits) order depth_left) (λ end before. Agrees-field (bounds_of limits) order depth_left end before) (λ end before. field_moves (bounds_of limits) order depth_left end before)) (λ fs o s q r was.
+    Agrees-before (items.validate (lacks (required kind) fs)) (reading.validate (lacks (required kind) fs)) _ _ (Agrees-validate (lacks (required kind) fs)) (λ _.
     Agrees-before (items.bounded 8 (items.padding 8)) (reading.bounded 8 (reading.padding 8)) _ _ (Agrees-bounded 8 (items.padding 8) (reading.padding 8) (Agrees-padding 8)) (λ _.
-    Agrees-then (types_of_text (body_signature fs)) (reads.types_of_text (body_signature fs)) _ _ (Agrees-types (body_signature fs) (signature_text (body_signature fs) (field_signature (bounds_of limits) order room (o + n) fs [] o s q r was.0))) (λ ts o s q r typed.
+    Agrees-then (types_of_text (body_signature fs)) (reads.types_of_text (body_signature fs)) _ _ (Agrees-types (body_signature fs) (signature_text (body_signature fs) (field_signature (bounds_of limits) order depth_left (o + n) fs [] o s q r was.0))) (λ ts o s q r typed.
     Agrees-before (items.bounded body (body_items (bounds_with limits (body_fds limits fs)) order limits.depth ts)) (reading.bounded body (reads.body_items (bounds_with limits (body_fds limits fs)) order limits.depth ts)) _ _
     (Agrees-bounded body (body_items (bounds_with limits (body_fds limits fs)) order limits.depth ts) (reads.body_items (bounds_with limits (body_fds limits fs)) order limits.depth ts) (Agrees-body (bounds_with limits (body_fds limits fs)) order limits.depth ts typed.1)) (λ xs.
     Agrees-pure (order, record { kind = kind; flags = flags; serial = serial; fields = fs; body = xs }))))))))))))))

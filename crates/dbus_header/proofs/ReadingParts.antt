@@ -43,16 +43,16 @@ module _ {W : Type 0} (d : TypeTree → Reader ValueTree) (last : ValueTree → 
   after_length signed Partial = refl
 
 -- what follows an opened container
-opened_after : {B : Type 0} (depth o : ℕ) (s : List ℕ) (f g : ℕ → Reader B) → ((room : ℕ) → depth ≡ suc room → f room o s ≡ g room o s) → after (reads.opening depth o s) f ≡ after (reads.opening depth o s) g
+opened_after : {B : Type 0} (depth o : ℕ) (s : List ℕ) (f g : ℕ → Reader B) → ((depth_left : ℕ) → depth ≡ suc depth_left → f depth_left o s ≡ g depth_left o s) → after (reads.opening depth o s) f ≡ after (reads.opening depth o s) g
 opened_after zero o s f g same = refl
-opened_after (suc room) o s f g same = same (suc room - 1) (omega arith)
+opened_after (suc depth_left) o s f g same = same (suc depth_left - 1) (omega arith)
 
-module _ (limits : Limits) (order : Order) (room : ℕ) (opened : limits.depth ≡ suc room) where
-  pub field_is : (end : ℕ) (before : List FieldTree) (o : ℕ) (s : List ℕ) → field_read limits order end before o s ≡ reads.field (bounds_of limits) order room end before o s
+module _ (limits : Limits) (order : Order) (depth_left : ℕ) (opened : limits.depth ≡ suc depth_left) where
+  pub field_is : (end : ℕ) (before : List FieldTree) (o : ℕ) (s : List ℕ) → field_read limits order end before o s ≡ reads.field (bounds_of limits) order depth_left end before o s
   unfolding field_read wanted_value wanted_signature
   field_is end before o s =
-      let array : limits.depth - 1 ≡ room = omega (arith, opened) in
-      rw array (same_after (padding 8 end o s) _ _ (λ _ p t. opened_after room p t _ _ (λ within struct. same_after (number order 1 end (code_row before) p t) _ _ (λ code p t.
+      let array : limits.depth - 1 ≡ depth_left = omega (arith, opened) in
+      rw array (same_after (padding 8 end o s) _ _ (λ _ p t. opened_after depth_left p t _ _ (λ within struct. same_after (number order 1 end (code_row before) p t) _ _ (λ code p t.
       let two : limits.depth - 2 ≡ within = omega (arith, opened, struct) in
       rw two (opened_after within p t _ _ (λ inner variant.
       let three : limits.depth - 3 ≡ inner = omega (arith, opened, struct, variant) in
@@ -72,9 +72,9 @@ module _ {A : Type 0} (end : ℕ) (part other : List A → Reader A) (same : (be
           ∙ same_after (other before o s) _ _ (λ v p t. ap (λ (r : Outcome (List A)). after r (λ vs. pure (v ∷ vs))) (rest (v ∷ before) p t))
       same_test turns before o s false rest = refl
 
-pub fields_are : (limits : Limits) (order : Order) (room : ℕ) → limits.depth ≡ suc room → (n o : ℕ) (s : List ℕ) → fields_read limits order n o s ≡ contents n (reads.field (bounds_of limits) order room) o s
+pub fields_are : (limits : Limits) (order : Order) (depth_left : ℕ) → limits.depth ≡ suc depth_left → (n o : ℕ) (s : List ℕ) → fields_read limits order n o s ≡ contents n (reads.field (bounds_of limits) order depth_left) o s
 unfolding fields_read
-fields_are limits order room opened n o s = same_turns (o + n) (field_read limits order (o + n)) (reads.field (bounds_of limits) order room (o + n)) (field_is limits order room opened (o + n)) n [] o s
+fields_are limits order depth_left opened n o s = same_turns (o + n) (field_read limits order (o + n)) (reads.field (bounds_of limits) order depth_left (o + n)) (field_is limits order depth_left opened (o + n)) n [] o s
 
 after_same : {A B : Type 0} (r q : Outcome A) (f : A → Reader B) → r ≡ q → after r f ≡ after q f
 after_same r q f e = ap (λ (u : Outcome _). after u f) e
@@ -90,6 +90,6 @@ message_is limits b =
     after_after (number order 1 16 version_row p t) _ _ ∙ same_after (number order 1 16 version_row p t) _ _ (λ version p t.
     after_after (number order 4 16 no_row p t) _ _ ∙ same_after (number order 4 16 no_row p t) _ _ (λ body p t.
     after_after (number order 4 16 (not_zero_row reasons.ZeroSerial) p t) _ _ ∙ same_after (number order 4 16 (not_zero_row reasons.ZeroSerial) p t) _ _ (λ serial p t.
-    after_after (reads.opening limits.depth p t) _ _ ∙ opened_after limits.depth p t _ _ (λ room opened.
+    after_after (reads.opening limits.depth p t) _ _ ∙ opened_after limits.depth p t _ _ (λ depth_left opened.
     after_after (number order 4 16 (fields_row limits body) p t) _ _ ∙ same_after (number order 4 16 (fields_row limits body) p t) _ _ (λ n p t.
-    after_same (fields_read limits order n p t) (contents n (reads.field (bounds_of limits) order room) p t) _ (fields_are limits order room opened n p t)))))))))
+    after_same (fields_read limits order n p t) (contents n (reads.field (bounds_of limits) order depth_left) p t) _ (fields_are limits order depth_left opened n p t)))))))))

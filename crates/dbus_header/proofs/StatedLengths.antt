@@ -10,7 +10,7 @@ use Rattle.dbus_value_model.specs.declared.fault.Reason.TheVariants as reasons
 use Rattle.dbus_value_model.specs.Bytes.{IsBytes, gap_to}
 use Rattle.dbus_value_model.specs.Items.{no_row}
 use Rattle.dbus_value_model.specs.Items as items
-use Rattle.dbus_value_model.specs.Reading.{Reader, Outcome, Done, Faulty, Partial, after, judged, pure, number, ◌>>=◌, ◌>>◌}
+use Rattle.dbus_value_model.specs.Reading.{Reader, Outcome, Done, Faulty, Partial, after, validated, pure, number, ◌>>=◌, ◌>>◌}
 use Rattle.dbus_value_laws.proofs.Agreement.{Agrees, Agrees-before, after_done}
 use Rattle.dbus_value_laws.proofs.OwnItems.{chosen, Agrees-pure, Agrees-number}
 use Rattle.dbus_value_laws.proofs.ValueOutcomes.{agreed_value}
@@ -24,7 +24,7 @@ use Rattle.dbus_header.specs.StatedLaws.{StatedHolds, WholeStates, OneStated, So
 use Rattle.dbus_header.specs.declared.fixed_header.FixedHeader.{FixedHeader}
 use Rattle.dbus_header.proofs.Decoded.{refused_read, partial_read}
 use Rattle.dbus_header.proofs.Fields.{Agrees-opening, open_to}
-use Rattle.dbus_header.proofs.MessageParts.{Agrees-byte_order, judge_passed}
+use Rattle.dbus_header.proofs.MessageParts.{Agrees-byte_order, validate_passed}
 use Rattle.dbus_header.proofs.OutcomeLaws.{whole_inside}
 use Rattle.dbus_header.proofs.ReadingParts.{same_after, after_after}
 use Rattle.dbus_header.proofs.Whole.{message_passed}
@@ -98,13 +98,13 @@ order_wants o (b ∷ s) e = absurd (order_there o b s e)
 takes_order : Takes 1 byte_order
 takes_order = record { done = order_done; wants = order_wants }
 
-judged_taken : (row : Option Reason) (n o p : ℕ) (t : List ℕ) (x q : ℕ) (r : List ℕ) → judged row n o p t ≡ Done x q r → (p ≡ q) × (t ≡ r)
-judged_taken None n o p t x q r e = (cc, cc)
-judged_taken (Some why) n o p t x q r e = absurd cc
+validated_taken : (row : Option Reason) (n o p : ℕ) (t : List ℕ) (x q : ℕ) (r : List ℕ) → validated row n o p t ≡ Done x q r → (p ≡ q) × (t ≡ r)
+validated_taken None n o p t x q r e = (cc, cc)
+validated_taken (Some why) n o p t x q r e = absurd cc
 
-judged_there : (row : Option Reason) (n o p : ℕ) (t : List ℕ) → judged row n o p t ≡ Partial → ⊥
-judged_there None n o p t e = cc
-judged_there (Some why) n o p t e = cc
+validated_there : (row : Option Reason) (n o p : ℕ) (t : List ℕ) → validated row n o p t ≡ Partial → ⊥
+validated_there None n o p t e = cc
+validated_there (Some why) n o p t e = cc
 
 takes_number : (order : Order) (w end : ℕ) (row : ℕ → ℕ → Option Reason) → Takes w (number order w end row)
 unfolding number
@@ -114,7 +114,7 @@ takes_number order w end row = record {
     | inr h ↦ elim (chosen (ltb (length s) w) _ _ _ h.1) [
       | inl k ↦ absurd (cc (k.1))
       | inr k ↦
-          let t = judged_taken _ _ _ _ _ x q r k.1 in
+          let t = validated_taken _ _ _ _ _ x q r k.1 in
           let fits : w ≤ length s = ltb-false _ _ k.0 in
           (sym t.0, omega (arith, fits, length-drop w s, ap length t.1))
     ]
@@ -123,14 +123,14 @@ takes_number order w end row = record {
     | inl h ↦ absurd (cc (h.1))
     | inr h ↦ elim (chosen (ltb (length s) w) _ _ _ h.1) [
       | inl k ↦ ltb-true _ _ k.0
-      | inr k ↦ absurd (judged_there _ _ _ _ _ k.1)
+      | inr k ↦ absurd (validated_there _ _ _ _ _ k.1)
     ]
   ];
 }
 
-takes_open : (room : ℕ) → Takes 0 (opening room)
+takes_open : (depth_left : ℕ) → Takes 0 (opening depth_left)
 takes_open zero = record { done = λ o s x q r e. absurd cc; wants = λ o s e. absurd cc }
-takes_open (suc room) = takes_none (suc room - 1)
+takes_open (suc depth_left) = takes_none (suc depth_left - 1)
 
 -- ---- the items, read
 
@@ -157,7 +157,7 @@ Agrees-stated limits =
     Agrees-before (items.number order 1 16 version_row) (number order 1 16 version_row) _ _ (Agrees-number order 1 16 version_row) (λ version.
     Agrees-before (items.number order 4 16 no_row) (number order 4 16 no_row) _ _ (Agrees-number order 4 16 no_row) (λ body.
     Agrees-before (items.number order 4 16 (not_zero_row reasons.ZeroSerial)) (number order 4 16 (not_zero_row reasons.ZeroSerial)) _ _ (Agrees-number order 4 16 (not_zero_row reasons.ZeroSerial)) (λ serial.
-    Agrees-before (wanted.opening limits.depth) (opening limits.depth) _ _ (Agrees-opening limits.depth) (λ room.
+    Agrees-before (wanted.opening limits.depth) (opening limits.depth) _ _ (Agrees-opening limits.depth) (λ depth_left.
     Agrees-before (items.number order 4 16 (fields_row limits body)) (number order 4 16 (fields_row limits body)) _ _ (Agrees-number order 4 16 (fields_row limits body)) (λ n.
     Agrees-pure (length_by n body)))))))))
 
@@ -169,7 +169,7 @@ takes_sixteen limits =
     takes_then 1 12 (number order 1 16 version_row) _ (takes_number order 1 16 version_row) (λ version.
     takes_then 4 8 (number order 4 16 no_row) _ (takes_number order 4 16 no_row) (λ body.
     takes_then 4 4 (number order 4 16 (not_zero_row reasons.ZeroSerial)) _ (takes_number order 4 16 (not_zero_row reasons.ZeroSerial)) (λ serial.
-    takes_then 0 4 (opening limits.depth) _ (takes_open limits.depth) (λ room.
+    takes_then 0 4 (opening limits.depth) _ (takes_open limits.depth) (λ depth_left.
     takes_then 4 0 (number order 4 16 (fields_row limits body)) _ (takes_number order 4 16 (fields_row limits body)) (λ n.
     takes_none (length_by n body)))))))))
 
@@ -183,7 +183,7 @@ stated_is limits b =
     after_after (number order 1 16 version_row p t) _ _ ∙ same_after (number order 1 16 version_row p t) _ _ (λ version p t.
     after_after (number order 4 16 no_row p t) _ _ ∙ same_after (number order 4 16 no_row p t) _ _ (λ body p t.
     after_after (number order 4 16 (not_zero_row reasons.ZeroSerial) p t) _ _ ∙ same_after (number order 4 16 (not_zero_row reasons.ZeroSerial) p t) _ _ (λ serial p t.
-    after_after (opening limits.depth p t) _ _ ∙ same_after (opening limits.depth p t) _ _ (λ room p t.
+    after_after (opening limits.depth p t) _ _ ∙ same_after (opening limits.depth p t) _ _ (λ depth_left p t.
     after_after (number order 4 16 (fields_row limits body) p t) _ _)))))))
 
 -- ---- what the fixed header says of the length
@@ -241,7 +241,7 @@ whole_states limits b order m n w =
     let a12 = a11.4 in
     let inner = a11.3 in
     let is_open = open_to limits.depth a5.1 a5.2 opened.0 opened.1 opened.2 opened.3 in
-    let none = judge_passed _ a7.1 a7.2 a8.0 a8.1 a8.2 a8.3 in
+    let none = validate_passed _ a7.1 a7.2 a8.0 a8.1 a8.2 a8.3 in
     let at : 16 ≡ a6.1 = omega (arith, p.3.1, a1.3.2, a2.3.2, a3.3.2, a4.3.2, a5.3.2, is_open.1, a6.3.2) in
     let fields_end : a8.1 ≡ 16 + a6.0 = omega (arith, none.1, a7.3.1, at) in
     let start : a9.1 ≡ 16 + a6.0 + gap_to 8 (16 + a6.0) = a9.3.1 ∙ ap (λ (u : ℕ). u + gap_to 8 u) fields_end in

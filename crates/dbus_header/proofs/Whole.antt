@@ -19,7 +19,7 @@ use Rattle.dbus_value_laws.proofs.Composition.{all_none, all_more, all_parts, fi
 use Rattle.dbus_value_laws.proofs.ValueItemLaws.{value_inside}
 use Rattle.dbus_message_model.proofs.MessageLengths.{field_bytes, field_array_bytes, fields_end_is, body_length, message_length}
 use Rattle.dbus_header.proofs.Fields.{not_zero_fits, fits_not_zero, open_to, opens}
-use Rattle.dbus_header.proofs.MessageParts.{judge_passed, passes_judge, version_fits, fields_row_fits, fits_fields_row, field_signature}
+use Rattle.dbus_header.proofs.MessageParts.{validate_passed, passes_validate, version_fits, fields_row_fits, fits_fields_row, field_signature}
 use Rattle.dbus_value_model.specs.declared.fault.Reason.TheVariants as reasons
 
 -- ---- the field array
@@ -32,19 +32,19 @@ within_field_array : (array : ℕ) (order : Order) (fs : List FieldTree) → IsW
 unfolding gap_to
 within_field_array array order fs h = h
 
-module _ (bounds : Bounds) (order : Order) (room end : ℕ) where
-  seq_fields_to : (fs before : List FieldTree) (o : ℕ) (s : List ℕ) (q : ℕ) (r : List ℕ) → Sequence (field bounds order room end) before fs o s q r
-      → AreFields before fs × AllOf field_type (value_trees (map field_struct fs)) × SpelledAll bounds order room o s (value_trees (map field_struct fs)) q r
-  seq_fields_to [] before o s q r h = (tt, tt, rw (h.0, h.1) (all_none bounds order room o s))
+module _ (bounds : Bounds) (order : Order) (depth_left end : ℕ) where
+  seq_fields_to : (fs before : List FieldTree) (o : ℕ) (s : List ℕ) (q : ℕ) (r : List ℕ) → Sequence (field bounds order depth_left end) before fs o s q r
+      → AreFields before fs × AllOf field_type (value_trees (map field_struct fs)) × SpelledAll bounds order depth_left o s (value_trees (map field_struct fs)) q r
+  seq_fields_to [] before o s q r h = (tt, tt, rw (h.0, h.1) (all_none bounds order depth_left o s))
   seq_fields_to (f ∷ fs) before o s q r h =
       let more = seq_fields_to fs (f ∷ before) h.0 h.1 q r h.3 in
-      ((h.2.1, more.0), (h.2.0.has_type, more.1), all_more bounds order room end field_type o s (field_struct f) h.0 h.1 (value_trees (map field_struct fs)) q r h.2.0 more.2)
+      ((h.2.1, more.0), (h.2.0.has_type, more.1), all_more bounds order depth_left end field_type o s (field_struct f) h.0 h.1 (value_trees (map field_struct fs)) q r h.2.0 more.2)
 
-  seq_fields_from : (fs before : List FieldTree) (o : ℕ) (s : List ℕ) (q : ℕ) (r : List ℕ) → q ≤ end → AreFields before fs → SpelledAll bounds order room o s (value_trees (map field_struct fs)) q r → Sequence (field bounds order room end) before fs o s q r
+  seq_fields_from : (fs before : List FieldTree) (o : ℕ) (s : List ℕ) (q : ℕ) (r : List ℕ) → q ≤ end → AreFields before fs → SpelledAll bounds order depth_left o s (value_trees (map field_struct fs)) q r → Sequence (field bounds order depth_left end) before fs o s q r
   unfolding spelling
   seq_fields_from [] before o s q r bound ok h = (omega (arith, h.place), sym h.bytes)
   seq_fields_from (f ∷ fs) before o s q r bound ok h =
-      let parts = all_parts bounds order room end o s (field_struct f) (value_trees (map field_struct fs)) q r bound h in
+      let parts = all_parts bounds order depth_left end o s (field_struct f) (value_trees (map field_struct fs)) q r bound h in
       (parts.0, parts.1, (parts.2, ok.0), seq_fields_from fs (f ∷ before) parts.0 parts.1 q r bound ok.1 parts.3)
 
 -- ---- the parts of a message, put together
@@ -69,8 +69,8 @@ chained : (x : ℕ) (a b c d e g k h i r s s1 s2 s3 s4 s5 s6 s7 s8 s9 : List ℕ
 chained x a b c d e g k h i r s s1 s2 s3 s4 s5 s6 s7 s8 s9 e0 e1 e2 e3 e4 e5 e6 e7 e8 e9 = rw (e0, e1, e2, e3, e4, e5, e6, e7, e8, e9) refl
 
 -- the message, from its parts as they were passed
-built : (limits : Limits) (order : Order) (room kind flags serial body n p : ℕ) (fs : List FieldTree) (ts : TypeTrees) (xs : ValueTrees) (s1 s2 s3 s4 s5 s6 s7 s8 s9 r : List ℕ) (s : List ℕ) (q : ℕ)
-    → limits.depth ≡ suc room
+built : (limits : Limits) (order : Order) (depth_left kind flags serial body n p : ℕ) (fs : List FieldTree) (ts : TypeTrees) (xs : ValueTrees) (s1 s2 s3 s4 s5 s6 s7 s8 s9 r : List ℕ) (s : List ℕ) (q : ℕ)
+    → limits.depth ≡ suc depth_left
     → s ≡ order_byte order ∷ s1
     → 0 < kind → kind < 256 → s1 ≡ num order 1 kind ++ s2
     → flags < 256 → s2 ≡ num order 1 flags ++ s3
@@ -78,12 +78,12 @@ built : (limits : Limits) (order : Order) (room kind flags serial body n p : ℕ
     → s4 ≡ num order 4 body ++ s5
     → 0 < serial → serial < 256 ^ 4 → s5 ≡ num order 4 serial ++ s6
     → s6 ≡ num order 4 n ++ s7 → n ≤ limits.array → 16 + n + gap_to 8 (16 + n) + body ≤ limits.message
-    → AreFields [] fs → AllOf field_type (value_trees (map field_struct fs)) → SpelledAll (bounds_of limits) order room 16 s7 (value_trees (map field_struct fs)) (16 + n) s8
+    → AreFields [] fs → AllOf field_type (value_trees (map field_struct fs)) → SpelledAll (bounds_of limits) order depth_left 16 s7 (value_trees (map field_struct fs)) (16 + n) s8
     → lacks (required kind) fs ≡ None
     → s8 ≡ pad 8 (16 + n) ++ s9 → p ≡ 16 + n + gap_to 8 (16 + n)
     → sigs ts ≡ body_signature fs → types_of xs ≡ ts → SpelledAll (bounds_with limits (body_fds limits fs)) order limits.depth p s9 xs q r → q ≡ p + body
     → let m : MessageTree = record { kind = kind; flags = flags; serial = serial; fields = fs; body = xs } in IsMessage limits order m × (s ≡ message_bytes order m ++ r) × (q ≡ length (message_bytes order m))
-built limits order room kind flags serial body n p fs ts xs s1 s2 s3 s4 s5 s6 s7 s8 s9 r s q opened e0 k0 k1 e1 f1 e2 e3 e4 z0 z1 e5 e6 n1 limit fields types all none e8 p1 sigs_are typed body_all q1 =
+built limits order depth_left kind flags serial body n p fs ts xs s1 s2 s3 s4 s5 s6 s7 s8 s9 r s q opened e0 k0 k1 e1 f1 e2 e3 e4 z0 z1 e5 e6 n1 limit fields types all none e8 p1 sigs_are typed body_all q1 =
     let m : MessageTree = record { kind = kind; flags = flags; serial = serial; fields = fs; body = xs } in
     let len : n ≡ length (field_bytes order fs) = omega (arith, all.place) in
     let ends : 16 + n ≡ fields_end order fs = omega (arith, len, fields_end_is order fs) in
@@ -143,15 +143,15 @@ message_to limits s y q r w =
     let body = a4.0 in
     let n = a6.0 in
     let fs = a7.0 in
-    let room = opened.0 in
-    let is_open = open_to limits.depth a5.1 a5.2 room opened.1 opened.2 opened.3 in
+    let depth_left = opened.0 in
+    let is_open = open_to limits.depth a5.1 a5.2 depth_left opened.1 opened.2 opened.3 in
     let version : a3.0 ≡ 1 = version_fits a3.1 a3.0 a3.3.4 in
     let at16 : a6.1 ≡ 16 = omega (arith, w.3.1, a1.3.2, a2.3.2, a3.3.2, a4.3.2, a5.3.2, is_open.1, a6.3.2) in
     let rows = fields_row_fits limits body a6.1 n a6.3.4 in
-    let seq = seq_fields_to (bounds_of limits) order room (a6.1 + n) fs [] a6.1 a6.2 a7.1 a7.2 a7.3.0 in
+    let seq = seq_fields_to (bounds_of limits) order depth_left (a6.1 + n) fs [] a6.1 a6.2 a7.1 a7.2 a7.3.0 in
     let at_end : a7.1 ≡ 16 + n = omega (arith, a7.3.1, at16) in
-    let all : SpelledAll (bounds_of limits) order room 16 a6.2 (value_trees (map field_struct fs)) (16 + n) a7.2 = rw (at16, at_end) at seq.2 in
-    let none = judge_passed (lacks (required kind) fs) a7.1 a7.2 a8.0 a8.1 a8.2 a8.3 in
+    let all : SpelledAll (bounds_of limits) order depth_left 16 a6.2 (value_trees (map field_struct fs)) (16 + n) a7.2 = rw (at16, at_end) at seq.2 in
+    let none = validate_passed (lacks (required kind) fs) a7.1 a7.2 a8.0 a8.1 a8.2 a8.3 in
     let padded : a7.2 ≡ pad 8 (16 + n) ++ a9.2 = rw (none.2, none.1, at_end) at a9.3.0 in
     let start : a9.1 ≡ 16 + n + gap_to 8 (16 + n) = rw (none.1, at_end) at a9.3.1 in
     let b = a11.3 in
@@ -164,7 +164,7 @@ message_to limits s y q r w =
     let last : q ≡ b.1 = a12.1 ∙ c.1 ∙ b.4.3.1 in
     let left : r ≡ b.2 = a12.2 ∙ c.2 ∙ b.4.3.2 in
     let one : IsFront limits s (order, record { kind = kind; flags = a2.0; serial = a5.0; fields = fs; body = b.0 }) b.1 b.2 =
-    built limits order room kind a2.0 a5.0 body n a9.1 fs a10.0 b.0 w.2 a1.2 a2.2 a3.2 a4.2 a5.2 a6.2 a7.2 a9.2 b.2 s b.1
+    built limits order depth_left kind a2.0 a5.0 body n a9.1 fs a10.0 b.0 w.2 a1.2 a2.2 a3.2 a4.2 a5.2 a6.2 a7.2 a9.2 b.2 s b.1
     is_open.0 w.3.0 (not_zero_fits reasons.Kind a1.1 kind a1.3.4) a1.3.0 a1.3.1 a2.3.0 a2.3.1 (rw version at a3.3.1) a4.3.1
     (not_zero_fits reasons.ZeroSerial a5.1 a5.0 a5.3.4) a5.3.0 a5.3.1 (rw is_open.2 at a6.3.1) rows.0 (rw at16 at rows.1)
     seq.0 seq.1 all none.0 padded start a10.3.0 typed.0 spelled ends_at in
@@ -175,8 +175,8 @@ unfolding gap_to
 gap_small a o h = omega arith
 
 -- the items pass, where the parts of a message stand one after another
-taken : (limits : Limits) (order : Order) (room kind flags serial body n : ℕ) (fs : List FieldTree) (xs : ValueTrees) (s1 s2 s3 s4 s5 s6 s7 s8 s9 r s : List ℕ)
-    → limits.depth ≡ suc room
+taken : (limits : Limits) (order : Order) (depth_left kind flags serial body n : ℕ) (fs : List FieldTree) (xs : ValueTrees) (s1 s2 s3 s4 s5 s6 s7 s8 s9 r s : List ℕ)
+    → limits.depth ≡ suc depth_left
     → s ≡ order_byte order ∷ s1
     → 0 < kind → kind < 256 → s1 ≡ num order 1 kind ++ s2
     → flags < 256 → s2 ≡ num order 1 flags ++ s3
@@ -184,16 +184,16 @@ taken : (limits : Limits) (order : Order) (room kind flags serial body n : ℕ) 
     → body < 256 ^ 4 → s4 ≡ num order 4 body ++ s5
     → 0 < serial → serial < 256 ^ 4 → s5 ≡ num order 4 serial ++ s6
     → n < 256 ^ 4 → s6 ≡ num order 4 n ++ s7 → n ≤ limits.array → 16 + n + gap_to 8 (16 + n) + body ≤ limits.message
-    → AreFields [] fs → SpelledAll (bounds_of limits) order room 16 s7 (value_trees (map field_struct fs)) (16 + n) s8
+    → AreFields [] fs → SpelledAll (bounds_of limits) order depth_left 16 s7 (value_trees (map field_struct fs)) (16 + n) s8
     → lacks (required kind) fs ≡ None
     → s8 ≡ pad 8 (16 + n) ++ s9
     → sigs (types_of xs) ≡ body_signature fs
     → SpelledAll (bounds_with limits (body_fds limits fs)) order limits.depth (16 + n + gap_to 8 (16 + n)) s9 xs (16 + n + gap_to 8 (16 + n) + body) r
     → (message_items limits).Passed 0 s (order, record { kind = kind; flags = flags; serial = serial; fields = fs; body = xs }) (16 + n + gap_to 8 (16 + n) + body) r
-taken limits order room kind flags serial body n fs xs s1 s2 s3 s4 s5 s6 s7 s8 s9 r s opened e0 k0 k1 e1 f1 e2 e3 b1 e4 z0 z1 e5 n0 e6 n1 limit fields all none e8 signature body_all =
+taken limits order depth_left kind flags serial body n fs xs s1 s2 s3 s4 s5 s6 s7 s8 s9 r s opened e0 k0 k1 e1 f1 e2 e3 b1 e4 z0 z1 e5 n0 e6 n1 limit fields all none e8 signature body_all =
     let at = 16 + n + gap_to 8 (16 + n) in
-    let seq = seq_fields_from (bounds_of limits) order room (16 + n) fs [] 16 s7 (16 + n) s8 (omega arith) fields all in
-    let spells = signature_text (body_signature fs) (field_signature (bounds_of limits) order room (16 + n) fs [] 16 s7 (16 + n) s8 seq) in
+    let seq = seq_fields_from (bounds_of limits) order depth_left (16 + n) fs [] 16 s7 (16 + n) s8 (omega arith) fields all in
+    let spells = signature_text (body_signature fs) (field_signature (bounds_of limits) order depth_left (16 + n) fs [] 16 s7 (16 + n) s8 seq) in
     let types : types_spelled (body_signature fs) ≡ types_of xs = ap types_spelled (sym signature) ∙ spelled_sigs (types_of xs) in
     let typed = fields_from (bounds_with limits (body_fds limits fs)) order limits.depth (value (bounds_with limits (body_fds limits fs)) order limits.depth) (λ e t o s v q r. (value_inside (bounds_with limits (body_fds limits fs)) order limits.depth e t o s v q r).0) (λ e t o s v q r. (value_inside (bounds_with limits (body_fds limits fs)) order limits.depth e t o s v q r).1) (at + body) xs at s9 (at + body) r (omega arith) body_all in (
       order,
@@ -226,10 +226,10 @@ taken limits order room kind flags serial body n fs xs s1 s2 s3 s4 s5 s6 s7 s8 s
                 s6,
                 (z1, e5, refl, omega arith, fits_not_zero reasons.ZeroSerial 12 serial z0),
                 (
-                  room,
+                  depth_left,
                   12,
                   s6,
-                  rw opened (opens room 12 s6),
+                  rw opened (opens depth_left 12 s6),
                   (
                     n,
                     16,
@@ -244,7 +244,7 @@ taken limits order room kind flags serial body n fs xs s1 s2 s3 s4 s5 s6 s7 s8 s
                         tt,
                         16 + n,
                         s8,
-                        passes_judge (lacks (required kind) fs) (16 + n) s8 none,
+                        passes_validate (lacks (required kind) fs) (16 + n) s8 none,
                         (
                           tt,
                           at,
@@ -271,7 +271,7 @@ taken limits order room kind flags serial body n fs xs s1 s2 s3 s4 s5 s6 s7 s8 s
 
 some_room : (depth : ℕ) (fs : List FieldTree) → IsWellFormed depth (field_array fs) → depth ≡ suc (depth - 1)
 some_room zero fs h = absurd h
-some_room (suc room) fs h = omega arith
+some_room (suc depth_left) fs h = omega arith
 
 pub message_from : (limits : Limits) (s : List ℕ) (order : Order) (m : MessageTree) (q : ℕ) (r : List ℕ) → IsFront limits s (order, m) q r → (message_items limits).Passed 0 s (order, m) q r
 message_from limits s order m q r h =
@@ -280,11 +280,11 @@ message_from limits s order m q r h =
     let ends : fields_end order m.fields ≡ 16 + n = fields_end_is order m.fields in
     let opened : limits.depth ≡ suc (limits.depth - 1) = some_room limits.depth m.fields ok.formed_fields in
     let formed = subst (λ (u : ℕ). IsWellFormed u (field_array m.fields)) opened ok.formed_fields in
-    let room = limits.depth - 1 in
+    let depth_left = limits.depth - 1 in
     let within = within_field_array limits.array order m.fields ok.within_fields in
     let whole_len = message_length order m in
     let bytes : s ≡ order_byte order ∷ (num order 1 m.kind ++ (num order 1 m.flags ++ (num order 1 1 ++ (num order 4 (length (body_bytes order m)) ++ (num order 4 m.serial ++ (num order 4 n ++ (field_bytes order m.fields ++ (pad 8 (fields_end order m.fields) ++ (body_bytes order m ++ r))))))))) = h.1 ∙ message_parts order m r in
-    let all : SpelledAll (bounds_of limits) order room 16 (field_bytes order m.fields ++ (pad 8 (fields_end order m.fields) ++ (body_bytes order m ++ r))) (value_trees (map field_struct m.fields)) (16 + n) (pad 8 (fields_end order m.fields) ++ (body_bytes order m ++ r)) =
+    let all : SpelledAll (bounds_of limits) order depth_left 16 (field_bytes order m.fields ++ (pad 8 (fields_end order m.fields) ++ (body_bytes order m ++ r))) (value_trees (map field_struct m.fields)) (16 + n) (pad 8 (fields_end order m.fields) ++ (body_bytes order m ++ r)) =
     record { formed = formed.1; within = within.1; indexes = any_all_below (value_trees (map field_struct m.fields)); bytes = refl; place = refl } in
     let body_all : SpelledAll (bounds_with limits (body_fds limits m.fields)) order limits.depth (body_start order m.fields) (body_bytes order m ++ r) m.body (body_start order m.fields + length (body_bytes order m)) r =
     record { formed = ok.formed_body; within = ok.within_body; indexes = ok.indexes; bytes = refl; place = refl } in
@@ -302,7 +302,7 @@ message_from limits s order m q r h =
     let s3 = num order 1 1 ++ s4 in
     let s2 = num order 1 m.flags ++ s3 in
     let s1 = num order 1 m.kind ++ s2 in
-    let passed = taken limits order room m.kind m.flags m.serial (length (body_bytes order m)) n m.fields m.body s1 s2 s3 s4 s5 s6 s7 s8 tail r s
+    let passed = taken limits order depth_left m.kind m.flags m.serial (length (body_bytes order m)) n m.fields m.body s1 s2 s3 s4 s5 s6 s7 s8 tail r s
     opened bytes ok.kind ok.kind_fits refl ok.flags refl refl (omega (arith, fits)) refl ok.serial ok.serial_fits refl (omega (arith, within.0)) refl within.0 fits
     ok.fields all ok.required_codes (ap (λ (u : ℕ). pad 8 u ++ tail) ends) ok.signature spelled in
     rw last passed

@@ -1,4 +1,4 @@
--- Reading a message in the parts in which the code judges and checks it.
+-- Reading a message in the parts in which the code validates and checks it.
 -- D-Bus Specification, "Message Format", "Header Fields".
 use Rattle.std.specs.Prelude.{ℕ, ◌-◌, List, Option}
 use Rattle.dbus_texts.specs.Types.{TypeTree, TypeTrees}
@@ -11,7 +11,7 @@ use Rattle.dbus_value_model.specs.Values.{ValueTree, ValueTrees}
 use Rattle.dbus_value_model.specs.Items.{no_row}
 use Rattle.dbus_value_model.specs.ValueItems.{text_row}
 use Rattle.dbus_value_model.specs.WantedTexts.{WantedText}
-use Rattle.dbus_value_model.specs.Reading.{Reader, ◌>>=◌, ◌>>◌, pure, judge, bounded, padding, number, signature, nul, contents}
+use Rattle.dbus_value_model.specs.Reading.{Reader, ◌>>=◌, ◌>>◌, pure, validate, bounded, padding, number, signature, nul, contents}
 use Rattle.dbus_message_model.specs.Messages.{FieldTree, MessageTree, Want, want, lacks, required, body_signature, body_fds}
 use Rattle.dbus_header.specs.MessageItems.{not_zero_row, version_row, fields_row, code_row, kind_wanted}
 use Rattle.dbus_header.specs.MessageReading.{byte_order, opening, value_wanted, body_items}
@@ -63,7 +63,7 @@ unfoldable pub message_read : Limits → Reader (Order × MessageTree)
 message_read limits = do
   h ← fixed_header limits
   fs ← fields_read limits h.order h.fields
-  judge (lacks (required h.kind) fs)
+  validate (lacks (required h.kind) fs)
   bounded 8 (padding 8)
   xs ← bounded h.body (body_read limits (body_fds limits fs) h.order (types_spelled (body_signature fs)))
   pure (h.order, record { kind = h.kind; flags = h.flags; serial = h.serial; fields = fs; body = xs })

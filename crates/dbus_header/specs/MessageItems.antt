@@ -10,7 +10,7 @@ use Rattle.dbus_value_model.specs.declared.order.Order.{Order}
 use Rattle.dbus_value_model.specs.Bytes.{gap_to}
 use Rattle.dbus_value_model.specs.Values.{ValueTree, ValueTrees, NumberValue, TextValue}
 use Rattle.dbus_value_model.specs.Spelling.{Spelled}
-use Rattle.dbus_value_model.specs.Items.{Item, ◌>>=◌, ◌>>◌, pure, judge, bounded, ends, padding, number, text, nul, signature, contents, fault, no_row}
+use Rattle.dbus_value_model.specs.Items.{Item, ◌>>=◌, ◌>>◌, pure, validate, bounded, ends, padding, number, text, nul, signature, contents, fault, no_row}
 use Rattle.dbus_value_model.specs.declared.fault.Reason.{Reason}
 use Rattle.dbus_value_model.specs.ValueItems.{text_row, opened, value, fields}
 use Rattle.dbus_message_model.specs.Messages.{FieldTree, MessageTree, order_byte, field_type, field_struct, Want, Anything, OfType, Name, Serial, want, is_known, has_code, IsField, lacks, required, body_signature, body_fds}
@@ -37,7 +37,7 @@ code_row before p n =
 
 -- A container is opened, which has no bytes: how many more may be opened within it.
 abbrev pub opening : ℕ → Item ℕ
-opening room = opened room (pure (room - 1))
+opening depth_left = opened depth_left (pure (depth_left - 1))
 
 -- ---- a field
 
@@ -49,24 +49,24 @@ kind_wanted (Name k) = Only (sig (TextType STRING))
 kind_wanted Serial = Only (sig (NumberType UINT32))
 
 abbrev pub value_wanted : Bounds → Order → ℕ → ℕ → Want → TypeTree → Item ValueTree
-value_wanted bounds order room end Anything t = value bounds order room end t
-value_wanted bounds order room end (OfType u) t = value bounds order room end t
-value_wanted bounds order room end (Name k) t = do
+value_wanted bounds order depth_left end Anything t = value bounds order depth_left end t
+value_wanted bounds order depth_left end (OfType u) t = value bounds order depth_left end t
+value_wanted bounds order depth_left end (Name k) t = do
   padding 4 end
   n ← number order 4 end (name_row end)
   name ← text k n
   nul
   pure (TextValue STRING name)
-value_wanted bounds order room end Serial t = do
+value_wanted bounds order depth_left end Serial t = do
   padding 4 end
   n ← number order 4 end (not_zero_row reasons.ZeroSerial)
   pure (NumberValue UINT32 n)
 
 -- a struct of the code and a variant, where so many containers may be opened
 abbrev pub field_items : Bounds → Order → ℕ → ℕ → List FieldTree → Item FieldTree
-field_items bounds order room end before = do
+field_items bounds order depth_left end before = do
   padding 8 end
-  within ← opening room
+  within ← opening depth_left
   code ← number order 1 end (code_row before)
   inner ← opening within
   n ← number order 1 end (text_row end)
@@ -77,9 +77,9 @@ field_items bounds order room end before = do
 
 -- a field is passed where it is spelled, whole, and is one after those before it
 abbrev pub field : Bounds → Order → ℕ → ℕ → List FieldTree → Item FieldTree
-field bounds order room end before = record {
-  Passed = λ o s f q r. Spelled bounds order room end field_type o s (field_struct f) q r × IsField before f;
-  Refused = (field_items bounds order room end before).Refused;
+field bounds order depth_left end before = record {
+  Passed = λ o s f q r. Spelled bounds order depth_left end field_type o s (field_struct f) q r × IsField before f;
+  Refused = (field_items bounds order depth_left end before).Refused;
 }
 
 -- ---- the message
@@ -98,8 +98,8 @@ types_of_text text = record {
 }
 
 abbrev pub body_items : Bounds → Order → ℕ → TypeTrees → ℕ → Item ValueTrees
-body_items bounds order room ts end = do
-  xs ← fields (value bounds order room end) ts
+body_items bounds order depth_left ts end = do
+  xs ← fields (value bounds order depth_left end) ts
   ends end
   pure xs
 
@@ -112,10 +112,10 @@ message_items limits = do
   number order 1 16 version_row
   body ← number order 4 16 no_row
   serial ← number order 4 16 (not_zero_row reasons.ZeroSerial)
-  room ← opening limits.depth
+  depth_left ← opening limits.depth
   n ← number order 4 16 (fields_row limits body)
-  fs ← contents n (field (bounds_of limits) order room)
-  judge (lacks (required kind) fs)
+  fs ← contents n (field (bounds_of limits) order depth_left)
+  validate (lacks (required kind) fs)
   bounded 8 (padding 8)
   ts ← types_of_text (body_signature fs)
   xs ← bounded body (body_items (bounds_with limits (body_fds limits fs)) order limits.depth ts)

@@ -1,18 +1,14 @@
 -- Short signatures, level by level and along a list.
-use Rattle.std.proofs.Common.{◌≡◌, ℕ, ◌+◌, ◌<◌, List, ◌∷◌, length, get_or, drop, Vec, Box, String, sym, subst}
-use Rattle.std.specs.Prelude.{string_bytes}
+use Rattle.std.proofs.Common.{◌≡◌, ℕ, ◌+◌, ◌<◌, List, ◌∷◌, length, get_or, drop, Vec, Box, sym, subst}
 use Rattle.std.proofs.lemmas.List.{drop_more}
 use Rattle.dbus_texts.specs.Types.{sig}
 use Rattle.dbus_types.specs.declared.sig_type.SigType.{SigType}
 use Rattle.dbus_value_model.specs.Values.{type_of}
 use Rattle.dbus_value_model.specs.ShortSignatures.{HasShortSignatures, HaveShortSignatures}
 use Rattle.dbus_value_model.specs.ValueViews.{value_tree, value_trees_of}
-use Rattle.dbus_value_model.specs.declared.value.Value.{Value, Sig, Array, Struct, Entry, Variant}
+use Rattle.dbus_value_model.specs.declared.value.Value.{Value, Array, Struct, Entry, Variant}
 use Rattle.dbus_value_model.specs.declared.value.DictEntry.{DictEntry}
-use Rattle.dbus_value_model.proofs.ValueRows.{tree-Sig, tree-Array, tree-Struct, tree-Entry, tree-Variant}
-
-pub short-Sig : {A : Type 0} (s : String A) → HasShortSignatures (value_tree {A = A} (Sig s)) → length (string_bytes s) < 256
-short-Sig s h = subst HasShortSignatures (tree-Sig s) h
+use Rattle.dbus_value_model.proofs.ValueRows.{tree-Array, tree-Struct, tree-Entry, tree-Variant}
 
 pub short-Array : {A : Type 0} (t : SigType A) (vs : Vec (Value A) A) → HasShortSignatures (value_tree {A = A} (Array t vs)) → HaveShortSignatures (value_trees_of vs.items)
 short-Array t vs h = subst HasShortSignatures (tree-Array t vs) h

@@ -5,7 +5,7 @@ use Rattle.std.proofs.lemmas.Bool.{le-ltb, lt-ltb}
 use Rattle.std.specs.Option.{unwrap_or}
 use Rattle.std.specs.Bool.{◌==◌}
 use Rattle.std.specs.Prelude.{ℤ, string_bytes}
-use Rattle.std.proofs.lemmas.List.{at_drop_more, at_drop_all}
+use Rattle.std.proofs.lemmas.List.{at_drop_more}
 use Rattle.dbus_texts.specs.Types.{sig, BYTE}
 use Rattle.dbus_types.specs.Alignments.{alignment_of}
 use Rattle.dbus_types.specs.SigTypes.{type_tree}
@@ -232,9 +232,6 @@ module _ (limits : Limits) where
       sizes limits (value_trees_of (drop i vs)) b o ≡ and_then (sized limits (value_tree v) b o) (sizes limits (value_trees_of (drop (i + 1) vs)) b)
   sizes_more {A} b o vs i v lt e =
       at_drop_more (λ (l : List (Value A)). sizes limits (value_trees_of l) b o) vs i v lt ∙ ap (λ (x : Value A). and_then (sized limits (value_tree x) b o) (sizes limits (value_trees_of (drop (i + 1) vs)) b)) (sym e)
-
-  pub sizes_end : {A : Type 0} (b : Option ℕ) (o : ℕ) (vs : List (Value A)) (i : ℕ) → length vs ≤ i → sizes limits (value_trees_of (drop i vs)) b o ≡ Ok o
-  sizes_end {A} b o vs i le = at_drop_all (λ (l : List (Value A)). sizes limits (value_trees_of l) b o) vs i le
 
   pub sizes_stop : {A : Type 0} (b : Option ℕ) (o : ℕ) (vs : List (Value A)) (i : ℕ) (v : Value A) (f : ValueFault) → i < length vs → v ≡ get_or vs i v → Err f ≡ sized limits (value_tree v) b o →
       Err f ≡ sizes limits (value_trees_of (drop i vs)) b o

@@ -84,14 +84,14 @@ key_for_text k h = named k h
 found : (w : List ℕ) (o : Option Key) → key_for w ≡ o → (k : Key) → IsKey k → w ≡ key_text k → Some k ≡ o
 found w o e k h f = sym (key_for_text k h) ∙ sym (ap key_for f) ∙ e
 
-judged : (w : List ℕ) (k : Key) → key_for w ≡ Some k → Either (IsKey k) → Either (w ≡ key_text k) → (o : Option Key) × IsNamed w o
-judged w k e (inl h) (inl f) = (Some k, (h, f))
-judged w k e (inr n) f = (None, λ l i g. n (subst (λ x. IsKey x) (ap (key_or k) (found w (Some k) e l i g)) i))
-judged w k e (inl h) (inr n) = (None, λ l i g. n (subst (λ x. w ≡ key_text x) (ap (key_or k) (found w (Some k) e l i g)) g))
+validated : (w : List ℕ) (k : Key) → key_for w ≡ Some k → Either (IsKey k) → Either (w ≡ key_text k) → (o : Option Key) × IsNamed w o
+validated w k e (inl h) (inl f) = (Some k, (h, f))
+validated w k e (inr n) f = (None, λ l i g. n (subst (λ x. IsKey x) (ap (key_or k) (found w (Some k) e l i g)) i))
+validated w k e (inl h) (inr n) = (None, λ l i g. n (subst (λ x. w ≡ key_text x) (ap (key_or k) (found w (Some k) e l i g)) g))
 
 named_by : (w : List ℕ) (o : Option Key) → key_for w ≡ o → (p : Option Key) × IsNamed w p
 named_by w None e = (None, λ k h f. let d = found w None e k h f in absurd cc)
-named_by w (Some k) e = judged w k e (a_key k) (same w (key_text k))
+named_by w (Some k) e = validated w k e (a_key k) (same w (key_text k))
 
 name_of : (w : List ℕ) → (o : Option Key) × IsNamed w o
 name_of w = named_by w (key_for w) refl

@@ -32,7 +32,7 @@ impl<A: Allocator> Message<A> {
     ghost use Rattle.dbus_message_model.specs.MessageViews.{message_tree};
 
     /// The message of these parts, which the caller knows to be valid, and to be spelled by so many bytes. Parts of which that
-    /// is not known are judged by `Message::new` of `dbus_build`.
+    /// is not known are validated by `Message::new` of `dbus_build`.
     pub fn of_valid(parts: Parts<A>, size: usize) -> Self
         requires valid { IsValidMessage specification (parts_tree parts) }
         requires packed { PartsKeepBytes parts }

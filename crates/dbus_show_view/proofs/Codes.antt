@@ -113,14 +113,14 @@ byte_spelled : (order : Order) (o n : ℕ) → n < 256 → spelling order o (Num
 unfolding spelling
 byte_spelled order o n h = ap (λ (g : ℕ). replicate g 0 ++ num order 1 n) (no_gap o) ∙ one_num order n h
 
-pub bytes_spelled : (order : Order) (room o : ℕ) (xs : ValueTrees) → AllOf (NumberType BYTE) xs → AreWellFormed room xs → spellings order o xs ≡ bytes_in xs
+pub bytes_spelled : (order : Order) (depth_left o : ℕ) (xs : ValueTrees) → AllOf (NumberType BYTE) xs → AreWellFormed depth_left xs → spellings order o xs ≡ bytes_in xs
 unfolding spellings
-bytes_spelled order room o NoValues all formed = refl
-bytes_spelled order room o (MoreValues v xs) all formed =
+bytes_spelled order depth_left o NoValues all formed = refl
+bytes_spelled order depth_left o (MoreValues v xs) all formed =
     let n = number_of_type v BYTE all.0 in
-    let fits : n.0 < 256 = subst (λ (x : ValueTree). IsWellFormed room x) n.1 formed.0 in
+    let fits : n.0 < 256 = subst (λ (x : ValueTree). IsWellFormed depth_left x) n.1 formed.0 in
     let one : spelling order o v ≡ n.0 ∷ [] = ap (λ (x : ValueTree). spelling order o x) n.1 ∙ byte_spelled order o n.0 fits in
-    let rest = bytes_spelled order room (o + length (spelling order o v)) xs all.1 formed.1 in
+    let rest = bytes_spelled order depth_left (o + length (spelling order o v)) xs all.1 formed.1 in
     ap (λ (s : List ℕ). s ++ spellings order (o + length (spelling order o v)) xs) one
     ∙ ap (λ (s : List ℕ). n.0 ∷ s) rest
     ∙ sym (ap (λ (x : ValueTree). bytes_in (MoreValues x xs)) n.1)

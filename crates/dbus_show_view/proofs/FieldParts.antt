@@ -61,7 +61,7 @@ bare_other (ArrayValue t xs) s o g u = refl
 bare_other (StructValue xs) s o g u = refl
 bare_other (EntryValue x y) s o g u = refl
 
-module _ {order : Order} {room : ℕ} {types : List ℕ} {at : ℕ} {bytes : List ℕ} {v : ValueTree} {rest : List ℕ} (s : Stands order room types at bytes v rest) where
+module _ {order : Order} {depth_left : ℕ} {types : List ℕ} {at : ℕ} {bytes : List ℕ} {v : ValueTree} {rest : List ℕ} (s : Stands order depth_left types at bytes v rest) where
   pub bare_text : {A : Type 0} {size : ℕ} (after : ℕ) (t : List ℕ) (a b : Draft A) (p : TextStands s size) → t ≡ p.text → after ≡ at + length (spelling order at v) → Gains a t b → IsWritten order at v (bare v) a b after
   bare_text after t a b p is ends shown = record { gained = subst (λ (l : List ℕ). Gains a l b) (is ∙ sym (ap bare p.is)) shown; ends = ends }
 

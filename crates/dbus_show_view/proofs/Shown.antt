@@ -25,7 +25,7 @@ use Rattle.dbus_show.proofs.Gaining.{then}
 use Rattle.dbus_show_view.specs.Visits.{open_text, IsListed}
 use Rattle.dbus_show_view.proofs.Codes.{types_ascii, byte_is, not_byte, bytes_spelled}
 
-module _ {order : Order} {room : ℕ} {types : List ℕ} {at : ℕ} {bytes : List ℕ} {v : ValueTree} {rest : List ℕ} (s : Stands order room types at bytes v rest) where
+module _ {order : Order} {depth_left : ℕ} {types : List ℕ} {at : ℕ} {bytes : List ℕ} {v : ValueTree} {rest : List ℕ} (s : Stands order depth_left types at bytes v rest) where
   pub all_ascii : IsAscii types
   all_ascii = types_ascii (type_of v) types s.text
 
@@ -67,7 +67,7 @@ module _ {order : Order} {room : ℕ} {types : List ℕ} {at : ℕ} {bytes : Lis
         let there = elements_there s p first p.n begins refl in
         let is : p.type ≡ NumberType BYTE = byte_is p.type (p.code ∙ byte) in
         let all : AllOf (NumberType BYTE) p.xs = subst (λ (t : TypeTree). AllOf t p.xs) is p.all in
-        let same : spellings order first p.xs ≡ bytes_in p.xs = bytes_spelled order (room - 1) first p.xs all there.formed in
+        let same : spellings order first p.xs ≡ bytes_in p.xs = bytes_spelled order (depth_left - 1) first p.xs all there.formed in
         let long : length (spellings order first p.xs) ≡ end - first = omega (arith, there.ends, ends) in
         let held : take (end - first) (drop first bytes) ≡ bytes_in p.xs = ap (take (end - first)) there.spelled ∙ take_at (spellings order first p.xs) rest (end - first) long ∙ same in
         let test : is_byte p.type ≡ true = ap is_byte is in

@@ -7,7 +7,7 @@ use Rattle.dbus_value_model.specs.declared.order.Order.{Order}
 use Rattle.dbus_value_model.specs.Spelling.{spelling}
 use Rattle.dbus_value_model.specs.Values.{ValueTree}
 use Rattle.dbus_message_model.specs.Messages.{order_byte}
-use Rattle.dbus_judge.specs.declared.judging.Judged.{Judged}
+use Rattle.dbus_validate.specs.declared.validating.Validated.{Validated}
 use Rattle.dbus_walk.specs.declared.spot.Source.{Source}
 use Rattle.dbus_walk.specs.Standing.{Stands}
 use Rattle.dbus_show.specs.ShownMessages.{kind_text}
@@ -20,11 +20,11 @@ pub record IsWritten {A : Type 0} (order : Order) (at : ℕ) (v : ValueTree) (te
   pub ends : after ≡ at + length (spelling order at v)
 
 -- a value whose type has this text stands at an offset
-abbrev pub TypedStands : Source → (room : ℕ) → (types : List ℕ) → (at : ℕ) → ValueTree → (rest : List ℕ) → Type 0
-TypedStands source room types at v rest = Stands source.order room types at source.bytes.now v rest
+abbrev pub TypedStands : Source → (depth_left : ℕ) → (types : List ℕ) → (at : ℕ) → ValueTree → (rest : List ℕ) → Type 0
+TypedStands source depth_left types at v rest = Stands source.order depth_left types at source.bytes.now v rest
 
 -- the line of a message's header as far as its fields
-abbrev pub start_text : Judged → ℕ → List ℕ
+abbrev pub start_text : Validated → ℕ → List ℕ
 start_text j number = concat
     (codes "#" ∷ decimal number ∷ codes " " ∷ (order_byte j.order ∷ []) ∷ codes " " ∷ kind_text j.kind ∷ codes " serial=" ∷ decimal j.serial
     ∷ codes " flags=" ∷ encode_lower (j.flags ∷ []) ∷ [])

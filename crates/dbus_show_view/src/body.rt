@@ -30,7 +30,7 @@ pub(crate) fn write_body<A: Allocator>(draft: &mut Draft<A>, source: &Source<'_>
             at: place,
             types: &spot.types[pos..end],
             lengths: &spot.lengths[pos..end],
-            room: spot.room,
+            depth_left: spot.depth_left,
         };
         draft.push_str("  ");
         place = write_value_at(draft, source, &next);

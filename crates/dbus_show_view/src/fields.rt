@@ -24,13 +24,13 @@ fn write_bare_at<A: Allocator>(
     source: &Source<'_>,
     at: usize,
     types: &[u8],
-    room: u8,
+    depth_left: u8,
 ) -> usize
     requires few { length types.now ≤ 255 }
     requires stands { (v : ValueTree) × (rest : List ℕ) ×
-        TypedStands source.now room types.now at v rest }
+        TypedStands source.now depth_left types.now at v rest }
     ensures shown { (v : ValueTree) (rest : List ℕ) →
-        TypedStands source.now room types.now at v rest →
+        TypedStands source.now depth_left types.now at v rest →
         IsWritten source.now.order at v (bare_text v) draft.old draft.new result }
 {
     let code = types[0];
@@ -50,7 +50,7 @@ fn write_bare_at<A: Allocator>(
         write_integer(draft, source.order.u32_at(source.bytes, start));
         return start + 4;
     }
-    write_typed_at(draft, source, at, types, room)
+    write_typed_at(draft, source, at, types, depth_left)
 }
 
 /// Appends the field at `at`, after a space: the offset after it.
@@ -58,31 +58,31 @@ fn write_field<A: Allocator>(
     draft: &mut Draft<A>,
     source: &Source<'_>,
     at: usize,
-    room: u8,
+    depth_left: u8,
 ) -> usize
-    requires stands { (f : FieldTree) × (rest : List ℕ) × FieldStands source.now room at f rest }
-    ensures shown { (f : FieldTree) (rest : List ℕ) → FieldStands source.now room at f rest →
+    requires stands { (f : FieldTree) × (rest : List ℕ) × FieldStands source.now depth_left at f rest }
+    ensures shown { (f : FieldTree) (rest : List ℕ) → FieldStands source.now depth_left at f rest →
         IsWritten source.now.order at (field_struct f) (field_text f) draft.old draft.new result }
 {
-    let field = field_at(source, at, room);
+    let field = field_at(source, at, depth_left);
     draft.push_code(b' ');
     write_field_name(draft, field.code);
     draft.push_code(b'=');
     if is_known(field.code) {
-        return write_bare_at(draft, source, field.at, field.types, field.room);
+        return write_bare_at(draft, source, field.at, field.types, field.depth_left);
     }
-    write_typed_at(draft, source, field.at, field.types, field.room)
+    write_typed_at(draft, source, field.at, field.types, field.depth_left)
 }
 
 /// Appends a message's fields in their order.
-pub(crate) fn write_fields<A: Allocator>(draft: &mut Draft<A>, source: &Source<'_>, room: u8)
-    requires stand { (fs : List FieldTree) × (rest : List ℕ) × FieldsStand source.now room fs rest }
-    ensures shown { (fs : List FieldTree) (rest : List ℕ) → FieldsStand source.now room fs rest →
+pub(crate) fn write_fields<A: Allocator>(draft: &mut Draft<A>, source: &Source<'_>, depth_left: u8)
+    requires stand { (fs : List FieldTree) × (rest : List ℕ) × FieldsStand source.now depth_left fs rest }
+    ensures shown { (fs : List FieldTree) (rest : List ℕ) → FieldsStand source.now depth_left fs rest →
         Gains draft.old (flat_map field_text fs) draft.new }
 {
     let end = fields_end(source);
     let mut place = FIELDS_START;
     while place < end {
-        place = write_field(draft, source, place, room);
+        place = write_field(draft, source, place, depth_left);
     }
 }

@@ -38,13 +38,13 @@ pub(crate) fn write_typed_at<A: Allocator>(
     source: &Source<'_>,
     at: usize,
     types: &[u8],
-    room: u8,
+    depth_left: u8,
 ) -> usize
     requires few { length types.now ≤ 255 }
     requires stands { (v : ValueTree) × (rest : List ℕ) ×
-        TypedStands source.now room types.now at v rest }
+        TypedStands source.now depth_left types.now at v rest }
     ensures shown { (v : ValueTree) (rest : List ℕ) →
-        TypedStands source.now room types.now at v rest →
+        TypedStands source.now depth_left types.now at v rest →
         IsWritten source.now.order at v (value_text v) draft.old draft.new result }
 {
     let mut table = [0; 255];
@@ -52,7 +52,7 @@ pub(crate) fn write_typed_at<A: Allocator>(
         at,
         types,
         lengths: lengths_of(types, &mut table),
-        room,
+        depth_left,
     };
     write_value_at(draft, source, &spot)
 }

@@ -6,7 +6,7 @@ use Rattle.dbus_value_model.specs.declared.limits.Limits.{Limits}
 use Rattle.dbus_value_model.specs.declared.order.Order.{Order}
 use Rattle.dbus_message_model.specs.Messages.{MessageTree}
 use Rattle.dbus_header.specs.MessageOutcomes.{IsWhole}
-use Rattle.dbus_judge.proofs.Firsts.{alone}
+use Rattle.dbus_validate.proofs.Firsts.{alone}
 use Rattle.dbus_stream.specs.Checked.{IsOneMessage}
 
 module _ (limits : Limits) where

@@ -4,9 +4,9 @@ use Rattle.std.proofs.Math.Nat.{zero-add}
 use Rattle.std.proofs.Math.Seq.{take-append-add}
 use Rattle.dbus_value_model.specs.declared.limits.Limits.{Limits}
 use Rattle.dbus_header.specs.MessageOutcomes.{IsWhole, IsRefused, IsPartial}
-use Rattle.dbus_judge.specs.declared.judging.Judged.{Judged}
-use Rattle.dbus_judge.specs.Judging.{IsJudgedFirst, IsJudgedWhole}
-use Rattle.dbus_judge.proofs.Firsts.{followed}
+use Rattle.dbus_validate.specs.declared.validating.Validated.{Validated}
+use Rattle.dbus_validate.specs.Validating.{IsValidatedFirst, IsValidatedWhole}
+use Rattle.dbus_validate.proofs.Firsts.{followed}
 use Rattle.dbus_stream.specs.Gathering.{GathererState, gathering, begun, under_way, Gathered, Gathers}
 use Rattle.dbus_stream.specs.Taking.{Completes, Takes}
 use Rattle.dbus_stream.specs.declared.stream_fault.StreamFault.{StreamFault}
@@ -14,11 +14,11 @@ use Rattle.dbus_stream.specs.declared.stream_fault.StreamFault.TheVariants.{Memo
 
 module _ (old : GathererState) (piece : List ℕ) where
   -- nothing is held once the next message is begun, and the piece begins with a message
-  pub lends_first : (limits : Limits) (held : List ℕ) (whole : Bool) (lent : ℕ) (w : List ℕ) (j : Judged)
-      → ◌≡◌ {A = GathererState} (record { limits = limits; held = held; whole = whole; lent = lent }) (begun old) → under_way old.whole old.held ≡ w → held ≡ [] → IsJudgedFirst limits piece j
+  pub lends_first : (limits : Limits) (held : List ℕ) (whole : Bool) (lent : ℕ) (w : List ℕ) (j : Validated)
+      → ◌≡◌ {A = GathererState} (record { limits = limits; held = held; whole = whole; lent = lent }) (begun old) → under_way old.whole old.held ≡ w → held ≡ [] → IsValidatedFirst limits piece j
       → Completes gathering old w piece (record { limits = limits; held = held; whole = whole; lent = j.length }) j.length j
   lends_first limits held whole lent w j e holds none first =
-      let own = first.judged.judged in
+      let own = first.validated.validated in
       let same : limits ≡ old.limits = ap (λ (s : GathererState). s.limits) e in
       let open_ : whole ≡ false = ap (λ (s : GathererState). s.whole) e in
       let nothing : [] ≡ w = sym none ∙ (ap (λ (s : GathererState). s.held) e ∙ holds) in
@@ -29,7 +29,7 @@ module _ (old : GathererState) (piece : List ℕ) where
         message = own.message;
         whole = subst (λ n. IsWhole old.limits piece j.order own.message n) (sym (zero-add j.length)) (subst (λ l. IsWhole l piece j.order own.message j.length) same message);
         gives = record {
-          judged = subst (λ n. IsJudgedWhole limits (take n piece) j) (sym (zero-add j.length)) first.judged;
+          validated = subst (λ n. IsValidatedWhole limits (take n piece) j) (sym (zero-add j.length)) first.validated;
           place = inr (open_, none, sym (zero-add j.length));
         };
         holds = ap (λ b. under_way b held) open_ ∙ none;
@@ -37,9 +37,9 @@ module _ (old : GathererState) (piece : List ℕ) where
       })
 
   -- the message that was gathered
-  pub gathered : (w : List ℕ) (n : ℕ) (new : GathererState) (j : Judged) → under_way old.whole old.held ≡ w → Gathered (begun old) piece n new
-      → IsJudgedWhole new.limits new.held j → Completes gathering old w piece new n j
-  gathered w n new j holds e judged =
+  pub gathered : (w : List ℕ) (n : ℕ) (new : GathererState) (j : Validated) → under_way old.whole old.held ≡ w → Gathered (begun old) piece n new
+      → IsValidatedWhole new.limits new.held j → Completes gathering old w piece new n j
+  gathered w n new j holds e validated =
       let held = under_way old.whole old.held in
       let held_is : new.held ≡ take (length held + n) (held ++ piece) = ap (λ (s : GathererState). s.held) e.state ∙ sym (take-append-add held piece n) in
       let unlent : new.lent ≡ 0 = ap (λ (s : GathererState). s.lent) e.state in
@@ -49,7 +49,7 @@ module _ (old : GathererState) (piece : List ℕ) where
         message = e.message;
         whole = e.whole;
         gives = record {
-          judged = subst (λ b. IsJudgedWhole new.limits b j) held_is judged;
+          validated = subst (λ b. IsValidatedWhole new.limits b j) held_is validated;
           place = inl (whole, held_is, unlent);
         };
         holds = ap (λ b. under_way b new.held) whole;
@@ -69,7 +69,7 @@ module _ (old : GathererState) (piece : List ℕ) where
   )
 
   -- nothing was taken
-  pub fails : (w : List ℕ) (new : GathererState) (fault : StreamFault) (given : Option Judged) → under_way old.whole old.held ≡ w → Gathers (begun old) piece new (Err fault)
+  pub fails : (w : List ℕ) (new : GathererState) (fault : StreamFault) (given : Option Validated) → under_way old.whole old.held ≡ w → Gathers (begun old) piece new (Err fault)
       → Takes gathering old w piece new (Err fault) given
   fails w new Memory given holds g = (
     tt,

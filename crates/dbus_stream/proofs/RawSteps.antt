@@ -4,8 +4,8 @@ use Rattle.std.specs.List.{slice_range}
 use Rattle.std.proofs.lemmas.List.{length-take-le}
 use Rattle.dbus_value_model.specs.declared.fault.Fault.{Fault}
 use Rattle.dbus_header.proofs.OutcomeLaws.{whole_inside}
-use Rattle.dbus_judge.specs.declared.judging.Judged.{Judged}
-use Rattle.dbus_judge.specs.Judging.{IsJudgedWhole}
+use Rattle.dbus_validate.specs.declared.validating.Validated.{Validated}
+use Rattle.dbus_validate.specs.Validating.{IsValidatedWhole}
 use Rattle.dbus_stream.specs.Gathering.{GathererState, gathering, under_way, Rests}
 use Rattle.dbus_stream.specs.Next as next
 use Rattle.dbus_stream.specs.RawNext.{Advances, CopyAnswers, KeptAnswers, Reads, ReadsNothing, KeepsAll, Lends, GivesLent}
@@ -37,7 +37,7 @@ module _ {R B : Type 0} {b : Ghosts B} where
         held = k.size ∙ ap length (sym k.holds);
       }
 
-  giving : (w : List ℕ) (j : Judged) (old new : Reader R GathererState B b) → next.GivesOf gathering w j old new → IsLending new
+  giving : (w : List ℕ) (j : Validated) (old new : Reader R GathererState B b) → next.GivesOf gathering w j old new → IsLending new
   giving w j old new (size, g, lends, there) =
       let done = g.done in
       let held : new.held ≡ length (under_way new.taker.whole new.taker.held) = g.kept.size ∙ ap length (sym g.kept.holds) in
@@ -63,7 +63,7 @@ module _ {R B : Type 0} {b : Ghosts B} where
       }
 
   -- after each answer
-  pub lending_next : (w : List ℕ) (old new : Reader R GathererState B b) (res : Result (Option Judged) ReadFault) → next.NextAnswers gathering w old new res
+  pub lending_next : (w : List ℕ) (old new : Reader R GathererState B b) (res : Result (Option Validated) ReadFault) → next.NextAnswers gathering w old new res
       → IsLending new
   lending_next w old new (Ok (Some j)) a = giving w j old new a
   lending_next w old new (Ok None) a = resting new w a.2.kept a.2.rests
@@ -75,7 +75,7 @@ module _ {R B : Type 0} {b : Ghosts B} where
   lending_next w old new (Err Device) a = resting new w a.0.kept a.0.rests
   lending_next w old new (Err TooManyReads) a = resting new w a.0.kept a.0.rests
 
-  pub lending_kept : (w : List ℕ) (old new : Reader R GathererState B b) (res : Result (Option Judged) ReadFault) → next.KeptAnswers gathering w old new res
+  pub lending_kept : (w : List ℕ) (old new : Reader R GathererState B b) (res : Result (Option Validated) ReadFault) → next.KeptAnswers gathering w old new res
       → IsLending new
   lending_kept w old new (Ok (Some j)) a = giving w j old new a
   lending_kept w old new (Ok None) a = resting new w a.0.kept a.0.rests
@@ -109,7 +109,7 @@ module _ {R A : Type 0} where
     lent = lends_none new r.keeps.1;
   }
 
-  lends : (w : List ℕ) (j : Judged) (old new : RawReader R A) → limits_of new ≡ limits_of old → next.GivesOf gathering w j old.reader new.reader → Lends w j old new
+  lends : (w : List ℕ) (j : Validated) (old new : RawReader R A) → limits_of new ≡ limits_of old → next.GivesOf gathering w j old.reader new.reader → Lends w j old new
   lends w j old new same (size, g, l, there) =
       let lent_in = slice_range new.reader.buffer.bytes (new.reader.start - new.reader.taker.lent) new.reader.start in
       let lent_is : lent_of new ≡ take size w = elim l.place [
@@ -133,11 +133,11 @@ module _ {R A : Type 0} where
           unstopped = g.unstopped;
         };
         lent = lent_is;
-        judged_is = subst (λ b. IsJudgedWhole (limits_of old) b j) (sym lent_is) (subst (λ limits. IsJudgedWhole limits (take size w) j) same l.judged);
+        validated_is = subst (λ b. IsValidatedWhole (limits_of old) b j) (sym lent_is) (subst (λ limits. IsValidatedWhole limits (take size w) j) same l.validated);
       }
 
   -- what the reader below answers, of a reader of raw messages
-  advances : (w : List ℕ) (old new : RawReader R A) (res : Result (Option Judged) ReadFault) → limits_of new ≡ limits_of old
+  advances : (w : List ℕ) (old new : RawReader R A) (res : Result (Option Validated) ReadFault) → limits_of new ≡ limits_of old
       → next.NextAnswers gathering w old.reader new.reader res → Advances w old new res
   advances w old new (Ok (Some j)) same a = lends w j old new same a
   advances w old new (Ok None) same a = (a.0, a.1, keeps_all w old new a.2, a.3)
@@ -149,7 +149,7 @@ module _ {R A : Type 0} where
   advances w old new (Err Device) same a = (keeps_all w old new a.0, a.1, a.2)
   advances w old new (Err TooManyReads) same a = (keeps_all w old new a.0, a.1, a.2, a.3, a.4)
 
-  pub answers_kept : (old new : RawReader R A) (res : Result (Option Judged) ReadFault) → limits_of new ≡ limits_of old
+  pub answers_kept : (old new : RawReader R A) (res : Result (Option Validated) ReadFault) → limits_of new ≡ limits_of old
       → next.KeptAnswers gathering (kept old) old.reader new.reader res → KeptAnswers old new res
   answers_kept old new (Ok (Some j)) same a = lends (kept old) j old new same a
   answers_kept old new (Ok None) same a = (keeps_all (kept old) old new a.0, a.1, a.2)
@@ -165,13 +165,13 @@ module _ {R A : Type 0} where
     abbrev pub unread : (old mid new : RawReader R A) → Reads left calls old mid → ReadsNothing mid new → Reads left calls old new
     unread old mid new r n = steps.unread gathering left calls (kept old) old.reader mid.reader new.reader r n
 
-    pub answers_next : (old new : RawReader R A) (res : Result (Option Judged) ReadFault)
+    pub answers_next : (old new : RawReader R A) (res : Result (Option Validated) ReadFault)
         → ((r : Reads left calls old new) × (stopped_of old ≡ None → next.NextAnswers gathering (kept old ++ r.bytes) old.reader new.reader res))
         → (r : Reads left calls old new) × (stopped_of old ≡ None → Advances (kept old ++ r.bytes) old new res)
     answers_next old new res a = (a.0, λ unstopped. advances (kept old ++ a.0.bytes) old new res a.0.limits (a.1 unstopped))
 
     -- a copy of the message that is lent
-    copied : (w : List ℕ) (j : Judged) (old mid new : RawReader R A) (res : Result (Option (Vec ℕ A)) ReadFault) → Lends w j old mid → GivesLent mid new res → CopyAnswers w old new res
+    copied : (w : List ℕ) (j : Validated) (old mid new : RawReader R A) (res : Result (Option (Vec ℕ A)) ReadFault) → Lends w j old mid → GivesLent mid new res → CopyAnswers w old new res
     copied w j old mid new (Ok (Some bytes)) l c = record {
       size = l.size;
       gives = record {
@@ -202,7 +202,7 @@ module _ {R A : Type 0} where
     copied w j old mid new (Err Device) l c = absurd c
     copied w j old mid new (Err TooManyReads) l c = absurd c
 
-    pub gives_copy : (j : Judged) (old mid new : RawReader R A) (res : Result (Option (Vec ℕ A)) ReadFault)
+    pub gives_copy : (j : Validated) (old mid new : RawReader R A) (res : Result (Option (Vec ℕ A)) ReadFault)
         → ((r : Reads left calls old mid) × (stopped_of old ≡ None → Advances (kept old ++ r.bytes) old mid (Ok (Some j))))
         → GivesLent mid new res → ReadsNothing mid new
         → (r : Reads left calls old new) × (stopped_of old ≡ None → CopyAnswers (kept old ++ r.bytes) old new res)

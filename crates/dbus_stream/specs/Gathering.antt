@@ -4,8 +4,8 @@ use Rattle.dbus_value_model.specs.declared.order.Order.{Order}
 use Rattle.dbus_value_model.specs.declared.limits.Limits.{Limits}
 use Rattle.dbus_message_model.specs.Messages.{MessageTree}
 use Rattle.dbus_header.specs.MessageOutcomes.{IsWhole, IsRefused, IsPartial}
-use Rattle.dbus_judge.specs.declared.judging.Judged.{Judged}
-use Rattle.dbus_judge.specs.Judging.{IsJudgedWhole}
+use Rattle.dbus_validate.specs.declared.validating.Validated.{Validated}
+use Rattle.dbus_validate.specs.Validating.{IsValidatedWhole}
 use Rattle.dbus_check.specs.declared.checker.Checker.{Checker}
 use Rattle.dbus_check.specs.Checks as checks
 use Rattle.dbus_stream.specs.Checked.{IsOneMessage}
@@ -66,13 +66,13 @@ Gathers old piece new (Err (Format fault)) = IsRefused old.limits (old.held ++ p
 abbrev pub Rests : GathererState → Type 0
 Rests g = (g.whole ≡ false) × (g.lent ≡ 0)
 
--- the message of so many bytes that bytes begin with is judged, and held or lent
-pub record Lends (g : GathererState) (bytes : List ℕ) (size : ℕ) (j : Judged) : Type 0 where
-  pub judged : IsJudgedWhole g.limits (take size bytes) j
+-- the message of so many bytes that bytes begin with is validated, and held or lent
+pub record Lends (g : GathererState) (bytes : List ℕ) (size : ℕ) (j : Validated) : Type 0 where
+  pub validated : IsValidatedWhole g.limits (take size bytes) j
   pub place : ((g.whole ≡ true) × (g.held ≡ take size bytes) × (g.lent ≡ 0)) ⊎ ((g.whole ≡ false) × (g.held ≡ []) × (g.lent ≡ size))
 
 -- what is known of a gatherer as the taker of a reader
-abbrev pub gathering : Taking GathererState Judged
+abbrev pub gathering : Taking GathererState Validated
 gathering = record {
   limits = λ g. g.limits;
   holds = λ g w. under_way g.whole g.held ≡ w;

@@ -4,8 +4,8 @@ use Rattle.std.specs.Prelude.{◌≡◌, ◌⊎◌, ℕ, ◌+◌, List, [], ◌+
 use Rattle.dbus_value_model.specs.declared.order.Order.{Order}
 use Rattle.dbus_message_model.specs.Messages.{MessageTree}
 use Rattle.dbus_header.specs.MessageOutcomes.{IsWhole, IsRefused, IsPartial}
-use Rattle.dbus_judge.specs.declared.judging.Judged.{Judged}
-use Rattle.dbus_judge.specs.Judging.{IsJudgedWhole}
+use Rattle.dbus_validate.specs.declared.validating.Validated.{Validated}
+use Rattle.dbus_validate.specs.Validating.{IsValidatedWhole}
 use Rattle.dbus_stream.specs.Gathering.{gathering}
 use Rattle.dbus_stream.specs.Next as next
 use Rattle.dbus_stream.specs.RawReading.{limits_of, kept, lent_of, done_of, reads_of, most_reads_of, is_ended, stopped_of}
@@ -37,12 +37,12 @@ module _ {R A : Type 0} where
     pub done : done_of new ≡ done_of old + size
     pub unstopped : stopped_of new ≡ None
 
-  -- it is lent, and judged
-  pub record Lends (w : List ℕ) (judged : Judged) (old new : RawReader R A) : Type 0 where
+  -- it is lent, and validated
+  pub record Lends (w : List ℕ) (validated : Validated) (old new : RawReader R A) : Type 0 where
     pub size : ℕ
     pub gives : Gives w size old new
     pub lent : lent_of new ≡ take size w
-    pub judged_is : IsJudgedWhole (limits_of old) (lent_of new) judged
+    pub validated_is : IsValidatedWhole (limits_of old) (lent_of new) validated
 
   -- these are its bytes, and none are lent
   pub record Copies (w bytes : List ℕ) (old new : RawReader R A) : Type 0 where
@@ -64,8 +64,8 @@ module _ {R A : Type 0} where
       × (reads_of new ≡ most_reads_of new) × (is_ended new ≡ false)
 
   -- of a call that lends a message
-  abbrev pub Advances : List ℕ → RawReader R A → RawReader R A → Result (Option Judged) ReadFault → Type 0
-  Advances w old new (Ok (Some judged)) = Lends w judged old new
+  abbrev pub Advances : List ℕ → RawReader R A → RawReader R A → Result (Option Validated) ReadFault → Type 0
+  Advances w old new (Ok (Some validated)) = Lends w validated old new
   Advances w old new (Ok None) = Ends w old new
   Advances w old new (Err fault) = Fails w old new fault
 
@@ -76,8 +76,8 @@ module _ {R A : Type 0} where
   CopyAnswers w old new (Err fault) = Fails w old new fault
 
   -- what it answers out of what is kept alone
-  abbrev pub KeptAnswers : RawReader R A → RawReader R A → Result (Option Judged) ReadFault → Type 0
-  KeptAnswers old new (Ok (Some judged)) = Lends (kept old) judged old new
+  abbrev pub KeptAnswers : RawReader R A → RawReader R A → Result (Option Validated) ReadFault → Type 0
+  KeptAnswers old new (Ok (Some validated)) = Lends (kept old) validated old new
   KeptAnswers old new (Ok None) = KeepsAll (kept old) old new × (stopped_of new ≡ None) × IsPartial (limits_of old) (kept old)
   KeptAnswers old new (Err Memory) = KeepsAll (kept old) old new × (stopped_of new ≡ None)
   KeptAnswers old new (Err (Format fault)) = KeepsAll (kept old) old new × (stopped_of new ≡ Some (Format fault)) × IsRefused (limits_of old) (kept old) fault

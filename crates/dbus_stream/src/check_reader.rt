@@ -13,7 +13,7 @@ use dbus_value::Limits;
 
 /// Reads messages from a source, one after another, by a buffer of 65,536 bytes inside it, and tells their lengths.
 ///
-/// It accepts and refuses what a [`crate::MessageReader`] does. A message that lies whole in the buffer is judged there; any
+/// It accepts and refuses what a [`crate::MessageReader`] does. A message that lies whole in the buffer is validated there; any
 /// other is checked as it comes. It builds no message, keeps no byte of one outside its buffer but what its checker holds, and
 /// takes no memory, so it never answers `Memory`: it has a fixed size, about 106,000 bytes.
 pub type CheckReader<R> = Reader<R, Lengths, Large>;

@@ -1,21 +1,21 @@
-//! The bytes of a message that come in pieces, judged.
+//! The bytes of a message that come in pieces, validated.
 ghost use Rattle.std.specs.Prelude.{◌≡◌, ◌≤◌, ◌-◌, ℕ, List, true, false, length, take, IfOk};
 ghost use Rattle.dbus_check.specs.Checks.{Stands, limits_of};
 ghost use Rattle.dbus_header.specs.MessageOutcomes.{IsPartial};
-ghost use Rattle.dbus_judge.specs.Judging.{IsJudgedWhole};
+ghost use Rattle.dbus_validate.specs.Validating.{IsValidatedWhole};
 ghost use Rattle.dbus_stream.specs.Gathering.{GathererState, gathering, fresh, begun, under_way, Gathers};
 ghost use Rattle.dbus_stream.specs.Taking.{Takes};
 
 use crate::stream_fault::StreamFault;
 use crate::taker::Taker;
 use dbus_check::{Check, Checker};
-use dbus_judge::{Judged, judge_first, judge_known};
+use dbus_validate::{Validated, validate_first, validate_known};
 use dbus_value::Limits;
 use std::alloc::Allocator;
 use std::marker::Model;
 use std::mem;
 
-/// Takes the bytes of messages, and gives what is judged of each. It gathers the bytes of a message that comes in several
+/// Takes the bytes of messages, and gives what is validated of each. It gathers the bytes of a message that comes in several
 /// pieces, and holds them still when it gives it; of a message that lies whole in a piece it notes the length.
 #[derive(Drop)]
 pub struct Gatherer<A: Allocator> {
@@ -146,21 +146,21 @@ impl<A: Allocator + Copy> Gatherer<A> {
         self.held.as_slice()
     }
 
-    // What is judged of the whole message that it holds, which the checker took: its body is not gone over again.
-    fn judged_whole(&self) -> Judged
+    // What is validated of the whole message that it holds, which the checker took: its body is not gone over again.
+    fn validated_whole(&self) -> Validated
         requires { self.now.whole ≡ true }
-        ensures { IsJudgedWhole self.now.limits self.now.held result }
+        ensures { IsValidatedWhole self.now.limits self.now.held result }
     {
-        judge_known(self.held.as_slice(), self.limits)
+        validate_known(self.held.as_slice(), self.limits)
     }
 
-    // Takes a piece that begins with no whole message, or goes on with one that is held, and writes into `given` what is judged of
+    // Takes a piece that begins with no whole message, or goes on with one that is held, and writes into `given` what is validated of
     // the message that ends there, if one does. It is not inlined: where a message lies whole in a piece, nothing makes room for it.
     #[inline(never)]
     fn take_gathered(
         &mut self,
         piece: &[u8],
-        given: &mut Option<Judged>,
+        given: &mut Option<Validated>,
     ) -> Result<usize, StreamFault>
         requires { self.old.whole ≡ false }
         ensures within { IfOk result (λ n. n ≤ length piece.now) }
@@ -172,7 +172,7 @@ impl<A: Allocator + Copy> Gatherer<A> {
     {
         match self.gather(piece) {
             Ok(Some(count)) => {
-                *given = Some(self.judged_whole());
+                *given = Some(self.validated_whole());
                 Ok(count)
             }
             Ok(None) => {
@@ -196,7 +196,7 @@ impl<A: Allocator + Copy> Gatherer<A> {
 }
 
 impl<A: Allocator + Copy> Taker for Gatherer<A> {
-    type Given = Judged;
+    type Given = Validated;
 
     ghost known = { gathering };
 
@@ -204,17 +204,17 @@ impl<A: Allocator + Copy> Taker for Gatherer<A> {
         &mut self,
         _held: u64,
         piece: &[u8],
-        given: &mut Option<Judged>,
+        given: &mut Option<Validated>,
     ) -> Result<usize, StreamFault> {
         self.begin();
         if !self.held.is_empty() {
             return self.take_gathered(piece, given);
         }
-        *given = judge_first(piece, self.limits);
+        *given = validate_first(piece, self.limits);
         match given {
-            Some(judged) => {
-                self.lent = judged.length;
-                Ok(judged.length)
+            Some(validated) => {
+                self.lent = validated.length;
+                Ok(validated.length)
             }
             None => self.take_gathered(piece, given),
         }

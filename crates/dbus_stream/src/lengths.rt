@@ -5,7 +5,7 @@ ghost use Rattle.dbus_check.specs.Checks.{Stands, limits_of};
 use crate::stream_fault::StreamFault;
 use crate::taker::Taker;
 use dbus_check::{Check, Checker};
-use dbus_judge::judge;
+use dbus_validate::validate;
 use dbus_value::Limits;
 
 /// Takes the bytes of messages, and gives the length of each. It holds no byte but what its checker holds, and takes no
@@ -48,11 +48,11 @@ impl Taker for Lengths {
         piece: &[u8],
         given: &mut Option<u64>,
     ) -> Result<usize, StreamFault> {
-        // A message that lies whole in the piece is judged there.
+        // A message that lies whole in the piece is validated there.
         if held == 0 {
-            if let Some(judged) = judge(piece, self.limits) {
-                *given = Some(judged.length as u64);
-                return Ok(judged.length);
+            if let Some(validated) = validate(piece, self.limits) {
+                *given = Some(validated.length as u64);
+                return Ok(validated.length);
             }
         }
         match self.checker.take(piece) {

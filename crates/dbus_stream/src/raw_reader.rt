@@ -8,14 +8,14 @@ use crate::read_fault::ReadFault;
 use crate::reader::Reader;
 use crate::reads::MOST_READS;
 use dbus_device::Source;
-use dbus_judge::Judged;
+use dbus_validate::Validated;
 use dbus_value::Limits;
 use std::alloc::{Allocator, Global};
 
 /// Reads messages from a source, one after another, by a buffer of 65,536 bytes inside it, and lends or copies their bytes.
 ///
 /// It accepts and refuses what a [`crate::MessageReader`] does, and builds no message. A message that lies whole in the
-/// buffer is judged there, and lent where it lies; any other is checked as it comes, and its bytes are gathered. It keeps the
+/// buffer is validated there, and lent where it lies; any other is checked as it comes, and its bytes are gathered. It keeps the
 /// bytes that it read and did not give yet: at most those of one message and one buffer. The limits of its messages, and how
 /// many reads it makes at most in its life, are those that it was made with.
 #[derive(Drop)]
@@ -98,7 +98,7 @@ impl<R: Source, A: Allocator + Copy> RawReader<R, A> {
             .part(start - self.reader.taker.lent(), start)
     }
 
-    /// Goes on to the next message, and answers what is judged of its bytes, which [`RawReader::message`] lends then; None at the
+    /// Goes on to the next message, and answers what is validated of its bytes, which [`RawReader::message`] lends then; None at the
     /// end of the input. Bytes after the message are kept. After the end each call answers the same, without reading. A read is
     /// made only where no whole message is kept, so a message is given at the read that ends it. Memory is taken only for a
     /// message that does not lie whole in the buffer. D-Bus Specification, "Message Protocol".
@@ -107,8 +107,8 @@ impl<R: Source, A: Allocator + Copy> RawReader<R, A> {
     /// `Truncated`, at their number. `TooManyReads`: as many reads were made as it may make, none of them found the end, and
     /// no whole message is kept. Both stay for good. `Device`: a read failed in this call. `Memory`: a growth was refused.
     /// After these two all that was read is kept, and the call may be made again.
-    pub fn advance(&mut self) -> Result<Option<Judged>, ReadFault>
-        // Of what was kept and then read it lends the message that that begins with, and judges it.
+    pub fn advance(&mut self) -> Result<Option<Validated>, ReadFault>
+        // Of what was kept and then read it lends the message that that begins with, and validates it.
         ensures read { (r : Reads R.left R.calls self.old self.new) ×
             (stopped_of self.old ≡ None →
             Advances (kept self.old ++ r.bytes) self.old self.new result) }
@@ -132,8 +132,8 @@ impl<R: Source, A: Allocator + Copy> RawReader<R, A> {
     ///
     /// `Format`: the bytes begin with no message within the limits. It stays for good, and so does a fault that `advance`
     /// answers for good. `Memory`: a growth was refused. Then all that was read is kept, and the call may be made again.
-    pub fn advance_kept(&mut self) -> Result<Option<Judged>, ReadFault>
-        // It lends the message that the bytes that are kept begin with, and judges it.
+    pub fn advance_kept(&mut self) -> Result<Option<Validated>, ReadFault>
+        // It lends the message that the bytes that are kept begin with, and validates it.
         ensures kept { stopped_of self.old ≡ None → KeptAnswers self.old self.new result }
         ensures unread { ReadsNothing self.old self.new }
         ensures failed { DeviceCounts (R.failures (source_of self.old))
@@ -167,7 +167,7 @@ impl<R: Source, A: Allocator + Copy> RawReader<R, A> {
             (result ≡ Err f) × (self.new ≡ self.old) }
     {
         match self.advance() {
-            Ok(Some(_judged)) => self.give(),
+            Ok(Some(_validated)) => self.give(),
             Ok(None) => Ok(None),
             Err(fault) => Err(fault),
         }

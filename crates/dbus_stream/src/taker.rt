@@ -5,7 +5,7 @@ ghost use Rattle.dbus_stream.specs.Taking.{Taking, Takes};
 use crate::stream_fault::StreamFault;
 
 /// What takes the bytes of one message after another, in pieces of any length, and gives something of each message: the
-/// message itself, its length, or what is judged of it. A [`crate::Reader`] hands it what it reads.
+/// message itself, its length, or what is validated of it. A [`crate::Reader`] hands it what it reads.
 pub trait Taker: Drop {
     /// What it gives of a message.
     type Given: Drop;

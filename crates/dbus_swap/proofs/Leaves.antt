@@ -1,4 +1,4 @@
--- What turns numbers, texts, and arrays as they open.
+-- What byteswaps numbers, texts, and arrays as they open.
 use Rattle.std.proofs.Common.{◌≡◌, ℕ, ◌+◌, ◌<◌, List, [], ◌∷◌, ◌++◌, length, get_or, take, drop, reverse, refl, sym, ap, subst, ◌∙◌, arith}
 use Rattle.std.proofs.lemmas.List.{length-replicate}
 use Rattle.dbus_texts.specs.Types.{NumberCode, TextCode, TypeTree, NumberType, sig}
@@ -10,7 +10,7 @@ use Rattle.dbus_value_model.specs.Spelling.{spelling, spellings, contents_start,
 use Rattle.dbus_value_model.specs.Values.{ValueTree, ValueTrees, NumberValue, TextValue, VariantValue, ArrayValue, StructValue, EntryValue, AllOf, type_of}
 use Rattle.dbus_value_model.proofs.Numbers.{length-num}
 use Rattle.dbus_message_model.proofs.BothOrders.{any_lengths}
-use Rattle.dbus_value_judge.proofs.NumberArrays.{comes_aligned}
+use Rattle.dbus_value_validator.proofs.NumberArrays.{comes_aligned}
 use Rattle.dbus_walk.specs.declared.container.Container.{Container}
 use Rattle.dbus_walk.specs.declared.container.Container.TheVariants as kind
 use Rattle.dbus_walk.specs.Containers.{IsOf, front}
@@ -18,46 +18,46 @@ use Rattle.dbus_walk.specs.Standing.{Stands}
 use Rattle.dbus_walk.specs.Widths.{number_width}
 use Rattle.dbus_walk.proofs.Containers.{ArrayStands, elements_there}
 use Rattle.dbus_walk.proofs.Parts.{number_is}
-use Rattle.dbus_swap.specs.Turning.{other, Replaces}
-use Rattle.dbus_swap.specs.TurnLaws.{nothing_put, then_put}
-use Rattle.dbus_swap.proofs.Turned.{one_byte, number_put}
+use Rattle.dbus_swap.specs.Byteswapping.{other, Replaces}
+use Rattle.dbus_swap.specs.ByteswapLaws.{nothing_put, then_put}
+use Rattle.dbus_swap.proofs.Byteswapped.{one_byte, number_put}
 
 -- a number after its padding, and before bytes that are the same in both orders
 module _ (order : Order) (at size start n : ℕ) (out now : List ℕ) (begins : start ≡ at + gap_to size at)
-    (turned : now ≡ take start out ++ (reverse (take size (drop start out)) ++ drop (start + size) out)) where
+    (byteswapped : now ≡ take start out ++ (reverse (take size (drop start out)) ++ drop (start + size) out)) where
   after_pad : start ≡ at + length (pad size at)
   after_pad = omega (arith, begins, length-replicate {A = ℕ} (gap_to size at) 0)
 
-  padded_turns : Replaces at (pad size at ++ num order size n) (pad size at ++ num (other order) size n) out now
-  padded_turns =
+  padded_byteswaps : Replaces at (pad size at ++ num order size n) (pad size at ++ num (other order) size n) out now
+  padded_byteswaps =
       let x = pad size at in
-      then_put at x x (num order size n) (num (other order) size n) out out now start after_pad refl (nothing_put at x x out out refl refl) (λ rest h e. number_put order size n start out now rest e turned)
+      then_put at x x (num order size n) (num (other order) size n) out out now start after_pad refl (nothing_put at x x out out refl refl) (λ rest h e. number_put order size n start out now rest e byteswapped)
 
-  fronted_turns : (z : List ℕ) → Replaces at (pad size at ++ (num order size n ++ z)) (pad size at ++ (num (other order) size n ++ z)) out now
-  fronted_turns z =
+  fronted_byteswaps : (z : List ℕ) → Replaces at (pad size at ++ (num order size n ++ z)) (pad size at ++ (num (other order) size n ++ z)) out now
+  fronted_byteswaps z =
       let x = pad size at in
       let y = num order size n in
       let y' = num (other order) size n in
       let q = start + size in
       let len_y : length y ≡ length y' = omega (arith, length-num order size n, length-num (other order) size n) in
-      let both = then_put start y y' z z out now now q (omega (arith, length-num order size n)) len_y (λ rest h e. number_put order size n start out now rest e turned) (nothing_put q z z now now refl refl) in
+      let both = then_put start y y' z z out now now q (omega (arith, length-num order size n)) len_y (λ rest h e. number_put order size n start out now rest e byteswapped) (nothing_put q z z now now refl refl) in
       then_put at x x (y ++ z) (y' ++ z) out out now start after_pad refl (nothing_put at x x out out refl refl) both
 
-  pub number_turns : (k : NumberCode) → width k ≡ size → Replaces at (spelling order at (NumberValue k n)) (spelling (other order) at (NumberValue k n)) out now
+  pub number_byteswaps : (k : NumberCode) → width k ≡ size → Replaces at (spelling order at (NumberValue k n)) (spelling (other order) at (NumberValue k n)) out now
   unfolding spelling
-  number_turns k wide = subst (λ (w : ℕ). Replaces at (pad w at ++ num order w n) (pad w at ++ num (other order) w n) out now) (sym wide) padded_turns
+  number_byteswaps k wide = subst (λ (w : ℕ). Replaces at (pad w at ++ num order w n) (pad w at ++ num (other order) w n) out now) (sym wide) padded_byteswaps
 
-  pub text_turns : (k : TextCode) (t : List ℕ) → n ≡ length t → length_width k ≡ size → Replaces at (spelling order at (TextValue k t)) (spelling (other order) at (TextValue k t)) out now
+  pub text_byteswaps : (k : TextCode) (t : List ℕ) → n ≡ length t → length_width k ≡ size → Replaces at (spelling order at (TextValue k t)) (spelling (other order) at (TextValue k t)) out now
   unfolding spelling
-  text_turns k t is wide =
+  text_byteswaps k t is wide =
       let z = t ++ 0 ∷ [] in
       subst (λ (w : ℕ). Replaces at (pad w at ++ (num order w (length t) ++ z)) (pad w at ++ (num (other order) w (length t) ++ z)) out now) (sym wide)
-      (subst (λ (m : ℕ). Replaces at (pad size at ++ (num order size m ++ z)) (pad size at ++ (num (other order) size m ++ z)) out now) is (fronted_turns z))
+      (subst (λ (m : ℕ). Replaces at (pad size at ++ (num order size m ++ z)) (pad size at ++ (num (other order) size m ++ z)) out now) is (fronted_byteswaps z))
 
 -- a length of one byte is the same in both orders
-pub short_turns : (order : Order) (at : ℕ) (out now : List ℕ) (k : TextCode) (t : List ℕ) → length_width k ≡ 1 → now ≡ out → Replaces at (spelling order at (TextValue k t)) (spelling (other order) at (TextValue k t)) out now
+pub short_byteswaps : (order : Order) (at : ℕ) (out now : List ℕ) (k : TextCode) (t : List ℕ) → length_width k ≡ 1 → now ≡ out → Replaces at (spelling order at (TextValue k t)) (spelling (other order) at (TextValue k t)) out now
 unfolding spelling
-short_turns order at out now k t wide kept =
+short_byteswaps order at out now k t wide kept =
     let z = t ++ 0 ∷ [] in
     let n = length t in
     nothing_put at (pad (length_width k) at ++ (num order (length_width k) n ++ z)) (pad (length_width k) at ++ (num (other order) (length_width k) n ++ z)) out now
@@ -66,24 +66,24 @@ short_turns order at out now k t wide kept =
 pub array_opens : (order : Order) (at start : ℕ) (out now : List ℕ) (t : TypeTree) (xs : ValueTrees) → start ≡ at + gap_to 4 at
     → now ≡ take start out ++ (reverse (take 4 (drop start out)) ++ drop (start + 4) out)
     → Replaces at (front order at (ArrayValue t xs)) (front (other order) at (ArrayValue t xs)) out now
-array_opens order at start out now t xs begins turned =
+array_opens order at start out now t xs begins byteswapped =
     let z = pad (alignment_of t) (at + gap_to 4 at + 4) in
     let n = length (spellings order (contents_start t at) xs) in
     subst (λ (m : ℕ). Replaces at (pad 4 at ++ (num order 4 n ++ z)) (pad 4 at ++ (num (other order) 4 m ++ z)) out now) (any_lengths order (other order) (contents_start t at) xs)
-    (fronted_turns order at 4 start n out now begins turned z)
+    (fronted_byteswaps order at 4 start n out now begins byteswapped z)
 
 -- the numbers of an array
-module _ {order : Order} {room : ℕ} {types : List ℕ} {at : ℕ} {bytes : List ℕ} {v : ValueTree} {rest : List ℕ} (s : Stands order room types at bytes v rest) where
-  pub numbers_turn : (p : ArrayStands s) (first end size : ℕ) (half now : List ℕ) → 0 < size → ((t : TypeTree) → first_code t ≡ get_or types 1 0 → size ≡ number_width t) → first ≡ contents_start p.type at → end ≡ first + p.n
+module _ {order : Order} {depth_left : ℕ} {types : List ℕ} {at : ℕ} {bytes : List ℕ} {v : ValueTree} {rest : List ℕ} (s : Stands order depth_left types at bytes v rest) where
+  pub numbers_byteswap : (p : ArrayStands s) (first end size : ℕ) (half now : List ℕ) → 0 < size → ((t : TypeTree) → first_code t ≡ get_or types 1 0 → size ≡ number_width t) → first ≡ contents_start p.type at → end ≡ first + p.n
       → ((any : Order) (k : NumberCode) (xs : ValueTrees) → width k ≡ size → AllOf (NumberType k) xs → gap_to size first ≡ 0 → end ≡ first + length (spellings any first xs) → Replaces first (spellings any first xs) (spellings (other any) first xs) half now)
       → Replaces (contents_start p.type at) (spellings order (contents_start p.type at) p.xs) (spellings (other order) (contents_start p.type at) p.xs) half now
-  numbers_turn p first end size half now some wide is_first is_end turns =
+  numbers_byteswap p first end size half now some wide is_first is_end byteswaps =
       let suffix = at + gap_to 4 at + 4 in
       let k = number_is p.type size some (wide p.type p.code) in
       let begins : first ≡ suffix + gap_to (width k.0) suffix = is_first ∙ ap (λ (w : ℕ). suffix + gap_to w suffix) (ap alignment_of k.1) in
       let aligned : gap_to size first ≡ 0 = ap (λ (w : ℕ). gap_to w first) (sym k.2) ∙ ap (gap_to (width k.0)) begins ∙ comes_aligned k.0 suffix in
       let ends = is_end ∙ (elements_there s p first p.n is_first refl).ends in
-      subst (λ (q : ℕ). Replaces q (spellings order q p.xs) (spellings (other order) q p.xs) half now) is_first (turns order k.0 p.xs k.2 (subst (λ (t : TypeTree). AllOf t p.xs) k.1 p.all) aligned ends)
+      subst (λ (q : ℕ). Replaces q (spellings order q p.xs) (spellings (other order) q p.xs) half now) is_first (byteswaps order k.0 p.xs k.2 (subst (λ (t : TypeTree). AllOf t p.xs) k.1 p.all) aligned ends)
 
 -- what stands before the parts of another container is the same in both orders
 pub opens_so : (what : Container) (order : Order) (at : ℕ) (v : ValueTree) (out : List ℕ) → (what ≡ kind.Array → ⊥) → IsOf what v → Replaces at (front order at v) (front (other order) at v) out out

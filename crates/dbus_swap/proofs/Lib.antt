@@ -1,4 +1,4 @@
-pub mod Turned
+pub mod Byteswapped
 mod FieldLengths
 pub mod NumberRuns
 pub mod Leaves

@@ -1,4 +1,4 @@
--- Numbers one after another, each turned where it stands.
+-- Numbers one after another, each byteswapped where it stands.
 use Rattle.std.proofs.Common.{◌≡◌, ℕ, ◌+◌, ◌<◌, List, [], ◌++◌, length, take, drop, replicate, reverse, refl, sym, ap, subst, ◌∙◌, arith, append_assoc}
 use Rattle.std.proofs.lemmas.List.{length-append, append-nil}
 use Rattle.dbus_texts.specs.Types.{NumberCode, NumberType}
@@ -8,14 +8,14 @@ use Rattle.dbus_value_model.specs.declared.order.Order.{Order}
 use Rattle.dbus_value_model.specs.Spelling.{spelling, spellings}
 use Rattle.dbus_value_model.specs.Values.{ValueTree, ValueTrees, NumberValue, NoValues, MoreValues, AllOf}
 use Rattle.dbus_value_model.proofs.Numbers.{length-num}
-use Rattle.dbus_value_judge.proofs.NumberArrays.{stays_aligned}
+use Rattle.dbus_value_validator.proofs.NumberArrays.{stays_aligned}
 use Rattle.dbus_walk.proofs.NumberFacts.{number_of_type}
-use Rattle.dbus_swap.specs.Turning.{other, Replaces}
-use Rattle.dbus_swap.specs.TurnLaws.{nothing_put, then_put}
-use Rattle.dbus_swap.proofs.Turned.{one_byte, number_put}
+use Rattle.dbus_swap.specs.Byteswapping.{other, Replaces}
+use Rattle.dbus_swap.specs.ByteswapLaws.{nothing_put, then_put}
+use Rattle.dbus_swap.proofs.Byteswapped.{one_byte, number_put}
 
--- Of the numbers xs, which stand from `at` to `end`, us are left, from `place` on. Those before them are turned.
-pub record TurnedTo (order : Order) (k : NumberCode) (at end : ℕ) (xs : ValueTrees) (before : List ℕ) (place : ℕ) (now : List ℕ) : Type 0 where
+-- Of the numbers xs, which stand from `at` to `end`, us are left, from `place` on. Those before them are byteswapped.
+pub record ByteswappedTo (order : Order) (k : NumberCode) (at end : ℕ) (xs : ValueTrees) (before : List ℕ) (place : ℕ) (now : List ℕ) : Type 0 where
   pub us : ValueTrees
   pub all : AllOf (NumberType k) us
   pub aligned : gap_to (width k) place ≡ 0
@@ -50,8 +50,8 @@ bytes_same order k at (MoreValues v xs) wide all =
     ap (λ (l : List ℕ). l ++ spellings order (at + length l) xs) first ∙ ap (λ (l : List ℕ). own ++ l) (bytes_same order k (at + length own) xs wide all.1)
 
 module _ {order : Order} {k : NumberCode} {at end : ℕ} {xs : ValueTrees} where
-  pub none_turned : (before : List ℕ) → AllOf (NumberType k) xs → gap_to (width k) at ≡ 0 → end ≡ at + length (spellings order at xs) → TurnedTo order k at end xs before at before
-  none_turned before all aligned ends = record {
+  pub none_byteswapped : (before : List ℕ) → AllOf (NumberType k) xs → gap_to (width k) at ≡ 0 → end ≡ at + length (spellings order at xs) → ByteswappedTo order k at end xs before at before
+  none_byteswapped before all aligned ends = record {
     us = xs;
     all = all;
     aligned = aligned;
@@ -65,13 +65,13 @@ module _ {order : Order} {k : NumberCode} {at end : ℕ} {xs : ValueTrees} where
     replaced = nothing_put at [] [] before before refl refl;
   }
 
-  pub number_turned : {before now : List ℕ} {place : ℕ} (next : List ℕ) → place < end → TurnedTo order k at end xs before place now
-      → next ≡ take place now ++ (reverse (take (width k) (drop place now)) ++ drop (place + width k) now) → TurnedTo order k at end xs before (place + width k) next
+  pub number_byteswapped : {before now : List ℕ} {place : ℕ} (next : List ℕ) → place < end → ByteswappedTo order k at end xs before place now
+      → next ≡ take place now ++ (reverse (take (width k) (drop place now)) ++ drop (place + width k) now) → ByteswappedTo order k at end xs before (place + width k) next
   unfolding spellings
-  number_turned {before = before} {now = now} {place = place} next lt t turned = of t.us t.all t.ends t.is_own t.is_put
+  number_byteswapped {before = before} {now = now} {place = place} next lt t byteswapped = of t.us t.all t.ends t.is_own t.is_put
     where
       of : (us : ValueTrees) → AllOf (NumberType k) us → end ≡ place + length (spellings order place us) → spellings order at xs ≡ t.own ++ spellings order place us
-          → spellings (other order) at xs ≡ t.put ++ spellings (other order) place us → TurnedTo order k at end xs before (place + width k) next
+          → spellings (other order) at xs ≡ t.put ++ spellings (other order) place us → ByteswappedTo order k at end xs before (place + width k) next
       of NoValues all ends is_own is_put = absurd (omega (arith, lt, ends))
       of (MoreValues v us) all ends is_own is_put =
           let w = width k in
@@ -80,7 +80,7 @@ module _ {order : Order} {k : NumberCode} {at end : ℕ} {xs : ValueTrees} where
           let put = num (other order) w n.0 in
           let first : (any : Order) → spellings any place (MoreValues v us) ≡ num any w n.0 ++ spellings any (place + w) us =
           λ any. ap (λ (x : ValueTree). spellings any place (MoreValues x us)) n.1 ∙ first_spelled k any place n.0 us t.aligned in
-          let one : Replaces place own put now next = λ rest h stands. number_put order w n.0 place now next rest stands turned in
+          let one : Replaces place own put now next = λ rest h stands. number_put order w n.0 place now next rest stands byteswapped in
           record {
             us = us;
             all = all.1;
@@ -96,9 +96,9 @@ module _ {order : Order} {k : NumberCode} {at end : ℕ} {xs : ValueTrees} where
           }
 
   -- if not one more fits, then none is left
-  pub all_turned : {before now : List ℕ} {place : ℕ} → end < place + width k → TurnedTo order k at end xs before place now → Replaces at (spellings order at xs) (spellings (other order) at xs) before now
+  pub all_byteswapped : {before now : List ℕ} {place : ℕ} → end < place + width k → ByteswappedTo order k at end xs before place now → Replaces at (spellings order at xs) (spellings (other order) at xs) before now
   unfolding spellings
-  all_turned {before = before} {now = now} {place = place} short t = of t.us t.all t.ends t.is_own t.is_put
+  all_byteswapped {before = before} {now = now} {place = place} short t = of t.us t.all t.ends t.is_own t.is_put
     where
       of : (us : ValueTrees) → AllOf (NumberType k) us → end ≡ place + length (spellings order place us) → spellings order at xs ≡ t.own ++ spellings order place us
           → spellings (other order) at xs ≡ t.put ++ spellings (other order) place us → Replaces at (spellings order at xs) (spellings (other order) at xs) before now

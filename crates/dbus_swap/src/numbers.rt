@@ -1,4 +1,4 @@
-//! Numbers, each turned where it stands. D-Bus Specification, "Marshaling (Wire Format)".
+//! Numbers, each byteswapped where it stands. D-Bus Specification, "Marshaling (Wire Format)".
 #![tactic(auto)]
 
 ghost use Rattle.std.specs.Prelude.{◌≡◌, ◌+◌, ◌<◌, ◌≤◌, ◌++◌, length, take, drop, reverse};
@@ -8,11 +8,11 @@ ghost use Rattle.dbus_value_model.specs.Bytes.{gap_to};
 ghost use Rattle.dbus_value_model.specs.declared.order.Order.{Order};
 ghost use Rattle.dbus_value_model.specs.Spelling.{spellings};
 ghost use Rattle.dbus_value_model.specs.Values.{ValueTrees, AllOf};
-ghost use Rattle.dbus_swap.specs.Turning.{other, Replaces};
+ghost use Rattle.dbus_swap.specs.Byteswapping.{other, Replaces};
 
-/// The number of four bytes at `at`, turned.
+/// The number of four bytes at `at`, byteswapped.
 #[inline]
-pub(crate) fn turn_4(out: &mut [u8], at: usize)
+pub(crate) fn byteswap_4(out: &mut [u8], at: usize)
     requires { at + 4 ≤ length out.old }
     ensures { out.new ≡ take at out.old
         ++ (reverse (take 4 (drop at out.old)) ++ drop (at + 4) out.old) }
@@ -20,9 +20,9 @@ pub(crate) fn turn_4(out: &mut [u8], at: usize)
     out[at..at + 4].reverse();
 }
 
-/// The number of so many bytes at `at`, turned: 1, 2, 4 or 8.
+/// The number of so many bytes at `at`, byteswapped: 1, 2, 4 or 8.
 #[inline]
-pub(crate) fn turn_number(out: &mut [u8], at: usize, size: u8)
+pub(crate) fn byteswap_number(out: &mut [u8], at: usize, size: u8)
     requires { at + size ≤ length out.old }
     ensures { (k : NumberCode) → width k ≡ size →
         out.new ≡
@@ -37,9 +37,9 @@ pub(crate) fn turn_number(out: &mut [u8], at: usize, size: u8)
     }
 }
 
-/// The numbers from `at` up to `end`, each of so many bytes, turned.
+/// The numbers from `at` up to `end`, each of so many bytes, byteswapped.
 #[inline]
-pub(crate) fn turn_numbers(out: &mut [u8], at: usize, end: usize, size: u8)
+pub(crate) fn byteswap_numbers(out: &mut [u8], at: usize, end: usize, size: u8)
     requires some { 0 < size }
     requires at_most { at ≤ end }
     requires inside { end ≤ length out.old }
@@ -55,7 +55,7 @@ pub(crate) fn turn_numbers(out: &mut [u8], at: usize, end: usize, size: u8)
     let step = usize::from(size);
     let mut place = at;
     while end - place >= step {
-        turn_number(out, place, size);
+        byteswap_number(out, place, size);
         place += step;
     }
 }

@@ -1,4 +1,4 @@
-//! Blocks of sixteen bytes of names, each byte judged in a lane of its own.
+//! Blocks of sixteen bytes of names, each byte validated in a lane of its own.
 //!
 //! D-Bus Specification, "Valid Object Paths" and "Valid Names".
 #![tactic(auto)]

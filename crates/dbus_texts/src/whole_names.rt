@@ -1,4 +1,4 @@
-//! Names judged whole and fast. Only a yes says something: where the answer is no, the scan of `names` finds out.
+//! Names validated whole and fast. Only a yes says something: where the answer is no, the scan of `names` finds out.
 #![tactic(auto)]
 
 ghost use Rattle.std.specs.Prelude.{IsTrue};

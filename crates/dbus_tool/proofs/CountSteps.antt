@@ -6,7 +6,7 @@ use Rattle.dbus_value_model.specs.declared.fault.Fault.{Fault}
 use Rattle.dbus_value_model.specs.declared.limits.Limits.{Limits}
 use Rattle.dbus_header.specs.MessageOutcomes.{IsWhole, IsRefused, IsPartial}
 use Rattle.dbus_header.proofs.OutcomeLaws.{whole_inside}
-use Rattle.dbus_judge.specs.declared.judging.Judged.{Judged}
+use Rattle.dbus_validate.specs.declared.validating.Validated.{Validated}
 use Rattle.dbus_stream.specs.Cut.{CutMessage, BeginWith, Ended, Unfinished, Refused, truncated, sizes}
 use Rattle.dbus_device.specs.Device.{RisesBy}
 use Rattle.dbus_stream.specs.RawNext.{Reads, Advances, Lends, KeepsAll}
@@ -101,7 +101,7 @@ module _ {R A : Type 0} (left : R → Option (List ℕ)) (calls failures : R →
   }
 
   -- one more message was given
-  pub counts_more : (old mid new : RawReader R A) (count : ℕ) (h : HasCounted old mid) (j : Judged) (r : Reads left calls mid new)
+  pub counts_more : (old mid new : RawReader R A) (count : ℕ) (h : HasCounted old mid) (j : Validated) (r : Reads left calls mid new)
       → (l : Lends (kept mid ++ r.bytes) j mid new) → failures (source_of new) ≡ failures (source_of mid) → count ≡ length h.items
       → (next : HasCounted old new) × (count + 1 ≡ length next.items)
       × (next.items ≡ h.items ++ (record { order = l.gives.order; message = l.gives.message; size = l.size }) ∷ [])

@@ -2,8 +2,8 @@
 use Rattle.std.proofs.Common.{◌≡◌, ◌⊎◌, true, ℕ, ◌+◌, List, [], ◌++◌, Some, None, Ok, Err, Option, Result, refl, sym, ap, ◌∙◌, subst, append-nil, inl}
 use Rattle.std.specs.Io.KnownBytes.{Consumes}
 use Rattle.dbus_header.specs.MessageOutcomes.{IsWhole, IsRefused, IsPartial}
-use Rattle.dbus_judge.specs.declared.judging.Judged.{Judged}
-use Rattle.dbus_judge.specs.Judging.{IsJudgedWhole}
+use Rattle.dbus_validate.specs.declared.validating.Validated.{Validated}
+use Rattle.dbus_validate.specs.Validating.{IsValidatedWhole}
 use Rattle.dbus_device.specs.Device.{RisesBy}
 use Rattle.dbus_stream.specs.Next.{IsCutShort, DeviceCounts}
 use Rattle.dbus_stream.specs.declared.read_fault.ReadFault.{ReadFault}
@@ -54,7 +54,7 @@ module _ {R A : Type 0} (left : R → Option (List ℕ)) (calls failures : R →
   keeps_after : (w : List ℕ) (old mid new : RawReader R A) → KeepsAll (kept old) old mid → KeepsAll w mid new → KeepsAll w old new
   keeps_after w old mid new k l = record { kept = l.kept; done = l.done ∙ k.done; lent = l.lent }
 
-  lends_after : (w : List ℕ) (j : Judged) (old mid new : RawReader R A) → limits_of mid ≡ limits_of old → KeepsAll (kept old) old mid → Lends w j mid new → Lends w j old new
+  lends_after : (w : List ℕ) (j : Validated) (old mid new : RawReader R A) → limits_of mid ≡ limits_of old → KeepsAll (kept old) old mid → Lends w j mid new → Lends w j old new
   lends_after w j old mid new same k l = record {
     size = l.size;
     gives = record {
@@ -66,10 +66,10 @@ module _ {R A : Type 0} (left : R → Option (List ℕ)) (calls failures : R →
       unstopped = l.gives.unstopped;
     };
     lent = l.lent;
-    judged_is = subst (λ limits. IsJudgedWhole limits (lent_of new) j) same l.judged_is;
+    validated_is = subst (λ limits. IsValidatedWhole limits (lent_of new) j) same l.validated_is;
   }
 
-  answers_after : (w : List ℕ) (old mid new : RawReader R A) (res : Result (Option Judged) ReadFault) → limits_of mid ≡ limits_of old
+  answers_after : (w : List ℕ) (old mid new : RawReader R A) (res : Result (Option Validated) ReadFault) → limits_of mid ≡ limits_of old
       → KeepsAll (kept old) old mid → Advances w mid new res → Advances w old new res
   answers_after w old mid new (Ok (Some j)) same k a = lends_after w j old mid new same k a
   answers_after w old mid new (Ok None) same k a = (a.0, a.1, keeps_after w old mid new k a.2, a.3)
@@ -82,7 +82,7 @@ module _ {R A : Type 0} (left : R → Option (List ℕ)) (calls failures : R →
   answers_after w old mid new (Err read.Device) same k a = (keeps_after w old mid new k a.0, a.1, subst (λ limits. IsPartial limits w) same a.2)
   answers_after w old mid new (Err read.TooManyReads) same k a = (keeps_after w old mid new k a.0, a.1, subst (λ limits. IsPartial limits w) same a.2, a.3, a.4)
 
-  both_after : (old mid new : RawReader R A) (res : Result (Option Judged) ReadFault) → ReadsNothing old mid → KeepsAll (kept old) old mid
+  both_after : (old mid new : RawReader R A) (res : Result (Option Validated) ReadFault) → ReadsNothing old mid → KeepsAll (kept old) old mid
       → (r : Reads left calls mid new) → Advances (kept mid ++ r.bytes) mid new res → (s : Reads left calls old new) × Advances (kept old ++ s.bytes) old new res
   both_after old mid new res n k r a = (
     reads_after old mid new n k r,
@@ -104,18 +104,18 @@ module _ {R A : Type 0} (left : R → Option (List ℕ)) (calls failures : R →
   kept_unwritten old new read.TooManyReads g k = absurd k
 
   module _ {W : Type 0} (held : W → Option (List ℕ)) (write_failures : W → ℕ) where
-    pub gives_after : (old mid new : RawReader R A) (g0 g1 : List ℕ) (w0 w1 : W) (res : Result (Option Judged) NoMessage) → ReadsNothing old mid
+    pub gives_after : (old mid new : RawReader R A) (g0 g1 : List ℕ) (w0 w1 : W) (res : Result (Option Validated) NoMessage) → ReadsNothing old mid
         → KeepsAll (kept old) old mid → GivesNext left calls failures mid new (writing held write_failures w0 w1) g0 g1 res → GivesNext left calls failures old new (writing held write_failures w0 w1) g0 g1 res
     gives_after old mid new g0 g1 w0 w1 (Ok lent) n k g =
         let both = both_after old mid new (Ok lent) n k g.0 g.1 in
         (both.0, both.1, g.2 ∙ ap failures n.source, g.3)
     gives_after old mid new g0 g1 w0 w1 (Err (Reader fault)) n k g =
         let both = both_after old mid new (Err fault) n k g.0 g.1 in
-        (both.0, both.1, subst (λ (x : ℕ). DeviceCounts {T = Option Judged} x (failures (source_of new)) (Err fault)) (ap failures n.source) g.2, g.3, g.4)
+        (both.0, both.1, subst (λ (x : ℕ). DeviceCounts {T = Option Validated} x (failures (source_of new)) (Err fault)) (ap failures n.source) g.2, g.3, g.4)
     gives_after old mid new g0 g1 w0 w1 (Err Writer) n k g = (reads_after old mid new n k g.0, g.1, g.2 ∙ ap failures n.source)
 
     -- a message that is kept
-    pub gives_kept : (j : Judged) (old new : RawReader R A) (g : List ℕ) (w : W) → Lends (kept old) j old new → ReadsNothing old new
+    pub gives_kept : (j : Validated) (old new : RawReader R A) (g : List ℕ) (w : W) → Lends (kept old) j old new → ReadsNothing old new
         → GivesNext left calls failures old new (writing held write_failures w w) g g (Ok (Some j))
     gives_kept j old new g w l n = (
       unread left calls old old new (starts left calls old) n,
@@ -125,7 +125,7 @@ module _ {R A : Type 0} (left : R → Option (List ℕ)) (calls failures : R →
     )
 
     pub gives_kept_fault : (old new : RawReader R A) (fault : ReadFault) (g : List ℕ) (w : W) → KeptAnswers old new (Err fault) → ReadsNothing old new
-        → DeviceCounts {T = Option Judged} (failures (source_of old)) (failures (source_of new)) (Err fault)
+        → DeviceCounts {T = Option Validated} (failures (source_of old)) (failures (source_of new)) (Err fault)
         → GivesNext left calls failures old new (writing held write_failures w w) g g (Err (Reader fault))
     gives_kept_fault old new fault g w k n counts = (
       unread left calls old old new (starts left calls old) n,

@@ -3,7 +3,7 @@ use Rattle.std.proofs.Common.{◌≡◌, ℕ, ◌+◌, List, [], ◌∷◌, ◌+
 use Rattle.dbus_value_model.specs.declared.fault.Fault.{Fault}
 use Rattle.dbus_value_model.specs.declared.limits.Limits.{Limits}
 use Rattle.dbus_header.specs.MessageOutcomes.{IsWhole, IsPartial}
-use Rattle.dbus_judge.specs.declared.judging.Judged.{Judged}
+use Rattle.dbus_validate.specs.declared.validating.Validated.{Validated}
 use Rattle.dbus_device.specs.Device.{one_more}
 use Rattle.dbus_stream.specs.Cut.{CutMessage, BeginWith}
 use Rattle.dbus_stream.specs.Next.{DeviceCounts}
@@ -55,7 +55,7 @@ module _ {R A W : Type 0} (left : R → Option (List ℕ)) (calls failures : R �
 
   -- one more message was handed on
   pub hands_more : (count : ℕ) (old mid new : RawReader R A) (g0 g1 g2 g3 : List ℕ) (w0 w1 w2 w3 : W)
-      (h : HasHanded count old mid g0 g1 w0 w1) (j : Judged) (r : Reads left calls mid new) → (l : Lends (kept mid ++ r.bytes) j mid new)
+      (h : HasHanded count old mid g0 g1 w0 w1) (j : Validated) (r : Reads left calls mid new) → (l : Lends (kept mid ++ r.bytes) j mid new)
       → failures (source_of new) ≡ failures (source_of mid) → Passes held write_failures [] g1 g2 w1 w2
       → HandsOne (writing held write_failures w2 w3) command l.gives.order l.gives.message (count + 1) g2 g3 (Ok tt) → HasHanded (count + 1) old new g0 g3 w0 w3
   hands_more count old mid new g0 g1 g2 g3 w0 w1 w2 w3 h j r l same p one =
@@ -122,7 +122,7 @@ module _ {R A W : Type 0} (left : R → Option (List ℕ)) (calls failures : R �
   -- the reader has a fault
   hands_faulted : (fault : ReadFault) (count : ℕ) (old mid new : RawReader R A) (g0 g1 g2 : List ℕ) (w0 w1 w2 : W) (h : HasHanded count old mid g0 g1 w0 w1)
       (r : Reads left calls mid new) → Advances (kept mid ++ r.bytes) mid new (Err fault)
-      → DeviceCounts {T = Option Judged} (failures (source_of mid)) (failures (source_of new)) (Err fault) → Passes held write_failures [] g1 g2 w1 w2 → IsWrittenOut fault g2
+      → DeviceCounts {T = Option Validated} (failures (source_of mid)) (failures (source_of new)) (Err fault) → Passes held write_failures [] g1 g2 w1 w2 → IsWrittenOut fault g2
       → Hands (reading left calls failures (source_of old) (source_of new)) (writing held write_failures w0 w2) limits most command g0 g2 (ended_by count (done_of new) fault)
   hands_faulted (read.Format fault) count old mid new g0 g1 g2 w0 w1 w2 h r answer counts p o = hands_refused count old mid new g0 g1 g2 w0 w1 w2 fault h r answer counts p
   hands_faulted read.Memory count old mid new g0 g1 g2 w0 w1 w2 h r answer counts p o =
@@ -150,7 +150,7 @@ module _ {R A W : Type 0} (left : R → Option (List ℕ)) (calls failures : R �
 
   -- a message was not written
   pub hands_not : (cause : Cause) (count : ℕ) (old mid new : RawReader R A) (g0 g1 g2 g3 : List ℕ) (w0 w1 w2 w3 : W)
-      (h : HasHanded count old mid g0 g1 w0 w1) (j : Judged) (r : Reads left calls mid new) → (l : Lends (kept mid ++ r.bytes) j mid new)
+      (h : HasHanded count old mid g0 g1 w0 w1) (j : Validated) (r : Reads left calls mid new) → (l : Lends (kept mid ++ r.bytes) j mid new)
       → failures (source_of new) ≡ failures (source_of mid) → Passes held write_failures [] g1 g2 w1 w2
       → HandsOne (writing held write_failures w2 w3) command l.gives.order l.gives.message (count + 1) g2 g3 (Err cause)
       → HandsSome left calls failures held write_failures limits most command cause (source_of old) (source_of new) g0 g3 w0 w3

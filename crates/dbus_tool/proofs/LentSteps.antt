@@ -6,8 +6,8 @@ use Rattle.dbus_value_model.specs.declared.order.Order.{Order}
 use Rattle.dbus_message_model.specs.Messages.{MessageTree, message_bytes}
 use Rattle.dbus_header.specs.MessageOutcomes.{IsWhole}
 use Rattle.dbus_header.proofs.OutcomeLaws.{one_whole, whole_bytes, whole_valid, valid_whole}
-use Rattle.dbus_judge.specs.declared.judging.Judged.{Judged}
-use Rattle.dbus_judge.specs.Judging.{IsJudgedWhole}
+use Rattle.dbus_validate.specs.declared.validating.Validated.{Validated}
+use Rattle.dbus_validate.specs.Validating.{IsValidatedWhole}
 use Rattle.dbus_stream.specs.RawNext.{Lends}
 use Rattle.dbus_stream.specs.RawReading.{limits_of, lent_of}
 use Rattle.dbus_stream.specs.declared.raw_reader.RawReader.{RawReader}
@@ -23,26 +23,26 @@ module _ (limits : Limits) where
       subst (λ (b : List ℕ). IsWhole limits b order m (length b)) (sym (whole_bytes limits w order m size whole).0) own
 
   -- the bytes that are lent are the message that is given
-  pub lent_whole : {R A : Type 0} (w bytes : List ℕ) (j : Judged) (old new : RawReader R A) → bytes ≡ lent_of new → limits_of old ≡ limits → (l : Lends w j old new)
+  pub lent_whole : {R A : Type 0} (w bytes : List ℕ) (j : Validated) (old new : RawReader R A) → bytes ≡ lent_of new → limits_of old ≡ limits → (l : Lends w j old new)
       → IsWhole limits bytes l.gives.order l.gives.message (length bytes)
   lent_whole w bytes j old new e same l =
       let here : IsWhole limits w l.gives.order l.gives.message l.size = subst (λ v. IsWhole v w l.gives.order l.gives.message l.size) same l.gives.whole in
       subst (λ (b : List ℕ). IsWhole limits b l.gives.order l.gives.message (length b)) (sym (e ∙ l.lent)) (front_whole w l.gives.order l.gives.message l.size here)
 
-  -- they were judged
-  pub lent_judged : {R A : Type 0} (w bytes : List ℕ) (j : Judged) (old new : RawReader R A) → bytes ≡ lent_of new → limits_of old ≡ limits → Lends w j old new
-      → IsJudgedWhole limits bytes j
-  lent_judged w bytes j old new e same l =
-      subst (λ (b : List ℕ). IsJudgedWhole limits b j) (sym e) (subst (λ v. IsJudgedWhole v (lent_of new) j) same l.judged_is)
+  -- they were validated
+  pub lent_validated : {R A : Type 0} (w bytes : List ℕ) (j : Validated) (old new : RawReader R A) → bytes ≡ lent_of new → limits_of old ≡ limits → Lends w j old new
+      → IsValidatedWhole limits bytes j
+  lent_validated w bytes j old new e same l =
+      subst (λ (b : List ℕ). IsValidatedWhole limits b j) (sym e) (subst (λ v. IsValidatedWhole v (lent_of new) j) same l.validated_is)
 
   -- bytes that are a message are those that it is spelled by
   pub bytes_are : (b : List ℕ) (order : Order) (m : MessageTree) → IsWhole limits b order m (length b) → b ≡ message_bytes order m
   bytes_are b order m whole = sym (take_all (length b) b (omega arith)) ∙ (whole_bytes limits b order m (length b) whole).0
 
   -- its order is that of the message
-  pub judged_order : (b : List ℕ) (j : Judged) (order : Order) (m : MessageTree) → IsJudgedWhole limits b j → IsWhole limits b order m (length b) → j.order ≡ order
-  judged_order b j order m judged whole =
-      (one_whole limits b j.order order judged.judged.message m j.length (length b) judged.judged.whole whole).0
+  pub validated_order : (b : List ℕ) (j : Validated) (order : Order) (m : MessageTree) → IsValidatedWhole limits b j → IsWhole limits b order m (length b) → j.order ≡ order
+  validated_order b j order m validated whole =
+      (one_whole limits b j.order order validated.validated.message m j.length (length b) validated.validated.whole whole).0
 
   -- the message is the one that a view is of
   pub views_it : (b : List ℕ) (v : ViewState) (order : Order) (m : MessageTree) → IsViewOf limits b v → IsWhole limits b order m (length b) → Views v order m

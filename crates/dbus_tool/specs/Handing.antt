@@ -6,7 +6,7 @@ use Rattle.dbus_value_model.specs.declared.limits.Limits.{Limits}
 use Rattle.dbus_value_model.specs.declared.order.Order.{Order}
 use Rattle.dbus_message_model.specs.Messages.{MessageTree}
 use Rattle.dbus_header.specs.MessageOutcomes.{IsPartial}
-use Rattle.dbus_judge.specs.declared.judging.Judged.{Judged}
+use Rattle.dbus_validate.specs.declared.validating.Validated.{Validated}
 use Rattle.dbus_device.specs.Device.{one_more, RisesBy}
 use Rattle.dbus_stream.specs.Cut.{CutMessage, BeginWith}
 use Rattle.dbus_stream.specs.Next.{DeviceCounts}
@@ -52,12 +52,12 @@ IsWrittenOut read.Device g = g ≡ []
 IsWrittenOut read.TooManyReads g = g ≡ []
 
 module _ {R W : Type 0} (left : R → Option (List ℕ)) (calls read_failures : R → ℕ) where
-  -- what a reader judges of its next message, which it lends, where what is gathered may have been written before
-  abbrev pub GivesNext : {A : Type 0} → RawReader R A → RawReader R A → Writing W → List ℕ → List ℕ → Result (Option Judged) NoMessage → Type 0
-  GivesNext old new w g0 g1 (Ok judged) = (r : Reads left calls old new) × Advances (kept old ++ r.bytes) old new (Ok judged)
+  -- what a reader validates of its next message, which it lends, where what is gathered may have been written before
+  abbrev pub GivesNext : {A : Type 0} → RawReader R A → RawReader R A → Writing W → List ℕ → List ℕ → Result (Option Validated) NoMessage → Type 0
+  GivesNext old new w g0 g1 (Ok validated) = (r : Reads left calls old new) × Advances (kept old ++ r.bytes) old new (Ok validated)
       × (read_failures (source_of new) ≡ read_failures (source_of old)) × Passes w.held w.failures [] g0 g1 w.old w.new
   GivesNext old new w g0 g1 (Err (Reader fault)) = (r : Reads left calls old new) × Advances (kept old ++ r.bytes) old new (Err fault)
-      × DeviceCounts {T = Option Judged} (read_failures (source_of old)) (read_failures (source_of new)) (Err fault) × Passes w.held w.failures [] g0 g1 w.old w.new × IsWrittenOut fault g1
+      × DeviceCounts {T = Option Validated} (read_failures (source_of old)) (read_failures (source_of new)) (Err fault) × Passes w.held w.failures [] g0 g1 w.old w.new × IsWrittenOut fault g1
   GivesNext old new w g0 g1 (Err Writer) = Reads left calls old new × Breaks w.held w.failures [] g0 w.old w.new × (read_failures (source_of new) ≡ read_failures (source_of old))
 
 module _ {R W : Type 0} (left : R → Option (List ℕ)) (calls read_failures : R → ℕ) (held : W → Option (List ℕ)) (write_failures : W → ℕ)

@@ -11,18 +11,18 @@ use crate::gathering::{Gathered, Unwritten, write_out};
 use crate::output::write_one;
 use crate::spare::Spare;
 use dbus_command::Command;
-use dbus_judge::Judged;
 use dbus_stream::{RawReader, ReadFault, Sink, Source};
+use dbus_validate::Validated;
 use dbus_value::Limits;
 use std::alloc::Allocator;
 
-// What is judged of the next message, which the reader lends then, if there is one. Where it keeps none, what is gathered is
+// What is validated of the next message, which the reader lends then, if there is one. Where it keeps none, what is gathered is
 // written, and then more is read.
 fn next_message<R: Source, A: Allocator + Copy, W: Sink>(
     messages: &mut RawReader<R, A>,
     gathered: &mut Gathered,
     first: &mut W,
-) -> Result<Option<Judged>, NoMessage>
+) -> Result<Option<Validated>, NoMessage>
     requires { stopped_of messages.old ≡ None }
     ensures gives { GivesNext R.left R.calls R.failures messages.old messages.new
         (writing W.held W.failures first.old first.new) gathered.old.items gathered.new.items
@@ -32,19 +32,19 @@ fn next_message<R: Source, A: Allocator + Copy, W: Sink>(
         R.reference (source_of messages.old) }
 {
     match messages.advance_kept() {
-        Ok(Some(judged)) => Ok(Some(judged)),
+        Ok(Some(validated)) => Ok(Some(validated)),
         Ok(None) => read_message(messages, gathered, first),
         Err(fault) => Err(NoMessage::Reader(fault)),
     }
 }
 
-// What is judged of the next message, which the reader lends then, if there is one. Before it reads, what is gathered is
+// What is validated of the next message, which the reader lends then, if there is one. Before it reads, what is gathered is
 // written.
 fn read_message<R: Source, A: Allocator + Copy, W: Sink>(
     messages: &mut RawReader<R, A>,
     gathered: &mut Gathered,
     first: &mut W,
-) -> Result<Option<Judged>, NoMessage>
+) -> Result<Option<Validated>, NoMessage>
     requires { stopped_of messages.old ≡ None }
     ensures gives { GivesNext R.left R.calls R.failures messages.old messages.new
         (writing W.held W.failures first.old first.new) gathered.old.items gathered.new.items
@@ -55,7 +55,7 @@ fn read_message<R: Source, A: Allocator + Copy, W: Sink>(
 {
     match write_out(gathered, first) {
         Ok(()) => match messages.advance() {
-            Ok(judged) => Ok(judged),
+            Ok(validated) => Ok(validated),
             Err(fault) => Err(NoMessage::Reader(fault)),
         },
         Err(Unwritten) => Err(NoMessage::Writer),
@@ -84,11 +84,11 @@ fn hand_all<R: Source, A: Allocator + Copy, W: Sink>(
     let mut spare = Spare::new(alloc);
     'messages: loop {
         match next_message(messages, gathered, first) {
-            Ok(Some(judged)) => {
+            Ok(Some(validated)) => {
                 count += 1;
                 let message = messages.message();
                 match write_one(
-                    command, message, &judged, limits, count, &mut spare, gathered, first,
+                    command, message, &validated, limits, count, &mut spare, gathered, first,
                 ) {
                     Ok(()) => {}
                     Err(cause) => return Err(cause),

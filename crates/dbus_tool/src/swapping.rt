@@ -3,16 +3,16 @@ ghost use Rattle.std.specs.Prelude.{◌≡◌, ℕ, List, length};
 ghost use Rattle.dbus_value_model.specs.declared.order.Order.{Order};
 ghost use Rattle.dbus_message_model.specs.Messages.{MessageTree, message_bytes};
 ghost use Rattle.dbus_header.specs.MessageOutcomes.{IsWhole};
-ghost use Rattle.dbus_judge.specs.Judging.{IsJudgedWhole};
-ghost use Rattle.dbus_swap.specs.Turning.{other};
+ghost use Rattle.dbus_validate.specs.Validating.{IsValidatedWhole};
+ghost use Rattle.dbus_swap.specs.Byteswapping.{other};
 ghost use Rattle.dbus_tool.specs.Gathering.{GathersOrNot};
 
 use crate::ending::Cause;
 use crate::gathering::{Gathered, put_out};
 use crate::spare::Spare;
-use dbus_judge::Judged;
 use dbus_stream::Sink;
-use dbus_swap::turn;
+use dbus_swap::byteswap;
+use dbus_validate::Validated;
 use dbus_value::{Limits, Order};
 use std::alloc::Allocator;
 
@@ -20,43 +20,43 @@ use std::alloc::Allocator;
 pub(crate) fn swap<A: Allocator + Copy, W: Sink>(
     wanted: Order,
     bytes: &[u8],
-    judged: &Judged,
+    validated: &Validated,
     limits: Limits,
     spare: &mut Spare<A>,
     gathered: &mut Gathered,
     first: &mut W,
 ) -> Result<(), Cause>
-    requires { IsJudgedWhole limits bytes.now judged.now }
+    requires { IsValidatedWhole limits bytes.now validated.now }
     ensures { (order : Order) (m : MessageTree) →
         IsWhole limits bytes.now order m (length bytes.now) →
         GathersOrNot W.held W.failures (message_bytes wanted m) gathered.old.items
         gathered.new.items first.old first.new result }
 {
-    if judged.order == wanted {
+    if validated.order == wanted {
         put_out(bytes, gathered, first)
     } else {
-        put_turned(bytes, judged, limits, spare, gathered, first)
+        put_byteswapped(bytes, validated, limits, spare, gathered, first)
     }
 }
 
 // The message in the order that is not its own, turned in a copy of its bytes.
-fn put_turned<A: Allocator + Copy, W: Sink>(
+fn put_byteswapped<A: Allocator + Copy, W: Sink>(
     bytes: &[u8],
-    judged: &Judged,
+    validated: &Validated,
     limits: Limits,
     spare: &mut Spare<A>,
     gathered: &mut Gathered,
     first: &mut W,
 ) -> Result<(), Cause>
-    requires { IsJudgedWhole limits bytes.now judged.now }
-    ensures { (m : MessageTree) → IsWhole limits bytes.now judged.now.order m (length bytes.now) →
-        GathersOrNot W.held W.failures (message_bytes (other judged.now.order) m) gathered.old.items
+    requires { IsValidatedWhole limits bytes.now validated.now }
+    ensures { (m : MessageTree) → IsWhole limits bytes.now validated.now.order m (length bytes.now) →
+        GathersOrNot W.held W.failures (message_bytes (other validated.now.order) m) gathered.old.items
         gathered.new.items first.old first.new result }
 {
     spare.bytes.clear();
     let Ok(()) = spare.bytes.extend_from_slice(bytes) else {
         return Err(Cause::Memory);
     };
-    turn(bytes, spare.bytes.as_mut_slice(), judged, limits);
+    byteswap(bytes, spare.bytes.as_mut_slice(), validated, limits);
     put_out(spare.bytes.as_slice(), gathered, first)
 }

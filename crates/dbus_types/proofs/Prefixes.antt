@@ -1,5 +1,5 @@
 -- A list of bytes begins with at most one type.
-use Rattle.std.proofs.Common.{◌≡◌, ℕ, ◌+◌, true, false, Some, List, [], ◌∷◌, ◌++◌, ◌⊎◌, ⊎_elim, inl, inr, length, sym, ap, ◌∙◌, arith, append_assoc}
+use Rattle.std.proofs.Common.{◌≡◌, ℕ, ◌+◌, true, Some, List, [], ◌∷◌, ◌++◌, ◌⊎◌, ⊎_elim, inl, inr, length, sym, ap, ◌∙◌, arith, append_assoc}
 use Rattle.std.proofs.lemmas.Bool.{false≢true}
 use Rattle.dbus_texts.specs.Types.{TypeTree, TypeTrees, NumberType, TextType, VariantType, ArrayType, StructType, EntryType, number_code, text_code, sig, sigs}
 use Rattle.dbus_texts.specs.SignatureScans.{is_type_code}
@@ -47,9 +47,6 @@ opened (StructType ts) b c r e =
 opened (EntryType k v) b c r e =
     let tail : c ≡ (sig k ++ (sig v ++ 125 ∷ [])) ++ r = cc in
     inr (inr (inr (cc, k, v, tail ∙ entry_spelled (sig k) (sig v) r)))
-
-not_code : (b n : ℕ) → b ≡ n → is_type_code n ≡ false → is_type_code b ≡ true → ⊥
-not_code b n e f t = false≢true (sym f ∙ sym (ap is_type_code e) ∙ t)
 
 opened_at : (w : List ℕ) (b : ℕ) (c : List ℕ) → w ≡ b ∷ c → (h : StartsType w) → Opened b c h.rest
 opened_at w b c e h = opened h.tree b c h.rest (sym e ∙ h.spelled)

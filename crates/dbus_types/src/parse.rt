@@ -73,7 +73,7 @@ fn parse_fields<A: Allocator + Copy>(
 }
 
 /// The types that a signature spells, one for each complete type in it, where the text is known to be a signature: it is
-/// not judged again.
+/// not validated again.
 ///
 /// The one error is that a growth of memory was refused. D-Bus Specification, "Valid Signatures".
 pub fn spelled_types<A: Allocator + Copy>(
@@ -94,7 +94,7 @@ pub fn spelled_types<A: Allocator + Copy>(
     Ok(types)
 }
 
-/// The type that a signature of exactly one complete type spells, where the text is known to be one: it is not judged
+/// The type that a signature of exactly one complete type spells, where the text is known to be one: it is not validated
 /// again.
 ///
 /// The one error is that a growth of memory was refused. D-Bus Specification, "Valid Signatures".

@@ -46,9 +46,9 @@ element_type t (ArrayValue u zs) is done us x has = is.0 ∙ all_type u done us 
 element_type t (StructValue zs) is done us x has = absurd is
 element_type t (EntryValue a b) is done us x has = absurd is
 
-array_all : (room : ℕ) (u : TypeTree) (xs : ValueTrees) → IsWellFormed room (ArrayValue u xs) → AllOf u xs
+array_all : (depth_left : ℕ) (u : TypeTree) (xs : ValueTrees) → IsWellFormed depth_left (ArrayValue u xs) → AllOf u xs
 array_all zero u xs h = absurd h
-array_all (suc room) u xs h = h.0
+array_all (suc depth_left) u xs h = h.0
 
 pub same_type : (t u : TypeTree) (w : List ℕ) → sig t ≡ w → sig u ≡ w → t ≡ u
 same_type t u w first second = sym (spelled_sig t) ∙ ap type_spelled (first ∙ sym second) ∙ spelled_sig u
@@ -210,9 +210,9 @@ module _ {A : Type 0} where
 
   -- ---- values one after another, as if they were the fields of a struct
 
-  pub all_gathered : (wanted next : TypeTree) (m : Gathered A) (vs : ValueTrees) (xs : List ValueTree) (ts : Arc (Vec (SigType A) A) A) (room : Vec (Value A) A) → room.items ≡ [] → vs ≡ value_trees xs → type_trees_of ts.value.items ≡ types_of vs
-      → IsFieldType (type_trees_of ts.value.items) 0 wanted → (depth : ℕ) → AreWellFormed depth vs → Gathers wanted (gathered.Fields ts room) xs m next → Holds m (StructValue vs) xs
-  all_gathered wanted next m vs xs ts room none is fit field depth formed many =
+  pub all_gathered : (wanted next : TypeTree) (m : Gathered A) (vs : ValueTrees) (xs : List ValueTree) (ts : Arc (Vec (SigType A) A) A) (depth_left : Vec (Value A) A) → depth_left.items ≡ [] → vs ≡ value_trees xs → type_trees_of ts.value.items ≡ types_of vs
+      → IsFieldType (type_trees_of ts.value.items) 0 wanted → (depth : ℕ) → AreWellFormed depth vs → Gathers wanted (gathered.Fields ts depth_left) xs m next → Holds m (StructValue vs) xs
+  all_gathered wanted next m vs xs ts depth_left none is fit field depth formed many =
       (many (StructValue vs) [] [] (suc depth, formed) (is ∙ ap value_trees (sym (append-nil xs))) (fit, none_built none) (λ x us there. field [] x us refl (fit ∙ ap types_of there))).0
 
   pub fields_built : (m : Gathered A) (vs : ValueTrees) (xs : List ValueTree) (ts : Arc (Vec (SigType A) A) A) (rs : Vec (Value A) A) → m ≡ gathered.Fields ts rs → Holds m (StructValue vs) xs → AreBuilt xs rs.items

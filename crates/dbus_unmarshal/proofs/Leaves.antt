@@ -44,18 +44,18 @@ byte_spelled : (order : Order) (o n : ℕ) → n < 256 → spelling order o (Num
 unfolding spelling
 byte_spelled order o n h = ap (λ (g : ℕ). replicate g 0 ++ num order 1 n) (no_gap o) ∙ one_num order n h
 
-bytes_are : (order : Order) (room o : ℕ) (xs : ValueTrees) → AllOf (NumberType BYTE) xs → AreWellFormed room xs → byte_values (spellings order o xs) ≡ xs
+bytes_are : (order : Order) (depth_left o : ℕ) (xs : ValueTrees) → AllOf (NumberType BYTE) xs → AreWellFormed depth_left xs → byte_values (spellings order o xs) ≡ xs
 unfolding spellings
-bytes_are order room o NoValues all formed = refl
-bytes_are order room o (MoreValues v xs) all formed =
+bytes_are order depth_left o NoValues all formed = refl
+bytes_are order depth_left o (MoreValues v xs) all formed =
     let n = number_of_type v BYTE all.0 in
-    let fits : n.0 < 256 = subst (λ (x : ValueTree). IsWellFormed room x) n.1 formed.0 in
+    let fits : n.0 < 256 = subst (λ (x : ValueTree). IsWellFormed depth_left x) n.1 formed.0 in
     let one : spelling order o v ≡ n.0 ∷ [] = ap (λ (x : ValueTree). spelling order o x) n.1 ∙ byte_spelled order o n.0 fits in
     ap (λ (s : List ℕ). byte_values (s ++ spellings order (o + length (spelling order o v)) xs)) one
-    ∙ ap (MoreValues (NumberValue BYTE n.0)) (bytes_are order room (o + length (spelling order o v)) xs all.1 formed.1)
+    ∙ ap (MoreValues (NumberValue BYTE n.0)) (bytes_are order depth_left (o + length (spelling order o v)) xs all.1 formed.1)
     ∙ ap (λ (x : ValueTree). MoreValues x xs) (sym n.1)
 
-module _ {order : Order} {room : ℕ} {types : List ℕ} {at : ℕ} {bytes : List ℕ} {v : ValueTree} {rest : List ℕ} (s : Stands order room types at bytes v rest) where
+module _ {order : Order} {depth_left : ℕ} {types : List ℕ} {at : ℕ} {bytes : List ℕ} {v : ValueTree} {rest : List ℕ} (s : Stands order depth_left types at bytes v rest) where
   coded : first_code (type_of v) ≡ get_or types 0 0
   coded = code_is (type_of v) types s.text
 
@@ -68,7 +68,7 @@ module _ {order : Order} {room : ℕ} {types : List ℕ} {at : ℕ} {bytes : Lis
     pub number_built : {A : Type 0} (start : ℕ) (r : Value A) → start ≡ at + gap_to size at
         → ((k : NumberCode) (n : ℕ) → number_code k ≡ get_or types 0 0 → IsNumber k n → number_of order (take (width k) (drop start bytes)) ≡ n → value_tree r ≡ NumberValue k n) → value_tree r ≡ v
     number_built start r place built =
-        let formed : IsNumber p.code p.n = subst (λ (u : ValueTree). IsWellFormed room u) p.is s.formed in
+        let formed : IsNumber p.code p.n = subst (λ (u : ValueTree). IsWellFormed depth_left u) p.is s.formed in
         let read : number_of order (take (width p.code) (drop start bytes)) ≡ p.n = ap (λ (k : ℕ). number_of order (take k (drop start bytes))) p.wide ∙ number_read s size start p place in
         built p.code p.n number_coded formed read ∙ sym p.is
 
@@ -92,7 +92,7 @@ module _ {order : Order} {room : ℕ} {types : List ℕ} {at : ℕ} {bytes : Lis
         let long : length (spellings order first p.xs) ≡ end - first = omega (arith, there.ends, ends) in
         let held : r.items ≡ spellings order first p.xs = items ∙ ap (take (end - first)) there.spelled ∙ take_at (spellings order first p.xs) rest (end - first) long in
         tree-Bytes r ∙ ap (λ (l : List ℕ). ArrayValue (NumberType BYTE) (byte_values l)) held
-        ∙ ap (ArrayValue (NumberType BYTE)) (bytes_are order (room - 1) first p.xs all there.formed)
+        ∙ ap (ArrayValue (NumberType BYTE)) (bytes_are order (depth_left - 1) first p.xs all there.formed)
         ∙ ap (λ (t : TypeTree). ArrayValue t p.xs) (sym is) ∙ sym p.is
 
 pub not_bytes : (t : TypeTree) (c : ℕ) → first_code t ≡ c → (c == 121) ≡ false → is_byte t ≡ false

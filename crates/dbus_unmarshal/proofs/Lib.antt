@@ -1,4 +1,4 @@
 mod NumberRows
 mod Gathering
 mod Leaves
-mod Judging
+mod Validating

@@ -9,20 +9,20 @@ use Rattle.dbus_unmarshal.specs.declared.gathered.Gathered.{Gathered}
 use Rattle.dbus_unmarshal.specs.Builds.{IsFormed, Makes, Holds, IsNext, Opens, Gathers, Pushes, Closes}
 
 -- the parts of a value that is well formed are well formed
-parts_formed : (room : ℕ) (v : ValueTree) → IsWellFormed room v → (inner : ℕ) × AreWellFormed inner (parts v)
-parts_formed room (NumberValue k n) h = (room, tt)
-parts_formed room (TextValue k t) h = (room, tt)
+parts_formed : (depth_left : ℕ) (v : ValueTree) → IsWellFormed depth_left v → (inner : ℕ) × AreWellFormed inner (parts v)
+parts_formed depth_left (NumberValue k n) h = (depth_left, tt)
+parts_formed depth_left (TextValue k t) h = (depth_left, tt)
 parts_formed zero (VariantValue x) h = absurd h
-parts_formed (suc room) (VariantValue x) h = (room, (h.1, tt))
+parts_formed (suc depth_left) (VariantValue x) h = (depth_left, (h.1, tt))
 parts_formed zero (ArrayValue t xs) h = absurd h
-parts_formed (suc room) (ArrayValue t xs) h = (room, h.1)
+parts_formed (suc depth_left) (ArrayValue t xs) h = (depth_left, h.1)
 parts_formed zero (StructValue xs) h = absurd h
-parts_formed (suc room) (StructValue xs) h = (room, h)
-parts_formed room (EntryValue x y) h = (room, (h.0, (h.1, tt)))
+parts_formed (suc depth_left) (StructValue xs) h = (depth_left, h)
+parts_formed depth_left (EntryValue x y) h = (depth_left, (h.0, (h.1, tt)))
 
-one_formed : (room : ℕ) (done us : List ValueTree) (x : ValueTree) → AreWellFormed room (value_trees (done ++ x ∷ us)) → IsWellFormed room x
-one_formed room [] us x h = h.0
-one_formed room (y ∷ done) us x h = one_formed room done us x h.1
+one_formed : (depth_left : ℕ) (done us : List ValueTree) (x : ValueTree) → AreWellFormed depth_left (value_trees (done ++ x ∷ us)) → IsWellFormed depth_left x
+one_formed depth_left [] us x h = h.0
+one_formed depth_left (y ∷ done) us x h = one_formed depth_left done us x h.1
 
 part_formed : (v : ValueTree) (done us : List ValueTree) (x : ValueTree) → IsFormed v → parts v ≡ value_trees (done ++ x ∷ us) → IsFormed x
 part_formed v done us x formed has = let p = parts_formed formed.0 v formed.1 in (p.0, one_formed p.0 done us x (subst (AreWellFormed p.0) has p.1))

@@ -23,7 +23,7 @@ pub record AreBuilt {A : Type 0} (xs : List ValueTree) (rs : List (Value A)) : T
 
 -- a value is well formed, however many containers may be open in it
 abbrev pub IsFormed : ValueTree → Type 0
-IsFormed v = (room : ℕ) × IsWellFormed room v
+IsFormed v = (depth_left : ℕ) × IsWellFormed depth_left v
 
 -- a value of the type that was wanted is built
 abbrev pub Makes : {A : Type 0} → TypeTree → ValueTree → Value A → Type 0

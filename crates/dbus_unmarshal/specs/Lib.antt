@@ -1,3 +1,3 @@
 pub mod Builds
 pub mod BuildLaws
-pub mod Judging
+pub mod Validating

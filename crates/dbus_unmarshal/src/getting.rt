@@ -1,4 +1,4 @@
-//! Getting a value from bytes: they are judged first, and then the value is built.
+//! Getting a value from bytes: they are validated first, and then the value is built.
 #![tactic(auto)]
 
 ghost use Rattle.std.specs.Prelude.{◌≡◌, ◌-◌, ◌≤◌, length, IfOk, IfErr};
@@ -9,7 +9,7 @@ ghost use Rattle.dbus_value_model.specs.Gets.{Gets};
 ghost use Rattle.dbus_value_model.specs.Specification.{specification, bounds_of, bounds_with};
 ghost use Rattle.dbus_value_model.specs.declared.limits.TheConstants.{DEPTH_LIMIT};
 ghost use Rattle.dbus_value_model.specs.declared.fault.Refusal.TheVariants.{Memory};
-ghost use Rattle.dbus_unmarshal.specs.Judging.{IsSpelledThere, Judges};
+ghost use Rattle.dbus_unmarshal.specs.Validating.{IsSpelledThere, Validates};
 
 use crate::type_text::put_type;
 use crate::values::build_value;
@@ -64,7 +64,7 @@ pub fn get<A: Allocator + Copy>(
 ///
 /// `Partial` comes if the bytes end within the value and show no fault. A refusal is `Format` with the first fault of the
 /// bytes, which is `FdIndex` at an index that is not below `fds`, or `Memory` if a growth was refused. No memory is taken
-/// until all of the value is judged: `Memory` comes only if the bytes spell it.
+/// until all of the value is validated: `Memory` comes only if the bytes spell it.
 /// D-Bus Specification, "Marshaling (Wire Format)", "Basic types".
 pub fn get_within<A: Allocator + Copy>(
     alloc: A,
@@ -96,7 +96,7 @@ pub fn get_within<A: Allocator + Copy>(
         at,
         types,
         lengths: lengths_of(types, &mut table),
-        room: limits.depth - depth,
+        depth_left: limits.depth - depth,
     };
     match is_whole(bytes, order, &spot, end, limits.bounds_with(fds)) {
         Ok(true) => {}
@@ -123,13 +123,13 @@ fn is_whole(
 ) -> Result<bool, Fault>
     requires at_most { spot.now.at ≤ end }
     requires inside { spot.now.at ≤ length bytes.now }
-    requires few { spot.now.room ≤ 64 }
+    requires few { spot.now.depth_left ≤ 64 }
     requires single { (t : TypeTree) × IsSingleType t × (spot.now.types.now ≡ sig t) }
     ensures { (t : TypeTree) → IsSingleType t → spot.now.types.now ≡ sig t →
-        Judges bounds order spot.now.room end t spot.now.at bytes.now result }
+        Validates bounds order spot.now.depth_left end t spot.now.at bytes.now result }
 {
     let mut values = Values::new();
-    values.begin(bounds, order, spot.at, end, spot.types, spot.room);
+    values.begin(bounds, order, spot.at, end, spot.types, spot.depth_left);
     values.run(rest_after(bytes, spot.at))?;
     Ok(!values.is_live())
 }

@@ -1,6 +1,6 @@
-//! Values as trees: built of bytes that were judged, and read from any bytes, which are checked first.
+//! Values as trees: built of bytes that were validated, and read from any bytes, which are checked first.
 //!
-//! One walk goes along judged bytes, and a value is made of each part where it stands. Nothing is judged again: the one error is
+//! One walk goes along validated bytes, and a value is made of each part where it stands. Nothing is validated again: the one error is
 //! that a growth of memory was refused.
 #![tactic(auto)]
 

@@ -61,10 +61,10 @@ pub fn build_values<A: Allocator + Copy>(
     ensures packed { IfOk result (λ r. IsTrue (keep_bytes r.items)) }
 {
     let types = spelled_types(alloc, spot.types)?;
-    let room = Vec::with_capacity(alloc, types.len())?;
+    let list = Vec::with_capacity(alloc, types.len())?;
     let wanted = field_type(&types, 0)?;
     let mut builder = Builder { alloc, wanted };
-    let none = Gathered::Fields(Arc::new(alloc, types)?, room);
+    let none = Gathered::Fields(Arc::new(alloc, types)?, list);
     let (gathered, _) = walk_values(&mut builder, none, source, spot)?;
     match gathered {
         Gathered::Fields(_, values) => Ok(values),
@@ -81,13 +81,13 @@ pub fn build_typed<A: Allocator + Copy>(
     source: &Source<'_>,
     at: usize,
     types: &[u8],
-    room: u8,
+    depth_left: u8,
 ) -> Result<(Value<A>, usize), AllocError>
     requires single { IsKind Single types.now }
     requires stands { (v : ValueTree) × (rest : List ℕ) ×
-        Stands source.now.order room types.now at source.now.bytes.now v rest }
+        Stands source.now.order depth_left types.now at source.now.bytes.now v rest }
     ensures built { (v : ValueTree) (rest : List ℕ) →
-        Stands source.now.order room types.now at source.now.bytes.now v rest →
+        Stands source.now.order depth_left types.now at source.now.bytes.now v rest →
         IfOk result (λ r.
         (value_tree r.0 ≡ v) × (r.1 ≡ at + length (spelling source.now.order at v))) }
     ensures packed { IfOk result (λ r. IsTrue (keeps_bytes r.0)) }
@@ -98,7 +98,7 @@ pub fn build_typed<A: Allocator + Copy>(
         at,
         types,
         lengths: lengths_of(types, &mut table),
-        room,
+        depth_left,
     };
     build_value(alloc, source, &spot, &wanted)
 }

@@ -1,7 +1,7 @@
 -- Arrays of numbers that go on.
 use Rattle.std.proofs.Common.{◌≡◌, ℕ, suc, ◌+◌, ◌-◌, ◌*◌, ◌%◌, ◌<◌, ◌≤◌, List, [], ◌∷◌, ◌++◌, length, reverse, take, get_or, true, false, Bool, sym, ap, subst, ◌∙◌, arith}
 use Rattle.std.proofs.lemmas.List.{length-take}
-use Rattle.dbus_texts.specs.Types.{TypeTree, NumberType, sig}
+use Rattle.dbus_texts.specs.Types.{TypeTree, NumberType}
 use Rattle.dbus_types.specs.Alignments.{width}
 use Rattle.dbus_value_model.specs.Bytes.{gap_to}
 use Rattle.dbus_types.specs.SignatureCodes.{first_code, free_width_of}
@@ -12,46 +12,32 @@ use Rattle.dbus_value_checker.specs.declared.values.Doing.{Doing}
 use Rattle.dbus_value_checker.specs.Suspended.{Work, Parts, Elements, work}
 use Rattle.dbus_value_checker.specs.Denotations.{Answer, rest_of, HasFrames, HasNotes, Goes, Numbers, after_piece}
 use Rattle.dbus_value_checker.proofs.NumberRuns.{width_some, whole_numbers, plain_type, numbers_wait, numbers_run}
-use Rattle.dbus_value_checker.proofs.Slices.{slice_head, slice_room}
+use Rattle.dbus_value_checker.proofs.Slices.{slice_head}
 use Rattle.dbus_value_checker.proofs.FrameLaws.{frames_reach, frames_small}
 
 differ : (b : Bool) → b ≡ false → b ≡ true → ⊥
 differ b e d = cc
 
--- an array's type has a code
-element_at : (x : Values) (ws : List Work) → HasFrames x.offset x ws → x.inner.array ≡ true → x.inner.pos < length x.text.items
-element_at x [] h a = absurd h
-element_at x (Parts room end ts ∷ ws) h a = absurd (differ x.inner.array h.0.is.parts a)
-element_at x (Elements turns room end t ∷ ws) h a =
-    let r = slice_room x.text.items x.inner.pos x.inner.stop (sig t) h.0.pos_is h.0.is.type in
-    let n = ap length (begins t) in
-    let s = h.0.stop_is in
-    let p = h.0.high_is in
-    omega arith
-
-pub element_code : (x : Values) (answer : Answer) → Goes x answer → x.inner.array ≡ true → x.inner.pos < length x.text.items
-element_code x answer g a = element_at x g.ws g.frames a
-
 numbers_at : (x : Values) (d : Doing) (answer : Answer) (c w : ℕ) (ws : List Work) → HasFrames x.offset x ws → HasNotes x → ((s : List ℕ) → rest_of answer x ws x.offset s ≡ answer.to s) → x.inner.array ≡ true → get_or x.text.items x.inner.pos 0 ≡ c
     → ((t : TypeTree) → first_code t ≡ c → w ≡ free_width_of t) → 0 < w → gap_to w x.offset ≡ 0 → x.offset + w ≤ x.inner.end → Numbers (record x { doing = d }) w answer
 numbers_at x d answer c w [] h noted same a code is some aligned fits = absurd h
-numbers_at x d answer c w (Parts room end ts ∷ ws) h noted same a code is some aligned fits = absurd (differ x.inner.array h.0.is.parts a)
-numbers_at x d answer c w (Elements turns room end t ∷ ws) h noted same a code is some aligned fits =
+numbers_at x d answer c w (Parts depth_left end ts ∷ ws) h noted same a code is some aligned fits = absurd (differ x.inner.array h.0.is.parts a)
+numbers_at x d answer c w (Elements turns depth_left end t ∷ ws) h noted same a code is some aligned fits =
     let there = slice_head x.text.items x.inner.pos x.inner.stop (first_code t) (after_code t) h.0.pos_is (h.0.is.type ∙ begins t) in
     let k = plain_type t c w (sym there ∙ code) is some in
     record {
       ws = ws;
       code = k.0;
       turns = turns;
-      room = room;
+      depth_left = depth_left;
       stop = end;
       width_is = k.1.1;
       plain = k.1.2;
-      frames = subst (λ (u : TypeTree). HasFrames x.offset x (Elements turns room end u ∷ ws)) k.1.0 h;
+      frames = subst (λ (u : TypeTree). HasFrames x.offset x (Elements turns depth_left end u ∷ ws)) k.1.0 h;
       noted = noted;
       aligned = aligned;
       more = fits;
-      same = λ s. subst (λ (u : TypeTree). rest_of answer x (Elements turns room end u ∷ ws) x.offset s ≡ answer.to s) k.1.0 (same s);
+      same = λ s. subst (λ (u : TypeTree). rest_of answer x (Elements turns depth_left end u ∷ ws) x.offset s ≡ answer.to s) k.1.0 (same s);
     }
 
 pub numbers_begin : (x : Values) (d : Doing) (answer : Answer) (c w : ℕ) → Goes x answer → x.inner.array ≡ true → get_or x.text.items x.inner.pos 0 ≡ c → ((t : TypeTree) → first_code t ≡ c → w ≡ free_width_of t) → 0 < w → gap_to w x.offset ≡ 0 → x.offset + w ≤ x.inner.end → Numbers (record x { doing = d }) w answer
@@ -73,8 +59,8 @@ module _ (x : Values) (w : ℕ) (answer : Answer) (b : Numbers x w answer) where
       let e = b.frames.0.is.end_is in
       let m = b.more in
       let v = b.width_is in
-      sym (b.same s) ∙ ap (λ (k : ℕ). work x.bounds x.order (Elements k b.room b.stop (NumberType b.code)) (rest_of answer x b.ws) x.offset s) some_turns
-      ∙ numbers_wait x.bounds x.order b.code b.plain b.room b.stop (rest_of answer x b.ws) (b.turns - 1) x.offset s aligned_to (omega arith) (omega arith)
+      sym (b.same s) ∙ ap (λ (k : ℕ). work x.bounds x.order (Elements k b.depth_left b.stop (NumberType b.code)) (rest_of answer x b.ws) x.offset s) some_turns
+      ∙ numbers_wait x.bounds x.order b.code b.plain b.depth_left b.stop (rest_of answer x b.ws) (b.turns - 1) x.offset s aligned_to (omega arith) (omega arith)
 
   -- the bytes of whole numbers are taken
   pub numbers_go : (s : List ℕ) (there n : ℕ) → n ≡ there - there % w → there ≤ length s → x.offset + there ≤ x.inner.end → Goes (record x { offset = x.offset + n }) (after_piece answer (take n s))
@@ -92,7 +78,7 @@ module _ (x : Values) (w : ℕ) (answer : Answer) (b : Numbers x w answer) where
       let at : x.offset + m * width b.code ≡ x.offset + n = omega arith in
       let rest_on = rest_of answer x b.ws in
       record {
-        ws = Elements (b.turns - m) b.room b.stop (NumberType b.code) ∷ b.ws;
+        ws = Elements (b.turns - m) b.depth_left b.stop (NumberType b.code) ∷ b.ws;
         frames = (
           record {
             low_is = omega arith;
@@ -107,7 +93,7 @@ module _ (x : Values) (w : ℕ) (answer : Answer) (b : Numbers x w answer) where
         );
         noted = b.noted;
         same = λ c.
-            subst (λ (q : ℕ). work x.bounds x.order (Elements (b.turns - m) b.room b.stop (NumberType b.code)) rest_on q c ≡ answer.to (take n s ++ c)) at
-            (sym (numbers_run x.bounds x.order b.code b.plain b.room b.stop rest_on m (b.turns - m) x.offset (take n s) c size (omega arith) aligned_to)
-            ∙ ap (λ (k : ℕ). work x.bounds x.order (Elements k b.room b.stop (NumberType b.code)) rest_on x.offset (take n s ++ c)) turns ∙ b.same (take n s ++ c));
+            subst (λ (q : ℕ). work x.bounds x.order (Elements (b.turns - m) b.depth_left b.stop (NumberType b.code)) rest_on q c ≡ answer.to (take n s ++ c)) at
+            (sym (numbers_run x.bounds x.order b.code b.plain b.depth_left b.stop rest_on m (b.turns - m) x.offset (take n s) c size (omega arith) aligned_to)
+            ∙ ap (λ (k : ℕ). work x.bounds x.order (Elements k b.depth_left b.stop (NumberType b.code)) rest_on x.offset (take n s ++ c)) turns ∙ b.same (take n s ++ c));
       }

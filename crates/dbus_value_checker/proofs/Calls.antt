@@ -15,14 +15,14 @@ use Rattle.dbus_value_checker.proofs.Slices.{slice_room}
 use Rattle.dbus_value_checker.proofs.FrameLaws.{inner_of}
 use Rattle.dbus_types.proofs.TypeCodes.{begins}
 use Rattle.dbus_value_checker.specs.Denotations.{Answer, denotes, Denotes, Wants, after_piece}
-use Rattle.dbus_value_checker.specs.Moves.{Moves, Opens, IsLive, offset_of, wide}
+use Rattle.dbus_value_checker.specs.Moves.{Moves, Opens, IsLive, offset_of}
 use Rattle.dbus_value_checker.proofs.FrontSteps.{take-both, split-at}
 
 -- the same answers
 denotes_at : (x : Values) (d : Doing) (last : On) (f g : List ℕ → Outcome (Unit {0})) → ((c : List ℕ) → f c ≡ g c) → denotes d x (record { last = last; to = f }) → denotes d x (record { last = last; to = g })
 denotes_at x (doing.Wanted pos stop) last f g e h = record { ws = h.ws; type = h.type; frames = h.frames; noted = h.noted; text = h.text; type_noted = h.type_noted; complete = h.complete; pos_is = h.pos_is; stop_is = h.stop_is; same = λ c. h.same c ∙ e c }
 denotes_at x (doing.Text code left) last f g e h = (h.0, record { ws = h.1.ws; kind = h.1.kind; size = h.1.size; start = h.1.start; bytes = h.1.bytes; frames = h.1.frames; noted = h.1.noted; kind_is = h.1.kind_is; scans = h.1.scans; stands = h.1.stands; offset = h.1.offset; left_is = h.1.left_is; fits = h.1.fits; same = λ c. h.1.same c ∙ e c })
-denotes_at x (doing.Numbers w) last f g e h = record { ws = h.ws; code = h.code; turns = h.turns; room = h.room; stop = h.stop; width_is = h.width_is; plain = h.plain; frames = h.frames; noted = h.noted; aligned = h.aligned; more = h.more; same = λ c. h.same c ∙ e c }
+denotes_at x (doing.Numbers w) last f g e h = record { ws = h.ws; code = h.code; turns = h.turns; depth_left = h.depth_left; stop = h.stop; width_is = h.width_is; plain = h.plain; frames = h.frames; noted = h.noted; aligned = h.aligned; more = h.more; same = λ c. h.same c ∙ e c }
 denotes_at x doing.Nul last f g e h = record { ws = h.ws; frames = h.frames; noted = h.noted; fits = h.fits; same = λ c. h.same c ∙ e c }
 denotes_at x doing.Over last f g e h = (h.0, h.1, λ c. h.2 c ∙ e c)
 
@@ -66,16 +66,6 @@ wants_code x pos stop answer w =
 -- one call more
 pub run_on : (x y : Values) (s : List ℕ) (n m : ℕ) (answer : Answer) → n ≤ length s → Moves x (drop n s) (Ok m) y (after_piece answer (take n s)) → (n + m ≤ length s) × Denotes y (after_piece answer (take (n + m) s))
 run_on x y s n m answer le h = after_ok x y s n le answer m h
-
-pub wants_wide : (x : Values) (answer : Answer) → Denotes x answer → wide x.doing ≤ length x.text.items
-wants_wide x answer h = wide_at x x.doing answer h
-  where
-    wide_at : (x : Values) (d : Doing) (answer : Answer) → denotes d x answer → wide d ≤ length x.text.items
-    wide_at x (doing.Wanted pos stop) answer w = let i = inner_of x (suc x.offset) w.ws w.frames in let a = i.high in let b = w.stop_is in omega arith
-    wide_at x (doing.Text code left) answer h = omega arith
-    wide_at x (doing.Numbers w) answer h = omega arith
-    wide_at x doing.Nul answer h = omega arith
-    wide_at x doing.Over answer h = omega arith
 
 -- a fault within a run
 pub run_refused : (x y : Values) (s : List ℕ) (n : ℕ) (answer : Answer) (f : Fault) → Moves x (drop n s) (Err (stops.Refused f)) y (after_piece answer (take n s)) → (c : List ℕ) → answer.to (s ++ c) ≡ Faulty f

@@ -12,13 +12,13 @@ use Rattle.dbus_types.specs.TypeLengths.{AreLengths}
 use Rattle.dbus_value_checker.proofs.Notes.{after_noted}
 
 -- a state whose only frame is that of these types
-pub begun_goes : (x : Values) (types : List ℕ) (room : ℕ) (ts : TypeTrees) (last : On)
-    → x.frames.items ≡ [] → x.text.items ≡ types → AreLengths types x.lengths.items → x.inner ≡ record { array = false; pos = 0; stop = length types; top = length types; end = x.end; room = room }
-    → x.offset ≤ x.end → x.end < 18446744073709551616 → room ≤ 64 → length types ≤ 255 → types ≡ sigs ts → AreShaped ts
-    → Goes x (values_on x.bounds x.order room x.end ts last x.offset)
-begun_goes x types room ts last none text lengths inner at_most near few short spelled complete =
-    let w : Work = Parts room x.end ts in
-    let begun : Frame = record { array = false; pos = 0; stop = length types; top = length types; end = x.end; room = room } in
+pub begun_goes : (x : Values) (types : List ℕ) (depth_left : ℕ) (ts : TypeTrees) (last : On)
+    → x.frames.items ≡ [] → x.text.items ≡ types → AreLengths types x.lengths.items → x.inner ≡ record { array = false; pos = 0; stop = length types; top = length types; end = x.end; depth_left = depth_left }
+    → x.offset ≤ x.end → x.end < 18446744073709551616 → depth_left ≤ 64 → length types ≤ 255 → types ≡ sigs ts → AreShaped ts
+    → Goes x (values_on x.bounds x.order depth_left x.end ts last x.offset)
+begun_goes x types depth_left ts last none text lengths inner at_most near few short spelled complete =
+    let w : Work = Parts depth_left x.end ts in
+    let begun : Frame = record { array = false; pos = 0; stop = length types; top = length types; end = x.end; depth_left = depth_left } in
     let back : reverse x.frames.items ≡ [] = ap (λ (fs : List Frame). reverse fs) none in
     let whole : slice types 0 (length types) ≡ sigs ts = take_all (length types) types (omega arith) ∙ spelled in
     let here : AreFrames x.offset x.offset (length types) x.end types (begun ∷ []) (w ∷ []) = (

@@ -10,8 +10,8 @@ use Rattle.dbus_value_checker.specs.Moves.{Pushed}
 
 -- turns that reach further are enough too
 pub IsFrame-reach : (reach more : ℕ) (text : List ℕ) (f : Frame) (w : Work) → reach ≤ more → IsFrame reach text f w → IsFrame more text f w
-IsFrame-reach reach more text f (Parts room end ts) le h = h
-IsFrame-reach reach more text f (Elements turns room end t) le h = record { elements = h.elements; room_is = h.room_is; end_is = h.end_is; type = h.type; complete = h.complete; turns_is = let t = h.turns_is in omega arith }
+IsFrame-reach reach more text f (Parts depth_left end ts) le h = h
+IsFrame-reach reach more text f (Elements turns depth_left end t) le h = record { elements = h.elements; room_is = h.room_is; end_is = h.end_is; type = h.type; complete = h.complete; turns_is = let t = h.turns_is in omega arith }
 
 pub frames_reach : (reach more low high bottom : ℕ) (text : List ℕ) (fs : List Frame) (ws : List Work) → reach ≤ more → AreFrames reach low high bottom text fs ws → AreFrames more low high bottom text fs ws
 frames_reach reach more low high bottom text [] [] le h = h
@@ -42,12 +42,12 @@ pub record Inner (x : Values) : Type 0 where
   pub high : x.inner.top ≤ length x.text.items
   pub stop : x.inner.stop ≤ x.inner.top
   pub pos : x.inner.pos ≤ x.inner.stop
-  pub count : length x.frames.items + extra x.inner.array + 2 * x.inner.room ≤ 128
-  pub room : x.inner.top + 255 * x.inner.room ≤ 255 * 65
+  pub count : length x.frames.items + extra x.inner.array + 2 * x.inner.depth_left ≤ 128
+  pub depth_left : x.inner.top + 255 * x.inner.depth_left ≤ 255 * 65
 
 pub inner_of : (x : Values) (reach : ℕ) (ws : List Work) → HasFrames reach x ws → Inner x
 inner_of x reach [] h = absurd h
-inner_of x reach (w ∷ ws) h = record { low = h.0.low_is; high = h.0.high_is; stop = h.0.stop_is; pos = h.0.pos_is; count = omega (arith, h.0.count_is, length-reverse x.frames.items); room = h.0.room_is }
+inner_of x reach (w ∷ ws) h = record { low = h.0.low_is; high = h.0.high_is; stop = h.0.stop_is; pos = h.0.pos_is; count = omega (arith, h.0.count_is, length-reverse x.frames.items); depth_left = h.0.room_is }
 
 pub within : (reach low high next more bottom : ℕ) (text : List ℕ) (f : Frame) (fs : List Frame) (ws : List Work) → next ≤ f.end → f.top ≤ more → AreFrames reach low high bottom text (f ∷ fs) ws → AreFrames reach next more bottom text (f ∷ fs) ws
 within reach low high next more bottom text f fs [] le top h = h

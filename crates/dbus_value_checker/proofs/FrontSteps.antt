@@ -11,7 +11,7 @@ use Rattle.dbus_value_model.specs.declared.fault.Reason.TheVariants as reasons
 use Rattle.dbus_value_model.specs.declared.fault.Fault.{Fault}
 use Rattle.dbus_value_model.specs.Bytes.{gap_to}
 use Rattle.dbus_value_model.specs.Items.{fault}
-use Rattle.dbus_value_model.specs.Reading.{Reader, Outcome, Done, Faulty, Partial, after, zeros, padding, number, number_of, judged}
+use Rattle.dbus_value_model.specs.Reading.{Reader, Outcome, Done, Faulty, Partial, after, zeros, padding, number, number_of, validated}
 use Rattle.std.proofs.Common.{Ok, Err}
 use Rattle.dbus_texts.specs.Types.{NumberCode, BYTE, BOOLEAN, INT16, UINT16, INT32, UINT32, INT64, UINT64, DOUBLE, UNIX_FD, TextCode, STRING, OBJECT_PATH, SIGNATURE, number_code, text_code}
 use Rattle.dbus_types.specs.Alignments.{width, length_width, alignment_of}
@@ -114,13 +114,13 @@ module _ (order : Order) (w end : ℕ) (row : ℕ → ℕ → Option Reason) (o 
     pub number_taken : row (o + w) n ≡ None → (c : List ℕ) → number order w end row o (take w s ++ c) ≡ Done n (o + w) c
     number_taken e c =
         number_read order w end row o (take w s) c long fits
-        ∙ ap (λ (m : ℕ). judged (row (o + w) m) m o (o + w) c) (sym is) ∙ ap (λ (r : Option Reason). judged r n o (o + w) c) e
+        ∙ ap (λ (m : ℕ). validated (row (o + w) m) m o (o + w) c) (sym is) ∙ ap (λ (r : Option Reason). validated r n o (o + w) c) e
 
     pub number_refused : (why : Reason) → row (o + w) n ≡ Some why → (c : List ℕ) → number order w end row o (s ++ c) ≡ Faulty (fault o why)
     number_refused why e c =
         let split : s ++ c ≡ take w s ++ (drop w s ++ c) = ap (λ (t : List ℕ). t ++ c) (sym (take-append-drop w s)) ∙ append_assoc (take w s) (drop w s) c in
         ap (number order w end row o) split ∙ number_read order w end row o (take w s) (drop w s ++ c) long fits
-        ∙ ap (λ (m : ℕ). judged (row (o + w) m) m o (o + w) (drop w s ++ c)) (sym is) ∙ ap (λ (r : Option Reason). judged r n o (o + w) (drop w s ++ c)) e
+        ∙ ap (λ (m : ℕ). validated (row (o + w) m) m o (o + w) (drop w s ++ c)) (sym is) ∙ ap (λ (r : Option Reason). validated r n o (o + w) (drop w s ++ c)) e
 
 -- ---- the numbers of a type
 
@@ -129,17 +129,17 @@ pub word_width : (k : NumberCode) (c : ℕ) → number_code k ≡ c → (c ≡ 9
 word_width k c e h = elim h [ inl a ↦ sym (ap alignment_of (boolean_is (NumberType k) (e ∙ a))) | inr a ↦ sym (ap alignment_of (descriptor_is (NumberType k) (e ∙ a))) ]
 
 -- neither a BOOLEAN nor an index
-pub plain_row : (fds : Option ℕ) (k : NumberCode) (c n p : ℕ) → number_code k ≡ c → (c ≡ 98 → ⊥) → (c ≡ 104 → ⊥) → number_row fds k p n ≡ None
-plain_row fds BYTE c n p e b f = refl
-plain_row fds BOOLEAN c n p e b f = absurd (b (sym e))
-plain_row fds INT16 c n p e b f = refl
-plain_row fds UINT16 c n p e b f = refl
-plain_row fds INT32 c n p e b f = refl
-plain_row fds UINT32 c n p e b f = refl
-plain_row fds INT64 c n p e b f = refl
-plain_row fds UINT64 c n p e b f = refl
-plain_row fds DOUBLE c n p e b f = refl
-plain_row fds UNIX_FD c n p e b f = absurd (f (sym e))
+pub plain_row : (index_limit : Option ℕ) (k : NumberCode) (c n p : ℕ) → number_code k ≡ c → (c ≡ 98 → ⊥) → (c ≡ 104 → ⊥) → number_row index_limit k p n ≡ None
+plain_row index_limit BYTE c n p e b f = refl
+plain_row index_limit BOOLEAN c n p e b f = absurd (b (sym e))
+plain_row index_limit INT16 c n p e b f = refl
+plain_row index_limit UINT16 c n p e b f = refl
+plain_row index_limit INT32 c n p e b f = refl
+plain_row index_limit UINT32 c n p e b f = refl
+plain_row index_limit INT64 c n p e b f = refl
+plain_row index_limit UINT64 c n p e b f = refl
+plain_row index_limit DOUBLE c n p e b f = refl
+plain_row index_limit UNIX_FD c n p e b f = absurd (f (sym e))
 
 -- the bytes of a number are not there
 pub lacks_number : {X : Type 0} (view : X → ℕ × ℕ) (order : Order) (w end : ℕ) (row : ℕ → ℕ → Option Reason) (o : ℕ) (s : List ℕ) (e : Stop) → Lack w o end s e → Fronts view o s (Err e) (number order w end row)
@@ -151,25 +151,25 @@ pub forgets_stop : (o : ℕ) (s : List ℕ) (run : Reader ℕ) (e : Stop) → Fr
 forgets_stop o s run stops.Partial h = ap (λ (r : Outcome ℕ). after r (λ x. done)) h
 forgets_stop o s run (stops.Refused f) h = λ c. ap (λ (r : Outcome ℕ). after r (λ x. done)) (h c)
 
-module _ (fds : Option ℕ) (order : Order) (end o code : ℕ) (s : List ℕ) (k : NumberCode) (is : number_code k ≡ code) where
-  pub number_stop : (w : ℕ) (e : Stop) → w ≡ width k → Lack w o end s e → Fronts (λ (n : ℕ). (tt, n)) o s (Err e) (onward (number order (width k) end (number_row fds k)) done)
+module _ (index_limit : Option ℕ) (order : Order) (end o code : ℕ) (s : List ℕ) (k : NumberCode) (is : number_code k ≡ code) where
+  pub number_stop : (w : ℕ) (e : Stop) → w ≡ width k → Lack w o end s e → Fronts (λ (n : ℕ). (tt, n)) o s (Err e) (onward (number order (width k) end (number_row index_limit k)) done)
   number_stop w e w_is h =
-      forgets_stop o s (number order (width k) end (number_row fds k)) e
-      (lacks_number (λ (x : ℕ × ℕ). x) order (width k) end (number_row fds k) o s e (subst (λ (v : ℕ). Lack v o end s e) w_is h))
+      forgets_stop o s (number order (width k) end (number_row index_limit k)) e
+      (lacks_number (λ (x : ℕ × ℕ). x) order (width k) end (number_row index_limit k) o s e (subst (λ (v : ℕ). Lack v o end s e) w_is h))
 
-  pub number_there : (w n : ℕ) → w ≡ width k → w ≤ length s → o + w ≤ end → n ≡ number_of order (take w s) → number_row fds k (o + w) n ≡ None → Fronts (λ (n : ℕ). (tt, n)) o s (Ok w) (onward (number order (width k) end (number_row fds k)) done)
+  pub number_there : (w n : ℕ) → w ≡ width k → w ≤ length s → o + w ≤ end → n ≡ number_of order (take w s) → number_row index_limit k (o + w) n ≡ None → Fronts (λ (n : ℕ). (tt, n)) o s (Ok w) (onward (number order (width k) end (number_row index_limit k)) done)
   number_there w n w_is there fits n_is good =
       let e : w ≡ width k = w_is in (
         there,
-        λ c. subst (λ (v : ℕ). onward (number order v end (number_row fds k)) done o (take w s ++ c) ≡ Done tt (o + w) c) e
-            (ap (λ (r : Outcome ℕ). after r (λ x. done)) (number_taken order w end (number_row fds k) o s n there fits n_is good c)),
+        λ c. subst (λ (v : ℕ). onward (number order v end (number_row index_limit k)) done o (take w s ++ c) ≡ Done tt (o + w) c) e
+            (ap (λ (r : Outcome ℕ). after r (λ x. done)) (number_taken order w end (number_row index_limit k) o s n there fits n_is good c)),
       )
 
-  pub number_judged : (w n : ℕ) (why : Reason) → w ≡ width k → w ≤ length s → o + w ≤ end → n ≡ number_of order (take w s) → number_row fds k (o + w) n ≡ Some why → Fronts (λ (n : ℕ). (tt, n)) o s (Err (stops.Refused (fault o why))) (onward (number order (width k) end (number_row fds k)) done)
-  number_judged w n why w_is there fits n_is bad =
+  pub number_validated : (w n : ℕ) (why : Reason) → w ≡ width k → w ≤ length s → o + w ≤ end → n ≡ number_of order (take w s) → number_row index_limit k (o + w) n ≡ Some why → Fronts (λ (n : ℕ). (tt, n)) o s (Err (stops.Refused (fault o why))) (onward (number order (width k) end (number_row index_limit k)) done)
+  number_validated w n why w_is there fits n_is bad =
       let e : w ≡ width k = w_is in
-      λ c. subst (λ (v : ℕ). onward (number order v end (number_row fds k)) done o (s ++ c) ≡ Faulty (fault o why)) e
-      (ap (λ (r : Outcome ℕ). after r (λ x. done)) (number_refused order w end (number_row fds k) o s n there fits n_is why bad c))
+      λ c. subst (λ (v : ℕ). onward (number order v end (number_row index_limit k)) done o (s ++ c) ≡ Faulty (fault o why)) e
+      (ap (λ (r : Outcome ℕ). after r (λ x. done)) (number_refused order w end (number_row index_limit k) o s n there fits n_is why bad c))
 
 -- ---- the length of a text
 

@@ -29,14 +29,14 @@ false_true b e d = cc
 
 next_element_at : (x : Values) (answer : Answer) (ws : List Work) → HasFrames x.offset x ws → HasNotes x → ((c : List ℕ) → rest_of answer x ws x.offset c ≡ answer.to c) → x.inner.array ≡ true → x.offset < x.inner.end → Wants x x.inner.pos x.inner.stop answer
 next_element_at x answer [] h noted same a lt = absurd h
-next_element_at x answer (Parts room end ts ∷ ws) h noted same a lt = absurd (false_true x.inner.array h.0.is.parts a)
-next_element_at x answer (Elements zero room end t ∷ ws) h noted same a lt = absurd (let n = h.0.is.turns_is in omega arith)
-next_element_at x answer (Elements (suc turns) room end t ∷ ws) h noted same a lt =
+next_element_at x answer (Parts depth_left end ts ∷ ws) h noted same a lt = absurd (false_true x.inner.array h.0.is.parts a)
+next_element_at x answer (Elements zero depth_left end t ∷ ws) h noted same a lt = absurd (let n = h.0.is.turns_is in omega arith)
+next_element_at x answer (Elements (suc turns) depth_left end t ∷ ws) h noted same a lt =
     let is = h.0.is in
     let n = is.turns_is in
     let e = is.end_is in
     record {
-      ws = Elements turns room end t ∷ ws;
+      ws = Elements turns depth_left end t ∷ ws;
       type = t;
       frames = (
         record {
@@ -57,9 +57,9 @@ next_element_at x answer (Elements (suc turns) room end t ∷ ws) h noted same a
       pos_is = h.0.pos_is;
       stop_is = h.0.stop_is;
       same = λ c.
-          subst (λ (r : ℕ). onward (value x.bounds x.order r x.inner.end t) (rest_of answer x (Elements turns room end t ∷ ws)) x.offset c ≡ answer.to c) (sym is.room_is)
-          (subst (λ (m : ℕ). onward (value x.bounds x.order room m t) (rest_of answer x (Elements turns room end t ∷ ws)) x.offset c ≡ answer.to c) (sym is.end_is)
-          (sym (elements_more x.bounds x.order turns room end t (rest_of answer x ws) x.offset c (omega arith)) ∙ same c));
+          subst (λ (r : ℕ). onward (value x.bounds x.order r x.inner.end t) (rest_of answer x (Elements turns depth_left end t ∷ ws)) x.offset c ≡ answer.to c) (sym is.room_is)
+          (subst (λ (m : ℕ). onward (value x.bounds x.order depth_left m t) (rest_of answer x (Elements turns depth_left end t ∷ ws)) x.offset c ≡ answer.to c) (sym is.end_is)
+          (sym (elements_more x.bounds x.order turns depth_left end t (rest_of answer x ws) x.offset c (omega arith)) ∙ same c));
     }
 
 pub next_element : (x : Values) (answer : Answer) → Goes x answer → x.inner.array ≡ true → x.offset < x.inner.end → Wants x x.inner.pos x.inner.stop answer
@@ -71,18 +71,18 @@ pub next_part_at : (x : Values) (answer : Answer) (ws : List Work) (q : ℕ) →
     → ((c : List ℕ) → rest_of answer x ws x.offset c ≡ answer.to c) → x.inner.array ≡ false → x.inner.pos < x.inner.stop → x.inner.stop ≤ length x.text.items
     → Wants (record x { inner = record x.inner { pos = q } }) x.inner.pos q answer
 next_part_at x answer [] q is h noted same a lt le = absurd h
-next_part_at x answer (Elements turns room end t ∷ ws) q is h noted same a lt le = absurd (false_true x.inner.array a h.0.is.elements)
-next_part_at x answer (Parts room end NoTypes ∷ ws) q is h noted same a lt le =
+next_part_at x answer (Elements turns depth_left end t ∷ ws) q is h noted same a lt le = absurd (false_true x.inner.array a h.0.is.elements)
+next_part_at x answer (Parts depth_left end NoTypes ∷ ws) q is h noted same a lt le =
     let n = slice_whole x.text.items x.inner.pos x.inner.stop [] (omega arith) le h.0.is.types in
     absurd (omega arith)
-next_part_at x answer (Parts room end (MoreTypes t ts) ∷ ws) q is h noted same a lt le =
+next_part_at x answer (Parts depth_left end (MoreTypes t ts) ∷ ws) q is h noted same a lt le =
     let f = h.0.is in
     let past : q ≡ x.inner.pos + length (sig t) = is t (sigs ts) f.types in
     let room_in : x.inner.pos + length (sig t ++ sigs ts) ≤ x.inner.stop = slice_room x.text.items x.inner.pos x.inner.stop (sig t ++ sigs ts) h.0.pos_is f.types in
     let n : length (sig t ++ sigs ts) ≡ length (sig t) + length (sigs ts) = length-append (sig t) (sigs ts) in
     let top = h.0.stop_is in
     record {
-      ws = Parts room end ts ∷ ws;
+      ws = Parts depth_left end ts ∷ ws;
       type = t;
       frames = (
         record {
@@ -103,9 +103,9 @@ next_part_at x answer (Parts room end (MoreTypes t ts) ∷ ws) q is h noted same
       pos_is = omega arith;
       stop_is = omega arith;
       same = λ c.
-          subst (λ (r : ℕ). onward (value x.bounds x.order r x.inner.end t) (rest_of answer x (Parts room end ts ∷ ws)) x.offset c ≡ answer.to c) (sym f.room_is)
-          (subst (λ (m : ℕ). onward (value x.bounds x.order room m t) (rest_of answer x (Parts room end ts ∷ ws)) x.offset c ≡ answer.to c) (sym f.end_is)
-          (sym (parts_more x.bounds x.order room end t ts (rest_of answer x ws) x.offset c) ∙ same c));
+          subst (λ (r : ℕ). onward (value x.bounds x.order r x.inner.end t) (rest_of answer x (Parts depth_left end ts ∷ ws)) x.offset c ≡ answer.to c) (sym f.room_is)
+          (subst (λ (m : ℕ). onward (value x.bounds x.order depth_left m t) (rest_of answer x (Parts depth_left end ts ∷ ws)) x.offset c ≡ answer.to c) (sym f.end_is)
+          (sym (parts_more x.bounds x.order depth_left end t ts (rest_of answer x ws) x.offset c) ∙ same c));
     }
 
 pub next_part : (x : Values) (answer : Answer) (q : ℕ) → IsTypeEnd (take x.inner.stop x.text.items) x.inner.pos q → Goes x answer → x.inner.array ≡ false → x.inner.pos < x.inner.stop → x.inner.stop ≤ length x.text.items
@@ -127,8 +127,8 @@ abbrev pub IsOver : Values → Type 0
 IsOver x = ((x.inner.array ≡ true) × (x.inner.end ≤ x.offset)) ⊎ ((x.inner.array ≡ false) × (x.inner.stop ≤ x.inner.pos))
 
 over_at : (x : Values) (answer : Answer) (w : Work) (ws : List Work) → HasFrames x.offset x (w ∷ ws) → ((c : List ℕ) → rest_of answer x (w ∷ ws) x.offset c ≡ answer.to c) → IsOver x → (c : List ℕ) → rest_of answer x ws x.offset c ≡ answer.to c
-over_at x answer (Parts room end NoTypes) ws h same over c = same c
-over_at x answer (Parts room end (MoreTypes t ts)) ws h same over c = elim over [
+over_at x answer (Parts depth_left end NoTypes) ws h same over c = same c
+over_at x answer (Parts depth_left end (MoreTypes t ts)) ws h same over c = elim over [
   | inl o ↦ absurd (false_true x.inner.array h.0.is.parts o.0)
   | inr o ↦
       let r = slice_room x.text.items x.inner.pos x.inner.stop (sig t ++ sigs ts) h.0.pos_is h.0.is.types in
@@ -136,13 +136,13 @@ over_at x answer (Parts room end (MoreTypes t ts)) ws h same over c = elim over 
       let le = o.1 in
       absurd (omega arith)
 ]
-over_at x answer (Elements turns room end t) ws h same over c = elim over [
+over_at x answer (Elements turns depth_left end t) ws h same over c = elim over [
   | inl o ↦
       let le = o.1 in
       let low = h.0.low_is in
       let e = h.0.is.end_is in
       let at : x.offset ≡ end = omega arith in
-      sym (elements_none x.bounds x.order turns room end t (rest_of answer x ws) x.offset c at) ∙ same c
+      sym (elements_none x.bounds x.order turns depth_left end t (rest_of answer x ws) x.offset c at) ∙ same c
   | inr o ↦ absurd (false_true x.inner.array o.0 h.0.is.elements)
 ]
 

@@ -81,7 +81,7 @@ no_number DOUBLE there e = omega arith
 no_number UNIX_FD there e = omega arith
 
 -- a type of which every number may stand
-pub plain_type : (t : TypeTree) (c w : ℕ) → first_code t ≡ c → ((u : TypeTree) → first_code u ≡ c → w ≡ free_width_of u) → 0 < w → (k : NumberCode) × ((t ≡ NumberType k) × (width k ≡ w) × ((fds : Option ℕ) (p n : ℕ) → number_row fds k p n ≡ None))
+pub plain_type : (t : TypeTree) (c w : ℕ) → first_code t ≡ c → ((u : TypeTree) → first_code u ≡ c → w ≡ free_width_of u) → 0 < w → (k : NumberCode) × ((t ≡ NumberType k) × (width k ≡ w) × ((index_limit : Option ℕ) (p n : ℕ) → number_row index_limit k p n ≡ None))
 plain_type t c w e d some = let f = free_is t w some (d t e) in (f.code, (f.is, f.wide, f.free))
 
 -- ---- elements
@@ -90,19 +90,19 @@ no_bytes : (s : List ℕ) → length s ≡ 0 → s ≡ []
 no_bytes [] e = refl
 no_bytes (b ∷ s) e = absurd (omega arith)
 
-module _ (bounds : Bounds) (order : Order) (k : NumberCode) (plain : (fds : Option ℕ) (p n : ℕ) → number_row fds k p n ≡ None) (room end : ℕ) (next : On) where
+module _ (bounds : Bounds) (order : Order) (k : NumberCode) (plain : (index_limit : Option ℕ) (p n : ℕ) → number_row index_limit k p n ≡ None) (depth_left end : ℕ) (next : On) where
   abbrev array : ℕ → On
-  array turns = work bounds order (Elements turns room end (NumberType k)) next
+  array turns = work bounds order (Elements turns depth_left end (NumberType k)) next
 
   abbrev element : ℕ → On
-  element turns = own bounds order end (own_of room (NumberType k)) (works bounds order (array turns) (opened_by room end (NumberType k)))
+  element turns = own bounds order end (own_of depth_left (NumberType k)) (works bounds order (array turns) (opened_by depth_left end (NumberType k)))
 
   -- an element begins with its number
   begins : (turns o : ℕ) (s : List ℕ) → gap_to (width k) o ≡ 0 → o + width k ≤ end → array (suc turns) o s ≡ element turns o s
   begins turns o s aligned le =
       let some = width_some k in
-      elements_more bounds order turns room end (NumberType k) next o s (omega arith)
-      ∙ value_begins bounds order room end (NumberType k) o s (array turns) (λ e. cc)
+      elements_more bounds order turns depth_left end (NumberType k) next o s (omega arith)
+      ∙ value_begins bounds order depth_left end (NumberType k) o s (array turns) (λ e. cc)
       ∙ padding_zeros (width k) end o s (λ x. element turns) (omega arith)
       ∙ ap (λ (n : ℕ). after (zeros n o s) (λ x. element turns)) aligned
 
@@ -116,7 +116,7 @@ module _ (bounds : Bounds) (order : Order) (k : NumberCode) (plain : (fds : Opti
 
   -- the bytes end within a number
   pub numbers_wait : (turns o : ℕ) (s : List ℕ) → gap_to (width k) o ≡ 0 → o + width k ≤ end → length s < width k → array (suc turns) o s ≡ Partial
-  numbers_wait turns o s aligned le short = begins turns o s aligned le ∙ element_waits room turns o s short le
+  numbers_wait turns o s aligned le short = begins turns o s aligned le ∙ element_waits depth_left turns o s short le
 
   -- the bytes of m numbers are m elements
   pub numbers_run : (m turns o : ℕ) (bs c : List ℕ) → length bs ≡ m * width k → o + m * width k ≤ end → gap_to (width k) o ≡ 0 → array (m + turns) o (bs ++ c) ≡ array turns (o + m * width k) c
@@ -136,6 +136,6 @@ module _ (bounds : Bounds) (order : Order) (k : NumberCode) (plain : (fds : Opti
       ap (λ (s : List ℕ). array (suc m + turns) o s) split
       ∙ ap (λ (t : ℕ). array t o (take w bs ++ (drop w bs ++ c))) n
       ∙ begins (m + turns) o (take w bs ++ (drop w bs ++ c)) aligned (omega arith)
-      ∙ element_passes room (m + turns) o (take w bs) (drop w bs ++ c) one (omega arith)
+      ∙ element_passes depth_left (m + turns) o (take w bs) (drop w bs ++ c) one (omega arith)
       ∙ numbers_run m turns (o + w) (drop w bs) c others (omega arith) (aligned_more k o aligned)
       ∙ ap (λ (q : ℕ). array turns q c) p

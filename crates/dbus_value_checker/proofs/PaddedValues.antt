@@ -49,14 +49,14 @@ module _ (x : Values) (pos stop : ℕ) (answer : Answer) (w : Wants x pos stop a
 
   module _ (other : code ≡ 118 → ⊥) (a : ℕ) (a_is : (t : TypeTree) → first_code t ≡ code → a ≡ alignment_of t) where
     abbrev begun : Unit {0} → On
-    begun z = own x.bounds x.order x.inner.end (own_of x.inner.room w.type) (works x.bounds x.order (rest_of answer x w.ws) (opened_by x.inner.room x.inner.end w.type))
+    begun z = own x.bounds x.order x.inner.end (own_of x.inner.depth_left w.type) (works x.bounds x.order (rest_of answer x w.ws) (opened_by x.inner.depth_left x.inner.end w.type))
 
     padded_same : (c : List ℕ) → after (padding a x.inner.end x.offset c) begun ≡ answer.to c
     padded_same c =
         let not_variant : w.type ≡ VariantType → ⊥ = λ h. other (sym code_first ∙ ap first_code h) in
         let is : alignment_of w.type ≡ a = sym (a_is w.type code_first) in
         subst (λ (b : ℕ). after (padding b x.inner.end x.offset c) begun ≡ answer.to c) is
-        (sym (value_begins x.bounds x.order x.inner.room x.inner.end w.type x.offset c (rest_of answer x w.ws) not_variant) ∙ w.same c)
+        (sym (value_begins x.bounds x.order x.inner.depth_left x.inner.end w.type x.offset c (rest_of answer x w.ws) not_variant) ∙ w.same c)
 
     pub wants_ready : (s : List ℕ) (n : ℕ) → Fronts (λ (n : ℕ). (tt, n)) x.offset s (Ok n) (padding a x.inner.end) → x.offset + n ≤ x.inner.end → Ready x pos stop n (after_piece answer (take n s))
     wants_ready s n h fits = record {
@@ -120,10 +120,10 @@ module _ (x : Values) (pos stop n : ℕ) (answer : Answer) (r : Ready x pos stop
       (i.low, r.fits, end_small (suc x.offset) x.offset (length x.text.items) x.end x.text.items x.inner (reverse x.frames.items) r.ws r.frames, (let a = i.high in let b = r.stop_is in omega arith))
 
   -- the same, where it is known what it opens
-  ready_as : (o : suspended.Own) (us : List Work) → own_of x.inner.room r.type ≡ o → opened_by x.inner.room x.inner.end r.type ≡ us → (c : List ℕ) → own x.bounds x.order x.inner.end o (works x.bounds x.order (rest_of answer x r.ws) us) (x.offset + n) c ≡ answer.to c
+  ready_as : (o : suspended.Own) (us : List Work) → own_of x.inner.depth_left r.type ≡ o → opened_by x.inner.depth_left x.inner.end r.type ≡ us → (c : List ℕ) → own x.bounds x.order x.inner.end o (works x.bounds x.order (rest_of answer x r.ws) us) (x.offset + n) c ≡ answer.to c
   ready_as o us e d c =
       subst (λ (p : suspended.Own). own x.bounds x.order x.inner.end p (works x.bounds x.order (rest_of answer x r.ws) us) (x.offset + n) c ≡ answer.to c) e
-      (subst (λ (vs : List Work). own x.bounds x.order x.inner.end (own_of x.inner.room r.type) (works x.bounds x.order (rest_of answer x r.ws) vs) (x.offset + n) c ≡ answer.to c) d (r.same c))
+      (subst (λ (vs : List Work). own x.bounds x.order x.inner.end (own_of x.inner.depth_left r.type) (works x.bounds x.order (rest_of answer x r.ws) vs) (x.offset + n) c ≡ answer.to c) d (r.same c))
 
   -- further by at least one byte
   further : (q : ℕ) → x.offset < q → q ≤ x.inner.end → HasFrames q (record x { offset = q }) r.ws
@@ -143,7 +143,7 @@ module _ (x : Values) (pos stop n : ℕ) (answer : Answer) (r : Ready x pos stop
     run = number x.order (width ready_number.0) x.inner.end (number_row x.bounds.fds ready_number.0)
 
     number_same : (c : List ℕ) → onward run (rest_of answer x r.ws) (x.offset + n) c ≡ answer.to c
-    number_same c = ready_as (AHead (ANumber ready_number.0)) [] (own_number x.inner.room r.type ready_number.0 ready_number.1) (opened_number x.inner.room x.inner.end r.type ready_number.0 ready_number.1) c
+    number_same c = ready_as (AHead (ANumber ready_number.0)) [] (own_number x.inner.depth_left r.type ready_number.0 ready_number.1) (opened_number x.inner.depth_left x.inner.end r.type ready_number.0 ready_number.1) c
 
     pub number_goes : (s : List ℕ) (w : ℕ) → Fronts (λ (m : ℕ). (tt, m)) (x.offset + n) s (Ok w) (onward run done) → 0 < w → x.offset + n + w ≤ x.inner.end → Goes (record x { offset = x.offset + n + w }) (after_piece answer (take w s))
     number_goes s w h some fits = record {
@@ -166,12 +166,12 @@ module _ (x : Values) (pos stop n : ℕ) (answer : Answer) (r : Ready x pos stop
 
   module _ (inner : ℕ) where
     abbrev f : Frame
-    f = record { array = false; pos = pos + 1; stop = stop - 1; top = x.inner.top; end = x.inner.end; room = inner }
+    f = record { array = false; pos = pos + 1; stop = stop - 1; top = x.inner.top; end = x.inner.end; depth_left = inner }
 
     abbrev z : Values
     z = record x { offset = x.offset + n }
 
-    parts_wanted : (ts : TypeTrees) → slice x.text.items (pos + 1) (stop - 1) ≡ sigs ts → AreShaped ts → 0 < length (sigs ts) → (pos + 1 + length (sigs ts) ≡ stop - 1) → suc (length x.frames.items) + 2 * inner ≤ 128 → inner ≤ x.inner.room
+    parts_wanted : (ts : TypeTrees) → slice x.text.items (pos + 1) (stop - 1) ≡ sigs ts → AreShaped ts → 0 < length (sigs ts) → (pos + 1 + length (sigs ts) ≡ stop - 1) → suc (length x.frames.items) + 2 * inner ≤ 128 → inner ≤ x.inner.depth_left
         → ((c : List ℕ) → work x.bounds x.order (Parts inner x.inner.end ts) (rest_of answer x r.ws) (x.offset + n) c ≡ answer.to c)
         → Enters x pos stop n inner answer
     parts_wanted ts types complete some size count less same y p q q_is =
@@ -183,7 +183,7 @@ module _ (x : Values) (pos stop n : ℕ) (answer : Answer) (r : Ready x pos stop
           stop_is = (let a = r.stop_is in omega arith);
           pos_is = omega arith;
           count_is = omega arith;
-          room_is = (let a = i.room in omega arith);
+          room_is = (let a = i.depth_left in omega arith);
           is = record { parts = refl; room_is = refl; end_is = refl; types = types; complete = complete };
         } in
         let frames = pushed_frames z y f (suc (x.offset + n)) w r.ws p arrived framed (omega arith) (omega arith) in
@@ -197,18 +197,18 @@ module _ (x : Values) (pos stop n : ℕ) (answer : Answer) (r : Ready x pos stop
         (ap (λ (g : Frame). g.array) p.inner) (omega arith) (let a = i.high in let b = r.stop_is in omega arith)
 
     -- a struct
-    pub struct_opens : code ≡ 40 → x.inner.room ≡ suc inner → Enters x pos stop n inner answer
-    struct_opens is room =
+    pub struct_opens : code ≡ 40 → x.inner.depth_left ≡ suc inner → Enters x pos stop n inner answer
+    struct_opens is depth_left =
         let u = struct_of r.type (ready_first ∙ is) in
         let text : slice x.text.items pos stop ≡ 40 ∷ (sigs u.0 ++ 41 ∷ []) = r.text ∙ ap sig u.1 in
         let i = inner_of x (suc x.offset) r.ws r.frames in
         let inside = slice_inner x.text.items pos stop 40 41 (sigs u.0) r.pos_is ready_offset.3 text in
         parts_wanted u.0 inside.0 (struct_complete x.inner.array r.type u.0 u.1 r.complete) (parts_some x.inner.array r.type u.0 u.1 r.complete) inside.1 (let a = i.count in omega arith) (omega arith)
-        (ready_as Opened (Parts inner x.inner.end u.0 ∷ []) (own_struct x.inner.room inner r.type u.0 u.1 room) (opened_struct x.inner.room inner x.inner.end r.type u.0 u.1 room))
+        (ready_as Opened (Parts inner x.inner.end u.0 ∷ []) (own_struct x.inner.depth_left inner r.type u.0 u.1 depth_left) (opened_struct x.inner.depth_left inner x.inner.end r.type u.0 u.1 depth_left))
 
     -- an entry, which takes no room
-    pub entry_opens : code ≡ 123 → inner ≡ x.inner.room → Enters x pos stop n inner answer
-    entry_opens is room =
+    pub entry_opens : code ≡ 123 → inner ≡ x.inner.depth_left → Enters x pos stop n inner answer
+    entry_opens is depth_left =
         let u = entry_of r.type (ready_first ∙ is) in
         let ts : TypeTrees = MoreTypes u.0 (MoreTypes u.1.0 NoTypes) in
         let text : slice x.text.items pos stop ≡ 123 ∷ (sigs ts ++ 125 ∷ []) = r.text ∙ ap sig u.1.1 ∙ entry_text u.0 u.1.0 in
@@ -217,17 +217,17 @@ module _ (x : Values) (pos stop n : ℕ) (answer : Answer) (r : Ready x pos stop
         let c = entry_complete x.inner.array r.type u.0 u.1.0 u.1.1 r.complete in
         let one : extra x.inner.array ≡ 1 = ap extra c.0 in
         parts_wanted ts inside.0 c.1 (sigs_some u.0 (MoreTypes u.1.0 NoTypes)) inside.1 (let a = i.count in omega arith) (omega arith)
-        (subst (λ (k : ℕ). (c : List ℕ) → work x.bounds x.order (Parts k x.inner.end ts) (rest_of answer x r.ws) (x.offset + n) c ≡ answer.to c) (sym room)
-        (ready_as Opened (Parts x.inner.room x.inner.end ts ∷ []) (own_entry x.inner.room r.type u.0 u.1.0 u.1.1) (opened_entry x.inner.room x.inner.end r.type u.0 u.1.0 u.1.1)))
+        (subst (λ (k : ℕ). (c : List ℕ) → work x.bounds x.order (Parts k x.inner.end ts) (rest_of answer x r.ws) (x.offset + n) c ≡ answer.to c) (sym depth_left)
+        (ready_as Opened (Parts x.inner.depth_left x.inner.end ts ∷ []) (own_entry x.inner.depth_left r.type u.0 u.1.0 u.1.1) (opened_entry x.inner.depth_left x.inner.end r.type u.0 u.1.0 u.1.1)))
 
   -- no room is left
-  pub deep_struct : code ≡ 40 → x.inner.room ≡ 0 → (c : List ℕ) → answer.to c ≡ Faulty (fault (x.offset + n) reasons.TooDeep)
-  deep_struct is room c =
+  pub deep_struct : code ≡ 40 → x.inner.depth_left ≡ 0 → (c : List ℕ) → answer.to c ≡ Faulty (fault (x.offset + n) reasons.TooDeep)
+  deep_struct is depth_left c =
       let u = struct_of r.type (ready_first ∙ is) in
-      sym (ready_as Closed [] (own_deep_struct x.inner.room r.type u.0 u.1 room) (opened_deep_struct x.inner.room x.inner.end r.type u.0 u.1 room) c)
+      sym (ready_as Closed [] (own_deep_struct x.inner.depth_left r.type u.0 u.1 depth_left) (opened_deep_struct x.inner.depth_left x.inner.end r.type u.0 u.1 depth_left) c)
 
   -- there is room for a struct's frame and for an entry's
-  pub bracket_fits : (code ≡ 40) × (0 < x.inner.room) ⊎ (code ≡ 123) → (length x.frames.items < 128) × (pos + 1 < stop - 1) × (1 ≤ stop)
+  pub bracket_fits : (code ≡ 40) × (0 < x.inner.depth_left) ⊎ (code ≡ 123) → (length x.frames.items < 128) × (pos + 1 < stop - 1) × (1 ≤ stop)
   bracket_fits h = elim h [
     | inl h ↦
         let u = struct_of r.type (ready_first ∙ h.0) in
@@ -265,7 +265,7 @@ module _ (x : Values) (pos stop n : ℕ) (answer : Answer) (r : Ready x pos stop
 
     pub element_there : (pos + 1 < stop) × (pos + 1 < length x.text.items)
     element_there =
-        let room = slice_room x.text.items pos stop (97 ∷ sig ready_array.0) r.pos_is array_text in
+        let depth_left = slice_room x.text.items pos stop (97 ∷ sig ready_array.0) r.pos_is array_text in
         let some = ap length (begins ready_array.0) in
         let p = ready_offset in
         let le = p.3 in
@@ -277,10 +277,10 @@ module _ (x : Values) (pos stop n : ℕ) (answer : Answer) (r : Ready x pos stop
         let h = slice_head x.text.items (pos + 1) stop (first_code ready_array.0) (after_code ready_array.0) (omega arith) (element_text ∙ begins ready_array.0) in
         sym h ∙ e
 
-    pub deep_array : x.inner.room ≡ 0 → (c : List ℕ) → answer.to c ≡ Faulty (fault (x.offset + n) reasons.TooDeep)
-    deep_array room c = sym (ready_as Closed [] (own_deep_array x.inner.room r.type ready_array.0 ready_array.1 room) (opened_array x.inner.room x.inner.end r.type ready_array.0 ready_array.1) c)
+    pub deep_array : x.inner.depth_left ≡ 0 → (c : List ℕ) → answer.to c ≡ Faulty (fault (x.offset + n) reasons.TooDeep)
+    deep_array depth_left c = sym (ready_as Closed [] (own_deep_array x.inner.depth_left r.type ready_array.0 ready_array.1 depth_left) (opened_array x.inner.depth_left x.inner.end r.type ready_array.0 ready_array.1) c)
 
-    module _ (inner : ℕ) (room : x.inner.room ≡ suc inner) where
+    module _ (inner : ℕ) (depth_left : x.inner.depth_left ≡ suc inner) where
       abbrev frame : Reader ℕ
       frame = array_frame x.bounds x.order x.inner.end ready_array.0
 
@@ -292,20 +292,20 @@ module _ (x : Values) (pos stop n : ℕ) (answer : Answer) (r : Ready x pos stop
       array_same c =
           after_after (number x.order 4 x.inner.end (array_row x.bounds ready_array.0 x.inner.end) (x.offset + n) c) _ fill
           ∙ after_same (number x.order 4 x.inner.end (array_row x.bounds ready_array.0 x.inner.end) (x.offset + n) c) _ _ (λ size p u. after_after (padding (alignment_of ready_array.0) x.inner.end p u) _ fill)
-          ∙ ready_as (AHead (AnArray inner ready_array.0)) [] (own_array x.inner.room inner r.type ready_array.0 ready_array.1 room) (opened_array x.inner.room x.inner.end r.type ready_array.0 ready_array.1) c
+          ∙ ready_as (AHead (AnArray inner ready_array.0)) [] (own_array x.inner.depth_left inner r.type ready_array.0 ready_array.1 depth_left) (opened_array x.inner.depth_left x.inner.end r.type ready_array.0 ready_array.1) c
 
       pub array_stops : (s : List ℕ) (e : Stop) → Fronts (λ (m : ℕ × ℕ). m) (x.offset + n) s (Err e) frame → Moves x s (Err e) x answer
       array_stops s stops.Partial h = (refl, front_waits (λ (m : ℕ × ℕ). m) (x.offset + n) s frame fill answer.to array_same h)
       array_stops s (stops.Refused f) h = front_refused (λ (m : ℕ × ℕ). m) (x.offset + n) s frame fill answer.to array_same f h
 
       pub array_goes : (y : Values) (s : List ℕ) (size k : ℕ) → Fronts (λ (m : ℕ × ℕ). m) (x.offset + n) s (Ok (size, k)) frame → 4 ≤ k → x.offset + n + k + size ≤ x.inner.end
-          → Pushed (record x { offset = x.offset + n + k }) y (record { array = true; pos = pos + 1; stop = stop; top = x.inner.top; end = x.offset + n + k + size; room = inner })
+          → Pushed (record x { offset = x.offset + n + k }) y (record { array = true; pos = pos + 1; stop = stop; top = x.inner.top; end = x.offset + n + k + size; depth_left = inner })
           → Goes y (after_piece answer (take k s))
       array_goes y s size k h some fits p =
           let q = x.offset + n + k in
           let i = inner_of x (suc x.offset) r.ws r.frames in
           let w : Work = Elements size inner (q + size) ready_array.0 in
-          let g : Frame = record { array = true; pos = pos + 1; stop = stop; top = x.inner.top; end = q + size; room = inner } in
+          let g : Frame = record { array = true; pos = pos + 1; stop = stop; top = x.inner.top; end = q + size; depth_left = inner } in
           let z : Values = record x { offset = q } in
           let some_code = element_there.0 in
           let framed : Framed q q (length x.text.items) (suc (length x.frames.items)) x.text.items g w = record {
@@ -314,7 +314,7 @@ module _ (x : Values) (pos stop n : ℕ) (answer : Answer) (r : Ready x pos stop
             stop_is = r.stop_is;
             pos_is = omega arith;
             count_is = (let a = i.count in omega arith);
-            room_is = (let a = i.room in omega arith);
+            room_is = (let a = i.depth_left in omega arith);
             is = record { elements = refl; room_is = refl; end_is = refl; type = element_text; complete = array_complete x.inner.array r.type ready_array.0 ready_array.1 r.complete; turns_is = omega arith };
           } in
           let frames = pushed_frames z y g q w r.ws p (further q (omega arith) (omega arith)) framed fits (omega arith) in
@@ -343,7 +343,7 @@ module _ (x : Values) (pos stop n : ℕ) (answer : Answer) (r : Ready x pos stop
     lettered size p u = after (text (kind_of ready_text.0) size p u) (λ t. onward nul (rest_of answer x r.ws))
 
     sized_same : (c : List ℕ) → after (sized (x.offset + n) c) lettered ≡ answer.to c
-    sized_same c = ready_as (AHead (ALength ready_text.0)) [] (own_text x.inner.room r.type ready_text.0 ready_text.1) (opened_text x.inner.room x.inner.end r.type ready_text.0 ready_text.1) c
+    sized_same c = ready_as (AHead (ALength ready_text.0)) [] (own_text x.inner.depth_left r.type ready_text.0 ready_text.1) (opened_text x.inner.depth_left x.inner.end r.type ready_text.0 ready_text.1) c
 
     pub text_stops : (s : List ℕ) (e : Stop) → Fronts (λ (m : ℕ × ℕ). m) (x.offset + n) s (Err e) sized → Moves x s (Err e) x answer
     text_stops s stops.Partial h = (refl, front_waits (λ (m : ℕ × ℕ). m) (x.offset + n) s sized lettered answer.to sized_same h)

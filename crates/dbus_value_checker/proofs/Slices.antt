@@ -36,7 +36,7 @@ slice_inner text pos stop c d a h le e =
 
 pub slice_head : (text : List ℕ) (pos stop c : ℕ) (s : List ℕ) → pos ≤ stop → slice text pos stop ≡ c ∷ s → get_or text pos 0 ≡ c
 slice_head text pos stop c s h e =
-    let room = slice_room text pos stop (c ∷ s) h e in
+    let depth_left = slice_room text pos stop (c ∷ s) h e in
     let lt : pos < stop = omega arith in
     let n : length (slice text pos stop) ≡ suc (length s) = ap length e in
     let long : pos < length (take stop text) = omega (arith, n, length-drop pos (take stop text)) in

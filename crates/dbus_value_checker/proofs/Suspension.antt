@@ -17,7 +17,7 @@ use Rattle.dbus_value_model.specs.declared.fault.Reason.{Reason}
 use Rattle.dbus_value_model.specs.declared.fault.Reason.TheVariants as reasons
 use Rattle.dbus_value_model.specs.Items.{fault, text_reason}
 use Rattle.dbus_value_model.specs.ValueItems.{number_row, text_row, array_row}
-use Rattle.dbus_value_model.specs.Reading.{Reader, Outcome, Done, Faulty, Partial, after, zeros, padding, judged, number_of, number, text, nul, up_to, contents, fields, items, signature, value, nowhere}
+use Rattle.dbus_value_model.specs.Reading.{Reader, Outcome, Done, Faulty, Partial, after, zeros, padding, validated, number_of, number, text, nul, up_to, contents, fields, items, signature, value, nowhere}
 use Rattle.dbus_value_laws.proofs.KindLaws.{break_more, computed_whole}
 use Rattle.dbus_value_checker.specs.Suspended.{On, onward, Work, Parts, Elements, elements, work, works, Head, head_width, head_row, tail, head, own, own_of, opened_by, held_on}
 
@@ -56,17 +56,17 @@ elements_up_to (suc turns) end part before next o s =
 pub works_as : (a b : Bounds) (n m : Order) → a ≡ b → n ≡ m → (last : On) (ws : List Work) (q : ℕ) (c : List ℕ) (r : Outcome (Unit {0})) → works b m last ws q c ≡ r → works a n last ws q c ≡ r
 works_as a b n m e d last ws q c r h = rw (e, d) h
 
-pub parts_more : (bounds : Bounds) (order : Order) (room end : ℕ) (t : TypeTree) (ts : TypeTrees) (next : On) (o : ℕ) (s : List ℕ) → work bounds order (Parts room end (MoreTypes t ts)) next o s ≡ onward (value bounds order room end t) (work bounds order (Parts room end ts) next) o s
-parts_more bounds order room end t ts next o s =
-    after_after (value bounds order room end t o s) _ (λ xs. next)
-    ∙ after_same (value bounds order room end t o s) _ _ (λ v p u. after_after (fields (value bounds order room end) ts p u) _ (λ xs. next))
+pub parts_more : (bounds : Bounds) (order : Order) (depth_left end : ℕ) (t : TypeTree) (ts : TypeTrees) (next : On) (o : ℕ) (s : List ℕ) → work bounds order (Parts depth_left end (MoreTypes t ts)) next o s ≡ onward (value bounds order depth_left end t) (work bounds order (Parts depth_left end ts) next) o s
+parts_more bounds order depth_left end t ts next o s =
+    after_after (value bounds order depth_left end t o s) _ (λ xs. next)
+    ∙ after_same (value bounds order depth_left end t o s) _ _ (λ v p u. after_after (fields (value bounds order depth_left end) ts p u) _ (λ xs. next))
 
-pub elements_none : (bounds : Bounds) (order : Order) (turns room end : ℕ) (t : TypeTree) (next : On) (o : ℕ) (s : List ℕ) → o ≡ end → work bounds order (Elements turns room end t) next o s ≡ next o s
-elements_none bounds order zero room end t next o s h = rw (eq-eqb _ _ h) refl
-elements_none bounds order (suc turns) room end t next o s h = let le : end ≤ o = omega arith in rw (le-ltb _ _ le, eq-eqb _ _ h) refl
+pub elements_none : (bounds : Bounds) (order : Order) (turns depth_left end : ℕ) (t : TypeTree) (next : On) (o : ℕ) (s : List ℕ) → o ≡ end → work bounds order (Elements turns depth_left end t) next o s ≡ next o s
+elements_none bounds order zero depth_left end t next o s h = rw (eq-eqb _ _ h) refl
+elements_none bounds order (suc turns) depth_left end t next o s h = let le : end ≤ o = omega arith in rw (le-ltb _ _ le, eq-eqb _ _ h) refl
 
-pub elements_more : (bounds : Bounds) (order : Order) (turns room end : ℕ) (t : TypeTree) (next : On) (o : ℕ) (s : List ℕ) → o < end → work bounds order (Elements (suc turns) room end t) next o s ≡ onward (value bounds order room end t) (work bounds order (Elements turns room end t) next) o s
-elements_more bounds order turns room end t next o s h = rw (lt-ltb _ _ h) refl
+pub elements_more : (bounds : Bounds) (order : Order) (turns depth_left end : ℕ) (t : TypeTree) (next : On) (o : ℕ) (s : List ℕ) → o < end → work bounds order (Elements (suc turns) depth_left end t) next o s ≡ onward (value bounds order depth_left end t) (work bounds order (Elements turns depth_left end t) next) o s
+elements_more bounds order turns depth_left end t next o s h = rw (lt-ltb _ _ h) refl
 
 -- ---- padding
 
@@ -83,24 +83,24 @@ abbrev pub inside : Bounds → Order → ℕ → ℕ → TypeTree → Reader Val
 inside bounds order zero = nowhere
 inside bounds order (suc inner) = value bounds order inner
 
-pub value_items : (bounds : Bounds) (order : Order) (room end : ℕ) (t : TypeTree) (o : ℕ) (s : List ℕ) → value bounds order room end t o s ≡ items bounds order room (inside bounds order room) end t o s
+pub value_items : (bounds : Bounds) (order : Order) (depth_left end : ℕ) (t : TypeTree) (o : ℕ) (s : List ℕ) → value bounds order depth_left end t o s ≡ items bounds order depth_left (inside bounds order depth_left) end t o s
 unfolding value
 value_items bounds order zero end t o s = refl
-value_items bounds order (suc room) end t o s = refl
+value_items bounds order (suc depth_left) end t o s = refl
 
-number_begins : (bounds : Bounds) (order : Order) (room end : ℕ) (k : NumberCode) (o : ℕ) (s : List ℕ) (next : On) → after (items bounds order room (inside bounds order room) end (NumberType k) o s) (λ x. next) ≡ after (padding (width k) end o s) (λ x. own bounds order end (own_of room (NumberType k)) next)
-number_begins bounds order room end k o s next =
+number_begins : (bounds : Bounds) (order : Order) (depth_left end : ℕ) (k : NumberCode) (o : ℕ) (s : List ℕ) (next : On) → after (items bounds order depth_left (inside bounds order depth_left) end (NumberType k) o s) (λ x. next) ≡ after (padding (width k) end o s) (λ x. own bounds order end (own_of depth_left (NumberType k)) next)
+number_begins bounds order depth_left end k o s next =
     bound (padding (width k) end) _ next o s
     ∙ after_same (padding (width k) end o s) _ _ (λ x p u. bound (number order (width k) end (number_row bounds.fds k)) _ next p u)
 
-text_begins : (bounds : Bounds) (order : Order) (room end : ℕ) (k : TextCode) (o : ℕ) (s : List ℕ) (next : On) → after (items bounds order room (inside bounds order room) end (TextType k) o s) (λ x. next) ≡ after (padding (length_width k) end o s) (λ x. own bounds order end (own_of room (TextType k)) next)
-text_begins bounds order room end k o s next =
+text_begins : (bounds : Bounds) (order : Order) (depth_left end : ℕ) (k : TextCode) (o : ℕ) (s : List ℕ) (next : On) → after (items bounds order depth_left (inside bounds order depth_left) end (TextType k) o s) (λ x. next) ≡ after (padding (length_width k) end o s) (λ x. own bounds order end (own_of depth_left (TextType k)) next)
+text_begins bounds order depth_left end k o s next =
     bound (padding (length_width k) end) _ next o s
     ∙ after_same (padding (length_width k) end o s) _ _ (λ x p u. bound (number order (length_width k) end (text_row end)) _ next p u
     ∙ after_same (number order (length_width k) end (text_row end) p u) _ _ (λ n q v. bound (text (kind_of k) n) _ next q v
     ∙ after_same (text (kind_of k) n q v) _ _ (λ t q v. bound nul _ next q v)))
 
-array_begins : (bounds : Bounds) (order : Order) (room end : ℕ) (t : TypeTree) (o : ℕ) (s : List ℕ) (next : On) → after (items bounds order room (inside bounds order room) end (ArrayType t) o s) (λ x. next) ≡ after (padding 4 end o s) (λ x. own bounds order end (own_of room (ArrayType t)) next)
+array_begins : (bounds : Bounds) (order : Order) (depth_left end : ℕ) (t : TypeTree) (o : ℕ) (s : List ℕ) (next : On) → after (items bounds order depth_left (inside bounds order depth_left) end (ArrayType t) o s) (λ x. next) ≡ after (padding 4 end o s) (λ x. own bounds order end (own_of depth_left (ArrayType t)) next)
 array_begins bounds order zero end t o s next = bound (padding 4 end) _ next o s
 array_begins bounds order (suc inner) end t o s next =
     bound (padding 4 end) _ next o s
@@ -109,28 +109,28 @@ array_begins bounds order (suc inner) end t o s next =
     ∙ after_same (padding (alignment_of t) end q v) _ _ (λ x q v. bound (contents n (λ e before. value bounds order inner e t)) _ next q v
     ∙ elements_up_to n (q + n) (value bounds order inner (q + n) t) [] next q v)))
 
-struct_begins : (bounds : Bounds) (order : Order) (room end : ℕ) (ts : TypeTrees) (o : ℕ) (s : List ℕ) (next : On) → after (items bounds order room (inside bounds order room) end (StructType ts) o s) (λ x. next) ≡ after (padding 8 end o s) (λ x. own bounds order end (own_of room (StructType ts)) (works bounds order next (opened_by room end (StructType ts))))
+struct_begins : (bounds : Bounds) (order : Order) (depth_left end : ℕ) (ts : TypeTrees) (o : ℕ) (s : List ℕ) (next : On) → after (items bounds order depth_left (inside bounds order depth_left) end (StructType ts) o s) (λ x. next) ≡ after (padding 8 end o s) (λ x. own bounds order end (own_of depth_left (StructType ts)) (works bounds order next (opened_by depth_left end (StructType ts))))
 struct_begins bounds order zero end ts o s next = bound (padding 8 end) _ next o s
 struct_begins bounds order (suc inner) end ts o s next =
     bound (padding 8 end) _ next o s
     ∙ after_same (padding 8 end o s) _ _ (λ x p u. bound (fields (value bounds order inner end) ts) _ next p u)
 
-pair : (bounds : Bounds) (order : Order) (room end : ℕ) (k v : TypeTree) (o : ℕ) (s : List ℕ) (next : On)
-    → after (items bounds order room (inside bounds order room) end k o s) (λ x p u. after (items bounds order room (inside bounds order room) end v p u) (λ y. next)) ≡ work bounds order (Parts room end (MoreTypes k (MoreTypes v NoTypes))) next o s
-pair bounds order room end k v o s next =
-    let one = parts_more bounds order room end k (MoreTypes v NoTypes) next o s in
-    let two = after_same (value bounds order room end k o s) _ _ (λ x p u. parts_more bounds order room end v NoTypes next p u) in
-    let here = ap (λ (r : Outcome ValueTree). after r (λ x p u. after (value bounds order room end v p u) (λ y. next))) (value_items bounds order room end k o s) in
-    let there = after_same (items bounds order room (inside bounds order room) end k o s) (λ x p u. after (value bounds order room end v p u) (λ y. next)) (λ x p u. after (items bounds order room (inside bounds order room) end v p u) (λ y. next))
-    (λ x p u. ap (λ (r : Outcome ValueTree). after r (λ y. next)) (value_items bounds order room end v p u)) in
+pair : (bounds : Bounds) (order : Order) (depth_left end : ℕ) (k v : TypeTree) (o : ℕ) (s : List ℕ) (next : On)
+    → after (items bounds order depth_left (inside bounds order depth_left) end k o s) (λ x p u. after (items bounds order depth_left (inside bounds order depth_left) end v p u) (λ y. next)) ≡ work bounds order (Parts depth_left end (MoreTypes k (MoreTypes v NoTypes))) next o s
+pair bounds order depth_left end k v o s next =
+    let one = parts_more bounds order depth_left end k (MoreTypes v NoTypes) next o s in
+    let two = after_same (value bounds order depth_left end k o s) _ _ (λ x p u. parts_more bounds order depth_left end v NoTypes next p u) in
+    let here = ap (λ (r : Outcome ValueTree). after r (λ x p u. after (value bounds order depth_left end v p u) (λ y. next))) (value_items bounds order depth_left end k o s) in
+    let there = after_same (items bounds order depth_left (inside bounds order depth_left) end k o s) (λ x p u. after (value bounds order depth_left end v p u) (λ y. next)) (λ x p u. after (items bounds order depth_left (inside bounds order depth_left) end v p u) (λ y. next))
+    (λ x p u. ap (λ (r : Outcome ValueTree). after r (λ y. next)) (value_items bounds order depth_left end v p u)) in
     sym (one ∙ two ∙ here ∙ there)
 
-entry_begins : (bounds : Bounds) (order : Order) (room end : ℕ) (k v : TypeTree) (o : ℕ) (s : List ℕ) (next : On) → after (items bounds order room (inside bounds order room) end (EntryType k v) o s) (λ x. next) ≡ after (padding 8 end o s) (λ x. work bounds order (Parts room end (MoreTypes k (MoreTypes v NoTypes))) next)
-entry_begins bounds order room end k v o s next =
+entry_begins : (bounds : Bounds) (order : Order) (depth_left end : ℕ) (k v : TypeTree) (o : ℕ) (s : List ℕ) (next : On) → after (items bounds order depth_left (inside bounds order depth_left) end (EntryType k v) o s) (λ x. next) ≡ after (padding 8 end o s) (λ x. work bounds order (Parts depth_left end (MoreTypes k (MoreTypes v NoTypes))) next)
+entry_begins bounds order depth_left end k v o s next =
     bound (padding 8 end) _ next o s
-    ∙ after_same (padding 8 end o s) _ _ (λ x p u. bound (items bounds order room (inside bounds order room) end k) _ next p u
-    ∙ after_same (items bounds order room (inside bounds order room) end k p u) _ _ (λ y q v'. bound (items bounds order room (inside bounds order room) end v) _ next q v')
-    ∙ pair bounds order room end k v p u next)
+    ∙ after_same (padding 8 end o s) _ _ (λ x p u. bound (items bounds order depth_left (inside bounds order depth_left) end k) _ next p u
+    ∙ after_same (items bounds order depth_left (inside bounds order depth_left) end k p u) _ _ (λ y q v'. bound (items bounds order depth_left (inside bounds order depth_left) end v) _ next q v')
+    ∙ pair bounds order depth_left end k v p u next)
 
 abbrev held_value : Bounds → Order → ℕ → ℕ → TypeTree → Reader ValueTree
 held_value bounds order inner end held o s = after (nul o s) (λ x o s. after (value bounds order inner end held o s) (λ v. Done (VariantValue v)))
@@ -146,24 +146,24 @@ signature_begins bounds order inner end n o s next =
     ∙ after_after (text (Of kinds.Single) n o s) (λ t. Done (type_spelled t)) (λ held o s. after (held_value bounds order inner end held o s) (λ v. next))
     ∙ after_same (text (Of kinds.Single) n o s) _ _ (λ t q v. held_begins bounds order inner end (type_spelled t) q v next)
 
-variant_begins_at : (bounds : Bounds) (order : Order) (room end : ℕ) (o : ℕ) (s : List ℕ) (next : On) → after (items bounds order room (inside bounds order room) end VariantType o s) (λ x. next) ≡ own bounds order end (own_of room VariantType) next o s
+variant_begins_at : (bounds : Bounds) (order : Order) (depth_left end : ℕ) (o : ℕ) (s : List ℕ) (next : On) → after (items bounds order depth_left (inside bounds order depth_left) end VariantType o s) (λ x. next) ≡ own bounds order end (own_of depth_left VariantType) next o s
 variant_begins_at bounds order zero end o s next = refl
 variant_begins_at bounds order (suc inner) end o s next =
     bound (number order 1 end (text_row end)) _ next o s
     ∙ after_same (number order 1 end (text_row end) o s) _ _ (λ n p u. signature_begins bounds order inner end n p u next)
 
 -- The law of a value: it begins with its padding, or is a variant, and goes on with its own item and the containers that it opens.
-pub value_begins : (bounds : Bounds) (order : Order) (room end : ℕ) (t : TypeTree) (o : ℕ) (s : List ℕ) (next : On) → (t ≡ VariantType → ⊥) → onward (value bounds order room end t) next o s ≡ after (padding (alignment_of t) end o s) (λ x. own bounds order end (own_of room t) (works bounds order next (opened_by room end t)))
-value_begins bounds order room end (NumberType k) o s next h = ap (λ (r : Outcome ValueTree). after r (λ x. next)) (value_items bounds order room end (NumberType k) o s) ∙ number_begins bounds order room end k o s next
-value_begins bounds order room end (TextType k) o s next h = ap (λ (r : Outcome ValueTree). after r (λ x. next)) (value_items bounds order room end (TextType k) o s) ∙ text_begins bounds order room end k o s next
-value_begins bounds order room end VariantType o s next h = absurd (h refl)
-value_begins bounds order room end (ArrayType t) o s next h = ap (λ (r : Outcome ValueTree). after r (λ x. next)) (value_items bounds order room end (ArrayType t) o s) ∙ array_begins bounds order room end t o s next
+pub value_begins : (bounds : Bounds) (order : Order) (depth_left end : ℕ) (t : TypeTree) (o : ℕ) (s : List ℕ) (next : On) → (t ≡ VariantType → ⊥) → onward (value bounds order depth_left end t) next o s ≡ after (padding (alignment_of t) end o s) (λ x. own bounds order end (own_of depth_left t) (works bounds order next (opened_by depth_left end t)))
+value_begins bounds order depth_left end (NumberType k) o s next h = ap (λ (r : Outcome ValueTree). after r (λ x. next)) (value_items bounds order depth_left end (NumberType k) o s) ∙ number_begins bounds order depth_left end k o s next
+value_begins bounds order depth_left end (TextType k) o s next h = ap (λ (r : Outcome ValueTree). after r (λ x. next)) (value_items bounds order depth_left end (TextType k) o s) ∙ text_begins bounds order depth_left end k o s next
+value_begins bounds order depth_left end VariantType o s next h = absurd (h refl)
+value_begins bounds order depth_left end (ArrayType t) o s next h = ap (λ (r : Outcome ValueTree). after r (λ x. next)) (value_items bounds order depth_left end (ArrayType t) o s) ∙ array_begins bounds order depth_left end t o s next
 value_begins bounds order zero end (StructType ts) o s next h = ap (λ (r : Outcome ValueTree). after r (λ x. next)) (value_items bounds order zero end (StructType ts) o s) ∙ struct_begins bounds order zero end ts o s next
-value_begins bounds order (suc room) end (StructType ts) o s next h = ap (λ (r : Outcome ValueTree). after r (λ x. next)) (value_items bounds order (suc room) end (StructType ts) o s) ∙ struct_begins bounds order (suc room) end ts o s next
-value_begins bounds order room end (EntryType k v) o s next h = ap (λ (r : Outcome ValueTree). after r (λ x. next)) (value_items bounds order room end (EntryType k v) o s) ∙ entry_begins bounds order room end k v o s next
+value_begins bounds order (suc depth_left) end (StructType ts) o s next h = ap (λ (r : Outcome ValueTree). after r (λ x. next)) (value_items bounds order (suc depth_left) end (StructType ts) o s) ∙ struct_begins bounds order (suc depth_left) end ts o s next
+value_begins bounds order depth_left end (EntryType k v) o s next h = ap (λ (r : Outcome ValueTree). after r (λ x. next)) (value_items bounds order depth_left end (EntryType k v) o s) ∙ entry_begins bounds order depth_left end k v o s next
 
-pub variant_begins : (bounds : Bounds) (order : Order) (room end : ℕ) (o : ℕ) (s : List ℕ) (next : On) → onward (value bounds order room end VariantType) next o s ≡ own bounds order end (own_of room VariantType) next o s
-variant_begins bounds order room end o s next = ap (λ (r : Outcome ValueTree). after r (λ x. next)) (value_items bounds order room end VariantType o s) ∙ variant_begins_at bounds order room end o s next
+pub variant_begins : (bounds : Bounds) (order : Order) (depth_left end : ℕ) (o : ℕ) (s : List ℕ) (next : On) → onward (value bounds order depth_left end VariantType) next o s ≡ own bounds order end (own_of depth_left VariantType) next o s
+variant_begins bounds order depth_left end o s next = ap (λ (r : Outcome ValueTree). after r (λ x. next)) (value_items bounds order depth_left end VariantType o s) ∙ variant_begins_at bounds order depth_left end o s next
 
 -- ---- a number
 
@@ -176,7 +176,7 @@ module _ (order : Order) (w end : ℕ) (row : ℕ → ℕ → Option Reason) whe
   unfolding number
   number_over p s over = rw (lt-ltb _ _ over, number) refl
 
-  pub number_read : (p : ℕ) (got c : List ℕ) → length got ≡ w → p + w ≤ end → number order w end row p (got ++ c) ≡ judged (row (p + w) (number_of order got)) (number_of order got) p (p + w) c
+  pub number_read : (p : ℕ) (got c : List ℕ) → length got ≡ w → p + w ≤ end → number order w end row p (got ++ c) ≡ validated (row (p + w) (number_of order got)) (number_of order got) p (p + w) c
   unfolding number
   number_read p got c whole fits =
       let long : w ≤ length (got ++ c) = omega (arith, length-append got c) in
@@ -232,4 +232,4 @@ module _ (bounds : Bounds) (order : Order) (end : ℕ) where
   pub head_passed : (h : Head) (next : On) (p : ℕ) (got c : List ℕ) → length got ≡ head_width h → p + head_width h ≤ end → head_row bounds end h (p + head_width h) (number_of order got) ≡ None → head bounds order end h next p (got ++ c) ≡ tail bounds order end h next (number_of order got) (p + head_width h) c
   head_passed h next p got c whole fits row =
       ap (λ (r : Outcome ℕ). after r (tail bounds order end h next)) (number_read order (head_width h) end (head_row bounds end h) p got c whole fits
-      ∙ ap (λ (j : Option Reason). judged j (number_of order got) p (p + head_width h) c) row)
+      ∙ ap (λ (j : Option Reason). validated j (number_of order got) p (p + head_width h) c) row)

@@ -36,46 +36,46 @@ number_type (EntryType k v) c e n1 n2 n3 n4 n5 n6 n7 = absurd (n3 (sym e))
 
 -- ---- what is opened, and which types are complete
 
-pub own_text : (room : ℕ) (t : TypeTree) (k : TextCode) → t ≡ TextType k → own_of room t ≡ AHead (ALength k)
+pub own_text : (depth_left : ℕ) (t : TypeTree) (k : TextCode) → t ≡ TextType k → own_of depth_left t ≡ AHead (ALength k)
 own_text zero t k e = rw e refl
-own_text (suc room) t k e = rw e refl
+own_text (suc depth_left) t k e = rw e refl
 
-pub opened_text : (room end : ℕ) (t : TypeTree) (k : TextCode) → t ≡ TextType k → opened_by room end t ≡ []
+pub opened_text : (depth_left end : ℕ) (t : TypeTree) (k : TextCode) → t ≡ TextType k → opened_by depth_left end t ≡ []
 opened_text zero end t k e = rw e refl
-opened_text (suc room) end t k e = rw e refl
+opened_text (suc depth_left) end t k e = rw e refl
 
-pub own_number : (room : ℕ) (t : TypeTree) (k : NumberCode) → t ≡ NumberType k → own_of room t ≡ AHead (ANumber k)
+pub own_number : (depth_left : ℕ) (t : TypeTree) (k : NumberCode) → t ≡ NumberType k → own_of depth_left t ≡ AHead (ANumber k)
 own_number zero t k e = rw e refl
-own_number (suc room) t k e = rw e refl
+own_number (suc depth_left) t k e = rw e refl
 
-pub opened_number : (room end : ℕ) (t : TypeTree) (k : NumberCode) → t ≡ NumberType k → opened_by room end t ≡ []
+pub opened_number : (depth_left end : ℕ) (t : TypeTree) (k : NumberCode) → t ≡ NumberType k → opened_by depth_left end t ≡ []
 opened_number zero end t k e = rw e refl
-opened_number (suc room) end t k e = rw e refl
+opened_number (suc depth_left) end t k e = rw e refl
 
-pub own_array : (room inner : ℕ) (t u : TypeTree) → t ≡ ArrayType u → room ≡ suc inner → own_of room t ≡ AHead (AnArray inner u)
-own_array room inner t u e d = rw (e, d) refl
+pub own_array : (depth_left inner : ℕ) (t u : TypeTree) → t ≡ ArrayType u → depth_left ≡ suc inner → own_of depth_left t ≡ AHead (AnArray inner u)
+own_array depth_left inner t u e d = rw (e, d) refl
 
-pub own_deep_array : (room : ℕ) (t u : TypeTree) → t ≡ ArrayType u → room ≡ 0 → own_of room t ≡ Closed
-own_deep_array room t u e d = rw (e, d) refl
+pub own_deep_array : (depth_left : ℕ) (t u : TypeTree) → t ≡ ArrayType u → depth_left ≡ 0 → own_of depth_left t ≡ Closed
+own_deep_array depth_left t u e d = rw (e, d) refl
 
-pub own_deep_struct : (room : ℕ) (t : TypeTree) (ts : TypeTrees) → t ≡ StructType ts → room ≡ 0 → own_of room t ≡ Closed
-own_deep_struct room t ts e d = rw (e, d) refl
+pub own_deep_struct : (depth_left : ℕ) (t : TypeTree) (ts : TypeTrees) → t ≡ StructType ts → depth_left ≡ 0 → own_of depth_left t ≡ Closed
+own_deep_struct depth_left t ts e d = rw (e, d) refl
 
-pub own_struct : (room inner : ℕ) (t : TypeTree) (ts : TypeTrees) → t ≡ StructType ts → room ≡ suc inner → own_of room t ≡ Opened
-own_struct room inner t ts e d = rw (e, d) refl
+pub own_struct : (depth_left inner : ℕ) (t : TypeTree) (ts : TypeTrees) → t ≡ StructType ts → depth_left ≡ suc inner → own_of depth_left t ≡ Opened
+own_struct depth_left inner t ts e d = rw (e, d) refl
 
-pub opened_array : (room end : ℕ) (t u : TypeTree) → t ≡ ArrayType u → opened_by room end t ≡ []
-opened_array room end t u e = rw e (opened_nothing room end u)
+pub opened_array : (depth_left end : ℕ) (t u : TypeTree) → t ≡ ArrayType u → opened_by depth_left end t ≡ []
+opened_array depth_left end t u e = rw e (opened_nothing depth_left end u)
   where
-    opened_nothing : (room end : ℕ) (u : TypeTree) → opened_by room end (ArrayType u) ≡ []
+    opened_nothing : (depth_left end : ℕ) (u : TypeTree) → opened_by depth_left end (ArrayType u) ≡ []
     opened_nothing zero end u = refl
-    opened_nothing (suc room) end u = refl
+    opened_nothing (suc depth_left) end u = refl
 
-pub opened_deep_struct : (room end : ℕ) (t : TypeTree) (ts : TypeTrees) → t ≡ StructType ts → room ≡ 0 → opened_by room end t ≡ []
-opened_deep_struct room end t ts e d = rw (e, d) refl
+pub opened_deep_struct : (depth_left end : ℕ) (t : TypeTree) (ts : TypeTrees) → t ≡ StructType ts → depth_left ≡ 0 → opened_by depth_left end t ≡ []
+opened_deep_struct depth_left end t ts e d = rw (e, d) refl
 
-pub opened_struct : (room inner end : ℕ) (t : TypeTree) (ts : TypeTrees) → t ≡ StructType ts → room ≡ suc inner → opened_by room end t ≡ Parts inner end ts ∷ []
-opened_struct room inner end t ts e d = rw (e, d) refl
+pub opened_struct : (depth_left inner end : ℕ) (t : TypeTree) (ts : TypeTrees) → t ≡ StructType ts → depth_left ≡ suc inner → opened_by depth_left end t ≡ Parts inner end ts ∷ []
+opened_struct depth_left inner end t ts e d = rw (e, d) refl
 
 pub array_complete : (b : Bool) (t u : TypeTree) → t ≡ ArrayType u → IsShaped b t → IsShaped true u
 array_complete b t u e h = complete_inside b u (subst (λ (v : TypeTree). IsShaped b v) e h)
@@ -93,19 +93,19 @@ struct_complete b t ts e h = complete_parts b ts (subst (λ (v : TypeTree). IsSh
     complete_parts true (MoreTypes t ts) h = h
     complete_parts false (MoreTypes t ts) h = h
 
-pub own_entry : (room : ℕ) (t k v : TypeTree) → t ≡ EntryType k v → own_of room t ≡ Opened
-own_entry room t k v e = rw e (entry_opens room k v)
+pub own_entry : (depth_left : ℕ) (t k v : TypeTree) → t ≡ EntryType k v → own_of depth_left t ≡ Opened
+own_entry depth_left t k v e = rw e (entry_opens depth_left k v)
   where
-    entry_opens : (room : ℕ) (k v : TypeTree) → own_of room (EntryType k v) ≡ Opened
+    entry_opens : (depth_left : ℕ) (k v : TypeTree) → own_of depth_left (EntryType k v) ≡ Opened
     entry_opens zero k v = refl
-    entry_opens (suc room) k v = refl
+    entry_opens (suc depth_left) k v = refl
 
-pub opened_entry : (room end : ℕ) (t k v : TypeTree) → t ≡ EntryType k v → opened_by room end t ≡ Parts room end (MoreTypes k (MoreTypes v NoTypes)) ∷ []
-opened_entry room end t k v e = rw e (entry_opened room end k v)
+pub opened_entry : (depth_left end : ℕ) (t k v : TypeTree) → t ≡ EntryType k v → opened_by depth_left end t ≡ Parts depth_left end (MoreTypes k (MoreTypes v NoTypes)) ∷ []
+opened_entry depth_left end t k v e = rw e (entry_opened depth_left end k v)
   where
-    entry_opened : (room end : ℕ) (k v : TypeTree) → opened_by room end (EntryType k v) ≡ Parts room end (MoreTypes k (MoreTypes v NoTypes)) ∷ []
+    entry_opened : (depth_left end : ℕ) (k v : TypeTree) → opened_by depth_left end (EntryType k v) ≡ Parts depth_left end (MoreTypes k (MoreTypes v NoTypes)) ∷ []
     entry_opened zero end k v = refl
-    entry_opened (suc room) end k v = refl
+    entry_opened (suc depth_left) end k v = refl
 
 pub entry_text : (k v : TypeTree) → sig (EntryType k v) ≡ 123 ∷ (sigs (MoreTypes k (MoreTypes v NoTypes)) ++ 125 ∷ [])
 entry_text k v = simp (append_assoc, append-nil)

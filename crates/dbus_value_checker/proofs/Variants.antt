@@ -1,5 +1,5 @@
 -- A variant's signature is noted after those that are in use.
-use Rattle.std.proofs.Common.{◌≡◌, ℕ, suc, ◌+◌, ◌*◌, ◌<◌, ◌≤◌, List, [], ◌∷◌, ◌++◌, length, reverse, take, drop, get_or, false, Ok, Err, refl, sym, ap, subst, ◌∙◌, arith}
+use Rattle.std.proofs.Common.{◌≡◌, ℕ, suc, ◌+◌, ◌≤◌, List, [], ◌∷◌, ◌++◌, length, reverse, take, drop, get_or, false, Ok, Err, refl, sym, ap, subst, ◌∙◌, arith}
 use Rattle.std.proofs.lemmas.List.{reverse-append, length-append, length-reverse, length-take, take-take, take_at, drop_at, take_all, append-nil}
 use Rattle.dbus_texts.specs.Types.{TypeTree, VariantType, NoTypes, MoreTypes, sig, sigs}
 use Rattle.dbus_texts.specs.ComputedKinds.{type_spelled}
@@ -22,7 +22,7 @@ use Rattle.dbus_value_checker.specs.Frames.{slice, IsFrame, Framed, AreFrames, A
 use Rattle.dbus_value_checker.specs.Denotations.{Answer, rest_of, Goes, Wants, after_piece}
 use Rattle.dbus_value_checker.specs.Moves.{Moves}
 use Rattle.dbus_value_checker.proofs.Suspension.{works_as, variant_begins, after_after, after_same, parts_more}
-use Rattle.dbus_value_checker.proofs.FrameLaws.{frames_reach, end_small, inner_of, within}
+use Rattle.dbus_value_checker.proofs.FrameLaws.{frames_reach, inner_of, within}
 use Rattle.dbus_types.proofs.TypeCodes.{variant_is}
 use Rattle.dbus_types.specs.TypeLengths.{AreLengths}
 use Rattle.dbus_value_checker.proofs.Notes.{notes_same, after_noted, same_notes}
@@ -35,8 +35,8 @@ slice_same : (a b : List ℕ) (pos stop top : ℕ) → stop ≤ top → take top
 slice_same a b pos stop top h e = ap (drop pos) (sym (take-take stop top a h) ∙ ap (take stop) e ∙ take-take stop top b h)
 
 frame_same : (reach : ℕ) (a b : List ℕ) (f : Frame) (w : Work) → slice a f.pos f.stop ≡ slice b f.pos f.stop → IsFrame reach a f w → IsFrame reach b f w
-frame_same reach a b f (Parts room end ts) e h = record { parts = h.parts; room_is = h.room_is; end_is = h.end_is; types = sym e ∙ h.types; complete = h.complete }
-frame_same reach a b f (Elements turns room end t) e h = record { elements = h.elements; room_is = h.room_is; end_is = h.end_is; type = sym e ∙ h.type; complete = h.complete; turns_is = h.turns_is }
+frame_same reach a b f (Parts depth_left end ts) e h = record { parts = h.parts; room_is = h.room_is; end_is = h.end_is; types = sym e ∙ h.types; complete = h.complete }
+frame_same reach a b f (Elements turns depth_left end t) e h = record { elements = h.elements; room_is = h.room_is; end_is = h.end_is; type = sym e ∙ h.type; complete = h.complete; turns_is = h.turns_is }
 
 shorter : (a b : List ℕ) (m n : ℕ) → m ≤ n → take n a ≡ take n b → take m a ≡ take m b
 shorter a b m n h e = sym (take-take m n a h) ∙ ap (take m) e ∙ take-take m n b h
@@ -61,21 +61,16 @@ frames_same reach low high bottom a b (f ∷ fs) [] e h = absurd h
 -- ---- a variant that is wanted
 
 module _ (x : Values) (pos stop : ℕ) (answer : Answer) (w : Wants x pos stop answer) (there : get_or x.text.items pos 0 ≡ 118) where
-  variant_same : (c : List ℕ) → own x.bounds x.order x.inner.end (own_of x.inner.room VariantType) (rest_of answer x w.ws) x.offset c ≡ answer.to c
+  variant_same : (c : List ℕ) → own x.bounds x.order x.inner.end (own_of x.inner.depth_left VariantType) (rest_of answer x w.ws) x.offset c ≡ answer.to c
   variant_same c =
       let e = variant_is w.type (code_first x pos stop answer w 118 there) in
-      sym (variant_begins x.bounds x.order x.inner.room x.inner.end x.offset c (rest_of answer x w.ws))
-      ∙ subst (λ (t : TypeTree). onward (value x.bounds x.order x.inner.room x.inner.end t) (rest_of answer x w.ws) x.offset c ≡ answer.to c) e (w.same c)
+      sym (variant_begins x.bounds x.order x.inner.depth_left x.inner.end x.offset c (rest_of answer x w.ws))
+      ∙ subst (λ (t : TypeTree). onward (value x.bounds x.order x.inner.depth_left x.inner.end t) (rest_of answer x w.ws) x.offset c ≡ answer.to c) e (w.same c)
 
-  pub variant_deep : x.inner.room ≡ 0 → (c : List ℕ) → answer.to c ≡ Faulty (fault x.offset reasons.TooDeep)
+  pub variant_deep : x.inner.depth_left ≡ 0 → (c : List ℕ) → answer.to c ≡ Faulty (fault x.offset reasons.TooDeep)
   variant_deep none c = sym (subst (λ (r : ℕ). own x.bounds x.order x.inner.end (own_of r VariantType) (rest_of answer x w.ws) x.offset c ≡ answer.to c) none (variant_same c))
 
-  pub variant_known : (x.offset ≤ x.inner.end) × (x.inner.end < 18446744073709551616) × (length x.frames.items + 2 * x.inner.room ≤ 128) × (x.inner.top ≤ length x.text.items) × (x.inner.top + 255 * x.inner.room ≤ 16575)
-  variant_known =
-      let i = inner_of x (suc x.offset) w.ws w.frames in
-      (i.low, end_small (suc x.offset) x.offset (length x.text.items) x.end x.text.items x.inner (reverse x.frames.items) w.ws w.frames, (let a = i.count in omega arith), i.high, (let a = i.room in omega arith))
-
-  module _ (inner : ℕ) (room : x.inner.room ≡ suc inner) where
+  module _ (inner : ℕ) (depth_left : x.inner.depth_left ≡ suc inner) where
     abbrev read : Reader (List ℕ)
     read = held_text x.order x.inner.end
 
@@ -89,7 +84,7 @@ module _ (x : Values) (pos stop : ℕ) (answer : Answer) (w : Wants x pos stop a
         ∙ after_same (number x.order 1 x.inner.end (text_row x.inner.end) x.offset c) _ _ (λ n p u.
         after_after (text (Of kinds.Single) n p u) _ held
         ∙ after_same (text (Of kinds.Single) n p u) _ _ (λ t q v. after_after (nul q v) _ held))
-        ∙ subst (λ (r : ℕ). own x.bounds x.order x.inner.end (own_of r VariantType) rest x.offset c ≡ answer.to c) room (variant_same c)
+        ∙ subst (λ (r : ℕ). own x.bounds x.order x.inner.end (own_of r VariantType) rest x.offset c ≡ answer.to c) depth_left (variant_same c)
 
     pub variant_stops : (s : List ℕ) (e : Stop) → Fronts (λ (n : ℕ). (take n (drop 1 s), n + 2)) x.offset s (Err e) read → Moves x s (Err e) x answer
     variant_stops s stops.Partial h = (refl, front_waits (λ (n : ℕ). (take n (drop 1 s), n + 2)) x.offset s read held answer.to held_same h)
@@ -100,12 +95,12 @@ module _ (x : Values) (pos stop : ℕ) (answer : Answer) (w : Wants x pos stop a
       t = take n (drop 1 s)
 
       pub variant_goes : (y : Values) (more : List ℕ) → AreLengths (take n (drop 1 s)) more → y.lengths.items ≡ take x.inner.top x.lengths.items ++ more → y.bounds ≡ x.bounds → y.order ≡ x.order → y.end ≡ x.end → y.offset ≡ x.offset + (n + 2) → y.text.items ≡ take x.inner.top x.text.items ++ take n (drop 1 s) → y.frames.items ≡ x.frames.items ++ x.inner ∷ []
-          → y.inner ≡ record { array = false; pos = x.inner.top; stop = x.inner.top + n; top = x.inner.top + n; end = x.inner.end; room = inner } → Goes y (after_piece answer (take (n + 2) s))
+          → y.inner ≡ record { array = false; pos = x.inner.top; stop = x.inner.top + n; top = x.inner.top + n; end = x.inner.end; depth_left = inner } → Goes y (after_piece answer (take (n + 2) s))
       unfolding t
       variant_goes y more told lengths_are bounds order end offset text_is frames_are inner_is =
           let i = inner_of x (suc x.offset) w.ws w.frames in
           let q = x.offset + (n + 2) in
-          let g : Frame = record { array = false; pos = x.inner.top; stop = x.inner.top + n; top = x.inner.top + n; end = x.inner.end; room = inner } in
+          let g : Frame = record { array = false; pos = x.inner.top; stop = x.inner.top + n; top = x.inner.top + n; end = x.inner.end; depth_left = inner } in
           let single = single_text t kind in
           let work_is : Work = Parts inner x.inner.end (MoreTypes (type_spelled t) NoTypes) in
           let old = x.text.items in
@@ -126,7 +121,7 @@ module _ (x : Values) (pos stop : ℕ) (answer : Answer) (w : Wants x pos stop a
             stop_is = omega arith;
             pos_is = omega arith;
             count_is = (let a = i.count in omega arith);
-            room_is = (let a = i.room in omega arith);
+            room_is = (let a = i.depth_left in omega arith);
             is = record { parts = refl; room_is = refl; end_is = refl; types = sig_there; complete = (shaped_of (type_spelled t) false 0 0 single.0.0, tt) };
           } in
           let below : AreFrames q x.inner.end (x.inner.top + n) x.end new (x.inner ∷ reverse x.frames.items) w.ws =

@@ -51,7 +51,7 @@ pub record Wants (x : Values) (pos stop : ℕ) (answer : Answer) : Type 0 where
   pub complete : IsShaped (x.inner.array) type
   pub pos_is : pos ≤ stop
   pub stop_is : stop ≤ x.inner.top
-  pub same : (c : List ℕ) → onward (value x.bounds x.order x.inner.room x.inner.end type) (rest_of answer x ws) x.offset c ≡ answer.to c
+  pub same : (c : List ℕ) → onward (value x.bounds x.order x.inner.depth_left x.inner.end type) (rest_of answer x ws) x.offset c ≡ answer.to c
 
 -- a value of the type that stands there is wanted, and so many bytes of padding before it are there
 pub record Ready (x : Values) (pos stop n : ℕ) (answer : Answer) : Type 0 where
@@ -65,7 +65,7 @@ pub record Ready (x : Values) (pos stop n : ℕ) (answer : Answer) : Type 0 wher
   pub pos_is : pos ≤ stop
   pub stop_is : stop ≤ x.inner.top
   pub fits : x.offset + n ≤ x.inner.end
-  pub same : (c : List ℕ) → own x.bounds x.order x.inner.end (own_of x.inner.room type) (works x.bounds x.order (rest_of answer x ws) (opened_by x.inner.room x.inner.end type)) (x.offset + n) c ≡ answer.to c
+  pub same : (c : List ℕ) → own x.bounds x.order x.inner.end (own_of x.inner.depth_left type) (works x.bounds x.order (rest_of answer x ws) (opened_by x.inner.depth_left x.inner.end type)) (x.offset + n) c ≡ answer.to c
 
 -- so many bytes of a text of a type are wanted
 pub record Texts (x : Values) (code left : ℕ) (answer : Answer) : Type 0 where
@@ -97,15 +97,15 @@ pub record Numbers (x : Values) (w : ℕ) (answer : Answer) : Type 0 where
   pub ws : List Work
   pub code : NumberCode
   pub turns : ℕ
-  pub room : ℕ
+  pub depth_left : ℕ
   pub stop : ℕ
   pub width_is : width code ≡ w
-  pub plain : (fds : Option ℕ) (p n : ℕ) → number_row fds code p n ≡ None
-  pub frames : HasFrames x.offset x (Elements turns room stop (NumberType code) ∷ ws)
+  pub plain : (index_limit : Option ℕ) (p n : ℕ) → number_row index_limit code p n ≡ None
+  pub frames : HasFrames x.offset x (Elements turns depth_left stop (NumberType code) ∷ ws)
   pub noted : HasNotes x
   pub aligned : gap_to w x.offset ≡ 0
   pub more : x.offset + w ≤ x.inner.end
-  pub same : (c : List ℕ) → rest_of answer x (Elements turns room stop (NumberType code) ∷ ws) x.offset c ≡ answer.to c
+  pub same : (c : List ℕ) → rest_of answer x (Elements turns depth_left stop (NumberType code) ∷ ws) x.offset c ≡ answer.to c
 
 abbrev pub denotes : Doing → Values → Answer → Type 0
 denotes (doing.Wanted pos stop) x answer = Wants x pos stop answer

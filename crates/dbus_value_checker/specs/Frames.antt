@@ -18,25 +18,25 @@ AreNoted text lengths [] = Unit {0}
 AreNoted text lengths (f ∷ fs) = IsNoted text lengths f.pos f.stop × AreNoted text lengths fs
 
 -- a frame whose values of these types are still wanted
-pub record IsParts (text : List ℕ) (f : Frame) (room end : ℕ) (ts : TypeTrees) : Type 0 where
+pub record IsParts (text : List ℕ) (f : Frame) (depth_left end : ℕ) (ts : TypeTrees) : Type 0 where
   pub parts : f.array ≡ false
-  pub room_is : f.room ≡ room
+  pub room_is : f.depth_left ≡ depth_left
   pub end_is : f.end ≡ end
   pub types : slice text f.pos f.stop ≡ sigs ts
   pub complete : AreShaped ts
 
 -- a frame of an array; the turns are enough for the bytes from reach on
-pub record IsElements (reach : ℕ) (text : List ℕ) (f : Frame) (turns room end : ℕ) (t : TypeTree) : Type 0 where
+pub record IsElements (reach : ℕ) (text : List ℕ) (f : Frame) (turns depth_left end : ℕ) (t : TypeTree) : Type 0 where
   pub elements : f.array ≡ true
-  pub room_is : f.room ≡ room
+  pub room_is : f.depth_left ≡ depth_left
   pub end_is : f.end ≡ end
   pub type : slice text f.pos f.stop ≡ sig t
   pub complete : IsShaped true t
   pub turns_is : f.end ≤ reach + turns
 
 abbrev pub IsFrame : ℕ → List ℕ → Frame → Work → Type 0
-IsFrame reach text f (Parts room end ts) = IsParts text f room end ts
-IsFrame reach text f (Elements turns room end t) = IsElements reach text f turns room end t
+IsFrame reach text f (Parts depth_left end ts) = IsParts text f depth_left end ts
+IsFrame reach text f (Elements turns depth_left end t) = IsElements reach text f turns depth_left end t
 
 -- an array may have one frame more within it than its room says: that of a dict entry, which takes no room
 abbrev pub extra : Bool → ℕ
@@ -50,8 +50,8 @@ pub record Framed (reach low high count : ℕ) (text : List ℕ) (f : Frame) (w 
   pub high_is : f.top ≤ high
   pub stop_is : f.stop ≤ f.top
   pub pos_is : f.pos ≤ f.stop
-  pub count_is : count + extra f.array + 2 * f.room ≤ 128
-  pub room_is : f.top + 255 * f.room ≤ 255 * 65
+  pub count_is : count + extra f.array + 2 * f.depth_left ≤ 128
+  pub room_is : f.top + 255 * f.depth_left ≤ 255 * 65
   pub is : IsFrame reach text f w
 
 -- the innermost first; each ends within the next, and the outermost at bottom or earlier

@@ -39,9 +39,9 @@ pub record Pushed (x y : Values) (f : Frame) : Type 0 where
   pub frames : y.frames.items ≡ x.frames.items ++ x.inner ∷ []
 
 -- once a frame is pushed for what stands within the brackets at pos, n bytes further, its first part is wanted
-abbrev pub Enters : Values → (pos stop n room : ℕ) → Answer → Type 0
-Enters x pos stop n room answer =
-    (y : Values) → Pushed (record x { offset = x.offset + n }) y (record { array = false; pos = pos + 1; stop = stop - 1; top = x.inner.top; end = x.inner.end; room = room })
+abbrev pub Enters : Values → (pos stop n depth_left : ℕ) → Answer → Type 0
+Enters x pos stop n depth_left answer =
+    (y : Values) → Pushed (record x { offset = x.offset + n }) y (record { array = false; pos = pos + 1; stop = stop - 1; top = x.inner.top; end = x.inner.end; depth_left = depth_left })
     → (q : ℕ) → IsTypeEnd (take y.inner.stop y.text.items) y.inner.pos q → Wants (record y { inner = record y.inner { pos = q } }) y.inner.pos q answer
 
 -- something is wanted still
@@ -53,8 +53,8 @@ IsLive doing.Nul = Unit {0}
 IsLive doing.Over = ⊥
 
 -- values of these types, from an offset on, and then the last
-abbrev pub values_on : Bounds → Order → (room end : ℕ) → TypeTrees → On → ℕ → Answer
-values_on bounds order room end ts last offset = record { last = last; to = onward (fields (value bounds order room end) ts) last offset }
+abbrev pub values_on : Bounds → Order → (depth_left end : ℕ) → TypeTrees → On → ℕ → Answer
+values_on bounds order depth_left end ts last offset = record { last = last; to = onward (fields (value bounds order depth_left end) ts) last offset }
 
 -- nothing is wanted, and then the last
 abbrev pub nothing_on : On → ℕ → Answer

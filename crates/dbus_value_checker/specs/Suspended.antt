@@ -31,8 +31,8 @@ done o s = Done tt o s
 
 -- one that is open: the types of the parts that are still wanted, or an array with at most so many elements to come
 pub data Work : Type 0 where
-  Parts : (room end : ℕ) → TypeTrees → Work
-  Elements : (turns room end : ℕ) → TypeTree → Work
+  Parts : (depth_left end : ℕ) → TypeTrees → Work
+  Elements : (turns depth_left end : ℕ) → TypeTree → Work
 
 abbrev pub elements : ℕ → ℕ → Reader ValueTree → On → On
 elements zero end part next o s = if nat_eq o end then next o s else Partial
@@ -40,8 +40,8 @@ elements (suc turns) end part next o s =
     if nat_lt o end then after (part o s) (λ v. elements turns end part next) else if nat_eq o end then next o s else Partial
 
 abbrev pub work : Bounds → Order → Work → On → On
-work bounds order (Parts room end ts) next = onward (fields (value bounds order room end) ts) next
-work bounds order (Elements turns room end t) next = elements turns end (value bounds order room end t) next
+work bounds order (Parts depth_left end ts) next = onward (fields (value bounds order depth_left end) ts) next
+work bounds order (Elements turns depth_left end t) next = elements turns end (value bounds order depth_left end t) next
 
 -- the innermost first
 abbrev pub works : Bounds → Order → On → List Work → On
@@ -100,22 +100,22 @@ own bounds order end Closed next = λ o s. Faulty (fault o reasons.TooDeep)
 
 -- a value's
 abbrev pub own_of : ℕ → TypeTree → Own
-own_of room (NumberType k) = AHead (ANumber k)
-own_of room (TextType k) = AHead (ALength k)
+own_of depth_left (NumberType k) = AHead (ANumber k)
+own_of depth_left (TextType k) = AHead (ALength k)
 own_of zero VariantType = Closed
 own_of (suc inner) VariantType = AHead (AVariant inner)
 own_of zero (ArrayType t) = Closed
 own_of (suc inner) (ArrayType t) = AHead (AnArray inner t)
 own_of zero (StructType ts) = Closed
 own_of (suc inner) (StructType ts) = Opened
-own_of room (EntryType k v) = Opened
+own_of depth_left (EntryType k v) = Opened
 
 -- the containers that it opens at once
 abbrev pub opened_by : ℕ → ℕ → TypeTree → List Work
-opened_by room end (NumberType k) = []
-opened_by room end (TextType k) = []
-opened_by room end VariantType = []
-opened_by room end (ArrayType t) = []
+opened_by depth_left end (NumberType k) = []
+opened_by depth_left end (TextType k) = []
+opened_by depth_left end VariantType = []
+opened_by depth_left end (ArrayType t) = []
 opened_by zero end (StructType ts) = []
 opened_by (suc inner) end (StructType ts) = Parts inner end ts ∷ []
-opened_by room end (EntryType k v) = Parts room end (MoreTypes k (MoreTypes v NoTypes)) ∷ []
+opened_by depth_left end (EntryType k v) = Parts depth_left end (MoreTypes k (MoreTypes v NoTypes)) ∷ []

@@ -76,14 +76,14 @@ impl Values {
     }
 
     /// What stands within the brackets at `pos`, n bytes further.
-    pub(crate) fn inside(&mut self, pos: usize, stop: usize, n: usize, room: u8)
+    pub(crate) fn inside(&mut self, pos: usize, stop: usize, n: usize, depth_left: u8)
         requires near { self.old.offset + n < 2 ^ 64 }
         requires few { length self.old.frames.items < 128 }
         requires some { pos + 1 < stop - 1 }
         requires there { stop ≤ length self.old.text.items }
         requires noted { HasNotes self.old }
         requires type_noted { IsNoted self.old.text.items self.old.lengths.items pos stop }
-        ensures opens { (answer : Answer) → Enters self.old pos stop n room answer →
+        ensures opens { (answer : Answer) → Enters self.old pos stop n depth_left answer →
             Denotes self.new answer }
         ensures narrower { wide self.new.doing < stop - pos }
     {
@@ -95,7 +95,7 @@ impl Values {
             stop: stop - 1,
             top: self.inner.top,
             end: self.inner.end,
-            room,
+            depth_left,
         };
         let first = self.inner.pos;
         let until = self.part();
@@ -110,11 +110,11 @@ impl Values {
             Opens result self.new answer }
         ensures narrower { IfOk result (λ _. wide self.new.doing < stop - pos) }
     {
-        let room = self.inner.room;
-        if room == 0 {
+        let depth_left = self.inner.depth_left;
+        if depth_left == 0 {
             return refuse(self.offset + n, Reason::TooDeep);
         }
-        self.inside(pos, stop, n, room - 1);
+        self.inside(pos, stop, n, depth_left - 1);
         Ok(())
     }
 
@@ -126,6 +126,6 @@ impl Values {
             Denotes self.new answer }
         ensures narrower { wide self.new.doing < stop - pos }
     {
-        self.inside(pos, stop, n, self.inner.room);
+        self.inside(pos, stop, n, self.inner.depth_left);
     }
 }

@@ -112,14 +112,14 @@ pub fn byte(bytes: &[u8], offset: usize, end: usize) -> Result<u8, Stop>
 }
 
 /// The row of the fault table that a number of the type that has this code meets: that of BOOLEAN or of UNIX_FD.
-fn row_of(code: u8, n: u32, fds: Option<u32>) -> Option<Reason>
-    ensures { (k : NumberCode) (p : ℕ) → number_code k ≡ code → result ≡ number_row fds k p n }
+fn row_of(code: u8, n: u32, index_limit: Option<u32>) -> Option<Reason>
+    ensures { (k : NumberCode) (p : ℕ) → number_code k ≡ code → result ≡ number_row index_limit k p n }
 {
     if code == b'b' {
         return if n > 1 { Some(Reason::Bool) } else { None };
     }
     if code == b'h' {
-        return match fds {
+        return match index_limit {
             Some(limit) if n >= limit => Some(Reason::FdIndex),
             _ => None,
         };
@@ -130,25 +130,25 @@ fn row_of(code: u8, n: u32, fds: Option<u32>) -> Option<Reason>
 /// A number of the type that has this code: how many bytes it has. Its padding is taken already.
 ///
 /// `Overrun` at `offset` where it ends past the end; `Bool` there where it is a BOOLEAN and neither 0 nor 1; `FdIndex` there
-/// where it is a UNIX_FD and not below `fds`, if that is something. D-Bus Specification, "Basic types".
+/// where it is a UNIX_FD and not below `index_limit`, if that is something. D-Bus Specification, "Basic types".
 pub fn number_front(
     code: u8,
     bytes: &[u8],
     offset: usize,
     end: usize,
     order: Order,
-    fds: Option<u32>,
+    index_limit: Option<u32>,
 ) -> Result<usize, Stop>
     requires at_most { offset ≤ end }
     ensures gives { (k : NumberCode) → number_code k ≡ code →
         Fronts (λ n. (tt, n)) offset bytes.now result
-        (onward (number order (width k) end (number_row fds k)) done) }
+        (onward (number order (width k) end (number_row index_limit k)) done) }
     ensures moves { IfOk result (λ n. (0 < n) × (n ≤ length bytes.now) × (offset + n ≤ end)) }
     ensures short { IfErr result (λ e. e ≡ Partial → length bytes.now < 8) }
 {
     if code == b'b' || code == b'h' {
         return match word(bytes, offset, end, order) {
-            Ok(n) => match row_of(code, n, fds) {
+            Ok(n) => match row_of(code, n, index_limit) {
                 Some(reason) => refuse(offset, reason),
                 None => Ok(4),
             },

@@ -59,8 +59,8 @@ impl Values {
         ensures short { IfErr result (λ e. e ≡ Partial → length bytes.now < 12) }
     {
         let at = self.offset + n;
-        let room = self.inner.room;
-        if room == 0 {
+        let depth_left = self.inner.depth_left;
+        if depth_left == 0 {
             return refuse(at, Reason::TooDeep);
         }
         let code = self.text.as_slice()[pos + 1];
@@ -74,7 +74,7 @@ impl Values {
                     stop,
                     top: self.inner.top,
                     end: self.offset + size,
-                    room: room - 1,
+                    depth_left: depth_left - 1,
                 };
                 self.next();
                 Ok(taken)
@@ -110,8 +110,8 @@ impl Values {
         ensures some { IfOk result (λ n. 0 < n) }
         ensures short { IfErr result (λ e. e ≡ Partial → length bytes.now < 257) }
     {
-        let room = self.inner.room;
-        if room == 0 {
+        let depth_left = self.inner.depth_left;
+        if depth_left == 0 {
             return refuse(self.offset, Reason::TooDeep);
         }
         match variant_front(bytes, self.offset, self.inner.end) {
@@ -126,7 +126,7 @@ impl Values {
                     stop: top + size,
                     top: top + size,
                     end: self.inner.end,
-                    room: room - 1,
+                    depth_left: depth_left - 1,
                 };
                 self.offset += size + 2;
                 self.next();

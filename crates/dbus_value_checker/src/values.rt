@@ -23,7 +23,7 @@ pub(crate) struct Frame {
     /// The offset where it ends.
     pub(crate) end: usize,
     /// How many containers may be opened in it.
-    pub(crate) room: u8,
+    pub(crate) depth_left: u8,
 }
 
 /// What is wanted next.
@@ -94,7 +94,7 @@ impl Values {
         }
     }
 
-    /// Wants values of the types that a signature spells, from an offset of a message up to an end. `room` containers may be
+    /// Wants values of the types that a signature spells, from an offset of a message up to an end. `depth_left` containers may be
     /// open at once in them, and they keep the bounds. Whatever was wanted before is forgotten.
     pub fn begin(
         &mut self,
@@ -103,14 +103,14 @@ impl Values {
         offset: usize,
         end: usize,
         types: &[u8],
-        room: u8,
+        depth_left: u8,
     )
         requires at_most { offset ≤ end }
-        requires few { room ≤ 64 }
+        requires few { depth_left ≤ 64 }
         requires short { length types.now ≤ 255 }
         requires types { (ts : TypeTrees) × ((types.now ≡ sigs ts) × AreShaped ts) }
         ensures { (ts : TypeTrees) (last : On) → types.now ≡ sigs ts → AreShaped ts →
-            Denotes self.new (values_on bounds order room end ts last offset) }
+            Denotes self.new (values_on bounds order depth_left end ts last offset) }
     {
         self.bounds = bounds;
         self.order = order;
@@ -125,7 +125,7 @@ impl Values {
             stop,
             top: stop,
             end,
-            room,
+            depth_left,
         };
         self.next();
     }

@@ -78,15 +78,15 @@ joined s a t b r e f = e ∙ ap (λ (u : List ℕ). a ++ u) f ∙ sym (append_as
 
 -- ---- a number
 
-pub number_to : (bounds : Bounds) (order : Order) (room : ℕ) (inside : ℕ → TypeTree → Item ValueTree) (end : ℕ) (k : NumberCode) (o : ℕ) (s : List ℕ) (v : ValueTree) (q : ℕ) (r : List ℕ) → (items bounds order room inside end (NumberType k)).Passed o s v q r → Spelled bounds order room end (NumberType k) o s v q r
+pub number_to : (bounds : Bounds) (order : Order) (depth_left : ℕ) (inside : ℕ → TypeTree → Item ValueTree) (end : ℕ) (k : NumberCode) (o : ℕ) (s : List ℕ) (v : ValueTree) (q : ℕ) (r : List ℕ) → (items bounds order depth_left inside end (NumberType k)).Passed o s v q r → Spelled bounds order depth_left end (NumberType k) o s v q r
 unfolding spelling
-number_to bounds order room inside end k o s v q r w =
+number_to bounds order depth_left inside end k o s v q r w =
     let padded = w.3 in
     let a = w.4 in
     let read = a.3 in
     let b = a.4 in
     let rows = row_number bounds.fds k a.1 a.0 read.0 read.4 in
-    let one : Spelled bounds order room end (NumberType k) o s (NumberValue k a.0) q r = record {
+    let one : Spelled bounds order depth_left end (NumberType k) o s (NumberValue k a.0) q r = record {
       has_type = refl;
       formed = rows.0;
       within = tt;
@@ -95,11 +95,11 @@ number_to bounds order room inside end k o s v q r w =
       place = simp (length-append, length-num, length-replicate) (omega (arith, b.1, read.2, padded.1));
       bound = omega (arith, b.1, read.3);
     } in
-    subst (λ (u : ValueTree). Spelled bounds order room end (NumberType k) o s u q r) (sym b.0) one
+    subst (λ (u : ValueTree). Spelled bounds order depth_left end (NumberType k) o s u q r) (sym b.0) one
 
-pub number_from : (bounds : Bounds) (order : Order) (room : ℕ) (inside : ℕ → TypeTree → Item ValueTree) (end : ℕ) (k : NumberCode) (o : ℕ) (s : List ℕ) (n q : ℕ) (r : List ℕ) → Spelled bounds order room end (NumberType k) o s (NumberValue k n) q r → (items bounds order room inside end (NumberType k)).Passed o s (NumberValue k n) q r
+pub number_from : (bounds : Bounds) (order : Order) (depth_left : ℕ) (inside : ℕ → TypeTree → Item ValueTree) (end : ℕ) (k : NumberCode) (o : ℕ) (s : List ℕ) (n q : ℕ) (r : List ℕ) → Spelled bounds order depth_left end (NumberType k) o s (NumberValue k n) q r → (items bounds order depth_left inside end (NumberType k)).Passed o s (NumberValue k n) q r
 unfolding spelling
-number_from bounds order room inside end k o s n q r h =
+number_from bounds order depth_left inside end k o s n q r h =
     let ok = number_row_none bounds.fds k (o + gap_to (width k) o + width k) n h.formed h.indexes in
     let long : length (pad (width k) o ++ num order (width k) n) ≡ gap_to (width k) o + width k = simp (length-append, length-num, length-replicate) in
     let ends : q ≡ o + gap_to (width k) o + width k = omega (arith, h.place, long) in (
@@ -112,9 +112,9 @@ number_from bounds order room inside end k o s n q r h =
 
 -- ---- a text
 
-pub text_to : (bounds : Bounds) (order : Order) (room : ℕ) (inside : ℕ → TypeTree → Item ValueTree) (end : ℕ) (k : TextCode) (o : ℕ) (s : List ℕ) (v : ValueTree) (q : ℕ) (r : List ℕ) → (items bounds order room inside end (TextType k)).Passed o s v q r → Spelled bounds order room end (TextType k) o s v q r
+pub text_to : (bounds : Bounds) (order : Order) (depth_left : ℕ) (inside : ℕ → TypeTree → Item ValueTree) (end : ℕ) (k : TextCode) (o : ℕ) (s : List ℕ) (v : ValueTree) (q : ℕ) (r : List ℕ) → (items bounds order depth_left inside end (TextType k)).Passed o s v q r → Spelled bounds order depth_left end (TextType k) o s v q r
 unfolding spelling
-text_to bounds order room inside end k o s v q r w =
+text_to bounds order depth_left inside end k o s v q r w =
     let padded = w.3 in
     let a = w.4 in
     let read = a.3 in
@@ -129,7 +129,7 @@ text_to bounds order room inside end k o s v q r w =
     let tail : b.2 ≡ (0 ∷ []) ++ r = ended.0 ∙ ap (λ (u : List ℕ). 0 ∷ u) rest in
     let text_there : a.2 ≡ (b.0 ++ 0 ∷ []) ++ r = joined a.2 b.0 b.2 (0 ∷ []) r taken.0 tail in
     let number_there : w.2 ≡ num order (length_width k) (length b.0) ++ a.2 = rw len read.1 in
-    let one : Spelled bounds order room end (TextType k) o s (TextValue k b.0) q r = record {
+    let one : Spelled bounds order depth_left end (TextType k) o s (TextValue k b.0) q r = record {
       has_type = refl;
       formed = (taken.2, rw len read.0);
       within = tt;
@@ -139,11 +139,11 @@ text_to bounds order room inside end k o s v q r w =
       place = simp (length-append, length-num, length-replicate) (omega (arith, d.1, ended.1, taken.3, read.2, padded.1, len));
       bound = omega (arith, d.1, ended.1, taken.3, fits);
     } in
-    subst (λ (u : ValueTree). Spelled bounds order room end (TextType k) o s u q r) (sym d.0) one
+    subst (λ (u : ValueTree). Spelled bounds order depth_left end (TextType k) o s u q r) (sym d.0) one
 
-pub text_from : (bounds : Bounds) (order : Order) (room : ℕ) (inside : ℕ → TypeTree → Item ValueTree) (end : ℕ) (k : TextCode) (o : ℕ) (s t : List ℕ) (q : ℕ) (r : List ℕ) → Spelled bounds order room end (TextType k) o s (TextValue k t) q r → (items bounds order room inside end (TextType k)).Passed o s (TextValue k t) q r
+pub text_from : (bounds : Bounds) (order : Order) (depth_left : ℕ) (inside : ℕ → TypeTree → Item ValueTree) (end : ℕ) (k : TextCode) (o : ℕ) (s t : List ℕ) (q : ℕ) (r : List ℕ) → Spelled bounds order depth_left end (TextType k) o s (TextValue k t) q r → (items bounds order depth_left inside end (TextType k)).Passed o s (TextValue k t) q r
 unfolding spelling
-text_from bounds order room inside end k o s t q r h =
+text_from bounds order depth_left inside end k o s t q r h =
     let w = length_width k in
     let p = o + gap_to w o in
     let long : length (pad w o ++ ended_text order w t) ≡ gap_to w o + (w + (length t + 1)) = simp (length-append, length-num, length-replicate) in
@@ -170,13 +170,13 @@ text_from bounds order room inside end k o s t q r h =
 
 -- ---- values one after another
 
-pub all_none : (bounds : Bounds) (order : Order) (room o : ℕ) (s : List ℕ) → SpelledAll bounds order room o s NoValues o s
+pub all_none : (bounds : Bounds) (order : Order) (depth_left o : ℕ) (s : List ℕ) → SpelledAll bounds order depth_left o s NoValues o s
 unfolding spelling
-all_none bounds order room o s = record { formed = tt; within = tt; indexes = tt; bytes = refl; place = omega arith }
+all_none bounds order depth_left o s = record { formed = tt; within = tt; indexes = tt; bytes = refl; place = omega arith }
 
-pub all_more : (bounds : Bounds) (order : Order) (room end : ℕ) (t : TypeTree) (o : ℕ) (s : List ℕ) (v : ValueTree) (p : ℕ) (u : List ℕ) (vs : ValueTrees) (q : ℕ) (r : List ℕ) → Spelled bounds order room end t o s v p u → SpelledAll bounds order room p u vs q r → SpelledAll bounds order room o s (MoreValues v vs) q r
+pub all_more : (bounds : Bounds) (order : Order) (depth_left end : ℕ) (t : TypeTree) (o : ℕ) (s : List ℕ) (v : ValueTree) (p : ℕ) (u : List ℕ) (vs : ValueTrees) (q : ℕ) (r : List ℕ) → Spelled bounds order depth_left end t o s v p u → SpelledAll bounds order depth_left p u vs q r → SpelledAll bounds order depth_left o s (MoreValues v vs) q r
 unfolding spelling
-all_more bounds order room end t o s v p u vs q r one more =
+all_more bounds order depth_left end t o s v p u vs q r one more =
     let at : p ≡ o + length (spelling order o v) = one.place in
     record {
       formed = (one.formed, more.formed);
@@ -186,10 +186,10 @@ all_more bounds order room end t o s v p u vs q r one more =
       place = simp length-append (let e : q ≡ o + length (spelling order o v) + length (spellings order (o + length (spelling order o v)) vs) = rw at at more.place in omega arith);
     }
 
-pub all_parts : (bounds : Bounds) (order : Order) (room end o : ℕ) (s : List ℕ) (v : ValueTree) (vs : ValueTrees) (q : ℕ) (r : List ℕ) → q ≤ end → SpelledAll bounds order room o s (MoreValues v vs) q r
-    → (p : ℕ) × (u : List ℕ) × Spelled bounds order room end (type_of v) o s v p u × SpelledAll bounds order room p u vs q r
+pub all_parts : (bounds : Bounds) (order : Order) (depth_left end o : ℕ) (s : List ℕ) (v : ValueTree) (vs : ValueTrees) (q : ℕ) (r : List ℕ) → q ≤ end → SpelledAll bounds order depth_left o s (MoreValues v vs) q r
+    → (p : ℕ) × (u : List ℕ) × Spelled bounds order depth_left end (type_of v) o s v p u × SpelledAll bounds order depth_left p u vs q r
 unfolding spelling
-all_parts bounds order room end o s v vs q r bound h =
+all_parts bounds order depth_left end o s v vs q r bound h =
     let p = o + length (spelling order o v) in
     let long = length-append (spelling order o v) (spellings order p vs) in (
       p,
@@ -208,10 +208,10 @@ trees_list_of : (xs : ValueTrees) → value_trees (list_of xs) ≡ xs
 trees_list_of NoValues = refl
 trees_list_of (MoreValues x xs) = ap (λ (u : ValueTrees). MoreValues x u) (trees_list_of xs)
 
-module _ (bounds : Bounds) (order : Order) (room : ℕ) (inside : ℕ → TypeTree → Item ValueTree)
-    (to : (end : ℕ) (t : TypeTree) (o : ℕ) (s : List ℕ) (v : ValueTree) (q : ℕ) (r : List ℕ) → (inside end t).Passed o s v q r → Spelled bounds order room end t o s v q r)
-    (from : (end : ℕ) (t : TypeTree) (o : ℕ) (s : List ℕ) (v : ValueTree) (q : ℕ) (r : List ℕ) → Spelled bounds order room end t o s v q r → (inside end t).Passed o s v q r) where
-  pub variant_to : (end o : ℕ) (s : List ℕ) (v : ValueTree) (q : ℕ) (r : List ℕ) → (items bounds order (suc room) inside end VariantType).Passed o s v q r → Spelled bounds order (suc room) end VariantType o s v q r
+module _ (bounds : Bounds) (order : Order) (depth_left : ℕ) (inside : ℕ → TypeTree → Item ValueTree)
+    (to : (end : ℕ) (t : TypeTree) (o : ℕ) (s : List ℕ) (v : ValueTree) (q : ℕ) (r : List ℕ) → (inside end t).Passed o s v q r → Spelled bounds order depth_left end t o s v q r)
+    (from : (end : ℕ) (t : TypeTree) (o : ℕ) (s : List ℕ) (v : ValueTree) (q : ℕ) (r : List ℕ) → Spelled bounds order depth_left end t o s v q r → (inside end t).Passed o s v q r) where
+  pub variant_to : (end o : ℕ) (s : List ℕ) (v : ValueTree) (q : ℕ) (r : List ℕ) → (items bounds order (suc depth_left) inside end VariantType).Passed o s v q r → Spelled bounds order (suc depth_left) end VariantType o s v q r
   unfolding spelling
   variant_to end o s v q r w =
       let read = w.3 in
@@ -230,7 +230,7 @@ module _ (bounds : Bounds) (order : Order) (room : ℕ) (inside : ℕ → TypeTr
       let front : s ≡ ended_text order 1 (sig a.0) ++ b.2 = joined s (num order 1 (length (sig a.0))) w.2 (sig a.0 ++ 0 ∷ []) b.2 (rw len read.1) (joined w.2 (sig a.0) a.2 (0 ∷ []) b.2 held.2 ended.0) in
       let front_x : s ≡ ended_text order 1 (sig (type_of x)) ++ b.2 = rw (← same) front in
       let place_x : b.1 ≡ o + length (ended_text order 1 (sig (type_of x))) = rw (← same) place in
-      let one : Spelled bounds order (suc room) end VariantType o s (VariantValue x) q r = record {
+      let one : Spelled bounds order (suc depth_left) end VariantType o s (VariantValue x) q r = record {
         has_type = refl;
         formed = (subst IsSingleType same held.0, inner.formed);
         within = rw place_x at inner.within;
@@ -239,9 +239,9 @@ module _ (bounds : Bounds) (order : Order) (room : ℕ) (inside : ℕ → TypeTr
         place = rw (d.1, length-append (ended_text order 1 (sig (type_of x)))) (let e : c.1 ≡ (o + length (ended_text order 1 (sig (type_of x)))) + length (spelling order (o + length (ended_text order 1 (sig (type_of x)))) x) = rw place_x at inner.place in omega (arith, e));
         bound = omega (arith, d.1, inner.bound);
       } in
-      subst (λ (u : ValueTree). Spelled bounds order (suc room) end VariantType o s u q r) (sym d.0) one
+      subst (λ (u : ValueTree). Spelled bounds order (suc depth_left) end VariantType o s u q r) (sym d.0) one
 
-  pub variant_from : (end o : ℕ) (s : List ℕ) (x : ValueTree) (q : ℕ) (r : List ℕ) → Spelled bounds order (suc room) end VariantType o s (VariantValue x) q r → (items bounds order (suc room) inside end VariantType).Passed o s (VariantValue x) q r
+  pub variant_from : (end o : ℕ) (s : List ℕ) (x : ValueTree) (q : ℕ) (r : List ℕ) → Spelled bounds order (suc depth_left) end VariantType o s (VariantValue x) q r → (items bounds order (suc depth_left) inside end VariantType).Passed o s (VariantValue x) q r
   unfolding spelling
   variant_from end o s x q r h =
       let t = sig (type_of x) in
@@ -250,7 +250,7 @@ module _ (bounds : Bounds) (order : Order) (room : ℕ) (inside : ℕ → TypeTr
       let ends : q ≡ p + length (spelling order p x) = omega (arith, h.place, length-append (ended_text order 1 t) (spelling order p x)) in
       let there : s ≡ num order 1 (length t) ++ (t ++ 0 ∷ (spelling order p x ++ r)) = h.bytes ∙ simp append_assoc in
       let at : p ≡ o + 1 + length t + 1 = omega (arith, head) in
-      let inner : Spelled bounds order room end (type_of x) p (spelling order p x ++ r) x q r = record { has_type = refl; formed = h.formed.1; within = h.within; indexes = h.indexes; bytes = refl; place = ends; bound = h.bound } in (
+      let inner : Spelled bounds order depth_left end (type_of x) p (spelling order p x ++ r) x q r = record { has_type = refl; formed = h.formed.1; within = h.within; indexes = h.indexes; bytes = refl; place = ends; bound = h.bound } in (
         length t,
         o + 1,
         t ++ 0 ∷ (spelling order p x ++ r),
@@ -270,21 +270,21 @@ module _ (bounds : Bounds) (order : Order) (room : ℕ) (inside : ℕ → TypeTr
         ),
       )
 
-  pub seq_to : (end : ℕ) (t : TypeTree) (vs before : List ValueTree) (o : ℕ) (s : List ℕ) (q : ℕ) (r : List ℕ) → Sequence (λ before. inside end t) before vs o s q r → AllOf t (value_trees vs) × SpelledAll bounds order room o s (value_trees vs) q r
-  seq_to end t [] before o s q r h = (tt, rw (h.0, h.1) (all_none bounds order room o s))
+  pub seq_to : (end : ℕ) (t : TypeTree) (vs before : List ValueTree) (o : ℕ) (s : List ℕ) (q : ℕ) (r : List ℕ) → Sequence (λ before. inside end t) before vs o s q r → AllOf t (value_trees vs) × SpelledAll bounds order depth_left o s (value_trees vs) q r
+  seq_to end t [] before o s q r h = (tt, rw (h.0, h.1) (all_none bounds order depth_left o s))
   seq_to end t (v ∷ vs) before o s q r h =
       let one = to end t o s v h.0 h.1 h.2 in
       let more = seq_to end t vs (v ∷ before) h.0 h.1 q r h.3 in
-      ((one.has_type, more.0), all_more bounds order room end t o s v h.0 h.1 (value_trees vs) q r one more.1)
+      ((one.has_type, more.0), all_more bounds order depth_left end t o s v h.0 h.1 (value_trees vs) q r one more.1)
 
-  pub seq_from : (end : ℕ) (t : TypeTree) (vs : ValueTrees) (before : List ValueTree) (o : ℕ) (s : List ℕ) (q : ℕ) (r : List ℕ) → q ≤ end → AllOf t vs → SpelledAll bounds order room o s vs q r → Sequence (λ before. inside end t) before (list_of vs) o s q r
+  pub seq_from : (end : ℕ) (t : TypeTree) (vs : ValueTrees) (before : List ValueTree) (o : ℕ) (s : List ℕ) (q : ℕ) (r : List ℕ) → q ≤ end → AllOf t vs → SpelledAll bounds order depth_left o s vs q r → Sequence (λ before. inside end t) before (list_of vs) o s q r
   unfolding spelling
   seq_from end t NoValues before o s q r bound types h = (omega (arith, h.place), sym h.bytes)
   seq_from end t (MoreValues v vs) before o s q r bound types h =
-      let parts = all_parts bounds order room end o s v vs q r bound h in
-      (parts.0, parts.1, from end t o s v parts.0 parts.1 (subst (λ (u : TypeTree). Spelled bounds order room end u o s v parts.0 parts.1) types.0 parts.2), seq_from end t vs (v ∷ before) parts.0 parts.1 q r bound types.1 parts.3)
+      let parts = all_parts bounds order depth_left end o s v vs q r bound h in
+      (parts.0, parts.1, from end t o s v parts.0 parts.1 (subst (λ (u : TypeTree). Spelled bounds order depth_left end u o s v parts.0 parts.1) types.0 parts.2), seq_from end t vs (v ∷ before) parts.0 parts.1 q r bound types.1 parts.3)
 
-  pub array_to : (end : ℕ) (t : TypeTree) (o : ℕ) (s : List ℕ) (v : ValueTree) (q : ℕ) (r : List ℕ) → (items bounds order (suc room) inside end (ArrayType t)).Passed o s v q r → Spelled bounds order (suc room) end (ArrayType t) o s v q r
+  pub array_to : (end : ℕ) (t : TypeTree) (o : ℕ) (s : List ℕ) (v : ValueTree) (q : ℕ) (r : List ℕ) → (items bounds order (suc depth_left) inside end (ArrayType t)).Passed o s v q r → Spelled bounds order (suc depth_left) end (ArrayType t) o s v q r
   unfolding spelling
   array_to end t o s v q r w =
       let padded = w.3 in
@@ -301,11 +301,11 @@ module _ (bounds : Bounds) (order : Order) (room : ℕ) (inside : ℕ → TypeTr
       let begins : b.1 ≡ start = padded'.1 ∙ ap (λ (p : ℕ). p + gap_to (alignment_of t) p) at in
       let rows = array_row_fits bounds t end a.1 n read.4 in
       let spelled = seq_to (b.1 + n) t c.0 [] b.1 b.2 c.1 c.2 c.3.0 in
-      let all : SpelledAll bounds order room start b.2 xs c.1 c.2 = subst (λ (p : ℕ). SpelledAll bounds order room p b.2 xs c.1 c.2) begins spelled.1 in
+      let all : SpelledAll bounds order depth_left start b.2 xs c.1 c.2 = subst (λ (p : ℕ). SpelledAll bounds order depth_left p b.2 xs c.1 c.2) begins spelled.1 in
       let len : n ≡ length (spellings order start xs) = omega (arith, all.place, c.3.1, begins) in
       let number_there : w.2 ≡ num order 4 (length (spellings order start xs)) ++ a.2 = rw len at read.1 in
       let pad_there : a.2 ≡ pad (alignment_of t) (o + gap_to 4 o + 4) ++ b.2 = rw at at padded'.0 in
-      let one : Spelled bounds order (suc room) end (ArrayType t) o s (ArrayValue t xs) q r = record {
+      let one : Spelled bounds order (suc depth_left) end (ArrayType t) o s (ArrayValue t xs) q r = record {
         has_type = refl;
         formed = (spelled.0, all.formed);
         within = (rw len at rows.0, all.within);
@@ -314,9 +314,9 @@ module _ (bounds : Bounds) (order : Order) (room : ℕ) (inside : ℕ → TypeTr
         place = simp (length-append, length-num, length-replicate) (omega (arith, d.1, all.place));
         bound = omega (arith, d.1, c.3.1, padded'.1, rows.1);
       } in
-      subst (λ (u : ValueTree). Spelled bounds order (suc room) end (ArrayType t) o s u q r) (sym d.0) one
+      subst (λ (u : ValueTree). Spelled bounds order (suc depth_left) end (ArrayType t) o s u q r) (sym d.0) one
 
-  pub array_from : (end : ℕ) (t : TypeTree) (o : ℕ) (s : List ℕ) (xs : ValueTrees) (q : ℕ) (r : List ℕ) → Spelled bounds order (suc room) end (ArrayType t) o s (ArrayValue t xs) q r → (items bounds order (suc room) inside end (ArrayType t)).Passed o s (ArrayValue t xs) q r
+  pub array_from : (end : ℕ) (t : TypeTree) (o : ℕ) (s : List ℕ) (xs : ValueTrees) (q : ℕ) (r : List ℕ) → Spelled bounds order (suc depth_left) end (ArrayType t) o s (ArrayValue t xs) q r → (items bounds order (suc depth_left) inside end (ArrayType t)).Passed o s (ArrayValue t xs) q r
   unfolding spelling
   array_from end t o s xs q r h =
       let p = o + gap_to 4 o in
@@ -324,7 +324,7 @@ module _ (bounds : Bounds) (order : Order) (room : ℕ) (inside : ℕ → TypeTr
       let c = spellings order start xs in
       let ends : q ≡ start + length c = simp (length-append, length-num, length-replicate) at h.place ∙ omega arith in
       let there : s ≡ pad 4 o ++ (num order 4 (length c) ++ (pad (alignment_of t) (p + 4) ++ (c ++ r))) = h.bytes ∙ simp append_assoc in
-      let all : SpelledAll bounds order room start (c ++ r) xs q r = record { formed = h.formed.1; within = h.within.1; indexes = h.indexes; bytes = refl; place = ends } in (
+      let all : SpelledAll bounds order depth_left start (c ++ r) xs q r = record { formed = h.formed.1; within = h.within.1; indexes = h.indexes; bytes = refl; place = ends } in (
         tt,
         p,
         num order 4 (length c) ++ (pad (alignment_of t) (p + 4) ++ (c ++ r)),
@@ -344,24 +344,24 @@ module _ (bounds : Bounds) (order : Order) (room : ℕ) (inside : ℕ → TypeTr
         ),
       )
 
-  pub fields_to : (end : ℕ) (ts : TypeTrees) (o : ℕ) (s : List ℕ) (vs : ValueTrees) (q : ℕ) (r : List ℕ) → (fields (inside end) ts).Passed o s vs q r → (types_of vs ≡ ts) × SpelledAll bounds order room o s vs q r × (o ≤ end → q ≤ end)
-  fields_to end NoTypes o s vs q r h = (rw h.0 refl, rw (h.0, h.1, h.2) (all_none bounds order room o s), omega (arith, h.1))
+  pub fields_to : (end : ℕ) (ts : TypeTrees) (o : ℕ) (s : List ℕ) (vs : ValueTrees) (q : ℕ) (r : List ℕ) → (fields (inside end) ts).Passed o s vs q r → (types_of vs ≡ ts) × SpelledAll bounds order depth_left o s vs q r × (o ≤ end → q ≤ end)
+  fields_to end NoTypes o s vs q r h = (rw h.0 refl, rw (h.0, h.1, h.2) (all_none bounds order depth_left o s), omega (arith, h.1))
   fields_to end (MoreTypes t ts) o s vs q r h =
       let one = to end t o s h.0 h.1 h.2 h.3 in
       let a = h.4 in
       let more = fields_to end ts h.1 h.2 a.0 a.1 a.2 a.3 in
       let d = a.4 in
-      let all = all_more bounds order room end t o s h.0 h.1 h.2 a.0 a.1 a.2 one more.1 in
+      let all = all_more bounds order depth_left end t o s h.0 h.1 h.2 a.0 a.1 a.2 one more.1 in
       (rw (d.0, one.has_type, more.0) refl, rw (d.0, d.1, d.2) all, λ _. omega (arith, d.1, more.2 one.bound))
 
-  pub fields_from : (end : ℕ) (vs : ValueTrees) (o : ℕ) (s : List ℕ) (q : ℕ) (r : List ℕ) → q ≤ end → SpelledAll bounds order room o s vs q r → (fields (inside end) (types_of vs)).Passed o s vs q r
+  pub fields_from : (end : ℕ) (vs : ValueTrees) (o : ℕ) (s : List ℕ) (q : ℕ) (r : List ℕ) → q ≤ end → SpelledAll bounds order depth_left o s vs q r → (fields (inside end) (types_of vs)).Passed o s vs q r
   unfolding spelling
   fields_from end NoValues o s q r bound h = (refl, omega (arith, h.place), sym h.bytes)
   fields_from end (MoreValues v vs) o s q r bound h =
-      let parts = all_parts bounds order room end o s v vs q r bound h in
+      let parts = all_parts bounds order depth_left end o s v vs q r bound h in
       (v, parts.0, parts.1, from end (type_of v) o s v parts.0 parts.1 parts.2, (vs, q, r, fields_from end vs parts.0 parts.1 q r bound parts.3, (refl, refl, refl)))
 
-  pub struct_to : (end : ℕ) (ts : TypeTrees) (o : ℕ) (s : List ℕ) (v : ValueTree) (q : ℕ) (r : List ℕ) → (items bounds order (suc room) inside end (StructType ts)).Passed o s v q r → Spelled bounds order (suc room) end (StructType ts) o s v q r
+  pub struct_to : (end : ℕ) (ts : TypeTrees) (o : ℕ) (s : List ℕ) (v : ValueTree) (q : ℕ) (r : List ℕ) → (items bounds order (suc depth_left) inside end (StructType ts)).Passed o s v q r → Spelled bounds order (suc depth_left) end (StructType ts) o s v q r
   unfolding spelling
   struct_to end ts o s v q r w =
       let padded = w.3 in
@@ -369,8 +369,8 @@ module _ (bounds : Bounds) (order : Order) (room : ℕ) (inside : ℕ → TypeTr
       let d = a.4 in
       let xs = a.0 in
       let spelled = fields_to end ts w.1 w.2 xs a.1 a.2 a.3 in
-      let all : SpelledAll bounds order room (o + gap_to 8 o) w.2 xs a.1 a.2 = rw padded.1 at spelled.1 in
-      let one : Spelled bounds order (suc room) end (StructType ts) o s (StructValue xs) q r = record {
+      let all : SpelledAll bounds order depth_left (o + gap_to 8 o) w.2 xs a.1 a.2 = rw padded.1 at spelled.1 in
+      let one : Spelled bounds order (suc depth_left) end (StructType ts) o s (StructValue xs) q r = record {
         has_type = ap StructType spelled.0;
         formed = all.formed;
         within = all.within;
@@ -379,15 +379,15 @@ module _ (bounds : Bounds) (order : Order) (room : ℕ) (inside : ℕ → TypeTr
         place = simp (length-append, length-replicate) (omega (arith, d.1, all.place));
         bound = omega (arith, d.1, spelled.2 padded.2);
       } in
-      subst (λ (u : ValueTree). Spelled bounds order (suc room) end (StructType ts) o s u q r) (sym d.0) one
+      subst (λ (u : ValueTree). Spelled bounds order (suc depth_left) end (StructType ts) o s u q r) (sym d.0) one
 
-  pub struct_from : (end o : ℕ) (s : List ℕ) (xs : ValueTrees) (q : ℕ) (r : List ℕ) → Spelled bounds order (suc room) end (StructType (types_of xs)) o s (StructValue xs) q r → (items bounds order (suc room) inside end (StructType (types_of xs))).Passed o s (StructValue xs) q r
+  pub struct_from : (end o : ℕ) (s : List ℕ) (xs : ValueTrees) (q : ℕ) (r : List ℕ) → Spelled bounds order (suc depth_left) end (StructType (types_of xs)) o s (StructValue xs) q r → (items bounds order (suc depth_left) inside end (StructType (types_of xs))).Passed o s (StructValue xs) q r
   unfolding spelling
   struct_from end o s xs q r h =
       let p = o + gap_to 8 o in
       let c = spellings order p xs in
       let ends : q ≡ p + length c = simp (length-append, length-replicate) at h.place ∙ omega arith in
-      let all : SpelledAll bounds order room p (c ++ r) xs q r = record { formed = h.formed; within = h.within; indexes = h.indexes; bytes = refl; place = ends } in (
+      let all : SpelledAll bounds order depth_left p (c ++ r) xs q r = record { formed = h.formed; within = h.within; indexes = h.indexes; bytes = refl; place = ends } in (
         tt,
         p,
         c ++ r,
@@ -397,18 +397,18 @@ module _ (bounds : Bounds) (order : Order) (room : ℕ) (inside : ℕ → TypeTr
 
 -- ---- an entry
 
-pub entry_to : (bounds : Bounds) (order : Order) (room : ℕ) (inside : ℕ → TypeTree → Item ValueTree) (end : ℕ) (k x : TypeTree) (o : ℕ) (s : List ℕ) (v : ValueTree) (q : ℕ) (r : List ℕ) → (items bounds order room inside end (EntryType k x)).Passed o s v q r → Spelled bounds order room end (EntryType k x) o s v q r
+pub entry_to : (bounds : Bounds) (order : Order) (depth_left : ℕ) (inside : ℕ → TypeTree → Item ValueTree) (end : ℕ) (k x : TypeTree) (o : ℕ) (s : List ℕ) (v : ValueTree) (q : ℕ) (r : List ℕ) → (items bounds order depth_left inside end (EntryType k x)).Passed o s v q r → Spelled bounds order depth_left end (EntryType k x) o s v q r
 unfolding spelling
-entry_to bounds order room inside end k x o s v q r w =
+entry_to bounds order depth_left inside end k x o s v q r w =
     let padded = w.3 in
     let a = w.4 in
     let b = a.4 in
     let d = b.4 in
     let p = o + gap_to 8 o in
-    let key : Spelled bounds order room end k p w.2 a.0 a.1 a.2 = rw padded.1 at a.3 in
+    let key : Spelled bounds order depth_left end k p w.2 a.0 a.1 a.2 = rw padded.1 at a.3 in
     let at : a.1 ≡ p + length (spelling order p a.0) = key.place in
-    let held : Spelled bounds order room end x (p + length (spelling order p a.0)) a.2 b.0 b.1 b.2 = rw at at b.3 in
-    let one : Spelled bounds order room end (EntryType k x) o s (EntryValue a.0 b.0) q r = record {
+    let held : Spelled bounds order depth_left end x (p + length (spelling order p a.0)) a.2 b.0 b.1 b.2 = rw at at b.3 in
+    let one : Spelled bounds order depth_left end (EntryType k x) o s (EntryValue a.0 b.0) q r = record {
       has_type = rw (key.has_type, held.has_type) refl;
       formed = (key.formed, held.formed);
       within = (key.within, held.within);
@@ -417,11 +417,11 @@ entry_to bounds order room inside end k x o s v q r w =
       place = simp (length-append, length-replicate) (omega (arith, d.1, held.place));
       bound = omega (arith, d.1, held.bound);
     } in
-    subst (λ (u : ValueTree). Spelled bounds order room end (EntryType k x) o s u q r) (sym d.0) one
+    subst (λ (u : ValueTree). Spelled bounds order depth_left end (EntryType k x) o s u q r) (sym d.0) one
 
-pub entry_from : (bounds : Bounds) (order : Order) (room : ℕ) (inside : ℕ → TypeTree → Item ValueTree) (end o : ℕ) (s : List ℕ) (k x : ValueTree) (q : ℕ) (r : List ℕ) → Spelled bounds order room end (EntryType (type_of k) (type_of x)) o s (EntryValue k x) q r → (items bounds order room inside end (EntryType (type_of k) (type_of x))).Passed o s (EntryValue k x) q r
+pub entry_from : (bounds : Bounds) (order : Order) (depth_left : ℕ) (inside : ℕ → TypeTree → Item ValueTree) (end o : ℕ) (s : List ℕ) (k x : ValueTree) (q : ℕ) (r : List ℕ) → Spelled bounds order depth_left end (EntryType (type_of k) (type_of x)) o s (EntryValue k x) q r → (items bounds order depth_left inside end (EntryType (type_of k) (type_of x))).Passed o s (EntryValue k x) q r
 unfolding spelling
-entry_from bounds order room inside end o s k x q r h =
+entry_from bounds order depth_left inside end o s k x q r h =
     let p = o + gap_to 8 o in
     let key = spelling order p k in
     let u = p + length key in

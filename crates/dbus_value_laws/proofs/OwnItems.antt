@@ -12,7 +12,7 @@ use Rattle.dbus_value_model.specs.Items.{Item, fault, PaddingFault, padding_over
 use Rattle.dbus_value_model.specs.declared.fault.Fault.{Fault}
 use Rattle.dbus_value_model.specs.declared.fault.Reason.{Reason}
 use Rattle.dbus_value_model.specs.Items as items
-use Rattle.dbus_value_model.specs.Reading.{Reader, Outcome, Done, Faulty, Partial, after, zeros, judged, number_of}
+use Rattle.dbus_value_model.specs.Reading.{Reader, Outcome, Done, Faulty, Partial, after, zeros, validated, number_of}
 use Rattle.dbus_value_model.specs.Reading as reading
 use Rattle.dbus_value_model.proofs.Numbers.{IsBytes-front, length-num, number_of-num, num-number_of, number_of-below}
 use Rattle.dbus_value_laws.proofs.KindLaws.{break_is, break_more, break_whole, is_not_wanted, is_wanted, not_wanted, one_break, single_text, text_single, wanted_is}
@@ -110,13 +110,13 @@ Agrees-padding a end = record {
 
 -- ---- numbers
 
-judged_done : (j : Option Reason) (n o p : ℕ) (t : List ℕ) (x q : ℕ) (r : List ℕ) → judged j n o p t ≡ Done x q r → (j ≡ None) × (n ≡ x) × (p ≡ q) × (t ≡ r)
-judged_done None n o p t x q r e = (refl, cc, cc, cc)
-judged_done (Some why) n o p t x q r e = absurd cc
+validated_done : (j : Option Reason) (n o p : ℕ) (t : List ℕ) (x q : ℕ) (r : List ℕ) → validated j n o p t ≡ Done x q r → (j ≡ None) × (n ≡ x) × (p ≡ q) × (t ≡ r)
+validated_done None n o p t x q r e = (refl, cc, cc, cc)
+validated_done (Some why) n o p t x q r e = absurd cc
 
-judged_faulty : (j : Option Reason) (n o p : ℕ) (t : List ℕ) (f : Fault) → judged j n o p t ≡ Faulty f → (why : Reason) × (j ≡ Some why) × (f ≡ fault o why)
-judged_faulty None n o p t f e = absurd cc
-judged_faulty (Some why) n o p t f e = (why, refl, sym (same_fault {A = ℕ} (fault o why) f e))
+validated_faulty : (j : Option Reason) (n o p : ℕ) (t : List ℕ) (f : Fault) → validated j n o p t ≡ Faulty f → (why : Reason) × (j ≡ Some why) × (f ≡ fault o why)
+validated_faulty None n o p t f e = absurd cc
+validated_faulty (Some why) n o p t f e = (why, refl, sym (same_fault {A = ℕ} (fault o why) f e))
 
 module _ (order : Order) (w end : ℕ) (row : ℕ → ℕ → Option Reason) where
   -- the w bytes that are there are the number's
@@ -141,7 +141,7 @@ module _ (order : Order) (w end : ℕ) (row : ℕ → ℕ → Option Reason) whe
         | inr h ↦ elim (chosen (ltb (length s) w) _ _ _ h.1) [
           | inl k ↦ absurd (cc (k.1))
           | inr k ↦
-              let j = judged_done (row (o + w) (number_of order (take w s))) (number_of order (take w s)) o (o + w) (drop w s) x q r k.1 in
+              let j = validated_done (row (o + w) (number_of order (take w s))) (number_of order (take w s)) o (o + w) (drop w s) x q r k.1 in
               let there = number_there s bytes (ltb-false _ _ k.0) in
               let fits : o + w ≤ end = ltb-false _ _ h.0 in
               (rw (j.1) at there.0, rw (j.1, j.3) at there.1, sym j.2, omega arith, rw (j.1, j.2) at j.0)
@@ -163,7 +163,7 @@ module _ (order : Order) (w end : ℕ) (row : ℕ → ℕ → Option Reason) whe
         | inr h ↦ elim (chosen (ltb (length s) w) _ _ _ h.1) [
           | inl k ↦ absurd (cc (k.1))
           | inr k ↦
-              let j = judged_faulty (row (o + w) (number_of order (take w s))) (number_of order (take w s)) o (o + w) (drop w s) f k.1 in
+              let j = validated_faulty (row (o + w) (number_of order (take w s))) (number_of order (take w s)) o (o + w) (drop w s) f k.1 in
               let there = number_there s bytes (ltb-false _ _ k.0) in
               number_refused (number_of order (take w s)) (drop w s) j.0 (ltb-false _ _ h.0) there.0 there.1 j.1 j.2
         ]
@@ -337,9 +337,9 @@ Agrees-signature k singles n = record {
 
 -- ---- ends
 
-pub Agrees-judge : (row : Option Reason) → Agrees (items.judge row) (reading.judge row)
-Agrees-judge None = Agrees-pure tt
-Agrees-judge (Some why) = Agrees-refuse why
+pub Agrees-validate : (row : Option Reason) → Agrees (items.validate row) (reading.validate row)
+Agrees-validate None = Agrees-pure tt
+Agrees-validate (Some why) = Agrees-refuse why
 
 pub Agrees-bounded : {A : Type 0} (n : ℕ) (item : ℕ → Item A) (run : ℕ → Reader A) → ((end : ℕ) → Agrees (item end) (run end)) → Agrees (items.bounded n item) (reading.bounded n run)
 Agrees-bounded n item run agrees = record {

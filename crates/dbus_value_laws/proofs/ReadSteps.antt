@@ -8,7 +8,7 @@ use Rattle.dbus_value_model.specs.declared.order.Order.TheVariants.{Little, Big}
 use Rattle.dbus_value_model.specs.declared.fault.Reason.{Reason}
 use Rattle.dbus_value_model.specs.Bytes.{gap_to, IsBytes}
 use Rattle.dbus_value_model.specs.Items.{fault, no_row}
-use Rattle.dbus_value_model.specs.Reading.{Reader, Outcome, Done, Faulty, Partial, after, zeros, padding, number, number_of, judged, nul}
+use Rattle.dbus_value_model.specs.Reading.{Reader, Outcome, Done, Faulty, Partial, after, zeros, padding, number, number_of, validated, nul}
 use Rattle.dbus_value_model.specs.declared.stop.Stop.{Stop}
 use Rattle.dbus_value_model.specs.Gives.{Stops}
 use Rattle.dbus_value_model.specs.ValueItems.{text_row, array_row}
@@ -88,17 +88,17 @@ one_byte Little bytes at h = rw (drop_more bytes at 0 h) (omega arith)
 one_byte Big bytes at h = rw (drop_more bytes at 0 h) (omega arith)
 
 -- what a row says of a number that was read alone
-abbrev judged_by : (ℕ → ℕ → Option Reason) → ℕ → Outcome ℕ → Outcome ℕ
-judged_by row o (Done n q r) = judged (row q n) n o q r
-judged_by row o (Faulty f) = Faulty f
-judged_by row o Partial = Partial
+abbrev validated_by : (ℕ → ℕ → Option Reason) → ℕ → Outcome ℕ → Outcome ℕ
+validated_by row o (Done n q r) = validated (row q n) n o q r
+validated_by row o (Faulty f) = Faulty f
+validated_by row o Partial = Partial
 
 module _ (order : Order) (w end : ℕ) (row : ℕ → ℕ → Option Reason) (o : ℕ) (s : List ℕ) where
-  number_by : number order w end row o s ≡ judged_by row o (number order w end no_row o s)
+  number_by : number order w end row o s ≡ validated_by row o (number order w end no_row o s)
   unfolding number
   number_by = by_tests (ltb end (o + w)) (ltb (length s) w) (number_of order (take w s)) (o + w) (drop w s)
     where
-      by_tests : (a b : Bool) (n q : ℕ) (r : List ℕ) → cond a (Faulty (fault o reasons.Overrun)) (cond b Partial (judged (row q n) n o q r)) ≡ judged_by row o (cond a (Faulty (fault o reasons.Overrun)) (cond b Partial (Done n q r)))
+      by_tests : (a b : Bool) (n q : ℕ) (r : List ℕ) → cond a (Faulty (fault o reasons.Overrun)) (cond b Partial (validated (row q n) n o q r)) ≡ validated_by row o (cond a (Faulty (fault o reasons.Overrun)) (cond b Partial (Done n q r)))
       by_tests true b n q r = refl
       by_tests false true n q r = refl
       by_tests false false n q r = refl

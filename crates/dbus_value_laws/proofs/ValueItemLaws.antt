@@ -59,8 +59,8 @@ positive bounds order (EntryValue k x) true o h = simp length-append (omega (ari
 
 -- ---- what the items pass is what is spelled
 
-abbrev pub IsInside : (bounds : Bounds) (order : Order) (room : ℕ) → (ℕ → TypeTree → Item ValueTree) → Type 0
-IsInside bounds order room inside = (end : ℕ) (t : TypeTree) (o : ℕ) (s : List ℕ) (v : ValueTree) (q : ℕ) (r : List ℕ) → (inside end t).Passed o s v q r ↔ Spelled bounds order room end t o s v q r
+abbrev pub IsInside : (bounds : Bounds) (order : Order) (depth_left : ℕ) → (ℕ → TypeTree → Item ValueTree) → Type 0
+IsInside bounds order depth_left inside = (end : ℕ) (t : TypeTree) (o : ℕ) (s : List ℕ) (v : ValueTree) (q : ℕ) (r : List ℕ) → (inside end t).Passed o s v q r ↔ Spelled bounds order depth_left end t o s v q r
 
 module _ (bounds : Bounds) (order : Order) (inside : ℕ → TypeTree → Item ValueTree) where
   to_zero : (end : ℕ) (t : TypeTree) (o : ℕ) (s : List ℕ) (v : ValueTree) (q : ℕ) (r : List ℕ) → (faults.items bounds order zero inside end t).Passed o s v q r → Spelled bounds order zero end t o s v q r
@@ -79,68 +79,68 @@ module _ (bounds : Bounds) (order : Order) (inside : ℕ → TypeTree → Item V
   from_zero end o s (StructValue xs) q r h = absurd h.formed
   from_zero end o s (EntryValue k x) q r h = entry_from bounds order zero inside end o s k x q r h
 
-  module _ (room : ℕ) (is_inside : IsInside bounds order room inside) where
-    to_suc : (end : ℕ) (t : TypeTree) (o : ℕ) (s : List ℕ) (v : ValueTree) (q : ℕ) (r : List ℕ) → (faults.items bounds order (suc room) inside end t).Passed o s v q r → Spelled bounds order (suc room) end t o s v q r
-    to_suc end (NumberType k) o s v q r w = number_to bounds order (suc room) inside end k o s v q r w
-    to_suc end (TextType k) o s v q r w = text_to bounds order (suc room) inside end k o s v q r w
-    to_suc end VariantType o s v q r w = variant_to bounds order room inside (λ e t o s v q r. (is_inside e t o s v q r).0) (λ e t o s v q r. (is_inside e t o s v q r).1) end o s v q r w
-    to_suc end (ArrayType t) o s v q r w = array_to bounds order room inside (λ e t o s v q r. (is_inside e t o s v q r).0) (λ e t o s v q r. (is_inside e t o s v q r).1) end t o s v q r w
-    to_suc end (StructType ts) o s v q r w = struct_to bounds order room inside (λ e t o s v q r. (is_inside e t o s v q r).0) (λ e t o s v q r. (is_inside e t o s v q r).1) end ts o s v q r w
-    to_suc end (EntryType k x) o s v q r w = entry_to bounds order (suc room) inside end k x o s v q r w
+  module _ (depth_left : ℕ) (is_inside : IsInside bounds order depth_left inside) where
+    to_suc : (end : ℕ) (t : TypeTree) (o : ℕ) (s : List ℕ) (v : ValueTree) (q : ℕ) (r : List ℕ) → (faults.items bounds order (suc depth_left) inside end t).Passed o s v q r → Spelled bounds order (suc depth_left) end t o s v q r
+    to_suc end (NumberType k) o s v q r w = number_to bounds order (suc depth_left) inside end k o s v q r w
+    to_suc end (TextType k) o s v q r w = text_to bounds order (suc depth_left) inside end k o s v q r w
+    to_suc end VariantType o s v q r w = variant_to bounds order depth_left inside (λ e t o s v q r. (is_inside e t o s v q r).0) (λ e t o s v q r. (is_inside e t o s v q r).1) end o s v q r w
+    to_suc end (ArrayType t) o s v q r w = array_to bounds order depth_left inside (λ e t o s v q r. (is_inside e t o s v q r).0) (λ e t o s v q r. (is_inside e t o s v q r).1) end t o s v q r w
+    to_suc end (StructType ts) o s v q r w = struct_to bounds order depth_left inside (λ e t o s v q r. (is_inside e t o s v q r).0) (λ e t o s v q r. (is_inside e t o s v q r).1) end ts o s v q r w
+    to_suc end (EntryType k x) o s v q r w = entry_to bounds order (suc depth_left) inside end k x o s v q r w
 
-    from_suc : (end o : ℕ) (s : List ℕ) (v : ValueTree) (q : ℕ) (r : List ℕ) → Spelled bounds order (suc room) end (type_of v) o s v q r → (faults.items bounds order (suc room) inside end (type_of v)).Passed o s v q r
-    from_suc end o s (NumberValue k n) q r h = number_from bounds order (suc room) inside end k o s n q r h
-    from_suc end o s (TextValue k t) q r h = text_from bounds order (suc room) inside end k o s t q r h
-    from_suc end o s (VariantValue x) q r h = variant_from bounds order room inside (λ e t o s v q r. (is_inside e t o s v q r).0) (λ e t o s v q r. (is_inside e t o s v q r).1) end o s x q r h
-    from_suc end o s (ArrayValue t xs) q r h = array_from bounds order room inside (λ e t o s v q r. (is_inside e t o s v q r).0) (λ e t o s v q r. (is_inside e t o s v q r).1) end t o s xs q r h
-    from_suc end o s (StructValue xs) q r h = struct_from bounds order room inside (λ e t o s v q r. (is_inside e t o s v q r).0) (λ e t o s v q r. (is_inside e t o s v q r).1) end o s xs q r h
-    from_suc end o s (EntryValue k x) q r h = entry_from bounds order (suc room) inside end o s k x q r h
+    from_suc : (end o : ℕ) (s : List ℕ) (v : ValueTree) (q : ℕ) (r : List ℕ) → Spelled bounds order (suc depth_left) end (type_of v) o s v q r → (faults.items bounds order (suc depth_left) inside end (type_of v)).Passed o s v q r
+    from_suc end o s (NumberValue k n) q r h = number_from bounds order (suc depth_left) inside end k o s n q r h
+    from_suc end o s (TextValue k t) q r h = text_from bounds order (suc depth_left) inside end k o s t q r h
+    from_suc end o s (VariantValue x) q r h = variant_from bounds order depth_left inside (λ e t o s v q r. (is_inside e t o s v q r).0) (λ e t o s v q r. (is_inside e t o s v q r).1) end o s x q r h
+    from_suc end o s (ArrayValue t xs) q r h = array_from bounds order depth_left inside (λ e t o s v q r. (is_inside e t o s v q r).0) (λ e t o s v q r. (is_inside e t o s v q r).1) end t o s xs q r h
+    from_suc end o s (StructValue xs) q r h = struct_from bounds order depth_left inside (λ e t o s v q r. (is_inside e t o s v q r).0) (λ e t o s v q r. (is_inside e t o s v q r).1) end o s xs q r h
+    from_suc end o s (EntryValue k x) q r h = entry_from bounds order (suc depth_left) inside end o s k x q r h
 
 -- a spelled value has the type that was wanted, so it is enough to know its own type
-own_type : (bounds : Bounds) (order : Order) (room end : ℕ) (t : TypeTree) (o : ℕ) (s : List ℕ) (v : ValueTree) (q : ℕ) (r : List ℕ) → Spelled bounds order room end t o s v q r → Spelled bounds order room end (type_of v) o s v q r
-own_type bounds order room end t o s v q r h = record { has_type = refl; formed = h.formed; within = h.within; indexes = h.indexes; bytes = h.bytes; place = h.place; bound = h.bound }
+own_type : (bounds : Bounds) (order : Order) (depth_left end : ℕ) (t : TypeTree) (o : ℕ) (s : List ℕ) (v : ValueTree) (q : ℕ) (r : List ℕ) → Spelled bounds order depth_left end t o s v q r → Spelled bounds order depth_left end (type_of v) o s v q r
+own_type bounds order depth_left end t o s v q r h = record { has_type = refl; formed = h.formed; within = h.within; indexes = h.indexes; bytes = h.bytes; place = h.place; bound = h.bound }
 
 passed_zero : (bounds : Bounds) (order : Order) (inside : ℕ → TypeTree → Item ValueTree) → IsInside bounds order zero (faults.items bounds order zero inside)
 passed_zero bounds order inside end t o s v q r =
     (to_zero bounds order inside end t o s v q r, λ h. subst (λ (u : TypeTree). (faults.items bounds order zero inside end u).Passed o s v q r) h.has_type (from_zero bounds order inside end o s v q r (own_type bounds order zero end t o s v q r h)))
 
-passed_suc : (bounds : Bounds) (order : Order) (room : ℕ) (inside : ℕ → TypeTree → Item ValueTree) → IsInside bounds order room inside → IsInside bounds order (suc room) (faults.items bounds order (suc room) inside)
-passed_suc bounds order room inside is_inside end t o s v q r =
-    (to_suc bounds order inside room is_inside end t o s v q r, λ h. subst (λ (u : TypeTree). (faults.items bounds order (suc room) inside end u).Passed o s v q r) h.has_type (from_suc bounds order inside room is_inside end o s v q r (own_type bounds order (suc room) end t o s v q r h)))
+passed_suc : (bounds : Bounds) (order : Order) (depth_left : ℕ) (inside : ℕ → TypeTree → Item ValueTree) → IsInside bounds order depth_left inside → IsInside bounds order (suc depth_left) (faults.items bounds order (suc depth_left) inside)
+passed_suc bounds order depth_left inside is_inside end t o s v q r =
+    (to_suc bounds order inside depth_left is_inside end t o s v q r, λ h. subst (λ (u : TypeTree). (faults.items bounds order (suc depth_left) inside end u).Passed o s v q r) h.has_type (from_suc bounds order inside depth_left is_inside end o s v q r (own_type bounds order (suc depth_left) end t o s v q r h)))
 
-pub value_inside : (bounds : Bounds) (order : Order) (room : ℕ) → IsInside bounds order room (faults.value bounds order room)
+pub value_inside : (bounds : Bounds) (order : Order) (depth_left : ℕ) → IsInside bounds order depth_left (faults.value bounds order depth_left)
 value_inside bounds order zero end t o s v q r = (λ h. h, λ h. h)
-value_inside bounds order (suc room) end t o s v q r = (λ h. h, λ h. h)
+value_inside bounds order (suc depth_left) end t o s v q r = (λ h. h, λ h. h)
 
 -- ---- the items of each type agree
 
-Agrees-whole : (bounds : Bounds) (order : Order) (room end : ℕ) (t : TypeTree) (item : Item ValueTree) (run : Reader ValueTree)
-    → ((o : ℕ) (s : List ℕ) (v : ValueTree) (q : ℕ) (r : List ℕ) → item.Passed o s v q r ↔ Spelled bounds order room end t o s v q r)
-    → Agrees item run → Agrees (faults.whole bounds order room end t item) run
-Agrees-whole bounds order room end t item run same a = Agrees-as item (faults.whole bounds order room end t item) run a same (λ o s f. (λ h. h, λ h. h))
+Agrees-whole : (bounds : Bounds) (order : Order) (depth_left end : ℕ) (t : TypeTree) (item : Item ValueTree) (run : Reader ValueTree)
+    → ((o : ℕ) (s : List ℕ) (v : ValueTree) (q : ℕ) (r : List ℕ) → item.Passed o s v q r ↔ Spelled bounds order depth_left end t o s v q r)
+    → Agrees item run → Agrees (faults.whole bounds order depth_left end t item) run
+Agrees-whole bounds order depth_left end t item run same a = Agrees-as item (faults.whole bounds order depth_left end t item) run a same (λ o s f. (λ h. h, λ h. h))
 
-agrees_number : (bounds : Bounds) (order : Order) (room : ℕ) (inside : ℕ → TypeTree → Item ValueTree) (run : ℕ → TypeTree → Reader ValueTree) (end : ℕ) (k : NumberCode) → Agrees (faults.items bounds order room inside end (NumberType k)) (reading.items bounds order room run end (NumberType k))
-agrees_number bounds order room inside run end k =
+agrees_number : (bounds : Bounds) (order : Order) (depth_left : ℕ) (inside : ℕ → TypeTree → Item ValueTree) (run : ℕ → TypeTree → Reader ValueTree) (end : ℕ) (k : NumberCode) → Agrees (faults.items bounds order depth_left inside end (NumberType k)) (reading.items bounds order depth_left run end (NumberType k))
+agrees_number bounds order depth_left inside run end k =
     Agrees-before (items.padding (width k) end) (reading.padding (width k) end) _ _ (Agrees-padding (width k) end) (λ _.
     Agrees-before (items.number order (width k) end (number_row bounds.fds k)) (reading.number order (width k) end (number_row bounds.fds k)) _ _ (Agrees-number order (width k) end (number_row bounds.fds k)) (λ n.
     Agrees-pure (NumberValue k n)))
 
-agrees_text : (bounds : Bounds) (order : Order) (room : ℕ) (inside : ℕ → TypeTree → Item ValueTree) (run : ℕ → TypeTree → Reader ValueTree) (end : ℕ) (k : TextCode) → Agrees (faults.items bounds order room inside end (TextType k)) (reading.items bounds order room run end (TextType k))
-agrees_text bounds order room inside run end k =
+agrees_text : (bounds : Bounds) (order : Order) (depth_left : ℕ) (inside : ℕ → TypeTree → Item ValueTree) (run : ℕ → TypeTree → Reader ValueTree) (end : ℕ) (k : TextCode) → Agrees (faults.items bounds order depth_left inside end (TextType k)) (reading.items bounds order depth_left run end (TextType k))
+agrees_text bounds order depth_left inside run end k =
     Agrees-before (items.padding (length_width k) end) (reading.padding (length_width k) end) _ _ (Agrees-padding (length_width k) end) (λ _.
     Agrees-before (items.number order (length_width k) end (text_row end)) (reading.number order (length_width k) end (text_row end)) _ _ (Agrees-number order (length_width k) end (text_row end)) (λ n.
     Agrees-before (items.text (kind_of k) n) (reading.text (kind_of k) n) _ _ (Agrees-text (kind_of k) n) (λ t.
     Agrees-before items.nul reading.nul _ _ Agrees-nul (λ _.
     Agrees-pure (TextValue k t)))))
 
-module _ (bounds : Bounds) (order : Order) (room : ℕ) (inside : ℕ → TypeTree → Item ValueTree) (run : ℕ → TypeTree → Reader ValueTree) (is_inside : IsInside bounds order room inside)
+module _ (bounds : Bounds) (order : Order) (depth_left : ℕ) (inside : ℕ → TypeTree → Item ValueTree) (run : ℕ → TypeTree → Reader ValueTree) (is_inside : IsInside bounds order depth_left inside)
     (agrees : (end : ℕ) (b : Bool) (t : TypeTree) → IsShaped b t → Agrees (inside end t) (run end t)) where
   moves : (b : Bool) (t : TypeTree) → IsShaped b t → (end : ℕ) → Moves (inside end t)
   moves b t complete end o s v q r h =
       let spelled = (is_inside end t o s v q r).0 h in
       omega (arith, spelled.place, positive bounds order v b o (subst (λ (u : TypeTree). IsShaped b u) (sym spelled.has_type) complete))
 
-  agrees_variant : (end : ℕ) → Agrees (faults.items bounds order (suc room) inside end VariantType) (reading.items bounds order (suc room) run end VariantType)
+  agrees_variant : (end : ℕ) → Agrees (faults.items bounds order (suc depth_left) inside end VariantType) (reading.items bounds order (suc depth_left) run end VariantType)
   agrees_variant end =
       Agrees-before (items.number order 1 end (text_row end)) (reading.number order 1 end (text_row end)) _ _ (Agrees-number order 1 end (text_row end)) (λ n.
       Agrees-then (items.signature (Of kinds.Single) n) (reading.signature (Of kinds.Single) n) _ _ (Agrees-signature (Of kinds.Single) (λ t h. h) n) (λ held o s q r was.
@@ -148,7 +148,7 @@ module _ (bounds : Bounds) (order : Order) (room : ℕ) (inside : ℕ → TypeTr
       Agrees-before (inside end held) (run end held) _ _ (agrees end false held (shaped_of held false 0 0 was.0.0)) (λ x.
       Agrees-pure (VariantValue x)))))
 
-  agrees_array : (end : ℕ) (t : TypeTree) → IsShaped true t → Agrees (faults.items bounds order (suc room) inside end (ArrayType t)) (reading.items bounds order (suc room) run end (ArrayType t))
+  agrees_array : (end : ℕ) (t : TypeTree) → IsShaped true t → Agrees (faults.items bounds order (suc depth_left) inside end (ArrayType t)) (reading.items bounds order (suc depth_left) run end (ArrayType t))
   agrees_array end t complete =
       Agrees-before (items.padding 4 end) (reading.padding 4 end) _ _ (Agrees-padding 4 end) (λ _.
       Agrees-before (items.number order 4 end (array_row bounds t end)) (reading.number order 4 end (array_row bounds t end)) _ _ (Agrees-number order 4 end (array_row bounds t end)) (λ n.
@@ -164,7 +164,7 @@ module _ (bounds : Bounds) (order : Order) (room : ℕ) (inside : ℕ → TypeTr
       Agrees-before (faults.fields (inside end) ts) (reading.fields (run end) ts) _ _ (agrees_fields end ts complete.1) (λ vs.
       Agrees-pure (MoreValues v vs)))
 
-  agrees_struct : (end : ℕ) (ts : TypeTrees) → AreShaped ts → Agrees (faults.items bounds order (suc room) inside end (StructType ts)) (reading.items bounds order (suc room) run end (StructType ts))
+  agrees_struct : (end : ℕ) (ts : TypeTrees) → AreShaped ts → Agrees (faults.items bounds order (suc depth_left) inside end (StructType ts)) (reading.items bounds order (suc depth_left) run end (StructType ts))
   agrees_struct end ts complete =
       Agrees-before (items.padding 8 end) (reading.padding 8 end) _ _ (Agrees-padding 8 end) (λ _.
       Agrees-before (faults.fields (inside end) ts) (reading.fields (run end) ts) _ _ (agrees_fields end ts complete) (λ xs.
@@ -174,19 +174,19 @@ module _ (bounds : Bounds) (order : Order) (room : ℕ) (inside : ℕ → TypeTr
   struct_complete b NoTypes h = absurd h
   struct_complete b (MoreTypes t ts) h = h
 
-  agrees_suc : (end : ℕ) (b : Bool) (t : TypeTree) → IsShaped b t → Agrees (faults.items bounds order (suc room) inside end t) (reading.items bounds order (suc room) run end t)
-  agrees_suc end b (NumberType k) h = agrees_number bounds order (suc room) inside run end k
-  agrees_suc end b (TextType k) h = agrees_text bounds order (suc room) inside run end k
+  agrees_suc : (end : ℕ) (b : Bool) (t : TypeTree) → IsShaped b t → Agrees (faults.items bounds order (suc depth_left) inside end t) (reading.items bounds order (suc depth_left) run end t)
+  agrees_suc end b (NumberType k) h = agrees_number bounds order (suc depth_left) inside run end k
+  agrees_suc end b (TextType k) h = agrees_text bounds order (suc depth_left) inside run end k
   agrees_suc end b VariantType h = agrees_variant end
   agrees_suc end b (ArrayType t) h = agrees_array end t h
   agrees_suc end b (StructType ts) h = agrees_struct end ts (struct_complete b ts h)
   agrees_suc end false (EntryType k v) h = absurd h
   agrees_suc end true (EntryType k v) h =
-      let key = Agrees-whole bounds order (suc room) end k (faults.items bounds order (suc room) inside end k) (reading.items bounds order (suc room) run end k) (passed_suc bounds order room inside is_inside end k) (agrees_suc end false k (basic_complete false k h.0)) in
-      let held = Agrees-whole bounds order (suc room) end v (faults.items bounds order (suc room) inside end v) (reading.items bounds order (suc room) run end v) (passed_suc bounds order room inside is_inside end v) (agrees_suc end false v h.1) in
+      let key = Agrees-whole bounds order (suc depth_left) end k (faults.items bounds order (suc depth_left) inside end k) (reading.items bounds order (suc depth_left) run end k) (passed_suc bounds order depth_left inside is_inside end k) (agrees_suc end false k (basic_complete false k h.0)) in
+      let held = Agrees-whole bounds order (suc depth_left) end v (faults.items bounds order (suc depth_left) inside end v) (reading.items bounds order (suc depth_left) run end v) (passed_suc bounds order depth_left inside is_inside end v) (agrees_suc end false v h.1) in
       Agrees-before (items.padding 8 end) (reading.padding 8 end) _ _ (Agrees-padding 8 end) (λ _.
-      Agrees-before (faults.whole bounds order (suc room) end k (faults.items bounds order (suc room) inside end k)) (reading.items bounds order (suc room) run end k) _ _ key (λ x.
-      Agrees-before (faults.whole bounds order (suc room) end v (faults.items bounds order (suc room) inside end v)) (reading.items bounds order (suc room) run end v) _ _ held (λ y.
+      Agrees-before (faults.whole bounds order (suc depth_left) end k (faults.items bounds order (suc depth_left) inside end k)) (reading.items bounds order (suc depth_left) run end k) _ _ key (λ x.
+      Agrees-before (faults.whole bounds order (suc depth_left) end v (faults.items bounds order (suc depth_left) inside end v)) (reading.items bounds order (suc depth_left) run end v) _ _ held (λ y.
       Agrees-pure (EntryValue x y))))
 
 module _ (bounds : Bounds) (order : Order) (inside : ℕ → TypeTree → Item ValueTree) (run : ℕ → TypeTree → Reader ValueTree) where
@@ -207,11 +207,11 @@ module _ (bounds : Bounds) (order : Order) (inside : ℕ → TypeTree → Item V
 
 -- ---- what is read is what is spelled, and the faults are the table's
 
-pub Agrees-value : (bounds : Bounds) (order : Order) (room end : ℕ) (b : Bool) (t : TypeTree) → IsShaped b t → Agrees (faults.value bounds order room end t) (reading.value bounds order room end t)
+pub Agrees-value : (bounds : Bounds) (order : Order) (depth_left end : ℕ) (b : Bool) (t : TypeTree) → IsShaped b t → Agrees (faults.value bounds order depth_left end t) (reading.value bounds order depth_left end t)
 unfolding reading.value
 Agrees-value bounds order zero end b t h =
     Agrees-whole bounds order zero end t (faults.items bounds order zero faults.nowhere end t) (reading.items bounds order zero reading.nowhere end t) (passed_zero bounds order faults.nowhere end t) (agrees_zero bounds order faults.nowhere reading.nowhere end b t h)
-Agrees-value bounds order (suc room) end b t h =
-    Agrees-whole bounds order (suc room) end t (faults.items bounds order (suc room) (faults.value bounds order room) end t) (reading.items bounds order (suc room) (reading.value bounds order room) end t)
-    (passed_suc bounds order room (faults.value bounds order room) (value_inside bounds order room) end t)
-    (agrees_suc bounds order room (faults.value bounds order room) (reading.value bounds order room) (value_inside bounds order room) (λ e b t h. Agrees-value bounds order room e b t h) end b t h)
+Agrees-value bounds order (suc depth_left) end b t h =
+    Agrees-whole bounds order (suc depth_left) end t (faults.items bounds order (suc depth_left) (faults.value bounds order depth_left) end t) (reading.items bounds order (suc depth_left) (reading.value bounds order depth_left) end t)
+    (passed_suc bounds order depth_left (faults.value bounds order depth_left) (value_inside bounds order depth_left) end t)
+    (agrees_suc bounds order depth_left (faults.value bounds order depth_left) (reading.value bounds order depth_left) (value_inside bounds order depth_left) (λ e b t h. Agrees-value bounds order depth_left e b t h) end b t h)

@@ -41,67 +41,67 @@ module _ {A : Type 0} (item : Item A) (run : Reader A) (agrees : Agrees item run
 
 -- ---- a list of wanted types
 
-Agrees-wanted : (bounds : Bounds) (order : Order) (room end : ℕ) (ts : TypeTrees) → AreShaped ts → Agrees (faults.fields (faults.value bounds order room end) ts) (reading.fields (reading.value bounds order room end) ts)
-Agrees-wanted bounds order room end ts h = agrees_fields bounds order room (faults.value bounds order room) (reading.value bounds order room) (value_inside bounds order room) (λ e b t c. Agrees-value bounds order room e b t c) end ts h
+Agrees-wanted : (bounds : Bounds) (order : Order) (depth_left end : ℕ) (ts : TypeTrees) → AreShaped ts → Agrees (faults.fields (faults.value bounds order depth_left end) ts) (reading.fields (reading.value bounds order depth_left end) ts)
+Agrees-wanted bounds order depth_left end ts h = agrees_fields bounds order depth_left (faults.value bounds order depth_left) (reading.value bounds order depth_left) (value_inside bounds order depth_left) (λ e b t c. Agrees-value bounds order depth_left e b t c) end ts h
 
-module _ (bounds : Bounds) (order : Order) (room end : ℕ) (ts : TypeTrees) where
-  done_to : (o : ℕ) (s : List ℕ) (vs : ValueTrees) (q : ℕ) (r : List ℕ) → IsDone bounds order room end ts o s vs q r → (faults.fields (faults.value bounds order room end) ts).Passed o s vs q r
-  done_to o s vs q r h = subst (λ (u : TypeTrees). (faults.fields (faults.value bounds order room end) u).Passed o s vs q r) h.types
-      (fields_from bounds order room (faults.value bounds order room) (λ e t o s v q r. (value_inside bounds order room e t o s v q r).0) (λ e t o s v q r. (value_inside bounds order room e t o s v q r).1) end vs o s q r h.bound h.spelled)
+module _ (bounds : Bounds) (order : Order) (depth_left end : ℕ) (ts : TypeTrees) where
+  done_to : (o : ℕ) (s : List ℕ) (vs : ValueTrees) (q : ℕ) (r : List ℕ) → IsDone bounds order depth_left end ts o s vs q r → (faults.fields (faults.value bounds order depth_left end) ts).Passed o s vs q r
+  done_to o s vs q r h = subst (λ (u : TypeTrees). (faults.fields (faults.value bounds order depth_left end) u).Passed o s vs q r) h.types
+      (fields_from bounds order depth_left (faults.value bounds order depth_left) (λ e t o s v q r. (value_inside bounds order depth_left e t o s v q r).0) (λ e t o s v q r. (value_inside bounds order depth_left e t o s v q r).1) end vs o s q r h.bound h.spelled)
 
-  done_from : (o : ℕ) (s : List ℕ) (vs : ValueTrees) (q : ℕ) (r : List ℕ) → o ≤ end → (faults.fields (faults.value bounds order room end) ts).Passed o s vs q r → IsDone bounds order room end ts o s vs q r
+  done_from : (o : ℕ) (s : List ℕ) (vs : ValueTrees) (q : ℕ) (r : List ℕ) → o ≤ end → (faults.fields (faults.value bounds order depth_left end) ts).Passed o s vs q r → IsDone bounds order depth_left end ts o s vs q r
   done_from o s vs q r le h =
-      let w = fields_to bounds order room (faults.value bounds order room) (λ e t o s v q r. (value_inside bounds order room e t o s v q r).0) (λ e t o s v q r. (value_inside bounds order room e t o s v q r).1) end ts o s vs q r h in
+      let w = fields_to bounds order depth_left (faults.value bounds order depth_left) (λ e t o s v q r. (value_inside bounds order depth_left e t o s v q r).0) (λ e t o s v q r. (value_inside bounds order depth_left e t o s v q r).1) end ts o s vs q r h in
       record { types = w.0; spelled = w.1; bound = w.2 le }
 
 pub not_both : NotBoth
-not_both bounds order room end ts o s vs q r f h done refused =
-    agreed_either (faults.fields (faults.value bounds order room end) ts) (reading.fields (reading.value bounds order room end) ts) (Agrees-wanted bounds order room end ts h) o s vs q r f (done_to bounds order room end ts o s vs q r done) refused
+not_both bounds order depth_left end ts o s vs q r f h done refused =
+    agreed_either (faults.fields (faults.value bounds order depth_left end) ts) (reading.fields (reading.value bounds order depth_left end) ts) (Agrees-wanted bounds order depth_left end ts h) o s vs q r f (done_to bounds order depth_left end ts o s vs q r done) refused
 
 pub one_fault : OneFault
-one_fault bounds order room end ts o s f g h a b =
-    agreed_fault (faults.fields (faults.value bounds order room end) ts) (reading.fields (reading.value bounds order room end) ts) (Agrees-wanted bounds order room end ts h) o s f g a b
+one_fault bounds order depth_left end ts o s f g h a b =
+    agreed_fault (faults.fields (faults.value bounds order depth_left end) ts) (reading.fields (reading.value bounds order depth_left end) ts) (Agrees-wanted bounds order depth_left end ts h) o s f g a b
 
 pub refused_for_good : RefusedForGood
-refused_for_good bounds order room end ts o s c f h a = (Agrees-wanted bounds order room end ts h).refuses_more c o s f a
+refused_for_good bounds order depth_left end ts o s c f h a = (Agrees-wanted bounds order depth_left end ts h).refuses_more c o s f a
 
 pub done_for_good : DoneForGood
-done_for_good bounds order room end ts o s c vs q r h = record {
+done_for_good bounds order depth_left end ts o s c vs q r h = record {
   types = h.types;
   spelled = record { formed = h.spelled.formed; within = h.spelled.within; indexes = h.spelled.indexes; bytes = ap (λ (t : List ℕ). t ++ c) h.spelled.bytes ∙ append_assoc _ r c; place = h.spelled.place };
   bound = h.bound;
 }
 
-one_outcome_of : (bounds : Bounds) (order : Order) (room end : ℕ) (ts : TypeTrees) (o : ℕ) (s : List ℕ) → AreShaped ts → o ≤ end → IsBytes s → (read : Outcome ValueTrees) → reading.fields (reading.value bounds order room end) ts o s ≡ read → Outcomes bounds order room end ts o s
-one_outcome_of bounds order room end ts o s h le bytes (Done vs q r) e = inl (vs, q, r, done_from bounds order room end ts o s vs q r le ((Agrees-wanted bounds order room end ts h).reads o s vs q r bytes e))
-one_outcome_of bounds order room end ts o s h le bytes (Faulty f) e = inr (inl (f, (Agrees-wanted bounds order room end ts h).shows o s f bytes e))
-one_outcome_of bounds order room end ts o s h le bytes Partial e = inr (inr (record {
-  not_done = λ vs q r done. let d : reading.fields (reading.value bounds order room end) ts o s ≡ Done vs q r = (Agrees-wanted bounds order room end ts h).passes o s vs q r (done_to bounds order room end ts o s vs q r done) in cc;
-  not_refused = λ f refused. let d : reading.fields (reading.value bounds order room end) ts o s ≡ Faulty f = (Agrees-wanted bounds order room end ts h).refuses o s f refused in cc;
+one_outcome_of : (bounds : Bounds) (order : Order) (depth_left end : ℕ) (ts : TypeTrees) (o : ℕ) (s : List ℕ) → AreShaped ts → o ≤ end → IsBytes s → (read : Outcome ValueTrees) → reading.fields (reading.value bounds order depth_left end) ts o s ≡ read → Outcomes bounds order depth_left end ts o s
+one_outcome_of bounds order depth_left end ts o s h le bytes (Done vs q r) e = inl (vs, q, r, done_from bounds order depth_left end ts o s vs q r le ((Agrees-wanted bounds order depth_left end ts h).reads o s vs q r bytes e))
+one_outcome_of bounds order depth_left end ts o s h le bytes (Faulty f) e = inr (inl (f, (Agrees-wanted bounds order depth_left end ts h).shows o s f bytes e))
+one_outcome_of bounds order depth_left end ts o s h le bytes Partial e = inr (inr (record {
+  not_done = λ vs q r done. let d : reading.fields (reading.value bounds order depth_left end) ts o s ≡ Done vs q r = (Agrees-wanted bounds order depth_left end ts h).passes o s vs q r (done_to bounds order depth_left end ts o s vs q r done) in cc;
+  not_refused = λ f refused. let d : reading.fields (reading.value bounds order depth_left end) ts o s ≡ Faulty f = (Agrees-wanted bounds order depth_left end ts h).refuses o s f refused in cc;
 }))
 
 pub one_outcome : OneOutcome
-one_outcome bounds order room end ts o s h le bytes = one_outcome_of bounds order room end ts o s h le bytes (reading.fields (reading.value bounds order room end) ts o s) refl
+one_outcome bounds order depth_left end ts o s h le bytes = one_outcome_of bounds order depth_left end ts o s h le bytes (reading.fields (reading.value bounds order depth_left end) ts o s) refl
 
 pub one_value : OneValue
-one_value bounds order room o v w x y a b same_type same =
+one_value bounds order depth_left o v w x y a b same_type same =
     let any : Bounds = record { array = bounds.array; fds = None; array_in = bounds.array_in } in
     let end = o + length (spelling order o v) + length (spelling order o w) in
     let t = type_of w in
     let complete = subst (λ (u : TypeTree). IsShaped a.complete.0 u) same_type a.complete.1 in
-    let first : Spelled any order room end t o (spelling order o v ++ x) v (o + length (spelling order o v)) x = record { has_type = same_type; formed = a.formed; within = a.within; indexes = any_below v; bytes = refl; place = refl; bound = omega arith } in
-    let second : Spelled any order room end t o (spelling order o v ++ x) w (o + length (spelling order o w)) y = record { has_type = refl; formed = b.formed; within = b.within; indexes = any_below w; bytes = same; place = refl; bound = omega arith } in
-    let both = agreed_value (faults.value any order room end t) (reading.value any order room end t) (Agrees-value any order room end a.complete.0 t complete) o (spelling order o v ++ x) v (o + length (spelling order o v)) x w (o + length (spelling order o w)) y
-    ((value_inside any order room end t o (spelling order o v ++ x) v (o + length (spelling order o v)) x).1 first)
-    ((value_inside any order room end t o (spelling order o v ++ x) w (o + length (spelling order o w)) y).1 second) in
+    let first : Spelled any order depth_left end t o (spelling order o v ++ x) v (o + length (spelling order o v)) x = record { has_type = same_type; formed = a.formed; within = a.within; indexes = any_below v; bytes = refl; place = refl; bound = omega arith } in
+    let second : Spelled any order depth_left end t o (spelling order o v ++ x) w (o + length (spelling order o w)) y = record { has_type = refl; formed = b.formed; within = b.within; indexes = any_below w; bytes = same; place = refl; bound = omega arith } in
+    let both = agreed_value (faults.value any order depth_left end t) (reading.value any order depth_left end t) (Agrees-value any order depth_left end a.complete.0 t complete) o (spelling order o v ++ x) v (o + length (spelling order o v)) x w (o + length (spelling order o w)) y
+    ((value_inside any order depth_left end t o (spelling order o v ++ x) v (o + length (spelling order o v)) x).1 first)
+    ((value_inside any order depth_left end t o (spelling order o v ++ x) w (o + length (spelling order o w)) y).1 second) in
     (both.0, both.2)
 
 pub reads_spelled : ReadsSpelled
-reads_spelled bounds order room end b t o s v q r h bytes =
-    let agrees = Agrees-value bounds order room end b t h in
-    (λ e. (value_inside bounds order room end t o s v q r).0 (agrees.reads o s v q r bytes e), λ p. agrees.passes o s v q r ((value_inside bounds order room end t o s v q r).1 p))
+reads_spelled bounds order depth_left end b t o s v q r h bytes =
+    let agrees = Agrees-value bounds order depth_left end b t h in
+    (λ e. (value_inside bounds order depth_left end t o s v q r).0 (agrees.reads o s v q r bytes e), λ p. agrees.passes o s v q r ((value_inside bounds order depth_left end t o s v q r).1 p))
 
 pub reads_faults : ReadsFaults
-reads_faults bounds order room end b t o s f h bytes =
-    let agrees = Agrees-value bounds order room end b t h in
+reads_faults bounds order depth_left end b t o s f h bytes =
+    let agrees = Agrees-value bounds order depth_left end b t h in
     (λ e. agrees.shows o s f bytes e, λ p. agrees.refuses o s f p)

@@ -32,76 +32,76 @@ framed p next Partial = refl
 
 -- what stands after an array's length and padding
 abbrev array_rest : Bounds → Order → ℕ → ℕ → TypeTree → ℕ → Reader ValueTree
-array_rest bounds order room end t n o s = after (contents n (λ end before. value bounds order room end t) o s) (λ xs. pure (ArrayValue t (value_trees xs)))
+array_rest bounds order depth_left end t n o s = after (contents n (λ end before. value bounds order depth_left end t) o s) (λ xs. pure (ArrayValue t (value_trees xs)))
 
 module _ (bounds : Bounds) (order : Order) where
-  pub value_number : (room end : ℕ) (k : NumberCode) (o : ℕ) (s : List ℕ) → value bounds order room end (NumberType k) o s ≡ number_value bounds.fds order end k o s
+  pub value_number : (depth_left end : ℕ) (k : NumberCode) (o : ℕ) (s : List ℕ) → value bounds order depth_left end (NumberType k) o s ≡ number_value bounds.fds order end k o s
   unfolding value number_value
   value_number zero end k o s = refl
-  value_number (suc room) end k o s = refl
+  value_number (suc depth_left) end k o s = refl
 
-  pub value_text : (room end : ℕ) (k : TextCode) (o : ℕ) (s : List ℕ) → value bounds order room end (TextType k) o s ≡ text_value order end k o s
+  pub value_text : (depth_left end : ℕ) (k : TextCode) (o : ℕ) (s : List ℕ) → value bounds order depth_left end (TextType k) o s ≡ text_value order end k o s
   unfolding value text_value
   value_text zero end k o s = refl
-  value_text (suc room) end k o s = refl
+  value_text (suc depth_left) end k o s = refl
 
-  pub value_variant : (room end o : ℕ) (s : List ℕ) → value bounds order room end VariantType o s ≡ variant_value bounds order room end o s
+  pub value_variant : (depth_left end o : ℕ) (s : List ℕ) → value bounds order depth_left end VariantType o s ≡ variant_value bounds order depth_left end o s
   unfolding value variant_value held_value
   value_variant zero end o s = refl
-  value_variant (suc room) end o s = let e : suc room - 1 ≡ room = omega arith in rw e refl
+  value_variant (suc depth_left) end o s = let e : suc depth_left - 1 ≡ depth_left = omega arith in rw e refl
 
-  pub value_struct : (room end : ℕ) (ts : TypeTrees) (o : ℕ) (s : List ℕ) → value bounds order room end (StructType ts) o s ≡ struct_value bounds order room end ts o s
+  pub value_struct : (depth_left end : ℕ) (ts : TypeTrees) (o : ℕ) (s : List ℕ) → value bounds order depth_left end (StructType ts) o s ≡ struct_value bounds order depth_left end ts o s
   unfolding value struct_value open_struct
   value_struct zero end ts o s = refl
-  value_struct (suc room) end ts o s = let e : suc room - 1 ≡ room = omega arith in rw e refl
+  value_struct (suc depth_left) end ts o s = let e : suc depth_left - 1 ≡ depth_left = omega arith in rw e refl
 
-  pub value_entry : (room end : ℕ) (k v : TypeTree) (o : ℕ) (s : List ℕ) → value bounds order room end (EntryType k v) o s ≡ entry_value bounds order room end k v o s
+  pub value_entry : (depth_left end : ℕ) (k v : TypeTree) (o : ℕ) (s : List ℕ) → value bounds order depth_left end (EntryType k v) o s ≡ entry_value bounds order depth_left end k v o s
   unfolding value entry_value
   value_entry zero end k v o s = refl
-  value_entry (suc room) end k v o s = refl
+  value_entry (suc depth_left) end k v o s = refl
 
-  pub value_array : (room end : ℕ) (t : TypeTree) (o : ℕ) (s : List ℕ) → value bounds order room end (ArrayType t) o s ≡ array_value bounds order room end t o s
+  pub value_array : (depth_left end : ℕ) (t : TypeTree) (o : ℕ) (s : List ℕ) → value bounds order depth_left end (ArrayType t) o s ≡ array_value bounds order depth_left end t o s
   unfolding value array_value open_array array_frame
   value_array zero end t o s = refl
-  value_array (suc room) end t o s =
-      let e : suc room - 1 ≡ room = omega arith in
-      rw e (same_suffix (padding 4 end o s) _ _ (λ x p u. framed (λ n. padding (alignment_of t) end) (λ n. array_rest bounds order room end t n) (number order 4 end (array_row bounds t end) p u)))
+  value_array (suc depth_left) end t o s =
+      let e : suc depth_left - 1 ≡ depth_left = omega arith in
+      rw e (same_suffix (padding 4 end o s) _ _ (λ x p u. framed (λ n. padding (alignment_of t) end) (λ n. array_rest bounds order depth_left end t n) (number order 4 end (array_row bounds t end) p u)))
 
 -- ---- containers
 
-module _ {A : Type 0} (a end room : ℕ) (inner : Reader A) (o : ℕ) (s : List ℕ) where
-  is_open : (room : ℕ) → 0 < room → opened room inner ≡ inner
+module _ {A : Type 0} (a end depth_left : ℕ) (inner : Reader A) (o : ℕ) (s : List ℕ) where
+  is_open : (depth_left : ℕ) → 0 < depth_left → opened depth_left inner ≡ inner
   is_open zero h = absurd (omega arith)
-  is_open (suc room) h = refl
+  is_open (suc depth_left) h = refl
 
   module _ (p : ℕ) (u : List ℕ) (padded : padding a end o s ≡ Done tt p u) where
-    boxed_opens : 0 < room → after (padding a end o s) (λ _. opened room inner) ≡ inner p u
-    boxed_opens h = rw padded (ap (λ (m : Reader A). m p u) (is_open room h))
+    boxed_opens : 0 < depth_left → after (padding a end o s) (λ _. opened depth_left inner) ≡ inner p u
+    boxed_opens h = rw padded (ap (λ (m : Reader A). m p u) (is_open depth_left h))
 
-module _ (bounds : Bounds) (order : Order) (room end o : ℕ) (s : List ℕ) where
-  pub variant_opens : 0 < room → variant_value bounds order room end o s ≡ held_value bounds order (room - 1) end o s
+module _ (bounds : Bounds) (order : Order) (depth_left end o : ℕ) (s : List ℕ) where
+  pub variant_opens : 0 < depth_left → variant_value bounds order depth_left end o s ≡ held_value bounds order (depth_left - 1) end o s
   unfolding variant_value
-  variant_opens h = ap (λ (m : Reader ValueTree). m o s) (is_open 1 end room (held_value bounds order (room - 1) end) o s room h)
+  variant_opens h = ap (λ (m : Reader ValueTree). m o s) (is_open 1 end depth_left (held_value bounds order (depth_left - 1) end) o s depth_left h)
 
   module _ (t : TypeTree) where
     module _ (p : ℕ) (u : List ℕ) (padded : padding 4 end o s ≡ Done tt p u) where
-      pub array_opens : 0 < room → array_value bounds order room end t o s ≡ open_array bounds order (room - 1) end t p u
+      pub array_opens : 0 < depth_left → array_value bounds order depth_left end t o s ≡ open_array bounds order (depth_left - 1) end t p u
       unfolding array_value
-      array_opens h = boxed_opens 4 end room (open_array bounds order (room - 1) end t) o s p u padded h
+      array_opens h = boxed_opens 4 end depth_left (open_array bounds order (depth_left - 1) end t) o s p u padded h
 
     module _ (n p : ℕ) (u : List ℕ) (framed : array_frame bounds order end t o s ≡ Done n p u) where
-      pub open_done : (xs : List ValueTree) (q : ℕ) (r : List ℕ) → contents n (λ end before. value bounds order room end t) p u ≡ Done xs q r → open_array bounds order room end t o s ≡ Done (ArrayValue t (value_trees xs)) q r
+      pub open_done : (xs : List ValueTree) (q : ℕ) (r : List ℕ) → contents n (λ end before. value bounds order depth_left end t) p u ≡ Done xs q r → open_array bounds order depth_left end t o s ≡ Done (ArrayValue t (value_trees xs)) q r
       unfolding open_array
       open_done xs q r h = rw (framed, h) refl
 
   module _ (ts : TypeTrees) where
     module _ (p : ℕ) (u : List ℕ) (padded : padding 8 end o s ≡ Done tt p u) where
-      module _ (h : 0 < room) where
-        struct_opens : struct_value bounds order room end ts o s ≡ open_struct bounds order (room - 1) end ts p u
+      module _ (h : 0 < depth_left) where
+        struct_opens : struct_value bounds order depth_left end ts o s ≡ open_struct bounds order (depth_left - 1) end ts p u
         unfolding struct_value
-        struct_opens = boxed_opens 8 end room (open_struct bounds order (room - 1) end ts) o s p u padded h
+        struct_opens = boxed_opens 8 end depth_left (open_struct bounds order (depth_left - 1) end ts) o s p u padded h
 
-        pub struct_done : (xs : ValueTrees) (q : ℕ) (r : List ℕ) → fields (value bounds order (room - 1) end) ts p u ≡ Done xs q r → struct_value bounds order room end ts o s ≡ Done (StructValue xs) q r
+        pub struct_done : (xs : ValueTrees) (q : ℕ) (r : List ℕ) → fields (value bounds order (depth_left - 1) end) ts p u ≡ Done xs q r → struct_value bounds order depth_left end ts o s ≡ Done (StructValue xs) q r
         unfolding open_struct
         struct_done xs q r f = rw (struct_opens, f) refl
 

@@ -13,43 +13,43 @@ use Rattle.dbus_value_model.specs.declared.value.Value.{Value, Bytes, Array, Str
 use Rattle.dbus_value_model.proofs.ValueRows.{tree-Bytes, tree-Array, tree-Struct}
 
 -- some item that fails
-pub fails_at : {A : Type 0} (room : ℕ) (vs : List (Value A)) (i : ℕ) (d : Value A) → i < length vs → (NestsWithin room (value_tree (get_or vs i d)) → ⊥) → NestWithin room (value_trees_of vs) → ⊥
-fails_at room [] i d l n h = absurd (omega arith)
-fails_at room (v ∷ vs) zero d l n h = n h.0
-fails_at room (v ∷ vs) (suc i) d l n h = fails_at room vs i d (omega arith) n h.1
+pub fails_at : {A : Type 0} (depth_left : ℕ) (vs : List (Value A)) (i : ℕ) (d : Value A) → i < length vs → (NestsWithin depth_left (value_tree (get_or vs i d)) → ⊥) → NestWithin depth_left (value_trees_of vs) → ⊥
+fails_at depth_left [] i d l n h = absurd (omega arith)
+fails_at depth_left (v ∷ vs) zero d l n h = n h.0
+fails_at depth_left (v ∷ vs) (suc i) d l n h = fails_at depth_left vs i d (omega arith) n h.1
 
 -- one item more
-pub nest_more : {A : Type 0} (room : ℕ) (vs : List (Value A)) (i : ℕ) (d : Value A) → i < length vs → NestsWithin room (value_tree (get_or vs i d)) → NestWithin room (value_trees_of (drop (i + 1) vs)) → NestWithin room (value_trees_of (drop i vs))
-nest_more room vs i d l h k = subst (λ us. NestWithin room (value_trees_of us)) (sym (drop_more vs i d l)) (h, k)
+pub nest_more : {A : Type 0} (depth_left : ℕ) (vs : List (Value A)) (i : ℕ) (d : Value A) → i < length vs → NestsWithin depth_left (value_tree (get_or vs i d)) → NestWithin depth_left (value_trees_of (drop (i + 1) vs)) → NestWithin depth_left (value_trees_of (drop i vs))
+nest_more depth_left vs i d l h k = subst (λ us. NestWithin depth_left (value_trees_of us)) (sym (drop_more vs i d l)) (h, k)
 
-pub bytes_nest : (room : ℕ) (bs : List ℕ) → NestWithin room (byte_values bs)
-bytes_nest room [] = tt
-bytes_nest room (b ∷ bs) = (tt, bytes_nest room bs)
+pub bytes_nest : (depth_left : ℕ) (bs : List ℕ) → NestWithin depth_left (byte_values bs)
+bytes_nest depth_left [] = tt
+bytes_nest depth_left (b ∷ bs) = (tt, bytes_nest depth_left bs)
 
 -- a container that is opened
-pub opens_array : {A : Type 0} (room : ℕ) (t : SigType A) (vs : Vec (Value A) A) → 0 < room → NestWithin (room - 1) (value_trees_of vs.items) → NestsWithin room (value_tree {A = A} (Array t vs))
+pub opens_array : {A : Type 0} (depth_left : ℕ) (t : SigType A) (vs : Vec (Value A) A) → 0 < depth_left → NestWithin (depth_left - 1) (value_trees_of vs.items) → NestsWithin depth_left (value_tree {A = A} (Array t vs))
 opens_array zero t vs l h = absurd (omega arith)
-opens_array (suc room) t vs l h = let e : suc room - 1 ≡ room = omega arith in subst (NestsWithin (suc room)) (sym (tree-Array t vs)) (subst (λ (n : ℕ). NestWithin n (value_trees_of vs.items)) e h)
+opens_array (suc depth_left) t vs l h = let e : suc depth_left - 1 ≡ depth_left = omega arith in subst (NestsWithin (suc depth_left)) (sym (tree-Array t vs)) (subst (λ (n : ℕ). NestWithin n (value_trees_of vs.items)) e h)
 
-pub array_opens : {A : Type 0} (room : ℕ) (t : SigType A) (vs : Vec (Value A) A) → NestsWithin room (value_tree {A = A} (Array t vs)) → (0 < room) × NestWithin (room - 1) (value_trees_of vs.items)
+pub array_opens : {A : Type 0} (depth_left : ℕ) (t : SigType A) (vs : Vec (Value A) A) → NestsWithin depth_left (value_tree {A = A} (Array t vs)) → (0 < depth_left) × NestWithin (depth_left - 1) (value_trees_of vs.items)
 array_opens zero t vs h = absurd (subst (NestsWithin zero) (tree-Array t vs) h)
-array_opens (suc room) t vs h = let e : room ≡ suc room - 1 = omega arith in (omega arith, subst (λ (n : ℕ). NestWithin n (value_trees_of vs.items)) e (subst (NestsWithin (suc room)) (tree-Array t vs) h))
+array_opens (suc depth_left) t vs h = let e : depth_left ≡ suc depth_left - 1 = omega arith in (omega arith, subst (λ (n : ℕ). NestWithin n (value_trees_of vs.items)) e (subst (NestsWithin (suc depth_left)) (tree-Array t vs) h))
 
-pub opens_struct : {A : Type 0} (room : ℕ) (vs : Vec (Value A) A) → 0 < room → NestWithin (room - 1) (value_trees_of vs.items) → NestsWithin room (value_tree {A = A} (Struct vs))
+pub opens_struct : {A : Type 0} (depth_left : ℕ) (vs : Vec (Value A) A) → 0 < depth_left → NestWithin (depth_left - 1) (value_trees_of vs.items) → NestsWithin depth_left (value_tree {A = A} (Struct vs))
 opens_struct zero vs l h = absurd (omega arith)
-opens_struct (suc room) vs l h = let e : suc room - 1 ≡ room = omega arith in subst (NestsWithin (suc room)) (sym (tree-Struct vs)) (subst (λ (n : ℕ). NestWithin n (value_trees_of vs.items)) e h)
+opens_struct (suc depth_left) vs l h = let e : suc depth_left - 1 ≡ depth_left = omega arith in subst (NestsWithin (suc depth_left)) (sym (tree-Struct vs)) (subst (λ (n : ℕ). NestWithin n (value_trees_of vs.items)) e h)
 
-pub struct_opens : {A : Type 0} (room : ℕ) (vs : Vec (Value A) A) → NestsWithin room (value_tree {A = A} (Struct vs)) → (0 < room) × NestWithin (room - 1) (value_trees_of vs.items)
+pub struct_opens : {A : Type 0} (depth_left : ℕ) (vs : Vec (Value A) A) → NestsWithin depth_left (value_tree {A = A} (Struct vs)) → (0 < depth_left) × NestWithin (depth_left - 1) (value_trees_of vs.items)
 struct_opens zero vs h = absurd (subst (NestsWithin zero) (tree-Struct vs) h)
-struct_opens (suc room) vs h = let e : room ≡ suc room - 1 = omega arith in (omega arith, subst (λ (n : ℕ). NestWithin n (value_trees_of vs.items)) e (subst (NestsWithin (suc room)) (tree-Struct vs) h))
+struct_opens (suc depth_left) vs h = let e : depth_left ≡ suc depth_left - 1 = omega arith in (omega arith, subst (λ (n : ℕ). NestWithin n (value_trees_of vs.items)) e (subst (NestsWithin (suc depth_left)) (tree-Struct vs) h))
 
-pub opens_bytes : {A : Type 0} (room : ℕ) (bs : Vec ℕ A) → 0 < room → NestsWithin room (value_tree {A = A} (Bytes bs))
+pub opens_bytes : {A : Type 0} (depth_left : ℕ) (bs : Vec ℕ A) → 0 < depth_left → NestsWithin depth_left (value_tree {A = A} (Bytes bs))
 opens_bytes zero bs l = absurd (omega arith)
-opens_bytes (suc room) bs l = subst (NestsWithin (suc room)) (sym (tree-Bytes bs)) (bytes_nest room bs.items)
+opens_bytes (suc depth_left) bs l = subst (NestsWithin (suc depth_left)) (sym (tree-Bytes bs)) (bytes_nest depth_left bs.items)
 
-pub bytes_open : {A : Type 0} (room : ℕ) (bs : Vec ℕ A) → NestsWithin room (value_tree {A = A} (Bytes bs)) → 0 < room
+pub bytes_open : {A : Type 0} (depth_left : ℕ) (bs : Vec ℕ A) → NestsWithin depth_left (value_tree {A = A} (Bytes bs)) → 0 < depth_left
 bytes_open zero bs h = absurd (subst (NestsWithin zero) (tree-Bytes bs) h)
-bytes_open (suc room) bs h = omega arith
+bytes_open (suc depth_left) bs h = omega arith
 
 -- ---- texts
 

@@ -1,11 +1,10 @@
 -- What is decided of the types of a value's parts, level by level and along a list.
-use Rattle.std.proofs.Common.{◌≡◌, ℕ, zero, suc, ◌+◌, ◌<◌, Bool, false, ◌&&◌, not, List, [], ◌∷◌, ◌++◌, length, get_or, drop, Vec, refl, sym, subst, arith, rules, ◌↔◌, IsTrue, Result, Ok, Err, IfOk}
+use Rattle.std.proofs.Common.{◌≡◌, ℕ, zero, suc, ◌+◌, ◌<◌, Bool, ◌&&◌, not, List, [], ◌∷◌, ◌++◌, length, get_or, drop, Vec, refl, sym, subst, arith, rules, ◌↔◌, IsTrue, Result, Ok, Err, IfOk}
 use Rattle.std.proofs.lemmas.Bool.{and_parts, and_from}
 use Rattle.std.proofs.lemmas.List.{drop_more}
 use Rattle.dbus_texts.specs.Types.{TypeTree, NumberType, BYTE, is_byte}
 use Rattle.dbus_types.specs.SigTypes.{type_tree}
-use Rattle.dbus_types.specs.declared.sig_type.SigType.{SigType, the_lemmas as type_lemmas}
-use Rattle.dbus_types.specs.declared.sig_type.SigType.TheVariants as types
+use Rattle.dbus_types.specs.declared.sig_type.SigType.{SigType}
 use Rattle.dbus_value_model.specs.PackedBytes.{keeps_bytes, keep_bytes}
 use Rattle.dbus_value_model.specs.Forming.{IsUniform, AreUniform}
 use Rattle.dbus_value_model.specs.Values.{AllOf, type_of}
@@ -54,10 +53,6 @@ suffix (Err e) P Q p h = tt
 
 pub keeps-Array : {A : Type 0} (t : SigType A) (vs : Vec (Value A) A) → keeps_bytes {A = A} (Array t vs) ≡ (not (is_byte (type_tree t)) && keep_bytes vs.items)
 keeps-Array t vs = search (rules, the_lemmas)
-
-pub other_than_byte : {A : Type 0} (t : SigType A) → (t ≡ types.Byte → ⊥) → is_byte (type_tree t) ≡ false
-other_than_byte types.Byte h = absurd (h refl)
-other_than_byte t h = search (rules, type_lemmas)
 
 pub keeps-Struct : {A : Type 0} (vs : Vec (Value A) A) → keeps_bytes {A = A} (Struct vs) ≡ keep_bytes vs.items
 keeps-Struct vs = search (rules, the_lemmas)

@@ -50,7 +50,7 @@ struct_from_one = refl
 -- reading the array at the start, with so many containers left to open and an end
 
 abbrev read_five : ℕ → ℕ → List ℕ → Outcome ValueTree
-read_five room end bytes = value (bounds_of specification) Little room end (ArrayType (NumberType UINT64)) 0 bytes
+read_five depth_left end bytes = value (bounds_of specification) Little depth_left end (ArrayType (NumberType UINT64)) 0 bytes
 
 array_read_back : read_five 64 16 (8 ∷ 0 ∷ 0 ∷ 0 ∷ 0 ∷ 0 ∷ 0 ∷ 0 ∷ 5 ∷ 0 ∷ 0 ∷ 0 ∷ 0 ∷ 0 ∷ 0 ∷ 0 ∷ []) ≡ Done five 16 []
 unfolding value padding number number_of gap_to

@@ -22,12 +22,12 @@ pub record IsTyped {A : Type 0} (v : Value A) : Type 0 where
 -- What is answered of a value within so many open containers: the first case that holds of any part. Memory is answered
 -- only where a growth was refused, which says nothing of the value.
 abbrev pub Refuses : {A : Type 0} → ValueFault → ℕ → Value A → Type 0
-Refuses Memory room v = Unit {0}
-Refuses TooDeep room v = NestsWithin room (value_tree v) → ⊥
-Refuses Mixed room v = NestsWithin room (value_tree v) × (IsTyped v → ⊥)
-Refuses Name room v = NestsWithin room (value_tree v) × IsTyped v × (IsNamed (value_tree v) → ⊥)
-Refuses ArrayTooLong room v = ⊥
-Refuses TooLong room v = ⊥
+Refuses Memory depth_left v = Unit {0}
+Refuses TooDeep depth_left v = NestsWithin depth_left (value_tree v) → ⊥
+Refuses Mixed depth_left v = NestsWithin depth_left (value_tree v) × (IsTyped v → ⊥)
+Refuses Name depth_left v = NestsWithin depth_left (value_tree v) × IsTyped v × (IsNamed (value_tree v) → ⊥)
+Refuses ArrayTooLong depth_left v = ⊥
+Refuses TooLong depth_left v = ⊥
 
 abbrev pub Checks : {A : Type 0} → Limits → ℕ → Value A → Result (Unit {0}) ValueFault → Type 0
 Checks limits depth v (Ok u) = NestsWithin (limits.depth - depth) (value_tree v) × IsTyped v × IsNamed (value_tree v)

@@ -9,19 +9,19 @@ use Rattle.dbus_value_model.specs.Values.{ValueTree, ValueTrees, NumberValue, Te
 -- no more than room arrays, structs and variants are open at once
 abbrev mutual
   pub NestsWithin : ℕ → ValueTree → Type 0
-  NestsWithin room (NumberValue k n) = Unit {0}
-  NestsWithin room (TextValue k t) = Unit {0}
+  NestsWithin depth_left (NumberValue k n) = Unit {0}
+  NestsWithin depth_left (TextValue k t) = Unit {0}
   NestsWithin zero (VariantValue x) = ⊥
-  NestsWithin (suc room) (VariantValue x) = NestsWithin room x
+  NestsWithin (suc depth_left) (VariantValue x) = NestsWithin depth_left x
   NestsWithin zero (ArrayValue t xs) = ⊥
-  NestsWithin (suc room) (ArrayValue t xs) = NestWithin room xs
+  NestsWithin (suc depth_left) (ArrayValue t xs) = NestWithin depth_left xs
   NestsWithin zero (StructValue xs) = ⊥
-  NestsWithin (suc room) (StructValue xs) = NestWithin room xs
-  NestsWithin room (EntryValue k v) = NestsWithin room k × NestsWithin room v
+  NestsWithin (suc depth_left) (StructValue xs) = NestWithin depth_left xs
+  NestsWithin depth_left (EntryValue k v) = NestsWithin depth_left k × NestsWithin depth_left v
 
   pub NestWithin : ℕ → ValueTrees → Type 0
-  NestWithin room NoValues = Unit {0}
-  NestWithin room (MoreValues x xs) = NestsWithin room x × NestWithin room xs
+  NestWithin depth_left NoValues = Unit {0}
+  NestWithin depth_left (MoreValues x xs) = NestsWithin depth_left x × NestWithin depth_left xs
 
 -- every item has its array's type, and every variant's type spells a signature
 abbrev mutual
@@ -67,7 +67,7 @@ abbrev mutual
 
 -- a value is well formed exactly where it is so in its parts
 abbrev pub FormedByParts : Type 0
-FormedByParts = (room : ℕ) (v : ValueTree) → IsWellFormed room v ↔ (NestsWithin room v × IsUniform v × IsNamed v × IsRanged v)
+FormedByParts = (depth_left : ℕ) (v : ValueTree) → IsWellFormed depth_left v ↔ (NestsWithin depth_left v × IsUniform v × IsNamed v × IsRanged v)
 
 -- The same, part by part: each part, but for a dict entry in an array, has a type that a signature spells; such an entry's
 -- key is basic.

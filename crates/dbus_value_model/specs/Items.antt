@@ -41,9 +41,9 @@ abbrev pub refuse : {A : Type 0} → Reason → Item A
 refuse why = record { Passed = λ o s y q r. ⊥; Refused = λ o s f. f ≡ fault o why }
 
 -- no bytes, and a fault or none
-abbrev pub judge : Option Reason → Item (Unit {0})
-judge None = pure tt
-judge (Some why) = refuse why
+abbrev pub validate : Option Reason → Item (Unit {0})
+validate None = pure tt
+validate (Some why) = refuse why
 
 -- the end is that of the next n bytes
 abbrev pub bounded : {A : Type 0} → ℕ → (ℕ → Item A) → Item A

@@ -10,21 +10,21 @@ use Rattle.dbus_value_model.specs.declared.fault.Fault.{Fault}
 use Rattle.dbus_value_model.specs.ValueItems.{value, fields}
 
 -- values of these types are spelled, one after another, up to q
-pub record IsDone (bounds : Bounds) (order : Order) (room end : ℕ) (ts : TypeTrees) (o : ℕ) (s : List ℕ) (vs : ValueTrees) (q : ℕ) (r : List ℕ) : Type 0 where
+pub record IsDone (bounds : Bounds) (order : Order) (depth_left end : ℕ) (ts : TypeTrees) (o : ℕ) (s : List ℕ) (vs : ValueTrees) (q : ℕ) (r : List ℕ) : Type 0 where
   pub types : types_of vs ≡ ts
-  pub spelled : SpelledAll bounds order room o s vs q r
+  pub spelled : SpelledAll bounds order depth_left o s vs q r
   pub bound : q ≤ end
 
 -- the item that is wanted next shows a fault
 abbrev pub IsRefused : Bounds → Order → ℕ → ℕ → TypeTrees → ℕ → List ℕ → Fault → Type 0
-IsRefused bounds order room end ts o s f = (fields (value bounds order room end) ts).Refused o s f
+IsRefused bounds order depth_left end ts o s f = (fields (value bounds order depth_left end) ts).Refused o s f
 
 -- neither
-pub record IsPartial (bounds : Bounds) (order : Order) (room end : ℕ) (ts : TypeTrees) (o : ℕ) (s : List ℕ) : Type 0 where
-  pub not_done : (vs : ValueTrees) (q : ℕ) (r : List ℕ) → IsDone bounds order room end ts o s vs q r → ⊥
-  pub not_refused : (f : Fault) → IsRefused bounds order room end ts o s f → ⊥
+pub record IsPartial (bounds : Bounds) (order : Order) (depth_left end : ℕ) (ts : TypeTrees) (o : ℕ) (s : List ℕ) : Type 0 where
+  pub not_done : (vs : ValueTrees) (q : ℕ) (r : List ℕ) → IsDone bounds order depth_left end ts o s vs q r → ⊥
+  pub not_refused : (f : Fault) → IsRefused bounds order depth_left end ts o s f → ⊥
 
 abbrev pub Outcomes : Bounds → Order → ℕ → ℕ → TypeTrees → ℕ → List ℕ → Type 0
-Outcomes bounds order room end ts o s =
-    ((vs : ValueTrees) × (q : ℕ) × (r : List ℕ) × IsDone bounds order room end ts o s vs q r)
-    ⊎ (((f : Fault) × IsRefused bounds order room end ts o s f) ⊎ IsPartial bounds order room end ts o s)
+Outcomes bounds order depth_left end ts o s =
+    ((vs : ValueTrees) × (q : ℕ) × (r : List ℕ) × IsDone bounds order depth_left end ts o s vs q r)
+    ⊎ (((f : Fault) × IsRefused bounds order depth_left end ts o s f) ⊎ IsPartial bounds order depth_left end ts o s)

@@ -1,6 +1,6 @@
 -- Reading from left to right: the same answers as the relations of Items and ValueItems give, computed, plain and slow. It is the bridge
 -- from the relations to the code. Of public contracts only those of `Order`, of the fixed header and of the parts that values and
--- messages are judged and checked by name it; what judges, checks and reads them whole says the relations.
+-- messages are validated and checked by name it; what validators, checks and reads them whole says the relations.
 -- D-Bus Specification, "Marshaling (Wire Format)".
 use Rattle.std.specs.Prelude.{ℕ, zero, suc, ◌+◌, ◌*◌, List, [], ◌∷◌, length, take, drop, reverse, if◌then◌else◌, nat_lt, nat_eq, Option, Some, None}
 use Rattle.dbus_texts.specs.Types.{TypeTree, NumberType, TextType, VariantType, ArrayType, StructType, EntryType, TypeTrees, NoTypes, MoreTypes}
@@ -65,15 +65,15 @@ unfoldable pub number_of : Order → List ℕ → ℕ
 number_of Little bs = place_sum bs
 number_of Big bs = place_sum (reverse bs)
 
-abbrev pub judged : Option Reason → ℕ → ℕ → ℕ → List ℕ → Outcome ℕ
-judged None n o q r = Done n q r
-judged (Some why) n o q r = Faulty (fault o why)
+abbrev pub validated : Option Reason → ℕ → ℕ → ℕ → List ℕ → Outcome ℕ
+validated None n o q r = Done n q r
+validated (Some why) n o q r = Faulty (fault o why)
 
 unfoldable pub number : Order → ℕ → ℕ → (ℕ → ℕ → Option Reason) → Reader ℕ
 number order w end row o s =
     if nat_lt end (o + w) then Faulty (fault o reasons.Overrun)
     else if nat_lt (length s) w then Partial
-    else judged (row (o + w) (number_of order (take w s))) (number_of order (take w s)) o (o + w) (drop w s)
+    else validated (row (o + w) (number_of order (take w s))) (number_of order (take w s)) o (o + w) (drop w s)
 
 unfoldable pub text : WantedText → ℕ → Reader (List ℕ)
 text k n o s =
@@ -85,9 +85,9 @@ text k n o s =
 abbrev pub signature : WantedText → ℕ → Reader TypeTree
 signature k n = text k n >>= λ t. pure (type_spelled t)
 
-abbrev pub judge : Option Reason → Reader (Unit {0})
-judge None = pure tt
-judge (Some why) = refuse why
+abbrev pub validate : Option Reason → Reader (Unit {0})
+validate None = pure tt
+validate (Some why) = refuse why
 
 abbrev pub bounded : {A : Type 0} → ℕ → (ℕ → Reader A) → Reader A
 bounded n read o s = read (o + n) o s
@@ -121,48 +121,48 @@ fields part (MoreTypes t ts) = do
   pure (MoreValues v vs)
 
 -- a container is opened where there is room for one more
-abbrev pub opened : {A : Type 0} → (room : ℕ) → Reader A → Reader A
+abbrev pub opened : {A : Type 0} → (depth_left : ℕ) → Reader A → Reader A
 opened zero within = refuse reasons.TooDeep
-opened (suc room) within = within
+opened (suc depth_left) within = within
 
-abbrev pub items : Bounds → Order → (room : ℕ) → (ℕ → TypeTree → Reader ValueTree) → ℕ → TypeTree → Reader ValueTree
-items bounds order room inside end (NumberType k) = do
+abbrev pub items : Bounds → Order → (depth_left : ℕ) → (ℕ → TypeTree → Reader ValueTree) → ℕ → TypeTree → Reader ValueTree
+items bounds order depth_left inside end (NumberType k) = do
   padding (width k) end
   n ← number order (width k) end (number_row bounds.fds k)
   pure (NumberValue k n)
-items bounds order room inside end (TextType k) = do
+items bounds order depth_left inside end (TextType k) = do
   padding (length_width k) end
   n ← number order (length_width k) end (text_row end)
   t ← text (kind_of k) n
   nul
   pure (TextValue k t)
-items bounds order room inside end VariantType = opened room (do
+items bounds order depth_left inside end VariantType = opened depth_left (do
   n ← number order 1 end (text_row end)
   held ← signature (Of kinds.Single) n
   nul
   x ← inside end held
   pure (VariantValue x))
-items bounds order room inside end (ArrayType t) = do
+items bounds order depth_left inside end (ArrayType t) = do
   padding 4 end
-  opened room (do
+  opened depth_left (do
     n ← number order 4 end (array_row bounds t end)
     padding (alignment_of t) end
     xs ← contents n (λ end before. inside end t)
     pure (ArrayValue t (value_trees xs)))
-items bounds order room inside end (StructType ts) = do
+items bounds order depth_left inside end (StructType ts) = do
   padding 8 end
-  opened room (do
+  opened depth_left (do
     xs ← fields (inside end) ts
     pure (StructValue xs))
-items bounds order room inside end (EntryType k v) = do
+items bounds order depth_left inside end (EntryType k v) = do
   padding 8 end
-  key ← items bounds order room inside end k
-  x ← items bounds order room inside end v
+  key ← items bounds order depth_left inside end k
+  x ← items bounds order depth_left inside end v
   pure (EntryValue key x)
 
 abbrev pub nowhere : ℕ → TypeTree → Reader ValueTree
 nowhere end t = refuse reasons.TooDeep
 
-unfoldable pub value : Bounds → Order → (room : ℕ) → ℕ → TypeTree → Reader ValueTree
+unfoldable pub value : Bounds → Order → (depth_left : ℕ) → ℕ → TypeTree → Reader ValueTree
 value bounds order zero end t = items bounds order zero nowhere end t
-value bounds order (suc room) end t = items bounds order (suc room) (value bounds order room) end t
+value bounds order (suc depth_left) end t = items bounds order (suc depth_left) (value bounds order depth_left) end t

@@ -40,4 +40,4 @@ SizeStops = (limits : Limits) (order : Order) (v : ValueTree) (o : ℕ) (f : Val
 
 -- Each signature in a well-formed value has at most 255 bytes.
 abbrev pub FormedIsShort : Type 0
-FormedIsShort = (room : ℕ) (v : ValueTree) → IsWellFormed room v → HasShortSignatures v
+FormedIsShort = (depth_left : ℕ) (v : ValueTree) → IsWellFormed depth_left v → HasShortSignatures v

@@ -50,9 +50,9 @@ abbrev mutual
 
 -- A value of type t, well formed, is spelled at o by the prefix of the bytes s that stand there. It ends at q, which is
 -- not past the end, and r are the bytes from there on.
-pub record Spelled (bounds : Bounds) (order : Order) (room end : ℕ) (t : TypeTree) (o : ℕ) (s : List ℕ) (v : ValueTree) (q : ℕ) (r : List ℕ) : Type 0 where
+pub record Spelled (bounds : Bounds) (order : Order) (depth_left end : ℕ) (t : TypeTree) (o : ℕ) (s : List ℕ) (v : ValueTree) (q : ℕ) (r : List ℕ) : Type 0 where
   pub has_type : type_of v ≡ t
-  pub formed : IsWellFormed room v
+  pub formed : IsWellFormed depth_left v
   pub within : IsWithinLimits bounds.array order o v
   pub indexes : AreIndexesBelow bounds.fds v
   pub bytes : s ≡ spelling order o v ++ r
@@ -60,8 +60,8 @@ pub record Spelled (bounds : Bounds) (order : Order) (room end : ℕ) (t : TypeT
   pub bound : q ≤ end
 
 -- Values one after another, each where the one before ended.
-pub record SpelledAll (bounds : Bounds) (order : Order) (room : ℕ) (o : ℕ) (s : List ℕ) (vs : ValueTrees) (q : ℕ) (r : List ℕ) : Type 0 where
-  pub formed : AreWellFormed room vs
+pub record SpelledAll (bounds : Bounds) (order : Order) (depth_left : ℕ) (o : ℕ) (s : List ℕ) (vs : ValueTrees) (q : ℕ) (r : List ℕ) : Type 0 where
+  pub formed : AreWellFormed depth_left vs
   pub within : AreWithinLimits bounds.array order o vs
   pub indexes : AreAllBelow bounds.fds vs
   pub bytes : s ≡ spellings order o vs ++ r

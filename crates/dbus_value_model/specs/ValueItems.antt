@@ -42,7 +42,7 @@ array_row bounds t end p n = if nat_lt bounds.array n then Some reasons.ArrayToo
 
 -- a part is passed where a value of its type is spelled, whole
 abbrev pub whole : Bounds → Order → ℕ → ℕ → TypeTree → Item ValueTree → Item ValueTree
-whole bounds order room end t items = record { Passed = Spelled bounds order room end t; Refused = items.Refused }
+whole bounds order depth_left end t items = record { Passed = Spelled bounds order depth_left end t; Refused = items.Refused }
 
 abbrev pub fields : (TypeTree → Item ValueTree) → TypeTrees → Item ValueTrees
 fields part NoTypes = pure NoValues
@@ -52,50 +52,50 @@ fields part (MoreTypes t ts) = do
   pure (MoreValues v vs)
 
 -- a container is opened where there is room for one more
-abbrev pub opened : {A : Type 0} → (room : ℕ) → Item A → Item A
+abbrev pub opened : {A : Type 0} → (depth_left : ℕ) → Item A → Item A
 opened zero within = refuse reasons.TooDeep
-opened (suc room) within = within
+opened (suc depth_left) within = within
 
 -- inside end t: a part of type t within the container that is opened here
-abbrev pub items : Bounds → Order → (room : ℕ) → (ℕ → TypeTree → Item ValueTree) → ℕ → TypeTree → Item ValueTree
-items bounds order room inside end (NumberType k) = do
+abbrev pub items : Bounds → Order → (depth_left : ℕ) → (ℕ → TypeTree → Item ValueTree) → ℕ → TypeTree → Item ValueTree
+items bounds order depth_left inside end (NumberType k) = do
   padding (width k) end
   n ← number order (width k) end (number_row bounds.fds k)
   pure (NumberValue k n)
-items bounds order room inside end (TextType k) = do
+items bounds order depth_left inside end (TextType k) = do
   padding (length_width k) end
   n ← number order (length_width k) end (text_row end)
   t ← text (kind_of k) n
   nul
   pure (TextValue k t)
-items bounds order room inside end VariantType = opened room (do
+items bounds order depth_left inside end VariantType = opened depth_left (do
   n ← number order 1 end (text_row end)
   held ← signature (Of kinds.Single) n
   nul
   x ← inside end held
   pure (VariantValue x))
-items bounds order room inside end (ArrayType t) = do
+items bounds order depth_left inside end (ArrayType t) = do
   padding 4 end
-  opened room (do
+  opened depth_left (do
     n ← number order 4 end (array_row bounds t end)
     padding (alignment_of t) end
     xs ← contents n (λ end before. inside end t)
     pure (ArrayValue t (value_trees xs)))
-items bounds order room inside end (StructType ts) = do
+items bounds order depth_left inside end (StructType ts) = do
   padding 8 end
-  opened room (do
+  opened depth_left (do
     xs ← fields (inside end) ts
     pure (StructValue xs))
-items bounds order room inside end (EntryType k v) = do
+items bounds order depth_left inside end (EntryType k v) = do
   padding 8 end
-  key ← whole bounds order room end k (items bounds order room inside end k)
-  x ← whole bounds order room end v (items bounds order room inside end v)
+  key ← whole bounds order depth_left end k (items bounds order depth_left inside end k)
+  x ← whole bounds order depth_left end v (items bounds order depth_left inside end v)
   pure (EntryValue key x)
 
 abbrev pub nowhere : ℕ → TypeTree → Item ValueTree
 nowhere end t = refuse reasons.TooDeep
 
 -- a wanted value of type t, with room for so many open containers
-abbrev pub value : Bounds → Order → (room : ℕ) → ℕ → TypeTree → Item ValueTree
+abbrev pub value : Bounds → Order → (depth_left : ℕ) → ℕ → TypeTree → Item ValueTree
 value bounds order zero end t = whole bounds order zero end t (items bounds order zero nowhere end t)
-value bounds order (suc room) end t = whole bounds order (suc room) end t (items bounds order (suc room) (value bounds order room) end t)
+value bounds order (suc depth_left) end t = whole bounds order (suc depth_left) end t (items bounds order (suc depth_left) (value bounds order depth_left) end t)

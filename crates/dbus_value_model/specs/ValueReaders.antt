@@ -1,4 +1,4 @@
--- The computed reading of a value, in the parts that the code judges and checks.
+-- The computed reading of a value, in the parts that the code validates and checks.
 -- D-Bus Specification, "Marshaling (Wire Format)".
 use Rattle.std.specs.Prelude.{ℕ, ◌-◌, Option}
 use Rattle.dbus_texts.specs.Types.{NumberCode, TextCode, TypeTree, TypeTrees}
@@ -29,16 +29,16 @@ text_value order end k = do
 
 -- a value with its type, within a container that is open
 unfoldable pub held_value : Bounds → Order → ℕ → ℕ → Reader ValueTree
-held_value bounds order room end = do
+held_value bounds order depth_left end = do
   n ← number order 1 end (text_row end)
   held ← signature (Of Single) n
   nul
-  x ← value bounds order room end held
+  x ← value bounds order depth_left end held
   pure (VariantValue x)
 
 -- a value with its type
 unfoldable pub variant_value : Bounds → Order → ℕ → ℕ → Reader ValueTree
-variant_value bounds order room end = opened room (held_value bounds order (room - 1) end)
+variant_value bounds order depth_left end = opened depth_left (held_value bounds order (depth_left - 1) end)
 
 -- an array's length and the padding after it
 unfoldable pub array_frame : Bounds → Order → ℕ → TypeTree → Reader ℕ
@@ -49,33 +49,33 @@ array_frame bounds order end t = do
 
 -- an array after its first padding, within itself
 unfoldable pub open_array : Bounds → Order → ℕ → ℕ → TypeTree → Reader ValueTree
-open_array bounds order room end t = do
+open_array bounds order depth_left end t = do
   n ← array_frame bounds order end t
-  xs ← contents n (λ end before. value bounds order room end t)
+  xs ← contents n (λ end before. value bounds order depth_left end t)
   pure (ArrayValue t (value_trees xs))
 
 -- an array
 unfoldable pub array_value : Bounds → Order → ℕ → ℕ → TypeTree → Reader ValueTree
-array_value bounds order room end t = do
+array_value bounds order depth_left end t = do
   padding 4 end
-  opened room (open_array bounds order (room - 1) end t)
+  opened depth_left (open_array bounds order (depth_left - 1) end t)
 
 -- a struct's fields, within it
 unfoldable pub open_struct : Bounds → Order → ℕ → ℕ → TypeTrees → Reader ValueTree
-open_struct bounds order room end ts = do
-  xs ← fields (value bounds order room end) ts
+open_struct bounds order depth_left end ts = do
+  xs ← fields (value bounds order depth_left end) ts
   pure (StructValue xs)
 
 -- a struct
 unfoldable pub struct_value : Bounds → Order → ℕ → ℕ → TypeTrees → Reader ValueTree
-struct_value bounds order room end ts = do
+struct_value bounds order depth_left end ts = do
   padding 8 end
-  opened room (open_struct bounds order (room - 1) end ts)
+  opened depth_left (open_struct bounds order (depth_left - 1) end ts)
 
 -- a dict entry
 unfoldable pub entry_value : Bounds → Order → ℕ → ℕ → TypeTree → TypeTree → Reader ValueTree
-entry_value bounds order room end k v = do
+entry_value bounds order depth_left end k v = do
   padding 8 end
-  key ← value bounds order room end k
-  x ← value bounds order room end v
+  key ← value bounds order depth_left end k
+  x ← value bounds order depth_left end v
   pure (EntryValue key x)

@@ -55,16 +55,16 @@ AllOf t (MoreValues x xs) = (type_of x ≡ t) × AllOf t xs
 -- room is how many containers may still be opened around a part of the value
 abbrev mutual
   pub IsWellFormed : ℕ → ValueTree → Type 0
-  IsWellFormed room (NumberValue k n) = IsNumber k n
-  IsWellFormed room (TextValue k t) = IsWanted (kind_of k) t × (length t < 256 ^ length_width k)
+  IsWellFormed depth_left (NumberValue k n) = IsNumber k n
+  IsWellFormed depth_left (TextValue k t) = IsWanted (kind_of k) t × (length t < 256 ^ length_width k)
   IsWellFormed zero (VariantValue x) = ⊥
-  IsWellFormed (suc room) (VariantValue x) = IsSingleType (type_of x) × IsWellFormed room x
+  IsWellFormed (suc depth_left) (VariantValue x) = IsSingleType (type_of x) × IsWellFormed depth_left x
   IsWellFormed zero (ArrayValue t xs) = ⊥
-  IsWellFormed (suc room) (ArrayValue t xs) = AllOf t xs × AreWellFormed room xs
+  IsWellFormed (suc depth_left) (ArrayValue t xs) = AllOf t xs × AreWellFormed depth_left xs
   IsWellFormed zero (StructValue xs) = ⊥
-  IsWellFormed (suc room) (StructValue xs) = AreWellFormed room xs
-  IsWellFormed room (EntryValue k v) = IsWellFormed room k × IsWellFormed room v
+  IsWellFormed (suc depth_left) (StructValue xs) = AreWellFormed depth_left xs
+  IsWellFormed depth_left (EntryValue k v) = IsWellFormed depth_left k × IsWellFormed depth_left v
 
   pub AreWellFormed : ℕ → ValueTrees → Type 0
-  AreWellFormed room NoValues = Unit {0}
-  AreWellFormed room (MoreValues x xs) = IsWellFormed room x × AreWellFormed room xs
+  AreWellFormed depth_left NoValues = Unit {0}
+  AreWellFormed depth_left (MoreValues x xs) = IsWellFormed depth_left x × AreWellFormed depth_left xs

@@ -71,28 +71,29 @@ pub fn check_value_within<A: Allocator + Copy>(
     Ok(())
 }
 
-/// Whether no more than `room` arrays, structs and variants are open at once.
+/// Whether no more than `depth_left` arrays, structs and variants are open at once.
 #[cycle(nests)]
-pub fn nests_within<A: Allocator>(value: &Value<A>, room: u8) -> bool
-    ensures { IsTrue result ↔ NestsWithin room (value_tree value.now) }
+pub fn nests_within<A: Allocator>(value: &Value<A>, depth_left: u8) -> bool
+    ensures { IsTrue result ↔ NestsWithin depth_left (value_tree value.now) }
 {
     match value {
-        Value::Bytes(_) => 0 < room,
-        Value::Array(_, items) => 0 < room && nest_within(items, room - 1),
-        Value::Struct(fields) => 0 < room && nest_within(fields, room - 1),
-        Value::Entry(entry) => nests_within(&entry.key, room) && nests_within(&entry.value, room),
-        Value::Variant(inner) => 0 < room && nests_within(inner, room - 1),
+        Value::Bytes(_) => 0 < depth_left,
+        Value::Array(_, items) => 0 < depth_left && nest_within(items, depth_left - 1),
+        Value::Struct(fields) => 0 < depth_left && nest_within(fields, depth_left - 1),
+        Value::Entry(entry) => nests_within(&entry.key, depth_left)
+            && nests_within(&entry.value, depth_left),
+        Value::Variant(inner) => 0 < depth_left && nests_within(inner, depth_left - 1),
         _ => true,
     }
 }
 
-/// Whether no more than `room` arrays, structs and variants are open at once in any of the values.
+/// Whether no more than `depth_left` arrays, structs and variants are open at once in any of the values.
 #[cycle(nests)]
-pub fn nest_within<A: Allocator>(values: &[Value<A>], room: u8) -> bool
-    ensures { IsTrue result ↔ NestWithin room (value_trees_of values.now) }
+pub fn nest_within<A: Allocator>(values: &[Value<A>], depth_left: u8) -> bool
+    ensures { IsTrue result ↔ NestWithin depth_left (value_trees_of values.now) }
 {
     for value in values {
-        if !nests_within(value, room) {
+        if !nests_within(value, depth_left) {
             return false;
         }
     }

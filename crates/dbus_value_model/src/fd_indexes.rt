@@ -8,13 +8,13 @@ ghost use Rattle.dbus_value_model.specs.ValueViews.{value_tree, value_trees_of};
 use crate::value::Value;
 use std::alloc::Allocator;
 
-/// The number, counted from 0, of the first value that has an index of a file descriptor not below `fds`, at any depth: in
-/// variants, arrays, structs and dict entries too. Nothing where every index is below it, or where `fds` is nothing.
+/// The number, counted from 0, of the first value that has an index of a file descriptor not below `index_limit`, at any depth: in
+/// variants, arrays, structs and dict entries too. Nothing where every index is below it, or where `index_limit` is nothing.
 /// D-Bus Specification, "Basic types".
-pub fn first_past<A: Allocator>(values: &[Value<A>], fds: Option<u32>) -> Option<usize>
-    ensures { IsFirstPast fds 0 (value_trees_of values.now) result }
+pub fn first_past<A: Allocator>(values: &[Value<A>], index_limit: Option<u32>) -> Option<usize>
+    ensures { IsFirstPast index_limit 0 (value_trees_of values.now) result }
 {
-    let limit = match fds {
+    let limit = match index_limit {
         Some(limit) => limit,
         None => return None,
     };

@@ -23,10 +23,10 @@ pub record FirstElement (e : ElementsState) (xs : ValueTrees) (rest : List ℕ) 
   pub x : ValueTree
   pub us : ValueTrees
   pub begins : xs ≡ MoreValues x us
-  pub stands : Stands e.order e.room e.type e.at e.bytes x (spellings e.order (e.at + length (spelling e.order e.at x)) us ++ rest)
+  pub stands : Stands e.order e.depth_left e.type e.at e.bytes x (spellings e.order (e.at + length (spelling e.order e.at x)) us ++ rest)
   pub some : 0 < length (spelling e.order e.at x)
   pub inside : e.at + length (spelling e.order e.at x) ≤ e.end
-  pub others : ElementsStand e.order e.room e.type (e.at + length (spelling e.order e.at x)) e.end e.bytes us rest
+  pub others : ElementsStand e.order e.depth_left e.type (e.at + length (spelling e.order e.at x)) e.end e.bytes us rest
 
 pub element_of : (e : ElementsState) (xs : ValueTrees) (rest : List ℕ) → ElementsAreLeft e xs rest → (e.at ≡ e.end → ⊥) → FirstElement e xs rest
 element_of e NoValues rest l some = absurd (some (sym (none_ends l)))
@@ -48,8 +48,8 @@ pub record FirstValue (s : ValuesState) (xs : ValueTrees) (rest : List ℕ) (end
   pub x : ValueTree
   pub us : ValueTrees
   pub begins : xs ≡ MoreValues x us
-  pub stands : Stands s.order s.room (take end s.types) s.at s.bytes x (spellings s.order (s.at + length (spelling s.order s.at x)) us ++ rest)
-  pub others : AllStand s.order s.room (take (length s.types - end) (drop end s.types)) (s.at + length (spelling s.order s.at x)) s.bytes us rest
+  pub stands : Stands s.order s.depth_left (take end s.types) s.at s.bytes x (spellings s.order (s.at + length (spelling s.order s.at x)) us ++ rest)
+  pub others : AllStand s.order s.depth_left (take (length s.types - end) (drop end s.types)) (s.at + length (spelling s.order s.at x)) s.bytes us rest
 
 pub value_of : (s : ValuesState) (xs : ValueTrees) (rest : List ℕ) (end : ℕ) → AreLeft s xs rest → 0 < length s.types → IsTypeEnd s.types 0 end → FirstValue s xs rest end
 value_of s NoValues rest end l some is = absurd (omega (arith, some, ap length l.text))
@@ -60,6 +60,6 @@ value_of s (MoreValues x us) rest end l some is =
       x = x;
       us = us;
       begins = refl;
-      stands = subst (λ (k : ℕ). Stands s.order s.room (take k s.types) s.at s.bytes x (spellings s.order (s.at + length (spelling s.order s.at x)) us ++ rest)) whole (first_value s.types 0 end is l);
-      others = subst (λ (t : List ℕ). AllStand s.order s.room t (s.at + length (spelling s.order s.at x)) s.bytes us rest) left (other_values s.types 0 end is l);
+      stands = subst (λ (k : ℕ). Stands s.order s.depth_left (take k s.types) s.at s.bytes x (spellings s.order (s.at + length (spelling s.order s.at x)) us ++ rest)) whole (first_value s.types 0 end is l);
+      others = subst (λ (t : List ℕ). AllStand s.order s.depth_left t (s.at + length (spelling s.order s.at x)) s.bytes us rest) left (other_values s.types 0 end is l);
     }

@@ -97,18 +97,18 @@ unfolding spelling gap_to num low_first
 byte_spelled Little place n small = let none : gap_to 1 place ≡ 0 = omega arith in let same : n % 256 ≡ n = omega arith in ap (λ (g : ℕ). replicate g 0 ++ n % 256 ∷ []) none ∙ ap (λ (b : ℕ). b ∷ []) same
 byte_spelled Big place n small = let none : gap_to 1 place ≡ 0 = omega arith in let same : n % 256 ≡ n = omega arith in ap (λ (g : ℕ). replicate g 0 ++ n % 256 ∷ []) none ∙ ap (λ (b : ℕ). b ∷ []) same
 
-byte_elements : (order : Order) (room place : ℕ) (xs : ValueTrees) → AllOf (NumberType BYTE) xs → AreWellFormed room xs → xs ≡ byte_values (spellings order place xs)
+byte_elements : (order : Order) (depth_left place : ℕ) (xs : ValueTrees) → AllOf (NumberType BYTE) xs → AreWellFormed depth_left xs → xs ≡ byte_values (spellings order place xs)
 unfolding spellings
-byte_elements order room place NoValues all formed = refl
-byte_elements order room place (MoreValues v us) all formed =
+byte_elements order depth_left place NoValues all formed = refl
+byte_elements order depth_left place (MoreValues v us) all formed =
     let n = number_of_type v BYTE all.0 in
-    let own : spelling order place v ≡ n.0 ∷ [] = ap (spelling order place) n.1 ∙ byte_spelled order place n.0 (subst (λ (x : ValueTree). IsWellFormed room x) n.1 formed.0) in
-    let rest = byte_elements order room (place + 1) us all.1 formed.1 in
+    let own : spelling order place v ≡ n.0 ∷ [] = ap (spelling order place) n.1 ∙ byte_spelled order place n.0 (subst (λ (x : ValueTree). IsWellFormed depth_left x) n.1 formed.0) in
+    let rest = byte_elements order depth_left (place + 1) us all.1 formed.1 in
     ap (λ (x : ValueTree). MoreValues x us) n.1 ∙ ap (MoreValues (NumberValue BYTE n.0)) rest ∙ ap (λ (l : List ℕ). byte_values (l ++ spellings order (place + length l) us)) (sym own)
 
 -- ---- where they stand
 
-module _ {order : Order} {room : ℕ} {types : List ℕ} {at end : ℕ} {bytes : List ℕ} {xs : ValueTrees} {rest : List ℕ} (e : ElementsStand order room types at end bytes xs rest) where
+module _ {order : Order} {depth_left : ℕ} {types : List ℕ} {at end : ℕ} {bytes : List ℕ} {xs : ValueTrees} {rest : List ℕ} (e : ElementsStand order depth_left types at end bytes xs rest) where
   pub elements_within : (at ≤ end) × (end ≤ length bytes)
   elements_within = (omega (arith, e.ends), omega (arith, e.ends, e.inside, ap length e.spelled, length-append (spellings order at xs) rest, length-drop at bytes))
 
@@ -119,10 +119,10 @@ module _ {order : Order} {room : ℕ} {types : List ℕ} {at end : ℕ} {bytes :
 
   pub bytes_there : e.type ≡ NumberType BYTE → xs ≡ byte_values (take (end - at) (drop at bytes))
   bytes_there is =
-      byte_elements order room at xs (subst (λ (t : TypeTree). AllOf t xs) is e.all) e.formed ∙ ap byte_values (sym (slice_there at [] (spellings order at xs) refl (omega arith)))
+      byte_elements order depth_left at xs (subst (λ (t : TypeTree). AllOf t xs) is e.all) e.formed ∙ ap byte_values (sym (slice_there at [] (spellings order at xs) refl (omega arith)))
 
 -- numbers of so many bytes
-pub numbers_in : {order : Order} {room : ℕ} {types : List ℕ} {at end : ℕ} {bytes : List ℕ} (xs : ValueTrees) {rest : List ℕ} (e : ElementsStand order room types at end bytes xs rest) (w : ℕ) → 0 < w → w ≡ number_width e.type → (at ≡ end → ⊥)
+pub numbers_in : {order : Order} {depth_left : ℕ} {types : List ℕ} {at end : ℕ} {bytes : List ℕ} (xs : ValueTrees) {rest : List ℕ} (e : ElementsStand order depth_left types at end bytes xs rest) (w : ℕ) → 0 < w → w ≡ number_width e.type → (at ≡ end → ⊥)
     → (start : ℕ) → start ≡ at + gap_to w at → (start ≤ end) × AreNumbersIn order types xs (take (end - start) (drop start bytes))
 numbers_in NoValues e w some wide left start place = absurd (left (sym (none_ends e)))
 numbers_in {order} {at = at} {end = end} (MoreValues v us) e w some wide left start place =
@@ -139,7 +139,7 @@ numbers_in {order} {at = at} {end = end} (MoreValues v us) e w some wide left st
       record { code = k; numbers = numbers.0; typed = sym e.text ∙ ap sig number.1; are = numbers.1; spelled = slice_there e start front own first begins ∙ numbers.2 },
     )
 
-pub none_in : {order : Order} {room : ℕ} {types : List ℕ} {at end : ℕ} {bytes : List ℕ} {xs : ValueTrees} {rest : List ℕ} (e : ElementsStand order room types at end bytes xs rest) (w : ℕ) → 0 < w → w ≡ number_width e.type → xs ≡ NoValues → AreNumbersIn order types xs []
+pub none_in : {order : Order} {depth_left : ℕ} {types : List ℕ} {at end : ℕ} {bytes : List ℕ} {xs : ValueTrees} {rest : List ℕ} (e : ElementsStand order depth_left types at end bytes xs rest) (w : ℕ) → 0 < w → w ≡ number_width e.type → xs ≡ NoValues → AreNumbersIn order types xs []
 none_in e w some wide none =
     let number = number_is e.type w some wide in
     record { code = number.0; numbers = []; typed = sym e.text ∙ ap sig number.1; are = none; spelled = refl }

@@ -35,9 +35,9 @@ signature_left OBJECT_PATH wide = absurd (omega (arith, wide))
 signature_left SIGNATURE wide = refl
 
 -- one value that stands there is all of some
-pub one_left : {order : Order} {room : ℕ} {types : List ℕ} {at : ℕ} {bytes : List ℕ} {v : ValueTree} {rest : List ℕ} → Stands order room types at bytes v rest → IsShaped false (type_of v) → AllStand order room types at bytes (MoreValues v NoValues) rest
+pub one_left : {order : Order} {depth_left : ℕ} {types : List ℕ} {at : ℕ} {bytes : List ℕ} {v : ValueTree} {rest : List ℕ} → Stands order depth_left types at bytes v rest → IsShaped false (type_of v) → AllStand order depth_left types at bytes (MoreValues v NoValues) rest
 unfolding spelling
-one_left {order} {room} {types} {at} {bytes} {v} {rest} s shaped = record {
+one_left {order} {depth_left} {types} {at} {bytes} {v} {rest} s shaped = record {
   text = append-nil (sig (type_of v)) ∙ s.text;
   shaped = (shaped, tt);
   formed = (s.formed, tt);
@@ -65,7 +65,7 @@ module _ (source : Source) (spot : Spot) (v : ValueTree) (rest : List ℕ) (s : 
         → ((k : NumberCode) (n : ℕ) → number_code k ≡ get_or spot.types.now 0 0 → IsNumber k n → number_of source.order (take (width k) (drop start source.bytes.now)) ≡ n → IsSeen view (NumberValue k n))
         → IsSeen view v
     number_seen view seen =
-        let formed : IsNumber p.code p.n = subst (λ (u : ValueTree). IsWellFormed spot.room u) p.is s.formed in
+        let formed : IsNumber p.code p.n = subst (λ (u : ValueTree). IsWellFormed spot.depth_left u) p.is s.formed in
         let read : number_of source.order (take (width p.code) (drop start source.bytes.now)) ≡ p.n = ap (λ (k : ℕ). number_of source.order (take k (drop start source.bytes.now))) p.wide ∙ p.read in
         subst (λ (u : ValueTree). IsSeen view u) (sym p.is) (seen p.code p.n number_coded formed read)
 
@@ -73,7 +73,7 @@ module _ (source : Source) (spot : Spot) (v : ValueTree) (rest : List ℕ) (s : 
 
   module _ (size start n : ℕ) (p : IsTextAt source spot v size start n) where
     pub text_utf8 : IsUtf8 (take n (drop (start + size) source.bytes.now))
-    text_utf8 = subst IsUtf8 (sym p.read) (formed_utf8 spot.room p.code p.text (subst (λ (u : ValueTree). IsWellFormed spot.room u) p.is s.formed))
+    text_utf8 = subst IsUtf8 (sym p.read) (formed_utf8 spot.depth_left p.code p.text (subst (λ (u : ValueTree). IsWellFormed spot.depth_left u) p.is s.formed))
 
     text_coded : text_code p.code ≡ get_or spot.types.now 0 0
     text_coded = ap (λ (u : ValueTree). first_code (type_of u)) (sym p.is) ∙ coded
@@ -95,7 +95,7 @@ module _ (source : Source) (spot : Spot) (v : ValueTree) (rest : List ℕ) (s : 
 
   -- ---- containers
 
-  pub variant_left : (types : List ℕ) (at : ℕ) (p : IsVariantAt source spot v rest types at) → AllStand source.order (spot.room - 1) types at source.bytes.now (MoreValues p.x NoValues) rest
+  pub variant_left : (types : List ℕ) (at : ℕ) (p : IsVariantAt source spot v rest types at) → AllStand source.order (spot.depth_left - 1) types at source.bytes.now (MoreValues p.x NoValues) rest
   variant_left types at p = one_left p.held (shaped_of (type_of p.x) false 0 0 p.single.0)
 
   pub array_type : (t : TypeTree) (xs : ValueTrees) → v ≡ ArrayValue t xs → sig t ≡ of_elements spot.types.now

@@ -45,10 +45,10 @@ IsFirstElement left xs rest seen = (x : ValueTree) × (us : ValueTrees) × (xs �
 
 -- the weight of what is in a value; in a number and in a text there is nothing
 abbrev pub weight_in : ValueView → ℕ
-weight_in (view.Array e) = weight e.room e.type
-weight_in (view.Struct s) = weight s.room s.types
-weight_in (view.Entry s) = weight s.room s.types
-weight_in (view.Variant s) = weight s.room s.types
+weight_in (view.Array e) = weight e.depth_left e.type
+weight_in (view.Struct s) = weight s.depth_left s.types
+weight_in (view.Entry s) = weight s.depth_left s.types
+weight_in (view.Variant s) = weight s.depth_left s.types
 weight_in _ = 0
 
 -- A call of `next`: what is left before it, what it answers, and what is left after it. The first of the trees is seen, and the
@@ -56,8 +56,8 @@ weight_in _ = 0
 pub record PassesValue (before : ValuesState) (result : Option ValueView) (left : ValuesState) : Type 0 where
   pub first : (xs : ValueTrees) (rest : List ℕ) → AreLeft before xs rest → MatchOption result ((xs ≡ NoValues) × AreLeft left xs rest) (λ seen. IsFirst left xs rest seen)
   pub after : (x : ValueTree) (us : ValueTrees) (rest : List ℕ) → AreLeft before (MoreValues x us) rest → IsAfter before x left
-  pub fewer : IfSome result (λ seen. (weight_in seen < weight before.room before.types) × AreFewer left before)
+  pub fewer : IfSome result (λ seen. (weight_in seen < weight before.depth_left before.types) × AreFewer left before)
 
 pub record PassesElement (before : ElementsState) (result : Option ValueView) (left : ElementsState) : Type 0 where
   pub first : (xs : ValueTrees) (rest : List ℕ) → ElementsAreLeft before xs rest → MatchOption result ((xs ≡ NoValues) × ElementsAreLeft left xs rest) (λ seen. IsFirstElement left xs rest seen)
-  pub fewer : IfSome result (λ seen. (weight_in seen < weight before.room before.type) × AreFewerElements left before)
+  pub fewer : IfSome result (λ seen. (weight_in seen < weight before.depth_left before.type) × AreFewerElements left before)

@@ -17,11 +17,11 @@ pub record ValuesState : Type 0 where
   pub bytes : List ℕ
   pub at : ℕ
   pub types : List ℕ
-  pub room : ℕ
+  pub depth_left : ℕ
 
 -- these trees stand there, one of each type, and rest are the bytes after them
 abbrev pub AreLeft : ValuesState → ValueTrees → (rest : List ℕ) → Type 0
-AreLeft s xs rest = AllStand s.order s.room s.types s.at s.bytes xs rest
+AreLeft s xs rest = AllStand s.order s.depth_left s.types s.at s.bytes xs rest
 
 -- the types are those of a signature, and some trees stand there
 abbrev pub SomeAreLeft : ValuesState → Type 0
@@ -38,10 +38,10 @@ pub record ElementsState : Type 0 where
   pub at : ℕ
   pub end : ℕ
   pub type : List ℕ
-  pub room : ℕ
+  pub depth_left : ℕ
 
 abbrev pub ElementsAreLeft : ElementsState → ValueTrees → (rest : List ℕ) → Type 0
-ElementsAreLeft s xs rest = ElementsStand s.order s.room s.type s.at s.end s.bytes xs rest
+ElementsAreLeft s xs rest = ElementsStand s.order s.depth_left s.type s.at s.end s.bytes xs rest
 
 abbrev pub SomeElementsAreLeft : ElementsState → Type 0
 SomeElementsAreLeft s = (length s.type ≤ 255) × (xs : ValueTrees) × (rest : List ℕ) × ElementsAreLeft s xs rest
@@ -60,12 +60,12 @@ pub record AreNumbersIn (order : Order) (type : List ℕ) (xs : ValueTrees) (byt
 
 -- An array, a struct or a variant takes one of the room for the values in it, and what is in a dict entry has a shorter signature.
 -- So this number is less for what is in a value than for the value.
-abbrev pub weight : (room : ℕ) (types : List ℕ) → ℕ
-weight room types = 256 * room + length types
+abbrev pub weight : (depth_left : ℕ) (types : List ℕ) → ℕ
+weight depth_left types = 256 * depth_left + length types
 
 -- fewer values are left, and they may have as many open containers
 abbrev pub AreFewer : ValuesState → ValuesState → Type 0
-AreFewer left before = (left.room ≡ before.room) × (length left.types < length before.types)
+AreFewer left before = (left.depth_left ≡ before.depth_left) × (length left.types < length before.types)
 
 abbrev pub AreFewerElements : ElementsState → ElementsState → Type 0
-AreFewerElements left before = (left.room ≡ before.room) × (left.type ≡ before.type) × (left.end - left.at < before.end - before.at)
+AreFewerElements left before = (left.depth_left ≡ before.depth_left) × (left.type ≡ before.type) × (left.end - left.at < before.end - before.at)

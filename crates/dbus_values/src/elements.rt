@@ -17,7 +17,7 @@ pub struct Elements<'a> {
     at: usize,
     end: usize,
     element: &'a [u8],
-    room: u8,
+    depth_left: u8,
 }
 
 impl<'a> Model for Elements<'a> {
@@ -31,7 +31,7 @@ impl<'a> Model for Elements<'a> {
       at = s.at;
       end = s.end;
       type = s.element.now;
-      room = s.room;
+      depth_left = s.depth_left;
     } };
 
     ghost invariant = { λ s. SomeElementsAreLeft (record {
@@ -40,7 +40,7 @@ impl<'a> Model for Elements<'a> {
       at = s.at;
       end = s.end;
       type = s.element.now;
-      room = s.room;
+      depth_left = s.depth_left;
     }) };
 }
 
@@ -49,14 +49,19 @@ impl<'a> Elements<'a> {
     ghost use Rattle.dbus_values.specs.States.{AreNumbersIn, ElementsAreLeft, IsOfNoNumbers, SomeElementsAreLeft};
 
     /// The elements of a run in the bytes, which have this type. So many containers may be open in each.
-    pub(crate) fn new(source: &Source<'a>, run: Run, element: &'a [u8], room: u8) -> Elements<'a>
+    pub(crate) fn new(
+        source: &Source<'a>,
+        run: Run,
+        element: &'a [u8],
+        depth_left: u8,
+    ) -> Elements<'a>
         requires { SomeElementsAreLeft (record {
           order = source.now.order;
           bytes = source.now.bytes.now;
           at = run.first;
           end = run.end;
           type = element.now;
-          room = room;
+          depth_left = depth_left;
         }) }
         ensures { result ≡ record {
           order = source.now.order;
@@ -64,7 +69,7 @@ impl<'a> Elements<'a> {
           at = run.first;
           end = run.end;
           type = element.now;
-          room = room;
+          depth_left = depth_left;
         } }
     {
         Elements {
@@ -72,7 +77,7 @@ impl<'a> Elements<'a> {
             at: run.first,
             end: run.end,
             element,
-            room,
+            depth_left,
         }
     }
 
@@ -85,7 +90,7 @@ impl<'a> Elements<'a> {
             at: self.at,
             end: self.end,
             element: self.element,
-            room: self.room,
+            depth_left: self.depth_left,
         }
     }
 
@@ -151,7 +156,7 @@ impl<'a> Iterator for Elements<'a> {
             at: self.at,
             types: self.element,
             lengths: &[],
-            room: self.room,
+            depth_left: self.depth_left,
         };
         let (seen, after) = pass(&self.source, &spot);
         self.at = after;

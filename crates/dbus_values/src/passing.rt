@@ -19,7 +19,7 @@ pub(crate) fn pass<'a>(source: &Source<'a>, spot: &Spot<'a>) -> (ValueView<'a>, 
     requires few { length spot.now.types.now ≤ 255 }
     ensures seen { (v : ValueTree) (rest : List ℕ) → StandsAt source.now spot.now v rest →
         IsSeen result.0 v × (result.1 ≡ end_of source.now spot.now v) }
-    ensures less { weight_in result.0 < weight spot.now.room spot.now.types.now }
+    ensures less { weight_in result.0 < weight spot.now.depth_left spot.now.types.now }
 {
     let parts = layout(source, spot);
     let after = after_value(source, spot, parts);
@@ -45,7 +45,7 @@ fn after_value(source: &Source<'_>, spot: &Spot<'_>, parts: Layout<'_>) -> usize
                 at: spot.at,
                 types: spot.types,
                 lengths: &[1],
-                room: spot.room,
+                depth_left: spot.depth_left,
             };
             skip_value(source, &noted)
         }
@@ -66,7 +66,7 @@ fn after_parts(source: &Source<'_>, spot: &Spot<'_>) -> usize
         at: spot.at,
         types: spot.types,
         lengths: lengths_in(spot.types, &mut table),
-        room: spot.room,
+        depth_left: spot.depth_left,
     };
     skip_value(source, &noted)
 }

@@ -23,7 +23,7 @@ pub(crate) fn view_of<'a>(source: &Source<'a>, spot: &Spot<'a>, parts: Layout<'a
     requires laid { (v : ValueTree) (rest : List ℕ) → StandsAt source.now spot.now v rest →
         IsLaidOut source.now spot.now v rest parts }
     ensures seen { (v : ValueTree) (rest : List ℕ) → StandsAt source.now spot.now v rest → IsSeen result v }
-    ensures less { weight_in result < weight spot.now.room spot.now.types.now }
+    ensures less { weight_in result < weight spot.now.depth_left spot.now.types.now }
 {
     match parts {
         Layout::Number { start, .. } => number_view(source, start, spot.types[0]),
@@ -36,22 +36,22 @@ pub(crate) fn view_of<'a>(source: &Source<'a>, spot: &Spot<'a>, parts: Layout<'a
         }
         Layout::ShortText { size } => ValueView::Sig(text_in(source.bytes, spot.at + 1, size)),
         Layout::Variant { types, at } => {
-            ValueView::Variant(Values::new(source, at, types, spot.room - 1))
+            ValueView::Variant(Values::new(source, at, types, spot.depth_left - 1))
         }
         Layout::Array(run) => {
             // Of all numbers only a BYTE has one byte.
             if run.size == 1 {
                 return ValueView::Bytes(&source.bytes[run.first..run.end]);
             }
-            ValueView::Array(Elements::new(source, run, &spot.types[1..], spot.room - 1))
+            ValueView::Array(Elements::new(source, run, &spot.types[1..], spot.depth_left - 1))
         }
         Layout::Struct { start } => {
             let fields = &spot.types[1..spot.types.len() - 1];
-            ValueView::Struct(Values::new(source, start, fields, spot.room - 1))
+            ValueView::Struct(Values::new(source, start, fields, spot.depth_left - 1))
         }
         Layout::Entry { start } => {
             let both = &spot.types[1..spot.types.len() - 1];
-            ValueView::Entry(Values::new(source, start, both, spot.room))
+            ValueView::Entry(Values::new(source, start, both, spot.depth_left))
         }
     }
 }

@@ -17,7 +17,7 @@ pub struct Values<'a> {
     source: Source<'a>,
     at: usize,
     types: &'a [u8],
-    room: u8,
+    depth_left: u8,
 }
 
 impl<'a> Model for Values<'a> {
@@ -30,7 +30,7 @@ impl<'a> Model for Values<'a> {
       bytes = s.source.bytes.now;
       at = s.at;
       types = s.types.now;
-      room = s.room;
+      depth_left = s.depth_left;
     } };
 
     ghost invariant = { λ s. SomeAreLeft (record {
@@ -38,7 +38,7 @@ impl<'a> Model for Values<'a> {
       bytes = s.source.bytes.now;
       at = s.at;
       types = s.types.now;
-      room = s.room;
+      depth_left = s.depth_left;
     }) };
 }
 
@@ -47,27 +47,27 @@ impl<'a> Values<'a> {
     ghost use Rattle.dbus_values.specs.Seen.{IsFirstCode};
 
     /// The values that stand in the bytes from `at` on, one of each type of the signature. So many containers may be open in them.
-    pub fn new(source: &Source<'a>, at: usize, types: &'a [u8], room: u8) -> Values<'a>
+    pub fn new(source: &Source<'a>, at: usize, types: &'a [u8], depth_left: u8) -> Values<'a>
         requires { SomeAreLeft (record {
           order = source.now.order;
           bytes = source.now.bytes.now;
           at = at;
           types = types.now;
-          room = room;
+          depth_left = depth_left;
         }) }
         ensures { result ≡ record {
           order = source.now.order;
           bytes = source.now.bytes.now;
           at = at;
           types = types.now;
-          room = room;
+          depth_left = depth_left;
         } }
     {
         Values {
             source: *source,
             at,
             types,
-            room,
+            depth_left,
         }
     }
 
@@ -79,7 +79,7 @@ impl<'a> Values<'a> {
             source: self.source,
             at: self.at,
             types: self.types,
-            room: self.room,
+            depth_left: self.depth_left,
         }
     }
 
@@ -123,7 +123,7 @@ impl<'a> Iterator for Values<'a> {
             at: self.at,
             types: &self.types[..end],
             lengths: &[],
-            room: self.room,
+            depth_left: self.depth_left,
         };
         let (seen, after) = pass(&self.source, &spot);
         self.at = after;

@@ -1,10 +1,10 @@
--- The fields and the body of a message that is judged.
+-- The fields and the body of a message that is validated.
 use Rattle.std.proofs.Common.{◌≡◌, ℕ, ◌^◌, ◌<◌, List, [], ◌∷◌, length, take_all, refl, sym, ap, subst, ◌∙◌, arith}
 use Rattle.dbus_value_model.specs.declared.limits.Limits.{Limits}
 use Rattle.dbus_message_model.specs.Messages.{field_array, body_start, body_signature, message_bytes}
 use Rattle.dbus_header.proofs.OutcomeLaws.{whole_bytes}
-use Rattle.dbus_judge.specs.declared.judging.Judged.{Judged}
-use Rattle.dbus_judge.specs.Judging.{IsJudgedWhole}
+use Rattle.dbus_validate.specs.declared.validating.Validated.{Validated}
+use Rattle.dbus_validate.specs.Validating.{IsValidatedWhole}
 use Rattle.dbus_walk.proofs.MessageParts.{fields_stand, body_stands, body_few}
 use Rattle.dbus_walk.specs.Fields.{field_types}
 use Rattle.dbus_walk.specs.Standing.{Stands}
@@ -12,7 +12,7 @@ use Rattle.dbus_values.specs.States.{ValuesState, AreLeft, SomeAreLeft}
 use Rattle.dbus_view.specs.Bodies.{all_values}
 use Rattle.dbus_view.proofs.Whole.{message, all_whole, valid, state}
 
-module _ (limits : Limits) (bytes : List ℕ) (j : Judged) (h : IsJudgedWhole limits bytes j) where
+module _ (limits : Limits) (bytes : List ℕ) (j : Validated) (h : IsValidatedWhole limits bytes j) where
   all_bytes : bytes ≡ message_bytes j.order (message limits bytes j h)
   all_bytes = sym (take_all (length bytes) bytes (omega arith)) ∙ (whole_bytes limits bytes j.order (message limits bytes j h) (length bytes) (all_whole limits bytes j h)).0
 
@@ -30,15 +30,15 @@ module _ (limits : Limits) (bytes : List ℕ) (j : Judged) (h : IsJudgedWhole li
         let m = message limits bytes j h in
         body_stands limits j.order m bytes all_bytes (valid limits bytes j h) small (body_signature m.fields) (body_start j.order m.fields) refl refl
 
-    -- as what was judged says where they begin and of which types they are
+    -- as what was validated says where they begin and of which types they are
     module _ (types : List ℕ) (typed : types ≡ body_signature (message limits bytes j h).fields) where
       abbrev pub noted : ValuesState
-      noted = record { order = j.order; bytes = bytes; at = j.body; types = types; room = limits.depth }
+      noted = record { order = j.order; bytes = bytes; at = j.body; types = types; depth_left = limits.depth }
 
       pub noted_all : noted ≡ all
       noted_all =
-          ap (λ (n : ℕ). record { order = j.order; bytes = bytes; at = n; types = types; room = limits.depth }) (sym h.judged.body.0)
-          ∙ ap (λ (l : List ℕ). record { order = j.order; bytes = bytes; at = body_start j.order (message limits bytes j h).fields; types = l; room = limits.depth }) typed
+          ap (λ (n : ℕ). record { order = j.order; bytes = bytes; at = n; types = types; depth_left = limits.depth }) (sym h.validated.body.0)
+          ∙ ap (λ (l : List ℕ). record { order = j.order; bytes = bytes; at = body_start j.order (message limits bytes j h).fields; types = l; depth_left = limits.depth }) typed
 
       pub some_left : SomeAreLeft noted
       some_left =

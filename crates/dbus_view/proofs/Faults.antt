@@ -5,7 +5,7 @@ use Rattle.dbus_header.specs.MessageOutcomes.{IsPartial}
 use Rattle.dbus_check.specs.Checks.{Takes}
 use Rattle.dbus_check.specs.declared.check.Check.{Check}
 use Rattle.dbus_check.specs.declared.check.Check.TheVariants as check
-use Rattle.dbus_judge.specs.Judging.{BeginsWithNone}
+use Rattle.dbus_validate.specs.Validating.{BeginsWithNone}
 
 pub is_partial : (limits : Limits) (bytes : List ℕ) (answer : Check) → (answer ≡ check.Partial) ⊎ ((n : ℕ) × (answer ≡ check.Done n)) → Takes limits [] bytes answer → BeginsWithNone limits bytes → IsPartial limits bytes
 is_partial limits bytes check.Partial either takes none = takes

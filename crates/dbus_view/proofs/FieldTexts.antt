@@ -6,9 +6,9 @@ use Rattle.dbus_value_model.specs.Values.{ValueTree, NumberValue, TextValue, IsW
 use Rattle.dbus_message_model.specs.Lookups.{field_value}
 use Rattle.dbus_message_model.specs.Messages.{FieldTree, Want, Anything, OfType, Name, Serial, want, is_particular, is_known, Suits, AreFields, field_struct, field_array, text_in, number_in}
 use Rattle.dbus_message_model.proofs.TextValues.{text_of}
-use Rattle.dbus_judge.specs.Seen.{AreNoted, IsNotedOf, StandsAt}
-use Rattle.dbus_judge.specs.declared.seen.Place.{Place}
-use Rattle.dbus_judge.specs.declared.seen.Seen.{Seen}
+use Rattle.dbus_validate.specs.Seen.{AreNoted, IsNotedOf, StandsAt}
+use Rattle.dbus_validate.specs.declared.seen.Place.{Place}
+use Rattle.dbus_validate.specs.declared.seen.Seen.{Seen}
 use Rattle.dbus_walk.proofs.Signed.{held_formed}
 use Rattle.dbus_view.specs.Fields.{WantsText, IsTextOf}
 
@@ -26,20 +26,20 @@ module _ (c : ℕ) where
           subst (λ (x : ValueTree). Suits (want c) x) same (subst (λ (k : ℕ). Suits (want k) f.value) code h.0.suits)
       go false is g more = more g
 
-each_formed : (room c : ℕ) (fs : List FieldTree) → AreWellFormed room (value_trees (map field_struct fs)) → (v : ValueTree) → field_value c fs ≡ Some v → (r : ℕ) × IsWellFormed r v
-each_formed room c [] h v e = absurd cc
-each_formed room c (f ∷ fs) h v e = go (eqb f.code c) e (each_formed room c fs h.1 v)
+each_formed : (depth_left c : ℕ) (fs : List FieldTree) → AreWellFormed depth_left (value_trees (map field_struct fs)) → (v : ValueTree) → field_value c fs ≡ Some v → (r : ℕ) × IsWellFormed r v
+each_formed depth_left c [] h v e = absurd cc
+each_formed depth_left c (f ∷ fs) h v e = go (eqb f.code c) e (each_formed depth_left c fs h.1 v)
   where
     go : (b : Bool) → cond b (Some f.value) (field_value c fs) ≡ Some v → (field_value c fs ≡ Some v → (r : ℕ) × IsWellFormed r v) → (r : ℕ) × IsWellFormed r v
     go true g more =
         let same : f.value ≡ v = cc in
-        let w = held_formed room f.code f.value h.0 in
+        let w = held_formed depth_left f.code f.value h.0 in
         (w.0, subst (λ (x : ValueTree). IsWellFormed w.0 x) same w.1)
     go false g more = more g
 
 pub formed_of : (depth c : ℕ) (fs : List FieldTree) → IsWellFormed depth (field_array fs) → (v : ValueTree) → field_value c fs ≡ Some v → (r : ℕ) × IsWellFormed r v
 formed_of zero c fs h v e = absurd h
-formed_of (suc room) c fs h v e = each_formed room c fs h.1 v e
+formed_of (suc depth_left) c fs h v e = each_formed depth_left c fs h.1 v e
 
 -- ---- a value that is wanted as a text
 

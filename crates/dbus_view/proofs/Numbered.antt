@@ -19,10 +19,10 @@ none_in zero = refl
 none_in (suc n) = refl
 
 -- the first of the values that are left stands there
-first_stands : {order : Order} {room at : ℕ} {types bytes : List ℕ} {x : ValueTree} {us : ValueTrees} {rest : List ℕ} → AllStand order room types at bytes (MoreValues x us) rest
-    → Stands order room (sig (type_of x)) at bytes x (spellings order (at + length (spelling order at x)) us ++ rest)
+first_stands : {order : Order} {depth_left at : ℕ} {types bytes : List ℕ} {x : ValueTree} {us : ValueTrees} {rest : List ℕ} → AllStand order depth_left types at bytes (MoreValues x us) rest
+    → Stands order depth_left (sig (type_of x)) at bytes x (spellings order (at + length (spelling order at x)) us ++ rest)
 unfolding spelling
-first_stands {order} {room} {at} {types} {bytes} {x} {us} {rest} a = record {
+first_stands {order} {depth_left} {at} {types} {bytes} {x} {us} {rest} a = record {
   text = refl;
   shaped = shaped_inside (type_of x) a.shaped.0;
   formed = a.formed.0;
@@ -38,7 +38,7 @@ module _ (before next : ValuesState) (x : ValueTree) (us : ValueTrees) (after : 
   unfolding spelling
   first_found rest left ends code seen =
       let place : before.at ≡ value_start before.order before.at 0 (MoreValues x us) = omega arith in
-      (x, refl, subst (λ (n : ℕ). IsFound before.order before.bytes n x a) place (record { room = before.room; rest = _; stands = first_stands left; seen = seen; code = code; after = ends ∙ after.2 }))
+      (x, refl, subst (λ (n : ℕ). IsFound before.order before.bytes n x a) place (record { depth_left = before.depth_left; rest = _; stands = first_stands left; seen = seen; code = code; after = ends ∙ after.2 }))
 
   -- and of those after it value i is value i + 1
   other_found : (i : ℕ) → IsNumbered next i us a → IsNumbered before (suc i) (MoreValues x us) a

@@ -1,4 +1,4 @@
--- The message that a view is of is the one that was judged.
+-- The message that a view is of is the one that was validated.
 use Rattle.std.proofs.Common.{◌≡◌, ℕ, ◌+◌, List, length, sym, subst, ◌∙◌}
 use Rattle.dbus_value_model.specs.declared.limits.Limits.{Limits}
 use Rattle.dbus_value_model.specs.declared.order.Order.{Order}
@@ -6,8 +6,8 @@ use Rattle.dbus_message_model.specs.Messages.{MessageTree, IsMessage, body_start
 use Rattle.dbus_message_model.proofs.MessageLengths.{message_length}
 use Rattle.dbus_header.specs.MessageOutcomes.{IsWhole}
 use Rattle.dbus_header.proofs.OutcomeLaws.{one_whole}
-use Rattle.dbus_judge.specs.declared.judging.Judged.{Judged}
-use Rattle.dbus_judge.specs.Judging.{IsJudgedWhole}
+use Rattle.dbus_validate.specs.declared.validating.Validated.{Validated}
+use Rattle.dbus_validate.specs.Validating.{IsValidatedWhole}
 use Rattle.dbus_view.specs.Views.{ViewState, Views, ViewsOne}
 
 pub whole_message : (limits : Limits) (b : List ℕ) (order : Order) (m : MessageTree) (n : ℕ) → IsWhole limits b order m n → IsMessage limits order m
@@ -18,15 +18,15 @@ pub whole_length : (limits : Limits) (b : List ℕ) (order : Order) (m : Message
 unfolding IsWhole
 whole_length limits b order m n w = w.size ∙ message_length order m
 
-module _ (limits : Limits) (bytes : List ℕ) (j : Judged) (h : IsJudgedWhole limits bytes j) where
+module _ (limits : Limits) (bytes : List ℕ) (j : Validated) (h : IsValidatedWhole limits bytes j) where
   abbrev pub message : MessageTree
-  message = h.judged.message
+  message = h.validated.message
 
   pub all_whole : IsWhole limits bytes j.order message (length bytes)
-  all_whole = subst (λ (n : ℕ). IsWhole limits bytes j.order message n) h.all h.judged.whole
+  all_whole = subst (λ (n : ℕ). IsWhole limits bytes j.order message n) h.all h.validated.whole
 
   pub valid : IsMessage limits j.order message
-  valid = whole_message limits bytes j.order message j.length h.judged.whole
+  valid = whole_message limits bytes j.order message j.length h.validated.whole
 
   abbrev pub state : ViewState
   state = record { limits = limits; bytes = bytes }
@@ -40,7 +40,7 @@ module _ (limits : Limits) (bytes : List ℕ) (j : Judged) (h : IsJudgedWhole li
         let both = one_whole limits bytes j.order order message m (length bytes) (length bytes) all_whole (subst (λ (u : ViewState). Views u order m) (sym is) w) in
         (both.0, both.1)
 
-    -- so what holds of the one that was judged holds of it
+    -- so what holds of the one that was validated holds of it
     pub as_viewed : (P : ViewState → Order → MessageTree → Type 0) → P state j.order message → (order : Order) (m : MessageTree) → Views v order m → P v order m
     as_viewed P holds order m w =
         let both = same order m w in

@@ -66,13 +66,13 @@ IsPlaceThere order m n bytes p =
 -- the values of a message's body, none of them seen yet: they begin after the header, have the types of the body's signature, and
 -- as many containers may be open in each as the limits allow
 abbrev pub all_values : ViewState → Order → MessageTree → ValuesState
-all_values v order m = record { order = order; bytes = v.bytes; at = body_start order m.fields; types = body_signature m.fields; room = v.limits.depth }
+all_values v order m = record { order = order; bytes = v.bytes; at = body_start order m.fields; types = body_signature m.fields; depth_left = v.limits.depth }
 
 -- it is what was found of a value that stands at an offset: how it is seen, the first code of its type, and the offset after it
 pub record IsFound (order : Order) (bytes : List ℕ) (from : ℕ) (x : ValueTree) (a : Arg) : Type 0 where
-  pub room : ℕ
+  pub depth_left : ℕ
   pub rest : List ℕ
-  pub stands : Stands order room (sig (type_of x)) from bytes x rest
+  pub stands : Stands order depth_left (sig (type_of x)) from bytes x rest
   pub seen : IsSeen a.seen x
   pub code : first_code (type_of x) ≡ a.code
   pub after : a.after ≡ from + length (spelling order from x)

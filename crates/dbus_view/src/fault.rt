@@ -1,7 +1,7 @@
 //! Why bytes are not one message.
 #![tactic(auto)]
 
-ghost use Rattle.dbus_judge.specs.Judging.{BeginsWithNone};
+ghost use Rattle.dbus_validate.specs.Validating.{BeginsWithNone};
 ghost use Rattle.dbus_view.specs.Opening.{IsViewFault};
 
 use dbus_check::{Check, Checker};

@@ -23,7 +23,7 @@ pub struct Fields<'a> {
     source: Source<'a>,
     at: usize,
     end: usize,
-    room: u8,
+    depth_left: u8,
 }
 
 impl<'a> Model for Fields<'a> {
@@ -40,10 +40,10 @@ impl<'a> Model for Fields<'a> {
       at = s.at;
       end = s.end;
       type = field_types;
-      room = s.room - 1;
+      depth_left = s.depth_left - 1;
     } };
 
-    ghost invariant = { λ s. (fs : List FieldTree) × (rest : List ℕ) × FieldsLeft s.source s.room s.at s.end fs rest };
+    ghost invariant = { λ s. (fs : List FieldTree) × (rest : List ℕ) × FieldsLeft s.source s.depth_left s.at s.end fs rest };
 }
 
 impl<'a> Fields<'a> {
@@ -51,16 +51,16 @@ impl<'a> Fields<'a> {
     ghost use Rattle.dbus_view.specs.FieldViews.{FieldsAreLeft};
 
     /// The fields of a message, in which so many containers may be open.
-    pub(crate) fn new(source: &Source<'a>, room: u8) -> Fields<'a>
-        requires { (fs : List FieldTree) × (rest : List ℕ) × FieldsStand source.now room fs rest }
+    pub(crate) fn new(source: &Source<'a>, depth_left: u8) -> Fields<'a>
+        requires { (fs : List FieldTree) × (rest : List ℕ) × FieldsStand source.now depth_left fs rest }
         ensures { (fs : List FieldTree) (rest : List ℕ) →
-            FieldsStand source.now room fs rest → FieldsAreLeft result fs }
+            FieldsStand source.now depth_left fs rest → FieldsAreLeft result fs }
     {
         Fields {
             source: *source,
             at: FIELDS_START,
             end: fields_end(source),
-            room,
+            depth_left,
         }
     }
 }
@@ -81,8 +81,8 @@ impl<'a> Iterator for Fields<'a> {
         if self.at == self.end {
             return None;
         }
-        let field = field_at(&self.source, self.at, self.room);
-        let value = Values::new(&self.source, field.at, field.types, field.room);
+        let field = field_at(&self.source, self.at, self.depth_left);
+        let value = Values::new(&self.source, field.at, field.types, field.depth_left);
         let mut passed = value.again();
         let _seen = passed.next();
         self.at = passed.at();

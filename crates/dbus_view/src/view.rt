@@ -9,17 +9,17 @@ ghost use Rattle.dbus_value_model.specs.Specification.{specification};
 ghost use Rattle.dbus_message_model.specs.Messages.{MessageTree, want};
 ghost use Rattle.dbus_message_model.specs.Lookups.{field_value, body_value};
 ghost use Rattle.dbus_header.specs.MessageOutcomes.{IsWhole};
-ghost use Rattle.dbus_judge.specs.Judging.{IsJudged};
+ghost use Rattle.dbus_validate.specs.Validating.{IsValidated};
 
 use crate::arg::{arg_at, place_of, view_of};
 use crate::arg_place::ArgPlace;
 use crate::arg_view::ArgView;
 use crate::fault::fault_of;
 use crate::fields::Fields;
-use dbus_judge::{Judged, judge};
 use dbus_message_model::field_code::{
     DESTINATION, ERROR_NAME, INTERFACE, MEMBER, PATH, REPLY_SERIAL, SENDER,
 };
+use dbus_validate::{Validated, validate};
 use dbus_value_model::{Fault, Limits, Order, Reason};
 use dbus_values::Values;
 use dbus_walk::{Source, text_in};
@@ -33,18 +33,18 @@ use std::marker::Model;
 pub struct MessageView<'a> {
     bytes: &'a [u8],
     limits: Limits,
-    judged: Judged,
+    validated: Validated,
 }
 
 impl<'a> Model for MessageView<'a> {
-    ghost use Rattle.dbus_judge.specs.Judging.{IsJudgedWhole};
+    ghost use Rattle.dbus_validate.specs.Validating.{IsValidatedWhole};
     ghost use Rattle.dbus_view.specs.Views.{ViewState};
 
     ghost Value = { ViewState };
 
     ghost view = { λ v. record { limits = v.limits; bytes = v.bytes.now } };
 
-    ghost invariant = { λ v. IsJudgedWhole v.limits v.bytes.now v.judged };
+    ghost invariant = { λ v. IsValidatedWhole v.limits v.bytes.now v.validated };
 }
 
 impl<'a> MessageView<'a> {
@@ -76,34 +76,34 @@ impl<'a> MessageView<'a> {
         ensures accepts { (order : Order) (m : MessageTree) →
             IsWhole limits bytes.now order m (length bytes.now) → IsOk result }
     {
-        match judge(bytes, limits) {
-            Some(judged) => {
-                if judged.length < bytes.len() {
+        match validate(bytes, limits) {
+            Some(validated) => {
+                if validated.length < bytes.len() {
                     return Err(Fault {
-                        at: judged.length as u64,
+                        at: validated.length as u64,
                         reason: Reason::Trailing,
                     });
                 }
                 Ok(MessageView {
                     bytes,
                     limits,
-                    judged,
+                    validated,
                 })
             }
             None => Err(fault_of(bytes, limits)),
         }
     }
 
-    /// A view of the message that the bytes, all of them, were judged to be under the limits.
-    pub fn of_judged(bytes: &'a [u8], limits: Limits, judged: Judged) -> MessageView<'a>
-        requires judged { IsJudged limits bytes.now judged }
-        requires all { judged.length ≡ length bytes.now }
+    /// A view of the message that the bytes, all of them, were validated to be under the limits.
+    pub fn of_validated(bytes: &'a [u8], limits: Limits, validated: Validated) -> MessageView<'a>
+        requires validated { IsValidated limits bytes.now validated }
+        requires all { validated.length ≡ length bytes.now }
         ensures viewed { IsViewOf limits bytes.now result }
     {
         MessageView {
             bytes,
             limits,
-            judged,
+            validated,
         }
     }
 
@@ -119,28 +119,28 @@ impl<'a> MessageView<'a> {
     pub fn order(&self) -> Order
         ensures { (order : Order) (m : MessageTree) → Views self.now order m → result ≡ order }
     {
-        self.judged.order
+        self.validated.order
     }
 
     /// The message type. D-Bus Specification, "Message Format".
     pub fn kind(&self) -> u8
         ensures { (order : Order) (m : MessageTree) → Views self.now order m → result ≡ m.kind }
     {
-        self.judged.kind
+        self.validated.kind
     }
 
     /// The flags. D-Bus Specification, "Message Format".
     pub fn flags(&self) -> u8
         ensures { (order : Order) (m : MessageTree) → Views self.now order m → result ≡ m.flags }
     {
-        self.judged.flags
+        self.validated.flags
     }
 
     /// The serial. D-Bus Specification, "Message Format".
     pub fn serial(&self) -> u32
         ensures { (order : Order) (m : MessageTree) → Views self.now order m → result ≡ m.serial }
     {
-        self.judged.serial
+        self.validated.serial
     }
 
     /// The text of the field of a code of which a text is wanted.
@@ -150,7 +150,7 @@ impl<'a> MessageView<'a> {
             MatchOption result (field_value code m.fields ≡ None) (λ s.
             IsTextOf (want code) (field_value code m.fields) s.now) }
     {
-        let place = self.judged.fields.get(code)?;
+        let place = self.validated.fields.get(code)?;
         Some(text_in(self.bytes, place.start as usize, place.length as usize))
     }
 
@@ -196,7 +196,7 @@ impl<'a> MessageView<'a> {
             MatchOption result (field_value 5 m.fields ≡ None) (λ n.
             field_value 5 m.fields ≡ Some (NumberValue UINT32 n)) }
     {
-        let place = self.judged.fields.get(REPLY_SERIAL)?;
+        let place = self.validated.fields.get(REPLY_SERIAL)?;
         Some(place.number)
     }
 
@@ -225,7 +225,7 @@ impl<'a> MessageView<'a> {
     {
         let source = Source {
             bytes: self.bytes,
-            order: self.judged.order,
+            order: self.validated.order,
         };
         Fields::new(&source, self.limits.depth)
     }
@@ -248,10 +248,10 @@ impl<'a> MessageView<'a> {
     {
         let source = Source {
             bytes: self.bytes,
-            order: self.judged.order,
+            order: self.validated.order,
         };
-        let types = self.judged.fields.signature(self.bytes);
-        Values::new(&source, self.judged.body, types, self.limits.depth)
+        let types = self.validated.fields.signature(self.bytes);
+        Values::new(&source, self.validated.body, types, self.limits.depth)
     }
 
     /// Value `n` of the body, counted from 0, if there are so many. The values before it are passed over.

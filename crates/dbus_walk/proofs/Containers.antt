@@ -35,27 +35,27 @@ array_of_type (ArrayValue t xs) u e = let same : t ≡ u = cc in (xs, ap (λ (w 
 array_of_type (StructValue xs) u e = absurd cc
 array_of_type (EntryValue x y) u e = absurd cc
 
-pub formed_variant : (room : ℕ) (x : ValueTree) → IsWellFormed room (VariantValue x) → (0 < room) × IsSingleType (type_of x) × IsWellFormed (room - 1) x
+pub formed_variant : (depth_left : ℕ) (x : ValueTree) → IsWellFormed depth_left (VariantValue x) → (0 < depth_left) × IsSingleType (type_of x) × IsWellFormed (depth_left - 1) x
 formed_variant zero x h = absurd h
-formed_variant (suc room) x h = let less : room ≡ suc room - 1 = omega arith in (omega arith, h.0, subst (λ (r : ℕ). IsWellFormed r x) less h.1)
+formed_variant (suc depth_left) x h = let less : depth_left ≡ suc depth_left - 1 = omega arith in (omega arith, h.0, subst (λ (r : ℕ). IsWellFormed r x) less h.1)
 
-formed_array : (room : ℕ) (t : TypeTree) (xs : ValueTrees) → IsWellFormed room (ArrayValue t xs) → (0 < room) × AllOf t xs × AreWellFormed (room - 1) xs
+formed_array : (depth_left : ℕ) (t : TypeTree) (xs : ValueTrees) → IsWellFormed depth_left (ArrayValue t xs) → (0 < depth_left) × AllOf t xs × AreWellFormed (depth_left - 1) xs
 formed_array zero t xs h = absurd h
-formed_array (suc room) t xs h = let less : room ≡ suc room - 1 = omega arith in (omega arith, h.0, subst (λ (r : ℕ). AreWellFormed r xs) less h.1)
+formed_array (suc depth_left) t xs h = let less : depth_left ≡ suc depth_left - 1 = omega arith in (omega arith, h.0, subst (λ (r : ℕ). AreWellFormed r xs) less h.1)
 
 -- ---- variants
 
-module _ {order : Order} {room : ℕ} {types : List ℕ} {at : ℕ} {bytes : List ℕ} {v : ValueTree} {rest : List ℕ} (s : Stands order room types at bytes v rest) where
+module _ {order : Order} {depth_left : ℕ} {types : List ℕ} {at : ℕ} {bytes : List ℕ} {v : ValueTree} {rest : List ℕ} (s : Stands order depth_left types at bytes v rest) where
   pub record VariantStands : Type 0 where
     pub x : ValueTree
     pub is : v ≡ VariantValue x
-    pub some : 0 < room
+    pub some : 0 < depth_left
     pub n : ℕ
     pub few : n < 256
     pub counts : get_or bytes at 0 ≡ n
     pub front : drop at bytes ≡ ended_text order 1 (sig (type_of x)) ++ (spelling order (at + 1 + n + 1) x ++ rest)
     pub long : length (ended_text order 1 (sig (type_of x))) ≡ n + 2
-    pub held : Stands order (room - 1) (take n (drop (at + 1) bytes)) (at + 1 + n + 1) bytes x rest
+    pub held : Stands order (depth_left - 1) (take n (drop (at + 1) bytes)) (at + 1 + n + 1) bytes x rest
     pub inside : at + 1 + n + 1 ≤ length bytes
 
   variant_of : (x : ValueTree) → v ≡ VariantValue x → VariantStands
@@ -65,7 +65,7 @@ module _ {order : Order} {room : ℕ} {types : List ℕ} {at : ℕ} {bytes : Lis
       let n = length t in
       let y = num order 1 n in
       let front = ended_text order 1 t in
-      let formed = formed_variant room x (subst (IsWellFormed room) is s.formed) in
+      let formed = formed_variant depth_left x (subst (IsWellFormed depth_left) is s.formed) in
       let len_y : length y ≡ 1 = length-num order 1 n in
       let long : length front ≡ n + 2 = omega (arith, len_y, length-append y (t ++ 0 ∷ []), length-append t (0 ∷ [])) in
       let place : at + length front ≡ at + 1 + n + 1 = omega (arith, long) in
@@ -103,11 +103,11 @@ module _ {order : Order} {room : ℕ} {types : List ℕ} {at : ℕ} {bytes : Lis
   pub variant_stands : get_or types 0 0 ≡ 118 → VariantStands
   variant_stands e = let w = variant_of_type v (variant_is (type_of v) (code_is (type_of v) types s.text ∙ e)) in variant_of w.0 w.1
 
-  pub variant_held : (p : VariantStands) (n : ℕ) → n ≡ p.n → Stands order (room - 1) (take (at + 1 + n - (at + 1)) (drop (at + 1) bytes)) (at + 1 + n + 1) bytes p.x rest
+  pub variant_held : (p : VariantStands) (n : ℕ) → n ≡ p.n → Stands order (depth_left - 1) (take (at + 1 + n - (at + 1)) (drop (at + 1) bytes)) (at + 1 + n + 1) bytes p.x rest
   variant_held p n e =
       let long : p.n ≡ at + 1 + n - (at + 1) = omega (arith, e) in
-      subst (λ (k : ℕ). Stands order (room - 1) (take (at + 1 + n - (at + 1)) (drop (at + 1) bytes)) (at + 1 + k + 1) bytes p.x rest) (sym e)
-      (subst (λ (k : ℕ). Stands order (room - 1) (take k (drop (at + 1) bytes)) (at + 1 + p.n + 1) bytes p.x rest) long p.held)
+      subst (λ (k : ℕ). Stands order (depth_left - 1) (take (at + 1 + n - (at + 1)) (drop (at + 1) bytes)) (at + 1 + k + 1) bytes p.x rest) (sym e)
+      (subst (λ (k : ℕ). Stands order (depth_left - 1) (take k (drop (at + 1) bytes)) (at + 1 + p.n + 1) bytes p.x rest) long p.held)
 
   -- where what it holds begins, and ends
   pub variant_begins : (p : VariantStands) → at + 1 + p.n + 1 ≡ inside order at v
@@ -129,7 +129,7 @@ module _ {order : Order} {room : ℕ} {types : List ℕ} {at : ℕ} {bytes : Lis
 abbrev pub element_types : List ℕ → List ℕ
 element_types types = take (length types - 1) (drop 1 types)
 
-module _ {order : Order} {room : ℕ} {types : List ℕ} {at : ℕ} {bytes : List ℕ} {v : ValueTree} {rest : List ℕ} (s : Stands order room types at bytes v rest) where
+module _ {order : Order} {depth_left : ℕ} {types : List ℕ} {at : ℕ} {bytes : List ℕ} {v : ValueTree} {rest : List ℕ} (s : Stands order depth_left types at bytes v rest) where
   pub record ArrayStands : Type 0 where
     pub type : TypeTree
     pub xs : ValueTrees
@@ -137,12 +137,12 @@ module _ {order : Order} {room : ℕ} {types : List ℕ} {at : ℕ} {bytes : Lis
     pub code : first_code type ≡ get_or types 1 0
     pub long : 2 ≤ length types
     pub all : AllOf type xs
-    pub some : 0 < room
+    pub some : 0 < depth_left
     pub n : ℕ
     pub holds : n ≡ length (spellings order (contents_start type at) xs)
     pub counts : number_of order (take 4 (drop (at + gap_to 4 at) bytes)) ≡ n
     pub padded : drop at bytes ≡ pad 4 at ++ (num order 4 n ++ (pad (alignment_of type) (at + gap_to 4 at + 4) ++ (spellings order (contents_start type at) xs ++ rest)))
-    pub elements : ElementsStand order (room - 1) (element_types types) (contents_start type at) (contents_start type at + n) bytes xs rest
+    pub elements : ElementsStand order (depth_left - 1) (element_types types) (contents_start type at) (contents_start type at + n) bytes xs rest
     pub inside : contents_start type at + n ≤ length bytes
 
   array_of : (t : TypeTree) (xs : ValueTrees) → type_of v ≡ ArrayType t → v ≡ ArrayValue t xs → sig t ≡ element_types types → ArrayStands
@@ -156,7 +156,7 @@ module _ {order : Order} {room : ℕ} {types : List ℕ} {at : ℕ} {bytes : Lis
       let x = pad 4 at in
       let y = num order 4 n in
       let z = pad a suffix in
-      let formed = formed_array room t xs (subst (IsWellFormed room) is s.formed) in
+      let formed = formed_array depth_left t xs (subst (IsWellFormed depth_left) is s.formed) in
       let within = subst (IsWithinLimits s.array order at) is s.within in
       let few : n < 256 ^ 4 = omega (arith, within.0, s.small) in
       let spelled : drop at bytes ≡ (x ++ (y ++ (z ++ c))) ++ rest = s.spelled ∙ ap (λ (u : ValueTree). spelling order at u ++ rest) is in
@@ -222,10 +222,10 @@ module _ {order : Order} {room : ℕ} {types : List ℕ} {at : ℕ} {bytes : Lis
       let boundary : b ≡ alignment_of p.type = bounded p.type p.code in
       (ap (λ (k : ℕ). at + g + 4 + k) (aligned ∙ ap (λ (k : ℕ). gap_to k (at + g + 4)) boundary) ∙ ap (λ (k : ℕ). k + 4 + gap_to (alignment_of p.type) (k + 4)) start, array_counts p (at + g) n start counted)
 
-  pub elements_there : (p : ArrayStands) (first n : ℕ) → first ≡ contents_start p.type at → n ≡ p.n → ElementsStand order (room - 1) (element_types types) first (first + n) bytes p.xs rest
+  pub elements_there : (p : ArrayStands) (first n : ℕ) → first ≡ contents_start p.type at → n ≡ p.n → ElementsStand order (depth_left - 1) (element_types types) first (first + n) bytes p.xs rest
   elements_there p first n is_first is_n =
-      subst (λ (k : ℕ). ElementsStand order (room - 1) (element_types types) first (first + k) bytes p.xs rest) (sym is_n)
-      (subst (λ (k : ℕ). ElementsStand order (room - 1) (element_types types) k (k + p.n) bytes p.xs rest) (sym is_first) p.elements)
+      subst (λ (k : ℕ). ElementsStand order (depth_left - 1) (element_types types) first (first + k) bytes p.xs rest) (sym is_n)
+      (subst (λ (k : ℕ). ElementsStand order (depth_left - 1) (element_types types) k (k + p.n) bytes p.xs rest) (sym is_first) p.elements)
 
   -- where it ends
   pub array_ends : (p : ArrayStands) → contents_start p.type at + p.n ≡ at + length (spelling order at v)

@@ -31,9 +31,9 @@ entry_of_type (ArrayValue t xs) k w e = absurd cc
 entry_of_type (StructValue xs) k w e = absurd cc
 entry_of_type (EntryValue x y) k w e = (x, y, refl, cc, cc)
 
-pub formed_struct : (room : ℕ) (xs : ValueTrees) → IsWellFormed room (StructValue xs) → (0 < room) × AreWellFormed (room - 1) xs
+pub formed_struct : (depth_left : ℕ) (xs : ValueTrees) → IsWellFormed depth_left (StructValue xs) → (0 < depth_left) × AreWellFormed (depth_left - 1) xs
 formed_struct zero xs h = absurd h
-formed_struct (suc room) xs h = let less : room ≡ suc room - 1 = omega arith in (omega arith, subst (λ (r : ℕ). AreWellFormed r xs) less h)
+formed_struct (suc depth_left) xs h = let less : depth_left ≡ suc depth_left - 1 = omega arith in (omega arith, subst (λ (r : ℕ). AreWellFormed r xs) less h)
 
 pub entry_left : {c : ℕ} → (c ≡ 40) ⊎ (c ≡ 123) → (c ≡ 40 → ⊥) → c ≡ 123
 entry_left (inl e) not_struct = absurd (not_struct e)
@@ -45,7 +45,7 @@ any_bounds = record { array = 0; fds = None; array_in = omega arith }
 pub stands_positive : (order : Order) (v : ValueTree) (o : ℕ) → IsShaped true (type_of v) → 0 < length (spelling order o v)
 stands_positive order v o h = positive any_bounds order v true o h
 
-module _ {order : Order} {room : ℕ} {types : List ℕ} {at : ℕ} {bytes : List ℕ} {v : ValueTree} {rest : List ℕ} (s : Stands order room types at bytes v rest) where
+module _ {order : Order} {depth_left : ℕ} {types : List ℕ} {at : ℕ} {bytes : List ℕ} {v : ValueTree} {rest : List ℕ} (s : Stands order depth_left types at bytes v rest) where
   pub record EnclosedStand (what : Container) (inner : ℕ) : Type 0 where
     pub vs : ValueTrees
     pub is_of : IsOf what v
@@ -77,11 +77,11 @@ module _ {order : Order} {room : ℕ} {types : List ℕ} {at : ℕ} {bytes : Lis
     pub parts_left : drop (at + gap_to 8 at) bytes ≡ here ++ rest
     parts_left = stands_after at (at + gap_to 8 at) (pad 8 at) (here ++ rest) bytes spelled_parts (omega (arith, padding))
 
-  unfoldable pub struct_of : (xs : ValueTrees) → v ≡ StructValue xs → sigs (types_of xs) ≡ within types → (0 < room) × EnclosedStand kind.Struct (room - 1)
+  unfoldable pub struct_of : (xs : ValueTrees) → v ≡ StructValue xs → sigs (types_of xs) ≡ within types → (0 < depth_left) × EnclosedStand kind.Struct (depth_left - 1)
   unfolding spelling
   struct_of xs e text =
       let is : (any : Order) → spelling any at v ≡ pad 8 at ++ spellings any (at + gap_to 8 at) xs = λ any. ap (λ (u : ValueTree). spelling any at u) e in
-      let formed = formed_struct room xs (subst (IsWellFormed room) e s.formed) in (
+      let formed = formed_struct depth_left xs (subst (IsWellFormed depth_left) e s.formed) in (
         formed.0,
         record {
           vs = xs;
@@ -89,7 +89,7 @@ module _ {order : Order} {room : ℕ} {types : List ℕ} {at : ℕ} {bytes : Lis
           has = ap parts e;
           begins = ap (inside order at) e;
           is = is;
-          padded = spelled_parts (room - 1) xs is;
+          padded = spelled_parts (depth_left - 1) xs is;
           all = record {
             text = text;
             shaped = struct_shaped (types_of xs) (subst (λ (u : ValueTree). IsShaped true (type_of u)) e s.shaped);
@@ -97,26 +97,26 @@ module _ {order : Order} {room : ℕ} {types : List ℕ} {at : ℕ} {bytes : Lis
             array = s.array;
             small = s.small;
             within = subst (IsWithinLimits s.array order at) e s.within;
-            spelled = parts_left (room - 1) xs is;
-            inside = ends_within (room - 1) xs is;
+            spelled = parts_left (depth_left - 1) xs is;
+            inside = ends_within (depth_left - 1) xs is;
           };
         },
       )
 
-  unfoldable pub struct_stands : get_or types 0 0 ≡ 40 → (0 < room) × EnclosedStand kind.Struct (room - 1)
+  unfoldable pub struct_stands : get_or types 0 0 ≡ 40 → (0 < depth_left) × EnclosedStand kind.Struct (depth_left - 1)
   struct_stands e =
       let t = struct_is (type_of v) types s.text e in
       let w = struct_of_type v t.0 t.1 in
       struct_of w.0 w.1 (ap sigs w.2 ∙ t.2)
 
-  unfoldable pub entry_of : (x y : ValueTree) → v ≡ EntryValue x y → sigs (MoreTypes (type_of x) (MoreTypes (type_of y) NoTypes)) ≡ within types → EnclosedStand kind.Entry room
+  unfoldable pub entry_of : (x y : ValueTree) → v ≡ EntryValue x y → sigs (MoreTypes (type_of x) (MoreTypes (type_of y) NoTypes)) ≡ within types → EnclosedStand kind.Entry depth_left
   unfolding spelling
   entry_of x y e text =
       let xs = MoreValues x (MoreValues y NoValues) in
       let p = at + gap_to 8 at in
       let is : (any : Order) → spelling any at v ≡ pad 8 at ++ spellings any p xs = λ any.
       ap (λ (u : ValueTree). spelling any at u) e ∙ ap (λ (l : List ℕ). pad 8 at ++ (spelling any p x ++ l)) (sym (append-nil (spelling any (p + length (spelling any p x)) y))) in
-      let formed = subst (IsWellFormed room) e s.formed in
+      let formed = subst (IsWellFormed depth_left) e s.formed in
       let limits = subst (IsWithinLimits s.array order at) e s.within in
       record {
         vs = xs;
@@ -124,7 +124,7 @@ module _ {order : Order} {room : ℕ} {types : List ℕ} {at : ℕ} {bytes : Lis
         has = ap parts e;
         begins = ap (inside order at) e;
         is = is;
-        padded = spelled_parts room xs is;
+        padded = spelled_parts depth_left xs is;
         all = record {
           text = text;
           shaped = entry_shaped (type_of x) (type_of y) (subst (λ (u : ValueTree). IsShaped true (type_of u)) e s.shaped);
@@ -132,12 +132,12 @@ module _ {order : Order} {room : ℕ} {types : List ℕ} {at : ℕ} {bytes : Lis
           array = s.array;
           small = s.small;
           within = (limits.0, (limits.1, tt));
-          spelled = parts_left room xs is;
-          inside = ends_within room xs is;
+          spelled = parts_left depth_left xs is;
+          inside = ends_within depth_left xs is;
         };
       }
 
-  unfoldable pub entry_stands : get_or types 0 0 ≡ 123 → EnclosedStand kind.Entry room
+  unfoldable pub entry_stands : get_or types 0 0 ≡ 123 → EnclosedStand kind.Entry depth_left
   entry_stands e =
       let t = entry_is (type_of v) types s.text e in
       let w = entry_of_type v t.0 t.1 t.2 in

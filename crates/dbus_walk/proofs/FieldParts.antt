@@ -21,7 +21,7 @@ use Rattle.dbus_walk.proofs.ReadThere.{number_read}
 
 -- ---- a field
 
-module _ (source : Source) (room at : ℕ) (f : FieldTree) (rest : List ℕ) (s : FieldStands source room at f rest) (start : ℕ) (begins : start ≡ at + gap_to 8 at) where
+module _ (source : Source) (depth_left at : ℕ) (f : FieldTree) (rest : List ℕ) (s : FieldStands source depth_left at f rest) (start : ℕ) (begins : start ≡ at + gap_to 8 at) where
   abbrev bytes : List ℕ
   bytes = source.bytes.now
 
@@ -30,10 +30,10 @@ module _ (source : Source) (room at : ℕ) (f : FieldTree) (rest : List ℕ) (s 
 
   -- its code and the variant stand one after the other
   record Coded : Type 0 where
-    some : 0 < room - 1
+    some : 0 < depth_left - 1
     inside : start + 1 ≤ length bytes
     code : get_or bytes start 0 ≡ f.code
-    held : Stands source.order (room - 1 - 1) (118 ∷ []) (start + 1) bytes (VariantValue f.value) rest
+    held : Stands source.order (depth_left - 1 - 1) (118 ∷ []) (start + 1) bytes (VariantValue f.value) rest
     ends : start + 1 + length (spelling source.order (start + 1) (VariantValue f.value)) ≡ field_end source at f
 
   coded : Coded
@@ -42,7 +42,7 @@ module _ (source : Source) (room at : ℕ) (f : FieldTree) (rest : List ℕ) (s 
       let order = source.order in
       let p = struct_stands s.stands refl in
       let is : p.1.vs ≡ coded_values = sym p.1.has in
-      let all = subst (λ (us : ValueTrees). AllStand order (room - 1 - 1) (121 ∷ 118 ∷ []) start bytes us rest) is (enclosed_there s.stands p.1 start begins) in
+      let all = subst (λ (us : ValueTrees). AllStand order (depth_left - 1 - 1) (121 ∷ 118 ∷ []) start bytes us rest) is (enclosed_there s.stands p.1 start begins) in
       let first = first_value (121 ∷ 118 ∷ []) 0 1 (ends_there (121 ∷ 118 ∷ []) 0 1 refl) all in
       let more = other_values (121 ∷ 118 ∷ []) 0 1 (ends_there (121 ∷ 118 ∷ []) 0 1 refl) all in
       let one = spelling order start (NumberValue BYTE f.code) in
@@ -63,26 +63,26 @@ module _ (source : Source) (room at : ℕ) (f : FieldTree) (rest : List ℕ) (s 
         some = p.0;
         inside = omega (arith, number.inside, none);
         code = one_byte order bytes start (omega (arith, number.inside, none)) ∙ read ∙ same;
-        held = subst (λ (k : ℕ). Stands order (room - 1 - 1) (118 ∷ []) k bytes (VariantValue f.value) rest) place second;
+        held = subst (λ (k : ℕ). Stands order (depth_left - 1 - 1) (118 ∷ []) k bytes (VariantValue f.value) rest) place second;
         ends = omega (arith, ended, whole, place, same_two);
       }
 
   -- its code, and the value, whose signature has so many bytes
   pub record FieldApart (n : ℕ) : Type 0 where
-    pub deep : 3 ≤ room
+    pub deep : 3 ≤ depth_left
     pub code : get_or bytes start 0 ≡ f.code
     pub few : n < 256
     pub single : IsSingleType (type_of f.value)
     pub inside : start + 1 + 1 + n + 1 ≤ length bytes
-    pub value : Stands source.order (room - 3) (take (start + 1 + 1 + n - (start + 1 + 1)) (drop (start + 1 + 1) bytes)) (start + 1 + 1 + n + 1) bytes f.value rest
+    pub value : Stands source.order (depth_left - 3) (take (start + 1 + 1 + n - (start + 1 + 1)) (drop (start + 1 + 1) bytes)) (start + 1 + 1 + n + 1) bytes f.value rest
     pub ends : start + 1 + 1 + n + 1 + length (spelling source.order (start + 1 + 1 + n + 1) f.value) ≡ field_end source at f
 
   pub field_apart : (n : ℕ) → n ≡ get_or bytes (start + 1) 0 → FieldApart n
   field_apart n read =
       let v = variant_stands coded.held refl in
       let count : n ≡ v.n = read ∙ v.counts in
-      let deep : 3 ≤ room = omega (arith, v.some) in
-      let less : room - 1 - 1 - 1 ≡ room - 3 = omega arith in
+      let deep : 3 ≤ depth_left = omega (arith, v.some) in
+      let less : depth_left - 1 - 1 - 1 ≡ depth_left - 3 = omega arith in
       let same : v.x ≡ f.value = let e = v.is in cc in
       let q = start + 1 + 1 + n + 1 in
       let types = take (start + 1 + 1 + n - (start + 1 + 1)) (drop (start + 1 + 1) bytes) in
@@ -92,9 +92,9 @@ module _ (source : Source) (room at : ℕ) (f : FieldTree) (rest : List ℕ) (s 
         deep = deep;
         code = coded.code;
         few = omega (arith, count, v.few);
-        single = (formed_variant (room - 1 - 1) f.value coded.held.formed).1;
+        single = (formed_variant (depth_left - 1 - 1) f.value coded.held.formed).1;
         inside = omega (arith, count, v.inside);
-        value = subst (λ (u : ValueTree). Stands source.order (room - 3) types q bytes u rest) same
+        value = subst (λ (u : ValueTree). Stands source.order (depth_left - 3) types q bytes u rest) same
             (subst (λ (r : ℕ). Stands source.order r types q bytes v.x rest) less (variant_held coded.held v n count));
         ends = ap (λ (u : ValueTree). q + length (spelling source.order q u)) (sym same) ∙ place ∙ variant_ends coded.held v ∙ coded.ends;
       }
@@ -105,8 +105,8 @@ gaps : (gap_to 4 12 ≡ 0) × (gap_to 8 16 ≡ 0)
 unfolding gap_to
 gaps = (refl, refl)
 
-module _ (source : Source) (room : ℕ) (fs : List FieldTree) (rest : List ℕ) (s : FieldsStand source room fs rest) where
-  pub fields_apart : (n : ℕ) → n ≡ number_of source.order (take 4 (drop 12 source.bytes.now)) → (16 + n ≤ length source.bytes.now) × FieldsLeft source room 16 (16 + n) fs rest
+module _ (source : Source) (depth_left : ℕ) (fs : List FieldTree) (rest : List ℕ) (s : FieldsStand source depth_left fs rest) where
+  pub fields_apart : (n : ℕ) → n ≡ number_of source.order (take 4 (drop 12 source.bytes.now)) → (16 + n ≤ length source.bytes.now) × FieldsLeft source depth_left 16 (16 + n) fs rest
   fields_apart n read =
       let p = array_stands s refl in
       let found = array_found s p {g = 0} {b = 8} {h = 0} {n = n} (sym gaps.0) (boundary_by 40 8 refl) (sym gaps.1) read in
@@ -114,35 +114,35 @@ module _ (source : Source) (room : ℕ) (fs : List FieldTree) (rest : List ℕ) 
         omega (arith, p.inside, found.0, found.1),
         record {
           some = p.some;
-          stand = subst (λ (us : ValueTrees). ElementsStand source.order (room - 1) field_types 16 (16 + n) source.bytes.now us rest) is (elements_there s p 16 n found.0 found.1);
+          stand = subst (λ (us : ValueTrees). ElementsStand source.order (depth_left - 1) field_types 16 (16 + n) source.bytes.now us rest) is (elements_there s p 16 n found.0 found.1);
         },
       )
 
 -- ---- fields one after another
 
 -- Of the fields fs, some are left, from `place` on; of those before them Q holds.
-pub record Walked (source : Source) (room end : ℕ) (fs : List FieldTree) (rest : List ℕ) (Q : List FieldTree → Type 0) (place : ℕ) : Type 0 where
+pub record Walked (source : Source) (depth_left end : ℕ) (fs : List FieldTree) (rest : List ℕ) (Q : List FieldTree → Type 0) (place : ℕ) : Type 0 where
   pub left : List FieldTree
-  pub stand : FieldsLeft source room place end left rest
+  pub stand : FieldsLeft source depth_left place end left rest
   pub done : List FieldTree
   pub joins : fs ≡ done ++ left
   pub walked : Q done
 
-pub none_walked : (source : Source) (room at end : ℕ) (fs : List FieldTree) (rest : List ℕ) (Q : List FieldTree → Type 0) → FieldsLeft source room at end fs rest → Q [] → Walked source room end fs rest Q at
-none_walked source room at end fs rest Q stand walked = record { left = fs; stand = stand; done = []; joins = refl; walked = walked }
+pub none_walked : (source : Source) (depth_left at end : ℕ) (fs : List FieldTree) (rest : List ℕ) (Q : List FieldTree → Type 0) → FieldsLeft source depth_left at end fs rest → Q [] → Walked source depth_left end fs rest Q at
+none_walked source depth_left at end fs rest Q stand walked = record { left = fs; stand = stand; done = []; joins = refl; walked = walked }
 
 -- the first of some fields, and those after it
-pub record FirstField (source : Source) (room place end : ℕ) (rest : List ℕ) (fs : List FieldTree) : Type 0 where
+pub record FirstField (source : Source) (depth_left place end : ℕ) (rest : List ℕ) (fs : List FieldTree) : Type 0 where
   pub f : FieldTree
   pub others : List FieldTree
   pub begins : fs ≡ f ∷ others
   pub after : List ℕ
-  pub stands : FieldStands source room place f after
+  pub stands : FieldStands source depth_left place f after
   pub some : place < field_end source place f
-  pub left : FieldsLeft source room (field_end source place f) end others rest
+  pub left : FieldsLeft source depth_left (field_end source place f) end others rest
 
-module _ {source : Source} {room place end : ℕ} {rest : List ℕ} where
-  pub first_field : (fs : List FieldTree) → FieldsLeft source room place end fs rest → place < end → FirstField source room place end rest fs
+module _ {source : Source} {depth_left place end : ℕ} {rest : List ℕ} where
+  pub first_field : (fs : List FieldTree) → FieldsLeft source depth_left place end fs rest → place < end → FirstField source depth_left place end rest fs
   first_field [] l lt = absurd (omega (arith, lt, none_ends l.stand))
   first_field (f ∷ others) l lt =
       let s = first_element l.stand in
@@ -156,18 +156,18 @@ module _ {source : Source} {room place end : ℕ} {rest : List ℕ} where
         left = record { some = l.some; stand = other_elements l.stand };
       }
 
-  pub no_field : (fs : List FieldTree) → FieldsLeft source room place end fs rest → end ≤ place → fs ≡ []
+  pub no_field : (fs : List FieldTree) → FieldsLeft source depth_left place end fs rest → end ≤ place → fs ≡ []
   no_field [] l le = refl
   no_field (f ∷ others) l le = absurd (omega (arith, le, some_ends l.stand, stands_positive source.order (field_struct f) place (first_element l.stand).shaped))
 
-  module _ {fs : List FieldTree} {Q : List FieldTree → Type 0} (w : Walked source room end fs rest Q place) where
-    pub next_field : place < end → FirstField source room place end rest w.left
+  module _ {fs : List FieldTree} {Q : List FieldTree → Type 0} (w : Walked source depth_left end fs rest Q place) where
+    pub next_field : place < end → FirstField source depth_left place end rest w.left
     next_field lt = first_field w.left w.stand lt
 
-    pub field_walked : (Q' : List FieldTree → Type 0) (n : FirstField source room place end rest w.left) (q : ℕ) → q ≡ field_end source place n.f → Q' (w.done ++ n.f ∷ []) → Walked source room end fs rest Q' q
+    pub field_walked : (Q' : List FieldTree → Type 0) (n : FirstField source depth_left place end rest w.left) (q : ℕ) → q ≡ field_end source place n.f → Q' (w.done ++ n.f ∷ []) → Walked source depth_left end fs rest Q' q
     field_walked Q' n q ends walked = record {
       left = n.others;
-      stand = subst (λ (k : ℕ). FieldsLeft source room k end n.others rest) (sym ends) n.left;
+      stand = subst (λ (k : ℕ). FieldsLeft source depth_left k end n.others rest) (sym ends) n.left;
       done = w.done ++ n.f ∷ [];
       joins = w.joins ∙ ap (λ (u : List FieldTree). w.done ++ u) n.begins ∙ sym (append_assoc w.done (n.f ∷ []) n.others);
       walked = walked;

@@ -80,7 +80,7 @@ module _ (source : Source) (spot : Spot) (v : ValueTree) (rest : List ℕ) (s : 
         x = p.x;
         is = p.is;
         some = p.some;
-        single = (formed_variant spot.room p.x (subst (IsWellFormed spot.room) p.is s.formed)).1;
+        single = (formed_variant spot.depth_left p.x (subst (IsWellFormed spot.depth_left) p.is s.formed)).1;
         few = omega (arith, count, p.few, length-take (spot.at + 1 + n - (spot.at + 1)) (drop (spot.at + 1) source.bytes.now));
         begins = ap (λ (k : ℕ). spot.at + 1 + k + 1) count ∙ variant_begins s p;
         held = variant_held s p n count;
@@ -105,7 +105,7 @@ module _ (source : Source) (spot : Spot) (v : ValueTree) (rest : List ℕ) (s : 
         is = w.2;
         long = enclosed_long s (inr code);
         begins = place ∙ sym p.begins;
-        held = subst (λ (u : ValueTrees). AllStand source.order spot.room (of_parts spot.types.now) start source.bytes.now u rest) w.3 held;
+        held = subst (λ (u : ValueTrees). AllStand source.order spot.depth_left (of_parts spot.types.now) start source.bytes.now u rest) w.3 held;
         ends = subst (λ (u : ValueTrees). start + length (spellings source.order start u) ≡ end_of source spot v) w.3 ends;
       }
 

@@ -28,13 +28,13 @@ module _ (order : Order) (place : ℕ) (bytes : List ℕ) (v : ValueTree) (us : 
 
 -- ---- elements of an array
 
-pub none_ends : {order : Order} {room : ℕ} {types : List ℕ} {place end : ℕ} {bytes rest : List ℕ} → ElementsStand order room types place end bytes NoValues rest → end ≡ place
+pub none_ends : {order : Order} {depth_left : ℕ} {types : List ℕ} {place end : ℕ} {bytes rest : List ℕ} → ElementsStand order depth_left types place end bytes NoValues rest → end ≡ place
 unfolding spellings
 none_ends e = omega (arith, e.ends)
 
-module _ {order : Order} {room : ℕ} {types : List ℕ} {place end : ℕ} {bytes : List ℕ} {v : ValueTree} {us : ValueTrees} {rest : List ℕ}
-    (e : ElementsStand order room types place end bytes (MoreValues v us) rest) where
-  pub first_element : Stands order room types place bytes v (spellings order (place + length (spelling order place v)) us ++ rest)
+module _ {order : Order} {depth_left : ℕ} {types : List ℕ} {place end : ℕ} {bytes : List ℕ} {v : ValueTree} {us : ValueTrees} {rest : List ℕ}
+    (e : ElementsStand order depth_left types place end bytes (MoreValues v us) rest) where
+  pub first_element : Stands order depth_left types place bytes v (spellings order (place + length (spelling order place v)) us ++ rest)
   first_element = record {
     text = ap sig e.all.0 ∙ e.text;
     shaped = subst (IsShaped true) (sym e.all.0) e.shaped;
@@ -45,7 +45,7 @@ module _ {order : Order} {room : ℕ} {types : List ℕ} {place end : ℕ} {byte
     spelled = first_spelled order place bytes v us rest e.spelled;
   }
 
-  pub other_elements : ElementsStand order room types (place + length (spelling order place v)) end bytes us rest
+  pub other_elements : ElementsStand order depth_left types (place + length (spelling order place v)) end bytes us rest
   unfolding spellings
   other_elements = record {
     type = e.type;
@@ -67,8 +67,8 @@ module _ {order : Order} {room : ℕ} {types : List ℕ} {place end : ℕ} {byte
 
 -- ---- values of some types
 
-module _ {order : Order} {room place : ℕ} {bytes : List ℕ} {v : ValueTree} {us : ValueTrees} {rest : List ℕ} (types : List ℕ) (pos next : ℕ) (is : IsTypeEnd types pos next)
-    (a : AllStand order room (drop pos types) place bytes (MoreValues v us) rest) where
+module _ {order : Order} {depth_left place : ℕ} {bytes : List ℕ} {v : ValueTree} {us : ValueTrees} {rest : List ℕ} (types : List ℕ) (pos next : ℕ) (is : IsTypeEnd types pos next)
+    (a : AllStand order depth_left (drop pos types) place bytes (MoreValues v us) rest) where
   -- the first one's type, and those of the others
   types_apart : (sig (type_of v) ≡ take (next - pos) (drop pos types)) × (sigs (types_of us) ≡ drop next types)
   types_apart =
@@ -79,7 +79,7 @@ module _ {order : Order} {room place : ℕ} {bytes : List ℕ} {v : ValueTree} {
       let left : drop (length t) (drop pos types) ≡ sigs (types_of us) = ap (drop (length t)) (sym a.text) ∙ drop_at t (sigs (types_of us)) (length t) refl in
       (sym front ∙ ap (λ (m : ℕ). take m (drop pos types)) (sym long), sym left ∙ drop-drop (length t) pos types ∙ ap (λ (m : ℕ). drop m types) (sym there))
 
-  pub first_value : Stands order room (take (next - pos) (drop pos types)) place bytes v (spellings order (place + length (spelling order place v)) us ++ rest)
+  pub first_value : Stands order depth_left (take (next - pos) (drop pos types)) place bytes v (spellings order (place + length (spelling order place v)) us ++ rest)
   first_value = record {
     text = types_apart.0;
     shaped = shaped_inside (type_of v) a.shaped.0;
@@ -90,7 +90,7 @@ module _ {order : Order} {room place : ℕ} {bytes : List ℕ} {v : ValueTree} {
     spelled = first_spelled order place bytes v us rest a.spelled;
   }
 
-  pub other_values : AllStand order room (drop next types) (place + length (spelling order place v)) bytes us rest
+  pub other_values : AllStand order depth_left (drop next types) (place + length (spelling order place v)) bytes us rest
   other_values = record {
     text = types_apart.1;
     shaped = a.shaped.1;

@@ -65,7 +65,7 @@ pub no_gap : (o : ℕ) → gap_to 1 o ≡ 0
 unfolding gap_to
 no_gap o = omega arith
 
-module _ {order : Order} {room : ℕ} {types : List ℕ} {at : ℕ} {bytes : List ℕ} {v : ValueTree} {rest : List ℕ} (s : Stands order room types at bytes v rest) where
+module _ {order : Order} {depth_left : ℕ} {types : List ℕ} {at : ℕ} {bytes : List ℕ} {v : ValueTree} {rest : List ℕ} (s : Stands order depth_left types at bytes v rest) where
   pub record NumberStands (size : ℕ) : Type 0 where
     pub code : NumberCode
     pub n : ℕ
@@ -128,7 +128,7 @@ module _ {order : Order} {room : ℕ} {types : List ℕ} {at : ℕ} {bytes : Lis
       let len_x : length x ≡ gap_to size at = length-replicate (gap_to size at) 0 in
       let long : length (x ++ (y ++ z)) ≡ gap_to size at + size + length t + 1 =
       omega (arith, len_x, length-append x (y ++ z), length-append y z, length-num order size (length t), length-append t (0 ∷ [])) in
-      let formed = subst (λ (u : ValueTree). IsWellFormed room u) is s.formed in
+      let formed = subst (λ (u : ValueTree). IsWellFormed depth_left u) is s.formed in
       let few : length t < 256 ^ size = subst (λ (w : ℕ). length t < 256 ^ w) wide formed.1 in
       let there = stands_after at (at + gap_to size at) x (y ++ (z ++ rest)) bytes padded (omega (arith, len_x)) in
       record {

@@ -25,10 +25,10 @@ signature_utf8 t h =
     let none : take (length t - 0) (drop 0 t) ≡ t = take_all (length t - 0) t (omega arith) in
     subst IsUtf8 none (utf8_signature (length t) 0 (length t) t (omega arith) (subst (IsKind Signature) (sym all) h))
 
-pub formed_utf8 : (room : ℕ) (k : TextCode) (t : List ℕ) → IsWellFormed room (TextValue k t) → IsUtf8 t
-formed_utf8 room STRING t h = (utf8_of t h.0.0).0
-formed_utf8 room OBJECT_PATH t h = (utf8_of t (kind_is Text t (path_is_text t (is_kind_of Path t h.0))).0).0
-formed_utf8 room SIGNATURE t h = signature_utf8 t h.0
+pub formed_utf8 : (depth_left : ℕ) (k : TextCode) (t : List ℕ) → IsWellFormed depth_left (TextValue k t) → IsUtf8 t
+formed_utf8 depth_left STRING t h = (utf8_of t h.0.0).0
+formed_utf8 depth_left OBJECT_PATH t h = (utf8_of t (kind_is Text t (path_is_text t (is_kind_of Path t h.0))).0).0
+formed_utf8 depth_left SIGNATURE t h = signature_utf8 t h.0
 
 -- ---- a number fits into its bytes
 
@@ -58,10 +58,10 @@ byte_code UINT64 e = absurd (omega arith)
 byte_code DOUBLE e = absurd (omega arith)
 byte_code UNIX_FD e = absurd (omega arith)
 
-module _ {order : Order} {room : ℕ} {types : List ℕ} {at : ℕ} {bytes : List ℕ} {v : ValueTree} {rest : List ℕ} (s : Stands order room types at bytes v rest) where
+module _ {order : Order} {depth_left : ℕ} {types : List ℕ} {at : ℕ} {bytes : List ℕ} {v : ValueTree} {rest : List ℕ} (s : Stands order depth_left types at bytes v rest) where
   pub number_read : (size start : ℕ) (p : NumberStands s size) → start ≡ at + gap_to size at → number_of order (take size (drop start bytes)) ≡ p.n
   number_read size start p place =
-      let formed : IsNumber p.code p.n = subst (λ (u : ValueTree). IsWellFormed room u) p.is s.formed in
+      let formed : IsNumber p.code p.n = subst (λ (u : ValueTree). IsWellFormed depth_left u) p.is s.formed in
       let fits : p.n < 256 ^ size = subst (λ (k : ℕ). p.n < 256 ^ k) p.wide (number_fits p.code p.n formed) in
       let there : drop start bytes ≡ num order size p.n ++ rest =
       stands_after at start (pad size at) (num order size p.n ++ rest) bytes p.padded (omega (arith, place, length-replicate {A = ℕ} (gap_to size at) 0)) in
@@ -77,4 +77,4 @@ module _ {order : Order} {room : ℕ} {types : List ℕ} {at : ℕ} {bytes : Lis
         ap (take k) (there ∙ append_assoc p.text (0 ∷ []) rest) ∙ take_at p.text (0 ∷ rest) k (sym long)
 
     pub text_utf8 : (first k : ℕ) → first ≡ at + gap_to size at + size → k ≡ length p.text → IsUtf8 (take k (drop first bytes))
-    text_utf8 first k place long = subst IsUtf8 (sym (text_there first k place long)) (formed_utf8 room p.code p.text (subst (λ (u : ValueTree). IsWellFormed room u) p.is s.formed))
+    text_utf8 first k place long = subst IsUtf8 (sym (text_there first k place long)) (formed_utf8 depth_left p.code p.text (subst (λ (u : ValueTree). IsWellFormed depth_left u) p.is s.formed))

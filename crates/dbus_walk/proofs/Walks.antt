@@ -66,18 +66,18 @@ module _ (order : Order) (at : ℕ) (vs : ValueTrees) where
 
 -- ---- elements of an array
 
-module _ {order : Order} {room : ℕ} {types : List ℕ} {end : ℕ} {bytes rest : List ℕ} {at : ℕ} {vs : ValueTrees} {Q : List ValueTree → Type 0} {place : ℕ}
-    (l : Left order at vs (λ q us. ElementsStand order room types q end bytes us rest) Q place) where
+module _ {order : Order} {depth_left : ℕ} {types : List ℕ} {end : ℕ} {bytes rest : List ℕ} {at : ℕ} {vs : ValueTrees} {Q : List ValueTree → Type 0} {place : ℕ}
+    (l : Left order at vs (λ q us. ElementsStand order depth_left types q end bytes us rest) Q place) where
   pub record NextElement : Type 0 where
     pub v : ValueTree
     pub us : ValueTrees
     pub begins : l.us ≡ MoreValues v us
-    pub stands : Stands order room types place bytes v (spellings order (place + length (spelling order place v)) us ++ rest)
+    pub stands : Stands order depth_left types place bytes v (spellings order (place + length (spelling order place v)) us ++ rest)
     pub some : 0 < length (spelling order place v)
-    pub others : ElementsStand order room types (place + length (spelling order place v)) end bytes us rest
+    pub others : ElementsStand order depth_left types (place + length (spelling order place v)) end bytes us rest
 
-  keeps_as : (us : ValueTrees) → l.us ≡ us → ElementsStand order room types place end bytes us rest
-  keeps_as us e = subst (λ (u : ValueTrees). ElementsStand order room types place end bytes u rest) e l.keeps
+  keeps_as : (us : ValueTrees) → l.us ≡ us → ElementsStand order depth_left types place end bytes us rest
+  keeps_as us e = subst (λ (u : ValueTrees). ElementsStand order depth_left types place end bytes u rest) e l.keeps
 
   pub next_element : place < end → NextElement
   next_element lt = of l.us refl
@@ -90,12 +90,12 @@ module _ {order : Order} {room : ℕ} {types : List ℕ} {end : ℕ} {bytes rest
           record { v = v; us = us; begins = e; stands = s; some = stands_positive order v place s.shaped; others = other_elements keeps }
 
   pub element_left : (Q' : List ValueTree → Type 0) (n : NextElement) (q : ℕ) → q ≡ place + length (spelling order place n.v) → Q' (l.done ++ n.v ∷ [])
-      → Left order at vs (λ p us. ElementsStand order room types p end bytes us rest) Q' q
+      → Left order at vs (λ p us. ElementsStand order depth_left types p end bytes us rest) Q' q
   element_left Q' n q after walked =
-      less_left order at vs (λ p us. ElementsStand order room types p end bytes us rest) (λ p us. ElementsStand order room types p end bytes us rest) Q Q' place l n.v n.us n.begins q after n.others walked
+      less_left order at vs (λ p us. ElementsStand order depth_left types p end bytes us rest) (λ p us. ElementsStand order depth_left types p end bytes us rest) Q Q' place l n.v n.us n.begins q after n.others walked
 
   pub no_element : end ≤ place → (vs ≡ value_trees l.done) × (place ≡ at + length (spellings order at vs))
-  no_element le = none_left order at vs (λ p us. ElementsStand order room types p end bytes us rest) Q place l (of l.us refl)
+  no_element le = none_left order at vs (λ p us. ElementsStand order depth_left types p end bytes us rest) Q place l (of l.us refl)
     where
       of : (us : ValueTrees) → l.us ≡ us → l.us ≡ NoValues
       of NoValues e = e
@@ -105,19 +105,19 @@ module _ {order : Order} {room : ℕ} {types : List ℕ} {end : ℕ} {bytes rest
 
 -- ---- values of some types
 
-module _ {order : Order} {room : ℕ} {bytes rest : List ℕ} {at : ℕ} {vs : ValueTrees} {Q : List ValueTree → Type 0} {place : ℕ} (types : List ℕ) (pos : ℕ)
-    (l : Left order at vs (λ q us. AllStand order room (drop pos types) q bytes us rest) Q place) where
+module _ {order : Order} {depth_left : ℕ} {bytes rest : List ℕ} {at : ℕ} {vs : ValueTrees} {Q : List ValueTree → Type 0} {place : ℕ} (types : List ℕ) (pos : ℕ)
+    (l : Left order at vs (λ q us. AllStand order depth_left (drop pos types) q bytes us rest) Q place) where
   pub record NextValue (next : ℕ) : Type 0 where
     pub v : ValueTree
     pub us : ValueTrees
     pub begins : l.us ≡ MoreValues v us
     pub some : pos < next
     pub inside : next ≤ length types
-    pub stands : Stands order room (take (next - pos) (drop pos types)) place bytes v (spellings order (place + length (spelling order place v)) us ++ rest)
-    pub others : AllStand order room (drop next types) (place + length (spelling order place v)) bytes us rest
+    pub stands : Stands order depth_left (take (next - pos) (drop pos types)) place bytes v (spellings order (place + length (spelling order place v)) us ++ rest)
+    pub others : AllStand order depth_left (drop next types) (place + length (spelling order place v)) bytes us rest
 
-  all_as : (us : ValueTrees) → l.us ≡ us → AllStand order room (drop pos types) place bytes us rest
-  all_as us e = subst (λ (u : ValueTrees). AllStand order room (drop pos types) place bytes u rest) e l.keeps
+  all_as : (us : ValueTrees) → l.us ≡ us → AllStand order depth_left (drop pos types) place bytes us rest
+  all_as us e = subst (λ (u : ValueTrees). AllStand order depth_left (drop pos types) place bytes u rest) e l.keeps
 
   pub next_value : (next : ℕ) → pos < length types → IsTypeEnd types pos next → NextValue next
   next_value next lt is = of l.us refl
@@ -131,12 +131,12 @@ module _ {order : Order} {room : ℕ} {bytes rest : List ℕ} {at : ℕ} {vs : V
           record { v = v; us = us; begins = e; some = omega (arith, ends, sig_positive (type_of v)); inside = omega (arith, lt, ends, long, ap length keeps.text, length-drop pos types); stands = first_value types pos next is keeps; others = other_values types pos next is keeps }
 
   pub value_left : (Q' : List ValueTree → Type 0) (next : ℕ) (n : NextValue next) (q : ℕ) → q ≡ place + length (spelling order place n.v) → Q' (l.done ++ n.v ∷ [])
-      → Left order at vs (λ p us. AllStand order room (drop next types) p bytes us rest) Q' q
+      → Left order at vs (λ p us. AllStand order depth_left (drop next types) p bytes us rest) Q' q
   value_left Q' next n q after walked =
-      less_left order at vs (λ p us. AllStand order room (drop pos types) p bytes us rest) (λ p us. AllStand order room (drop next types) p bytes us rest) Q Q' place l n.v n.us n.begins q after n.others walked
+      less_left order at vs (λ p us. AllStand order depth_left (drop pos types) p bytes us rest) (λ p us. AllStand order depth_left (drop next types) p bytes us rest) Q Q' place l n.v n.us n.begins q after n.others walked
 
   pub no_value : length types ≤ pos → (vs ≡ value_trees l.done) × (place ≡ at + length (spellings order at vs))
-  no_value le = none_left order at vs (λ p us. AllStand order room (drop pos types) p bytes us rest) Q place l (of l.us refl)
+  no_value le = none_left order at vs (λ p us. AllStand order depth_left (drop pos types) p bytes us rest) Q place l (of l.us refl)
     where
       of : (us : ValueTrees) → l.us ≡ us → l.us ≡ NoValues
       of NoValues e = e

@@ -14,18 +14,18 @@ abbrev pub field_types : List ℕ
 field_types = 40 ∷ 121 ∷ 118 ∷ 41 ∷ []
 
 -- A message's header fields stand in it: an array of the type a(yv), at offset 12. So many containers may be open in the message.
-abbrev pub FieldsStand : Source → (room : ℕ) → List FieldTree → (rest : List ℕ) → Type 0
-FieldsStand source room fs rest = Stands source.order room (97 ∷ field_types) 12 source.bytes.now (field_array fs) rest
+abbrev pub FieldsStand : Source → (depth_left : ℕ) → List FieldTree → (rest : List ℕ) → Type 0
+FieldsStand source depth_left fs rest = Stands source.order depth_left (97 ∷ field_types) 12 source.bytes.now (field_array fs) rest
 
 -- fields of that array stand from an offset up to its end, and rest are the bytes after it
-pub record FieldsLeft (source : Source) (room at end : ℕ) (fs : List FieldTree) (rest : List ℕ) : Type 0 where
-  pub some : 0 < room
-  pub stand : ElementsStand source.order (room - 1) field_types at end source.bytes.now (value_trees (map field_struct fs)) rest
+pub record FieldsLeft (source : Source) (depth_left at end : ℕ) (fs : List FieldTree) (rest : List ℕ) : Type 0 where
+  pub some : 0 < depth_left
+  pub stand : ElementsStand source.order (depth_left - 1) field_types at end source.bytes.now (value_trees (map field_struct fs)) rest
 
 -- a field of that array stands at an offset: a struct of the type (yv)
-pub record FieldStands (source : Source) (room at : ℕ) (f : FieldTree) (rest : List ℕ) : Type 0 where
-  pub some : 0 < room
-  pub stands : Stands source.order (room - 1) field_types at source.bytes.now (field_struct f) rest
+pub record FieldStands (source : Source) (depth_left at : ℕ) (f : FieldTree) (rest : List ℕ) : Type 0 where
+  pub some : 0 < depth_left
+  pub stands : Stands source.order (depth_left - 1) field_types at source.bytes.now (field_struct f) rest
 
 -- the offset after it
 abbrev pub field_end : Source → ℕ → FieldTree → ℕ
@@ -36,5 +36,5 @@ pub record IsFieldAt (source : Source) (at : ℕ) (f : FieldTree) (rest : List �
   pub code : f.code ≡ spot.code
   pub few : length spot.types.now ≤ 255
   pub single : IsSingleType (type_of f.value)
-  pub value : Stands source.order spot.room spot.types.now spot.at source.bytes.now f.value rest
+  pub value : Stands source.order spot.depth_left spot.types.now spot.at source.bytes.now f.value rest
   pub ends : spot.at + length (spelling source.order spot.at f.value) ≡ field_end source at f

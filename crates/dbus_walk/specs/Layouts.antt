@@ -54,11 +54,11 @@ pub record IsTextAt (source : Source) (spot : Spot) (v : ValueTree) (size start 
 pub record IsVariantAt (source : Source) (spot : Spot) (v : ValueTree) (rest : List ℕ) (types : List ℕ) (at : ℕ) : Type 0 where
   pub x : ValueTree
   pub is : v ≡ VariantValue x
-  pub some : 0 < spot.room
+  pub some : 0 < spot.depth_left
   pub single : IsSingleType (type_of x)
   pub few : length types ≤ 255
   pub begins : at ≡ inside source.order spot.at v
-  pub held : Stands source.order (spot.room - 1) types at source.bytes.now x rest
+  pub held : Stands source.order (spot.depth_left - 1) types at source.bytes.now x rest
   pub ends : at + length (spelling source.order at x) ≡ end_of source spot v
 
 -- the bytes of an array begin at the spot, and of its elements, as its type and its length say, the places and the width are these
@@ -75,21 +75,21 @@ pub record IsArrayAt (source : Source) (spot : Spot) (v : ValueTree) (rest : Lis
   pub type : TypeTree
   pub xs : ValueTrees
   pub is : v ≡ ArrayValue type xs
-  pub some : 0 < spot.room
+  pub some : 0 < spot.depth_left
   pub wide : number_width type ≡ run.size
   pub found : IsRunAt source spot run
   pub begins : run.first ≡ inside source.order spot.at v
-  pub held : ElementsStand source.order (spot.room - 1) (of_elements spot.types.now) run.first run.end source.bytes.now xs rest
+  pub held : ElementsStand source.order (spot.depth_left - 1) (of_elements spot.types.now) run.first run.end source.bytes.now xs rest
   pub ends : run.end ≡ end_of source spot v
 
 -- a struct's fields stand from an offset on
 pub record IsStructAt (source : Source) (spot : Spot) (v : ValueTree) (rest : List ℕ) (start : ℕ) : Type 0 where
   pub xs : ValueTrees
   pub is : v ≡ StructValue xs
-  pub some : 0 < spot.room
+  pub some : 0 < spot.depth_left
   pub long : 2 ≤ length spot.types.now
   pub begins : start ≡ inside source.order spot.at v
-  pub held : AllStand source.order (spot.room - 1) (of_parts spot.types.now) start source.bytes.now xs rest
+  pub held : AllStand source.order (spot.depth_left - 1) (of_parts spot.types.now) start source.bytes.now xs rest
   pub ends : start + length (spellings source.order start xs) ≡ end_of source spot v
 
 -- a dict entry's key and its value stand from an offset on
@@ -99,7 +99,7 @@ pub record IsEntryAt (source : Source) (spot : Spot) (v : ValueTree) (rest : Lis
   pub is : v ≡ EntryValue x y
   pub long : 2 ≤ length spot.types.now
   pub begins : start ≡ inside source.order spot.at v
-  pub held : AllStand source.order spot.room (of_parts spot.types.now) start source.bytes.now (MoreValues x (MoreValues y NoValues)) rest
+  pub held : AllStand source.order spot.depth_left (of_parts spot.types.now) start source.bytes.now (MoreValues x (MoreValues y NoValues)) rest
   pub ends : start + length (spellings source.order start (MoreValues x (MoreValues y NoValues))) ≡ end_of source spot v
 
 abbrev pub IsLaidOut : Source → Spot → ValueTree → (rest : List ℕ) → Layout → Type 0

@@ -10,10 +10,10 @@ use Rattle.dbus_walk.specs.declared.spot.Spot.{Spot}
 
 -- A value whose type has this text stands in the bytes from an offset on, and rest are the bytes after it. So many containers may
 -- be open in it, and the length of each array in it fits into its four bytes.
-pub record Stands (order : Order) (room : ℕ) (types : List ℕ) (at : ℕ) (bytes : List ℕ) (v : ValueTree) (rest : List ℕ) : Type 0 where
+pub record Stands (order : Order) (depth_left : ℕ) (types : List ℕ) (at : ℕ) (bytes : List ℕ) (v : ValueTree) (rest : List ℕ) : Type 0 where
   pub text : sig (type_of v) ≡ types
   pub shaped : IsShaped true (type_of v)
-  pub formed : IsWellFormed room v
+  pub formed : IsWellFormed depth_left v
   pub array : ℕ
   pub small : array < 256 ^ 4
   pub within : IsWithinLimits array order at v
@@ -21,7 +21,7 @@ pub record Stands (order : Order) (room : ℕ) (types : List ℕ) (at : ℕ) (by
 
 -- it stands at this spot
 abbrev pub StandsAt : Source → Spot → ValueTree → (rest : List ℕ) → Type 0
-StandsAt source spot v rest = Stands source.order spot.room spot.types.now spot.at source.bytes.now v rest
+StandsAt source spot v rest = Stands source.order spot.depth_left spot.types.now spot.at source.bytes.now v rest
 
 -- some value does
 abbrev pub StandsThere : Source → Spot → Type 0
@@ -32,10 +32,10 @@ abbrev pub end_of : Source → Spot → ValueTree → ℕ
 end_of source spot v = spot.at + length (spelling source.order spot.at v)
 
 -- values whose types have this text stand in the bytes, one after another
-pub record AllStand (order : Order) (room : ℕ) (types : List ℕ) (at : ℕ) (bytes : List ℕ) (vs : ValueTrees) (rest : List ℕ) : Type 0 where
+pub record AllStand (order : Order) (depth_left : ℕ) (types : List ℕ) (at : ℕ) (bytes : List ℕ) (vs : ValueTrees) (rest : List ℕ) : Type 0 where
   pub text : sigs (types_of vs) ≡ types
   pub shaped : AreShaped (types_of vs)
-  pub formed : AreWellFormed room vs
+  pub formed : AreWellFormed depth_left vs
   pub array : ℕ
   pub small : array < 256 ^ 4
   pub within : AreWithinLimits array order at vs
@@ -43,7 +43,7 @@ pub record AllStand (order : Order) (room : ℕ) (types : List ℕ) (at : ℕ) (
   pub inside : at ≤ length bytes
 
 abbrev pub AllStandAt : Source → Spot → ValueTrees → (rest : List ℕ) → Type 0
-AllStandAt source spot vs rest = AllStand source.order spot.room spot.types.now spot.at source.bytes.now vs rest
+AllStandAt source spot vs rest = AllStand source.order spot.depth_left spot.types.now spot.at source.bytes.now vs rest
 
 abbrev pub AllStandThere : Source → Spot → Type 0
 AllStandThere source spot = (vs : ValueTrees) × (rest : List ℕ) × AllStandAt source spot vs rest
@@ -53,12 +53,12 @@ abbrev pub end_of_all : Source → Spot → ValueTrees → ℕ
 end_of_all source spot vs = spot.at + length (spellings source.order spot.at vs)
 
 -- elements whose one type has this text stand in the bytes, one after another, up to an end
-pub record ElementsStand (order : Order) (room : ℕ) (types : List ℕ) (at end : ℕ) (bytes : List ℕ) (vs : ValueTrees) (rest : List ℕ) : Type 0 where
+pub record ElementsStand (order : Order) (depth_left : ℕ) (types : List ℕ) (at end : ℕ) (bytes : List ℕ) (vs : ValueTrees) (rest : List ℕ) : Type 0 where
   pub type : TypeTree
   pub text : sig type ≡ types
   pub shaped : IsShaped true type
   pub all : AllOf type vs
-  pub formed : AreWellFormed room vs
+  pub formed : AreWellFormed depth_left vs
   pub array : ℕ
   pub small : array < 256 ^ 4
   pub within : AreWithinLimits array order at vs
@@ -67,7 +67,7 @@ pub record ElementsStand (order : Order) (room : ℕ) (types : List ℕ) (at end
   pub inside : at ≤ length bytes
 
 abbrev pub ElementsStandAt : Source → Spot → (end : ℕ) → ValueTrees → (rest : List ℕ) → Type 0
-ElementsStandAt source spot end vs rest = ElementsStand source.order spot.room spot.types.now spot.at end source.bytes.now vs rest
+ElementsStandAt source spot end vs rest = ElementsStand source.order spot.depth_left spot.types.now spot.at end source.bytes.now vs rest
 
 abbrev pub ElementsStandThere : Source → Spot → (end : ℕ) → Type 0
 ElementsStandThere source spot end = (vs : ValueTrees) × (rest : List ℕ) × ElementsStandAt source spot end vs rest

@@ -21,28 +21,28 @@ pub struct FieldSpot<'a> {
     /// The offset at which the value begins, with its padding.
     pub at: usize,
     /// How many containers may be open in the value.
-    pub room: u8,
+    pub depth_left: u8,
 }
 
 /// The offset after a message's header fields, the first of which begins at [`FIELDS_START`].
 /// D-Bus Specification, "Message Format".
 #[inline]
 pub fn fields_end(source: &Source<'_>) -> usize
-    requires stand { (room : ℕ) × (fs : List FieldTree) × (rest : List ℕ) ×
-        FieldsStand source.now room fs rest }
-    ensures { (room : ℕ) (fs : List FieldTree) (rest : List ℕ) →
-        FieldsStand source.now room fs rest →
-        FieldsLeft source.now room 16 result fs rest }
+    requires stand { (depth_left : ℕ) × (fs : List FieldTree) × (rest : List ℕ) ×
+        FieldsStand source.now depth_left fs rest }
+    ensures { (depth_left : ℕ) (fs : List FieldTree) (rest : List ℕ) →
+        FieldsStand source.now depth_left fs rest →
+        FieldsLeft source.now depth_left 16 result fs rest }
 {
     FIELDS_START + source.order.u32_at(source.bytes, 12) as usize
 }
 
-/// The header field that begins at `at`, with its padding, where `room` containers may be open in the message. The next one begins
+/// The header field that begins at `at`, with its padding, where `depth_left` containers may be open in the message. The next one begins
 /// at the end of its value. D-Bus Specification, "Header Fields".
 #[inline]
-pub fn field_at<'a>(source: &Source<'a>, at: usize, room: u8) -> FieldSpot<'a>
-    requires stands { (f : FieldTree) × (rest : List ℕ) × FieldStands source.now room at f rest }
-    ensures { (f : FieldTree) (rest : List ℕ) → FieldStands source.now room at f rest →
+pub fn field_at<'a>(source: &Source<'a>, at: usize, depth_left: u8) -> FieldSpot<'a>
+    requires stands { (f : FieldTree) × (rest : List ℕ) × FieldStands source.now depth_left at f rest }
+    ensures { (f : FieldTree) (rest : List ℕ) → FieldStands source.now depth_left at f rest →
         IsFieldAt source.now at f rest result }
 {
     let start = at + gap(8, at);
@@ -55,6 +55,6 @@ pub fn field_at<'a>(source: &Source<'a>, at: usize, room: u8) -> FieldSpot<'a>
         types: &source.bytes[first..end],
         at: end + 1,
         // The array, the struct and the variant are open.
-        room: room - 3,
+        depth_left: depth_left - 3,
     }
 }

@@ -1,4 +1,4 @@
-//! Values walked where they stand in bytes that were judged.
+//! Values walked where they stand in bytes that were validated.
 //!
 //! One walk goes along the bytes and hands what stands there to a visitor: a number, a text, the opening and the closing of a
 //! container. The visitor says what it makes of each. The walk itself takes no memory and refuses nothing.

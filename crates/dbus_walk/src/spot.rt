@@ -22,7 +22,7 @@ pub struct Spot<'a> {
     /// Of each of these bytes how many the type has that begins there.
     pub lengths: &'a [u8],
     /// How many containers may be open in it.
-    pub room: u8,
+    pub depth_left: u8,
 }
 
 /// Where the elements of an array stand.

@@ -1,6 +1,6 @@
 //! Values of any type, along the bytes of their signature, handed to a visitor where they stand.
 //!
-//! A value stands there, so nothing is judged: each call hands what begins at its spot to the visitor, and gives what the visitor
+//! A value stands there, so nothing is validated: each call hands what begins at its spot to the visitor, and gives what the visitor
 //! made of it and the offset after it. A visitor that stops ends the walk.
 //! D-Bus Specification, "Marshaling (Wire Format)".
 #![tactic(auto)]
@@ -62,11 +62,18 @@ pub fn walk_value<V: Visitor>(
                 spot,
                 Container::Struct,
                 start,
-                spot.room - 1,
+                spot.depth_left - 1,
             )
         }
         Layout::Entry { start } => {
-            brackets(visitor, source, spot, Container::Entry, start, spot.room)
+            brackets(
+                visitor,
+                source,
+                spot,
+                Container::Entry,
+                start,
+                spot.depth_left,
+            )
         }
     }
 }
@@ -93,7 +100,7 @@ fn variant<V: Visitor>(
         at,
         types,
         lengths: &[1],
-        room: spot.room - 1,
+        depth_left: spot.depth_left - 1,
     };
     if types.len() == 1 {
         return variant_of(visitor, source, &held);
@@ -179,7 +186,7 @@ fn array<V: Visitor>(
         at: run.first,
         types: &spot.types[1..],
         lengths: &spot.lengths[1..],
-        room: spot.room - 1,
+        depth_left: spot.depth_left - 1,
     };
     let many = elements(visitor, none, source, &held, run.end)?;
     let closed = visitor.close(Container::Array, many, source.bytes.len())?;
@@ -212,7 +219,7 @@ fn elements<V: Visitor>(
             at: place,
             types: spot.types,
             lengths: spot.lengths,
-            room: spot.room,
+            depth_left: spot.depth_left,
         };
         let (one, after) = walk_value(visitor, source, &next)?;
         many = visitor.push(many, one, source.bytes.len())?;
@@ -230,18 +237,18 @@ fn brackets<V: Visitor>(
     spot: &Spot<'_>,
     kind: Container,
     start: usize,
-    room: u8,
+    depth_left: u8,
 ) -> Result<(V::One, usize), V::Stop>
     requires ready { V.ready visitor.old (length source.now.bytes.now) }
     requires stand { (vs : ValueTrees) × (rest : List ℕ) ×
-        AllStand source.now.order room (of_parts spot.now.types.now) start source.now.bytes.now vs rest }
+        AllStand source.now.order depth_left (of_parts spot.now.types.now) start source.now.bytes.now vs rest }
     requires noted { AreLengths spot.now.types.now spot.now.lengths.now }
     requires long { 2 ≤ length spot.now.types.now }
     requires kind { kind ≡ Array → ⊥ }
     requires bracketed { kind ≡ Variant → ⊥ }
     ensures ready { V.ready visitor.new (length source.now.bytes.now) }
     ensures walked { (v : ValueTree) (rest : List ℕ) → IsOf kind v → start ≡ inside source.now.order spot.now.at v →
-        AllStand source.now.order room (of_parts spot.now.types.now) start source.now.bytes.now (parts v) rest →
+        AllStand source.now.order depth_left (of_parts spot.now.types.now) start source.now.bytes.now (parts v) rest →
         IfOk result (λ r. V.one visitor.old source.now.order spot.now.at v r.0 visitor.new ×
         (r.1 ≡ start + length (spellings source.now.order start (parts v)))) }
 {
@@ -249,7 +256,7 @@ fn brackets<V: Visitor>(
         at: start,
         types: &spot.types[1..spot.types.len() - 1],
         lengths: &spot.lengths[1..spot.types.len() - 1],
-        room,
+        depth_left,
     };
     let none = visitor.open(kind, held.types, source.bytes.len())?;
     let (many, after) = walk_values(visitor, none, source, &held)?;
@@ -288,7 +295,7 @@ pub fn walk_values<V: Visitor>(
             at: place,
             types: &spot.types[pos..end],
             lengths: &spot.lengths[pos..end],
-            room: spot.room,
+            depth_left: spot.depth_left,
         };
         let (one, after) = walk_value(visitor, source, &next)?;
         many = visitor.push(many, one, source.bytes.len())?;

@@ -3,8 +3,8 @@
 
 use crate::captures::*;
 use crate::pieces::Pieces;
-use dbus_judge::Judged;
 use dbus_stream::{RawReader, ReadFault};
+use dbus_validate::Validated;
 use dbus_value::{Fault, Reason};
 use refusing_alloc::Refusing;
 use std::alloc::Allocator;
@@ -44,12 +44,12 @@ const NO_REPLY_SERIAL: Given = Fails(ReadFault::Format(Fault {
 // Whether a call that lends answers so, and lends this.
 fn lends<A: Allocator + Copy>(
     reader: &RawReader<Pieces, A>,
-    answer: Result<Option<Judged>, ReadFault>,
+    answer: Result<Option<Validated>, ReadFault>,
     given: Given,
 ) -> bool {
     let bytes = reader.message();
     match answer {
-        Ok(Some(judged)) => judged.length == bytes.len()
+        Ok(Some(validated)) => validated.length == bytes.len()
             && matches!(given, Gives(wanted) if wanted == bytes),
         Ok(None) => bytes.is_empty() && matches!(given, Gives(wanted) if wanted.is_empty()),
         Err(fault) => bytes.is_empty() && matches!(given, Fails(wanted) if wanted == fault),

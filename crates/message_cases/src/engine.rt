@@ -4,7 +4,7 @@ use crate::checking::{Checking, CheckingByBytes, CheckingInTwo};
 use crate::cutting::{Cutting, CuttingByBytes, CuttingInTwo};
 use crate::decoding::Decoding;
 use crate::input::Input;
-use crate::judging::{Judging, Stating, Viewing};
+use crate::validating::{Stating, Validating, Viewing};
 use anyhow::Result;
 use case_files::{Answer, Tally};
 use std::fmt;
@@ -56,7 +56,7 @@ fn try_engine<E: Engine + Drop>(
 /// Holds each engine against the input: its prefixes and splits, and a few bytes more.
 pub(crate) fn try_engines(rt: &HostRuntime, tally: &mut Tally, input: &Input) -> Result<()> {
     try_engine(rt, tally, input, Decoding)?;
-    try_engine(rt, tally, input, Judging)?;
+    try_engine(rt, tally, input, Validating)?;
     try_engine(rt, tally, input, Stating)?;
     try_engine(rt, tally, input, Viewing)?;
     try_engine(rt, tally, input, Checking::new(input.limits))?;

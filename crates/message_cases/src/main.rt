@@ -5,18 +5,18 @@
 #![tactic(auto)]
 
 mod building;
+mod byteswapping;
 mod checking;
 mod cutting;
 mod decoding;
 mod engine;
 mod input;
-mod judging;
 mod pieces;
 mod reading;
 mod same;
 mod seeing;
 mod showing;
-mod turning;
+mod validating;
 mod viewing;
 
 use anyhow::{Context, Result};

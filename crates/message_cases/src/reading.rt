@@ -1,8 +1,8 @@
 //! Messages read from a device that gives so many bytes a read.
 
 use crate::input::Input;
-use crate::judging::at_end;
 use crate::pieces::Pieces;
+use crate::validating::at_end;
 use anyhow::Result;
 use case_files::{Answer, Tally};
 use dbus_stream::{CheckReader, MOST_READS, MessageReader, RawReader, ReadFault};

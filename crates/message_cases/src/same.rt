@@ -1,11 +1,11 @@
 //! What is made of a whole message: its encodings, its other order, its view, its text, and the message of its parts.
 
 use crate::building::built;
+use crate::byteswapping::copy_byteswapped;
 use crate::decoding::message_of;
 use crate::input::Input;
 use crate::seeing::sees_message;
 use crate::showing::is_shown;
-use crate::turning::copy_turned;
 use crate::viewing::gives_message;
 use anyhow::Result;
 use case_files::{Answer, Tally};
@@ -70,7 +70,7 @@ fn try_message(
         Order::Little => big,
         Order::Big => little,
     };
-    let turned = copy_turned(alloc, input.all(), limits)?;
+    let turned = copy_byteswapped(alloc, input.all(), limits)?;
     let is_turned = matches!(&turned, Some(copy) if copy.as_slice() == other);
     tally.compare(rt, "turned, it is the other column", &true, &is_turned)?;
     try_view(rt, tally, input, order, &message)?;

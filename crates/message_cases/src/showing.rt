@@ -1,9 +1,9 @@
-//! Messages shown, as they are built and as their bytes are judged.
+//! Messages shown, as they are built and as their bytes are validated.
 
-use dbus_judge::judge;
 use dbus_message::Message;
 use dbus_show::show_into;
-use dbus_show_view::show_judged;
+use dbus_show_view::show_validated;
+use dbus_validate::validate;
 use dbus_value::{Limits, Order};
 use std::alloc::{AllocError, Global};
 
@@ -11,12 +11,16 @@ use std::alloc::{AllocError, Global};
 const NUMBER: u64 = 7;
 
 // The text of the message that the bytes begin with, which is not built.
-fn judged_text(alloc: Global, bytes: &[u8], limits: Limits) -> Result<Option<String>, AllocError> {
-    let Some(judged) = judge(bytes, limits) else {
+fn validated_text(
+    alloc: Global,
+    bytes: &[u8],
+    limits: Limits,
+) -> Result<Option<String>, AllocError> {
+    let Some(validated) = validate(bytes, limits) else {
         return Ok(None);
     };
     let mut text = String::new(alloc);
-    show_judged(&mut text, bytes, limits, &judged, NUMBER)?;
+    show_validated(&mut text, bytes, limits, &validated, NUMBER)?;
     Ok(Some(text))
 }
 
@@ -30,8 +34,8 @@ pub(crate) fn is_shown(
 ) -> Result<bool, AllocError> {
     let mut text = String::new(alloc);
     show_into(&mut text, order, message, NUMBER)?;
-    match judged_text(alloc, bytes, limits)? {
-        Some(judged) => Ok(judged.as_str() == text.as_str()),
+    match validated_text(alloc, bytes, limits)? {
+        Some(validated) => Ok(validated.as_str() == text.as_str()),
         None => Ok(false),
     }
 }

@@ -4,11 +4,11 @@ use crate::runs::{End, ran};
 use crate::streams::SIZES;
 use anyhow::{Result, bail};
 use case_files::{Case, Tally, cases};
-use dbus_judge::judge;
 use dbus_message::{Answer, Message, decode};
 use dbus_show::{show_into, show_message};
-use dbus_show_view::show_judged;
+use dbus_show_view::show_validated;
 use dbus_tool::Command;
+use dbus_validate::validate;
 use dbus_value::{Limits, Order};
 use std::alloc::Global;
 use std::fs;
@@ -41,11 +41,11 @@ fn print_message(
     show_into(&mut kept, order, &message, number)?;
     tally.compare(rt, "show_into", wanted, &kept)?;
     let limits = Limits::specification();
-    let Some(judged) = judge(bytes, limits) else {
-        bail!("a case's bytes are judged to be no message");
+    let Some(validated) = validate(bytes, limits) else {
+        bail!("a case's bytes are validated to be no message");
     };
-    show_judged(&mut kept, bytes, limits, &judged, number)?;
-    Ok(tally.compare(rt, "show_judged", wanted, &kept)?)
+    show_validated(&mut kept, bytes, limits, &validated, number)?;
+    Ok(tally.compare(rt, "show_validated", wanted, &kept)?)
 }
 
 // The text with the number 1, as `show` prints it of the message alone.

@@ -105,7 +105,7 @@ impl Wanted<'_> {
     }
 
     /// What is wanted of who says only whether there is a value.
-    pub(crate) fn judged(&self) -> Answer {
+    pub(crate) fn validated(&self) -> Answer {
         match self.answer {
             Answer::Done(end) => Answer::Done(end),
             _ => Answer::NoValue,

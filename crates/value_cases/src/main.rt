@@ -1,4 +1,4 @@
-//! `value_cases`: signatures, names and values of three files of cases, as every call answers them that judges, reads or writes
+//! `value_cases`: signatures, names and values of three files of cases, as every call answers them that validates, reads or writes
 //! such.
 //!
 //! It reads signatures.txt, names.txt and values.txt, prints each answer that is another than the file's, and then how many cases
@@ -7,13 +7,13 @@
 
 mod asked;
 mod checking;
-mod judging;
 mod names;
 mod reading;
 mod settings;
 mod showing;
 mod signatures;
 mod texts;
+mod validating;
 mod values;
 mod verdict;
 mod writing;

@@ -1,4 +1,4 @@
-//! What judges texts of every kind: where they break, and what a scan takes of them.
+//! What validates texts of every kind: where they break, and what a scan takes of them.
 
 use crate::verdict::Verdict;
 use case_files::Tally;

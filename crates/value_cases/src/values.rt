@@ -2,9 +2,9 @@
 
 use crate::asked::{Asked, Wanted, wanted_of};
 use crate::checking::try_checking;
-use crate::judging::try_judging;
 use crate::reading::{try_reading, value_of};
 use crate::settings::{Settings, settings_of};
+use crate::validating::try_validating;
 use crate::writing::try_writing;
 use anyhow::Result;
 use case_files::{Case, Tally, cases};
@@ -86,7 +86,7 @@ fn try_order(
     try_reading(rt, tally, asked, &bytes, &followed, wanted)?;
     try_checking(rt, tally, asked, &bytes, wanted)?;
     if end <= FURTHEST {
-        try_judging(rt, tally, asked, &bytes, &followed, wanted)?;
+        try_validating(rt, tally, asked, &bytes, &followed, wanted)?;
     }
     match value_of(rt.alloc(), asked, &bytes) {
         Some(value) => try_writing(rt, tally, value, asked, &bytes, wanted)?,

@@ -6,7 +6,7 @@ use std::alloc::{AllocError, Allocator};
 use std::test::*;
 
 // A value, how many containers are open around it, and what is answered.
-const JUDGED: &[(Made, u8, Result<(), ValueFault>)] = &[
+const VALIDATED: &[(Made, u8, Result<(), ValueFault>)] = &[
     (Made::Str('a'), 64, Ok(())),
     (Made::Str('\0'), 0, Err(ValueFault::Name)),
     (Made::Path('a'), 0, Err(ValueFault::Name)),
@@ -19,7 +19,7 @@ const JUDGED: &[(Made, u8, Result<(), ValueFault>)] = &[
     (Made::LoneEntry, 0, Err(ValueFault::Mixed)),
 ];
 
-fn is_judged<A: Allocator + Copy>(
+fn is_validated<A: Allocator + Copy>(
     alloc: A,
     value: &Value<A>,
     depth: u8,
@@ -28,33 +28,33 @@ fn is_judged<A: Allocator + Copy>(
     depth <= 64 && check_value(alloc, value, depth) == wanted
 }
 
-// Whether a copy of a value is judged so.
-fn is_copy_judged<A: Allocator + Copy>(
+// Whether a copy of a value is validated so.
+fn is_copy_validated<A: Allocator + Copy>(
     alloc: A,
     value: &Value<A>,
     depth: u8,
     wanted: Result<(), ValueFault>,
 ) -> Result<bool, AllocError> {
     let copied = copy(alloc, value)?;
-    Ok(is_judged(alloc, &copied, depth, wanted))
+    Ok(is_validated(alloc, &copied, depth, wanted))
 }
 
-// Whether a value is judged so, and a copy of it too.
-fn are_judged<A: Allocator + Copy>(
+// Whether a value is validated so, and a copy of it too.
+fn are_validated<A: Allocator + Copy>(
     alloc: A,
     what: Made,
     depth: u8,
     wanted: Result<(), ValueFault>,
 ) -> Result<(bool, bool), AllocError> {
     let value = make(alloc, what)?;
-    let copied = is_copy_judged(alloc, &value, depth, wanted)?;
-    Ok((is_judged(alloc, &value, depth, wanted), copied))
+    let copied = is_copy_validated(alloc, &value, depth, wanted)?;
+    Ok((is_validated(alloc, &value, depth, wanted), copied))
 }
 
 #[test]
-fn values_judged(rt: HostRuntime) -> Result<(), Fail> {
-    for (what, depth, wanted) in JUDGED {
-        let right = are_judged(rt.alloc(), *what, *depth, *wanted)?;
+fn values_validated(rt: HostRuntime) -> Result<(), Fail> {
+    for (what, depth, wanted) in VALIDATED {
+        let right = are_validated(rt.alloc(), *what, *depth, *wanted)?;
         assert!(rt;
             right == (true, true),
             "{what:?}: {wanted:?} at depth {depth}"

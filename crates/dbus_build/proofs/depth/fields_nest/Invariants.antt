@@ -4,4 +4,4 @@ use Rattle.dbus_message_model.proofs.FieldStructs.{structs}
 use Rattle.dbus_build.proofs.depth.fields_nest.Given as goal
 
 abbrev pub invariant-loop-field : goal.invariant-loop-field
-invariant-loop-field g l = NestWithin (l.room - 1) (structs (drop l.field-index l.fields)) ↔ NestWithin (l.room - 1) (structs l.fields)
+invariant-loop-field g l = NestWithin (l.depth_left - 1) (structs (drop l.field-index l.fields)) ↔ NestWithin (l.depth_left - 1) (structs l.fields)

@@ -25,7 +25,7 @@ loop-value-preserved g c = record {
   on = spelled_on c.loop-value.spelled.items c.write_type_of.new.out.items (sig (type_of (value_tree c.value-item.result))) _ (sigs (types_of (value_trees_of (drop (c.loop-value.value-index + 1) c.args.values.now)))) _
       (types_from c.args.values.now c.loop-value.value-index c.value-item.result c.loop-value-test.true c.value-item.is) c.loop-value.invariant.on c.write_type_of.ensures.written;
   fits = omega (arith, c.len.ensures, c.signature_length.ensures, c.if-signature-len.false, c.loop-value.invariant.fits, ap length c.write_type_of.ensures.written, length-append c.loop-value.spelled.items (sig (type_of (value_tree c.value-item.result))));
-  room = omega (arith, c.loop-value.invariant.room, c.write_type_of.ensures.room);
+  depth_left = omega (arith, c.loop-value.invariant.depth_left, c.write_type_of.ensures.room);
 }
 
 pub returns : goal.returns

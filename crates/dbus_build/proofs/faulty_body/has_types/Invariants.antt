@@ -10,5 +10,5 @@ invariant-loop-value g l = record {
   sound : IsFirstUnsound l.value-index (drop l.value-index l.values) None;
   on : l.spelled.items ++ sigs (types_of (value_trees_of (drop l.value-index l.values))) ≡ sigs (types_of (value_trees_of l.values));
   fits : length l.spelled.items ≤ length l.signature;
-  room : length l.signature ≤ vec_capacity l.spelled;
+  depth_left : length l.signature ≤ vec_capacity l.spelled;
 }

@@ -8,15 +8,15 @@ pub returns-in-Some-clause-parts : goal.returns-in-Some-clause-parts
 returns-in-Some-clause-parts c = λ told.
     let limits = c.given_limits.result in
     let b = c.args.bytes.now in
-    let judged = c.in-Some.judged in
-    let first = c.in-Some.ensures.judged in
-    let is = first.judged.judged in
-    let s = take judged.length b in
+    let validated = c.in-Some.validated in
+    let first = c.in-Some.ensures.validated in
+    let is = first.validated.validated in
+    let s = take validated.length b in
     let fs = is.message.fields in
     record {
-      order = judged.order;
+      order = validated.order;
       message = is.message;
-      whole = subst (λ (l : Limits). IsWhole l b judged.order is.message judged.length) c.given_limits.ensures (first_whole limits b judged first);
+      whole = subst (λ (l : Limits). IsWhole l b validated.order is.message validated.length) c.given_limits.ensures (first_whole limits b validated first);
       order_is = c.order_byte.ensures;
       numbers = (c.from.ensures ∙ sym is.parts.0, c.from-in-Some.ensures ∙ sym is.parts.1, sym is.parts.2);
       fields = record {
@@ -31,6 +31,6 @@ returns-in-Some-clause-parts c = λ told.
         unix_fds = c.number_of-in-Some.ensures s fs is.fields refl;
       };
       body = sym is.body.0;
-      body_length = first_body_length limits b judged first;
-      body_bytes = first_body limits b judged first;
+      body_length = first_body_length limits b validated first;
+      body_bytes = first_body limits b validated first;
     }

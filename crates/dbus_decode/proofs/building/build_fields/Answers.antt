@@ -9,12 +9,12 @@ use Rattle.dbus_decode.proofs.building.build_fields.Goals as goal
 pub overflow_sub-end : goal.overflow_sub-end
 overflow_sub-end g c =
     let there = c.requires.stand in
-    omega (arith, (c.fields_end-end.ensures c.args.room there.0 there.1 there.2).stand.ends)
+    omega (arith, (c.fields_end-end.ensures c.args.depth_left there.0 there.1 there.2).stand.ends)
 
 pub loop-place-init : goal.loop-place-init
 loop-place-init g c = record {
   packed = rw c.in_ok-fields.ensures.items refl;
-  built = λ fs rest s. none_walked c.args.source.now c.args.room 16 c.fields_end-end.result fs rest (λ done. field_trees c.in_ok-fields.fields.items ≡ done) (c.fields_end-end.ensures c.args.room fs rest s) (ap field_trees c.in_ok-fields.ensures.items);
+  built = λ fs rest s. none_walked c.args.source.now c.args.depth_left 16 c.fields_end-end.result fs rest (λ done. field_trees c.in_ok-fields.fields.items ≡ done) (c.fields_end-end.ensures c.args.depth_left fs rest s) (ap field_trees c.in_ok-fields.ensures.items);
 }
 
 pub build_field-requires : goal.build_field-requires

@@ -10,7 +10,7 @@ use Rattle.dbus_decode.proofs.building.build_fields.Given as goal
 abbrev pub invariant-loop-place : goal.invariant-loop-place
 invariant-loop-place g l = record {
   packed : IsTrue (keep_bytes (field_values l.fields.items));
-  built : (fs : List FieldTree) (rest : List ℕ) → FieldsStand l.source l.room fs rest → Walked l.source l.room l.end fs rest (λ done. field_trees l.fields.items ≡ done) l.place;
+  built : (fs : List FieldTree) (rest : List ℕ) → FieldsStand l.source l.depth_left fs rest → Walked l.source l.depth_left l.end fs rest (λ done. field_trees l.fields.items ≡ done) l.place;
 }
 
 abbrev pub decreases-loop-place : goal.decreases-loop-place

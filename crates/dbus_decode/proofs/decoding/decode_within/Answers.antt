@@ -1,13 +1,13 @@
 use Rattle.dbus_message_model.specs.PartsViews.{parts_tree}
-use Rattle.dbus_decode.proofs.JudgedParts.{is_valid, is_sized}
+use Rattle.dbus_decode.proofs.ValidatedParts.{is_valid, is_sized}
 use Rattle.dbus_decode.proofs.decoding.decode_within.Goals as goal
 
 pub of_valid-requires-clause-valid : goal.of_valid-requires-clause-valid
 of_valid-requires-clause-valid g c =
-    let h = c.in-Some.ensures.judged in
-    is_valid c.args.limits c.args.bytes.now c.in-Some.judged h (parts_tree c.in-Ok.parts) (c.in-Ok.ensures.built h.message h.whole)
+    let h = c.in-Some.ensures.validated in
+    is_valid c.args.limits c.args.bytes.now c.in-Some.validated h (parts_tree c.in-Ok.parts) (c.in-Ok.ensures.built h.message h.whole)
 
 pub of_valid-requires-clause-sized : goal.of_valid-requires-clause-sized
 of_valid-requires-clause-sized g c =
-    let h = c.in-Some.ensures.judged in
-    is_sized c.args.limits c.args.bytes.now c.in-Some.judged h (parts_tree c.in-Ok.parts) (c.in-Ok.ensures.built h.message h.whole)
+    let h = c.in-Some.ensures.validated in
+    is_sized c.args.limits c.args.bytes.now c.in-Some.validated h (parts_tree c.in-Ok.parts) (c.in-Ok.ensures.built h.message h.whole)

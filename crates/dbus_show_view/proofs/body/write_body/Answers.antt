@@ -12,7 +12,7 @@ pub loop-pos-init : goal.loop-pos-init
 loop-pos-init g c = record {
   within = omega arith;
   left = λ vs rest e.
-      all_left c.args.source.now.order c.args.spot.now.at vs (λ place us. AllStand c.args.source.now.order c.args.spot.now.room (drop 0 c.args.spot.now.types.now) place c.args.source.now.bytes.now us rest)
+      all_left c.args.source.now.order c.args.spot.now.at vs (λ place us. AllStand c.args.source.now.order c.args.spot.now.depth_left (drop 0 c.args.spot.now.types.now) place c.args.source.now.bytes.now us rest)
       (AreLines c.args.draft.now c.args.draft.now) e (nothing c.args.draft.now);
 }
 

@@ -6,7 +6,7 @@ use Rattle.dbus_tool.proofs.filtering.filter.Goals as goal
 
 pub returns-then-matches_view : goal.returns-then-matches_view
 returns-then-matches_view g c = λ order m whole.
-    let views = views_it c.args.limits c.args.bytes.now c.of_judged-view.result order m c.of_judged-view.ensures.viewed whole in (
+    let views = views_it c.args.limits c.args.bytes.now c.of_validated-view.result order m c.of_validated-view.ensures.viewed whole in (
       c.args.bytes.now,
       inl ((c.matches_view.ensures order m views).0 c.if-matches_view.true, bytes_are c.args.limits c.args.bytes.now order m whole),
       c.put_out.ensures,
@@ -14,7 +14,7 @@ returns-then-matches_view g c = λ order m whole.
 
 pub returns-else-matches_view : goal.returns-else-matches_view
 returns-else-matches_view g c = λ order m whole.
-    let views = views_it c.args.limits c.args.bytes.now c.of_judged-view.result order m c.of_judged-view.ensures.viewed whole in (
+    let views = views_it c.args.limits c.args.bytes.now c.of_validated-view.result order m c.of_validated-view.ensures.viewed whole in (
       [],
       inr (λ met. absurd (false≢true (sym c.if-matches_view.false ∙ (c.matches_view.ensures order m views).1 met)), refl),
       passes_none g.W.Sink.held g.W.Sink.failures c.args.gathered.now.items c.args.first.now,

@@ -4,7 +4,7 @@ use Rattle.dbus_tool.proofs.handing.next_message.Goals as goal
 pub returns-in-Ok-Some-clause-gives : goal.returns-in-Ok-Some-clause-gives
 returns-in-Ok-Some-clause-gives g c =
     let kept = rw c.in-Ok-Some.field-0-is at c.in-Ok-Some.ensures.kept in
-    gives_kept g.R.Source.left g.R.Source.calls g.R.Source.failures g.W.Sink.held g.W.Sink.failures c.in-Ok-Some.judged c.args.messages.now c.advance_kept.new.self c.args.gathered.now.items c.args.first.now (kept c.requires) c.in-Ok-Some.ensures.unread
+    gives_kept g.R.Source.left g.R.Source.calls g.R.Source.failures g.W.Sink.held g.W.Sink.failures c.in-Ok-Some.validated c.args.messages.now c.advance_kept.new.self c.args.gathered.now.items c.args.first.now (kept c.requires) c.in-Ok-Some.ensures.unread
 
 pub returns-in-Ok-None-clause-gives : goal.returns-in-Ok-None-clause-gives
 returns-in-Ok-None-clause-gives g c =

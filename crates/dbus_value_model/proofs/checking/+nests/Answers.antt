@@ -7,26 +7,26 @@ use Rattle.dbus_value_model.proofs.checking.+nests.Goals as goal
 
 pub nests_within-returns-in-Bytes : goal.nests_within-returns-in-Bytes
 nests_within-returns-in-Bytes g t c =
-    rw c.in-Bytes.is (λ e. opens_bytes c.args.room c.in-Bytes.field-0 (ltb-true 0 c.args.room e), λ h. lt-ltb 0 c.args.room (bytes_open c.args.room c.in-Bytes.field-0 h))
+    rw c.in-Bytes.is (λ e. opens_bytes c.args.depth_left c.in-Bytes.field-0 (ltb-true 0 c.args.depth_left e), λ h. lt-ltb 0 c.args.depth_left (bytes_open c.args.depth_left c.in-Bytes.field-0 h))
 
-pub nests_within-returns-then-room-gt0 : goal.nests_within-returns-then-room-gt0
-nests_within-returns-then-room-gt0 g t c =
+pub nests_within-returns-then-depth_left-gt0 : goal.nests_within-returns-then-depth_left-gt0
+nests_within-returns-then-depth_left-gt0 g t c =
     let items = rw c.deref.ensures.value at c.nest_within.ensures in
-    rw c.in-Array.is (λ e. opens_array c.args.room c.in-Array.field-0 c.in-Array.items c.if-room-gt0.true (items.0 e), λ h. items.1 (array_opens c.args.room c.in-Array.field-0 c.in-Array.items h).1)
+    rw c.in-Array.is (λ e. opens_array c.args.depth_left c.in-Array.field-0 c.in-Array.items c.if-depth_left-gt0.true (items.0 e), λ h. items.1 (array_opens c.args.depth_left c.in-Array.field-0 c.in-Array.items h).1)
 
-pub nests_within-returns-then-room-gt0-2 : goal.nests_within-returns-then-room-gt0-2
-nests_within-returns-then-room-gt0-2 g t c =
-    let fields = rw c.deref-then-room-gt0-2.ensures.value at c.nest_within-then-room-gt0-2.ensures in
-    rw c.in-Struct.is (λ e. opens_struct c.args.room c.in-Struct.fields c.if-room-gt0-2.true (fields.0 e), λ h. fields.1 (struct_opens c.args.room c.in-Struct.fields h).1)
+pub nests_within-returns-then-depth_left-gt0-2 : goal.nests_within-returns-then-depth_left-gt0-2
+nests_within-returns-then-depth_left-gt0-2 g t c =
+    let fields = rw c.deref-then-depth_left-gt0-2.ensures.value at c.nest_within-then-depth_left-gt0-2.ensures in
+    rw c.in-Struct.is (λ e. opens_struct c.args.depth_left c.in-Struct.fields c.if-depth_left-gt0-2.true (fields.0 e), λ h. fields.1 (struct_opens c.args.depth_left c.in-Struct.fields h).1)
 
 pub nest_within-returns-then-not-nests_within : goal.nest_within-returns-then-not-nests_within
 nest_within-returns-then-not-nests_within g t c =
     let n = c.if-not-nests_within.ensures in (
       λ e. absurd (false≢true e),
-      λ h. absurd (fails_at c.args.room c.args.values.now c.loop-value.value-index c.value-item.result c.loop-value-test.true (λ k. false≢true (n.1 (subst (λ x. NestsWithin c.args.room (value_tree x)) (sym c.value-item.is) k))) h),
+      λ h. absurd (fails_at c.args.depth_left c.args.values.now c.loop-value.value-index c.value-item.result c.loop-value-test.true (λ k. false≢true (n.1 (subst (λ x. NestsWithin c.args.depth_left (value_tree x)) (sym c.value-item.is) k))) h),
     )
 
 pub nest_within-loop-value-preserved : goal.nest_within-loop-value-preserved
 nest_within-loop-value-preserved g t c =
     let n = c.if-not-nests_within.ensures.0 refl in
-    λ h. c.loop-value.invariant (nest_more c.args.room c.args.values.now c.loop-value.value-index c.value-item.result c.loop-value-test.true (subst (λ x. NestsWithin c.args.room (value_tree x)) c.value-item.is n) h)
+    λ h. c.loop-value.invariant (nest_more c.args.depth_left c.args.values.now c.loop-value.value-index c.value-item.result c.loop-value-test.true (subst (λ x. NestsWithin c.args.depth_left (value_tree x)) c.value-item.is n) h)

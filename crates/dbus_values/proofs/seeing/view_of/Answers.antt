@@ -104,7 +104,7 @@ pub returns-in-Variant-clause-less : goal.returns-in-Variant-clause-less
 returns-in-Variant-clause-less c =
     let there = c.requires.stands in
     let p = subst (λ (l : Layout). IsLaidOut c.args.source.now c.args.spot.now there.0 there.1 l) c.in-Variant.is (c.requires.laid there.0 there.1 there.2) in
-    omega (arith, p.some, p.few, ap (λ (l : ValuesState). l.room) c.new.ensures, ap (λ (l : ValuesState). length l.types) c.new.ensures)
+    omega (arith, p.some, p.few, ap (λ (l : ValuesState). l.depth_left) c.new.ensures, ap (λ (l : ValuesState). length l.types) c.new.ensures)
 
 pub slice_bounds-result-count : goal.slice_bounds-result-count
 slice_bounds-result-count c =

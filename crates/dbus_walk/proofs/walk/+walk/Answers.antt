@@ -22,7 +22,7 @@ elements-loop-place-init g t c =
     let many : List ValueTree → Type 0 = λ (done : List ValueTree). g.V.Visitor.many c.args.visitor.now c.args.none order at done c.args.none c.args.visitor.now in
     record {
       ready = c.requires.ready;
-      left = λ vs rest e. all_left order at vs (λ place us. ElementsStand order c.args.spot.now.room c.args.spot.now.types.now place c.args.end c.args.source.now.bytes.now us rest) (Taken many order at at true) e
+      left = λ vs rest e. all_left order at vs (λ place us. ElementsStand order c.args.spot.now.depth_left c.args.spot.now.types.now place c.args.end c.args.source.now.bytes.now us rest) (Taken many order at at true) e
           (none_taken many order at (g.met.V.Visitor.none c.args.visitor.now c.args.none order at));
     }
 
@@ -70,7 +70,7 @@ walk_values-loop-pos-init g t c =
     record {
       within = omega arith;
       ready = c.requires.ready;
-      left = λ vs rest e. all_left order at vs (λ place us. AllStand order c.args.spot.now.room (drop 0 c.args.spot.now.types.now) place c.args.source.now.bytes.now us rest) (Taken many order at at true) e
+      left = λ vs rest e. all_left order at vs (λ place us. AllStand order c.args.spot.now.depth_left (drop 0 c.args.spot.now.types.now) place c.args.source.now.bytes.now us rest) (Taken many order at at true) e
           (none_taken many order at (g.met.V.Visitor.none c.args.visitor.now c.args.none order at));
     }
 

@@ -7,35 +7,35 @@ use Rattle.dbus_walk.proofs.walk.+walk.Given as goal
 -- a container takes one of the room, or bytes of its type, and a variant's own type has at most 255 bytes
 
 abbrev pub decreases-walk_value : goal.decreases-walk_value
-decreases-walk_value g l = 4 * (256 * l.spot.now.room + length l.spot.now.types.now)
+decreases-walk_value g l = 4 * (256 * l.spot.now.depth_left + length l.spot.now.types.now)
 
 abbrev pub decreases-walk_values : goal.decreases-walk_values
-decreases-walk_values g l = 4 * (256 * l.spot.now.room + length l.spot.now.types.now) + 1
+decreases-walk_values g l = 4 * (256 * l.spot.now.depth_left + length l.spot.now.types.now) + 1
 
 abbrev pub decreases-variant : goal.decreases-variant
-decreases-variant g l = 4 * (256 * l.spot.now.room + length l.spot.now.types.now) - 1
+decreases-variant g l = 4 * (256 * l.spot.now.depth_left + length l.spot.now.types.now) - 1
 
 abbrev pub decreases-variant_of : goal.decreases-variant_of
-decreases-variant_of g l = 4 * (256 * l.held.now.room + length l.held.now.types.now) + 1
+decreases-variant_of g l = 4 * (256 * l.held.now.depth_left + length l.held.now.types.now) + 1
 
 abbrev pub decreases-noted_variant : goal.decreases-noted_variant
-decreases-noted_variant g l = 4 * (256 * l.held.now.room + length l.held.now.types.now) + 2
+decreases-noted_variant g l = 4 * (256 * l.held.now.depth_left + length l.held.now.types.now) + 2
 
 abbrev pub decreases-array : goal.decreases-array
-decreases-array g l = 4 * (256 * l.spot.now.room + length l.spot.now.types.now) - 1
+decreases-array g l = 4 * (256 * l.spot.now.depth_left + length l.spot.now.types.now) - 1
 
 abbrev pub decreases-elements : goal.decreases-elements
-decreases-elements g l = 4 * (256 * l.spot.now.room + length l.spot.now.types.now) + 1
+decreases-elements g l = 4 * (256 * l.spot.now.depth_left + length l.spot.now.types.now) + 1
 
 abbrev pub decreases-brackets : goal.decreases-brackets
-decreases-brackets g l = 4 * (256 * l.room + length l.spot.now.types.now) - 1
+decreases-brackets g l = 4 * (256 * l.depth_left + length l.spot.now.types.now) - 1
 
 abbrev pub invariant-walk_values-loop-pos : goal.invariant-walk_values-loop-pos
 invariant-walk_values-loop-pos g l = record {
   within : l.pos ≤ length l.spot.types.now;
   ready : g.V.Visitor.ready l.visitor (length l.source.bytes.now);
   left : (vs : ValueTrees) (rest : List ℕ) → AllStandAt l.source l.spot vs rest
-      → Left l.source.order l.spot.at vs (λ place us. AllStand l.source.order l.spot.room (drop l.pos l.spot.types.now) place l.source.bytes.now us rest)
+      → Left l.source.order l.spot.at vs (λ place us. AllStand l.source.order l.spot.depth_left (drop l.pos l.spot.types.now) place l.source.bytes.now us rest)
       (Taken (λ (done : List ValueTree). g.V.Visitor.many l.initial.visitor l.fn.none l.source.order l.spot.at done l.many l.visitor) l.source.order l.spot.at l.place l.is_first) l.place;
 }
 
@@ -46,7 +46,7 @@ abbrev pub invariant-elements-loop-place : goal.invariant-elements-loop-place
 invariant-elements-loop-place g l = record {
   ready : g.V.Visitor.ready l.visitor (length l.source.bytes.now);
   left : (vs : ValueTrees) (rest : List ℕ) → ElementsStandAt l.source l.spot l.end vs rest
-      → Left l.source.order l.spot.at vs (λ place us. ElementsStand l.source.order l.spot.room l.spot.types.now place l.end l.source.bytes.now us rest)
+      → Left l.source.order l.spot.at vs (λ place us. ElementsStand l.source.order l.spot.depth_left l.spot.types.now place l.end l.source.bytes.now us rest)
       (Taken (λ (done : List ValueTree). g.V.Visitor.many l.initial.visitor l.fn.none l.source.order l.spot.at done l.many l.visitor) l.source.order l.spot.at l.place l.is_first) l.place;
 }
 

@@ -6,8 +6,8 @@ use Rattle.dbus_stream.proofs.gatherer.Gatherer.take_gathered.Goals as goal
 pub returns-in-Ok-Some-clause-takes : goal.returns-in-Ok-Some-clause-takes
 returns-in-Ok-Some-clause-takes g c = λ before w begins holds.
     let e : Gathered c.args.self.now c.args.piece.now c.in-Ok-Some.count c.gather.new.self = rw c.in-Ok-Some.field-0-is at c.in-Ok-Some.ensures in
-    gathered before c.args.piece.now w c.in-Ok-Some.count c.gather.new.self c.judged_whole.result holds
-    (subst (λ s. Gathered s c.args.piece.now c.in-Ok-Some.count c.gather.new.self) begins e) c.judged_whole.ensures
+    gathered before c.args.piece.now w c.in-Ok-Some.count c.gather.new.self c.validated_whole.result holds
+    (subst (λ s. Gathered s c.args.piece.now c.in-Ok-Some.count c.gather.new.self) begins e) c.validated_whole.ensures
 
 pub returns-in-Ok-None-clause-takes : goal.returns-in-Ok-None-clause-takes
 returns-in-Ok-None-clause-takes g c = λ before w begins holds.

@@ -9,5 +9,5 @@ returns-in-Some-clause-takes g c = λ w holds size.
     let held = c.self.inside.held in
     let size : length held.items ≡ 0 = sym held.ok.0 ∙ eqb-true (vec_len held) 0 (sym c.is_empty.ensures ∙ c.if-not-is_empty.false) in
     let none : held.items ≡ [] = nil_from_length held.items size in
-    lends_first c.args.self.now c.args.piece.now c.self.inside.limits held.items c.self.inside.whole c.self.inside.lent w c.in-Some.judged (c.self.view_is ∙ c.begin.ensures) holds none
-    (rw c.in-Some.is at c.judge_first.ensures.judged)
+    lends_first c.args.self.now c.args.piece.now c.self.inside.limits held.items c.self.inside.whole c.self.inside.lent w c.in-Some.validated (c.self.view_is ∙ c.begin.ensures) holds none
+    (rw c.in-Some.is at c.validate_first.ensures.validated)

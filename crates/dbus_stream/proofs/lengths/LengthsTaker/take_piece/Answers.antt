@@ -12,20 +12,20 @@ use Rattle.dbus_stream.proofs.lengths.LengthsTaker.take_piece.Goals as goal
 
 pub returns-in-Some-clause-within : goal.returns-in-Some-clause-within
 returns-in-Some-clause-within c =
-    let j = c.in-Some.ensures.judged in
-    (whole_inside c.args.self.now.limits c.args.piece.now c.in-Some.judged.order j.message c.in-Some.judged.length j.whole).1
+    let j = c.in-Some.ensures.validated in
+    (whole_inside c.args.self.now.limits c.args.piece.now c.in-Some.validated.order j.message c.in-Some.validated.length j.whole).1
 
 pub returns-in-Some-clause-takes : goal.returns-in-Some-clause-takes
 returns-in-Some-clause-takes c = λ w stands size.
     let t = c.args.self.now in
     let piece = c.args.piece.now in
-    let j = c.in-Some.ensures.judged in
-    let n = c.in-Some.judged.length in
+    let j = c.in-Some.ensures.validated in
+    let n = c.in-Some.validated.length in
     let none : [] ≡ w = sym (nil_from_length w (sym size ∙ c.if-held-eq0.true)) in
     subst (λ v. Completes lengths t v piece t n n) none (record {
-      order = c.in-Some.judged.order;
+      order = c.in-Some.validated.order;
       message = j.message;
-      whole = subst (λ k. IsWhole t.limits piece c.in-Some.judged.order j.message k) (sym (zero-add n)) j.whole;
+      whole = subst (λ k. IsWhole t.limits piece c.in-Some.validated.order j.message k) (sym (zero-add n)) j.whole;
       gives = sym (zero-add n);
       holds = subst (λ v. lengths.holds t v) (sym none) stands;
       lends = λ some. absurd (omega (arith, some));

@@ -3,7 +3,7 @@ use Rattle.dbus_stream.proofs.raw_reader.RawReader.next.Goals as goal
 
 pub returns-in-Ok-Some-clause-read : goal.returns-in-Ok-Some-clause-read
 returns-in-Ok-Some-clause-read g c =
-    gives_copy g.R.Source.left g.R.Source.calls c.in-Ok-Some._judged c.args.self.now c.advance.new.self c.give.new.self c.give.result
+    gives_copy g.R.Source.left g.R.Source.calls c.in-Ok-Some._validated c.args.self.now c.advance.new.self c.give.new.self c.give.result
     (rw c.in-Ok-Some.field-0-is at c.in-Ok-Some.ensures.read) c.give.ensures.gives c.give.ensures.unread
 
 pub returns-in-Ok-None-clause-read : goal.returns-in-Ok-None-clause-read

@@ -9,8 +9,8 @@ overflow_add-at c =
     let p = ready_offset c.args.self.now c.args.pos c.args.stop c.args.n c.requires.valid.0 c.requires.valid.1 97 c.requires.code in
     let a = p.1 in let b = p.2 in omega arith
 
-pub returns-then-room-eq0-clause-moves : goal.returns-then-room-eq0-clause-moves
-returns-then-room-eq0-clause-moves c = λ answer r. rw c.refuse.ensures (λ s. deep_array c.args.self.now c.args.pos c.args.stop c.args.n answer r 97 c.requires.code refl c.if-room-eq0.true _)
+pub returns-then-depth_left-eq0-clause-moves : goal.returns-then-depth_left-eq0-clause-moves
+returns-then-depth_left-eq0-clause-moves c = λ answer r. rw c.refuse.ensures (λ s. deep_array c.args.self.now c.args.pos c.args.stop c.args.n answer r 97 c.requires.code refl c.if-depth_left-eq0.true _)
 
 pub bounds-as_slice-pos : goal.bounds-as_slice-pos
 bounds-as_slice-pos c =
@@ -28,11 +28,11 @@ next-requires c =
     let k = c.in-Ok.taken in
     let size = c.in-Ok.size in
     let u = element_code x c.args.pos c.args.stop c.args.n answer r 97 c.requires.code refl (get_or c.as_slice.result.now (c.args.pos + 1) 0) (sym (ap (λ (t : List ℕ). get_or t (c.args.pos + 1) 0) c.as_slice.ensures.value)) in
-    let y : Values = record x { offset = x.offset + c.args.n + k; inner = record { array = true; pos = c.args.pos + 1; stop = c.args.stop; top = x.inner.top; end = x.offset + c.args.n + k + size; room = x.inner.room - 1 }; frames = c.push.new.self } in
+    let y : Values = record x { offset = x.offset + c.args.n + k; inner = record { array = true; pos = c.args.pos + 1; stop = c.args.stop; top = x.inner.top; end = x.offset + c.args.n + k + size; depth_left = x.inner.depth_left - 1 }; frames = c.push.new.self } in
     record {
       valid = (
         after_piece answer (take k c.args.bytes.now),
-        array_goes x c.args.pos c.args.stop c.args.n answer r 97 c.requires.code refl (x.inner.room - 1) (omega arith) y c.args.bytes.now size k (c.in-Ok.ensures.gives (ready_array x c.args.pos c.args.stop c.args.n answer r 97 c.requires.code refl).0 u) m.0 m.2
+        array_goes x c.args.pos c.args.stop c.args.n answer r 97 c.requires.code refl (x.inner.depth_left - 1) (omega arith) y c.args.bytes.now size k (c.in-Ok.ensures.gives (ready_array x c.args.pos c.args.stop c.args.n answer r 97 c.requires.code refl).0 u) m.0 m.2
             (record { bounds = refl; order = refl; end = refl; offset = refl; text = refl; lengths = refl; inner = refl; frames = c.push.ensures.items }),
       );
     }
@@ -44,10 +44,10 @@ returns-in-Ok-clause-moves c = λ answer r.
     let k = c.in-Ok.taken in
     let size = c.in-Ok.size in
     let u = element_code x c.args.pos c.args.stop c.args.n answer r 97 c.requires.code refl (get_or c.as_slice.result.now (c.args.pos + 1) 0) (sym (ap (λ (t : List ℕ). get_or t (c.args.pos + 1) 0) c.as_slice.ensures.value)) in
-    let y : Values = record x { offset = x.offset + c.args.n + k; inner = record { array = true; pos = c.args.pos + 1; stop = c.args.stop; top = x.inner.top; end = x.offset + c.args.n + k + size; room = x.inner.room - 1 }; frames = c.push.new.self } in (
+    let y : Values = record x { offset = x.offset + c.args.n + k; inner = record { array = true; pos = c.args.pos + 1; stop = c.args.stop; top = x.inner.top; end = x.offset + c.args.n + k + size; depth_left = x.inner.depth_left - 1 }; frames = c.push.new.self } in (
       m.1,
       c.next.ensures (after_piece answer (take k c.args.bytes.now))
-          (array_goes x c.args.pos c.args.stop c.args.n answer r 97 c.requires.code refl (x.inner.room - 1) (omega arith) y c.args.bytes.now size k (c.in-Ok.ensures.gives (ready_array x c.args.pos c.args.stop c.args.n answer r 97 c.requires.code refl).0 u) m.0 m.2
+          (array_goes x c.args.pos c.args.stop c.args.n answer r 97 c.requires.code refl (x.inner.depth_left - 1) (omega arith) y c.args.bytes.now size k (c.in-Ok.ensures.gives (ready_array x c.args.pos c.args.stop c.args.n answer r 97 c.requires.code refl).0 u) m.0 m.2
           (record { bounds = refl; order = refl; end = refl; offset = refl; text = refl; lengths = refl; inner = refl; frames = c.push.ensures.items })),
     )
 
@@ -55,4 +55,4 @@ pub returns-in-Err-clause-moves : goal.returns-in-Err-clause-moves
 returns-in-Err-clause-moves c = λ answer r.
     let x = c.args.self.now in
     let u = element_code x c.args.pos c.args.stop c.args.n answer r 97 c.requires.code refl (get_or c.as_slice.result.now (c.args.pos + 1) 0) (sym (ap (λ (t : List ℕ). get_or t (c.args.pos + 1) 0) c.as_slice.ensures.value)) in
-    array_stops x c.args.pos c.args.stop c.args.n answer r 97 c.requires.code refl (x.inner.room - 1) (omega arith) c.args.bytes.now c.in-Err.stop (c.in-Err.ensures.gives (ready_array x c.args.pos c.args.stop c.args.n answer r 97 c.requires.code refl).0 u)
+    array_stops x c.args.pos c.args.stop c.args.n answer r 97 c.requires.code refl (x.inner.depth_left - 1) (omega arith) c.args.bytes.now c.in-Err.stop (c.in-Err.ensures.gives (ready_array x c.args.pos c.args.stop c.args.n answer r 97 c.requires.code refl).0 u)

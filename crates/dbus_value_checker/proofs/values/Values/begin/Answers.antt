@@ -11,12 +11,12 @@ next-requires c =
     let r = c.requires in
     let a = c.args in
     let n = length a.types.now in
-    let x : Values = record a.self.now { bounds = a.bounds; order = a.order; end = a.end; offset = a.offset; inner = record { array = false; pos = 0; stop = n; top = n; end = a.end; room = a.room }; frames = c.clear.new.self; text = c.sign.new.text; lengths = c.sign.new.lengths } in
+    let x : Values = record a.self.now { bounds = a.bounds; order = a.order; end = a.end; offset = a.offset; inner = record { array = false; pos = 0; stop = n; top = n; end = a.end; depth_left = a.depth_left }; frames = c.clear.new.self; text = c.sign.new.text; lengths = c.sign.new.lengths } in
     let lengths = subst (AreLengths a.types.now) (sym c.sign.ensures.lengths.2) c.sign.ensures.lengths.1 in
     record {
       valid = (
-        values_on a.bounds a.order a.room a.end r.types.0 done a.offset,
-        begun_goes x a.types.now a.room r.types.0 done c.clear.ensures c.sign.ensures.text lengths refl r.at_most (omega (arith, c.ranges.end)) r.few r.short r.types.1.0 r.types.1.1,
+        values_on a.bounds a.order a.depth_left a.end r.types.0 done a.offset,
+        begun_goes x a.types.now a.depth_left r.types.0 done c.clear.ensures c.sign.ensures.text lengths refl r.at_most (omega (arith, c.ranges.end)) r.few r.short r.types.1.0 r.types.1.1,
       );
     }
 
@@ -25,7 +25,7 @@ returns c = λ ts last types complete.
     let r = c.requires in
     let a = c.args in
     let n = length a.types.now in
-    let x : Values = record a.self.now { bounds = a.bounds; order = a.order; end = a.end; offset = a.offset; inner = record { array = false; pos = 0; stop = n; top = n; end = a.end; room = a.room }; frames = c.clear.new.self; text = c.sign.new.text; lengths = c.sign.new.lengths } in
+    let x : Values = record a.self.now { bounds = a.bounds; order = a.order; end = a.end; offset = a.offset; inner = record { array = false; pos = 0; stop = n; top = n; end = a.end; depth_left = a.depth_left }; frames = c.clear.new.self; text = c.sign.new.text; lengths = c.sign.new.lengths } in
     let lengths = subst (AreLengths a.types.now) (sym c.sign.ensures.lengths.2) c.sign.ensures.lengths.1 in
-    c.next.ensures (values_on a.bounds a.order a.room a.end ts last a.offset)
-    (begun_goes x a.types.now a.room ts last c.clear.ensures c.sign.ensures.text lengths refl r.at_most (omega (arith, c.ranges.end)) r.few r.short types complete)
+    c.next.ensures (values_on a.bounds a.order a.depth_left a.end ts last a.offset)
+    (begun_goes x a.types.now a.depth_left ts last c.clear.ensures c.sign.ensures.text lengths refl r.at_most (omega (arith, c.ranges.end)) r.few r.short types complete)

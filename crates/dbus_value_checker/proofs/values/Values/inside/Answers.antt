@@ -9,7 +9,7 @@ use Rattle.dbus_value_checker.proofs.values.Values.inside.Goals as goal
 pub part-until-requires-clause-noted : goal.part-until-requires-clause-noted
 part-until-requires-clause-noted c =
     let x = c.args.self.now in
-    let f : Frame = record { array = false; pos = c.args.pos + 1; stop = c.args.stop - 1; top = x.inner.top; end = x.inner.end; room = c.args.room } in
+    let f : Frame = record { array = false; pos = c.args.pos + 1; stop = c.args.stop - 1; top = x.inner.top; end = x.inner.end; depth_left = c.args.depth_left } in
     let z : Values = record x { offset = x.offset + c.args.n } in
     let y : Values = record z { inner = f; frames = c.push.new.self } in
     pushed_notes z y f (record { bounds = refl; order = refl; end = refl; offset = refl; text = refl; lengths = refl; inner = refl; frames = c.push.ensures.items }) c.requires.noted
@@ -18,7 +18,7 @@ part-until-requires-clause-noted c =
 pub returns-clause-opens : goal.returns-clause-opens
 returns-clause-opens c = λ answer h.
     let x = c.args.self.now in
-    let y : Values = record x { offset = x.offset + c.args.n; inner = record { array = false; pos = c.args.pos + 1; stop = c.args.stop - 1; top = x.inner.top; end = x.inner.end; room = c.args.room }; frames = c.push.new.self } in
+    let y : Values = record x { offset = x.offset + c.args.n; inner = record { array = false; pos = c.args.pos + 1; stop = c.args.stop - 1; top = x.inner.top; end = x.inner.end; depth_left = c.args.depth_left }; frames = c.push.new.self } in
     let q = c.part-until.result in
     wants_doing c.part-until.new.self y.inner.pos q y.inner.pos q answer
     (subst (λ (z : Values). Wants z y.inner.pos q answer) (sym c.part-until.ensures.moved)

@@ -10,4 +10,4 @@ inside-requires c =
     record { near = omega arith; few = f.0; some = f.1; there = p.3; noted = c.requires.valid.1.noted; type_noted = c.requires.valid.1.type_noted }
 
 pub returns-clause-opens : goal.returns-clause-opens
-returns-clause-opens c = λ answer r. c.inside.ensures.opens answer (entry_opens c.args.self.now c.args.pos c.args.stop c.args.n answer r 123 c.requires.code c.args.self.now.inner.room refl refl)
+returns-clause-opens c = λ answer r. c.inside.ensures.opens answer (entry_opens c.args.self.now c.args.pos c.args.stop c.args.n answer r 123 c.requires.code c.args.self.now.inner.depth_left refl refl)

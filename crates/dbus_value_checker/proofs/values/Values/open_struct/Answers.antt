@@ -14,8 +14,8 @@ inside-requires c =
     let a = p.1 in let b = p.2 in
     record { near = omega arith; few = f.0; some = f.1; there = p.3; noted = c.requires.valid.1.noted; type_noted = c.requires.valid.1.type_noted }
 
-pub returns-then-room-eq0-clause-opens : goal.returns-then-room-eq0-clause-opens
-returns-then-room-eq0-clause-opens c = λ answer r. rw c.refuse.ensures (deep_struct c.args.self.now c.args.pos c.args.stop c.args.n answer r 40 c.requires.code refl c.if-room-eq0.true)
+pub returns-then-depth_left-eq0-clause-opens : goal.returns-then-depth_left-eq0-clause-opens
+returns-then-depth_left-eq0-clause-opens c = λ answer r. rw c.refuse.ensures (deep_struct c.args.self.now c.args.pos c.args.stop c.args.n answer r 40 c.requires.code refl c.if-depth_left-eq0.true)
 
 pub returns-clause-opens : goal.returns-clause-opens
-returns-clause-opens c = λ answer r. c.inside.ensures.opens answer (struct_opens c.args.self.now c.args.pos c.args.stop c.args.n answer r 40 c.requires.code (c.args.self.now.inner.room - 1) refl (omega arith))
+returns-clause-opens c = λ answer r. c.inside.ensures.opens answer (struct_opens c.args.self.now c.args.pos c.args.stop c.args.n answer r 40 c.requires.code (c.args.self.now.inner.depth_left - 1) refl (omega arith))

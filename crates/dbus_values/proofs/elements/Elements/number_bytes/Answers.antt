@@ -50,7 +50,7 @@ slice_bounds-result-end-2 c =
 pub returns : goal.returns
 returns c = λ xs rest l.
     let s = c.self.inside in
-    let e : ElementsState = record { order = s.source.order; bytes = s.source.bytes.now; at = s.at; end = s.end; type = s.element.now; room = s.room } in
+    let e : ElementsState = record { order = s.source.order; bytes = s.source.bytes.now; at = s.at; end = s.end; type = s.element.now; depth_left = s.depth_left } in
     let here = subst (λ (u : ElementsState). ElementsAreLeft u xs rest) (sym c.self.view_is) l in
     let some : 0 < c.number_width-width.result = omega (arith, c.if-width-eq0.false) in
     let place : s.at + c.gap.result ≡ s.at + gap_to c.number_width-width.result s.at = omega (arith, c.gap.ensures) in

@@ -14,7 +14,7 @@ returns-then-self-clause-steps c =
 pub pass-seen-requires-clause-stands : goal.pass-seen-requires-clause-stands
 pass-seen-requires-clause-stands c =
     let s = c.self.inside in
-    let e : ElementsState = record { order = s.source.order; bytes = s.source.bytes.now; at = s.at; end = s.end; type = s.element.now; room = s.room } in
+    let e : ElementsState = record { order = s.source.order; bytes = s.source.bytes.now; at = s.at; end = s.end; type = s.element.now; depth_left = s.depth_left } in
     let t = c.self.invariant in
     let f = element_of e t.1 t.2 t.3 c.if-self.false in
     (f.x, _, f.stands)
@@ -22,23 +22,23 @@ pass-seen-requires-clause-stands c =
 pub invariant_of-self : goal.invariant_of-self
 invariant_of-self c =
     let s = c.self.inside in
-    let e : ElementsState = record { order = s.source.order; bytes = s.source.bytes.now; at = s.at; end = s.end; type = s.element.now; room = s.room } in
+    let e : ElementsState = record { order = s.source.order; bytes = s.source.bytes.now; at = s.at; end = s.end; type = s.element.now; depth_left = s.depth_left } in
     let t = c.self.invariant in
     let f = element_of e t.1 t.2 t.3 c.if-self.false in
     let w = c.pass-seen.ensures.seen f.x _ f.stands in
-    (t.0, f.us, t.2, subst (λ (k : ℕ). ElementsStand e.order e.room e.type k e.end e.bytes f.us t.2) (sym w.1) f.others)
+    (t.0, f.us, t.2, subst (λ (k : ℕ). ElementsStand e.order e.depth_left e.type k e.end e.bytes f.us t.2) (sym w.1) f.others)
 
 pub returns-clause-steps : goal.returns-clause-steps
 returns-clause-steps c =
     let s = c.self.inside in
-    let e : ElementsState = record { order = s.source.order; bytes = s.source.bytes.now; at = s.at; end = s.end; type = s.element.now; room = s.room } in
-    let left : ElementsState = record { order = e.order; bytes = e.bytes; at = c.pass-seen.result.1; end = e.end; type = e.type; room = e.room } in
+    let e : ElementsState = record { order = s.source.order; bytes = s.source.bytes.now; at = s.at; end = s.end; type = s.element.now; depth_left = s.depth_left } in
+    let left : ElementsState = record { order = e.order; bytes = e.bytes; at = c.pass-seen.result.1; end = e.end; type = e.type; depth_left = e.depth_left } in
     let t = c.self.invariant in
     let passes : PassesElement e (Some c.pass-seen.result.0) left = record {
       first = λ xs rest l.
           let f = element_of e xs rest l c.if-self.false in
           let w = c.pass-seen.ensures.seen f.x _ f.stands in
-          (f.x, f.us, f.begins, w.0, subst (λ (k : ℕ). ElementsStand e.order e.room e.type k e.end e.bytes f.us rest) (sym w.1) f.others);
+          (f.x, f.us, f.begins, w.0, subst (λ (k : ℕ). ElementsStand e.order e.depth_left e.type k e.end e.bytes f.us rest) (sym w.1) f.others);
       fewer =
           let f = element_of e t.1 t.2 t.3 c.if-self.false in
           let w = c.pass-seen.ensures.seen f.x _ f.stands in
@@ -49,7 +49,7 @@ returns-clause-steps c =
 pub returns-clause-goes : goal.returns-clause-goes
 returns-clause-goes c =
     let s = c.self.inside in
-    let e : ElementsState = record { order = s.source.order; bytes = s.source.bytes.now; at = s.at; end = s.end; type = s.element.now; room = s.room } in
+    let e : ElementsState = record { order = s.source.order; bytes = s.source.bytes.now; at = s.at; end = s.end; type = s.element.now; depth_left = s.depth_left } in
     let t = c.self.invariant in
     let f = element_of e t.1 t.2 t.3 c.if-self.false in
     let w = c.pass-seen.ensures.seen f.x _ f.stands in

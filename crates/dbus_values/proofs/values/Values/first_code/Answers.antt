@@ -12,7 +12,7 @@ returns-then-is_empty c = λ xs rest l.
 pub returns : goal.returns
 returns c = λ xs rest l.
     let i = c.self.inside in
-    let s : ValuesState = record { order = i.source.order; bytes = i.source.bytes.now; at = i.at; types = i.types.now; room = i.room } in
+    let s : ValuesState = record { order = i.source.order; bytes = i.source.bytes.now; at = i.at; types = i.types.now; depth_left = i.depth_left } in
     let not = eqb-false (length s.types) 0 (sym c.if-is_empty.ensures) in
     let some : 0 < length s.types = omega (arith, not) in
     first_coded s xs rest (subst (λ (u : ValuesState). AreLeft u xs rest) (sym c.self.view_is) l) some

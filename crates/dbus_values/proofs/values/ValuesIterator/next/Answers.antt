@@ -22,7 +22,7 @@ returns-then-is_empty-clause-steps c =
 pub pass-seen-requires-clause-stands : goal.pass-seen-requires-clause-stands
 pass-seen-requires-clause-stands c =
     let i = c.self.inside in
-    let s : ValuesState = record { order = i.source.order; bytes = i.source.bytes.now; at = i.at; types = i.types.now; room = i.room } in
+    let s : ValuesState = record { order = i.source.order; bytes = i.source.bytes.now; at = i.at; types = i.types.now; depth_left = i.depth_left } in
     let some : 0 < length s.types = omega arith in
     let t = c.self.invariant in
     let f = value_of s t.1 t.2 c.type_end-end.result t.3 some c.type_end-end.ensures.value in
@@ -31,26 +31,26 @@ pass-seen-requires-clause-stands c =
 pub invariant_of-self : goal.invariant_of-self
 invariant_of-self c =
     let i = c.self.inside in
-    let s : ValuesState = record { order = i.source.order; bytes = i.source.bytes.now; at = i.at; types = i.types.now; room = i.room } in
+    let s : ValuesState = record { order = i.source.order; bytes = i.source.bytes.now; at = i.at; types = i.types.now; depth_left = i.depth_left } in
     let some : 0 < length s.types = omega arith in
     let t = c.self.invariant in
     let end = c.type_end-end.result in
     let f = value_of s t.1 t.2 end t.3 some c.type_end-end.ensures.value in
     let w = c.pass-seen.ensures.seen f.x _ f.stands in
-    (omega (arith, t.0, length-take (length s.types - end) (drop end s.types)), f.us, t.2, subst (λ (k : ℕ). AllStand s.order s.room (take (length s.types - end) (drop end s.types)) k s.bytes f.us t.2) (sym w.1) f.others)
+    (omega (arith, t.0, length-take (length s.types - end) (drop end s.types)), f.us, t.2, subst (λ (k : ℕ). AllStand s.order s.depth_left (take (length s.types - end) (drop end s.types)) k s.bytes f.us t.2) (sym w.1) f.others)
 
 pub returns-clause-steps : goal.returns-clause-steps
 returns-clause-steps c =
     let i = c.self.inside in
-    let s : ValuesState = record { order = i.source.order; bytes = i.source.bytes.now; at = i.at; types = i.types.now; room = i.room } in
+    let s : ValuesState = record { order = i.source.order; bytes = i.source.bytes.now; at = i.at; types = i.types.now; depth_left = i.depth_left } in
     let some : 0 < length s.types = omega arith in
     let end = c.type_end-end.result in
-    let left : ValuesState = record { order = s.order; bytes = s.bytes; at = c.pass-seen.result.1; types = take (length s.types - end) (drop end s.types); room = s.room } in
+    let left : ValuesState = record { order = s.order; bytes = s.bytes; at = c.pass-seen.result.1; types = take (length s.types - end) (drop end s.types); depth_left = s.depth_left } in
     let passes : PassesValue s (Some c.pass-seen.result.0) left = record {
       first = λ xs rest l.
           let f = value_of s xs rest end l some c.type_end-end.ensures.value in
           let w = c.pass-seen.ensures.seen f.x _ f.stands in
-          (f.x, f.us, f.begins, w.0, subst (λ (k : ℕ). AllStand s.order s.room left.types k s.bytes f.us rest) (sym w.1) f.others);
+          (f.x, f.us, f.begins, w.0, subst (λ (k : ℕ). AllStand s.order s.depth_left left.types k s.bytes f.us rest) (sym w.1) f.others);
       after = λ x us rest l.
           let f = value_of s (MoreValues x us) rest end l some c.type_end-end.ensures.value in
           let w = c.pass-seen.ensures.seen f.x _ f.stands in

@@ -12,7 +12,7 @@ pub returns-then-self-clause-steps : goal.returns-then-self-clause-steps
 returns-then-self-clause-steps c = λ fs left.
     let s = c.self.inside in
     let here = subst (λ (u : ElementsState). ElementsAreLeft u (value_trees (map field_struct fs)) left.0) (sym c.self.view_is) left.1 in
-    let l : FieldsLeft s.source s.room s.at s.end fs left.0 = record { some = c.self.invariant.2.some; stand = here } in
+    let l : FieldsLeft s.source s.depth_left s.at s.end fs left.0 = record { some = c.self.invariant.2.some; stand = here } in
     (no_field fs l (omega (arith, c.if-self.true)), left)
 
 pub field_at-field-requires : goal.field_at-field-requires
@@ -34,7 +34,7 @@ invariant_of-self c =
     let e = c.again-passed.ensures ∙ c.new-value.ensures in
     let after = subst (λ (u : ValuesState). (x : ValueTree) (us : ValueTrees) (r : List ℕ) → AreLeft u (MoreValues x us) r → IsAfter u x c.next-seen.new.self) e c.next-seen.ensures.steps.after in
     let ended = c.at-self-inside.ensures ∙ others_begin l some c.field_at-field.result c.field_at-field.ensures c.next-seen.new.self after in
-    (f.others, c.self.invariant.1, subst (λ (k : ℕ). FieldsLeft s.source s.room k s.end f.others c.self.invariant.1) (sym ended) f.left)
+    (f.others, c.self.invariant.1, subst (λ (k : ℕ). FieldsLeft s.source s.depth_left k s.end f.others c.self.invariant.1) (sym ended) f.left)
 
 pub returns-clause-steps : goal.returns-clause-steps
 returns-clause-steps c = λ fs left.
@@ -42,7 +42,7 @@ returns-clause-steps c = λ fs left.
     let some = c.if-self.false in
     let spot = c.field_at-field.result in
     let here = subst (λ (u : ElementsState). ElementsAreLeft u (value_trees (map field_struct fs)) left.0) (sym c.self.view_is) left.1 in
-    let l : FieldsLeft s.source s.room s.at s.end fs left.0 = record { some = c.self.invariant.2.some; stand = here } in
+    let l : FieldsLeft s.source s.depth_left s.at s.end fs left.0 = record { some = c.self.invariant.2.some; stand = here } in
     let f = first l some in
     let e = c.again-passed.ensures ∙ c.new-value.ensures in
     let after = subst (λ (u : ValuesState). (x : ValueTree) (us : ValueTrees) (r : List ℕ) → AreLeft u (MoreValues x us) r → IsAfter u x c.next-seen.new.self) e c.next-seen.ensures.steps.after in
@@ -52,7 +52,7 @@ returns-clause-steps c = λ fs left.
       after = f.after;
       value = subst (λ (u : ValuesState). AreLeft u (MoreValues f.f.value NoValues) f.after) (sym c.new-value.ensures) (value_left l some spot c.field_at-field.ensures);
     } in
-    (f.f, f.others, f.begins, seen, (left.0, (subst (λ (k : ℕ). FieldsLeft s.source s.room k s.end f.others left.0) (sym ended) f.left).stand))
+    (f.f, f.others, f.begins, seen, (left.0, (subst (λ (k : ℕ). FieldsLeft s.source s.depth_left k s.end f.others left.0) (sym ended) f.left).stand))
 
 pub returns-clause-goes : goal.returns-clause-goes
 returns-clause-goes c =

@@ -9,22 +9,22 @@ pub new-requires : goal.new-requires
 new-requires c =
     let v = c.self.inside in
     let h = c.self.invariant in
-    some_left v.limits v.bytes.now v.judged h (omega (arith, v.limits.array_in)) c.signature-types.result.now (c.signature-types.ensures h.judged.message.fields h.judged.fields)
+    some_left v.limits v.bytes.now v.validated h (omega (arith, v.limits.array_in)) c.signature-types.result.now (c.signature-types.ensures h.validated.message.fields h.validated.fields)
 
 pub returns-clause-all : goal.returns-clause-all
 returns-clause-all c =
     let v = c.self.inside in
     let h = c.self.invariant in
-    let all = noted_all v.limits v.bytes.now v.judged h (omega (arith, v.limits.array_in)) c.signature-types.result.now (c.signature-types.ensures h.judged.message.fields h.judged.fields) in
-    as_viewed v.limits v.bytes.now v.judged h c.args.self.now c.self.view_is (λ u o t. c.new.result ≡ all_values u o t) (c.new.ensures ∙ all)
+    let all = noted_all v.limits v.bytes.now v.validated h (omega (arith, v.limits.array_in)) c.signature-types.result.now (c.signature-types.ensures h.validated.message.fields h.validated.fields) in
+    as_viewed v.limits v.bytes.now v.validated h c.args.self.now c.self.view_is (λ u o t. c.new.result ≡ all_values u o t) (c.new.ensures ∙ all)
 
 pub returns-clause-left : goal.returns-clause-left
 returns-clause-left c =
     let v = c.self.inside in
     let h = c.self.invariant in
-    let all = noted_all v.limits v.bytes.now v.judged h (omega (arith, v.limits.array_in)) c.signature-types.result.now (c.signature-types.ensures h.judged.message.fields h.judged.fields) in
-    as_viewed v.limits v.bytes.now v.judged h c.args.self.now c.self.view_is (λ u o t. AreLeft c.new.result t.body [])
-    (subst (λ (s : ValuesState). AreLeft s h.judged.message.body []) (sym (c.new.ensures ∙ all)) (body_left v.limits v.bytes.now v.judged h (omega (arith, v.limits.array_in))))
+    let all = noted_all v.limits v.bytes.now v.validated h (omega (arith, v.limits.array_in)) c.signature-types.result.now (c.signature-types.ensures h.validated.message.fields h.validated.fields) in
+    as_viewed v.limits v.bytes.now v.validated h c.args.self.now c.self.view_is (λ u o t. AreLeft c.new.result t.body [])
+    (subst (λ (s : ValuesState). AreLeft s h.validated.message.body []) (sym (c.new.ensures ∙ all)) (body_left v.limits v.bytes.now v.validated h (omega (arith, v.limits.array_in))))
 
 pub returns-clause-one : goal.returns-clause-one
-returns-clause-one c = views_one c.self.inside.limits c.self.inside.bytes.now c.self.inside.judged c.self.invariant c.args.self.now c.self.view_is
+returns-clause-one c = views_one c.self.inside.limits c.self.inside.bytes.now c.self.inside.validated c.self.invariant c.args.self.now c.self.view_is

@@ -3,30 +3,30 @@ use Rattle.dbus_header.proofs.OutcomeLaws.{one_whole, whole_inside}
 use Rattle.dbus_view.proofs.Whole.{all_whole}
 use Rattle.dbus_view.proofs.view.MessageView.of_within.Goals as goal
 
-pub returns-then-judged-bytes-clause-refused : goal.returns-then-judged-bytes-clause-refused
-returns-then-judged-bytes-clause-refused c =
-    let j = c.in-Some.judged in
-    let h = c.in-Some.ensures.judged in
-    inr (inr (j.order, h.message, j.length, h.whole, c.if-judged-bytes.true, refl))
+pub returns-then-validated-bytes-clause-refused : goal.returns-then-validated-bytes-clause-refused
+returns-then-validated-bytes-clause-refused c =
+    let j = c.in-Some.validated in
+    let h = c.in-Some.ensures.validated in
+    inr (inr (j.order, h.message, j.length, h.whole, c.if-validated-bytes.true, refl))
 
-pub returns-then-judged-bytes-clause-accepts : goal.returns-then-judged-bytes-clause-accepts
-returns-then-judged-bytes-clause-accepts c = λ order m w.
-    let j = c.in-Some.judged in
-    let h = c.in-Some.ensures.judged in
-    absurd (omega (arith, c.if-judged-bytes.true, (one_whole c.args.limits c.args.bytes.now j.order order h.message m j.length (length c.args.bytes.now) h.whole w).2))
+pub returns-then-validated-bytes-clause-accepts : goal.returns-then-validated-bytes-clause-accepts
+returns-then-validated-bytes-clause-accepts c = λ order m w.
+    let j = c.in-Some.validated in
+    let h = c.in-Some.ensures.validated in
+    absurd (omega (arith, c.if-validated-bytes.true, (one_whole c.args.limits c.args.bytes.now j.order order h.message m j.length (length c.args.bytes.now) h.whole w).2))
 
 pub invariant_of-result : goal.invariant_of-result
 invariant_of-result c =
-    let j = c.in-Some.judged in
-    let h = c.in-Some.ensures.judged in
-    record { judged = h; all = omega (arith, (whole_inside c.args.limits c.args.bytes.now j.order h.message j.length h.whole).1, c.if-judged-bytes.false) }
+    let j = c.in-Some.validated in
+    let h = c.in-Some.ensures.validated in
+    record { validated = h; all = omega (arith, (whole_inside c.args.limits c.args.bytes.now j.order h.message j.length h.whole).1, c.if-validated-bytes.false) }
 
-pub returns-else-judged-bytes-clause-viewed : goal.returns-else-judged-bytes-clause-viewed
-returns-else-judged-bytes-clause-viewed c =
-    let j = c.in-Some.judged in
-    let h = c.in-Some.ensures.judged in
-    let all : j.length ≡ length c.args.bytes.now = omega (arith, (whole_inside c.args.limits c.args.bytes.now j.order h.message j.length h.whole).1, c.if-judged-bytes.false) in
-    (refl, refl, (j.order, h.message, all_whole c.args.limits c.args.bytes.now j (record { judged = h; all = all })))
+pub returns-else-validated-bytes-clause-viewed : goal.returns-else-validated-bytes-clause-viewed
+returns-else-validated-bytes-clause-viewed c =
+    let j = c.in-Some.validated in
+    let h = c.in-Some.ensures.validated in
+    let all : j.length ≡ length c.args.bytes.now = omega (arith, (whole_inside c.args.limits c.args.bytes.now j.order h.message j.length h.whole).1, c.if-validated-bytes.false) in
+    (refl, refl, (j.order, h.message, all_whole c.args.limits c.args.bytes.now j (record { validated = h; all = all })))
 
 pub returns-in-None-clause-accepts : goal.returns-in-None-clause-accepts
 returns-in-None-clause-accepts c = λ order m w. absurd (c.in-None.ensures.none refl order m (length c.args.bytes.now) w)

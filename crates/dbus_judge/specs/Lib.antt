@@ -1,4 +1,0 @@
-pub mod Held
-pub mod Seen
-pub mod Judging
-pub mod Headed

@@ -1,0 +1,86 @@
+-- Values that are byteswapped one after another, and the parts of a container.
+-- D-Bus Specification, "Marshaling (Wire Format)".
+use Rattle.std.proofs.Common.{◌≡◌, ℕ, ◌+◌, ◌≤◌, List, [], ◌∷◌, ◌++◌, length, take, drop, refl, sym, ap, subst, ◌∙◌, arith, append_assoc}
+use Rattle.std.proofs.lemmas.List.{length-append, length-take, take-append-drop}
+use Rattle.dbus_value_model.specs.declared.order.Order.{Order}
+use Rattle.dbus_value_model.specs.Spelling.{spelling, spellings}
+use Rattle.dbus_value_model.specs.Values.{ValueTree, ValueTrees, value_trees}
+use Rattle.dbus_message_model.proofs.BothOrders.{any_lengths}
+use Rattle.dbus_walk.specs.declared.container.Container.{Container}
+use Rattle.dbus_walk.specs.Containers.{IsOf, inside, parts, front}
+use Rattle.dbus_walk.proofs.Fronts.{spelled_apart, front_ends, same_inside}
+use Rattle.dbus_walk.proofs.Put.{put_rest, put_more}
+use Rattle.dbus_walk.proofs.Walks.{spellings_more}
+use Rattle.dbus_swap.specs.declared.byteswapper.Byteswapper.{Byteswapper}
+use Rattle.dbus_swap.specs.Byteswapping.{other, Replaces}
+use Rattle.dbus_swap.specs.Byteswaps.{Byteswaps, Stays}
+
+-- bytes that are the same are in place
+pub nothing_put : (at : ℕ) (own put before now : List ℕ) → own ≡ put → now ≡ before → Replaces at own put before now
+nothing_put at own put before now same kept = λ rest h e. kept ∙ sym (take-append-drop at before) ∙ ap (λ (l : List ℕ). take at before ++ l) (e ∙ ap (λ (l : List ℕ). l ++ rest) same)
+
+-- bytes in place of some, and then bytes in place of those after them
+pub then_put : (at : ℕ) (own put own' put' before between now : List ℕ) (q : ℕ) → q ≡ at + length own → length own ≡ length put
+    → Replaces at own put before between → Replaces q own' put' between now → Replaces at (own ++ own') (put ++ put') before now
+then_put at own put own' put' before between now q place long first second = λ rest h e.
+    let apart : drop at before ≡ own ++ (own' ++ rest) = e ∙ append_assoc own own' rest in
+    let one = first (own' ++ rest) h apart in
+    let here : q ≡ at + length put = omega (arith, place, long) in
+    let left = put_rest at put (own' ++ rest) before between h one q here in
+    let within : q ≤ length between = omega (arith, here, h, ap length one, length-append (take at before) (put ++ (own' ++ rest)), length-append put (own' ++ rest), length-take at before) in
+    put_more at put (own' ++ rest) before between h one q here put' rest now (second rest within left)
+
+-- a container: what stands before its parts, and then these
+pub whole_put : (order : Order) (at : ℕ) (v : ValueTree) (kind : Container) → IsOf kind v → (before between now : List ℕ)
+    → Replaces at (front order at v) (front (other order) at v) before between
+    → Replaces (inside order at v) (spellings order (inside order at v) (parts v)) (spellings (other order) (inside order at v) (parts v)) between now
+    → Replaces at (spelling order at v) (spelling (other order) at v) before now
+whole_put order at v kind is_of before between now first second =
+    let q = inside order at v in
+    let own = front order at v in
+    let put = front (other order) at v in
+    let own' = spellings order q (parts v) in
+    let put' = spellings (other order) q (parts v) in
+    let long : length own ≡ length put = omega (arith, front_ends order at v, front_ends (other order) at v, same_inside order (other order) at v) in
+    let put_is : spelling (other order) at v ≡ put ++ put' =
+    spelled_apart (other order) at v kind is_of ∙ ap (λ (k : ℕ). put ++ spellings (other order) k (parts v)) (sym (same_inside order (other order) at v)) in
+    let both = then_put at own put own' put' before between now q (front_ends order at v) long first second in
+    subst (λ (l : List ℕ). Replaces at l (spelling (other order) at v) before now) (sym (spelled_apart order at v kind is_of))
+    (subst (λ (l : List ℕ). Replaces at (own ++ own') l before now) (sym put_is) both)
+
+pub none_byteswapped : (s : Byteswapper) (order : Order) (at : ℕ) → Byteswaps at (spellings order at (value_trees [])) (spellings (other order) at (value_trees [])) s s
+unfolding spellings
+none_byteswapped s order at = record { same = refl; replaced = nothing_put at [] [] s.out.now s.out.now refl refl }
+
+pub more_byteswapped : (s before parted taken after : Byteswapper) (order : Order) (at place : ℕ) (done : List ValueTree) (v : ValueTree)
+    → Byteswaps at (spellings order at (value_trees done)) (spellings (other order) at (value_trees done)) s before → Stays before parted
+    → place ≡ at + length (spellings order at (value_trees done))
+    → Byteswaps place (spelling order place v) (spelling (other order) place v) parted taken → Stays taken after
+    → Byteswaps at (spellings order at (value_trees (done ++ v ∷ []))) (spellings (other order) at (value_trees (done ++ v ∷ []))) s after
+more_byteswapped s before parted taken after order at place done v first stays here second pushed =
+    let own = spellings order at (value_trees done) in
+    let put = spellings (other order) at (value_trees done) in
+    let long : length own ≡ length put = any_lengths order (other order) at (value_trees done) in
+    let there : place ≡ at + length put = omega (arith, here, long) in
+    let own_is : spellings order at (value_trees (done ++ v ∷ [])) ≡ own ++ spelling order place v = spellings_more order at done v ∙ ap (λ (k : ℕ). own ++ spelling order k v) (sym here) in
+    let put_is : spellings (other order) at (value_trees (done ++ v ∷ [])) ≡ put ++ spelling (other order) place v = spellings_more (other order) at done v ∙ ap (λ (k : ℕ). put ++ spelling (other order) k v) (sym there) in
+    let one = subst (λ (l : List ℕ). Replaces at own put s.out.now l) (sym stays.kept) first.replaced in
+    let both = then_put at own put (spelling order place v) (spelling (other order) place v) s.out.now parted.out.now after.out.now place here long one (subst (λ (l : List ℕ). Replaces place (spelling order place v) (spelling (other order) place v) parted.out.now l) (sym pushed.kept) second.replaced) in
+    record {
+      same = pushed.same ∙ second.same ∙ stays.same ∙ first.same;
+      replaced = subst (λ (l : List ℕ). Replaces at l (spellings (other order) at (value_trees (done ++ v ∷ []))) s.out.now after.out.now) (sym own_is)
+          (subst (λ (l : List ℕ). Replaces at (own ++ spelling order place v) l s.out.now after.out.now) (sym put_is) both);
+    }
+
+pub whole_byteswapped : (s opened filled after : Byteswapper) (kind : Container) (order : Order) (at : ℕ) (v : ValueTree) (xs : List ValueTree)
+    → IsOf kind v → Byteswaps at (front order at v) (front (other order) at v) s opened → parts v ≡ value_trees xs
+    → Byteswaps (inside order at v) (spellings order (inside order at v) (value_trees xs)) (spellings (other order) (inside order at v) (value_trees xs)) opened filled
+    → Stays filled after → Byteswaps at (spelling order at v) (spelling (other order) at v) s after
+whole_byteswapped s opened filled after kind order at v xs is_of opens has many closes =
+    let q = inside order at v in
+    let own = subst (λ (vs : ValueTrees). Replaces q (spellings order q vs) (spellings (other order) q vs) opened.out.now filled.out.now) (sym has) many.replaced in
+    record {
+      same = closes.same ∙ many.same ∙ opens.same;
+      replaced = whole_put order at v kind is_of s.out.now opened.out.now after.out.now opens.replaced
+          (subst (λ (l : List ℕ). Replaces q (spellings order q (parts v)) (spellings (other order) q (parts v)) opened.out.now l) (sym closes.kept) own);
+    }

@@ -1,0 +1,133 @@
+//! Values byteswapped where they stand. D-Bus Specification, "Marshaling (Wire Format)".
+#![tactic(auto)]
+
+ghost use Rattle.std.specs.Prelude.{◌≡◌, length, nat_lt};
+ghost use Rattle.dbus_value_model.specs.Spelling.{spelling, spellings};
+ghost use Rattle.dbus_value_model.specs.Values.{value_trees};
+ghost use Rattle.dbus_walk.specs.Containers.{front};
+ghost use Rattle.dbus_swap.specs.Byteswapping.{other};
+ghost use Rattle.dbus_swap.specs.Byteswaps.{Byteswaps, Stays};
+ghost use Rattle.dbus_swap.specs.ByteswapLaws.{none_byteswapped, more_byteswapped, whole_byteswapped};
+
+use crate::byteswapper::Byteswapper;
+use crate::numbers::{byteswap_4, byteswap_number, byteswap_numbers};
+use dbus_walk::{Container, Run, Source, Spot, Visitor};
+use std::convert::Infallible;
+
+impl Visitor for Byteswapper<'_> {
+    type One = ();
+
+    type Many = ();
+
+    type Stop = Infallible;
+
+    ghost ready = { λ t n. length t.out.now ≡ n };
+
+    ghost strokes = { λ _ size. nat_lt 0 size };
+
+    ghost one = { λ s order at v _ t.
+        Byteswaps at (spelling order at v) (spelling (other order) at v) s t };
+
+    ghost many = { λ s _ order at xs _ t.
+        Byteswaps at (spellings order at (value_trees xs)) (spellings (other order) at (value_trees xs)) s t };
+
+    ghost opens = { λ s order at v _ t. Byteswaps at (front order at v) (front (other order) at v) s t };
+
+    ghost closes = { λ s _ _ _ t. Stays s t };
+
+    ghost parted = { λ s _ t. Stays s t };
+
+    ghost pushes = { λ s _ _ _ t. Stays s t };
+
+    #[inline]
+    fn at_one_stroke(_code: u8, size: u8) -> bool
+        ensures { result ≡ nat_lt 0 size }
+    {
+        size > 0
+    }
+
+    #[inline]
+    fn number(
+        &mut self,
+        _source: &Source<'_>,
+        _spot: &Spot<'_>,
+        start: usize,
+        size: u8,
+    ) -> Result<(), Infallible> {
+        byteswap_number(self.out, start, size);
+        Ok(())
+    }
+
+    #[inline]
+    fn long_text(
+        &mut self,
+        _source: &Source<'_>,
+        _spot: &Spot<'_>,
+        start: usize,
+        _size: usize,
+    ) -> Result<(), Infallible> {
+        byteswap_4(self.out, start);
+        Ok(())
+    }
+
+    #[inline]
+    fn short_text(
+        &mut self,
+        _source: &Source<'_>,
+        _spot: &Spot<'_>,
+        _size: usize,
+    ) -> Result<(), Infallible> {
+        Ok(())
+    }
+
+    #[inline]
+    fn whole_array(
+        &mut self,
+        _source: &Source<'_>,
+        _spot: &Spot<'_>,
+        run: Run,
+    ) -> Result<(), Infallible> {
+        byteswap_4(self.out, run.start);
+        byteswap_numbers(self.out, run.first, run.end, run.size);
+        Ok(())
+    }
+
+    #[inline]
+    fn open_array(
+        &mut self,
+        _source: &Source<'_>,
+        _spot: &Spot<'_>,
+        start: usize,
+    ) -> Result<(), Infallible> {
+        byteswap_4(self.out, start);
+        Ok(())
+    }
+
+    #[inline]
+    fn open(&mut self, _kind: Container, _types: &[u8], _length: usize) -> Result<(), Infallible> {
+        Ok(())
+    }
+
+    #[inline]
+    fn close(&mut self, _kind: Container, _gathered: (), _length: usize) -> Result<(), Infallible> {
+        Ok(())
+    }
+
+    #[inline]
+    fn part(&mut self, _is_first: bool, _length: usize) {}
+
+    #[inline]
+    fn push(&mut self, _gathered: (), _made: (), _length: usize) -> Result<(), Infallible> {
+        Ok(())
+    }
+
+    ghost none = { λ s _ order at. none_byteswapped s order at };
+
+    ghost more = { λ s before parted taken after _ _ _ _ order at place done v first stays here
+        second pushed.
+        more_byteswapped s before parted taken after order at place done v first stays here second
+        pushed };
+
+    ghost whole = { λ s opened filled after _ _ _ kind order at v xs is_of opens has many closes.
+        whole_byteswapped s opened filled after kind order at v xs is_of opens has many closes };
+}

@@ -1,9 +1,0 @@
-//! A copy of a message's bytes, which is turned.
-#![tactic(auto)]
-
-/// Turns the numbers of what it visits in a copy of the message's bytes.
-#[derive(Drop)]
-pub(crate) struct Turner<'a> {
-    /// The copy. Its bytes stand at the offsets that they have in the message.
-    pub(crate) out: &'a mut [u8],
-}

@@ -1,0 +1,77 @@
+-- The message that bytes begin with, taken by itself, and the sixteen bytes that state its length.
+use Rattle.std.proofs.Common.{Option, Some, None, Ok, ◌≡◌, ℕ, ◌+◌, ◌≤◌, List, [], ◌++◌, length, take, drop, sym, ap, subst, ◌∙◌, arith}
+use Rattle.std.proofs.lemmas.List.{append-nil, length-append, length-take-le, take-append-drop}
+use Rattle.dbus_value_model.specs.Bytes.{num}
+use Rattle.dbus_value_model.specs.declared.limits.Limits.{Limits}
+use Rattle.dbus_value_model.specs.declared.order.Order.{Order}
+use Rattle.dbus_value_model.proofs.Numbers.{length-num}
+use Rattle.dbus_message_model.specs.Messages.{MessageTree, message_bytes}
+use Rattle.dbus_header.specs.MessageOutcomes.{IsWhole}
+use Rattle.dbus_header.specs.StatedLengths.{StatesLength, Stated}
+use Rattle.dbus_header.proofs.Fields.{open_to}
+use Rattle.dbus_header.proofs.OutcomeLaws.{valid_whole, whole_bytes, whole_for_good, whole_valid}
+use Rattle.dbus_header.proofs.StatedLengths.{stated_holds}
+use Rattle.dbus_validate.specs.declared.validating.Validated.{Validated}
+use Rattle.dbus_validate.specs.Validating.{IsValidated, IsValidatedFirst}
+
+took : (order : Order) (w n : ℕ) (s r : List ℕ) → s ≡ num order w n ++ r → length s ≡ w + length r
+took order w n s r e = ap length e ∙ length-append (num order w n) r ∙ ap (λ (k : ℕ). k + length r) (length-num order w n)
+
+-- bytes that state a length are sixteen at least
+pub sixteen_there : (limits : Limits) (b : List ℕ) (n : ℕ) → StatesLength limits b n → 16 ≤ length b
+unfolding StatesLength
+sixteen_there limits b n states =
+    let order = states.1 in
+    let kind = order.4 in
+    let flags = kind.4 in
+    let version = flags.4 in
+    let body = version.4 in
+    let serial = body.4 in
+    let opened = serial.4 in
+    let fields = opened.4 in
+    let at_order = ap length order.3.0 in
+    let at_kind = took order.0 1 kind.0 order.2 kind.2 kind.3.1 in
+    let at_flags = took order.0 1 flags.0 kind.2 flags.2 flags.3.1 in
+    let at_version = took order.0 1 version.0 flags.2 version.2 version.3.1 in
+    let at_body = took order.0 4 body.0 version.2 body.2 body.3.1 in
+    let at_serial = took order.0 4 serial.0 body.2 serial.2 serial.3.1 in
+    let at_opening = ap length (open_to limits.depth serial.1 serial.2 opened.0 opened.1 opened.2 opened.3).2 in
+    let at_fields = took order.0 4 fields.0 opened.2 fields.2 fields.3.1 in
+    omega (arith, at_order, at_kind, at_flags, at_version, at_body, at_serial, at_opening, at_fields)
+
+-- where a length was looked for and more bytes are wanted, the bytes state none
+pub none_stated : (limits : Limits) (b : List ℕ) (found : Option ℕ) → found ≡ None → Stated limits b (Ok found) → (n : ℕ) → StatesLength limits b n → ⊥
+none_stated limits b None is stated n states = let there = sixteen_there limits b n states in absurd (omega (arith, there, stated.0))
+none_stated limits b (Some k) is stated n states = absurd cc
+
+module _ (limits : Limits) (b : List ℕ) (order : Order) (m : MessageTree) where
+  -- it is whole there too
+  pub alone : (n : ℕ) → IsWhole limits b order m n → IsWhole limits (take n b) order m n
+  alone n w =
+      let parts = whole_bytes limits b order m n w in
+      let by_itself : IsWhole limits (message_bytes order m ++ []) order m (length (message_bytes order m)) = valid_whole limits order m [] (whole_valid limits b order m n w) in
+      let long : IsWhole limits (message_bytes order m ++ []) order m n = subst (λ (k : ℕ). IsWhole limits (message_bytes order m ++ []) order m k) (sym parts.1) by_itself in
+      subst (λ (t : List ℕ). IsWhole limits t order m n) (append-nil (message_bytes order m) ∙ sym parts.0) long
+
+  -- and what is whole there is so with what follows
+  pub followed : (n k : ℕ) → IsWhole limits (take n b) order m k → IsWhole limits b order m k
+  followed n k w = subst (λ (t : List ℕ). IsWhole limits t order m k) (take-append-drop n b) (whole_for_good limits (take n b) (drop n b) order m k w)
+
+  -- it has the length that the bytes state
+  pub has_stated : (n k : ℕ) → StatesLength limits b n → IsWhole limits b order m k → (k ≡ n) × (n ≤ length b)
+  has_stated n k states w =
+      let held = stated_holds limits b [] order m n k states (subst (λ (t : List ℕ). IsWhole limits t order m k) (sym (append-nil b)) w) in
+      (held.0, subst (λ (t : List ℕ). n ≤ length t) (append-nil b) held.1)
+
+pub states : (limits : Limits) (b : List ℕ) (found : Option ℕ) (n : ℕ) → found ≡ Some n → Stated limits b (Ok found) → StatesLength limits b n
+states limits b found n is stated = subst (λ (o : Option ℕ). Stated limits b (Ok o)) is stated
+
+-- what is said of as many bytes as are stated is said of the first message
+pub validated_first : (limits : Limits) (b : List ℕ) (j : Validated) (n : ℕ) → j.length ≡ n → n ≤ length b → IsValidated limits (take n b) j → IsValidatedFirst limits b j
+validated_first limits b j n same there validated = record {
+  fits = omega (arith, same, there);
+  validated = record {
+    validated = subst (λ (k : ℕ). IsValidated limits (take k b) j) (sym same) validated;
+    all = sym (length-take-le j.length b (omega (arith, same, there)));
+  };
+}

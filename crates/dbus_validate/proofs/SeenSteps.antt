@@ -1,0 +1,179 @@
+-- The known fields that were seen, as the code notes them.
+use Rattle.std.proofs.Common.{take, ◌≡◌, ℕ, zero, suc, eqb, true, false, Bool, cond, ◌&&◌, ◌||◌, ◌+◌, ◌<◌, ◌≤◌, List, [], ◌∷◌, ◌++◌, length, drop, get_or, set, Option, Some, None, refl, sym, ap, subst, ◌∙◌, inl, inr, arith}
+use Rattle.std.specs.Option.{is_some}
+use Rattle.std.proofs.lemmas.Bool.{cases_lt, eqb-true, eqb-false, ne_eqb, or_parts}
+use Rattle.std.proofs.lemmas.List.{drop_more, get_or-set_same, get_or-set_other}
+use Rattle.dbus_value_model.specs.declared.fault.Reason.TheVariants as reasons
+use Rattle.dbus_value_model.specs.Values.{ValueTree}
+use Rattle.dbus_message_model.specs.Messages.{FieldTree, Want, Anything, OfType, Name, Serial, want, is_particular, is_known, has_code, lacks, required, text_in, number_in, body_signature, fd_count}
+use Rattle.dbus_message_model.specs.Lookups.{field_value}
+use Rattle.dbus_validate.specs.declared.field_values.Held.{Held}
+use Rattle.dbus_validate.specs.declared.seen.Place.{Place}
+use Rattle.dbus_validate.specs.declared.seen.Seen.{Seen}
+use Rattle.dbus_validate.specs.Held.{IsNoted}
+use Rattle.dbus_validate.specs.Seen.{StandsAt, IsNotedOf, AreNoted}
+
+-- ---- codes among fields
+
+value_has : (c : ℕ) (fs : List FieldTree) → is_some (field_value c fs) ≡ has_code c fs
+value_has c [] = refl
+value_has c (f ∷ fs) = elim (eqb f.code c) as (λ b. is_some (cond b (Some f.value) (field_value c fs)) ≡ (b || has_code c fs)) [ true ↦ refl | false ↦ value_has c fs ]
+
+value_last : (c : ℕ) (fs : List FieldTree) (f : FieldTree) → has_code c fs ≡ false → eqb f.code c ≡ true → field_value c (fs ++ f ∷ []) ≡ Some f.value
+value_last c [] f none is = rw is refl
+value_last c (g ∷ fs) f none is =
+    let parts = or_parts (eqb g.code c) (has_code c fs) none in
+    ap (λ (b : Bool). cond b (Some g.value) (field_value c (fs ++ f ∷ []))) parts.0 ∙ value_last c fs f parts.1 is
+
+value_other : (c : ℕ) (fs : List FieldTree) (f : FieldTree) → eqb f.code c ≡ false → field_value c (fs ++ f ∷ []) ≡ field_value c fs
+value_other c [] f other = rw other refl
+value_other c (g ∷ fs) f other = ap (λ (v : Option ValueTree). cond (eqb g.code c) (Some g.value) v) (value_other c fs f other)
+
+unknown : (c : ℕ) → 10 ≤ c → is_known c ≡ false
+unknown c h =
+    let a : eqb c 1 ≡ false = ne_eqb c 1 (omega arith) in
+    let b : eqb c 2 ≡ false = ne_eqb c 2 (omega arith) in
+    let d : eqb c 3 ≡ false = ne_eqb c 3 (omega arith) in
+    let e : eqb c 4 ≡ false = ne_eqb c 4 (omega arith) in
+    let f : eqb c 5 ≡ false = ne_eqb c 5 (omega arith) in
+    let g : eqb c 6 ≡ false = ne_eqb c 6 (omega arith) in
+    let i : eqb c 7 ≡ false = ne_eqb c 7 (omega arith) in
+    let j : eqb c 8 ≡ false = ne_eqb c 8 (omega arith) in
+    let k : eqb c 9 ≡ false = ne_eqb c 9 (omega arith) in
+    rw (a, b, d, e, f, g, i, j, k) refl
+
+known_below : (c : ℕ) → is_known c ≡ true → c < 10
+known_below c known = elim (cases_lt c 10) [ inl h ↦ h | inr h ↦ let no = unknown c h in absurd cc ]
+
+-- ---- what is noted
+
+as_noted : (v : Option ValueTree) (bytes : List ℕ) (p : Option Place) → IsNotedOf v bytes p → is_some p ≡ is_some v
+as_noted None bytes None n = refl
+as_noted None bytes (Some p) n = absurd n
+as_noted (Some v) bytes None n = absurd n
+as_noted (Some v) bytes (Some p) n = refl
+
+abbrev place_of : Held → Place
+place_of h = record { start = h.start; length = h.length; number = h.number }
+
+stands : (w : Want) (v : ValueTree) (bytes : List ℕ) (h : Held) → is_particular w ≡ true → IsNoted w v bytes h → h.start + h.length ≤ length bytes → StandsAt v bytes (place_of h)
+stands Anything v bytes h known is fits = absurd cc
+stands (OfType t) v bytes h known is fits = record { text = is.0; inside = fits; number = is.1 }
+stands (Name k) v bytes h known is fits = record { text = is.0; inside = fits; number = is.1 }
+stands Serial v bytes h known is fits = record { text = is.0; inside = fits; number = is.1 }
+
+module _ (fs : List FieldTree) (bytes : List ℕ) (seen : Seen) (noted : AreNoted fs bytes seen) where
+  pub has_noted : (c : ℕ) → is_known c ≡ true → is_some (get_or seen.places c None) ≡ has_code c fs
+  has_noted c known = as_noted (field_value c fs) bytes (get_or seen.places c None) (noted c known) ∙ value_has c fs
+
+  module _ (new : Seen) (code : ℕ) (v : ValueTree) (h : Held) (alone : is_known code && has_code code fs ≡ false) (is : IsNoted (want code) v bytes h) (fits : h.start + h.length ≤ length bytes) where
+    other_kept : (c : ℕ) → is_known c ≡ true → eqb code c ≡ false → get_or new.places c None ≡ get_or seen.places c None
+        → IsNotedOf (field_value c (fs ++ (record { code = code; value = v }) ∷ [])) bytes (get_or new.places c None)
+    other_kept c known other kept = rw (kept, value_other c fs (record { code = code; value = v }) other) (noted c known)
+
+    new_noted : (c : ℕ) → is_known c ≡ true → eqb code c ≡ true → get_or new.places code None ≡ Some (place_of h)
+        → IsNotedOf (field_value c (fs ++ (record { code = code; value = v }) ∷ [])) bytes (get_or new.places c None)
+    new_noted c known same put =
+        let there : code ≡ c = eqb-true code c same in
+        let is_one : is_known code ≡ true = subst (λ (k : ℕ). is_known k ≡ true) (sym there) known in
+        let none : has_code c fs ≡ false = subst (λ (k : ℕ). has_code k fs ≡ false) there (ap (λ (b : Bool). b && has_code code fs) (sym is_one) ∙ alone) in
+        let slot : get_or new.places c None ≡ Some (place_of h) = subst (λ (k : ℕ). get_or new.places k None ≡ Some (place_of h)) there put in
+        rw (slot, value_last c fs (record { code = code; value = v }) none same) (stands (want code) v bytes h is_one is fits)
+
+    module _ (ten : length seen.places ≡ 10) where
+      put_noted : code < 10 → new.places ≡ set seen.places code (Some (place_of h)) → (c : ℕ) → is_known c ≡ true → (same : Bool) → eqb code c ≡ same
+          → IsNotedOf (field_value c (fs ++ (record { code = code; value = v }) ∷ [])) bytes (get_or new.places c None)
+      put_noted lt put c known true e =
+          new_noted c known e (ap (λ (l : List (Option Place)). get_or l code None) put ∙ get_or-set_same seen.places code (Some (place_of h)) None (omega arith))
+      put_noted lt put c known false e =
+          let ne = eqb-false code c e in
+          other_kept c known e (ap (λ (l : List (Option Place)). get_or l c None) put ∙ get_or-set_other seen.places code c (Some (place_of h)) None (λ same. ne (sym same)))
+
+      pub noted_more : code < 10 → new.places ≡ set seen.places code (Some (place_of h)) → AreNoted (fs ++ (record { code = code; value = v }) ∷ []) bytes new
+      noted_more lt put = λ c known. put_noted lt put c known (eqb code c) refl
+
+    -- a field that is not known
+    pub noted_past : 10 ≤ code → new.places ≡ seen.places → AreNoted (fs ++ (record { code = code; value = v }) ∷ []) bytes new
+    noted_past le same = λ c known.
+        let below = known_below c known in
+        other_kept c known (ne_eqb code c (omega arith)) (ap (λ (l : List (Option Place)). get_or l c None) same)
+
+-- ---- the fields that are required
+
+module _ (items : List ℕ) (i : ℕ) (here : i < length items) (fs : List FieldTree) where
+  pub lacks_later : has_code (get_or items i 0) fs ≡ true → lacks (drop (i + 1) items) fs ≡ lacks (drop i items) fs
+  lacks_later h = sym (ap (λ (l : List ℕ). lacks l fs) (drop_more items i 0 here) ∙ ap (λ (b : Bool). cond b (lacks (drop (i + 1) items) fs) (Some (reasons.FieldMissing (get_or items i 0)))) h)
+
+-- every code that is required is a known field's
+abbrev AreKnown : List ℕ → Type 0
+AreKnown [] = Unit {0}
+AreKnown (c ∷ cs) = (is_known c ≡ true) × AreKnown cs
+
+either_known : (b : Bool) (x y : List ℕ) → AreKnown x → AreKnown y → AreKnown (cond b x y)
+either_known true x y p q = p
+either_known false x y p q = q
+
+required_known : (kind : ℕ) → AreKnown (required kind)
+required_known kind =
+    either_known (eqb kind 1) _ _ (refl, (refl, tt)) (either_known (eqb kind 2) _ _ (refl, tt) (either_known (eqb kind 3) _ _ (refl, (refl, tt)) (either_known (eqb kind 4) _ _ (refl, (refl, (refl, tt))) tt)))
+
+known_at : (items : List ℕ) (i : ℕ) → AreKnown items → i < length items → is_known (get_or items i 0) ≡ true
+known_at [] i known here = absurd (omega arith)
+known_at (c ∷ items) zero known here = known.0
+known_at (c ∷ items) (suc i) known here = known_at items i known.1 (omega arith)
+
+-- one of them that was not seen is lacked
+pub lacks_one : (kind : ℕ) (items : List ℕ) (i : ℕ) (fs : List FieldTree) → items ≡ required kind → i < length items → is_known (get_or items i 0) && has_code (get_or items i 0) fs ≡ false → lacks (drop i items) fs ≡ None → ⊥
+lacks_one kind items i fs is here unseen none =
+    let known : is_known (get_or items i 0) ≡ true = known_at items i (subst AreKnown (sym is) (required_known kind)) here in
+    let absent : has_code (get_or items i 0) fs ≡ false = ap (λ (b : Bool). b && has_code (get_or items i 0) fs) (sym known) ∙ unseen in
+    let lacked : lacks (drop i items) fs ≡ Some (reasons.FieldMissing (get_or items i 0)) =
+    ap (λ (l : List ℕ). lacks l fs) (drop_more items i 0 here) ∙ ap (λ (b : Bool). cond b (lacks (drop (i + 1) items) fs) (Some (reasons.FieldMissing (get_or items i 0)))) absent in
+    let against = sym lacked ∙ none in
+    absurd cc
+
+-- ---- the signature and the descriptors
+
+abbrev text_of : Option ValueTree → List ℕ
+text_of None = []
+text_of (Some v) = text_in v
+
+abbrev number_of : Option ValueTree → ℕ
+number_of None = 0
+number_of (Some v) = number_in v
+
+signature_of : (fs : List FieldTree) → body_signature fs ≡ text_of (field_value 8 fs)
+signature_of [] = refl
+signature_of (f ∷ fs) = elim (eqb f.code 8) as (λ b. cond b (text_in f.value) (body_signature fs) ≡ text_of (cond b (Some f.value) (field_value 8 fs))) [ true ↦ refl | false ↦ signature_of fs ]
+
+count_of : (fs : List FieldTree) → fd_count fs ≡ number_of (field_value 9 fs)
+count_of [] = refl
+count_of (f ∷ fs) = elim (eqb f.code 9) as (λ b. cond b (number_in f.value) (fd_count fs) ≡ number_of (cond b (Some f.value) (field_value 9 fs))) [ true ↦ refl | false ↦ count_of fs ]
+
+module _ (bytes : List ℕ) where
+  seen_text : (p : Place) (v : Option ValueTree) → IsNotedOf v bytes (Some p) → (text_of v ≡ take p.length (drop p.start bytes)) × (p.start + p.length ≤ length bytes)
+  seen_text p None n = absurd n
+  seen_text p (Some v) n = (n.text, n.inside)
+
+  seen_number : (p : Place) (v : Option ValueTree) → IsNotedOf v bytes (Some p) → number_of v ≡ p.number
+  seen_number p None n = absurd n
+  seen_number p (Some v) n = n.number
+
+  unseen : (v : Option ValueTree) → IsNotedOf v bytes None → v ≡ None
+  unseen None n = refl
+  unseen (Some v) n = absurd n
+
+module _ (fs : List FieldTree) (bytes : List ℕ) (seen : Seen) (noted : AreNoted fs bytes seen) where
+  pub signature_there : (p : Place) → get_or seen.places 8 None ≡ Some p → (body_signature fs ≡ take p.length (drop p.start bytes)) × (p.start + p.length ≤ length bytes)
+  signature_there p is =
+      let w = seen_text bytes p (field_value 8 fs) (subst (λ (x : Option Place). IsNotedOf (field_value 8 fs) bytes x) is (noted 8 refl)) in
+      (signature_of fs ∙ w.0, w.1)
+
+  pub signature_absent : get_or seen.places 8 None ≡ None → body_signature fs ≡ []
+  signature_absent is = signature_of fs ∙ ap text_of (unseen bytes (field_value 8 fs) (subst (λ (x : Option Place). IsNotedOf (field_value 8 fs) bytes x) is (noted 8 refl)))
+
+  pub count_there : (p : Place) → get_or seen.places 9 None ≡ Some p → fd_count fs ≡ p.number
+  count_there p is = count_of fs ∙ seen_number bytes p (field_value 9 fs) (subst (λ (x : Option Place). IsNotedOf (field_value 9 fs) bytes x) is (noted 9 refl))
+
+  pub count_absent : get_or seen.places 9 None ≡ None → fd_count fs ≡ 0
+  count_absent is = count_of fs ∙ ap number_of (unseen bytes (field_value 9 fs) (subst (λ (x : Option Place). IsNotedOf (field_value 9 fs) bytes x) is (noted 9 refl)))

@@ -1,0 +1,4 @@
+pub mod Held
+pub mod Seen
+pub mod Validating
+pub mod Headed

@@ -1,0 +1,20 @@
+//! Values validated fast: whether bytes spell values of given types, and where these end.
+//!
+//! A yes says that they do, and a no that they do not: the bytes are at fault, or they are too few. Who wants to know which, and
+//! the place and the reason of a fault, asks a reader or a checker. So nothing is noted on the way, no memory is taken, and a
+//! signature's bytes are followed where they stand.
+#![tactic(auto)]
+
+mod arrays;
+mod basic;
+mod ends;
+mod items;
+mod numbers;
+mod source;
+mod texts;
+mod validating;
+mod values;
+
+pub use items::{is_ended_text, padding, word};
+pub use texts::short_text;
+pub use validating::{validate_value, validate_values};

@@ -1,0 +1,77 @@
+//! Values that are one number. D-Bus Specification, "Basic types", "Marshaling (Wire Format)".
+#![tactic(auto)]
+
+ghost use Rattle.std.specs.Prelude.{◌≡◌, ℕ, ◌+◌, ◌<◌, ◌≤◌, length, drop, Option, None, IfSome};
+ghost use Rattle.dbus_texts.specs.Types.{NumberCode, BOOLEAN, UNIX_FD};
+ghost use Rattle.dbus_types.specs.Alignments.{width};
+ghost use Rattle.dbus_value_model.specs.declared.order.Order.{Order};
+ghost use Rattle.dbus_value_model.specs.ValueReaders.{number_value};
+ghost use Rattle.dbus_value_validator.specs.Endings.{EndsAt, IsNotRead};
+ghost use Rattle.dbus_value_model.specs.FreeNumbers.{IsFree};
+
+use crate::items::{padding, word};
+use dbus_value_model::Order;
+
+/// A number of so many bytes, of a type of which every number may stand: the offset after it.
+pub(crate) fn free_number(bytes: &[u8], at: usize, end: usize, size: u8) -> Option<usize>
+    requires some { 0 < size }
+    requires at_most { at ≤ end }
+    requires inside { end ≤ length bytes.now }
+    ensures gives { IfSome result (λ q. (index_limit : Option ℕ) (order : Order) (k : NumberCode) →
+        width k ≡ size → IsFree index_limit k →
+        EndsAt bytes.now q (number_value index_limit order end k at (drop at bytes.now))) }
+    ensures none { result ≡ None → (index_limit : Option ℕ) (order : Order) (k : NumberCode) →
+        width k ≡ size → IsNotRead (number_value index_limit order end k at (drop at bytes.now)) }
+    ensures moves { IfSome result (λ q. (at ≤ q) × (q ≤ end)) }
+{
+    let start = padding(bytes, at, end, size)?;
+    let size = usize::from(size);
+    if end - start < size {
+        return None;
+    }
+    Some(start + size)
+}
+
+/// A BOOLEAN, which is 0 or 1: the offset after it.
+pub(crate) fn boolean(bytes: &[u8], at: usize, end: usize, order: Order) -> Option<usize>
+    requires at_most { at ≤ end }
+    requires inside { end ≤ length bytes.now }
+    ensures gives { IfSome result (λ q. (index_limit : Option ℕ) →
+        EndsAt bytes.now q (number_value index_limit order end BOOLEAN at (drop at bytes.now))) }
+    ensures none { result ≡ None → (index_limit : Option ℕ) →
+        IsNotRead (number_value index_limit order end BOOLEAN at (drop at bytes.now)) }
+    ensures moves { IfSome result (λ q. (at ≤ q) × (q ≤ end)) }
+{
+    let start = padding(bytes, at, end, 4)?;
+    let n = word(bytes, start, end, order)?;
+    if n > 1 {
+        return None;
+    }
+    Some(start + 4)
+}
+
+/// A UNIX_FD, which is below `index_limit`, if that is something: the offset after it.
+pub(crate) fn descriptor(
+    bytes: &[u8],
+    at: usize,
+    end: usize,
+    order: Order,
+    index_limit: Option<u32>,
+) -> Option<usize>
+    requires at_most { at ≤ end }
+    requires inside { end ≤ length bytes.now }
+    ensures gives { IfSome result (λ q.
+        EndsAt bytes.now q (number_value index_limit order end UNIX_FD at (drop at bytes.now))) }
+    ensures none { result ≡ None →
+        IsNotRead (number_value index_limit order end UNIX_FD at (drop at bytes.now)) }
+    ensures moves { IfSome result (λ q. (at ≤ q) × (q ≤ end)) }
+{
+    let start = padding(bytes, at, end, 4)?;
+    let n = word(bytes, start, end, order)?;
+    if let Some(limit) = index_limit {
+        if n >= limit {
+            return None;
+        }
+    }
+    Some(start + 4)
+}

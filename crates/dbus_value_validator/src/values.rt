@@ -1,0 +1,329 @@
+//! Values of any type, along the bytes of their signature.
+//!
+//! A value begins at `at` and is to end at or before `end`, up to which the bytes are there; `depth_left` containers may be opened in
+//! it. `types` are the bytes of its type, or of several, and begin at `pos` of the signature of which lengths may be noted. Each
+//! call gives the offset after what it validated, or None where the bytes do not begin with it.
+//! D-Bus Specification, "Marshaling (Wire Format)".
+#![tactic(auto)]
+
+ghost use Rattle.std.specs.Prelude.{◌≡◌, ℕ, ◌+◌, ◌<◌, ◌≤◌, ◌^◌, length, drop, true, None, IfSome};
+ghost use Rattle.dbus_texts.specs.Types.{TypeTree, TypeTrees, NoTypes, MoreTypes, sig, sigs, IsShaped, AreShaped};
+ghost use Rattle.dbus_value_validator.specs.Endings.{EndsAt, IsNotRead};
+ghost use Rattle.dbus_value_validator.specs.NotedTypes.{AreNoted};
+ghost use Rattle.dbus_value_validator.specs.Sources.{value_in, values_in, elements_in, variant_in, array_in, struct_in, entry_in};
+
+use crate::arrays::frame;
+use crate::basic::basic_value;
+use crate::ends::{end_of, wants_lengths};
+use crate::items::padding;
+use crate::source::Source;
+use crate::texts::short_text;
+use dbus_types::{TextKind, boundary, free_width, lengths_in};
+
+/// A value of the one type that `types` spell.
+#[cycle(values)]
+pub(crate) fn one_value(
+    source: &Source<'_>,
+    at: usize,
+    end: usize,
+    types: &[u8],
+    pos: usize,
+    depth_left: u8,
+) -> Option<usize>
+    requires at_most { at ≤ end }
+    requires inside { end ≤ length source.now.bytes.now }
+    requires near { pos + length types.now < 2 ^ 64 }
+    requires noted { AreNoted types.now source.now.lengths.now pos }
+    ensures gives { IfSome result (λ q. (t : TypeTree) →
+        sig t ≡ types.now → IsShaped true t →
+        EndsAt source.now.bytes.now q (value_in source.now depth_left end t at)) }
+    ensures none { result ≡ None → (t : TypeTree) → sig t ≡ types.now → IsShaped true t →
+        IsNotRead (value_in source.now depth_left end t at) }
+    ensures moves { IfSome result (λ q. (at ≤ q) × (q ≤ end)) }
+{
+    if types.is_empty() {
+        return None;
+    }
+    let code = types[0];
+    if code == b'v' {
+        return variant(source, at, end, depth_left);
+    }
+    if code == b'a' {
+        return array(source, at, end, &types[1..], pos + 1, depth_left);
+    }
+    if code == b'(' && types.len() > 1 {
+        let inner = &types[1..types.len() - 1];
+        return structure(source, at, end, inner, pos + 1, depth_left);
+    }
+    if code == b'{' && types.len() > 1 {
+        let inner = &types[1..types.len() - 1];
+        return entry(source, at, end, inner, pos + 1, depth_left);
+    }
+    basic_value(source.bytes, at, end, source.order, code, source.bounds)
+}
+
+/// Values of the types that `types` spell, one after another.
+#[cycle(values)]
+pub(crate) fn all_values(
+    source: &Source<'_>,
+    at: usize,
+    end: usize,
+    types: &[u8],
+    pos: usize,
+    depth_left: u8,
+) -> Option<usize>
+    requires at_most { at ≤ end }
+    requires inside { end ≤ length source.now.bytes.now }
+    requires near { pos + length types.now < 2 ^ 64 }
+    requires noted { AreNoted types.now source.now.lengths.now pos }
+    ensures gives { IfSome result (λ q. (ts : TypeTrees) →
+        sigs ts ≡ types.now → AreShaped ts →
+        EndsAt source.now.bytes.now q (values_in source.now depth_left end ts at)) }
+    ensures none { result ≡ None → (ts : TypeTrees) → sigs ts ≡ types.now → AreShaped ts →
+        IsNotRead (values_in source.now depth_left end ts at) }
+    ensures moves { IfSome result (λ q. (at ≤ q) × (q ≤ end)) }
+{
+    let mut place = at;
+    let mut first = 0;
+    while first < types.len() {
+        let next = end_of(types, first, source.lengths, pos);
+        let one = &types[first..next];
+        place = one_value(source, place, end, one, pos + first, depth_left)?;
+        first = next;
+    }
+    Some(place)
+}
+
+/// The same, with the lengths of the types noted first.
+pub(crate) fn noted_values(
+    source: &Source<'_>,
+    at: usize,
+    end: usize,
+    types: &[u8],
+    depth_left: u8,
+) -> Option<usize>
+    requires at_most { at ≤ end }
+    requires inside { end ≤ length source.now.bytes.now }
+    requires few { length types.now ≤ 255 }
+    ensures gives { IfSome result (λ q. (ts : TypeTrees) →
+        sigs ts ≡ types.now → AreShaped ts →
+        EndsAt source.now.bytes.now q (values_in source.now depth_left end ts at)) }
+    ensures none { result ≡ None → (ts : TypeTrees) → sigs ts ≡ types.now → AreShaped ts →
+        IsNotRead (values_in source.now depth_left end ts at) }
+    ensures moves { IfSome result (λ q. (at ≤ q) × (q ≤ end)) }
+{
+    let mut table = [0; 255];
+    let noted = Source {
+        bytes: source.bytes,
+        order: source.order,
+        bounds: source.bounds,
+        lengths: lengths_in(types, &mut table),
+    };
+    all_values(&noted, at, end, types, 0, depth_left)
+}
+
+/// A variant.
+#[cycle(values)]
+fn variant(source: &Source<'_>, at: usize, end: usize, depth_left: u8) -> Option<usize>
+    requires at_most { at ≤ end }
+    requires inside { end ≤ length source.now.bytes.now }
+    ensures gives { IfSome result (λ q.
+        EndsAt source.now.bytes.now q (variant_in source.now depth_left end at)) }
+    ensures none { result ≡ None →
+        IsNotRead (variant_in source.now depth_left end at) }
+    ensures moves { IfSome result (λ q. (at ≤ q) × (q ≤ end)) }
+{
+    if depth_left == 0 {
+        return None;
+    }
+    let n = short_text(source.bytes, at, end, TextKind::Single)?;
+    let first = at + 1;
+    let held = &source.bytes[first..first + n];
+    own_value(source, first + n + 1, end, held, depth_left - 1)
+}
+
+/// A value of the one type that `types` spell, which are a signature of their own.
+#[cycle(values)]
+pub(crate) fn own_value(
+    source: &Source<'_>,
+    at: usize,
+    end: usize,
+    types: &[u8],
+    depth_left: u8,
+) -> Option<usize>
+    requires at_most { at ≤ end }
+    requires inside { end ≤ length source.now.bytes.now }
+    ensures gives { IfSome result (λ q. (t : TypeTree) →
+        sig t ≡ types.now → IsShaped true t →
+        EndsAt source.now.bytes.now q (value_in source.now depth_left end t at)) }
+    ensures none { result ≡ None → (t : TypeTree) → sig t ≡ types.now → IsShaped true t →
+        IsNotRead (value_in source.now depth_left end t at) }
+    ensures moves { IfSome result (λ q. (at ≤ q) × (q ≤ end)) }
+{
+    if wants_lengths(types) {
+        return noted_value(source, at, end, types, depth_left);
+    }
+    one_value(source, at, end, types, source.lengths.len(), depth_left)
+}
+
+/// The same, with the lengths of the types noted first.
+#[cycle(values)]
+fn noted_value(
+    source: &Source<'_>,
+    at: usize,
+    end: usize,
+    types: &[u8],
+    depth_left: u8,
+) -> Option<usize>
+    requires at_most { at ≤ end }
+    requires inside { end ≤ length source.now.bytes.now }
+    requires few { length types.now ≤ 255 }
+    ensures gives { IfSome result (λ q. (t : TypeTree) →
+        sig t ≡ types.now → IsShaped true t →
+        EndsAt source.now.bytes.now q (value_in source.now depth_left end t at)) }
+    ensures none { result ≡ None → (t : TypeTree) → sig t ≡ types.now → IsShaped true t →
+        IsNotRead (value_in source.now depth_left end t at) }
+    ensures moves { IfSome result (λ q. (at ≤ q) × (q ≤ end)) }
+{
+    let mut table = [0; 255];
+    let noted = Source {
+        bytes: source.bytes,
+        order: source.order,
+        bounds: source.bounds,
+        lengths: lengths_in(types, &mut table),
+    };
+    one_value(&noted, at, end, types, 0, depth_left)
+}
+
+/// An array, whose elements are of the one type that `types` spell.
+#[cycle(values)]
+fn array(
+    source: &Source<'_>,
+    at: usize,
+    end: usize,
+    types: &[u8],
+    pos: usize,
+    depth_left: u8,
+) -> Option<usize>
+    requires at_most { at ≤ end }
+    requires inside { end ≤ length source.now.bytes.now }
+    requires near { pos + length types.now < 2 ^ 64 }
+    requires noted { AreNoted types.now source.now.lengths.now pos }
+    ensures gives { IfSome result (λ q. (t : TypeTree) →
+        sig t ≡ types.now → IsShaped true t →
+        EndsAt source.now.bytes.now q (array_in source.now depth_left end t at)) }
+    ensures none { result ≡ None → (t : TypeTree) → sig t ≡ types.now → IsShaped true t →
+        IsNotRead (array_in source.now depth_left end t at) }
+    ensures moves { IfSome result (λ q. (at ≤ q) × (q ≤ end)) }
+{
+    if depth_left == 0 || types.is_empty() {
+        return None;
+    }
+    let code = types[0];
+    let start = padding(source.bytes, at, end, 4)?;
+    let (n, first) = frame(
+        source.bytes,
+        start,
+        end,
+        source.order,
+        boundary(code),
+        source.bounds,
+    )?;
+    let width = free_width(code);
+    if width > 0 {
+        return if n % usize::from(width) == 0 {
+            Some(first + n)
+        } else {
+            None
+        };
+    }
+    elements(source, first, n, types, pos, depth_left - 1)
+}
+
+/// Elements of the one type that `types` spell, up to the end of the next n bytes.
+#[cycle(values)]
+fn elements(
+    source: &Source<'_>,
+    at: usize,
+    n: usize,
+    types: &[u8],
+    pos: usize,
+    depth_left: u8,
+) -> Option<usize>
+    requires inside { at + n ≤ length source.now.bytes.now }
+    requires near { pos + length types.now < 2 ^ 64 }
+    requires noted { AreNoted types.now source.now.lengths.now pos }
+    ensures gives { IfSome result (λ q. (t : TypeTree) →
+        sig t ≡ types.now → IsShaped true t →
+        EndsAt source.now.bytes.now q (elements_in source.now n depth_left t at)) }
+    ensures none { result ≡ None → (t : TypeTree) → sig t ≡ types.now → IsShaped true t →
+        IsNotRead (elements_in source.now n depth_left t at) }
+    ensures ends { IfSome result (λ q. q ≡ at + n) }
+{
+    let end = at + n;
+    let mut place = at;
+    // An element has at least one byte.
+    for _turn in 0..n {
+        if place == end {
+            return Some(end);
+        }
+        place = one_value(source, place, end, types, pos, depth_left)?;
+    }
+    if place == end { Some(end) } else { None }
+}
+
+/// A struct, whose fields are of the types that `types` spell.
+#[cycle(values)]
+fn structure(
+    source: &Source<'_>,
+    at: usize,
+    end: usize,
+    types: &[u8],
+    pos: usize,
+    depth_left: u8,
+) -> Option<usize>
+    requires at_most { at ≤ end }
+    requires inside { end ≤ length source.now.bytes.now }
+    requires near { pos + length types.now < 2 ^ 64 }
+    requires noted { AreNoted types.now source.now.lengths.now pos }
+    ensures gives { IfSome result (λ q. (ts : TypeTrees) →
+        sigs ts ≡ types.now → AreShaped ts →
+        EndsAt source.now.bytes.now q (struct_in source.now depth_left end ts at)) }
+    ensures none { result ≡ None → (ts : TypeTrees) → sigs ts ≡ types.now → AreShaped ts →
+        IsNotRead (struct_in source.now depth_left end ts at) }
+    ensures moves { IfSome result (λ q. (at ≤ q) × (q ≤ end)) }
+{
+    if depth_left == 0 {
+        return None;
+    }
+    let start = padding(source.bytes, at, end, 8)?;
+    all_values(source, start, end, types, pos, depth_left - 1)
+}
+
+/// A dict entry, whose key and value are of the two types that `types` spell.
+#[cycle(values)]
+fn entry(
+    source: &Source<'_>,
+    at: usize,
+    end: usize,
+    types: &[u8],
+    pos: usize,
+    depth_left: u8,
+) -> Option<usize>
+    requires at_most { at ≤ end }
+    requires inside { end ≤ length source.now.bytes.now }
+    requires near { pos + length types.now < 2 ^ 64 }
+    requires noted { AreNoted types.now source.now.lengths.now pos }
+    ensures gives { IfSome result (λ q. (k v : TypeTree) →
+        sigs (MoreTypes k (MoreTypes v NoTypes)) ≡ types.now →
+        AreShaped (MoreTypes k (MoreTypes v NoTypes)) →
+        EndsAt source.now.bytes.now q (entry_in source.now depth_left end k v at)) }
+    ensures none { result ≡ None → (k v : TypeTree) →
+        sigs (MoreTypes k (MoreTypes v NoTypes)) ≡ types.now →
+        AreShaped (MoreTypes k (MoreTypes v NoTypes)) →
+        IsNotRead (entry_in source.now depth_left end k v at) }
+    ensures moves { IfSome result (λ q. (at ≤ q) × (q ≤ end)) }
+{
+    let start = padding(source.bytes, at, end, 8)?;
+    all_values(source, start, end, types, pos, depth_left)
+}
