@@ -1,9 +1,15 @@
 //! Messages decoded. D-Bus Specification, "Message Protocol".
 #![tactic(auto)]
 
-ghost use Rattle.std.specs.Prelude.{◌≡◌, IfOk, IfErr};
+ghost use Rattle.std.specs.Prelude.{◌≡◌, length, IfOk, IfErr};
 ghost use Rattle.dbus_value_model.specs.Specification.{specification};
 ghost use Rattle.dbus_value_model.specs.declared.fault.Refusal.TheVariants.{Memory};
+ghost use Rattle.dbus_value_model.specs.declared.order.Order.{Order};
+ghost use Rattle.dbus_message_model.specs.Messages.{MessageTree};
+ghost use Rattle.dbus_message_model.specs.MessageViews.{message_tree};
+ghost use Rattle.dbus_message_model.specs.PackedMessages.{MessageKeepsBytes};
+ghost use Rattle.dbus_header.specs.MessageOutcomes.{IsWhole};
+ghost use Rattle.dbus_validate.specs.Validating.{IsValidated};
 ghost use Rattle.dbus_decode.specs.Decodes.{Decodes};
 ghost use Rattle.dbus_decode.specs.PackedAnswers.{AnswerKeepsBytes};
 ghost use Rattle.dbus_decode.specs.Beginnings.{BeginsWithOne};
@@ -12,8 +18,8 @@ use crate::answer::Answer;
 use crate::building::build_message;
 use crate::fault::fault_of;
 use dbus_message_model::Message;
-use dbus_validate::validate;
-use dbus_value_model::{Limits, Refusal};
+use dbus_validate::{Validated, validate, validate_known};
+use dbus_value_model::{Limits, Order, Refusal};
 use std::alloc::{AllocError, Allocator};
 
 /// Decodes the message that the bytes begin with, within the limits of the specification: it is [`decode_within`] under these.
@@ -53,12 +59,47 @@ pub fn decode_within<A: Allocator + Copy>(
             None => Ok(Answer::Partial),
         };
     };
-    match build_message(alloc, bytes, &validated, limits) {
-        Ok(parts) => Ok(Answer::Whole {
+    match message_of(alloc, bytes, &validated, limits) {
+        Ok(message) => Ok(Answer::Whole {
             order: validated.order,
-            message: Message::of_valid(parts, validated.length),
+            message,
             used: validated.length,
         }),
         Err(AllocError) => Err(Refusal::Memory),
     }
+}
+
+/// Decodes bytes that are known to be one message within the limits, all of them, as a checker says it, and gives its byte order
+/// too. The values of its body are not looked at before they are built. The one error is that a growth of memory was refused.
+/// D-Bus Specification, "Message Protocol".
+pub fn decode_known<A: Allocator + Copy>(
+    alloc: A,
+    bytes: &[u8],
+    limits: Limits,
+) -> Result<(Order, Message<A>), AllocError>
+    requires known { (order : Order) × (m : MessageTree) ×
+        IsWhole limits bytes.now order m (length bytes.now) }
+    ensures decoded { IfOk result (λ r.
+        IsWhole limits bytes.now r.0 (message_tree r.1) (length bytes.now)) }
+    ensures packed { IfOk result (λ r. MessageKeepsBytes r.1) }
+{
+    let validated = validate_known(bytes, limits);
+    let message = message_of(alloc, bytes, &validated, limits)?;
+    Ok((validated.order, message))
+}
+
+/// The message that was validated in the bytes.
+fn message_of<A: Allocator + Copy>(
+    alloc: A,
+    bytes: &[u8],
+    validated: &Validated,
+    limits: Limits,
+) -> Result<Message<A>, AllocError>
+    requires validated { IsValidated limits bytes.now validated.now }
+    ensures whole { IfOk result (λ m. IsWhole limits bytes.now validated.now.order
+        (message_tree m) validated.now.length) }
+    ensures packed { IfOk result MessageKeepsBytes }
+{
+    let parts = build_message(alloc, bytes, validated, limits)?;
+    Ok(Message::of_valid(parts, validated.length))
 }

@@ -8,4 +8,4 @@ mod fault;
 
 pub use answer::Answer;
 pub use building::build_message;
-pub use decoding::{decode, decode_within};
+pub use decoding::{decode, decode_known, decode_within};

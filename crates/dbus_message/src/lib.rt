@@ -11,7 +11,7 @@ pub mod laws;
 
 pub use dbus_build::{Build, BuildFault, Within};
 pub use dbus_check::{Check, Checker};
-pub use dbus_decode::{Answer, decode, decode_within};
+pub use dbus_decode::{Answer, decode, decode_known, decode_within};
 pub use dbus_encode::{encode, encode_into};
 pub use dbus_header::{FIXED_HEADER_LENGTH, stated_length, stated_length_within};
 pub use dbus_message_model::{

@@ -8,6 +8,5 @@ pub mod CutLaws
 pub mod WholeLaws
 pub mod CutterSteps
 pub mod Inside
-pub mod DecodedOne
 pub mod RunLaws
 pub mod HeadlineLaws

@@ -8,7 +8,7 @@ use dbus_device::{DeviceFault, Source};
 
 /// Room for the bytes that one read gives.
 pub trait Buffer: Drop {
-    // How many bytes it has room for, at most 65,536, and which bytes are there.
+    // How many bytes it has room for, at most 262,144, and which bytes are there.
     ghost room: { Room Self };
 
     /// Reads once, into all of the room.
@@ -49,14 +49,14 @@ impl Buffer for Small {
     }
 }
 
-/// Room for 65,536 bytes: so many that nearly every message lies whole in what one read gives.
+/// Room for 262,144 bytes: so many that nearly every message lies whole in what one read gives.
 #[derive(Drop)]
 pub struct Large {
-    pub(crate) bytes: [u8; 65_536],
+    pub(crate) bytes: [u8; 262_144],
 }
 
 impl Buffer for Large {
-    ghost room = { record { size = 65536; bytes = λ b. b.bytes } };
+    ghost room = { record { size = 262144; bytes = λ b. b.bytes } };
 
     fn read_from<R: Source>(&mut self, source: &mut R) -> Result<usize, DeviceFault> {
         source.read(&mut self.bytes)

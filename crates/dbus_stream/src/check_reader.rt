@@ -11,7 +11,7 @@ use crate::reads::MOST_READS;
 use dbus_device::Source;
 use dbus_value::Limits;
 
-/// Reads messages from a source, one after another, by a buffer of 65,536 bytes inside it, and tells their lengths.
+/// Reads messages from a source, one after another, by a buffer of 262,144 bytes inside it, and tells their lengths.
 ///
 /// It accepts and refuses what a [`crate::MessageReader`] does. A message that lies whole in the buffer is validated there; any
 /// other is checked as it comes. It builds no message, keeps no byte of one outside its buffer but what its checker holds, and
@@ -43,7 +43,7 @@ impl<R: Source> Reader<R, Lengths, Large> {
         Reader::over(
             source,
             Lengths::within(limits),
-            Large { bytes: [0; 65_536] },
+            Large { bytes: [0; 262_144] },
             reads,
         )
     }

@@ -9,11 +9,11 @@ ghost use Rattle.dbus_stream.specs.CutterState.{fresh};
 ghost use Rattle.dbus_stream.specs.Cutting.{Takes, TakeAnswers};
 ghost use Rattle.dbus_stream.specs.CutterTaking.{cutting};
 
-use crate::decoded::{decode_one, decoded};
+use crate::decoded::decoded;
 use crate::gatherer::Gatherer;
 use crate::stream_fault::StreamFault;
 use crate::taker::Taker;
-use dbus_message::{Answer, Message, stated_length_within};
+use dbus_message::{Answer, Message, decode_known, stated_length_within};
 use dbus_value::{Fault, Limits, Order, Reason, Refusal};
 use std::alloc::{Allocator, Global};
 use std::marker::Model;
@@ -118,7 +118,8 @@ impl<A: Allocator + Copy> Cutter<A> {
         }
     }
 
-    // The answer by the checker, which looks at no byte that is held. It is decoded once, where the message ends.
+    // The answer by the checker, which looks at no byte that is held. It is decoded once, where the message ends, and of a body
+    // that the checker took no value is checked again.
     fn take_checked(
         &mut self,
         piece: &[u8],
@@ -129,7 +130,7 @@ impl<A: Allocator + Copy> Cutter<A> {
         match self.gatherer.gather(piece) {
             Ok(Some(count)) => {
                 let limits = self.gatherer.limits();
-                match decode_one(self.alloc, self.gatherer.bytes(), limits) {
+                match decode_known(self.alloc, self.gatherer.bytes(), limits) {
                     Ok(given) => {
                         self.gatherer.begin();
                         Ok((count, Some(given)))

@@ -12,7 +12,7 @@ use dbus_validate::Validated;
 use dbus_value::Limits;
 use std::alloc::{Allocator, Global};
 
-/// Reads messages from a source, one after another, by a buffer of 65,536 bytes inside it, and lends or copies their bytes.
+/// Reads messages from a source, one after another, by a buffer of 262,144 bytes inside it, and lends or copies their bytes.
 ///
 /// It accepts and refuses what a [`crate::MessageReader`] does, and builds no message. A message that lies whole in the
 /// buffer is validated there, and lent where it lies; any other is checked as it comes, and its bytes are gathered. It keeps the
@@ -64,7 +64,7 @@ impl<R: Source, A: Allocator + Copy> RawReader<R, A> {
             reader: Reader::over(
                 source,
                 Gatherer::within(alloc, limits),
-                Large { bytes: [0; 65_536] },
+                Large { bytes: [0; 262_144] },
                 reads,
             ),
         }
@@ -116,7 +116,7 @@ impl<R: Source, A: Allocator + Copy> RawReader<R, A> {
             (R.failures (source_of self.new)) result }
         ensures same_reference { R.reference (source_of self.new) ≡
             R.reference (source_of self.old) }
-        ensures few { done_of self.new ≤ 2 ^ 48 }
+        ensures few { done_of self.new ≤ 2 ^ 50 }
         // A fault of the bytes stays for good, and so does the number of reads.
         ensures stays { (f : ReadFault) → stopped_of self.old ≡ Some f →
             (result ≡ Err f) × (self.new ≡ self.old) }
@@ -138,7 +138,7 @@ impl<R: Source, A: Allocator + Copy> RawReader<R, A> {
         ensures unread { ReadsNothing self.old self.new }
         ensures failed { DeviceCounts (R.failures (source_of self.old))
             (R.failures (source_of self.new)) result }
-        ensures few { done_of self.new ≤ 2 ^ 48 }
+        ensures few { done_of self.new ≤ 2 ^ 50 }
         // A fault of the bytes stays for good, and so does the number of reads.
         ensures stays { (f : ReadFault) → stopped_of self.old ≡ Some f →
             (result ≡ Err f) × (self.new ≡ self.old) }
@@ -161,7 +161,7 @@ impl<R: Source, A: Allocator + Copy> RawReader<R, A> {
             (R.failures (source_of self.new)) result }
         ensures same_reference { R.reference (source_of self.new) ≡
             R.reference (source_of self.old) }
-        ensures few { done_of self.new ≤ 2 ^ 48 }
+        ensures few { done_of self.new ≤ 2 ^ 50 }
         // A fault of the bytes stays for good, and so does the number of reads.
         ensures stays { (f : ReadFault) → stopped_of self.old ≡ Some f →
             (result ≡ Err f) × (self.new ≡ self.old) }

@@ -33,7 +33,7 @@ pub struct Reader<R, T, B: Buffer> {
     pub(crate) stopped: Option<ReadFault>,
     ghost in_order: { start ≤ end },
     ghost in_buffer: { end ≤ B.room.size },
-    ghost small: { B.room.size ≤ 65536 },
+    ghost small: { B.room.size ≤ 262144 },
     ghost few_reads: { reads ≤ most_reads },
     ghost low_most: { most_reads ≤ 2 ^ 32 },
     ghost lasting: { is_lasting stopped ≡ true },
@@ -50,7 +50,7 @@ impl<R: Source, T: Taker, B: Buffer> Reader<R, T, B> {
     /// A reader of what the source gives to a taker that holds nothing. It read nothing yet, and makes at most so many reads
     /// in its life, the one that finds the end of the input among them.
     pub(crate) fn over(source: R, taker: T, buffer: B, reads: u64) -> Self
-        requires small { B.room.size ≤ 65536 }
+        requires small { B.room.size ≤ 262144 }
         requires few { reads ≤ 2 ^ 32 }
         requires nothing { T.known.holds taker [] }
         ensures new { IsNewReader T.known source reads (T.known.limits taker) result }

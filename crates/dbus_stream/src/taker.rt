@@ -25,7 +25,7 @@ pub trait Taker: Drop {
         piece: &[u8],
         given: &mut Option<Self::Given>,
     ) -> Result<usize, StreamFault>
-        requires few { held ≤ 2 ^ 48 }
+        requires few { held ≤ 2 ^ 50 }
         ensures within { IfOk result (λ n. n ≤ length piece.now) }
         ensures limits { known.limits self.new ≡ known.limits self.old }
         ensures takes { (w : List ℕ) → known.holds self.old w → held ≡ length w →

@@ -14,16 +14,19 @@ use Rattle.dbus_stream.proofs.cutter.Cutter.take_checked.Goals.{In-Ok-Some}
 gathered : (g : _) (c : In-Ok-Some g) → Gathered c.self.inside.gatherer c.args.piece.now c.in-Ok-Some.count c.gather.new.self
 gathered g c = rw c.in-Ok-Some.field-0-is at c.in-Ok-Some.ensures
 
-pub decode_one-requires : goal.decode_one-requires
-decode_one-requires g c =
+pub decode_known-requires : goal.decode_known-requires
+decode_known-requires g c =
     let old = c.self.inside.gatherer in
     let piece = c.args.piece.now in
     let n = c.in-Ok-Some.count in
-    let e = gathered g (goal.at.decode_one-requires g c).In-Ok-Some in
+    let e = gathered g (goal.at.decode_known-requires g c).In-Ok-Some in
     let limits_are = c.limits-limits.ensures ∙ ap (λ (s : GathererState). s.limits) e.state in
     let bytes_are = c.bytes.ensures ∙ ap (λ (s : GathererState). s.held) e.state in
-    subst (λ l. IsOneMessage l c.bytes.result.now) (sym limits_are)
-    (subst (λ (b : List ℕ). IsOneMessage old.limits b) (sym bytes_are) (one_message old.limits old.held piece n e.fits e.order e.message e.whole))
+    record {
+      known =
+          subst (λ l. IsOneMessage l c.bytes.result.now) (sym limits_are)
+          (subst (λ (b : List ℕ). IsOneMessage old.limits b) (sym bytes_are) (one_message old.limits old.held piece n e.fits e.order e.message e.whole));
+    }
 
 pub invariant_of-self : goal.invariant_of-self
 invariant_of-self g c =
@@ -48,7 +51,7 @@ returns-in-Ok g c =
     let limits_are = c.limits-limits.ensures ∙ ap (λ (s : GathererState). s.limits) e.state in
     let bytes_are = c.bytes.ensures ∙ ap (λ (s : GathererState). s.held) e.state in
     let all = old.held ++ take n piece in
-    let own : IsWhole old.limits all order m (length all) = subst (λ (b : List ℕ). IsWhole old.limits b order m (length b)) bytes_are (subst (λ l. IsWhole l c.bytes.result.now order m (length c.bytes.result.now)) limits_are c.in-Ok.ensures) in
+    let own : IsWhole old.limits all order m (length all) = subst (λ (b : List ℕ). IsWhole old.limits b order m (length b)) bytes_are (subst (λ l. IsWhole l c.bytes.result.now order m (length c.bytes.result.now)) limits_are c.in-Ok.ensures.decoded) in
     let whole = begins_with old.limits old.held piece n e.fits order m (subst (λ k. IsWhole old.limits all order m k) (length-append old.held (take n piece)) own) in
     let limits_now : next.limits ≡ old.limits = ap (λ (s : GathererState). s.limits) c.begin.ensures ∙ ap (λ (s : GathererState). s.limits) e.state in
     let none : next.held ≡ [] = ap (λ (s : GathererState). s.held) c.begin.ensures ∙ ap (λ (s : GathererState). under_way s.whole c.gather.new.self.held) e.state in
