@@ -36,7 +36,7 @@ count_each() {
 }
 
 printf '%-14s%8s%8s%8s%8s%8s%8s\n' stream check filter 'swap l' 'swap B' show libdbus
-for stream in session big-endian dictionaries texts structs bytes doubles; do
+for stream in session big-endian dictionaries objects texts structs bytes doubles; do
     count_each "$folder/$stream.dbus"
 done
 for stream in "$folder"/*.worst; do

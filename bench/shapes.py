@@ -1,7 +1,8 @@
 #!/usr/bin/env python3
 """bench/shapes.py FOLDER: writes streams of messages, each of one shape, for measuring: FOLDER/NAME.dbus, of about 2 MB.
 
-dictionaries: a signal PropertiesChanged with twelve properties; texts: an array of 200 texts; structs: an array of 100 structs
+dictionaries: a signal PropertiesChanged with twelve properties; objects: 16 to 100 KB of these, as the answer of GetManagedObjects has
+them, so that many messages are cut by the end of a reader's buffer; texts: an array of 200 texts; structs: an array of 100 structs
 a(iiuxsb); bytes: an array of 32,000 bytes; doubles: an array of 1,000 doubles. All are in little endian.
 
 FOLDER/NAME.worst has the most work a byte that a legal message asks for: one message of about 1 MB, an array of elements that are
@@ -94,8 +95,15 @@ def properties():
     return [random.choice(kinds)(n) for n in range(12)]
 
 
+def managed_objects():
+    device = "org.freedesktop.NetworkManager.Device"
+    count = random.randint(18, 110)
+    return [(f"/org/freedesktop/NetworkManager/Devices/{n}", [(device, properties())]) for n in range(count)]
+
+
 SHAPES = {
     "dictionaries": lambda n: signal(n, "sa{sv}as", ("org.freedesktop.NetworkManager.Device", properties(), [])),
+    "objects": lambda n: signal(n, "a{oa{sa{sv}}}", (managed_objects(),)),
     "texts": lambda n: signal(n, "as", ([f"com.example.Service{k}.name" for k in range(200)],)),
     "structs": lambda n: signal(n, "a(iiuxsb)", ([(k, -k, 3 * k, k * k, f"text{k}", k % 2) for k in range(100)],)),
     "bytes": lambda n: signal(n, "ay", (bytes(k % 251 for k in range(32_000)),)),

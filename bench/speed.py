@@ -14,7 +14,7 @@ import tempfile
 
 HERE = os.path.dirname(os.path.abspath(__file__))
 SAMPLES = os.path.join(HERE, "..", "samples")
-SHAPES = ("dictionaries", "texts", "structs", "bytes", "doubles")
+SHAPES = ("dictionaries", "objects", "texts", "structs", "bytes", "doubles")
 SIZE = 32_000_000
 RUNS = 5
 COMMANDS = {

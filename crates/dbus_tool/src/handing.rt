@@ -27,7 +27,7 @@ fn next_message<R: Source, A: Allocator + Copy, W: Sink>(
     ensures gives { GivesNext R.left R.calls R.failures messages.old messages.new
         (writing W.held W.failures first.old first.new) gathered.old.items gathered.new.items
         result }
-    ensures few { IfOk result (λ _. done_of messages.new ≤ 2 ^ 48) }
+    ensures few { IfOk result (λ _. done_of messages.new ≤ 2 ^ 50) }
     ensures same_reference { R.reference (source_of messages.new) ≡
         R.reference (source_of messages.old) }
 {
@@ -49,7 +49,7 @@ fn read_message<R: Source, A: Allocator + Copy, W: Sink>(
     ensures gives { GivesNext R.left R.calls R.failures messages.old messages.new
         (writing W.held W.failures first.old first.new) gathered.old.items gathered.new.items
         result }
-    ensures few { IfOk result (λ _. done_of messages.new ≤ 2 ^ 48) }
+    ensures few { IfOk result (λ _. done_of messages.new ≤ 2 ^ 50) }
     ensures same_reference { R.reference (source_of messages.new) ≡
         R.reference (source_of messages.old) }
 {

@@ -25,7 +25,7 @@ pub overflow_add-count : goal.overflow_add-count
 overflow_add-count g c =
     let h = c.messages.invariant.0 in
     let gives = (given g (goal.at.overflow_add-count g c).In-Ok-Some).1 in
-    let few : done_of c.next.new.self ≤ 2 ^ 48 = c.in-Ok-Some.ensures.few in
+    let few : done_of c.next.new.self ≤ 2 ^ 50 = c.in-Ok-Some.ensures.few in
     omega (arith, h.count_is, length-sizes (limits_of c.args.messages.now) h.bytes h.items h.rest h.messages, h.done, gives.done, few)
 
 pub messages-preserved : goal.messages-preserved
@@ -42,7 +42,7 @@ messages-smaller g c =
     let given = given g (goal.at.messages-smaller g c).In-Ok-Some in
     let gives = given.1 in
     let some : 0 < c.in-Ok-Some.field-0-0 = (whole_inside (limits_of mid) (c.messages.invariant.0.rest ++ given.0.bytes) gives.order gives.message c.in-Ok-Some.field-0-0 gives.whole).0 in
-    let few : done_of c.next.new.self ≤ 2 ^ 48 = c.in-Ok-Some.ensures.few in
+    let few : done_of c.next.new.self ≤ 2 ^ 50 = c.in-Ok-Some.ensures.few in
     omega (arith, gives.done, few, some)
 
 pub returns-in-Ok-None-clause-counts : goal.returns-in-Ok-None-clause-counts

@@ -18,7 +18,7 @@ overflow_add-count g c =
     let h = c.messages.invariant.0.counted in
     let given = rw c.in-Ok-Some.field-0-is at c.in-Ok-Some.ensures.gives in
     let l : Lends (kept c.messages.messages ++ given.0.bytes) c.in-Ok-Some.validated c.messages.messages c.next_message.new.messages = given.1 in
-    let few : done_of c.next_message.new.messages ≤ 2 ^ 48 = c.in-Ok-Some.ensures.few in
+    let few : done_of c.next_message.new.messages ≤ 2 ^ 50 = c.in-Ok-Some.ensures.few in
     omega (arith, c.messages.invariant.0.count_is, length-sizes c.args.limits h.bytes h.items _ h.messages, h.done, l.gives.done, few)
 
 pub write_one-requires : goal.write_one-requires
@@ -44,7 +44,7 @@ messages-smaller g c =
     let given = rw c.in-Ok-Some.field-0-is at c.in-Ok-Some.ensures.gives in
     let l : Lends (kept mid ++ given.0.bytes) c.in-Ok-Some.validated mid c.next_message.new.messages = given.1 in
     let some : 0 < l.size = (whole_inside (limits_of mid) (kept mid ++ given.0.bytes) l.gives.order l.gives.message l.size l.gives.whole).0 in
-    let few : done_of c.next_message.new.messages ≤ 2 ^ 48 = c.in-Ok-Some.ensures.few in
+    let few : done_of c.next_message.new.messages ≤ 2 ^ 50 = c.in-Ok-Some.ensures.few in
     omega (arith, l.gives.done, few, some)
 
 pub returns-in-Err-write_one-clause-hands : goal.returns-in-Err-write_one-clause-hands

@@ -9,4 +9,4 @@ invariant-messages g l =
     × (g.R.Source.reference (source_of l.messages) ≡ g.R.Source.reference (source_of l.fn.messages))
 
 abbrev pub decreases-messages : goal.decreases-messages
-decreases-messages g l = 2 ^ 48 - done_of l.messages
+decreases-messages g l = 2 ^ 50 - done_of l.messages
