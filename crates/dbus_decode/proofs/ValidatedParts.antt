@@ -1,7 +1,5 @@
 -- The message that was validated: its fields and its body stand in its bytes, and it is valid.
 use Rattle.std.proofs.Common.{◌≡◌, ℕ, ◌≤◌, List, [], ◌∷◌, ◌++◌, length, take, sym, ap, subst, ◌∙◌, arith}
-use Rattle.dbus_texts.specs.Kinds.{IsKind}
-use Rattle.dbus_texts.specs.declared.text_kind.TextKind.TheVariants.{Signature}
 use Rattle.dbus_value_model.specs.Bytes.{pad}
 use Rattle.dbus_value_model.specs.Spelling.{spellings}
 use Rattle.dbus_value_model.specs.Values.{ValueTrees}
@@ -19,7 +17,6 @@ use Rattle.dbus_validate.specs.Validating.{IsValidated}
 use Rattle.dbus_walk.specs.Fields.{field_types}
 use Rattle.dbus_walk.specs.Standing.{Stands, AllStand}
 use Rattle.dbus_walk.proofs.MessageParts.{fields_stand, body_few, body_stands}
-use Rattle.dbus_walk.proofs.Signed.{array_signed}
 
 abbrev tree : ℕ → ℕ → ℕ → List FieldTree → ValueTrees → MessageTree
 tree kind flags serial fields body = record { kind = kind; flags = flags; serial = serial; fields = fields; body = body }
@@ -51,9 +48,6 @@ module _ (limits : Limits) (bytes : List ℕ) (j : Validated) (h : IsValidated l
   module _ (types : List ℕ) (typed : types ≡ body_signature m.fields) where
     pub few_types : length types ≤ 255
     few_types = body_few limits j.order m (take j.length bytes) own (valid j.order) (omega (arith, limits.array_in)) types typed
-
-    pub signed_types : IsKind Signature types
-    signed_types = subst (IsKind Signature) (sym typed) (array_signed limits.depth m.fields (valid j.order).fields (valid j.order).formed_fields)
 
     pub body_there : AllStand j.order limits.depth types j.body (take j.length bytes) m.body []
     body_there = body_stands limits j.order m (take j.length bytes) own (valid j.order) (omega (arith, limits.array_in)) types j.body typed h.body.0

@@ -1,10 +1,10 @@
 //! Messages of the D-Bus wire format: what they are, and how they are encoded and decoded. D-Bus Specification, "Message
 //! Protocol".
 //!
-//! One name for eight crates: the messages and the relation that spells them (`dbus_message_model`), how they are made of their
+//! One name for nine crates: the messages and the relation that spells them (`dbus_message_model`), how they are made of their
 //! parts (`dbus_build`), decoding (`dbus_decode`), the length that a header states (`dbus_header`), encoding (`dbus_encode`),
 //! checking in pieces (`dbus_check`), views that borrow a message's bytes (`dbus_view`), and the values that are seen in them one
-//! by one (`dbus_values`); and the laws that join them.
+//! by one (`dbus_values`), or copied from them (`dbus_unmarshal`); and the laws that join them.
 #![tactic(auto)]
 
 pub mod laws;
@@ -17,5 +17,6 @@ pub use dbus_header::{FIXED_HEADER_LENGTH, stated_length, stated_length_within};
 pub use dbus_message_model::{
     HeaderField, Message, Parts, arg, field, field_code, flag, message_type,
 };
+pub use dbus_unmarshal::{copy_value, copy_values};
 pub use dbus_values::{Elements, ValueView, Values};
 pub use dbus_view::{ArgPlace, ArgView, FieldView, Fields, MessageView};

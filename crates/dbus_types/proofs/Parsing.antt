@@ -4,10 +4,10 @@ use Rattle.std.specs.declared.sync.Arc.{Arc}
 use Rattle.std.proofs.lemmas.List.{take_all}
 use Rattle.dbus_types.specs.declared.sig_type.SigType as ty
 use Rattle.dbus_types.specs.declared.sig_type.SigType.{SigType}
-use Rattle.dbus_texts.specs.Types.{TypeTrees, StructType, EntryType, NoTypes, MoreTypes, sig, sigs, IsComplete, AreComplete, IsSingleType}
-use Rattle.dbus_texts.specs.Signatures.{IsSignature, IsSingle}
+use Rattle.dbus_texts.specs.Types.{TypeTree, TypeTrees, StructType, EntryType, NoTypes, MoreTypes, sig, sigs, IsComplete, IsSingleType}
+use Rattle.dbus_texts.specs.Signatures.{IsSingle}
 use Rattle.dbus_types.specs.SigTypes.{type_tree, type_trees_of}
-use Rattle.dbus_types.specs.TypeReads.{StartsType, StartsFields, ReadsType, ReadsFields}
+use Rattle.dbus_types.specs.TypeReads.{StartsType, StartsFields, ReadsType, ReadsFields, IsTypeText, IsTextOfTypes}
 use Rattle.dbus_texts.proofs.TypeTexts.{sig_positive}
 use Rattle.dbus_types.proofs.TypeViews.{type_tree-Struct, type_tree-Entry}
 use Rattle.dbus_types.proofs.Prefixes.{text_same, StartsPair, not_empty, entry_spelled}
@@ -43,15 +43,13 @@ fields_go w b c (MoreTypes t ts) r e n q = record { tree = t; rest = sigs ts ++ 
 pub fields_type : (w : List ℕ) (b : ℕ) (c : List ℕ) → w ≡ b ∷ c → (b ≡ 41 → ⊥) → StartsFields w → StartsType w
 fields_type w b c e n h = fields_go w b c h.trees h.rest e n h.spelled
 
--- a signature that is not empty begins with a complete type
-sig_go : (w : List ℕ) (b : ℕ) (c : List ℕ) (ts : TypeTrees) → w ≡ b ∷ c → w ≡ sigs ts → StartsType w
-sig_go w b c NoTypes e q = let z : b ∷ c ≡ [] = sym e ∙ q in cc
-sig_go w b c (MoreTypes t ts) e q = record { tree = t; rest = sigs ts; spelled = q }
+-- a text of types that is not empty begins with one
+types_start : (w : List ℕ) (ts : TypeTrees) → w ≡ sigs ts → 0 < length w → StartsType w
+types_start w NoTypes e l = absurd (omega (arith, ap length e))
+types_start w (MoreTypes t ts) e l = record { tree = t; rest = sigs ts; spelled = e }
 
-pub sig_starts : (w : List ℕ) → 0 < length w → IsSignature w → StartsType w
-sig_starts w l h =
-    let f = first_of_list w l in
-    sig_go w f.0 f.1 h.0 f.2 h.2
+pub text_starts : (w : List ℕ) → 0 < length w → IsTextOfTypes w → StartsType w
+text_starts w l h = types_start w h.0 h.1 l
 
 module _ {A : Type 0} where
   pub reads_shorter : (w : List ℕ) (t : SigType A) (r : List ℕ) → ReadsType w t r → length r < length w
@@ -108,26 +106,18 @@ module _ {A : Type 0} where
       let made : ReadsType w (ty.Entry k v) z.0 = record { spelled = subst (λ t. w ≡ sig t ++ z.0) (sym (type_tree-Entry k v)) boxed } in
       subst (λ q. ReadsType w (ty.Entry k v) q) (sym end) made
 
-  -- one complete type of a signature
-  step_go : (w : List ℕ) (t : SigType A) (more : List ℕ) (b : ℕ) (c : List ℕ) (ts : TypeTrees) → AreComplete ts 0 0 → w ≡ b ∷ c → w ≡ sigs ts → ReadsType w t more → IsComplete (type_tree t) false 0 0 × IsSignature more
-  step_go w t more b c NoTypes h e q r = let z : b ∷ c ≡ [] = sym e ∙ q in cc
-  step_go w t more b c (MoreTypes u ts) h e q r =
-      let z = text_same u (type_tree t) (sigs ts) more (sym q ∙ r.spelled) in
-      (subst (λ x. IsComplete x false 0 0) z.0 h.0, (ts, h.1, sym z.1))
+  -- the types after the first
+  types_go : (w : List ℕ) (t : SigType A) (more : List ℕ) (ts : TypeTrees) → w ≡ sigs ts → 0 < length w → ReadsType w t more → IsTextOfTypes more
+  types_go w t more NoTypes e l r = absurd (omega (arith, ap length e))
+  types_go w t more (MoreTypes u ts) e l r = (ts, sym (text_same u (type_tree t) (sigs ts) more (sym e ∙ r.spelled)).1)
 
-  pub sig_step : (w : List ℕ) (t : SigType A) (more : List ℕ) → 0 < length w → IsSignature w → ReadsType w t more → IsComplete (type_tree t) false 0 0 × IsSignature more
-  sig_step w t more l h r =
-      let f = first_of_list w l in
-      step_go w t more f.0 f.1 h.0 h.1 f.2 h.2 r
+  pub text_left : (w : List ℕ) (t : SigType A) (more : List ℕ) → 0 < length w → IsTextOfTypes w → ReadsType w t more → IsTextOfTypes more
+  text_left w t more l h r = types_go w t more h.0 h.1 l r
 
-  pub complete_push : (ts : List (SigType A)) (t : SigType A) → AreComplete (type_trees_of ts) 0 0 → IsComplete (type_tree t) false 0 0 → AreComplete (type_trees_of (ts ++ t ∷ [])) 0 0
-  complete_push [] t h k = (k, tt)
-  complete_push (u ∷ ts) t h k = (h.0, complete_push ts t h.1 k)
+  -- the text is that of one type
+  pub one_text : (w : List ℕ) (t : SigType A) (more : List ℕ) → IsTypeText w → ReadsType w t more → sig (type_tree t) ≡ w
+  one_text w t more h r = sym (h.1 ∙ ap sig (text_same h.0 (type_tree t) [] more (append-nil (sig h.0) ∙ sym h.1 ∙ r.spelled)).0)
 
-  -- what the parsers answer
-  pub single_whole : (w : List ℕ) (t : SigType A) (more : List ℕ) → length w ≤ 255 → IsSingle w → ReadsType w t more → IsSingleType (type_tree t) × (sig (type_tree t) ≡ w)
-  single_whole w t more l h r =
-      let z = text_same h.0 (type_tree t) [] more (append-nil (sig h.0) ∙ sym h.2 ∙ r.spelled) in
-      let same : sig (type_tree t) ≡ w = sym (h.2 ∙ ap sig z.0) in
-      let short : length (sig (type_tree t)) < 256 = omega (arith, ap length same) in
-      ((subst (λ x. IsComplete x false 0 0) z.0 h.1, short), same)
+-- a type whose text is a signature of exactly one
+pub single_type : (t : TypeTree) → IsSingle (sig t) → length (sig t) < 256 → IsSingleType t
+single_type t h l = (subst (λ u. IsComplete u false 0 0) (text_same h.0 t [] [] (append-nil (sig h.0) ∙ sym h.2 ∙ sym (append-nil (sig t)))).0 h.1, l)

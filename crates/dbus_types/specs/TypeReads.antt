@@ -11,6 +11,13 @@ pub record StartsType (w : List ℕ) : Type 0 where
   pub rest : List ℕ
   pub spelled : w ≡ sig tree ++ rest
 
+-- w is a type's text, or that of several types
+abbrev pub IsTypeText : List ℕ → Type 0
+IsTypeText w = (t : TypeTree) × (w ≡ sig t)
+
+abbrev pub IsTextOfTypes : List ℕ → Type 0
+IsTextOfTypes w = (ts : TypeTrees) × (w ≡ sigs ts)
+
 -- some types and `)` stand there
 pub record StartsFields (w : List ℕ) : Type 0 where
   pub trees : TypeTrees

@@ -2,11 +2,9 @@
 #![tactic(auto)]
 
 ghost use Rattle.std.specs.Prelude.{◌≡◌, IfOk};
-ghost use Rattle.dbus_texts.specs.declared.text_kind.TextKind.TheVariants.{Signature, Single};
-ghost use Rattle.dbus_texts.specs.Kinds.{IsKind};
 ghost use Rattle.dbus_types.specs.SigTypes.{type_tree, type_trees_of};
-ghost use Rattle.dbus_texts.specs.Types.{AreSignatureTypes, IsSingleType, sig, sigs};
-ghost use Rattle.dbus_types.specs.TypeReads.{StartsType, StartsFields, ReadsType, ReadsFields};
+ghost use Rattle.dbus_texts.specs.Types.{sig, sigs};
+ghost use Rattle.dbus_types.specs.TypeReads.{StartsType, StartsFields, ReadsType, ReadsFields, IsTypeText, IsTextOfTypes};
 ghost use Rattle.dbus_types.specs.Parses.{IsParse, IsSingleParse};
 
 use crate::sig_type::SigType;
@@ -72,17 +70,16 @@ fn parse_fields<A: Allocator + Copy>(
     Ok((types, &rest[1..]))
 }
 
-/// The types that a signature spells, one for each complete type in it, where the text is known to be a signature: it is
-/// not validated again.
+/// The types that a text spells, as a signature or a part of one, one for each complete type in it. The text is known to spell
+/// types: it is not validated.
 ///
 /// The one error is that a growth of memory was refused. D-Bus Specification, "Valid Signatures".
 pub fn spelled_types<A: Allocator + Copy>(
     alloc: A,
     text: &[u8],
 ) -> Result<Vec<SigType<A>, A>, AllocError>
-    requires { IsKind Signature text.now }
-    ensures { IfOk result (λ v.
-        AreSignatureTypes (type_trees_of v.items) × (sigs (type_trees_of v.items) ≡ text.now)) }
+    requires { IsTextOfTypes text.now }
+    ensures { IfOk result (λ v. sigs (type_trees_of v.items) ≡ text.now) }
 {
     let mut types = Vec::new(alloc);
     let mut rest = text;
@@ -94,13 +91,12 @@ pub fn spelled_types<A: Allocator + Copy>(
     Ok(types)
 }
 
-/// The type that a signature of exactly one complete type spells, where the text is known to be one: it is not validated
-/// again.
+/// The type that a text spells, which is known to spell exactly one: it is not validated.
 ///
 /// The one error is that a growth of memory was refused. D-Bus Specification, "Valid Signatures".
 pub fn spelled_type<A: Allocator + Copy>(alloc: A, text: &[u8]) -> Result<SigType<A>, AllocError>
-    requires { IsKind Single text.now }
-    ensures { IfOk result (λ t. IsSingleType (type_tree t) × (sig (type_tree t) ≡ text.now)) }
+    requires { IsTypeText text.now }
+    ensures { IfOk result (λ t. sig (type_tree t) ≡ text.now) }
 {
     let (ty, _) = parse_type(alloc, text)?;
     Ok(ty)

@@ -5,6 +5,7 @@
 #![tactic(auto)]
 
 mod building;
+mod copying;
 mod gathered;
 mod getting;
 mod numbers;
@@ -13,5 +14,6 @@ mod rooms;
 mod type_text;
 mod values;
 
+pub use copying::{copy_value, copy_values};
 pub use getting::{get, get_within};
 pub use values::{build_typed, build_value, build_values};

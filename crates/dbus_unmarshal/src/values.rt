@@ -2,9 +2,7 @@
 #![tactic(auto)]
 
 ghost use Rattle.std.specs.Prelude.{◌≡◌, ℕ, ◌+◌, ◌≤◌, List, length, IsTrue, IfOk};
-ghost use Rattle.dbus_texts.specs.Kinds.{IsKind};
 ghost use Rattle.dbus_texts.specs.Types.{sig};
-ghost use Rattle.dbus_texts.specs.declared.text_kind.TextKind.TheVariants.{Signature, Single};
 ghost use Rattle.dbus_types.specs.SigTypes.{type_tree};
 ghost use Rattle.dbus_types.specs.TypeLengths.{AreLengths};
 ghost use Rattle.dbus_value_model.specs.PackedBytes.{keeps_bytes, keep_bytes};
@@ -44,7 +42,7 @@ pub fn build_value<A: Allocator + Copy>(
     walk_value(&mut builder, source, spot)
 }
 
-/// The values that stand one after another at a spot, one of each type that the signature there has. They take one growth of
+/// The values that stand one after another at a spot, one of each type that the text there spells. They take one growth of
 /// memory besides what each takes.
 ///
 /// `AllocError` if a growth of memory was refused. D-Bus Specification, "Marshaling (Wire Format)".
@@ -54,7 +52,6 @@ pub fn build_values<A: Allocator + Copy>(
     spot: &Spot<'_>,
 ) -> Result<Vec<Value<A>, A>, AllocError>
     requires stand { AllStandThere source.now spot.now }
-    requires signature { IsKind Signature spot.now.types.now }
     requires noted { AreLengths spot.now.types.now spot.now.lengths.now }
     ensures built { (vs : ValueTrees) (rest : List ℕ) → AllStandAt source.now spot.now vs rest →
         IfOk result (λ r. value_trees_of r.items ≡ vs) }
@@ -83,7 +80,7 @@ pub fn build_typed<A: Allocator + Copy>(
     types: &[u8],
     depth_left: u8,
 ) -> Result<(Value<A>, usize), AllocError>
-    requires single { IsKind Single types.now }
+    requires few { length types.now ≤ 255 }
     requires stands { (v : ValueTree) × (rest : List ℕ) ×
         Stands source.now.order depth_left types.now at source.now.bytes.now v rest }
     ensures built { (v : ValueTree) (rest : List ℕ) →

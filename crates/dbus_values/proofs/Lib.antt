@@ -1,3 +1,3 @@
 pub mod Views
-mod Firsts
+pub mod Firsts
 mod NumberRuns

@@ -43,7 +43,7 @@ impl<'a> Model for Values<'a> {
 }
 
 impl<'a> Values<'a> {
-    ghost use Rattle.dbus_values.specs.States.{AreLeft, SomeAreLeft};
+    ghost use Rattle.dbus_values.specs.States.{AreLeft, SomeAreLeft, values_at};
     ghost use Rattle.dbus_values.specs.Seen.{IsFirstCode};
 
     /// The values that stand in the bytes from `at` on, one of each type of the signature. So many containers may be open in them.
@@ -81,6 +81,20 @@ impl<'a> Values<'a> {
             types: self.types,
             depth_left: self.depth_left,
         }
+    }
+
+    /// The bytes, and where in them the values stand. How long their types are is not noted there.
+    pub fn place(&self) -> (Source<'a>, Spot<'a>)
+        ensures place { values_at result.0 result.1 ≡ self.now }
+        ensures some { SomeAreLeft self.now }
+    {
+        let spot = Spot {
+            at: self.at,
+            types: self.types,
+            lengths: &[],
+            depth_left: self.depth_left,
+        };
+        (self.source, spot)
     }
 
     /// The offset in the bytes where the first of the values begins, padding with it, or where the last one ended.

@@ -1,5 +1,5 @@
 use Rattle.std.proofs.Common.{◌≡◌, ℕ, sym, ap, ◌∙◌}
-use Rattle.dbus_value_model.specs.Values.{ValueTree, type_of}
+use Rattle.dbus_value_model.specs.Values.{ValueTree}
 use Rattle.dbus_message_model.specs.Messages.{FieldTree}
 use Rattle.dbus_decode.proofs.building.build_field.Goals as goal
 
@@ -13,7 +13,7 @@ pub build_typed-requires : goal.build_typed-requires
 build_typed-requires g c =
     let there = c.requires.stands in
     let p = c.field_at-field.ensures there.0 there.1 there.2 in
-    record { single = ((type_of there.0.value, p.single.0, sym p.value.text), p.few); stands = (there.0.value, there.1, p.value) }
+    record { few = p.few; stands = (there.0.value, there.1, p.value) }
 
 pub returns-clause-built : goal.returns-clause-built
 returns-clause-built g c = λ f rest s.

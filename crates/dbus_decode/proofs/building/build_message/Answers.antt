@@ -1,6 +1,6 @@
 use Rattle.std.proofs.Common.{[], refl, ◌∙◌, arith}
 use Rattle.std.proofs.lemmas.List.{length-take}
-use Rattle.dbus_decode.proofs.ValidatedParts.{ends_within, one_message, after_fields, fields_there, few_types, signed_types, body_there, parts_are}
+use Rattle.dbus_decode.proofs.ValidatedParts.{ends_within, one_message, after_fields, fields_there, few_types, body_there, parts_are}
 use Rattle.dbus_decode.proofs.building.build_message.Goals as goal
 
 pub slice_bounds-source-end : goal.slice_bounds-source-end
@@ -22,7 +22,6 @@ build_values-requires g c =
     record {
       stand = (h.message.body, [], body_there c.args.limits c.args.bytes.now c.args.validated.now h c.signature-types.result.now (c.signature-types.ensures h.message.fields h.fields));
       noted = c.lengths_of.ensures;
-      signature = signed_types c.args.limits c.args.bytes.now c.args.validated.now h c.signature-types.result.now (c.signature-types.ensures h.message.fields h.fields);
     }
 
 pub returns-clause-built : goal.returns-clause-built

@@ -1,14 +1,13 @@
 use Rattle.std.proofs.Common.{◌≡◌, ◌++◌, length}
-use Rattle.dbus_texts.specs.Types.{sigs, AreComplete}
-use Rattle.dbus_texts.specs.Signatures.{IsSignature}
+use Rattle.dbus_texts.specs.Types.{sigs}
 use Rattle.dbus_types.specs.SigTypes.{type_trees_of}
+use Rattle.dbus_types.specs.TypeReads.{IsTextOfTypes}
 use Rattle.dbus_types.proofs.parse.spelled_types.Given as goal
 
 abbrev pub invariant-loop-rest : goal.invariant-loop-rest
 invariant-loop-rest g l =
     record {
-      left : IsSignature l.rest;
-      complete : AreComplete (type_trees_of l.types.items) 0 0;
+      left : IsTextOfTypes l.rest;
       spelled : l.text ≡ sigs (type_trees_of l.types.items) ++ l.rest;
     }
 

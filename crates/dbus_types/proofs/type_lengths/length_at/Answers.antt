@@ -1,4 +1,4 @@
-use Rattle.std.proofs.Common.{◌≡◌, ℕ, ◌+◌, List, length, drop, arith, sym, ap}
+use Rattle.std.proofs.Common.{◌+◌, length, arith, sym, ap}
 use Rattle.std.proofs.lemmas.List.{length-drop, length-append}
 use Rattle.dbus_texts.specs.Types.{sig}
 use Rattle.dbus_texts.proofs.TypeTexts.{sig_positive}

@@ -1,0 +1,117 @@
+//! `example_values`: prints the values of the messages on standard input, where they stand in the bytes. No tree is built but of a
+//! property that is a container.
+//!
+//! Of `NameOwnerChanged` it prints the name and its owners, of `PropertiesChanged` each property and its new value, and of any
+//! other message the numbers of each array of UINT32 in its body.
+#![tactic(auto)]
+
+use anyhow::{Result, bail};
+use dbus_message::{
+    Elements, MessageView, ValueView, Values, copy_value, copy_values, stated_length,
+};
+use dbus_value::Value;
+use std::alloc::Global;
+use std::io::Read;
+
+// A name, its old owner and its new one: an empty text is no owner.
+fn print_owners(rt: &HostRuntime, view: &MessageView) -> Result<()> {
+    for value in view.body() {
+        if let ValueView::Str(text) = value {
+            println!(rt; "owner {text}")?;
+        }
+    }
+    Ok(())
+}
+
+// What a variant holds. A container is copied, to be kept after the bytes are gone.
+fn print_held(rt: &HostRuntime, alloc: Global, name: &str, held: &Values) -> Result<()> {
+    match held.again().next() {
+        Some(ValueView::Str(text)) => println!(rt; "{name} is {text}")?,
+        Some(ValueView::Bool(is_so)) => println!(rt; "{name} is {is_so}")?,
+        Some(ValueView::U32(number)) => println!(rt; "{name} is {number}")?,
+        _ => match copy_value(alloc, held)? {
+            Some(Value::Struct(fields)) => println!(rt; "{name} has {} fields", fields.len())?,
+            _ => println!(rt; "{name} is of another type")?,
+        },
+    }
+    Ok(())
+}
+
+// An interface, a dictionary of its properties and their new values, and the names of others.
+fn print_changes(rt: &HostRuntime, alloc: Global, view: &MessageView) -> Result<()> {
+    let mut values = view.body();
+    let (Some(ValueView::Str(interface)), Some(ValueView::Array(changed))) = (
+        values.next(),
+        values.next(),
+    ) else {
+        bail!("no PropertiesChanged");
+    };
+    println!(rt; "of {interface}")?;
+    for element in changed {
+        let ValueView::Entry(mut entry) = element else {
+            break;
+        };
+        let (Some(ValueView::Str(name)), Some(ValueView::Variant(held))) = (
+            entry.next(),
+            entry.next(),
+        ) else {
+            break;
+        };
+        print_held(rt, alloc, name, &held)?;
+    }
+    // What is left of the body is the names of the others.
+    if let Some(Value::Array(_, names)) = copy_values(alloc, &values)?.first() {
+        println!(rt; "others: {}", names.len())?;
+    }
+    Ok(())
+}
+
+// Numbers of 4 bytes, as a slice of their bytes in the message's order.
+fn print_numbers(rt: &HostRuntime, elements: &Elements) -> Result<()> {
+    let order = elements.order();
+    for number in elements.number_bytes().unwrap_or(&[]).chunks_exact(4) {
+        println!(rt; "number {}", order.u32_at(number, 0))?;
+    }
+    Ok(())
+}
+
+fn print_arrays(rt: &HostRuntime, view: &MessageView) -> Result<()> {
+    for value in view.body() {
+        if let ValueView::Array(elements) = value {
+            if elements.types() == b"u".as_slice() {
+                print_numbers(rt, &elements)?;
+            }
+        }
+    }
+    Ok(())
+}
+
+fn print_message(rt: &HostRuntime, alloc: Global, view: &MessageView) -> Result<()> {
+    match view.member() {
+        Some("NameOwnerChanged") => print_owners(rt, view),
+        Some("PropertiesChanged") => print_changes(rt, alloc, view),
+        _ => print_arrays(rt, view),
+    }
+}
+
+fn main(rt: HostRuntime) -> Result<()> {
+    let alloc = rt.alloc();
+    let mut bytes = Vec::new(alloc);
+    rt.stdin().read_to_end(&mut bytes)?;
+    let mut rest = bytes.as_slice();
+    // Each round takes a message at least.
+    for _ in 0..bytes.len() {
+        if rest.is_empty() {
+            break;
+        }
+        let Some(length) = stated_length(rest)? else {
+            bail!("the input ends within a header");
+        };
+        let Some((message, more)) = rest.split_at_checked(length as usize) else {
+            bail!("the input ends within a message");
+        };
+        print_message(&rt, alloc, &MessageView::of(message)?)?;
+        rest = more;
+    }
+    Ok(())
+}
