@@ -1,7 +1,7 @@
 #!/usr/bin/env bash
 # bench/instructions.sh PROGRAM: instructions a byte of each command of PROGRAM, as valgrind counts them, over the sample captures
-# and the shapes of bench/shapes.py, then over its worst shapes; and of libdbus, which reads each message and lets it go, where its
-# headers are. They do not depend on what else the machine does.
+# and the shapes of bench/shapes.py, then over its worst shapes; and of a check in plain C (bench/plain_check.c), and of libdbus, which
+# reads each message and lets it go, where its headers are. They do not depend on what else the machine does.
 set -euo pipefail
 program=$1 here=$(cd "$(dirname "$0")" && pwd)
 folder=$(mktemp -d)
@@ -9,6 +9,7 @@ trap 'rm -rf "$folder"' EXIT
 "$here/shapes.py" "$folder"
 for _ in $(seq 40); do cat "$here/../samples/session.dbus"; done > "$folder/session.dbus"
 for _ in $(seq 75); do cat "$here/../samples/big-endian.dbus"; done > "$folder/big-endian.dbus"
+cc -O2 "$here/plain_check.c" -o "$folder/plain"
 libdbus=
 if flags=$(pkg-config --cflags --libs dbus-1 2> /dev/null); then
     libdbus=$folder/libdbus
@@ -31,11 +32,12 @@ count_each() {
     count "$1" "$program" swap --to l
     count "$1" "$program" swap --to B
     count "$1" "$program" show
+    count "$1" "$folder/plain"
     if [ -n "$libdbus" ]; then count "$1" "$libdbus"; fi
     echo
 }
 
-printf '%-14s%8s%8s%8s%8s%8s%8s\n' stream check filter 'swap l' 'swap B' show libdbus
+printf '%-14s%8s%8s%8s%8s%8s%8s%8s\n' stream check filter 'swap l' 'swap B' show 'plain C' libdbus
 for stream in session big-endian dictionaries objects texts structs bytes doubles; do
     count_each "$folder/$stream.dbus"
 done
