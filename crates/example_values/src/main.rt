@@ -23,16 +23,27 @@ fn print_owners(rt: &HostRuntime, view: &MessageView) -> Result<()> {
     Ok(())
 }
 
-// What a variant holds. A container is copied, to be kept after the bytes are gone.
-fn print_held(rt: &HostRuntime, alloc: Global, name: &str, held: &Values) -> Result<()> {
-    match held.again().next() {
-        Some(ValueView::Str(text)) => println!(rt; "{name} is {text}")?,
-        Some(ValueView::Bool(is_so)) => println!(rt; "{name} is {is_so}")?,
-        Some(ValueView::U32(number)) => println!(rt; "{name} is {number}")?,
-        _ => match copy_value(alloc, held)? {
-            Some(Value::Struct(fields)) => println!(rt; "{name} has {} fields", fields.len())?,
-            _ => println!(rt; "{name} is of another type")?,
-        },
+// A property's value that is no container.
+fn print_plain(rt: &HostRuntime, name: &str, value: &ValueView) -> Result<()> {
+    match value {
+        ValueView::Str(text) => println!(rt; "{name} is {text}")?,
+        ValueView::Bool(is_so) => println!(rt; "{name} is {is_so}")?,
+        ValueView::U32(number) => println!(rt; "{name} is {number}")?,
+        _ => println!(rt; "{name} is of another type")?,
+    }
+    Ok(())
+}
+
+// A property's value, as a variant holds it. A struct is copied, as to keep it when the bytes are gone.
+fn print_property(rt: &HostRuntime, alloc: Global, name: &str, held: Values) -> Result<()> {
+    if held.first_code() == Some(b'(') {
+        if let Some(Value::Struct(fields)) = copy_value(alloc, &held)? {
+            println!(rt; "{name} has {} fields", fields.len())?;
+        }
+        return Ok(());
+    }
+    for value in held {
+        print_plain(rt, name, &value)?;
     }
     Ok(())
 }
@@ -57,7 +68,7 @@ fn print_changes(rt: &HostRuntime, alloc: Global, view: &MessageView) -> Result<
         ) else {
             break;
         };
-        print_held(rt, alloc, name, &held)?;
+        print_property(rt, alloc, name, held)?;
     }
     // What is left of the body is the names of the others.
     if let Some(Value::Array(_, names)) = copy_values(alloc, &values)?.first() {
