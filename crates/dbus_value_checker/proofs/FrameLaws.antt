@@ -16,7 +16,7 @@ IsFrame-reach reach more text f (Elements turns depth_left end t) le h = record 
 pub frames_reach : (reach more low high bottom : ℕ) (text : List ℕ) (fs : List Frame) (ws : List Work) → reach ≤ more → AreFrames reach low high bottom text fs ws → AreFrames more low high bottom text fs ws
 frames_reach reach more low high bottom text [] [] le h = h
 frames_reach reach more low high bottom text (f ∷ fs) (w ∷ ws) le h = (
-  record { low_is = h.0.low_is; high_is = h.0.high_is; stop_is = h.0.stop_is; pos_is = h.0.pos_is; count_is = h.0.count_is; room_is = h.0.room_is; is = IsFrame-reach reach more text f w le h.0.is },
+  assumption (h, IsFrame-reach reach more text f w le h.0.is),
   frames_reach reach more f.end f.top bottom text fs ws le h.1,
 )
 frames_reach reach more low high bottom text [] (w ∷ ws) le h = absurd h
@@ -51,7 +51,7 @@ inner_of x reach (w ∷ ws) h = record { low = h.0.low_is; high = h.0.high_is; s
 
 pub within : (reach low high next more bottom : ℕ) (text : List ℕ) (f : Frame) (fs : List Frame) (ws : List Work) → next ≤ f.end → f.top ≤ more → AreFrames reach low high bottom text (f ∷ fs) ws → AreFrames reach next more bottom text (f ∷ fs) ws
 within reach low high next more bottom text f fs [] le top h = h
-within reach low high next more bottom text f fs (w ∷ ws) le top h = (record { low_is = le; high_is = top; stop_is = h.0.stop_is; pos_is = h.0.pos_is; count_is = h.0.count_is; room_is = h.0.room_is; is = h.0.is }, h.1)
+within reach low high next more bottom text f fs (w ∷ ws) le top h = (assumption h, h.1)
 
 pub pushed_frames : (x y : Values) (f : Frame) (reach : ℕ) (v : Work) (ws : List Work) → Pushed x y f → HasFrames reach x ws
     → Framed reach x.offset (length x.text.items) (suc (length x.frames.items)) x.text.items f v → f.end ≤ x.inner.end → x.inner.top ≤ f.top → HasFrames reach y (v ∷ ws)

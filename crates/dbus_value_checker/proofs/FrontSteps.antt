@@ -22,6 +22,8 @@ use Rattle.dbus_types.proofs.TypeCodes.{boolean_is, descriptor_is}
 use Rattle.dbus_types.specs.SignatureCodes.{first_code}
 use Rattle.dbus_value_model.specs.declared.stop.Stop.{Stop}
 use Rattle.dbus_value_model.specs.declared.stop.Stop.TheVariants as stops
+use Rattle.dbus_value_checker.specs.declared.values.Values.{Values}
+use Rattle.dbus_value_checker.specs.Moves.{Moves}
 use Rattle.dbus_value_checker.specs.Fronts.{Fronts, Lack}
 use Rattle.dbus_value_checker.specs.Suspended.{On, onward, done, held_text}
 use Rattle.dbus_value_model.specs.Items.{text_reason}
@@ -43,6 +45,11 @@ module _ {X A : Type 0} (view : X → A × ℕ) (o : ℕ) (s : List ℕ) (run : 
 
   pub front_refused : (f : Fault) → Fronts view o s (Err (stops.Refused f)) run → (c : List ℕ) → answer (s ++ c) ≡ Faulty f
   front_refused f h c = sym (same (s ++ c)) ∙ ap (λ (r : Outcome A). after r next) (h c)
+
+  -- nothing is changed then
+  pub front_stops : (x : Values) (last : On) (e : Stop) → Fronts view o s (Err e) run → Moves x s (Err e) x (record { last = last; to = answer })
+  front_stops x last stops.Partial h = (refl, front_waits h)
+  front_stops x last (stops.Refused f) h = front_refused f h
 
 -- ---- padding
 

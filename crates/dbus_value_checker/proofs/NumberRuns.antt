@@ -11,74 +11,42 @@ use Rattle.dbus_value_model.specs.ValueItems.{number_row}
 use Rattle.dbus_value_model.specs.Reading.{Partial, after, zeros, number_of}
 use Rattle.dbus_types.specs.SignatureCodes.{first_code, free_width_of}
 use Rattle.dbus_value_model.proofs.FreeNumbers.{free_is}
-use Rattle.dbus_value_checker.specs.Suspended.{On, Elements, work, ANumber, own, own_of, opened_by, works}
+use Rattle.dbus_value_checker.specs.Suspended.{On, Elements, work, ANumber, AHead, own}
 use Rattle.dbus_value_checker.proofs.Suspension.{elements_more, value_begins, padding_zeros, head_passed, head_waits}
 
 -- ---- widths
 
+-- a number has one, two, four or eight bytes
+by_width : (P : ℕ → Type 0) → P 1 → P 2 → P 4 → P 8 → (k : NumberCode) → P (width k)
+by_width P one two four eight BYTE = one
+by_width P one two four eight BOOLEAN = four
+by_width P one two four eight INT16 = two
+by_width P one two four eight UINT16 = two
+by_width P one two four eight INT32 = four
+by_width P one two four eight UINT32 = four
+by_width P one two four eight INT64 = eight
+by_width P one two four eight UINT64 = eight
+by_width P one two four eight DOUBLE = eight
+by_width P one two four eight UNIX_FD = four
+
 pub width_some : (k : NumberCode) → 0 < width k
-width_some BYTE = omega arith
-width_some BOOLEAN = omega arith
-width_some INT16 = omega arith
-width_some UINT16 = omega arith
-width_some INT32 = omega arith
-width_some UINT32 = omega arith
-width_some INT64 = omega arith
-width_some UINT64 = omega arith
-width_some DOUBLE = omega arith
-width_some UNIX_FD = omega arith
+width_some = by_width (λ (w : ℕ). 0 < w) (omega arith) (omega arith) (omega arith) (omega arith)
 
 pub width_few : (k : NumberCode) → width k ≤ 8
-width_few BYTE = omega arith
-width_few BOOLEAN = omega arith
-width_few INT16 = omega arith
-width_few UINT16 = omega arith
-width_few INT32 = omega arith
-width_few UINT32 = omega arith
-width_few INT64 = omega arith
-width_few UINT64 = omega arith
-width_few DOUBLE = omega arith
-width_few UNIX_FD = omega arith
+width_few = by_width (λ (w : ℕ). w ≤ 8) (omega arith) (omega arith) (omega arith) (omega arith)
 
 -- a number ends at a boundary of its own
 aligned_more : (k : NumberCode) (o : ℕ) → gap_to (width k) o ≡ 0 → gap_to (width k) (o + width k) ≡ 0
 unfolding gap_to
-aligned_more BYTE o h = omega arith
-aligned_more BOOLEAN o h = omega arith
-aligned_more INT16 o h = omega arith
-aligned_more UINT16 o h = omega arith
-aligned_more INT32 o h = omega arith
-aligned_more UINT32 o h = omega arith
-aligned_more INT64 o h = omega arith
-aligned_more UINT64 o h = omega arith
-aligned_more DOUBLE o h = omega arith
-aligned_more UNIX_FD o h = omega arith
+aligned_more k o = by_width (λ (w : ℕ). gap_to w o ≡ 0 → gap_to w (o + w) ≡ 0) (λ h. omega arith) (λ h. omega arith) (λ h. omega arith) (λ h. omega arith) k
 
 -- the bytes of whole numbers among so many
 pub whole_numbers : (k : NumberCode) (there : ℕ) → (m : ℕ) × ((there - there % width k ≡ m * width k) × (m ≤ m * width k))
-whole_numbers BYTE there = (there, (omega arith, omega arith))
-whole_numbers BOOLEAN there = (there / 4, (omega arith, omega arith))
-whole_numbers INT16 there = (there / 2, (omega arith, omega arith))
-whole_numbers UINT16 there = (there / 2, (omega arith, omega arith))
-whole_numbers INT32 there = (there / 4, (omega arith, omega arith))
-whole_numbers UINT32 there = (there / 4, (omega arith, omega arith))
-whole_numbers INT64 there = (there / 8, (omega arith, omega arith))
-whole_numbers UINT64 there = (there / 8, (omega arith, omega arith))
-whole_numbers DOUBLE there = (there / 8, (omega arith, omega arith))
-whole_numbers UNIX_FD there = (there / 4, (omega arith, omega arith))
+whole_numbers k there = by_width (λ (w : ℕ). (m : ℕ) × ((there - there % w ≡ m * w) × (m ≤ m * w))) (there, (omega arith, omega arith)) (there / 2, (omega arith, omega arith)) (there / 4, (omega arith, omega arith)) (there / 8, (omega arith, omega arith)) k
 
 -- fewer than one number's
 pub no_number : (k : NumberCode) (there : ℕ) → there - there % width k ≡ 0 → there < width k
-no_number BYTE there e = omega arith
-no_number BOOLEAN there e = omega arith
-no_number INT16 there e = omega arith
-no_number UINT16 there e = omega arith
-no_number INT32 there e = omega arith
-no_number UINT32 there e = omega arith
-no_number INT64 there e = omega arith
-no_number UINT64 there e = omega arith
-no_number DOUBLE there e = omega arith
-no_number UNIX_FD there e = omega arith
+no_number k there = by_width (λ (w : ℕ). there - there % w ≡ 0 → there < w) (λ e. omega arith) (λ e. omega arith) (λ e. omega arith) (λ e. omega arith) k
 
 -- a type of which every number may stand
 pub plain_type : (t : TypeTree) (c w : ℕ) → first_code t ≡ c → ((u : TypeTree) → first_code u ≡ c → w ≡ free_width_of u) → 0 < w → (k : NumberCode) × ((t ≡ NumberType k) × (width k ≡ w) × ((index_limit : Option ℕ) (p n : ℕ) → number_row index_limit k p n ≡ None))
@@ -95,7 +63,7 @@ module _ (bounds : Bounds) (order : Order) (k : NumberCode) (plain : (index_limi
   array turns = work bounds order (Elements turns depth_left end (NumberType k)) next
 
   abbrev element : ℕ → On
-  element turns = own bounds order end (own_of depth_left (NumberType k)) (works bounds order (array turns) (opened_by depth_left end (NumberType k)))
+  element turns = own bounds order end (AHead (ANumber k)) (array turns)
 
   -- an element begins with its number
   begins : (turns o : ℕ) (s : List ℕ) → gap_to (width k) o ≡ 0 → o + width k ≤ end → array (suc turns) o s ≡ element turns o s
@@ -106,17 +74,9 @@ module _ (bounds : Bounds) (order : Order) (k : NumberCode) (plain : (index_limi
       ∙ padding_zeros (width k) end o s (λ x. element turns) (omega arith)
       ∙ ap (λ (n : ℕ). after (zeros n o s) (λ x. element turns)) aligned
 
-  element_passes : (r turns o : ℕ) (bs c : List ℕ) → length bs ≡ width k → o + width k ≤ end → own bounds order end (own_of r (NumberType k)) (works bounds order (array turns) (opened_by r end (NumberType k))) o (bs ++ c) ≡ array turns (o + width k) c
-  element_passes zero turns o bs c len le = head_passed bounds order end (ANumber k) (array turns) o bs c len le (plain bounds.fds (o + width k) (number_of order bs))
-  element_passes (suc r) turns o bs c len le = head_passed bounds order end (ANumber k) (array turns) o bs c len le (plain bounds.fds (o + width k) (number_of order bs))
-
-  element_waits : (r turns o : ℕ) (s : List ℕ) → length s < width k → o + width k ≤ end → own bounds order end (own_of r (NumberType k)) (works bounds order (array turns) (opened_by r end (NumberType k))) o s ≡ Partial
-  element_waits zero turns o s short le = head_waits bounds order end (ANumber k) (array turns) o s short le
-  element_waits (suc r) turns o s short le = head_waits bounds order end (ANumber k) (array turns) o s short le
-
   -- the bytes end within a number
   pub numbers_wait : (turns o : ℕ) (s : List ℕ) → gap_to (width k) o ≡ 0 → o + width k ≤ end → length s < width k → array (suc turns) o s ≡ Partial
-  numbers_wait turns o s aligned le short = begins turns o s aligned le ∙ element_waits depth_left turns o s short le
+  numbers_wait turns o s aligned le short = begins turns o s aligned le ∙ head_waits bounds order end (ANumber k) (array turns) o s short le
 
   -- the bytes of m numbers are m elements
   pub numbers_run : (m turns o : ℕ) (bs c : List ℕ) → length bs ≡ m * width k → o + m * width k ≤ end → gap_to (width k) o ≡ 0 → array (m + turns) o (bs ++ c) ≡ array turns (o + m * width k) c
@@ -136,6 +96,6 @@ module _ (bounds : Bounds) (order : Order) (k : NumberCode) (plain : (index_limi
       ap (λ (s : List ℕ). array (suc m + turns) o s) split
       ∙ ap (λ (t : ℕ). array t o (take w bs ++ (drop w bs ++ c))) n
       ∙ begins (m + turns) o (take w bs ++ (drop w bs ++ c)) aligned (omega arith)
-      ∙ element_passes depth_left (m + turns) o (take w bs) (drop w bs ++ c) one (omega arith)
+      ∙ head_passed bounds order end (ANumber k) (array (m + turns)) o (take w bs) (drop w bs ++ c) one (omega arith) (plain bounds.fds (o + w) (number_of order (take w bs)))
       ∙ numbers_run m turns (o + w) (drop w bs) c others (omega arith) (aligned_more k o aligned)
       ∙ ap (λ (q : ℕ). array turns q c) p

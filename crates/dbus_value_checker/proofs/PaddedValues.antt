@@ -2,36 +2,34 @@
 use Rattle.std.proofs.Common.{◌≡◌, ℕ, suc, ◌+◌, ◌-◌, ◌*◌, ◌<◌, ◌≤◌, List, [], ◌∷◌, ◌++◌, length, reverse, take, drop, get_or, true, false, Ok, Err, refl, sym, ap, subst, ◌∙◌, arith, inl, inr}
 use Rattle.std.specs.Prelude.{◌⊎◌}
 use Rattle.std.proofs.lemmas.List.{take-append-drop, length-drop}
-use Rattle.dbus_texts.specs.Types.{NumberCode, TextCode, TypeTree, NumberType, TextType, VariantType, ArrayType, TypeTrees, NoTypes, MoreTypes, number_code, text_code, sig, sigs, AreShaped}
+use Rattle.dbus_texts.specs.Types.{NumberCode, TextCode, TypeTree, NumberType, TextType, VariantType, ArrayType, StructType, EntryType, TypeTrees, NoTypes, MoreTypes, number_code, text_code, sig, sigs, AreShaped}
 use Rattle.dbus_types.specs.Alignments.{width, length_width, alignment_of}
 use Rattle.dbus_texts.specs.declared.scan.TextScan.{TextScan}
 use Rattle.dbus_texts.specs.Scans.{Stands}
 use Rattle.dbus_texts.specs.Scans as scans
 use Rattle.dbus_value_model.specs.WantedTexts.{Of, kind_of}
 use Rattle.dbus_value_model.specs.declared.fault.Reason.TheVariants as reasons
-use Rattle.dbus_value_model.specs.declared.fault.Fault.{Fault}
 use Rattle.dbus_value_model.specs.declared.stop.Stop.{Stop}
 use Rattle.dbus_value_model.specs.declared.stop.Stop.TheVariants as stops
 use Rattle.dbus_value_model.specs.Items.{fault}
 use Rattle.dbus_value_model.specs.ValueItems.{number_row, text_row, array_row}
 use Rattle.dbus_value_model.specs.ValueReaders.{array_frame}
-use Rattle.dbus_value_model.specs.Reading.{Reader, Outcome, Done, Faulty, Partial, after, padding, number, text, nul, value}
+use Rattle.dbus_value_model.specs.Reading.{Reader, Faulty, after, padding, number, text, nul, value}
 use Rattle.dbus_value_checker.specs.declared.values.Values.{Values}
 use Rattle.dbus_value_checker.specs.declared.values.Frame.{Frame}
 use Rattle.dbus_types.specs.SignatureCodes.{first_code}
 use Rattle.dbus_types.proofs.TypeCodes.{begins, after_code}
 use Rattle.dbus_value_checker.specs.Codes.{IsNumberCode}
-use Rattle.dbus_value_checker.specs.Suspended.{On, onward, done, Work, Parts, Elements, elements, work, works, ANumber, ALength, AnArray, AVariant, head, head_width, head_row, tail, own, own_of, opened_by, Opened, Closed, AHead}
+use Rattle.dbus_value_checker.specs.Suspended.{On, onward, done, Work, Parts, Elements, elements, work, works, own, own_of, opened_by}
 use Rattle.dbus_value_checker.specs.Fronts.{Fronts}
 use Rattle.dbus_value_checker.specs.Frames.{slice, Framed, extra}
 use Rattle.dbus_value_checker.specs.Denotations.{Answer, rest_of, HasFrames, Goes, Wants, Ready, Texts, Nuls, after_piece}
 use Rattle.dbus_value_checker.specs.Moves.{Moves, Pushed, Enters}
 use Rattle.dbus_value_checker.proofs.Suspension.{works_as, value_begins, after_after, after_same}
-use Rattle.dbus_value_checker.proofs.FrontSteps.{front_taken, front_waits, front_refused, take-both, split-at}
+use Rattle.dbus_value_checker.proofs.FrontSteps.{front_taken, front_waits, front_refused, front_stops, take-both, split-at}
 use Rattle.dbus_value_checker.proofs.Slices.{slice_head, slice_room, slice_after, slice_inner}
-use Rattle.dbus_value_checker.specs.Suspended as suspended
 use Rattle.dbus_value_checker.proofs.FrameLaws.{frames_reach, frames_small, end_small, pushed_frames, inner_of, within}
-use Rattle.dbus_value_checker.proofs.TypeCodes.{array_of, struct_of, entry_of, text_of, number_type, own_text, opened_text, own_number, opened_number, own_array, opened_array, own_deep_array, own_struct, opened_struct, own_deep_struct, opened_deep_struct, own_entry, opened_entry, array_complete, struct_complete, entry_complete, entry_text, parts_some, sigs_some}
+use Rattle.dbus_value_checker.proofs.TypeCodes.{array_of, struct_of, entry_of, text_of, number_type, array_complete, struct_complete, entry_complete, entry_text, parts_some, sigs_some}
 use Rattle.dbus_value_checker.proofs.NextValues.{next_part_at}
 use Rattle.dbus_value_checker.proofs.Notes.{part_noted, pushed_notes}
 
@@ -49,7 +47,7 @@ module _ (x : Values) (pos stop : ℕ) (answer : Answer) (w : Wants x pos stop a
 
   module _ (other : code ≡ 118 → ⊥) (a : ℕ) (a_is : (t : TypeTree) → first_code t ≡ code → a ≡ alignment_of t) where
     abbrev begun : Unit {0} → On
-    begun z = own x.bounds x.order x.inner.end (own_of x.inner.depth_left w.type) (works x.bounds x.order (rest_of answer x w.ws) (opened_by x.inner.depth_left x.inner.end w.type))
+    begun z = own x.bounds x.order x.inner.end (own_of w.type x.inner.depth_left) (works x.bounds x.order (rest_of answer x w.ws) (opened_by w.type x.inner.depth_left x.inner.end))
 
     padded_same : (c : List ℕ) → after (padding a x.inner.end x.offset c) begun ≡ answer.to c
     padded_same c =
@@ -73,42 +71,10 @@ module _ (x : Values) (pos stop : ℕ) (answer : Answer) (w : Wants x pos stop a
       same = front_taken (λ (n : ℕ). (tt, n)) x.offset s (padding a x.inner.end) begun answer.to padded_same n h;
     }
 
-    pub wants_waits : (s : List ℕ) → Fronts (λ (n : ℕ). (tt, n)) x.offset s (Err stops.Partial) (padding a x.inner.end) → answer.to s ≡ Partial
-    wants_waits s h = front_waits (λ (n : ℕ). (tt, n)) x.offset s (padding a x.inner.end) begun answer.to padded_same h
-
-    pub wants_refused : (s : List ℕ) (f : Fault) → Fronts (λ (n : ℕ). (tt, n)) x.offset s (Err (stops.Refused f)) (padding a x.inner.end) → (c : List ℕ) → answer.to (s ++ c) ≡ Faulty f
-    wants_refused s f h = front_refused (λ (n : ℕ). (tt, n)) x.offset s (padding a x.inner.end) begun answer.to padded_same f h
-
     pub wants_stops : (s : List ℕ) (e : Stop) → Fronts (λ (n : ℕ). (tt, n)) x.offset s (Err e) (padding a x.inner.end) → Moves x s (Err e) x answer
-    wants_stops s stops.Partial h = (refl, wants_waits s h)
-    wants_stops s (stops.Refused f) h = wants_refused s f h
+    wants_stops s e h = front_stops (λ (n : ℕ). (tt, n)) x.offset s (padding a x.inner.end) begun answer.to padded_same x answer.last e h
 
 -- ---- what stands after the padding
-
--- what is left where the value was read up to n bytes further
-pub onto : {A : Type 0} (run : Reader A) (next : On) (o q : ℕ) (s c : List ℕ) → onward run done o s ≡ Done tt q c → onward run next o s ≡ next q c
-onto run next o q s c h = onto_at (run o s) next q c h
-  where
-    onto_at : {A : Type 0} (r : Outcome A) (next : On) (q : ℕ) (c : List ℕ) → after r (λ x. done) ≡ Done tt q c → after r (λ x. next) ≡ next q c
-    onto_at (Done x p t) next q c h = let e : p ≡ q = cc in let f : t ≡ c = cc in rw (e, f) refl
-    onto_at (Faulty f) next q c h = absurd cc
-    onto_at Partial next q c h = absurd cc
-
-pub onto_partial : {A : Type 0} (run : Reader A) (next : On) (o : ℕ) (s : List ℕ) → onward run done o s ≡ Partial → onward run next o s ≡ Partial
-onto_partial run next o s h = partial_at (run o s) next h
-  where
-    partial_at : {A : Type 0} (r : Outcome A) (next : On) → after r (λ x. done) ≡ Partial → after r (λ x. next) ≡ Partial
-    partial_at (Done x p t) next h = absurd cc
-    partial_at (Faulty f) next h = absurd cc
-    partial_at Partial next h = refl
-
-pub onto_faulty : {A : Type 0} (run : Reader A) (next : On) (o : ℕ) (s : List ℕ) (f : Fault) → onward run done o s ≡ Faulty f → onward run next o s ≡ Faulty f
-onto_faulty run next o s f h = faulty_at (run o s) next f h
-  where
-    faulty_at : {A : Type 0} (r : Outcome A) (next : On) (f : Fault) → after r (λ x. done) ≡ Faulty f → after r (λ x. next) ≡ Faulty f
-    faulty_at (Done x p t) next f h = absurd cc
-    faulty_at (Faulty g) next f h = h
-    faulty_at Partial next f h = absurd cc
 
 module _ (x : Values) (pos stop n : ℕ) (answer : Answer) (r : Ready x pos stop n answer) (code : ℕ) (there : get_or x.text.items pos 0 ≡ code) where
   pub ready_first : first_code r.type ≡ code
@@ -119,11 +85,11 @@ module _ (x : Values) (pos stop n : ℕ) (answer : Answer) (r : Ready x pos stop
       let i = inner_of x (suc x.offset) r.ws r.frames in
       (i.low, r.fits, end_small (suc x.offset) x.offset (length x.text.items) x.end x.text.items x.inner (reverse x.frames.items) r.ws r.frames, (let a = i.high in let b = r.stop_is in omega arith))
 
-  -- the same, where it is known what it opens
-  ready_as : (o : suspended.Own) (us : List Work) → own_of x.inner.depth_left r.type ≡ o → opened_by x.inner.depth_left x.inner.end r.type ≡ us → (c : List ℕ) → own x.bounds x.order x.inner.end o (works x.bounds x.order (rest_of answer x r.ws) us) (x.offset + n) c ≡ answer.to c
-  ready_as o us e d c =
-      subst (λ (p : suspended.Own). own x.bounds x.order x.inner.end p (works x.bounds x.order (rest_of answer x r.ws) us) (x.offset + n) c ≡ answer.to c) e
-      (subst (λ (vs : List Work). own x.bounds x.order x.inner.end (own_of x.inner.depth_left r.type) (works x.bounds x.order (rest_of answer x r.ws) vs) (x.offset + n) c ≡ answer.to c) d (r.same c))
+  -- the same, where its type is known
+  ready_at : (t : TypeTree) (d : ℕ) → r.type ≡ t → x.inner.depth_left ≡ d → (c : List ℕ) → own x.bounds x.order x.inner.end (own_of t d) (works x.bounds x.order (rest_of answer x r.ws) (opened_by t d x.inner.end)) (x.offset + n) c ≡ answer.to c
+  ready_at t d e f c =
+      subst (λ (u : TypeTree). own x.bounds x.order x.inner.end (own_of u d) (works x.bounds x.order (rest_of answer x r.ws) (opened_by u d x.inner.end)) (x.offset + n) c ≡ answer.to c) e
+      (subst (λ (k : ℕ). own x.bounds x.order x.inner.end (own_of r.type k) (works x.bounds x.order (rest_of answer x r.ws) (opened_by r.type k x.inner.end)) (x.offset + n) c ≡ answer.to c) f (r.same c))
 
   -- further by at least one byte
   further : (q : ℕ) → x.offset < q → q ≤ x.inner.end → HasFrames q (record x { offset = q }) r.ws
@@ -142,20 +108,19 @@ module _ (x : Values) (pos stop n : ℕ) (answer : Answer) (r : Ready x pos stop
     abbrev run : Reader ℕ
     run = number x.order (width ready_number.0) x.inner.end (number_row x.bounds.fds ready_number.0)
 
-    number_same : (c : List ℕ) → onward run (rest_of answer x r.ws) (x.offset + n) c ≡ answer.to c
-    number_same c = ready_as (AHead (ANumber ready_number.0)) [] (own_number x.inner.depth_left r.type ready_number.0 ready_number.1) (opened_number x.inner.depth_left x.inner.end r.type ready_number.0 ready_number.1) c
+    number_same : (c : List ℕ) → after (onward run done (x.offset + n) c) (λ z. rest_of answer x r.ws) ≡ answer.to c
+    number_same c = after_after (run (x.offset + n) c) (λ z. done) (λ z. rest_of answer x r.ws) ∙ ready_at (NumberType ready_number.0) x.inner.depth_left ready_number.1 refl c
 
     pub number_goes : (s : List ℕ) (w : ℕ) → Fronts (λ (m : ℕ). (tt, m)) (x.offset + n) s (Ok w) (onward run done) → 0 < w → x.offset + n + w ≤ x.inner.end → Goes (record x { offset = x.offset + n + w }) (after_piece answer (take w s))
     number_goes s w h some fits = record {
       ws = r.ws;
       frames = further (x.offset + n + w) (omega arith) fits;
       noted = r.noted;
-      same = λ c. sym (onto run (rest_of answer x r.ws) (x.offset + n) (x.offset + n + w) (take w s ++ c) c (h.1 c)) ∙ number_same (take w s ++ c);
+      same = front_taken (λ (m : ℕ). (tt, m)) (x.offset + n) s (onward run done) (λ z. rest_of answer x r.ws) answer.to number_same w h;
     }
 
     pub number_stops : (s : List ℕ) (e : Stop) → Fronts (λ (m : ℕ). (tt, m)) (x.offset + n) s (Err e) (onward run done) → Moves x s (Err e) x answer
-    number_stops s stops.Partial h = (refl, sym (number_same s) ∙ onto_partial run (rest_of answer x r.ws) (x.offset + n) s h)
-    number_stops s (stops.Refused f) h = λ c. sym (number_same (s ++ c)) ∙ onto_faulty run (rest_of answer x r.ws) (x.offset + n) (s ++ c) f (h c)
+    number_stops s e h = front_stops (λ (m : ℕ). (tt, m)) (x.offset + n) s (onward run done) (λ z. rest_of answer x r.ws) answer.to number_same x answer.last e h
 
   -- ---- a struct or an entry
 
@@ -171,85 +136,88 @@ module _ (x : Values) (pos stop n : ℕ) (answer : Answer) (r : Ready x pos stop
     abbrev z : Values
     z = record x { offset = x.offset + n }
 
-    parts_wanted : (ts : TypeTrees) → slice x.text.items (pos + 1) (stop - 1) ≡ sigs ts → AreShaped ts → 0 < length (sigs ts) → (pos + 1 + length (sigs ts) ≡ stop - 1) → suc (length x.frames.items) + 2 * inner ≤ 128 → inner ≤ x.inner.depth_left
-        → ((c : List ℕ) → work x.bounds x.order (Parts inner x.inner.end ts) (rest_of answer x r.ws) (x.offset + n) c ≡ answer.to c)
-        → Enters x pos stop n inner answer
-    parts_wanted ts types complete some size count less same y p q q_is =
-        let i = inner_of x (suc x.offset) r.ws r.frames in
-        let w : Work = Parts inner x.inner.end ts in
-        let framed : Framed (suc (x.offset + n)) (x.offset + n) (length x.text.items) (suc (length x.frames.items)) x.text.items f w = record {
-          low_is = r.fits;
-          high_is = i.high;
-          stop_is = (let a = r.stop_is in omega arith);
-          pos_is = omega arith;
-          count_is = omega arith;
-          room_is = (let a = i.depth_left in omega arith);
-          is = record { parts = refl; room_is = refl; end_is = refl; types = types; complete = complete };
-        } in
-        let frames = pushed_frames z y f (suc (x.offset + n)) w r.ws p arrived framed (omega arith) (omega arith) in
-        let at : y.offset ≡ x.offset + n = p.offset in
-        let in_pos : y.inner.pos ≡ pos + 1 = ap (λ (g : Frame). g.pos) p.inner in
-        let in_stop : y.inner.stop ≡ stop - 1 = ap (λ (g : Frame). g.stop) p.inner in
-        let size_is : length y.text.items ≡ length x.text.items = ap length p.text in
-        next_part_at y answer (w ∷ r.ws) q q_is (subst (λ (k : ℕ). HasFrames (suc k) y (w ∷ r.ws)) (sym at) frames)
-        (pushed_notes z y f p r.noted (part_noted x.text.items x.lengths.items pos stop (pos + 1) (stop - 1) r.type_noted (omega arith) (omega arith)))
-        (λ c. subst (λ (k : ℕ). works y.bounds y.order answer.last (w ∷ r.ws) k c ≡ answer.to c) (sym at) (works_as y.bounds x.bounds y.order x.order p.bounds p.order answer.last (w ∷ r.ws) (x.offset + n) c (answer.to c) (same c)))
-        (ap (λ (g : Frame). g.array) p.inner) (omega arith) (let a = i.high in let b = r.stop_is in omega arith)
+    -- what stands within the brackets, and that there is room for its frame
+    pub record Within (ts : TypeTrees) : Type 0 where
+      types : slice x.text.items (pos + 1) (stop - 1) ≡ sigs ts
+      complete : AreShaped ts
+      some : 0 < length (sigs ts)
+      size : pos + 1 + length (sigs ts) ≡ stop - 1
+      count : suc (length x.frames.items) + 2 * inner ≤ 128
+      less : inner ≤ x.inner.depth_left
+      same : (c : List ℕ) → work x.bounds x.order (Parts inner x.inner.end ts) (rest_of answer x r.ws) (x.offset + n) c ≡ answer.to c
 
-    -- a struct
-    pub struct_opens : code ≡ 40 → x.inner.depth_left ≡ suc inner → Enters x pos stop n inner answer
-    struct_opens is depth_left =
+    within_struct : code ≡ 40 → x.inner.depth_left ≡ suc inner → (ts : TypeTrees) × Within ts
+    within_struct is depth_left =
         let u = struct_of r.type (ready_first ∙ is) in
-        let text : slice x.text.items pos stop ≡ 40 ∷ (sigs u.0 ++ 41 ∷ []) = r.text ∙ ap sig u.1 in
         let i = inner_of x (suc x.offset) r.ws r.frames in
-        let inside = slice_inner x.text.items pos stop 40 41 (sigs u.0) r.pos_is ready_offset.3 text in
-        parts_wanted u.0 inside.0 (struct_complete x.inner.array r.type u.0 u.1 r.complete) (parts_some x.inner.array r.type u.0 u.1 r.complete) inside.1 (let a = i.count in omega arith) (omega arith)
-        (ready_as Opened (Parts inner x.inner.end u.0 ∷ []) (own_struct x.inner.depth_left inner r.type u.0 u.1 depth_left) (opened_struct x.inner.depth_left inner x.inner.end r.type u.0 u.1 depth_left))
+        let inside = slice_inner x.text.items pos stop 40 41 (sigs u.0) r.pos_is ready_offset.3 (r.text ∙ ap sig u.1) in (
+          u.0,
+          record {
+            types = inside.0;
+            complete = struct_complete x.inner.array r.type u.0 u.1 r.complete;
+            some = parts_some x.inner.array r.type u.0 u.1 r.complete;
+            size = inside.1;
+            count = (let a = i.count in omega arith);
+            less = omega arith;
+            same = ready_at (StructType u.0) (suc inner) u.1 depth_left;
+          },
+        )
 
-    -- an entry, which takes no room
-    pub entry_opens : code ≡ 123 → inner ≡ x.inner.depth_left → Enters x pos stop n inner answer
-    entry_opens is depth_left =
+    -- an entry takes no room
+    within_entry : code ≡ 123 → x.inner.depth_left ≡ inner → (ts : TypeTrees) × Within ts
+    within_entry is depth_left =
         let u = entry_of r.type (ready_first ∙ is) in
         let ts : TypeTrees = MoreTypes u.0 (MoreTypes u.1.0 NoTypes) in
-        let text : slice x.text.items pos stop ≡ 123 ∷ (sigs ts ++ 125 ∷ []) = r.text ∙ ap sig u.1.1 ∙ entry_text u.0 u.1.0 in
         let i = inner_of x (suc x.offset) r.ws r.frames in
-        let inside = slice_inner x.text.items pos stop 123 125 (sigs ts) r.pos_is ready_offset.3 text in
+        let inside = slice_inner x.text.items pos stop 123 125 (sigs ts) r.pos_is ready_offset.3 (r.text ∙ ap sig u.1.1 ∙ entry_text u.0 u.1.0) in
         let c = entry_complete x.inner.array r.type u.0 u.1.0 u.1.1 r.complete in
-        let one : extra x.inner.array ≡ 1 = ap extra c.0 in
-        parts_wanted ts inside.0 c.1 (sigs_some u.0 (MoreTypes u.1.0 NoTypes)) inside.1 (let a = i.count in omega arith) (omega arith)
-        (subst (λ (k : ℕ). (c : List ℕ) → work x.bounds x.order (Parts k x.inner.end ts) (rest_of answer x r.ws) (x.offset + n) c ≡ answer.to c) (sym depth_left)
-        (ready_as Opened (Parts x.inner.depth_left x.inner.end ts ∷ []) (own_entry x.inner.depth_left r.type u.0 u.1.0 u.1.1) (opened_entry x.inner.depth_left x.inner.end r.type u.0 u.1.0 u.1.1)))
+        let one : extra x.inner.array ≡ 1 = ap extra c.0 in (
+          ts,
+          record {
+            types = inside.0;
+            complete = c.1;
+            some = sigs_some u.0 (MoreTypes u.1.0 NoTypes);
+            size = inside.1;
+            count = (let a = i.count in omega arith);
+            less = omega arith;
+            same = ready_at (EntryType u.0 u.1.0) inner u.1.1 depth_left;
+          },
+        )
+
+    bracket_of : ((code ≡ 40) × (x.inner.depth_left ≡ suc inner)) ⊎ ((code ≡ 123) × (x.inner.depth_left ≡ inner)) → (ts : TypeTrees) × Within ts
+    bracket_of h = elim h [ inl h ↦ within_struct h.0 h.1 | inr h ↦ within_entry h.0 h.1 ]
+
+    module _ (h : ((code ≡ 40) × (x.inner.depth_left ≡ suc inner)) ⊎ ((code ≡ 123) × (x.inner.depth_left ≡ inner))) where
+      pub bracket_fits : (length x.frames.items < 128) × (pos + 1 < stop - 1)
+      bracket_fits = let b = (bracket_of h).1 in (omega arith, omega arith)
+
+      pub bracket_opens : Enters x pos stop n inner answer
+      bracket_opens y p q q_is =
+          let b = (bracket_of h).1 in
+          let i = inner_of x (suc x.offset) r.ws r.frames in
+          let w : Work = Parts inner x.inner.end (bracket_of h).0 in
+          let framed : Framed (suc (x.offset + n)) (x.offset + n) (length x.text.items) (suc (length x.frames.items)) x.text.items f w = record {
+            low_is = r.fits;
+            high_is = i.high;
+            stop_is = (let a = r.stop_is in omega arith);
+            pos_is = (let s = b.some in let z = b.size in omega arith);
+            count_is = (let k = b.count in omega arith);
+            room_is = (let a = i.depth_left in let l = b.less in omega arith);
+            is = record { parts = refl; room_is = refl; end_is = refl; types = b.types; complete = b.complete };
+          } in
+          let frames = pushed_frames z y f (suc (x.offset + n)) w r.ws p arrived framed (omega arith) (omega arith) in
+          let at : y.offset ≡ x.offset + n = p.offset in
+          let in_pos : y.inner.pos ≡ pos + 1 = ap (λ (g : Frame). g.pos) p.inner in
+          let in_stop : y.inner.stop ≡ stop - 1 = ap (λ (g : Frame). g.stop) p.inner in
+          let size_is : length y.text.items ≡ length x.text.items = ap length p.text in
+          next_part_at y answer (w ∷ r.ws) q q_is (subst (λ (k : ℕ). HasFrames (suc k) y (w ∷ r.ws)) (sym at) frames)
+          (pushed_notes z y f p r.noted (part_noted x.text.items x.lengths.items pos stop (pos + 1) (stop - 1) r.type_noted (omega arith) (omega arith)))
+          (λ c. subst (λ (k : ℕ). works y.bounds y.order answer.last (w ∷ r.ws) k c ≡ answer.to c) (sym at) (works_as y.bounds x.bounds y.order x.order p.bounds p.order answer.last (w ∷ r.ws) (x.offset + n) c (answer.to c) (b.same c)))
+          (ap (λ (g : Frame). g.array) p.inner) (let s = b.some in let z = b.size in omega arith) (let a = i.high in let b = r.stop_is in omega arith)
 
   -- no room is left
   pub deep_struct : code ≡ 40 → x.inner.depth_left ≡ 0 → (c : List ℕ) → answer.to c ≡ Faulty (fault (x.offset + n) reasons.TooDeep)
-  deep_struct is depth_left c =
-      let u = struct_of r.type (ready_first ∙ is) in
-      sym (ready_as Closed [] (own_deep_struct x.inner.depth_left r.type u.0 u.1 depth_left) (opened_deep_struct x.inner.depth_left x.inner.end r.type u.0 u.1 depth_left) c)
-
-  -- there is room for a struct's frame and for an entry's
-  pub bracket_fits : (code ≡ 40) × (0 < x.inner.depth_left) ⊎ (code ≡ 123) → (length x.frames.items < 128) × (pos + 1 < stop - 1) × (1 ≤ stop)
-  bracket_fits h = elim h [
-    | inl h ↦
-        let u = struct_of r.type (ready_first ∙ h.0) in
-        let text : slice x.text.items pos stop ≡ 40 ∷ (sigs u.0 ++ 41 ∷ []) = r.text ∙ ap sig u.1 in
-        let i = inner_of x (suc x.offset) r.ws r.frames in
-        let inside = slice_inner x.text.items pos stop 40 41 (sigs u.0) r.pos_is ready_offset.3 text in
-        let size = inside.1 in
-        let some = h.1 in
-        let parts = parts_some x.inner.array r.type u.0 u.1 r.complete in
-        ((let a = i.count in omega arith), omega arith, omega arith)
-    | inr h ↦
-        let u = entry_of r.type (ready_first ∙ h) in
-        let ts : TypeTrees = MoreTypes u.0 (MoreTypes u.1.0 NoTypes) in
-        let text : slice x.text.items pos stop ≡ 123 ∷ (sigs ts ++ 125 ∷ []) = r.text ∙ ap sig u.1.1 ∙ entry_text u.0 u.1.0 in
-        let i = inner_of x (suc x.offset) r.ws r.frames in
-        let inside = slice_inner x.text.items pos stop 123 125 (sigs ts) r.pos_is ready_offset.3 text in
-        let size = inside.1 in
-        let c = entry_complete x.inner.array r.type u.0 u.1.0 u.1.1 r.complete in
-        let one : extra x.inner.array ≡ 1 = ap extra c.0 in
-        let parts = sigs_some u.0 (MoreTypes u.1.0 NoTypes) in
-        ((let a = i.count in omega arith), omega arith, omega arith)
-  ]
+  deep_struct is depth_left c = let u = struct_of r.type (ready_first ∙ is) in sym (ready_at (StructType u.0) 0 u.1 depth_left c)
 
   -- ---- an array
 
@@ -278,7 +246,7 @@ module _ (x : Values) (pos stop n : ℕ) (answer : Answer) (r : Ready x pos stop
         sym h ∙ e
 
     pub deep_array : x.inner.depth_left ≡ 0 → (c : List ℕ) → answer.to c ≡ Faulty (fault (x.offset + n) reasons.TooDeep)
-    deep_array depth_left c = sym (ready_as Closed [] (own_deep_array x.inner.depth_left r.type ready_array.0 ready_array.1 depth_left) (opened_array x.inner.depth_left x.inner.end r.type ready_array.0 ready_array.1) c)
+    deep_array depth_left c = sym (ready_at (ArrayType ready_array.0) 0 ready_array.1 depth_left c)
 
     module _ (inner : ℕ) (depth_left : x.inner.depth_left ≡ suc inner) where
       abbrev frame : Reader ℕ
@@ -292,11 +260,10 @@ module _ (x : Values) (pos stop n : ℕ) (answer : Answer) (r : Ready x pos stop
       array_same c =
           after_after (number x.order 4 x.inner.end (array_row x.bounds ready_array.0 x.inner.end) (x.offset + n) c) _ fill
           ∙ after_same (number x.order 4 x.inner.end (array_row x.bounds ready_array.0 x.inner.end) (x.offset + n) c) _ _ (λ size p u. after_after (padding (alignment_of ready_array.0) x.inner.end p u) _ fill)
-          ∙ ready_as (AHead (AnArray inner ready_array.0)) [] (own_array x.inner.depth_left inner r.type ready_array.0 ready_array.1 depth_left) (opened_array x.inner.depth_left x.inner.end r.type ready_array.0 ready_array.1) c
+          ∙ ready_at (ArrayType ready_array.0) (suc inner) ready_array.1 depth_left c
 
       pub array_stops : (s : List ℕ) (e : Stop) → Fronts (λ (m : ℕ × ℕ). m) (x.offset + n) s (Err e) frame → Moves x s (Err e) x answer
-      array_stops s stops.Partial h = (refl, front_waits (λ (m : ℕ × ℕ). m) (x.offset + n) s frame fill answer.to array_same h)
-      array_stops s (stops.Refused f) h = front_refused (λ (m : ℕ × ℕ). m) (x.offset + n) s frame fill answer.to array_same f h
+      array_stops s e h = front_stops (λ (m : ℕ × ℕ). m) (x.offset + n) s frame fill answer.to array_same x answer.last e h
 
       pub array_goes : (y : Values) (s : List ℕ) (size k : ℕ) → Fronts (λ (m : ℕ × ℕ). m) (x.offset + n) s (Ok (size, k)) frame → 4 ≤ k → x.offset + n + k + size ≤ x.inner.end
           → Pushed (record x { offset = x.offset + n + k }) y (record { array = true; pos = pos + 1; stop = stop; top = x.inner.top; end = x.offset + n + k + size; depth_left = inner })
@@ -343,11 +310,10 @@ module _ (x : Values) (pos stop n : ℕ) (answer : Answer) (r : Ready x pos stop
     lettered size p u = after (text (kind_of ready_text.0) size p u) (λ t. onward nul (rest_of answer x r.ws))
 
     sized_same : (c : List ℕ) → after (sized (x.offset + n) c) lettered ≡ answer.to c
-    sized_same c = ready_as (AHead (ALength ready_text.0)) [] (own_text x.inner.depth_left r.type ready_text.0 ready_text.1) (opened_text x.inner.depth_left x.inner.end r.type ready_text.0 ready_text.1) c
+    sized_same c = ready_at (TextType ready_text.0) x.inner.depth_left ready_text.1 refl c
 
     pub text_stops : (s : List ℕ) (e : Stop) → Fronts (λ (m : ℕ × ℕ). m) (x.offset + n) s (Err e) sized → Moves x s (Err e) x answer
-    text_stops s stops.Partial h = (refl, front_waits (λ (m : ℕ × ℕ). m) (x.offset + n) s sized lettered answer.to sized_same h)
-    text_stops s (stops.Refused f) h = front_refused (λ (m : ℕ × ℕ). m) (x.offset + n) s sized lettered answer.to sized_same f h
+    text_stops s e h = front_stops (λ (m : ℕ × ℕ). m) (x.offset + n) s sized lettered answer.to sized_same x answer.last e h
 
     pub text_starts : (scan : TextScan) (s : List ℕ) (size k : ℕ) → Fronts (λ (m : ℕ × ℕ). m) (x.offset + n) s (Ok (size, k)) sized → 0 < k → x.offset + n + k + size + 1 ≤ x.inner.end
         → Of (scans.kind_of scan) ≡ kind_of ready_text.0 → Stands scan [] → Texts (record x { offset = x.offset + n + k; scan = scan }) code size (after_piece answer (take k s))

@@ -88,19 +88,19 @@ unfolding value
 value_items bounds order zero end t o s = refl
 value_items bounds order (suc depth_left) end t o s = refl
 
-number_begins : (bounds : Bounds) (order : Order) (depth_left end : ℕ) (k : NumberCode) (o : ℕ) (s : List ℕ) (next : On) → after (items bounds order depth_left (inside bounds order depth_left) end (NumberType k) o s) (λ x. next) ≡ after (padding (width k) end o s) (λ x. own bounds order end (own_of depth_left (NumberType k)) next)
+number_begins : (bounds : Bounds) (order : Order) (depth_left end : ℕ) (k : NumberCode) (o : ℕ) (s : List ℕ) (next : On) → after (items bounds order depth_left (inside bounds order depth_left) end (NumberType k) o s) (λ x. next) ≡ after (padding (width k) end o s) (λ x. own bounds order end (own_of (NumberType k) depth_left) next)
 number_begins bounds order depth_left end k o s next =
     bound (padding (width k) end) _ next o s
     ∙ after_same (padding (width k) end o s) _ _ (λ x p u. bound (number order (width k) end (number_row bounds.fds k)) _ next p u)
 
-text_begins : (bounds : Bounds) (order : Order) (depth_left end : ℕ) (k : TextCode) (o : ℕ) (s : List ℕ) (next : On) → after (items bounds order depth_left (inside bounds order depth_left) end (TextType k) o s) (λ x. next) ≡ after (padding (length_width k) end o s) (λ x. own bounds order end (own_of depth_left (TextType k)) next)
+text_begins : (bounds : Bounds) (order : Order) (depth_left end : ℕ) (k : TextCode) (o : ℕ) (s : List ℕ) (next : On) → after (items bounds order depth_left (inside bounds order depth_left) end (TextType k) o s) (λ x. next) ≡ after (padding (length_width k) end o s) (λ x. own bounds order end (own_of (TextType k) depth_left) next)
 text_begins bounds order depth_left end k o s next =
     bound (padding (length_width k) end) _ next o s
     ∙ after_same (padding (length_width k) end o s) _ _ (λ x p u. bound (number order (length_width k) end (text_row end)) _ next p u
     ∙ after_same (number order (length_width k) end (text_row end) p u) _ _ (λ n q v. bound (text (kind_of k) n) _ next q v
     ∙ after_same (text (kind_of k) n q v) _ _ (λ t q v. bound nul _ next q v)))
 
-array_begins : (bounds : Bounds) (order : Order) (depth_left end : ℕ) (t : TypeTree) (o : ℕ) (s : List ℕ) (next : On) → after (items bounds order depth_left (inside bounds order depth_left) end (ArrayType t) o s) (λ x. next) ≡ after (padding 4 end o s) (λ x. own bounds order end (own_of depth_left (ArrayType t)) next)
+array_begins : (bounds : Bounds) (order : Order) (depth_left end : ℕ) (t : TypeTree) (o : ℕ) (s : List ℕ) (next : On) → after (items bounds order depth_left (inside bounds order depth_left) end (ArrayType t) o s) (λ x. next) ≡ after (padding 4 end o s) (λ x. own bounds order end (own_of (ArrayType t) depth_left) next)
 array_begins bounds order zero end t o s next = bound (padding 4 end) _ next o s
 array_begins bounds order (suc inner) end t o s next =
     bound (padding 4 end) _ next o s
@@ -109,7 +109,7 @@ array_begins bounds order (suc inner) end t o s next =
     ∙ after_same (padding (alignment_of t) end q v) _ _ (λ x q v. bound (contents n (λ e before. value bounds order inner e t)) _ next q v
     ∙ elements_up_to n (q + n) (value bounds order inner (q + n) t) [] next q v)))
 
-struct_begins : (bounds : Bounds) (order : Order) (depth_left end : ℕ) (ts : TypeTrees) (o : ℕ) (s : List ℕ) (next : On) → after (items bounds order depth_left (inside bounds order depth_left) end (StructType ts) o s) (λ x. next) ≡ after (padding 8 end o s) (λ x. own bounds order end (own_of depth_left (StructType ts)) (works bounds order next (opened_by depth_left end (StructType ts))))
+struct_begins : (bounds : Bounds) (order : Order) (depth_left end : ℕ) (ts : TypeTrees) (o : ℕ) (s : List ℕ) (next : On) → after (items bounds order depth_left (inside bounds order depth_left) end (StructType ts) o s) (λ x. next) ≡ after (padding 8 end o s) (λ x. own bounds order end (own_of (StructType ts) depth_left) (works bounds order next (opened_by (StructType ts) depth_left end)))
 struct_begins bounds order zero end ts o s next = bound (padding 8 end) _ next o s
 struct_begins bounds order (suc inner) end ts o s next =
     bound (padding 8 end) _ next o s
@@ -146,23 +146,22 @@ signature_begins bounds order inner end n o s next =
     ∙ after_after (text (Of kinds.Single) n o s) (λ t. Done (type_spelled t)) (λ held o s. after (held_value bounds order inner end held o s) (λ v. next))
     ∙ after_same (text (Of kinds.Single) n o s) _ _ (λ t q v. held_begins bounds order inner end (type_spelled t) q v next)
 
-variant_begins_at : (bounds : Bounds) (order : Order) (depth_left end : ℕ) (o : ℕ) (s : List ℕ) (next : On) → after (items bounds order depth_left (inside bounds order depth_left) end VariantType o s) (λ x. next) ≡ own bounds order end (own_of depth_left VariantType) next o s
+variant_begins_at : (bounds : Bounds) (order : Order) (depth_left end : ℕ) (o : ℕ) (s : List ℕ) (next : On) → after (items bounds order depth_left (inside bounds order depth_left) end VariantType o s) (λ x. next) ≡ own bounds order end (own_of VariantType depth_left) next o s
 variant_begins_at bounds order zero end o s next = refl
 variant_begins_at bounds order (suc inner) end o s next =
     bound (number order 1 end (text_row end)) _ next o s
     ∙ after_same (number order 1 end (text_row end) o s) _ _ (λ n p u. signature_begins bounds order inner end n p u next)
 
 -- The law of a value: it begins with its padding, or is a variant, and goes on with its own item and the containers that it opens.
-pub value_begins : (bounds : Bounds) (order : Order) (depth_left end : ℕ) (t : TypeTree) (o : ℕ) (s : List ℕ) (next : On) → (t ≡ VariantType → ⊥) → onward (value bounds order depth_left end t) next o s ≡ after (padding (alignment_of t) end o s) (λ x. own bounds order end (own_of depth_left t) (works bounds order next (opened_by depth_left end t)))
+pub value_begins : (bounds : Bounds) (order : Order) (depth_left end : ℕ) (t : TypeTree) (o : ℕ) (s : List ℕ) (next : On) → (t ≡ VariantType → ⊥) → onward (value bounds order depth_left end t) next o s ≡ after (padding (alignment_of t) end o s) (λ x. own bounds order end (own_of t depth_left) (works bounds order next (opened_by t depth_left end)))
 value_begins bounds order depth_left end (NumberType k) o s next h = ap (λ (r : Outcome ValueTree). after r (λ x. next)) (value_items bounds order depth_left end (NumberType k) o s) ∙ number_begins bounds order depth_left end k o s next
 value_begins bounds order depth_left end (TextType k) o s next h = ap (λ (r : Outcome ValueTree). after r (λ x. next)) (value_items bounds order depth_left end (TextType k) o s) ∙ text_begins bounds order depth_left end k o s next
 value_begins bounds order depth_left end VariantType o s next h = absurd (h refl)
 value_begins bounds order depth_left end (ArrayType t) o s next h = ap (λ (r : Outcome ValueTree). after r (λ x. next)) (value_items bounds order depth_left end (ArrayType t) o s) ∙ array_begins bounds order depth_left end t o s next
-value_begins bounds order zero end (StructType ts) o s next h = ap (λ (r : Outcome ValueTree). after r (λ x. next)) (value_items bounds order zero end (StructType ts) o s) ∙ struct_begins bounds order zero end ts o s next
-value_begins bounds order (suc depth_left) end (StructType ts) o s next h = ap (λ (r : Outcome ValueTree). after r (λ x. next)) (value_items bounds order (suc depth_left) end (StructType ts) o s) ∙ struct_begins bounds order (suc depth_left) end ts o s next
+value_begins bounds order depth_left end (StructType ts) o s next h = ap (λ (r : Outcome ValueTree). after r (λ x. next)) (value_items bounds order depth_left end (StructType ts) o s) ∙ struct_begins bounds order depth_left end ts o s next
 value_begins bounds order depth_left end (EntryType k v) o s next h = ap (λ (r : Outcome ValueTree). after r (λ x. next)) (value_items bounds order depth_left end (EntryType k v) o s) ∙ entry_begins bounds order depth_left end k v o s next
 
-pub variant_begins : (bounds : Bounds) (order : Order) (depth_left end : ℕ) (o : ℕ) (s : List ℕ) (next : On) → onward (value bounds order depth_left end VariantType) next o s ≡ own bounds order end (own_of depth_left VariantType) next o s
+pub variant_begins : (bounds : Bounds) (order : Order) (depth_left end : ℕ) (o : ℕ) (s : List ℕ) (next : On) → onward (value bounds order depth_left end VariantType) next o s ≡ own bounds order end (own_of VariantType depth_left) next o s
 variant_begins bounds order depth_left end o s next = ap (λ (r : Outcome ValueTree). after r (λ x. next)) (value_items bounds order depth_left end VariantType o s) ∙ variant_begins_at bounds order depth_left end o s next
 
 -- ---- a number

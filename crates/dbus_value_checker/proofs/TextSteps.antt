@@ -16,10 +16,9 @@ use Rattle.dbus_value_checker.specs.declared.values.Doing.{Doing}
 use Rattle.dbus_value_checker.specs.Suspended.{onward, Work}
 use Rattle.dbus_value_checker.specs.Denotations.{Answer, rest_of, HasFrames, Goes, Texts, Nuls, after_piece}
 use Rattle.dbus_value_model.specs.declared.stop.Stop.{Stop}
-use Rattle.dbus_value_model.specs.declared.stop.Stop.TheVariants as stops
 use Rattle.dbus_value_checker.specs.Fronts.{Fronts}
 use Rattle.dbus_value_checker.specs.Moves.{Moves}
-use Rattle.dbus_value_checker.proofs.FrontSteps.{front_taken, front_waits, front_refused}
+use Rattle.dbus_value_checker.proofs.FrontSteps.{front_taken, front_stops}
 use Rattle.std.proofs.Common.{Ok, Err}
 use Rattle.dbus_value_checker.proofs.Suspension.{text_waits, text_breaks, text_ends, text_not}
 use Rattle.dbus_value_checker.proofs.FrameLaws.{frames_reach, frames_small, end_small, inner_of, within}
@@ -174,8 +173,7 @@ module _ (x : Values) (answer : Answer) (u : Nuls x answer) where
   }
 
   pub nuls_stops : (s : List ℕ) (e : Stop) → Fronts seen x.offset s (Err e) nul → Moves x s (Err e) x answer
-  nuls_stops s stops.Partial h = (refl, front_waits seen x.offset s nul (λ z. rest_of answer x u.ws) answer.to u.same h)
-  nuls_stops s (stops.Refused f) h = front_refused seen x.offset s nul (λ z. rest_of answer x u.ws) answer.to u.same f h
+  nuls_stops s e h = front_stops seen x.offset s nul (λ z. rest_of answer x u.ws) answer.to u.same x answer.last e h
 
   pub nuls_small : x.offset + 1 < 18446744073709551616
   nuls_small =

@@ -1,12 +1,11 @@
 -- Which type begins with a code, what a type opens, and which types are complete in it.
-use Rattle.std.proofs.Common.{◌≡◌, ℕ, zero, suc, ◌<◌, List, [], ◌∷◌, ◌++◌, length, Bool, true, false, refl, sym, ap, subst, ◌∙◌, arith, append_assoc}
+use Rattle.std.proofs.Common.{◌≡◌, ℕ, ◌<◌, List, [], ◌∷◌, ◌++◌, length, Bool, true, false, refl, sym, ap, subst, ◌∙◌, arith, append_assoc}
 use Rattle.std.proofs.lemmas.List.{length-append, append-nil}
 use Rattle.std.specs.Prelude.{◌⊎◌}
 use Rattle.std.proofs.Common.{inl, inr}
 use Rattle.dbus_texts.specs.Types.{NumberCode, TextCode, STRING, OBJECT_PATH, SIGNATURE, TypeTree, NumberType, TextType, VariantType, ArrayType, StructType, EntryType, TypeTrees, NoTypes, MoreTypes, sig, sigs, IsShaped, AreShaped}
 use Rattle.dbus_types.specs.SignatureCodes.{first_code}
 use Rattle.dbus_types.proofs.TypeCodes.{begins, code_is, array_is, struct_is, entry_is, entry_shaped, text_is}
-use Rattle.dbus_value_checker.specs.Suspended.{Parts, ANumber, ALength, AnArray, own_of, opened_by, Opened, Closed, AHead}
 
 -- ---- which type begins with the code of a container, of a text, of a number
 
@@ -34,48 +33,7 @@ number_type (ArrayType u) c e n1 n2 n3 n4 n5 n6 n7 = absurd (n1 (sym e))
 number_type (StructType ts) c e n1 n2 n3 n4 n5 n6 n7 = absurd (n2 (sym e))
 number_type (EntryType k v) c e n1 n2 n3 n4 n5 n6 n7 = absurd (n3 (sym e))
 
--- ---- what is opened, and which types are complete
-
-pub own_text : (depth_left : ℕ) (t : TypeTree) (k : TextCode) → t ≡ TextType k → own_of depth_left t ≡ AHead (ALength k)
-own_text zero t k e = rw e refl
-own_text (suc depth_left) t k e = rw e refl
-
-pub opened_text : (depth_left end : ℕ) (t : TypeTree) (k : TextCode) → t ≡ TextType k → opened_by depth_left end t ≡ []
-opened_text zero end t k e = rw e refl
-opened_text (suc depth_left) end t k e = rw e refl
-
-pub own_number : (depth_left : ℕ) (t : TypeTree) (k : NumberCode) → t ≡ NumberType k → own_of depth_left t ≡ AHead (ANumber k)
-own_number zero t k e = rw e refl
-own_number (suc depth_left) t k e = rw e refl
-
-pub opened_number : (depth_left end : ℕ) (t : TypeTree) (k : NumberCode) → t ≡ NumberType k → opened_by depth_left end t ≡ []
-opened_number zero end t k e = rw e refl
-opened_number (suc depth_left) end t k e = rw e refl
-
-pub own_array : (depth_left inner : ℕ) (t u : TypeTree) → t ≡ ArrayType u → depth_left ≡ suc inner → own_of depth_left t ≡ AHead (AnArray inner u)
-own_array depth_left inner t u e d = rw (e, d) refl
-
-pub own_deep_array : (depth_left : ℕ) (t u : TypeTree) → t ≡ ArrayType u → depth_left ≡ 0 → own_of depth_left t ≡ Closed
-own_deep_array depth_left t u e d = rw (e, d) refl
-
-pub own_deep_struct : (depth_left : ℕ) (t : TypeTree) (ts : TypeTrees) → t ≡ StructType ts → depth_left ≡ 0 → own_of depth_left t ≡ Closed
-own_deep_struct depth_left t ts e d = rw (e, d) refl
-
-pub own_struct : (depth_left inner : ℕ) (t : TypeTree) (ts : TypeTrees) → t ≡ StructType ts → depth_left ≡ suc inner → own_of depth_left t ≡ Opened
-own_struct depth_left inner t ts e d = rw (e, d) refl
-
-pub opened_array : (depth_left end : ℕ) (t u : TypeTree) → t ≡ ArrayType u → opened_by depth_left end t ≡ []
-opened_array depth_left end t u e = rw e (opened_nothing depth_left end u)
-  where
-    opened_nothing : (depth_left end : ℕ) (u : TypeTree) → opened_by depth_left end (ArrayType u) ≡ []
-    opened_nothing zero end u = refl
-    opened_nothing (suc depth_left) end u = refl
-
-pub opened_deep_struct : (depth_left end : ℕ) (t : TypeTree) (ts : TypeTrees) → t ≡ StructType ts → depth_left ≡ 0 → opened_by depth_left end t ≡ []
-opened_deep_struct depth_left end t ts e d = rw (e, d) refl
-
-pub opened_struct : (depth_left inner end : ℕ) (t : TypeTree) (ts : TypeTrees) → t ≡ StructType ts → depth_left ≡ suc inner → opened_by depth_left end t ≡ Parts inner end ts ∷ []
-opened_struct depth_left inner end t ts e d = rw (e, d) refl
+-- ---- which types are complete
 
 pub array_complete : (b : Bool) (t u : TypeTree) → t ≡ ArrayType u → IsShaped b t → IsShaped true u
 array_complete b t u e h = complete_inside b u (subst (λ (v : TypeTree). IsShaped b v) e h)
@@ -92,20 +50,6 @@ struct_complete b t ts e h = complete_parts b ts (subst (λ (v : TypeTree). IsSh
     complete_parts false NoTypes h = absurd h
     complete_parts true (MoreTypes t ts) h = h
     complete_parts false (MoreTypes t ts) h = h
-
-pub own_entry : (depth_left : ℕ) (t k v : TypeTree) → t ≡ EntryType k v → own_of depth_left t ≡ Opened
-own_entry depth_left t k v e = rw e (entry_opens depth_left k v)
-  where
-    entry_opens : (depth_left : ℕ) (k v : TypeTree) → own_of depth_left (EntryType k v) ≡ Opened
-    entry_opens zero k v = refl
-    entry_opens (suc depth_left) k v = refl
-
-pub opened_entry : (depth_left end : ℕ) (t k v : TypeTree) → t ≡ EntryType k v → opened_by depth_left end t ≡ Parts depth_left end (MoreTypes k (MoreTypes v NoTypes)) ∷ []
-opened_entry depth_left end t k v e = rw e (entry_opened depth_left end k v)
-  where
-    entry_opened : (depth_left end : ℕ) (k v : TypeTree) → opened_by depth_left end (EntryType k v) ≡ Parts depth_left end (MoreTypes k (MoreTypes v NoTypes)) ∷ []
-    entry_opened zero end k v = refl
-    entry_opened (suc depth_left) end k v = refl
 
 pub entry_text : (k v : TypeTree) → sig (EntryType k v) ≡ 123 ∷ (sigs (MoreTypes k (MoreTypes v NoTypes)) ++ 125 ∷ [])
 entry_text k v = simp (append_assoc, append-nil)

@@ -10,7 +10,6 @@ use Rattle.dbus_value_laws.proofs.KindLaws.{single_text}
 use Rattle.dbus_value_model.specs.WantedTexts.{Of}
 use Rattle.dbus_value_model.specs.declared.fault.Reason.TheVariants as reasons
 use Rattle.dbus_value_model.specs.declared.stop.Stop.{Stop}
-use Rattle.dbus_value_model.specs.declared.stop.Stop.TheVariants as stops
 use Rattle.dbus_value_model.specs.Items.{fault}
 use Rattle.dbus_value_model.specs.ValueItems.{text_row}
 use Rattle.dbus_value_model.specs.Reading.{Reader, Faulty, after, number, text, nul, value}
@@ -26,7 +25,7 @@ use Rattle.dbus_value_checker.proofs.FrameLaws.{frames_reach, inner_of, within}
 use Rattle.dbus_types.proofs.TypeCodes.{variant_is}
 use Rattle.dbus_types.specs.TypeLengths.{AreLengths}
 use Rattle.dbus_value_checker.proofs.Notes.{notes_same, after_noted, same_notes}
-use Rattle.dbus_value_checker.proofs.FrontSteps.{front_taken, front_waits, front_refused}
+use Rattle.dbus_value_checker.proofs.FrontSteps.{front_taken, front_stops}
 use Rattle.dbus_value_checker.proofs.PaddedValues.{code_first}
 
 -- ---- the signatures in use stay as they are
@@ -61,14 +60,14 @@ frames_same reach low high bottom a b (f ∷ fs) [] e h = absurd h
 -- ---- a variant that is wanted
 
 module _ (x : Values) (pos stop : ℕ) (answer : Answer) (w : Wants x pos stop answer) (there : get_or x.text.items pos 0 ≡ 118) where
-  variant_same : (c : List ℕ) → own x.bounds x.order x.inner.end (own_of x.inner.depth_left VariantType) (rest_of answer x w.ws) x.offset c ≡ answer.to c
+  variant_same : (c : List ℕ) → own x.bounds x.order x.inner.end (own_of VariantType x.inner.depth_left) (rest_of answer x w.ws) x.offset c ≡ answer.to c
   variant_same c =
       let e = variant_is w.type (code_first x pos stop answer w 118 there) in
       sym (variant_begins x.bounds x.order x.inner.depth_left x.inner.end x.offset c (rest_of answer x w.ws))
       ∙ subst (λ (t : TypeTree). onward (value x.bounds x.order x.inner.depth_left x.inner.end t) (rest_of answer x w.ws) x.offset c ≡ answer.to c) e (w.same c)
 
   pub variant_deep : x.inner.depth_left ≡ 0 → (c : List ℕ) → answer.to c ≡ Faulty (fault x.offset reasons.TooDeep)
-  variant_deep none c = sym (subst (λ (r : ℕ). own x.bounds x.order x.inner.end (own_of r VariantType) (rest_of answer x w.ws) x.offset c ≡ answer.to c) none (variant_same c))
+  variant_deep none c = sym (subst (λ (r : ℕ). own x.bounds x.order x.inner.end (own_of VariantType r) (rest_of answer x w.ws) x.offset c ≡ answer.to c) none (variant_same c))
 
   module _ (inner : ℕ) (depth_left : x.inner.depth_left ≡ suc inner) where
     abbrev read : Reader (List ℕ)
@@ -84,11 +83,10 @@ module _ (x : Values) (pos stop : ℕ) (answer : Answer) (w : Wants x pos stop a
         ∙ after_same (number x.order 1 x.inner.end (text_row x.inner.end) x.offset c) _ _ (λ n p u.
         after_after (text (Of kinds.Single) n p u) _ held
         ∙ after_same (text (Of kinds.Single) n p u) _ _ (λ t q v. after_after (nul q v) _ held))
-        ∙ subst (λ (r : ℕ). own x.bounds x.order x.inner.end (own_of r VariantType) rest x.offset c ≡ answer.to c) depth_left (variant_same c)
+        ∙ subst (λ (r : ℕ). own x.bounds x.order x.inner.end (own_of VariantType r) rest x.offset c ≡ answer.to c) depth_left (variant_same c)
 
     pub variant_stops : (s : List ℕ) (e : Stop) → Fronts (λ (n : ℕ). (take n (drop 1 s), n + 2)) x.offset s (Err e) read → Moves x s (Err e) x answer
-    variant_stops s stops.Partial h = (refl, front_waits (λ (n : ℕ). (take n (drop 1 s), n + 2)) x.offset s read held answer.to held_same h)
-    variant_stops s (stops.Refused f) h = front_refused (λ (n : ℕ). (take n (drop 1 s), n + 2)) x.offset s read held answer.to held_same f h
+    variant_stops s e h = front_stops (λ (n : ℕ). (take n (drop 1 s), n + 2)) x.offset s read held answer.to held_same x answer.last e h
 
     module _ (s : List ℕ) (n : ℕ) (front : Fronts (λ (n : ℕ). (take n (drop 1 s), n + 2)) x.offset s (Ok n) read) (fits : x.offset + n + 2 ≤ x.inner.end) (kind : IsKind kinds.Single (take n (drop 1 s))) (size : length (take n (drop 1 s)) ≡ n) where
       t : List ℕ

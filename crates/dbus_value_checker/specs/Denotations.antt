@@ -65,7 +65,7 @@ pub record Ready (x : Values) (pos stop n : ℕ) (answer : Answer) : Type 0 wher
   pub pos_is : pos ≤ stop
   pub stop_is : stop ≤ x.inner.top
   pub fits : x.offset + n ≤ x.inner.end
-  pub same : (c : List ℕ) → own x.bounds x.order x.inner.end (own_of x.inner.depth_left type) (works x.bounds x.order (rest_of answer x ws) (opened_by x.inner.depth_left x.inner.end type)) (x.offset + n) c ≡ answer.to c
+  pub same : (c : List ℕ) → own x.bounds x.order x.inner.end (own_of type x.inner.depth_left) (works x.bounds x.order (rest_of answer x ws) (opened_by type x.inner.depth_left x.inner.end)) (x.offset + n) c ≡ answer.to c
 
 -- so many bytes of a text of a type are wanted
 pub record Texts (x : Values) (code left : ℕ) (answer : Answer) : Type 0 where

@@ -99,23 +99,23 @@ own bounds order end Opened next = next
 own bounds order end Closed next = λ o s. Faulty (fault o reasons.TooDeep)
 
 -- a value's
-abbrev pub own_of : ℕ → TypeTree → Own
-own_of depth_left (NumberType k) = AHead (ANumber k)
-own_of depth_left (TextType k) = AHead (ALength k)
-own_of zero VariantType = Closed
-own_of (suc inner) VariantType = AHead (AVariant inner)
-own_of zero (ArrayType t) = Closed
-own_of (suc inner) (ArrayType t) = AHead (AnArray inner t)
-own_of zero (StructType ts) = Closed
-own_of (suc inner) (StructType ts) = Opened
-own_of depth_left (EntryType k v) = Opened
+abbrev pub own_of : TypeTree → ℕ → Own
+own_of (NumberType k) depth_left = AHead (ANumber k)
+own_of (TextType k) depth_left = AHead (ALength k)
+own_of VariantType zero = Closed
+own_of VariantType (suc inner) = AHead (AVariant inner)
+own_of (ArrayType t) zero = Closed
+own_of (ArrayType t) (suc inner) = AHead (AnArray inner t)
+own_of (StructType ts) zero = Closed
+own_of (StructType ts) (suc inner) = Opened
+own_of (EntryType k v) depth_left = Opened
 
 -- the containers that it opens at once
-abbrev pub opened_by : ℕ → ℕ → TypeTree → List Work
-opened_by depth_left end (NumberType k) = []
-opened_by depth_left end (TextType k) = []
-opened_by depth_left end VariantType = []
-opened_by depth_left end (ArrayType t) = []
-opened_by zero end (StructType ts) = []
-opened_by (suc inner) end (StructType ts) = Parts inner end ts ∷ []
-opened_by depth_left end (EntryType k v) = Parts depth_left end (MoreTypes k (MoreTypes v NoTypes)) ∷ []
+abbrev pub opened_by : TypeTree → ℕ → ℕ → List Work
+opened_by (NumberType k) depth_left end = []
+opened_by (TextType k) depth_left end = []
+opened_by VariantType depth_left end = []
+opened_by (ArrayType t) depth_left end = []
+opened_by (StructType ts) zero end = []
+opened_by (StructType ts) (suc inner) end = Parts inner end ts ∷ []
+opened_by (EntryType k v) depth_left end = Parts depth_left end (MoreTypes k (MoreTypes v NoTypes)) ∷ []
