@@ -80,15 +80,7 @@ module _ (x : Values) (w : ℕ) (answer : Answer) (b : Numbers x w answer) where
       record {
         ws = Elements (b.turns - m) b.depth_left b.stop (NumberType b.code) ∷ b.ws;
         frames = (
-          record {
-            low_is = omega arith;
-            high_is = h.high_is;
-            stop_is = h.stop_is;
-            pos_is = h.pos_is;
-            count_is = h.count_is;
-            room_is = h.room_is;
-            is = record { elements = h.is.elements; room_is = h.is.room_is; end_is = h.is.end_is; type = h.is.type; complete = h.is.complete; turns_is = omega arith };
-          },
+          (let low : x.offset + n ≤ x.inner.end = omega arith in let turns_are : x.inner.end ≤ x.offset + n + (b.turns - m) = omega arith in assumption b.frames),
           frames_reach x.offset (x.offset + n) x.inner.end x.inner.top x.end x.text.items (reverse x.frames.items) b.ws (omega arith) b.frames.1,
         );
         noted = b.noted;

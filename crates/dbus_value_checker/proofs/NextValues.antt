@@ -39,15 +39,7 @@ next_element_at x answer (Elements (suc turns) depth_left end t ∷ ws) h noted 
       ws = Elements turns depth_left end t ∷ ws;
       type = t;
       frames = (
-        record {
-          low_is = h.0.low_is;
-          high_is = h.0.high_is;
-          stop_is = h.0.stop_is;
-          pos_is = h.0.pos_is;
-          count_is = h.0.count_is;
-          room_is = h.0.room_is;
-          is = record { elements = is.elements; room_is = is.room_is; end_is = is.end_is; type = is.type; complete = is.complete; turns_is = omega arith };
-        },
+        (let t : x.inner.end ≤ suc x.offset + turns = omega arith in assumption h),
         frames_reach x.offset (suc x.offset) x.inner.end x.inner.top x.end x.text.items (reverse x.frames.items) ws (omega arith) h.1,
       );
       noted = noted;
@@ -85,15 +77,7 @@ next_part_at x answer (Parts depth_left end (MoreTypes t ts) ∷ ws) q is h note
       ws = Parts depth_left end ts ∷ ws;
       type = t;
       frames = (
-        record {
-          low_is = h.0.low_is;
-          high_is = h.0.high_is;
-          stop_is = h.0.stop_is;
-          pos_is = omega arith;
-          count_is = h.0.count_is;
-          room_is = h.0.room_is;
-          is = record { parts = f.parts; room_is = f.room_is; end_is = f.end_is; types = subst (λ (p : ℕ). slice x.text.items p x.inner.stop ≡ sigs ts) (sym past) (slice_after x.text.items x.inner.pos x.inner.stop (sig t) (sigs ts) f.types); complete = f.complete.1 };
-        },
+        (let pos : q ≤ x.inner.stop = omega arith in let types = subst (λ (p : ℕ). slice x.text.items p x.inner.stop ≡ sigs ts) (sym past) (slice_after x.text.items x.inner.pos x.inner.stop (sig t) (sigs ts) f.types) in assumption h),
         h.1,
       );
       noted = (noted.0, (part_noted x.text.items x.lengths.items x.inner.pos x.inner.stop q x.inner.stop noted.1.0 (omega arith) (omega arith), noted.1.1));

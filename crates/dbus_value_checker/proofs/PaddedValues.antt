@@ -28,7 +28,7 @@ use Rattle.dbus_value_checker.specs.Moves.{Moves, Pushed, Enters}
 use Rattle.dbus_value_checker.proofs.Suspension.{works_as, value_begins, after_after, after_same}
 use Rattle.dbus_value_checker.proofs.FrontSteps.{front_taken, front_waits, front_refused, front_stops, take-both, split-at}
 use Rattle.dbus_value_checker.proofs.Slices.{slice_head, slice_room, slice_after, slice_inner}
-use Rattle.dbus_value_checker.proofs.FrameLaws.{frames_reach, frames_small, end_small, pushed_frames, inner_of, within}
+use Rattle.dbus_value_checker.proofs.FrameLaws.{frames_reach, end_small, pushed_frames, inner_of, within}
 use Rattle.dbus_value_checker.proofs.TypeCodes.{array_of, struct_of, entry_of, text_of, number_type, array_complete, struct_complete, entry_complete, entry_text, parts_some, sigs_some}
 use Rattle.dbus_value_checker.proofs.NextValues.{next_part_at}
 use Rattle.dbus_value_checker.proofs.Notes.{part_noted, pushed_notes}
@@ -39,11 +39,8 @@ module _ (x : Values) (pos stop : ℕ) (answer : Answer) (w : Wants x pos stop a
   pub code_first : first_code w.type ≡ code
   code_first = sym (slice_head x.text.items pos stop (first_code w.type) (after_code w.type) w.pos_is (w.text ∙ begins w.type)) ∙ there
 
-  wants_low : x.offset ≤ x.inner.end
+  pub wants_low : x.offset ≤ x.inner.end
   wants_low = (inner_of x (suc x.offset) w.ws w.frames).low
-
-  pub wants_offset : (x.offset ≤ x.inner.end) × (x.offset < 18446744073709551616) × (stop ≤ length x.text.items)
-  wants_offset = (wants_low, frames_small (suc x.offset) x.offset (length x.text.items) x.end x.text.items (x.inner ∷ reverse x.frames.items) w.ws w.frames, (let i = inner_of x (suc x.offset) w.ws w.frames in let a = i.high in let b = w.stop_is in omega arith))
 
   module _ (other : code ≡ 118 → ⊥) (a : ℕ) (a_is : (t : TypeTree) → first_code t ≡ code → a ≡ alignment_of t) where
     abbrev begun : Unit {0} → On
@@ -57,19 +54,25 @@ module _ (x : Values) (pos stop : ℕ) (answer : Answer) (w : Wants x pos stop a
         (sym (value_begins x.bounds x.order x.inner.depth_left x.inner.end w.type x.offset c (rest_of answer x w.ws) not_variant) ∙ w.same c)
 
     pub wants_ready : (s : List ℕ) (n : ℕ) → Fronts (λ (n : ℕ). (tt, n)) x.offset s (Ok n) (padding a x.inner.end) → x.offset + n ≤ x.inner.end → Ready x pos stop n (after_piece answer (take n s))
-    wants_ready s n h fits = record {
-      ws = w.ws;
-      type = w.type;
-      frames = w.frames;
-      noted = w.noted;
-      text = w.text;
-      type_noted = w.type_noted;
-      complete = w.complete;
-      pos_is = w.pos_is;
-      stop_is = w.stop_is;
-      fits = fits;
-      same = front_taken (λ (n : ℕ). (tt, n)) x.offset s (padding a x.inner.end) begun answer.to padded_same n h;
-    }
+    wants_ready s n h fits =
+        let i = inner_of x (suc x.offset) w.ws w.frames in
+        let near = end_small (suc x.offset) x.offset (length x.text.items) x.end x.text.items x.inner (reverse x.frames.items) w.ws w.frames in
+        let there : stop ≤ length x.text.items = (let a = i.high in let b = w.stop_is in omega arith) in
+        record {
+          ws = w.ws;
+          type = w.type;
+          frames = w.frames;
+          noted = w.noted;
+          text = w.text;
+          type_noted = w.type_noted;
+          complete = w.complete;
+          pos_is = w.pos_is;
+          stop_is = w.stop_is;
+          fits = fits;
+          near = near;
+          there = there;
+          same = front_taken (λ (n : ℕ). (tt, n)) x.offset s (padding a x.inner.end) begun answer.to padded_same n h;
+        }
 
     pub wants_stops : (s : List ℕ) (e : Stop) → Fronts (λ (n : ℕ). (tt, n)) x.offset s (Err e) (padding a x.inner.end) → Moves x s (Err e) x answer
     wants_stops s e h = front_stops (λ (n : ℕ). (tt, n)) x.offset s (padding a x.inner.end) begun answer.to padded_same x answer.last e h
@@ -79,11 +82,6 @@ module _ (x : Values) (pos stop : ℕ) (answer : Answer) (w : Wants x pos stop a
 module _ (x : Values) (pos stop n : ℕ) (answer : Answer) (r : Ready x pos stop n answer) (code : ℕ) (there : get_or x.text.items pos 0 ≡ code) where
   pub ready_first : first_code r.type ≡ code
   ready_first = sym (slice_head x.text.items pos stop (first_code r.type) (after_code r.type) r.pos_is (r.text ∙ begins r.type)) ∙ there
-
-  pub ready_offset : (x.offset ≤ x.inner.end) × (x.offset + n ≤ x.inner.end) × (x.inner.end < 18446744073709551616) × (stop ≤ length x.text.items)
-  ready_offset =
-      let i = inner_of x (suc x.offset) r.ws r.frames in
-      (i.low, r.fits, end_small (suc x.offset) x.offset (length x.text.items) x.end x.text.items x.inner (reverse x.frames.items) r.ws r.frames, (let a = i.high in let b = r.stop_is in omega arith))
 
   -- the same, where its type is known
   ready_at : (t : TypeTree) (d : ℕ) → r.type ≡ t → x.inner.depth_left ≡ d → (c : List ℕ) → own x.bounds x.order x.inner.end (own_of t d) (works x.bounds x.order (rest_of answer x r.ws) (opened_by t d x.inner.end)) (x.offset + n) c ≡ answer.to c
@@ -150,7 +148,7 @@ module _ (x : Values) (pos stop n : ℕ) (answer : Answer) (r : Ready x pos stop
     within_struct is depth_left =
         let u = struct_of r.type (ready_first ∙ is) in
         let i = inner_of x (suc x.offset) r.ws r.frames in
-        let inside = slice_inner x.text.items pos stop 40 41 (sigs u.0) r.pos_is ready_offset.3 (r.text ∙ ap sig u.1) in (
+        let inside = slice_inner x.text.items pos stop 40 41 (sigs u.0) r.pos_is r.there (r.text ∙ ap sig u.1) in (
           u.0,
           record {
             types = inside.0;
@@ -169,7 +167,7 @@ module _ (x : Values) (pos stop n : ℕ) (answer : Answer) (r : Ready x pos stop
         let u = entry_of r.type (ready_first ∙ is) in
         let ts : TypeTrees = MoreTypes u.0 (MoreTypes u.1.0 NoTypes) in
         let i = inner_of x (suc x.offset) r.ws r.frames in
-        let inside = slice_inner x.text.items pos stop 123 125 (sigs ts) r.pos_is ready_offset.3 (r.text ∙ ap sig u.1.1 ∙ entry_text u.0 u.1.0) in
+        let inside = slice_inner x.text.items pos stop 123 125 (sigs ts) r.pos_is r.there (r.text ∙ ap sig u.1.1 ∙ entry_text u.0 u.1.0) in
         let c = entry_complete x.inner.array r.type u.0 u.1.0 u.1.1 r.complete in
         let one : extra x.inner.array ≡ 1 = ap extra c.0 in (
           ts,
@@ -235,8 +233,7 @@ module _ (x : Values) (pos stop n : ℕ) (answer : Answer) (r : Ready x pos stop
     element_there =
         let depth_left = slice_room x.text.items pos stop (97 ∷ sig ready_array.0) r.pos_is array_text in
         let some = ap length (begins ready_array.0) in
-        let p = ready_offset in
-        let le = p.3 in
+        let le = r.there in
         (omega arith, omega arith)
 
     pub element_code : (c : ℕ) → get_or x.text.items (pos + 1) 0 ≡ c → first_code ready_array.0 ≡ c
@@ -331,6 +328,7 @@ module _ (x : Values) (pos stop n : ℕ) (answer : Answer) (r : Ready x pos stop
       offset = omega arith;
       left_is = omega arith;
       fits = fits;
+      near = r.near;
       same = front_taken (λ (m : ℕ × ℕ). m) (x.offset + n) s sized lettered answer.to sized_same (size, k) h;
     }
 
@@ -353,6 +351,7 @@ module _ (x : Values) (pos stop n : ℕ) (answer : Answer) (r : Ready x pos stop
               frames = further (x.offset + n + k + size) (omega arith) (omega arith);
               noted = r.noted;
               fits = fits;
+              near = r.near;
               same = λ c.
                   front_taken named (x.offset + n + k) (drop k s) (text (kind_of ready_text.0) size) (λ t. onward nul (rest_of answer x r.ws)) (λ c. answer.to (take k s ++ c)) letters_same tt f c
                   ∙ ap answer.to (sym (take-both k size s c le));

@@ -21,7 +21,7 @@ use Rattle.dbus_value_checker.specs.Moves.{Moves}
 use Rattle.dbus_value_checker.proofs.FrontSteps.{front_taken, front_stops}
 use Rattle.std.proofs.Common.{Ok, Err}
 use Rattle.dbus_value_checker.proofs.Suspension.{text_waits, text_breaks, text_ends, text_not}
-use Rattle.dbus_value_checker.proofs.FrameLaws.{frames_reach, frames_small, end_small, inner_of, within}
+use Rattle.dbus_value_checker.proofs.FrameLaws.{frames_reach, inner_of, within}
 use Rattle.dbus_value_laws.proofs.KindLaws.{break_is, one_break, is_wanted, is_not_wanted}
 
 pub take_one : (s : List ℕ) (n : ℕ) (w : List ℕ) → n < length s → (w ++ take n s) ++ get_or s n 0 ∷ [] ≡ w ++ take (n + 1) s
@@ -64,13 +64,6 @@ moved_on x ws q h le fits =
     (frames_reach x.offset q x.offset (length x.text.items) x.end x.text.items (x.inner ∷ reverse x.frames.items) ws le h)
 
 module _ (x : Values) (code left : ℕ) (answer : Answer) (t : Texts x code left answer) where
-  pub texts_small : (x.offset < 18446744073709551616) × (x.offset + left + 1 ≤ x.inner.end) × (x.inner.end < 18446744073709551616)
-  texts_small = (
-    frames_small x.offset x.offset (length x.text.items) x.end x.text.items (x.inner ∷ reverse x.frames.items) t.ws t.frames,
-    t.fits,
-    end_small x.offset x.offset (length x.text.items) x.end x.text.items x.inner (reverse x.frames.items) t.ws t.frames,
-  )
-
   so_far : break_at (kind_of t.kind) t.bytes ≡ length t.bytes
   so_far = ap (λ (k : WantedText). break_at k t.bytes) (sym t.scans) ∙ prefix_break (scans.kind_of x.scan) t.bytes (stands_prefix x.scan t.bytes t.stands)
 
@@ -93,6 +86,7 @@ module _ (x : Values) (code left : ℕ) (answer : Answer) (t : Texts x code left
         offset = (let p = t.offset in omega arith);
         left_is = (let l = t.left_is in omega arith);
         fits = (let f = t.fits in omega arith);
+        near = t.near;
         same = λ c. ap (λ (w : List ℕ). after (text (kind_of t.kind) t.size t.start w) (λ u. onward nul (rest_of answer x t.ws))) (append_assoc t.bytes (take m s) c) ∙ t.same (take m s ++ c);
       }
 
@@ -144,6 +138,7 @@ module _ (x : Values) (code left : ℕ) (answer : Answer) (t : Texts x code left
           frames = t.frames;
           noted = t.noted;
           fits = (let f = t.fits in omega arith);
+          near = t.near;
           same = λ c. subst (λ (q : ℕ). onward nul (rest_of answer x t.ws) q c ≡ answer.to c) at
               (sym (ap (λ (r : Outcome (List ℕ)). after r (λ u. onward nul (rest_of answer x t.ws))) (text_ends (kind_of t.kind) t.size t.start t.bytes c whole is)) ∙ t.same c);
         }
@@ -175,19 +170,13 @@ module _ (x : Values) (answer : Answer) (u : Nuls x answer) where
   pub nuls_stops : (s : List ℕ) (e : Stop) → Fronts seen x.offset s (Err e) nul → Moves x s (Err e) x answer
   nuls_stops s e h = front_stops seen x.offset s nul (λ z. rest_of answer x u.ws) answer.to u.same x answer.last e h
 
-  pub nuls_small : x.offset + 1 < 18446744073709551616
-  nuls_small =
-      let fits = u.fits in
-      let small = end_small x.offset x.offset (length x.text.items) x.end x.text.items x.inner (reverse x.frames.items) u.ws u.frames in
-      omega arith
-
 pub empty_list : (s : List ℕ) → length s ≡ 0 → s ≡ []
 empty_list [] h = refl
 empty_list (b ∷ s) h = absurd (omega arith)
 
 -- what is under way is noted
 pub texts_doing : (x : Values) (d : Doing) (code left : ℕ) (answer : Answer) → Texts x code left answer → Texts (record x { doing = d }) code left answer
-texts_doing x d code left answer t = record { ws = t.ws; kind = t.kind; size = t.size; start = t.start; bytes = t.bytes; frames = t.frames; noted = t.noted; kind_is = t.kind_is; scans = t.scans; stands = t.stands; offset = t.offset; left_is = t.left_is; fits = t.fits; same = t.same }
+texts_doing x d code left answer t = record { ws = t.ws; kind = t.kind; size = t.size; start = t.start; bytes = t.bytes; frames = t.frames; noted = t.noted; kind_is = t.kind_is; scans = t.scans; stands = t.stands; offset = t.offset; left_is = t.left_is; fits = t.fits; near = t.near; same = t.same }
 
 pub nuls_doing : (x : Values) (d : Doing) (answer : Answer) → Nuls x answer → Nuls (record x { doing = d }) answer
-nuls_doing x d answer u = record { ws = u.ws; frames = u.frames; noted = u.noted; fits = u.fits; same = u.same }
+nuls_doing x d answer u = record { ws = u.ws; frames = u.frames; noted = u.noted; fits = u.fits; near = u.near; same = u.same }

@@ -34,8 +34,8 @@ slice_same : (a b : List ℕ) (pos stop top : ℕ) → stop ≤ top → take top
 slice_same a b pos stop top h e = ap (drop pos) (sym (take-take stop top a h) ∙ ap (take stop) e ∙ take-take stop top b h)
 
 frame_same : (reach : ℕ) (a b : List ℕ) (f : Frame) (w : Work) → slice a f.pos f.stop ≡ slice b f.pos f.stop → IsFrame reach a f w → IsFrame reach b f w
-frame_same reach a b f (Parts depth_left end ts) e h = record { parts = h.parts; room_is = h.room_is; end_is = h.end_is; types = sym e ∙ h.types; complete = h.complete }
-frame_same reach a b f (Elements turns depth_left end t) e h = record { elements = h.elements; room_is = h.room_is; end_is = h.end_is; type = sym e ∙ h.type; complete = h.complete; turns_is = h.turns_is }
+frame_same reach a b f (Parts depth_left end ts) e h = assumption (h, sym e ∙ h.types)
+frame_same reach a b f (Elements turns depth_left end t) e h = assumption (h, sym e ∙ h.type)
 
 shorter : (a b : List ℕ) (m n : ℕ) → m ≤ n → take n a ≡ take n b → take m a ≡ take m b
 shorter a b m n h e = sym (take-take m n a h) ∙ ap (take m) e ∙ take-take m n b h
@@ -43,15 +43,7 @@ shorter a b m n h e = sym (take-take m n a h) ∙ ap (take m) e ∙ take-take m 
 frames_same : (reach low high bottom : ℕ) (a b : List ℕ) (fs : List Frame) (ws : List Work) → take high a ≡ take high b → AreFrames reach low high bottom a fs ws → AreFrames reach low high bottom b fs ws
 frames_same reach low high bottom a b [] [] e h = h
 frames_same reach low high bottom a b (f ∷ fs) (w ∷ ws) e h = (
-  record {
-    low_is = h.0.low_is;
-    high_is = h.0.high_is;
-    stop_is = h.0.stop_is;
-    pos_is = h.0.pos_is;
-    count_is = h.0.count_is;
-    room_is = h.0.room_is;
-    is = frame_same reach a b f w (slice_same a b f.pos f.stop f.top h.0.stop_is (shorter a b f.top high h.0.high_is e)) h.0.is;
-  },
+  assumption (h, frame_same reach a b f w (slice_same a b f.pos f.stop f.top h.0.stop_is (shorter a b f.top high h.0.high_is e)) h.0.is),
   frames_same reach f.end f.top bottom a b fs ws (shorter a b f.top high h.0.high_is e) h.1,
 )
 frames_same reach low high bottom a b [] (w ∷ ws) e h = absurd h

@@ -65,6 +65,8 @@ pub record Ready (x : Values) (pos stop n : ℕ) (answer : Answer) : Type 0 wher
   pub pos_is : pos ≤ stop
   pub stop_is : stop ≤ x.inner.top
   pub fits : x.offset + n ≤ x.inner.end
+  pub near : x.inner.end < 18446744073709551616
+  pub there : stop ≤ length x.text.items
   pub same : (c : List ℕ) → own x.bounds x.order x.inner.end (own_of type x.inner.depth_left) (works x.bounds x.order (rest_of answer x ws) (opened_by type x.inner.depth_left x.inner.end)) (x.offset + n) c ≡ answer.to c
 
 -- so many bytes of a text of a type are wanted
@@ -82,6 +84,7 @@ pub record Texts (x : Values) (code left : ℕ) (answer : Answer) : Type 0 where
   pub offset : start + length bytes ≡ x.offset
   pub left_is : length bytes + left ≡ size
   pub fits : x.offset + left + 1 ≤ x.inner.end
+  pub near : x.inner.end < 18446744073709551616
   pub same : (c : List ℕ) → after (text (kind_of kind) size start (bytes ++ c)) (λ t. onward nul (rest_of answer x ws)) ≡ answer.to c
 
 -- the zero after a text is wanted
@@ -90,6 +93,7 @@ pub record Nuls (x : Values) (answer : Answer) : Type 0 where
   pub frames : HasFrames x.offset x ws
   pub noted : HasNotes x
   pub fits : x.offset + 1 ≤ x.inner.end
+  pub near : x.inner.end < 18446744073709551616
   pub same : (c : List ℕ) → onward nul (rest_of answer x ws) x.offset c ≡ answer.to c
 
 -- the innermost container is an array that goes on, and its next element is a whole number of w bytes, any of which may stand there

@@ -1,13 +1,8 @@
 use Rattle.std.proofs.Common.{ℕ, true, ◌+◌, ◌-◌, length, take, arith, refl, sym, ap, get_or, List}
 use Rattle.dbus_value_checker.specs.declared.values.Values.{Values}
 use Rattle.dbus_value_checker.specs.Denotations.{after_piece}
-use Rattle.dbus_value_checker.proofs.PaddedValues.{ready_offset, ready_array, element_there, element_code, deep_array, array_stops, array_goes}
+use Rattle.dbus_value_checker.proofs.PaddedValues.{ready_array, element_there, element_code, deep_array, array_stops, array_goes}
 use Rattle.dbus_value_checker.proofs.values.Values.array.Goals as goal
-
-pub overflow_add-at : goal.overflow_add-at
-overflow_add-at c =
-    let p = ready_offset c.args.self.now c.args.pos c.args.stop c.args.n c.requires.valid.0 c.requires.valid.1 97 c.requires.code in
-    let a = p.1 in let b = p.2 in omega arith
 
 pub returns-then-depth_left-eq0-clause-moves : goal.returns-then-depth_left-eq0-clause-moves
 returns-then-depth_left-eq0-clause-moves c = λ answer r. rw c.refuse.ensures (λ s. deep_array c.args.self.now c.args.pos c.args.stop c.args.n answer r 97 c.requires.code refl c.if-depth_left-eq0.true _)

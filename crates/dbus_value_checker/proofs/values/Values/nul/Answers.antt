@@ -1,10 +1,7 @@
-use Rattle.std.proofs.Common.{take, arith}
+use Rattle.std.proofs.Common.{take}
 use Rattle.dbus_value_checker.specs.Denotations.{after_piece}
-use Rattle.dbus_value_checker.proofs.TextSteps.{nuls_small, nuls_pass, nuls_stops}
+use Rattle.dbus_value_checker.proofs.TextSteps.{nuls_pass, nuls_stops}
 use Rattle.dbus_value_checker.proofs.values.Values.nul.Goals as goal
-
-pub overflow_add-self : goal.overflow_add-self
-overflow_add-self c = let k = nuls_small c.args.self.now c.requires.valid.0 c.requires.valid.1 in omega arith
 
 pub next-requires : goal.next-requires
 next-requires c =

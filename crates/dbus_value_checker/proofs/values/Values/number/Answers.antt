@@ -1,22 +1,7 @@
-use Rattle.std.proofs.Common.{take, arith}
+use Rattle.std.proofs.Common.{take}
 use Rattle.dbus_value_checker.specs.Denotations.{after_piece}
-use Rattle.dbus_value_checker.proofs.PaddedValues.{ready_offset, ready_number, number_is, number_goes, number_stops}
+use Rattle.dbus_value_checker.proofs.PaddedValues.{ready_number, number_is, number_goes, number_stops}
 use Rattle.dbus_value_checker.proofs.values.Values.number.Goals as goal
-
-pub overflow_add-at : goal.overflow_add-at
-overflow_add-at c =
-    let p = ready_offset c.args.self.now c.args.pos c.args.stop c.args.n c.requires.valid.0 c.requires.valid.1 c.args.code c.requires.code in
-    let a = p.1 in let b = p.2 in omega arith
-
-pub overflow_add-self : goal.overflow_add-self
-overflow_add-self c =
-    let p = ready_offset c.args.self.now c.args.pos c.args.stop c.args.n c.requires.valid.0 c.requires.valid.1 c.args.code c.requires.code in
-    let a = p.1 in let b = p.2 in let m = c.in-Ok.ensures.moves in let m2 = m.2 in omega arith
-
-pub number_front-requires : goal.number_front-requires
-number_front-requires c =
-    let p = ready_offset c.args.self.now c.args.pos c.args.stop c.args.n c.requires.valid.0 c.requires.valid.1 c.args.code c.requires.code in
-    let a = p.1 in omega arith
 
 pub next-requires : goal.next-requires
 next-requires c =

@@ -1,18 +1,12 @@
 use Rattle.std.proofs.Common.{◌-◌, arith, refl, inl}
-use Rattle.dbus_value_checker.proofs.PaddedValues.{ready_offset, bracket_fits, bracket_opens, deep_struct}
+use Rattle.dbus_value_checker.proofs.PaddedValues.{bracket_fits, bracket_opens, deep_struct}
 use Rattle.dbus_value_checker.proofs.values.Values.open_struct.Goals as goal
-
-pub overflow_add-self : goal.overflow_add-self
-overflow_add-self c =
-    let p = ready_offset c.args.self.now c.args.pos c.args.stop c.args.n c.requires.valid.0 c.requires.valid.1 40 c.requires.code in
-    let a = p.1 in let b = p.2 in omega arith
 
 pub inside-requires : goal.inside-requires
 inside-requires c =
-    let p = ready_offset c.args.self.now c.args.pos c.args.stop c.args.n c.requires.valid.0 c.requires.valid.1 40 c.requires.code in
     let f = bracket_fits c.args.self.now c.args.pos c.args.stop c.args.n c.requires.valid.0 c.requires.valid.1 40 c.requires.code (c.args.self.now.inner.depth_left - 1) (inl (refl, omega arith)) in
-    let a = p.1 in let b = p.2 in
-    record { near = omega arith; few = f.0; some = f.1; there = p.3; noted = c.requires.valid.1.noted; type_noted = c.requires.valid.1.type_noted }
+    let r = c.requires.valid.1 in
+    record { near = omega arith; few = f.0; some = f.1; there = r.there; noted = r.noted; type_noted = r.type_noted }
 
 pub returns-then-depth_left-eq0-clause-opens : goal.returns-then-depth_left-eq0-clause-opens
 returns-then-depth_left-eq0-clause-opens c = λ answer r. rw c.refuse.ensures (deep_struct c.args.self.now c.args.pos c.args.stop c.args.n answer r 40 c.requires.code refl c.if-depth_left-eq0.true)

@@ -1,43 +1,14 @@
-use Rattle.std.proofs.Common.{ℕ, ◌+◌, List, take, drop, Ok, Err, arith, ap, subst, ◌∙◌}
+use Rattle.std.proofs.Common.{ℕ, ◌+◌, List, take, drop, Ok, Err, ap, subst, ◌∙◌}
 use Rattle.dbus_value_model.specs.WantedTexts.{WantedText, Of}
 use Rattle.dbus_value_model.specs.Items.{text_reason}
 use Rattle.dbus_value_model.specs.Reading.{text}
 use Rattle.dbus_value_checker.specs.Fronts.{Fronts}
 use Rattle.dbus_value_checker.specs.Denotations.{after_piece}
-use Rattle.dbus_value_checker.proofs.PaddedValues.{ready_offset, ready_text, text_is, text_stops, text_starts, text_whole, text_whole_stops}
+use Rattle.dbus_value_checker.proofs.PaddedValues.{ready_text, text_is, text_stops, text_starts, text_whole, text_whole_stops}
 use Rattle.dbus_value_checker.specs.declared.values.Doing.TheVariants as rust
 use Rattle.dbus_value_checker.proofs.TextSteps.{nuls_doing}
 use Rattle.dbus_value_checker.proofs.Calls.{opens_after}
 use Rattle.dbus_value_checker.proofs.values.Values.string.Goals as goal
-
-pub overflow_add-at : goal.overflow_add-at
-overflow_add-at c =
-    let p = ready_offset c.args.self.now c.args.pos c.args.stop c.args.n c.requires.valid.0 c.requires.valid.1 c.args.code c.requires.code in
-    let a = p.1 in let b = p.2 in omega arith
-
-pub length_front-requires : goal.length_front-requires
-length_front-requires c =
-    let p = ready_offset c.args.self.now c.args.pos c.args.stop c.args.n c.requires.valid.0 c.requires.valid.1 c.args.code c.requires.code in record { at_most = p.1 }
-
-pub overflow_add-at-then-rest-size : goal.overflow_add-at-then-rest-size
-overflow_add-at-then-rest-size c =
-    let p = ready_offset c.args.self.now c.args.pos c.args.stop c.args.n c.requires.valid.0 c.requires.valid.1 c.args.code c.requires.code in
-    let a = p.1 in let b = p.2 in let m = c.in-Ok.ensures.moves.2 in omega arith
-
-pub overflow_add-self : goal.overflow_add-self
-overflow_add-self c =
-    let p = ready_offset c.args.self.now c.args.pos c.args.stop c.args.n c.requires.valid.0 c.requires.valid.1 c.args.code c.requires.code in
-    let a = p.1 in let b = p.2 in let m = c.in-Ok.ensures.moves.2 in omega arith
-
-pub overflow_add-self-in-Ok : goal.overflow_add-self-in-Ok
-overflow_add-self-in-Ok c =
-    let p = ready_offset c.args.self.now c.args.pos c.args.stop c.args.n c.requires.valid.0 c.requires.valid.1 c.args.code c.requires.code in
-    let a = p.1 in let b = p.2 in let m = c.in-Ok.ensures.moves.2 in omega arith
-
-pub text_front-requires-clause-near : goal.text_front-requires-clause-near
-text_front-requires-clause-near c =
-    let p = ready_offset c.args.self.now c.args.pos c.args.stop c.args.n c.requires.valid.0 c.requires.valid.1 c.args.code c.requires.code in
-    let a = p.1 in let b = p.2 in let m = c.in-Ok.ensures.moves.2 in omega arith
 
 pub text_front-requires-clause-reason : goal.text_front-requires-clause-reason
 text_front-requires-clause-reason c =
@@ -123,8 +94,3 @@ returns-in-Err-clause-moves c = λ answer r.
     let k = ready_text x c.args.pos c.args.stop c.args.n answer r c.args.code c.requires.code c.requires.text in
     let e = text_is x c.args.pos c.args.stop c.args.n answer r c.args.code c.requires.code c.requires.text in
     text_stops x c.args.pos c.args.stop c.args.n answer r c.args.code c.requires.code c.requires.text c.args.bytes.now c.in-Err.stop (c.in-Err.ensures.gives k.0 e)
-
-pub overflow_add-self-in-Ok-text_front : goal.overflow_add-self-in-Ok-text_front
-overflow_add-self-in-Ok-text_front c =
-    let p = ready_offset c.args.self.now c.args.pos c.args.stop c.args.n c.requires.valid.0 c.requires.valid.1 c.args.code c.requires.code in
-    let a = p.1 in let b = p.2 in let m = c.in-Ok.ensures.moves.2 in omega arith

@@ -5,7 +5,7 @@ use Rattle.dbus_texts.specs.Scans.{Stands, kind_of}
 use Rattle.dbus_texts.specs.Kinds.{IsPrefixOf}
 use Rattle.dbus_value_model.specs.Reading.{Partial}
 use Rattle.dbus_value_checker.specs.Denotations.{after_piece}
-use Rattle.dbus_value_checker.proofs.TextSteps.{texts_small, texts_on, texts_wait, texts_break, empty_list}
+use Rattle.dbus_value_checker.proofs.TextSteps.{texts_on, texts_wait, texts_break, empty_list}
 use Rattle.dbus_value_checker.proofs.Calls.{opens_after}
 use Rattle.dbus_value_checker.proofs.values.Values.text.Goals as goal
 
@@ -13,22 +13,6 @@ pub returns-then-is_empty-clause-moves : goal.returns-then-is_empty-clause-moves
 returns-then-is_empty-clause-moves c = λ answer t.
     let none : c.args.bytes.now ≡ [] = empty_list c.args.bytes.now (grind arith) in
     (refl, subst (λ (s : List ℕ). answer.to s ≡ Partial) (sym none) (texts_wait c.args.self.now c.args.code c.args.left answer t c.requires.more))
-
-pub overflow_add-self : goal.overflow_add-self
-overflow_add-self c =
-    let k = texts_small c.args.self.now c.args.code c.args.left c.requires.valid.0 c.requires.valid.1 in
-    let a = k.1 in let b = k.2 in
-    let g = ap length c.front-given.ensures ∙ length-take c.args.left c.args.bytes.now in
-    let w = c.take-taken.ensures.within in
-    omega arith
-
-pub overflow_add-self-2 : goal.overflow_add-self-2
-overflow_add-self-2 c =
-    let k = texts_small c.args.self.now c.args.code c.args.left c.requires.valid.0 c.requires.valid.1 in
-    let a = k.1 in let b = k.2 in
-    let g = ap length c.front-given.ensures ∙ length-take c.args.left c.args.bytes.now in
-    let w = c.take-taken.ensures.within in
-    omega arith
 
 pub returns-then-taken-given-clause-moves : goal.returns-then-taken-given-clause-moves
 returns-then-taken-given-clause-moves c = λ answer t.

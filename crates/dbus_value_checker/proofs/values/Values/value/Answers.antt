@@ -2,7 +2,7 @@ use Rattle.std.proofs.Common.{ℕ, List, length, take, get_or, Ok, Err, arith, a
 use Rattle.std.proofs.lemmas.List.{length-drop}
 use Rattle.dbus_value_checker.specs.Denotations.{after_piece}
 use Rattle.dbus_value_checker.specs.Moves.{Moves}
-use Rattle.dbus_value_checker.proofs.PaddedValues.{wants_offset, wants_ready, wants_stops}
+use Rattle.dbus_value_checker.proofs.PaddedValues.{wants_low, wants_ready, wants_stops}
 use Rattle.dbus_value_checker.proofs.Calls.{wants_code, after_ok, after_err}
 use Rattle.dbus_value_checker.proofs.values.Values.value.Goals as goal
 
@@ -16,7 +16,7 @@ pub variant-requires-clause-valid : goal.variant-requires-clause-valid
 variant-requires-clause-valid c = c.requires.valid
 
 pub padding-requires-clause-at_most : goal.padding-requires-clause-at_most
-padding-requires-clause-at_most c = (wants_offset c.args.self.now c.args.pos c.args.stop c.requires.valid.0 c.requires.valid.1 (get_or c.as_slice.result.now c.args.pos 0) (sym (ap (λ (t : List ℕ). get_or t c.args.pos 0) c.as_slice.ensures.value))).0
+padding-requires-clause-at_most c = (wants_low c.args.self.now c.args.pos c.args.stop c.requires.valid.0 c.requires.valid.1 (get_or c.as_slice.result.now c.args.pos 0) (sym (ap (λ (t : List ℕ). get_or t c.args.pos 0) c.as_slice.ensures.value)))
 
 pub item-requires-clause-valid : goal.item-requires-clause-valid
 item-requires-clause-valid c =
