@@ -1,8 +1,7 @@
 -- Calls one after another.
 use Rattle.std.proofs.Common.{◌≡◌, ℕ, ◌+◌, ◌≤◌, List, ◌++◌, length, take, drop, Ok, Err, sym, ap, ◌∙◌, arith}
 use Rattle.std.proofs.lemmas.List.{length-drop, take-append-drop}
-use Rattle.dbus_value_model.specs.Reading.{Outcome, Faulty}
-use Rattle.dbus_value_model.specs.declared.fault.Fault.{Fault}
+use Rattle.dbus_value_model.specs.Reading.{Outcome}
 use Rattle.dbus_value_model.specs.declared.stop.Stop.{Stop}
 use Rattle.dbus_value_model.specs.declared.stop.Stop.TheVariants as stops
 use Rattle.dbus_value_checker.specs.declared.values.Values.{Values}
@@ -30,16 +29,17 @@ pub denotes_same : (x : Values) (last : On) (f g : List ℕ → Outcome (Unit {0
 denotes_same x last f g e h = denotes_at x x.doing last f g e h
 
 -- a call after n bytes that were taken
-module _ (x y : Values) (s : List ℕ) (n : ℕ) (there : n ≤ length s) (answer : Answer) where
-  pub after_ok : (m : ℕ) → Moves x (drop n s) (Ok m) y (after_piece answer (take n s)) → Moves x s (Ok (n + m)) y answer
-  after_ok m h =
+module _ (x y : Values) (s : List ℕ) (n : ℕ) (answer : Answer) (rest : List ℕ) (rest_is : rest ≡ drop n s) where
+  pub after_ok : n ≤ length s → (m : ℕ) → Moves x rest (Ok m) y (after_piece answer (take n s)) → Moves x s (Ok (n + m)) y answer
+  after_ok there m h =
       let le = h.0 in
       let d = length-drop n s in
-      (omega arith, denotes_same y answer.last (λ c. answer.to (take n s ++ (take m (drop n s) ++ c))) (λ c. answer.to (take (n + m) s ++ c)) (λ c. ap answer.to (sym (take-both n m s c there))) h.1)
+      let l = ap length rest_is in
+      (omega arith, denotes_same y answer.last (λ c. answer.to (take n s ++ (take m rest ++ c))) (λ c. answer.to (take (n + m) s ++ c)) (λ c. ap (λ (t : List ℕ). answer.to (take n s ++ (take m t ++ c))) rest_is ∙ ap answer.to (sym (take-both n m s c there))) h.1)
 
-  pub after_err : (e : Stop) → Moves x (drop n s) (Err e) y (after_piece answer (take n s)) → Moves x s (Err e) y answer
-  after_err stops.Partial h = (h.0, ap answer.to (sym (take-append-drop n s)) ∙ h.1)
-  after_err (stops.Refused f) h = λ c. ap answer.to (split-at n s c) ∙ h c
+  pub after_err : (e : Stop) → Moves x rest (Err e) y (after_piece answer (take n s)) → Moves x s (Err e) y answer
+  after_err stops.Partial h = (h.0, ap answer.to (sym (take-append-drop n s)) ∙ ap (λ (t : List ℕ). answer.to (take n s ++ t)) (sym rest_is) ∙ h.1)
+  after_err (stops.Refused f) h = λ c. ap answer.to (split-at n s c) ∙ ap (λ (t : List ℕ). answer.to (take n s ++ (t ++ c))) (sym rest_is) ∙ h c
 
 -- a container that was not opened
 pub opens_err : (x y : Values) (s : List ℕ) (e : Stop) (answer : Answer) → Opens (Err e) y answer → Moves x s (Err e) y answer
@@ -60,16 +60,6 @@ wants_code x pos stop answer w =
     let a = i.high in
     let b = w.stop_is in
     omega arith
-
--- ---- a run
-
--- one call more
-pub run_on : (x y : Values) (s : List ℕ) (n m : ℕ) (answer : Answer) → n ≤ length s → Moves x (drop n s) (Ok m) y (after_piece answer (take n s)) → (n + m ≤ length s) × Denotes y (after_piece answer (take (n + m) s))
-run_on x y s n m answer le h = after_ok x y s n le answer m h
-
--- a fault within a run
-pub run_refused : (x y : Values) (s : List ℕ) (n : ℕ) (answer : Answer) (f : Fault) → Moves x (drop n s) (Err (stops.Refused f)) y (after_piece answer (take n s)) → (c : List ℕ) → answer.to (s ++ c) ≡ Faulty f
-run_refused x y s n answer f h c = ap answer.to (split-at n s c) ∙ h c
 
 -- a container's opening does not wait for bytes
 pub opens_at_once : (y : Values) (e : Stop) (answer : Answer) → Opens (Err e) y answer → e ≡ stops.Partial → ⊥

@@ -1,7 +1,7 @@
 -- A value whose padding is there.
 use Rattle.std.proofs.Common.{◌≡◌, ℕ, suc, ◌+◌, ◌-◌, ◌*◌, ◌<◌, ◌≤◌, List, [], ◌∷◌, ◌++◌, length, reverse, take, drop, get_or, true, false, Ok, Err, refl, sym, ap, subst, ◌∙◌, arith, inl, inr}
 use Rattle.std.specs.Prelude.{◌⊎◌}
-use Rattle.std.proofs.lemmas.List.{take-append-drop, length-drop}
+use Rattle.std.proofs.lemmas.List.{length-drop}
 use Rattle.dbus_texts.specs.Types.{NumberCode, TextCode, TypeTree, NumberType, TextType, VariantType, ArrayType, StructType, EntryType, TypeTrees, NoTypes, MoreTypes, number_code, text_code, sig, sigs, AreShaped}
 use Rattle.dbus_types.specs.Alignments.{width, length_width, alignment_of}
 use Rattle.dbus_texts.specs.declared.scan.TextScan.{TextScan}
@@ -10,7 +10,6 @@ use Rattle.dbus_texts.specs.Scans as scans
 use Rattle.dbus_value_model.specs.WantedTexts.{Of, kind_of}
 use Rattle.dbus_value_model.specs.declared.fault.Reason.TheVariants as reasons
 use Rattle.dbus_value_model.specs.declared.stop.Stop.{Stop}
-use Rattle.dbus_value_model.specs.declared.stop.Stop.TheVariants as stops
 use Rattle.dbus_value_model.specs.Items.{fault}
 use Rattle.dbus_value_model.specs.ValueItems.{number_row, text_row, array_row}
 use Rattle.dbus_value_model.specs.ValueReaders.{array_frame}
@@ -23,10 +22,17 @@ use Rattle.dbus_value_checker.specs.Codes.{IsNumberCode}
 use Rattle.dbus_value_checker.specs.Suspended.{On, onward, done, Work, Parts, Elements, elements, work, works, own, own_of, opened_by}
 use Rattle.dbus_value_checker.specs.Fronts.{Fronts}
 use Rattle.dbus_value_checker.specs.Frames.{slice, Framed, extra}
+use Rattle.dbus_value_checker.proofs.Calls.{after_err}
+use Rattle.std.proofs.Common.{Result}
+use Rattle.dbus_value_model.specs.WantedTexts.{WantedText}
+use Rattle.dbus_value_model.specs.Items.{text_reason}
+use Rattle.dbus_value_model.specs.declared.fault.Reason.{Reason}
+use Rattle.dbus_texts.specs.declared.text_kind.TextKind.{TextKind}
+use Rattle.dbus_value_checker.specs.declared.values.Doing.TheVariants as doing
 use Rattle.dbus_value_checker.specs.Denotations.{Answer, rest_of, HasFrames, Goes, Wants, Ready, Texts, Nuls, after_piece}
 use Rattle.dbus_value_checker.specs.Moves.{Moves, Pushed, Enters}
 use Rattle.dbus_value_checker.proofs.Suspension.{works_as, value_begins, after_after, after_same}
-use Rattle.dbus_value_checker.proofs.FrontSteps.{front_taken, front_waits, front_refused, front_stops, take-both, split-at}
+use Rattle.dbus_value_checker.proofs.FrontSteps.{front_taken, front_stops, take-both}
 use Rattle.dbus_value_checker.proofs.Slices.{slice_head, slice_room, slice_after, slice_inner}
 use Rattle.dbus_value_checker.proofs.FrameLaws.{frames_reach, end_small, pushed_frames, inner_of, within}
 use Rattle.dbus_value_checker.proofs.TypeCodes.{array_of, struct_of, entry_of, text_of, number_type, array_complete, struct_complete, entry_complete, entry_text, parts_some, sigs_some}
@@ -35,9 +41,12 @@ use Rattle.dbus_value_checker.proofs.Notes.{part_noted, pushed_notes}
 
 -- ---- the padding of a value
 
-module _ (x : Values) (pos stop : ℕ) (answer : Answer) (w : Wants x pos stop answer) (code : ℕ) (there : get_or x.text.items pos 0 ≡ code) where
+module _ (x : Values) (pos stop : ℕ) (answer : Answer) (w : Wants x pos stop answer) (seen : List ℕ) (seen_is : seen ≡ x.text.items) where
+  abbrev code : ℕ
+  code = get_or seen pos 0
+
   pub code_first : first_code w.type ≡ code
-  code_first = sym (slice_head x.text.items pos stop (first_code w.type) (after_code w.type) w.pos_is (w.text ∙ begins w.type)) ∙ there
+  code_first = sym (slice_head x.text.items pos stop (first_code w.type) (after_code w.type) w.pos_is (w.text ∙ begins w.type)) ∙ sym (ap (λ (t : List ℕ). get_or t pos 0) seen_is)
 
   pub wants_low : x.offset ≤ x.inner.end
   wants_low = (inner_of x (suc x.offset) w.ws w.frames).low
@@ -97,28 +106,34 @@ module _ (x : Values) (pos stop n : ℕ) (answer : Answer) (r : Ready x pos stop
 
   -- a number
   module _ (is : IsNumberCode code) where
-    pub ready_number : (k : NumberCode) × (r.type ≡ NumberType k)
+    ready_number : (k : NumberCode) × (r.type ≡ NumberType k)
     ready_number = number_type r.type code ready_first is.array is.struct is.entry is.signature is.path is.string is.variant
 
-    pub number_is : number_code ready_number.0 ≡ code
-    number_is = ap first_code (sym ready_number.1) ∙ ready_first
+    abbrev run : NumberCode → Reader (Unit {0})
+    run k = onward (number x.order (width k) x.inner.end (number_row x.bounds.fds k)) done
 
-    abbrev run : Reader ℕ
-    run = number x.order (width ready_number.0) x.inner.end (number_row x.bounds.fds ready_number.0)
+    number_same : (c : List ℕ) → after (run ready_number.0 (x.offset + n) c) (λ z. rest_of answer x r.ws) ≡ answer.to c
+    number_same c =
+        after_after (number x.order (width ready_number.0) x.inner.end (number_row x.bounds.fds ready_number.0) (x.offset + n) c) (λ z. done) (λ z. rest_of answer x r.ws)
+        ∙ ready_at (NumberType ready_number.0) x.inner.depth_left ready_number.1 refl c
 
-    number_same : (c : List ℕ) → after (onward run done (x.offset + n) c) (λ z. rest_of answer x r.ws) ≡ answer.to c
-    number_same c = after_after (run (x.offset + n) c) (λ z. done) (λ z. rest_of answer x r.ws) ∙ ready_at (NumberType ready_number.0) x.inner.depth_left ready_number.1 refl c
+    module _ (s : List ℕ) where
+      abbrev Gives : Result ℕ Stop → Type 0
+      Gives e = (k : NumberCode) → number_code k ≡ code → Fronts (λ (m : ℕ). (tt, m)) (x.offset + n) s e (run k)
 
-    pub number_goes : (s : List ℕ) (w : ℕ) → Fronts (λ (m : ℕ). (tt, m)) (x.offset + n) s (Ok w) (onward run done) → 0 < w → x.offset + n + w ≤ x.inner.end → Goes (record x { offset = x.offset + n + w }) (after_piece answer (take w s))
-    number_goes s w h some fits = record {
-      ws = r.ws;
-      frames = further (x.offset + n + w) (omega arith) fits;
-      noted = r.noted;
-      same = front_taken (λ (m : ℕ). (tt, m)) (x.offset + n) s (onward run done) (λ z. rest_of answer x r.ws) answer.to number_same w h;
-    }
+      given : (e : Result ℕ Stop) → Gives e → Fronts (λ (m : ℕ). (tt, m)) (x.offset + n) s e (run ready_number.0)
+      given e h = h ready_number.0 (ap first_code (sym ready_number.1) ∙ ready_first)
 
-    pub number_stops : (s : List ℕ) (e : Stop) → Fronts (λ (m : ℕ). (tt, m)) (x.offset + n) s (Err e) (onward run done) → Moves x s (Err e) x answer
-    number_stops s e h = front_stops (λ (m : ℕ). (tt, m)) (x.offset + n) s (onward run done) (λ z. rest_of answer x r.ws) answer.to number_same x answer.last e h
+      pub number_goes : (w : ℕ) → Gives (Ok w) → 0 < w → x.offset + n + w ≤ x.inner.end → Goes (record x { offset = x.offset + n + w }) (after_piece answer (take w s))
+      number_goes w h some fits = record {
+        ws = r.ws;
+        frames = further (x.offset + n + w) (omega arith) fits;
+        noted = r.noted;
+        same = front_taken (λ (m : ℕ). (tt, m)) (x.offset + n) s (run ready_number.0) (λ z. rest_of answer x r.ws) answer.to number_same w (given (Ok w) h);
+      }
+
+      pub number_stops : (e : Stop) → Gives (Err e) → Moves x s (Err e) x answer
+      number_stops e h = front_stops (λ (m : ℕ). (tt, m)) (x.offset + n) s (run ready_number.0) (λ z. rest_of answer x r.ws) answer.to number_same x answer.last e (given (Err e) h)
 
   -- ---- a struct or an entry
 
@@ -220,7 +235,7 @@ module _ (x : Values) (pos stop n : ℕ) (answer : Answer) (r : Ready x pos stop
   -- ---- an array
 
   module _ (is : code ≡ 97) where
-    pub ready_array : (u : TypeTree) × (r.type ≡ ArrayType u)
+    ready_array : (u : TypeTree) × (r.type ≡ ArrayType u)
     ready_array = array_of r.type (ready_first ∙ is)
 
     array_text : slice x.text.items pos stop ≡ 97 ∷ sig ready_array.0
@@ -236,16 +251,10 @@ module _ (x : Values) (pos stop n : ℕ) (answer : Answer) (r : Ready x pos stop
         let le = r.there in
         (omega arith, omega arith)
 
-    pub element_code : (c : ℕ) → get_or x.text.items (pos + 1) 0 ≡ c → first_code ready_array.0 ≡ c
-    element_code c e =
-        let le = element_there.0 in
-        let h = slice_head x.text.items (pos + 1) stop (first_code ready_array.0) (after_code ready_array.0) (omega arith) (element_text ∙ begins ready_array.0) in
-        sym h ∙ e
-
     pub deep_array : x.inner.depth_left ≡ 0 → (c : List ℕ) → answer.to c ≡ Faulty (fault (x.offset + n) reasons.TooDeep)
     deep_array depth_left c = sym (ready_at (ArrayType ready_array.0) 0 ready_array.1 depth_left c)
 
-    module _ (inner : ℕ) (depth_left : x.inner.depth_left ≡ suc inner) where
+    module _ (inner : ℕ) (depth_left : x.inner.depth_left ≡ suc inner) (seen : List ℕ) (seen_is : seen ≡ x.text.items) (s : List ℕ) where
       abbrev frame : Reader ℕ
       frame = array_frame x.bounds x.order x.inner.end ready_array.0
 
@@ -259,13 +268,22 @@ module _ (x : Values) (pos stop n : ℕ) (answer : Answer) (r : Ready x pos stop
           ∙ after_same (number x.order 4 x.inner.end (array_row x.bounds ready_array.0 x.inner.end) (x.offset + n) c) _ _ (λ size p u. after_after (padding (alignment_of ready_array.0) x.inner.end p u) _ fill)
           ∙ ready_at (ArrayType ready_array.0) (suc inner) ready_array.1 depth_left c
 
-      pub array_stops : (s : List ℕ) (e : Stop) → Fronts (λ (m : ℕ × ℕ). m) (x.offset + n) s (Err e) frame → Moves x s (Err e) x answer
-      array_stops s e h = front_stops (λ (m : ℕ × ℕ). m) (x.offset + n) s frame fill answer.to array_same x answer.last e h
+      abbrev Sizes : Result (ℕ × ℕ) Stop → Type 0
+      Sizes e = (t : TypeTree) → first_code t ≡ get_or seen (pos + 1) 0 → Fronts (λ (m : ℕ × ℕ). m) (x.offset + n) s e (array_frame x.bounds x.order x.inner.end t)
 
-      pub array_goes : (y : Values) (s : List ℕ) (size k : ℕ) → Fronts (λ (m : ℕ × ℕ). m) (x.offset + n) s (Ok (size, k)) frame → 4 ≤ k → x.offset + n + k + size ≤ x.inner.end
+      sizes : (e : Result (ℕ × ℕ) Stop) → Sizes e → Fronts (λ (m : ℕ × ℕ). m) (x.offset + n) s e frame
+      sizes e h =
+          let le = element_there.0 in
+          let first = slice_head x.text.items (pos + 1) stop (first_code ready_array.0) (after_code ready_array.0) (omega arith) (element_text ∙ begins ready_array.0) in
+          h ready_array.0 (sym first ∙ sym (ap (λ (t : List ℕ). get_or t (pos + 1) 0) seen_is))
+
+      pub array_stops : (e : Stop) → Sizes (Err e) → Moves x s (Err e) x answer
+      array_stops e h = front_stops (λ (m : ℕ × ℕ). m) (x.offset + n) s frame fill answer.to array_same x answer.last e (sizes (Err e) h)
+
+      pub array_goes : (y : Values) (size k : ℕ) → Sizes (Ok (size, k)) → 4 ≤ k → x.offset + n + k + size ≤ x.inner.end
           → Pushed (record x { offset = x.offset + n + k }) y (record { array = true; pos = pos + 1; stop = stop; top = x.inner.top; end = x.offset + n + k + size; depth_left = inner })
           → Goes y (after_piece answer (take k s))
-      array_goes y s size k h some fits p =
+      array_goes y size k h some fits p =
           let q = x.offset + n + k in
           let i = inner_of x (suc x.offset) r.ws r.frames in
           let w : Work = Elements size inner (q + size) ready_array.0 in
@@ -288,78 +306,90 @@ module _ (x : Values) (pos stop n : ℕ) (answer : Answer) (r : Ready x pos stop
             noted = pushed_notes z y g p r.noted (part_noted x.text.items x.lengths.items pos stop (pos + 1) stop r.type_noted (omega arith) (omega arith));
             same = λ c. subst (λ (o : ℕ). works y.bounds y.order answer.last (w ∷ r.ws) o c ≡ answer.to (take k s ++ c)) (sym p.offset)
                 (works_as y.bounds x.bounds y.order x.order p.bounds p.order answer.last (w ∷ r.ws) q c (answer.to (take k s ++ c))
-                (front_taken (λ (m : ℕ × ℕ). m) (x.offset + n) s frame fill answer.to array_same (size, k) h c));
+                (front_taken (λ (m : ℕ × ℕ). m) (x.offset + n) s frame fill answer.to array_same (size, k) (sizes (Ok (size, k)) h) c));
           }
 
   -- ---- a text
 
   module _ (is : (code ≡ 103) ⊎ ((code ≡ 111) ⊎ (code ≡ 115))) where
-    pub ready_text : (k : TextCode) × (r.type ≡ TextType k)
+    ready_text : (k : TextCode) × (r.type ≡ TextType k)
     ready_text = text_of r.type code ready_first is
 
-    pub text_is : text_code ready_text.0 ≡ code
+    text_is : text_code ready_text.0 ≡ code
     text_is = ap first_code (sym ready_text.1) ∙ ready_first
 
-    abbrev sized : Reader ℕ
-    sized = number x.order (length_width ready_text.0) x.inner.end (text_row x.inner.end)
+    abbrev sized : TextCode → Reader ℕ
+    sized k = number x.order (length_width k) x.inner.end (text_row x.inner.end)
 
     abbrev lettered : ℕ → On
     lettered size p u = after (text (kind_of ready_text.0) size p u) (λ t. onward nul (rest_of answer x r.ws))
 
-    sized_same : (c : List ℕ) → after (sized (x.offset + n) c) lettered ≡ answer.to c
+    sized_same : (c : List ℕ) → after (sized ready_text.0 (x.offset + n) c) lettered ≡ answer.to c
     sized_same c = ready_at (TextType ready_text.0) x.inner.depth_left ready_text.1 refl c
 
-    pub text_stops : (s : List ℕ) (e : Stop) → Fronts (λ (m : ℕ × ℕ). m) (x.offset + n) s (Err e) sized → Moves x s (Err e) x answer
-    text_stops s e h = front_stops (λ (m : ℕ × ℕ). m) (x.offset + n) s sized lettered answer.to sized_same x answer.last e h
+    pub text_named : (kind : TextKind) (why : Reason) → ((k : TextCode) → text_code k ≡ code → Of kind ≡ kind_of k) → ((k : TextCode) → text_code k ≡ code → text_reason (kind_of k) ≡ why) → text_reason (Of kind) ≡ why
+    text_named kind why k w = ap text_reason (k ready_text.0 text_is) ∙ w ready_text.0 text_is
 
-    pub text_starts : (scan : TextScan) (s : List ℕ) (size k : ℕ) → Fronts (λ (m : ℕ × ℕ). m) (x.offset + n) s (Ok (size, k)) sized → 0 < k → x.offset + n + k + size + 1 ≤ x.inner.end
-        → Of (scans.kind_of scan) ≡ kind_of ready_text.0 → Stands scan [] → Texts (record x { offset = x.offset + n + k; scan = scan }) code size (after_piece answer (take k s))
-    text_starts scan s size k h some fits scans_is stands = record {
-      ws = r.ws;
-      kind = ready_text.0;
-      size = size;
-      start = x.offset + n + k;
-      bytes = [];
-      frames = further (x.offset + n + k) (omega arith) (omega arith);
-      noted = r.noted;
-      kind_is = text_is;
-      scans = scans_is;
-      stands = stands;
-      offset = omega arith;
-      left_is = omega arith;
-      fits = fits;
-      near = r.near;
-      same = front_taken (λ (m : ℕ × ℕ). m) (x.offset + n) s sized lettered answer.to sized_same (size, k) h;
-    }
+    module _ (s : List ℕ) where
+      abbrev Counts : Result (ℕ × ℕ) Stop → Type 0
+      Counts e = (k : TextCode) → text_code k ≡ code → Fronts (λ (m : ℕ × ℕ). m) (x.offset + n) s e (sized k)
 
-    -- all of the text is there
-    module _ (s : List ℕ) (size k : ℕ) (h : Fronts (λ (m : ℕ × ℕ). m) (x.offset + n) s (Ok (size, k)) sized) (some : 0 < k) (fits : x.offset + n + k + size + 1 ≤ x.inner.end) where
-      letters_same : (c : List ℕ) → after (text (kind_of ready_text.0) size (x.offset + n + k) c) (λ t. onward nul (rest_of answer x r.ws)) ≡ answer.to (take k s ++ c)
-      letters_same = front_taken (λ (m : ℕ × ℕ). m) (x.offset + n) s sized lettered answer.to sized_same (size, k) h
+      pub text_stops : (e : Stop) → Counts (Err e) → Moves x s (Err e) x answer
+      text_stops e h = front_stops (λ (m : ℕ × ℕ). m) (x.offset + n) s (sized ready_text.0) lettered answer.to sized_same x answer.last e (h ready_text.0 text_is)
 
-      abbrev named : Unit {0} → List ℕ × ℕ
-      named u = (take size (drop k s), size)
+      module _ (size k : ℕ) (gives : Counts (Ok (size, k))) (some : 0 < k) (fits : x.offset + n + k + size + 1 ≤ x.inner.end) (kind : TextKind) (kind_is : (k : TextCode) → text_code k ≡ code → Of kind ≡ kind_of k) where
+        letters_same : (c : List ℕ) → after (text (kind_of ready_text.0) size (x.offset + n + k) c) (λ t. onward nul (rest_of answer x r.ws)) ≡ answer.to (take k s ++ c)
+        letters_same = front_taken (λ (m : ℕ × ℕ). m) (x.offset + n) s (sized ready_text.0) lettered answer.to sized_same (size, k) (gives ready_text.0 text_is)
 
-      pub text_whole : Fronts named (x.offset + n + k) (drop k s) (Ok tt) (text (kind_of ready_text.0) size) → (k + size ≤ length s) × Nuls (record x { offset = x.offset + n + k + size }) (after_piece answer (take (k + size) s))
-      text_whole f =
-          let le = h.0 in
-          let more = f.0 in
-          let d = length-drop k s in (
-            omega arith,
-            record {
-              ws = r.ws;
-              frames = further (x.offset + n + k + size) (omega arith) (omega arith);
-              noted = r.noted;
-              fits = fits;
-              near = r.near;
-              same = λ c.
-                  front_taken named (x.offset + n + k) (drop k s) (text (kind_of ready_text.0) size) (λ t. onward nul (rest_of answer x r.ws)) (λ c. answer.to (take k s ++ c)) letters_same tt f c
-                  ∙ ap answer.to (sym (take-both k size s c le));
-            },
-          )
+        pub text_starts : (scan : TextScan) → scans.kind_of scan ≡ kind → Stands scan [] → Texts (record x { offset = x.offset + n + k; scan = scan }) code size (after_piece answer (take k s))
+        text_starts scan scans_is stands = record {
+          ws = r.ws;
+          kind = ready_text.0;
+          size = size;
+          start = x.offset + n + k;
+          bytes = [];
+          frames = further (x.offset + n + k) (omega arith) (omega arith);
+          noted = r.noted;
+          kind_is = text_is;
+          scans = ap Of scans_is ∙ kind_is ready_text.0 text_is;
+          stands = stands;
+          offset = omega arith;
+          left_is = omega arith;
+          fits = fits;
+          near = r.near;
+          same = letters_same;
+        }
 
-      pub text_whole_stops : (e : Stop) → Fronts named (x.offset + n + k) (drop k s) (Err e) (text (kind_of ready_text.0) size) → Moves x s (Err e) x answer
-      text_whole_stops stops.Partial f =
-          (refl, ap answer.to (sym (take-append-drop k s)) ∙ front_waits named (x.offset + n + k) (drop k s) (text (kind_of ready_text.0) size) (λ t. onward nul (rest_of answer x r.ws)) (λ c. answer.to (take k s ++ c)) letters_same f)
-      text_whole_stops (stops.Refused g) f = λ c.
-          ap answer.to (split-at k s c) ∙ front_refused named (x.offset + n + k) (drop k s) (text (kind_of ready_text.0) size) (λ t. onward nul (rest_of answer x r.ws)) (λ c. answer.to (take k s ++ c)) letters_same g f c
+        -- all of the text is there
+        module _ (rest : List ℕ) (rest_is : rest ≡ drop k s) where
+          abbrev named : List ℕ → Unit {0} → List ℕ × ℕ
+          named t u = (take size t, size)
+
+          letters : (e : Result (Unit {0}) Stop) → Fronts (named rest) (x.offset + n + k) rest e (text (Of kind) size) → Fronts (named (drop k s)) (x.offset + n + k) (drop k s) e (text (kind_of ready_text.0) size)
+          letters e h =
+              subst (λ (w : WantedText). Fronts (named (drop k s)) (x.offset + n + k) (drop k s) e (text w size)) (kind_is ready_text.0 text_is)
+              (subst (λ (t : List ℕ). Fronts (named t) (x.offset + n + k) t e (text (Of kind) size)) rest_is h)
+
+          pub text_whole : Fronts (named rest) (x.offset + n + k) rest (Ok tt) (text (Of kind) size) → (k + size ≤ length s) × Nuls (record x { offset = x.offset + n + k + size; doing = doing.Nul }) (after_piece answer (take (k + size) s))
+          text_whole h =
+              let f = letters (Ok tt) h in
+              let le = (gives ready_text.0 text_is).0 in
+              let more = f.0 in
+              let d = length-drop k s in (
+                omega arith,
+                record {
+                  ws = r.ws;
+                  frames = further (x.offset + n + k + size) (omega arith) (omega arith);
+                  noted = r.noted;
+                  fits = fits;
+                  near = r.near;
+                  same = λ c.
+                      front_taken (named (drop k s)) (x.offset + n + k) (drop k s) (text (kind_of ready_text.0) size) (λ t. onward nul (rest_of answer x r.ws)) (λ c. answer.to (take k s ++ c)) letters_same tt f c
+                      ∙ ap answer.to (sym (take-both k size s c le));
+                },
+              )
+
+          pub text_whole_stops : (e : Stop) → Fronts (named rest) (x.offset + n + k) rest (Err e) (text (Of kind) size) → Moves x s (Err e) x answer
+          text_whole_stops e h =
+              after_err x x s k answer (drop k s) refl e
+              (front_stops (named (drop k s)) (x.offset + n + k) (drop k s) (text (kind_of ready_text.0) size) (λ t. onward nul (rest_of answer x r.ws)) (λ c. answer.to (take k s ++ c)) letters_same x answer.last e (letters (Err e) h))

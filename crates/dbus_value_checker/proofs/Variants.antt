@@ -54,7 +54,7 @@ frames_same reach low high bottom a b (f ∷ fs) [] e h = absurd h
 module _ (x : Values) (pos stop : ℕ) (answer : Answer) (w : Wants x pos stop answer) (there : get_or x.text.items pos 0 ≡ 118) where
   variant_same : (c : List ℕ) → own x.bounds x.order x.inner.end (own_of VariantType x.inner.depth_left) (rest_of answer x w.ws) x.offset c ≡ answer.to c
   variant_same c =
-      let e = variant_is w.type (code_first x pos stop answer w 118 there) in
+      let e = variant_is w.type (code_first x pos stop answer w x.text.items refl ∙ there) in
       sym (variant_begins x.bounds x.order x.inner.depth_left x.inner.end x.offset c (rest_of answer x w.ws))
       ∙ subst (λ (t : TypeTree). onward (value x.bounds x.order x.inner.depth_left x.inner.end t) (rest_of answer x w.ws) x.offset c ≡ answer.to c) e (w.same c)
 
