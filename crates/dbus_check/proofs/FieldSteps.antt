@@ -20,7 +20,7 @@ use Rattle.dbus_value_checker.specs.Fronts.{Fronts}
 use Rattle.dbus_check.specs.Heading.{has, seen_row}
 use Rattle.dbus_value_checker.specs.Suspended.{onward, done}
 use Rattle.dbus_check.specs.Fields.{field_code, counted_text, name_text, padded_number}
-use Rattle.dbus_check.proofs.Chains.{fronts_same, first_err, then_err, then_ok, front_as, forgotten}
+use Rattle.dbus_value_checker.proofs.Chains.{fronts_same, first_err, then_err, then_ok, front_as, forgotten}
 
 -- ---- rows
 

@@ -3,7 +3,7 @@ use Rattle.std.proofs.Common.{◌≡◌, ℕ, zero, suc, ◌+◌, ◌-◌, ◌<�
 use Rattle.std.proofs.lemmas.List.{append-nil, take_all, take-take, take-append-drop, length-append, length-take, length-drop}
 use Rattle.dbus_value_model.specs.declared.fault.Fault.{Fault}
 use Rattle.dbus_value_model.specs.Reading.{Done, Faulty, Partial}
-use Rattle.dbus_value_checker.proofs.FrontSteps.{take-both, split-at}
+use Rattle.dbus_value_checker.proofs.Chains.{take-both, split-at}
 use Rattle.dbus_check.specs.Pieces.{Holds, Joined, Fed}
 use Rattle.dbus_check.specs.Pieces as pieces
 use Rattle.dbus_check.specs.Progress.{To, Denotes, denotes, Runs, IsLive, after_bytes}

@@ -33,7 +33,7 @@ use Rattle.dbus_check.specs.Progress.{To, Moves, Under}
 use Rattle.dbus_check.specs.declared.progress.Progress.{Progress}
 use Rattle.dbus_check.proofs.Heading.{after_fixed, message_on_is}
 use Rattle.dbus_check.proofs.Lasts.{lasts_fixed, sized_fixed}
-use Rattle.dbus_value_checker.proofs.FrontSteps.{split-at}
+use Rattle.dbus_value_checker.proofs.Chains.{split-at}
 
 -- the empty text is a signature
 pub no_signature : IsKind kinds.Signature []

@@ -22,7 +22,7 @@ use Rattle.dbus_value_checker.specs.Fronts.{Fronts}
 use Rattle.dbus_value_checker.specs.Suspended.{onward, done}
 use Rattle.dbus_check.specs.Fields.{short_text, name_text, padded_number, seen_as, nothing_of}
 use Rattle.dbus_check.proofs.FieldLaws.{value_begins, name_begins, serial_begins, count_begins, body_signature_begins}
-use Rattle.dbus_check.proofs.Chains.{fronts_same, first_err, then_err, then_ok}
+use Rattle.dbus_value_checker.proofs.Chains.{fronts_same, first_err, then_err, then_ok}
 
 module _ {B : Type 0} (limits : Limits) (order : Order) (end : ℕ) (w : Want) (g : ValueTree → B) (code : ℕ) (only : kind_wanted w ≡ Only (code ∷ [])) (inner : Reader B) (o : ℕ) (s : List ℕ) where
   abbrev signed : Unit {0} → List ℕ × ℕ

@@ -4,7 +4,7 @@ use Rattle.std.proofs.Math.Path.{fun_ext}
 use Rattle.std.proofs.lemmas.List.{length-drop, take-append-drop}
 use Rattle.dbus_value_model.specs.declared.stop.Stop.{Stop}
 use Rattle.dbus_value_model.specs.declared.stop.Stop.TheVariants as stops
-use Rattle.dbus_value_checker.proofs.FrontSteps.{take-both, split-at}
+use Rattle.dbus_value_checker.proofs.Chains.{take-both, split-at}
 use Rattle.dbus_check.specs.Progress.{To, Denotes, denotes, Moves, Passes, Coded, after_bytes}
 use Rattle.dbus_check.specs.declared.progress.Progress.{Progress}
 use Rattle.dbus_check.specs.declared.progress.Stage.{Stage}

@@ -11,7 +11,7 @@ use Rattle.dbus_value_checker.specs.declared.values.Values.{Values}
 use Rattle.dbus_value_checker.specs.declared.values.Doing.{Doing}
 use Rattle.dbus_value_checker.specs.Suspended.{Work, Parts, Elements, work}
 use Rattle.dbus_value_checker.specs.Denotations.{Answer, rest_of, HasFrames, HasNotes, Goes, Numbers, after_piece}
-use Rattle.dbus_value_checker.proofs.NumberRuns.{width_some, whole_numbers, plain_type, numbers_wait, numbers_run}
+use Rattle.dbus_value_checker.proofs.NumberRuns.{no_number, width_few, width_some, whole_numbers, plain_type, numbers_wait, numbers_run}
 use Rattle.dbus_value_checker.proofs.Slices.{slice_head}
 use Rattle.dbus_value_checker.proofs.FrameLaws.{frames_reach, frames_small}
 
@@ -53,39 +53,55 @@ module _ (x : Values) (w : ℕ) (answer : Answer) (b : Numbers x w answer) where
   aligned_to : gap_to (width b.code) x.offset ≡ 0
   aligned_to = ap (λ (v : ℕ). gap_to v x.offset) b.width_is ∙ b.aligned
 
-  -- the bytes end within a number
-  pub numbers_lack : (s : List ℕ) → length s < w → answer.to s ≡ Partial
-  numbers_lack s short =
-      let e = b.frames.0.is.end_is in
-      let m = b.more in
-      let v = b.width_is in
-      sym (b.same s) ∙ ap (λ (k : ℕ). work x.bounds x.order (Elements k b.depth_left b.stop (NumberType b.code)) (rest_of answer x b.ws) x.offset s) some_turns
-      ∙ numbers_wait x.bounds x.order b.code b.plain b.depth_left b.stop (rest_of answer x b.ws) (b.turns - 1) x.offset s aligned_to (omega arith) (omega arith)
+  module _ (s given : List ℕ) (given_is : given ≡ take (x.inner.end - x.offset) s) where
+    abbrev whole : ℕ
+    whole = length given - length given % w
 
-  -- the bytes of whole numbers are taken
-  pub numbers_go : (s : List ℕ) (there n : ℕ) → n ≡ there - there % w → there ≤ length s → x.offset + there ≤ x.inner.end → Goes (record x { offset = x.offset + n }) (after_piece answer (take n s))
-  numbers_go s there n n_is le fits =
-      let h = b.frames.0 in
-      let t = h.is.turns_is in
-      let e = h.is.end_is in
-      let whole = whole_numbers b.code there in
-      let m = whole.0 in
-      let is : n ≡ m * width b.code = n_is ∙ ap (λ (v : ℕ). there - there % v) (sym b.width_is) ∙ whole.1.0 in
-      let few : n ≤ there = omega arith in
-      let some : m ≤ m * width b.code = whole.1.1 in
-      let size : length (take n s) ≡ m * width b.code = omega (arith, length-take n s) in
-      let turns : m + (b.turns - m) ≡ b.turns = omega arith in
-      let at : x.offset + m * width b.code ≡ x.offset + n = omega arith in
-      let rest_on = rest_of answer x b.ws in
-      record {
-        ws = Elements (b.turns - m) b.depth_left b.stop (NumberType b.code) ∷ b.ws;
-        frames = (
-          (let low : x.offset + n ≤ x.inner.end = omega arith in let turns_are : x.inner.end ≤ x.offset + n + (b.turns - m) = omega arith in assumption b.frames),
-          frames_reach x.offset (x.offset + n) x.inner.end x.inner.top x.end x.text.items (reverse x.frames.items) b.ws (omega arith) b.frames.1,
-        );
-        noted = b.noted;
-        same = λ c.
-            subst (λ (q : ℕ). work x.bounds x.order (Elements (b.turns - m) b.depth_left b.stop (NumberType b.code)) rest_on q c ≡ answer.to (take n s ++ c)) at
-            (sym (numbers_run x.bounds x.order b.code b.plain b.depth_left b.stop rest_on m (b.turns - m) x.offset (take n s) c size (omega arith) aligned_to)
-            ∙ ap (λ (k : ℕ). work x.bounds x.order (Elements k b.depth_left b.stop (NumberType b.code)) rest_on x.offset (take n s ++ c)) turns ∙ b.same (take n s ++ c));
-      }
+    pub numbers_there : (length given ≤ length s) × (x.offset + length given ≤ x.inner.end)
+    numbers_there = let l = ap length given_is ∙ length-take (x.inner.end - x.offset) s in let m = b.more in (omega arith, omega arith)
+
+    -- the bytes end within a number
+    pub numbers_lack : whole ≡ 0 → (answer.to s ≡ Partial) × (length s < 8)
+    numbers_lack none =
+        let e = b.frames.0.is.end_is in
+        let m = b.more in
+        let v = b.width_is in
+        let few = width_few b.code in
+        let l = ap length given_is ∙ length-take (x.inner.end - x.offset) s in
+        let short = no_number b.code (length given) (subst (λ (v : ℕ). length given - length given % v ≡ 0) (sym b.width_is) none) in (
+          sym (b.same s) ∙ ap (λ (k : ℕ). work x.bounds x.order (Elements k b.depth_left b.stop (NumberType b.code)) (rest_of answer x b.ws) x.offset s) some_turns
+              ∙ numbers_wait x.bounds x.order b.code b.plain b.depth_left b.stop (rest_of answer x b.ws) (b.turns - 1) x.offset s aligned_to (omega arith) (omega arith),
+          omega arith,
+        )
+
+    -- the bytes of whole numbers are taken
+    pub numbers_go : Goes (record x { offset = x.offset + whole }) (after_piece answer (take whole s))
+    numbers_go =
+        let n = whole in
+        let there = length given in
+        let le = numbers_there.0 in
+        let fits = numbers_there.1 in
+        let h = b.frames.0 in
+        let t = h.is.turns_is in
+        let e = h.is.end_is in
+        let whole = whole_numbers b.code there in
+        let m = whole.0 in
+        let is : n ≡ m * width b.code = ap (λ (v : ℕ). there - there % v) (sym b.width_is) ∙ whole.1.0 in
+        let few : n ≤ there = omega arith in
+        let some : m ≤ m * width b.code = whole.1.1 in
+        let size : length (take n s) ≡ m * width b.code = omega (arith, length-take n s) in
+        let turns : m + (b.turns - m) ≡ b.turns = omega arith in
+        let at : x.offset + m * width b.code ≡ x.offset + n = omega arith in
+        let rest_on = rest_of answer x b.ws in
+        record {
+          ws = Elements (b.turns - m) b.depth_left b.stop (NumberType b.code) ∷ b.ws;
+          frames = (
+            (let low : x.offset + n ≤ x.inner.end = omega arith in let turns_are : x.inner.end ≤ x.offset + n + (b.turns - m) = omega arith in assumption b.frames),
+            frames_reach x.offset (x.offset + n) x.inner.end x.inner.top x.end x.text.items (reverse x.frames.items) b.ws (omega arith) b.frames.1,
+          );
+          noted = b.noted;
+          same = λ c.
+              subst (λ (q : ℕ). work x.bounds x.order (Elements (b.turns - m) b.depth_left b.stop (NumberType b.code)) rest_on q c ≡ answer.to (take n s ++ c)) at
+              (sym (numbers_run x.bounds x.order b.code b.plain b.depth_left b.stop rest_on m (b.turns - m) x.offset (take n s) c size (omega arith) aligned_to)
+              ∙ ap (λ (k : ℕ). work x.bounds x.order (Elements k b.depth_left b.stop (NumberType b.code)) rest_on x.offset (take n s ++ c)) turns ∙ b.same (take n s ++ c));
+        }

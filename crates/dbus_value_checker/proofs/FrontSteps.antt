@@ -2,7 +2,7 @@
 use Rattle.std.proofs.Common.{◌≡◌, ℕ, zero, suc, ◌+◌, ◌<◌, ◌≤◌, List, [], ◌∷◌, ◌++◌, length, get_or, take, drop, replicate, Option, Some, None, refl, sym, ap, subst, ◌∙◌, arith, append_assoc, inl, inr}
 use Rattle.std.specs.Prelude.{◌⊎◌}
 use Rattle.std.proofs.lemmas.Bool.{lt-ltb, le-ltb}
-use Rattle.std.proofs.lemmas.List.{take_more, take_all, drop_more, take-append-drop, length-take, length-drop}
+use Rattle.std.proofs.lemmas.List.{take_more, take_all, drop_more, take-append-drop, length-take}
 use Rattle.dbus_value_model.specs.declared.limits.Bounds.{Bounds}
 use Rattle.dbus_value_model.specs.declared.order.Order.{Order}
 use Rattle.dbus_value_model.specs.declared.order.Order.TheVariants.{Little, Big}
@@ -12,14 +12,14 @@ use Rattle.dbus_value_model.specs.declared.fault.Fault.{Fault}
 use Rattle.dbus_value_model.specs.Bytes.{gap_to}
 use Rattle.dbus_value_model.specs.Items.{fault}
 use Rattle.dbus_value_model.specs.Reading.{Reader, Outcome, Done, Faulty, Partial, after, zeros, padding, number, number_of, validated}
-use Rattle.std.proofs.Common.{Ok, Err}
+use Rattle.std.proofs.Common.{Ok, Err, Result}
+use Rattle.dbus_value_checker.proofs.Chains.{split-at, first_err, then_err, then_ok, front_as, forgotten}
 use Rattle.dbus_texts.specs.Types.{NumberCode, BYTE, BOOLEAN, INT16, UINT16, INT32, UINT32, INT64, UINT64, DOUBLE, UNIX_FD, TextCode, STRING, OBJECT_PATH, SIGNATURE, number_code, text_code}
 use Rattle.dbus_types.specs.Alignments.{width, length_width, alignment_of}
 use Rattle.dbus_value_model.specs.ValueItems.{number_row, text_row, array_row}
 use Rattle.dbus_value_model.specs.ValueReaders.{array_frame}
 use Rattle.dbus_texts.specs.Types.{TypeTree, NumberType}
 use Rattle.dbus_types.proofs.TypeCodes.{boolean_is, descriptor_is}
-use Rattle.dbus_types.specs.SignatureCodes.{first_code}
 use Rattle.dbus_value_model.specs.declared.stop.Stop.{Stop}
 use Rattle.dbus_value_model.specs.declared.stop.Stop.TheVariants as stops
 use Rattle.dbus_value_checker.specs.declared.values.Values.{Values}
@@ -108,12 +108,6 @@ first_byte Little (b ∷ s) h = omega arith
 first_byte Big (b ∷ s) h = omega arith
 
 module _ (order : Order) (w end : ℕ) (row : ℕ → ℕ → Option Reason) (o : ℕ) (s : List ℕ) where
-  pub number_lacks : length s < w → o + w ≤ end → number order w end row o s ≡ Partial
-  number_lacks h fits = number_waits order w end row o s h fits
-
-  pub number_past : end < o + w → (c : List ℕ) → number order w end row o (s ++ c) ≡ Faulty (fault o reasons.Overrun)
-  number_past h c = number_over order w end row o (s ++ c) h
-
   module _ (n : ℕ) (there : w ≤ length s) (fits : o + w ≤ end) (is : n ≡ number_of order (take w s)) where
     long : length (take w s) ≡ w
     long = omega (arith, length-take w s)
@@ -125,8 +119,7 @@ module _ (order : Order) (w end : ℕ) (row : ℕ → ℕ → Option Reason) (o 
 
     pub number_refused : (why : Reason) → row (o + w) n ≡ Some why → (c : List ℕ) → number order w end row o (s ++ c) ≡ Faulty (fault o why)
     number_refused why e c =
-        let split : s ++ c ≡ take w s ++ (drop w s ++ c) = ap (λ (t : List ℕ). t ++ c) (sym (take-append-drop w s)) ∙ append_assoc (take w s) (drop w s) c in
-        ap (number order w end row o) split ∙ number_read order w end row o (take w s) (drop w s ++ c) long fits
+        ap (number order w end row o) (split-at w s c) ∙ number_read order w end row o (take w s) (drop w s ++ c) long fits
         ∙ ap (λ (m : ℕ). validated (row (o + w) m) m o (o + w) (drop w s ++ c)) (sym is) ∙ ap (λ (r : Option Reason). validated r n o (o + w) (drop w s ++ c)) e
 
 -- ---- the numbers of a type
@@ -150,33 +143,20 @@ plain_row index_limit UNIX_FD c n p e b f = absurd (f (sym e))
 
 -- the bytes of a number are not there
 pub lacks_number : {X : Type 0} (view : X → ℕ × ℕ) (order : Order) (w end : ℕ) (row : ℕ → ℕ → Option Reason) (o : ℕ) (s : List ℕ) (e : Stop) → Lack w o end s e → Fronts view o s (Err e) (number order w end row)
-lacks_number view order w end row o s stops.Partial h = number_lacks order w end row o s h.0 h.1
-lacks_number view order w end row o s (stops.Refused f) h = λ c. number_past order w end row o s h.0 c ∙ ap (λ (g : Fault). Faulty g) (sym h.1)
+lacks_number view order w end row o s stops.Partial h = number_waits order w end row o s h.0 h.1
+lacks_number view order w end row o s (stops.Refused f) h = λ c. number_over order w end row o (s ++ c) h.0 ∙ ap (λ (g : Fault). Faulty g) (sym h.1)
 
--- the number is forgotten
-pub forgets_stop : (o : ℕ) (s : List ℕ) (run : Reader ℕ) (e : Stop) → Fronts (λ (x : ℕ × ℕ). x) o s (Err e) run → Fronts (λ (n : ℕ). (tt, n)) o s (Err e) (onward run done)
-forgets_stop o s run stops.Partial h = ap (λ (r : Outcome ℕ). after r (λ x. done)) h
-forgets_stop o s run (stops.Refused f) h = λ c. ap (λ (r : Outcome ℕ). after r (λ x. done)) (h c)
+-- a number of the width of its type, which is forgotten
+module _ (index_limit : Option ℕ) (order : Order) (end o : ℕ) (s : List ℕ) (k : NumberCode) (w : ℕ) (w_is : w ≡ width k) where
+  pub number_stop : (e : Stop) → Lack w o end s e → Fronts (λ (n : ℕ). (tt, n)) o s (Err e) (onward (number order (width k) end (number_row index_limit k)) done)
+  number_stop e h = rw (← w_is) (forgotten (λ (n : ℕ). (n, n)) o s (number order w end (number_row index_limit k)) (Err e) (lacks_number (λ (n : ℕ). (n, n)) order w end (number_row index_limit k) o s e h))
 
-module _ (index_limit : Option ℕ) (order : Order) (end o code : ℕ) (s : List ℕ) (k : NumberCode) (is : number_code k ≡ code) where
-  pub number_stop : (w : ℕ) (e : Stop) → w ≡ width k → Lack w o end s e → Fronts (λ (n : ℕ). (tt, n)) o s (Err e) (onward (number order (width k) end (number_row index_limit k)) done)
-  number_stop w e w_is h =
-      forgets_stop o s (number order (width k) end (number_row index_limit k)) e
-      (lacks_number (λ (x : ℕ × ℕ). x) order (width k) end (number_row index_limit k) o s e (subst (λ (v : ℕ). Lack v o end s e) w_is h))
+  module _ (n : ℕ) (there : w ≤ length s) (fits : o + w ≤ end) (n_is : n ≡ number_of order (take w s)) where
+    pub number_there : number_row index_limit k (o + w) n ≡ None → Fronts (λ (n : ℕ). (tt, n)) o s (Ok w) (onward (number order (width k) end (number_row index_limit k)) done)
+    number_there good = rw (← w_is) (forgotten (λ (m : ℕ). (n, m)) o s (number order w end (number_row index_limit k)) (Ok w) (there, number_taken order w end (number_row index_limit k) o s n there fits n_is good))
 
-  pub number_there : (w n : ℕ) → w ≡ width k → w ≤ length s → o + w ≤ end → n ≡ number_of order (take w s) → number_row index_limit k (o + w) n ≡ None → Fronts (λ (n : ℕ). (tt, n)) o s (Ok w) (onward (number order (width k) end (number_row index_limit k)) done)
-  number_there w n w_is there fits n_is good =
-      let e : w ≡ width k = w_is in (
-        there,
-        λ c. subst (λ (v : ℕ). onward (number order v end (number_row index_limit k)) done o (take w s ++ c) ≡ Done tt (o + w) c) e
-            (ap (λ (r : Outcome ℕ). after r (λ x. done)) (number_taken order w end (number_row index_limit k) o s n there fits n_is good c)),
-      )
-
-  pub number_validated : (w n : ℕ) (why : Reason) → w ≡ width k → w ≤ length s → o + w ≤ end → n ≡ number_of order (take w s) → number_row index_limit k (o + w) n ≡ Some why → Fronts (λ (n : ℕ). (tt, n)) o s (Err (stops.Refused (fault o why))) (onward (number order (width k) end (number_row index_limit k)) done)
-  number_validated w n why w_is there fits n_is bad =
-      let e : w ≡ width k = w_is in
-      λ c. subst (λ (v : ℕ). onward (number order v end (number_row index_limit k)) done o (s ++ c) ≡ Faulty (fault o why)) e
-      (ap (λ (r : Outcome ℕ). after r (λ x. done)) (number_refused order w end (number_row index_limit k) o s n there fits n_is why bad c))
+    pub number_validated : (why : Reason) → number_row index_limit k (o + w) n ≡ Some why → Fronts (λ (n : ℕ). (tt, n)) o s (Err (stops.Refused (fault o why))) (onward (number order (width k) end (number_row index_limit k)) done)
+    number_validated why bad = rw (← w_is) (forgotten (λ (m : ℕ). (n, m)) o s (number order w end (number_row index_limit k)) (Err (stops.Refused (fault o why))) (number_refused order w end (number_row index_limit k) o s n there fits n_is why bad))
 
 -- ---- the length of a text
 
@@ -191,93 +171,60 @@ short_width k c e h = elim (length_code k c e) [ inl a ↦ a.1 | inr a ↦ absur
 pub long_width : (k : TextCode) (c : ℕ) → text_code k ≡ c → (c ≡ 103 → ⊥) → length_width k ≡ 4
 long_width k c e h = elim (length_code k c e) [ inl a ↦ absurd (h a.0) | inr a ↦ a.1 ]
 
-module _ (order : Order) (end o : ℕ) (s : List ℕ) (k : TextCode) where
-  pub length_stop : (w : ℕ) (e : Stop) → length_width k ≡ w → Lack w o end s e → Fronts (λ (x : ℕ × ℕ). x) o s (Err e) (number order (length_width k) end (text_row end))
-  length_stop w e w_is h = lacks_number (λ (x : ℕ × ℕ). x) order (length_width k) end (text_row end) o s e (subst (λ (v : ℕ). Lack v o end s e) (sym w_is) h)
+module _ (order : Order) (end o : ℕ) (s : List ℕ) (k : TextCode) (w : ℕ) (w_is : length_width k ≡ w) where
+  pub length_stop : (e : Stop) → Lack w o end s e → Fronts (λ (x : ℕ × ℕ). x) o s (Err e) (number order (length_width k) end (text_row end))
+  length_stop e h = rw w_is (lacks_number (λ (x : ℕ × ℕ). x) order w end (text_row end) o s e h)
 
-  pub length_there : (w n : ℕ) → length_width k ≡ w → w ≤ length s → n ≡ number_of order (take w s) → o + w + n + 1 ≤ end → Fronts (λ (x : ℕ × ℕ). x) o s (Ok (n, w)) (number order (length_width k) end (text_row end))
-  length_there w n w_is there n_is fits =
-      let row : text_row end (o + w) n ≡ None = rw (le-ltb end (o + w + n + 1) fits) refl in
-      (there, λ c. subst (λ (v : ℕ). number order v end (text_row end) o (take w s ++ c) ≡ Done n (o + w) c) (sym w_is) (number_taken order w end (text_row end) o s n there (omega arith) n_is row c))
+  module _ (n : ℕ) (there : w ≤ length s) (n_is : n ≡ number_of order (take w s)) where
+    pub length_there : o + w + n + 1 ≤ end → Fronts (λ (x : ℕ × ℕ). x) o s (Ok (n, w)) (number order (length_width k) end (text_row end))
+    length_there fits = rw w_is (there, number_taken order w end (text_row end) o s n there (omega arith) n_is (rw (le-ltb end (o + w + n + 1) fits) refl))
 
-  pub length_past : (w n : ℕ) → length_width k ≡ w → w ≤ length s → o + w ≤ end → n ≡ number_of order (take w s) → end < o + w + n + 1 → Fronts (λ (x : ℕ × ℕ). x) o s (Err (stops.Refused (fault o reasons.Overrun))) (number order (length_width k) end (text_row end))
-  length_past w n w_is there low n_is past =
-      let row : text_row end (o + w) n ≡ Some reasons.Overrun = rw (lt-ltb end (o + w + n + 1) past) refl in
-      λ c. subst (λ (v : ℕ). number order v end (text_row end) o (s ++ c) ≡ Faulty (fault o reasons.Overrun)) (sym w_is) (number_refused order w end (text_row end) o s n there low n_is reasons.Overrun row c)
+    pub length_past : o + w ≤ end → end < o + w + n + 1 → Fronts (λ (x : ℕ × ℕ). x) o s (Err (stops.Refused (fault o reasons.Overrun))) (number order (length_width k) end (text_row end))
+    length_past low past = rw w_is (number_refused order w end (text_row end) o s n there low n_is reasons.Overrun (rw (lt-ltb end (o + w + n + 1) past) refl))
 
 -- ---- an array's length and the padding after it
 
-pub take-both : (i j : ℕ) (s c : List ℕ) → i ≤ length s → take (i + j) s ++ c ≡ take i s ++ (take j (drop i s) ++ c)
-take-both zero j s c h = let e : 0 + j ≡ j = omega arith in ap (λ (k : ℕ). take k s ++ c) e
-take-both (suc i) j [] c h = absurd (omega arith)
-take-both (suc i) j (b ∷ s) c h = let e : suc i + j ≡ suc (i + j) = omega arith in ap (λ (k : ℕ). take k (b ∷ s) ++ c) e ∙ ap (λ (l : List ℕ). b ∷ l) (take-both i j s c (omega arith))
-
-pub split-at : (i : ℕ) (s c : List ℕ) → s ++ c ≡ take i s ++ (drop i s ++ c)
-split-at i s c = ap (λ (t : List ℕ). t ++ c) (sym (take-append-drop i s)) ∙ append_assoc (take i s) (drop i s) c
-
 module _ (bounds : Bounds) (order : Order) (end o : ℕ) (s : List ℕ) (t : TypeTree) where
-  frame_stop : (e : Stop) → Lack 4 o end s e → Fronts (λ (x : ℕ × ℕ). x) o s (Err e) (array_frame bounds order end t)
-  unfolding array_frame
-  frame_stop stops.Partial h = rw (number_lacks order 4 end (array_row bounds t end) o s h.0 h.1) refl
-  frame_stop (stops.Refused f) h = λ c. rw (number_past order 4 end (array_row bounds t end) o s h.0 c) (ap (λ (g : Fault). Faulty g) (sym h.1))
+  abbrev sized : Reader ℕ
+  sized = number order 4 end (array_row bounds t end)
+
+  abbrev padded : ℕ → Reader ℕ
+  padded n p u = after (padding (alignment_of t) end p u) (λ z. Done n)
 
   pub array_stop : (e : Stop) → Lack 4 o end s e → Fronts (λ (x : ℕ × ℕ). x) o s (Err e) (array_frame bounds order end t)
-  array_stop = frame_stop
+  unfolding array_frame
+  array_stop e h = first_err (λ (n : ℕ). (n, n)) (λ (x : ℕ × ℕ). x) o s sized padded e (lacks_number (λ (n : ℕ). (n, n)) order 4 end (array_row bounds t end) o s e h)
 
   module _ (n : ℕ) (there : 4 ≤ length s) (low : o + 4 ≤ end) (n_is : n ≡ number_of order (take 4 s)) where
-    pub array_too_long : bounds.array < n → Fronts (λ (x : ℕ × ℕ). x) o s (Err (stops.Refused (fault o reasons.ArrayTooLong))) (array_frame bounds order end t)
+    array_refused : (why : Reason) → array_row bounds t end (o + 4) n ≡ Some why → Fronts (λ (x : ℕ × ℕ). x) o s (Err (stops.Refused (fault o why))) (array_frame bounds order end t)
     unfolding array_frame
-    array_too_long h c =
-        let row : array_row bounds t end (o + 4) n ≡ Some reasons.ArrayTooLong = rw (lt-ltb bounds.array n h) refl in
-        rw (number_refused order 4 end (array_row bounds t end) o s n there low n_is reasons.ArrayTooLong row c) refl
+    array_refused why row = first_err (λ (m : ℕ). (n, m)) (λ (x : ℕ × ℕ). x) o s sized padded (stops.Refused (fault o why)) (number_refused order 4 end (array_row bounds t end) o s n there low n_is why row)
 
-    module _ (short : n ≤ bounds.array) (code : ℕ) (code_is : first_code t ≡ code) (a : ℕ) (a_is : (u : TypeTree) → first_code u ≡ code → a ≡ alignment_of u) where
-      boundary : a ≡ alignment_of t
-      boundary = a_is t code_is
+    pub array_too_long : bounds.array < n → Fronts (λ (x : ℕ × ℕ). x) o s (Err (stops.Refused (fault o reasons.ArrayTooLong))) (array_frame bounds order end t)
+    array_too_long h = array_refused reasons.ArrayTooLong (rw (lt-ltb bounds.array n h) refl)
 
+    module _ (short : n ≤ bounds.array) (a : ℕ) (a_is : a ≡ alignment_of t) where
       pub array_past : end < o + 4 + gap_to a (o + 4) + n → Fronts (λ (x : ℕ × ℕ). x) o s (Err (stops.Refused (fault o reasons.Overrun))) (array_frame bounds order end t)
-      unfolding array_frame
-      array_past h c =
-          let over : end < o + 4 + gap_to (alignment_of t) (o + 4) + n = subst (λ (b : ℕ). end < o + 4 + gap_to b (o + 4) + n) boundary h in
-          let row : array_row bounds t end (o + 4) n ≡ Some reasons.Overrun = rw (le-ltb bounds.array n short, lt-ltb end _ over) refl in
-          rw (number_refused order 4 end (array_row bounds t end) o s n there low n_is reasons.Overrun row c) refl
+      array_past h = array_refused reasons.Overrun (rw (le-ltb bounds.array n short, ← a_is, lt-ltb end (o + 4 + gap_to a (o + 4) + n) h) refl)
 
-      module _ (fits : o + 4 + gap_to a (o + 4) + n ≤ end) where
-        row_none : array_row bounds t end (o + 4) n ≡ None
-        row_none =
-            let within : o + 4 + gap_to (alignment_of t) (o + 4) + n ≤ end = subst (λ (b : ℕ). o + 4 + gap_to b (o + 4) + n ≤ end) boundary fits in
-            rw (le-ltb bounds.array n short, le-ltb end _ within) refl
+      module _ (fits : o + 4 + gap_to a (o + 4) + n ≤ end) (rest : List ℕ) (rest_is : rest ≡ drop 4 s) where
+        sized_there : Fronts (λ (m : ℕ). (n, m)) o s (Ok 4) sized
+        sized_there = (there, number_taken order 4 end (array_row bounds t end) o s n there low n_is (rw (le-ltb bounds.array n short, ← a_is, le-ltb end (o + 4 + gap_to a (o + 4) + n) fits) refl))
 
-        pub array_there : (z : ℕ) → Fronts (λ (n : ℕ). (tt, n)) (o + 4) (drop 4 s) (Ok z) (padding a end) → 4 + z ≤ length s → Fronts (λ (x : ℕ × ℕ). x) o s (Ok (n, 4 + z)) (array_frame bounds order end t)
+        after_it : (e : Result ℕ Stop) → Fronts (λ (n : ℕ). (tt, n)) (o + 4) rest e (padding a end) → Fronts (λ (n : ℕ). (tt, n)) (o + 4) (drop 4 s) e (padding (alignment_of t) end)
+        after_it e h = rw (← a_is, ← rest_is) h
+
+        pub array_there : (z : ℕ) → Fronts (λ (n : ℕ). (tt, n)) (o + 4) rest (Ok z) (padding a end) → Fronts (λ (x : ℕ × ℕ). x) o s (Ok (n, 4 + z)) (array_frame bounds order end t)
         unfolding array_frame
-        array_there z h le =
-            let passed : (c : List ℕ) → padding (alignment_of t) end (o + 4) (take z (drop 4 s) ++ c) ≡ Done tt (o + 4 + z) c = subst (λ (b : ℕ). (c : List ℕ) → padding b end (o + 4) (take z (drop 4 s) ++ c) ≡ Done tt (o + 4 + z) c) boundary h.1 in
-            let e : o + 4 + z ≡ o + (4 + z) = omega arith in
-            (le, λ c. rw (take-both 4 z s c there, number_taken order 4 end (array_row bounds t end) o s n there low n_is row_none (take z (drop 4 s) ++ c), passed c) (ap (λ (p : ℕ). Done n p c) e))
+        array_there z h =
+            then_ok (λ (m : ℕ). (n, m)) (λ (m : ℕ). (n, m)) (λ (x : ℕ × ℕ). x) o s sized padded 4 sized_there z
+            (front_as (λ (m : ℕ). (tt, m)) (λ (m : ℕ). (n, m)) (λ (u : Unit {0}). n) (o + 4) (drop 4 s) (padding (alignment_of t) end) z (after_it (Ok z) h) z refl refl) (n, 4 + z) refl refl
 
-        pub array_padding : (e : Stop) → Fronts (λ (n : ℕ). (tt, n)) (o + 4) (drop 4 s) (Err e) (padding a end) → Fronts (λ (x : ℕ × ℕ). x) o s (Err e) (array_frame bounds order end t)
+        pub array_padding : (e : Stop) → Fronts (λ (n : ℕ). (tt, n)) (o + 4) rest (Err e) (padding a end) → Fronts (λ (x : ℕ × ℕ). x) o s (Err e) (array_frame bounds order end t)
         unfolding array_frame
-        array_padding stops.Partial h =
-            let waits : padding (alignment_of t) end (o + 4) (drop 4 s) ≡ Partial = subst (λ (b : ℕ). padding b end (o + 4) (drop 4 s) ≡ Partial) boundary h in
-            let whole : s ≡ take 4 s ++ drop 4 s = sym (take-append-drop 4 s) in
-            ap (array_frame bounds order end t o) whole ∙ rw (number_taken order 4 end (array_row bounds t end) o s n there low n_is row_none (drop 4 s), waits) refl
-        array_padding (stops.Refused f) h = λ c.
-            let shows : padding (alignment_of t) end (o + 4) (drop 4 s ++ c) ≡ Faulty f = subst (λ (b : ℕ). padding b end (o + 4) (drop 4 s ++ c) ≡ Faulty f) boundary (h c) in
-            rw (split-at 4 s c, number_taken order 4 end (array_row bounds t end) o s n there low n_is row_none (drop 4 s ++ c), shows) refl
-
--- ---- one front after another
-
-module _ {A B : Type 0} (run : Reader A) (o : ℕ) (s : List ℕ) (n : ℕ) (a : A) (there : n ≤ length s) (taken : (c : List ℕ) → run o (take n s ++ c) ≡ Done a (o + n) c) (next : A → Reader B) where
-  pub both_taken : (m : ℕ) (b : B) → ((c : List ℕ) → next a (o + n) (take m (drop n s) ++ c) ≡ Done b (o + n + m) c) → (c : List ℕ) → after (run o (take (n + m) s ++ c)) next ≡ Done b (o + (n + m)) c
-  both_taken m b h c =
-      let e : o + n + m ≡ o + (n + m) = omega arith in
-      ap (λ (t : List ℕ). after (run o t) next) (take-both n m s c there) ∙ ap (λ (r : Outcome A). after r next) (taken (take m (drop n s) ++ c)) ∙ h c ∙ ap (λ (p : ℕ). Done b p c) e
-
-  pub both_waits : next a (o + n) (drop n s) ≡ Partial → after (run o s) next ≡ Partial
-  both_waits h = ap (λ (t : List ℕ). after (run o t) next) (sym (take-append-drop n s)) ∙ ap (λ (r : Outcome A). after r next) (taken (drop n s)) ∙ h
-
-  pub both_refused : (f : Fault) → ((c : List ℕ) → next a (o + n) (drop n s ++ c) ≡ Faulty f) → (c : List ℕ) → after (run o (s ++ c)) next ≡ Faulty f
-  both_refused f h c = ap (λ (t : List ℕ). after (run o t) next) (split-at n s c) ∙ ap (λ (r : Outcome A). after r next) (taken (drop n s ++ c)) ∙ h c
+        array_padding e h =
+            then_err (λ (m : ℕ). (n, m)) (λ (m : ℕ). (n, m)) (λ (x : ℕ × ℕ). x) o s sized padded 4 sized_there e
+            (first_err (λ (m : ℕ). (tt, m)) (λ (m : ℕ). (n, m)) (o + 4) (drop 4 s) (padding (alignment_of t) end) (λ z. Done n) e (after_it (Err e) h))
 
 -- ---- a text
 
@@ -338,50 +285,48 @@ module _ (order : Order) (end o : ℕ) (s : List ℕ) where
   named n p u = after (text (Of kinds.Single) n p u) (λ t q v. after (nul q v) (λ z. Done t))
 
   pub variant_stop : (e : Stop) → Lack 1 o end s e → Fronts seen o s (Err e) (held_text order end)
-  variant_stop stops.Partial h = ap (λ (r : Outcome ℕ). after r named) (number_lacks order 1 end (text_row end) o s h.0 h.1)
-  variant_stop (stops.Refused f) h = λ c. ap (λ (r : Outcome ℕ). after r named) (number_past order 1 end (text_row end) o s h.0 c) ∙ ap (λ (g : Fault). Faulty g) (sym h.1)
+  variant_stop e h = first_err (λ (n : ℕ). (n, n)) seen o s numbered named e (lacks_number (λ (n : ℕ). (n, n)) order 1 end (text_row end) o s e h)
 
   module _ (n : ℕ) (there : 1 ≤ length s) (low : o + 1 ≤ end) (is : n ≡ number_of order (take 1 s)) where
     pub variant_past : end < o + 1 + n + 1 → Fronts seen o s (Err (stops.Refused (fault o reasons.Overrun))) (held_text order end)
     variant_past h =
-        let row : text_row end (o + 1) n ≡ Some reasons.Overrun = rw (lt-ltb end (o + 1 + n + 1) h) refl in
-        λ c. ap (λ (r : Outcome ℕ). after r named) (number_refused order 1 end (text_row end) o s n there low is reasons.Overrun row c)
+        first_err (λ (m : ℕ). (n, m)) seen o s numbered named (stops.Refused (fault o reasons.Overrun)) (number_refused order 1 end (text_row end) o s n there low is reasons.Overrun (rw (lt-ltb end (o + 1 + n + 1) h) refl))
 
-    module _ (fits : o + 1 + n + 1 ≤ end) where
-      first_taken : (c : List ℕ) → numbered o (take 1 s ++ c) ≡ Done n (o + 1) c
-      first_taken = number_taken order 1 end (text_row end) o s n there low is (rw (le-ltb end (o + 1 + n + 1) fits) refl)
-
-      -- what stops within the text and the zero after it
-      rest_stops : (e : Stop) → Fronts seen (o + 1) (drop 1 s) (Err e) (named n) → Fronts seen o s (Err e) (held_text order end)
-      rest_stops stops.Partial h = both_waits numbered o s 1 n there first_taken named h
-      rest_stops (stops.Refused f) h = both_refused numbered o s 1 n there first_taken named f h
+    module _ (fits : o + 1 + n + 1 ≤ end) (rest : List ℕ) (rest_is : rest ≡ drop 1 s) where
+      first_taken : Fronts (λ (m : ℕ). (n, m)) o s (Ok 1) numbered
+      first_taken = (there, number_taken order 1 end (text_row end) o s n there low is (rw (le-ltb end (o + 1 + n + 1) fits) refl))
 
       abbrev zeroed : List ℕ → Reader (List ℕ)
       zeroed t q v = after (nul q v) (λ z. Done t)
 
-      text_stops : (e : Stop) → Fronts (λ (x : Unit {0}). (take n (drop 1 s), n)) (o + 1) (drop 1 s) (Err e) (text (Of kinds.Single) n) → Fronts seen (o + 1) (drop 1 s) (Err e) (named n)
-      text_stops stops.Partial h = ap (λ (r : Outcome (List ℕ)). after r zeroed) h
-      text_stops (stops.Refused f) h = λ c. ap (λ (r : Outcome (List ℕ)). after r zeroed) (h c)
+      abbrev lettered : List ℕ → Unit {0} → List ℕ × ℕ
+      lettered t x = (take n t, n)
 
-      pub variant_text_stop : (e : Stop) → Fronts (λ (x : Unit {0}). (take n (drop 1 s), n)) (o + 1) (drop 1 s) (Err e) (text (Of kinds.Single) n) → Fronts seen o s (Err e) (held_text order end)
-      variant_text_stop e h = rest_stops e (text_stops e h)
+      letters : (e : Result (Unit {0}) Stop) → Fronts (lettered rest) (o + 1) rest e (text (Of kinds.Single) n) → Fronts (lettered (drop 1 s)) (o + 1) (drop 1 s) e (text (Of kinds.Single) n)
+      letters e h = subst (λ (t : List ℕ). Fronts (lettered t) (o + 1) t e (text (Of kinds.Single) n)) rest_is h
 
-      module _ (texted : Fronts (λ (x : Unit {0}). (take n (drop 1 s), n)) (o + 1) (drop 1 s) (Ok tt) (text (Of kinds.Single) n)) where
-        nul_stops : (e : Stop) → Fronts (λ (x : Unit {0}). (tt, 1)) (o + 1 + n) (drop n (drop 1 s)) (Err e) nul → Fronts seen (o + 1) (drop 1 s) (Err e) (named n)
-        nul_stops stops.Partial h = both_waits (text (Of kinds.Single) n) (o + 1) (drop 1 s) n (take n (drop 1 s)) texted.0 texted.1 zeroed (ap (λ (r : Outcome (Unit {0})). after r (λ z. Done (take n (drop 1 s)))) h)
-        nul_stops (stops.Refused f) h = both_refused (text (Of kinds.Single) n) (o + 1) (drop 1 s) n (take n (drop 1 s)) texted.0 texted.1 zeroed f (λ c. ap (λ (r : Outcome (Unit {0})). after r (λ z. Done (take n (drop 1 s)))) (h c))
+      pub variant_text_stop : (e : Stop) → Fronts (lettered rest) (o + 1) rest (Err e) (text (Of kinds.Single) n) → Fronts seen o s (Err e) (held_text order end)
+      variant_text_stop e h =
+          then_err (λ (m : ℕ). (n, m)) seen seen o s numbered named 1 first_taken e
+          (first_err (lettered (drop 1 s)) seen (o + 1) (drop 1 s) (text (Of kinds.Single) n) zeroed e (letters (Err e) h))
 
-        pub variant_nul_stop : (e : Stop) → Fronts (λ (x : Unit {0}). (tt, 1)) (o + 1 + n) (drop n (drop 1 s)) (Err e) nul → Fronts seen o s (Err e) (held_text order end)
-        variant_nul_stop e h = rest_stops e (nul_stops e h)
+      module _ (texted : Fronts (lettered rest) (o + 1) rest (Ok tt) (text (Of kinds.Single) n)) (last : List ℕ) (last_is : last ≡ drop n rest) where
+        abbrev zero_seen : Unit {0} → Unit {0} × ℕ
+        zero_seen x = (tt, 1)
 
-        pub variant_there : Fronts (λ (x : Unit {0}). (tt, 1)) (o + 1 + n) (drop n (drop 1 s)) (Ok tt) nul → Fronts seen o s (Ok n) (held_text order end)
+        nulled : (e : Result (Unit {0}) Stop) → Fronts zero_seen (o + 1 + n) last e nul → Fronts zero_seen (o + 1 + n) (drop n (drop 1 s)) e nul
+        nulled e h = subst (λ (t : List ℕ). Fronts zero_seen (o + 1 + n) t e nul) (last_is ∙ ap (drop n) rest_is) h
+
+        pub variant_nul_stop : (e : Stop) → Fronts zero_seen (o + 1 + n) last (Err e) nul → Fronts seen o s (Err e) (held_text order end)
+        variant_nul_stop e h =
+            then_err (λ (m : ℕ). (n, m)) seen seen o s numbered named 1 first_taken e
+            (then_err (lettered (drop 1 s)) seen seen (o + 1) (drop 1 s) (text (Of kinds.Single) n) zeroed tt (letters (Ok tt) texted) e
+            (first_err zero_seen seen (o + 1 + n) (drop n (drop 1 s)) nul (λ z. Done (take n (drop 1 s))) e (nulled (Err e) h)))
+
+        pub variant_there : Fronts zero_seen (o + 1 + n) last (Ok tt) nul → Fronts seen o s (Ok n) (held_text order end)
         variant_there h =
             let t = take n (drop 1 s) in
-            let a = length-drop 1 s in
-            let b = length-drop n (drop 1 s) in
-            let x = texted.0 in
-            let y = h.0 in
-            let two : (c : List ℕ) → named n (o + 1) (take (n + 1) (drop 1 s) ++ c) ≡ Done t (o + 1 + (n + 1)) c =
-            both_taken (text (Of kinds.Single) n) (o + 1) (drop 1 s) n t texted.0 texted.1 zeroed 1 t (λ c. ap (λ (r : Outcome (Unit {0})). after r (λ z. Done t)) (h.1 c)) in
-            let e : 1 + (n + 1) ≡ n + 2 = omega arith in
-            (omega arith, λ c. subst (λ (m : ℕ). held_text order end o (take m s ++ c) ≡ Done t (o + m) c) e (both_taken numbered o s 1 n there first_taken named (n + 1) t two c))
+            then_ok (λ (m : ℕ). (n, m)) (λ (x : Unit {0}). (t, n + 1)) seen o s numbered named 1 first_taken tt
+            (then_ok (lettered (drop 1 s)) (λ (x : Unit {0}). (t, 1)) (λ (x : Unit {0}). (t, n + 1)) (o + 1) (drop 1 s) (text (Of kinds.Single) n) zeroed tt (letters (Ok tt) texted) tt
+            (front_as zero_seen (λ (x : Unit {0}). (t, 1)) (λ (x : Unit {0}). t) (o + 1 + n) (drop n (drop 1 s)) nul tt (nulled (Ok tt) h) tt refl refl) tt refl refl)
+            n refl (omega arith)

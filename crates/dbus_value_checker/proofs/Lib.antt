@@ -12,3 +12,4 @@ pub mod TextSteps
 pub mod NumberRuns
 pub mod ArrayRuns
 pub mod Calls
+pub mod Chains

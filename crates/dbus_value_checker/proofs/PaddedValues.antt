@@ -32,7 +32,8 @@ use Rattle.dbus_value_checker.specs.declared.values.Doing.TheVariants as doing
 use Rattle.dbus_value_checker.specs.Denotations.{Answer, rest_of, HasFrames, Goes, Wants, Ready, Texts, Nuls, after_piece}
 use Rattle.dbus_value_checker.specs.Moves.{Moves, Pushed, Enters}
 use Rattle.dbus_value_checker.proofs.Suspension.{works_as, value_begins, after_after, after_same}
-use Rattle.dbus_value_checker.proofs.FrontSteps.{front_taken, front_stops, take-both}
+use Rattle.dbus_value_checker.proofs.FrontSteps.{front_taken, front_stops}
+use Rattle.dbus_value_checker.proofs.Chains.{take-both}
 use Rattle.dbus_value_checker.proofs.Slices.{slice_head, slice_room, slice_after, slice_inner}
 use Rattle.dbus_value_checker.proofs.FrameLaws.{frames_reach, end_small, pushed_frames, inner_of, within}
 use Rattle.dbus_value_checker.proofs.TypeCodes.{array_of, struct_of, entry_of, text_of, number_type, array_complete, struct_complete, entry_complete, entry_text, parts_some, sigs_some}

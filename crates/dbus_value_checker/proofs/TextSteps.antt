@@ -1,6 +1,6 @@
 -- Texts, whose bytes come in pieces.
-use Rattle.std.proofs.Common.{◌≡◌, ℕ, zero, suc, ◌+◌, ◌<◌, ◌≤◌, List, [], ◌∷◌, ◌++◌, length, reverse, take, drop, get_or, true, false, refl, sym, ap, subst, ◌∙◌, arith, append_assoc}
-use Rattle.std.proofs.lemmas.List.{append-nil, take_more, take_all, take-append-drop, length-append, length-take}
+use Rattle.std.proofs.Common.{◌-◌, ◌≡◌, ℕ, zero, suc, ◌+◌, ◌<◌, ◌≤◌, List, [], ◌∷◌, ◌++◌, length, reverse, take, drop, get_or, true, false, refl, sym, ap, subst, ◌∙◌, arith, append_assoc}
+use Rattle.std.proofs.lemmas.List.{take-take, append-nil, take_more, take_all, take-append-drop, length-append, length-take}
 use Rattle.dbus_texts.specs.declared.text_kind.TextKind.{TextKind}
 use Rattle.dbus_texts.specs.declared.scan.TextScan.{TextScan}
 use Rattle.dbus_texts.specs.Kinds.{IsKind, IsPrefixOf}
@@ -67,28 +67,70 @@ module _ (x : Values) (code left : ℕ) (answer : Answer) (t : Texts x code left
   so_far : break_at (kind_of t.kind) t.bytes ≡ length t.bytes
   so_far = ap (λ (k : WantedText). break_at k t.bytes) (sym t.scans) ∙ prefix_break (scans.kind_of x.scan) t.bytes (stands_prefix x.scan t.bytes t.stands)
 
-  -- more bytes of it are there
-  pub texts_on : (y : TextScan) (s : List ℕ) (m less : ℕ) → scans.kind_of y ≡ scans.kind_of x.scan → Stands y (t.bytes ++ take m s) → m ≤ length s → m + less ≡ left → Texts (record x { offset = x.offset + m; scan = y }) code less (after_piece answer (take m s))
-  texts_on y s m less kind stands le less_is =
-      let size : length (take m s) ≡ m = omega (arith, length-take m s) in
-      let more : length (t.bytes ++ take m s) ≡ length t.bytes + length (take m s) = length-append t.bytes (take m s) in
-      record {
-        ws = t.ws;
-        kind = t.kind;
-        size = t.size;
-        start = t.start;
-        bytes = t.bytes ++ take m s;
-        frames = moved_on x t.ws (x.offset + m) t.frames (omega arith) (let f = t.fits in omega arith);
-        noted = t.noted;
-        kind_is = t.kind_is;
-        scans = ap Of kind ∙ t.scans;
-        stands = stands;
-        offset = (let p = t.offset in omega arith);
-        left_is = (let l = t.left_is in omega arith);
-        fits = (let f = t.fits in omega arith);
-        near = t.near;
-        same = λ c. ap (λ (w : List ℕ). after (text (kind_of t.kind) t.size t.start w) (λ u. onward nul (rest_of answer x t.ws))) (append_assoc t.bytes (take m s) c) ∙ t.same (take m s ++ c);
-      }
+  -- m bytes of it are there, of those that may belong to it
+  module _ (s given : List ℕ) (given_is : given ≡ take left s) (y : TextScan) (m : ℕ) (within : m ≤ length given) (kind : scans.kind_of y ≡ scans.kind_of x.scan) (stands : (w : List ℕ) → Stands x.scan w → Stands y (w ++ take m given)) where
+    given_size : (length given ≤ left) × (length given ≤ length s)
+    given_size = let g = ap length given_is ∙ length-take left s in (omega arith, omega arith)
+
+    pub taken_there : (m ≤ length s) × (m ≤ left)
+    taken_there = let g = given_size.0 in let l = given_size.1 in (omega arith, omega arith)
+
+    stands_on : Stands y (t.bytes ++ take m s)
+    stands_on = subst (λ (u : List ℕ). Stands y (t.bytes ++ u)) (ap (take m) given_is ∙ take-take m left s taken_there.1) (stands t.bytes t.stands)
+
+    pub texts_on : Texts (record x { offset = x.offset + m; scan = y }) code (left - m) (after_piece answer (take m s))
+    texts_on =
+        let le = taken_there in
+        let size : length (take m s) ≡ m = omega (arith, le.0, length-take m s) in
+        let more : length (t.bytes ++ take m s) ≡ length t.bytes + length (take m s) = length-append t.bytes (take m s) in
+        let few = le.1 in
+        record {
+          ws = t.ws;
+          kind = t.kind;
+          size = t.size;
+          start = t.start;
+          bytes = t.bytes ++ take m s;
+          frames = moved_on x t.ws (x.offset + m) t.frames (omega arith) (let f = t.fits in omega arith);
+          noted = t.noted;
+          kind_is = t.kind_is;
+          scans = ap Of kind ∙ t.scans;
+          stands = stands_on;
+          offset = (let p = t.offset in omega arith);
+          left_is = (let l = t.left_is in omega arith);
+          fits = (let f = t.fits in omega arith);
+          near = t.near;
+          same = λ c. ap (λ (w : List ℕ). after (text (kind_of t.kind) t.size t.start w) (λ u. onward nul (rest_of answer x t.ws))) (append_assoc t.bytes (take m s) c) ∙ t.same (take m s ++ c);
+        }
+
+    -- and the next may not stand there
+    pub texts_break : (why : Reason) → m < length given → ((w : List ℕ) → Stands x.scan w → IsPrefixOf (scans.kind_of x.scan) (w ++ take (m + 1) given) → ⊥) → text_reason (kind_of t.kind) ≡ why → (c : List ℕ) → answer.to (s ++ c) ≡ Faulty (fault (x.offset + m) why)
+    texts_break why breaks_at breaks reason c =
+        let few = given_size.0 in
+        let long = given_size.1 in
+        let lt : m < length s = omega arith in
+        let less : m < left = omega arith in
+        let next : m + 1 ≤ left = omega arith in
+        let unlike = subst (λ (u : List ℕ). IsPrefixOf (scans.kind_of x.scan) (t.bytes ++ u) → ⊥) (ap (take (m + 1)) given_is ∙ take-take (m + 1) left s next) (breaks t.bytes t.stands) in
+        let k = scans.kind_of x.scan in
+        let w = t.bytes ++ take m s in
+        let b = get_or s m 0 in
+        let grown : w ++ b ∷ [] ≡ t.bytes ++ take (m + 1) s = take_one s m t.bytes lt in
+        let begins : IsPrefixOf k w = subst (λ (j : TextKind). IsPrefixOf j w) kind (stands_prefix y w stands_on) in
+        let broken : break_at (Of k) (w ++ b ∷ []) ≡ length w = one_byte_breaks k w b begins (λ p. unlike (subst (λ (u : List ℕ). IsPrefixOf k u) grown p)) in
+        let at : break_at (kind_of t.kind) (w ++ b ∷ []) ≡ length w = ap (λ (j : WantedText). break_at j (w ++ b ∷ [])) (sym t.scans) ∙ broken in
+        let size : length (take m s) ≡ m = omega (arith, length-take m s) in
+        let more : length w ≡ length t.bytes + length (take m s) = length-append t.bytes (take m s) in
+        let last : length (w ++ b ∷ []) ≡ length w + 1 = length-append w (b ∷ []) in
+        let l = t.left_is in
+        let p = t.offset in
+        let split : t.bytes ++ (s ++ c) ≡ (w ++ b ∷ []) ++ (drop (m + 1) s ++ c) =
+        ap (λ (u : List ℕ). t.bytes ++ u) (ap (λ (u : List ℕ). u ++ c) (sym (take-append-drop (m + 1) s)) ∙ append_assoc (take (m + 1) s) (drop (m + 1) s) c)
+        ∙ sym (append_assoc t.bytes (take (m + 1) s) (drop (m + 1) s ++ c)) ∙ ap (λ (u : List ℕ). u ++ (drop (m + 1) s ++ c)) (sym grown) in
+        let offset : t.start + break_at (kind_of t.kind) (w ++ b ∷ []) ≡ x.offset + m = omega arith in
+        sym (t.same (s ++ c))
+        ∙ ap (λ (u : List ℕ). after (text (kind_of t.kind) t.size t.start u) (λ z. onward nul (rest_of answer x t.ws))) split
+        ∙ ap (λ (r : Outcome (List ℕ)). after r (λ z. onward nul (rest_of answer x t.ws))) (text_breaks (kind_of t.kind) t.size t.start (w ++ b ∷ []) (drop (m + 1) s ++ c) (omega arith) (omega arith))
+        ∙ ap (λ (q : ℕ). Faulty (fault q (text_reason (kind_of t.kind)))) offset ∙ ap (λ (r : Reason). Faulty (fault (x.offset + m) r)) reason
 
   -- no byte of it is there
   pub texts_wait : 0 < left → answer.to [] ≡ Partial
@@ -96,31 +138,6 @@ module _ (x : Values) (code left : ℕ) (answer : Answer) (t : Texts x code left
       let l = t.left_is in
       sym (t.same []) ∙ ap (λ (w : List ℕ). after (text (kind_of t.kind) t.size t.start w) (λ u. onward nul (rest_of answer x t.ws))) (append-nil t.bytes)
       ∙ ap (λ (r : Outcome (List ℕ)). after r (λ u. onward nul (rest_of answer x t.ws))) (text_waits (kind_of t.kind) t.size t.start t.bytes (omega arith) so_far)
-
-  -- m bytes of it are there, and the next may not stand there
-  pub texts_break : (y : TextScan) (s : List ℕ) (m : ℕ) (why : Reason) → scans.kind_of y ≡ scans.kind_of x.scan → Stands y (t.bytes ++ take m s) → m < length s → m < left → (IsPrefixOf (scans.kind_of x.scan) (t.bytes ++ take (m + 1) s) → ⊥) → text_reason (kind_of t.kind) ≡ why
-      → (c : List ℕ) → answer.to (s ++ c) ≡ Faulty (fault (x.offset + m) why)
-  texts_break y s m why kind stands lt less unlike reason c =
-      let k = scans.kind_of x.scan in
-      let w = t.bytes ++ take m s in
-      let b = get_or s m 0 in
-      let grown : w ++ b ∷ [] ≡ t.bytes ++ take (m + 1) s = take_one s m t.bytes lt in
-      let begins : IsPrefixOf k w = subst (λ (j : TextKind). IsPrefixOf j w) kind (stands_prefix y w stands) in
-      let broken : break_at (Of k) (w ++ b ∷ []) ≡ length w = one_byte_breaks k w b begins (λ p. unlike (subst (λ (u : List ℕ). IsPrefixOf k u) grown p)) in
-      let at : break_at (kind_of t.kind) (w ++ b ∷ []) ≡ length w = ap (λ (j : WantedText). break_at j (w ++ b ∷ [])) (sym t.scans) ∙ broken in
-      let size : length (take m s) ≡ m = omega (arith, length-take m s) in
-      let more : length w ≡ length t.bytes + length (take m s) = length-append t.bytes (take m s) in
-      let last : length (w ++ b ∷ []) ≡ length w + 1 = length-append w (b ∷ []) in
-      let l = t.left_is in
-      let p = t.offset in
-      let split : t.bytes ++ (s ++ c) ≡ (w ++ b ∷ []) ++ (drop (m + 1) s ++ c) =
-      ap (λ (u : List ℕ). t.bytes ++ u) (ap (λ (u : List ℕ). u ++ c) (sym (take-append-drop (m + 1) s)) ∙ append_assoc (take (m + 1) s) (drop (m + 1) s) c)
-      ∙ sym (append_assoc t.bytes (take (m + 1) s) (drop (m + 1) s ++ c)) ∙ ap (λ (u : List ℕ). u ++ (drop (m + 1) s ++ c)) (sym grown) in
-      let offset : t.start + break_at (kind_of t.kind) (w ++ b ∷ []) ≡ x.offset + m = omega arith in
-      sym (t.same (s ++ c))
-      ∙ ap (λ (u : List ℕ). after (text (kind_of t.kind) t.size t.start u) (λ z. onward nul (rest_of answer x t.ws))) split
-      ∙ ap (λ (r : Outcome (List ℕ)). after r (λ z. onward nul (rest_of answer x t.ws))) (text_breaks (kind_of t.kind) t.size t.start (w ++ b ∷ []) (drop (m + 1) s ++ c) (omega arith) (omega arith))
-      ∙ ap (λ (q : ℕ). Faulty (fault q (text_reason (kind_of t.kind)))) offset ∙ ap (λ (r : Reason). Faulty (fault (x.offset + m) r)) reason
 
   -- all of it is there
   module _ (none : left ≡ 0) where

@@ -1,6 +1,6 @@
 -- A variant's signature is noted after those that are in use.
 use Rattle.std.proofs.Common.{◌≡◌, ℕ, suc, ◌+◌, ◌≤◌, List, [], ◌∷◌, ◌++◌, length, reverse, take, drop, get_or, false, Ok, Err, refl, sym, ap, subst, ◌∙◌, arith}
-use Rattle.std.proofs.lemmas.List.{reverse-append, length-append, length-reverse, length-take, take-take, take_at, drop_at, take_all, append-nil}
+use Rattle.std.proofs.lemmas.List.{reverse-append, length-append, length-reverse, length-take, take-take, take_at, drop_at, take_all, append-nil, length-drop}
 use Rattle.dbus_texts.specs.Types.{TypeTree, VariantType, NoTypes, MoreTypes, sig, sigs}
 use Rattle.dbus_texts.specs.ComputedKinds.{type_spelled}
 use Rattle.dbus_texts.specs.Kinds.{IsKind}
@@ -80,14 +80,21 @@ module _ (x : Values) (pos stop : ℕ) (answer : Answer) (w : Wants x pos stop a
     pub variant_stops : (s : List ℕ) (e : Stop) → Fronts (λ (n : ℕ). (take n (drop 1 s), n + 2)) x.offset s (Err e) read → Moves x s (Err e) x answer
     variant_stops s e h = front_stops (λ (n : ℕ). (take n (drop 1 s), n + 2)) x.offset s read held answer.to held_same x answer.last e h
 
-    module _ (s : List ℕ) (n : ℕ) (front : Fronts (λ (n : ℕ). (take n (drop 1 s), n + 2)) x.offset s (Ok n) read) (fits : x.offset + n + 2 ≤ x.inner.end) (kind : IsKind kinds.Single (take n (drop 1 s))) (size : length (take n (drop 1 s)) ≡ n) where
+    module _ (s : List ℕ) (n : ℕ) (front : Fronts (λ (n : ℕ). (take n (drop 1 s), n + 2)) x.offset s (Ok n) read) (fits : x.offset + n + 2 ≤ x.inner.end) (kind : IsKind kinds.Single (take n (drop 1 s))) (types : List ℕ) (types_is : types ≡ take n (drop 1 s)) where
       t : List ℕ
       t = take n (drop 1 s)
 
-      pub variant_goes : (y : Values) (more : List ℕ) → AreLengths (take n (drop 1 s)) more → y.lengths.items ≡ take x.inner.top x.lengths.items ++ more → y.bounds ≡ x.bounds → y.order ≡ x.order → y.end ≡ x.end → y.offset ≡ x.offset + (n + 2) → y.text.items ≡ take x.inner.top x.text.items ++ take n (drop 1 s) → y.frames.items ≡ x.frames.items ++ x.inner ∷ []
+      -- the frame of the value, once its type is noted after the first bytes of those in use
+      pub variant_goes : (y : Values) → ((more : List ℕ) × AreLengths types more × (y.lengths.items ≡ take x.inner.top x.lengths.items ++ more)) → y.bounds ≡ x.bounds → y.order ≡ x.order → y.end ≡ x.end → y.offset ≡ x.offset + (n + 2) → y.text.items ≡ take x.inner.top x.text.items ++ types → y.frames.items ≡ x.frames.items ++ x.inner ∷ []
           → y.inner ≡ record { array = false; pos = x.inner.top; stop = x.inner.top + n; top = x.inner.top + n; end = x.inner.end; depth_left = inner } → Goes y (after_piece answer (take (n + 2) s))
       unfolding t
-      variant_goes y more told lengths_are bounds order end offset text_is frames_are inner_is =
+      variant_goes y sizes bounds order end offset text frames_are inner_is =
+          let long = front.0 in
+          let size : length (take n (drop 1 s)) ≡ n = omega (arith, length-take n (drop 1 s), length-drop 1 s) in
+          let more = sizes.0 in
+          let told = subst (λ (u : List ℕ). AreLengths u more) types_is sizes.1 in
+          let lengths_are = sizes.2 in
+          let text_is : y.text.items ≡ take x.inner.top x.text.items ++ t = text ∙ ap (λ (u : List ℕ). take x.inner.top x.text.items ++ u) types_is in
           let i = inner_of x (suc x.offset) w.ws w.frames in
           let q = x.offset + (n + 2) in
           let g : Frame = record { array = false; pos = x.inner.top; stop = x.inner.top + n; top = x.inner.top + n; end = x.inner.end; depth_left = inner } in

@@ -8,7 +8,7 @@ use Rattle.dbus_header.specs.MessageItems.{not_zero_row}
 use Rattle.dbus_value_checker.specs.Fronts.{Fronts}
 use Rattle.dbus_value_checker.proofs.FrontSteps.{lacks_number, number_taken, number_refused}
 use Rattle.dbus_check.specs.Fields.{padded_number}
-use Rattle.dbus_check.proofs.Chains.{forgotten}
+use Rattle.dbus_value_checker.proofs.Chains.{forgotten}
 use Rattle.dbus_check.proofs.FieldSteps.{gap_few, zero_serial, some_serial, padded_stops, padded_number_stops, padded_number_there}
 use Rattle.dbus_check.proofs.field_fronts.serial_front.Goals as goal
 

@@ -1,6 +1,4 @@
-use Rattle.std.proofs.Common.{◌+◌, length, arith, ap, ◌∙◌, subst, ℕ, List, Err}
-use Rattle.dbus_value_model.specs.Reading.{padding}
-use Rattle.dbus_value_checker.specs.Fronts.{Fronts}
+use Rattle.std.proofs.Common.{◌+◌, length, arith, ap, ◌∙◌}
 use Rattle.std.proofs.lemmas.List.{length-drop}
 use Rattle.dbus_value_model.proofs.Gaps.{gap_below}
 use Rattle.dbus_value_checker.proofs.FrontSteps.{array_stop, array_too_long, array_past, array_there, array_padding}
@@ -18,31 +16,23 @@ returns-in-Err-clause-gives c = λ t e. array_stop c.args.bounds c.args.order c.
 
 pub returns-then-n-bounds-clause-gives : goal.returns-then-n-bounds-clause-gives
 returns-then-n-bounds-clause-gives c = λ t e.
-    let h = c.in-Ok.ensures in
-    rw c.refuse.ensures (array_too_long c.args.bounds c.args.order c.args.end c.args.offset c.args.bytes.now t c.in-Ok.n h.0 h.1 h.2 (omega arith))
+    let a = c.args in let h = c.in-Ok.ensures in
+    rw c.refuse.ensures (array_too_long a.bounds a.order a.end a.offset a.bytes.now t c.in-Ok.n h.0 h.1 h.2 (omega arith))
 
 pub returns-then-end-offset-clause-gives : goal.returns-then-end-offset-clause-gives
 returns-then-end-offset-clause-gives c = λ t e.
-    let h = c.in-Ok.ensures in
-    let low = h.1 in
-    let g = c.gap.ensures in
-    rw c.refuse-then-end-offset.ensures (array_past c.args.bounds c.args.order c.args.end c.args.offset c.args.bytes.now t c.in-Ok.n h.0 h.1 h.2 (omega arith) c.args.code e c.boundary-boundary.result c.boundary-boundary.ensures.value (omega arith))
+    let a = c.args in let h = c.in-Ok.ensures in let low = h.1 in let g = c.gap.ensures in
+    rw c.refuse-then-end-offset.ensures (array_past a.bounds a.order a.end a.offset a.bytes.now t c.in-Ok.n h.0 h.1 h.2 (omega arith) c.boundary-boundary.result (c.boundary-boundary.ensures.value t e) (omega arith))
 
 pub returns-in-Ok-padding-clause-gives : goal.returns-in-Ok-padding-clause-gives
 returns-in-Ok-padding-clause-gives c = λ t e.
-    let h = c.in-Ok.ensures in
-    let low = h.1 in
-    let g = c.gap.ensures in
-    let m = c.in-Ok-padding.ensures.moves in
-    let m2 = m.2 in
-    array_there c.args.bounds c.args.order c.args.end c.args.offset c.args.bytes.now t c.in-Ok.n h.0 h.1 h.2 (omega arith) c.args.code e c.boundary-boundary.result c.boundary-boundary.ensures.value (omega arith) c.in-Ok-padding.zeros (rw c.rest_after.ensures at c.in-Ok-padding.ensures.gives) (let l = length-drop 4 c.args.bytes.now in let b = ap length c.rest_after.ensures in omega arith)
+    let a = c.args in let h = c.in-Ok.ensures in let low = h.1 in let g = c.gap.ensures in
+    array_there a.bounds a.order a.end a.offset a.bytes.now t c.in-Ok.n h.0 h.1 h.2 (omega arith) c.boundary-boundary.result (c.boundary-boundary.ensures.value t e) (omega arith) c.rest_after.result.now c.rest_after.ensures c.in-Ok-padding.zeros c.in-Ok-padding.ensures.gives
 
 pub returns-in-Err-padding-clause-gives : goal.returns-in-Err-padding-clause-gives
 returns-in-Err-padding-clause-gives c = λ t e.
-    let h = c.in-Ok.ensures in
-    let low = h.1 in
-    let g = c.gap.ensures in
-    array_padding c.args.bounds c.args.order c.args.end c.args.offset c.args.bytes.now t c.in-Ok.n h.0 h.1 h.2 (omega arith) c.args.code e c.boundary-boundary.result c.boundary-boundary.ensures.value (omega arith) c.in-Err-padding.stop (subst (λ (l : List ℕ). Fronts (λ (n : ℕ). (tt, n)) (c.args.offset + 4) l (Err c.in-Err-padding.stop) (padding c.boundary-boundary.result c.args.end)) c.rest_after.ensures c.in-Err-padding.ensures.gives)
+    let a = c.args in let h = c.in-Ok.ensures in let low = h.1 in let g = c.gap.ensures in
+    array_padding a.bounds a.order a.end a.offset a.bytes.now t c.in-Ok.n h.0 h.1 h.2 (omega arith) c.boundary-boundary.result (c.boundary-boundary.ensures.value t e) (omega arith) c.rest_after.result.now c.rest_after.ensures c.in-Err-padding.stop c.in-Err-padding.ensures.gives
 
 pub returns-in-Err-padding-clause-short : goal.returns-in-Err-padding-clause-short
 returns-in-Err-padding-clause-short c = λ e.

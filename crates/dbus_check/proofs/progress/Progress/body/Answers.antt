@@ -1,6 +1,6 @@
 use Rattle.std.proofs.Common.{ℕ, ◌++◌, take, drop, sym, ap, subst, refl, ◌∙◌, arith}
 use Rattle.dbus_value_checker.specs.Suspended.{done}
-use Rattle.dbus_value_checker.proofs.FrontSteps.{split-at}
+use Rattle.dbus_value_checker.proofs.Chains.{split-at}
 use Rattle.dbus_value_laws.proofs.ReadSteps.{bytes_from}
 use Rattle.dbus_check.specs.Progress.{WantsBody, denotes, after_bytes}
 use Rattle.dbus_check.specs.declared.progress.Stage.{Stage}

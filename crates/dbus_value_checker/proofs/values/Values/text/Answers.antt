@@ -1,11 +1,6 @@
-use Rattle.std.proofs.Common.{◌≡◌, ℕ, ◌+◌, ◌-◌, ◌<◌, ◌≤◌, List, length, take, arith, refl, ap, sym, subst, ◌∙◌}
-use Rattle.std.proofs.Common.{[], ◌++◌}
-use Rattle.std.proofs.lemmas.List.{length-take, take-take}
-use Rattle.dbus_texts.specs.Scans.{Stands, kind_of}
-use Rattle.dbus_texts.specs.Kinds.{IsPrefixOf}
+use Rattle.std.proofs.Common.{◌≡◌, ℕ, List, [], arith, refl, sym, subst}
 use Rattle.dbus_value_model.specs.Reading.{Partial}
-use Rattle.dbus_value_checker.specs.Denotations.{after_piece}
-use Rattle.dbus_value_checker.proofs.TextSteps.{texts_on, texts_wait, texts_break, empty_list}
+use Rattle.dbus_value_checker.proofs.TextSteps.{taken_there, texts_on, texts_wait, texts_break, empty_list}
 use Rattle.dbus_value_checker.proofs.Calls.{opens_after}
 use Rattle.dbus_value_checker.proofs.values.Values.text.Goals as goal
 
@@ -16,48 +11,26 @@ returns-then-is_empty-clause-moves c = λ answer t.
 
 pub returns-then-taken-given-clause-moves : goal.returns-then-taken-given-clause-moves
 returns-then-taken-given-clause-moves c = λ answer t.
-    let s = c.args.bytes.now in
-    let m = c.take-taken.result in
-    let g : length c.front-given.result.now ≡ _ = ap length c.front-given.ensures ∙ length-take c.args.left s in
-    let less : m < length c.front-given.result.now = c.if-taken-given.true in
-    let fits : m ≤ c.args.left = omega arith in
-    let fits_more : m + 1 ≤ c.args.left = omega arith in
-    let stands = subst (λ (u : List ℕ). Stands c.take-taken.new.self (t.bytes ++ u)) (ap (take m) c.front-given.ensures ∙ take-take m c.args.left s fits) (c.take-taken.ensures.stands t.bytes t.stands) in
-    let unlike = subst (λ (u : List ℕ). IsPrefixOf (kind_of c.args.self.now.scan) (t.bytes ++ u) → ⊥) (ap (take (m + 1)) c.front-given.ensures ∙ take-take (m + 1) c.args.left s fits_more) (c.take-taken.ensures.breaks less t.bytes t.stands) in
-    rw c.refuse.ensures (texts_break c.args.self.now c.args.code c.args.left answer t c.take-taken.new.self s m c.reason_of_code.result c.take-taken.ensures.kind stands (omega arith) (omega arith) unlike (c.reason_of_code.ensures t.kind t.kind_is))
+    let a = c.args in let k = c.take-taken.ensures in
+    rw c.refuse.ensures (texts_break a.self.now a.code a.left answer t a.bytes.now c.front-given.result.now c.front-given.ensures c.take-taken.new.self c.take-taken.result k.within k.kind k.stands c.reason_of_code.result c.if-taken-given.true (k.breaks c.if-taken-given.true) (c.reason_of_code.ensures t.kind t.kind_is))
 
 pub text_on-requires : goal.text_on-requires
 text_on-requires c =
-    let s = c.args.bytes.now in
-    let answer = c.requires.valid.0 in
-    let t = c.requires.valid.1 in
-    let m = c.take-taken.result in
-    let g : length c.front-given.result.now ≡ _ = ap length c.front-given.ensures ∙ length-take c.args.left s in
-    let w = c.take-taken.ensures.within in
-    let fits : m ≤ c.args.left = omega arith in
-    let stands = subst (λ (u : List ℕ). Stands c.take-taken.new.self (t.bytes ++ u)) (ap (take m) c.front-given.ensures ∙ take-take m c.args.left s fits) (c.take-taken.ensures.stands t.bytes t.stands) in
-    record { valid = (after_piece answer (take m s), texts_on c.args.self.now c.args.code c.args.left answer t c.take-taken.new.self s m (c.args.left - m) c.take-taken.ensures.kind stands (omega arith) (omega arith)) }
+    let a = c.args in let k = c.take-taken.ensures in
+    record { valid = (_, texts_on a.self.now a.code a.left c.requires.valid.0 c.requires.valid.1 a.bytes.now c.front-given.result.now c.front-given.ensures c.take-taken.new.self c.take-taken.result k.within k.kind k.stands) }
 
 pub returns-in-Ok-clause-moves : goal.returns-in-Ok-clause-moves
 returns-in-Ok-clause-moves c = λ answer t.
-    let s = c.args.bytes.now in
-    let m = c.take-taken.result in
-    let g : length c.front-given.result.now ≡ _ = ap length c.front-given.ensures ∙ length-take c.args.left s in
-    let w = c.take-taken.ensures.within in
-    let fits : m ≤ c.args.left = omega arith in
-    let stands = subst (λ (u : List ℕ). Stands c.take-taken.new.self (t.bytes ++ u)) (ap (take m) c.front-given.ensures ∙ take-take m c.args.left s fits) (c.take-taken.ensures.stands t.bytes t.stands) in
-    (omega arith, c.in-Ok.ensures.opens (after_piece answer (take m s)) (texts_on c.args.self.now c.args.code c.args.left answer t c.take-taken.new.self s m (c.args.left - m) c.take-taken.ensures.kind stands (omega arith) (omega arith)))
+    let a = c.args in let k = c.take-taken.ensures in (
+      (taken_there a.self.now a.code a.left answer t a.bytes.now c.front-given.result.now c.front-given.ensures c.take-taken.new.self c.take-taken.result k.within k.kind k.stands).0,
+      c.in-Ok.ensures.opens _ (texts_on a.self.now a.code a.left answer t a.bytes.now c.front-given.result.now c.front-given.ensures c.take-taken.new.self c.take-taken.result k.within k.kind k.stands),
+    )
 
 pub returns-in-Err-clause-moves : goal.returns-in-Err-clause-moves
 returns-in-Err-clause-moves c = λ answer t.
-    let s = c.args.bytes.now in
-    let m = c.take-taken.result in
-    let g : length c.front-given.result.now ≡ _ = ap length c.front-given.ensures ∙ length-take c.args.left s in
-    let w = c.take-taken.ensures.within in
-    let fits : m ≤ c.args.left = omega arith in
-    let stands = subst (λ (u : List ℕ). Stands c.take-taken.new.self (t.bytes ++ u)) (ap (take m) c.front-given.ensures ∙ take-take m c.args.left s fits) (c.take-taken.ensures.stands t.bytes t.stands) in
-    opens_after c.args.self.now c.text_on.new.self s m c.in-Err.stop answer
-    (c.in-Err.ensures.opens (after_piece answer (take m s)) (texts_on c.args.self.now c.args.code c.args.left answer t c.take-taken.new.self s m (c.args.left - m) c.take-taken.ensures.kind stands (omega arith) (omega arith)))
+    let a = c.args in let k = c.take-taken.ensures in
+    opens_after a.self.now c.text_on.new.self a.bytes.now c.take-taken.result c.in-Err.stop answer
+    (c.in-Err.ensures.opens _ (texts_on a.self.now a.code a.left answer t a.bytes.now c.front-given.result.now c.front-given.ensures c.take-taken.new.self c.take-taken.result k.within k.kind k.stands))
 
 pub returns-in-Err-clause-short : goal.returns-in-Err-clause-short
 returns-in-Err-clause-short c = λ e. absurd (c.in-Err.ensures.decided e)
