@@ -6,7 +6,9 @@ use Rattle.dbus_value_model.specs.Reading.{Faulty}
 use Rattle.dbus_value_model.specs.declared.fault.Fault.{Fault}
 use Rattle.dbus_value_model.specs.declared.limits.Limits.{Limits}
 use Rattle.dbus_value_model.proofs.Numbers.{IsBytes-append, IsBytes-front}
-use Rattle.dbus_check.specs.Checks.{CheckerState, StandsAfter, Stands, Takes}
+use Rattle.dbus_check.specs.declared.check.Check.{Check}
+use Rattle.dbus_check.proofs.ExactAnswers.{takes_exact}
+use Rattle.dbus_check.specs.Checks.{IsExact, taken, CheckerState, StandsAfter, Stands, Takes}
 use Rattle.dbus_check.specs.declared.check.Check.TheVariants as check
 use Rattle.dbus_check.specs.declared.pieces.Pieces.{Pieces}
 use Rattle.dbus_check.specs.Heading.{message_on}
@@ -55,31 +57,42 @@ module _ (limits : Limits) (p : Pieces) (w piece : List ℕ) (bytes : IsBytes w)
 
 -- ---- a checker that is handed a piece
 
-module _ (x : CheckerState) (w piece : List ℕ) (more : IsBytes piece) (h : Stands x w) where
+module _ (x seen : CheckerState) (is : x ≡ seen) (w piece : List ℕ) (more : IsBytes piece) (stands : Stands seen w) where
+  h : Stands x w
+  h = subst (λ (y : CheckerState). Stands y w) (sym is) stands
+
+  -- what it answers, and where it stands then
+  abbrev Told : Check → CheckerState → Type 0
+  Told answer y = Takes seen.limits w piece answer × IsExact seen.limits w piece answer × Stands y (w ++ taken piece answer)
+
+  told : (answer : Check) (y : CheckerState) → Takes x.limits w piece answer → Stands y (w ++ taken piece answer) → Told answer y
+  told answer y takes on =
+      let here = subst (λ (z : CheckerState). Takes z.limits w piece answer) is takes in
+      (here, takes_exact seen.limits w piece answer here, on)
+
   -- after a fault
-  pub stays_refused : (f : Fault) → x.refused ≡ Some f → Takes x.limits w piece (check.Refused f) × Stands x (w ++ piece)
-  stays_refused f is =
-      let law = subst (λ (r : Option Fault). StandsAfter x w r) is h.after in
-      let told = fed_refused x.limits x.pieces w piece h.bytes more f (λ c. law (piece ++ c)) in
-      (told.0, subst (λ (r : Option Fault). Stands (record { limits = x.limits; pieces = x.pieces; refused = r }) (w ++ piece)) (sym is) told.1)
+  pub stays_refused : (f : Fault) → x.refused ≡ Some f → Told (check.Refused f) seen
+  stays_refused f some =
+      let law = subst (λ (r : Option Fault). StandsAfter x w r) some h.after in
+      let t = fed_refused x.limits x.pieces w piece h.bytes more f (λ c. law (piece ++ c)) in
+      told (check.Refused f) seen t.0 (subst (λ (y : CheckerState). Stands y (w ++ piece)) is (subst (λ (r : Option Fault). Stands (record { limits = x.limits; pieces = x.pieces; refused = r }) (w ++ piece)) (sym some) t.1))
 
   -- before one
   module _ (none : x.refused ≡ None) (p : Pieces) where
     abbrev Feeds : Result ℕ Fault → Type 0
     Feeds r = (to : To) → Holds x.pieces to → Fed piece r p to
 
-    holds : Holds x.pieces (after_bytes (message_on x.limits 0) w)
-    holds = subst (λ (r : Option Fault). StandsAfter x w r) none h.after
+    fed : (r : Result ℕ Fault) → Feeds r → Fed piece r p (after_bytes (message_on x.limits 0) w)
+    fed r f = f (after_bytes (message_on x.limits 0) w) (subst (λ (r : Option Fault). StandsAfter x w r) none h.after)
 
-    pub took_partial : (n : ℕ) → Feeds (Ok n) → IsLive p → Takes x.limits w piece check.Partial × Stands (record x { pieces = p }) (w ++ piece)
-    took_partial n fed live =
-        let told = fed_partial x.limits p w piece h.bytes more n (fed (after_bytes (message_on x.limits 0) w) holds) live in
-        (told.0, subst (λ (r : Option Fault). Stands (record { limits = x.limits; pieces = p; refused = r }) (w ++ piece)) (sym none) told.1)
+    still : (u : List ℕ) → Stands (record { limits = x.limits; pieces = p; refused = None }) u → Stands (record x { pieces = p }) u
+    still u s = subst (λ (r : Option Fault). Stands (record { limits = x.limits; pieces = p; refused = r }) u) (sym none) s
 
-    pub took_done : (n : ℕ) → Feeds (Ok n) → (IsLive p → ⊥) → Takes x.limits w piece (check.Done n) × Stands (record x { pieces = p }) (w ++ take n piece)
-    took_done n fed over =
-        let told = fed_done x.limits p w piece h.bytes more n (fed (after_bytes (message_on x.limits 0) w) holds) over in
-        (told.0, subst (λ (r : Option Fault). Stands (record { limits = x.limits; pieces = p; refused = r }) (w ++ take n piece)) (sym none) told.1)
+    pub took_partial : (n : ℕ) → Feeds (Ok n) → IsLive p → Told check.Partial (record x { pieces = p })
+    took_partial n f live = let t = fed_partial x.limits p w piece h.bytes more n (fed (Ok n) f) live in told check.Partial (record x { pieces = p }) t.0 (still (w ++ piece) t.1)
 
-    pub took_refused : (f : Fault) → Feeds (Err f) → Takes x.limits w piece (check.Refused f) × Stands (record x { pieces = p; refused = Some f }) (w ++ piece)
-    took_refused f fed = fed_refused x.limits p w piece h.bytes more f (fed (after_bytes (message_on x.limits 0) w) holds)
+    pub took_done : (n : ℕ) → Feeds (Ok n) → (IsLive p → ⊥) → Told (check.Done n) (record x { pieces = p })
+    took_done n f over = let t = fed_done x.limits p w piece h.bytes more n (fed (Ok n) f) over in told (check.Done n) (record x { pieces = p }) t.0 (still (w ++ take n piece) t.1)
+
+    pub took_refused : (f : Fault) → Feeds (Err f) → Told (check.Refused f) (record x { pieces = p; refused = Some f })
+    took_refused f feeds = let t = fed_refused x.limits p w piece h.bytes more f (fed (Err f) feeds) in told (check.Refused f) (record x { pieces = p; refused = Some f }) t.0 t.1

@@ -1,8 +1,8 @@
 -- What the fixed header's reading answers stays, whatever follows, and it has 16 bytes.
-use Rattle.std.proofs.Common.{◌≡◌, ℕ, zero, suc, ◌+◌, ◌-◌, ◌<◌, ◌≤◌, List, [], ◌∷◌, ◌++◌, length, take, drop, Bool, true, false, cond, eqb, Option, Some, None, refl, sym, ap, ◌∙◌, arith, inl, inr, append_assoc}
+use Rattle.std.proofs.Common.{◌≡◌, ℕ, zero, suc, ◌+◌, ◌-◌, ◌<◌, ◌≤◌, List, [], ◌∷◌, ◌++◌, length, take, drop, Bool, true, false, cond, eqb, Option, Some, None, refl, sym, ap, ◌∙◌, arith, inl, inr}
 use Rattle.std.specs.Prelude.{◌⊎◌}
-use Rattle.std.proofs.lemmas.Bool.{lt-ltb, le-ltb, cases_lt}
-use Rattle.std.proofs.lemmas.List.{append-nil, take-append-drop, take_at, drop_at, length-append, length-take, length-drop}
+use Rattle.std.proofs.lemmas.Bool.{cases_lt}
+use Rattle.std.proofs.lemmas.List.{append-nil, length-take, length-drop}
 use Rattle.dbus_value_model.specs.declared.limits.Limits.{Limits}
 use Rattle.dbus_value_model.specs.declared.order.Order.{Order}
 use Rattle.dbus_value_model.specs.declared.order.Order.TheVariants.{Little, Big}
@@ -11,6 +11,8 @@ use Rattle.dbus_value_model.specs.declared.fault.Reason.{Reason}
 use Rattle.dbus_value_model.specs.declared.fault.Reason.TheVariants as reasons
 use Rattle.dbus_value_model.specs.Items.{fault}
 use Rattle.dbus_value_model.specs.Reading.{Reader, Outcome, Done, Faulty, Partial, after, pure, refuse, number, number_of, validated}
+use Rattle.dbus_value_checker.proofs.Chains.{split-at}
+use Rattle.dbus_value_checker.proofs.Suspension.{number_waits, number_over, number_read}
 use Rattle.dbus_header.specs.MessageReading.{byte_order, opening}
 use Rattle.dbus_header.specs.HeaderReading.{fixed_header}
 use Rattle.dbus_value_laws.proofs.Agreement.{after_done, after_faulty}
@@ -59,33 +61,14 @@ validated_still : (j : Option Reason) (n o q : ℕ) (s c : List ℕ) (f : Fault)
 validated_still None n o q s c f e = absurd cc
 validated_still (Some why) n o q s c f e = e
 
-split-at : (i : ℕ) (s c : List ℕ) → s ++ c ≡ take i s ++ (drop i s ++ c)
-split-at i s c = ap (λ (t : List ℕ). t ++ c) (sym (take-append-drop i s)) ∙ append_assoc (take i s) (drop i s) c
-
 module _ (order : Order) (w end : ℕ) (row : ℕ → ℕ → Option Reason) where
   abbrev run : Reader ℕ
   run = number order w end row
 
-  number_waits : (o : ℕ) (s : List ℕ) → length s < w → o + w ≤ end → number order w end row o s ≡ Partial
-  unfolding number
-  number_waits o s short fits = rw (le-ltb _ _ fits, lt-ltb _ _ short) refl
-
-  number_over : (o : ℕ) (s : List ℕ) → end < o + w → number order w end row o s ≡ Faulty (fault o reasons.Overrun)
-  unfolding number
-  number_over o s over = rw (lt-ltb _ _ over) refl
-
-  number_read : (o : ℕ) (got c : List ℕ) → length got ≡ w → o + w ≤ end → number order w end row o (got ++ c) ≡ validated (row (o + w) (number_of order got)) (number_of order got) o (o + w) c
-  unfolding number
-  number_read o got c whole fits =
-      let long : w ≤ length (got ++ c) = omega (arith, length-append got c) in
-      let at : take w (got ++ c) ≡ got = take_at got c w whole in
-      let suffix : drop w (got ++ c) ≡ c = drop_at got c w whole in
-      rw (le-ltb _ _ fits, le-ltb _ _ long, at, suffix) refl
-
   there : (o : ℕ) (s c : List ℕ) → o + w ≤ end → w ≤ length s → run o (s ++ c) ≡ validated (row (o + w) (number_of order (take w s))) (number_of order (take w s)) o (o + w) (drop w s ++ c)
   there o s c fits long =
       let size : length (take w s) ≡ w = omega (arith, length-take w s) in
-      ap (run o) (split-at w s c) ∙ number_read o (take w s) (drop w s ++ c) size fits
+      ap (run o) (split-at w s c) ∙ number_read order w end row o (take w s) (drop w s ++ c) size fits
 
   alone : (o : ℕ) (s : List ℕ) → o + w ≤ end → w ≤ length s → run o s ≡ validated (row (o + w) (number_of order (take w s))) (number_of order (take w s)) o (o + w) (drop w s)
   alone o s fits long = ap (run o) (sym (append-nil s)) ∙ there o s [] fits long ∙ ap (λ (t : List ℕ). validated (row (o + w) (number_of order (take w s))) (number_of order (take w s)) o (o + w) t) (append-nil (drop w s))
@@ -93,16 +76,16 @@ module _ (order : Order) (w end : ℕ) (row : ℕ → ℕ → Option Reason) whe
   pub lasts_number : Lasts (number order w end row)
   lasts_number = record {
     reads = λ o s x q r e c. elim (cases_lt end (o + w)) [
-      | inl past ↦ let f = number_over o s past in absurd cc
+      | inl past ↦ let f = number_over order w end row o s past in absurd cc
       | inr fits ↦ elim (cases_lt (length s) w) [
-        | inl short ↦ let p = number_waits o s short fits in absurd cc
+        | inl short ↦ let p = number_waits order w end row o s short fits in absurd cc
         | inr long ↦ there o s c fits long ∙ validated_more _ _ o (o + w) (drop w s) c x q r (sym (alone o s fits long) ∙ e)
       ]
     ];
     refuses = λ o s f e c. elim (cases_lt end (o + w)) [
-      | inl past ↦ number_over o (s ++ c) past ∙ (sym (number_over o s past) ∙ e)
+      | inl past ↦ number_over order w end row o (s ++ c) past ∙ (sym (number_over order w end row o s past) ∙ e)
       | inr fits ↦ elim (cases_lt (length s) w) [
-        | inl short ↦ let p = number_waits o s short fits in absurd cc
+        | inl short ↦ let p = number_waits order w end row o s short fits in absurd cc
         | inr long ↦ there o s c fits long ∙ validated_still _ _ o (o + w) (drop w s) c f (sym (alone o s fits long) ∙ e)
       ]
     ];

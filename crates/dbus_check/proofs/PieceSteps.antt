@@ -168,35 +168,35 @@ module _ (x : Pieces) (to : To) (h : Holds x to) (none : x.kept.items ≡ []) (p
 
 -- ---- one call after another
 
-module _ (s : List ℕ) (n : ℕ) (there : n ≤ length s) (to : To) where
+module _ (s : List ℕ) (n : ℕ) (there : n ≤ length s) (to : To) (rest : List ℕ) (rest_is : rest ≡ drop n s) where
   holds_as : (y : Pieces) (one two : To) → ((c : List ℕ) → one c ≡ two c) → Holds y one → Holds y two
   holds_as y one two e h = record { from = h.from; denotes = h.denotes; same = λ c. h.same c ∙ e c; few = h.few; waits = h.waits }
 
-  pub both_joined : (y : Pieces) (m : ℕ) → Joined (drop n s) (Ok m) y (after_bytes to (take n s)) → Joined s (Ok (n + m)) y to
+  pub both_joined : (y : Pieces) (m : ℕ) → Joined rest (Ok m) y (after_bytes to (take n s)) → Joined s (Ok (n + m)) y to
   both_joined y m h =
       let a = h.0 in
-      let d = length-drop n s in
-      (omega (arith, a, d, there), holds_as y (after_bytes (after_bytes to (take n s)) (take m (drop n s))) (after_bytes to (take (n + m) s)) (λ c. ap to (sym (take-both n m s c there))) h.1)
+      let d = ap length rest_is ∙ length-drop n s in
+      (omega (arith, a, d, there), holds_as y (after_bytes (after_bytes to (take n s)) (take m rest)) (after_bytes to (take (n + m) s)) (λ c. ap (λ (u : List ℕ). to (take n s ++ (take m u ++ c))) rest_is ∙ ap to (sym (take-both n m s c there))) h.1)
 
-  pub both_refused : (f : Fault) → ((c : List ℕ) → to (take n s ++ (drop n s ++ c)) ≡ Faulty f) → (c : List ℕ) → to (s ++ c) ≡ Faulty f
-  both_refused f h c = ap to (split-at n s c) ∙ h c
+  pub both_refused : (f : Fault) → ((c : List ℕ) → to (take n s ++ (rest ++ c)) ≡ Faulty f) → (c : List ℕ) → to (s ++ c) ≡ Faulty f
+  both_refused f h c = ap to (split-at n s c) ∙ ap (λ (u : List ℕ). to (take n s ++ (u ++ c))) (sym rest_is) ∙ h c
 
-  pub both_fed : (y : Pieces) (m : ℕ) → Fed (drop n s) (Ok m) y (after_bytes to (take n s)) → Fed s (Ok (n + m)) y to
+  pub both_fed : (y : Pieces) (m : ℕ) → Fed rest (Ok m) y (after_bytes to (take n s)) → Fed s (Ok (n + m)) y to
   both_fed y m h =
       let j = both_joined y m (h.0, h.1) in
-      let d = length-drop n s in (
+      let d = ap length rest_is ∙ length-drop n s in (
         j.0,
         j.1,
         λ live.
             let w = h.2 live in
             let all = w.0 in
-            (omega (arith, all, d, there), ap to (sym (take-append-drop n s)) ∙ w.1),
+            (omega (arith, all, d, there), ap to (sym (take-append-drop n s)) ∙ ap (λ (u : List ℕ). to (take n s ++ u)) (sym rest_is) ∙ w.1),
       )
 
-  -- all were handed, and some are kept
-  pub all_fed : (y : Pieces) → n ≡ length s → 0 < length y.kept.items → Holds y (after_bytes to (take n s)) → Fed s (Ok n) y to
-  all_fed y all some h = (
-    there,
-    h,
-    λ live. (all, ap to (sym (take_all n s (omega (arith, all)))) ∙ ap to (sym (append-nil (take n s))) ∙ sym (h.same []) ∙ ap h.from (append-nil y.kept.items) ∙ h.waits some),
-  )
+-- all were handed, and some are kept
+pub all_fed : (s : List ℕ) (n : ℕ) (there : n ≤ length s) (to : To) (y : Pieces) → n ≡ length s → 0 < length y.kept.items → Holds y (after_bytes to (take n s)) → Fed s (Ok n) y to
+all_fed s n there to y all some h = (
+  there,
+  h,
+  λ live. (all, ap to (sym (take_all n s (omega (arith, all)))) ∙ ap to (sym (append-nil (take n s))) ∙ sym (h.same []) ∙ ap h.from (append-nil y.kept.items) ∙ h.waits some),
+)
