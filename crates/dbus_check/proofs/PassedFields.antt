@@ -1,5 +1,5 @@
 -- Fields whose values are read in one go.
-use Rattle.std.proofs.Common.{◌≡◌, ℕ, ◌+◌, List, [], ◌∷◌, ◌++◌, take, Bool, true, false, ◌||◌, ◌&&◌, cond, eqb, Ok, Err, refl, sym, ap, ◌∙◌, arith}
+use Rattle.std.proofs.Common.{◌≡◌, ℕ, ◌+◌, List, [], ◌∷◌, ◌++◌, take, Bool, true, false, ◌||◌, ◌&&◌, cond, eqb, Result, Ok, Err, refl, sym, ap, subst, ◌∙◌, ◌≤◌, arith}
 use Rattle.std.proofs.lemmas.Bool.{eq-eqb, ne_eqb, eqb-true}
 use Rattle.dbus_texts.specs.Types.{UINT32, SIGNATURE, NumberType, TextType}
 use Rattle.dbus_value_model.specs.WantedTexts.{WantedText}
@@ -11,9 +11,11 @@ use Rattle.dbus_message_model.specs.Messages.{Want, Name, OfType, Serial, want, 
 use Rattle.dbus_header.proofs.ReadingParts.{after_after, same_after}
 use Rattle.dbus_value_checker.specs.Fronts.{Fronts}
 use Rattle.dbus_value_checker.specs.Suspended.{On}
-use Rattle.dbus_check.specs.Fields.{seen_as}
-use Rattle.dbus_check.specs.Heading.{Kept, kept_of, has}
-use Rattle.dbus_check.specs.Progress.{To, Passes}
+use Rattle.dbus_check.specs.Fields.{seen_as, nothing_of}
+use Rattle.dbus_check.specs.Seen.{Sees}
+use Rattle.dbus_header.specs.HeaderReading.{wanted_value}
+use Rattle.dbus_check.specs.Heading.{Kept, kept_of, has, fields_on}
+use Rattle.dbus_check.specs.Progress.{To, Passes, Keeps, WantsValue}
 use Rattle.dbus_check.specs.declared.progress.Progress.{Progress}
 
 -- ---- a value is passed
@@ -101,3 +103,70 @@ not_before c code codes h = (rest (eqb code c) (has c codes) h, λ e. let t : tr
     rest : (a b : Bool) → (a || b) ≡ false → b ≡ false
     rest true b h = absurd cc
     rest false b h = h
+
+-- ---- a field that is passed
+
+-- the same message, further on
+pub record Moved (x y : Progress) (o : ℕ) : Type 0 where
+  pub limits : y.limits ≡ x.limits
+  pub order : y.order ≡ x.order
+  pub kind : y.kind ≡ x.kind
+  pub body : y.body ≡ x.body
+  pub end : y.end ≡ x.end
+  pub offset : y.offset ≡ o
+
+-- with one code more, of neither a signature nor a count
+pub keeps_plain : (x y : Progress) (kept : Kept) (code : ℕ) → Keeps x kept → Sees y.seen (code ∷ kept.codes) → y.signature.items ≡ x.signature.items → y.fds ≡ x.fds → Keeps y (the_kept (code ∷ kept.codes) kept.text kept.count)
+keeps_plain x y kept code k sees signature count = record {
+  sees = sees;
+  text = signature ∙ k.text;
+  signature = k.signature;
+  count = count ∙ k.count;
+  no_text = λ h. k.no_text (not_before 8 code kept.codes h).0;
+  no_count = λ h. k.no_count (not_before 9 code kept.codes h).0;
+}
+
+module _ (x : Progress) (code n : ℕ) (to : To) (w : WantsValue x code n to) (u : Want) (u_is : u ≡ want code) (s : List ℕ) where
+  module _ {B X : Type 0} (g : ValueTree → B) (told : B → Kept) (view : X → B × ℕ) (same : (v : ValueTree) → kept_of w.kept code v ≡ told (g v)) where
+    abbrev Gives : Result X Stop → Type 0
+    Gives r = Fronts view (x.offset + n) s r (seen_as g (wanted_value x.limits x.order x.end u))
+
+    given : (r : Result X Stop) → Gives r → Fronts view (x.offset + n) s r (seen_as g (wanted_value x.limits x.order x.end (want code)))
+    given r h = subst (λ (v : Want). Fronts view (x.offset + n) s r (seen_as g (wanted_value x.limits x.order x.end v))) u_is h
+
+    pub field_stops : (e : Stop) → Gives (Err e) → Passes x s (Err e) x to
+    field_stops e h = value_stops (wanted_value x.limits x.order x.end (want code)) g (kept_of w.kept code) told (fields_on x.limits x.order x.kind x.body w.turns x.end) same view (x.offset + n) s e (given (Err e) h) x to w.same
+
+    pub field_passed : (y : Progress) (z : X) → Gives (Ok z) → Moved x y (x.offset + n + (view z).1) → x.offset + n + (view z).1 ≤ x.end → Keeps y (told (view z).0) → Passes x s (Ok (view z).1) y to
+    field_passed y z h moved low keeps =
+        let turns_is = w.turns_is in
+        let near = w.near in
+        let taken = value_taken (wanted_value x.limits x.order x.end (want code)) g (kept_of w.kept code) told (fields_on x.limits x.order x.kind x.body w.turns x.end) same view (x.offset + n) s z (given (Ok z) h) in (
+          h.0,
+          record {
+            kept = told (view z).0;
+            turns = w.turns;
+            keeps = keeps;
+            low = omega arith;
+            turns_is = omega arith;
+            near = omega arith;
+            same = λ t. rw (moved.limits, moved.order, moved.kind, moved.body, moved.end, moved.offset) (sym (taken t) ∙ w.same (take (view z).1 s ++ t));
+          },
+        )
+
+  -- one of whose value nothing is kept
+  module _ (other : (code ≡ 8 → ⊥) × (code ≡ 9 → ⊥)) where
+    abbrev plain : Unit {0} → Kept
+    plain b = the_kept (code ∷ w.kept.codes) w.kept.text w.kept.count
+
+    same_plain : (v : ValueTree) → kept_of w.kept code v ≡ plain (nothing_of v)
+    same_plain v = kept_plain w.kept code w.keeps.no_text w.keeps.no_count v other.0 other.1
+
+    abbrev PlainGives : Result ℕ Stop → Type 0
+    PlainGives r = Fronts (λ (m : ℕ). (tt, m)) (x.offset + n) s r (seen_as nothing_of (wanted_value x.limits x.order x.end u))
+
+    pub plain_stops : (e : Stop) → PlainGives (Err e) → Passes x s (Err e) x to
+    plain_stops e h = field_stops nothing_of plain (λ (m : ℕ). (tt, m)) same_plain e h
+
+    pub plain_passed : (y : Progress) (m : ℕ) → PlainGives (Ok m) → Moved x y (x.offset + n + m) → x.offset + n + m ≤ x.end → Sees y.seen (code ∷ w.kept.codes) → y.signature.items ≡ x.signature.items → y.fds ≡ x.fds → Passes x s (Ok m) y to
+    plain_passed y m h moved low sees signature count = field_passed nothing_of plain (λ (m : ℕ). (tt, m)) same_plain y m h moved low (keeps_plain x y w.kept code w.keeps sees signature count)

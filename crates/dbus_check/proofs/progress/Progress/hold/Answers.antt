@@ -1,11 +1,11 @@
-use Rattle.std.proofs.Common.{◌+◌, ◌-◌, [], ◌∷◌, subst, ◌∙◌}
+use Rattle.std.proofs.Common.{refl, ◌+◌, ◌-◌, [], ◌∷◌, subst, ◌∙◌}
 use Rattle.dbus_texts.specs.Types.{NoTypes, MoreTypes}
 use Rattle.dbus_value_model.specs.Specification.{bounds_of}
 use Rattle.dbus_value_model.specs.declared.limits.Bounds.{Bounds}
 use Rattle.dbus_value_checker.specs.Denotations as values
 use Rattle.dbus_value_checker.specs.Moves.{values_on}
 use Rattle.dbus_check.specs.Heading.{fields_on}
-use Rattle.dbus_check.proofs.PassedFields.{the_kept, not_before}
+use Rattle.dbus_check.proofs.PassedFields.{the_kept, keeps_plain}
 use Rattle.dbus_value_checker.proofs.Suspension.{parts_more}
 use Rattle.dbus_check.proofs.Stages.{held_types}
 use Rattle.dbus_check.proofs.progress.Progress.hold.Goals as goal
@@ -25,14 +25,7 @@ returns c = λ to t w is single.
     record {
       kept = kept;
       turns = w.turns;
-      keeps = record {
-        sees = c.note.ensures w.kept.codes w.keeps.sees;
-        text = w.keeps.text;
-        signature = w.keeps.signature;
-        count = w.keeps.count;
-        no_text = λ h. w.keeps.no_text (not_before 8 c.args.code w.kept.codes h).0;
-        no_count = λ h. w.keeps.no_count (not_before 9 c.args.code w.kept.codes h).0;
-      };
+      keeps = keeps_plain x _ w.kept c.args.code w.keeps (c.note.ensures w.kept.codes w.keeps.sees) refl refl;
       turns_is = w.turns_is;
       near = w.near;
       types = MoreTypes t NoTypes;
