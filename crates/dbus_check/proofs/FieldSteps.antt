@@ -1,5 +1,5 @@
 -- The parts of a header's field, front by front.
-use Rattle.std.proofs.Common.{◌≡◌, ℕ, zero, suc, ◌+◌, ◌-◌, ◌<◌, ◌≤◌, List, [], ◌++◌, drop, Bool, true, false, ◌&&◌, cond, eqb, Option, Some, None, Ok, Err, refl, sym, ap, ◌∙◌, arith}
+use Rattle.std.proofs.Common.{◌≡◌, ℕ, zero, suc, ◌+◌, ◌-◌, ◌<◌, ◌≤◌, List, [], ◌++◌, drop, Bool, true, false, ◌&&◌, cond, eqb, Option, Some, None, Ok, Err, refl, sym, ap, ◌∙◌, arith, Result, subst}
 use Rattle.std.proofs.lemmas.Bool.{lt-ltb, le-ltb, eq-eqb, ne_eqb}
 use Rattle.dbus_value_model.specs.declared.limits.Limits.{Limits}
 use Rattle.dbus_value_model.specs.declared.order.Order.{Order}
@@ -70,34 +70,42 @@ module _ {Z : Type 0} (w : Z → List ℕ × ℕ) (order : Order) (end width : �
   unfolding counted_text
   length_stops e h = first_err sized w o s (number order width end row) texted e h
 
-  module _ (n : ℕ) (first : Fronts sized o s (Ok n) (number order width end row)) (u : Unit {0} → List ℕ × ℕ) where
-    pub text_stops : (e : Stop) → Fronts u (o + width) (drop width s) (Err e) (text k n) → Fronts w o s (Err e) (counted_text order end width row k)
-    unfolding counted_text
-    text_stops e h = then_err sized w w o s (number order width end row) texted n first e (first_err u w (o + width) (drop width s) (text k n) ended e h)
+  module _ (n : ℕ) (first : Fronts sized o s (Ok n) (number order width end row)) (value : List ℕ → List ℕ) (size : ℕ) (rest : List ℕ) (rest_is : rest ≡ drop width s) where
+    abbrev u : List ℕ → Unit {0} → List ℕ × ℕ
+    u t x = (value t, size)
 
-    module _ (second : Fronts u (o + width) (drop width s) (Ok tt) (text k n)) where
+    second : (e : Result (Unit {0}) Stop) → Fronts (u rest) (o + width) rest e (text k n) → Fronts (u (drop width s)) (o + width) (drop width s) e (text k n)
+    second e h = subst (λ (t : List ℕ). Fronts (u t) (o + width) t e (text k n)) rest_is h
+
+    pub text_stops : (e : Stop) → Fronts (u rest) (o + width) rest (Err e) (text k n) → Fronts w o s (Err e) (counted_text order end width row k)
+    unfolding counted_text
+    text_stops e h = then_err sized w w o s (number order width end row) texted n first e (first_err (u (drop width s)) w (o + width) (drop width s) (text k n) ended e (second (Err e) h))
+
+    module _ (there : Fronts (u rest) (o + width) rest (Ok tt) (text k n)) (left : List ℕ) (left_is : left ≡ drop size rest) (q : ℕ) (q_is : q ≡ o + width + size) where
       abbrev one : Unit {0} → Unit {0} × ℕ
       one x = (tt, 1)
 
-      pub nul_stops : (e : Stop) → Fronts one (o + width + (u tt).1) (drop (u tt).1 (drop width s)) (Err e) nul → Fronts w o s (Err e) (counted_text order end width row k)
+      nulled : (e : Result (Unit {0}) Stop) → Fronts one q left e nul → Fronts one (o + width + size) (drop size (drop width s)) e nul
+      nulled e h =
+          subst (λ (p : ℕ). Fronts one p (drop size (drop width s)) e nul) q_is
+          (subst (λ (t : List ℕ). Fronts one q t e nul) (left_is ∙ ap (drop size) rest_is) h)
+
+      pub nul_stops : (e : Stop) → Fronts one q left (Err e) nul → Fronts w o s (Err e) (counted_text order end width row k)
       unfolding counted_text
       nul_stops e h =
           then_err sized w w o s (number order width end row) texted n first e
-          (then_err u w w (o + width) (drop width s) (text k n) ended tt second e
-          (first_err one w (o + width + (u tt).1) (drop (u tt).1 (drop width s)) nul (λ _. pure (u tt).0) e h))
+          (then_err (u (drop width s)) w w (o + width) (drop width s) (text k n) ended tt (second (Ok tt) there) e
+          (first_err one w (o + width + size) (drop size (drop width s)) nul (λ _. pure (value (drop width s))) e (nulled (Err e) h)))
 
-      abbrev last : Unit {0} → List ℕ × ℕ
-      last x = ((u tt).0, 1)
+      abbrev last : ℕ → Unit {0} → List ℕ × ℕ
+      last m x = (value (drop width s), m)
 
-      abbrev both : Unit {0} → List ℕ × ℕ
-      both x = ((u tt).0, (u tt).1 + 1)
-
-      pub text_there : Fronts one (o + width + (u tt).1) (drop (u tt).1 (drop width s)) (Ok tt) nul → (z : Z) → (w z).0 ≡ (u tt).0 → (w z).1 ≡ width + ((u tt).1 + 1) → Fronts w o s (Ok z) (counted_text order end width row k)
+      pub text_there : Fronts one q left (Ok tt) nul → (z : Z) → (w z).0 ≡ value (drop width s) → (w z).1 ≡ width + (size + 1) → Fronts w o s (Ok z) (counted_text order end width row k)
       unfolding counted_text
       text_there h z value_is size_is =
-          then_ok sized both w o s (number order width end row) texted n first tt
-          (then_ok u last both (o + width) (drop width s) (text k n) ended tt second tt
-          (front_as one last (λ _. (u tt).0) (o + width + (u tt).1) (drop (u tt).1 (drop width s)) nul tt h tt refl refl) tt refl refl) z value_is size_is
+          then_ok sized (last (size + 1)) w o s (number order width end row) texted n first tt
+          (then_ok (u (drop width s)) (last 1) (last (size + 1)) (o + width) (drop width s) (text k n) ended tt (second (Ok tt) there) tt
+          (front_as one (last 1) (λ _. value (drop width s)) (o + width + size) (drop size (drop width s)) nul tt (nulled (Ok tt) h) tt refl refl) tt refl refl) z value_is size_is
 
 -- ---- a container is opened
 
@@ -142,23 +150,26 @@ module _ (limits : Limits) (order : Order) (end : ℕ) (codes : List ℕ) (o : �
     unfolding field_code
     struct_too_deep h = then_err zeros coded coded o s (padding 8 end) (λ _. with_struct) n first (stops.Refused (fault (o + n) reasons.TooDeep)) (λ c. opening_refuses (limits.depth - 1) (λ _. with_code) (o + n) (drop n s ++ c) (omega (arith, h)))
 
-    module _ (deep : 2 ≤ limits.depth) where
+    module _ (deep : 2 ≤ limits.depth) (rest : List ℕ) (rest_is : rest ≡ drop n s) where
       same_struct : (p : ℕ) (u : List ℕ) → with_code p u ≡ with_struct p u
       same_struct p u = sym (opening_passes (limits.depth - 1) (λ _. with_code) p u (omega (arith, deep)))
 
-      pub code_stops : (e : Stop) → Fronts single (o + n) (drop n s) (Err e) (number order 1 end (seen_row codes)) → Fronts coded o s (Err e) (field_code limits order end codes)
+      read_there : (e : Result ℕ Stop) → Fronts single (o + n) rest e read → Fronts single (o + n) (drop n s) e read
+      read_there e h = subst (λ (t : List ℕ). Fronts single (o + n) t e read) rest_is h
+
+      pub code_stops : (e : Stop) → Fronts single (o + n) rest (Err e) (number order 1 end (seen_row codes)) → Fronts coded o s (Err e) (field_code limits order end codes)
       unfolding field_code
       code_stops e h = then_err zeros coded coded o s (padding 8 end) (λ _. with_struct) n first e
-          (fronts_same coded (o + n) (drop n s) (Err e) with_code with_struct (same_struct (o + n)) (first_err single coded (o + n) (drop n s) read with_variant e h))
+          (fronts_same coded (o + n) (drop n s) (Err e) with_code with_struct (same_struct (o + n)) (first_err single coded (o + n) (drop n s) read with_variant e (read_there (Err e) h)))
 
-      module _ (code : ℕ) (second : Fronts single (o + n) (drop n s) (Ok code) (number order 1 end (seen_row codes))) where
+      module _ (code : ℕ) (second : Fronts single (o + n) rest (Ok code) (number order 1 end (seen_row codes))) where
         pub variant_too_deep : limits.depth < 3 → Fronts coded o s (Err (stops.Refused (fault (o + n + 1) reasons.TooDeep))) (field_code limits order end codes)
         unfolding field_code
         variant_too_deep h =
             let e = stops.Refused (fault (o + n + 1) reasons.TooDeep) in
             then_err zeros coded coded o s (padding 8 end) (λ _. with_struct) n first e
             (fronts_same coded (o + n) (drop n s) (Err e) with_code with_struct (same_struct (o + n))
-            (then_err single coded coded (o + n) (drop n s) read with_variant code second e
+            (then_err single coded coded (o + n) (drop n s) read with_variant code (read_there (Ok code) second) e
             (λ c. opening_refuses (limits.depth - 2) (λ _. pure code) (o + n + 1) (drop 1 (drop n s) ++ c) (omega (arith, h)))))
 
         pub code_there : 3 ≤ limits.depth → Fronts coded o s (Ok (code, n + 1)) (field_code limits order end codes)
@@ -169,7 +180,7 @@ module _ (limits : Limits) (order : Order) (end : ℕ) (codes : List ℕ) (o : �
             then_ok zeros coded coded o s (padding 8 end) (λ _. with_struct) n first (code, 1)
             (fronts_same coded (o + n) (drop n s) (Ok (code, 1)) with_code with_struct (same_struct (o + n))
             (fronts_same coded (o + n) (drop n s) (Ok (code, 1)) (λ p u. after (read p u) (λ a. pure a)) with_code (passes (o + n))
-            (front_as single coded (λ a. a) (o + n) (drop n s) read code second (code, 1) refl refl)))
+            (front_as single coded (λ a. a) (o + n) (drop n s) read code (read_there (Ok code) second) (code, 1) refl refl)))
             (code, n + 1) refl refl
 
 -- ---- after a padding
@@ -192,14 +203,19 @@ module _ (order : Order) (end : ℕ) (o : ℕ) (s : List ℕ) where
     unfolding name_text
     name_padding_stops e h = forgotten any_name o s (name_text order end k) (Err e) (first_err padded any_name o s (padding 4 end) (λ _. name) e h)
 
-    module _ (n : ℕ) (first : Fronts padded o s (Ok n) (padding 4 end)) (u : ℕ → List ℕ × ℕ) where
-      pub name_stops : (e : Stop) → Fronts u (o + n) (drop n s) (Err e) (counted_text order end 4 (name_row end) k) → Fronts total o s (Err e) (onward (name_text order end k) done)
-      unfolding name_text
-      name_stops e h = forgotten any_name o s (name_text order end k) (Err e) (then_err padded u any_name o s (padding 4 end) (λ _. name) n first e h)
+    module _ (n : ℕ) (first : Fronts padded o s (Ok n) (padding 4 end)) (u : List ℕ → ℕ → List ℕ × ℕ) (rest : List ℕ) (rest_is : rest ≡ drop n s) where
+      named : (e : Result ℕ Stop) → Fronts (u rest) (o + n) rest e name → Fronts (u (drop n s)) (o + n) (drop n s) e name
+      named e h = subst (λ (t : List ℕ). Fronts (u t) (o + n) t e name) rest_is h
 
-      pub name_there : (m z : ℕ) → Fronts u (o + n) (drop n s) (Ok m) (counted_text order end 4 (name_row end) k) → z ≡ n + (u m).1 → Fronts total o s (Ok z) (onward (name_text order end k) done)
+      pub name_stops : (e : Stop) → Fronts (u rest) (o + n) rest (Err e) (counted_text order end 4 (name_row end) k) → Fronts total o s (Err e) (onward (name_text order end k) done)
       unfolding name_text
-      name_there m z h size_is = forgotten (λ (z : ℕ). ((u m).0, z)) o s (name_text order end k) (Ok z) (then_ok padded u (λ (z : ℕ). ((u m).0, z)) o s (padding 4 end) (λ _. name) n first m h z refl size_is)
+      name_stops e h = forgotten any_name o s (name_text order end k) (Err e) (then_err padded (u (drop n s)) any_name o s (padding 4 end) (λ _. name) n first e (named (Err e) h))
+
+      pub name_there : (m z : ℕ) → Fronts (u rest) (o + n) rest (Ok m) (counted_text order end 4 (name_row end) k) → z ≡ n + (u (drop n s) m).1 → Fronts total o s (Ok z) (onward (name_text order end k) done)
+      unfolding name_text
+      name_there m z h size_is =
+          let v : ℕ → List ℕ × ℕ = λ z. ((u (drop n s) m).0, z) in
+          forgotten v o s (name_text order end k) (Ok z) (then_ok padded (u (drop n s)) v o s (padding 4 end) (λ _. name) n first m (named (Ok m) h) z refl size_is)
 
   module _ (row : ℕ → ℕ → Option Reason) where
     abbrev four : ℕ → ℕ × ℕ
@@ -209,14 +225,17 @@ module _ (order : Order) (end : ℕ) (o : ℕ) (s : List ℕ) where
     unfolding padded_number
     padded_stops w e h = first_err padded w o s (padding 4 end) (λ _. number order 4 end row) e h
 
-    module _ (n : ℕ) (first : Fronts padded o s (Ok n) (padding 4 end)) where
-      pub padded_number_stops : {Z : Type 0} (w : Z → ℕ × ℕ) (e : Stop) → Fronts four (o + n) (drop n s) (Err e) (number order 4 end row) → Fronts w o s (Err e) (padded_number order end row)
-      unfolding padded_number
-      padded_number_stops w e h = then_err padded four w o s (padding 4 end) (λ _. number order 4 end row) n first e h
+    module _ (n : ℕ) (first : Fronts padded o s (Ok n) (padding 4 end)) (rest : List ℕ) (rest_is : rest ≡ drop n s) where
+      numbered : (e : Result ℕ Stop) → Fronts four (o + n) rest e (number order 4 end row) → Fronts four (o + n) (drop n s) e (number order 4 end row)
+      numbered e h = subst (λ (t : List ℕ). Fronts four (o + n) t e (number order 4 end row)) rest_is h
 
-      pub padded_number_there : {Z : Type 0} (w : Z → ℕ × ℕ) (x : ℕ) → Fronts four (o + n) (drop n s) (Ok x) (number order 4 end row) → (z : Z) → (w z).0 ≡ x → (w z).1 ≡ n + 4 → Fronts w o s (Ok z) (padded_number order end row)
+      pub padded_number_stops : {Z : Type 0} (w : Z → ℕ × ℕ) (e : Stop) → Fronts four (o + n) rest (Err e) (number order 4 end row) → Fronts w o s (Err e) (padded_number order end row)
       unfolding padded_number
-      padded_number_there w x h z value_is size_is = then_ok padded four w o s (padding 4 end) (λ _. number order 4 end row) n first x h z value_is size_is
+      padded_number_stops w e h = then_err padded four w o s (padding 4 end) (λ _. number order 4 end row) n first e (numbered (Err e) h)
+
+      pub padded_number_there : {Z : Type 0} (w : Z → ℕ × ℕ) (x : ℕ) → Fronts four (o + n) rest (Ok x) (number order 4 end row) → (z : Z) → (w z).0 ≡ x → (w z).1 ≡ n + 4 → Fronts w o s (Ok z) (padded_number order end row)
+      unfolding padded_number
+      padded_number_there w x h z value_is size_is = then_ok padded four w o s (padding 4 end) (λ _. number order 4 end row) n first x (numbered (Ok x) h) z value_is size_is
 
 -- ---- sizes
 

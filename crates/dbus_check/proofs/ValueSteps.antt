@@ -1,5 +1,5 @@
 -- The values of the known fields, each after its signature.
-use Rattle.std.proofs.Common.{◌≡◌, ℕ, ◌+◌, ◌-◌, ◌≤◌, List, [], ◌∷◌, drop, None, Ok, Err, refl, sym, ap, ◌∙◌}
+use Rattle.std.proofs.Common.{◌≡◌, ℕ, ◌+◌, ◌-◌, ◌≤◌, List, [], ◌∷◌, drop, None, Ok, Err, refl, sym, ap, ◌∙◌, Result, subst}
 use Rattle.dbus_texts.specs.Types.{UINT32, SIGNATURE, TypeTree, NumberType, TextType}
 use Rattle.dbus_texts.specs.ComputedKinds.{type_spelled}
 use Rattle.dbus_texts.specs.declared.text_kind.TextKind.TheVariants as kinds
@@ -44,17 +44,20 @@ module _ {B : Type 0} (limits : Limits) (order : Order) (end : ℕ) (w : Want) (
     pub signature_stops : (e : Stop) → Fronts signed o s (Err e) (short_text order end (Only (code ∷ []))) → Fronts view o s (Err e) (seen_as g (wanted_value limits order end w))
     signature_stops e h = fronts_same view o s (Err e) whole (seen_as g (wanted_value limits order end w)) whole_is (first_err signed view o s first_run next_run e h)
 
-    module _ (first : Fronts signed o s (Ok tt) (short_text order end (Only (code ∷ [])))) {Y : Type 0} (u : Y → B × ℕ)
+    module _ (first : Fronts signed o s (Ok tt) (short_text order end (Only (code ∷ [])))) {Y : Type 0} (u : List ℕ → Y → B × ℕ) (rest : List ℕ) (rest_is : rest ≡ drop 3 s)
         (same : (t : List ℕ) → inner (o + 3) t ≡ after (value_wanted (bounds_of limits) order (limits.depth - 3) end w (type_spelled (code ∷ [])) (o + 3) t) (λ v. pure (g v))) where
-      pub value_stops : (e : Stop) → Fronts u (o + 3) (drop 3 s) (Err e) inner → Fronts view o s (Err e) (seen_as g (wanted_value limits order end w))
+      second : (e : Result Y Stop) → Fronts (u rest) (o + 3) rest e inner → Fronts (u (drop 3 s)) (o + 3) (drop 3 s) e (next_run (code ∷ []))
+      second e h = fronts_same (u (drop 3 s)) (o + 3) (drop 3 s) e inner (next_run (code ∷ [])) same (subst (λ (t : List ℕ). Fronts (u t) (o + 3) t e inner) rest_is h)
+
+      pub value_stops : (e : Stop) → Fronts (u rest) (o + 3) rest (Err e) inner → Fronts view o s (Err e) (seen_as g (wanted_value limits order end w))
       value_stops e h =
           fronts_same view o s (Err e) whole (seen_as g (wanted_value limits order end w)) whole_is
-          (then_err signed u view o s first_run next_run tt first e (fronts_same u (o + 3) (drop 3 s) (Err e) inner (next_run (code ∷ [])) same h))
+          (then_err signed (u (drop 3 s)) view o s first_run next_run tt first e (second (Err e) h))
 
-      pub value_there : (y : Y) → Fronts u (o + 3) (drop 3 s) (Ok y) inner → (z : Z) → (view z).0 ≡ (u y).0 → (view z).1 ≡ 3 + (u y).1 → Fronts view o s (Ok z) (seen_as g (wanted_value limits order end w))
+      pub value_there : (y : Y) → Fronts (u rest) (o + 3) rest (Ok y) inner → (z : Z) → (view z).0 ≡ (u (drop 3 s) y).0 → (view z).1 ≡ 3 + (u (drop 3 s) y).1 → Fronts view o s (Ok z) (seen_as g (wanted_value limits order end w))
       value_there y h z value_is size_is =
           fronts_same view o s (Ok z) whole (seen_as g (wanted_value limits order end w)) whole_is
-          (then_ok signed u view o s first_run next_run tt first y (fronts_same u (o + 3) (drop 3 s) (Ok y) inner (next_run (code ∷ [])) same h) z value_is size_is)
+          (then_ok signed (u (drop 3 s)) view o s first_run next_run tt first y (second (Ok y) h) z value_is size_is)
 
 -- ---- what stands after the signature
 

@@ -1,5 +1,5 @@
 -- A field, its code and then its value.
-use Rattle.std.proofs.Common.{◌≡◌, ℕ, ◌+◌, ◌≤◌, List, length, take, drop, Result, Ok, Err, refl, sym, ap, subst, ◌∙◌, arith}
+use Rattle.std.proofs.Common.{◌≡◌, ℕ, ◌+◌, ◌≤◌, List, ◌++◌, length, take, drop, Result, Ok, Err, refl, sym, ap, subst, ◌∙◌, arith}
 use Rattle.std.proofs.Math.Path.{fun_ext}
 use Rattle.std.proofs.lemmas.List.{length-drop, take-append-drop}
 use Rattle.dbus_value_model.specs.declared.stop.Stop.{Stop}
@@ -17,16 +17,16 @@ passed_moves old new s (Err stops.Partial) to at h = h
 passed_moves old new s (Err (stops.Refused f)) to at h = h
 
 -- the second of two parts
-module _ (old new : Progress) (s : List ℕ) (n : ℕ) (there : n ≤ length s) (to : To) where
-  pub both_move : (m : ℕ) → Moves old (drop n s) (Ok m) new (after_bytes to (take n s)) → Moves old s (Ok (n + m)) new to
+module _ (old new : Progress) (s : List ℕ) (n : ℕ) (there : n ≤ length s) (to : To) (rest : List ℕ) (rest_is : rest ≡ drop n s) where
+  pub both_move : (m : ℕ) → Moves old rest (Ok m) new (after_bytes to (take n s)) → Moves old s (Ok (n + m)) new to
   both_move m h =
       let a = h.0 in
-      let l = length-drop n s in
-      (omega (arith, a, l, there), subst (λ (t : To). Denotes new t) (fun_ext (λ c. ap to (sym (take-both n m s c there)))) h.1)
+      let l = ap length rest_is ∙ length-drop n s in
+      (omega (arith, a, l, there), subst (λ (t : To). Denotes new t) (fun_ext (λ c. ap (λ (u : List ℕ). to (take n s ++ (take m u ++ c))) rest_is ∙ ap to (sym (take-both n m s c there)))) h.1)
 
-  pub second_stops : (e : Stop) → Moves old (drop n s) (Err e) new (after_bytes to (take n s)) → Moves old s (Err e) new to
-  second_stops stops.Partial h = (h.0, sym (ap to (take-append-drop n s)) ∙ h.1)
-  second_stops (stops.Refused f) h = λ c. ap to (split-at n s c) ∙ h c
+  pub second_stops : (e : Stop) → Moves old rest (Err e) new (after_bytes to (take n s)) → Moves old s (Err e) new to
+  second_stops stops.Partial h = (h.0, sym (ap to (take-append-drop n s)) ∙ ap (λ (u : List ℕ). to (take n s ++ u)) (sym rest_is) ∙ h.1)
+  second_stops (stops.Refused f) h = λ c. ap to (split-at n s c) ∙ ap (λ (u : List ℕ). to (take n s ++ (u ++ c))) (sym rest_is) ∙ h c
 
 -- the first of two parts
 pub coded_stops : (x : Progress) (s : List ℕ) (e : Stop) (to : To) → Coded x s (Err e) to → Moves x s (Err e) x to

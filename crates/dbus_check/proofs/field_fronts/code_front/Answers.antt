@@ -1,9 +1,7 @@
-use Rattle.std.proofs.Common.{ℕ, ◌+◌, List, Ok, Err, sym, subst, ◌∙◌}
+use Rattle.std.proofs.Common.{ℕ, ◌+◌, sym, ◌∙◌}
 use Rattle.dbus_value_model.specs.declared.fault.Reason.TheVariants as reasons
 use Rattle.dbus_value_model.specs.declared.stop.Stop.TheVariants as stops
 use Rattle.dbus_value_model.specs.Items.{fault}
-use Rattle.dbus_value_model.specs.Reading.{number}
-use Rattle.dbus_value_checker.specs.Fronts.{Fronts}
 use Rattle.dbus_value_checker.proofs.FrontSteps.{lacks_number, number_taken, number_refused}
 use Rattle.dbus_check.specs.Heading.{seen_row}
 use Rattle.dbus_check.proofs.FieldSteps.{no_code, code_again, code_new, padding_stops, struct_too_deep, code_stops, variant_too_deep, code_there}
@@ -19,16 +17,16 @@ pub returns-in-Err-byte-clause-gives : goal.returns-in-Err-byte-clause-gives
 returns-in-Err-byte-clause-gives c = λ order codes sees.
     let n = c.in-Ok.zeros in
     let e = c.in-Err-byte.stop in
-    code_stops c.args.limits order c.args.end codes c.args.offset c.args.bytes.now n c.in-Ok.ensures.gives c.if-limits-lt2.false e
-    (subst (λ (t : List ℕ). Fronts (λ (n : ℕ). (n, 1)) (c.args.offset + n) t (Err e) (number order 1 c.args.end (seen_row codes))) c.rest_after.ensures (lacks_number (λ (n : ℕ). (n, 1)) order 1 c.args.end (seen_row codes) (c.args.offset + n) c.rest_after.result.now e c.in-Err-byte.ensures))
+    code_stops c.args.limits order c.args.end codes c.args.offset c.args.bytes.now n c.in-Ok.ensures.gives c.if-limits-lt2.false c.rest_after.result.now c.rest_after.ensures e
+    ((lacks_number (λ (n : ℕ). (n, 1)) order 1 c.args.end (seen_row codes) (c.args.offset + n) c.rest_after.result.now e c.in-Err-byte.ensures))
 
 pub returns-then-code-eq0-clause-gives : goal.returns-then-code-eq0-clause-gives
 returns-then-code-eq0-clause-gives c = λ order codes sees.
     let n = c.in-Ok.zeros in
     let h = c.in-Ok-byte.ensures in
     let e = stops.Refused (fault (c.args.offset + n) reasons.FieldCode) in
-    rw c.refuse-then-code-eq0.ensures (code_stops c.args.limits order c.args.end codes c.args.offset c.args.bytes.now n c.in-Ok.ensures.gives c.if-limits-lt2.false e
-    (subst (λ (t : List ℕ). Fronts (λ (n : ℕ). (n, 1)) (c.args.offset + n) t (Err e) (number order 1 c.args.end (seen_row codes))) c.rest_after.ensures (number_refused order 1 c.args.end (seen_row codes) (c.args.offset + n) c.rest_after.result.now c.in-Ok-byte.code h.0 h.1 (h.2 order) reasons.FieldCode (no_code codes (c.args.offset + n + 1) c.in-Ok-byte.code c.if-code-eq0.true))))
+    rw c.refuse-then-code-eq0.ensures (code_stops c.args.limits order c.args.end codes c.args.offset c.args.bytes.now n c.in-Ok.ensures.gives c.if-limits-lt2.false c.rest_after.result.now c.rest_after.ensures e
+    ((number_refused order 1 c.args.end (seen_row codes) (c.args.offset + n) c.rest_after.result.now c.in-Ok-byte.code h.0 h.1 (h.2 order) reasons.FieldCode (no_code codes (c.args.offset + n + 1) c.in-Ok-byte.code c.if-code-eq0.true))))
 
 pub returns-then-is_again-clause-gives : goal.returns-then-is_again-clause-gives
 returns-then-is_again-clause-gives c = λ order codes sees.
@@ -36,8 +34,8 @@ returns-then-is_again-clause-gives c = λ order codes sees.
     let h = c.in-Ok-byte.ensures in
     let e = stops.Refused (fault (c.args.offset + n) reasons.FieldTwice) in
     let again = sym (c.is_again.ensures codes sees) ∙ c.if-is_again.true in
-    rw c.refuse-then-is_again.ensures (code_stops c.args.limits order c.args.end codes c.args.offset c.args.bytes.now n c.in-Ok.ensures.gives c.if-limits-lt2.false e
-    (subst (λ (t : List ℕ). Fronts (λ (n : ℕ). (n, 1)) (c.args.offset + n) t (Err e) (number order 1 c.args.end (seen_row codes))) c.rest_after.ensures (number_refused order 1 c.args.end (seen_row codes) (c.args.offset + n) c.rest_after.result.now c.in-Ok-byte.code h.0 h.1 (h.2 order) reasons.FieldTwice (code_again codes (c.args.offset + n + 1) c.in-Ok-byte.code c.if-code-eq0.false again))))
+    rw c.refuse-then-is_again.ensures (code_stops c.args.limits order c.args.end codes c.args.offset c.args.bytes.now n c.in-Ok.ensures.gives c.if-limits-lt2.false c.rest_after.result.now c.rest_after.ensures e
+    ((number_refused order 1 c.args.end (seen_row codes) (c.args.offset + n) c.rest_after.result.now c.in-Ok-byte.code h.0 h.1 (h.2 order) reasons.FieldTwice (code_again codes (c.args.offset + n + 1) c.in-Ok-byte.code c.if-code-eq0.false again))))
 
 pub returns-then-limits-lt3-clause-gives : goal.returns-then-limits-lt3-clause-gives
 returns-then-limits-lt3-clause-gives c = λ order codes sees.
@@ -45,8 +43,8 @@ returns-then-limits-lt3-clause-gives c = λ order codes sees.
     let h = c.in-Ok-byte.ensures in
     let code = c.in-Ok-byte.code in
     let again = sym (c.is_again.ensures codes sees) ∙ c.if-is_again.false in
-    rw c.refuse-then-limits-lt3.ensures (variant_too_deep c.args.limits order c.args.end codes c.args.offset c.args.bytes.now n c.in-Ok.ensures.gives c.if-limits-lt2.false code
-    (subst (λ (t : List ℕ). Fronts (λ (n : ℕ). (n, 1)) (c.args.offset + n) t (Ok code) (number order 1 c.args.end (seen_row codes))) c.rest_after.ensures (h.0, number_taken order 1 c.args.end (seen_row codes) (c.args.offset + n) c.rest_after.result.now c.in-Ok-byte.code h.0 h.1 (h.2 order) (code_new codes (c.args.offset + n + 1) c.in-Ok-byte.code c.if-code-eq0.false again))) c.if-limits-lt3.true)
+    rw c.refuse-then-limits-lt3.ensures (variant_too_deep c.args.limits order c.args.end codes c.args.offset c.args.bytes.now n c.in-Ok.ensures.gives c.if-limits-lt2.false c.rest_after.result.now c.rest_after.ensures code
+    ((h.0, number_taken order 1 c.args.end (seen_row codes) (c.args.offset + n) c.rest_after.result.now c.in-Ok-byte.code h.0 h.1 (h.2 order) (code_new codes (c.args.offset + n + 1) c.in-Ok-byte.code c.if-code-eq0.false again))) c.if-limits-lt3.true)
 
 pub returns-clause-gives : goal.returns-clause-gives
 returns-clause-gives c = λ order codes sees.
@@ -54,8 +52,8 @@ returns-clause-gives c = λ order codes sees.
     let h = c.in-Ok-byte.ensures in
     let code = c.in-Ok-byte.code in
     let again = sym (c.is_again.ensures codes sees) ∙ c.if-is_again.false in
-    code_there c.args.limits order c.args.end codes c.args.offset c.args.bytes.now n c.in-Ok.ensures.gives c.if-limits-lt2.false code
-    (subst (λ (t : List ℕ). Fronts (λ (n : ℕ). (n, 1)) (c.args.offset + n) t (Ok code) (number order 1 c.args.end (seen_row codes))) c.rest_after.ensures (h.0, number_taken order 1 c.args.end (seen_row codes) (c.args.offset + n) c.rest_after.result.now c.in-Ok-byte.code h.0 h.1 (h.2 order) (code_new codes (c.args.offset + n + 1) c.in-Ok-byte.code c.if-code-eq0.false again))) c.if-limits-lt3.false
+    code_there c.args.limits order c.args.end codes c.args.offset c.args.bytes.now n c.in-Ok.ensures.gives c.if-limits-lt2.false c.rest_after.result.now c.rest_after.ensures code
+    ((h.0, number_taken order 1 c.args.end (seen_row codes) (c.args.offset + n) c.rest_after.result.now c.in-Ok-byte.code h.0 h.1 (h.2 order) (code_new codes (c.args.offset + n + 1) c.in-Ok-byte.code c.if-code-eq0.false again))) c.if-limits-lt3.false
 
 pub returns-clause-once : goal.returns-clause-once
 returns-clause-once c = λ codes sees. sym (c.is_again.ensures codes sees) ∙ c.if-is_again.false

@@ -1,7 +1,6 @@
-use Rattle.std.proofs.Common.{ℕ, ◌+◌, ◌<◌, List, length, Ok, Err, None, refl, ap, subst, arith}
+use Rattle.std.proofs.Common.{ℕ, ◌+◌, ◌<◌, length, None, refl, ap, subst, arith}
 use Rattle.std.proofs.lemmas.List.{length-drop}
 use Rattle.dbus_texts.specs.Types.{UINT32}
-use Rattle.dbus_value_model.specs.Reading.{number}
 use Rattle.dbus_value_model.specs.ValueItems.{number_row}
 use Rattle.dbus_value_checker.specs.Fronts.{Fronts}
 use Rattle.dbus_value_checker.proofs.FrontSteps.{lacks_number, number_taken}
@@ -18,7 +17,7 @@ returns-in-Err-word-clause-gives c =
     let s = c.args.bytes.now in
     let n = c.in-Ok.zeros in
     let e = c.in-Err-word.stop in
-    padded_number_stops c.args.order c.args.end c.args.offset s (number_row None UINT32) n c.in-Ok.ensures.gives (λ (x : ℕ × ℕ). x) e (subst (λ (t : List ℕ). Fronts (λ (n : ℕ). (n, 4)) (c.args.offset + n) t (Err e) (number c.args.order 4 c.args.end (number_row None UINT32))) c.rest_after.ensures (lacks_number (λ (n : ℕ). (n, 4)) c.args.order 4 c.args.end (number_row None UINT32) (c.args.offset + n) c.rest_after.result.now e c.in-Err-word.ensures))
+    padded_number_stops c.args.order c.args.end c.args.offset s (number_row None UINT32) n c.in-Ok.ensures.gives c.rest_after.result.now c.rest_after.ensures (λ (x : ℕ × ℕ). x) e ((lacks_number (λ (n : ℕ). (n, 4)) c.args.order 4 c.args.end (number_row None UINT32) (c.args.offset + n) c.rest_after.result.now e c.in-Err-word.ensures))
 
 pub returns-in-Err-word-clause-short : goal.returns-in-Err-word-clause-short
 returns-in-Err-word-clause-short c = λ e.
@@ -37,5 +36,5 @@ returns-in-Ok-word-clause-gives c =
     let n = c.in-Ok.zeros in
     let x = c.in-Ok-word.n in
     let h = c.in-Ok-word.ensures in
-    padded_number_there c.args.order c.args.end c.args.offset s (number_row None UINT32) n c.in-Ok.ensures.gives (λ (x : ℕ × ℕ). x) x
-    (subst (λ (t : List ℕ). Fronts (λ (n : ℕ). (n, 4)) (c.args.offset + n) t (Ok x) (number c.args.order 4 c.args.end (number_row None UINT32))) c.rest_after.ensures (h.0, number_taken c.args.order 4 c.args.end (number_row None UINT32) (c.args.offset + n) c.rest_after.result.now x h.0 h.1 h.2 refl)) (x, n + 4) refl refl
+    padded_number_there c.args.order c.args.end c.args.offset s (number_row None UINT32) n c.in-Ok.ensures.gives c.rest_after.result.now c.rest_after.ensures (λ (x : ℕ × ℕ). x) x
+    ((h.0, number_taken c.args.order 4 c.args.end (number_row None UINT32) (c.args.offset + n) c.rest_after.result.now x h.0 h.1 h.2 refl)) (x, n + 4) refl refl

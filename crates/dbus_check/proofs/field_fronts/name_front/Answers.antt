@@ -1,9 +1,6 @@
-use Rattle.std.proofs.Common.{ℕ, ◌+◌, List, length, take, drop, Ok, Err, refl, ap, subst, arith}
+use Rattle.std.proofs.Common.{ℕ, ◌+◌, List, length, take, drop, refl, ap, arith}
 use Rattle.std.proofs.lemmas.List.{length-drop}
 use Rattle.dbus_value_model.specs.WantedTexts.{Of}
-use Rattle.dbus_header.specs.MessageItems.{name_row}
-use Rattle.dbus_value_checker.specs.Fronts.{Fronts}
-use Rattle.dbus_check.specs.Fields.{counted_text}
 use Rattle.dbus_check.proofs.FieldSteps.{name_padding_stops, name_stops, name_there}
 use Rattle.dbus_check.proofs.field_fronts.name_front.Goals as goal
 
@@ -15,16 +12,16 @@ returns-in-Ok-name_text_front-clause-gives c =
     let s = c.args.bytes.now in
     let n = c.in-Ok.zeros in
     let m = c.in-Ok-name_text_front.n in
-    name_there c.args.order c.args.end c.args.offset s (Of c.args.kind) n c.in-Ok.ensures.gives (λ (m : ℕ). (take m (drop 4 (drop n s)), m + 5)) m (n + (m + 5))
-    (subst (λ (t : List ℕ). Fronts (λ (m : ℕ). (take m (drop 4 t), m + 5)) (c.args.offset + n) t (Ok m) (counted_text c.args.order c.args.end 4 (name_row c.args.end) (Of c.args.kind))) c.rest_after.ensures c.in-Ok-name_text_front.ensures.gives) refl
+    name_there c.args.order c.args.end c.args.offset s (Of c.args.kind) n c.in-Ok.ensures.gives (λ (t : List ℕ) (m : ℕ). (take m (drop 4 t), m + 5)) c.rest_after.result.now c.rest_after.ensures m (n + (m + 5))
+    (c.in-Ok-name_text_front.ensures.gives) refl
 
 pub returns-in-Err-name_text_front-clause-gives : goal.returns-in-Err-name_text_front-clause-gives
 returns-in-Err-name_text_front-clause-gives c =
     let s = c.args.bytes.now in
     let n = c.in-Ok.zeros in
     let e = c.in-Err-name_text_front.stop in
-    name_stops c.args.order c.args.end c.args.offset s (Of c.args.kind) n c.in-Ok.ensures.gives (λ (m : ℕ). (take m (drop 4 (drop n s)), m + 5)) e
-    (subst (λ (t : List ℕ). Fronts (λ (m : ℕ). (take m (drop 4 t), m + 5)) (c.args.offset + n) t (Err e) (counted_text c.args.order c.args.end 4 (name_row c.args.end) (Of c.args.kind))) c.rest_after.ensures c.in-Err-name_text_front.ensures.gives)
+    name_stops c.args.order c.args.end c.args.offset s (Of c.args.kind) n c.in-Ok.ensures.gives (λ (t : List ℕ) (m : ℕ). (take m (drop 4 t), m + 5)) c.rest_after.result.now c.rest_after.ensures e
+    (c.in-Err-name_text_front.ensures.gives)
 
 pub returns-in-Err-name_text_front-clause-short : goal.returns-in-Err-name_text_front-clause-short
 returns-in-Err-name_text_front-clause-short c = λ e.
