@@ -1,5 +1,5 @@
 -- A field, by what its code asks of its value.
-use Rattle.std.proofs.Common.{◌≡◌, ℕ, zero, suc, ◌-◌, List, sym, ◌∙◌}
+use Rattle.std.proofs.Common.{◌≡◌, ℕ, zero, suc, ◌-◌, List, ◌∙◌}
 use Rattle.dbus_texts.specs.Types.{UINT32, STRING, SIGNATURE, TypeTree, NumberType, TextType}
 use Rattle.dbus_texts.specs.ComputedKinds.{type_spelled}
 use Rattle.dbus_texts.specs.declared.text_kind.TextKind.TheVariants as kinds
@@ -11,14 +11,14 @@ use Rattle.dbus_value_model.specs.declared.order.Order.{Order}
 use Rattle.dbus_value_model.specs.declared.fault.Reason.TheVariants as reasons
 use Rattle.dbus_value_model.specs.Values.{ValueTree, NumberValue, TextValue}
 use Rattle.dbus_value_model.specs.ValueItems.{text_row, number_row}
-use Rattle.dbus_value_model.specs.Reading.{Reader, after, pure, padding, number, text, nul, signature, value}
+use Rattle.dbus_value_model.specs.Reading.{Reader, after, pure, padding, number, text, nul, value}
 use Rattle.dbus_message_model.specs.Messages.{Want, Name, Serial, want}
-use Rattle.dbus_header.specs.MessageItems.{kind_wanted, name_row, not_zero_row}
-use Rattle.dbus_header.specs.MessageReading.{opening, value_wanted}
+use Rattle.dbus_header.specs.MessageItems.{kind_wanted, not_zero_row}
+use Rattle.dbus_header.specs.MessageReading.{value_wanted}
 use Rattle.dbus_header.specs.HeaderReading.{wanted_signature, wanted_value}
 use Rattle.dbus_header.proofs.ReadingParts.{after_after, same_after}
 use Rattle.dbus_value_checker.specs.Suspended.{On}
-use Rattle.dbus_check.specs.Heading.{seen_row, Kept, kept_of, field_on}
+use Rattle.dbus_check.specs.Heading.{Kept, kept_of, field_on}
 use Rattle.dbus_check.specs.Fields.{field_code, counted_text, short_text, name_text, padded_number}
 
 -- its code, and then its value
@@ -26,26 +26,13 @@ pub field_begins : (limits : Limits) (order : Order) (end : ℕ) (kept : Kept) (
     → field_on limits order end kept more o s
     ≡ after (field_code limits order end kept.codes o s) (λ code p u. after (wanted_value limits order end (want code) p u) (λ v. more (kept_of kept code v)))
 unfolding field_code
-field_begins limits order end kept more o s =
-    let next : ℕ → On = λ code p u. after (wanted_value limits order end (want code) p u) (λ v. more (kept_of kept code v)) in
-    sym (after_after (padding 8 end o s) _ next
-    ∙ same_after (padding 8 end o s) _ _ (λ _ p u. after_after (opening (limits.depth - 1) p u) _ next
-    ∙ same_after (opening (limits.depth - 1) p u) _ _ (λ _ p u. after_after (number order 1 end (seen_row kept.codes) p u) _ next
-    ∙ same_after (number order 1 end (seen_row kept.codes) p u) _ _ (λ code p u. after_after (opening (limits.depth - 2) p u) _ next))))
+field_begins limits order end kept more o s = simp after_after
 
 module _ (order : Order) (end : ℕ) where
   -- the signature's length, its text and the zero after it
   signature_is : (k : WantedText) {B : Type 0} (next : TypeTree → Reader B) (o : ℕ) (s : List ℕ) → after (wanted_signature order end k o s) next ≡ after (short_text order end k o s) (λ t. next (type_spelled t))
   unfolding wanted_signature counted_text
-  signature_is k next o s =
-      after_after (number order 1 end (text_row end) o s) _ next
-      ∙ same_after (number order 1 end (text_row end) o s) _ _ (λ n p u.
-      after_after (signature k n p u) _ next
-      ∙ after_after (text k n p u) _ _
-      ∙ same_after (text k n p u) _ _ (λ t q v. after_after (nul q v) _ next)
-      ∙ sym (after_after (text k n p u) _ (λ t. next (type_spelled t))
-      ∙ same_after (text k n p u) _ _ (λ t q v. after_after (nul q v) _ (λ t. next (type_spelled t)))))
-      ∙ sym (after_after (number order 1 end (text_row end) o s) _ (λ t. next (type_spelled t)))
+  signature_is k next o s = simp after_after
 
   module _ (limits : Limits) where
     -- its signature, and then its value
@@ -61,50 +48,27 @@ module _ (order : Order) (end : ℕ) where
   pub name_begins : (bounds : Bounds) (inner : ℕ) (k : WantedText) (held : TypeTree) {B : Type 0} (next : ValueTree → Reader B) (o : ℕ) (s : List ℕ)
       → after (value_wanted bounds order inner end (Name k) held o s) next ≡ after (name_text order end k o s) (λ t. next (TextValue STRING t))
   unfolding name_text counted_text
-  name_begins bounds inner k held next o s =
-      after_after (padding 4 end o s) _ next
-      ∙ same_after (padding 4 end o s) _ _ (λ _ p u. after_after (number order 4 end (name_row end) p u) _ next
-      ∙ same_after (number order 4 end (name_row end) p u) _ _ (λ n q v. after_after (text k n q v) _ next
-      ∙ same_after (text k n q v) _ _ (λ t q v. after_after (nul q v) _ next)))
-      ∙ sym (after_after (padding 4 end o s) _ (λ t. next (TextValue STRING t))
-      ∙ same_after (padding 4 end o s) _ _ (λ _ p u. after_after (number order 4 end (name_row end) p u) _ (λ t. next (TextValue STRING t))
-      ∙ same_after (number order 4 end (name_row end) p u) _ _ (λ n q v. after_after (text k n q v) _ (λ t. next (TextValue STRING t))
-      ∙ same_after (text k n q v) _ _ (λ t q v. after_after (nul q v) _ (λ t. next (TextValue STRING t))))))
+  name_begins bounds inner k held next o s = simp after_after
 
   -- a REPLY_SERIAL
   pub serial_begins : (bounds : Bounds) (inner : ℕ) (held : TypeTree) {B : Type 0} (next : ValueTree → Reader B) (o : ℕ) (s : List ℕ)
       → after (value_wanted bounds order inner end Serial held o s) next ≡ after (padded_number order end (not_zero_row reasons.ZeroSerial) o s) (λ n. next (NumberValue UINT32 n))
   unfolding padded_number
-  serial_begins bounds inner held next o s =
-      after_after (padding 4 end o s) _ next
-      ∙ same_after (padding 4 end o s) _ _ (λ _ p u. after_after (number order 4 end (not_zero_row reasons.ZeroSerial) p u) _ next)
-      ∙ sym (after_after (padding 4 end o s) _ (λ n. next (NumberValue UINT32 n)))
+  serial_begins bounds inner held next o s = simp after_after
 
   -- how many descriptors come with the message
   pub count_begins : (bounds : Bounds) (room : ℕ) {B : Type 0} (next : ValueTree → Reader B) (o : ℕ) (s : List ℕ)
       → after (value bounds order room end (NumberType UINT32) o s) next ≡ after (padded_number order end (number_row bounds.fds UINT32) o s) (λ n. next (NumberValue UINT32 n))
   unfolding padded_number value
-  count_begins bounds zero next o s =
-      after_after (padding 4 end o s) _ next
-      ∙ same_after (padding 4 end o s) _ _ (λ _ p u. after_after (number order 4 end (number_row bounds.fds UINT32) p u) _ next)
-      ∙ sym (after_after (padding 4 end o s) _ (λ n. next (NumberValue UINT32 n)))
-  count_begins bounds (suc room) next o s =
-      after_after (padding 4 end o s) _ next
-      ∙ same_after (padding 4 end o s) _ _ (λ _ p u. after_after (number order 4 end (number_row bounds.fds UINT32) p u) _ next)
-      ∙ sym (after_after (padding 4 end o s) _ (λ n. next (NumberValue UINT32 n)))
+  count_begins bounds zero next o s = simp after_after
+  count_begins bounds (suc room) next o s = simp after_after
 
   -- the body's signature
   text_is : {B : Type 0} (next : ValueTree → Reader B) (o : ℕ) (s : List ℕ)
       → after (after (number order 1 end (text_row end) o s) (λ n p u. after (text (Of kinds.Signature) n p u) (λ t q v. after (nul q v) (λ _. pure (TextValue SIGNATURE t))))) next
       ≡ after (short_text order end (Of kinds.Signature) o s) (λ t. next (TextValue SIGNATURE t))
   unfolding counted_text
-  text_is next o s =
-      after_after (number order 1 end (text_row end) o s) _ next
-      ∙ same_after (number order 1 end (text_row end) o s) _ _ (λ n q v. after_after (text (Of kinds.Signature) n q v) _ next
-      ∙ same_after (text (Of kinds.Signature) n q v) _ _ (λ t q v. after_after (nul q v) _ next))
-      ∙ sym (after_after (number order 1 end (text_row end) o s) _ (λ t. next (TextValue SIGNATURE t))
-      ∙ same_after (number order 1 end (text_row end) o s) _ _ (λ n q v. after_after (text (Of kinds.Signature) n q v) _ (λ t. next (TextValue SIGNATURE t))
-      ∙ same_after (text (Of kinds.Signature) n q v) _ _ (λ t q v. after_after (nul q v) _ (λ t. next (TextValue SIGNATURE t)))))
+  text_is next o s = simp after_after
 
   pub body_signature_begins : (bounds : Bounds) (room : ℕ) {B : Type 0} (next : ValueTree → Reader B) (o : ℕ) (s : List ℕ)
       → after (value bounds order room end (TextType SIGNATURE) o s) next
