@@ -1,7 +1,7 @@
 -- The lines of a handshake are lines, and are read as what was written.
-use Rattle.std.proofs.Common.{◌≡◌, ◌⊎◌, inl, inr, ℕ, zero, suc, ◌^◌, ◌<◌, ◌&&◌, Bool, true, false, cond, List, [], ◌∷◌, ◌++◌, length, Option, Some, None, if◌then◌else◌, refl, sym, ◌∙◌, arith, lit≤, lit<, length-append}
+use Rattle.std.proofs.Common.{◌≡◌, ◌⊎◌, inl, inr, ℕ, zero, suc, ◌^◌, ◌<◌, ◌≤◌, ◌&&◌, Bool, true, false, cond, List, [], ◌∷◌, ◌++◌, length, Option, Some, None, if◌then◌else◌, refl, sym, ◌∙◌, arith, lit≤, lit<, length-append}
 use Rattle.std.specs.Prelude.{codes, decimal}
-use Rattle.std.specs.List.{AllByRecursion}
+use Rattle.std.specs.List.{list_all}
 use Rattle.std.specs.Str.Parse.{AllDigits}
 use Rattle.std.proofs.lemmas.Str.Parse.{digit_from_value}
 use Rattle.std.proofs.lemmas.Fmt.{decimal_is_IsNumeral, length-decimal-le, decimal_nonempty}
@@ -9,94 +9,82 @@ use Rattle.std.proofs.lemmas.Bool.{and_parts, false≢true}
 use Rattle.hex.specs.Hex.{IsBytes}
 use Rattle.dbus_auth_lines.specs.ClientCommands as client
 use Rattle.dbus_auth_lines.specs.ServerCommands as server
-use Rattle.dbus_auth_lines.specs.Lines.{client_line, server_line, client_meaning, server_meaning, command_name, words, arguments, hex_word}
+use Rattle.dbus_auth_lines.specs.Lines.{client_line, server_line, client_meaning, server_meaning, hex_word}
 use Rattle.dbus_auth_lines.specs.Cut.{IsLine}
 use Rattle.dbus_auth.specs.Machines.{ServerMachine, ClientMechanism, External, Anonymous, IsServer, auth_line, waits_in, server_step, mechanisms, external_words, rejects, accepts, replies, is_user, is_empty, offers_external, ServerStep}
 use Rattle.dbus_auth.specs.Mechanisms.{IsMechanism}
 use Rattle.dbus_auth.specs.declared.states.ServerState.TheVariants as at
 use Rattle.dbus_auth.specs.declared.states.ClientState.TheVariants as now
-use Rattle.dbus_auth_lines.proofs.PrintedWords.{all_plain-from_test, plain-append, line_by_test, IsPrinted, auth_reads, hex_word_plain, length-hex_word, auth_makes_line, all_printed-from_test, accepted_reads}
-
-pub data_is_line : IsLine (codes "DATA")
-data_is_line = line_by_test (codes "DATA") refl (lit≤ tt)
-
-pub begin_is_line : IsLine (codes "BEGIN")
-begin_is_line = line_by_test (codes "BEGIN") refl (lit≤ tt)
-
-digits_printed : (ds : List ℕ) → AllDigits 10 ds → AllByRecursion IsPrinted ds
-digits_printed [] h = tt
-digits_printed (c ∷ cs) h =
-    let r = digit_from_value c h.0 in (record { over = omega (arith, r); under = omega (arith, r) }, digits_printed cs h.1)
-
-printed_are_bytes : (bs : List ℕ) → AllByRecursion IsPrinted bs → IsBytes bs
-printed_are_bytes [] h i = lit< tt
-printed_are_bytes (b ∷ bs) h zero = omega (arith, h.0.under)
-printed_are_bytes (b ∷ bs) h (suc i) = printed_are_bytes bs h.1 i
-
-small : (n : ℕ) → n < 2 ^ 32 → n < 2 ^ 64
-small n h = omega arith
-
-decimal_printed : (n : ℕ) → n < 2 ^ 32 → AllByRecursion IsPrinted (decimal n)
-decimal_printed n h = digits_printed (decimal n) (decimal_is_IsNumeral n (small n h)).0.1
-
-external_printed : AllByRecursion IsPrinted (codes "EXTERNAL")
-external_printed = all_printed-from_test (codes "EXTERNAL") refl
-
-anonymous_printed : AllByRecursion IsPrinted (codes "ANONYMOUS")
-anonymous_printed = all_printed-from_test (codes "ANONYMOUS") refl
+use Rattle.dbus_auth_lines.specs.RoundTrip.{HasClientBytes}
+use Rattle.dbus_auth_lines.specs.WrittenLines.{is_word, is_client_spelled}
+use Rattle.dbus_auth_lines.proofs.PrintedWords.{length-hex_word}
+use Rattle.dbus_auth_lines.proofs.RoundTrips.{client_is_line, server_is_line, client_reads, server_reads}
 
 no_bytes : IsBytes []
 no_bytes i = lit< tt
 
+pub data_is_line : IsLine (codes "DATA")
+data_is_line = client_is_line (client.DataOf []) no_bytes refl (lit≤ tt)
+
+pub begin_is_line : IsLine (codes "BEGIN")
+begin_is_line = client_is_line client.Begin tt refl (lit≤ tt)
+
+digits_are_bytes : (ds : List ℕ) → AllDigits 10 ds → IsBytes ds
+digits_are_bytes [] h i = lit< tt
+digits_are_bytes (c ∷ cs) h zero = omega (arith, digit_from_value c h.0)
+digits_are_bytes (c ∷ cs) h (suc i) = digits_are_bytes cs h.1 i
+
+small : (n : ℕ) → n < 2 ^ 32 → n < 2 ^ 64
+small n h = omega arith
+
+auth_bytes : (m : ClientMechanism) → IsMechanism m → HasClientBytes (auth_line m)
+auth_bytes (External None) h = no_bytes
+auth_bytes (External (Some n)) h = digits_are_bytes (decimal n) (decimal_is_IsNumeral n (small n h)).0.1
+auth_bytes (Anonymous trace) h = h.1
+
+auth_spelled : (m : ClientMechanism) → is_client_spelled (auth_line m) ≡ true
+auth_spelled (External None) = refl
+auth_spelled (External (Some n)) = refl
+auth_spelled (Anonymous trace) = refl
+
+auth_short : (m : ClientMechanism) → IsMechanism m → length (client_line (auth_line m)) ≤ 16382
+auth_short (External None) h = lit≤ tt
+auth_short (External (Some n)) h = omega (arith, length-append (codes "AUTH EXTERNAL") (hex_word (decimal n)), length-hex_word (decimal n), length-decimal-le 20 n (omega arith) (omega arith) (small n h))
+auth_short (Anonymous trace) h = omega (arith, length-append (codes "AUTH ANONYMOUS") (hex_word trace), length-hex_word trace, h.0)
+
 pub auth_is_line : (m : ClientMechanism) → IsMechanism m → IsLine (client_line (auth_line m))
-auth_is_line (External None) h = auth_makes_line (codes "EXTERNAL") [] external_printed (lit≤ tt) no_bytes (lit≤ tt)
-auth_is_line (External (Some n)) h = auth_makes_line (codes "EXTERNAL") (decimal n) external_printed (lit≤ tt) (printed_are_bytes (decimal n) (decimal_printed n h)) (omega (arith, length-decimal-le 20 n (omega arith) (omega arith) (small n h)))
-auth_is_line (Anonymous trace) h = auth_makes_line (codes "ANONYMOUS") trace anonymous_printed (lit≤ tt) h.1 h.0
+auth_is_line m h = client_is_line (auth_line m) (auth_bytes m h) (auth_spelled m) (auth_short m h)
 
 pub auth_is_read : (m : ClientMechanism) → IsMechanism m → client_meaning (client_line (auth_line m)) ≡ auth_line m
-auth_is_read (External None) h = auth_reads 69 (codes "XTERNAL") [] external_printed no_bytes
-auth_is_read (External (Some n)) h = auth_reads 69 (codes "XTERNAL") (decimal n) external_printed (printed_are_bytes (decimal n) (decimal_printed n h))
-auth_is_read (Anonymous trace) h = auth_reads 65 (codes "NONYMOUS") trace anonymous_printed h.1
+auth_is_read m h = client_reads (auth_line m) (auth_bytes m h) (auth_spelled m)
 
 pub data_is_read : client_meaning (codes "DATA") ≡ client.DataOf []
-unfolding client_meaning command_name arguments words
-data_is_read = refl
+data_is_read = client_reads (client.DataOf []) no_bytes refl
 
 pub begin_is_read : client_meaning (codes "BEGIN") ≡ client.Begin
-unfolding client_meaning command_name arguments words
-begin_is_read = refl
+begin_is_read = client_reads client.Begin tt refl
 
 pub server_data_is_read : server_meaning (codes "DATA") ≡ server.DataOf []
-unfolding server_meaning command_name arguments words
-server_data_is_read = refl
+server_data_is_read = server_reads (server.DataOf []) no_bytes refl
 
-rejected_line : (user : Option ℕ) (anonymous : Bool) → IsLine (server_line (server.Rejected (external_words user ++ (if anonymous then codes "ANONYMOUS" ∷ [] else []))))
-rejected_line None true = line_by_test (codes "REJECTED ANONYMOUS") refl (lit≤ tt)
-rejected_line None false = line_by_test (codes "REJECTED") refl (lit≤ tt)
-rejected_line (Some n) true = line_by_test (codes "REJECTED EXTERNAL ANONYMOUS") refl (lit≤ tt)
-rejected_line (Some n) false = line_by_test (codes "REJECTED EXTERNAL") refl (lit≤ tt)
+-- the mechanisms of a server are words, and a short line
+offered : (user : Option ℕ) (anonymous : Bool) → (ws : List (List ℕ)) → ws ≡ external_words user ++ (if anonymous then codes "ANONYMOUS" ∷ [] else []) → (list_all is_word ws ≡ true) × (length (server_line (server.Rejected ws)) ≤ 16382)
+offered None true ws e = rw e (refl, lit≤ tt)
+offered None false ws e = rw e (refl, lit≤ tt)
+offered (Some n) true ws e = rw e (refl, lit≤ tt)
+offered (Some n) false ws e = rw e (refl, lit≤ tt)
 
 pub rejected_is_line : (s : ServerMachine) → IsLine (server_line (server.Rejected (mechanisms s)))
-rejected_is_line s = rejected_line s.user s.anonymous
-
-rejected_read : (user : Option ℕ) (anonymous : Bool) → server_meaning (server_line (server.Rejected (external_words user ++ (if anonymous then codes "ANONYMOUS" ∷ [] else [])))) ≡ server.Rejected (external_words user ++ (if anonymous then codes "ANONYMOUS" ∷ [] else []))
-unfolding server_meaning command_name arguments words
-rejected_read None true = refl
-rejected_read None false = refl
-rejected_read (Some n) true = refl
-rejected_read (Some n) false = refl
+rejected_is_line s = let o = offered s.user s.anonymous (mechanisms s) refl in server_is_line (server.Rejected (mechanisms s)) tt o.0 o.1
 
 pub rejected_is_read : (s : ServerMachine) → server_meaning (server_line (server.Rejected (mechanisms s))) ≡ server.Rejected (mechanisms s)
-rejected_is_read s = rejected_read s.user s.anonymous
+rejected_is_read s = server_reads (server.Rejected (mechanisms s)) tt (offered s.user s.anonymous (mechanisms s) refl).0
 
 pub accepted_is_line : (s : ServerMachine) → IsServer s → IsLine (server_line (server.Accepted s.guid))
-accepted_is_line s h = record {
-  plain = plain-append (codes "OK") (hex_word s.guid) (all_plain-from_test (codes "OK") refl) (hex_word_plain s.guid h.bytes);
-  short = omega (arith, length-append (codes "OK") (hex_word s.guid), length-hex_word s.guid, h.guid);
-}
+accepted_is_line s h = server_is_line (server.Accepted s.guid) (h.guid, h.bytes) refl (omega (arith, length-append (codes "OK") (hex_word s.guid), length-hex_word s.guid, h.guid))
 
 pub accepted_is_read : (s : ServerMachine) → IsServer s → server_meaning (server_line (server.Accepted s.guid)) ≡ server.Accepted s.guid
-accepted_is_read s h = accepted_reads s.guid h.guid h.bytes
+accepted_is_read s h = server_reads (server.Accepted s.guid) (h.guid, h.bytes) refl
 
 three_ways : {X : Type 0} (p q r : Bool) (d a no_way : X) → (cond p d (cond q a (cond r a no_way)) ≡ no_way) ⊎ ((cond p d (cond q a (cond r a no_way)) ≡ a) ⊎ ((cond p d (cond q a (cond r a no_way)) ≡ d) × (p ≡ true)))
 three_ways true q r d a n = inr (inr (refl, refl))

@@ -1,102 +1,14 @@
 -- What the cut of some bytes says of the bytes that follow them.
-use Rattle.std.proofs.Common.{◌≡◌, ◌⊎◌, inl, inr, ℕ, ◌+◌, ◌-◌, ◌<◌, ◌≤◌, ◌==◌, Bool, true, false, cond, List, [], ◌∷◌, ◌++◌, length, take, drop, refl, sym, ◌∙◌, ap, arith, append_assoc, add-zero, length-append, length-take, take-append-drop, get_or}
-use Rattle.std.proofs.lemmas.Bool.{and_right, cases_lt, ne_eqb}
-use Rattle.std.proofs.lemmas.Bool.Decides.{nat_tests}
-use Rattle.std.proofs.lemmas.List.{take_at, drop_at, take-append-le, drop-drop, at_drop_more, at_drop_all}
+use Rattle.std.proofs.Common.{◌≡◌, ◌⊎◌, inl, inr, ℕ, zero, suc, ◌+◌, ◌-◌, ◌<◌, ◌≤◌, ◌==◌, Bool, true, false, List, [], ◌∷◌, ◌++◌, length, take, drop, get_or, refl, sym, ◌∙◌, ap, arith, append_assoc, length-append, length-take, take-append-drop}
+use Rattle.std.proofs.lemmas.Bool.{cases_lt}
+use Rattle.std.proofs.lemmas.List.{append-nil, take_at, drop_at, take-append-le, drop-drop}
 use Rattle.std.specs.List.{AllByRecursion}
 use Rattle.dbus_auth_lines.specs.Lines.{ended}
-use Rattle.dbus_auth_lines.specs.Cut.{TooLong, BadByte, Cut, Ends, Bad, More, passes_limit, is_bad, scan_from, cut, IsPlain, IsLine}
-
--- ---- a line and what follows it
-
-plain_is_good : (b : ℕ) → IsPlain b → is_bad false b ≡ false
-plain_is_good b p =
-    let a = p.not_nul in let c = p.ascii in let d = p.not_lf in grind (arith, nat_tests)
-
-inside_limit : (at : ℕ) (cr : Bool) (b : ℕ) → at < 16382 → passes_limit at cr b ≡ false
-inside_limit at cr b h = let ne : (at == 16382) ≡ false = ne_eqb at 16382 (λ e. omega arith) in rw ne
-
-not_cr_test : (b : ℕ) → IsPlain b → (b == 13) ≡ false
-not_cr_test b p = ne_eqb b 13 p.not_cr
-
-pub scan-plain : (at b : ℕ) (bs : List ℕ) → IsPlain b → at < 16382 → scan_from at false (b ∷ bs) ≡ scan_from (at + 1) false bs
-unfolding scan_from
-scan-plain at b bs p h = rw (inside_limit at false b h, plain_is_good b p, not_cr_test b p)
-
-scan_crlf : (at : ℕ) (more : List ℕ) → scan_from at false (13 ∷ 10 ∷ more) ≡ Ends (at + 1 + 1)
-unfolding scan_from
-scan_crlf at more = rw (and_right (at == 16382) false refl, and_right (at + 1 == 16382) false refl)
-
-pub scan_line : (at : ℕ) (line more : List ℕ) → AllByRecursion IsPlain line → at + length line ≤ 16382 → scan_from at false (line ++ 13 ∷ 10 ∷ more) ≡ Ends (at + length line + 2)
-scan_line at [] more plain short = scan_crlf at more ∙ ap Ends (omega arith)
-scan_line at (b ∷ bs) more plain short =
-    scan-plain at b (bs ++ 13 ∷ 10 ∷ more) plain.0 (omega arith) ∙ scan_line (at + 1) bs more plain.1 (omega arith) ∙ ap Ends (omega arith)
-
-pub cut_line : (line more : List ℕ) → IsLine line → cut (ended line ++ more) ≡ Ends (length line + 2)
-cut_line line more h =
-    ap (scan_from 0 false) (append_assoc line (13 ∷ 10 ∷ []) more) ∙ scan_line 0 line more h.plain (omega (arith, h.short)) ∙ ap Ends (omega arith)
-
--- ---- a prefix and what follows it
-
--- a line that ends does so past this place
-abbrev pub IsAbove : Cut → ℕ → Type 0
-IsAbove More at = Unit {0}
-IsAbove (Bad f) at = Unit {0}
-IsAbove (Ends n) at = at < n
-
-above_lower : (c : Cut) (at : ℕ) → IsAbove c (at + 1) → IsAbove c at
-above_lower More at h = tt
-above_lower (Bad f) at h = tt
-above_lower (Ends n) at h = omega arith
-
-above_by : (p q r : Bool) (at : ℕ) (c : Cut) → IsAbove c (at + 1) → IsAbove (cond p (Bad TooLong) (cond q (Bad (BadByte at)) (cond r (Ends (at + 1)) c))) at
-above_by true q r at c h = tt
-above_by false true r at c h = tt
-above_by false false true at c h = omega arith
-above_by false false false at c h = above_lower c at h
-
-pub scan_above : (at : ℕ) (cr : Bool) (bs : List ℕ) → IsAbove (scan_from at cr bs) at
-unfolding scan_from
-scan_above at cr [] = tt
-scan_above at cr (b ∷ bs) = above_by (passes_limit at cr b) (is_bad cr b) cr at (scan_from (at + 1) (b == 13) bs) (scan_above (at + 1) (b == 13) bs)
-
--- what a prefix settles, stays settled, and what it disconnects open is settled after it
-abbrev pub StaysSettled : Cut → Cut → ℕ → Type 0
-StaysSettled More whole size = IsAbove whole size
-StaysSettled (Ends n) whole size = (whole ≡ Ends n) × (n ≤ size)
-StaysSettled (Bad f) whole size = whole ≡ Bad f
-
-settled_by : (p q r : Bool) (at size : ℕ) (front whole : Cut) → at + 1 ≤ size → StaysSettled front whole size
-    → StaysSettled (cond p (Bad TooLong) (cond q (Bad (BadByte at)) (cond r (Ends (at + 1)) front))) (cond p (Bad TooLong) (cond q (Bad (BadByte at)) (cond r (Ends (at + 1)) whole))) size
-settled_by true q r at size front whole le h = refl
-settled_by false true r at size front whole le h = refl
-settled_by false false true at size front whole le h = (refl, le)
-settled_by false false false at size front whole le h = h
-
-wider : (front whole : Cut) (m n : ℕ) → m ≡ n → StaysSettled front whole m → StaysSettled front whole n
-wider front whole m n e h = rw e at h
-
-pub scan-append : (at : ℕ) (cr : Bool) (xs ys : List ℕ) → StaysSettled (scan_from at cr xs) (scan_from at cr (xs ++ ys)) (at + length xs)
-unfolding scan_from
-scan-append at cr [] ys = rw (add-zero at) (scan_above at cr ys)
-scan-append at cr (b ∷ bs) ys =
-    settled_by (passes_limit at cr b) (is_bad cr b) cr at (at + length (b ∷ bs)) (scan_from (at + 1) (b == 13) bs) (scan_from (at + 1) (b == 13) (bs ++ ys)) (omega arith)
-    (wider (scan_from (at + 1) (b == 13) bs) (scan_from (at + 1) (b == 13) (bs ++ ys)) (at + 1 + length bs) (at + length (b ∷ bs)) (omega arith) (scan-append (at + 1) (b == 13) bs ys))
-
-pub cut_follows : (k r : List ℕ) → StaysSettled (cut k) (cut (k ++ r)) (length k)
-cut_follows k r = wider (cut k) (cut (k ++ r)) (0 + length k) (length k) (omega arith) (scan-append 0 false k r)
-
--- a prefix of a line and more holds the whole line, or asks for more
-front_cases : (c : Cut) (whole : Cut) (size n : ℕ) → StaysSettled c whole size → whole ≡ Ends n → (c ≡ More) ⊎ ((c ≡ Ends n) × (n ≤ size))
-front_cases More whole size n h e = inl refl
-front_cases (Ends m) whole size n h e = let same : m ≡ n = cc in inr (ap Ends same, rw (← same) h.1)
-front_cases (Bad f) whole size n h e = absurd (let x : Ends n ≡ Bad f = cc in cc)
-
-pub cut_front : (k r line more : List ℕ) → k ++ r ≡ ended line ++ more → IsLine line → (cut k ≡ More) ⊎ ((cut k ≡ Ends (length line + 2)) × (length line + 2 ≤ length k))
-cut_front k r line more e h =
-    front_cases (cut k) (cut (k ++ r)) (length k) (length line + 2)
-    (cut_follows k r)
-    (ap cut e ∙ cut_line line more h)
+use Rattle.dbus_auth_lines.specs.Cut.{Cut, Ends, Bad, More, scan_from, cut, IsPlain, IsLine}
+use Rattle.dbus_auth_lines.specs.CutterViews.{cr_after, IsWithin}
+use Rattle.dbus_auth_lines.specs.FirstLine.{Beginning, WholeLine, Faulty, Unfinished, IsUnfinished, within_line, cr_last, BeginsAs, cut_of}
+use Rattle.dbus_auth_lines.proofs.Scans.{not_cr_test, cut_over, cut_over_cr, cut_line}
+use Rattle.dbus_auth_lines.proofs.FirstLines.{some_beginning, cut_finds, stays_settled}
 
 -- ---- two ways to split one list
 
@@ -123,6 +35,66 @@ kept_is_short k r line more wants e h = elim (cases_lt (length k) (length line +
       let ends : cut k ≡ Ends (length line + 2) = ap cut k_is ∙ cut_line line (drop (length (ended line)) k) h in
       absurd (let x : Ends (length line + 2) ≡ More = sym ends ∙ wants in cc)
 ]
+
+-- ---- a prefix and what follows it
+
+-- a line that ends does so past this place
+abbrev pub IsAbove : Cut → ℕ → Type 0
+IsAbove More at = Unit {0}
+IsAbove (Bad f) at = Unit {0}
+IsAbove (Ends n) at = at < n
+
+above_as : (k r : List ℕ) (b : Beginning) → cut k ≡ More → BeginsAs (k ++ r) b → IsAbove (cut_of b) (length k)
+above_as k r (WholeLine line) wants h = kept_is_short k r line h.1.0 wants h.1.1 h.0
+above_as k r (Faulty f) wants h = tt
+above_as k r Unfinished wants h = tt
+
+-- what a prefix settles, stays settled, and what it leaves open is settled after it
+abbrev pub StaysSettled : Cut → Cut → ℕ → Type 0
+StaysSettled More whole size = IsAbove whole size
+StaysSettled (Ends n) whole size = (whole ≡ Ends n) × (n ≤ size)
+StaysSettled (Bad f) whole size = whole ≡ Bad f
+
+settled_as : (k r : List ℕ) (b : Beginning) → BeginsAs k b → StaysSettled (cut_of b) (cut (k ++ r)) (length k)
+settled_as k r (WholeLine line) h =
+    let settled = stays_settled k r (WholeLine line) (λ e. cc) h in (
+      cut_finds (k ++ r) (WholeLine line) settled,
+      omega (arith, ap length h.1.1, length-append (ended line) h.1.0, length-ended line),
+    )
+settled_as k r (Faulty f) h = cut_finds (k ++ r) (Faulty f) (stays_settled k r (Faulty f) (λ e. cc) h)
+settled_as k r Unfinished h =
+    let whole = some_beginning (k ++ r) in
+    rw (cut_finds (k ++ r) whole.0 whole.1) (above_as k r whole.0 (cut_finds k Unfinished h) whole.1)
+
+pub cut_follows : (k r : List ℕ) → StaysSettled (cut k) (cut (k ++ r)) (length k)
+cut_follows k r = let front = some_beginning k in rw (cut_finds k front.0 front.1) (settled_as k r front.0 front.1)
+
+within_as : (kept piece : List ℕ) (b : Beginning) → cut kept ≡ More → BeginsAs (kept ++ piece) b → IsWithin (length kept) (length piece) (cut_of b)
+within_as kept piece (WholeLine line) wants h =
+    let short = kept_is_short kept piece line h.1.0 wants h.1.1 h.0 in (
+      omega arith,
+      omega (arith, short),
+      omega (arith, ap length h.1.1, length-append kept piece, length-append (ended line) h.1.0, length-ended line),
+    )
+within_as kept piece (Faulty f) wants h = tt
+within_as kept piece Unfinished wants h = tt
+
+pub is_within : (kept piece : List ℕ) → cut kept ≡ More → IsWithin (length kept) (length piece) (cut (kept ++ piece))
+is_within kept piece wants =
+    let whole = some_beginning (kept ++ piece) in
+    rw (cut_finds (kept ++ piece) whole.0 whole.1) (within_as kept piece whole.0 wants whole.1)
+
+-- a prefix of a line and more holds the whole line, or asks for more
+front_cases : (c : Cut) (whole : Cut) (size n : ℕ) → StaysSettled c whole size → whole ≡ Ends n → (c ≡ More) ⊎ ((c ≡ Ends n) × (n ≤ size))
+front_cases More whole size n h e = inl refl
+front_cases (Ends m) whole size n h e = let same : m ≡ n = cc in inr (ap Ends same, rw (← same) h.1)
+front_cases (Bad f) whole size n h e = absurd (let x : Ends n ≡ Bad f = cc in cc)
+
+pub cut_front : (k r line more : List ℕ) → k ++ r ≡ ended line ++ more → IsLine line → (cut k ≡ More) ⊎ ((cut k ≡ Ends (length line + 2)) × (length line + 2 ≤ length k))
+cut_front k r line more e h =
+    front_cases (cut k) (cut (k ++ r)) (length k) (length line + 2)
+    (cut_follows k r)
+    (ap cut e ∙ cut_line line more h)
 
 -- ---- a piece of the bytes to come
 
@@ -153,29 +125,41 @@ comes kept q line more n wants e h = elim (cut_front (kept ++ take n q) (drop n 
       (omega (arith, length-append kept (take n q), length-take n q, w.1))
 ]
 
--- ---- the steps of a scan in code
+-- ---- a scan that goes on after bytes that are kept
 
-pub scan_cons : (at : ℕ) (cr : Bool) (b : ℕ) (bs : List ℕ) → scan_from at cr (b ∷ bs) ≡ cond (passes_limit at cr b) (Bad TooLong) (cond (is_bad cr b) (Bad (BadByte at)) (cond cr (Ends (at + 1)) (scan_from (at + 1) (b == 13) bs)))
-unfolding scan_from
-scan_cons at cr b bs = refl
+pub last_is_cr : (xs : List ℕ) (n : ℕ) (cr : Bool) → length xs ≡ suc n → (get_or xs n 0 == 13) ≡ cr_after cr xs
+last_is_cr [] n cr e = absurd (omega (arith, e))
+last_is_cr (b ∷ []) zero cr e = refl
+last_is_cr (b ∷ []) (suc n) cr e = absurd (omega (arith, e))
+last_is_cr (b ∷ c ∷ cs) zero cr e = absurd (omega (arith, e))
+last_is_cr (b ∷ c ∷ cs) (suc n) cr e = last_is_cr (c ∷ cs) n (b == 13) (omega (arith, e))
 
-pub scan_at : (xs : List ℕ) (i at : ℕ) (cr : Bool) → i < length xs → scan_from at cr (drop i xs)
-    ≡ cond (passes_limit at cr (get_or xs i 0)) (Bad TooLong) (cond (is_bad cr (get_or xs i 0)) (Bad (BadByte at)) (cond cr (Ends (at + 1)) (scan_from (at + 1) (get_or xs i 0 == 13) (drop (i + 1) xs))))
-scan_at xs i at cr lt = at_drop_more (scan_from at cr) xs i 0 lt ∙ scan_cons at cr (get_or xs i 0) (drop (i + 1) xs)
+unfinished : (k : List ℕ) → cut k ≡ More → IsUnfinished k
+unfinished k wants = by_kind (some_beginning k).0 (some_beginning k).1
+  where
+    by_kind : (b : Beginning) → BeginsAs k b → IsUnfinished k
+    by_kind (WholeLine line) h = absurd (let x : More ≡ Ends (length line + 2) = sym wants ∙ cut_finds k (WholeLine line) h in cc)
+    by_kind (Faulty f) h = absurd (let x : More ≡ Bad f = sym wants ∙ cut_finds k (Faulty f) h in cc)
+    by_kind Unfinished h = h
 
-pub scan_end : (xs : List ℕ) (i at : ℕ) (cr : Bool) → length xs ≤ i → scan_from at cr (drop i xs) ≡ More
-unfolding scan_from
-scan_end xs i at cr le = at_drop_all (scan_from at cr) xs i le
+cr_over : (line rest : List ℕ) → AllByRecursion IsPlain line → cr_after false (line ++ rest) ≡ cr_after false rest
+cr_over [] rest plain = refl
+cr_over (b ∷ bs) rest plain = ap (λ c. cr_after c (bs ++ rest)) (not_cr_test b plain.0) ∙ cr_over bs rest plain.1
 
-module _ (xs : List ℕ) (i at : ℕ) (cr : Bool) (lt : i < length xs) where
-  pub scan_limit : passes_limit at cr (get_or xs i 0) ≡ true → scan_from at cr (drop i xs) ≡ Bad TooLong
-  scan_limit p = rw p at (scan_at xs i at cr lt)
+resumes_by : (kept piece : List ℕ) → IsUnfinished kept → scan_from (length kept) (cr_after false kept) piece ≡ cut (kept ++ piece)
+resumes_by kept piece (within_line h) =
+    ap (λ c. scan_from (length kept) c piece) (ap (cr_after false) (sym (append-nil kept)) ∙ cr_over kept [] h.plain) ∙ sym (cut_over kept piece h)
+resumes_by kept piece (cr_last line h e) =
+    ap (λ k. scan_from (length k) (cr_after false k) piece) e
+    ∙ ap (λ c. scan_from (length (line ++ 13 ∷ [])) c piece) (cr_over line (13 ∷ []) h.plain) ∙ ap (λ n. scan_from n true piece) (length-append line (13 ∷ []))
+    ∙ sym (ap cut (ap (λ k. k ++ piece) e ∙ append_assoc line (13 ∷ []) piece) ∙ cut_over_cr line piece h)
 
-  pub scan_bad : passes_limit at cr (get_or xs i 0) ≡ false → is_bad cr (get_or xs i 0) ≡ true → scan_from at cr (drop i xs) ≡ Bad (BadByte at)
-  scan_bad p q = scan_at xs i at cr lt ∙ rw (p, q) refl
+pub resumes : (kept piece : List ℕ) → cut kept ≡ More → scan_from (length kept) (cr_after false kept) piece ≡ cut (kept ++ piece)
+resumes kept piece wants = resumes_by kept piece (unfinished kept wants)
 
-  pub scan_ends : passes_limit at cr (get_or xs i 0) ≡ false → is_bad cr (get_or xs i 0) ≡ false → cr ≡ true → scan_from at cr (drop i xs) ≡ Ends (at + 1)
-  scan_ends p q r = scan_at xs i at cr lt ∙ rw (p, q, r) refl
+short_by : (kept : List ℕ) → IsUnfinished kept → length kept ≤ 16383
+short_by kept (within_line h) = omega (arith, h.short)
+short_by kept (cr_last line h e) = omega (arith, h.short, ap length e, length-append line (13 ∷ []))
 
-  pub scan_on : passes_limit at cr (get_or xs i 0) ≡ false → is_bad cr (get_or xs i 0) ≡ false → cr ≡ false → scan_from at cr (drop i xs) ≡ scan_from (at + 1) (get_or xs i 0 == 13) (drop (i + 1) xs)
-  scan_on p q r = scan_at xs i at cr lt ∙ rw (p, q, r) refl
+pub kept_within : (kept : List ℕ) → cut kept ≡ More → length kept ≤ 16383
+kept_within kept wants = short_by kept (unfinished kept wants)

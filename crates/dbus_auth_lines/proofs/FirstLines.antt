@@ -1,5 +1,5 @@
 -- Any bytes begin in exactly one way, and the scan finds it.
-use Rattle.std.proofs.Common.{◌≡◌, ◌≢◌, ◌⊎◌, inl, inr, ℕ, ◌+◌, ◌≤◌, ◌==◌, nat_lt, Bool, true, false, cond, List, [], ◌∷◌, ◌++◌, length, take, refl, sym, ◌∙◌, ap, subst, arith, lit≤, append_assoc, add-zero, length-append}
+use Rattle.std.proofs.Common.{◌≡◌, ◌≢◌, ◌⊎◌, inl, inr, ℕ, ◌+◌, ◌==◌, nat_lt, Bool, true, false, List, [], ◌∷◌, ◌++◌, length, take, refl, sym, ◌∙◌, ap, subst, arith, lit≤, append_assoc, length-append}
 use Rattle.std.proofs.lemmas.Bool.{and_right, ne_eqb, eqb-false, eqb-true}
 use Rattle.std.proofs.lemmas.Bool.Decides.{nat_tests}
 use Rattle.std.proofs.lemmas.List.{append-nil, take_at}
@@ -7,44 +7,15 @@ use Rattle.std.specs.List.{AllByRecursion}
 use Rattle.dbus_auth_lines.specs.Lines.{ended}
 use Rattle.dbus_auth_lines.specs.Cut.{TooLong, BadByte, Ends, Bad, More, passes_limit, is_bad, scan_from, cut, IsPlain, IsLine}
 use Rattle.dbus_auth_lines.specs.FirstLine.{Beginning, WholeLine, Faulty, Unfinished, IsUnfinished, within_line, cr_last, IsStray, IsTooLong, long_line, long_past_cr, IsBadByte, stray, no_lf, BeginsAs, cut_of}
-use Rattle.dbus_auth_lines.proofs.Cuts.{scan-plain, scan_cons, cut_line}
+use Rattle.dbus_auth_lines.proofs.Scans.{scan_step, scan_none, stays_within, cut_over, cut_over_cr, cut_line}
 
--- ---- what the scan finds after a line's bytes
-
-scan_over : (at : ℕ) (line rest : List ℕ) → AllByRecursion IsPlain line → at + length line ≤ 16382 → scan_from at false (line ++ rest) ≡ scan_from (at + length line) false rest
-scan_over at [] rest plain short = ap (λ n. scan_from n false rest) (sym (add-zero at))
-scan_over at (b ∷ bs) rest plain short =
-    let e : at + 1 + length bs ≡ at + length (b ∷ bs) = omega arith in
-    scan-plain at b (bs ++ rest) plain.0 (omega arith) ∙ scan_over (at + 1) bs rest plain.1 (omega arith) ∙ ap (λ n. scan_from n false rest) e
-
-cut_over : (line rest : List ℕ) → IsLine line → cut (line ++ rest) ≡ scan_from (length line) false rest
-cut_over line rest h =
-    let e : 0 + length line ≡ length line = omega arith in
-    scan_over 0 line rest h.plain (omega (arith, h.short)) ∙ ap (λ n. scan_from n false rest) e
-
-scan_step : (at : ℕ) (cr : Bool) (b : ℕ) (bs : List ℕ) (p q r : Bool) → passes_limit at cr b ≡ p → is_bad cr b ≡ q → cr ≡ r
-    → scan_from at cr (b ∷ bs) ≡ cond p (Bad TooLong) (cond q (Bad (BadByte at)) (cond r (Ends (at + 1)) (scan_from (at + 1) (b == 13) bs)))
-scan_step at cr b bs p q r e f g = scan_cons at cr b bs ∙ rw (e, f, g) refl
-
-scan_none : (at : ℕ) (cr : Bool) → scan_from at cr [] ≡ More
-unfolding scan_from
-scan_none at cr = refl
-
--- CR is no fault after a line's bytes
-scan_cr : (at : ℕ) (bs : List ℕ) → scan_from at false (13 ∷ bs) ≡ scan_from (at + 1) true bs
-scan_cr at bs = scan_step at false 13 bs false false false (and_right (at == 16382) false refl) refl refl
-
-cut_over_cr : (line rest : List ℕ) → IsLine line → cut (line ++ 13 ∷ rest) ≡ scan_from (length line + 1) true rest
-cut_over_cr line rest h = cut_over line (13 ∷ rest) h ∙ scan_cr (length line) rest
+-- ---- the scan finds how bytes begin
 
 passes_here : (b : ℕ) → b ≢ 13 → passes_limit 16382 false b ≡ true
 passes_here b h = let e : (b == 13) ≡ false = ne_eqb b 13 h in rw (e, and_right (b == 10) false refl) refl
 
 passes_after_cr : (b : ℕ) → b ≢ 10 → b ≢ 13 → passes_limit 16382 true b ≡ true
 passes_after_cr b h k = let e : (b == 13) ≡ false = ne_eqb b 13 k in let f : (b == 10) ≡ false = ne_eqb b 10 h in rw (e, f) refl
-
-stays_within : (at : ℕ) (cr : Bool) (b : ℕ) → at ≢ 16382 → passes_limit at cr b ≡ false
-stays_within at cr b h = let e : (at == 16382) ≡ false = ne_eqb at 16382 h in rw e refl
 
 stray_is_bad : (b : ℕ) → IsStray b → is_bad false b ≡ true
 stray_is_bad b (inl h) = let e = h in grind (arith, nat_tests)
@@ -61,8 +32,6 @@ cr_within at b h = by_place (at == 16382) refl
     by_place : (t : Bool) → (at == 16382) ≡ t → passes_limit at true b ≡ false
     by_place false e = rw e refl
     by_place true e = let f : (b == 13) ≡ true = ap (λ n. n == 13) (h (eqb-true at 16382 e)) in rw (e, f) refl
-
--- ---- the scan finds how bytes begin
 
 too_long_cut : (k : List ℕ) → IsTooLong k → cut k ≡ Bad TooLong
 too_long_cut k (long_line line b more h n ne e) =

@@ -1,7 +1,7 @@
+pub mod Scans
 pub mod Cuts
 pub mod PrintedWords
 pub mod Spaces
-pub mod Resumes
 pub mod FirstLines
 pub mod CutterAnswers
 pub mod RoundTrips

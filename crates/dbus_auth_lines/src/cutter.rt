@@ -63,6 +63,7 @@ impl<A: Allocator + Copy> LineCutter<A> {
     ghost use Rattle.dbus_auth_lines.specs.CutterStates.{cutter_state};
 
     /// A cutter that keeps nothing. It takes no memory yet.
+    #[tactic(auto, using(crate::proofs::Scans::cut_empty))]
     pub fn new(alloc: A) -> Self
         ensures { cutter_state result ≡ record { kept = []; fault = None } }
     {
@@ -80,6 +81,7 @@ impl<A: Allocator + Copy> LineCutter<A> {
     /// Where a byte has a fault before any line ends, answers the first one's and takes nothing. That
     /// answer stays from then on. Answers `Memory` where memory ran out: the cutter is unchanged then,
     /// and the same piece is to be handed in again.
+    #[tactic(auto, using(crate::proofs::CutterAnswers::takes_as))]
     pub fn take(&mut self, piece: &[u8]) -> Result<(usize, Option<Vec<u8, A>>), LineFault>
         ensures taken { (cutter_state self.old).fault ≡ None → (b : Beginning) →
             BeginsAs ((cutter_state self.old).kept ++ piece.now) b →
@@ -95,6 +97,7 @@ impl<A: Allocator + Copy> LineCutter<A> {
     }
 
     /// `take` where there is no fault so far.
+    #[tactic(auto, using(crate::proofs::Scans::cut_empty))]
     fn cut_piece(&mut self, piece: &[u8]) -> Result<(usize, Option<Vec<u8, A>>), LineFault>
         requires { self.old.fault ≡ None }
         ensures { TakesCut self.old.kept.items piece.now result (cutter_state self.new)

@@ -20,6 +20,7 @@ use std::alloc::Allocator;
 /// Any bytes begin with a line, with one fault or with a prefix of a line, and with one of these alone. A
 /// line and a fault stand whatever follows, so they do not depend on how the bytes are cut. The scan that an
 /// end of a connection is specified by finds them.
+#[tactic(auto, using(crate::proofs::FirstLines::some_beginning, crate::proofs::FirstLines::one_beginning, crate::proofs::FirstLines::stays_settled, crate::proofs::FirstLines::cut_finds))]
 pub fn first_line_law()
     ensures some { (k : List ℕ) → (b : Beginning) × BeginsAs k b }
     ensures one { (k : List ℕ) (a b : Beginning) → BeginsAs k a → BeginsAs k b → a ≡ b }
@@ -30,6 +31,7 @@ pub fn first_line_law()
 
 /// What `client_text` and `server_text` write is one line, as `LineCutter` takes it, and `read_client` and
 /// `read_server` give back what was written.
+#[tactic(auto, using(crate::proofs::RoundTrips::client_reads_back, crate::proofs::RoundTrips::server_reads_back))]
 pub fn written_line_law()
     ensures client { (c : ClientCommand) (text : List ℕ) → HasClientBytes c →
         client_text_of c ≡ Some text → ReadsBack client_meaning c text }

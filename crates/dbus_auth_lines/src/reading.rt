@@ -21,7 +21,7 @@ use std::alloc::{AllocError, Allocator};
 /// after one space are the text, its spaces too.
 ///
 /// Answers `AllocError` where memory ran out.
-#[tactic(auto, unfolding(crate::specs::Lines::client_meaning))]
+#[tactic(auto, unfolding(crate::specs::Lines::client_meaning), using(crate::proofs::Meanings::client_answer_means))]
 pub fn read_client<A: Allocator + Copy>(alloc: A, line: &[u8]) -> Result<ClientLine<A>, AllocError>
     ensures row { IfOk result (λ said. MeansToServer line.now (client_command said)) }
     ensures meaning { IfOk result (λ said. client_command said ≡ client_meaning line.now) }
@@ -34,7 +34,7 @@ pub fn read_client<A: Allocator + Copy>(alloc: A, line: &[u8]) -> Result<ClientL
 /// commands. `OK` takes one word of exactly 32 hexadecimal digits, and `REJECTED` any words.
 ///
 /// Answers `AllocError` where memory ran out.
-#[tactic(auto, unfolding(crate::specs::Lines::server_meaning))]
+#[tactic(auto, unfolding(crate::specs::Lines::server_meaning), using(crate::proofs::Meanings::server_answer_means))]
 pub fn read_server<A: Allocator + Copy>(alloc: A, line: &[u8]) -> Result<ServerLine<A>, AllocError>
     ensures row { IfOk result (λ said. MeansToClient line.now (server_command said)) }
     ensures meaning { IfOk result (λ said. server_command said ≡ server_meaning line.now) }

@@ -31,6 +31,7 @@ pub enum Found {
 
 /// Where the line ends that the bytes kept and the piece begin with, or the first fault. In the bytes
 /// kept no line ends, and none has a fault.
+#[tactic(auto, using(crate::proofs::Cuts::kept_within, crate::proofs::Cuts::resumes, crate::proofs::Cuts::is_within))]
 pub fn find(kept: &[u8], piece: &[u8]) -> Found
     requires { cut kept.now ≡ More }
     ensures is { found result ≡ cut (kept.now ++ piece.now) }
@@ -59,6 +60,7 @@ pub fn line_of<A: Allocator + Copy>(
 }
 
 /// The first end of a line or the first fault, from the place `at` of a line on.
+#[tactic(auto, using(crate::proofs::Scans::scan_at, crate::proofs::Scans::scan_end))]
 fn scan_piece(at: usize, mut after_cr: bool, piece: &[u8]) -> Found
     requires { at ≤ 16383 }
     ensures { found result ≡ scan_from at after_cr piece.now }
@@ -94,6 +96,7 @@ fn is_bad_byte(after_cr: bool, b: u8) -> bool
 }
 
 /// Whether the last byte is CR.
+#[tactic(auto, using(crate::proofs::Cuts::last_is_cr))]
 fn ends_in_cr(bytes: &[u8]) -> bool
     ensures { result ≡ cr_after false bytes.now }
 {

@@ -5,6 +5,7 @@ ghost use Rattle.std.specs.Prelude.{◌≡◌, ℕ, ◌+◌, ◌<◌, ◌≤◌,
 ghost use Rattle.dbus_auth_lines.specs.Lines.{command_name, words, arguments, at_word_end};
 
 /// How many bytes stand before the first space.
+#[tactic(auto, using(crate::proofs::Spaces::command_on, crate::proofs::Spaces::command_stops, crate::proofs::Spaces::command_all))]
 fn word_len(bytes: &[u8]) -> usize
     ensures is { result ≡ length (command_name bytes.now) }
     ensures within { result ≤ length bytes.now }
@@ -18,6 +19,7 @@ fn word_len(bytes: &[u8]) -> usize
 }
 
 /// The text from its first byte on that is no space.
+#[tactic(auto, using(crate::proofs::Spaces::words_more))]
 fn without_spaces(bytes: &[u8]) -> &[u8]
     ensures same_words { words result.now ≡ words bytes.now }
     ensures starts { at_word_end result.now ≡ true → result.now ≡ [] }
@@ -31,6 +33,7 @@ fn without_spaces(bytes: &[u8]) -> &[u8]
 }
 
 /// The first word, and the text after it.
+#[tactic(auto, using(crate::proofs::Spaces::word_cut, crate::proofs::Spaces::words_none))]
 pub fn next_word(bytes: &[u8]) -> Option<(&[u8], &[u8])>
     ensures { MatchOption result (words bytes.now ≡ []) (λ p. words bytes.now ≡
         p.0.now ∷ words p.1.now) }
@@ -44,6 +47,7 @@ pub fn next_word(bytes: &[u8]) -> Option<(&[u8], &[u8])>
 }
 
 /// The command, and what stands after it.
+#[tactic(auto, using(crate::proofs::Spaces::take_command_name, crate::proofs::Spaces::arguments_cut))]
 pub fn split_line(line: &[u8]) -> (&[u8], &[u8])
     ensures name { result.0.now ≡ command_name line.now }
     ensures rest { words result.1.now ≡ arguments line.now }

@@ -1,4 +1,4 @@
-use Rattle.dbus_auth_lines.proofs.Resumes.{cut_empty}
+use Rattle.dbus_auth_lines.proofs.Scans.{cut_empty}
 use Rattle.dbus_auth.proofs.client_end.ClientEnd.cut_line.Goals as goal
 
 pub invariant_of-self-in-Ends : goal.invariant_of-self-in-Ends

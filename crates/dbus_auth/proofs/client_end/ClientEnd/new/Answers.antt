@@ -1,4 +1,4 @@
-use Rattle.dbus_auth_lines.proofs.Resumes.{cut_empty}
+use Rattle.dbus_auth_lines.proofs.Scans.{cut_empty}
 use Rattle.dbus_auth.proofs.client_end.ClientEnd.new.Goals as goal
 
 pub invariant_of-result : goal.invariant_of-result
