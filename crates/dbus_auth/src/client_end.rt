@@ -124,6 +124,7 @@ impl<A: Allocator + Copy> ClientEnd<A> {
     ghost use Rattle.dbus_auth.specs.declared.states.ClientState.TheVariants as now;
 
     /// The end of a client that has not started. It takes no memory yet.
+    #[tactic(auto, using(dbus_auth_lines::proofs::Scans::cut_empty))]
     pub fn new(alloc: A, client: Client<A>) -> Self
         requires { (client_machine client).state ≡ now.Fresh }
         ensures { client_end_state result ≡ client_at_first (client_machine client).left }
@@ -207,6 +208,7 @@ impl<A: Allocator + Copy> ClientEnd<A> {
     }
 
     /// Takes the bytes up to the end of the line, or the whole piece.
+    #[tactic(auto, using(dbus_auth_lines::proofs::Scans::cut_empty))]
     fn cut_line(&mut self, piece: &[u8]) -> Result<EndStep<A>, AllocError>
         requires { self.old.started ≡ true }
         ensures step { IfOk result (λ s.

@@ -31,6 +31,7 @@ use std::alloc::Allocator;
 /// - the client's end sends at most two lines for each mechanism, and BEGIN.
 ///
 /// The transport has to neither lose, add nor reorder bytes.
+#[tactic(auto, using(crate::proofs::Handshake::handshake))]
 pub fn handshake_law()
     ensures { (s : ServerMachine) (mechanisms : List ClientMechanism) (events : List Event) →
         IsServer s → AllByRecursion IsMechanism mechanisms →

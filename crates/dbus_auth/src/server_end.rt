@@ -77,6 +77,7 @@ impl<A: Allocator + Copy> ServerEnd<A> {
     ghost use Rattle.dbus_auth.specs.declared.states.ServerState.TheVariants as at;
 
     /// The end of a server in its first state. It takes no memory yet.
+    #[tactic(auto, using(dbus_auth_lines::proofs::Scans::cut_empty))]
     pub fn new(alloc: A, server: Server) -> Self
         requires { (server_machine server).state ≡ at.WaitingForAuth }
         ensures { server_end_state result ≡ server_at_first (server_machine server) }
@@ -136,6 +137,7 @@ impl<A: Allocator + Copy> ServerEnd<A> {
     }
 
     /// Takes the bytes up to the end of the line, or the whole piece. `skipped` bytes stood before it.
+    #[tactic(auto, using(dbus_auth_lines::proofs::Scans::cut_empty))]
     fn cut_line(&mut self, skipped: usize, piece: &[u8]) -> Result<EndStep<A>, AllocError>
         requires { skipped ≤ 1 }
         ensures step { IfOk result (λ s.
