@@ -10,6 +10,7 @@ use Rattle.dbus_match.specs.Faults.{Excluded, IsNew, AreGood}
 use Rattle.dbus_match.specs.Conditions.{insert_pair}
 use Rattle.dbus_match.proofs.Inserts.{insert_ascends, insert_has}
 use Rattle.dbus_match.proofs.Members.{in_all, has_key, new_members}
+use Rattle.dbus_match.proofs.Parts.{all_front, all_back, all_join}
 use Rattle.dbus_match.proofs.Placed.{placed}
 use Rattle.dbus_match.proofs.Ranks.{rank_same}
 
@@ -28,10 +29,6 @@ apart_more : (p : Pair) (qs : List Pair) → AreApart qs → (HasKey p.key qs �
 apart_more p [] a f = (λ h. h, tt)
 apart_more p (q ∷ qs) a f = (λ h. ⊎_elim (λ i. a.0 i) (λ e. f (inl (sym e))) (key_in_more q.key p qs h), apart_more p qs a.1 (λ h. f (inr h)))
 
-values_more : (p : Pair) (qs : List Pair) → AllByRecursion (λ q. IsValueOf q.key q.value) qs → IsValueOf p.key p.value → AllByRecursion (λ q. IsValueOf q.key q.value) (qs ++ p ∷ [])
-values_more p [] h v = (v, tt)
-values_more p (q ∷ qs) h v = (h.0, values_more p qs h.1 v)
-
 one_path_more : (p : Pair) (qs : List Pair) → (HasKey Path qs → HasKey PathNamespace qs → ⊥) → (Excluded p.key qs → ⊥) → HasKey Path (qs ++ p ∷ []) → HasKey PathNamespace (qs ++ p ∷ []) → ⊥
 one_path_more p qs one f a b =
     ⊎_elim
@@ -43,14 +40,10 @@ one_path_more p qs one f a b =
     apart_paths e = cc
 
 pub good_more : (p : Pair) (qs : List Pair) → AreGood qs → IsNew qs p.key → IsValueOf p.key p.value → AreGood (qs ++ p ∷ [])
-good_more p qs h n v = record { apart = apart_more p qs h.apart n.0; values = values_more p qs h.values v; one_path = one_path_more p qs h.one_path n.1 }
+good_more p qs h n v = record { apart = apart_more p qs h.apart n.0; values = all_join (λ q. IsValueOf q.key q.value) qs (p ∷ []) h.values (v, tt); one_path = one_path_more p qs h.one_path n.1 }
 
 in_more : (x p : Pair) (qs : List Pair) → IsIn x (qs ++ p ∷ []) ↔ ((x ≡ p) ⊎ IsIn x qs)
 in_more x p qs = let r = insert_has qs [] p x in (λ h. ⊎_elim (λ e. inl e) (λ i. inr (subst (λ y. IsIn x y) (append-nil qs) i)) (r.0 h), λ h. r.1 (⊎_elim (λ e. inl e) (λ i. inr (subst (λ y. IsIn x y) (sym (append-nil qs)) i)) h))
-
-all_more : (xs ys : List Pair) (p : Pair) → AllByRecursion IsPair (xs ++ ys) → IsPair p → AllByRecursion IsPair (xs ++ p ∷ ys)
-all_more [] ys p h k = (k, h)
-all_more (x ∷ xs) ys p h k = (h.0, all_more xs ys p h.1 k)
 
 pub added : (qs ps : List Pair) (p : Pair) → AreGood qs → IsAscending ps → AllByRecursion IsPair ps → ((x : Pair) → IsIn x qs ↔ IsIn x ps) → IsPair p → IsNew ps p.key → AreAdded qs ps (insert_pair p ps) p
 added qs ps p g o a s k n =
@@ -61,7 +54,7 @@ added qs ps p g o a s k n =
     record {
       good = good_more p qs g (new_members p.key ps qs (λ x i. (s x).0 i) n) k.value;
       ordered = subst (λ z. IsAscending z) (sym r.placed) (insert_ascends r.front r.back p r.below r.above o');
-      pairs = subst (λ z. AllByRecursion IsPair z) (sym r.placed) (all_more r.front r.back p a' k);
+      pairs = subst (λ z. AllByRecursion IsPair z) (sym r.placed) (all_join IsPair r.front (p ∷ r.back) (all_front IsPair r.front r.back a') (k, all_back IsPair r.front r.back a'));
       same = λ x. (
         λ i. subst (λ z. IsIn x z) (sym r.placed) ((insert_has r.front r.back p x).1 (⊎_elim (λ e. inl e) (λ j. inr (subst (λ z. IsIn x z) r.split ((s x).0 j))) ((in_more x p qs).0 i))),
         λ i. (in_more x p qs).1 (⊎_elim (λ e. inl e) (λ j. inr ((s x).1 (subst (λ z. IsIn x z) (sym r.split) j))) ((insert_has r.front r.back p x).0 (subst (λ z. IsIn x z) r.placed i))),

@@ -4,6 +4,7 @@ use Rattle.std.specs.List.{AllByRecursion}
 use Rattle.std.proofs.lemmas.Bool.{cond_both, cond-true, cond-false, eqb-true, eqb-false}
 use Rattle.dbus_match.specs.Keys.{key_text, IsKey, rank}
 use Rattle.dbus_match.proofs.KeyTexts.{key_no_nul}
+use Rattle.dbus_match.proofs.Parts.{all_join}
 use Rattle.dbus_match.specs.Values.{Piece, quoted, escaped, pieces_text, pieces_value, ArePieces}
 use Rattle.dbus_match.specs.Rules.{Pair, IsPair, IsRule, IsAbove, IsAscending, HasKey, AreApart, Item, item_text, pair_of, pairs_of, each_with_comma, spaces_alone, one_more, last_text, last_pairs, GivesPairs, SpellsRule, quote_escaped, pair_text, canonical}
 
@@ -80,10 +81,6 @@ ascending_apart [] h = tt
 ascending_apart (p ∷ ps) h = (above_apart p ps h.0, ascending_apart ps h.1)
 
 -- no U+0000
-no_nul_append : (x y : List ℕ) → AllByRecursion (λ b. b ≢ 0) x → AllByRecursion (λ b. b ≢ 0) y → AllByRecursion (λ b. b ≢ 0) (x ++ y)
-no_nul_append [] y h k = k
-no_nul_append (b ∷ x) y h k = (h.0, no_nul_append x y h.1 k)
-
 quote_no_nul : (v : List ℕ) → AllByRecursion (λ b. b ≢ 0) v → AllByRecursion (λ b. b ≢ 0) (quote_escaped v)
 quote_no_nul [] h = tt
 quote_no_nul (b ∷ c) h =
@@ -93,12 +90,12 @@ quote_no_nul (b ∷ c) h =
     (λ e. (h.0, t))
 
 pair_no_nul : (p : Pair) → IsPair p → AllByRecursion (λ b. b ≢ 0) (pair_text p)
-pair_no_nul p h = no_nul_append (key_text p.key) (61 ∷ 39 ∷ (quote_escaped p.value ++ 39 ∷ [])) (key_no_nul p.key h.key) ((λ q. omega (arith, q)), ((λ q. omega (arith, q)), no_nul_append (quote_escaped p.value) (39 ∷ []) (quote_no_nul p.value h.no_nul) ((λ q. omega (arith, q)), tt)))
+pair_no_nul p h = all_join (λ b. b ≢ 0) (key_text p.key) (61 ∷ 39 ∷ (quote_escaped p.value ++ 39 ∷ [])) (key_no_nul p.key h.key) ((λ q. omega (arith, q)), ((λ q. omega (arith, q)), all_join (λ b. b ≢ 0) (quote_escaped p.value) (39 ∷ []) (quote_no_nul p.value h.no_nul) ((λ q. omega (arith, q)), tt)))
 
 canonical_no_nul : (ps : List Pair) → AllByRecursion IsPair ps → AllByRecursion (λ b. b ≢ 0) (canonical ps)
 canonical_no_nul [] h = tt
 canonical_no_nul (p ∷ []) h = pair_no_nul p h.0
-canonical_no_nul (p ∷ q ∷ ps) h = no_nul_append (pair_text p) (44 ∷ canonical (q ∷ ps)) (pair_no_nul p h.0) ((λ e. omega (arith, e)), canonical_no_nul (q ∷ ps) h.1)
+canonical_no_nul (p ∷ q ∷ ps) h = all_join (λ b. b ≢ 0) (pair_text p) (44 ∷ canonical (q ∷ ps)) (pair_no_nul p h.0) ((λ e. omega (arith, e)), canonical_no_nul (q ∷ ps) h.1)
 
 pub canonical_spells : (r : List Pair) → IsRule r → SpellsRule (canonical r) r
 canonical_spells r h = record { no_nul = canonical_no_nul r h.pairs; rule = h; pairs = r; given = give_pairs r h.pairs; apart = ascending_apart r h.ordered; same = λ p. (λ i. i, λ i. i) }

@@ -1,7 +1,7 @@
 -- The reading of a value is the one that its pieces give.
 use Rattle.std.proofs.Common.{◌≡◌, ◌≢◌, ℕ, ◌+◌, Bool, true, false, ◌&&◌, eqb, List, [], ◌∷◌, ◌++◌, ◌⊎◌, ⊎_elim, inl, inr, refl, sym, ap, ◌∙◌, subst, append_assoc, append-nil, length, arith, length-append}
 use Rattle.std.specs.List.{AllByRecursion}
-use Rattle.std.proofs.lemmas.Bool.{cond_both, eqb-true, eqb-false, false≢true}
+use Rattle.std.proofs.lemmas.Bool.{cond_both, and_parts, eqb-true, eqb-false, false≢true}
 use Rattle.dbus_match.specs.declared.value_cut.Mode.TheVariants.{Outside, Escape, Inside}
 use Rattle.dbus_match.specs.Values.{Piece, quoted, escaped, plain, piece_text, piece_value, pieces_text, pieces_value, NoQuoteFirst, IsPiece}
 use Rattle.dbus_match.specs.Readings.{IsClosed, IsOpen, IsReading}
@@ -90,10 +90,6 @@ no_quote : (c : List ℕ) → quote_first c ≡ false → NoQuoteFirst c
 no_quote [] e = tt
 no_quote (b ∷ c) e = eqb-false b 39 e
 
-and_true : (a b : Bool) → a && b ≡ true → (a ≡ true) × (b ≡ true)
-and_true true b e = (refl, e)
-and_true false b e = absurd (false≢true e)
-
 and_false : (a b : Bool) → a && b ≡ false → a ≡ true → b ≡ false
 and_false true b e t = e
 and_false false b e t = absurd (false≢true t)
@@ -115,7 +111,7 @@ mutual
       (λ e1. cond_both (eqb b 39) _ _ (IsReading n v (b ∷ c))
       (λ e. subst (λ y. IsReading n v (y ∷ c) (scan (Inside n) (n + 1) v c)) (sym (eqb-true b 39 e)) (run_reading n v c (scan (Inside n) (n + 1) v c) (scan_inside n (n + 1) v c)))
       (λ e2. cond_both (eqb b 92 && quote_first c) _ _ (IsReading n v (b ∷ c))
-      (λ e. let p = and_true (eqb b 92) (quote_first c) e in escape_reading n v c b (eqb-true b 92 p.0) p.1 (scan_after n v c))
+      (λ e. let p = and_parts (eqb b 92) (quote_first c) e in escape_reading n v c b (eqb-true b 92 p.0) p.1 (scan_after n v c))
       (λ e3. piece_reading (plain b) n v (b ∷ c) c (scan Outside (n + 1) (v ++ b ∷ []) c) (eqb-false b 44 e1, eqb-false b 39 e2, λ q. no_quote c (and_false (eqb b 92) (quote_first c) e3 (subst (λ y. eqb y 92 ≡ true) (sym q) refl))) refl (scan_outside (n + 1) (v ++ b ∷ []) c))))
 
   scan_after : (n : ℕ) (v c : List ℕ) (d : ℕ) (e : List ℕ) → c ≡ d ∷ e → IsReading (n + 1 + 1) (v ++ d ∷ []) e (scan Outside (n + 1 + 1) (v ++ d ∷ []) e)

@@ -12,19 +12,15 @@ use Rattle.dbus_match.specs.Matching.{Ownership, BeginsWith, EndsInSlash, PathsM
 abbrev pub Either : Type 0 → Type 0
 Either P = P ⊎ (P → ⊥)
 
-both : (P Q : Type 0) → Either P → Either Q → Either (P × Q)
-both P Q (inl p) (inl q) = inl (p, q)
-both P Q (inl p) (inr q) = inr (λ h. q h.1)
-both P Q (inr p) q = inr (λ h. p h.0)
+both : {P Q : Type 0} → Either P → Either Q → Either (P × Q)
+both (inl p) (inl q) = inl (p, q)
+both (inl p) (inr q) = inr (λ h. q h.1)
+both (inr p) q = inr (λ h. p h.0)
 
-neither : (P Q : Type 0) → (P → ⊥) → (Q → ⊥) → P ⊎ Q → ⊥
-neither P Q p q (inl x) = p x
-neither P Q p q (inr x) = q x
-
-one_of : (P Q : Type 0) → Either P → Either Q → Either (P ⊎ Q)
-one_of P Q (inl p) q = inl (inl p)
-one_of P Q (inr p) (inl q) = inl (inr q)
-one_of P Q (inr p) (inr q) = inr (neither P Q p q)
+pub one_of : {P Q : Type 0} → Either P → Either Q → Either (P ⊎ Q)
+one_of (inl p) q = inl (inl p)
+one_of (inr p) (inl q) = inl (inr q)
+one_of (inr p) (inr q) = inr (λ h. elim h [ inl x ↦ p x | inr y ↦ q y ])
 
 same_head : (a b : ℕ) (v w : List ℕ) → a ≡ b → Either (v ≡ w) → Either (a ∷ v ≡ b ∷ w)
 same_head a b v w e (inl h) = inl (cc (e, h))
@@ -78,21 +74,17 @@ ends (a ∷ b ∷ v) = elim (ends (b ∷ v)) [
 -- ---- what a key asks of a text
 
 paths_meet : (v w : List ℕ) → Either (PathsMeet v w)
-paths_meet v w = one_of (v ≡ w) ((EndsInSlash v × BeginsWith w v) ⊎ (EndsInSlash w × BeginsWith v w)) (same v w)
-    (one_of (EndsInSlash v × BeginsWith w v) (EndsInSlash w × BeginsWith v w)
-    (both (EndsInSlash v) (BeginsWith w v) (ends v) (begins w v))
-    (both (EndsInSlash w) (BeginsWith v w) (ends w) (begins v w)))
+paths_meet v w = one_of (same v w) (one_of (both (ends v) (begins w v)) (both (ends w) (begins v w)))
 
 within : (separator : ℕ) (v w : List ℕ) → Either (IsWithin separator v w)
-within separator v w = one_of (v ≡ w) (BeginsWith w (v ++ separator ∷ [])) (same v w) (begins w (v ++ separator ∷ []))
+within separator v w = one_of (same v w) (begins w (v ++ separator ∷ []))
 
 in_namespace : (v w : List ℕ) → Either (IsInNamespace v w)
-in_namespace v w = one_of (v ≡ 47 ∷ []) (IsWithin 47 v w) (same v (47 ∷ [])) (within 47 v w)
+in_namespace v w = one_of (same v (47 ∷ [])) (within 47 v w)
 
 owned : (os : List Ownership) (v w : List ℕ) → Either (IsOwned os v w)
 owned [] v w = inr (λ h. h)
-owned (o ∷ os) v w = one_of ((o.name ≡ v) × (o.unique ≡ w)) (IsOwned os v w)
-    (both (o.name ≡ v) (o.unique ≡ w) (same o.name v) (same o.unique w)) (owned os v w)
+owned (o ∷ os) v w = one_of (both (same o.name v) (same o.unique w)) (owned os v w)
 
 -- ---- what a key asks of a message
 
@@ -112,7 +104,7 @@ in_field code m P each = there (text_of (field_value code m.fields)) P each
 
 holds : (k : Key) (v : List ℕ) (m : MessageTree) (os : List Ownership) → Either (HoldsAt k v m os)
 holds MessageType v m os = is_some_text (type_name m.kind) v
-holds Sender v m os = in_field 7 m (λ w. (v ≡ w) ⊎ IsOwned os v w) (λ w. one_of (v ≡ w) (IsOwned os v w) (same v w) (owned os v w))
+holds Sender v m os = in_field 7 m (λ w. (v ≡ w) ⊎ IsOwned os v w) (λ w. one_of (same v w) (owned os v w))
 holds Interface v m os = in_field 2 m (λ w. v ≡ w) (same v)
 holds Member v m os = in_field 3 m (λ w. v ≡ w) (same v)
 holds Path v m os = in_field 1 m (λ w. v ≡ w) (same v)
@@ -125,4 +117,4 @@ holds Eavesdrop v m os = inl tt
 
 pub decided : (ps : List Pair) (m : MessageTree) (os : List Ownership) → Either (Matches ps m os)
 decided [] m os = inl tt
-decided (p ∷ ps) m os = both (HoldsAt p.key p.value m os) (Matches ps m os) (holds p.key p.value m os) (decided ps m os)
+decided (p ∷ ps) m os = both (holds p.key p.value m os) (decided ps m os)

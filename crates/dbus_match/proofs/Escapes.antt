@@ -1,21 +1,20 @@
 -- The escaped text of a value, run by run.
 use Rattle.std.proofs.Common.{◌≡◌, ◌≢◌, ℕ, suc, ◌<◌, eqb, List, [], ◌∷◌, ◌++◌, length, get_or, refl, sym, ap, ◌∙◌, append_assoc, arith}
 use Rattle.std.specs.Prelude.{Result, Ok, Err, OnOk, is_ok, if◌then◌else◌}
-use Rattle.std.proofs.lemmas.Bool.{cond-false}
+use Rattle.std.proofs.lemmas.Bool.{cond-false, ne_eqb}
 use Rattle.dbus_match.specs.Rules.{quote_escaped}
-use Rattle.dbus_match.proofs.ScanSteps.{ne-eqb}
 
 pub quote_run : (run suffix : List ℕ) → ((i : ℕ) → i < length run → get_or run i 0 ≢ 39) → quote_escaped (run ++ 39 ∷ suffix) ≡ run ++ (39 ∷ 92 ∷ 39 ∷ 39 ∷ quote_escaped suffix)
 quote_run [] suffix h = refl
 quote_run (b ∷ run) suffix h =
     let x = quote_escaped (run ++ 39 ∷ suffix) in
-    cond-false (eqb b 39) (39 ∷ 92 ∷ 39 ∷ 39 ∷ x) (b ∷ x) (ne-eqb b 39 (h 0 (omega arith))) ∙ ap (λ z. b ∷ z) (quote_run run suffix (λ i l. h (suc i) (omega (arith, l))))
+    cond-false (eqb b 39) (39 ∷ 92 ∷ 39 ∷ 39 ∷ x) (b ∷ x) (ne_eqb b 39 (h 0 (omega arith))) ∙ ap (λ z. b ∷ z) (quote_run run suffix (λ i l. h (suc i) (omega (arith, l))))
 
 pub quote_none : (w : List ℕ) → ((i : ℕ) → i < length w → get_or w i 0 ≢ 39) → quote_escaped w ≡ w
 quote_none [] h = refl
 quote_none (b ∷ w) h =
     let x = quote_escaped w in
-    cond-false (eqb b 39) (39 ∷ 92 ∷ 39 ∷ 39 ∷ x) (b ∷ x) (ne-eqb b 39 (h 0 (omega arith))) ∙ ap (λ z. b ∷ z) (quote_none w (λ i l. h (suc i) (omega (arith, l))))
+    cond-false (eqb b 39) (39 ∷ 92 ∷ 39 ∷ 39 ∷ x) (b ∷ x) (ne_eqb b 39 (h 0 (omega arith))) ∙ ap (λ z. b ∷ z) (quote_none w (λ i l. h (suc i) (omega (arith, l))))
 
 pub escaped_step : (t t' t'' run suffix rest total : List ℕ) → t' ≡ t ++ run → t'' ≡ t' ++ (39 ∷ 92 ∷ 39 ∷ 39 ∷ []) → rest ≡ run ++ 39 ∷ suffix → ((i : ℕ) → i < length run → get_or run i 0 ≢ 39) → t ++ quote_escaped rest ≡ total → t'' ++ quote_escaped suffix ≡ total
 escaped_step t t' t'' run suffix rest total a b e h k =

@@ -11,6 +11,7 @@ use Rattle.dbus_match.specs.Laws.{OneFault, NotBoth}
 use Rattle.dbus_match.proofs.Unique.{item_same, pieces_before, last_no_items}
 use Rattle.dbus_match.proofs.Members.{spells_good, good_new, good_value}
 use Rattle.dbus_match.proofs.NameCuts.{spaces_no_name}
+use Rattle.dbus_match.proofs.Parts.{all_back, cut_same}
 use Rattle.dbus_match.proofs.PairFaults.{pair_fault_same, stands_no_fault}
 
 -- js begins with the pairs of is, and goes on
@@ -85,21 +86,11 @@ pair_faults_same w r s m n h k =
     b))
     (compare_items h.items k.items h.more k.more h.are k.are e)
 
-nul_cut : (x y r s : List ℕ) → AllByRecursion (λ b. b ≢ 0) x → AllByRecursion (λ b. b ≢ 0) y → x ++ 0 ∷ r ≡ y ++ 0 ∷ s → length x ≡ length y
-nul_cut [] [] r s h k e = refl
-nul_cut [] (b ∷ y) r s h k e = let q : 0 ≡ b = cc in absurd (k.0 (sym q))
-nul_cut (a ∷ x) [] r s h k e = let q : a ≡ 0 = cc in absurd (h.0 q)
-nul_cut (a ∷ x) (b ∷ y) r s h k e = let q : x ++ 0 ∷ r ≡ y ++ 0 ∷ s = cc in let l = nul_cut x y r s h.1 k.1 q in omega (arith, l)
-
-nul_in : (x r : List ℕ) → AllByRecursion (λ b. b ≢ 0) (x ++ 0 ∷ r) → ⊥
-nul_in [] r h = h.0 refl
-nul_in (b ∷ x) r h = nul_in x r h.1
-
 nul_none : (w : List ℕ) (n : ℕ) → IsNul w n → AllByRecursion (λ b. b ≢ 0) w → ⊥
-nul_none w n h k = nul_in h.front h.more (subst (λ z. AllByRecursion (λ b. b ≢ 0) z) h.spelled k)
+nul_none w n h k = (all_back (λ b. b ≢ 0) h.front (0 ∷ h.more) (subst (λ z. AllByRecursion (λ b. b ≢ 0) z) h.spelled k)).0 refl
 
 pub one_fault : OneFault
-one_fault w Nul Nul m n h k = (refl, h.place ∙ nul_cut h.front k.front h.more k.more h.before k.before (sym h.spelled ∙ k.spelled) ∙ sym k.place)
+one_fault w Nul Nul m n h k = (refl, h.place ∙ ap length (cut_same (λ b. b ≢ 0) h.front k.front (0 ∷ h.more) (0 ∷ k.more) h.before k.before (λ f. f refl) (λ f. f refl) (sym h.spelled ∙ k.spelled)).0 ∙ sym k.place)
 one_fault w Nul s m n h k = absurd (nul_none w m h k.no_nul)
 one_fault w r Nul m n h k = absurd (nul_none w n k h.no_nul)
 one_fault w r s m n h k = pair_faults_same w r s m n h k

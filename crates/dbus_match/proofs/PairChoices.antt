@@ -8,7 +8,7 @@ use Rattle.dbus_texts.specs.ComputedKinds.{is_kind}
 use Rattle.dbus_texts.specs.Kinds.{IsKind}
 use Rattle.dbus_texts.proofs.KindFacts.{kind_is, is_kind_of}
 use Rattle.dbus_match.specs.declared.key.Key.{Key}
-use Rattle.dbus_match.specs.declared.key.Key.TheVariants.{MessageType, Sender, Interface, Member, Path, PathNamespace, Destination, Arg, ArgPath, Arg0Namespace, Eavesdrop}
+use Rattle.dbus_match.specs.declared.key.Key.TheVariants.{MessageType, Sender, Interface, Member, Path, PathNamespace, Destination, Arg, ArgPath, Eavesdrop}
 use Rattle.dbus_match.specs.declared.fault.RuleFault.TheVariants.{Bad}
 use Rattle.dbus_match.specs.declared.fault.RuleReason.{RuleReason}
 use Rattle.dbus_match.specs.declared.fault.RuleReason.TheVariants.{NoEquals, KeyName, KeyTwice, PathAndNamespace, OpenQuote, BadValue}
@@ -21,17 +21,12 @@ use Rattle.dbus_match.specs.Readings.{IsClosed}
 use Rattle.dbus_match.specs.Rules.{Pair, HasKey, IsPair}
 use Rattle.dbus_match.specs.Scans.{Reading, closed, open_at, scan}
 use Rattle.dbus_match.specs.Values.{pieces_text}
-use Rattle.dbus_match.proofs.Decided.{Either, same}
+use Rattle.dbus_match.proofs.Decided.{Either, one_of, same}
 use Rattle.dbus_match.proofs.KeyNames.{key_named}
 use Rattle.dbus_match.proofs.KeyTexts.{named, key_or, key_same}
 use Rattle.dbus_match.proofs.NameReadings.{left_over, no_equals_fault, unknown_fault, clash_fault, key_at, drop_past}
 use Rattle.dbus_match.proofs.PairReadings.{open_fault, bad_fault}
 use Rattle.dbus_match.proofs.ValueCuts.{is_closed, is_open}
-
-either_of : {P Q : Type 0} → Either P → Either Q → Either (P ⊎ Q)
-either_of (inl p) q = inl (inl p)
-either_of (inr p) (inl q) = inl (inr q)
-either_of (inr p) (inr q) = inr (λ h. elim h [ inl x ↦ p x | inr y ↦ q y ])
 
 -- ---- which values a key takes
 
@@ -43,18 +38,16 @@ of_kind : (k : TextKind) (v : List ℕ) → Either (IsKind k v)
 of_kind k v = of_test (IsKind k v) (is_kind k v) (kind_is k v) (is_kind_of k v)
 
 takes : (k : Key) (v : List ℕ) → Either (IsValueOf k v)
-takes MessageType v = either_of (same v (115 ∷ 105 ∷ 103 ∷ 110 ∷ 97 ∷ 108 ∷ [])) (either_of (same v (109 ∷ 101 ∷ 116 ∷ 104 ∷ 111 ∷ 100 ∷ 95 ∷ 99 ∷ 97 ∷ 108 ∷ 108 ∷ []))
-    (either_of (same v (109 ∷ 101 ∷ 116 ∷ 104 ∷ 111 ∷ 100 ∷ 95 ∷ 114 ∷ 101 ∷ 116 ∷ 117 ∷ 114 ∷ 110 ∷ [])) (same v (101 ∷ 114 ∷ 114 ∷ 111 ∷ 114 ∷ []))))
+takes MessageType v = one_of (same v (115 ∷ 105 ∷ 103 ∷ 110 ∷ 97 ∷ 108 ∷ [])) (one_of (same v (109 ∷ 101 ∷ 116 ∷ 104 ∷ 111 ∷ 100 ∷ 95 ∷ 99 ∷ 97 ∷ 108 ∷ 108 ∷ []))
+    (one_of (same v (109 ∷ 101 ∷ 116 ∷ 104 ∷ 111 ∷ 100 ∷ 95 ∷ 114 ∷ 101 ∷ 116 ∷ 117 ∷ 114 ∷ 110 ∷ [])) (same v (101 ∷ 114 ∷ 114 ∷ 111 ∷ 114 ∷ []))))
 takes Sender v = of_kind kinds.BusName v
 takes Interface v = of_kind kinds.Interface v
 takes Member v = of_kind kinds.Member v
 takes Path v = of_kind kinds.Path v
 takes PathNamespace v = of_kind kinds.Path v
 takes Destination v = of_kind kinds.BusName v
-takes (Arg n) v = inl tt
-takes (ArgPath n) v = inl tt
-takes Arg0Namespace v = inl tt
-takes Eavesdrop v = either_of (same v (116 ∷ 114 ∷ 117 ∷ 101 ∷ [])) (same v (102 ∷ 97 ∷ 108 ∷ 115 ∷ 101 ∷ []))
+takes Eavesdrop v = one_of (same v (116 ∷ 114 ∷ 117 ∷ 101 ∷ [])) (same v (102 ∷ 97 ∷ 108 ∷ 115 ∷ 101 ∷ []))
+takes k v = inl tt
 
 -- ---- which key a name is
 
@@ -64,15 +57,7 @@ below n = elim (cases_lt n 64) [ inl h ↦ inl h | inr h ↦ inr (λ l. absurd (
 a_key : (k : Key) → Either (IsKey k)
 a_key (Arg n) = below n
 a_key (ArgPath n) = below n
-a_key MessageType = inl tt
-a_key Sender = inl tt
-a_key Interface = inl tt
-a_key Member = inl tt
-a_key Path = inl tt
-a_key PathNamespace = inl tt
-a_key Destination = inl tt
-a_key Arg0Namespace = inl tt
-a_key Eavesdrop = inl tt
+a_key k = inl tt
 
 key_for : List ℕ → Option Key
 key_for w = key_named w
@@ -103,7 +88,7 @@ same_key k l h i = elim (same (key_text k) (key_text l)) [ inl e ↦ inl (key_sa
 
 has_key : (k : Key) → IsKey k → (ps : List Pair) → AllByRecursion IsPair ps → Either (HasKey k ps)
 has_key k h [] a = inr (λ x. x)
-has_key k h (p ∷ ps) a = either_of (same_key k p.key h a.0.key) (has_key k h ps a.1)
+has_key k h (p ∷ ps) a = one_of (same_key k p.key h a.0.key) (has_key k h ps a.1)
 
 excluded : (k : Key) (ps : List Pair) → AllByRecursion IsPair ps → Either (Excluded k ps)
 excluded Path ps a = has_key PathNamespace tt ps a

@@ -18,40 +18,27 @@ open_place v c a b h k = h.place ∙ ap (λ x. v + x) (open_same h.pieces k.piec
 open_bad : (v : ℕ) (k : Key) (c : List ℕ) (a : ℕ) → IsOpen v c a → IsBad k c → ⊥
 open_bad v k c a h b = open_not_closed h.pieces b.pieces h.run b.more h.are b.are h.run_is b.ends (sym h.spelled ∙ b.spelled)
 
-twice_same : (seen : List Pair) (key : Key) (p v : ℕ) (c : List ℕ) (s : RuleReason) (a b : ℕ) → IsFaultOfKey seen key p v c KeyTwice a → IsFaultOfKey seen key p v c s b → (KeyTwice ≡ s) × (a ≡ b)
-twice_same seen key p v c KeyTwice a b h k = (refl, h.1 ∙ sym k.1)
-twice_same seen key p v c PathAndNamespace a b h k = absurd (k.0 h.0)
-twice_same seen key p v c OpenQuote a b h k = absurd (k.0.0 h.0)
-twice_same seen key p v c BadValue a b h k = absurd (k.0.0 h.0)
-twice_same seen key p v c s a b h k = absurd k
-
-excluded_same : (seen : List Pair) (key : Key) (p v : ℕ) (c : List ℕ) (s : RuleReason) (a b : ℕ) → IsFaultOfKey seen key p v c PathAndNamespace a → IsFaultOfKey seen key p v c s b → (PathAndNamespace ≡ s) × (a ≡ b)
-excluded_same seen key p v c KeyTwice a b h k = absurd (h.0 k.0)
-excluded_same seen key p v c PathAndNamespace a b h k = (refl, h.2 ∙ sym k.2)
-excluded_same seen key p v c OpenQuote a b h k = absurd (k.0.1 h.1)
-excluded_same seen key p v c BadValue a b h k = absurd (k.0.1 h.1)
-excluded_same seen key p v c s a b h k = absurd k
-
-quote_same : (seen : List Pair) (key : Key) (p v : ℕ) (c : List ℕ) (s : RuleReason) (a b : ℕ) → IsFaultOfKey seen key p v c OpenQuote a → IsFaultOfKey seen key p v c s b → (OpenQuote ≡ s) × (a ≡ b)
-quote_same seen key p v c KeyTwice a b h k = absurd (h.0.0 k.0)
-quote_same seen key p v c PathAndNamespace a b h k = absurd (h.0.1 k.1)
-quote_same seen key p v c OpenQuote a b h k = (refl, open_place v c a b h.1 k.1)
-quote_same seen key p v c BadValue a b h k = absurd (open_bad v key c a h.1 k.1)
-quote_same seen key p v c s a b h k = absurd k
-
-bad_same : (seen : List Pair) (key : Key) (p v : ℕ) (c : List ℕ) (s : RuleReason) (a b : ℕ) → IsFaultOfKey seen key p v c BadValue a → IsFaultOfKey seen key p v c s b → (BadValue ≡ s) × (a ≡ b)
-bad_same seen key p v c KeyTwice a b h k = absurd (h.0.0 k.0)
-bad_same seen key p v c PathAndNamespace a b h k = absurd (h.0.1 k.1)
-bad_same seen key p v c OpenQuote a b h k = absurd (open_bad v key c b k.1 h.1)
-bad_same seen key p v c BadValue a b h k = (refl, h.2 ∙ sym k.2)
-bad_same seen key p v c s a b h k = absurd k
-
 key_fault_same : (seen : List Pair) (key : Key) (p v : ℕ) (c : List ℕ) (r s : RuleReason) (a b : ℕ) → IsFaultOfKey seen key p v c r a → IsFaultOfKey seen key p v c s b → (r ≡ s) × (a ≡ b)
-key_fault_same seen key p v c KeyTwice s a b h k = twice_same seen key p v c s a b h k
-key_fault_same seen key p v c PathAndNamespace s a b h k = excluded_same seen key p v c s a b h k
-key_fault_same seen key p v c OpenQuote s a b h k = quote_same seen key p v c s a b h k
-key_fault_same seen key p v c BadValue s a b h k = bad_same seen key p v c s a b h k
-key_fault_same seen key p v c r s a b h k = absurd h
+key_fault_same seen key p v c KeyTwice KeyTwice a b h k = (refl, h.1 ∙ sym k.1)
+key_fault_same seen key p v c KeyTwice PathAndNamespace a b h k = absurd (k.0 h.0)
+key_fault_same seen key p v c KeyTwice OpenQuote a b h k = absurd (k.0.0 h.0)
+key_fault_same seen key p v c KeyTwice BadValue a b h k = absurd (k.0.0 h.0)
+key_fault_same seen key p v c PathAndNamespace KeyTwice a b h k = absurd (h.0 k.0)
+key_fault_same seen key p v c PathAndNamespace PathAndNamespace a b h k = (refl, h.2 ∙ sym k.2)
+key_fault_same seen key p v c PathAndNamespace OpenQuote a b h k = absurd (k.0.1 h.1)
+key_fault_same seen key p v c PathAndNamespace BadValue a b h k = absurd (k.0.1 h.1)
+key_fault_same seen key p v c OpenQuote KeyTwice a b h k = absurd (h.0.0 k.0)
+key_fault_same seen key p v c OpenQuote PathAndNamespace a b h k = absurd (h.0.1 k.1)
+key_fault_same seen key p v c OpenQuote OpenQuote a b h k = (refl, open_place v c a b h.1 k.1)
+key_fault_same seen key p v c OpenQuote BadValue a b h k = absurd (open_bad v key c a h.1 k.1)
+key_fault_same seen key p v c BadValue KeyTwice a b h k = absurd (h.0.0 k.0)
+key_fault_same seen key p v c BadValue PathAndNamespace a b h k = absurd (h.0.1 k.1)
+key_fault_same seen key p v c BadValue OpenQuote a b h k = absurd (open_bad v key c b k.1 h.1)
+key_fault_same seen key p v c BadValue BadValue a b h k = (refl, h.2 ∙ sym k.2)
+key_fault_same seen key p v c Nul s a b h k = absurd h
+key_fault_same seen key p v c NoEquals s a b h k = absurd h
+key_fault_same seen key p v c KeyName s a b h k = absurd h
+key_fault_same seen key p v c r s a b h k = absurd k
 
 keyed_same : (seen : List Pair) (name : List ℕ) (p : ℕ) (c : List ℕ) (r s : RuleReason) (a b : ℕ) → IsKeyed seen name p c r a → IsKeyed seen name p c s b → (r ≡ s) × (a ≡ b)
 keyed_same seen name p c r s a b h k =

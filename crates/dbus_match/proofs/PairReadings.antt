@@ -13,7 +13,7 @@ use Rattle.dbus_match.specs.Readings.{IsOpen, IsClosed}
 use Rattle.dbus_match.specs.Rules.{Pair}
 use Rattle.dbus_match.specs.Faults.{HasName}
 use Rattle.dbus_match.specs.PairReadings.{IsOpenFault, IsFaultAt, IsKeyAt}
-use Rattle.dbus_match.proofs.NameCuts.{key_names, key_first}
+use Rattle.dbus_match.proofs.KeyTexts.{key_names, key_first}
 
 key_has : (seen : List Pair) (w : List ℕ) (n : ℕ) (k : Key) (m : ℕ) → IsKeyAt seen w n k m → HasName (drop n w) 0 (key_text k) (drop m w)
 key_has seen w n k m h = record { name_is = key_names k h.key_is; first = key_first k; spelled = h.spelled }

@@ -1,12 +1,12 @@
 -- Pieces are read as they stand, so a text spells at most one value.
-use Rattle.std.proofs.lemmas.Bool.{eqb-true}
+use Rattle.std.proofs.lemmas.Bool.{eqb-true, ne_eqb}
 use Rattle.std.proofs.Common.{◌≡◌, ◌≢◌, ℕ, ◌+◌, Bool, true, false, ◌&&◌, eqb, List, [], ◌∷◌, ◌++◌, refl, sym, ap, ◌∙◌, append_assoc, append-nil, length, arith, length-append}
 use Rattle.std.specs.List.{AllByRecursion}
 use Rattle.dbus_match.specs.declared.value_cut.Mode.TheVariants.{Outside, Inside}
 use Rattle.dbus_match.specs.Values.{Piece, quoted, escaped, plain, piece_text, piece_value, pieces_text, pieces_value, NoQuoteFirst, IsPiece, ArePieces}
 use Rattle.dbus_match.specs.Scans.{Reading, closed, open_at, quote_first, scan}
 use Rattle.dbus_match.specs.Readings.{Ends}
-use Rattle.dbus_match.proofs.ScanSteps.{at_comma, at_quote, at_escape, at_plain, no_quote_after, after_escape, in_quote_end, in_quote, ne-eqb}
+use Rattle.dbus_match.proofs.ScanSteps.{at_comma, at_quote, at_escape, at_plain, no_quote_after, after_escape, in_quote_end, in_quote}
 
 same_state : (m n : ℕ) (u v r : List ℕ) → m ≡ n → u ≡ v → scan Outside m u r ≡ scan Outside n v r
 same_state m n u v r e f = ap (λ x. scan Outside x u r) e ∙ ap (λ x. scan Outside n x r) f
@@ -22,7 +22,7 @@ run_open q n v (b ∷ w) h = in_quote q n v (b ∷ w) b w refl h.0 ∙ run_open 
 
 no_quote_false : (c : List ℕ) → NoQuoteFirst c → quote_first c ≡ false
 no_quote_false [] h = refl
-no_quote_false (b ∷ c) h = ne-eqb b 39 h
+no_quote_false (b ∷ c) h = ne_eqb b 39 h
 
 plain_false : (b : ℕ) (c : List ℕ) → (b ≡ 92 → NoQuoteFirst c) → eqb b 92 && quote_first c ≡ false
 plain_false b c h = go (eqb b 92) refl

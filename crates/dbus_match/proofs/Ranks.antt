@@ -13,17 +13,9 @@ ranked n =
     else (if ltb n 71 then Arg (n - 7) else (if ltb n 135 then ArgPath (n - 71) else (if n == 135 then Arg0Namespace else Eavesdrop)))))))))
 
 ranked_rank : (k : Key) → IsKey k → ranked (rank k) ≡ k
-ranked_rank MessageType h = refl
-ranked_rank Sender h = refl
-ranked_rank Interface h = refl
-ranked_rank Member h = refl
-ranked_rank Path h = refl
-ranked_rank PathNamespace h = refl
-ranked_rank Destination h = refl
 ranked_rank (Arg n) h = ap (key_or MessageType) (arg_found n (Some (ranked (7 + n))) (is_below (λ m. is_arg m (Some (ranked (7 + m)))) 64 n refl h))
 ranked_rank (ArgPath n) h = ap (key_or MessageType) (arg_path_found n (Some (ranked (71 + n))) (is_below (λ m. is_arg_path m (Some (ranked (71 + m)))) 64 n refl h))
-ranked_rank Arg0Namespace h = refl
-ranked_rank Eavesdrop h = refl
+ranked_rank k h = refl
 
 pub rank_same : (k l : Key) → IsKey k → IsKey l → rank k ≡ rank l → k ≡ l
 rank_same k l h i e = sym (ranked_rank k h) ∙ ap ranked e ∙ ranked_rank l i

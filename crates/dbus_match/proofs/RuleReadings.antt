@@ -1,5 +1,5 @@
 -- A rule's text, read pair by pair.
-use Rattle.std.proofs.Common.{◌≡◌, ◌≢◌, ℕ, zero, suc, ◌+◌, ◌<◌, ◌≤◌, eqb, List, [], ◌∷◌, ◌++◌, length, drop, take, ◌-◌, replicate, refl, sym, ap, ◌∙◌, subst, append_assoc, append-nil, arith, length-append, length-drop}
+use Rattle.std.proofs.Common.{◌≡◌, ◌≢◌, ℕ, suc, ◌+◌, ◌<◌, ◌≤◌, eqb, List, [], ◌∷◌, ◌++◌, length, drop, take, ◌-◌, replicate, refl, sym, ap, ◌∙◌, subst, append_assoc, append-nil, arith, length-append, length-drop}
 use Rattle.std.specs.Prelude.{◌==◌, ◌↔◌}
 use Rattle.std.specs.List.{AllByRecursion, prefix_len}
 use Rattle.std.proofs.Math.Seq.{drop-length, take-length}
@@ -23,6 +23,7 @@ use Rattle.dbus_match.proofs.FaultMoves.{length_spaces, pair_fault_members, pair
 use Rattle.dbus_match.proofs.Members.{keys_along}
 use Rattle.dbus_match.proofs.NameCuts.{item_spelled}
 use Rattle.dbus_match.proofs.NameReadings.{drop_past}
+use Rattle.dbus_match.proofs.Parts.{all_drop, all_front, all_back, all_join}
 
 -- the spaces at the start
 pub record IsSpaced (w : List ℕ) (n : ℕ) : Type 0 where
@@ -74,23 +75,6 @@ read_none w =
     }
 
 -- no U+0000 in a part
-all_drop : (P : ℕ → Type 0) (n : ℕ) (w : List ℕ) → AllByRecursion P w → AllByRecursion P (drop n w)
-all_drop P zero w h = h
-all_drop P (suc n) [] h = tt
-all_drop P (suc n) (b ∷ w) h = all_drop P n w h.1
-
-all_front : (P : ℕ → Type 0) (x y : List ℕ) → AllByRecursion P (x ++ y) → AllByRecursion P x
-all_front P [] y h = tt
-all_front P (b ∷ x) y h = (h.0, all_front P x y h.1)
-
-all_back : (P : ℕ → Type 0) (x y : List ℕ) → AllByRecursion P (x ++ y) → AllByRecursion P y
-all_back P [] y h = h
-all_back P (b ∷ x) y h = all_back P x y h.1
-
-all_join : (P : ℕ → Type 0) (x y : List ℕ) → AllByRecursion P x → AllByRecursion P y → AllByRecursion P (x ++ y)
-all_join P [] y h k = k
-all_join P (b ∷ x) y h k = (h.0, all_join P x y h.1 k)
-
 piece_all : (P : ℕ → Type 0) (p : Piece) → AllByRecursion P (piece_text p) → AllByRecursion P (piece_value p)
 piece_all P (quoted w) h = all_front P w (39 ∷ []) h.1
 piece_all P escaped h = h.1

@@ -6,7 +6,7 @@ use Rattle.std.specs.Bool.{Decides}
 use Rattle.std.specs.Cmp.Lexicographic.{pointwise, pointwise_decides, bytes_decides}
 use Rattle.std.specs.Cmp.Derive.Mapped.{pointwise-map}
 use Rattle.dbus_match.specs.declared.key.Key.{Key}
-use Rattle.dbus_match.specs.declared.key.Key.TheVariants.{MessageType, Sender, Interface, Member, Path, PathNamespace, Destination, Arg, ArgPath, Arg0Namespace, Eavesdrop}
+use Rattle.dbus_match.specs.declared.key.Key.TheVariants.{MessageType}
 use Rattle.dbus_match.specs.declared.rule.Rule.{Rule}
 use Rattle.dbus_match.specs.contracts.key.KeyPartialEq.TheImpl as key_eq
 use Rattle.dbus_match.specs.Rules.{Pair}
@@ -15,16 +15,7 @@ use Rattle.dbus_match.specs.RuleViews.{AreSameRule}
 
 keys_equal : (a b : Key) → Decides (key_eq.ghosts.eq a b) (a ≡ b)
 keys_equal MessageType b = grind (arith, common_steps)
-keys_equal Sender b = grind (arith, common_steps)
-keys_equal Interface b = grind (arith, common_steps)
-keys_equal Member b = grind (arith, common_steps)
-keys_equal Path b = grind (arith, common_steps)
-keys_equal PathNamespace b = grind (arith, common_steps)
-keys_equal Destination b = grind (arith, common_steps)
-keys_equal (Arg n) b = grind (arith, common_steps)
-keys_equal (ArgPath n) b = grind (arith, common_steps)
-keys_equal Arg0Namespace b = grind (arith, common_steps)
-keys_equal Eavesdrop b = grind (arith, common_steps)
+keys_equal a b = grind (arith, common_steps)
 
 -- what `==` computes of two conditions, from their pairs
 abbrev pub same_pair : Pair → Pair → Bool

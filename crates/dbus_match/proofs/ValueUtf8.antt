@@ -2,7 +2,7 @@
 use Rattle.std.proofs.Common.{◌≡◌, ℕ, suc, ◌+◌, ◌<◌, ◌≤◌, Bool, true, false, ◌&&◌, eqb, ltb, List, [], ◌∷◌, ◌++◌, length, get_or, refl, sym, ap, ◌∙◌, subst, append_assoc, append-nil, arith}
 use Rattle.std.specs.List.{AllByRecursion}
 use Rattle.std.specs.Str.{IsUtf8}
-use Rattle.std.proofs.lemmas.Bool.{cond_both, false≢true, ltb-true, ltb-false}
+use Rattle.std.proofs.lemmas.Bool.{cond_both, and_parts, ltb-true, ltb-false}
 use Rattle.std.proofs.lemmas.Str.{IsUtf8-append, IsUtf8-nil, encode_ascii, inside_one, length-encode, len_utf8_bounds}
 use lib.Utf8.{encode, encodes, scalar, scalars}
 use Rattle.dbus_match.specs.declared.value_cut.Mode.TheVariants.{Outside, Escape, Inside}
@@ -50,10 +50,6 @@ escape_high (b ∷ w) r n v l h =
 some_bytes : (c : ℕ) → 1 ≤ length (encode c)
 some_bytes c = let e = length-encode c in let b = (len_utf8_bounds c).0 in omega (arith, e, b)
 
-and_split : (a b : Bool) → a && b ≡ true → (a ≡ true) × (b ≡ true)
-and_split true b e = (refl, e)
-and_split false b e = absurd (false≢true e)
-
 one_char : (c : ℕ) → scalar c ≡ true → IsUtf8 (encode c)
 one_char c e = (c ∷ [], (ap (λ t. t && true) e, append-nil (encode c)))
 
@@ -70,7 +66,7 @@ mutual
   from_outside : (cs : List ℕ) (n : ℕ) (v : List ℕ) → scalars cs ≡ true → IsUtf8 v → GivesUtf8 (scan Outside n v (encodes cs))
   from_outside [] n v s u = u
   from_outside (c ∷ cs) n v s u =
-      let p = and_split (scalar c) (scalars cs) s in
+      let p = and_parts (scalar c) (scalars cs) s in
       low_or_high (GivesUtf8 (scan Outside n v (encode c ++ encodes cs))) c
       (λ l. subst (λ z. GivesUtf8 (scan Outside n v (z ++ encodes cs))) (sym (encode_ascii c l))
       (cond_both (eqb c 44) _ _ GivesUtf8 (λ e. u)
@@ -82,7 +78,7 @@ mutual
   from_escape : (cs : List ℕ) (n : ℕ) (v : List ℕ) → scalars cs ≡ true → IsUtf8 v → GivesUtf8 (scan Escape n v (encodes cs))
   from_escape [] n v s u = u
   from_escape (c ∷ cs) n v s u =
-      let p = and_split (scalar c) (scalars cs) s in
+      let p = and_parts (scalar c) (scalars cs) s in
       low_or_high (GivesUtf8 (scan Escape n v (encode c ++ encodes cs))) c
       (λ l. subst (λ z. GivesUtf8 (scan Escape n v (z ++ encodes cs))) (sym (encode_ascii c l)) (from_outside cs (n + 1) (v ++ c ∷ []) p.1 (push_low v c l p.0 u)))
       (λ h. subst GivesUtf8 (sym (escape_high (encode c) (encodes cs) n v (some_bytes c) (high c h))) (from_outside cs (n + length (encode c)) (v ++ encode c) p.1 (push_char v c p.0 u)))
@@ -90,7 +86,7 @@ mutual
   from_inside : (cs : List ℕ) (q n : ℕ) (v : List ℕ) → scalars cs ≡ true → IsUtf8 v → GivesUtf8 (scan (Inside q) n v (encodes cs))
   from_inside [] q n v s u = IsUtf8-nil
   from_inside (c ∷ cs) q n v s u =
-      let p = and_split (scalar c) (scalars cs) s in
+      let p = and_parts (scalar c) (scalars cs) s in
       low_or_high (GivesUtf8 (scan (Inside q) n v (encode c ++ encodes cs))) c
       (λ l. subst (λ z. GivesUtf8 (scan (Inside q) n v (z ++ encodes cs))) (sym (encode_ascii c l))
       (cond_both (eqb c 39) _ _ GivesUtf8 (λ e. from_outside cs (n + 1) v p.1 u)

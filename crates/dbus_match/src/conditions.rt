@@ -46,6 +46,7 @@ fn spaces(text: &[u8]) -> usize
 }
 
 /// The conditions that the text gives, in canonical order.
+#[tactic(auto, using(crate::proofs::RuleReadings::spaces_at, crate::proofs::RuleReadings::read_none))]
 pub(crate) fn read_conditions<A: Allocator + Copy>(
     alloc: A,
     text: &str,

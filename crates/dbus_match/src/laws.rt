@@ -19,6 +19,7 @@ pub fn canonical_spells()
 {}
 
 /// A text has at most one fault, at one place.
+#[tactic(auto, using(crate::proofs::FaultLaws::one_fault))]
 pub fn one_fault()
     ensures { OneFault }
 {}
@@ -34,6 +35,7 @@ pub fn not_both()
 {}
 
 /// Of each message it is decided whether a rule matches it.
+#[tactic(auto, using(crate::proofs::Decided::decided))]
 pub fn decided()
     ensures { Decided }
 {}

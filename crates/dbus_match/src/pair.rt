@@ -33,6 +33,7 @@ fn find_equals(text: &[u8], from: usize) -> Result<usize, usize>
 }
 
 /// Whether one of the conditions has the key.
+#[tactic(auto, using(crate::proofs::ConditionLists::has_at))]
 fn has_key<A: Allocator>(conditions: &[Condition<A>], key: Key) -> bool
     ensures { IsTrue result ↔ HasKey key (condition_pairs conditions.now) }
 {
@@ -64,6 +65,7 @@ fn clash<A: Allocator>(conditions: &[Condition<A>], key: Key) -> Option<RuleReas
 }
 
 /// The key at `from`, and the place where its value's text begins.
+#[tactic(auto, using(crate::proofs::NameReadings::left_over, crate::proofs::NameReadings::no_equals_fault, crate::proofs::NameReadings::unknown_fault, crate::proofs::NameReadings::clash_fault, crate::proofs::NameReadings::key_at))]
 fn read_key<A: Allocator>(
     text: &[u8],
     from: usize,
@@ -96,6 +98,7 @@ fn read_key<A: Allocator>(
 }
 
 /// The value whose text begins at `from`, and the place where its text ends.
+#[tactic(auto, using(crate::proofs::ValueCuts::reads_closed, crate::proofs::ValueCuts::reads_open, crate::proofs::ValueCuts::is_closed, crate::proofs::ValueCuts::is_open))]
 fn read_value<A: Allocator + Copy>(
     alloc: A,
     text: &str,
@@ -117,6 +120,7 @@ fn read_value<A: Allocator + Copy>(
 }
 
 /// The pair at `from`, and the place where its text ends.
+#[tactic(auto, using(crate::proofs::PairReadings::value_whole, crate::proofs::PairReadings::open_fault, crate::proofs::PairReadings::value_ends))]
 pub(crate) fn read_pair<A: Allocator + Copy>(
     alloc: A,
     text: &str,

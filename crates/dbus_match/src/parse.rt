@@ -20,6 +20,7 @@ fn first_nul(text: &[u8]) -> Option<usize>
 }
 
 /// The rule or the fault of the text.
+#[tactic(auto, using(crate::proofs::Nuls::nul_at, crate::proofs::Nuls::no_nul_in))]
 fn read_rule<A: Allocator + Copy>(alloc: A, text: &str) -> Result<Rule<A>, RuleFault>
     ensures { IsRuleReading text.now result }
 {
@@ -40,6 +41,7 @@ fn read_rule<A: Allocator + Copy>(alloc: A, text: &str) -> Result<Rule<A>, RuleF
 ///
 /// This differs from the specification in these points: each key stands at most once; spaces stand only
 /// before a key and after the last comma; `destination` takes any bus name, and `arg0namespace` any text.
+#[tactic(auto, using(crate::proofs::RuleVerdicts::this_rule, crate::proofs::RuleVerdicts::this_fault))]
 pub fn parse_rule<A: Allocator + Copy>(alloc: A, text: &str) -> Result<Rule<A>, RuleFault>
     ensures reading { IsRuleReading text.now result }
     ensures spelled { (pairs : List Pair) → SpellsRule text.now pairs → IsThisRule pairs result }

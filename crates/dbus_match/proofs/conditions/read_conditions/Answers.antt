@@ -1,10 +1,7 @@
-use Rattle.std.proofs.Common.{rules, ◌+◌, ◌<◌, length, refl, sym, subst, arith}
+use Rattle.std.proofs.Common.{rules, ◌+◌, ◌<◌, length, refl, arith}
 use Rattle.dbus_match.specs.Conditions.{condition_pair, condition_pairs}
-use Rattle.dbus_match.proofs.RuleReadings.{IsReadUpTo, spaces_at, read_none, read_more, read_last, read_end, read_fault}
+use Rattle.dbus_match.proofs.RuleReadings.{spaces_at, read_more, read_last, read_end, read_fault}
 use Rattle.dbus_match.proofs.conditions.read_conditions.Goals as goal
-
-pub loop-bytes-init : goal.loop-bytes-init
-loop-bytes-init g c = record { within = search rules; read = subst (λ z. IsReadUpTo c.args.text.now 0 (condition_pairs z)) (sym c.new-conditions.ensures.items) (read_none c.args.text.now) }
 
 pub returns-then-key_from-bytes-clause-rule : goal.returns-then-key_from-bytes-clause-rule
 returns-then-key_from-bytes-clause-rule g c =
@@ -13,9 +10,6 @@ returns-then-key_from-bytes-clause-rule g c =
     let s = c.spaces.result in
     let h = spaces_at w c.as_bytes-bytes.result.now at s c.as_bytes-bytes.ensures.value c.loop-bytes.invariant.within c.spaces.ensures.count in
     read_end w at s (at + s) (condition_pairs c.loop-bytes.conditions.items) c.requires h.0 (search rules) c.loop-bytes.invariant.read
-
-pub read_pair-requires-clause-first : goal.read_pair-requires-clause-first
-read_pair-requires-clause-first g c = (spaces_at c.args.text.now c.as_bytes-bytes.result.now c.loop-bytes.from c.spaces.result c.as_bytes-bytes.ensures.value c.loop-bytes.invariant.within c.spaces.ensures.count).1
 
 pub returns-in_err-condition-clause-fault : goal.returns-in_err-condition-clause-fault
 returns-in_err-condition-clause-fault g c =
