@@ -10,6 +10,7 @@ use Rattle.dbus_auth.specs.World.{server_at_first}
 use Rattle.dbus_auth.specs.declared.end_step.Status.{Status}
 use Rattle.dbus_auth.specs.declared.end_step.Status.TheVariants as status
 use Rattle.dbus_auth_lines.proofs.Cuts.{StaysSettled, IsAbove, cut_follows}
+use Rattle.dbus_auth.proofs.Outcomes.{takes_by}
 use Rattle.dbus_auth.proofs.Sides.{cut_nil}
 
 -- ---- byte by byte
@@ -161,26 +162,8 @@ cuts_sound e skipped p More sound is = is
 cuts_sound e skipped p (Bad f) sound is = sound
 cuts_sound e skipped p (Ends n) sound is = cut_nil
 
-first_sound : (e : ServerEndState) (p : List ℕ) → cut e.kept ≡ More → cut (server_first e p).after.kept ≡ More
-first_sound e [] sound = sound
-first_sound e (b ∷ p) sound = by_zero (b == 0)
-  where
-    by_zero : (t : Bool) → cut (cond t (server_cuts e 1 p (cut (e.kept ++ p))) (server_closes e)).after.kept ≡ More
-    by_zero true = cuts_sound e 1 p (cut (e.kept ++ p)) sound refl
-    by_zero false = sound
-
-talks_sound : (e : ServerEndState) (p : List ℕ) (z : Bool) → cut e.kept ≡ More → cut (server_talks e p z).after.kept ≡ More
-talks_sound e p true sound = cuts_sound e 0 p (cut (e.kept ++ p)) sound refl
-talks_sound e p false sound = first_sound e p sound
-
-takes_sound_at : (e : ServerEndState) (p : List ℕ) (st : Status) → cut e.kept ≡ More → cut (server_takes_at e p st).after.kept ≡ More
-takes_sound_at e p status.Talking sound = talks_sound e p e.zero_taken sound
-takes_sound_at e p status.Begun sound = sound
-takes_sound_at e p status.Closed sound = sound
-
 pub takes_sound : (e : ServerEndState) (p : List ℕ) → cut e.kept ≡ More → cut (server_takes e p).after.kept ≡ More
-unfolding server_takes
-takes_sound e p sound = takes_sound_at e p e.status sound
+takes_sound e p sound = takes_by (λ o. cut o.after.kept ≡ More) e sound sound (λ skipped q. cuts_sound e skipped q (cut (e.kept ++ q)) sound refl) p
 
 -- ---- all pieces
 

@@ -1,5 +1,5 @@
 -- A server that has begun sent OK as its last line other than ERROR, whoever its peer is.
-use Rattle.std.proofs.Common.{◌≡◌, ℕ, ◌+◌, ◌-◌, ◌==◌, Bool, true, false, cond, List, [], ◌∷◌, ◌++◌, length, take, drop, refl, sym, ◌∙◌, ap, subst, append_assoc}
+use Rattle.std.proofs.Common.{◌≡◌, ℕ, ◌+◌, ◌-◌, Bool, true, false, cond, List, [], ◌∷◌, ◌++◌, length, take, drop, refl, sym, ◌∙◌, ap, subst, append_assoc}
 use Rattle.std.proofs.lemmas.List.{append-nil}
 use Rattle.dbus_auth.specs.World.{server_at_first}
 use Rattle.std.specs.Prelude.{codes}
@@ -10,9 +10,9 @@ use Rattle.dbus_auth_lines.specs.ServerCommands as server
 use Rattle.dbus_auth_lines.specs.Lines.{server_line, ended, client_meaning}
 use Rattle.dbus_auth_lines.specs.Cut.{Cut, Ends, Bad, More, cut}
 use Rattle.dbus_auth.specs.Machines.{ServerMachine, ServerStep, ServerAction, server_step, server_step_at, rejects, accepts, replies, complains, mechanisms}
-use Rattle.dbus_auth.specs.Ends.{ServerEndState, server_answers, server_cuts, server_first, server_talks, server_takes_at, server_takes, server_closes}
+use Rattle.dbus_auth.specs.Ends.{ServerEndState, server_answers, server_cuts, server_takes}
 use Rattle.dbus_auth.specs.AnyPeer.{line_sent, run_server, LastIsOk}
-use Rattle.dbus_auth.specs.declared.end_step.Status.{Status}
+use Rattle.dbus_auth.proofs.Outcomes.{takes_by}
 use Rattle.dbus_auth.specs.declared.end_step.Status.TheVariants as status
 use Rattle.dbus_auth.specs.declared.states.ServerState.{ServerState}
 use Rattle.dbus_auth.specs.declared.states.ServerState.TheVariants as at
@@ -133,26 +133,10 @@ cuts_keep guid e said skipped bs (Ends size) g =
 cuts_keep guid e said skipped bs (Bad f) g = quiet_keeps guid e (record e { status = status.Closed }) said g refl closed_no_begun
 cuts_keep guid e said skipped bs More g = quiet_keeps guid e (record e { zero_taken = true; kept = e.kept ++ bs }) said g refl (λ h. h)
 
-first_keeps : (guid : List ℕ) (e : ServerEndState) (said : List (List ℕ)) (bs : List ℕ) → Good guid e said → Good guid (server_first e bs).after (said ++ line_sent (server_first e bs).send)
-first_keeps guid e said [] g = quiet_keeps guid e e said g refl (λ h. h)
-first_keeps guid e said (b ∷ bs) g = by_zero (b == 0)
-  where
-    by_zero : (t : Bool) → Good guid (cond t (server_cuts e 1 bs (cut (e.kept ++ bs))) (server_closes e)).after (said ++ line_sent (cond t (server_cuts e 1 bs (cut (e.kept ++ bs))) (server_closes e)).send)
-    by_zero true = cuts_keep guid e said 1 bs (cut (e.kept ++ bs)) g
-    by_zero false = quiet_keeps guid e (record e { status = status.Closed }) said g refl closed_no_begun
-
-talks_keep : (guid : List ℕ) (e : ServerEndState) (said : List (List ℕ)) (p : List ℕ) (z : Bool) → Good guid e said → Good guid (server_talks e p z).after (said ++ line_sent (server_talks e p z).send)
-talks_keep guid e said p true g = cuts_keep guid e said 0 p (cut (e.kept ++ p)) g
-talks_keep guid e said p false g = first_keeps guid e said p g
-
-takes_keep_at : (guid : List ℕ) (e : ServerEndState) (said : List (List ℕ)) (p : List ℕ) (st : Status) → Good guid e said → Good guid (server_takes_at e p st).after (said ++ line_sent (server_takes_at e p st).send)
-takes_keep_at guid e said p status.Talking g = talks_keep guid e said p e.zero_taken g
-takes_keep_at guid e said p status.Begun g = quiet_keeps guid e e said g refl (λ h. h)
-takes_keep_at guid e said p status.Closed g = quiet_keeps guid e e said g refl (λ h. h)
-
 takes_keep : (guid : List ℕ) (e : ServerEndState) (said : List (List ℕ)) (p : List ℕ) → Good guid e said → Good guid (server_takes e p).after (said ++ line_sent (server_takes e p).send)
-unfolding server_takes
-takes_keep guid e said p g = takes_keep_at guid e said p e.status g
+takes_keep guid e said p g =
+    takes_by (λ o. Good guid o.after (said ++ line_sent o.send)) e (quiet_keeps guid e e said g refl (λ h. h))
+    (quiet_keeps guid e (record e { status = status.Closed }) said g refl closed_no_begun) (λ skipped q. cuts_keep guid e said skipped q (cut (e.kept ++ q)) g) p
 
 run_keeps : (guid : List ℕ) (ns : List ℕ) (e : ServerEndState) (bytes : List ℕ) (said : List (List ℕ)) → Good guid e said → Good guid (run_server e bytes ns).after (said ++ (run_server e bytes ns).said)
 run_keeps guid [] e bytes said g = quiet_keeps guid e e said g refl (λ h. h)

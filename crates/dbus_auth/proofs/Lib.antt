@@ -1,3 +1,4 @@
+pub mod Outcomes
 pub mod Sides
 pub mod Readable
 pub mod Stages

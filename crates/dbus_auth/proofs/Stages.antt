@@ -12,7 +12,7 @@ use Rattle.dbus_auth_lines.specs.ServerCommands as server
 use Rattle.dbus_auth_lines.specs.Lines.{ended, client_line, server_line}
 use Rattle.dbus_auth_lines.specs.Cut.{IsPlain, IsLine}
 use Rattle.dbus_auth.specs.Machines.{ServerMachine, ClientMachine, ClientMechanism, auth_line, waits_in, mechanisms}
-use Rattle.dbus_auth.specs.Ends.{ServerEndState, ClientEndState, client_takes}
+use Rattle.dbus_auth.specs.Ends.{ServerEndState, ClientEndState, EndOutcome, server_takes, client_takes}
 use Rattle.dbus_auth.specs.World.{Wire, untaken, sending, World, Start, To_client, Server_writes, Client_writes, client_did, server_writes, client_writes, start_once, hand_client, happens, client_at_first, line_ends}
 use Rattle.dbus_auth.specs.Mechanisms.{IsMechanism}
 use Rattle.dbus_auth.specs.declared.end_step.Status.TheVariants as status
@@ -41,6 +41,14 @@ line_ends-more said send line e h = omega (arith, line_ends-append said send, ap
 
 pub line_ends-same : (said send : List ℕ) → send ≡ [] → line_ends (said ++ send) ≡ line_ends said
 line_ends-same said send e = omega (arith, line_ends-append said send, ap line_ends e)
+
+-- ---- what an end does with a piece of what comes to it
+
+abbrev pub served : World → ℕ → EndOutcome ServerEndState
+served w n = server_takes w.server (take n (untaken w.to_server))
+
+abbrev pub heard : World → ℕ → EndOutcome ClientEndState
+heard w n = client_takes w.client (take n (untaken w.to_client))
 
 -- ---- nothing is sent
 

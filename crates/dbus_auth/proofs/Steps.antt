@@ -10,7 +10,7 @@ use Rattle.dbus_auth_lines.specs.ServerCommands as server
 use Rattle.dbus_auth_lines.specs.Lines.{ended, client_meaning, server_meaning, client_line, server_line}
 use Rattle.dbus_auth_lines.specs.Cut.{cut}
 use Rattle.dbus_auth.specs.Machines.{ServerMachine, ClientMachine, ClientMechanism, External, Anonymous, ServerStep, ClientStep, ServerAction, ClientAction, server_step, client_step, IsServer, auth_line, waits_in, mechanisms, replies, asks, begins, next_of}
-use Rattle.dbus_auth.specs.Ends.{ServerEndState, ClientEndState, EndOutcome, nothing, server_takes, client_takes, client_starts, server_sends, client_sends, server_status, client_status}
+use Rattle.dbus_auth.specs.Ends.{ServerEndState, ClientEndState, EndOutcome, nothing, client_starts, server_sends, client_sends, server_status, client_status}
 use Rattle.dbus_auth.specs.World.{Wire, untaken, sending, taking, World, Start, To_server, To_client, Server_writes, Client_writes, starts, server_did, client_did, server_writes, client_writes, start_once, hand_client, happens, client_at_first, line_ends}
 use Rattle.dbus_auth.specs.Mechanisms.{IsMechanism}
 use Rattle.dbus_auth.specs.declared.end_step.Status.TheVariants as status
@@ -20,7 +20,7 @@ use Rattle.dbus_auth.specs.declared.states.ClientState.{ClientState}
 use Rattle.dbus_auth.specs.declared.states.ClientState.TheVariants as now
 use Rattle.dbus_auth.proofs.Sides.{untaken-taking, untaken-sending, IsWire, IsWire-taking, IsWire-sending, later, first, ServerSide, ServerTook, ServerMove, server_waits, server_took, server_moves, ServerQuiet, server_stays, cut_nil, ClientSide, ClientTook, ClientMove, client_waits, client_took, client_moves, ClientQuiet, client_stays, server_is_done, client_is_done}
 use Rattle.dbus_auth.proofs.Readable.{auth_is_line, auth_is_read, data_is_line, data_is_read, begin_is_line, begin_is_read, server_data_is_read, rejected_is_line, rejected_is_read, accepted_is_line, accepted_is_read, auth_step, data_step}
-use Rattle.dbus_auth.proofs.Stages.{line_ends-append, line_ends-ended, line_ends-more, line_ends-same, sending_nil, ClientQuiet-nil, ClientSide-nil, ServerQuiet-nil, ServerSide-more, ServerSide-nil, at_state, talks_as, Unsaid, Asking, Answering, IsAwaiting, ClientBegan, ServerBegan, ClientClosed, Fresh, Stage, fresh, asked, gave_data, rejected, accepted, wants_data, confirming, both, over, to_client_of}
+use Rattle.dbus_auth.proofs.Stages.{served, heard, line_ends-append, line_ends-ended, line_ends-more, line_ends-same, sending_nil, ClientQuiet-nil, ClientSide-nil, ServerQuiet-nil, ServerSide-more, ServerSide-nil, at_state, talks_as, Unsaid, Asking, Answering, IsAwaiting, ClientBegan, ServerBegan, ClientClosed, Fresh, Stage, fresh, asked, gave_data, rejected, accepted, wants_data, confirming, both, over, to_client_of}
 
 -- ---- from one stage to the next
 
@@ -120,21 +120,18 @@ module _ (s : ServerMachine) (all : List ClientMechanism) (fits : IsServer s) (w
       from : ServerMachine
       from = at_state s at.WaitingForAuth
 
-      outcome : EndOutcome ServerEndState
-      outcome = server_takes w.server (take n (untaken w.to_server))
-
-      by_step : ServerMove (server_takes w.server (take n (untaken w.to_server))) w.to_server (at_state s at.WaitingForAuth) (client_line (auth_line m)) [] → Stage s all (happens w (To_server n))
-      by_step (server_waits side nil) = asked m left hm hl bound (asking_waits w outcome from (auth_line m) (talks_as (waits_in m) left) side nil a)
+      by_step : ServerMove (served w n) w.to_server (at_state s at.WaitingForAuth) (client_line (auth_line m)) [] → Stage s all (happens w (To_server n))
+      by_step (server_waits side nil) = asked m left hm hl bound (asking_waits w (served w n) from (auth_line m) (talks_as (waits_in m) left) side nil a)
       by_step (server_took t) =
           let read = ap (server_step from) (auth_is_read m hm) in
           let step = server_step from (client_meaning (client_line (auth_line m))) in
           let c = talks_as (waits_in m) left in
           elim (auth_step s m hm) [
-            | inl refused ↦ rejected (waits_in m) left (awaits m) hl (omega arith) (to_answering w outcome from step c (server.Rejected (mechanisms s)) at.WaitingForAuth t (read ∙ refused) a.waiting a.unsaid)
-            | inr (inl ok) ↦ accepted (waits_in m) left (awaits m) (omega arith) (to_answering w outcome from step c (server.Accepted s.guid) at.WaitingForBegin t (read ∙ ok) a.waiting a.unsaid)
+            | inl refused ↦ rejected (waits_in m) left (awaits m) hl (omega arith) (to_answering w (served w n) from step c (server.Rejected (mechanisms s)) at.WaitingForAuth t (read ∙ refused) a.waiting a.unsaid)
+            | inr (inl ok) ↦ accepted (waits_in m) left (awaits m) (omega arith) (to_answering w (served w n) from step c (server.Accepted s.guid) at.WaitingForBegin t (read ∙ ok) a.waiting a.unsaid)
             | inr (inr x) ↦
                 let q : ClientQuiet w.client w.to_client (talks_as now.WaitingForData left) = subst (λ (st : ClientState). ClientQuiet w.client w.to_client (talks_as st left)) x.1 a.waiting in
-                wants_data left hl bound (to_answering w outcome from step (talks_as now.WaitingForData left) (server.DataOf []) at.WaitingForData t (read ∙ x.0) q a.unsaid)
+                wants_data left hl bound (to_answering w (served w n) from step (talks_as now.WaitingForData left) (server.DataOf []) at.WaitingForData t (read ∙ x.0) q a.unsaid)
           ]
 
   pub gave_data-to_server : (n : ℕ) (left : List ClientMechanism) → AllByRecursion IsMechanism left
@@ -142,21 +139,18 @@ module _ (s : ServerMachine) (all : List ClientMechanism) (fits : IsServer s) (w
       → Asking w (at_state s at.WaitingForData) (client.DataOf []) (talks_as now.WaitingForOk left) → Stage s all (happens w (To_server n))
   gave_data-to_server n left hl bound a = by_step (server_moves w.server w.to_server (at_state s at.WaitingForData) (codes "DATA") [] n a.to_come data_is_line)
     where
-      outcome : EndOutcome ServerEndState
-      outcome = server_takes w.server (take n (untaken w.to_server))
-
-      by_step : ServerMove (server_takes w.server (take n (untaken w.to_server))) w.to_server (at_state s at.WaitingForData) (codes "DATA") [] → Stage s all (happens w (To_server n))
-      by_step (server_waits side nil) = gave_data left hl bound (asking_waits w outcome (at_state s at.WaitingForData) (client.DataOf []) (talks_as now.WaitingForOk left) side nil a)
+      by_step : ServerMove (served w n) w.to_server (at_state s at.WaitingForData) (codes "DATA") [] → Stage s all (happens w (To_server n))
+      by_step (server_waits side nil) = gave_data left hl bound (asking_waits w (served w n) (at_state s at.WaitingForData) (client.DataOf []) (talks_as now.WaitingForOk left) side nil a)
       by_step (server_took t) =
           accepted now.WaitingForOk left (inl refl) (omega arith)
-          (to_answering w outcome (at_state s at.WaitingForData) (server_step (at_state s at.WaitingForData) (client_meaning (codes "DATA"))) (talks_as now.WaitingForOk left) (server.Accepted s.guid) at.WaitingForBegin t (ap (server_step (at_state s at.WaitingForData)) data_is_read ∙ data_step s) a.waiting a.unsaid)
+          (to_answering w (served w n) (at_state s at.WaitingForData) (server_step (at_state s at.WaitingForData) (client_meaning (codes "DATA"))) (talks_as now.WaitingForOk left) (server.Accepted s.guid) at.WaitingForBegin t (ap (server_step (at_state s at.WaitingForData)) data_is_read ∙ data_step s) a.waiting a.unsaid)
 
 -- ---- a piece for a quiet side
 
 pub asking_client : (w : World) (n : ℕ) (server : ServerMachine) (line : ClientCommand) (c : ClientMachine) → Asking w server line c
-    → (line_ends (client_did w (client_takes w.client (take n (untaken w.to_client)))).client_said ≡ line_ends w.client_said) × Asking (client_did w (client_takes w.client (take n (untaken w.to_client)))) server line c
+    → (line_ends (client_did w (heard w n)).client_said ≡ line_ends w.client_said) × Asking (client_did w (heard w n)) server line c
 asking_client w n server line c a =
-    let outcome = client_takes w.client (take n (untaken w.to_client)) in
+    let outcome = heard w n in
     let q = client_stays w.client w.to_client c n a.waiting in (
       line_ends-same w.client_said outcome.send q.send,
       record {
@@ -169,7 +163,7 @@ asking_client w n server line c a =
 pub answering_server : (w : World) (n : ℕ) (server : ServerMachine) (line : ServerCommand) (c : ClientMachine) → Answering w server line c
     → Answering (happens w (To_server n)) server line c
 answering_server w n server line c a =
-    let outcome = server_takes w.server (take n (untaken w.to_server)) in
+    let outcome = served w n in
     let q = server_stays w.server w.to_server server true n a.waiting in
     record {
       waiting = q.quiet;
@@ -207,48 +201,42 @@ module _ (s : ServerMachine) (all : List ClientMechanism) (fits : IsServer s) (w
   pub rejected-to_client : (n : ℕ) (state : ClientState) (left : List ClientMechanism) → IsAwaiting state → AllByRecursion IsMechanism left
       → line_ends w.client_said + 2 * length left ≤ 2 * length all
       → Answering w (at_state s at.WaitingForAuth) (server.Rejected (mechanisms s)) (talks_as state left)
-      → Stage s all (client_did w (client_takes w.client (take n (untaken w.to_client))))
+      → Stage s all (client_did w (heard w n))
   rejected-to_client n state left aw hl bound a = by_step (client_moves w.client w.to_client (talks_as state left) (server_line (server.Rejected (mechanisms s))) [] n a.to_come (rejected_is_line s))
     where
-      outcome : EndOutcome ClientEndState
-      outcome = client_takes w.client (take n (untaken w.to_client))
-
-      by_step : ClientMove (client_takes w.client (take n (untaken w.to_client))) w.to_client (talks_as state left) (server_line (server.Rejected (mechanisms s))) [] → Stage s all (client_did w (client_takes w.client (take n (untaken w.to_client))))
+      by_step : ClientMove (heard w n) w.to_client (talks_as state left) (server_line (server.Rejected (mechanisms s))) [] → Stage s all (client_did w (heard w n))
       by_step (client_waits side nil) =
-          rejected state left aw hl (omega (arith, line_ends-same w.client_said outcome.send nil, bound))
-          (answering_waits w outcome (at_state s at.WaitingForAuth) (server.Rejected (mechanisms s)) (talks_as state left) side nil a)
+          rejected state left aw hl (omega (arith, line_ends-same w.client_said (heard w n).send nil, bound))
+          (answering_waits w (heard w n) (at_state s at.WaitingForAuth) (server.Rejected (mechanisms s)) (talks_as state left) side nil a)
       by_step (client_took t) =
-          next_stage outcome (client_step (talks_as state left) (server_meaning (server_line (server.Rejected (mechanisms s))))) left
+          next_stage (heard w n) (client_step (talks_as state left) (server_meaning (server_line (server.Rejected (mechanisms s))))) left
           (ap (client_step (talks_as state left)) (rejected_is_read s) ∙ rejected_step state left (mechanisms s) aw) hl bound t a.waiting a.unsaid
 
   pub accepted-to_client : (n : ℕ) (state : ClientState) (left : List ClientMechanism) → IsAwaiting state
       → line_ends w.client_said ≤ 2 * length all
       → Answering w (at_state s at.WaitingForBegin) (server.Accepted s.guid) (talks_as state left)
-      → Stage s all (client_did w (client_takes w.client (take n (untaken w.to_client))))
+      → Stage s all (client_did w (heard w n))
   accepted-to_client n state left aw bound a = by_step (client_moves w.client w.to_client (talks_as state left) (server_line (server.Accepted s.guid)) [] n a.to_come (accepted_is_line s fits))
     where
-      outcome : EndOutcome ClientEndState
-      outcome = client_takes w.client (take n (untaken w.to_client))
-
-      by_step : ClientMove (client_takes w.client (take n (untaken w.to_client))) w.to_client (talks_as state left) (server_line (server.Accepted s.guid)) [] → Stage s all (client_did w (client_takes w.client (take n (untaken w.to_client))))
+      by_step : ClientMove (heard w n) w.to_client (talks_as state left) (server_line (server.Accepted s.guid)) [] → Stage s all (client_did w (heard w n))
       by_step (client_waits side nil) =
-          accepted state left aw (omega (arith, line_ends-same w.client_said outcome.send nil, bound))
-          (answering_waits w outcome (at_state s at.WaitingForBegin) (server.Accepted s.guid) (talks_as state left) side nil a)
+          accepted state left aw (omega (arith, line_ends-same w.client_said (heard w n).send nil, bound))
+          (answering_waits w (heard w n) (at_state s at.WaitingForBegin) (server.Accepted s.guid) (talks_as state left) side nil a)
       by_step (client_took t) =
           let step = client_step (talks_as state left) (server_meaning (server_line (server.Accepted s.guid))) in
           let e : step ≡ begins s.guid left = ap (client_step (talks_as state left)) (accepted_is_read s fits) ∙ accepted_step state left s.guid aw in
-          let sent : outcome.send ≡ ended (codes "BEGIN") = t.send ∙ ap (λ (x : ClientStep). client_sends x.action) e in
+          let sent : (heard w n).send ≡ ended (codes "BEGIN") = t.send ∙ ap (λ (x : ClientStep). client_sends x.action) e in
           let q = a.waiting in
-          confirming (omega (arith, line_ends-more w.client_said outcome.send (codes "BEGIN") sent begin_is_line, bound))
+          confirming (omega (arith, line_ends-more w.client_said (heard w n).send (codes "BEGIN") sent begin_is_line, bound))
           (record {
             talking = q.talking;
             is = q.is;
             wants = ap cut q.kept ∙ cut_nil;
             coming = later q.zero (
-                ap (λ (x : List ℕ). x ++ untaken (sending w.to_server outcome.send)) q.kept
-                ∙ untaken-sending w.to_server outcome.send q.on_wire ∙ ap (λ (x : List ℕ). x ++ outcome.send) q.left
+                ap (λ (x : List ℕ). x ++ untaken (sending w.to_server (heard w n).send)) q.kept
+                ∙ untaken-sending w.to_server (heard w n).send q.on_wire ∙ ap (λ (x : List ℕ). x ++ (heard w n).send) q.left
                 ∙ sent ∙ sym (append-nil (ended (codes "BEGIN"))) ∙ ap (λ (x : List ℕ). ended (codes "BEGIN") ++ x) (sym a.unsaid.client));
-            on_wire = IsWire-sending w.to_server outcome.send q.on_wire;
+            on_wire = IsWire-sending w.to_server (heard w n).send q.on_wire;
           })
           (record {
             status = t.status ∙ ap (λ (x : ClientStep). client_status x.action) e;
@@ -263,22 +251,19 @@ module _ (s : ServerMachine) (all : List ClientMechanism) (fits : IsServer s) (w
   pub wants_data-to_client : (n : ℕ) (left : List ClientMechanism) → AllByRecursion IsMechanism left
       → line_ends w.client_said + 2 * length left + 1 ≤ 2 * length all
       → Answering w (at_state s at.WaitingForData) (server.DataOf []) (talks_as now.WaitingForData left)
-      → Stage s all (client_did w (client_takes w.client (take n (untaken w.to_client))))
+      → Stage s all (client_did w (heard w n))
   wants_data-to_client n left hl bound a = by_step (client_moves w.client w.to_client (talks_as now.WaitingForData left) (codes "DATA") [] n a.to_come data_is_line)
     where
-      outcome : EndOutcome ClientEndState
-      outcome = client_takes w.client (take n (untaken w.to_client))
-
-      by_step : ClientMove (client_takes w.client (take n (untaken w.to_client))) w.to_client (talks_as now.WaitingForData left) (codes "DATA") [] → Stage s all (client_did w (client_takes w.client (take n (untaken w.to_client))))
+      by_step : ClientMove (heard w n) w.to_client (talks_as now.WaitingForData left) (codes "DATA") [] → Stage s all (client_did w (heard w n))
       by_step (client_waits side nil) =
-          wants_data left hl (omega (arith, line_ends-same w.client_said outcome.send nil, bound))
-          (answering_waits w outcome (at_state s at.WaitingForData) (server.DataOf []) (talks_as now.WaitingForData left) side nil a)
+          wants_data left hl (omega (arith, line_ends-same w.client_said (heard w n).send nil, bound))
+          (answering_waits w (heard w n) (at_state s at.WaitingForData) (server.DataOf []) (talks_as now.WaitingForData left) side nil a)
       by_step (client_took t) =
           let step = client_step (talks_as now.WaitingForData left) (server_meaning (codes "DATA")) in
           let e : step ≡ asks (client.DataOf []) now.WaitingForOk left = ap (client_step (talks_as now.WaitingForData left)) server_data_is_read ∙ data_asked_step left in
-          let sent : outcome.send ≡ ended (codes "DATA") = t.send ∙ ap (λ (x : ClientStep). client_sends x.action) e in
-          gave_data left hl (omega (arith, line_ends-more w.client_said outcome.send (codes "DATA") sent data_is_line, bound))
-          (to_asking w outcome (at_state s at.WaitingForData) step (client.DataOf []) (talks_as now.WaitingForOk left) t e a.waiting a.unsaid)
+          let sent : (heard w n).send ≡ ended (codes "DATA") = t.send ∙ ap (λ (x : ClientStep). client_sends x.action) e in
+          gave_data left hl (omega (arith, line_ends-more w.client_said (heard w n).send (codes "DATA") sent data_is_line, bound))
+          (to_asking w (heard w n) (at_state s at.WaitingForData) step (client.DataOf []) (talks_as now.WaitingForOk left) t e a.waiting a.unsaid)
 
 -- ---- the start
 
@@ -376,11 +361,8 @@ module _ (s : ServerMachine) (all : List ClientMechanism) (w : World) where
       → ClientBegan w s.guid → w.server_wrote ≡ [] → Stage s all (happens w (To_server n))
   confirming-to_server n bound side b nil = by_step (server_moves w.server w.to_server (at_state s at.WaitingForBegin) (codes "BEGIN") w.client_wrote n side begin_is_line)
     where
-      outcome : EndOutcome ServerEndState
-      outcome = server_takes w.server (take n (untaken w.to_server))
-
-      by_step : ServerMove (server_takes w.server (take n (untaken w.to_server))) w.to_server (at_state s at.WaitingForBegin) (codes "BEGIN") w.client_wrote → Stage s all (happens w (To_server n))
-      by_step (server_waits more none) = confirming bound more (began_beside w outcome s.guid none b) nil
+      by_step : ServerMove (served w n) w.to_server (at_state s at.WaitingForBegin) (codes "BEGIN") w.client_wrote → Stage s all (happens w (To_server n))
+      by_step (server_waits more none) = confirming bound more (began_beside w (served w n) s.guid none b) nil
       by_step (server_took t) =
           let e = ap (server_step (at_state s at.WaitingForBegin)) begin_is_read ∙ begin_step s in
           both bound (record {
@@ -388,7 +370,7 @@ module _ (s : ServerMachine) (all : List ClientMechanism) (w : World) where
             state_is = ap (λ (x : ServerMachine). x.state) t.is ∙ ap (λ (x : ServerStep). x.next) e;
             left = t.left;
             on_wire = t.on_wire;
-          }) (began_beside w outcome s.guid (t.send ∙ ap (λ (x : ServerStep). server_sends x.action) e) b)
+          }) (began_beside w (served w n) s.guid (t.send ∙ ap (λ (x : ServerStep). server_sends x.action) e) b)
 
   pub confirming-client_writes : (bytes : List ℕ) → line_ends w.client_said ≤ 2 * length all + 1
       → ServerSide w.server w.to_server (at_state s at.WaitingForBegin) (ended (codes "BEGIN") ++ w.client_wrote)
@@ -446,7 +428,7 @@ module _ (s : ServerMachine) (all : List ClientMechanism) (w : World) where
   pub over-to_server : (n : ℕ) (z : Bool) → line_ends w.client_said ≤ 2 * length all + 1
       → ServerQuiet w.server w.to_server (at_state s at.WaitingForAuth) z → ClientClosed w → Unsaid w → Stage s all (happens w (To_server n))
   over-to_server n z bound q c u =
-      let outcome = server_takes w.server (take n (untaken w.to_server)) in
+      let outcome = served w n in
       let st = server_stays w.server w.to_server (at_state s at.WaitingForAuth) z n q in
       over z bound st.quiet
       (record { status = c.status; started = c.started; left = sending_nil w.to_client outcome.send c.on_wire st.send ∙ c.left; on_wire = IsWire-sending w.to_client outcome.send c.on_wire })
@@ -462,7 +444,7 @@ module _ (s : ServerMachine) (all : List ClientMechanism) (w : World) where
 
   pub fresh-to_server : (n : ℕ) → Fresh w s all → Stage s all (happens w (To_server n))
   fresh-to_server n f =
-      let outcome = server_takes w.server (take n (untaken w.to_server)) in
+      let outcome = served w n in
       let st = server_stays w.server w.to_server (at_state s at.WaitingForAuth) false n f.server_is in
       fresh (record {
         client_is = f.client_is;
