@@ -49,11 +49,14 @@ pub fn has_types<A: Allocator + Copy>(
         IsTrue answer ↔ (sigs (types_of (value_trees_of values.now)) ≡ signature.now)) }
 {
     let mut spelled = Vec::with_capacity(alloc, signature.len())?;
+    spelled.resize(signature.len(), 0)?;
+    let bytes = spelled.as_mut_slice();
+    let mut end = 0;
     for value in values {
-        if signature.len() - spelled.len() < signature_length(value) {
+        if signature.len() - end < signature_length(value) {
             return Ok(false);
         }
-        write_type_of(&mut spelled, value);
+        end = write_type_of(bytes, end, value);
     }
-    Ok(spelled.as_slice() == signature)
+    Ok(&bytes[..end] == signature)
 }

@@ -1,12 +1,13 @@
 -- What is written of a message, put together.
 use Rattle.std.proofs.Common.{◌≡◌, ℕ, ◌+◌, ◌-◌, ◌<◌, ◌≤◌, List, ◌∷◌, ◌++◌, length, take, drop, map, refl, sym, ap, ◌∙◌, arith, append_assoc}
-use Rattle.std.proofs.lemmas.List.{length-append, take_at, drop_at}
+use Rattle.std.proofs.lemmas.List.{length-append, length-take-le, take_at, drop_at}
 use Rattle.dbus_value_model.specs.declared.order.Order.{Order}
 use Rattle.dbus_value_model.specs.Appending.{with_padding, with_values}
 use Rattle.dbus_value_model.specs.Values.{ValueTrees, value_trees}
 use Rattle.dbus_value_model.specs.Bytes.{num, pad, gap_to}
 use Rattle.dbus_value_model.specs.Spelling.{spelling, spellings}
 use Rattle.dbus_value_model.proofs.Numbers.{length-num}
+use Rattle.dbus_marshal.proofs.Patching.{taken_over}
 use Rattle.dbus_marshal.proofs.Written.{length_padding, length_values, num_1}
 use Rattle.dbus_message_model.proofs.MessageLengths.{message_length}
 use Rattle.dbus_encode.specs.FixedBytes.{fixed_bytes}
@@ -122,8 +123,15 @@ module _ (order : Order) (m : MessageTree) where
   pub step_fields : (fs : List FieldTree) (x : List ℕ) → fs ≡ m.fields → x ≡ fixed_bytes order m.kind m.flags m.serial → with_values order (value_trees (map field_struct fs)) x ≡ with_fields
   step_fields fs x e d = ap (λ (f : List FieldTree). with_values order (value_trees (map field_struct f)) x) e ∙ ap (with_values order fields_values) d
 
-  pub step_length : (o1 o2 : List ℕ) (n : ℕ) → o1 ≡ with_fields → n ≡ length o1 → o2 ≡ take 12 o1 ++ (num order 4 (n - 16) ++ drop 16 o1) → o2 ≡ with_length
-  step_length o1 o2 n e d h = h ∙ ap (λ (k : ℕ). take 12 o1 ++ (num order 4 (k - 16) ++ drop 16 o1)) d ∙ ap (λ (o : List ℕ). take 12 o ++ (num order 4 (length o - 16) ++ drop 16 o)) e
+  -- o2 has the fields, and o3 their length too
+  pub step_length : (o2 o3 : List ℕ) (start end : ℕ) → start ≡ 16 → end ≤ length o2 → take end o2 ≡ with_fields → o3 ≡ take 12 o2 ++ (num order 4 (end - start) ++ drop 16 o2) → take end o3 ≡ with_length
+  step_length o2 o3 start end s h e is =
+      let ends : end ≡ length with_fields = sym (length-take-le end o2 h) ∙ ap length e in
+      let counts : end - start ≡ length with_fields - 16 = omega arith in
+      ap (take end) is
+      ∙ taken_over o2 (num order 4 (end - start)) 12 end (length-num order 4 (end - start)) (omega (arith, long_fields)) h
+      ∙ ap (λ (o : List ℕ). take 12 o ++ (num order 4 (end - start) ++ drop 16 o)) e
+      ∙ ap (λ (k : ℕ). take 12 with_fields ++ (num order 4 k ++ drop 16 with_fields)) counts
 
   pub step_body : (vs : ValueTrees) (o3 : List ℕ) → vs ≡ m.body → o3 ≡ with_padding 8 with_length → with_values order vs o3 ≡ with_body
   step_body vs o3 e d = ap (λ (v : ValueTrees). with_values order v o3) e ∙ ap (with_values order m.body) d

@@ -1,112 +1,104 @@
 //! Encoding a message.
 #![tactic(auto, using(crate::proofs::FieldWriting::lengths))]
 
-ghost use Rattle.std.specs.Prelude.{◌≡◌, ◌<◌, ◌≤◌, ◌^◌, ◌+◌, [], length, vec_capacity, map, IfOk, OnOk, OnErr};
+ghost use Rattle.std.specs.Prelude.{◌≡◌, ◌<◌, ◌≤◌, ◌^◌, length, take, vec_capacity, map, IfOk, OnOk, OnErr};
 ghost use Rattle.dbus_value_model.specs.Appending.{with_value, with_values};
 ghost use Rattle.dbus_value_model.specs.ShortSignatures.{HasShortSignatures, HaveShortSignatures};
 ghost use Rattle.dbus_value_model.specs.declared.limits.TheConstants.{MESSAGE_LIMIT};
 ghost use Rattle.dbus_value_model.specs.Values.{value_trees};
-ghost use Rattle.dbus_value_model.specs.ValueViews.{value_trees_of};
 ghost use Rattle.dbus_encode.specs.FixedBytes.{fixed_bytes};
 ghost use Rattle.dbus_message_model.specs.Messages.{field_struct, message_bytes};
 ghost use Rattle.dbus_message_model.specs.MessageViews.{message_tree};
 ghost use Rattle.dbus_message_model.specs.PartsViews.{field_tree, field_trees};
 
 use dbus_marshal::writing::{overwrite_32, write_32, write_byte, write_padding};
-use dbus_marshal::{write_value, write_variant_signature};
+use dbus_marshal::{write_value, write_values, write_variant_signature};
 use dbus_message_model::{HeaderField, Message};
-use dbus_value_model::{Order, Value};
+use dbus_value_model::Order;
 use std::alloc::{AllocError, Allocator};
 
 /// The protocol version.
 const VERSION: u8 = 1;
 
-/// Appends the items that have fixed places, with 0 for the lengths of the body and of the fields.
+/// Writes the items that have fixed places, with 0 for the lengths of the body and of the fields.
 #[tactic(auto, using(crate::proofs::FieldWriting::fixed), unfolding(crate::specs::FixedBytes::fixed_bytes))]
-fn write_fixed<A: Allocator>(out: &mut Vec<u8, A>, order: Order, kind: u8, flags: u8, serial: u32)
-    requires empty { out.old.items ≡ [] }
-    requires space { 16 ≤ vec_capacity out.old }
-    ensures written { out.new.items ≡ fixed_bytes order kind flags serial }
-    ensures room { vec_capacity out.old ≤ vec_capacity out.new }
+fn write_fixed(out: &mut [u8], order: Order, kind: u8, flags: u8, serial: u32) -> usize
+    requires space { 16 ≤ length out.old }
+    ensures written { take result out.new ≡ fixed_bytes order kind flags serial }
+    ensures ends { result ≡ 16 }
 {
-    write_byte(out, if order == Order::Little { b'l' } else { b'B' });
-    write_byte(out, kind);
-    write_byte(out, flags);
-    write_byte(out, VERSION);
-    write_32(out, order, 0);
-    write_32(out, order, serial);
-    write_32(out, order, 0);
+    let place = write_byte(out, 0, if order == Order::Little { b'l' } else { b'B' });
+    let place = write_byte(out, place, kind);
+    let place = write_byte(out, place, flags);
+    let place = write_byte(out, place, VERSION);
+    let place = write_32(out, place, order, 0);
+    let place = write_32(out, place, order, serial);
+    write_32(out, place, order, 0)
 }
 
-/// Appends a field: its code, and its value in a variant.
-fn write_field<A: Allocator>(out: &mut Vec<u8, A>, order: Order, field: &HeaderField<A>)
-    requires space { length (with_value order (field_struct (field_tree field.now)) out.old.items) ≤
-        vec_capacity out.old }
-    requires fits { length (with_value order (field_struct (field_tree field.now)) out.old.items) <
-        2 ^ 32 }
+/// Writes a field: its code, and its value in a variant.
+fn write_field<A: Allocator>(
+    out: &mut [u8],
+    at: usize,
+    order: Order,
+    field: &HeaderField<A>,
+) -> usize
+    requires start { at ≤ length out.old }
+    requires space { length
+        (with_value order (field_struct (field_tree field.now)) (take at out.old)) ≤
+        length out.old }
+    requires fits { length out.old < 2 ^ 32 }
     requires signed { HasShortSignatures (field_struct (field_tree field.now)) }
-    ensures written { out.new.items ≡
-        with_value order (field_struct (field_tree field.now)) out.old.items }
-    ensures room { vec_capacity out.old ≤ vec_capacity out.new }
+    ensures written { take result out.new ≡
+        with_value order (field_struct (field_tree field.now)) (take at out.old) }
+    ensures within { result ≤ length out.new }
 {
     let code = field.code;
-    write_padding(out, 8);
-    write_byte(out, code);
-    write_variant_signature(out, &field.value);
-    write_value(out, order, &field.value);
+    let place = write_padding(out, at, 8);
+    let place = write_byte(out, place, code);
+    let place = write_variant_signature(out, place, &field.value);
+    write_value(out, place, order, &field.value)
 }
 
-/// Appends fields one after the other.
-fn write_fields<A: Allocator>(out: &mut Vec<u8, A>, order: Order, fields: &[HeaderField<A>])
-    requires space { length (
-        with_values order (value_trees (map field_struct (field_trees fields.now))) out.old.items) ≤
-        vec_capacity out.old }
-    requires fits { length (
-        with_values order (value_trees (map field_struct (field_trees fields.now))) out.old.items) <
-        2 ^ 32 }
+/// Writes fields one after the other.
+fn write_fields<A: Allocator>(
+    out: &mut [u8],
+    at: usize,
+    order: Order,
+    fields: &[HeaderField<A>],
+) -> usize
+    requires start { at ≤ length out.old }
+    requires space { length (with_values order
+        (value_trees (map field_struct (field_trees fields.now))) (take at out.old)) ≤
+        length out.old }
+    requires fits { length out.old < 2 ^ 32 }
     requires signed { HaveShortSignatures
         (value_trees (map field_struct (field_trees fields.now))) }
-    ensures written { out.new.items ≡
-        with_values order (value_trees (map field_struct (field_trees fields.now))) out.old.items }
-    ensures room { vec_capacity out.old ≤ vec_capacity out.new }
+    ensures written { take result out.new ≡
+        with_values order (value_trees (map field_struct (field_trees fields.now)))
+        (take at out.old) }
+    ensures within { result ≤ length out.new }
 {
+    let mut place = at;
     for field in fields {
-        write_field(out, order, field);
+        place = write_field(out, place, order, field);
     }
+    place
 }
 
-/// Appends values one after the other.
-fn write_body<A: Allocator>(out: &mut Vec<u8, A>, order: Order, values: &[Value<A>])
-    requires space { length (with_values order (value_trees_of values.now) out.old.items) ≤
-        vec_capacity out.old }
-    requires fits { length (with_values order (value_trees_of values.now) out.old.items) < 2 ^ 32 }
-    requires signed { HaveShortSignatures (value_trees_of values.now) }
-    ensures written { out.new.items ≡ with_values order (value_trees_of values.now) out.old.items }
-    ensures room { vec_capacity out.old ≤ vec_capacity out.new }
-{
-    for value in values {
-        write_value(out, order, value);
-    }
-}
-
-/// Appends a whole message where nothing stands yet.
-fn write_whole<A: Allocator>(out: &mut Vec<u8, A>, message: &Message<A>, order: Order)
-    requires empty { out.old.items ≡ [] }
-    requires space { length (message_bytes order (message_tree message.now)) ≤
-        vec_capacity out.old }
-    requires within { length (message_bytes order (message_tree message.now)) ≤ MESSAGE_LIMIT }
-    ensures { out.new.items ≡ message_bytes order (message_tree message.now) }
+/// Writes a whole message over as many bytes as it has.
+fn write_whole<A: Allocator>(out: &mut [u8], message: &Message<A>, order: Order)
+    requires size { length out.old ≡ length (message_bytes order (message_tree message.now)) }
+    requires within { length out.old ≤ MESSAGE_LIMIT }
+    ensures { out.new ≡ message_bytes order (message_tree message.now) }
 {
     let parts = message.parts();
-    write_fixed(out, order, parts.kind, parts.flags, parts.serial);
-    write_fields(out, order, &parts.fields);
-    let fields = (out.len() - 16) as u32;
-    overwrite_32(out, 12, order, fields);
-    write_padding(out, 8);
-    let start = out.len();
-    write_body(out, order, &parts.body);
-    let body = (out.len() - start) as u32;
-    overwrite_32(out, 4, order, body);
+    let fields_start = write_fixed(out, order, parts.kind, parts.flags, parts.serial);
+    let fields_end = write_fields(out, fields_start, order, &parts.fields);
+    overwrite_32(out, 12, order, (fields_end - fields_start) as u32);
+    let start = write_padding(out, fields_end, 8);
+    let end = write_values(out, start, order, &parts.body);
+    overwrite_32(out, 4, order, (end - start) as u32);
 }
 
 /// Encodes a message in a byte order. D-Bus Specification, "Message Format".
@@ -119,8 +111,8 @@ pub fn encode<A: Allocator + Copy>(
 ) -> Result<Vec<u8, A>, AllocError>
     ensures { IfOk result (λ bytes. bytes.items ≡ message_bytes order (message_tree message.now)) }
 {
-    let mut out = Vec::with_capacity(alloc, message.size())?;
-    write_whole(&mut out, message, order);
+    let mut out = Vec::new(alloc);
+    encode_into(&mut out, message, order)?;
     Ok(out)
 }
 
@@ -138,11 +130,7 @@ pub fn encode_into<A: Allocator>(
     ensures small { OnErr result
         (vec_capacity out.old < length (message_bytes order (message_tree message.now))) }
 {
-    let size = message.size();
-    if out.capacity() < size {
-        out.reserve(size - out.len())?;
-    }
-    out.clear();
-    write_whole(out, message, order);
+    out.resize(message.size(), 0)?;
+    write_whole(out.as_mut_slice(), message, order);
     Ok(())
 }

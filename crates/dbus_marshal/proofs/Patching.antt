@@ -1,6 +1,6 @@
 -- A length is written over once what it counts is there.
-use Rattle.std.proofs.Common.{◌≡◌, ℕ, ◌+◌, ◌-◌, ◌≤◌, ◌<◌, List, [], ◌∷◌, ◌++◌, length, get_or, set, take, drop, refl, sym, ap, ◌∙◌, arith, append_assoc}
-use Rattle.std.proofs.lemmas.List.{length-append, set-append_right, take-append-drop, length-take, drop-drop, length-drop, take_at, drop_at}
+use Rattle.std.proofs.Common.{◌≡◌, ℕ, ◌+◌, ◌-◌, ◌≤◌, ◌<◌, List, ◌++◌, length, take, drop, refl, sym, ap, ◌∙◌, arith, append_assoc}
+use Rattle.std.proofs.lemmas.List.{length-append, take-append-drop, take-take, length-take, length-take-le, length-drop, drop-append-le, take_at, drop_at}
 use Rattle.dbus_texts.specs.Types.{TypeTree, NumberType, TextType, VariantType, ArrayType, StructType, EntryType, BYTE, BOOLEAN, INT16, UINT16, INT32, UINT32, INT64, UINT64, DOUBLE, UNIX_FD, STRING, OBJECT_PATH, SIGNATURE}
 use Rattle.dbus_types.specs.Alignments.{alignment_of}
 use Rattle.dbus_value_model.specs.declared.order.Order.{Order}
@@ -11,46 +11,18 @@ use Rattle.dbus_value_model.specs.Appending.{with_padding, with_value, with_valu
 use Rattle.dbus_value_model.proofs.Numbers.{length-num}
 use Rattle.dbus_marshal.proofs.Written.{length_padding, length_values}
 
-set_in : (p q : List ℕ) (n k a : ℕ) → length p ≡ n → set (p ++ q) (n + k) a ≡ p ++ set q k a
-set_in p q n k a e =
-    let back : n + k - n ≡ k = omega arith in
-    set-append_right p q n (n + k) a e (omega arith) ∙ ap (λ (i : ℕ). p ++ set q i a) back
-
-four : (bs : List ℕ) → length bs ≡ 4 → get_or bs 0 0 ∷ get_or bs 1 0 ∷ get_or bs 2 0 ∷ get_or bs 3 0 ∷ [] ≡ bs
-four [] e = absurd (omega arith)
-four (a ∷ []) e = absurd (omega arith)
-four (a ∷ b ∷ []) e = absurd (omega arith)
-four (a ∷ b ∷ c ∷ []) e = absurd (omega arith)
-four (a ∷ b ∷ c ∷ d ∷ []) e = refl
-four (a ∷ b ∷ c ∷ d ∷ x ∷ xs) e = absurd (omega arith)
-
-four_more : (q : List ℕ) (a b c d : ℕ) → 4 ≤ length q → set (set (set (set q 0 a) 1 b) 2 c) 3 d ≡ a ∷ b ∷ c ∷ d ∷ drop 4 q
-four_more [] a b c d le = absurd (omega arith)
-four_more (w ∷ []) a b c d le = absurd (omega arith)
-four_more (w ∷ x ∷ []) a b c d le = absurd (omega arith)
-four_more (w ∷ x ∷ y ∷ []) a b c d le = absurd (omega arith)
-four_more (w ∷ x ∷ y ∷ z ∷ q) a b c d le = refl
-
-pub set_four : (xs : List ℕ) (n : ℕ) (bs : List ℕ) → n + 4 ≤ length xs → length bs ≡ 4 →
-    set (set (set (set xs n (get_or bs 0 0)) (n + 1) (get_or bs 1 0)) (n + 2) (get_or bs 2 0)) (n + 3) (get_or bs 3 0) ≡ take n xs ++ (bs ++ drop (n + 4) xs)
-set_four xs n bs le len =
-    let p = take n xs in
-    let q = drop n xs in
-    let a = get_or bs 0 0 in
-    let b = get_or bs 1 0 in
-    let c = get_or bs 2 0 in
-    let d = get_or bs 3 0 in
-    let e : length p ≡ n = omega (arith, length-take n xs) in
-    let start : n ≡ n + 0 = omega arith in
-    ap (λ (l : List ℕ). set (set (set (set l n a) (n + 1) b) (n + 2) c) (n + 3) d) (sym (take-append-drop n xs))
-    ∙ ap (λ (i : ℕ). set (set (set (set (p ++ q) i a) (n + 1) b) (n + 2) c) (n + 3) d) start
-    ∙ ap (λ (l : List ℕ). set (set (set l (n + 1) b) (n + 2) c) (n + 3) d) (set_in p q n 0 a e)
-    ∙ ap (λ (l : List ℕ). set (set l (n + 2) c) (n + 3) d) (set_in p (set q 0 a) n 1 b e)
-    ∙ ap (λ (l : List ℕ). set l (n + 3) d) (set_in p (set (set q 0 a) 1 b) n 2 c e)
-    ∙ set_in p (set (set (set q 0 a) 1 b) 2 c) n 3 d e
-    ∙ ap (λ (l : List ℕ). p ++ l) (four_more q a b c d (omega (arith, length-drop n xs)))
-    ∙ ap (λ (l : List ℕ). p ++ (a ∷ b ∷ c ∷ d ∷ l)) (drop-drop 4 n xs)
-    ∙ ap (λ (l : List ℕ). p ++ (l ++ drop (n + 4) xs)) (four bs len)
+-- what is written over, read up to a place further on
+pub taken_over : (o w : List ℕ) (at end : ℕ) → length w ≡ 4 → at + 4 ≤ end → end ≤ length o →
+    take end (take at o ++ (w ++ drop (at + 4) o)) ≡ take at (take end o) ++ (w ++ drop (at + 4) (take end o))
+taken_over o w at end four before within =
+    let x = take end o in
+    let z = drop end o in
+    let long : length x ≡ end = length-take-le end o within in
+    let front : take at x ≡ take at o = take-take at end o (omega arith) in
+    let suffix : drop (at + 4) o ≡ drop (at + 4) x ++ z = ap (drop (at + 4)) (sym (take-append-drop end o)) ∙ drop-append-le (at + 4) x z (omega arith) in
+    let all : take at o ++ (w ++ drop (at + 4) o) ≡ (take at x ++ (w ++ drop (at + 4) x)) ++ z = rw (suffix, ← front) (simp append_assoc) in
+    let fits : length (take at x ++ (w ++ drop (at + 4) x)) ≡ end = simp (length-append, length-take, length-drop) (omega arith) in
+    ap (take end) all ∙ take_at (take at x ++ (w ++ drop (at + 4) x)) z end fits
 
 -- b is what was there with the first padding, z has a number in the length's place, y the padding to the element's alignment, x the contents
 pub array_patched : (order : Order) (t : TypeTree) (xs : ValueTrees) (front b z y x : List ℕ) (at n m : ℕ) →
@@ -116,6 +88,30 @@ array_grows order t xs m front =
     let l3 = length_padding (alignment_of t) z in
     let l4 = length_values order xs y in
     (omega arith, omega arith)
+
+-- o1, o2 and o3 are the bytes once the length's place, the padding and the items are there
+module _ (order : Order) (t : TypeTree) (xs : ValueTrees) (front o1 o2 o3 : List ℕ) (counted start end : ℕ) (h1 : counted ≤ length o1) (h2 : start ≤ length o2) (h3 : end ≤ length o3)
+    (is_z : take counted o1 ≡ with_padding 4 front ++ num order 4 0) (is_y : take start o2 ≡ with_padding (alignment_of t) (take counted o1)) (is_x : take end o3 ≡ with_values order xs (take start o2)) where
+  pub array_places : (4 ≤ counted) × (counted ≤ start) × (start ≤ end) × (counted - 4 ≡ length (with_padding 4 front))
+  array_places =
+      let z = ap length is_z ∙ length-append (with_padding 4 front) (num order 4 0) in
+      let y = ap length is_y ∙ length_padding (alignment_of t) (take counted o1) in
+      let x = ap length is_x ∙ length_values order xs (take start o2) in
+      let l1 = length-take-le counted o1 h1 in
+      let l2 = length-take-le start o2 h2 in
+      let l3 = length-take-le end o3 h3 in
+      let w = length-num order 4 0 in
+      (omega arith, omega arith, omega arith, omega arith)
+
+  pub array_written : take end (take (counted - 4) o3 ++ (num order 4 (end - start) ++ drop (counted - 4 + 4) o3)) ≡ with_value order (ArrayValue t xs) front
+  array_written =
+      let places = array_places in
+      let l2 = length-take-le start o2 h2 in
+      let l3 = length-take-le end o3 h3 in
+      let before : counted - 4 + 4 ≤ end = omega (arith, places.0, places.1, places.2) in
+      let counts : end - start + length (take start o2) ≡ length (take end o3) = omega (arith, places.2) in
+      taken_over o3 (num order 4 (end - start)) (counted - 4) end (length-num order 4 (end - start)) before h3
+      ∙ array_patched order t xs front (with_padding 4 front) (take counted o1) (take start o2) (take end o3) (counted - 4) (end - start) 0 refl places.3 is_z is_y is_x counts
 
 pub alignment_positive : (t : TypeTree) → 0 < alignment_of t
 alignment_positive (NumberType BYTE) = omega arith

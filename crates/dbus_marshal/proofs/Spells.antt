@@ -3,7 +3,7 @@ use Rattle.std.proofs.Common.{◌≡◌, ℕ, ℤ, ◌+◌, ◌<◌, ◌≤◌, 
 use Rattle.std.specs.Prelude.{Bool, string_bytes}
 use Rattle.std.specs.Int.{cast_unsigned, w16, w32, w64}
 use Rattle.std.proofs.lemmas.List.{at_drop_more, at_drop_all, length-append}
-use Rattle.dbus_texts.specs.Types.{NumberType, BYTE, BOOLEAN, INT16, UINT16, INT32, UINT32, INT64, UINT64, DOUBLE, UNIX_FD, STRING, SIGNATURE, sig}
+use Rattle.dbus_texts.specs.Types.{NumberType, BYTE, UINT16, UINT32, UINT64, STRING, SIGNATURE, sig}
 use Rattle.dbus_types.specs.SigTypes.{type_tree}
 use Rattle.dbus_types.specs.declared.sig_type.SigType.{SigType}
 use Rattle.dbus_value_model.specs.declared.order.Order.{Order}
@@ -16,7 +16,7 @@ use Rattle.dbus_value_model.specs.declared.value.Value.{Value, Byte, Bool as Boo
 use Rattle.dbus_value_model.specs.declared.value.DictEntry.{DictEntry}
 use Rattle.dbus_value_model.proofs.ValueRows.{tree-Byte, tree-Bool, tree-I16, tree-U16, tree-I32, tree-U32, tree-I64, tree-U64, tree-Double, tree-Str, tree-Path, tree-Sig, tree-Fd, tree-Bytes, tree-Array, tree-Struct, tree-Entry, tree-Variant}
 use Rattle.dbus_value_model.proofs.Numbers.{length-num}
-use Rattle.dbus_marshal.proofs.Written.{written_number, written_path, written_variant, written_struct, written_entry, written_none, written_more, num_1, no_padding, no_gap}
+use Rattle.dbus_marshal.proofs.Written.{length_value, written_number, written_32, written_path, written_variant, written_struct, written_entry, written_none, written_more, num_1, no_padding, no_gap}
 
 abbrev writing : Order → List ℕ → ValueTree → List ℕ
 writing order front v = with_value order v front
@@ -26,32 +26,41 @@ writes-Byte A order n front h =
     ap (writing order front) (tree-Byte A n) ∙ written_number order BYTE n front ∙ ap (λ (l : List ℕ). l ++ num order 1 n) (no_padding front)
     ∙ ap (λ (l : List ℕ). front ++ l) (num_1 order n h)
 
-pub writes-Bool : (A : Type 0) (order : Order) (b : Bool) (front : List ℕ) → with_value order (value_tree {A = A} (BoolOf b)) front ≡ with_padding 4 front ++ num order 4 (cond b 1 0)
-writes-Bool A order b front = ap (writing order front) (tree-Bool A b) ∙ written_number order BOOLEAN (cond b 1 0) front
+pub writes-Bool : (A : Type 0) (order : Order) (b : Bool) (front : List ℕ) → with_value order (value_tree {A = A} (BoolOf b)) front ≡ with_value order (NumberValue UINT32 (cond b 1 0)) front
+unfolding with_value spelling
+writes-Bool A order b front = ap (writing order front) (tree-Bool A b)
 
-pub writes-I16 : (A : Type 0) (order : Order) (z : ℤ) (front : List ℕ) → with_value order (value_tree {A = A} (I16 z)) front ≡ with_padding 2 front ++ num order 2 (cast_unsigned w16 z)
-writes-I16 A order z front = ap (writing order front) (tree-I16 A z) ∙ written_number order INT16 (cast_unsigned w16 z) front
+pub writes-I16 : (A : Type 0) (order : Order) (z : ℤ) (front : List ℕ) → with_value order (value_tree {A = A} (I16 z)) front ≡ with_value order (NumberValue UINT16 (cast_unsigned w16 z)) front
+unfolding with_value spelling
+writes-I16 A order z front = ap (writing order front) (tree-I16 A z)
 
-pub writes-U16 : (A : Type 0) (order : Order) (n : ℕ) (front : List ℕ) → with_value order (value_tree {A = A} (U16 n)) front ≡ with_padding 2 front ++ num order 2 n
-writes-U16 A order n front = ap (writing order front) (tree-U16 A n) ∙ written_number order UINT16 n front
+pub writes-U16 : (A : Type 0) (order : Order) (n : ℕ) (front : List ℕ) → with_value order (value_tree {A = A} (U16 n)) front ≡ with_value order (NumberValue UINT16 n) front
+unfolding with_value spelling
+writes-U16 A order n front = ap (writing order front) (tree-U16 A n)
 
-pub writes-I32 : (A : Type 0) (order : Order) (z : ℤ) (front : List ℕ) → with_value order (value_tree {A = A} (I32 z)) front ≡ with_padding 4 front ++ num order 4 (cast_unsigned w32 z)
-writes-I32 A order z front = ap (writing order front) (tree-I32 A z) ∙ written_number order INT32 (cast_unsigned w32 z) front
+pub writes-I32 : (A : Type 0) (order : Order) (z : ℤ) (front : List ℕ) → with_value order (value_tree {A = A} (I32 z)) front ≡ with_value order (NumberValue UINT32 (cast_unsigned w32 z)) front
+unfolding with_value spelling
+writes-I32 A order z front = ap (writing order front) (tree-I32 A z)
 
-pub writes-U32 : (A : Type 0) (order : Order) (n : ℕ) (front : List ℕ) → with_value order (value_tree {A = A} (U32 n)) front ≡ with_padding 4 front ++ num order 4 n
-writes-U32 A order n front = ap (writing order front) (tree-U32 A n) ∙ written_number order UINT32 n front
+pub writes-U32 : (A : Type 0) (order : Order) (n : ℕ) (front : List ℕ) → with_value order (value_tree {A = A} (U32 n)) front ≡ with_value order (NumberValue UINT32 n) front
+unfolding with_value spelling
+writes-U32 A order n front = ap (writing order front) (tree-U32 A n)
 
-pub writes-I64 : (A : Type 0) (order : Order) (z : ℤ) (front : List ℕ) → with_value order (value_tree {A = A} (I64 z)) front ≡ with_padding 8 front ++ num order 8 (cast_unsigned w64 z)
-writes-I64 A order z front = ap (writing order front) (tree-I64 A z) ∙ written_number order INT64 (cast_unsigned w64 z) front
+pub writes-I64 : (A : Type 0) (order : Order) (z : ℤ) (front : List ℕ) → with_value order (value_tree {A = A} (I64 z)) front ≡ with_value order (NumberValue UINT64 (cast_unsigned w64 z)) front
+unfolding with_value spelling
+writes-I64 A order z front = ap (writing order front) (tree-I64 A z)
 
-pub writes-U64 : (A : Type 0) (order : Order) (n : ℕ) (front : List ℕ) → with_value order (value_tree {A = A} (U64 n)) front ≡ with_padding 8 front ++ num order 8 n
-writes-U64 A order n front = ap (writing order front) (tree-U64 A n) ∙ written_number order UINT64 n front
+pub writes-U64 : (A : Type 0) (order : Order) (n : ℕ) (front : List ℕ) → with_value order (value_tree {A = A} (U64 n)) front ≡ with_value order (NumberValue UINT64 n) front
+unfolding with_value spelling
+writes-U64 A order n front = ap (writing order front) (tree-U64 A n)
 
-pub writes-Double : (A : Type 0) (order : Order) (n : ℕ) (front : List ℕ) → with_value order (value_tree {A = A} (Double n)) front ≡ with_padding 8 front ++ num order 8 n
-writes-Double A order n front = ap (writing order front) (tree-Double A n) ∙ written_number order DOUBLE n front
+pub writes-Double : (A : Type 0) (order : Order) (n : ℕ) (front : List ℕ) → with_value order (value_tree {A = A} (Double n)) front ≡ with_value order (NumberValue UINT64 n) front
+unfolding with_value spelling
+writes-Double A order n front = ap (writing order front) (tree-Double A n)
 
-pub writes-Fd : (A : Type 0) (order : Order) (n : ℕ) (front : List ℕ) → with_value order (value_tree {A = A} (Fd n)) front ≡ with_padding 4 front ++ num order 4 n
-writes-Fd A order n front = ap (writing order front) (tree-Fd A n) ∙ written_number order UNIX_FD n front
+pub writes-Fd : (A : Type 0) (order : Order) (n : ℕ) (front : List ℕ) → with_value order (value_tree {A = A} (Fd n)) front ≡ with_value order (NumberValue UINT32 n) front
+unfolding with_value spelling
+writes-Fd A order n front = ap (writing order front) (tree-Fd A n)
 
 pub writes-Str : {A : Type 0} (order : Order) (s : String A) (front : List ℕ) → with_value order (value_tree {A = A} (Str s)) front ≡ with_value order (TextValue STRING (string_bytes s)) front
 writes-Str order s front = ap (writing order front) (tree-Str s)
@@ -127,7 +136,14 @@ length_bytes order bs front h =
 pub byte_fits : (front all : List ℕ) (n cap : ℕ) → all ≡ front ++ n ∷ [] → length all ≤ cap → length front + 1 ≤ cap
 byte_fits front all n cap e h = let l = ap length e ∙ length-append front (n ∷ []) in omega arith
 
-pub number_fits : (order : Order) (w n : ℕ) (front all : List ℕ) (cap : ℕ) → all ≡ with_padding w front ++ num order w n → length all ≤ cap → length (with_padding w front) + w ≤ cap
-number_fits order w n front all cap e h = let l = ap length e ∙ length-append (with_padding w front) (num order w n) in omega (arith, length-num order w n)
+pub counted_long : (order : Order) (n : ℕ) (front : List ℕ) → length (with_value order (NumberValue UINT32 n) front) ≡ length (with_padding 4 front) + 4
+counted_long order n front = ap length (written_32 order n front) ∙ length-append (with_padding 4 front) (num order 4 n) ∙ ap (λ (k : ℕ). length (with_padding 4 front) + k) (length-num order 4 n)
+
+pub variant_fits : (order : Order) (x : ValueTree) (front : List ℕ) (cap : ℕ) → length (with_value order x (((front ++ num order 1 (length (sig (type_of x)))) ++ sig (type_of x)) ++ 0 ∷ [])) ≤ cap → length front + length (sig (type_of x)) + 2 ≤ cap
+variant_fits order x front cap h =
+    let ty = sig (type_of x) in
+    let whole = length_value order x (((front ++ num order 1 (length ty)) ++ ty) ++ 0 ∷ []) in
+    let before : length (((front ++ num order 1 (length ty)) ++ ty) ++ 0 ∷ []) ≡ length front + length ty + 2 = simp (length-append, length-num) (omega arith) in
+    omega arith
 
 pub ruleset spells = (writes-Byte, writes-Bool, writes-I16, writes-U16, writes-I32, writes-U32, writes-I64, writes-U64, writes-Double, writes-Fd, writes-Str, writes-Path, writes-Sig, writes-Bytes, writes-Array, writes-Struct, writes-Entry, writes-Variant)

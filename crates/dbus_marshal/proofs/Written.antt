@@ -1,7 +1,7 @@
 -- What is written one after the other.
-use Rattle.std.proofs.Common.{◌≡◌, ℕ, zero, suc, ◌+◌, ◌-◌, ◌%◌, ◌≤◌, ◌<◌, List, [], ◌∷◌, ◌++◌, length, replicate, refl, sym, ap, ◌∙◌, arith, append_assoc}
-use Rattle.std.proofs.lemmas.List.{length-append, append-nil, length-replicate}
-use Rattle.dbus_texts.specs.Types.{NumberCode, TextCode, STRING, OBJECT_PATH, sig}
+use Rattle.std.proofs.Common.{◌≡◌, ℕ, zero, suc, ◌+◌, ◌-◌, ◌%◌, ◌≤◌, ◌<◌, List, [], ◌∷◌, ◌++◌, length, replicate, take, refl, sym, ap, ◌∙◌, arith, append_assoc}
+use Rattle.std.proofs.lemmas.List.{length-append, length-take-le, take_at, take_all, append-nil, length-replicate}
+use Rattle.dbus_texts.specs.Types.{NumberCode, TextCode, UINT16, UINT32, UINT64, STRING, OBJECT_PATH, sig}
 use Rattle.dbus_types.specs.Alignments.{width, length_width}
 use Rattle.dbus_value_model.specs.declared.order.Order.{Order}
 use Rattle.dbus_value_model.specs.declared.order.Order.TheVariants.{Little, Big}
@@ -38,6 +38,15 @@ padding_is a front = refl
 pub written_number : (order : Order) (k : NumberCode) (n : ℕ) (front : List ℕ) → with_value order (NumberValue k n) front ≡ with_padding (width k) front ++ num order (width k) n
 unfolding with_value with_padding spelling
 written_number order k n front = sym (append_assoc front (pad (width k) (length front)) (num order (width k) n))
+
+pub written_16 : (order : Order) (n : ℕ) (front : List ℕ) → with_value order (NumberValue UINT16 n) front ≡ with_padding 2 front ++ num order 2 n
+written_16 order n front = written_number order UINT16 n front
+
+pub written_32 : (order : Order) (n : ℕ) (front : List ℕ) → with_value order (NumberValue UINT32 n) front ≡ with_padding 4 front ++ num order 4 n
+written_32 order n front = written_number order UINT32 n front
+
+pub written_64 : (order : Order) (n : ℕ) (front : List ℕ) → with_value order (NumberValue UINT64 n) front ≡ with_padding 8 front ++ num order 8 n
+written_64 order n front = written_number order UINT64 n front
 
 ended : (order : Order) (w : ℕ) (t front : List ℕ) → front ++ ended_text order w t ≡ ((front ++ num order w (length t)) ++ t) ++ 0 ∷ []
 ended order w t front = sym (append_assoc (front ++ num order w (length t)) t (0 ∷ []) ∙ append_assoc front (num order w (length t)) (t ++ 0 ∷ []))
@@ -108,6 +117,12 @@ written_more order x xs front =
     let s = spelling order (length front) x in
     sym (append_assoc front s (spellings order (length front + length s) xs)) ∙ ap (λ (n : ℕ). (front ++ s) ++ spellings order n xs) (sym (length-append front s))
 
+-- bytes that are written to their end are what was written
+pub written_whole : (out rest x : List ℕ) (end : ℕ) → end ≤ length out → take end out ≡ x → length x ≡ length out → take (length out) (out ++ rest) ≡ x
+written_whole out rest x end within written long =
+    let ends : length out ≤ end = omega (arith, ap length written, length-take-le end out within) in
+    take_at out rest (length out) refl ∙ sym (take_all end out ends) ∙ written
+
 -- the length of a signature
 pub num_1 : (order : Order) (n : ℕ) → n < 256 → num order 1 n ≡ n ∷ []
 unfolding num low_first
@@ -122,6 +137,8 @@ pub no_padding : (front : List ℕ) → with_padding 1 front ≡ front
 unfolding with_padding
 no_padding front = ap (λ (n : ℕ). front ++ replicate n 0) (no_gap (length front)) ∙ append-nil front
 
-pub ruleset lengths = (length-append, length-num, length_padding, length_value, length_values)
+pub ruleset lengths = (length-append, length-take-le, length-num, length_padding, length_value, length_values)
 
-pub ruleset texts = (lengths, written_text, num_1, no_padding)
+pub ruleset numbers = (lengths, written_16, written_32, written_64)
+
+pub ruleset texts = (numbers, written_text, num_1, no_padding)

@@ -9,7 +9,7 @@ pub mod size_laws;
 mod sizes;
 pub mod writing;
 
-pub use marshalling::{put, put_within, write_value};
+pub use marshalling::{put, put_within, write_value, write_values};
 pub use measures::{measure, measure_all, measure_header_field};
 pub use signatures::{signature_length, write_type_of, write_variant_signature};
 pub use sizes::{size_after, size_after_within};

@@ -1,7 +1,7 @@
 //! Writing a value. D-Bus Specification, "Marshaling (Wire Format)".
 #![tactic(auto, using(crate::proofs::Written::lengths, crate::proofs::Spells::spells))]
 
-ghost use Rattle.std.specs.Prelude.{◌≡◌, ◌<◌, ◌≤◌, ◌^◌, ◌++◌, length, vec_capacity, None, OnOk, OnErr, IsOkUnless, MatchResult, if◌then◌else◌};
+ghost use Rattle.std.specs.Prelude.{◌≡◌, ◌<◌, ◌≤◌, ◌^◌, ◌++◌, length, take, vec_capacity, None, OnOk, OnErr, IsOkUnless, MatchResult, if◌then◌else◌};
 ghost use Rattle.dbus_types.specs.SigTypes.{type_tree};
 ghost use Rattle.dbus_texts.specs.Types.{NumberType, BYTE};
 ghost use Rattle.dbus_value_model.specs.declared.limits.TheConstants.{MESSAGE_LIMIT};
@@ -71,51 +71,53 @@ pub fn put_within<A: Allocator>(
 {
     let start = out.len();
     let end = size_after_within(value, start as u64, limits)?;
-    out.reserve(end as usize - start)?;
-    write_value(out, order, value);
+    out.resize(end as usize, 0)?;
+    write_value(out.as_mut_slice(), start, order, value);
     Ok(())
 }
 
-/// Appends a value's spelling to a vector that has room for it, so that it takes no memory and cannot fail.
+/// Writes a value's spelling at a place of bytes that have room for it, and gives the place where it ends.
 ///
-/// The bytes then end below 4,294,967,296, as they do within a message's limit.
+/// The bytes begin at the message's first one, and are fewer than 4,294,967,296, as they are within a message's limit.
 #[cycle(write)]
-pub fn write_value<A: Allocator>(out: &mut Vec<u8, A>, order: Order, value: &Value<A>)
-    requires space { length (with_value order (value_tree value.now) out.old.items) ≤
-        vec_capacity out.old }
-    requires fits { length (with_value order (value_tree value.now) out.old.items) < 2 ^ 32 }
+pub fn write_value<A: Allocator>(out: &mut [u8], at: usize, order: Order, value: &Value<A>) -> usize
+    requires start { at ≤ length out.old }
+    requires space { length (with_value order (value_tree value.now) (take at out.old)) ≤
+        length out.old }
+    requires fits { length out.old < 2 ^ 32 }
     requires signed { HasShortSignatures (value_tree value.now) }
-    ensures written { out.new.items ≡ with_value order (value_tree value.now) out.old.items }
-    ensures room { vec_capacity out.old ≤ vec_capacity out.new }
+    ensures written { take result out.new ≡
+        with_value order (value_tree value.now) (take at out.old) }
+    ensures within { result ≤ length out.new }
 {
     match value {
-        Value::Byte(n) => write_byte(out, *n),
-        Value::Bool(b) => write_number_32(out, order, bit(*b)),
-        Value::I16(n) => write_number_16(out, order, n.cast_unsigned()),
-        Value::U16(n) => write_number_16(out, order, *n),
-        Value::I32(n) => write_number_32(out, order, n.cast_unsigned()),
-        Value::U32(n) => write_number_32(out, order, *n),
-        Value::I64(n) => write_number_64(out, order, n.cast_unsigned()),
-        Value::U64(n) => write_number_64(out, order, *n),
-        Value::Double(bits) => write_number_64(out, order, *bits),
-        Value::Str(text) => write_text(out, order, text.as_bytes()),
-        Value::Path(text) => write_text(out, order, text.as_bytes()),
-        Value::Sig(text) => write_signature(out, text.as_bytes()),
-        Value::Fd(index) => write_number_32(out, order, *index),
-        Value::Bytes(bytes) => write_byte_array(out, order, bytes),
-        Value::Array(element, items) => write_array(out, order, items, element),
+        Value::Byte(n) => write_byte(out, at, *n),
+        Value::Bool(b) => write_number_32(out, at, order, bit(*b)),
+        Value::I16(n) => write_number_16(out, at, order, n.cast_unsigned()),
+        Value::U16(n) => write_number_16(out, at, order, *n),
+        Value::I32(n) => write_number_32(out, at, order, n.cast_unsigned()),
+        Value::U32(n) => write_number_32(out, at, order, *n),
+        Value::I64(n) => write_number_64(out, at, order, n.cast_unsigned()),
+        Value::U64(n) => write_number_64(out, at, order, *n),
+        Value::Double(bits) => write_number_64(out, at, order, *bits),
+        Value::Str(text) => write_text(out, at, order, text.as_bytes()),
+        Value::Path(text) => write_text(out, at, order, text.as_bytes()),
+        Value::Sig(text) => write_signature(out, at, text.as_bytes()),
+        Value::Fd(index) => write_number_32(out, at, order, *index),
+        Value::Bytes(bytes) => write_byte_array(out, at, order, bytes),
+        Value::Array(element, items) => write_array(out, at, order, items, element),
         Value::Struct(fields) => {
-            write_padding(out, 8);
-            write_values(out, order, fields);
+            let place = write_padding(out, at, 8);
+            write_values(out, place, order, fields)
         }
         Value::Entry(entry) => {
-            write_padding(out, 8);
-            write_value(out, order, &entry.key);
-            write_value(out, order, &entry.value);
+            let place = write_padding(out, at, 8);
+            let place = write_value(out, place, order, &entry.key);
+            write_value(out, place, order, &entry.value)
         }
         Value::Variant(inner) => {
-            write_variant_signature(out, inner);
-            write_value(out, order, inner);
+            let place = write_variant_signature(out, at, inner);
+            write_value(out, place, order, inner)
         }
     }
 }
@@ -127,62 +129,69 @@ fn bit(b: bool) -> u32
     if b { 1 } else { 0 }
 }
 
-/// Appends values one after the other.
+/// Writes values one after the other.
 #[cycle(write)]
-fn write_values<A: Allocator>(out: &mut Vec<u8, A>, order: Order, values: &[Value<A>])
-    requires space { length (with_values order (value_trees_of values.now) out.old.items) ≤
-        vec_capacity out.old }
-    requires fits { length (with_values order (value_trees_of values.now) out.old.items) < 2 ^ 32 }
+pub fn write_values<A: Allocator>(
+    out: &mut [u8],
+    at: usize,
+    order: Order,
+    values: &[Value<A>],
+) -> usize
+    requires start { at ≤ length out.old }
+    requires space { length (with_values order (value_trees_of values.now) (take at out.old)) ≤
+        length out.old }
+    requires fits { length out.old < 2 ^ 32 }
     requires signed { HaveShortSignatures (value_trees_of values.now) }
-    ensures written { out.new.items ≡ with_values order (value_trees_of values.now) out.old.items }
-    ensures room { vec_capacity out.old ≤ vec_capacity out.new }
+    ensures written { take result out.new ≡
+        with_values order (value_trees_of values.now) (take at out.old) }
+    ensures within { result ≤ length out.new }
 {
+    let mut place = at;
     for value in values {
-        write_value(out, order, value);
+        place = write_value(out, place, order, value);
     }
+    place
 }
 
-/// Appends an array, whose length is known once its items are written.
+/// Writes an array, whose length is known once its items are written.
 #[cycle(write)]
 fn write_array<A: Allocator>(
-    out: &mut Vec<u8, A>,
+    out: &mut [u8],
+    at: usize,
     order: Order,
     items: &[Value<A>],
     element: &SigType<A>,
-)
+) -> usize
+    requires start { at ≤ length out.old }
     requires space { length (with_value order
-        (ArrayValue (type_tree element.now) (value_trees_of items.now)) out.old.items) ≤
-        vec_capacity out.old }
-    requires fits { length (with_value order
-        (ArrayValue (type_tree element.now) (value_trees_of items.now)) out.old.items) <
-        2 ^ 32 }
+        (ArrayValue (type_tree element.now) (value_trees_of items.now)) (take at out.old)) ≤
+        length out.old }
+    requires fits { length out.old < 2 ^ 32 }
     requires signed { HaveShortSignatures (value_trees_of items.now) }
-    ensures written { out.new.items ≡
+    ensures written { take result out.new ≡
         with_value order (ArrayValue (type_tree element.now) (value_trees_of items.now))
-        out.old.items }
-    ensures room { vec_capacity out.old ≤ vec_capacity out.new }
+        (take at out.old) }
+    ensures within { result ≤ length out.new }
 {
-    write_number_32(out, order, 0);
-    let at = out.len() - 4;
-    write_padding(out, alignment(element));
-    let start = out.len();
-    write_values(out, order, items);
-    let len = (out.len() - start) as u32;
-    overwrite_32(out, at, order, len);
+    let counted = write_number_32(out, at, order, 0);
+    let start = write_padding(out, counted, alignment(element));
+    let end = write_values(out, start, order, items);
+    overwrite_32(out, counted - 4, order, (end - start) as u32);
+    end
 }
 
-/// Appends an array of bytes.
-fn write_byte_array<A: Allocator>(out: &mut Vec<u8, A>, order: Order, bytes: &[u8])
+/// Writes an array of bytes.
+fn write_byte_array(out: &mut [u8], at: usize, order: Order, bytes: &[u8]) -> usize
+    requires start { at ≤ length out.old }
     requires space { length
-        (with_value order (ArrayValue (NumberType BYTE) (byte_values bytes.now)) out.old.items) ≤
-        vec_capacity out.old }
-    requires fits { length
-        (with_value order (ArrayValue (NumberType BYTE) (byte_values bytes.now)) out.old.items) <
-        2 ^ 32 }
-    ensures written { out.new.items ≡
-        with_value order (ArrayValue (NumberType BYTE) (byte_values bytes.now)) out.old.items }
-    ensures room { vec_capacity out.old ≤ vec_capacity out.new }
+        (with_value order (ArrayValue (NumberType BYTE) (byte_values bytes.now))
+        (take at out.old)) ≤
+        length out.old }
+    requires fits { length out.old < 2 ^ 32 }
+    ensures written { take result out.new ≡
+        with_value order (ArrayValue (NumberType BYTE) (byte_values bytes.now)) (take at out.old) }
+    ensures within { result ≤ length out.new }
 {
-    write_number_32(out, order, bytes.len() as u32);
-    write_bytes(out, bytes);
+    let place = write_number_32(out, at, order, bytes.len() as u32);
+    write_bytes(out, place, bytes)
 }

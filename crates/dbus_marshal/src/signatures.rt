@@ -1,7 +1,7 @@
 //! The signature of a type, and of a value's type: its length, and its bytes.
 #![tactic(auto)]
 
-ghost use Rattle.std.specs.Prelude.{◌≡◌, ◌<◌, ◌+◌, ◌≤◌, ◌++◌, ◌∷◌, [], length, vec_capacity};
+ghost use Rattle.std.specs.Prelude.{◌≡◌, ◌<◌, ◌+◌, ◌≤◌, ◌++◌, ◌∷◌, [], length, take};
 ghost use Rattle.dbus_texts.specs.Types.{sig, sigs};
 ghost use Rattle.dbus_types.specs.SigTypes.{type_tree, type_trees_of};
 ghost use Rattle.dbus_value_model.specs.declared.order.Order.{Order};
@@ -71,108 +71,109 @@ fn signatures_length<A: Allocator>(values: &[Value<A>]) -> usize
     len
 }
 
-/// Appends a type's signature.
+/// Writes a type's signature.
 #[cycle(write_type)]
-#[tactic(auto, using(crate::proofs::Written::lengths))]
-pub fn write_type<A: Allocator>(out: &mut Vec<u8, A>, ty: &SigType<A>)
-    requires space { length out.old.items + length (sig (type_tree ty.now)) ≤ vec_capacity out.old }
-    ensures written { out.new.items ≡ out.old.items ++ sig (type_tree ty.now) }
-    ensures room { vec_capacity out.old ≤ vec_capacity out.new }
+#[tactic(auto, using(dbus_value_model::proofs::TypeRows::type_lengths))]
+pub fn write_type<A: Allocator>(out: &mut [u8], at: usize, ty: &SigType<A>) -> usize
+    requires space { at + length (sig (type_tree ty.now)) ≤ length out.old }
+    ensures written { take result out.new ≡ take at out.old ++ sig (type_tree ty.now) }
+    ensures ends { result ≡ at + length (sig (type_tree ty.now)) }
 {
     match ty {
         SigType::Array(element) => {
-            write_byte(out, b'a');
-            write_type(out, element);
+            let place = write_byte(out, at, b'a');
+            write_type(out, place, element)
         }
         SigType::Struct(fields) => {
-            write_byte(out, b'(');
-            write_types(out, fields);
-            write_byte(out, b')');
+            let place = write_byte(out, at, b'(');
+            let place = write_types(out, place, fields);
+            write_byte(out, place, b')')
         }
         SigType::Entry(key, value) => {
-            write_byte(out, b'{');
-            write_type(out, key);
-            write_type(out, value);
-            write_byte(out, b'}');
+            let place = write_byte(out, at, b'{');
+            let place = write_type(out, place, key);
+            let place = write_type(out, place, value);
+            write_byte(out, place, b'}')
         }
-        _ => write_byte(out, type_code(ty)),
+        _ => write_byte(out, at, type_code(ty)),
     }
 }
 
 #[cycle(write_type)]
-#[tactic(auto, using(crate::proofs::Written::lengths))]
-fn write_types<A: Allocator>(out: &mut Vec<u8, A>, types: &[SigType<A>])
-    requires space { length out.old.items + length (sigs (type_trees_of types.now)) ≤
-        vec_capacity out.old }
-    ensures written { out.new.items ≡ out.old.items ++ sigs (type_trees_of types.now) }
-    ensures room { vec_capacity out.old ≤ vec_capacity out.new }
+#[tactic(auto, using(dbus_value_model::proofs::TypeRows::type_lengths))]
+fn write_types<A: Allocator>(out: &mut [u8], at: usize, types: &[SigType<A>]) -> usize
+    requires space { at + length (sigs (type_trees_of types.now)) ≤ length out.old }
+    ensures written { take result out.new ≡ take at out.old ++ sigs (type_trees_of types.now) }
+    ensures ends { result ≡ at + length (sigs (type_trees_of types.now)) }
 {
+    let mut place = at;
     for ty in types {
-        write_type(out, ty);
+        place = write_type(out, place, ty);
     }
+    place
 }
 
-/// Appends the signature of a value's type.
+/// Writes the signature of a value's type.
 #[cycle(write_type_of)]
-#[tactic(auto, using(crate::proofs::Written::lengths))]
-pub fn write_type_of<A: Allocator>(out: &mut Vec<u8, A>, value: &Value<A>)
-    requires space { length out.old.items + length (sig (type_of (value_tree value.now))) ≤
-        vec_capacity out.old }
-    ensures written { out.new.items ≡ out.old.items ++ sig (type_of (value_tree value.now)) }
-    ensures room { vec_capacity out.old ≤ vec_capacity out.new }
+#[tactic(auto, using(dbus_value_model::proofs::TypeRows::value_lengths))]
+pub fn write_type_of<A: Allocator>(out: &mut [u8], at: usize, value: &Value<A>) -> usize
+    requires space { at + length (sig (type_of (value_tree value.now))) ≤ length out.old }
+    ensures written { take result out.new ≡ take at out.old ++ sig (type_of (value_tree value.now)) }
+    ensures ends { result ≡ at + length (sig (type_of (value_tree value.now))) }
 {
     match value {
-        Value::Bytes(_) => write_bytes(out, b"ay"),
+        Value::Bytes(_) => write_bytes(out, at, b"ay"),
         Value::Array(element, _) => {
-            write_byte(out, b'a');
-            write_type(out, element);
+            let place = write_byte(out, at, b'a');
+            write_type(out, place, element)
         }
         Value::Struct(fields) => {
-            write_byte(out, b'(');
-            write_types_of(out, fields);
-            write_byte(out, b')');
+            let place = write_byte(out, at, b'(');
+            let place = write_types_of(out, place, fields);
+            write_byte(out, place, b')')
         }
         Value::Entry(entry) => {
-            write_byte(out, b'{');
-            write_type_of(out, &entry.key);
-            write_type_of(out, &entry.value);
-            write_byte(out, b'}');
+            let place = write_byte(out, at, b'{');
+            let place = write_type_of(out, place, &entry.key);
+            let place = write_type_of(out, place, &entry.value);
+            write_byte(out, place, b'}')
         }
         _ => match plain_type_of(value) {
-            Some(ty) => write_byte(out, type_code(&ty)),
+            Some(ty) => write_byte(out, at, type_code(&ty)),
             None => unreachable!(),
         },
     }
 }
 
 #[cycle(write_type_of)]
-#[tactic(auto, using(crate::proofs::Written::lengths))]
-fn write_types_of<A: Allocator>(out: &mut Vec<u8, A>, values: &[Value<A>])
-    requires space { length out.old.items + length (sigs (types_of (value_trees_of values.now))) ≤
-        vec_capacity out.old }
-    ensures written { out.new.items ≡ out.old.items ++ sigs (types_of (value_trees_of values.now)) }
-    ensures room { vec_capacity out.old ≤ vec_capacity out.new }
+#[tactic(auto, using(dbus_value_model::proofs::TypeRows::value_lengths))]
+fn write_types_of<A: Allocator>(out: &mut [u8], at: usize, values: &[Value<A>]) -> usize
+    requires space { at + length (sigs (types_of (value_trees_of values.now))) ≤ length out.old }
+    ensures written { take result out.new ≡
+        take at out.old ++ sigs (types_of (value_trees_of values.now)) }
+    ensures ends { result ≡ at + length (sigs (types_of (value_trees_of values.now))) }
 {
+    let mut place = at;
     for value in values {
-        write_type_of(out, value);
+        place = write_type_of(out, place, value);
     }
+    place
 }
 
-/// Appends the signature of a value's type as a variant has it: its length in one byte, itself and a zero byte. It is the
+/// Writes the signature of a value's type as a variant has it: its length in one byte, itself and a zero byte. It is the
 /// same in either byte order.
 #[tactic(auto, using(crate::proofs::Written::texts))]
-pub fn write_variant_signature<A: Allocator>(out: &mut Vec<u8, A>, value: &Value<A>)
-    requires space { length out.old.items + length (sig (type_of (value_tree value.now))) + 2 ≤
-        vec_capacity out.old }
+pub fn write_variant_signature<A: Allocator>(out: &mut [u8], at: usize, value: &Value<A>) -> usize
+    requires space { at + length (sig (type_of (value_tree value.now))) + 2 ≤ length out.old }
     requires fits { length (sig (type_of (value_tree value.now))) < 256 }
     ensures written { (order : Order) →
-        out.new.items ≡
-        ((out.old.items ++ num order 1 (length (sig (type_of (value_tree value.now))))) ++
+        take result out.new ≡
+        ((take at out.old ++ num order 1 (length (sig (type_of (value_tree value.now))))) ++
         sig (type_of (value_tree value.now))) ++
         0 ∷ [] }
-    ensures room { vec_capacity out.old ≤ vec_capacity out.new }
+    ensures ends { result ≡ at + length (sig (type_of (value_tree value.now))) + 2 }
 {
-    write_byte(out, signature_length(value) as u8);
-    write_type_of(out, value);
-    write_byte(out, 0);
+    let start = write_byte(out, at, signature_length(value) as u8);
+    let end = write_type_of(out, start, value);
+    write_byte(out, end, 0)
 }

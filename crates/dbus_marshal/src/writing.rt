@@ -1,168 +1,189 @@
-//! Numbers, padding and texts at the end of a vector that has room for them.
+//! Numbers, padding and texts stored from a place on, in bytes that have room for them.
 //!
-//! Each asks that its bytes fit into the vector's capacity, so no memory is taken and none can fail. The vector begins
-//! at the message's first byte. D-Bus Specification, "Marshaling (Wire Format)".
+//! The bytes begin at the message's first one. Each function takes the place where what it writes begins, and gives the
+//! place where that ends; what stands before the place stays. D-Bus Specification, "Marshaling (Wire Format)".
 #![tactic(auto, using(crate::proofs::Written::lengths))]
 
-ghost use Rattle.std.specs.Prelude.{◌≡◌, ◌+◌, ◌<◌, ◌≤◌, ◌^◌, ◌∷◌, [], ◌++◌, length, vec_capacity, take, drop};
-ghost use Rattle.dbus_texts.specs.Types.{STRING, SIGNATURE};
+ghost use Rattle.std.specs.Prelude.{◌≡◌, ◌+◌, ◌<◌, ◌≤◌, ◌^◌, ◌∷◌, [], ◌++◌, length, take, drop};
+ghost use Rattle.dbus_texts.specs.Types.{STRING, SIGNATURE, UINT16, UINT32, UINT64};
 ghost use Rattle.dbus_value_model.specs.Appending.{with_padding, with_value};
 ghost use Rattle.dbus_value_model.specs.Bytes.{num};
-ghost use Rattle.dbus_value_model.specs.Values.{TextValue};
+ghost use Rattle.dbus_value_model.specs.Values.{NumberValue, TextValue};
 
-use dbus_value_model::{Order, padding_length};
-use std::alloc::Allocator;
+use dbus_value_model::{Order, gap};
 
-/// Appends these bytes.
-pub(crate) fn write_bytes<A: Allocator>(out: &mut Vec<u8, A>, bytes: &[u8])
-    requires space { length out.old.items + length bytes.now ≤ vec_capacity out.old }
-    ensures written { out.new.items ≡ out.old.items ++ bytes.now }
-    ensures room { vec_capacity out.old ≤ vec_capacity out.new }
+/// Puts these bytes over those that stand at `at`.
+#[inline]
+fn overwrite(out: &mut [u8], at: usize, bytes: &[u8])
+    requires { at + length bytes.now ≤ length out.old }
+    ensures { out.new ≡
+        take at out.old ++ (bytes.now ++ drop (at + length bytes.now) out.old) }
 {
-    out.extend_from_slice(bytes).unwrap();
+    out[at..at + bytes.len()].copy_from_slice(bytes);
 }
 
-/// Appends one byte.
-pub fn write_byte<A: Allocator>(out: &mut Vec<u8, A>, byte: u8)
-    requires space { length out.old.items + 1 ≤ vec_capacity out.old }
-    ensures written { out.new.items ≡ out.old.items ++ byte ∷ [] }
-    ensures room { vec_capacity out.old ≤ vec_capacity out.new }
+/// Writes these bytes.
+#[inline]
+pub(crate) fn write_bytes(out: &mut [u8], at: usize, bytes: &[u8]) -> usize
+    requires space { at + length bytes.now ≤ length out.old }
+    ensures written { take result out.new ≡ take at out.old ++ bytes.now }
+    ensures ends { result ≡ at + length bytes.now }
 {
-    out.push(byte).unwrap();
+    overwrite(out, at, bytes);
+    at + bytes.len()
 }
 
-/// Appends zeros up to the next multiple of `alignment`.
+/// Writes one byte.
+#[inline]
+pub fn write_byte(out: &mut [u8], at: usize, byte: u8) -> usize
+    requires space { at + 1 ≤ length out.old }
+    ensures written { take result out.new ≡ take at out.old ++ byte ∷ [] }
+    ensures ends { result ≡ at + 1 }
+{
+    out[at] = byte;
+    at + 1
+}
+
+/// Writes zeros up to the next multiple of `alignment`.
+#[inline]
 #[tactic(auto, using(crate::proofs::Written::lengths), unfolding(dbus_value_model::specs::Appending::with_padding))]
-pub fn write_padding<A: Allocator>(out: &mut Vec<u8, A>, alignment: u8)
+pub fn write_padding(out: &mut [u8], at: usize, alignment: u8) -> usize
     requires positive { 0 < alignment }
-    requires space { length (with_padding alignment out.old.items) ≤ vec_capacity out.old }
-    ensures written { out.new.items ≡ with_padding alignment out.old.items }
-    ensures room { vec_capacity out.old ≤ vec_capacity out.new }
+    requires start { at ≤ length out.old }
+    requires space { length (with_padding alignment (take at out.old)) ≤ length out.old }
+    ensures written { take result out.new ≡ with_padding alignment (take at out.old) }
+    ensures within { result ≤ length out.new }
 {
-    let count = padding_length(alignment, out.len() as u64);
-    out.resize(out.len() + usize::from(count), 0).unwrap();
+    let end = at + gap(alignment, at);
+    for place in at..end {
+        out[place] = 0;
+    }
+    end
 }
 
-/// Appends the two bytes of a number, without padding.
-#[tactic(auto, using(crate::proofs::Written::lengths, dbus_value_model::proofs::NumberBytes::numbers))]
-pub(crate) fn write_16<A: Allocator>(out: &mut Vec<u8, A>, order: Order, n: u16)
-    requires space { length out.old.items + 2 ≤ vec_capacity out.old }
-    ensures written { out.new.items ≡ out.old.items ++ num order 2 n }
-    ensures room { vec_capacity out.old ≤ vec_capacity out.new }
+/// Writes the two bytes of a number, without padding.
+#[inline]
+#[tactic(auto, using(dbus_value_model::proofs::NumberBytes::numbers))]
+pub(crate) fn write_16(out: &mut [u8], at: usize, order: Order, n: u16) -> usize
+    requires space { at + 2 ≤ length out.old }
+    ensures written { take result out.new ≡ take at out.old ++ num order 2 n }
+    ensures ends { result ≡ at + 2 }
 {
     match order {
-        Order::Little => write_bytes(out, &u16::to_le_bytes(n)),
-        Order::Big => write_bytes(out, &u16::to_be_bytes(n)),
+        Order::Little => write_bytes(out, at, &u16::to_le_bytes(n)),
+        Order::Big => write_bytes(out, at, &u16::to_be_bytes(n)),
     }
 }
 
-/// Appends the four bytes of a number, without padding.
-#[tactic(auto, using(crate::proofs::Written::lengths, dbus_value_model::proofs::NumberBytes::numbers))]
-pub fn write_32<A: Allocator>(out: &mut Vec<u8, A>, order: Order, n: u32)
-    requires space { length out.old.items + 4 ≤ vec_capacity out.old }
-    ensures written { out.new.items ≡ out.old.items ++ num order 4 n }
-    ensures room { vec_capacity out.old ≤ vec_capacity out.new }
+/// Writes the four bytes of a number, without padding.
+#[inline]
+#[tactic(auto, using(dbus_value_model::proofs::NumberBytes::numbers))]
+pub fn write_32(out: &mut [u8], at: usize, order: Order, n: u32) -> usize
+    requires space { at + 4 ≤ length out.old }
+    ensures written { take result out.new ≡ take at out.old ++ num order 4 n }
+    ensures ends { result ≡ at + 4 }
 {
     match order {
-        Order::Little => write_bytes(out, &u32::to_le_bytes(n)),
-        Order::Big => write_bytes(out, &u32::to_be_bytes(n)),
+        Order::Little => write_bytes(out, at, &u32::to_le_bytes(n)),
+        Order::Big => write_bytes(out, at, &u32::to_be_bytes(n)),
     }
 }
 
-/// Appends the eight bytes of a number, without padding.
-#[tactic(auto, using(crate::proofs::Written::lengths, dbus_value_model::proofs::NumberBytes::numbers))]
-pub(crate) fn write_64<A: Allocator>(out: &mut Vec<u8, A>, order: Order, n: u64)
-    requires space { length out.old.items + 8 ≤ vec_capacity out.old }
-    ensures written { out.new.items ≡ out.old.items ++ num order 8 n }
-    ensures room { vec_capacity out.old ≤ vec_capacity out.new }
+/// Writes the eight bytes of a number, without padding.
+#[inline]
+#[tactic(auto, using(dbus_value_model::proofs::NumberBytes::numbers))]
+pub(crate) fn write_64(out: &mut [u8], at: usize, order: Order, n: u64) -> usize
+    requires space { at + 8 ≤ length out.old }
+    ensures written { take result out.new ≡ take at out.old ++ num order 8 n }
+    ensures ends { result ≡ at + 8 }
 {
     match order {
-        Order::Little => write_bytes(out, &u64::to_le_bytes(n)),
-        Order::Big => write_bytes(out, &u64::to_be_bytes(n)),
+        Order::Little => write_bytes(out, at, &u64::to_le_bytes(n)),
+        Order::Big => write_bytes(out, at, &u64::to_be_bytes(n)),
     }
 }
 
-/// Appends a number of two bytes, with the padding before it.
-pub(crate) fn write_number_16<A: Allocator>(out: &mut Vec<u8, A>, order: Order, n: u16)
-    requires space { length (with_padding 2 out.old.items) + 2 ≤ vec_capacity out.old }
-    ensures written { out.new.items ≡ with_padding 2 out.old.items ++ num order 2 n }
-    ensures room { vec_capacity out.old ≤ vec_capacity out.new }
+/// Writes a number of two bytes, with the padding before it.
+#[inline]
+#[tactic(auto, using(crate::proofs::Written::numbers))]
+pub(crate) fn write_number_16(out: &mut [u8], at: usize, order: Order, n: u16) -> usize
+    requires start { at ≤ length out.old }
+    requires space { length (with_value order (NumberValue UINT16 n) (take at out.old)) ≤
+        length out.old }
+    ensures written { take result out.new ≡ with_value order (NumberValue UINT16 n) (take at out.old) }
+    ensures within { result ≤ length out.new }
 {
-    write_padding(out, 2);
-    write_16(out, order, n);
+    let place = write_padding(out, at, 2);
+    write_16(out, place, order, n)
 }
 
-/// Appends a number of four bytes, with the padding before it.
-pub(crate) fn write_number_32<A: Allocator>(out: &mut Vec<u8, A>, order: Order, n: u32)
-    requires space { length (with_padding 4 out.old.items) + 4 ≤ vec_capacity out.old }
-    ensures written { out.new.items ≡ with_padding 4 out.old.items ++ num order 4 n }
-    ensures room { vec_capacity out.old ≤ vec_capacity out.new }
+/// Writes a number of four bytes, with the padding before it.
+#[inline]
+#[tactic(auto, using(crate::proofs::Written::numbers))]
+pub(crate) fn write_number_32(out: &mut [u8], at: usize, order: Order, n: u32) -> usize
+    requires start { at ≤ length out.old }
+    requires space { length (with_value order (NumberValue UINT32 n) (take at out.old)) ≤
+        length out.old }
+    ensures written { take result out.new ≡ with_value order (NumberValue UINT32 n) (take at out.old) }
+    ensures within { result ≤ length out.new }
 {
-    write_padding(out, 4);
-    write_32(out, order, n);
+    let place = write_padding(out, at, 4);
+    write_32(out, place, order, n)
 }
 
-/// Appends a number of eight bytes, with the padding before it.
-pub(crate) fn write_number_64<A: Allocator>(out: &mut Vec<u8, A>, order: Order, n: u64)
-    requires space { length (with_padding 8 out.old.items) + 8 ≤ vec_capacity out.old }
-    ensures written { out.new.items ≡ with_padding 8 out.old.items ++ num order 8 n }
-    ensures room { vec_capacity out.old ≤ vec_capacity out.new }
+/// Writes a number of eight bytes, with the padding before it.
+#[inline]
+#[tactic(auto, using(crate::proofs::Written::numbers))]
+pub(crate) fn write_number_64(out: &mut [u8], at: usize, order: Order, n: u64) -> usize
+    requires start { at ≤ length out.old }
+    requires space { length (with_value order (NumberValue UINT64 n) (take at out.old)) ≤
+        length out.old }
+    ensures written { take result out.new ≡ with_value order (NumberValue UINT64 n) (take at out.old) }
+    ensures within { result ≤ length out.new }
 {
-    write_padding(out, 8);
-    write_64(out, order, n);
+    let place = write_padding(out, at, 8);
+    write_64(out, place, order, n)
 }
 
-/// Appends the text of a STRING or an OBJECT_PATH: padding, its length in four bytes, itself and a zero byte.
+/// Writes the text of a STRING or an OBJECT_PATH: padding, its length in four bytes, itself and a zero byte.
 #[tactic(auto, using(crate::proofs::Written::texts))]
-pub(crate) fn write_text<A: Allocator>(out: &mut Vec<u8, A>, order: Order, text: &[u8])
-    requires space { length (with_value order (TextValue STRING text.now) out.old.items) ≤
-        vec_capacity out.old }
-    requires fits { length text.now < 2 ^ 32 }
-    ensures written { out.new.items ≡ with_value order (TextValue STRING text.now) out.old.items }
-    ensures room { vec_capacity out.old ≤ vec_capacity out.new }
+pub(crate) fn write_text(out: &mut [u8], at: usize, order: Order, text: &[u8]) -> usize
+    requires start { at ≤ length out.old }
+    requires space { length (with_value order (TextValue STRING text.now) (take at out.old)) ≤
+        length out.old }
+    requires fits { length out.old < 2 ^ 32 }
+    ensures written { take result out.new ≡
+        with_value order (TextValue STRING text.now) (take at out.old) }
+    ensures within { result ≤ length out.new }
 {
-    write_number_32(out, order, text.len() as u32);
-    write_bytes(out, text);
-    write_byte(out, 0);
+    let place = write_number_32(out, at, order, text.len() as u32);
+    let place = write_bytes(out, place, text);
+    write_byte(out, place, 0)
 }
 
-/// Appends the text of a SIGNATURE: its length in one byte, itself and a zero byte. It is the same in either byte order.
+/// Writes the text of a SIGNATURE: its length in one byte, itself and a zero byte. It is the same in either byte order.
 #[tactic(auto, using(crate::proofs::Written::texts))]
-pub(crate) fn write_signature<A: Allocator>(out: &mut Vec<u8, A>, text: &[u8])
-    requires space { length out.old.items + length text.now + 2 ≤ vec_capacity out.old }
+pub(crate) fn write_signature(out: &mut [u8], at: usize, text: &[u8]) -> usize
+    requires space { at + length text.now + 2 ≤ length out.old }
     requires fits { length text.now < 256 }
     ensures written { (order : Order) →
-        out.new.items ≡ with_value order (TextValue SIGNATURE text.now) out.old.items }
-    ensures room { vec_capacity out.old ≤ vec_capacity out.new }
+        take result out.new ≡ with_value order (TextValue SIGNATURE text.now) (take at out.old) }
+    ensures ends { result ≡ at + length text.now + 2 }
 {
-    write_byte(out, text.len() as u8);
-    write_bytes(out, text);
-    write_byte(out, 0);
+    let place = write_byte(out, at, text.len() as u8);
+    let place = write_bytes(out, place, text);
+    write_byte(out, place, 0)
 }
 
-/// Writes a number over the four bytes at `at`.
+/// Writes a number over the four bytes at `at`, and leaves the others as they are.
+#[inline]
 #[tactic(auto, using(dbus_value_model::proofs::NumberBytes::numbers))]
-pub fn overwrite_32<A: Allocator>(out: &mut Vec<u8, A>, at: usize, order: Order, n: u32)
-    requires there { at + 4 ≤ length out.old.items }
-    ensures written { out.new.items ≡
-        take at out.old.items ++ (num order 4 n ++ drop (at + 4) out.old.items) }
-    ensures room { vec_capacity out.old ≤ vec_capacity out.new }
+pub fn overwrite_32(out: &mut [u8], at: usize, order: Order, n: u32)
+    requires there { at + 4 ≤ length out.old }
+    ensures written { out.new ≡ take at out.old ++ (num order 4 n ++ drop (at + 4) out.old) }
 {
     match order {
-        Order::Little => overwrite(out, at, n.to_le_bytes()),
-        Order::Big => overwrite(out, at, n.to_be_bytes()),
+        Order::Little => overwrite(out, at, &u32::to_le_bytes(n)),
+        Order::Big => overwrite(out, at, &u32::to_be_bytes(n)),
     }
-}
-
-/// Four bytes over those at `at`.
-fn overwrite<A: Allocator>(out: &mut Vec<u8, A>, at: usize, bytes: [u8; 4])
-    requires { at + 4 ≤ length out.old.items }
-    ensures items { out.new.items ≡
-        take at out.old.items ++ (bytes ++ drop (at + 4) out.old.items) }
-    ensures room { vec_capacity out.old ≤ vec_capacity out.new }
-{
-    out[at] = bytes[0];
-    out[at + 1] = bytes[1];
-    out[at + 2] = bytes[2];
-    out[at + 3] = bytes[3];
 }

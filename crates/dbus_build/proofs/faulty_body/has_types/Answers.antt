@@ -1,7 +1,7 @@
-use Rattle.std.proofs.Common.{◌+◌, length, drop, sym, ap, ◌∙◌, arith}
+use Rattle.std.proofs.Common.{◌+◌, drop, take, sym, ◌∙◌, arith}
 use Rattle.std.proofs.lemmas.Bool.{false≢true}
 use Rattle.std.proofs.lemmas.Bool.Decides.{Decides-eqb}
-use Rattle.std.proofs.lemmas.List.{length-append}
+use Rattle.std.proofs.lemmas.List.{length-take-le}
 use Rattle.std.proofs.lemmas.Slice.Eq.{slice_eq-Decides}
 use Rattle.dbus_texts.specs.Types.{sig, sigs}
 use Rattle.dbus_value_model.specs.Values.{type_of, types_of}
@@ -12,24 +12,25 @@ use Rattle.dbus_build.proofs.faulty_body.has_types.Goals as goal
 pub signature_length-requires : goal.signature_length-requires
 signature_length-requires g c = (sound_from c.args.values.now c.loop-value.value-index c.value-item.result c.loop-value.value-index c.loop-value-test.true c.value-item.is c.loop-value.invariant.sound).0.0.single.1
 
-pub returns-then-signature-len : goal.returns-then-signature-len
-returns-then-signature-len g c = (
-  λ e. absurd (false≢true e),
-  λ e. absurd (spelled_past c.loop-value.spelled.items (sig (type_of (value_tree c.value-item.result))) _ (sigs (types_of (value_trees_of (drop (c.loop-value.value-index + 1) c.args.values.now)))) _ c.args.signature.now
-      (types_from c.args.values.now c.loop-value.value-index c.value-item.result c.loop-value-test.true c.value-item.is) c.loop-value.invariant.on (omega (arith, c.len.ensures, c.signature_length.ensures, c.if-signature-len.true)) e),
-)
+pub returns-then-signature-end : goal.returns-then-signature-end
+returns-then-signature-end g c =
+    let here = length-take-le c.loop-value.end c.loop-value.bytes (omega (arith, c.loop-value.invariant.within, c.loop-value.invariant.long)) in (
+      λ e. absurd (false≢true e),
+      λ e. absurd (spelled_past (take c.loop-value.end c.loop-value.bytes) (sig (type_of (value_tree c.value-item.result))) _ (sigs (types_of (value_trees_of (drop (c.loop-value.value-index + 1) c.args.values.now)))) _ c.args.signature.now
+          (types_from c.args.values.now c.loop-value.value-index c.value-item.result c.loop-value-test.true c.value-item.is) c.loop-value.invariant.on (omega (arith, here, c.signature_length.ensures, c.if-signature-end.true)) e),
+    )
 
 pub loop-value-preserved : goal.loop-value-preserved
 loop-value-preserved g c = record {
   sound = (sound_from c.args.values.now c.loop-value.value-index c.value-item.result c.loop-value.value-index c.loop-value-test.true c.value-item.is c.loop-value.invariant.sound).1;
-  on = spelled_on c.loop-value.spelled.items c.write_type_of.new.out.items (sig (type_of (value_tree c.value-item.result))) _ (sigs (types_of (value_trees_of (drop (c.loop-value.value-index + 1) c.args.values.now)))) _
-      (types_from c.args.values.now c.loop-value.value-index c.value-item.result c.loop-value-test.true c.value-item.is) c.loop-value.invariant.on c.write_type_of.ensures.written;
-  fits = omega (arith, c.len.ensures, c.signature_length.ensures, c.if-signature-len.false, c.loop-value.invariant.fits, ap length c.write_type_of.ensures.written, length-append c.loop-value.spelled.items (sig (type_of (value_tree c.value-item.result))));
-  depth_left = omega (arith, c.loop-value.invariant.depth_left, c.write_type_of.ensures.room);
+  on = spelled_on (take c.loop-value.end c.loop-value.bytes) _ (sig (type_of (value_tree c.value-item.result))) _ (sigs (types_of (value_trees_of (drop (c.loop-value.value-index + 1) c.args.values.now)))) _
+      (types_from c.args.values.now c.loop-value.value-index c.value-item.result c.loop-value-test.true c.value-item.is) c.loop-value.invariant.on c.write_type_of-end.ensures.written;
+  long = omega (arith, c.loop-value.invariant.long, c.write_type_of-end.auto.out);
+  within = omega (arith, c.signature_length.ensures, c.if-signature-end.false, c.loop-value.invariant.within, c.write_type_of-end.ensures.ends);
 }
 
 pub returns : goal.returns
 returns g c =
-    let whole = spelled_whole c.loop-value.spelled.items _ _ (no_types_from c.args.values.now c.loop-value.value-index c.loop-value-test.false) c.loop-value.invariant.on in
-    let d = slice_eq-Decides Decides-eqb c.as_slice.result.now c.args.signature.now c.eq.result c.eq.ensures in
-    (λ e. sym whole ∙ sym c.as_slice.ensures.value ∙ d.0 e, λ e. d.1 (c.as_slice.ensures.value ∙ whole ∙ e))
+    let whole = spelled_whole (take c.loop-value.end c.loop-value.bytes) _ _ (no_types_from c.args.values.now c.loop-value.value-index c.loop-value-test.false) c.loop-value.invariant.on in
+    let d = slice_eq-Decides Decides-eqb _ c.args.signature.now c.eq.result c.eq.ensures in
+    (λ e. sym whole ∙ d.0 e, λ e. d.1 (whole ∙ e))

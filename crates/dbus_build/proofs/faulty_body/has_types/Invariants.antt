@@ -1,4 +1,4 @@
-use Rattle.std.proofs.Common.{◌≡◌, ◌++◌, ◌≤◌, None, drop, length, vec_capacity}
+use Rattle.std.proofs.Common.{◌≡◌, ◌++◌, ◌≤◌, None, drop, length, take}
 use Rattle.dbus_texts.specs.Types.{sigs}
 use Rattle.dbus_value_model.specs.Values.{types_of}
 use Rattle.dbus_value_model.specs.ValueViews.{value_trees_of}
@@ -8,7 +8,7 @@ use Rattle.dbus_build.proofs.faulty_body.has_types.Given as goal
 abbrev pub invariant-loop-value : goal.invariant-loop-value
 invariant-loop-value g l = record {
   sound : IsFirstUnsound l.value-index (drop l.value-index l.values) None;
-  on : l.spelled.items ++ sigs (types_of (value_trees_of (drop l.value-index l.values))) ≡ sigs (types_of (value_trees_of l.values));
-  fits : length l.spelled.items ≤ length l.signature;
-  depth_left : length l.signature ≤ vec_capacity l.spelled;
+  on : take l.end l.bytes ++ sigs (types_of (value_trees_of (drop l.value-index l.values))) ≡ sigs (types_of (value_trees_of l.values));
+  long : length l.bytes ≡ length l.signature;
+  within : l.end ≤ length l.signature;
 }

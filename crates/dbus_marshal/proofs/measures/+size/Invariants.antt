@@ -1,4 +1,4 @@
-use Rattle.std.proofs.Common.{ℕ, ◌<◌, Option, drop}
+use Rattle.std.proofs.Common.{ℕ, Option, drop}
 use Rattle.dbus_value_model.specs.Measures.{IsCapped, AreMeasured}
 use Rattle.dbus_value_model.specs.ShortSignatures.{HaveShortSignatures}
 use Rattle.dbus_value_model.specs.ValueViews.{value_trees_of}
