@@ -115,11 +115,6 @@ module _ (order : Order) (m : MessageTree) where
   pub fits_body : length with_body ≡ length (message_bytes order m)
   fits_body = with_body_length ∙ sym (message_length order m)
 
-  pub long_start : 16 ≤ length (with_padding 8 with_length)
-  long_start =
-      let array = ap length contents_array ∙ length-append (num order 4 (length field_contents)) field_contents in
-      omega (arith, start_length, array, length-num order 4 (length field_contents))
-
   pub step_fields : (fs : List FieldTree) (x : List ℕ) → fs ≡ m.fields → x ≡ fixed_bytes order m.kind m.flags m.serial → with_values order (value_trees (map field_struct fs)) x ≡ with_fields
   step_fields fs x e d = ap (λ (f : List FieldTree). with_values order (value_trees (map field_struct f)) x) e ∙ ap (with_values order fields_values) d
 

@@ -4,20 +4,15 @@ use Rattle.std.proofs.lemmas.List.{length-append, drop_more, drop_all}
 use Rattle.dbus_texts.specs.Types.{BYTE, sig}
 use Rattle.dbus_value_model.specs.declared.order.Order.{Order}
 use Rattle.dbus_value_model.specs.Appending.{with_padding, with_value, with_values}
-use Rattle.dbus_value_model.specs.ShortSignatures.{HasShortSignatures, HaveShortSignatures}
 use Rattle.dbus_value_model.specs.Values.{ValueTrees, NoValues, MoreValues, NumberValue, VariantValue, type_of, value_trees}
 use Rattle.dbus_value_model.specs.Bytes.{num}
-use Rattle.dbus_value_model.specs.ValueViews.{value_tree, value_trees_of}
-use Rattle.dbus_value_model.specs.declared.value.Value.{Value}
 use Rattle.dbus_value_model.proofs.Numbers.{length-num}
-use Rattle.dbus_marshal.proofs.Written.{length_padding, length_value, length_values, written_number, written_variant, written_struct, written_none, written_more, num_1, no_padding}
+use Rattle.dbus_marshal.proofs.Written.{length_value, length_values, written_number, written_variant, written_struct, written_none, written_more, num_1, no_padding}
 use Rattle.dbus_message_model.specs.Messages.{FieldTree, field_struct}
 use Rattle.dbus_message_model.specs.PartsViews.{field_tree}
 use Rattle.dbus_message_model.specs.declared.header_field.HeaderField.{HeaderField}
 use Rattle.dbus_message_model.proofs.FieldLists.{fields_from, no_fields_from}
 use Rattle.dbus_message_model.proofs.FieldStructs.{structs}
-
-pub ruleset lengths = (length-append, length-num, length_padding, length_value, length_values)
 
 pub ruleset fixed = (length-append, length-num, append_assoc)
 
@@ -45,7 +40,7 @@ field_length order f front small =
     let d = length-append (((with_padding 8 front ++ f.code ∷ []) ++ num order 1 (length (sig (type_of f.value)))) ++ sig (type_of f.value)) (0 ∷ []) in
     omega (arith, whole, a, b, c, d, length-num order 1 (length (sig (type_of f.value))))
 
--- ---- lists of fields and of values
+-- ---- lists of fields
 
 module _ {A : Type 0} (order : Order) where
   pub fields_step : (fields : List (HeaderField A)) (i : ℕ) (f : HeaderField A) (front : List ℕ) → i < length fields → f ≡ get_or fields i f
@@ -56,22 +51,6 @@ module _ {A : Type 0} (order : Order) where
 
   pub fields_end_step : (fields : List (HeaderField A)) (i : ℕ) (front : List ℕ) → length fields ≤ i → with_values order (structs (drop i fields)) front ≡ front
   fields_end_step fields i front h = ap (λ (fs : List FieldTree). with_values order (value_trees (map field_struct fs)) front) (no_fields_from fields i h) ∙ written_none order front
-
-  pub values_step : (values : List (Value A)) (i : ℕ) (v : Value A) (front : List ℕ) → i < length values → v ≡ get_or values i v
-      → with_values order (value_trees_of (drop i values)) front ≡ with_values order (value_trees_of (drop (i + 1) values)) (with_value order (value_tree v) front)
-  values_step values i v front h is =
-      ap (λ (vs : List (Value A)). with_values order (value_trees_of vs) front) (drop_more values i v h)
-      ∙ written_more order (value_tree (get_or values i v)) (value_trees_of (drop (i + 1) values)) front
-      ∙ ap (λ (x : Value A). with_values order (value_trees_of (drop (i + 1) values)) (with_value order (value_tree x) front)) (sym is)
-
-  pub values_end_step : (values : List (Value A)) (i : ℕ) (front : List ℕ) → length values ≤ i → with_values order (value_trees_of (drop i values)) front ≡ front
-  values_end_step values i front h = ap (λ (vs : List (Value A)). with_values order (value_trees_of vs) front) (drop_all i values h) ∙ written_none order front
-
-module _ {A : Type 0} where
-  pub values_short : (values : List (Value A)) (i : ℕ) (v : Value A) → i < length values → v ≡ get_or values i v → HaveShortSignatures (value_trees_of (drop i values)) → HasShortSignatures (value_tree v) × HaveShortSignatures (value_trees_of (drop (i + 1) values))
-  values_short values i v h is all =
-      let here : HaveShortSignatures (value_trees_of (get_or values i v ∷ drop (i + 1) values)) = subst (λ (vs : List (Value A)). HaveShortSignatures (value_trees_of vs)) (drop_more values i v h) all in
-      (subst (λ (x : Value A). HasShortSignatures (value_tree x)) (sym is) here.0, here.1)
 
 -- what is written before the rest is no longer than all
 pub within_all : (order : Order) (vs : ValueTrees) (x total : List ℕ) → with_values order vs x ≡ total → length x ≤ length total

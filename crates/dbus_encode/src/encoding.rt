@@ -1,5 +1,5 @@
 //! Encoding a message.
-#![tactic(auto, using(crate::proofs::FieldWriting::lengths))]
+#![tactic(auto, using(dbus_marshal::proofs::Written::lengths))]
 
 ghost use Rattle.std.specs.Prelude.{◌≡◌, ◌<◌, ◌≤◌, ◌^◌, length, take, vec_capacity, map, IfOk, OnOk, OnErr};
 ghost use Rattle.dbus_value_model.specs.Appending.{with_value, with_values};

@@ -1,9 +1,5 @@
 -- Lists that are joined step by step.
-use Rattle.std.proofs.Common.{◌≡◌, ℕ, ◌+◌, ◌≤◌, List, [], ◌∷◌, ◌++◌, length, sym, ap, ◌∙◌, arith, append_assoc}
-use Rattle.std.proofs.lemmas.List.{length-append}
-
-pub length_join : (old s new : List ℕ) → new ≡ old ++ s → length new ≡ length old + length s
-length_join old s new e = ap length e ∙ length-append old s
+use Rattle.std.proofs.Common.{◌≡◌, ℕ, List, [], ◌∷◌, ◌++◌, sym, ap, ◌∙◌, append_assoc}
 
 pub join_assoc : (old s t mid new : List ℕ) → mid ≡ old ++ s → new ≡ mid ++ t → new ≡ old ++ (s ++ t)
 join_assoc old s t mid new e d = d ∙ ap (λ (l : List ℕ). l ++ t) e ∙ append_assoc old s t
@@ -14,13 +10,6 @@ join_around old s n1 n2 n3 a b e d f =
 
 pub join_two : (old s t n1 n2 n3 n4 : List ℕ) (a b : ℕ) → n1 ≡ old ++ a ∷ [] → n2 ≡ n1 ++ s → n3 ≡ n2 ++ t → n4 ≡ n3 ++ b ∷ [] → n4 ≡ old ++ (a ∷ (s ++ (t ++ b ∷ [])))
 join_two old s t n1 n2 n3 n4 a b e d h f = join_around old (s ++ t) n1 n3 n4 a b e (join_assoc n1 s t n2 n3 d h) f ∙ ap (λ (l : List ℕ). old ++ (a ∷ l)) (append_assoc s t (b ∷ []))
-
--- in a loop: rest is what is left to be written after now, and begins with s
-pub first_fits : (now s rest part old all : List ℕ) (low cap : ℕ) → now ++ rest ≡ old ++ all → rest ≡ s ++ part → length old + length all ≤ low → low ≤ cap → length now + length s ≤ cap
-first_fits now s rest part old all low cap so_far more space room =
-    let whole = sym (length-append now rest) ∙ ap length so_far ∙ length-append old all in
-    let left = ap length more ∙ length-append s part in
-    omega arith
 
 pub step_joined : (now s rest part target next : List ℕ) → now ++ rest ≡ target → rest ≡ s ++ part → next ≡ now ++ s → next ++ part ≡ target
 step_joined now s rest part target next so_far more written =

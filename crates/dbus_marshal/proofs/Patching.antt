@@ -1,7 +1,7 @@
 -- A length is written over once what it counts is there.
-use Rattle.std.proofs.Common.{◌≡◌, ℕ, ◌+◌, ◌-◌, ◌≤◌, ◌<◌, List, ◌++◌, length, take, drop, refl, sym, ap, ◌∙◌, arith, append_assoc}
+use Rattle.std.proofs.Common.{◌≡◌, ℕ, ◌+◌, ◌-◌, ◌≤◌, List, ◌++◌, length, take, drop, refl, sym, ap, ◌∙◌, arith, append_assoc}
 use Rattle.std.proofs.lemmas.List.{length-append, take-append-drop, take-take, length-take, length-take-le, length-drop, drop-append-le, take_at, drop_at}
-use Rattle.dbus_texts.specs.Types.{TypeTree, NumberType, TextType, VariantType, ArrayType, StructType, EntryType, BYTE, BOOLEAN, INT16, UINT16, INT32, UINT32, INT64, UINT64, DOUBLE, UNIX_FD, STRING, OBJECT_PATH, SIGNATURE}
+use Rattle.dbus_texts.specs.Types.{TypeTree}
 use Rattle.dbus_types.specs.Alignments.{alignment_of}
 use Rattle.dbus_value_model.specs.declared.order.Order.{Order}
 use Rattle.dbus_value_model.specs.Values.{ValueTrees, ArrayValue}
@@ -112,22 +112,3 @@ module _ (order : Order) (t : TypeTree) (xs : ValueTrees) (front o1 o2 o3 : List
       let counts : end - start + length (take start o2) ≡ length (take end o3) = omega (arith, places.2) in
       taken_over o3 (num order 4 (end - start)) (counted - 4) end (length-num order 4 (end - start)) before h3
       ∙ array_patched order t xs front (with_padding 4 front) (take counted o1) (take start o2) (take end o3) (counted - 4) (end - start) 0 refl places.3 is_z is_y is_x counts
-
-pub alignment_positive : (t : TypeTree) → 0 < alignment_of t
-alignment_positive (NumberType BYTE) = omega arith
-alignment_positive (NumberType BOOLEAN) = omega arith
-alignment_positive (NumberType INT16) = omega arith
-alignment_positive (NumberType UINT16) = omega arith
-alignment_positive (NumberType INT32) = omega arith
-alignment_positive (NumberType UINT32) = omega arith
-alignment_positive (NumberType INT64) = omega arith
-alignment_positive (NumberType UINT64) = omega arith
-alignment_positive (NumberType DOUBLE) = omega arith
-alignment_positive (NumberType UNIX_FD) = omega arith
-alignment_positive (TextType STRING) = omega arith
-alignment_positive (TextType OBJECT_PATH) = omega arith
-alignment_positive (TextType SIGNATURE) = omega arith
-alignment_positive VariantType = omega arith
-alignment_positive (ArrayType t) = omega arith
-alignment_positive (StructType ts) = omega arith
-alignment_positive (EntryType k v) = omega arith
