@@ -1,13 +1,28 @@
 -- What a writer does to a draft.
-use Rattle.std.specs.Prelude.{◌≡◌, ℕ, ◌+◌, ◌<◌, ◌≤◌, List, ◌++◌, length, true, false, string_bytes, string_len, string_capacity}
+use Rattle.std.specs.Prelude.{◌≡◌, ℕ, ◌+◌, ◌<◌, ◌≤◌, List, [], ◌++◌, length, true, false, string_bytes, string_len, string_capacity}
 use Rattle.dbus_show.specs.declared.draft.Draft.{Draft}
 
--- A draft gains a text: it is appended, or a growth is refused, which is only where the capacity does not do for it. A draft
--- whose growth was refused stays so. The string that is written to is the same.
-pub record Gains {A : Type 0} (before : Draft A) (text : List ℕ) (after : Draft A) : Type 0 where
-  pub same : after.out.ghost_name ≡ before.out.ghost_name
-  pub written : after.refused ≡ false → string_bytes after.out.now ≡ string_bytes before.out.now ++ text
-  pub longer : after.refused ≡ false → string_len after.out.now ≡ string_len before.out.now + length text
-  pub stays : before.refused ≡ true → after.refused ≡ true
-  pub small : before.refused ≡ false → after.refused ≡ true → string_capacity before.out.now < string_len before.out.now + length text
-  pub room : string_capacity before.out.now ≤ string_capacity after.out.now
+module _ {A : Type 0} where
+  -- the text that a draft has so far: what the string has, and then what the string has still to get
+  unfoldable pub text_so_far : Draft A → List ℕ
+  text_so_far d = string_bytes d.out.now ++ d.kept.bytes
+
+  unfoldable pub length_so_far : Draft A → ℕ
+  length_so_far d = string_len d.out.now + length d.kept.bytes
+
+  -- a draft that has no text yet, over a string of this capacity
+  pub record Begins (capacity : ℕ) (d : Draft A) : Type 0 where
+    pub none : text_so_far d ≡ []
+    pub zero : length_so_far d ≡ 0
+    pub whole : d.refused ≡ false
+    pub room : string_capacity d.out.now ≡ capacity
+
+  -- A draft gains a text: it is appended, or a growth is refused, which is only where the capacity does not do for it. A draft
+  -- whose growth was refused stays so. The string that is written to is the same.
+  pub record Gains (before : Draft A) (text : List ℕ) (after : Draft A) : Type 0 where
+    pub same : after.out.ghost_name ≡ before.out.ghost_name
+    pub written : after.refused ≡ false → text_so_far after ≡ text_so_far before ++ text
+    pub longer : after.refused ≡ false → length_so_far after ≡ length_so_far before + length text
+    pub stays : before.refused ≡ true → after.refused ≡ true
+    pub small : before.refused ≡ false → after.refused ≡ true → string_capacity before.out.now < length_so_far before + length text
+    pub room : string_capacity before.out.now ≤ string_capacity after.out.now

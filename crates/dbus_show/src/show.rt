@@ -130,15 +130,7 @@ pub fn show_into<A: Allocator>(
     ensures small { OnErr result
         (string_capacity out.old < length (message_text order (message_tree message.now) number)) }
 {
-    out.clear();
-    let mut draft = Draft {
-        out,
-        refused: false,
-    };
+    let mut draft = Draft::new(out);
     write_parts(&mut draft, order, message.parts(), number);
-    if draft.refused {
-        draft.out.clear();
-        return Err(AllocError);
-    }
-    Ok(())
+    draft.finish()
 }
