@@ -17,6 +17,17 @@ fn is_escaped(byte: u8) -> bool
     byte < 32 || byte == b'"' || byte == b'\\' || byte == 127
 }
 
+/// Whether each byte is shown as itself. All are looked at, so that many are at once.
+fn is_plain(bytes: &[u8]) -> bool
+    ensures { result ≡ true → flat_map escape bytes.now ≡ bytes.now }
+{
+    let mut found = false;
+    for byte in bytes {
+        found |= is_escaped(*byte);
+    }
+    !found
+}
+
 /// Appends what stands for a byte that is not shown as itself.
 fn write_escape<A: Allocator>(draft: &mut Draft<A>, byte: u8)
     requires { is_escaped_byte byte ≡ true }
@@ -53,6 +64,10 @@ pub fn write_quoted<A: Allocator>(draft: &mut Draft<A>, text: &str)
     ensures { Gains draft.old (quoted text.now) draft.new }
 {
     draft.push_code(b'"');
-    write_escaped(draft, text);
+    if is_plain(text.as_bytes()) {
+        draft.push_str(text);
+    } else {
+        write_escaped(draft, text);
+    }
     draft.push_code(b'"');
 }
