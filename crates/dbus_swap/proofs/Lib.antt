@@ -1,5 +1,5 @@
 pub mod Byteswapped
-mod FieldLengths
+pub mod ByteswappedFields
 pub mod NumberRuns
 pub mod Leaves
 pub mod MessageParts

@@ -30,6 +30,22 @@ then_put at own put own' put' before between now q place long first second = λ 
     let within : q ≤ length between = omega (arith, here, h, ap length one, length-append (take at before) (put ++ (own' ++ rest)), length-append put (own' ++ rest), length-take at before) in
     put_more at put (own' ++ rest) before between h one q here put' rest now (second rest within left)
 
+-- values, and one value more
+pub more_put : (order : Order) (at place : ℕ) (done : List ValueTree) (v : ValueTree) (before between now : List ℕ) → place ≡ at + length (spellings order at (value_trees done))
+    → Replaces at (spellings order at (value_trees done)) (spellings (other order) at (value_trees done)) before between
+    → Replaces place (spelling order place v) (spelling (other order) place v) between now
+    → Replaces at (spellings order at (value_trees (done ++ v ∷ []))) (spellings (other order) at (value_trees (done ++ v ∷ []))) before now
+more_put order at place done v before between now here first second =
+    let own = spellings order at (value_trees done) in
+    let put = spellings (other order) at (value_trees done) in
+    let long : length own ≡ length put = any_lengths order (other order) at (value_trees done) in
+    let there : place ≡ at + length put = omega (arith, here, long) in
+    let own_is : spellings order at (value_trees (done ++ v ∷ [])) ≡ own ++ spelling order place v = spellings_more order at done v ∙ ap (λ (k : ℕ). own ++ spelling order k v) (sym here) in
+    let put_is : spellings (other order) at (value_trees (done ++ v ∷ [])) ≡ put ++ spelling (other order) place v = spellings_more (other order) at done v ∙ ap (λ (k : ℕ). put ++ spelling (other order) k v) (sym there) in
+    subst (λ (l : List ℕ). Replaces at l (spellings (other order) at (value_trees (done ++ v ∷ []))) before now) (sym own_is)
+    (subst (λ (l : List ℕ). Replaces at (own ++ spelling order place v) l before now) (sym put_is)
+    (then_put at own put (spelling order place v) (spelling (other order) place v) before between now place here long first second))
+
 -- a container: what stands before its parts, and then these
 pub whole_put : (order : Order) (at : ℕ) (v : ValueTree) (kind : Container) → IsOf kind v → (before between now : List ℕ)
     → Replaces at (front order at v) (front (other order) at v) before between
@@ -57,20 +73,12 @@ pub more_byteswapped : (s before parted taken after : Byteswapper) (order : Orde
     → place ≡ at + length (spellings order at (value_trees done))
     → Byteswaps place (spelling order place v) (spelling (other order) place v) parted taken → Stays taken after
     → Byteswaps at (spellings order at (value_trees (done ++ v ∷ []))) (spellings (other order) at (value_trees (done ++ v ∷ []))) s after
-more_byteswapped s before parted taken after order at place done v first stays here second pushed =
-    let own = spellings order at (value_trees done) in
-    let put = spellings (other order) at (value_trees done) in
-    let long : length own ≡ length put = any_lengths order (other order) at (value_trees done) in
-    let there : place ≡ at + length put = omega (arith, here, long) in
-    let own_is : spellings order at (value_trees (done ++ v ∷ [])) ≡ own ++ spelling order place v = spellings_more order at done v ∙ ap (λ (k : ℕ). own ++ spelling order k v) (sym here) in
-    let put_is : spellings (other order) at (value_trees (done ++ v ∷ [])) ≡ put ++ spelling (other order) place v = spellings_more (other order) at done v ∙ ap (λ (k : ℕ). put ++ spelling (other order) k v) (sym there) in
-    let one = subst (λ (l : List ℕ). Replaces at own put s.out.now l) (sym stays.kept) first.replaced in
-    let both = then_put at own put (spelling order place v) (spelling (other order) place v) s.out.now parted.out.now after.out.now place here long one (subst (λ (l : List ℕ). Replaces place (spelling order place v) (spelling (other order) place v) parted.out.now l) (sym pushed.kept) second.replaced) in
-    record {
-      same = pushed.same ∙ second.same ∙ stays.same ∙ first.same;
-      replaced = subst (λ (l : List ℕ). Replaces at l (spellings (other order) at (value_trees (done ++ v ∷ []))) s.out.now after.out.now) (sym own_is)
-          (subst (λ (l : List ℕ). Replaces at (own ++ spelling order place v) l s.out.now after.out.now) (sym put_is) both);
-    }
+more_byteswapped s before parted taken after order at place done v first stays here second pushed = record {
+  same = pushed.same ∙ second.same ∙ stays.same ∙ first.same;
+  replaced = more_put order at place done v s.out.now parted.out.now after.out.now here
+      (subst (λ (l : List ℕ). Replaces at (spellings order at (value_trees done)) (spellings (other order) at (value_trees done)) s.out.now l) (sym stays.kept) first.replaced)
+      (subst (λ (l : List ℕ). Replaces place (spelling order place v) (spelling (other order) place v) parted.out.now l) (sym pushed.kept) second.replaced);
+}
 
 pub whole_byteswapped : (s opened filled after : Byteswapper) (kind : Container) (order : Order) (at : ℕ) (v : ValueTree) (xs : List ValueTree)
     → IsOf kind v → Byteswaps at (front order at v) (front (other order) at v) s opened → parts v ≡ value_trees xs

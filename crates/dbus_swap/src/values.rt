@@ -1,28 +1,28 @@
 //! Values of any type, byteswapped where they stand. D-Bus Specification, "Marshaling (Wire Format)".
 #![tactic(auto)]
 
-ghost use Rattle.std.specs.Prelude.{◌≡◌, ℕ, ◌+◌, List, length, drop};
+ghost use Rattle.std.specs.Prelude.{◌≡◌, ℕ, List, length};
 ghost use Rattle.dbus_types.specs.TypeLengths.{AreLengths};
 ghost use Rattle.dbus_value_model.specs.Values.{ValueTree, ValueTrees};
 ghost use Rattle.dbus_value_model.specs.Spelling.{spelling, spellings};
-ghost use Rattle.dbus_walk.specs.Standing.{StandsAt, StandsThere, AllStandAt, AllStandThere};
-ghost use Rattle.dbus_swap.specs.Byteswapping.{other, IsPut};
+ghost use Rattle.dbus_walk.specs.Standing.{StandsAt, StandsThere, AllStandAt, AllStandThere, end_of};
+ghost use Rattle.dbus_swap.specs.Byteswapping.{other, Replaces};
 
 use crate::byteswapper::Byteswapper;
 use dbus_walk::{Source, Spot, walk_value, walk_values};
 
-/// Byteswaps the value at a spot, in `out`: a copy of the bytes, whose bytes from the spot on are those of the source.
-pub(crate) fn byteswap_value(source: &Source<'_>, out: &mut [u8], spot: &Spot<'_>)
+/// Byteswaps the value at a spot, if it stands in `out` as in the source: the offset after it.
+pub(crate) fn byteswap_value(source: &Source<'_>, out: &mut [u8], spot: &Spot<'_>) -> usize
     requires stands { StandsThere source.now spot.now }
     requires noted { AreLengths spot.now.types.now spot.now.lengths.now }
-    requires copied { drop spot.now.at out.old ≡ drop spot.now.at source.now.bytes.now }
     requires as_long { length out.old ≡ length source.now.bytes.now }
     ensures byteswapped { (v : ValueTree) (rest : List ℕ) → StandsAt source.now spot.now v rest →
-        IsPut spot.now.at (spelling (other source.now.order) spot.now.at v) rest out.old out.new }
+        Replaces spot.now.at (spelling source.now.order spot.now.at v) (spelling (other source.now.order) spot.now.at v) out.old out.new ×
+        (result ≡ end_of source.now spot.now v) }
 {
     let mut byteswapper = Byteswapper { out };
     match walk_value(&mut byteswapper, source, spot) {
-        Ok(_) => {}
+        Ok((_, after)) => after,
         Err(never) => match never {},
     }
 }
@@ -31,10 +31,9 @@ pub(crate) fn byteswap_value(source: &Source<'_>, out: &mut [u8], spot: &Spot<'_
 pub(crate) fn byteswap_values(source: &Source<'_>, out: &mut [u8], spot: &Spot<'_>)
     requires stand { AllStandThere source.now spot.now }
     requires noted { AreLengths spot.now.types.now spot.now.lengths.now }
-    requires copied { drop spot.now.at out.old ≡ drop spot.now.at source.now.bytes.now }
     requires as_long { length out.old ≡ length source.now.bytes.now }
     ensures byteswapped { (vs : ValueTrees) (rest : List ℕ) → AllStandAt source.now spot.now vs rest →
-        IsPut spot.now.at (spellings (other source.now.order) spot.now.at vs) rest out.old out.new }
+        Replaces spot.now.at (spellings source.now.order spot.now.at vs) (spellings (other source.now.order) spot.now.at vs) out.old out.new }
 {
     let mut byteswapper = Byteswapper { out };
     match walk_values(&mut byteswapper, (), source, spot) {

@@ -10,10 +10,11 @@ use Rattle.dbus_value_model.specs.Spelling.{spelling, spellings}
 use Rattle.dbus_value_model.specs.Values.{ValueTree, ValueTrees, NoValues, MoreValues, NumberValue, VariantValue, value_trees, type_of}
 use Rattle.dbus_message_model.specs.Messages.{FieldTree, field_struct}
 use Rattle.dbus_value_laws.proofs.ReadSteps.{one_byte}
+use Rattle.dbus_walk.specs.Containers.{inside}
 use Rattle.dbus_walk.specs.Fields.{FieldsStand, FieldsLeft, FieldStands, field_types, field_end}
 use Rattle.dbus_walk.specs.Standing.{Stands, AllStand, ElementsStand}
 use Rattle.dbus_walk.specs.declared.spot.Source.{Source}
-use Rattle.dbus_walk.proofs.Containers.{formed_variant, variant_stands, variant_held, variant_ends, array_stands, array_found, elements_there}
+use Rattle.dbus_walk.proofs.Containers.{formed_variant, variant_stands, variant_held, variant_begins, variant_ends, array_stands, array_found, elements_there}
 use Rattle.dbus_walk.proofs.Enclosed.{struct_stands, enclosed_there, enclosed_ends, stands_positive}
 use Rattle.dbus_walk.proofs.Lists.{none_ends, some_ends, first_element, other_elements, first_value, other_values}
 use Rattle.dbus_walk.proofs.Parts.{no_gap, number_of_width, number_ends}
@@ -73,6 +74,7 @@ module _ (source : Source) (depth_left at : ℕ) (f : FieldTree) (rest : List �
     pub code : get_or bytes start 0 ≡ f.code
     pub few : n < 256
     pub single : IsSingleType (type_of f.value)
+    pub value_begins : start + 1 + 1 + n + 1 ≡ inside source.order (start + 1) (VariantValue f.value)
     pub inside : start + 1 + 1 + n + 1 ≤ length bytes
     pub value : Stands source.order (depth_left - 3) (take (start + 1 + 1 + n - (start + 1 + 1)) (drop (start + 1 + 1) bytes)) (start + 1 + 1 + n + 1) bytes f.value rest
     pub ends : start + 1 + 1 + n + 1 + length (spelling source.order (start + 1 + 1 + n + 1) f.value) ≡ field_end source at f
@@ -94,6 +96,7 @@ module _ (source : Source) (depth_left at : ℕ) (f : FieldTree) (rest : List �
         few = omega (arith, count, v.few);
         single = (formed_variant (depth_left - 1 - 1) f.value coded.held.formed).1;
         inside = omega (arith, count, v.inside);
+        value_begins = omega (arith, count, variant_begins coded.held v);
         value = subst (λ (u : ValueTree). Stands source.order (depth_left - 3) types q bytes u rest) same
             (subst (λ (r : ℕ). Stands source.order r types q bytes v.x rest) less (variant_held coded.held v n count));
         ends = ap (λ (u : ValueTree). q + length (spelling source.order q u)) (sym same) ∙ place ∙ variant_ends coded.held v ∙ coded.ends;

@@ -2,9 +2,11 @@
 -- D-Bus Specification, "Message Format" and "Header Fields".
 use Rattle.std.specs.Prelude.{◌≡◌, ℕ, ◌+◌, ◌-◌, ◌<◌, ◌≤◌, List, [], ◌∷◌, length, map}
 use Rattle.dbus_texts.specs.Types.{IsSingleType}
+use Rattle.dbus_value_model.specs.Bytes.{gap_to}
 use Rattle.dbus_value_model.specs.Spelling.{spelling}
-use Rattle.dbus_value_model.specs.Values.{value_trees, type_of}
+use Rattle.dbus_value_model.specs.Values.{VariantValue, value_trees, type_of}
 use Rattle.dbus_message_model.specs.Messages.{FieldTree, field_struct, field_array}
+use Rattle.dbus_walk.specs.Containers.{inside}
 use Rattle.dbus_walk.specs.Standing.{Stands, ElementsStand}
 use Rattle.dbus_walk.specs.declared.fields.FieldSpot.{FieldSpot}
 use Rattle.dbus_walk.specs.declared.spot.Source.{Source}
@@ -31,10 +33,11 @@ pub record FieldStands (source : Source) (depth_left at : ℕ) (f : FieldTree) (
 abbrev pub field_end : Source → ℕ → FieldTree → ℕ
 field_end source at f = at + length (spelling source.order at (field_struct f))
 
--- the field that stands at an offset has this code, and its value, of a single complete type, stands here
+-- the field that stands at an offset has this code, and its value, of a single complete type, stands here: the variant after the code holds it
 pub record IsFieldAt (source : Source) (at : ℕ) (f : FieldTree) (rest : List ℕ) (spot : FieldSpot) : Type 0 where
   pub code : f.code ≡ spot.code
   pub few : length spot.types.now ≤ 255
   pub single : IsSingleType (type_of f.value)
+  pub begins : spot.at ≡ inside source.order (at + gap_to 8 at + 1) (VariantValue f.value)
   pub value : Stands source.order spot.depth_left spot.types.now spot.at source.bytes.now f.value rest
   pub ends : spot.at + length (spelling source.order spot.at f.value) ≡ field_end source at f

@@ -50,4 +50,4 @@ overflow_sub-result c =
 pub returns : goal.returns
 returns c = λ f rest s.
     let p = field_apart c.args.source.now c.args.depth_left c.args.at f rest s (c.args.at + c.gap.result) (omega (arith, c.gap.ensures)) c.from-size.result c.from-size.ensures in
-    record { code = sym p.code; few = omega (arith, p.few); single = p.single; value = p.value; ends = p.ends }
+    record { code = sym p.code; few = omega (arith, p.few); single = p.single; begins = omega (arith, p.value_begins, c.gap.ensures); value = p.value; ends = p.ends }

@@ -1,0 +1,48 @@
+use Rattle.std.proofs.Common.{arith}
+use Rattle.dbus_walk.proofs.FieldParts.{none_walked, next_field, field_walked, all_walked}
+use Rattle.dbus_swap.proofs.ByteswappedFields.{FieldsByteswapped, fields_opened, field_byteswapped, all_fields_byteswapped}
+use Rattle.dbus_swap.proofs.fields.byteswap_fields.Goals as goal
+
+pub byteswap_4-requires : goal.byteswap_4-requires
+byteswap_4-requires c =
+    let there = c.requires.stand in
+    omega (arith, (c.fields_end-end.ensures c.args.depth_left there.0 there.1 there.2).stand.inside, c.requires.as_long)
+
+pub loop-place-init : goal.loop-place-init
+loop-place-init c = record {
+  as_long = omega (arith, c.byteswap_4.auto.out, c.requires.as_long);
+  byteswapped = λ fs rest s. none_walked c.args.source.now c.args.depth_left 16 c.fields_end-end.result fs rest (FieldsByteswapped c.args.source.now.order fs c.args.out.now c.byteswap_4.new.out 16)
+      (c.fields_end-end.ensures c.args.depth_left fs rest s) (fields_opened c.args.source.now.order fs c.args.out.now c.byteswap_4.new.out c.byteswap_4.ensures);
+}
+
+pub byteswap_field-place-requires-clause-stands : goal.byteswap_field-place-requires-clause-stands
+byteswap_field-place-requires-clause-stands c =
+    let there = c.requires.stand in
+    let n = next_field (c.loop-place.invariant.byteswapped there.0 there.1 there.2) c.loop-place-test.true in
+    (n.f, n.after, n.stands)
+
+pub loop-place-smaller : goal.loop-place-smaller
+loop-place-smaller c =
+    let there = c.requires.stand in
+    let n = next_field (c.loop-place.invariant.byteswapped there.0 there.1 there.2) c.loop-place-test.true in
+    omega (arith, (c.byteswap_field-place.ensures.byteswapped n.f n.after n.stands).1, n.some, c.loop-place-test.true)
+
+pub loop-place-preserved : goal.loop-place-preserved
+loop-place-preserved c = record {
+  as_long = omega (arith, c.byteswap_field-place.auto.out, c.loop-place.invariant.as_long);
+  byteswapped = λ fs rest s.
+      let order = c.args.source.now.order in
+      let w = c.loop-place.invariant.byteswapped fs rest s in
+      let n = next_field w c.loop-place-test.true in
+      let one = c.byteswap_field-place.ensures.byteswapped n.f n.after n.stands in
+      let next = c.byteswap_field-place.new.out in
+      let after = c.byteswap_field-place.result in
+      field_walked w (FieldsByteswapped order fs c.args.out.now next after) n after one.1
+      (field_byteswapped order fs c.args.out.now c.loop-place.out c.loop-place.place after w.done n.f next w.walked one.1 one.0);
+}
+
+pub returns : goal.returns
+returns c = record {
+  byteswapped = λ fs rest s.
+      all_fields_byteswapped c.args.source.now.order fs c.args.out.now c.loop-place.out c.loop-place.place (all_walked (c.loop-place.invariant.byteswapped fs rest s) c.loop-place-test.false);
+}
