@@ -5,16 +5,15 @@ use Rattle.dbus_texts.specs.Types.{sig}
 use Rattle.dbus_value_model.specs.Bytes.{gap_to, pad, num}
 use Rattle.dbus_value_model.specs.declared.order.Order.{Order}
 use Rattle.dbus_value_model.specs.Spelling.{spelling, spellings, ended_text}
-use Rattle.dbus_value_model.specs.Values.{ValueTree, VariantValue, value_trees, type_of}
+use Rattle.dbus_value_model.specs.Values.{VariantValue, value_trees, type_of}
 use Rattle.dbus_value_model.proofs.Numbers.{length-num}
 use Rattle.dbus_message_model.specs.Messages.{FieldTree, field_type, field_struct, field_array}
 use Rattle.dbus_walk.specs.declared.container.Container.TheVariants.{Array}
 use Rattle.dbus_walk.specs.Containers.{inside, front}
 use Rattle.dbus_walk.proofs.Fronts.{same_inside}
 use Rattle.dbus_walk.proofs.Parts.{no_gap}
-use Rattle.dbus_walk.proofs.Walks.{spellings_more}
 use Rattle.dbus_swap.specs.Byteswapping.{other, Replaces}
-use Rattle.dbus_swap.specs.ByteswapLaws.{nothing_put, then_put, more_put, whole_put}
+use Rattle.dbus_swap.specs.ByteswapLaws.{ByteswappedTo, nothing_put, then_put, one_more, whole_put}
 use Rattle.dbus_swap.proofs.Byteswapped.{one_byte}
 use Rattle.dbus_swap.proofs.Leaves.{array_opens}
 
@@ -56,35 +55,27 @@ module _ (order : Order) (at q : ℕ) (f : FieldTree) (before now : List ℕ) (b
 
 -- These fields are byteswapped, after what stands before all fields, and the next one begins at `place`.
 pub record FieldsByteswapped (order : Order) (fs : List FieldTree) (before now : List ℕ) (place : ℕ) (done : List FieldTree) : Type 0 where
-  pub here : place ≡ 16 + length (spellings order 16 (value_trees (map field_struct done)))
   pub between : List ℕ
   pub opened : Replaces 12 (front order 12 (field_array fs)) (front (other order) 12 (field_array fs)) before between
-  pub replaced : Replaces 16 (spellings order 16 (value_trees (map field_struct done))) (spellings (other order) 16 (value_trees (map field_struct done))) between now
+  pub swapped : ByteswappedTo order 16 between now place (map field_struct done)
 
 module _ (order : Order) (fs : List FieldTree) (before now : List ℕ) where
   pub fields_opened : now ≡ take 12 before ++ (reverse (take 4 (drop 12 before)) ++ drop 16 before) → FieldsByteswapped order fs before now 16 []
   unfolding spellings gap_to
   fields_opened byteswapped = record {
-    here = refl;
     between = now;
     opened = array_opens order 12 12 before now field_type (value_trees (map field_struct fs)) refl byteswapped;
-    replaced = nothing_put 16 [] [] now now refl refl;
+    swapped = record { here = refl; replaced = nothing_put 16 [] [] now now refl refl };
+  }
+
+  pub field_byteswapped : (place q : ℕ) (done : List FieldTree) (f : FieldTree) (next : List ℕ) → FieldsByteswapped order fs before now place done → q ≡ place + length (spelling order place (field_struct f))
+      → Replaces place (spelling order place (field_struct f)) (spelling (other order) place (field_struct f)) now next → FieldsByteswapped order fs before next q (done ++ f ∷ [])
+  field_byteswapped place q done f next b ends value = record {
+    between = b.between;
+    opened = b.opened;
+    swapped = subst (ByteswappedTo order 16 b.between next q) (sym (map_push field_struct done f)) (one_more order 16 place q (map field_struct done) (field_struct f) b.between now next b.swapped ends value);
   }
 
   pub all_fields_byteswapped : (place : ℕ) → FieldsByteswapped order fs before now place fs → Replaces 12 (spelling order 12 (field_array fs)) (spelling (other order) 12 (field_array fs)) before now
   unfolding gap_to
-  all_fields_byteswapped place b = whole_put order 12 (field_array fs) Array tt before b.between now b.opened b.replaced
-
-  pub field_byteswapped : (place q : ℕ) (done : List FieldTree) (f : FieldTree) (next : List ℕ) → FieldsByteswapped order fs before now place done → q ≡ place + length (spelling order place (field_struct f))
-      → Replaces place (spelling order place (field_struct f)) (spelling (other order) place (field_struct f)) now next → FieldsByteswapped order fs before next q (done ++ f ∷ [])
-  field_byteswapped place q done f next b ends value =
-      let vs = map field_struct done in
-      let is : map field_struct (done ++ f ∷ []) ≡ vs ++ field_struct f ∷ [] = map_push field_struct done f in
-      let longer = ap length (spellings_more order 16 vs (field_struct f)) ∙ length-append (spellings order 16 (value_trees vs)) (spelling order (16 + length (spellings order 16 (value_trees vs))) (field_struct f)) in
-      record {
-        here = omega (arith, ends, b.here, longer, ap (λ (us : List ValueTree). length (spellings order 16 (value_trees us))) is, ap (λ (k : ℕ). length (spelling order k (field_struct f))) b.here);
-        between = b.between;
-        opened = b.opened;
-        replaced = subst (λ (us : List ValueTree). Replaces 16 (spellings order 16 (value_trees us)) (spellings (other order) 16 (value_trees us)) b.between next) (sym is)
-            (more_put order 16 place vs (field_struct f) b.between now next b.here b.replaced value);
-      }
+  all_fields_byteswapped place b = whole_put order 12 (field_array fs) Array tt before b.between now b.opened b.swapped.replaced

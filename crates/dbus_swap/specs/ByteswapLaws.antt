@@ -30,21 +30,25 @@ then_put at own put own' put' before between now q place long first second = λ 
     let within : q ≤ length between = omega (arith, here, h, ap length one, length-append (take at before) (put ++ (own' ++ rest)), length-append put (own' ++ rest), length-take at before) in
     put_more at put (own' ++ rest) before between h one q here put' rest now (second rest within left)
 
--- values, and one value more
-pub more_put : (order : Order) (at place : ℕ) (done : List ValueTree) (v : ValueTree) (before between now : List ℕ) → place ≡ at + length (spellings order at (value_trees done))
-    → Replaces at (spellings order at (value_trees done)) (spellings (other order) at (value_trees done)) before between
-    → Replaces place (spelling order place v) (spelling (other order) place v) between now
-    → Replaces at (spellings order at (value_trees (done ++ v ∷ []))) (spellings (other order) at (value_trees (done ++ v ∷ []))) before now
-more_put order at place done v before between now here first second =
+-- Of values that stand one after another from `at` on, these are byteswapped, and the next one begins at `place`.
+pub record ByteswappedTo (order : Order) (at : ℕ) (before now : List ℕ) (place : ℕ) (done : List ValueTree) : Type 0 where
+  pub here : place ≡ at + length (spellings order at (value_trees done))
+  pub replaced : Replaces at (spellings order at (value_trees done)) (spellings (other order) at (value_trees done)) before now
+
+pub one_more : (order : Order) (at place q : ℕ) (done : List ValueTree) (v : ValueTree) (before now next : List ℕ) → ByteswappedTo order at before now place done → q ≡ place + length (spelling order place v)
+    → Replaces place (spelling order place v) (spelling (other order) place v) now next → ByteswappedTo order at before next q (done ++ v ∷ [])
+one_more order at place q done v before now next first ends second =
     let own = spellings order at (value_trees done) in
     let put = spellings (other order) at (value_trees done) in
     let long : length own ≡ length put = any_lengths order (other order) at (value_trees done) in
-    let there : place ≡ at + length put = omega (arith, here, long) in
-    let own_is : spellings order at (value_trees (done ++ v ∷ [])) ≡ own ++ spelling order place v = spellings_more order at done v ∙ ap (λ (k : ℕ). own ++ spelling order k v) (sym here) in
-    let put_is : spellings (other order) at (value_trees (done ++ v ∷ [])) ≡ put ++ spelling (other order) place v = spellings_more (other order) at done v ∙ ap (λ (k : ℕ). put ++ spelling (other order) k v) (sym there) in
-    subst (λ (l : List ℕ). Replaces at l (spellings (other order) at (value_trees (done ++ v ∷ []))) before now) (sym own_is)
-    (subst (λ (l : List ℕ). Replaces at (own ++ spelling order place v) l before now) (sym put_is)
-    (then_put at own put (spelling order place v) (spelling (other order) place v) before between now place here long first second))
+    let is : (any : Order) → length (spellings any at (value_trees done)) ≡ length own → spellings any at (value_trees (done ++ v ∷ [])) ≡ spellings any at (value_trees done) ++ spelling any place v =
+    λ any same. spellings_more any at done v ∙ ap (λ (k : ℕ). spellings any at (value_trees done) ++ spelling any k v) (omega (arith, first.here, same)) in
+    record {
+      here = omega (arith, first.here, ends, ap length (is order refl), length-append own (spelling order place v));
+      replaced = subst (λ (l : List ℕ). Replaces at l (spellings (other order) at (value_trees (done ++ v ∷ []))) before next) (sym (is order refl))
+          (subst (λ (l : List ℕ). Replaces at (own ++ spelling order place v) l before next) (sym (is (other order) (sym long)))
+          (then_put at own put (spelling order place v) (spelling (other order) place v) before now next place first.here long first.replaced second));
+    }
 
 -- a container: what stands before its parts, and then these
 pub whole_put : (order : Order) (at : ℕ) (v : ValueTree) (kind : Container) → IsOf kind v → (before between now : List ℕ)
@@ -75,9 +79,9 @@ pub more_byteswapped : (s before parted taken after : Byteswapper) (order : Orde
     → Byteswaps at (spellings order at (value_trees (done ++ v ∷ []))) (spellings (other order) at (value_trees (done ++ v ∷ []))) s after
 more_byteswapped s before parted taken after order at place done v first stays here second pushed = record {
   same = pushed.same ∙ second.same ∙ stays.same ∙ first.same;
-  replaced = more_put order at place done v s.out.now parted.out.now after.out.now here
-      (subst (λ (l : List ℕ). Replaces at (spellings order at (value_trees done)) (spellings (other order) at (value_trees done)) s.out.now l) (sym stays.kept) first.replaced)
-      (subst (λ (l : List ℕ). Replaces place (spelling order place v) (spelling (other order) place v) parted.out.now l) (sym pushed.kept) second.replaced);
+  replaced = (one_more order at place _ done v s.out.now parted.out.now after.out.now
+      (record { here = here; replaced = subst (λ (l : List ℕ). Replaces at (spellings order at (value_trees done)) (spellings (other order) at (value_trees done)) s.out.now l) (sym stays.kept) first.replaced }) refl
+      (subst (λ (l : List ℕ). Replaces place (spelling order place v) (spelling (other order) place v) parted.out.now l) (sym pushed.kept) second.replaced)).replaced;
 }
 
 pub whole_byteswapped : (s opened filled after : Byteswapper) (kind : Container) (order : Order) (at : ℕ) (v : ValueTree) (xs : List ValueTree)

@@ -102,6 +102,11 @@ module _ (source : Source) (depth_left at : ℕ) (f : FieldTree) (rest : List �
         ends = ap (λ (u : ValueTree). q + length (spelling source.order q u)) (sym same) ∙ place ∙ variant_ends coded.held v ∙ coded.ends;
       }
 
+-- whatever field it is
+pub field_inside : {source : Source} {depth_left at : ℕ} → (f : FieldTree) × (rest : List ℕ) × FieldStands source depth_left at f rest → {g : ℕ} → g ≡ gap_to 8 at
+    → (3 ≤ depth_left) × (at + g + 1 + 1 + get_or source.bytes.now (at + g + 1) 0 + 1 ≤ length source.bytes.now)
+field_inside {source} {depth_left} {at} (f, rest, s) {g} e = let p = field_apart source depth_left at f rest s (at + g) (omega (arith, e)) _ refl in (p.deep, p.inside)
+
 -- ---- a message's fields
 
 gaps : (gap_to 4 12 ≡ 0) × (gap_to 8 16 ≡ 0)

@@ -3,7 +3,7 @@ use Rattle.dbus_value_model.specs.Bytes.{gap_to}
 use Rattle.dbus_value_model.specs.Spelling.{spellings}
 use Rattle.dbus_swap.specs.Byteswapping.{other}
 use Rattle.dbus_swap.specs.ByteswapLaws.{nothing_put}
-use Rattle.dbus_swap.proofs.NumberRuns.{ByteswappedTo, bytes_same, none_byteswapped, number_byteswapped, all_byteswapped}
+use Rattle.dbus_swap.proofs.NumberRuns.{NumbersByteswapped, bytes_same, none_byteswapped, number_byteswapped, all_byteswapped}
 use Rattle.dbus_swap.proofs.numbers.byteswap_numbers.Goals as goal
 
 pub returns-then-size-eq1 : goal.returns-then-size-eq1
@@ -28,9 +28,9 @@ loop-place-preserved c =
       as_long = omega (arith, c.byteswap_number.auto.out, c.loop-place.invariant.as_long);
       byteswapped = λ order k xs wide all aligned ends.
           let reversed = subst (λ (w : ℕ). c.byteswap_number.new.out ≡ take place out ++ (reverse (take w (drop place out)) ++ drop (place + w) out)) (sym wide) (c.byteswap_number.ensures k wide) in
-          let next = number_byteswapped c.byteswap_number.new.out (omega (arith, c.loop-place-test.true, c.requires.some, step)) (c.loop-place.invariant.byteswapped order k xs wide all aligned ends) reversed in
-          subst (λ (q : ℕ). ByteswappedTo order k c.args.at c.args.end xs c.args.out.now q c.byteswap_number.new.out) (ap (λ (w : ℕ). place + w) (wide ∙ sym step)) next;
+          let next = number_byteswapped (c.loop-place.invariant.byteswapped order k xs wide all aligned ends) c.byteswap_number.new.out (omega (arith, c.loop-place-test.true, c.requires.some, step)) reversed in
+          subst (λ (q : ℕ). NumbersByteswapped order k c.args.at c.args.end xs c.args.out.now q c.byteswap_number.new.out) (ap (λ (w : ℕ). place + w) (wide ∙ sym step)) next;
     }
 
 pub returns : goal.returns
-returns c = λ order k xs wide all aligned ends. all_byteswapped (omega (arith, wide, c.from-step.ensures, c.loop-place-test.false)) (c.loop-place.invariant.byteswapped order k xs wide all aligned ends)
+returns c = λ order k xs wide all aligned ends. all_byteswapped (c.loop-place.invariant.byteswapped order k xs wide all aligned ends) (omega (arith, wide, c.from-step.ensures, c.loop-place-test.false))

@@ -5,7 +5,7 @@ use Rattle.dbus_value_model.specs.Bytes.{gap_to}
 use Rattle.dbus_value_model.specs.declared.order.Order.{Order}
 use Rattle.dbus_value_model.specs.Spelling.{spellings}
 use Rattle.dbus_value_model.specs.Values.{ValueTrees, AllOf}
-use Rattle.dbus_swap.proofs.NumberRuns.{ByteswappedTo}
+use Rattle.dbus_swap.proofs.NumberRuns.{NumbersByteswapped}
 use Rattle.dbus_swap.proofs.numbers.byteswap_numbers.Given as goal
 
 abbrev pub invariant-loop-place : goal.invariant-loop-place
@@ -13,7 +13,7 @@ invariant-loop-place l = record {
   at_most : l.place ≤ l.end;
   as_long : length l.out ≡ length l.fn.out;
   byteswapped : (order : Order) (k : NumberCode) (xs : ValueTrees) → width k ≡ l.size → AllOf (NumberType k) xs → gap_to l.size l.fn.at ≡ 0 → l.end ≡ l.fn.at + length (spellings order l.fn.at xs)
-      → ByteswappedTo order k l.fn.at l.end xs l.fn.out l.place l.out;
+      → NumbersByteswapped order k l.fn.at l.end xs l.fn.out l.place l.out;
 }
 
 abbrev pub decreases-loop-place : goal.decreases-loop-place
