@@ -1,5 +1,5 @@
 -- What byteswaps numbers, texts, and arrays as they open.
-use Rattle.std.proofs.Common.{◌≡◌, ℕ, ◌+◌, ◌<◌, List, [], ◌∷◌, ◌++◌, length, get_or, take, drop, reverse, refl, sym, ap, subst, ◌∙◌, arith}
+use Rattle.std.proofs.Common.{◌≡◌, ℕ, ◌+◌, ◌<◌, List, [], ◌∷◌, ◌++◌, length, get_or, take, drop, reverse, refl, sym, ap, subst, ◌∙◌, ◌⊎◌, arith}
 use Rattle.std.proofs.lemmas.List.{length-replicate}
 use Rattle.dbus_texts.specs.Types.{NumberCode, TextCode, TypeTree, NumberType, sig}
 use Rattle.dbus_types.specs.Alignments.{width, length_width, alignment_of}
@@ -17,7 +17,7 @@ use Rattle.dbus_walk.specs.Containers.{IsOf, front}
 use Rattle.dbus_walk.specs.Standing.{Stands}
 use Rattle.dbus_walk.specs.Widths.{number_width}
 use Rattle.dbus_walk.proofs.Containers.{ArrayStands, elements_there}
-use Rattle.dbus_walk.proofs.Parts.{number_is}
+use Rattle.dbus_walk.proofs.Parts.{number_is, number_stands, long_stands}
 use Rattle.dbus_swap.specs.Byteswapping.{other, Replaces}
 use Rattle.dbus_swap.specs.ByteswapLaws.{nothing_put, then_put}
 use Rattle.dbus_swap.proofs.Byteswapped.{one_byte, number_put}
@@ -72,6 +72,21 @@ array_opens order at start out now t xs begins byteswapped =
     subst (λ (m : ℕ). Replaces at (pad 4 at ++ (num order 4 n ++ z)) (pad 4 at ++ (num (other order) 4 m ++ z)) out now) (any_lengths order (other order) (contents_start t at) xs)
     (fronted_byteswaps order at 4 start n out now begins byteswapped z)
 
+-- the value that stands there
+module _ {order : Order} {depth_left : ℕ} {types : List ℕ} {at : ℕ} {bytes : List ℕ} {v : ValueTree} {rest : List ℕ} (s : Stands order depth_left types at bytes v rest) (start : ℕ) (out now : List ℕ) where
+  pub number_there_byteswaps : (size : ℕ) → 0 < size → ((t : TypeTree) → first_code t ≡ get_or types 0 0 → size ≡ number_width t) → start ≡ at + gap_to size at
+      → ((k : NumberCode) → width k ≡ size → now ≡ take start out ++ (reverse (take size (drop start out)) ++ drop (start + size) out)) → Replaces at (spelling order at v) (spelling (other order) at v) out now
+  number_there_byteswaps size some wide begins byteswapped =
+      let p = number_stands s size some wide in
+      subst (λ (x : ValueTree). Replaces at (spelling order at x) (spelling (other order) at x) out now) (sym p.is) (number_byteswaps order at size start p.n out now begins (byteswapped p.code p.wide) p.code p.wide)
+
+  pub text_there_byteswaps : (get_or types 0 0 ≡ 115) ⊎ (get_or types 0 0 ≡ 111) → start ≡ at + gap_to 4 at → now ≡ take start out ++ (reverse (take 4 (drop start out)) ++ drop (start + 4) out)
+      → Replaces at (spelling order at v) (spelling (other order) at v) out now
+  text_there_byteswaps code begins byteswapped =
+      let p = long_stands s code in
+      subst (λ (x : ValueTree). Replaces at (spelling order at x) (spelling (other order) at x) out now) (sym p.is)
+      (text_byteswaps order at 4 start (length p.text) out now begins byteswapped p.code p.text refl p.wide)
+
 -- the numbers of an array
 module _ {order : Order} {depth_left : ℕ} {types : List ℕ} {at : ℕ} {bytes : List ℕ} {v : ValueTree} {rest : List ℕ} (s : Stands order depth_left types at bytes v rest) where
   pub numbers_byteswap : (p : ArrayStands s) (first end size : ℕ) (half now : List ℕ) → 0 < size → ((t : TypeTree) → first_code t ≡ get_or types 1 0 → size ≡ number_width t) → first ≡ contents_start p.type at → end ≡ first + p.n
@@ -87,24 +102,14 @@ module _ {order : Order} {depth_left : ℕ} {types : List ℕ} {at : ℕ} {bytes
 
 -- what stands before the parts of another container is the same in both orders
 pub opens_so : (what : Container) (order : Order) (at : ℕ) (v : ValueTree) (out : List ℕ) → (what ≡ kind.Array → ⊥) → IsOf what v → Replaces at (front order at v) (front (other order) at v) out out
-opens_so kind.Variant order at (VariantValue x) out h is_of =
+opens_so what order at (NumberValue k n) out h is_of = nothing_put at [] [] out out refl refl
+opens_so what order at (TextValue k t) out h is_of = nothing_put at [] [] out out refl refl
+opens_so what order at (VariantValue x) out h is_of =
     let t = sig (type_of x) in
     nothing_put at (ended_text order 1 t) (ended_text (other order) 1 t) out out (ap (λ (l : List ℕ). l ++ (t ++ 0 ∷ [])) (one_byte order (length t))) refl
-opens_so kind.Struct order at (StructValue xs) out h is_of = nothing_put at (pad 8 at) (pad 8 at) out out refl refl
-opens_so kind.Entry order at (EntryValue x y) out h is_of = nothing_put at (pad 8 at) (pad 8 at) out out refl refl
-opens_so kind.Array order at v out h is_of = absurd (h refl)
-opens_so kind.Variant order at (NumberValue k n) out h is_of = absurd is_of
-opens_so kind.Variant order at (TextValue k t) out h is_of = absurd is_of
+opens_so what order at (StructValue xs) out h is_of = nothing_put at (pad 8 at) (pad 8 at) out out refl refl
+opens_so what order at (EntryValue x y) out h is_of = nothing_put at (pad 8 at) (pad 8 at) out out refl refl
+opens_so kind.Array order at (ArrayValue t xs) out h is_of = absurd (h refl)
 opens_so kind.Variant order at (ArrayValue t xs) out h is_of = absurd is_of
-opens_so kind.Variant order at (StructValue xs) out h is_of = absurd is_of
-opens_so kind.Variant order at (EntryValue x y) out h is_of = absurd is_of
-opens_so kind.Struct order at (NumberValue k n) out h is_of = absurd is_of
-opens_so kind.Struct order at (TextValue k t) out h is_of = absurd is_of
 opens_so kind.Struct order at (ArrayValue t xs) out h is_of = absurd is_of
-opens_so kind.Struct order at (VariantValue x) out h is_of = absurd is_of
-opens_so kind.Struct order at (EntryValue x y) out h is_of = absurd is_of
-opens_so kind.Entry order at (NumberValue k n) out h is_of = absurd is_of
-opens_so kind.Entry order at (TextValue k t) out h is_of = absurd is_of
 opens_so kind.Entry order at (ArrayValue t xs) out h is_of = absurd is_of
-opens_so kind.Entry order at (VariantValue x) out h is_of = absurd is_of
-opens_so kind.Entry order at (StructValue xs) out h is_of = absurd is_of

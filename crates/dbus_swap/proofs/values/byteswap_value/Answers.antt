@@ -10,6 +10,6 @@ returns c = record {
       let at = c.args.spot.now.at in
       let w = c.in-Ok.ensures.walked v rest s in
       let same = w.0.same in
-      let back : c.walk_value.new.visitor.out.now ≡ c.out-1.given.0 = search rules in
+      let back : c.walk_value.new.visitor.out.now ≡ c.out-2-1.given.0 = search rules in
       (subst (λ (l : List ℕ). Replaces at (spelling order at v) (spelling (other order) at v) c.args.out.now l) back w.0.replaced, w.1);
 }

@@ -1,23 +1,10 @@
-use Rattle.std.proofs.Common.{length, subst, sym, refl, arith}
-use Rattle.dbus_value_model.specs.Spelling.{spelling}
-use Rattle.dbus_value_model.specs.Values.{ValueTree}
+use Rattle.std.proofs.Common.{refl, arith}
 use Rattle.dbus_walk.proofs.Parts.{long_stands}
-use Rattle.dbus_swap.specs.Byteswapping.{other, Replaces}
-use Rattle.dbus_swap.proofs.Leaves.{text_byteswaps}
+use Rattle.dbus_swap.proofs.Leaves.{text_there_byteswaps}
 use Rattle.dbus_swap.proofs.byteswapping.ByteswapperVisitor.long_text.Goals as goal
 
 pub byteswap_4-requires : goal.byteswap_4-requires
 byteswap_4-requires c = let p = long_stands c.requires.stands.2 c.requires.code in omega (arith, p.inside, c.requires.begins, c.requires.ready)
 
 pub returns-clause-takes : goal.returns-clause-takes
-returns-clause-takes c = λ v rest s.
-    let p = long_stands s c.requires.code in
-    let order = c.args._source.now.order in
-    let at = c.args._spot.now.at in
-    let out = c.args.self.now.out.now in
-    let now = c.byteswap_4.new.out in
-    record {
-      same = refl;
-      replaced = subst (λ (x : ValueTree). Replaces at (spelling order at x) (spelling (other order) at x) out now) (sym p.is)
-          (text_byteswaps order at 4 c.args.start (length p.text) out now c.requires.begins c.byteswap_4.ensures p.code p.text refl p.wide);
-    }
+returns-clause-takes c = λ v rest s. record { same = refl; replaced = text_there_byteswaps s c.args.start c.args.self.now.out.now c.byteswap_4.new.out c.requires.code c.requires.begins c.byteswap_4.ensures }
