@@ -3,42 +3,15 @@
 
 ghost use Rattle.std.specs.Prelude.{◌≡◌, ℕ, List, length};
 ghost use Rattle.dbus_value_model.specs.Spelling.{spelling};
-ghost use Rattle.dbus_message_model.specs.Messages.{FieldTree, field_array, field_struct};
-ghost use Rattle.dbus_walk.specs.Fields.{FieldsStand, FieldStands, field_end};
+ghost use Rattle.dbus_message_model.specs.Messages.{FieldTree, field_array};
+ghost use Rattle.dbus_walk.specs.Fields.{FieldsStand};
 ghost use Rattle.dbus_swap.specs.Byteswapping.{other, Replaces};
 
 use crate::numbers::byteswap_4;
 use crate::values::byteswap_value;
 use dbus_walk::{FIELDS_START, Source, Spot, field_at, fields_end, lengths_of};
 
-/// Byteswaps the field at `at`, as `byteswap_value` does: the offset after it.
-fn byteswap_field(
-    source: &Source<'_>,
-    out: &mut [u8],
-    at: usize,
-    depth_left: u8,
-    table: &mut [u8; 255],
-) -> usize
-    requires stands { (f : FieldTree) × (rest : List ℕ) × FieldStands source.now depth_left at f rest }
-    requires as_long { length out.old ≡ length source.now.bytes.now }
-    ensures byteswapped { (f : FieldTree) (rest : List ℕ) → FieldStands source.now depth_left at f rest →
-        Replaces at (spelling source.now.order at (field_struct f)) (spelling (other source.now.order) at (field_struct f)) out.old out.new ×
-        (result ≡ field_end source.now at f) }
-{
-    let field = field_at(source, at, depth_left);
-    byteswap_value(
-        source,
-        out,
-        &Spot {
-            at: field.at,
-            types: field.types,
-            lengths: lengths_of(field.types, table),
-            depth_left: field.depth_left,
-        },
-    )
-}
-
-/// Byteswaps a message's fields, as `byteswap_value` does.
+/// Byteswaps a message's fields, as `byteswap_value` does: of each the value alone, since its code and its signature are bytes.
 pub(crate) fn byteswap_fields(
     source: &Source<'_>,
     out: &mut [u8],
@@ -54,6 +27,16 @@ pub(crate) fn byteswap_fields(
     byteswap_4(out, 12);
     let mut place = FIELDS_START;
     while place < end {
-        place = byteswap_field(source, out, place, depth_left, table);
+        let field = field_at(source, place, depth_left);
+        place = byteswap_value(
+            source,
+            out,
+            &Spot {
+                at: field.at,
+                types: field.types,
+                lengths: lengths_of(field.types, table),
+                depth_left: field.depth_left,
+            },
+        );
     }
 }
