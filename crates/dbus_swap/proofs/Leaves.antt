@@ -16,8 +16,8 @@ use Rattle.dbus_walk.specs.declared.container.Container.TheVariants as kind
 use Rattle.dbus_walk.specs.Containers.{IsOf, front}
 use Rattle.dbus_walk.specs.Standing.{Stands}
 use Rattle.dbus_walk.specs.Widths.{number_width}
-use Rattle.dbus_walk.proofs.Containers.{ArrayStands, elements_there}
-use Rattle.dbus_walk.proofs.Parts.{number_is, number_stands, long_stands}
+use Rattle.dbus_walk.proofs.Containers.{ArrayStands, array_stands, elements_there}
+use Rattle.dbus_walk.proofs.Parts.{number_is, number_stands, long_stands, short_stands}
 use Rattle.dbus_swap.specs.Byteswapping.{other, Replaces}
 use Rattle.dbus_swap.specs.ByteswapLaws.{nothing_put, then_put}
 use Rattle.dbus_swap.proofs.Byteswapped.{one_byte, number_put}
@@ -54,15 +54,6 @@ module _ (order : Order) (at size start n : ℕ) (out now : List ℕ) (begins : 
       subst (λ (w : ℕ). Replaces at (pad w at ++ (num order w (length t) ++ z)) (pad w at ++ (num (other order) w (length t) ++ z)) out now) (sym wide)
       (subst (λ (m : ℕ). Replaces at (pad size at ++ (num order size m ++ z)) (pad size at ++ (num (other order) size m ++ z)) out now) is (fronted_byteswaps z))
 
--- a length of one byte is the same in both orders
-pub short_byteswaps : (order : Order) (at : ℕ) (out now : List ℕ) (k : TextCode) (t : List ℕ) → length_width k ≡ 1 → now ≡ out → Replaces at (spelling order at (TextValue k t)) (spelling (other order) at (TextValue k t)) out now
-unfolding spelling
-short_byteswaps order at out now k t wide kept =
-    let z = t ++ 0 ∷ [] in
-    let n = length t in
-    nothing_put at (pad (length_width k) at ++ (num order (length_width k) n ++ z)) (pad (length_width k) at ++ (num (other order) (length_width k) n ++ z)) out now
-    (subst (λ (w : ℕ). pad w at ++ (num order w n ++ z) ≡ pad w at ++ (num (other order) w n ++ z)) (sym wide) (ap (λ (l : List ℕ). pad 1 at ++ (l ++ z)) (one_byte order n))) kept
-
 pub array_opens : (order : Order) (at start : ℕ) (out now : List ℕ) (t : TypeTree) (xs : ValueTrees) → start ≡ at + gap_to 4 at
     → now ≡ take start out ++ (reverse (take 4 (drop start out)) ++ drop (start + 4) out)
     → Replaces at (front order at (ArrayValue t xs)) (front (other order) at (ArrayValue t xs)) out now
@@ -86,6 +77,23 @@ module _ {order : Order} {depth_left : ℕ} {types : List ℕ} {at : ℕ} {bytes
       let p = long_stands s code in
       subst (λ (x : ValueTree). Replaces at (spelling order at x) (spelling (other order) at x) out now) (sym p.is)
       (text_byteswaps order at 4 start (length p.text) out now begins byteswapped p.code p.text refl p.wide)
+
+  pub array_there_opens : get_or types 0 0 ≡ 97 → start ≡ at + gap_to 4 at → now ≡ take start out ++ (reverse (take 4 (drop start out)) ++ drop (start + 4) out) → Replaces at (front order at v) (front (other order) at v) out now
+  array_there_opens code begins byteswapped =
+      let p = array_stands s code in
+      subst (λ (x : ValueTree). Replaces at (front order at x) (front (other order) at x) out now) (sym p.is) (array_opens order at start out now p.type p.xs begins byteswapped)
+
+-- a length of one byte is the same in both orders
+pub short_stays : {order : Order} {depth_left : ℕ} {types : List ℕ} {at : ℕ} {bytes : List ℕ} {v : ValueTree} {rest : List ℕ} → Stands order depth_left types at bytes v rest → (out : List ℕ)
+    → get_or types 0 0 ≡ 103 → Replaces at (spelling order at v) (spelling (other order) at v) out out
+unfolding spelling
+short_stays {order = order} {at = at} {v = v} s out code =
+    let p = short_stands s code in
+    let z = p.text ++ 0 ∷ [] in
+    let byte : pad 1 at ++ (num order 1 (length p.text) ++ z) ≡ pad 1 at ++ (num (other order) 1 (length p.text) ++ z) = ap (λ (l : List ℕ). pad 1 at ++ (l ++ z)) (one_byte order (length p.text)) in
+    let same : spelling order at (TextValue p.code p.text) ≡ spelling (other order) at (TextValue p.code p.text) =
+    subst (λ (w : ℕ). pad w at ++ (num order w (length p.text) ++ z) ≡ pad w at ++ (num (other order) w (length p.text) ++ z)) (sym p.wide) byte in
+    nothing_put at (spelling order at v) (spelling (other order) at v) out out (subst (λ (x : ValueTree). spelling order at x ≡ spelling (other order) at x) (sym p.is) same) refl
 
 -- the numbers of an array
 module _ {order : Order} {depth_left : ℕ} {types : List ℕ} {at : ℕ} {bytes : List ℕ} {v : ValueTree} {rest : List ℕ} (s : Stands order depth_left types at bytes v rest) where
