@@ -7,3 +7,4 @@ pub mod NumberArrays
 mod ValueSteps
 pub mod ValueRefusals
 pub mod Spelled
+mod PlainBlocks

@@ -1,10 +1,10 @@
 -- Types whose lengths are noted, and parts of them.
-use Rattle.std.proofs.Common.{◌≡◌, ℕ, ◌+◌, ◌-◌, ◌<◌, List, ◌++◌, length, take, drop, get_or, sym, ap, ◌∙◌, arith, append_assoc}
+use Rattle.std.proofs.Common.{◌≡◌, ℕ, ◌+◌, ◌-◌, ◌<◌, List, ◌++◌, length, take, drop, get_or, refl, sym, ap, ◌∙◌, arith, append_assoc}
 use Rattle.std.proofs.lemmas.List.{length-append, length-drop, length-take, drop-drop, drop-take, take-append-drop}
-use Rattle.dbus_texts.specs.Types.{sig}
+use Rattle.dbus_texts.specs.Types.{TypeTree, NumberType, TextType, VariantType, ArrayType, StructType, EntryType, sig, IsBasic}
 use Rattle.dbus_texts.proofs.TypeTexts.{sig_positive}
-use Rattle.dbus_types.specs.SignatureCodes.{IsTypeEnd}
-use Rattle.dbus_types.proofs.TypeLengths.{one_byte}
+use Rattle.dbus_types.specs.SignatureCodes.{IsTypeEnd, first_code}
+use Rattle.dbus_types.proofs.TypeLengths.{one_byte, first_there}
 use Rattle.dbus_value_validator.specs.NotedTypes.{AreNoted}
 
 module _ (types lengths : List ℕ) where
@@ -29,3 +29,19 @@ module _ (types lengths : List ℕ) where
 -- a type that is no container ends after its byte
 pub one_byte_end : (types : List ℕ) (at : ℕ) → at < length types → (get_or types at 0 ≡ 97 → ⊥) → (get_or types at 0 ≡ 40 → ⊥) → (get_or types at 0 ≡ 123 → ⊥) → IsTypeEnd types at (at + 1)
 one_byte_end types at lt array struct entry = λ t more e. ap (λ (i : ℕ). at + i) (sym (one_byte types at t more lt e array struct entry))
+
+-- the code of a type that stands at a place
+pub first_front : (types : List ℕ) (at n : ℕ) (t : TypeTree) → at < length types → sig t ≡ take n (drop at types) → first_code t ≡ get_or types at 0
+first_front types at n t lt e = first_there types at t (drop n (drop at types)) lt (sym (take-append-drop n (drop at types)) ∙ ap (λ (l : List ℕ). l ++ drop n (drop at types)) (sym e))
+
+basic_long : (t : TypeTree) → IsBasic t → length (sig t) ≡ 1
+basic_long (NumberType k) h = refl
+basic_long (TextType k) h = refl
+basic_long VariantType h = absurd h
+basic_long (ArrayType u) h = absurd h
+basic_long (StructType ts) h = absurd h
+basic_long (EntryType k v) h = absurd h
+
+-- a basic type ends after its byte
+pub basic_end : (types : List ℕ) (at : ℕ) → at < length types → ((t : TypeTree) → first_code t ≡ get_or types at 0 → IsBasic t) → IsTypeEnd types at (at + 1)
+basic_end types at lt basic = λ t more e. ap (λ (i : ℕ). at + i) (sym (basic_long t (basic t (first_there types at t more lt e))))

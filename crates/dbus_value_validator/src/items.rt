@@ -12,6 +12,7 @@ ghost use Rattle.dbus_value_model.specs.Items.{no_row};
 ghost use Rattle.dbus_value_model.specs.Reading.{Done, padding, number};
 ghost use Rattle.dbus_value_validator.specs.Endings.{EndedText, IsNotRead};
 
+use crate::plain::is_seen_at_once;
 use dbus_types::{TextKind, text_break};
 use dbus_value_model::{Order, gap};
 
@@ -81,6 +82,9 @@ pub fn is_ended_text(bytes: &[u8], start: usize, n: usize, kind: TextKind) -> bo
 {
     if bytes[start + n] != 0 {
         return false;
+    }
+    if is_seen_at_once(kind, bytes, start, n) {
+        return true;
     }
     match text_break(kind, &bytes[start..start + n]) {
         None => true,

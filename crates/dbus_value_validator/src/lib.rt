@@ -10,6 +10,7 @@ mod basic;
 mod ends;
 mod items;
 mod numbers;
+mod plain;
 mod source;
 mod texts;
 mod validating;

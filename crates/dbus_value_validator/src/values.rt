@@ -14,7 +14,7 @@ ghost use Rattle.dbus_value_validator.specs.Sources.{value_in, values_in, elemen
 
 use crate::arrays::frame;
 use crate::basic::basic_value;
-use crate::ends::{end_of, wants_lengths};
+use crate::ends::{end_of, is_container, wants_lengths};
 use crate::items::padding;
 use crate::source::Source;
 use crate::texts::short_text;
@@ -86,10 +86,16 @@ pub(crate) fn all_values(
     let mut place = at;
     let mut first = 0;
     while first < types.len() {
-        let next = end_of(types, first, source.lengths, pos);
-        let one = &types[first..next];
-        place = one_value(source, place, end, one, pos + first, depth_left)?;
-        first = next;
+        let code = types[first];
+        if is_container(code) {
+            let next = end_of(types, first, source.lengths, pos);
+            let one = &types[first..next];
+            place = one_value(source, place, end, one, pos + first, depth_left)?;
+            first = next;
+        } else {
+            place = basic_value(source.bytes, place, end, source.order, code, source.bounds)?;
+            first += 1;
+        }
     }
     Some(place)
 }
@@ -138,6 +144,17 @@ fn variant(source: &Source<'_>, at: usize, end: usize, depth_left: u8) -> Option
     }
     let n = short_text(source.bytes, at, end, TextKind::Single)?;
     let first = at + 1;
+    let code = source.bytes[first];
+    if n == 1 && !is_container(code) {
+        return basic_value(
+            source.bytes,
+            first + 2,
+            end,
+            source.order,
+            code,
+            source.bounds,
+        );
+    }
     let held = &source.bytes[first..first + n];
     own_value(source, first + n + 1, end, held, depth_left - 1)
 }

@@ -1,4 +1,4 @@
-use Rattle.std.proofs.Common.{◌≡◌, ◌+◌, ◌-◌, take, drop, ap, sym, subst, arith, ℕ}
+use Rattle.std.proofs.Common.{◌≡◌, ◌+◌, ◌-◌, take, drop, ap, refl, sym, subst, arith, ℕ}
 use Rattle.dbus_texts.specs.Kinds.{IsKind}
 use Rattle.dbus_value_model.specs.Reading.{nul}
 use Rattle.dbus_value_laws.proofs.ReadSteps.{nul_faulty}
@@ -20,3 +20,7 @@ pub returns-in-Some-clause-refuses : goal.returns-in-Some-clause-refuses
 returns-in-Some-clause-refuses c = λ none ended.
     let long : c.args.start + c.args.n - c.args.start ≡ c.args.n = omega arith in
     c.in-Some.ensures.0 (subst (λ (m : ℕ). IsKind c.args.kind (take m (drop c.args.start c.args.bytes.now))) (sym long) ended.is_kind)
+
+pub returns-then-is_seen_at_once-clause-accepts : goal.returns-then-is_seen_at_once-clause-accepts
+returns-then-is_seen_at_once-clause-accepts c = λ yes.
+    text_ends c.args.kind c.args.n c.args.start c.args.bytes.now _ c.requires refl (c.is_seen_at_once.ensures c.if-is_seen_at_once.true) c.if-bytes-start-ne0.false
