@@ -1,7 +1,12 @@
 -- Types whose lengths are noted, and parts of them.
-use Rattle.std.proofs.Common.{◌≡◌, ℕ, ◌+◌, ◌-◌, ◌<◌, List, ◌++◌, length, take, drop, get_or, refl, sym, ap, ◌∙◌, arith, append_assoc}
+use Rattle.std.proofs.Common.{◌≡◌, ℕ, ◌+◌, ◌-◌, ◌<◌, ◌≤◌, ◌⊎◌, ⊎_elim, List, ◌++◌, length, take, drop, get_or, true, refl, sym, ap, subst, ◌∙◌, arith, append_assoc}
 use Rattle.std.proofs.lemmas.List.{length-append, length-drop, length-take, drop-drop, drop-take, take-append-drop}
 use Rattle.dbus_texts.specs.Types.{TypeTree, NumberType, TextType, VariantType, ArrayType, StructType, EntryType, sig, IsBasic}
+use Rattle.dbus_texts.specs.SignatureScans.{is_basic_code}
+use Rattle.dbus_texts.specs.Kinds.{IsKind}
+use Rattle.dbus_texts.specs.declared.text_kind.TextKind.{TextKind}
+use Rattle.dbus_texts.specs.declared.text_kind.TextKind.TheVariants.{Signature, Single}
+use Rattle.dbus_texts.proofs.Codes.{basic_is_code, coded_signature, coded_single}
 use Rattle.dbus_texts.proofs.TypeTexts.{sig_positive}
 use Rattle.dbus_types.specs.SignatureCodes.{IsTypeEnd, first_code}
 use Rattle.dbus_types.proofs.TypeLengths.{one_byte, first_there}
@@ -45,3 +50,21 @@ basic_long (EntryType k v) h = absurd h
 -- a basic type ends after its byte
 pub basic_end : (types : List ℕ) (at : ℕ) → at < length types → ((t : TypeTree) → first_code t ≡ get_or types at 0 → IsBasic t) → IsTypeEnd types at (at + 1)
 basic_end types at lt basic = λ t more e. ap (λ (i : ℕ). at + i) (sym (basic_long t (basic t (first_there types at t more lt e))))
+
+coded_basic : (t : TypeTree) → is_basic_code (first_code t) ≡ true → IsBasic t
+coded_basic (NumberType k) h = tt
+coded_basic (TextType k) h = tt
+coded_basic VariantType h = cc
+coded_basic (ArrayType u) h = cc
+coded_basic (StructType ts) h = cc
+coded_basic (EntryType k v) h = cc
+
+pub code_basic : (c : ℕ) → is_basic_code c ≡ true → (t : TypeTree) → first_code t ≡ c → IsBasic t
+code_basic c h t e = coded_basic t (subst (λ (n : ℕ). is_basic_code n ≡ true) (sym e) h)
+
+-- the code of a basic type is a signature, of one type
+pub one_code : (kind : TextKind) (w : List ℕ) → (kind ≡ Signature) ⊎ (kind ≡ Single) → length w ≡ 1 → is_basic_code (get_or w 0 0) ≡ true → IsKind kind w
+one_code kind w is one code =
+    let good = basic_is_code (get_or w 0 0) code in
+    let few : length w ≤ 255 = omega arith in
+    ⊎_elim (λ e. subst (λ (k : TextKind). IsKind k w) (sym e) (coded_signature w one good, few)) (λ e. subst (λ (k : TextKind). IsKind k w) (sym e) (coded_single w one good, few)) is

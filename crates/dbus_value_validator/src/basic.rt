@@ -1,53 +1,58 @@
 //! Values of basic types. D-Bus Specification, "Basic types".
 #![tactic(auto)]
 
-ghost use Rattle.std.specs.Prelude.{◌≡◌, ℕ, ◌+◌, ◌≤◌, length, drop, None, IfSome};
+ghost use Rattle.std.specs.Prelude.{◌≡◌, ℕ, ◌+◌, ◌≤◌, length, None, IfSome};
 ghost use Rattle.dbus_texts.specs.Types.{TypeTree, IsBasic};
-ghost use Rattle.dbus_value_model.specs.Reading.{value};
+ghost use Rattle.dbus_texts.specs.SignatureScans.{is_basic_code};
 ghost use Rattle.dbus_types.specs.SignatureCodes.{first_code};
 ghost use Rattle.dbus_value_validator.specs.Endings.{EndsAt, IsNotRead};
+ghost use Rattle.dbus_value_validator.specs.Sources.{value_in};
 
 use crate::numbers::{boolean, descriptor, free_number};
+use crate::source::Source;
 use crate::texts::{long_text, signature};
 use dbus_types::{TextKind, free_width};
-use dbus_value_model::{Bounds, Order};
+
+/// Whether a basic type has this code. D-Bus Specification, "Basic types".
+#[inline]
+pub(crate) fn is_basic(code: u8) -> bool
+    ensures { result ≡ is_basic_code code }
+{
+    matches!(
+        code,
+        b'y' | b'b' | b'n' | b'q' | b'i' | b'u' | b'x' | b't' | b'd' | b'h' | b's' | b'o' | b'g'
+    )
+}
 
 /// A value of the basic type that has this code: the offset after it. Of all other codes None says nothing.
-pub(crate) fn basic_value(
-    bytes: &[u8],
-    at: usize,
-    end: usize,
-    order: Order,
-    code: u8,
-    bounds: Bounds,
-) -> Option<usize>
+pub(crate) fn basic_value(source: &Source<'_>, at: usize, end: usize, code: u8) -> Option<usize>
     requires at_most { at ≤ end }
-    requires inside { end ≤ length bytes.now }
+    requires inside { end ≤ length source.now.bytes.now }
     ensures gives { IfSome result (λ q. (depth_left : ℕ) (t : TypeTree) →
         first_code t ≡ code →
-        EndsAt bytes.now q (value bounds order depth_left end t at (drop at bytes.now))) }
+        EndsAt source.now.bytes.now q (value_in source.now depth_left end t at)) }
     ensures none { result ≡ None → (depth_left : ℕ) (t : TypeTree) → first_code t ≡ code → IsBasic t →
-        IsNotRead (value bounds order depth_left end t at (drop at bytes.now)) }
+        IsNotRead (value_in source.now depth_left end t at) }
     ensures moves { IfSome result (λ q. (at ≤ q) × (q ≤ end)) }
 {
     let width = free_width(code);
     if width > 0 {
-        return free_number(bytes, at, end, width);
+        return free_number(source.bytes, at, end, width);
     }
     if code == b's' {
-        return long_text(bytes, at, end, order, TextKind::Text);
+        return long_text(source.bytes, at, end, source.order, TextKind::Text);
     }
     if code == b'o' {
-        return long_text(bytes, at, end, order, TextKind::Path);
+        return long_text(source.bytes, at, end, source.order, TextKind::Path);
     }
     if code == b'g' {
-        return signature(bytes, at, end);
+        return signature(source.bytes, at, end);
     }
     if code == b'b' {
-        return boolean(bytes, at, end, order);
+        return boolean(source.bytes, at, end, source.order);
     }
     if code == b'h' {
-        return descriptor(bytes, at, end, order, bounds.fds);
+        return descriptor(source.bytes, at, end, source.order, source.bounds.fds);
     }
     None
 }

@@ -6,6 +6,7 @@ ghost use Rattle.std.specs.List.{AllByRecursion};
 ghost use Rattle.std.specs.Int.{IsInRange};
 ghost use Rattle.dbus_texts.specs.Kinds.{IsKind};
 
+use crate::basic::is_basic;
 use dbus_types::TextKind;
 use std::simd::prelude::*;
 
@@ -53,6 +54,7 @@ pub(crate) fn is_seen_at_once(kind: TextKind, bytes: &[u8], start: usize, n: usi
 {
     match kind {
         TextKind::Text => is_plain(bytes, start, n),
+        TextKind::Signature | TextKind::Single => n == 1 && is_basic(bytes[start]),
         _ => false,
     }
 }

@@ -13,8 +13,8 @@ ghost use Rattle.dbus_value_validator.specs.NotedTypes.{AreNoted};
 ghost use Rattle.dbus_value_validator.specs.Sources.{value_in, values_in, elements_in, variant_in, array_in, struct_in, entry_in};
 
 use crate::arrays::frame;
-use crate::basic::basic_value;
-use crate::ends::{end_of, is_container, wants_lengths};
+use crate::basic::{basic_value, is_basic};
+use crate::ends::{end_of, wants_lengths};
 use crate::items::padding;
 use crate::source::Source;
 use crate::texts::short_text;
@@ -59,7 +59,7 @@ pub(crate) fn one_value(
         let inner = &types[1..types.len() - 1];
         return entry(source, at, end, inner, pos + 1, depth_left);
     }
-    basic_value(source.bytes, at, end, source.order, code, source.bounds)
+    basic_value(source, at, end, code)
 }
 
 /// Values of the types that `types` spell, one after another.
@@ -87,14 +87,14 @@ pub(crate) fn all_values(
     let mut first = 0;
     while first < types.len() {
         let code = types[first];
-        if is_container(code) {
+        if is_basic(code) {
+            place = basic_value(source, place, end, code)?;
+            first += 1;
+        } else {
             let next = end_of(types, first, source.lengths, pos);
             let one = &types[first..next];
             place = one_value(source, place, end, one, pos + first, depth_left)?;
             first = next;
-        } else {
-            place = basic_value(source.bytes, place, end, source.order, code, source.bounds)?;
-            first += 1;
         }
     }
     Some(place)
@@ -145,15 +145,8 @@ fn variant(source: &Source<'_>, at: usize, end: usize, depth_left: u8) -> Option
     let n = short_text(source.bytes, at, end, TextKind::Single)?;
     let first = at + 1;
     let code = source.bytes[first];
-    if n == 1 && !is_container(code) {
-        return basic_value(
-            source.bytes,
-            first + 2,
-            end,
-            source.order,
-            code,
-            source.bounds,
-        );
+    if n == 1 && is_basic(code) {
+        return basic_value(source, first + 2, end, code);
     }
     let held = &source.bytes[first..first + n];
     own_value(source, first + n + 1, end, held, depth_left - 1)
