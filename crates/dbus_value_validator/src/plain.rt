@@ -1,4 +1,4 @@
-//! Texts that are ASCII, found by blocks of sixteen bytes.
+//! Texts known by a quick look: ASCII, by blocks of sixteen bytes, and signatures of one code.
 #![tactic(auto)]
 
 ghost use Rattle.std.specs.Prelude.{◌≡◌, ◌+◌, ◌≤◌, length, take, drop, IsTrue};
@@ -46,7 +46,8 @@ fn is_plain(bytes: &[u8], start: usize, n: usize) -> bool
     is_plain_from(u8x16::from_slice(&bytes[last..]), at - last)
 }
 
-/// Whether n bytes are a text of the kind, as far as a quick look tells: it knows each STRING of ASCII. A no says nothing.
+/// Whether n bytes are a text of the kind, as far as a quick look tells: it knows most texts of ASCII, and signatures of one
+/// basic type. A no says nothing.
 #[inline]
 pub(crate) fn is_seen_at_once(kind: TextKind, bytes: &[u8], start: usize, n: usize) -> bool
     requires { start + n ≤ length bytes.now }
