@@ -10,13 +10,13 @@ use Rattle.dbus_value_model.specs.declared.limits.Bounds.{Bounds}
 use Rattle.dbus_value_model.specs.declared.order.Order.{Order}
 use Rattle.dbus_value_model.specs.declared.fault.Reason.TheVariants as reasons
 use Rattle.dbus_value_model.specs.Values.{ValueTree, NumberValue, TextValue}
-use Rattle.dbus_value_model.specs.ValueItems.{text_row, number_row}
-use Rattle.dbus_value_model.specs.Reading.{Reader, after, pure, padding, number, text, nul, value}
+use Rattle.dbus_value_model.specs.ValueItems.{number_row}
+use Rattle.dbus_value_model.specs.Reading.{Reader, after, padding, value}
 use Rattle.dbus_message_model.specs.Messages.{Want, Name, Serial, want}
 use Rattle.dbus_header.specs.MessageItems.{kind_wanted, not_zero_row}
 use Rattle.dbus_header.specs.MessageReading.{value_wanted}
 use Rattle.dbus_header.specs.HeaderReading.{wanted_signature, wanted_value}
-use Rattle.dbus_header.proofs.ReadingParts.{after_after, same_after}
+use Rattle.dbus_header.proofs.ReadingParts.{after_after}
 use Rattle.dbus_value_checker.specs.Suspended.{On}
 use Rattle.dbus_check.specs.Heading.{Kept, kept_of, field_on}
 use Rattle.dbus_check.specs.Fields.{field_code, counted_text, short_text, name_text, padded_number}
@@ -64,15 +64,9 @@ module _ (order : Order) (end : ℕ) where
   count_begins bounds (suc room) next o s = simp after_after
 
   -- the body's signature
-  text_is : {B : Type 0} (next : ValueTree → Reader B) (o : ℕ) (s : List ℕ)
-      → after (after (number order 1 end (text_row end) o s) (λ n p u. after (text (Of kinds.Signature) n p u) (λ t q v. after (nul q v) (λ _. pure (TextValue SIGNATURE t))))) next
-      ≡ after (short_text order end (Of kinds.Signature) o s) (λ t. next (TextValue SIGNATURE t))
-  unfolding counted_text
-  text_is next o s = simp after_after
-
   pub body_signature_begins : (bounds : Bounds) (room : ℕ) {B : Type 0} (next : ValueTree → Reader B) (o : ℕ) (s : List ℕ)
       → after (value bounds order room end (TextType SIGNATURE) o s) next
       ≡ after (padding 1 end o s) (λ _ p u. after (short_text order end (Of kinds.Signature) p u) (λ t. next (TextValue SIGNATURE t)))
-  unfolding value
-  body_signature_begins bounds zero next o s = after_after (padding 1 end o s) _ next ∙ same_after (padding 1 end o s) _ _ (λ _ p u. text_is next p u)
-  body_signature_begins bounds (suc room) next o s = after_after (padding 1 end o s) _ next ∙ same_after (padding 1 end o s) _ _ (λ _ p u. text_is next p u)
+  unfolding value counted_text
+  body_signature_begins bounds zero next o s = simp after_after
+  body_signature_begins bounds (suc room) next o s = simp after_after

@@ -2,13 +2,12 @@
 use Rattle.std.proofs.Common.{◌≡◌, ℕ, zero, suc, ◌+◌, ◌-◌, List, [], ◌∷◌, ◌++◌, length, take, drop, map, reverse, Bool, true, false, ◌||◌, ◌&&◌, cond, eqb, ltb, Option, Some, None, refl, sym, ap, ◌∙◌, append_assoc}
 use Rattle.std.proofs.lemmas.List.{reverse-append, append-nil}
 use Rattle.dbus_texts.specs.ComputedKinds.{types_spelled}
-use Rattle.dbus_value_model.specs.Specification.{bounds_with}
 use Rattle.dbus_value_model.specs.declared.limits.Limits.{Limits}
 use Rattle.dbus_value_model.specs.declared.order.Order.{Order}
 use Rattle.dbus_value_model.specs.declared.fault.Reason.{Reason}
 use Rattle.dbus_value_model.specs.declared.fault.Reason.TheVariants as reasons
 use Rattle.dbus_value_model.specs.Items.{fault}
-use Rattle.dbus_value_model.specs.Reading.{Outcome, Done, Faulty, Partial, after, padding, number, validated, number_of, validate, bounded, up_to, contents, fields, value, ends}
+use Rattle.dbus_value_model.specs.Reading.{Outcome, Done, Faulty, Partial, after, padding, number, validated, number_of, validate, bounded, up_to}
 use Rattle.dbus_message_model.specs.Messages.{FieldTree, want, has_code, is_known, lacks, required, body_signature, text_in, number_in, fd_count, body_fds}
 use Rattle.dbus_header.specs.MessageItems.{code_row}
 use Rattle.dbus_header.specs.MessageReading.{opening}
@@ -115,12 +114,7 @@ module _ (limits : Limits) (order : Order) (end : ℕ) (before : List FieldTree)
   field_begins : (next : FieldTree → On) (o : ℕ) (s : List ℕ)
       → after (field_read limits order end before o s) next ≡ after (padding 8 end o s) (λ _ p u. after (opening (limits.depth - 1) p u) (λ _. code_then next))
   unfolding field_read
-  field_begins next o s =
-      after_after (padding 8 end o s) _ next
-      ∙ same_after (padding 8 end o s) _ _ (λ _ p u. after_after (opening (limits.depth - 1) p u) _ next
-      ∙ same_after (opening (limits.depth - 1) p u) _ _ (λ _ p u. after_after (number order 1 end (code_row before) p u) _ next
-      ∙ same_after (number order 1 end (code_row before) p u) _ _ (λ code p u. after_after (opening (limits.depth - 2) p u) _ next
-      ∙ same_after (opening (limits.depth - 2) p u) _ _ (λ _ p u. after_after (wanted_value limits order end (want code) p u) _ next))))
+  field_begins next o s = simp after_after
 
   field_is : (more : Kept → On) (next : FieldTree → On) (o : ℕ) (s : List ℕ)
       → ((f : FieldTree) (p : ℕ) (u : List ℕ) → next f p u ≡ more (kept_from (f ∷ before)) p u)
@@ -146,10 +140,7 @@ module _ (limits : Limits) (order : Order) (kind body : ℕ) where
       → after (bounded body (body_read limits (body_fds limits fs) order (types_spelled (body_signature fs))) o s) (λ _. done)
       ≡ body_on limits order body (record { codes = codes_of fs; text = body_signature fs; count = fd_count fs }) o s
   unfolding body_read
-  body_is fs o s =
-      let read = fields (value (bounds_with limits (body_fds limits fs)) order limits.depth (o + body)) (types_spelled (body_signature fs)) in
-      after_after (read o s) _ (λ _. done)
-      ∙ same_after (read o s) _ _ (λ xs p u. after_after (ends (o + body) p u) _ (λ _. done))
+  body_is fs o s = simp after_after
 
   finish_is : (before : List FieldTree) (o : ℕ) (s : List ℕ) → finish (reverse before) o s ≡ after_fields limits order kind body (kept_from before) o s
   finish_is before o s =
@@ -198,13 +189,4 @@ after_fixed limits h o s = fields_on limits h.order h.kind h.body h.fields (o + 
 pub message_on_is : (limits : Limits) (o : ℕ) (s : List ℕ) → message_on limits o s ≡ after (fixed_header limits o s) (after_fixed limits)
 unfolding message_read fields_read
 message_on_is limits o s =
-    after_after (fixed_header limits o s) _ (λ _. done)
-    ∙ same_after (fixed_header limits o s) _ _ (λ h p u.
-    after_after (contents h.fields (field_read limits h.order) p u) _ (λ _. done)
-    ∙ same_after (contents h.fields (field_read limits h.order) p u) _ _ (λ fs q v.
-    after_after (validate (lacks (required h.kind) fs) q v) _ (λ _. done)
-    ∙ same_after (validate (lacks (required h.kind) fs) q v) _ _ (λ _ q v.
-    after_after (bounded 8 (padding 8) q v) _ (λ _. done)
-    ∙ same_after (bounded 8 (padding 8) q v) _ _ (λ _ q v.
-    after_after (bounded h.body (body_read limits (body_fds limits fs) h.order (types_spelled (body_signature fs))) q v) _ (λ _. done))))
-    ∙ fields_are limits h.order h.kind h.body (p + h.fields) h.fields [] p u)
+    simp after_after (same_after (fixed_header limits o s) _ _ (λ h p u. fields_are limits h.order h.kind h.body (p + h.fields) h.fields [] p u))

@@ -11,7 +11,7 @@ use Rattle.dbus_value_model.specs.WantedTexts.{Of, kind_of}
 use Rattle.dbus_value_model.specs.declared.fault.Reason.TheVariants as reasons
 use Rattle.dbus_value_model.specs.declared.stop.Stop.{Stop}
 use Rattle.dbus_value_model.specs.Items.{fault}
-use Rattle.dbus_value_model.specs.ValueItems.{number_row, text_row, array_row}
+use Rattle.dbus_value_model.specs.ValueItems.{number_row, text_row}
 use Rattle.dbus_value_model.specs.ValueReaders.{array_frame}
 use Rattle.dbus_value_model.specs.Reading.{Reader, Faulty, after, padding, number, text, nul, value}
 use Rattle.dbus_value_checker.specs.declared.values.Values.{Values}
@@ -31,7 +31,7 @@ use Rattle.dbus_texts.specs.declared.text_kind.TextKind.{TextKind}
 use Rattle.dbus_value_checker.specs.declared.values.Doing.TheVariants as doing
 use Rattle.dbus_value_checker.specs.Denotations.{Answer, rest_of, HasFrames, Goes, Wants, Ready, Texts, Nuls, after_piece}
 use Rattle.dbus_value_checker.specs.Moves.{Moves, Pushed, Enters}
-use Rattle.dbus_value_checker.proofs.Suspension.{works_as, value_begins, after_after, after_same}
+use Rattle.dbus_value_checker.proofs.Suspension.{works_as, value_begins, after_after}
 use Rattle.dbus_value_checker.proofs.FrontSteps.{front_taken, front_stops}
 use Rattle.dbus_value_checker.proofs.Chains.{take-both}
 use Rattle.dbus_value_checker.proofs.Slices.{slice_head, slice_room, slice_after, slice_inner}
@@ -264,10 +264,7 @@ module _ (x : Values) (pos stop n : ℕ) (answer : Answer) (r : Ready x pos stop
 
       array_same : (c : List ℕ) → after (frame (x.offset + n) c) fill ≡ answer.to c
       unfolding array_frame
-      array_same c =
-          after_after (number x.order 4 x.inner.end (array_row x.bounds ready_array.0 x.inner.end) (x.offset + n) c) _ fill
-          ∙ after_same (number x.order 4 x.inner.end (array_row x.bounds ready_array.0 x.inner.end) (x.offset + n) c) _ _ (λ size p u. after_after (padding (alignment_of ready_array.0) x.inner.end p u) _ fill)
-          ∙ ready_at (ArrayType ready_array.0) (suc inner) ready_array.1 depth_left c
+      array_same c = simp after_after (ready_at (ArrayType ready_array.0) (suc inner) ready_array.1 depth_left c)
 
       abbrev Sizes : Result (ℕ × ℕ) Stop → Type 0
       Sizes e = (t : TypeTree) → first_code t ≡ get_or seen (pos + 1) 0 → Fronts (λ (m : ℕ × ℕ). m) (x.offset + n) s e (array_frame x.bounds x.order x.inner.end t)

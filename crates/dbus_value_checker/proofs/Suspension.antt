@@ -3,23 +3,21 @@ use Rattle.std.proofs.Common.{◌≡◌, ℕ, zero, suc, ◌+◌, ◌-◌, ◌<�
 use Rattle.std.proofs.lemmas.Bool.{lt-ltb, le-ltb, eq-eqb}
 use Rattle.std.proofs.lemmas.List.{take_at, drop_at, take_all, length-append}
 use Rattle.std.proofs.Math.Seq.{take-append-add}
-use Rattle.dbus_texts.specs.Types.{NumberCode, TextCode, TypeTree, NumberType, TextType, VariantType, ArrayType, StructType, EntryType, TypeTrees, NoTypes, MoreTypes}
-use Rattle.dbus_types.specs.Alignments.{width, length_width, alignment_of}
-use Rattle.dbus_texts.specs.ComputedKinds.{type_spelled}
-use Rattle.dbus_texts.specs.declared.text_kind.TextKind.TheVariants as kinds
-use Rattle.dbus_value_model.specs.WantedTexts.{WantedText, kind_of, Of}
+use Rattle.dbus_texts.specs.Types.{TypeTree, NumberType, TextType, VariantType, ArrayType, StructType, EntryType, TypeTrees, MoreTypes}
+use Rattle.dbus_types.specs.Alignments.{alignment_of}
+use Rattle.dbus_value_model.specs.WantedTexts.{WantedText}
 use Rattle.dbus_value_model.specs.ComputedTexts.{is_kind, break_at}
 use Rattle.dbus_value_model.specs.declared.limits.Bounds.{Bounds}
 use Rattle.dbus_value_model.specs.declared.order.Order.{Order}
 use Rattle.dbus_value_model.specs.Bytes.{gap_to}
-use Rattle.dbus_value_model.specs.Values.{ValueTree, VariantValue}
+use Rattle.dbus_value_model.specs.Values.{ValueTree}
 use Rattle.dbus_value_model.specs.declared.fault.Reason.{Reason}
 use Rattle.dbus_value_model.specs.declared.fault.Reason.TheVariants as reasons
 use Rattle.dbus_value_model.specs.Items.{fault, text_reason}
-use Rattle.dbus_value_model.specs.ValueItems.{number_row, text_row, array_row}
-use Rattle.dbus_value_model.specs.Reading.{Reader, Outcome, Done, Faulty, Partial, after, zeros, padding, validated, number_of, number, text, nul, up_to, contents, fields, items, signature, value, nowhere}
+use Rattle.dbus_value_model.specs.ValueItems.{array_row}
+use Rattle.dbus_value_model.specs.Reading.{Reader, Outcome, Done, Faulty, Partial, after, zeros, padding, validated, number_of, number, text, up_to, items, value}
 use Rattle.dbus_value_laws.proofs.KindLaws.{break_more, computed_whole}
-use Rattle.dbus_value_checker.specs.Suspended.{On, onward, Work, Parts, Elements, elements, work, works, Head, head_width, head_row, tail, head, own, own_of, opened_by, held_on}
+use Rattle.dbus_value_checker.specs.Suspended.{AnArray, On, onward, Work, Parts, Elements, elements, work, works, Head, head_width, head_row, tail, head, own, own_of, opened_by}
 
 pub after_after : {A B C : Type 0} (r : Outcome A) (f : A → Reader B) (g : B → Reader C) → after (after r f) g ≡ after r (λ x o s. after (f x o s) g)
 after_after (Done x p t) f g = refl
@@ -57,9 +55,7 @@ pub works_as : (a b : Bounds) (n m : Order) → a ≡ b → n ≡ m → (last : 
 works_as a b n m e d last ws q c r h = rw (e, d) h
 
 pub parts_more : (bounds : Bounds) (order : Order) (depth_left end : ℕ) (t : TypeTree) (ts : TypeTrees) (next : On) (o : ℕ) (s : List ℕ) → work bounds order (Parts depth_left end (MoreTypes t ts)) next o s ≡ onward (value bounds order depth_left end t) (work bounds order (Parts depth_left end ts) next) o s
-parts_more bounds order depth_left end t ts next o s =
-    after_after (value bounds order depth_left end t o s) _ (λ xs. next)
-    ∙ after_same (value bounds order depth_left end t o s) _ _ (λ v p u. after_after (fields (value bounds order depth_left end) ts p u) _ (λ xs. next))
+parts_more bounds order depth_left end t ts next o s = simp after_after
 
 pub elements_none : (bounds : Bounds) (order : Order) (turns depth_left end : ℕ) (t : TypeTree) (next : On) (o : ℕ) (s : List ℕ) → o ≡ end → work bounds order (Elements turns depth_left end t) next o s ≡ next o s
 elements_none bounds order zero depth_left end t next o s h = rw (eq-eqb _ _ h) refl
@@ -76,93 +72,35 @@ padding_zeros a end o s next h = rw (le-ltb _ _ h, padding) refl
 
 -- ---- a value begins
 
-bound : {A : Type 0} {B : Type 0} (run : Reader A) (f : A → Reader B) (next : On) (o : ℕ) (s : List ℕ) → after (after (run o s) f) (λ x. next) ≡ after (run o s) (λ x. onward (f x) next)
-bound run f next o s = after_after (run o s) f (λ x. next)
+-- an array's elements after its length and its padding
+module _ (bounds : Bounds) (order : Order) (end : ℕ) (next : On) where
+  array_begins : (inner : ℕ) (t : TypeTree) (o : ℕ) (s : List ℕ) → onward (items bounds order (suc inner) (value bounds order inner) end (ArrayType t)) next o s ≡ after (padding 4 end o s) (λ x. head bounds order end (AnArray inner t) next)
+  array_begins inner t o s =
+      simp after_after (after_same (padding 4 end o s) _ _ (λ x p u. after_same (number order 4 end (array_row bounds t end) p u) _ _ (λ n q v. after_same (padding (alignment_of t) end q v) _ _ (λ x q v.
+      elements_up_to n (q + n) (value bounds order inner (q + n) t) [] next q v))))
 
-abbrev pub inside : Bounds → Order → ℕ → ℕ → TypeTree → Reader ValueTree
-inside bounds order zero = nowhere
-inside bounds order (suc inner) = value bounds order inner
+  -- The law of a value: it begins with its padding, or is a variant, and goes on with its own item and the containers that it opens.
+  begins : (depth_left : ℕ) (t : TypeTree) (o : ℕ) (s : List ℕ) → (t ≡ VariantType → ⊥) → onward (value bounds order depth_left end t) next o s ≡ after (padding (alignment_of t) end o s) (λ x. own bounds order end (own_of t depth_left) (works bounds order next (opened_by t depth_left end)))
+  unfolding value
+  begins zero (NumberType k) o s h = simp after_after
+  begins (suc inner) (NumberType k) o s h = simp after_after
+  begins zero (TextType k) o s h = simp after_after
+  begins (suc inner) (TextType k) o s h = simp after_after
+  begins depth_left VariantType o s h = absurd (h refl)
+  begins zero (ArrayType t) o s h = simp after_after
+  begins (suc inner) (ArrayType t) o s h = array_begins inner t o s
+  begins zero (StructType ts) o s h = simp after_after
+  begins (suc inner) (StructType ts) o s h = simp after_after
+  begins zero (EntryType k v) o s h = simp after_after (after_same (padding 8 end o s) _ _ (λ x p u. sym (simp after_after)))
+  begins (suc inner) (EntryType k v) o s h = simp after_after (after_same (padding 8 end o s) _ _ (λ x p u. sym (simp after_after)))
 
-pub value_items : (bounds : Bounds) (order : Order) (depth_left end : ℕ) (t : TypeTree) (o : ℕ) (s : List ℕ) → value bounds order depth_left end t o s ≡ items bounds order depth_left (inside bounds order depth_left) end t o s
-unfolding value
-value_items bounds order zero end t o s = refl
-value_items bounds order (suc depth_left) end t o s = refl
-
-number_begins : (bounds : Bounds) (order : Order) (depth_left end : ℕ) (k : NumberCode) (o : ℕ) (s : List ℕ) (next : On) → after (items bounds order depth_left (inside bounds order depth_left) end (NumberType k) o s) (λ x. next) ≡ after (padding (width k) end o s) (λ x. own bounds order end (own_of (NumberType k) depth_left) next)
-number_begins bounds order depth_left end k o s next =
-    bound (padding (width k) end) _ next o s
-    ∙ after_same (padding (width k) end o s) _ _ (λ x p u. bound (number order (width k) end (number_row bounds.fds k)) _ next p u)
-
-text_begins : (bounds : Bounds) (order : Order) (depth_left end : ℕ) (k : TextCode) (o : ℕ) (s : List ℕ) (next : On) → after (items bounds order depth_left (inside bounds order depth_left) end (TextType k) o s) (λ x. next) ≡ after (padding (length_width k) end o s) (λ x. own bounds order end (own_of (TextType k) depth_left) next)
-text_begins bounds order depth_left end k o s next =
-    bound (padding (length_width k) end) _ next o s
-    ∙ after_same (padding (length_width k) end o s) _ _ (λ x p u. bound (number order (length_width k) end (text_row end)) _ next p u
-    ∙ after_same (number order (length_width k) end (text_row end) p u) _ _ (λ n q v. bound (text (kind_of k) n) _ next q v
-    ∙ after_same (text (kind_of k) n q v) _ _ (λ t q v. bound nul _ next q v)))
-
-array_begins : (bounds : Bounds) (order : Order) (depth_left end : ℕ) (t : TypeTree) (o : ℕ) (s : List ℕ) (next : On) → after (items bounds order depth_left (inside bounds order depth_left) end (ArrayType t) o s) (λ x. next) ≡ after (padding 4 end o s) (λ x. own bounds order end (own_of (ArrayType t) depth_left) next)
-array_begins bounds order zero end t o s next = bound (padding 4 end) _ next o s
-array_begins bounds order (suc inner) end t o s next =
-    bound (padding 4 end) _ next o s
-    ∙ after_same (padding 4 end o s) _ _ (λ x p u. bound (number order 4 end (array_row bounds t end)) _ next p u
-    ∙ after_same (number order 4 end (array_row bounds t end) p u) _ _ (λ n q v. bound (padding (alignment_of t) end) _ next q v
-    ∙ after_same (padding (alignment_of t) end q v) _ _ (λ x q v. bound (contents n (λ e before. value bounds order inner e t)) _ next q v
-    ∙ elements_up_to n (q + n) (value bounds order inner (q + n) t) [] next q v)))
-
-struct_begins : (bounds : Bounds) (order : Order) (depth_left end : ℕ) (ts : TypeTrees) (o : ℕ) (s : List ℕ) (next : On) → after (items bounds order depth_left (inside bounds order depth_left) end (StructType ts) o s) (λ x. next) ≡ after (padding 8 end o s) (λ x. own bounds order end (own_of (StructType ts) depth_left) (works bounds order next (opened_by (StructType ts) depth_left end)))
-struct_begins bounds order zero end ts o s next = bound (padding 8 end) _ next o s
-struct_begins bounds order (suc inner) end ts o s next =
-    bound (padding 8 end) _ next o s
-    ∙ after_same (padding 8 end o s) _ _ (λ x p u. bound (fields (value bounds order inner end) ts) _ next p u)
-
-pair : (bounds : Bounds) (order : Order) (depth_left end : ℕ) (k v : TypeTree) (o : ℕ) (s : List ℕ) (next : On)
-    → after (items bounds order depth_left (inside bounds order depth_left) end k o s) (λ x p u. after (items bounds order depth_left (inside bounds order depth_left) end v p u) (λ y. next)) ≡ work bounds order (Parts depth_left end (MoreTypes k (MoreTypes v NoTypes))) next o s
-pair bounds order depth_left end k v o s next =
-    let one = parts_more bounds order depth_left end k (MoreTypes v NoTypes) next o s in
-    let two = after_same (value bounds order depth_left end k o s) _ _ (λ x p u. parts_more bounds order depth_left end v NoTypes next p u) in
-    let here = ap (λ (r : Outcome ValueTree). after r (λ x p u. after (value bounds order depth_left end v p u) (λ y. next))) (value_items bounds order depth_left end k o s) in
-    let there = after_same (items bounds order depth_left (inside bounds order depth_left) end k o s) (λ x p u. after (value bounds order depth_left end v p u) (λ y. next)) (λ x p u. after (items bounds order depth_left (inside bounds order depth_left) end v p u) (λ y. next))
-    (λ x p u. ap (λ (r : Outcome ValueTree). after r (λ y. next)) (value_items bounds order depth_left end v p u)) in
-    sym (one ∙ two ∙ here ∙ there)
-
-entry_begins : (bounds : Bounds) (order : Order) (depth_left end : ℕ) (k v : TypeTree) (o : ℕ) (s : List ℕ) (next : On) → after (items bounds order depth_left (inside bounds order depth_left) end (EntryType k v) o s) (λ x. next) ≡ after (padding 8 end o s) (λ x. work bounds order (Parts depth_left end (MoreTypes k (MoreTypes v NoTypes))) next)
-entry_begins bounds order depth_left end k v o s next =
-    bound (padding 8 end) _ next o s
-    ∙ after_same (padding 8 end o s) _ _ (λ x p u. bound (items bounds order depth_left (inside bounds order depth_left) end k) _ next p u
-    ∙ after_same (items bounds order depth_left (inside bounds order depth_left) end k p u) _ _ (λ y q v'. bound (items bounds order depth_left (inside bounds order depth_left) end v) _ next q v')
-    ∙ pair bounds order depth_left end k v p u next)
-
-abbrev held_value : Bounds → Order → ℕ → ℕ → TypeTree → Reader ValueTree
-held_value bounds order inner end held o s = after (nul o s) (λ x o s. after (value bounds order inner end held o s) (λ v. Done (VariantValue v)))
-
-held_begins : (bounds : Bounds) (order : Order) (inner end : ℕ) (held : TypeTree) (o : ℕ) (s : List ℕ) (next : On) → after (held_value bounds order inner end held o s) (λ v. next) ≡ held_on bounds order inner end next held o s
-held_begins bounds order inner end held o s next =
-    after_after (nul o s) (λ x o s. after (value bounds order inner end held o s) (λ v. Done (VariantValue v))) (λ v. next)
-    ∙ after_same (nul o s) _ _ (λ x q v. after_after (value bounds order inner end held q v) (λ v. Done (VariantValue v)) (λ v. next))
-
-signature_begins : (bounds : Bounds) (order : Order) (inner end n : ℕ) (o : ℕ) (s : List ℕ) (next : On) → after (after (signature (Of kinds.Single) n o s) (held_value bounds order inner end)) (λ v. next) ≡ after (text (Of kinds.Single) n o s) (λ t. held_on bounds order inner end next (type_spelled t))
-signature_begins bounds order inner end n o s next =
-    after_after (signature (Of kinds.Single) n o s) (held_value bounds order inner end) (λ v. next)
-    ∙ after_after (text (Of kinds.Single) n o s) (λ t. Done (type_spelled t)) (λ held o s. after (held_value bounds order inner end held o s) (λ v. next))
-    ∙ after_same (text (Of kinds.Single) n o s) _ _ (λ t q v. held_begins bounds order inner end (type_spelled t) q v next)
-
-variant_begins_at : (bounds : Bounds) (order : Order) (depth_left end : ℕ) (o : ℕ) (s : List ℕ) (next : On) → after (items bounds order depth_left (inside bounds order depth_left) end VariantType o s) (λ x. next) ≡ own bounds order end (own_of VariantType depth_left) next o s
-variant_begins_at bounds order zero end o s next = refl
-variant_begins_at bounds order (suc inner) end o s next =
-    bound (number order 1 end (text_row end)) _ next o s
-    ∙ after_same (number order 1 end (text_row end) o s) _ _ (λ n p u. signature_begins bounds order inner end n p u next)
-
--- The law of a value: it begins with its padding, or is a variant, and goes on with its own item and the containers that it opens.
 pub value_begins : (bounds : Bounds) (order : Order) (depth_left end : ℕ) (t : TypeTree) (o : ℕ) (s : List ℕ) (next : On) → (t ≡ VariantType → ⊥) → onward (value bounds order depth_left end t) next o s ≡ after (padding (alignment_of t) end o s) (λ x. own bounds order end (own_of t depth_left) (works bounds order next (opened_by t depth_left end)))
-value_begins bounds order depth_left end (NumberType k) o s next h = ap (λ (r : Outcome ValueTree). after r (λ x. next)) (value_items bounds order depth_left end (NumberType k) o s) ∙ number_begins bounds order depth_left end k o s next
-value_begins bounds order depth_left end (TextType k) o s next h = ap (λ (r : Outcome ValueTree). after r (λ x. next)) (value_items bounds order depth_left end (TextType k) o s) ∙ text_begins bounds order depth_left end k o s next
-value_begins bounds order depth_left end VariantType o s next h = absurd (h refl)
-value_begins bounds order depth_left end (ArrayType t) o s next h = ap (λ (r : Outcome ValueTree). after r (λ x. next)) (value_items bounds order depth_left end (ArrayType t) o s) ∙ array_begins bounds order depth_left end t o s next
-value_begins bounds order depth_left end (StructType ts) o s next h = ap (λ (r : Outcome ValueTree). after r (λ x. next)) (value_items bounds order depth_left end (StructType ts) o s) ∙ struct_begins bounds order depth_left end ts o s next
-value_begins bounds order depth_left end (EntryType k v) o s next h = ap (λ (r : Outcome ValueTree). after r (λ x. next)) (value_items bounds order depth_left end (EntryType k v) o s) ∙ entry_begins bounds order depth_left end k v o s next
+value_begins bounds order depth_left end t o s next h = begins bounds order end next depth_left t o s h
 
 pub variant_begins : (bounds : Bounds) (order : Order) (depth_left end : ℕ) (o : ℕ) (s : List ℕ) (next : On) → onward (value bounds order depth_left end VariantType) next o s ≡ own bounds order end (own_of VariantType depth_left) next o s
-variant_begins bounds order depth_left end o s next = ap (λ (r : Outcome ValueTree). after r (λ x. next)) (value_items bounds order depth_left end VariantType o s) ∙ variant_begins_at bounds order depth_left end o s next
+unfolding value
+variant_begins bounds order zero end o s next = refl
+variant_begins bounds order (suc inner) end o s next = simp after_after
 
 -- ---- a number
 

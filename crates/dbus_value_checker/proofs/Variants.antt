@@ -7,12 +7,10 @@ use Rattle.dbus_texts.specs.Kinds.{IsKind}
 use Rattle.dbus_texts.specs.declared.text_kind.TextKind.TheVariants as kinds
 use Rattle.dbus_texts.proofs.KindFacts.{shaped_of}
 use Rattle.dbus_value_laws.proofs.KindLaws.{single_text}
-use Rattle.dbus_value_model.specs.WantedTexts.{Of}
 use Rattle.dbus_value_model.specs.declared.fault.Reason.TheVariants as reasons
 use Rattle.dbus_value_model.specs.declared.stop.Stop.{Stop}
 use Rattle.dbus_value_model.specs.Items.{fault}
-use Rattle.dbus_value_model.specs.ValueItems.{text_row}
-use Rattle.dbus_value_model.specs.Reading.{Reader, Faulty, after, number, text, nul, value}
+use Rattle.dbus_value_model.specs.Reading.{Reader, Faulty, after, text, value}
 use Rattle.dbus_value_checker.specs.declared.values.Values.{Values}
 use Rattle.dbus_value_checker.specs.declared.values.Frame.{Frame}
 use Rattle.dbus_value_checker.specs.Suspended.{On, onward, Work, Parts, Elements, works, held_text, own, own_of}
@@ -20,7 +18,7 @@ use Rattle.dbus_value_checker.specs.Fronts.{Fronts}
 use Rattle.dbus_value_checker.specs.Frames.{slice, IsFrame, Framed, AreFrames, AreNoted}
 use Rattle.dbus_value_checker.specs.Denotations.{Answer, rest_of, Goes, Wants, after_piece}
 use Rattle.dbus_value_checker.specs.Moves.{Moves}
-use Rattle.dbus_value_checker.proofs.Suspension.{works_as, variant_begins, after_after, after_same, parts_more}
+use Rattle.dbus_value_checker.proofs.Suspension.{works_as, variant_begins, after_after, parts_more}
 use Rattle.dbus_value_checker.proofs.FrameLaws.{frames_reach, inner_of, within}
 use Rattle.dbus_types.proofs.TypeCodes.{variant_is}
 use Rattle.dbus_types.specs.TypeLengths.{AreLengths}
@@ -69,13 +67,7 @@ module _ (x : Values) (pos stop : ℕ) (answer : Answer) (w : Wants x pos stop a
     held t = onward (value x.bounds x.order inner x.inner.end (type_spelled t)) (rest_of answer x w.ws)
 
     held_same : (c : List ℕ) → after (read x.offset c) held ≡ answer.to c
-    held_same c =
-        let rest = rest_of answer x w.ws in
-        after_after (number x.order 1 x.inner.end (text_row x.inner.end) x.offset c) _ held
-        ∙ after_same (number x.order 1 x.inner.end (text_row x.inner.end) x.offset c) _ _ (λ n p u.
-        after_after (text (Of kinds.Single) n p u) _ held
-        ∙ after_same (text (Of kinds.Single) n p u) _ _ (λ t q v. after_after (nul q v) _ held))
-        ∙ subst (λ (r : ℕ). own x.bounds x.order x.inner.end (own_of VariantType r) rest x.offset c ≡ answer.to c) depth_left (variant_same c)
+    held_same c = simp after_after (subst (λ (r : ℕ). own x.bounds x.order x.inner.end (own_of VariantType r) (rest_of answer x w.ws) x.offset c ≡ answer.to c) depth_left (variant_same c))
 
     pub variant_stops : (s : List ℕ) (e : Stop) → Fronts (λ (n : ℕ). (take n (drop 1 s), n + 2)) x.offset s (Err e) read → Moves x s (Err e) x answer
     variant_stops s e h = front_stops (λ (n : ℕ). (take n (drop 1 s), n + 2)) x.offset s read held answer.to held_same x answer.last e h
