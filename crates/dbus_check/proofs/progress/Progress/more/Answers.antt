@@ -1,41 +1,20 @@
-use Rattle.std.proofs.Common.{ℕ, take, sym, subst, refl, arith}
+use Rattle.std.proofs.Common.{refl, arith}
 use Rattle.dbus_value_checker.specs.Suspended.{done}
 use Rattle.dbus_value_laws.proofs.ReadSteps.{bytes_from}
-use Rattle.dbus_check.specs.Progress.{WantsMore, denotes, after_bytes}
-use Rattle.dbus_check.specs.declared.progress.Stage.{Stage}
-use Rattle.dbus_check.proofs.ValueStages.{more_goes, more_inside, more_waits, more_refused, more_over}
+use Rattle.dbus_check.proofs.ValueStages.{more_on, more_still, more_ended, more_refused}
 use Rattle.dbus_check.proofs.progress.Progress.more.Goals as goal
 
 pub run-requires : goal.run-requires
 run-requires c = let v = c.requires.valid.1 in record { valid = (_, v.under.value done) }
 
 pub returns-then-not-is_live-clause-steps : goal.returns-then-not-is_live-clause-steps
-returns-then-not-is_live-clause-steps c = λ to w.
-    let x = c.args.self.now in
-    let s = c.args.bytes.now in
-    let n = c.in-Ok.n in
-    let v = c.run.new.self in
-    let goes = more_goes x to w v s n (bytes_from s (λ i. omega (arith, c.type_inv.bytes i))) c.in-Ok.ensures.runs in
-    (more_inside x to w v s n c.in-Ok.ensures.runs, more_over (record x { values = v }) (after_bytes to (take n s)) goes (λ h. let e = c.if-not-is_live.ensures.1 h in absurd cc) c.offset-self.result c.offset-self.ensures)
+returns-then-not-is_live-clause-steps c = λ to w. more_ended c.args.self.now to w c.run.new.self c.args.bytes.now c.in-Ok.n (bytes_from _ (λ i. omega (arith, c.type_inv.bytes i))) c.in-Ok.ensures.runs (λ h. let e = c.if-not-is_live.ensures.1 h in absurd cc) c.offset-self.result c.offset-self.ensures
 
 pub returns-then-n-eq0-clause-steps : goal.returns-then-n-eq0-clause-steps
-returns-then-n-eq0-clause-steps c = λ to w.
-    let x = c.args.self.now in
-    let s = c.args.bytes.now in
-    let n = c.in-Ok.n in
-    let v = c.run.new.self in
-    let goes = more_goes x to w v s n (bytes_from s (λ i. omega (arith, c.type_inv.bytes i))) c.in-Ok.ensures.runs in
-    let same : WantsMore (record x { values = v }) to = subst (λ (k : ℕ). WantsMore (record x { values = v }) (after_bytes to (take k s))) c.if-n-eq0.true goes in
-    (subst (λ (st : Stage). denotes st (record x { values = v }) to) (sym c.requires.stage) same, more_waits x to w v s n c.in-Ok.ensures.runs (c.if-not-is_live.ensures.0 refl))
+returns-then-n-eq0-clause-steps c = λ to w. more_still c.args.self.now to w c.run.new.self c.args.bytes.now c.in-Ok.n (bytes_from _ (λ i. omega (arith, c.type_inv.bytes i))) c.in-Ok.ensures.runs c.requires.stage c.if-n-eq0.true (c.if-not-is_live.ensures.0 refl)
 
 pub returns-else-n-eq0-clause-steps : goal.returns-else-n-eq0-clause-steps
-returns-else-n-eq0-clause-steps c = λ to w.
-    let x = c.args.self.now in
-    let s = c.args.bytes.now in
-    let n = c.in-Ok.n in
-    let v = c.run.new.self in
-    let goes = more_goes x to w v s n (bytes_from s (λ i. omega (arith, c.type_inv.bytes i))) c.in-Ok.ensures.runs in
-    (more_inside x to w v s n c.in-Ok.ensures.runs, subst (λ (st : Stage). denotes st (record x { values = v }) (after_bytes to (take n s))) (sym c.requires.stage) goes)
+returns-else-n-eq0-clause-steps c = λ to w. more_on c.args.self.now to w c.run.new.self c.args.bytes.now c.in-Ok.n (bytes_from _ (λ i. omega (arith, c.type_inv.bytes i))) c.in-Ok.ensures.runs c.requires.stage
 
 pub returns-in-Err-clause-steps : goal.returns-in-Err-clause-steps
 returns-in-Err-clause-steps c = λ to w. more_refused c.args.self.now to w c.run.new.self c.args.bytes.now c.in-Err.fault c.in-Err.ensures.runs
