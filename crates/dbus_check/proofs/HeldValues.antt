@@ -1,6 +1,10 @@
 -- Fields whose values are under way once their signatures are read.
-use Rattle.std.proofs.Common.{◌≡◌, ℕ, ◌+◌, ◌-◌, ◌≤◌, List, ◌∷◌, ◌++◌, take, Ok, Err, refl, sym, ap, ◌∙◌, arith}
-use Rattle.dbus_texts.specs.Types.{TypeTree, OBJECT_PATH, SIGNATURE, UINT32, NumberType, TextType}
+use Rattle.std.proofs.Common.{◌≡◌, ℕ, ◌+◌, ◌-◌, ◌≤◌, List, [], ◌∷◌, ◌++◌, take, drop, Ok, Err, refl, sym, ap, subst, ◌∙◌, arith}
+use Rattle.dbus_texts.specs.Types.{TypeTree, OBJECT_PATH, SIGNATURE, UINT32, NumberType, TextType, IsSingleType, sig}
+use Rattle.dbus_texts.specs.declared.text_kind.TextKind.TheVariants as kinds
+use Rattle.dbus_texts.specs.Kinds.{IsKind}
+use Rattle.dbus_value_model.specs.WantedTexts.{Of, Only}
+use Rattle.dbus_value_laws.proofs.KindLaws.{single_text, spelled_sig}
 use Rattle.dbus_texts.specs.ComputedKinds.{type_spelled}
 use Rattle.dbus_value_model.specs.Specification.{bounds_of}
 use Rattle.dbus_value_model.specs.declared.stop.Stop.{Stop}
@@ -69,3 +73,16 @@ module _ (x : Progress) (code n : ℕ) (to : To) (w : WantsValue x code n to) (w
             ∙ sym (ap (λ (r : Outcome (List ℕ)). after r held_run) (h.1 c))
             ∙ law (take (view y).1 s ++ c);
       }
+
+-- a value of any type, whose signature is there
+pub any_held : (x : Progress) (code n : ℕ) (to : To) (w : WantsValue x code n to) → Anything ≡ want code → (s : List ℕ) (m : ℕ) → Fronts (λ (n : ℕ). (take n (drop 1 s), n + 2)) (x.offset + n) s (Ok m) (short_text x.order x.end (Of kinds.Single)) → x.offset + n + m + 2 ≤ x.end → IsKind kinds.Single (take m (drop 1 s))
+    → (types : List ℕ) → types ≡ take m (drop 1 s) → (t : TypeTree) × (WantsHeld x code (n + m + 2) t (after_bytes to (take (m + 2) s)) × (types ≡ sig t) × IsSingleType t)
+any_held x code n to w wanted s m h low kind types types_is =
+    let single = single_text (take m (drop 1 s)) kind in
+    (type_spelled (take m (drop 1 s)), (held_there x code n to w Anything wanted (any_plain code wanted) s (λ t. refl) (λ (n : ℕ). (take n (drop 1 s), n + 2)) m h (n + m + 2) (omega arith) (omega arith), types_is ∙ sym single.1, single.0))
+
+-- a path
+pub path_held : (x : Progress) (code n : ℕ) (to : To) (w : WantsValue x code n to) → OfType (TextType OBJECT_PATH) ≡ want code → (s : List ℕ) → Fronts (λ (u : Unit {0}). (111 ∷ [], 3)) (x.offset + n) s (Ok tt) (short_text x.order x.end (Only (111 ∷ []))) → x.offset + n + 3 ≤ x.end → WantsHeld x code (n + 3) (TextType OBJECT_PATH) (after_bytes to (take 3 s))
+path_held x code n to w wanted s h low =
+    subst (λ (t : TypeTree). WantsHeld x code (n + 3) t (after_bytes to (take 3 s))) (spelled_sig (TextType OBJECT_PATH))
+    (held_there x code n to w (OfType (TextType OBJECT_PATH)) wanted (path_plain code wanted) s (λ t. refl) (λ (u : Unit {0}). (111 ∷ [], 3)) tt h (n + 3) refl low)

@@ -1,6 +1,5 @@
 -- A message under way, stage by stage.
-use Rattle.std.proofs.Common.{◌≡◌, ℕ, zero, suc, ◌+◌, ◌<◌, ◌≤◌, List, [], ◌++◌, length, take, drop, false, Option, Some, None, Ok, Err, refl, sym, ap, subst, ◌∙◌, arith}
-use Rattle.std.proofs.Math.Path.{fun_ext}
+use Rattle.std.proofs.Common.{◌≡◌, ℕ, zero, suc, ◌+◌, ◌<◌, ◌≤◌, List, [], ◌++◌, length, take, drop, false, Option, Some, None, Ok, Err, refl, sym, ap, ◌∙◌, arith}
 use Rattle.std.proofs.lemmas.Bool.{le-ltb, eq-eqb}
 use Rattle.std.proofs.lemmas.List.{append-nil, take_all, drop_all, length-take}
 use Rattle.dbus_texts.specs.ComputedKinds.{types_spelled}
@@ -85,10 +84,6 @@ module _ (limits : Limits) (order : Order) (kind body : ℕ) (kept : Kept) where
 
 pub signature_types : (t : List ℕ) → IsKind kinds.Signature t → (ts : TypeTrees) × ((t ≡ sigs ts) × AreShaped ts)
 signature_types t h = let w = signature_text t h in (types_spelled t, (sym w.1, w.0))
-
--- another word for the same answer
-pub denotes_same : (x : Values) (last : On) (to other : To) → ((c : List ℕ) → to c ≡ other c) → values.Denotes x (record { last = last; to = to }) → values.Denotes x (record { last = last; to = other })
-denotes_same x last to other same h = subst (λ (t : To). values.Denotes x (record { last = last; to = t })) (fun_ext same) h
 
 module _ (limits : Limits) (order : Order) (body : ℕ) (kept : Kept) (bounds : Bounds) (end o : ℕ) (bounds_is : bounds ≡ bounds_with limits (index_limit limits.fds kept.count)) (end_is : end ≡ o + body) where
   pub body_begins : (c : List ℕ) → onward (fields (value bounds order limits.depth end) (types_spelled kept.text)) (onward (ends end) done) o c ≡ body_on limits order body kept o c

@@ -15,7 +15,7 @@ use Rattle.dbus_value_checker.specs.declared.values.Values.{Values}
 use Rattle.dbus_value_checker.proofs.Calls.{over_last}
 use Rattle.dbus_check.specs.Progress.{Under}
 use Rattle.dbus_check.proofs.Advances.{fields_advance}
-use Rattle.dbus_check.proofs.Stages.{denotes_same}
+use Rattle.dbus_value_checker.proofs.Calls.{denotes_same}
 
 module _ (bounds : Bounds) (order : Order) (room end : ℕ) (ts : TypeTrees) (start : ℕ) (given : List ℕ) where
   abbrev run : On → On

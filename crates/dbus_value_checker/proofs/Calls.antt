@@ -1,5 +1,6 @@
 -- Calls one after another.
-use Rattle.std.proofs.Common.{◌≡◌, ℕ, ◌+◌, ◌≤◌, List, ◌++◌, length, take, drop, Ok, Err, sym, ap, ◌∙◌, arith}
+use Rattle.std.proofs.Common.{◌≡◌, ℕ, ◌+◌, ◌≤◌, List, ◌++◌, length, take, drop, Ok, Err, sym, ap, subst, ◌∙◌, arith}
+use Rattle.std.proofs.Math.Path.{fun_ext}
 use Rattle.std.proofs.lemmas.List.{length-drop, take-append-drop}
 use Rattle.dbus_value_model.specs.Reading.{Outcome}
 use Rattle.dbus_value_model.specs.declared.stop.Stop.{Stop}
@@ -18,15 +19,8 @@ use Rattle.dbus_value_checker.specs.Moves.{Moves, Opens, IsLive, offset_of}
 use Rattle.dbus_value_checker.proofs.Chains.{take-both, split-at}
 
 -- the same answers
-denotes_at : (x : Values) (d : Doing) (last : On) (f g : List ℕ → Outcome (Unit {0})) → ((c : List ℕ) → f c ≡ g c) → denotes d x (record { last = last; to = f }) → denotes d x (record { last = last; to = g })
-denotes_at x (doing.Wanted pos stop) last f g e h = record { ws = h.ws; type = h.type; frames = h.frames; noted = h.noted; text = h.text; type_noted = h.type_noted; complete = h.complete; pos_is = h.pos_is; stop_is = h.stop_is; same = λ c. h.same c ∙ e c }
-denotes_at x (doing.Text code left) last f g e h = (h.0, record { ws = h.1.ws; kind = h.1.kind; size = h.1.size; start = h.1.start; bytes = h.1.bytes; frames = h.1.frames; noted = h.1.noted; kind_is = h.1.kind_is; scans = h.1.scans; stands = h.1.stands; offset = h.1.offset; left_is = h.1.left_is; fits = h.1.fits; near = h.1.near; same = λ c. h.1.same c ∙ e c })
-denotes_at x (doing.Numbers w) last f g e h = record { ws = h.ws; code = h.code; turns = h.turns; depth_left = h.depth_left; stop = h.stop; width_is = h.width_is; plain = h.plain; frames = h.frames; noted = h.noted; aligned = h.aligned; more = h.more; same = λ c. h.same c ∙ e c }
-denotes_at x doing.Nul last f g e h = record { ws = h.ws; frames = h.frames; noted = h.noted; fits = h.fits; near = h.near; same = λ c. h.same c ∙ e c }
-denotes_at x doing.Over last f g e h = (h.0, h.1, λ c. h.2 c ∙ e c)
-
 pub denotes_same : (x : Values) (last : On) (f g : List ℕ → Outcome (Unit {0})) → ((c : List ℕ) → f c ≡ g c) → Denotes x (record { last = last; to = f }) → Denotes x (record { last = last; to = g })
-denotes_same x last f g e h = denotes_at x x.doing last f g e h
+denotes_same x last f g e h = subst (λ (t : List ℕ → Outcome (Unit {0})). Denotes x (record { last = last; to = t })) (fun_ext e) h
 
 -- a call after n bytes that were taken
 module _ (x y : Values) (s : List ℕ) (n : ℕ) (answer : Answer) (rest : List ℕ) (rest_is : rest ≡ drop n s) where

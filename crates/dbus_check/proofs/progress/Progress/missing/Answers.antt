@@ -17,7 +17,7 @@ returns-in-None-clause-turns c = λ to w.
     let near = w.near in
     record {
       kept = w.kept;
-      keeps = record { sees = w.keeps.sees; text = w.keeps.text; signature = w.keeps.signature; count = w.keeps.count; no_text = w.keeps.no_text; no_count = w.keeps.no_count };
+      keeps = assumption w.keeps;
       near = rw over near;
       same = λ t. sym (lacks_none x.limits x.order x.kind x.body w.kept x.offset t (c.in-None.ensures w.kept.codes w.keeps.sees))
           ∙ sym (fields_over x.limits x.order x.kind x.body w.kept w.turns x.end x.offset t over) ∙ w.same t;
