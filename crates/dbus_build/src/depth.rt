@@ -19,6 +19,7 @@ fn field_nests<A: Allocator>(field: &HeaderField<A>, depth_left: u8) -> bool
 }
 
 /// Whether the field array opens no more containers than may be open, itself among them.
+#[tactic(auto, using(crate::proofs::Nesting::array_nests, crate::proofs::Nesting::nest_from, crate::proofs::Nesting::nest_onto))]
 fn fields_nest<A: Allocator>(fields: &[HeaderField<A>], depth_left: u8) -> bool
     ensures { IsTrue result ↔ NestsWithin depth_left (field_array (field_trees fields.now)) }
 {

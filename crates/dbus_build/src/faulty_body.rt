@@ -22,6 +22,7 @@ pub fn is_sound<A: Allocator + Copy>(alloc: A, value: &Value<A>) -> Result<bool,
 }
 
 /// The number of the first value that is not sound. The error is that a growth of memory was refused.
+#[tactic(auto, using(crate::proofs::FaultyBody::unsound_here, crate::proofs::FaultyBody::unsound_later))]
 pub fn first_unsound<A: Allocator + Copy>(
     alloc: A,
     values: &[Value<A>],

@@ -73,6 +73,7 @@ pub fn first_zero_reply<A: Allocator>(fields: &[HeaderField<A>]) -> Option<u8>
 }
 
 /// The code of the first known field that stands after one of its code.
+#[tactic(auto, using(crate::proofs::FaultyFields::twice_here, crate::proofs::FaultyFields::twice_later))]
 pub fn first_twice<A: Allocator>(fields: &[HeaderField<A>]) -> Option<u8>
     ensures { result ≡ twice [] (field_trees fields.now) }
 {
@@ -85,6 +86,7 @@ pub fn first_twice<A: Allocator>(fields: &[HeaderField<A>]) -> Option<u8>
 }
 
 /// The code of the first known field of another type than its own.
+#[tactic(auto, using(crate::proofs::FaultyFields::first_here, crate::proofs::FaultyFields::first_later, crate::proofs::FaultyFields::first_none))]
 pub fn first_mistyped<A: Allocator>(fields: &[HeaderField<A>]) -> Option<u8>
     ensures { IsFirstWithout HasOwnType (field_trees fields.now) result }
 {
@@ -97,6 +99,7 @@ pub fn first_mistyped<A: Allocator>(fields: &[HeaderField<A>]) -> Option<u8>
 }
 
 /// The code of the first known field whose text is not of its kind.
+#[tactic(auto, using(crate::proofs::FaultyFields::first_here, crate::proofs::FaultyFields::first_later, crate::proofs::FaultyFields::first_none))]
 pub fn first_misnamed<A: Allocator>(fields: &[HeaderField<A>]) -> Option<u8>
     ensures { IsFirstWithout HasOwnKind (field_trees fields.now) result }
 {
@@ -119,6 +122,7 @@ fn holds_sound<A: Allocator + Copy>(alloc: A, field: &HeaderField<A>) -> Result<
 }
 
 /// The code of the first unknown field whose value is not sound. The error is that a growth of memory was refused.
+#[tactic(auto, using(crate::proofs::FaultyFields::unsound_field_here, crate::proofs::FaultyFields::unsound_field_later))]
 pub fn first_unsound_field<A: Allocator + Copy>(
     alloc: A,
     fields: &[HeaderField<A>],
