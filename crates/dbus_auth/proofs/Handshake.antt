@@ -18,7 +18,39 @@ use Rattle.dbus_auth.proofs.Sides.{client_is_done}
 use Rattle.dbus_auth.proofs.Stages.{at_state, talks_as, ClientBegan, ServerBegan, Stage, fresh, asked, gave_data, rejected, accepted, wants_data, confirming, both, over, start_same, server_mute, client_mute, client_mute_closed, to_client_of}
 use Rattle.dbus_auth.proofs.Steps.{asked-to_server, gave_data-to_server, asking_client, answering_server, rejected-to_client, accepted-to_client, wants_data-to_client, first_stage, confirming-to_server, confirming-client_writes, both-client_writes, both-server_writes, both-to_server, both-to_client, confirming-to_client, over-to_server, over-to_client, fresh-to_server, fresh-to_client, fresh-client_writes, fresh-start}
 
+-- ---- what the stages say of the server and of lines
+
+record ServerSees (s : ServerMachine) (w : World) : Type 0 where
+  server : ServerBegan w
+  client : ClientBegan w s.guid
+
+server_sees : (s : ServerMachine) (all : List ClientMechanism) (w : World) → Stage s all w → (w.server.status ≡ status.Talking) ⊎ ServerSees s w
+server_sees s all w (fresh f) = inl f.server_is.talking
+server_sees s all w (asked m left hm hl b a) = inl a.to_come.talking
+server_sees s all w (gave_data left hl b a) = inl a.to_come.talking
+server_sees s all w (rejected st left aw hl b a) = inl a.waiting.talking
+server_sees s all w (accepted st left aw b a) = inl a.waiting.talking
+server_sees s all w (wants_data left hl b a) = inl a.waiting.talking
+server_sees s all w (confirming b side c nil) = inl side.talking
+server_sees s all w (both b a c) = inr (record { server = a; client = c })
+server_sees s all w (over z b q c u) = inl q.talking
+
+few_lines : (s : ServerMachine) (all : List ClientMechanism) (w : World) → Stage s all w → line_ends w.client_said ≤ 2 * length all + 1
+few_lines s all w (fresh f) = omega (arith, ap line_ends f.said)
+few_lines s all w (asked m left hm hl b a) = omega arith
+few_lines s all w (gave_data left hl b a) = omega arith
+few_lines s all w (rejected st left aw hl b a) = omega arith
+few_lines s all w (accepted st left aw b a) = omega arith
+few_lines s all w (wants_data left hl b a) = omega arith
+few_lines s all w (confirming b side c nil) = b
+few_lines s all w (both b a c) = b
+few_lines s all w (over z b q c u) = b
+
 -- ---- each event keeps it
+
+server_writes-keeps : (s : ServerMachine) (all : List ClientMechanism) (w : World) (bytes : List ℕ) → Stage s all w → (w.server.status ≡ status.Talking) ⊎ ServerSees s w → Stage s all (happens w (Server_writes bytes))
+server_writes-keeps s all w bytes st (inl talking) = rw (server_mute w bytes talking) st
+server_writes-keeps s all w bytes st (inr sees) = both-server_writes s all w bytes (few_lines s all w st) sees.server sees.client
 
 keeps : (s : ServerMachine) (all : List ClientMechanism) → IsServer s → AllByRecursion IsMechanism all → (w : World) (e : Event) → Stage s all w → Stage s all (happens w e)
 keeps s all hs ha w Start (fresh f) = rw (fresh-start s all w f) (first_stage s all w all refl ha f.client_is f)
@@ -52,15 +84,7 @@ keeps s all hs ha w (To_client n) (wants_data left hl b a) = rw (to_client_of w 
 keeps s all hs ha w (To_client n) (confirming b side c nil) = confirming-to_client s all w n b side c nil
 keeps s all hs ha w (To_client n) (both b a c) = both-to_client s all w n b a c
 keeps s all hs ha w (To_client n) (over z b q c u) = over-to_client s all w n z b q c u
-keeps s all hs ha w (Server_writes x) (fresh f) = rw (server_mute w x f.server_is.talking) (fresh f)
-keeps s all hs ha w (Server_writes x) (asked m left hm hl b a) = rw (server_mute w x a.to_come.talking) (asked m left hm hl b a)
-keeps s all hs ha w (Server_writes x) (gave_data left hl b a) = rw (server_mute w x a.to_come.talking) (gave_data left hl b a)
-keeps s all hs ha w (Server_writes x) (rejected st left aw hl b a) = rw (server_mute w x a.waiting.talking) (rejected st left aw hl b a)
-keeps s all hs ha w (Server_writes x) (accepted st left aw b a) = rw (server_mute w x a.waiting.talking) (accepted st left aw b a)
-keeps s all hs ha w (Server_writes x) (wants_data left hl b a) = rw (server_mute w x a.waiting.talking) (wants_data left hl b a)
-keeps s all hs ha w (Server_writes x) (confirming b side c nil) = rw (server_mute w x side.talking) (confirming b side c nil)
-keeps s all hs ha w (Server_writes x) (both b a c) = both-server_writes s all w x b a c
-keeps s all hs ha w (Server_writes x) (over z b q c u) = rw (server_mute w x q.talking) (over z b q c u)
+keeps s all hs ha w (Server_writes x) st = server_writes-keeps s all w x st (server_sees s all w st)
 keeps s all hs ha w (Client_writes x) (fresh f) = rw (fresh-client_writes s all w x f) (fresh f)
 keeps s all hs ha w (Client_writes x) (asked m left hm hl b a) = rw (client_mute w x a.waiting.talking) (asked m left hm hl b a)
 keeps s all hs ha w (Client_writes x) (gave_data left hl b a) = rw (client_mute w x a.waiting.talking) (gave_data left hl b a)
@@ -147,21 +171,6 @@ run_keeps s all hs ha (e ∷ es) w st o = run_keeps s all hs ha es (happens w e)
 
 -- ---- what the stages say
 
-record ServerSees (s : ServerMachine) (w : World) : Type 0 where
-  server : ServerBegan w
-  client : ClientBegan w s.guid
-
-server_sees : (s : ServerMachine) (all : List ClientMechanism) (w : World) → Stage s all w → (w.server.status ≡ status.Talking) ⊎ ServerSees s w
-server_sees s all w (fresh f) = inl f.server_is.talking
-server_sees s all w (asked m left hm hl b a) = inl a.to_come.talking
-server_sees s all w (gave_data left hl b a) = inl a.to_come.talking
-server_sees s all w (rejected st left aw hl b a) = inl a.waiting.talking
-server_sees s all w (accepted st left aw b a) = inl a.waiting.talking
-server_sees s all w (wants_data left hl b a) = inl a.waiting.talking
-server_sees s all w (confirming b side c nil) = inl side.talking
-server_sees s all w (both b a c) = inr (record { server = a; client = c })
-server_sees s all w (over z b q c u) = inl q.talking
-
 record ClientSees (s : ServerMachine) (w : World) : Type 0 where
   client : ClientBegan w s.guid
   server : (w.server.server.state ≡ at.WaitingForBegin) ⊎ (w.server.server.state ≡ at.Begun)
@@ -176,17 +185,6 @@ client_sees s all w (wants_data left hl b a) = inl (inl a.to_come.talking)
 client_sees s all w (confirming b side c nil) = inr (record { client = c; server = inl (ap (λ (x : ServerMachine). x.state) side.is) })
 client_sees s all w (both b a c) = inr (record { client = c; server = inr a.state_is })
 client_sees s all w (over z b q c u) = inl (inr c.status)
-
-few_lines : (s : ServerMachine) (all : List ClientMechanism) (w : World) → Stage s all w → line_ends w.client_said ≤ 2 * length all + 1
-few_lines s all w (fresh f) = omega (arith, ap line_ends f.said)
-few_lines s all w (asked m left hm hl b a) = omega arith
-few_lines s all w (gave_data left hl b a) = omega arith
-few_lines s all w (rejected st left aw hl b a) = omega arith
-few_lines s all w (accepted st left aw b a) = omega arith
-few_lines s all w (wants_data left hl b a) = omega arith
-few_lines s all w (confirming b side c nil) = b
-few_lines s all w (both b a c) = b
-few_lines s all w (over z b q c u) = b
 
 module _ (s : ServerMachine) (w : World) where
   when_server : {A : Type 0} → (w.server.status ≡ status.Talking) ⊎ ServerSees s w → (ServerSees s w → A) → w.server.status ≡ status.Begun → A

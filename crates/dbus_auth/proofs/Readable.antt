@@ -99,7 +99,7 @@ empty_is_nil (b ∷ bs) h = absurd (false≢true h)
 decimal_is_some : (n : ℕ) → n < 2 ^ 32 → is_empty (decimal n) ≡ true → ⊥
 decimal_is_some n h e = omega (arith, empty_is_nil (decimal n) e, decimal_nonempty n (small n h))
 
-AuthStep : ServerMachine → ClientMechanism → Type 0
+abbrev pub AuthStep : ServerMachine → ClientMechanism → Type 0
 AuthStep s m = (server_step (record s { state = at.WaitingForAuth }) (auth_line m) ≡ rejects s)
     ⊎ ((server_step (record s { state = at.WaitingForAuth }) (auth_line m) ≡ accepts s)
     ⊎ ((server_step (record s { state = at.WaitingForAuth }) (auth_line m) ≡ replies (server.DataOf []) at.WaitingForData) × (waits_in m ≡ now.WaitingForData)))
@@ -107,31 +107,23 @@ AuthStep s m = (server_step (record s { state = at.WaitingForAuth }) (auth_line 
 -- the step is one of three, and asks for data only where the test p holds
 by_test : (s : ServerMachine) (m : ClientMechanism) (p : Bool) (step : ServerStep) → step ≡ server_step (record s { state = at.WaitingForAuth }) (auth_line m)
     → (step ≡ rejects s) ⊎ ((step ≡ accepts s) ⊎ ((step ≡ replies (server.DataOf []) at.WaitingForData) × (p ≡ true))) → (p ≡ true → waits_in m ≡ now.WaitingForData) → AuthStep s m
-unfolding AuthStep
 by_test s m p step is (inl x) w = inl (sym is ∙ x)
 by_test s m p step is (inr (inl x)) w = inr (inl (sym is ∙ x))
 by_test s m p step is (inr (inr x)) w = inr (inr (sym is ∙ x.0, w x.1))
 
-step_is : (s : ServerMachine) (m : ClientMechanism) → IsMechanism m → AuthStep s m
+pub auth_step : (s : ServerMachine) (m : ClientMechanism) → IsMechanism m → AuthStep s m
 unfolding server_step
-step_is s (External None) h =
+auth_step s (External None) h =
     let p = offers_external s.user && true in
     by_test s (External None) p (server_step (record s { state = at.WaitingForAuth }) (auth_line (External None))) refl
     (three_ways p (is_user s.user []) false (replies (server.DataOf []) at.WaitingForData) (accepts s) (rejects s)) (λ _. refl)
-step_is s (External (Some n)) h =
+auth_step s (External (Some n)) h =
     let p = offers_external s.user && is_empty (decimal n) in
     by_test s (External (Some n)) p (server_step (record s { state = at.WaitingForAuth }) (auth_line (External (Some n)))) refl
     (three_ways p (is_user s.user (decimal n)) false (replies (server.DataOf []) at.WaitingForData) (accepts s) (rejects s)) (λ e. absurd (decimal_is_some n h (and_parts (offers_external s.user) (is_empty (decimal n)) e).1))
-step_is s (Anonymous trace) h =
+auth_step s (Anonymous trace) h =
     by_test s (Anonymous trace) false (server_step (record s { state = at.WaitingForAuth }) (auth_line (Anonymous trace))) refl
     (three_ways false false s.anonymous (replies (server.DataOf []) at.WaitingForData) (accepts s) (rejects s)) (λ e. absurd (false≢true e))
-
-pub auth_step : (s : ServerMachine) (m : ClientMechanism) → IsMechanism m
-    → (server_step (record s { state = at.WaitingForAuth }) (auth_line m) ≡ rejects s)
-    ⊎ ((server_step (record s { state = at.WaitingForAuth }) (auth_line m) ≡ accepts s)
-    ⊎ ((server_step (record s { state = at.WaitingForAuth }) (auth_line m) ≡ replies (server.DataOf []) at.WaitingForData) × (waits_in m ≡ now.WaitingForData)))
-unfolding AuthStep
-auth_step s m h = step_is s m h
 
 pub data_step : (s : ServerMachine) → server_step (record s { state = at.WaitingForData }) (client.DataOf []) ≡ accepts s
 unfolding server_step
