@@ -51,17 +51,6 @@ basic_long (EntryType k v) h = absurd h
 pub basic_end : (types : List ℕ) (at : ℕ) → at < length types → ((t : TypeTree) → first_code t ≡ get_or types at 0 → IsBasic t) → IsTypeEnd types at (at + 1)
 basic_end types at lt basic = λ t more e. ap (λ (i : ℕ). at + i) (sym (basic_long t (basic t (first_there types at t more lt e))))
 
-coded_basic : (t : TypeTree) → is_basic_code (first_code t) ≡ true → IsBasic t
-coded_basic (NumberType k) h = tt
-coded_basic (TextType k) h = tt
-coded_basic VariantType h = cc
-coded_basic (ArrayType u) h = cc
-coded_basic (StructType ts) h = cc
-coded_basic (EntryType k v) h = cc
-
-pub code_basic : (c : ℕ) → is_basic_code c ≡ true → (t : TypeTree) → first_code t ≡ c → IsBasic t
-code_basic c h t e = coded_basic t (subst (λ (n : ℕ). is_basic_code n ≡ true) (sym e) h)
-
 -- the code of a basic type is a signature, of one type
 pub one_code : (kind : TextKind) (w : List ℕ) → (kind ≡ Signature) ⊎ (kind ≡ Single) → length w ≡ 1 → is_basic_code (get_or w 0 0) ≡ true → IsKind kind w
 one_code kind w is one code =

@@ -1,8 +1,9 @@
 //! Where a type ends in a signature's bytes. D-Bus Specification, "Valid Signatures".
 #![tactic(auto)]
 
-ghost use Rattle.std.specs.Prelude.{◌≡◌, ◌+◌, ◌<◌, ◌≤◌, ◌^◌, length, IsTrue};
-ghost use Rattle.dbus_types.specs.SignatureCodes.{IsTypeEnd};
+ghost use Rattle.std.specs.Prelude.{◌≡◌, ◌+◌, ◌<◌, ◌≤◌, ◌^◌, length, IsTrue, false};
+ghost use Rattle.dbus_texts.specs.Types.{TypeTree, IsBasic};
+ghost use Rattle.dbus_types.specs.SignatureCodes.{IsTypeEnd, first_code};
 ghost use Rattle.dbus_value_validator.specs.NotedTypes.{AreNoted};
 
 use dbus_types::type_end;
@@ -17,6 +18,15 @@ pub(crate) fn wants_lengths(types: &[u8]) -> bool
     ensures { IsTrue result → length types.now ≤ 255 }
 {
     FEW < types.len() && types.len() <= 255
+}
+
+/// Whether the types that begin with this byte are those of containers. Of a byte with which no type begins the answer says
+/// nothing. D-Bus Specification, "Container types".
+#[inline]
+pub(crate) fn is_container(code: u8) -> bool
+    ensures { result ≡ false → (t : TypeTree) → first_code t ≡ code → IsBasic t }
+{
+    matches!(code, b'a' | b'(' | b'{' | b'v')
 }
 
 /// Where the complete type ends that begins at `at` of `types`, which begin at `pos` of a signature whose lengths are noted up to

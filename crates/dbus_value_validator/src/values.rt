@@ -13,8 +13,8 @@ ghost use Rattle.dbus_value_validator.specs.NotedTypes.{AreNoted};
 ghost use Rattle.dbus_value_validator.specs.Sources.{value_in, values_in, elements_in, variant_in, array_in, struct_in, entry_in};
 
 use crate::arrays::frame;
-use crate::basic::{basic_value, is_basic};
-use crate::ends::{end_of, wants_lengths};
+use crate::basic::basic_value;
+use crate::ends::{end_of, is_container, wants_lengths};
 use crate::items::padding;
 use crate::source::Source;
 use crate::texts::short_text;
@@ -87,14 +87,14 @@ pub(crate) fn all_values(
     let mut first = 0;
     while first < types.len() {
         let code = types[first];
-        if is_basic(code) {
-            place = basic_value(source, place, end, code)?;
-            first += 1;
-        } else {
+        if is_container(code) {
             let next = end_of(types, first, source.lengths, pos);
             let one = &types[first..next];
             place = one_value(source, place, end, one, pos + first, depth_left)?;
             first = next;
+        } else {
+            place = basic_value(source, place, end, code)?;
+            first += 1;
         }
     }
     Some(place)
@@ -145,7 +145,7 @@ fn variant(source: &Source<'_>, at: usize, end: usize, depth_left: u8) -> Option
     let n = short_text(source.bytes, at, end, TextKind::Single)?;
     let first = at + 1;
     let code = source.bytes[first];
-    if n == 1 && is_basic(code) {
+    if n == 1 && !is_container(code) {
         return basic_value(source, first + 2, end, code);
     }
     let held = &source.bytes[first..first + n];

@@ -9,25 +9,23 @@ use Rattle.dbus_value_model.specs.Reading.{value}
 use Rattle.dbus_types.proofs.TypeCodes.{no_text_of, code_is, variant_is, array_is, struct_is, entry_is, struct_shaped, entry_shaped}
 use Rattle.dbus_value_model.proofs.FreeNumbers.{free_is}
 use Rattle.dbus_value_validator.specs.Endings.{EndsAt, IsNotRead}
-use Rattle.dbus_value_validator.proofs.NotedTypes.{part_noted, first_front, basic_end, code_basic}
+use Rattle.dbus_value_validator.proofs.NotedTypes.{part_noted, first_front, basic_end}
 use Rattle.dbus_value_validator.proofs.NumberArrays.{free_elements_end, uneven_elements}
 use Rattle.dbus_value_validator.proofs.ValueRefusals.{no_variant, no_array, no_struct, no_entry, variant_too_deep, variant_unsigned, variant_unheld, array_too_deep, array_unpadded, array_unframed, array_unfilled, struct_too_deep, struct_unpadded, struct_unfilled, entry_unpadded, entry_unfilled}
 use Rattle.dbus_value_validator.proofs.ValueSteps.{less_left, left_unread, left_ends, lacks_all, lacks_on, lacks_element, lacks_end, leads_all, leads_on, leads_end, variant_ends, array_ends, struct_ends, entry_ends, as_variant, as_array, as_struct, as_entry}
 use Rattle.dbus_value_validator.proofs.values.+values.Goals.{array-then-depth_left-eq0-via-then-depth_left-eq0, array-then-depth_left-eq0-via-else-depth_left-eq0+then-is_empty}
 use Rattle.dbus_value_validator.proofs.values.+values.Goals as goal
 
-pub all_values-loop-first-preserved-then-is_basic : goal.all_values-loop-first-preserved-then-is_basic
-all_values-loop-first-preserved-then-is_basic t c =
+pub all_values-loop-first-preserved-then-is_container : goal.all_values-loop-first-preserved-then-is_container
+all_values-loop-first-preserved-then-is_container t c =
     let moves = c.in_ok-place.ensures.moves in
     record {
       begun = omega (arith, moves.0);
       at_most = moves.1;
-      within = omega arith;
+      within = c.end_of-next.ensures.within;
       left = λ ts e shaped.
-          less_left (value c.args.source.now.bounds c.args.source.now.order c.args.depth_left c.args.end) c.args.source.now.bytes.now c.args.types.now ts c.args.at c.loop-first.place c.loop-first.first (c.loop-first.first + 1) c.loop-first-test.true
-          (basic_end c.args.types.now c.loop-first.first c.loop-first-test.true (code_basic _ (sym c.is_basic.ensures ∙ c.if-is_basic.true))) c.in_ok-place.place
-          (c.loop-first.invariant.left ts e shaped)
-          (λ u is whole. c.in_ok-place.ensures.gives c.args.depth_left u (first_front c.args.types.now c.loop-first.first (c.loop-first.first + 1 - c.loop-first.first) u c.loop-first-test.true is));
+          less_left (value c.args.source.now.bounds c.args.source.now.order c.args.depth_left c.args.end) c.args.source.now.bytes.now c.args.types.now ts c.args.at c.loop-first.place c.loop-first.first c.end_of-next.result c.loop-first-test.true c.end_of-next.ensures.value c.in_ok-place.place
+          (c.loop-first.invariant.left ts e shaped) c.in_ok-place.ensures.gives;
     }
 
 pub all_values-loop-first-preserved : goal.all_values-loop-first-preserved
@@ -36,10 +34,12 @@ all_values-loop-first-preserved t c =
     record {
       begun = omega (arith, moves.0);
       at_most = moves.1;
-      within = c.end_of-next.ensures.within;
+      within = omega arith;
       left = λ ts e shaped.
-          less_left (value c.args.source.now.bounds c.args.source.now.order c.args.depth_left c.args.end) c.args.source.now.bytes.now c.args.types.now ts c.args.at c.loop-first.place c.loop-first.first c.end_of-next.result c.loop-first-test.true c.end_of-next.ensures.value c.in_ok-place-2.place
-          (c.loop-first.invariant.left ts e shaped) c.in_ok-place-2.ensures.gives;
+          less_left (value c.args.source.now.bounds c.args.source.now.order c.args.depth_left c.args.end) c.args.source.now.bytes.now c.args.types.now ts c.args.at c.loop-first.place c.loop-first.first (c.loop-first.first + 1) c.loop-first-test.true
+          (basic_end c.args.types.now c.loop-first.first c.loop-first-test.true (c.is_container.ensures c.if-is_container.false)) c.in_ok-place-2.place
+          (c.loop-first.invariant.left ts e shaped)
+          (λ u is whole. c.in_ok-place-2.ensures.gives c.args.depth_left u (first_front c.args.types.now c.loop-first.first (c.loop-first.first + 1 - c.loop-first.first) u c.loop-first-test.true is));
     }
 
 pub all_values-returns-clause-gives : goal.all_values-returns-clause-gives
@@ -101,8 +101,8 @@ pub structure-returns-clause-gives : goal.structure-returns-clause-gives
 structure-returns-clause-gives t c = IfSome_then c.all_values.result c.all_values.ensures.gives (λ q h ts e shaped.
     struct_ends c.args.source.now.bounds c.args.source.now.order c.args.depth_left c.args.end c.args.at c.args.source.now.bytes.now c.in_ok-start.start ts c.in_ok-start.ensures.gives (omega arith) q (h ts e shaped))
 
-pub variant-returns-then-is_basic-clause-gives : goal.variant-returns-then-is_basic-clause-gives
-variant-returns-then-is_basic-clause-gives t c = IfSome_then c.basic_value.result c.basic_value.ensures.gives (λ q h.
+pub variant-returns-then-not-is_container-clause-gives : goal.variant-returns-then-not-is_container-clause-gives
+variant-returns-then-not-is_container-clause-gives t c = IfSome_then c.basic_value.result c.basic_value.ensures.gives (λ q h.
     let bytes = c.args.source.now.bytes.now in
     let there : c.args.at + 1 < length bytes = omega (arith, c.in_ok-n.ensures.fits) in
     let after : c.args.at + 1 + 2 ≡ c.args.at + 1 + c.in_ok-n.n + 1 = omega (arith, c.if-n-eq1.true) in
@@ -141,15 +141,15 @@ one_value-returns-clause-gives t c = IfSome_then c.basic_value.result c.basic_va
 
 pub all_values-returns-in_err-place-clause-none : goal.all_values-returns-in_err-place-clause-none
 all_values-returns-in_err-place-clause-none t c = λ none ts e shaped.
-    let basic = code_basic _ (sym c.is_basic.ensures ∙ c.if-is_basic.true) in
-    left_unread (value c.args.source.now.bounds c.args.source.now.order c.args.depth_left c.args.end) c.args.source.now.bytes.now c.args.types.now ts c.args.at c.loop-first.place c.loop-first.first (c.loop-first.first + 1) c.loop-first-test.true
-    (basic_end c.args.types.now c.loop-first.first c.loop-first-test.true basic) (c.loop-first.invariant.left ts e shaped)
-    (λ u is whole. let code = first_front c.args.types.now c.loop-first.first (c.loop-first.first + 1 - c.loop-first.first) u c.loop-first-test.true is in c.basic_value.ensures.none c.in_err-place.was c.args.depth_left u code (basic u code))
+    left_unread (value c.args.source.now.bounds c.args.source.now.order c.args.depth_left c.args.end) c.args.source.now.bytes.now c.args.types.now ts c.args.at c.loop-first.place c.loop-first.first c.end_of-next.result c.loop-first-test.true c.end_of-next.ensures.value
+    (c.loop-first.invariant.left ts e shaped) (c.one_value.ensures.none c.in_err-place.was)
 
 pub all_values-returns-in_err-place-2-clause-none : goal.all_values-returns-in_err-place-2-clause-none
 all_values-returns-in_err-place-2-clause-none t c = λ none ts e shaped.
-    left_unread (value c.args.source.now.bounds c.args.source.now.order c.args.depth_left c.args.end) c.args.source.now.bytes.now c.args.types.now ts c.args.at c.loop-first.place c.loop-first.first c.end_of-next.result c.loop-first-test.true c.end_of-next.ensures.value
-    (c.loop-first.invariant.left ts e shaped) (c.one_value.ensures.none c.in_err-place-2.was)
+    let basic = c.is_container.ensures c.if-is_container.false in
+    left_unread (value c.args.source.now.bounds c.args.source.now.order c.args.depth_left c.args.end) c.args.source.now.bytes.now c.args.types.now ts c.args.at c.loop-first.place c.loop-first.first (c.loop-first.first + 1) c.loop-first-test.true
+    (basic_end c.args.types.now c.loop-first.first c.loop-first-test.true basic) (c.loop-first.invariant.left ts e shaped)
+    (λ u is whole. let code = first_front c.args.types.now c.loop-first.first (c.loop-first.first + 1 - c.loop-first.first) u c.loop-first-test.true is in c.basic_value.ensures.none c.in_err-place-2.was c.args.depth_left u code (basic u code))
 
 pub array-returns-then-depth_left-eq0-clause-none : goal.array-returns-then-depth_left-eq0-clause-none
 array-returns-then-depth_left-eq0-clause-none t c = λ none u e shaped.
@@ -209,8 +209,8 @@ pub structure-returns-clause-none : goal.structure-returns-clause-none
 structure-returns-clause-none t c = λ none ts e shaped.
     struct_unfilled c.args.source.now.bounds c.args.source.now.order c.args.depth_left c.args.end c.args.at c.args.source.now.bytes.now ts c.in_ok-start.start c.in_ok-start.ensures.gives (c.all_values.ensures.none none ts e shaped)
 
-pub variant-returns-then-is_basic-clause-none : goal.variant-returns-then-is_basic-clause-none
-variant-returns-then-is_basic-clause-none t c = λ none.
+pub variant-returns-then-not-is_container-clause-none : goal.variant-returns-then-not-is_container-clause-none
+variant-returns-then-not-is_container-clause-none t c = λ none.
     let bytes = c.args.source.now.bytes.now in
     let there : c.args.at + 1 < length bytes = omega (arith, c.in_ok-n.ensures.fits) in
     let after : c.args.at + 1 + 2 ≡ c.args.at + 1 + c.in_ok-n.n + 1 = omega (arith, c.if-n-eq1.true) in
@@ -218,7 +218,7 @@ variant-returns-then-is_basic-clause-none t c = λ none.
     (λ u is whole.
     let code = first_front bytes (c.args.at + 1) c.in_ok-n.n u there is in
     subst (λ (p : ℕ). IsNotRead (value c.args.source.now.bounds c.args.source.now.order (c.args.depth_left - 1) c.args.end u p (drop p bytes))) after
-    (c.basic_value.ensures.none none (c.args.depth_left - 1) u code (code_basic _ (sym c.is_basic.ensures ∙ c.if-is_basic.true) u code)))
+    (c.basic_value.ensures.none none (c.args.depth_left - 1) u code (c.is_container.ensures c.if-not-is_container.true u code)))
 
 pub variant-returns-then-depth_left-eq0-clause-none : goal.variant-returns-then-depth_left-eq0-clause-none
 variant-returns-then-depth_left-eq0-clause-none t c = λ none. variant_too_deep c.args.source.now.bounds c.args.source.now.order c.args.depth_left c.args.end c.args.at c.args.source.now.bytes.now c.if-depth_left-eq0.true
