@@ -59,8 +59,8 @@ keeps s all hs ha w Start (gave_data left hl b a) = rw (start_same w a.waiting.s
 keeps s all hs ha w Start (rejected st left aw hl b a) = rw (start_same w a.to_come.started) (rejected st left aw hl b a)
 keeps s all hs ha w Start (accepted st left aw b a) = rw (start_same w a.to_come.started) (accepted st left aw b a)
 keeps s all hs ha w Start (wants_data left hl b a) = rw (start_same w a.to_come.started) (wants_data left hl b a)
-keeps s all hs ha w Start (confirming b side c nil) = rw (start_same w c.started) (confirming b side c nil)
-keeps s all hs ha w Start (both b a c) = rw (start_same w c.started) (both b a c)
+keeps s all hs ha w Start (confirming b side c nil) = rw (start_same w c.end.started) (confirming b side c nil)
+keeps s all hs ha w Start (both b a c) = rw (start_same w c.end.started) (both b a c)
 keeps s all hs ha w Start (over z b q c u) = rw (start_same w c.started) (over z b q c u)
 keeps s all hs ha w (To_server n) (fresh f) = fresh-to_server s all w n f
 keeps s all hs ha w (To_server n) (asked m left hm hl b a) = asked-to_server s all hs w n m left hm hl b a
@@ -122,8 +122,8 @@ wrote_late s all w (gave_data left hl b a) = inl a.unsaid.client
 wrote_late s all w (rejected st left aw hl b a) = inl a.unsaid.client
 wrote_late s all w (accepted st left aw b a) = inl a.unsaid.client
 wrote_late s all w (wants_data left hl b a) = inl a.unsaid.client
-wrote_late s all w (confirming b side c nil) = inr (c.status, c.started)
-wrote_late s all w (both b a c) = inr (c.status, c.started)
+wrote_late s all w (confirming b side c nil) = inr (c.end.status, c.end.started)
+wrote_late s all w (both b a c) = inr (c.end.status, c.end.started)
 wrote_late s all w (over z b q c u) = inl u.client
 
 sends_first : (sent said wrote send : List ℕ) → sent ≡ said ++ wrote → wrote ≡ [] → sent ++ send ≡ (said ++ send) ++ wrote
@@ -201,8 +201,8 @@ concludes s all w st o =
     let sv = server_sees s all w st in
     let cl = client_sees s all w st in
     record {
-      client_began = when_server s w sv (λ x. x.client.status);
-      same_guid = when_client s w cl (λ x. x.client.guid_is);
+      client_began = when_server s w sv (λ x. x.client.end.status);
+      same_guid = when_client s w cl (λ x. x.client.end.guid_is);
       server_stands = when_client s w cl (λ x. x.server);
       to_server = when_server s w sv (λ x. x.server.left);
       to_client = when_client s w cl (λ x. x.client.left);

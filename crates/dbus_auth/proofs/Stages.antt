@@ -136,11 +136,13 @@ abbrev pub IsAwaiting : ClientState → Type 0
 IsAwaiting state = (state ≡ now.WaitingForOk) ⊎ (state ≡ now.WaitingForData)
 
 -- the client has begun
+pub record HasBegun (e : ClientEndState) (guid : List ℕ) : Type 0 where
+  pub status : e.status ≡ status.Begun
+  pub started : e.started ≡ true
+  pub guid_is : e.client.guid ≡ Some guid
+
 pub record ClientBegan (w : World) (guid : List ℕ) : Type 0 where
-  pub status : w.client.status ≡ status.Begun
-  pub started : w.client.started ≡ true
-  pub guid_is : w.client.client.guid ≡ Some guid
-  pub state_is : w.client.client.state ≡ now.Begun
+  pub end : HasBegun w.client guid
   pub left : untaken w.to_client ≡ w.server_wrote
   pub on_wire : IsWire w.to_client
 

@@ -239,10 +239,7 @@ module _ (s : ServerMachine) (all : List ClientMechanism) (fits : IsServer s) (w
             on_wire = IsWire-sending w.to_server (heard w n).send q.on_wire;
           })
           (record {
-            status = t.status ∙ ap (λ (x : ClientStep). client_status x.action) e;
-            started = t.started;
-            guid_is = ap (λ (x : ClientMachine). x.guid) t.is ∙ ap (λ (x : ClientStep). x.next.guid) e;
-            state_is = ap (λ (x : ClientMachine). x.state) t.is ∙ ap (λ (x : ClientStep). x.next.state) e;
+            end = record { status = t.status ∙ ap (λ (x : ClientStep). client_status x.action) e; started = t.started; guid_is = ap (λ (x : ClientMachine). x.guid) t.is ∙ ap (λ (x : ClientStep). x.next.guid) e };
             left = t.left ∙ sym a.unsaid.server;
             on_wire = t.on_wire;
           })
@@ -322,7 +319,7 @@ pub IsWire-none : (wire : Wire) → IsWire wire → IsWire (taking wire 0)
 IsWire-none wire h = IsWire-taking wire 0 h (omega arith)
 
 pub began_takes : (w : World) (n : ℕ) (guid : List ℕ) → ClientBegan w guid → happens w (To_client n) ≡ client_did w (nothing w.client)
-began_takes w n guid b = to_client_of w n b.started ∙ ap (client_did w) (client_is_done w.client (take n (untaken w.to_client)) (inl b.status))
+began_takes w n guid b = to_client_of w n b.end.started ∙ ap (client_did w) (client_is_done w.client (take n (untaken w.to_client)) (inl b.end.status))
 
 pub closed_takes : (w : World) (n : ℕ) → ClientClosed w → happens w (To_client n) ≡ client_did w (nothing w.client)
 closed_takes w n b = to_client_of w n b.started ∙ ap (client_did w) (client_is_done w.client (take n (untaken w.to_client)) (inr b.status))
@@ -332,28 +329,14 @@ server_done w n b = ap (server_did w) (server_is_done w.server (take n (untaken 
 
 -- the client has begun, and its end is handed a piece
 pub began_after : (w : World) (guid : List ℕ) → ClientBegan w guid → ClientBegan (client_did w (nothing w.client)) guid
-began_after w guid b = record {
-  status = b.status;
-  started = b.started;
-  guid_is = b.guid_is;
-  state_is = b.state_is;
-  left = taking_none w.to_client ∙ b.left;
-  on_wire = IsWire-none w.to_client b.on_wire;
-}
+began_after w guid b = record { end = b.end; left = taking_none w.to_client ∙ b.left; on_wire = IsWire-none w.to_client b.on_wire }
 
 pub same_lines : (w : World) → line_ends (w.client_said ++ []) ≡ line_ends w.client_said
 same_lines w = ap line_ends (append-nil w.client_said)
 
 -- the server's end does something while the client has begun
 pub began_beside : (w : World) (outcome : EndOutcome ServerEndState) (guid : List ℕ) → outcome.send ≡ [] → ClientBegan w guid → ClientBegan (server_did w outcome) guid
-began_beside w outcome guid nil b = record {
-  status = b.status;
-  started = b.started;
-  guid_is = b.guid_is;
-  state_is = b.state_is;
-  left = sending_nil w.to_client outcome.send b.on_wire nil ∙ b.left;
-  on_wire = IsWire-sending w.to_client outcome.send b.on_wire;
-}
+began_beside w outcome guid nil b = record { end = b.end; left = sending_nil w.to_client outcome.send b.on_wire nil ∙ b.left; on_wire = IsWire-sending w.to_client outcome.send b.on_wire }
 
 module _ (s : ServerMachine) (all : List ClientMechanism) (w : World) where
   pub confirming-to_server : (n : ℕ) → line_ends w.client_said ≤ 2 * length all + 1
@@ -376,31 +359,28 @@ module _ (s : ServerMachine) (all : List ClientMechanism) (w : World) where
       → ServerSide w.server w.to_server (at_state s at.WaitingForBegin) (ended (codes "BEGIN") ++ w.client_wrote)
       → ClientBegan w s.guid → w.server_wrote ≡ [] → Stage s all (happens w (Client_writes bytes))
   confirming-client_writes bytes bound side b nil =
-      rw (ap (client_writes w bytes) b.status) (confirming bound
+      rw (ap (client_writes w bytes) b.end.status) (confirming bound
       (rw (← append_assoc (ended (codes "BEGIN")) w.client_wrote bytes) (ServerSide-more w.server w.to_server (at_state s at.WaitingForBegin) (ended (codes "BEGIN") ++ w.client_wrote) bytes side))
-      (record { status = b.status; started = b.started; guid_is = b.guid_is; state_is = b.state_is; left = b.left; on_wire = b.on_wire })
+      (record { end = b.end; left = b.left; on_wire = b.on_wire })
       nil)
 
   pub both-client_writes : (bytes : List ℕ) → line_ends w.client_said ≤ 2 * length all + 1 → ServerBegan w → ClientBegan w s.guid → Stage s all (happens w (Client_writes bytes))
   both-client_writes bytes bound a b =
-      rw (ap (client_writes w bytes) b.status) (both bound
+      rw (ap (client_writes w bytes) b.end.status) (both bound
       (record {
         status = a.status;
         state_is = a.state_is;
         left = untaken-sending w.to_server bytes a.on_wire ∙ ap (λ (x : List ℕ). x ++ bytes) a.left;
         on_wire = IsWire-sending w.to_server bytes a.on_wire;
       })
-      (record { status = b.status; started = b.started; guid_is = b.guid_is; state_is = b.state_is; left = b.left; on_wire = b.on_wire }))
+      (record { end = b.end; left = b.left; on_wire = b.on_wire }))
 
   pub both-server_writes : (bytes : List ℕ) → line_ends w.client_said ≤ 2 * length all + 1 → ServerBegan w → ClientBegan w s.guid → Stage s all (happens w (Server_writes bytes))
   both-server_writes bytes bound a b =
       rw (ap (server_writes w bytes) a.status) (both bound
       (record { status = a.status; state_is = a.state_is; left = a.left; on_wire = a.on_wire })
       (record {
-        status = b.status;
-        started = b.started;
-        guid_is = b.guid_is;
-        state_is = b.state_is;
+        end = b.end;
         left = untaken-sending w.to_client bytes b.on_wire ∙ ap (λ (x : List ℕ). x ++ bytes) b.left;
         on_wire = IsWire-sending w.to_client bytes b.on_wire;
       }))
