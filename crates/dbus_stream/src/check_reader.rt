@@ -43,7 +43,9 @@ impl<R: Source> Reader<R, Lengths, Large> {
         Reader::over(
             source,
             Lengths::within(limits),
-            Large { bytes: [0; 262_144] },
+            Large {
+                bytes: [0; 262_144],
+            },
             reads,
         )
     }

@@ -64,7 +64,9 @@ impl<R: Source, A: Allocator + Copy> RawReader<R, A> {
             reader: Reader::over(
                 source,
                 Gatherer::within(alloc, limits),
-                Large { bytes: [0; 262_144] },
+                Large {
+                    bytes: [0; 262_144],
+                },
                 reads,
             ),
         }
