@@ -62,7 +62,7 @@ fn growths_met(
 /// Words, the input, how the run ends, and what is written on the first writer and on the second. The run meets more
 /// growths than this; `check` takes memory for its line alone. The line of a refusal takes memory too, on either writer.
 pub(crate) const RUNS: &[(&[&str], &[&[u8]], ExitStatus, &[&[u8]], &[u8], u64)] = &[
-    (SHOW, ALL, DONE, TEXTS, b"", 9),
+    (SHOW, ALL, DONE, TEXTS, b"", 6),
     (CHECK, ALL, DONE, &[b"ok 3 messages 144 bytes\n"], b"", 0),
     (TO_LITTLE, ALL, DONE, &[RETURN, SIGNAL, RETURN], b"", 3),
     (RETURNS, ALL, DONE, &[RETURN, BIG_RETURN], b"", 3),

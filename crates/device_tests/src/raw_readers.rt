@@ -226,7 +226,7 @@ fn each_read_fails_once(rt: HostRuntime) {
 }
 
 // So many messages that the last of them is cut by the end of the reader's buffer.
-const MANY: usize = 2_731;
+const MANY: usize = 10_923;
 
 #[test]
 fn a_message_that_two_reads_give(rt: HostRuntime) -> Result<(), Fail> {
@@ -249,7 +249,7 @@ fn a_message_that_two_reads_give(rt: HostRuntime) -> Result<(), Fail> {
         [(Advance, Gives(RETURN)), (Advance, NOTHING)].as_slice(),
     );
     let done = reader.done();
-    assert_eq!(rt; [done, reader.into_source().calls], [65_544, 3]);
+    assert_eq!(rt; [done, reader.into_source().calls], [262_152, 3]);
     Ok(())
 }
 
