@@ -1,7 +1,7 @@
 # make run         builds dbus-wire without its proofs, in 40 seconds, and checks a sample capture; ARGS='show' FILE=my.dbus for
 #                  another command and capture
 # make quick-test  the tests and the programs that hold every case, without proofs: some minutes
-# make build       proves dbus-wire and all below it, on all processors, and builds it: three quarters of an hour on four
+# make build       proves dbus-wire and all below it, on all processors, and builds it: half an hour on four
 # make test        the gate: every proof from nothing, the must-fail edits, the tests and the programs' stored runs
 # make gate-times  the gate, and the processor minutes of each of its steps
 # make library     proves and builds the static library for C
