@@ -1,10 +1,9 @@
 /* Checks the messages of standard input as a C programmer would by hand: whether each is one by the D-Bus Specification, with no
  * place and no reason, and no message in pieces. It is what bench/instructions.sh and bench/speed.py measure `check` beside; it is
  * not proved, and no part of the product. */
+#include "read_input.h"
 #include <stdbool.h>
 #include <stdint.h>
-#include <stdio.h>
-#include <stdlib.h>
 #include <string.h>
 
 typedef const uint8_t *Bytes;
@@ -355,30 +354,17 @@ static size_t first_message(Bytes bytes, size_t size) {
 }
 
 int main(void) {
-    size_t room = 1 << 23, size = 0, got, at = 0, count = 0;
-    uint8_t *bytes = malloc(room);
-    if (!bytes)
-        return 3;
-    while ((got = fread(bytes + size, 1, room - size, stdin)) > 0) {
-        size += got;
-        if (size == room) {
-            uint8_t *more = realloc(bytes, room *= 2);
-            if (!more)
-                return 3;
-            bytes = more;
-        }
-    }
+    struct input input = read_input();
+    size_t at = 0, count = 0;
     fill_classes();
-    while (at < size) {
-        size_t length = first_message(bytes + at, size - at);
+    for (; at < input.size; count++) {
+        size_t length = first_message(input.bytes + at, input.size - at);
         if (length == 0) {
             printf("refused in the message at %zu\n", at);
             return 1;
         }
         at += length;
-        count++;
     }
-    printf("ok %zu messages %zu bytes\n", count, size);
-    free(bytes);
+    printf("ok %zu messages %zu bytes\n", count, input.size);
     return 0;
 }

@@ -1,9 +1,9 @@
-//! Each growth of decoding, of encoding and of making a message of its parts refused in turn.
+//! Each growth of decoding, of copying values, of encoding and of making a message of its parts refused in turn.
 #![tactic(auto)]
 
 use dbus_message::{
-    Answer, Build, BuildFault, HeaderField, Message, Parts, decode, decode_within, encode,
-    encode_into,
+    Answer, Build, BuildFault, HeaderField, Message, MessageView, Parts, copy_value, copy_values,
+    decode, decode_within, encode, encode_into,
 };
 use dbus_value::{Fault, Limits, Order, Reason, Refusal, Value};
 use refusing_alloc::Refusing;
@@ -67,15 +67,46 @@ fn decoded<A: Allocator + Copy>(alloc: A, bytes: &[u8], limits: Limits) -> Endin
     }
 }
 
+// A call over the bytes of a message: it is decoded, or the first value of its body is copied, or all of them.
+#[derive(Clone, Copy)]
+enum Call {
+    Decode,
+    CopyFirst,
+    CopyAll,
+}
+
+// What is called, over which bytes and under which limits.
+#[derive(Clone, Copy)]
+struct Asked<'a> {
+    call: Call,
+    bytes: &'a [u8],
+    limits: Limits,
+}
+
+fn called<A: Allocator + Copy>(alloc: A, asked: Asked<'_>) -> Ending {
+    let Ok(view) = MessageView::of_within(asked.bytes, asked.limits) else {
+        return decoded(alloc, asked.bytes, asked.limits);
+    };
+    match asked.call {
+        Call::Decode => decoded(alloc, asked.bytes, asked.limits),
+        Call::CopyFirst => ended_as(copy_value(alloc, &view.body()).is_err()),
+        Call::CopyAll => ended_as(copy_values(alloc, &view.body()).is_err()),
+    }
+}
+
 // A call of a row ended as it should, and a count of growths or of blocks is then as it should be.
 fn ends(rt: &impl Abort, row: usize, found: (Ending, u64), wanted: (Ending, u64)) {
     assert_eq!(rt; found, wanted, "at {row}");
 }
 
-// What is decoded, under which limits, how that ends, and a number of growths that it takes at least, or exactly if it is 0.
-const DECODED: &[(&[u8], Numbers, Ending, u64)] = &[
-    (SIGNAL, SPECIFICATION, Ending::Done, 6),
+// What is called, over which bytes, under which limits, how that ends, and a number of growths that it takes at least, or exactly if it
+// is 0.
+const CALLED: &[(Call, &[u8], Numbers, Ending, u64)] = &[
+    (Call::Decode, SIGNAL, SPECIFICATION, Ending::Done, 6),
+    (Call::CopyFirst, SIGNAL, SPECIFICATION, Ending::Done, 1),
+    (Call::CopyAll, SIGNAL, SPECIFICATION, Ending::Done, 4),
     (
+        Call::Decode,
         PADDED,
         SPECIFICATION,
         Ending::Refused(Fault {
@@ -84,39 +115,45 @@ const DECODED: &[(&[u8], Numbers, Ending, u64)] = &[
         }),
         0,
     ),
-    (REPLY, OF_REPLY, Ending::Done, 1),
+    (Call::Decode, REPLY, OF_REPLY, Ending::Done, 1),
+    (Call::CopyFirst, REPLY, OF_REPLY, Ending::Done, 0),
 ];
 
-// Decoding with the nth growth refused, and then again. The answer is how many growths there were, where none was refused.
-fn decode_refused(
+// A call with the nth growth refused, and then again. The answer is how many growths there were, where none was refused.
+fn call_refused(
     rt: &impl Abort,
     alloc: Global,
     n: usize,
-    bytes: &[u8],
-    limits: Limits,
+    asked: Asked<'_>,
     right: Ending,
 ) -> Option<u64> {
     let heap = Refusing::nth(alloc, n as u64);
-    let ended = decoded(&heap, bytes, limits);
+    let ended = called(&heap, asked);
     if heap.refusals() == 0 {
         ends(rt, n, (ended, heap.blocks()), (right, 0));
         return Some(heap.growths());
     }
     ends(rt, n, (ended, heap.blocks()), (Ending::WantsMemory, 0));
-    let ended = decoded(&heap, bytes, limits);
+    let ended = called(&heap, asked);
     ends(rt, n, (ended, heap.blocks()), (right, 0));
     None
 }
 
-// Where a growth is refused the answer is want of memory, all that was taken is given back, and the same call made again
-// answers the message. Bytes that are refused take no memory.
+// If a growth is refused the answer is out of memory, all that was taken is given back, and the same call made again
+// answers the message, or the values. Bytes that are refused take no memory, and neither does copying no value.
 #[test]
-fn decode_with_each_growth_refused(rt: HostRuntime) {
-    for (bytes, numbers, right, least) in DECODED {
+fn calls_with_each_growth_refused(rt: HostRuntime) {
+    for (call, bytes, numbers, right, least) in CALLED {
         let limits = limits_of(&rt, *numbers);
+        let call = *call;
+        let asked = Asked {
+            call,
+            bytes,
+            limits,
+        };
         let mut met = 0;
         for n in 1..100 {
-            if let Some(growths) = decode_refused(&rt, rt.alloc(), n, bytes, limits, *right) {
+            if let Some(growths) = call_refused(&rt, rt.alloc(), n, asked, *right) {
                 met = growths;
                 break;
             }
