@@ -1,17 +1,17 @@
--- What a writer does to a draft.
+-- What a string gains.
 use Rattle.std.specs.Prelude.{◌≡◌, ℕ, ◌+◌, ◌<◌, ◌≤◌, List, [], ◌++◌, length, true, false, string_bytes, string_len, string_capacity}
-use Rattle.dbus_show.specs.declared.draft.Draft.{Draft}
+use Rattle.dbus_show.specs.declared.string_draft.StringDraft.{StringDraft}
 
 module _ {A : Type 0} where
   -- the text that a draft has so far: what the string has, and then what the string has still to get
-  unfoldable pub text_so_far : Draft A → List ℕ
+  unfoldable pub text_so_far : StringDraft A → List ℕ
   text_so_far d = string_bytes d.out.now ++ d.kept.bytes
 
-  unfoldable pub length_so_far : Draft A → ℕ
+  unfoldable pub length_so_far : StringDraft A → ℕ
   length_so_far d = string_len d.out.now + length d.kept.bytes
 
   -- a draft that has no text yet, over a string of this capacity
-  pub record Begins (capacity : ℕ) (d : Draft A) : Type 0 where
+  pub record Begins (capacity : ℕ) (d : StringDraft A) : Type 0 where
     pub none : text_so_far d ≡ []
     pub zero : length_so_far d ≡ 0
     pub whole : d.refused ≡ false
@@ -19,7 +19,7 @@ module _ {A : Type 0} where
 
   -- A draft gains a text: it is appended, or a growth is refused, which is only where the capacity does not do for it. A draft
   -- whose growth was refused stays so. The string that is written to is the same.
-  pub record Gains (before : Draft A) (text : List ℕ) (after : Draft A) : Type 0 where
+  pub record Gains (before : StringDraft A) (text : List ℕ) (after : StringDraft A) : Type 0 where
     pub same : after.out.ghost_name ≡ before.out.ghost_name
     pub written : after.refused ≡ false → text_so_far after ≡ text_so_far before ++ text
     pub longer : after.refused ≡ false → length_so_far after ≡ length_so_far before + length text

@@ -1,4 +1,5 @@
 pub mod ShownValues
 pub mod ShownMessages
 pub mod Gains
+pub mod Gaining
 pub mod Laws

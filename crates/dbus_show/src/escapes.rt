@@ -3,12 +3,10 @@
 
 ghost use Rattle.std.specs.Prelude.{◌≡◌, ◌<◌, true};
 ghost use Rattle.std.specs.List.{flat_map};
-ghost use Rattle.dbus_show.specs.Gains.{Gains};
 ghost use Rattle.dbus_show.specs.ShownValues.{escape, is_escaped as is_escaped_byte, quoted};
 
 use crate::draft::Draft;
 use crate::hexadecimal::write_hex;
-use std::alloc::Allocator;
 
 /// Whether a byte is not shown as itself.
 fn is_escaped(byte: u8) -> bool
@@ -29,9 +27,9 @@ fn is_plain(bytes: &[u8]) -> bool
 }
 
 /// Appends what stands for a byte that is not shown as itself.
-fn write_escape<A: Allocator>(draft: &mut Draft<A>, byte: u8)
+fn write_escape<D: Draft>(draft: &mut D, byte: u8)
     requires { is_escaped_byte byte ≡ true }
-    ensures { Gains draft.old (escape byte) draft.new }
+    ensures { D.gains draft.old (escape byte) draft.new }
 {
     match byte {
         b'"' => draft.push_str("\\\""),
@@ -44,8 +42,8 @@ fn write_escape<A: Allocator>(draft: &mut Draft<A>, byte: u8)
 }
 
 /// Appends a text with its escapes, and what stands between two of them at once.
-fn write_escaped<A: Allocator>(draft: &mut Draft<A>, text: &str)
-    ensures { Gains draft.old (flat_map escape text.now) draft.new }
+fn write_escaped<D: Draft>(draft: &mut D, text: &str)
+    ensures { D.gains draft.old (flat_map escape text.now) draft.new }
 {
     let bytes = text.as_bytes();
     let mut start = 0;
@@ -60,8 +58,8 @@ fn write_escaped<A: Allocator>(draft: &mut Draft<A>, text: &str)
 }
 
 /// Appends a text between quotation marks.
-pub fn write_quoted<A: Allocator>(draft: &mut Draft<A>, text: &str)
-    ensures { Gains draft.old (quoted text.now) draft.new }
+pub fn write_quoted<D: Draft>(draft: &mut D, text: &str)
+    ensures { D.gains draft.old (quoted text.now) draft.new }
 {
     draft.push_code(b'"');
     if is_plain(text.as_bytes()) {

@@ -6,7 +6,6 @@ ghost use Rattle.std.specs.List.{flat_map};
 ghost use Rattle.dbus_value_model.specs.ValueViews.{value_tree};
 ghost use Rattle.dbus_message_model.specs.Messages.{is_known as is_known_code};
 ghost use Rattle.dbus_message_model.specs.PartsViews.{field_tree, field_trees};
-ghost use Rattle.dbus_show.specs.Gains.{Gains};
 ghost use Rattle.dbus_show.specs.ShownMessages.{bare, field_name, field_text, field_value};
 
 use crate::draft::Draft;
@@ -24,8 +23,8 @@ fn is_known(code: u8) -> bool
 }
 
 /// Appends the name of a field with this code. D-Bus Specification, "Header Fields".
-pub fn write_field_name<A: Allocator>(draft: &mut Draft<A>, code: u8)
-    ensures { Gains draft.old (field_name code) draft.new }
+pub fn write_field_name<D: Draft>(draft: &mut D, code: u8)
+    ensures { D.gains draft.old (field_name code) draft.new }
 {
     match code {
         1 => draft.push_str("path"),
@@ -45,8 +44,8 @@ pub fn write_field_name<A: Allocator>(draft: &mut Draft<A>, code: u8)
 }
 
 /// Appends the value of a known field: a text or a UINT32 alone.
-fn write_bare<A: Allocator>(draft: &mut Draft<A>, value: &Value<A>)
-    ensures { Gains draft.old (bare (value_tree value.now)) draft.new }
+fn write_bare<D: Draft, A: Allocator>(draft: &mut D, value: &Value<A>)
+    ensures { D.gains draft.old (bare (value_tree value.now)) draft.new }
 {
     match value {
         Value::Str(text) | Value::Path(text) | Value::Sig(text) => draft.push_str(text),
@@ -56,8 +55,8 @@ fn write_bare<A: Allocator>(draft: &mut Draft<A>, value: &Value<A>)
 }
 
 /// Appends a field's value.
-fn write_field_value<A: Allocator>(draft: &mut Draft<A>, field: &HeaderField<A>)
-    ensures { Gains draft.old (field_value (field_tree field.now)) draft.new }
+fn write_field_value<D: Draft, A: Allocator>(draft: &mut D, field: &HeaderField<A>)
+    ensures { D.gains draft.old (field_value (field_tree field.now)) draft.new }
 {
     if is_known(field.code) {
         write_bare(draft, &field.value);
@@ -67,8 +66,8 @@ fn write_field_value<A: Allocator>(draft: &mut Draft<A>, field: &HeaderField<A>)
 }
 
 /// Appends a field after a space.
-fn write_field<A: Allocator>(draft: &mut Draft<A>, field: &HeaderField<A>)
-    ensures { Gains draft.old (field_text (field_tree field.now)) draft.new }
+fn write_field<D: Draft, A: Allocator>(draft: &mut D, field: &HeaderField<A>)
+    ensures { D.gains draft.old (field_text (field_tree field.now)) draft.new }
 {
     draft.push_code(b' ');
     write_field_name(draft, field.code);
@@ -77,8 +76,8 @@ fn write_field<A: Allocator>(draft: &mut Draft<A>, field: &HeaderField<A>)
 }
 
 /// Appends fields in their order.
-pub fn write_fields<A: Allocator>(draft: &mut Draft<A>, fields: &[HeaderField<A>])
-    ensures { Gains draft.old (flat_map field_text (field_trees fields.now)) draft.new }
+pub fn write_fields<D: Draft, A: Allocator>(draft: &mut D, fields: &[HeaderField<A>])
+    ensures { D.gains draft.old (flat_map field_text (field_trees fields.now)) draft.new }
 {
     for field in fields {
         write_field(draft, field);

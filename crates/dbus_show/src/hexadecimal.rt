@@ -3,19 +3,17 @@
 
 ghost use Rattle.std.specs.Prelude.{◌≤◌, length};
 ghost use Rattle.hex.specs.Hex.{encode_lower};
-ghost use Rattle.dbus_show.specs.Gains.{Gains};
 
 use crate::draft::Draft;
 use hex::encode_to_slice;
-use std::alloc::Allocator;
 
 /// How many bytes' digits are made at once.
 const BLOCK: usize = 32;
 
 /// Appends the digits of bytes that are no more than a block.
-fn write_block<A: Allocator>(draft: &mut Draft<A>, block: &[u8])
+fn write_block<D: Draft>(draft: &mut D, block: &[u8])
     requires { length block.now ≤ BLOCK }
-    ensures { Gains draft.old (encode_lower block.now) draft.new }
+    ensures { D.gains draft.old (encode_lower block.now) draft.new }
 {
     let mut digits = [0; 2 * BLOCK];
     let digits = &mut digits[..2 * block.len()];
@@ -27,8 +25,8 @@ fn write_block<A: Allocator>(draft: &mut Draft<A>, block: &[u8])
 }
 
 /// Appends two lower case digits for each byte.
-pub fn write_hex<A: Allocator>(draft: &mut Draft<A>, bytes: &[u8])
-    ensures { Gains draft.old (encode_lower bytes.now) draft.new }
+pub fn write_hex<D: Draft>(draft: &mut D, bytes: &[u8])
+    ensures { D.gains draft.old (encode_lower bytes.now) draft.new }
 {
     let mut start = 0;
     while bytes.len() - start > BLOCK {

@@ -8,6 +8,7 @@ mod hexadecimal;
 pub mod laws;
 mod numbers;
 mod show;
+mod string_draft;
 mod types;
 mod values;
 
@@ -17,3 +18,4 @@ pub use fields::write_field_name;
 pub use hexadecimal::write_hex;
 pub use numbers::write_integer;
 pub use show::{order_letter, show_into, show_message, write_kind};
+pub use string_draft::StringDraft;

@@ -2,7 +2,6 @@
 #![tactic(auto)]
 
 ghost use Rattle.dbus_value_model.specs.ValueViews.{value_tree};
-ghost use Rattle.dbus_show.specs.Gains.{Gains};
 ghost use Rattle.dbus_show.specs.ShownValues.{number_in};
 
 use crate::draft::Draft;
@@ -12,8 +11,8 @@ use itoa::{Buffer, Integer};
 use std::alloc::Allocator;
 
 /// Appends a number in decimal.
-pub fn write_integer<A: Allocator, I: Integer>(draft: &mut Draft<A>, number: I)
-    ensures { Gains draft.old (I.text number) draft.new }
+pub fn write_integer<D: Draft, I: Integer>(draft: &mut D, number: I)
+    ensures { D.gains draft.old (I.text number) draft.new }
 {
     let mut buffer = Buffer::new();
     draft.push_str(buffer.format(number));
@@ -21,8 +20,8 @@ pub fn write_integer<A: Allocator, I: Integer>(draft: &mut Draft<A>, number: I)
 
 /// Appends the number that a value is, and of any other value nothing.
 #[tactic(auto, using(crate::proofs::SignedNumbers::back))]
-pub fn write_number<A: Allocator>(draft: &mut Draft<A>, value: &Value<A>)
-    ensures { Gains draft.old (number_in (value_tree value.now)) draft.new }
+pub fn write_number<D: Draft, A: Allocator>(draft: &mut D, value: &Value<A>)
+    ensures { D.gains draft.old (number_in (value_tree value.now)) draft.new }
 {
     match value {
         Value::Byte(number) => write_integer(draft, *number),

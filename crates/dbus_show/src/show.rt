@@ -7,7 +7,6 @@ ghost use Rattle.dbus_value_model.specs.ValueViews.{value_tree, value_trees_of};
 ghost use Rattle.dbus_message_model.specs.Messages.{order_byte};
 ghost use Rattle.dbus_message_model.specs.PartsViews.{parts_tree};
 ghost use Rattle.dbus_message_model.specs.MessageViews.{message_tree};
-ghost use Rattle.dbus_show.specs.Gains.{Gains};
 ghost use Rattle.dbus_show.specs.ShownValues.{value_text, value_texts};
 ghost use Rattle.dbus_show.specs.ShownMessages.{kind_text, header_line, body_line, message_text};
 
@@ -15,6 +14,7 @@ use crate::draft::Draft;
 use crate::fields::write_fields;
 use crate::hexadecimal::write_hex;
 use crate::numbers::write_integer;
+use crate::string_draft::StringDraft;
 use crate::values::write_value;
 use dbus_message_model::{Message, Parts};
 use dbus_value::{Order, Value};
@@ -32,8 +32,8 @@ pub fn order_letter(order: Order) -> u8
 }
 
 /// Appends the name of a message type. D-Bus Specification, "Message Format".
-pub fn write_kind<A: Allocator>(draft: &mut Draft<A>, kind: u8)
-    ensures { Gains draft.old (kind_text kind) draft.new }
+pub fn write_kind<D: Draft>(draft: &mut D, kind: u8)
+    ensures { D.gains draft.old (kind_text kind) draft.new }
 {
     match kind {
         1 => draft.push_str("method_call"),
@@ -48,8 +48,8 @@ pub fn write_kind<A: Allocator>(draft: &mut Draft<A>, kind: u8)
 }
 
 /// Appends the line of a message's header.
-fn write_header<A: Allocator>(draft: &mut Draft<A>, order: Order, parts: &Parts<A>, number: u64)
-    ensures { Gains draft.old (header_line order (parts_tree parts.now) number) draft.new }
+fn write_header<D: Draft, A: Allocator>(draft: &mut D, order: Order, parts: &Parts<A>, number: u64)
+    ensures { D.gains draft.old (header_line order (parts_tree parts.now) number) draft.new }
 {
     draft.push_code(b'#');
     write_integer(draft, number);
@@ -66,8 +66,8 @@ fn write_header<A: Allocator>(draft: &mut Draft<A>, order: Order, parts: &Parts<
 }
 
 /// Appends the line of a value of the body.
-fn write_body_line<A: Allocator>(draft: &mut Draft<A>, value: &Value<A>)
-    ensures { Gains draft.old (body_line (value_text (value_tree value.now))) draft.new }
+fn write_body_line<D: Draft, A: Allocator>(draft: &mut D, value: &Value<A>)
+    ensures { D.gains draft.old (body_line (value_text (value_tree value.now))) draft.new }
 {
     draft.push_str("  ");
     write_value(draft, value);
@@ -75,8 +75,8 @@ fn write_body_line<A: Allocator>(draft: &mut Draft<A>, value: &Value<A>)
 }
 
 /// Appends a line for each value of the body.
-fn write_body<A: Allocator>(draft: &mut Draft<A>, values: &[Value<A>])
-    ensures { Gains draft.old (flat_map body_line (value_texts (value_trees_of values.now)))
+fn write_body<D: Draft, A: Allocator>(draft: &mut D, values: &[Value<A>])
+    ensures { D.gains draft.old (flat_map body_line (value_texts (value_trees_of values.now)))
         draft.new }
 {
     for value in values {
@@ -85,8 +85,8 @@ fn write_body<A: Allocator>(draft: &mut Draft<A>, values: &[Value<A>])
 }
 
 /// Appends the text of a message with these parts.
-fn write_parts<A: Allocator>(draft: &mut Draft<A>, order: Order, parts: &Parts<A>, number: u64)
-    ensures { Gains draft.old (message_text order (parts_tree parts.now) number) draft.new }
+fn write_parts<D: Draft, A: Allocator>(draft: &mut D, order: Order, parts: &Parts<A>, number: u64)
+    ensures { D.gains draft.old (message_text order (parts_tree parts.now) number) draft.new }
 {
     write_header(draft, order, parts, number);
     write_body(draft, &parts.body);
@@ -130,7 +130,7 @@ pub fn show_into<A: Allocator>(
     ensures small { OnErr result
         (string_capacity out.old < length (message_text order (message_tree message.now) number)) }
 {
-    let mut draft = Draft::new(out);
+    let mut draft = StringDraft::new(out);
     write_parts(&mut draft, order, message.parts(), number);
     draft.finish()
 }

@@ -3,7 +3,6 @@
 
 ghost use Rattle.dbus_texts.specs.Types.{sig, sigs};
 ghost use Rattle.dbus_types.specs.SigTypes.{type_tree, type_trees_of};
-ghost use Rattle.dbus_show.specs.Gains.{Gains};
 
 use crate::draft::Draft;
 use dbus_types::{SigType, type_code};
@@ -11,8 +10,8 @@ use std::alloc::Allocator;
 
 /// Appends the text of a type, which need not spell a signature.
 #[cycle(spell)]
-pub fn write_type<A: Allocator>(draft: &mut Draft<A>, ty: &SigType<A>)
-    ensures { Gains draft.old (sig (type_tree ty.now)) draft.new }
+pub fn write_type<D: Draft, A: Allocator>(draft: &mut D, ty: &SigType<A>)
+    ensures { D.gains draft.old (sig (type_tree ty.now)) draft.new }
 {
     match ty {
         SigType::Array(element) => {
@@ -36,8 +35,8 @@ pub fn write_type<A: Allocator>(draft: &mut Draft<A>, ty: &SigType<A>)
 
 /// Appends the texts of types.
 #[cycle(spell)]
-fn write_types<A: Allocator>(draft: &mut Draft<A>, types: &[SigType<A>])
-    ensures { Gains draft.old (sigs (type_trees_of types.now)) draft.new }
+fn write_types<D: Draft, A: Allocator>(draft: &mut D, types: &[SigType<A>])
+    ensures { D.gains draft.old (sigs (type_trees_of types.now)) draft.new }
 {
     for ty in types {
         write_type(draft, ty);

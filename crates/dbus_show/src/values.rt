@@ -7,7 +7,6 @@ ghost use Rattle.dbus_texts.specs.Types.{BYTE, NumberType, is_plain, sig};
 ghost use Rattle.dbus_types.specs.SigTypes.{type_tree};
 ghost use Rattle.dbus_value_model.specs.Values.{ArrayValue, StructValue, type_of};
 ghost use Rattle.dbus_value_model.specs.ValueViews.{value_tree, value_trees_of, byte_values};
-ghost use Rattle.dbus_show.specs.Gains.{Gains};
 ghost use Rattle.dbus_show.specs.ShownValues.{value_text, value_texts, joined, byte_in, bytes_in};
 
 use crate::draft::Draft;
@@ -21,8 +20,8 @@ use std::alloc::Allocator;
 
 /// Appends the text of a value.
 #[cycle(value)]
-pub fn write_value<A: Allocator>(draft: &mut Draft<A>, value: &Value<A>)
-    ensures { Gains draft.old (value_text (value_tree value.now)) draft.new }
+pub fn write_value<D: Draft, A: Allocator>(draft: &mut D, value: &Value<A>)
+    ensures { D.gains draft.old (value_text (value_tree value.now)) draft.new }
 {
     match value {
         Value::Bytes(bytes) => write_bytes(draft, bytes),
@@ -53,8 +52,8 @@ pub fn write_value<A: Allocator>(draft: &mut Draft<A>, value: &Value<A>)
 
 /// Appends the text of an array, after its signature.
 #[cycle(value)]
-fn write_array<A: Allocator>(draft: &mut Draft<A>, items: &[Value<A>], element: &SigType<A>)
-    ensures { Gains draft.old
+fn write_array<D: Draft, A: Allocator>(draft: &mut D, items: &[Value<A>], element: &SigType<A>)
+    ensures { D.gains draft.old
         (value_text (ArrayValue (type_tree element.now) (value_trees_of items.now))) draft.new }
 {
     draft.push_code(b'a');
@@ -71,8 +70,8 @@ fn write_array<A: Allocator>(draft: &mut Draft<A>, items: &[Value<A>], element: 
 
 /// Appends the text of a struct.
 #[cycle(value)]
-fn write_struct<A: Allocator>(draft: &mut Draft<A>, fields: &[Value<A>])
-    ensures { Gains draft.old (value_text (StructValue (value_trees_of fields.now))) draft.new }
+fn write_struct<D: Draft, A: Allocator>(draft: &mut D, fields: &[Value<A>])
+    ensures { D.gains draft.old (value_text (StructValue (value_trees_of fields.now))) draft.new }
 {
     draft.push_code(b'(');
     write_items(draft, fields);
@@ -81,8 +80,8 @@ fn write_struct<A: Allocator>(draft: &mut Draft<A>, fields: &[Value<A>])
 
 /// Appends the texts of values, with a comma and a space between them.
 #[cycle(value)]
-fn write_items<A: Allocator>(draft: &mut Draft<A>, items: &[Value<A>])
-    ensures { Gains draft.old (joined (value_texts (value_trees_of items.now))) draft.new }
+fn write_items<D: Draft, A: Allocator>(draft: &mut D, items: &[Value<A>])
+    ensures { D.gains draft.old (joined (value_texts (value_trees_of items.now))) draft.new }
 {
     let mut separator = "";
     for item in items {
@@ -93,9 +92,9 @@ fn write_items<A: Allocator>(draft: &mut Draft<A>, items: &[Value<A>])
 }
 
 /// Appends the code of a value's type and a colon.
-fn write_code<A: Allocator>(draft: &mut Draft<A>, value: &Value<A>)
+fn write_code<D: Draft, A: Allocator>(draft: &mut D, value: &Value<A>)
     requires { is_plain (type_of (value_tree value.now)) ≡ true }
-    ensures { Gains draft.old (sig (type_of (value_tree value.now)) ++ codes ":") draft.new }
+    ensures { D.gains draft.old (sig (type_of (value_tree value.now)) ++ codes ":") draft.new }
 {
     match plain_type_of(value) {
         Some(ty) => {
@@ -107,8 +106,8 @@ fn write_code<A: Allocator>(draft: &mut Draft<A>, value: &Value<A>)
 }
 
 /// Appends an array of BYTE.
-fn write_bytes<A: Allocator>(draft: &mut Draft<A>, bytes: &[u8])
-    ensures { Gains draft.old (value_text (ArrayValue (NumberType BYTE) (byte_values bytes.now)))
+fn write_bytes<D: Draft>(draft: &mut D, bytes: &[u8])
+    ensures { D.gains draft.old (value_text (ArrayValue (NumberType BYTE) (byte_values bytes.now)))
         draft.new }
 {
     draft.push_str("ay:");
@@ -116,8 +115,8 @@ fn write_bytes<A: Allocator>(draft: &mut Draft<A>, bytes: &[u8])
 }
 
 /// Appends the two digits of a BYTE, and of any other value nothing.
-fn write_byte_item<A: Allocator>(draft: &mut Draft<A>, item: &Value<A>)
-    ensures { Gains draft.old (encode_lower (byte_in (value_tree item.now))) draft.new }
+fn write_byte_item<D: Draft, A: Allocator>(draft: &mut D, item: &Value<A>)
+    ensures { D.gains draft.old (encode_lower (byte_in (value_tree item.now))) draft.new }
 {
     match item {
         Value::Byte(byte) => write_hex(draft, &[*byte]),
@@ -126,8 +125,8 @@ fn write_byte_item<A: Allocator>(draft: &mut Draft<A>, item: &Value<A>)
 }
 
 /// Appends two digits for each BYTE among values.
-fn write_byte_items<A: Allocator>(draft: &mut Draft<A>, items: &[Value<A>])
-    ensures { Gains draft.old (encode_lower (bytes_in (value_trees_of items.now))) draft.new }
+fn write_byte_items<D: Draft, A: Allocator>(draft: &mut D, items: &[Value<A>])
+    ensures { D.gains draft.old (encode_lower (bytes_in (value_trees_of items.now))) draft.new }
 {
     for item in items {
         write_byte_item(draft, item);

@@ -19,11 +19,10 @@ use Rattle.dbus_walk.specs.declared.fields.FieldSpot.{FieldSpot}
 use Rattle.dbus_walk.specs.declared.spot.Source.{Source}
 use Rattle.dbus_walk.proofs.Parts.{NumberStands, TextStands, number_ends}
 use Rattle.dbus_walk.proofs.ReadThere.{number_read}
-use Rattle.dbus_show.specs.declared.draft.Draft.{Draft}
-use Rattle.dbus_show.specs.Gains.{Gains}
 use Rattle.dbus_show.specs.ShownValues.{value_text}
 use Rattle.dbus_show.specs.ShownMessages.{bare, field_name, field_text}
 use Rattle.dbus_show.proofs.Gaining.{then as both}
+use Rattle.dbus_show_view.specs.Gaining.{Joins}
 use Rattle.dbus_show_view.specs.Showing.{IsWritten}
 use Rattle.dbus_show_view.proofs.Shown.{number_coded}
 
@@ -62,8 +61,8 @@ bare_other (StructValue xs) s o g u = refl
 bare_other (EntryValue x y) s o g u = refl
 
 module _ {order : Order} {depth_left : ℕ} {types : List ℕ} {at : ℕ} {bytes : List ℕ} {v : ValueTree} {rest : List ℕ} (s : Stands order depth_left types at bytes v rest) where
-  pub bare_text : {A : Type 0} {size : ℕ} (after : ℕ) (t : List ℕ) (a b : Draft A) (p : TextStands s size) → t ≡ p.text → after ≡ at + length (spelling order at v) → Gains a t b → IsWritten order at v (bare v) a b after
-  bare_text after t a b p is ends shown = record { gained = subst (λ (l : List ℕ). Gains a l b) (is ∙ sym (ap bare p.is)) shown; ends = ends }
+  pub bare_text : {D : Type 0} (gains : D → List ℕ → D → Type 0) {size : ℕ} (after : ℕ) (t : List ℕ) (a b : D) (p : TextStands s size) → t ≡ p.text → after ≡ at + length (spelling order at v) → gains a t b → IsWritten gains order at v (bare v) a b after
+  bare_text gains after t a b p is ends shown = record { gained = subst (λ (l : List ℕ). gains a l b) (is ∙ sym (ap bare p.is)) shown; ends = ends }
 
   -- a UINT32 is a number of four bytes
   pub wide_4 : get_or types 0 0 ≡ 117 → (t : TypeTree) → first_code t ≡ get_or types 0 0 → 4 ≡ number_width t
@@ -76,36 +75,36 @@ module _ {order : Order} {depth_left : ℕ} {types : List ℕ} {at : ℕ} {bytes
   wide_4 code (StructType ts) e = absurd (omega (arith, code, e))
   wide_4 code (EntryType k x) e = absurd (omega (arith, code, e))
 
-  pub bare_number : {A : Type 0} (start after : ℕ) (a b : Draft A) (p : NumberStands s 4) → start ≡ at + gap_to 4 at → after ≡ start + 4 → get_or types 0 0 ≡ 117
-      → Gains a (decimal (number_of order (take 4 (drop start bytes)))) b → IsWritten order at v (bare v) a b after
-  bare_number start after a b p place ends code shown =
+  pub bare_number : {D : Type 0} (gains : D → List ℕ → D → Type 0) (start after : ℕ) (a b : D) (p : NumberStands s 4) → start ≡ at + gap_to 4 at → after ≡ start + 4 → get_or types 0 0 ≡ 117
+      → gains a (decimal (number_of order (take 4 (drop start bytes)))) b → IsWritten gains order at v (bare v) a b after
+  bare_number gains start after a b p place ends code shown =
       let is : p.code ≡ UINT32 = uint32_code p.code (number_coded s 4 start p place ∙ code) in
       let text : decimal (number_of order (take 4 (drop start bytes))) ≡ bare v = ap decimal (number_read s 4 start p place) ∙ sym (ap bare p.is ∙ ap (λ (k : NumberCode). bare (NumberValue k p.n)) is) in
-      record { gained = subst (λ (l : List ℕ). Gains a l b) text shown; ends = ends ∙ number_ends s 4 start p place }
+      record { gained = subst (λ (l : List ℕ). gains a l b) text shown; ends = ends ∙ number_ends s 4 start p place }
 
-  pub bare_shown : {A : Type 0} (after : ℕ) (a b : Draft A) → (get_or types 0 0 ≡ 115 → ⊥) → (get_or types 0 0 ≡ 111 → ⊥) → (get_or types 0 0 ≡ 103 → ⊥) → (get_or types 0 0 ≡ 117 → ⊥)
-      → IsWritten order at v (value_text v) a b after → IsWritten order at v (bare v) a b after
-  bare_shown after a b not_s not_o not_g not_u shown =
+  pub bare_shown : {D : Type 0} (gains : D → List ℕ → D → Type 0) (after : ℕ) (a b : D) → (get_or types 0 0 ≡ 115 → ⊥) → (get_or types 0 0 ≡ 111 → ⊥) → (get_or types 0 0 ≡ 103 → ⊥) → (get_or types 0 0 ≡ 117 → ⊥)
+      → IsWritten gains order at v (value_text v) a b after → IsWritten gains order at v (bare v) a b after
+  bare_shown gains after a b not_s not_o not_g not_u shown =
       let code : first_code (type_of v) ≡ get_or types 0 0 = code_is (type_of v) types s.text in
       let same = bare_other v (λ e. not_s (sym code ∙ e)) (λ e. not_o (sym code ∙ e)) (λ e. not_g (sym code ∙ e)) (λ e. not_u (sym code ∙ e)) in
-      record { gained = subst (λ (l : List ℕ). Gains a l b) (sym same) shown.gained; ends = shown.ends }
+      record { gained = subst (λ (l : List ℕ). gains a l b) (sym same) shown.gained; ends = shown.ends }
 
 -- ---- a field
 
-module _ {A : Type 0} (source : Source) (at : ℕ) (f : FieldTree) (rest : List ℕ) (spot : FieldSpot) (p : IsFieldAt source at f rest spot) (a b c d e : Draft A) where
-  pub field_written : (known : Bool) → known ≡ is_known spot.code → Gains a (32 ∷ []) b → Gains b (field_name spot.code) c → Gains c (61 ∷ []) d → (after : ℕ)
-      → IsWritten source.order spot.at f.value (if known then bare f.value else value_text f.value) d e after → IsWritten source.order at (field_struct f) (field_text f) a e after
+module _ {D : Type 0} (gains : D → List ℕ → D → Type 0) (joins : Joins gains) (source : Source) (at : ℕ) (f : FieldTree) (rest : List ℕ) (spot : FieldSpot) (p : IsFieldAt source at f rest spot) (a b c d e : D) where
+  pub field_written : (known : Bool) → known ≡ is_known spot.code → gains a (32 ∷ []) b → gains b (field_name spot.code) c → gains c (61 ∷ []) d → (after : ℕ)
+      → IsWritten gains source.order spot.at f.value (if known then bare f.value else value_text f.value) d e after → IsWritten gains source.order at (field_struct f) (field_text f) a e after
   field_written known knows spaced named parted after held =
       let same : known ≡ is_known f.code = knows ∙ ap is_known (sym p.code) in
-      let name = subst (λ (k : ℕ). Gains b (field_name k) c) (sym p.code) named in
-      let shown = subst (λ (k : Bool). Gains d (if k then bare f.value else value_text f.value) e) same held.gained in
-      record { gained = both spaced (both name (both parted shown)); ends = held.ends ∙ p.ends }
+      let name = subst (λ (k : ℕ). gains b (field_name k) c) (sym p.code) named in
+      let shown = subst (λ (k : Bool). gains d (if k then bare f.value else value_text f.value) e) same held.gained in
+      record { gained = both gains joins spaced (both gains joins name (both gains joins parted shown)); ends = held.ends ∙ p.ends }
 
 -- ---- one field more is shown
 
-module _ {A : Type 0} where
-  pub more_fields : (before now next : Draft A) (done : List FieldTree) (f : FieldTree) → Gains before (flat_map field_text done) now → Gains now (field_text f) next → Gains before (flat_map field_text (done ++ f ∷ [])) next
+module _ {D : Type 0} (gains : D → List ℕ → D → Type 0) (joins : Joins gains) where
+  pub more_fields : (before now next : D) (done : List FieldTree) (f : FieldTree) → gains before (flat_map field_text done) now → gains now (field_text f) next → gains before (flat_map field_text (done ++ f ∷ [])) next
   more_fields before now next done f h one =
       let more : flat_map field_text (done ++ f ∷ []) ≡ flat_map field_text done ++ field_text f =
       flat_map-append field_text done (f ∷ []) ∙ ap (λ (t : List ℕ). flat_map field_text done ++ t) (append-nil (field_text f)) in
-      subst (λ (t : List ℕ). Gains before t next) (sym more) (both h one)
+      subst (λ (t : List ℕ). gains before t next) (sym more) (both gains joins h one)

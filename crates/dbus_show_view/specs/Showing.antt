@@ -11,12 +11,10 @@ use Rattle.dbus_validate.specs.declared.validating.Validated.{Validated}
 use Rattle.dbus_walk.specs.declared.spot.Source.{Source}
 use Rattle.dbus_walk.specs.Standing.{Stands}
 use Rattle.dbus_show.specs.ShownMessages.{kind_text}
-use Rattle.dbus_show.specs.declared.draft.Draft.{Draft}
-use Rattle.dbus_show.specs.Gains.{Gains}
 
 -- the draft gains a text for a value, and the offset is the one after the value
-pub record IsWritten {A : Type 0} (order : Order) (at : ℕ) (v : ValueTree) (text : List ℕ) (before now : Draft A) (after : ℕ) : Type 0 where
-  pub gained : Gains before text now
+pub record IsWritten {D : Type 0} (gains : D → List ℕ → D → Type 0) (order : Order) (at : ℕ) (v : ValueTree) (text : List ℕ) (before now : D) (after : ℕ) : Type 0 where
+  pub gained : gains before text now
   pub ends : after ≡ at + length (spelling order at v)
 
 -- a value whose type has this text stands at an offset

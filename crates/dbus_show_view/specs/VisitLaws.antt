@@ -6,11 +6,10 @@ use Rattle.dbus_value_model.specs.Values.{ValueTree, NumberValue, TextValue, Var
 use Rattle.dbus_walk.specs.declared.container.Container.{Container}
 use Rattle.dbus_walk.specs.declared.container.Container.TheVariants as kind
 use Rattle.dbus_walk.specs.Containers.{IsOf, parts, is_none}
-use Rattle.dbus_show.specs.declared.draft.Draft.{Draft}
-use Rattle.dbus_show.specs.Gains.{Gains}
 use Rattle.dbus_show.specs.ShownValues.{joined, value_text, value_texts}
-use Rattle.dbus_show.proofs.Gaining.{nothing, then}
 use Rattle.dbus_show.proofs.ItemTexts.{separator, joined_push}
+use Rattle.dbus_show.proofs.Gaining.{then}
+use Rattle.dbus_show_view.specs.Gaining.{Joins}
 use Rattle.dbus_show_view.specs.declared.shower.Shower.{Shower}
 use Rattle.dbus_show_view.specs.Visits.{open_text, close_text, part_text, IsListed, Shows, Opens, Stays}
 
@@ -44,26 +43,27 @@ whole_text what (ArrayValue t xs) h l =
 whole_text what (StructValue xs) h l = refl
 whole_text what (EntryValue x y) h l = simp append_assoc
 
-module _ {A : Type 0} where
-  pub none_shown : (s : Shower A) → Shows s (joined (map value_text [])) s
-  none_shown s = record { same = refl; gains = nothing s.draft.now }
+module _ {D : Type 0} (gains : D → List ℕ → D → Type 0) (nothing : (d : D) → gains d [] d)
+    (joins : Joins gains) where
+  pub none_shown : (s : Shower D) → Shows gains s (joined (map value_text [])) s
+  none_shown s = record { same = refl; gained = nothing s.draft.now }
 
-  then_shows : {s t : List ℕ} (a b c : Shower A) → Shows a s b → Shows b t c → Shows a (s ++ t) c
-  then_shows a b c p q = record { same = q.same ∙ p.same; gains = then p.gains q.gains }
+  then_shows : {s t : List ℕ} (a b c : Shower D) → Shows gains a s b → Shows gains b t c → Shows gains a (s ++ t) c
+  then_shows a b c p q = record { same = q.same ∙ p.same; gained = then gains joins p.gained q.gained }
 
-  then_stays : {l : List ℕ} {a : Shower A} (b c : Shower A) → Shows a l b → Stays b c → Shows a l c
-  then_stays {l = l} {a = a} b c p stays = record { same = stays.same ∙ p.same; gains = subst (λ (d : Draft A). Gains a.draft.now l d) (sym stays.kept) p.gains }
+  then_stays : {l : List ℕ} {a : Shower D} (b c : Shower D) → Shows gains a l b → Stays b c → Shows gains a l c
+  then_stays {l = l} {a = a} b c p stays = record { same = stays.same ∙ p.same; gained = subst (λ (d : D). gains a.draft.now l d) (sym stays.kept) p.gained }
 
-  pub more_shown : (s before parted taken after : Shower A) (done : List ValueTree) (v : ValueTree) → Shows s (joined (map value_text done)) before → Shows before (part_text (is_none done)) parted
-      → Shows parted (value_text v) taken → Stays taken after → Shows s (joined (map value_text (done ++ v ∷ []))) after
+  pub more_shown : (s before parted taken after : Shower D) (done : List ValueTree) (v : ValueTree) → Shows gains s (joined (map value_text done)) before → Shows gains before (part_text (is_none done)) parted
+      → Shows gains parted (value_text v) taken → Stays taken after → Shows gains s (joined (map value_text (done ++ v ∷ []))) after
   more_shown s before parted taken after done v first between second stays =
       let texts = map value_text done in
-      let here = subst (λ (l : List ℕ). Shows before l parted) (part_is done) between in
-      subst (λ (l : List ℕ). Shows s l after) (sym (joined_push texts (value_text v)) ∙ ap joined (sym (texts_more done v))) (then_stays taken after (then_shows s before taken first (then_shows before parted taken here second)) stays)
+      let here = subst (λ (l : List ℕ). Shows gains before l parted) (part_is done) between in
+      subst (λ (l : List ℕ). Shows gains s l after) (sym (joined_push texts (value_text v)) ∙ ap joined (sym (texts_more done v))) (then_stays taken after (then_shows s before taken first (then_shows before parted taken here second)) stays)
 
-  pub whole_shown : (s opened filled after : Shower A) (what : Container) (v : ValueTree) (xs : List ValueTree) → IsOf what v → Opens s v opened → parts v ≡ value_trees xs
-      → Shows opened (joined (map value_text xs)) filled → Shows filled (close_text v) after → Shows s (value_text v) after
+  pub whole_shown : (s opened filled after : Shower D) (what : Container) (v : ValueTree) (xs : List ValueTree) → IsOf what v → Opens gains s v opened → parts v ≡ value_trees xs
+      → Shows gains opened (joined (map value_text xs)) filled → Shows gains filled (close_text v) after → Shows gains s (value_text v) after
   whole_shown s opened filled after what v xs is_of opens has many closes =
       let texts : value_texts (parts v) ≡ map value_text xs = ap value_texts has ∙ texts_of xs in
-      let held = subst (λ (ts : List (List ℕ)). Shows opened (joined ts) filled) (sym texts) many in
-      subst (λ (l : List ℕ). Shows s l after) (whole_text what v is_of opens.listed) (then_shows s opened after opens.text (then_shows opened filled after held closes))
+      let held = subst (λ (ts : List (List ℕ)). Shows gains opened (joined ts) filled) (sym texts) many in
+      subst (λ (l : List ℕ). Shows gains s l after) (whole_text what v is_of opens.listed) (then_shows s opened after opens.text (then_shows opened filled after held closes))

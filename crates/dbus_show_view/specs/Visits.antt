@@ -3,7 +3,6 @@
 use Rattle.std.specs.Prelude.{◌≡◌, ℕ, List, [], ◌∷◌, ◌++◌, Bool, true, false}
 use Rattle.dbus_texts.specs.Types.{ArrayType, sig, is_byte}
 use Rattle.dbus_value_model.specs.Values.{ValueTree, NumberValue, TextValue, VariantValue, ArrayValue, StructValue, EntryValue}
-use Rattle.dbus_show.specs.Gains.{Gains}
 use Rattle.dbus_show_view.specs.declared.shower.Shower.{Shower}
 
 -- before the parts, and after them
@@ -33,17 +32,18 @@ abbrev pub IsListed : ValueTree → Type 0
 IsListed (ArrayValue t xs) = is_byte t ≡ false
 IsListed _ = Unit {0}
 
--- the draft gains a text
-pub record Shows {A : Type 0} (before : Shower A) (text : List ℕ) (now : Shower A) : Type 0 where
-  pub same : now.draft.ghost_name ≡ before.draft.ghost_name
-  pub gains : Gains before.draft.now text now.draft.now
+module _ {D : Type 0} (gains : D → List ℕ → D → Type 0) where
+  -- the draft gains a text
+  pub record Shows (before : Shower D) (text : List ℕ) (now : Shower D) : Type 0 where
+    pub same : now.draft.ghost_name ≡ before.draft.ghost_name
+    pub gained : gains before.draft.now text now.draft.now
 
--- the draft gains what stands before the parts of a container
-pub record Opens {A : Type 0} (before : Shower A) (v : ValueTree) (now : Shower A) : Type 0 where
-  pub listed : IsListed v
-  pub text : Shows before (open_text v) now
+  -- the draft gains what stands before the parts of a container
+  pub record Opens (before : Shower D) (v : ValueTree) (now : Shower D) : Type 0 where
+    pub listed : IsListed v
+    pub text : Shows before (open_text v) now
 
 -- it writes nothing
-pub record Stays {A : Type 0} (before now : Shower A) : Type 0 where
+pub record Stays {D : Type 0} (before now : Shower D) : Type 0 where
   pub same : now.draft.ghost_name ≡ before.draft.ghost_name
   pub kept : now.draft.now ≡ before.draft.now

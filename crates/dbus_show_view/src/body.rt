@@ -6,21 +6,19 @@ ghost use Rattle.std.specs.List.{flat_map};
 ghost use Rattle.dbus_types.specs.TypeLengths.{AreLengths};
 ghost use Rattle.dbus_value_model.specs.Values.{ValueTrees};
 ghost use Rattle.dbus_walk.specs.Standing.{AllStandAt, AllStandThere};
-ghost use Rattle.dbus_show.specs.Gains.{Gains};
 ghost use Rattle.dbus_show.specs.ShownValues.{value_texts};
 ghost use Rattle.dbus_show.specs.ShownMessages.{body_line};
 
 use crate::values::write_value_at;
 use dbus_show::Draft;
 use dbus_walk::{Source, Spot};
-use std::alloc::Allocator;
 
 /// Appends a line for each of the values that stand one after another at a spot.
-pub(crate) fn write_body<A: Allocator>(draft: &mut Draft<A>, source: &Source<'_>, spot: &Spot<'_>)
+pub(crate) fn write_body<D: Draft>(draft: &mut D, source: &Source<'_>, spot: &Spot<'_>)
     requires stand { AllStandThere source.now spot.now }
     requires noted { AreLengths spot.now.types.now spot.now.lengths.now }
     ensures shown { (vs : ValueTrees) (rest : List ℕ) → AllStandAt source.now spot.now vs rest →
-        Gains draft.old (flat_map body_line (value_texts vs)) draft.new }
+        D.gains draft.old (flat_map body_line (value_texts vs)) draft.new }
 {
     let mut place = spot.at;
     let mut pos = 0;

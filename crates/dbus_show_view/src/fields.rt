@@ -6,7 +6,6 @@ ghost use Rattle.std.specs.List.{flat_map};
 ghost use Rattle.dbus_value_model.specs.Values.{ValueTree};
 ghost use Rattle.dbus_message_model.specs.Messages.{FieldTree, field_struct};
 ghost use Rattle.dbus_walk.specs.Fields.{FieldStands, FieldsStand};
-ghost use Rattle.dbus_show.specs.Gains.{Gains};
 ghost use Rattle.dbus_show.specs.ShownMessages.{bare as bare_text, field_text};
 ghost use Rattle.dbus_show_view.specs.Showing.{IsWritten, TypedStands};
 
@@ -15,12 +14,11 @@ use dbus_message_model::field_table::is_known;
 use dbus_show::{Draft, write_field_name, write_integer};
 use dbus_value_model::gap;
 use dbus_walk::{FIELDS_START, Source, field_at, fields_end, text_in};
-use std::alloc::Allocator;
 
 /// Appends a text or a UINT32 alone, and of any other type the text of the value, which stands at `at`, and whose type these bytes
 /// spell: the offset after it.
-fn write_bare_at<A: Allocator>(
-    draft: &mut Draft<A>,
+fn write_bare_at<D: Draft>(
+    draft: &mut D,
     source: &Source<'_>,
     at: usize,
     types: &[u8],
@@ -31,7 +29,7 @@ fn write_bare_at<A: Allocator>(
         TypedStands source.now depth_left types.now at v rest }
     ensures shown { (v : ValueTree) (rest : List ℕ) →
         TypedStands source.now depth_left types.now at v rest →
-        IsWritten source.now.order at v (bare_text v) draft.old draft.new result }
+        IsWritten D.gains source.now.order at v (bare_text v) draft.old draft.new result }
 {
     let code = types[0];
     if code == b's' || code == b'o' {
@@ -54,15 +52,10 @@ fn write_bare_at<A: Allocator>(
 }
 
 /// Appends the field at `at`, after a space: the offset after it.
-fn write_field<A: Allocator>(
-    draft: &mut Draft<A>,
-    source: &Source<'_>,
-    at: usize,
-    depth_left: u8,
-) -> usize
+fn write_field<D: Draft>(draft: &mut D, source: &Source<'_>, at: usize, depth_left: u8) -> usize
     requires stands { (f : FieldTree) × (rest : List ℕ) × FieldStands source.now depth_left at f rest }
     ensures shown { (f : FieldTree) (rest : List ℕ) → FieldStands source.now depth_left at f rest →
-        IsWritten source.now.order at (field_struct f) (field_text f) draft.old draft.new result }
+        IsWritten D.gains source.now.order at (field_struct f) (field_text f) draft.old draft.new result }
 {
     let field = field_at(source, at, depth_left);
     draft.push_code(b' ');
@@ -75,10 +68,10 @@ fn write_field<A: Allocator>(
 }
 
 /// Appends a message's fields in their order.
-pub(crate) fn write_fields<A: Allocator>(draft: &mut Draft<A>, source: &Source<'_>, depth_left: u8)
+pub(crate) fn write_fields<D: Draft>(draft: &mut D, source: &Source<'_>, depth_left: u8)
     requires stand { (fs : List FieldTree) × (rest : List ℕ) × FieldsStand source.now depth_left fs rest }
     ensures shown { (fs : List FieldTree) (rest : List ℕ) → FieldsStand source.now depth_left fs rest →
-        Gains draft.old (flat_map field_text fs) draft.new }
+        D.gains draft.old (flat_map field_text fs) draft.new }
 {
     let end = fields_end(source);
     let mut place = FIELDS_START;

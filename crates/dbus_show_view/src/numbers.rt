@@ -5,16 +5,14 @@ ghost use Rattle.std.specs.Prelude.{◌≡◌, ◌+◌, ◌≤◌, length, take,
 ghost use Rattle.dbus_texts.specs.Types.{NumberCode, number_code};
 ghost use Rattle.dbus_types.specs.Alignments.{width};
 ghost use Rattle.dbus_value_model.specs.Reading.{number_of};
-ghost use Rattle.dbus_show.specs.Gains.{Gains};
 ghost use Rattle.dbus_show.specs.ShownValues.{number_text};
 
 use dbus_show::{Draft, write_hex, write_integer};
 use dbus_value_model::Order;
-use std::alloc::Allocator;
 
 /// Appends the number that stands at `at`, of the type that has this code.
-pub(crate) fn write_number_at<A: Allocator>(
-    draft: &mut Draft<A>,
+pub(crate) fn write_number_at<D: Draft>(
+    draft: &mut D,
     bytes: &[u8],
     at: usize,
     order: Order,
@@ -23,7 +21,7 @@ pub(crate) fn write_number_at<A: Allocator>(
     requires { (k : NumberCode) → number_code k ≡ code →
         at + width k ≤ length bytes.now }
     ensures { (k : NumberCode) → number_code k ≡ code →
-        Gains draft.old (number_text k (number_of order (take (width k) (drop at bytes.now))))
+        D.gains draft.old (number_text k (number_of order (take (width k) (drop at bytes.now))))
         draft.new }
 {
     match code {

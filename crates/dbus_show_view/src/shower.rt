@@ -1,12 +1,9 @@
 //! A draft in which values are shown.
 #![tactic(auto)]
 
-use dbus_show::Draft;
-use std::alloc::Allocator;
-
 /// Writes the text of what it visits.
 #[derive(Drop)]
-pub(crate) struct Shower<'d, 'a, A: Allocator> {
+pub(crate) struct Shower<'d, D> {
     /// The draft that gains the text.
-    pub(crate) draft: &'d mut Draft<'a, A>,
+    pub(crate) draft: &'d mut D,
 }

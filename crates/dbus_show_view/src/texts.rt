@@ -3,17 +3,15 @@
 
 ghost use Rattle.std.specs.Prelude.{◌<◌, ◌∷◌};
 ghost use Rattle.std.specs.Str.{IsAscii};
-ghost use Rattle.dbus_show.specs.Gains.{Gains};
 ghost use Rattle.dbus_show.specs.ShownValues.{quoted};
 
 use dbus_show::{Draft, write_quoted};
-use std::alloc::Allocator;
 use std::str;
 
 /// Appends a code, a colon and a text between quotation marks.
-pub(crate) fn write_coded<A: Allocator>(draft: &mut Draft<A>, code: u8, text: &str)
+pub(crate) fn write_coded<D: Draft>(draft: &mut D, code: u8, text: &str)
     requires { code < 128 }
-    ensures { Gains draft.old (code ∷ (58 ∷ quoted text.now)) draft.new }
+    ensures { D.gains draft.old (code ∷ (58 ∷ quoted text.now)) draft.new }
 {
     draft.push_code(code);
     draft.push_code(b':');
@@ -21,9 +19,9 @@ pub(crate) fn write_coded<A: Allocator>(draft: &mut Draft<A>, code: u8, text: &s
 }
 
 /// Appends the bytes of a signature.
-pub(crate) fn write_types<A: Allocator>(draft: &mut Draft<A>, types: &[u8])
+pub(crate) fn write_types<D: Draft>(draft: &mut D, types: &[u8])
     requires { IsAscii types.now }
-    ensures { Gains draft.old types.now draft.new }
+    ensures { D.gains draft.old types.now draft.new }
 {
     // Each byte of a signature is ASCII.
     draft.push_str(unsafe { str::from_utf8_unchecked(types) });

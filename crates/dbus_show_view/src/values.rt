@@ -11,18 +11,13 @@ ghost use Rattle.dbus_show_view.specs.Showing.{IsWritten, TypedStands};
 use crate::shower::Shower;
 use dbus_show::Draft;
 use dbus_walk::{Source, Spot, lengths_of, walk_value};
-use std::alloc::Allocator;
 
 /// Appends the text of the value at a spot: the offset after the value.
-pub(crate) fn write_value_at<A: Allocator>(
-    draft: &mut Draft<A>,
-    source: &Source<'_>,
-    spot: &Spot<'_>,
-) -> usize
+pub(crate) fn write_value_at<D: Draft>(draft: &mut D, source: &Source<'_>, spot: &Spot<'_>) -> usize
     requires stands { StandsThere source.now spot.now }
     requires noted { AreLengths spot.now.types.now spot.now.lengths.now }
     ensures shown { (v : ValueTree) (rest : List ℕ) → StandsAt source.now spot.now v rest →
-        IsWritten source.now.order spot.now.at v (value_text v) draft.old draft.new result }
+        IsWritten D.gains source.now.order spot.now.at v (value_text v) draft.old draft.new result }
 {
     let mut shower = Shower { draft };
     match walk_value(&mut shower, source, spot) {
@@ -33,8 +28,8 @@ pub(crate) fn write_value_at<A: Allocator>(
 
 /// Appends the text of the value at `at`, whose type these bytes spell: the offset after the value. How long the types in it are is
 /// noted first.
-pub(crate) fn write_typed_at<A: Allocator>(
-    draft: &mut Draft<A>,
+pub(crate) fn write_typed_at<D: Draft>(
+    draft: &mut D,
     source: &Source<'_>,
     at: usize,
     types: &[u8],
@@ -45,7 +40,7 @@ pub(crate) fn write_typed_at<A: Allocator>(
         TypedStands source.now depth_left types.now at v rest }
     ensures shown { (v : ValueTree) (rest : List ℕ) →
         TypedStands source.now depth_left types.now at v rest →
-        IsWritten source.now.order at v (value_text v) draft.old draft.new result }
+        IsWritten D.gains source.now.order at v (value_text v) draft.old draft.new result }
 {
     let mut table = [0; 255];
     let spot = Spot {

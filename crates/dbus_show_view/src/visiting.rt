@@ -9,12 +9,11 @@ ghost use Rattle.dbus_show_view.specs.VisitLaws.{none_shown, more_shown, whole_s
 use crate::numbers::write_number_at;
 use crate::shower::Shower;
 use crate::texts::{write_coded, write_types};
-use dbus_show::write_hex;
+use dbus_show::{Draft, write_hex};
 use dbus_walk::{Container, Run, Source, Spot, Visitor, text_in};
-use std::alloc::Allocator;
 use std::convert::Infallible;
 
-impl<A: Allocator> Visitor for Shower<'_, '_, A> {
+impl<D: Draft> Visitor for Shower<'_, D> {
     type One = ();
 
     type Many = ();
@@ -25,15 +24,15 @@ impl<A: Allocator> Visitor for Shower<'_, '_, A> {
 
     ghost strokes = { λ code _. code == 121 };
 
-    ghost one = { λ s _ _ v _ t. Shows s (value_text v) t };
+    ghost one = { λ s _ _ v _ t. Shows D.gains s (value_text v) t };
 
-    ghost many = { λ s _ _ _ xs _ t. Shows s (joined (map value_text xs)) t };
+    ghost many = { λ s _ _ _ xs _ t. Shows D.gains s (joined (map value_text xs)) t };
 
-    ghost opens = { λ s _ _ v _ t. Opens s v t };
+    ghost opens = { λ s _ _ v _ t. Opens D.gains s v t };
 
-    ghost closes = { λ s _ v _ t. Shows s (close_text v) t };
+    ghost closes = { λ s _ v _ t. Shows D.gains s (close_text v) t };
 
-    ghost parted = { λ s is_first t. Shows s (part_text is_first) t };
+    ghost parted = { λ s is_first t. Shows D.gains s (part_text is_first) t };
 
     ghost pushes = { λ s _ _ _ t. Stays s t };
 
@@ -144,11 +143,11 @@ impl<A: Allocator> Visitor for Shower<'_, '_, A> {
         Ok(())
     }
 
-    ghost none = { λ s _ _ _. none_shown s };
+    ghost none = { λ s _ _ _. none_shown D.gains D.nothing D.joins s };
 
     ghost more = { λ s before parted taken after _ _ _ _ _ _ _ done v first between _ second stays.
-        more_shown s before parted taken after done v first between second stays };
+        more_shown D.gains D.nothing D.joins s before parted taken after done v first between second stays };
 
     ghost whole = { λ s opened filled after _ _ _ kind _ _ v xs is_of opens has many closes.
-        whole_shown s opened filled after kind v xs is_of opens has many closes };
+        whole_shown D.gains D.nothing D.joins s opened filled after kind v xs is_of opens has many closes };
 }

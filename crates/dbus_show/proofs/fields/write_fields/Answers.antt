@@ -7,4 +7,4 @@ use Rattle.dbus_show.proofs.fields.write_fields.Goals as goal
 
 pub loop-field-preserved : goal.loop-field-preserved
 loop-field-preserved g c =
-    one_more (λ fs. flat_map field_text (field_trees fs)) (λ f. field_text (field_tree f)) fields_push c.args.fields.now c.loop-field.field-index c.field-item.result c.loop-field-test.true c.field-item.is c.loop-field.invariant c.write_field.ensures
+    one_more g.D.Draft.gains g.met.D.Draft.joins (λ fs. flat_map field_text (field_trees fs)) (λ f. field_text (field_tree f)) fields_push c.args.fields.now c.loop-field.field-index c.field-item.result c.loop-field-test.true c.field-item.is c.loop-field.invariant c.write_field.ensures

@@ -1,11 +1,10 @@
 use Rattle.std.proofs.Common.{◌+◌, ◌-◌, ◌≡◌, arith, sym, subst}
-use Rattle.dbus_show.specs.Gains.{Gains}
-use Rattle.dbus_show.proofs.Gaining.{nothing, then}
 use Rattle.dbus_show.proofs.HexDigits.{encode_none, block_more, block_last}
+use Rattle.dbus_show.proofs.Gaining.{then}
 use Rattle.dbus_show.proofs.hexadecimal.write_hex.Goals as goal
 
 pub loop-start-init : goal.loop-start-init
-loop-start-init g c = record { inside = omega arith; so_far = subst (λ s. Gains c.args.draft.now s c.args.draft.now) (sym encode_none) (nothing c.args.draft.now) }
+loop-start-init g c = record { inside = omega arith; so_far = subst (λ s. g.D.Draft.gains c.args.draft.now s c.args.draft.now) (sym encode_none) (g.met.D.Draft.nothing c.args.draft.now) }
 
 pub loop-start-preserved : goal.loop-start-preserved
 loop-start-preserved g c =
@@ -13,8 +12,8 @@ loop-start-preserved g c =
     let n : (i + 32) - i ≡ 32 = omega arith in
     record {
       inside = omega arith;
-      so_far = subst (λ s. Gains c.args.draft.now s c.write_block.new.draft) (block_more c.args.bytes.now i 32 ((i + 32) - i) n) (then c.loop-start.invariant.so_far c.write_block.ensures);
+      so_far = subst (λ s. g.D.Draft.gains c.args.draft.now s c.write_block.new.draft) (block_more c.args.bytes.now i 32 ((i + 32) - i) n) (then g.D.Draft.gains g.met.D.Draft.joins c.loop-start.invariant.so_far c.write_block.ensures);
     }
 
 pub returns : goal.returns
-returns g c = subst (λ s. Gains c.args.draft.now s c.write_block-2.new.draft) (block_last c.args.bytes.now c.loop-start.start) (then c.loop-start.invariant.so_far c.write_block-2.ensures)
+returns g c = subst (λ s. g.D.Draft.gains c.args.draft.now s c.write_block-2.new.draft) (block_last c.args.bytes.now c.loop-start.start) (then g.D.Draft.gains g.met.D.Draft.joins c.loop-start.invariant.so_far c.write_block-2.ensures)

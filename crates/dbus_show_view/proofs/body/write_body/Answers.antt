@@ -4,7 +4,6 @@ use Rattle.dbus_types.proofs.TypeLengths.{ends_by, lengths_within}
 use Rattle.dbus_value_model.specs.Spelling.{spelling, spellings}
 use Rattle.dbus_walk.specs.Standing.{AllStand}
 use Rattle.dbus_walk.proofs.Walks.{all_left, next_value, value_left, no_value}
-use Rattle.dbus_show.proofs.Gaining.{nothing}
 use Rattle.dbus_show_view.proofs.BodyLines.{AreLines, more_lines, all_lines}
 use Rattle.dbus_show_view.proofs.body.write_body.Goals as goal
 
@@ -13,7 +12,7 @@ loop-pos-init g c = record {
   within = omega arith;
   left = λ vs rest e.
       all_left c.args.source.now.order c.args.spot.now.at vs (λ place us. AllStand c.args.source.now.order c.args.spot.now.depth_left (drop 0 c.args.spot.now.types.now) place c.args.source.now.bytes.now us rest)
-      (AreLines c.args.draft.now c.args.draft.now) e (nothing c.args.draft.now);
+      (AreLines g.D.Draft.gains c.args.draft.now c.args.draft.now) e (g.met.D.Draft.nothing c.args.draft.now);
 }
 
 pub slice_bounds-next-end : goal.slice_bounds-next-end
@@ -68,8 +67,8 @@ loop-pos-preserved g c =
           let l = c.loop-pos.invariant.left vs rest e in
           let n = next_value types pos l end c.loop-pos-test.true is in
           let w = c.write_value_at-place.ensures.shown n.v (spellings order (place + length (spelling order place n.v)) n.us ++ rest) n.stands in
-          value_left types pos l (AreLines c.args.draft.now c.push_code.new.self) end n c.write_value_at-place.result w.ends
-          (more_lines c.args.draft.now c.loop-pos.draft c.push_str.new.self c.write_value_at-place.new.draft c.push_code.new.self l.done n.v l.walked c.push_str.ensures w.gained c.push_code.ensures);
+          value_left types pos l (AreLines g.D.Draft.gains c.args.draft.now c.push_code.new.self) end n c.write_value_at-place.result w.ends
+          (more_lines g.D.Draft.gains g.met.D.Draft.joins c.args.draft.now c.loop-pos.draft c.push_str.new.self c.write_value_at-place.new.draft c.push_code.new.self l.done n.v l.walked c.push_str.ensures w.gained c.push_code.ensures);
     }
 
 pub returns : goal.returns
@@ -77,5 +76,5 @@ returns g c = record {
   shown = λ vs rest e.
       let l = c.loop-pos.invariant.left vs rest e in
       let ended = no_value c.args.spot.now.types.now c.loop-pos.pos l c.loop-pos-test.false in
-      all_lines c.args.draft.now c.loop-pos.draft l.done vs l.walked ended.0;
+      all_lines g.D.Draft.gains g.met.D.Draft.joins c.args.draft.now c.loop-pos.draft l.done vs l.walked ended.0;
 }

@@ -9,7 +9,7 @@ abbrev pub invariant-loop-pos : goal.invariant-loop-pos
 invariant-loop-pos g l = record {
   within : l.pos ≤ length l.spot.types.now;
   left : (vs : ValueTrees) (rest : List ℕ) → AllStandAt l.source l.spot vs rest
-      → Left l.source.order l.spot.at vs (λ place us. AllStand l.source.order l.spot.depth_left (drop l.pos l.spot.types.now) place l.source.bytes.now us rest) (AreLines l.initial.draft l.draft) l.place;
+      → Left l.source.order l.spot.at vs (λ place us. AllStand l.source.order l.spot.depth_left (drop l.pos l.spot.types.now) place l.source.bytes.now us rest) (AreLines g.D.Draft.gains l.initial.draft l.draft) l.place;
 }
 
 abbrev pub decreases-loop-pos : goal.decreases-loop-pos

@@ -1,7 +1,6 @@
 use Rattle.std.proofs.Common.{◌≡◌, ℕ, ◌+◌, ◌⊎◌, inl, inr, decimal, refl, subst, ◌∙◌, arith}
 use Rattle.dbus_walk.proofs.Parts.{no_gap, number_stands, long_stands, long_counts, text_ends, short_stands, short_counts, short_ends}
 use Rattle.dbus_walk.proofs.ReadThere.{text_there, text_utf8}
-use Rattle.dbus_show.specs.Gains.{Gains}
 use Rattle.dbus_show_view.proofs.FieldParts.{bare_text, wide_4, bare_number, bare_shown}
 use Rattle.dbus_show_view.proofs.fields.write_bare_at.Goals as goal
 
@@ -62,7 +61,7 @@ returns-then-code-eq115 g c = record {
       let size = c.u32_at-size.result in
       let counts = long_counts s p start size (omega (arith, c.gap.ensures)) c.u32_at-size.ensures.spelled in
       let ends = text_ends s 4 start p (omega (arith, c.gap.ensures)) in
-      bare_text s (start + 4 + size + 1) c.text_in.result.now c.args.draft.now c.push_str.new.self p (c.text_in.ensures ∙ text_there s 4 p (start + 4) size (omega (arith, c.gap.ensures)) counts) (omega (arith, counts, ends)) c.push_str.ensures;
+      bare_text s g.D.Draft.gains (start + 4 + size + 1) c.text_in.result.now c.args.draft.now c.push_str.new.self p (c.text_in.ensures ∙ text_there s 4 p (start + 4) size (omega (arith, c.gap.ensures)) counts) (omega (arith, counts, ends)) c.push_str.ensures;
 }
 
 pub bounds-source-at : goal.bounds-source-at
@@ -97,7 +96,7 @@ returns-then-code-eq103 g c = record {
       let at = c.args.at in
       let size = c.from-size.result in
       let counts = c.from-size.ensures ∙ (short_counts s p).0 in
-      bare_text s (at + 1 + size + 1) c.text_in-then-code-eq103.result.now c.args.draft.now c.push_str-then-code-eq103.new.self p (c.text_in-then-code-eq103.ensures ∙ text_there s 1 p (at + 1) size (omega (arith, no_gap at)) counts) (short_ends s p size counts) c.push_str-then-code-eq103.ensures;
+      bare_text s g.D.Draft.gains (at + 1 + size + 1) c.text_in-then-code-eq103.result.now c.args.draft.now c.push_str-then-code-eq103.new.self p (c.text_in-then-code-eq103.ensures ∙ text_there s 1 p (at + 1) size (omega (arith, no_gap at)) counts) (short_ends s p size counts) c.push_str-then-code-eq103.ensures;
 }
 
 pub overflow_add-start-then-code-eq117 : goal.overflow_add-start-then-code-eq117
@@ -114,11 +113,11 @@ returns-then-code-eq117 g c = record {
   shown = λ v rest s.
       let p = number_stands s 4 (omega arith) (wide_4 s c.if-code-eq117.true) in
       let start = c.args.at + c.gap-then-code-eq117.result in
-      bare_number s start _ c.args.draft.now c.write_integer.new.draft p (omega (arith, c.gap-then-code-eq117.ensures)) refl c.if-code-eq117.true
-      (subst (λ (n : ℕ). Gains c.args.draft.now (decimal n) c.write_integer.new.draft) c.u32_at.ensures.spelled c.write_integer.ensures);
+      bare_number s g.D.Draft.gains start _ c.args.draft.now c.write_integer.new.draft p (omega (arith, c.gap-then-code-eq117.ensures)) refl c.if-code-eq117.true
+      (subst (λ (n : ℕ). g.D.Draft.gains c.args.draft.now (decimal n) c.write_integer.new.draft) c.u32_at.ensures.spelled c.write_integer.ensures);
 }
 
 pub returns : goal.returns
 returns g c = record {
-  shown = λ v rest s. bare_shown s c.write_typed_at.result c.args.draft.now c.write_typed_at.new.draft c.if-code-eq115.false c.if-code-eq111.false c.if-code-eq103.false c.if-code-eq117.false (c.write_typed_at.ensures.shown v rest s);
+  shown = λ v rest s. bare_shown s g.D.Draft.gains c.write_typed_at.result c.args.draft.now c.write_typed_at.new.draft c.if-code-eq115.false c.if-code-eq111.false c.if-code-eq103.false c.if-code-eq117.false (c.write_typed_at.ensures.shown v rest s);
 }

@@ -8,7 +8,6 @@ use Rattle.dbus_value_model.specs.declared.order.Order.TheVariants.{Big}
 use Rattle.dbus_value_model.proofs.NumberBytes.{num_64_big}
 use Rattle.dbus_value_laws.proofs.ReadSteps.{one_byte}
 use Rattle.dbus_walk.proofs.ReadThere.{byte_code}
-use Rattle.dbus_show.specs.Gains.{Gains}
 use Rattle.dbus_show.specs.ShownValues.{number_text}
 use Rattle.dbus_show_view.proofs.Codes.{double_code}
 use Rattle.dbus_show_view.proofs.numbers.write_number_at.Goals as goal
@@ -47,13 +46,13 @@ pub returns-in-121 : goal.returns-in-121
 returns-in-121 g c = λ k e.
     let is : k ≡ BYTE = byte_code k (e ∙ c.in-121.is) in
     let here = c.requires BYTE (sym c.in-121.is) in
-    subst (λ (j : NumberCode). Gains c.args.draft.now (number_text j (number_of c.args.order (take (width j) (drop c.args.at c.args.bytes.now)))) c.write_integer.new.draft) (sym is)
-    (subst (λ (n : ℕ). Gains c.args.draft.now (decimal n) c.write_integer.new.draft) (one_byte c.args.order c.args.bytes.now c.args.at (omega (arith, here))) c.write_integer.ensures)
+    subst (λ (j : NumberCode). g.D.Draft.gains c.args.draft.now (number_text j (number_of c.args.order (take (width j) (drop c.args.at c.args.bytes.now)))) c.write_integer.new.draft) (sym is)
+    (subst (λ (n : ℕ). g.D.Draft.gains c.args.draft.now (decimal n) c.write_integer.new.draft) (one_byte c.args.order c.args.bytes.now c.args.at (omega (arith, here))) c.write_integer.ensures)
 
 pub returns-in-100 : goal.returns-in-100
 returns-in-100 g c = λ k e.
     let is : k ≡ DOUBLE = double_code k (e ∙ c.in-100.is) in
     let n = c.u64_at-in-100.result in
     let text = ap encode_lower (c.to_be_bytes.ensures ∙ num_64_big n) ∙ ap (λ (m : ℕ). encode_lower (num Big 8 m)) c.u64_at-in-100.ensures.spelled in
-    subst (λ (j : NumberCode). Gains c.args.draft.now (number_text j (number_of c.args.order (take (width j) (drop c.args.at c.args.bytes.now)))) c.write_hex.new.draft) (sym is)
-    (subst (λ s. Gains c.args.draft.now s c.write_hex.new.draft) text c.write_hex.ensures)
+    subst (λ (j : NumberCode). g.D.Draft.gains c.args.draft.now (number_text j (number_of c.args.order (take (width j) (drop c.args.at c.args.bytes.now)))) c.write_hex.new.draft) (sym is)
+    (subst (λ s. g.D.Draft.gains c.args.draft.now s c.write_hex.new.draft) text c.write_hex.ensures)

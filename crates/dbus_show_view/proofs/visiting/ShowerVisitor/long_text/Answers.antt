@@ -22,4 +22,4 @@ returns-clause-takes g c = λ v rest s.
     let p = long_stands s c.requires.code in
     let counts = long_counts s p c.args.start c.args.size c.requires.begins c.requires.counts in
     let is = c.text_in.ensures ∙ text_there s 4 p (c.args.start + 4) c.args.size (omega (arith, c.requires.begins)) counts in
-    record { same = refl; gains = text_shown s 4 p _ c.text_in.result.now c.args.self.now.draft.now c.write_coded.new.draft refl is c.write_coded.ensures }
+    record { same = refl; gained = text_shown s 4 p g.D.Draft.gains _ c.text_in.result.now c.args.self.now.draft.now c.write_coded.new.draft refl is c.write_coded.ensures }

@@ -12,5 +12,5 @@ write_number_at-requires g c = λ k e.
 pub returns-clause-takes : goal.returns-clause-takes
 returns-clause-takes g c = λ v rest s.
     let p = number_stands s c.args._size c.requires.some c.requires.wide in
-    let gains = number_shown s c.args._size c.args.start p c.requires.begins c.args.self.now.draft.now c.push_code.new.self c.push_code-2.new.self c.write_number_at.new.draft c.push_code.ensures c.push_code-2.ensures c.write_number_at.ensures in
-    record { same = refl; gains = gains }
+    let gains = number_shown s c.args._size c.args.start p c.requires.begins g.D.Draft.gains g.met.D.Draft.joins c.args.self.now.draft.now c.push_code.new.self c.push_code-2.new.self c.write_number_at.new.draft c.push_code.ensures c.push_code-2.ensures c.write_number_at.ensures in
+    record { same = refl; gained = gains }

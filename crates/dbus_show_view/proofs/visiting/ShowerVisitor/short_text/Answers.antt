@@ -20,4 +20,4 @@ returns-clause-takes g c = λ v rest s.
     let p = short_stands s c.requires.code in
     let at = c.args.spot.now.at in
     let is = c.text_in.ensures ∙ text_there s 1 p (at + 1) c.args.size (omega (arith, no_gap at)) (c.requires.counts ∙ (short_counts s p).0) in
-    record { same = refl; gains = text_shown s 1 p 103 c.text_in.result.now c.args.self.now.draft.now c.write_coded.new.draft (sym c.requires.code) is c.write_coded.ensures }
+    record { same = refl; gained = text_shown s 1 p g.D.Draft.gains 103 c.text_in.result.now c.args.self.now.draft.now c.write_coded.new.draft (sym c.requires.code) is c.write_coded.ensures }

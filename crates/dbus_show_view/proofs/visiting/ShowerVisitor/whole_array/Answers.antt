@@ -21,5 +21,5 @@ returns-clause-takes g c = λ v rest s.
     let begins = array_begins s p run.start run.first c.requires.begins c.requires.parts in
     let ends = c.requires.ends ∙ ap (λ (k : ℕ). run.first + k) (array_counts s p run.start _ c.requires.begins refl) in
     let byte = stroke_is (get_or c.args.spot.now.types.now 1 0) c.requires.stroke in
-    let gains = bytes_shown s p run.first run.end c.args.self.now.draft.now c.write_types.new.draft c.push_code.new.self c.write_hex.new.draft begins ends byte c.write_types.ensures c.push_code.ensures c.write_hex.ensures in
-    record { same = refl; gains = gains }
+    let gains = bytes_shown s p g.D.Draft.gains g.met.D.Draft.joins run.first run.end c.args.self.now.draft.now c.write_types.new.draft c.push_code.new.self c.write_hex.new.draft begins ends byte c.write_types.ensures c.push_code.ensures c.write_hex.ensures in
+    record { same = refl; gained = gains }
