@@ -1,19 +1,13 @@
 -- The steps in which bytes are gathered and written.
-use Rattle.std.proofs.Common.{◌≡◌, ℕ, List, [], ◌++◌, Option, take, drop, refl, sym, ap, ◌∙◌, subst, append_assoc, append-nil, take-append-drop}
+use Rattle.std.proofs.Common.{◌≡◌, ℕ, List, [], ◌++◌, Option, Result, Ok, Err, take, drop, sym, ap, ◌∙◌, subst, append_assoc, append-nil, take-append-drop}
 use Rattle.std.specs.Io.KnownBytes.{Appends}
-use Rattle.std.proofs.KnownBytes.{Appends-nil, Appends-trans}
-use Rattle.dbus_device.specs.Device.{one_more}
 use Rattle.dbus_device.specs.Write.{Wrote, Stopped}
-use Rattle.dbus_tool.specs.Gathering.{Passes, Breaks}
+use Rattle.dbus_tool.specs.Gathering.{Passes, Breaks, GathersOrNot}
+use Rattle.dbus_tool.specs.PageLaws.{passes_both, breaks_after}
+use Rattle.dbus_tool.specs.declared.ending.Cause.{Cause}
+use Rattle.dbus_tool.specs.declared.ending.Cause.TheVariants.{Memory, ReadFailed, WriteFailed, TooManyReads}
 
 module _ {W : Type 0} (held : W → Option (List ℕ)) (failures : W → ℕ) where
-  -- nothing is written, and the bytes are gathered
-  pub passes_kept : (bytes g0 g1 : List ℕ) (old : W) → g1 ≡ g0 ++ bytes → Passes held failures bytes g0 g1 old old
-  passes_kept bytes g0 g1 old e = record { written = []; appended = Appends-nil (held old); joined = sym e; failed = refl }
-
-  pub passes_none : (g : List ℕ) (old : W) → Passes held failures [] g g old old
-  passes_none g old = passes_kept [] g g old (sym (append-nil g))
-
   -- of what is gathered a prefix was written
   pub breaks_out : (g0 bytes : List ℕ) (n : ℕ) (old new : W) → bytes ≡ g0 → Stopped held failures old bytes n new → Breaks held failures [] g0 old new
   breaks_out g0 bytes n old new e s = record {
@@ -32,45 +26,32 @@ module _ {W : Type 0} (held : W → Option (List ℕ)) (failures : W → ℕ) wh
     failed = b.failed;
   }
 
-  -- one after the other
-  pub passes_both : (a b g0 g1 g2 : List ℕ) (w0 w1 w2 : W) → Passes held failures a g0 g1 w0 w1 → Passes held failures b g1 g2 w1 w2 → Passes held failures (a ++ b) g0 g2 w0 w2
-  passes_both a b g0 g1 g2 w0 w1 w2 p q = record {
-    written = p.written ++ q.written;
-    appended = Appends-trans _ _ _ _ _ p.appended q.appended;
-    joined = sym (append_assoc g0 a b) ∙ (ap (λ l. l ++ b) p.joined
-        ∙ (append_assoc p.written g1 b ∙ (ap (λ l. p.written ++ l) q.joined ∙ sym (append_assoc p.written q.written g2))));
-    failed = q.failed ∙ p.failed;
-  }
-
-  pub breaks_after : (a b g0 g1 : List ℕ) (w0 w1 w2 : W) → Passes held failures a g0 g1 w0 w1 → Breaks held failures b g1 w1 w2 → Breaks held failures (a ++ b) g0 w0 w2
-  breaks_after a b g0 g1 w0 w1 w2 p q = record {
-    written = p.written ++ q.written;
-    appended = Appends-trans _ _ _ _ _ p.appended q.appended;
-    front = (
-      q.front.0,
-      sym (append_assoc g0 a b) ∙ (ap (λ l. l ++ b) p.joined
-          ∙ (append_assoc p.written g1 b ∙ (ap (λ l. p.written ++ l) q.front.1 ∙ sym (append_assoc p.written q.written q.front.0)))),
-    );
-    failed = q.failed ∙ ap one_more p.failed;
-  }
+  -- what is gathered is written, and then bytes are
+  pub gathers_after : (bytes g0 g1 g2 : List ℕ) (w0 w1 w2 : W) (res : Result (Unit {0}) Cause) → Passes held failures [] g0 g1 w0 w1 → GathersOrNot held failures bytes g1 g2 w1 w2 res
+      → GathersOrNot held failures bytes g0 g2 w0 w2 res
+  gathers_after bytes g0 g1 g2 w0 w1 w2 (Ok x) p q = passes_both held failures [] bytes g0 g1 g2 w0 w1 w2 p q
+  gathers_after bytes g0 g1 g2 w0 w1 w2 (Err Memory) p q = passes_both held failures [] [] g0 g1 g2 w0 w1 w2 p q
+  gathers_after bytes g0 g1 g2 w0 w1 w2 (Err ReadFailed) p q = q
+  gathers_after bytes g0 g1 g2 w0 w1 w2 (Err WriteFailed) p q = breaks_after held failures [] bytes g0 g1 w0 w1 w2 p q
+  gathers_after bytes g0 g1 g2 w0 w1 w2 (Err TooManyReads) p q = q
 
   -- bytes and then nothing
   pub passes_nothing : (a g0 g1 g2 : List ℕ) (w0 w1 w2 : W) → Passes held failures a g0 g1 w0 w1 → Passes held failures [] g1 g2 w1 w2 → Passes held failures a g0 g2 w0 w2
-  passes_nothing a g0 g1 g2 w0 w1 w2 p q = subst (λ l. Passes held failures l g0 g2 w0 w2) (append-nil a) (passes_both a [] g0 g1 g2 w0 w1 w2 p q)
+  passes_nothing a g0 g1 g2 w0 w1 w2 p q = subst (λ l. Passes held failures l g0 g2 w0 w2) (append-nil a) (passes_both held failures a [] g0 g1 g2 w0 w1 w2 p q)
 
   pub breaks_nothing : (a g0 g1 : List ℕ) (w0 w1 w2 : W) → Passes held failures a g0 g1 w0 w1 → Breaks held failures [] g1 w1 w2 → Breaks held failures a g0 w0 w2
-  breaks_nothing a g0 g1 w0 w1 w2 p q = subst (λ l. Breaks held failures l g0 w0 w2) (append-nil a) (breaks_after a [] g0 g1 w0 w1 w2 p q)
+  breaks_nothing a g0 g1 w0 w1 w2 p q = subst (λ l. Breaks held failures l g0 w0 w2) (append-nil a) (breaks_after held failures a [] g0 g1 w0 w1 w2 p q)
 
   -- what is gathered, and then bytes that are written
   pub passes_through : (bytes g0 g1 : List ℕ) (w0 w1 w2 : W) → g1 ≡ [] → Passes held failures [] g0 g1 w0 w1 → Wrote held failures w1 bytes w2 → Passes held failures bytes g0 g1 w0 w2
   passes_through bytes g0 g1 w0 w1 w2 e p w =
-      passes_both [] bytes g0 g1 g1 w0 w1 w2 p
+      passes_both held failures [] bytes g0 g1 g1 w0 w1 w2 p
       (record { written = bytes; appended = w.appended; joined = ap (λ l. l ++ bytes) e ∙ (sym (append-nil bytes) ∙ ap (λ l. bytes ++ l) (sym e)); failed = w.failed })
 
   pub breaks_through : (bytes g0 g1 : List ℕ) (n : ℕ) (w0 w1 w2 : W) → g1 ≡ [] → Passes held failures [] g0 g1 w0 w1 → Stopped held failures w1 bytes n w2
       → Breaks held failures bytes g0 w0 w2
   breaks_through bytes g0 g1 n w0 w1 w2 e p s =
-      breaks_after [] bytes g0 g1 w0 w1 w2 p
+      breaks_after held failures [] bytes g0 g1 w0 w1 w2 p
       (record { written = take n bytes; appended = s.appended; front = (drop n bytes, ap (λ l. l ++ bytes) e ∙ sym (take-append-drop n bytes)); failed = s.failed })
 
   -- where nothing was gathered before and nothing is after, all was written

@@ -17,7 +17,7 @@ use Rattle.dbus_tool.specs.Gathering.{Breaks}
 use Rattle.dbus_tool.specs.Handing.{GivesNext, IsWrittenOut}
 use Rattle.dbus_tool.specs.declared.ending.NoMessage.{NoMessage}
 use Rattle.dbus_tool.specs.declared.ending.NoMessage.TheVariants.{Reader, Writer}
-use Rattle.dbus_tool.proofs.GatherSteps.{passes_none}
+use Rattle.dbus_tool.specs.PageLaws.{passes_none}
 
 -- all that was gathered was written
 pub written_out : (fault : ReadFault) (g : List ℕ) → g ≡ [] → IsWrittenOut fault g

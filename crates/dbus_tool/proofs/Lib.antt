@@ -2,10 +2,9 @@ pub mod OutputSteps
 pub mod Outputs
 pub mod GatherSteps
 pub mod LentSteps
-pub mod CountSteps
-pub mod TallySteps
-pub mod TalliedHands
+pub mod ReadSteps
 pub mod GivenSteps
 pub mod HandSteps
+pub mod TalliedHands
 pub mod ThroughSteps
 pub mod RunSteps

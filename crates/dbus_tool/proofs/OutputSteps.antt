@@ -8,7 +8,10 @@ use Rattle.dbus_match.specs.Rules.{Pair}
 use Rattle.dbus_match.specs.RuleViews.{rule_pairs}
 use Rattle.dbus_command.specs.declared.command.Command.{Command}
 use Rattle.dbus_command.specs.declared.command.Command.TheVariants.{Show, Check, Swap, Filter}
-use Rattle.dbus_tool.specs.Output.{IsPrefixTo, IsFiltered, IsOutputOf, IsOutputOfAll, IsFirstOutput, last_line}
+use Rattle.dbus_tool.specs.Commands.{command_of}
+use Rattle.dbus_tool.specs.Output.{IsPrefixTo, IsFiltered, IsOutputOf, IsOutputOfAll, IsFirstOutput, fault_line, last_line, second_output}
+use Rattle.dbus_tool.specs.declared.output.Output.{Output}
+use Rattle.dbus_tool.specs.declared.output.Output.TheVariants.{Text, InOrder, Matching}
 
 filtered_one : (pairs : List Pair) (order : Order) (message : MessageTree) (a b : List ℕ) → IsFiltered pairs order message a → IsFiltered pairs order message b → a ≡ b
 filtered_one pairs order message a b p q = elim p [
@@ -71,3 +74,14 @@ pub prefix_of_whole : (command : Command) (items : List CutMessage) (fault : Opt
 prefix_of_whole command items fault out written first o front whole =
     let suffix = last_line command (length items) (sizes items) fault in
     (front.0, whole.joined ∙ (ap (λ l. l ++ suffix) (output_all_one command 1 items whole.written out whole.each o) ∙ front.1))
+
+-- only `check` writes a last line, and it alone does not tell the second writer the fault
+pub nothing_last : (output : Output) (count size : ℕ) (fault : Option Fault) → last_line (command_of output) count size fault ≡ []
+nothing_last Text count size fault = refl
+nothing_last (InOrder order) count size fault = refl
+nothing_last (Matching rule) count size fault = refl
+
+pub told_second : (output : Output) (size : ℕ) (fault : Option Fault) → second_output (command_of output) size fault ≡ fault_line size fault
+told_second Text size fault = refl
+told_second (InOrder order) size fault = refl
+told_second (Matching rule) size fault = refl

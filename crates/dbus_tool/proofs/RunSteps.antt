@@ -14,7 +14,7 @@ use Rattle.dbus_tool.specs.Output.{IsPrefixTo, IsFirstOutput, last_line, second_
 use Rattle.dbus_tool.specs.Handing.{HandsAll, HandsSome}
 use Rattle.dbus_tool.specs.Checking.{TellsLine, WritesBefore, Answers, Fails, IsCause}
 use Rattle.dbus_tool.specs.Running.{Runs}
-use Rattle.dbus_tool.specs.Closing.{Closes, WritesLine}
+use Rattle.dbus_tool.specs.Closing.{TellsSecond, WritesLine}
 use Rattle.dbus_tool.specs.declared.ending.ExitStatus.{ExitStatus}
 use Rattle.dbus_tool.specs.declared.ending.Cause.{Cause}
 use Rattle.dbus_tool.specs.declared.ending.Cause.TheVariants.{Memory, ReadFailed, WriteFailed, TooManyReads}
@@ -65,7 +65,7 @@ module _ {R W : Type 0} (left : R → Option (List ℕ)) (calls read_failures : 
   }
 
   -- the last line was not written
-  first_not : (counted : Counted) (cause : Cause) (r0 r1 : R) (w0 w1 w2 : W) → HandsAll left calls read_failures held write_failures limits most command counted r0 r1 [] [] w0 w1
+  pub first_not : (counted : Counted) (cause : Cause) (r0 r1 : R) (w0 w1 w2 : W) → HandsAll left calls read_failures held write_failures limits most command counted r0 r1 [] [] w0 w1
       → WritesLine held write_failures (last_line command counted.count counted.size counted.fault) w1 w2 (Err cause)
       → Fails left calls read_failures held write_failures limits most command cause r0 r1 w0 w2
   first_not counted Memory r0 r1 w0 w1 w2 a same =
@@ -160,15 +160,13 @@ module _ {R W : Type 0} (left : R → Option (List ℕ)) (calls read_failures : 
               (subst (λ (n : ℕ). TellsLine second_held second_failures (second_output command n counted.fault) counted.fault e0 e1 end) a.counts.size_is told);
         }
 
-    -- all messages were handed on
+    -- the first writer got its last line, and the second what is told there
     pub ran_to_end : (counted : Counted) (r0 r1 : R) (w0 w1 w2 : W) (e0 e1 : E) (end : ExitStatus)
         → HandsAll left calls read_failures held write_failures limits most command counted r0 r1 [] [] w0 w1
-        → Closes (writing held write_failures w1 w2) (writing second_held second_failures e0 e1) command counted end
+        → Wrote held write_failures w1 (last_line command counted.count counted.size counted.fault) w2
+        → TellsSecond second_held second_failures (second_output command counted.size counted.fault) counted.fault e0 e1 end
         → Runs (reading left calls read_failures r0 r1) (writing held write_failures w0 w2) (writing second_held second_failures e0 e1) limits most command end
-    ran_to_end counted r0 r1 w0 w1 w2 e0 e1 end a closes = elim closes [
-      | inl c ↦ elim c.second [
-        | inl told ↦ inl (closed counted r0 r1 w0 w1 w2 e0 e1 end a c.first told)
-        | inr f ↦ inr (record { failed = f.0; cause = Memory; fails = second_not counted r0 r1 w0 w1 w2 a c.first; told = f.1 })
-      ]
-      | inr n ↦ inr (record { failed = n.failed; cause = n.cause; fails = first_not counted n.cause r0 r1 w0 w1 w2 a n.first; told = n.told })
+    ran_to_end counted r0 r1 w0 w1 w2 e0 e1 end a wrote told = elim told [
+      | inl line ↦ inl (closed counted r0 r1 w0 w1 w2 e0 e1 end a wrote line)
+      | inr f ↦ inr (record { failed = f.0; cause = Memory; fails = second_not counted r0 r1 w0 w1 w2 a wrote; told = f.1 })
     ]

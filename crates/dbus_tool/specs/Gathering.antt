@@ -1,11 +1,16 @@
 -- Bytes that are gathered before they are written. g0 and g1 are what is gathered before and after.
-use Rattle.std.specs.Prelude.{◌≡◌, ℕ, List, [], ◌++◌, Option, Result, Ok, Err}
+use Rattle.std.specs.Prelude.{◌≡◌, ℕ, List, [], ◌++◌, take, Option, Result, Ok, Err}
 use Rattle.std.specs.Io.KnownBytes.{Appends}
 use Rattle.dbus_device.specs.Device.{one_more}
 use Rattle.dbus_tool.specs.Output.{IsPrefixTo}
+use Rattle.dbus_tool.specs.declared.gathered.Gathered.{Gathered}
 use Rattle.dbus_tool.specs.declared.gathering.Unwritten.{Unwritten}
 use Rattle.dbus_tool.specs.declared.ending.Cause.{Cause}
 use Rattle.dbus_tool.specs.declared.ending.Cause.TheVariants.{Memory, ReadFailed, WriteFailed, TooManyReads}
+
+-- the bytes that are gathered
+unfoldable pub gathered_bytes : Gathered → List ℕ
+gathered_bytes g = take g.len g.bytes
 
 module _ {W : Type 0} (held : W → Option (List ℕ)) (failures : W → ℕ) where
   -- what was gathered and then these bytes were written, but for what is gathered now

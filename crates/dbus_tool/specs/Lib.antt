@@ -2,11 +2,14 @@ pub mod Devices
 pub mod Lines
 pub mod RuleLines
 pub mod Output
+pub mod Commands
 pub mod Laws
 pub mod Gathering
+pub mod Pages
+pub mod PageLaws
 pub mod Counting
-pub mod Tallying
 pub mod Handing
+pub mod Tallying
 pub mod Checking
 pub mod Running
 pub mod Closing

@@ -5,11 +5,13 @@ ghost use Rattle.dbus_message_model.specs.Messages.{MessageTree};
 ghost use Rattle.dbus_header.specs.MessageOutcomes.{IsWhole};
 ghost use Rattle.dbus_validate.specs.Validating.{IsValidatedWhole};
 ghost use Rattle.dbus_match.specs.RuleViews.{rule_pairs};
+ghost use Rattle.dbus_tool.specs.Gathering.{gathered_bytes};
 ghost use Rattle.dbus_tool.specs.Devices.{writing};
 ghost use Rattle.dbus_tool.specs.Handing.{Filters};
 
 use crate::ending::Cause;
-use crate::gathering::{Gathered, put_out};
+use crate::gathered::Gathered;
+use crate::gathering::put_out;
 use dbus_match::{Owner, Rule, matches_view};
 use dbus_stream::Sink;
 use dbus_validate::Validated;
@@ -29,7 +31,7 @@ pub(crate) fn filter<W: Sink>(
     ensures { (order : Order) (m : MessageTree) →
         IsWhole limits bytes.now order m (length bytes.now) →
         Filters (writing W.held W.failures first.old first.new) (rule_pairs rule.now) order m
-        gathered.old.items gathered.new.items result }
+        (gathered_bytes gathered.old) (gathered_bytes gathered.new) result }
 {
     let owners: &[Owner] = &[];
     let view = MessageView::of_validated(bytes, limits, *validated);

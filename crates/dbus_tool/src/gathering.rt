@@ -1,13 +1,10 @@
 //! Bytes that are gathered before they are written.
 ghost use Rattle.std.specs.Prelude.{◌≡◌, []};
-ghost use Rattle.dbus_tool.specs.Gathering.{Gathers, GathersOrNot};
+ghost use Rattle.dbus_tool.specs.Gathering.{Gathers, GathersOrNot, gathered_bytes};
 
 use crate::ending::Cause;
-use arrayvec::ArrayVec;
+use crate::gathered::Gathered;
 use dbus_stream::{Sink, WrittenOnly, write_all};
-
-/// What is gathered: up to 16,384 bytes, in the value itself.
-pub(crate) type Gathered = ArrayVec<u8, 16_384>;
 
 /// A write failed, or took none of its bytes.
 #[derive(Clone, Copy, Debug, PartialEq, Eq)]
@@ -19,13 +16,13 @@ pub(crate) fn gather<W: Sink>(
     gathered: &mut Gathered,
     first: &mut W,
 ) -> Result<(), Unwritten>
-    ensures { Gathers W.held W.failures bytes.now gathered.old.items gathered.new.items first.old
+    ensures { Gathers W.held W.failures bytes.now (gathered_bytes gathered.old) (gathered_bytes gathered.new) first.old
         first.new result }
 {
-    match gathered.try_extend_from_slice(bytes) {
-        Ok(()) => Ok(()),
-        Err(_) => write_after(bytes, gathered, first),
+    if gathered.push(bytes) {
+        return Ok(());
     }
+    write_after(bytes, gathered, first)
 }
 
 /// Gathers the bytes, as [`gather`] does, with the cause where a write failed.
@@ -34,7 +31,7 @@ pub(crate) fn put_out<W: Sink>(
     gathered: &mut Gathered,
     first: &mut W,
 ) -> Result<(), Cause>
-    ensures { GathersOrNot W.held W.failures bytes.now gathered.old.items gathered.new.items
+    ensures { GathersOrNot W.held W.failures bytes.now (gathered_bytes gathered.old) (gathered_bytes gathered.new)
         first.old first.new result }
 {
     match gather(bytes, gathered, first) {
@@ -43,13 +40,13 @@ pub(crate) fn put_out<W: Sink>(
     }
 }
 
-// Writes what is gathered, and then these bytes.
-fn write_after<W: Sink>(
+/// Writes what is gathered, and then these bytes.
+pub(crate) fn write_after<W: Sink>(
     bytes: &[u8],
     gathered: &mut Gathered,
     first: &mut W,
 ) -> Result<(), Unwritten>
-    ensures { Gathers W.held W.failures bytes.now gathered.old.items gathered.new.items first.old
+    ensures { Gathers W.held W.failures bytes.now (gathered_bytes gathered.old) (gathered_bytes gathered.new) first.old
         first.new result }
 {
     match write_out(gathered, first) {
@@ -63,18 +60,14 @@ fn write_after<W: Sink>(
 
 /// Writes what is gathered.
 pub(crate) fn write_out<W: Sink>(gathered: &mut Gathered, first: &mut W) -> Result<(), Unwritten>
-    ensures gathers { Gathers W.held W.failures [] gathered.old.items gathered.new.items first.old
+    ensures gathers { Gathers W.held W.failures [] (gathered_bytes gathered.old) (gathered_bytes gathered.new) first.old
         first.new result }
-    ensures emptied { gathered.new.items ≡ [] }
+    ensures emptied { (gathered_bytes gathered.new) ≡ [] }
 {
-    match write_all(first, gathered.as_slice()) {
-        Ok(()) => {
-            gathered.clear();
-            Ok(())
-        }
-        Err(WrittenOnly(_)) => {
-            gathered.clear();
-            Err(Unwritten)
-        }
+    let written = write_all(first, gathered.as_slice());
+    gathered.clear();
+    match written {
+        Ok(()) => Ok(()),
+        Err(WrittenOnly(_)) => Err(Unwritten),
     }
 }

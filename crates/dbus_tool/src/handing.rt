@@ -1,16 +1,16 @@
-//! The messages of a reader are handed to a command.
+//! Something is written of each message of a reader.
 ghost use Rattle.std.specs.Prelude.{◌≡◌, ◌≤◌, ◌^◌, ℕ, List, [], None, Err, IfOk};
 ghost use Rattle.dbus_stream.specs.RawReading.{IsNewReader, source_of, done_of, most_reads_of, stopped_of};
 ghost use Rattle.dbus_tool.specs.Counting.{ended_by, stopped_by};
 ghost use Rattle.dbus_tool.specs.Devices.{reading, writing};
-ghost use Rattle.dbus_tool.specs.Gathering.{GathersOrNot};
+ghost use Rattle.dbus_tool.specs.Gathering.{GathersOrNot, gathered_bytes};
 ghost use Rattle.dbus_tool.specs.Handing.{GivesNext, Hands};
+ghost use Rattle.dbus_tool.specs.Commands.{command_of};
 
 use crate::ending::{Cause, Counted, NoMessage};
-use crate::gathering::{Gathered, Unwritten, write_out};
-use crate::output::write_one;
-use crate::spare::Spare;
-use dbus_command::Command;
+use crate::gathered::Gathered;
+use crate::gathering::{Unwritten, write_out};
+use crate::output::{Output, write_one};
 use dbus_stream::{RawReader, ReadFault, Sink, Source};
 use dbus_validate::Validated;
 use dbus_value::Limits;
@@ -25,7 +25,7 @@ fn next_message<R: Source, A: Allocator + Copy, W: Sink>(
 ) -> Result<Option<Validated>, NoMessage>
     requires { stopped_of messages.old ≡ None }
     ensures gives { GivesNext R.left R.calls R.failures messages.old messages.new
-        (writing W.held W.failures first.old first.new) gathered.old.items gathered.new.items
+        (writing W.held W.failures first.old first.new) (gathered_bytes gathered.old) (gathered_bytes gathered.new)
         result }
     ensures few { IfOk result (λ _. done_of messages.new ≤ 2 ^ 50) }
     ensures same_reference { R.reference (source_of messages.new) ≡
@@ -47,7 +47,7 @@ fn read_message<R: Source, A: Allocator + Copy, W: Sink>(
 ) -> Result<Option<Validated>, NoMessage>
     requires { stopped_of messages.old ≡ None }
     ensures gives { GivesNext R.left R.calls R.failures messages.old messages.new
-        (writing W.held W.failures first.old first.new) gathered.old.items gathered.new.items
+        (writing W.held W.failures first.old first.new) (gathered_bytes gathered.old) (gathered_bytes gathered.new)
         result }
     ensures few { IfOk result (λ _. done_of messages.new ≤ 2 ^ 50) }
     ensures same_reference { R.reference (source_of messages.new) ≡
@@ -62,10 +62,10 @@ fn read_message<R: Source, A: Allocator + Copy, W: Sink>(
     }
 }
 
-// Hands each message of the reader to the command, up to the end of the input or a fault.
+// Writes what is wanted of each message of the reader, up to the end of the input or a fault.
 fn hand_all<R: Source, A: Allocator + Copy, W: Sink>(
     alloc: A,
-    command: &Command,
+    output: Output,
     limits: Limits,
     messages: &mut RawReader<R, A>,
     gathered: &mut Gathered,
@@ -76,19 +76,19 @@ fn hand_all<R: Source, A: Allocator + Copy, W: Sink>(
     ensures hands { Hands
         (reading R.left R.calls R.failures (source_of messages.old) (source_of messages.new))
         (writing W.held W.failures first.old first.new) limits (most_reads_of messages.old)
-        command.now gathered.old.items gathered.new.items result }
+        (command_of output.entry) (gathered_bytes gathered.old) (gathered_bytes gathered.new) result }
     ensures same_reference { R.reference (source_of messages.new) ≡
         R.reference (source_of messages.old) }
 {
     let mut count = 0u64;
-    let mut spare = Spare::new(alloc);
+    let mut spare = Vec::new(alloc);
     'messages: loop {
         match next_message(messages, gathered, first) {
             Ok(Some(validated)) => {
                 count += 1;
                 let message = messages.message();
                 match write_one(
-                    command, message, &validated, limits, count, &mut spare, gathered, first,
+                    output, message, &validated, limits, count, &mut spare, gathered, first,
                 ) {
                     Ok(()) => {}
                     Err(cause) => return Err(cause),
@@ -132,10 +132,10 @@ pub(crate) fn ended_by(count: u64, size: u64, fault: ReadFault) -> Result<Counte
     }
 }
 
-// Hands each message of the reader to the command, and then writes what is gathered.
+// Writes or gathers what is wanted of each message of the reader, and then writes what is gathered.
 fn hand_and_write<R: Source, A: Allocator + Copy, W: Sink>(
     alloc: A,
-    command: &Command,
+    output: Output,
     limits: Limits,
     messages: &mut RawReader<R, A>,
     first: &mut W,
@@ -145,12 +145,12 @@ fn hand_and_write<R: Source, A: Allocator + Copy, W: Sink>(
     ensures hands { Hands
         (reading R.left R.calls R.failures (source_of messages.old) (source_of messages.new))
         (writing W.held W.failures first.old first.new) limits (most_reads_of messages.old)
-        command.now [] [] result }
+        (command_of output.entry) [] [] result }
     ensures same_reference { R.reference (source_of messages.new) ≡
         R.reference (source_of messages.old) }
 {
     let mut gathered = Gathered::new();
-    match hand_all(alloc, command, limits, messages, &mut gathered, first) {
+    match hand_all(alloc, output, limits, messages, &mut gathered, first) {
         Ok(counted) => match write_out(&mut gathered, first) {
             Ok(()) => Ok(counted),
             Err(Unwritten) => Err(Cause::WriteFailed),
@@ -162,9 +162,9 @@ fn hand_and_write<R: Source, A: Allocator + Copy, W: Sink>(
 
 // Writes what is gathered where memory ran out, and answers why the run fails.
 fn out_of_memory<W: Sink>(gathered: &mut Gathered, first: &mut W) -> Cause
-    ensures gathers { GathersOrNot W.held W.failures [] gathered.old.items gathered.new.items
+    ensures gathers { GathersOrNot W.held W.failures [] (gathered_bytes gathered.old) (gathered_bytes gathered.new)
         first.old first.new (Err result) }
-    ensures emptied { gathered.new.items ≡ [] }
+    ensures emptied { (gathered_bytes gathered.new) ≡ [] }
 {
     match write_out(gathered, first) {
         Ok(()) => Cause::Memory,
@@ -172,10 +172,10 @@ fn out_of_memory<W: Sink>(gathered: &mut Gathered, first: &mut W) -> Cause
     }
 }
 
-// Hands the messages of a source to the command, and hands the source back.
+// Writes what is wanted of each message of a source, and gives the source back.
 fn hand_through<R: Source + Drop, A: Allocator + Copy, W: Sink>(
     alloc: A,
-    command: &Command,
+    output: Output,
     limits: Limits,
     reads: u64,
     source: R,
@@ -183,18 +183,18 @@ fn hand_through<R: Source + Drop, A: Allocator + Copy, W: Sink>(
 ) -> (Result<Counted, Cause>, R)
     requires { reads ≤ 2 ^ 32 }
     ensures hands { Hands (reading R.left R.calls R.failures source result.1)
-        (writing W.held W.failures first.old first.new) limits reads command.now [] [] result.0 }
+        (writing W.held W.failures first.old first.new) limits reads (command_of output.entry) [] [] result.0 }
     ensures same_reference { R.reference result.1 ≡ R.reference source }
 {
     let mut messages = RawReader::within(alloc, source, reads, limits);
-    let counted = hand_and_write(alloc, command, limits, &mut messages, first);
+    let counted = hand_and_write(alloc, output, limits, &mut messages, first);
     (counted, messages.into_source())
 }
 
-/// Hands the messages of a source within these limits to the command, up to its end, a fault or so many reads.
+/// Writes what is wanted of each message of a source within these limits, up to its end, a fault or so many reads.
 pub(crate) fn hand_over<R: Source, A: Allocator + Copy, W: Sink>(
     alloc: A,
-    command: &Command,
+    output: Output,
     limits: Limits,
     reads: u64,
     source: &mut R,
@@ -202,8 +202,8 @@ pub(crate) fn hand_over<R: Source, A: Allocator + Copy, W: Sink>(
 ) -> Result<Counted, Cause>
     requires { reads ≤ 2 ^ 32 }
     ensures { Hands (reading R.left R.calls R.failures source.old source.new)
-        (writing W.held W.failures first.old first.new) limits reads command.now [] [] result }
+        (writing W.held W.failures first.old first.new) limits reads (command_of output.entry) [] [] result }
 {
-    let (counted, _source) = hand_through(alloc, command, limits, reads, source, first);
+    let (counted, _source) = hand_through(alloc, output, limits, reads, source, first);
     counted
 }

@@ -6,15 +6,16 @@ mod counting;
 mod ending;
 mod failing;
 mod filtering;
+mod gathered;
 mod gathering;
 mod handing;
 pub mod laws;
 mod lines;
 mod output;
+mod page;
 mod rule_lines;
 mod running;
 mod showing;
-mod spare;
 mod swapping;
 mod words;
 

@@ -1,46 +1,57 @@
-//! What a command writes of one message.
+//! What is written of each message.
 ghost use Rattle.std.specs.Prelude.{◌≡◌, ℕ, List, length};
 ghost use Rattle.dbus_value_model.specs.declared.order.Order.{Order};
 ghost use Rattle.dbus_message_model.specs.Messages.{MessageTree};
 ghost use Rattle.dbus_header.specs.MessageOutcomes.{IsWhole};
 ghost use Rattle.dbus_validate.specs.Validating.{IsValidatedWhole};
+ghost use Rattle.dbus_tool.specs.Gathering.{gathered_bytes};
 ghost use Rattle.dbus_tool.specs.Devices.{writing};
 ghost use Rattle.dbus_tool.specs.Handing.{HandsOne};
+ghost use Rattle.dbus_tool.specs.Commands.{command_of};
 
 use crate::ending::Cause;
 use crate::filtering::filter;
-use crate::gathering::Gathered;
+use crate::gathered::Gathered;
 use crate::showing::show;
-use crate::spare::Spare;
 use crate::swapping::swap;
-use dbus_command::Command;
+use dbus_match::Rule;
 use dbus_stream::Sink;
 use dbus_validate::Validated;
-use dbus_value::Limits;
+use dbus_value::{Limits, Order};
 use std::alloc::Allocator;
 
-/// Writes or gathers what the command writes of a message, which has these bytes, as they were validated, and this number among
-/// all of the input.
+/// What a command writes of each message; `check` writes nothing of one.
+#[derive(Clone, Copy)]
+pub(crate) enum Output<'a> {
+    /// Its text.
+    Text,
+    /// Its bytes in this order.
+    InOrder(Order),
+    /// Its bytes as they are, if the rule matches it.
+    Matching(&'a Rule),
+}
+
+/// Writes or gathers what is wanted of a message, which has these bytes, as they were validated, and this number among all of
+/// the input. A message is byteswapped in `spare`, so that only a longer one than those before takes memory.
 pub(crate) fn write_one<A: Allocator + Copy, W: Sink>(
-    command: &Command,
+    output: Output,
     bytes: &[u8],
     validated: &Validated,
     limits: Limits,
     number: u64,
-    spare: &mut Spare<A>,
+    spare: &mut Vec<u8, A>,
     gathered: &mut Gathered,
     first: &mut W,
 ) -> Result<(), Cause>
     requires { IsValidatedWhole limits bytes.now validated.now }
     ensures { (order : Order) (m : MessageTree) →
         IsWhole limits bytes.now order m (length bytes.now) →
-        HandsOne (writing W.held W.failures first.old first.new) command.now order m number
-        gathered.old.items gathered.new.items result }
+        HandsOne (writing W.held W.failures first.old first.new) (command_of output.entry) order m number
+        (gathered_bytes gathered.old) (gathered_bytes gathered.new) result }
 {
-    match command {
-        Command::Show => show(bytes, validated, limits, number, spare, gathered, first),
-        Command::Check => Ok(()),
-        Command::Swap(wanted) => swap(*wanted, bytes, validated, limits, spare, gathered, first),
-        Command::Filter(rule) => filter(rule, bytes, validated, limits, gathered, first),
+    match output {
+        Output::Text => show(bytes, validated, limits, number, gathered, first),
+        Output::InOrder(wanted) => swap(wanted, bytes, validated, limits, spare, gathered, first),
+        Output::Matching(rule) => filter(rule, bytes, validated, limits, gathered, first),
     }
 }

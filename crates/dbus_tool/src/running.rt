@@ -2,12 +2,15 @@
 ghost use Rattle.std.specs.Prelude.{◌≤◌, ◌^◌};
 ghost use Rattle.dbus_value_model.specs.Specification.{specification};
 ghost use Rattle.dbus_tool.specs.Devices.{reading, writing};
+ghost use Rattle.dbus_tool.specs.Commands.{command_of};
 ghost use Rattle.dbus_tool.specs.Running.{Runs};
 
-use crate::closing::close;
-use crate::counting::count_or_hand;
+use crate::closing::{status_of, tell_fault, write_count};
+use crate::counting::count_over;
 use crate::ending::ExitStatus;
 use crate::failing::give_up;
+use crate::handing::hand_over;
+use crate::output::Output;
 use dbus_command::Command;
 use dbus_stream::{MOST_READS, Sink, Source};
 use dbus_value::Limits;
@@ -69,9 +72,8 @@ pub fn run_reads<A: Allocator + Copy, R: Source, W: Sink, E: Sink>(
 /// out before each read and before the status is given, also where memory ran out; if it does not go out then, the line is
 /// `write failed`. A writer gets no more after a write to it failed.
 ///
-/// The run holds at most the bytes of one message and of one read, room for the longest output of a message so far, and what
-/// is gathered. `Swap` makes that room only for messages that it turns, and `Filter` makes none. `Check` holds no message and
-/// no byte of one but those of one read, and takes no memory for them.
+/// The run holds at most the bytes of one message and of one read, what is gathered, and for `Swap` room for the longest message
+/// so far that it byteswaps. `Check` holds no message and no byte of one but those of one read, and takes no memory for them.
 ///
 /// `Done`, `Refused`: all was written, no read and no write failed, and the status says which. `Failed`: a read failed, a
 /// write to either writer failed or took none of its bytes, as many reads were made as may be, or a growth was refused. It
@@ -91,8 +93,62 @@ pub fn run_within<A: Allocator + Copy, R: Source, W: Sink, E: Sink>(
         (writing E.held E.failures second.old second.new)
         limits reads command result }
 {
-    match count_or_hand(alloc, &command, limits, reads, reader, first) {
-        Ok(counted) => close(alloc, &command, counted, first, second),
+    match command {
+        Command::Check => check(alloc, limits, reads, reader, first, second),
+        Command::Show => write(alloc, Output::Text, limits, reads, reader, first, second),
+        Command::Swap(order) => {
+            let output = Output::InOrder(order);
+            write(alloc, output, limits, reads, reader, first, second)
+        }
+        Command::Filter(rule) => {
+            let output = Output::Matching(&rule);
+            write(alloc, output, limits, reads, reader, first, second)
+        }
+    }
+}
+
+// Counts the messages, and writes how many they are, or the fault, on the first writer.
+fn check<A: Allocator + Copy, R: Source, W: Sink, E: Sink>(
+    alloc: A,
+    limits: Limits,
+    reads: u64,
+    reader: &mut R,
+    first: &mut W,
+    second: &mut E,
+) -> ExitStatus
+    requires { reads ≤ 2 ^ 32 }
+    ensures { Runs (reading R.left R.calls R.failures reader.old reader.new)
+        (writing W.held W.failures first.old first.new)
+        (writing E.held E.failures second.old second.new)
+        limits reads Command.Check result }
+{
+    match count_over(limits, reads, reader) {
+        Ok(counted) => match write_count(alloc, counted, first) {
+            Ok(()) => status_of(counted.fault),
+            Err(cause) => give_up(cause, second),
+        },
+        Err(cause) => give_up(cause, second),
+    }
+}
+
+// Writes what is wanted of each message on the first writer, and the fault on the second.
+fn write<A: Allocator + Copy, R: Source, W: Sink, E: Sink>(
+    alloc: A,
+    output: Output,
+    limits: Limits,
+    reads: u64,
+    reader: &mut R,
+    first: &mut W,
+    second: &mut E,
+) -> ExitStatus
+    requires { reads ≤ 2 ^ 32 }
+    ensures { Runs (reading R.left R.calls R.failures reader.old reader.new)
+        (writing W.held W.failures first.old first.new)
+        (writing E.held E.failures second.old second.new)
+        limits reads (command_of output.entry) result }
+{
+    match hand_over(alloc, output, limits, reads, reader, first) {
+        Ok(counted) => tell_fault(alloc, counted, second),
         Err(cause) => give_up(cause, second),
     }
 }

@@ -5,35 +5,40 @@ ghost use Rattle.dbus_message_model.specs.Messages.{MessageTree};
 ghost use Rattle.dbus_header.specs.MessageOutcomes.{IsWhole};
 ghost use Rattle.dbus_validate.specs.Validating.{IsValidatedWhole};
 ghost use Rattle.dbus_show.specs.ShownMessages.{message_text};
-ghost use Rattle.dbus_tool.specs.Gathering.{GathersOrNot};
+ghost use Rattle.dbus_tool.specs.Gathering.{GathersOrNot, gathered_bytes};
 
 use crate::ending::Cause;
-use crate::gathering::{Gathered, put_out};
-use crate::spare::Spare;
-use dbus_show_view::show_validated;
+use crate::gathered::Gathered;
+use crate::page::Page;
+use dbus_show_view::write_message;
 use dbus_stream::Sink;
 use dbus_validate::Validated;
 use dbus_value::Limits;
-use std::alloc::Allocator;
 
 /// Writes or gathers the text of the message that the bytes are.
-pub(crate) fn show<A: Allocator + Copy, W: Sink>(
+pub(crate) fn show<W: Sink>(
     bytes: &[u8],
     validated: &Validated,
     limits: Limits,
     number: u64,
-    spare: &mut Spare<A>,
     gathered: &mut Gathered,
     first: &mut W,
 ) -> Result<(), Cause>
     requires { IsValidatedWhole limits bytes.now validated.now }
     ensures { (order : Order) (m : MessageTree) →
         IsWhole limits bytes.now order m (length bytes.now) →
-        GathersOrNot W.held W.failures (message_text order m number) gathered.old.items
-        gathered.new.items first.old first.new result }
+        GathersOrNot W.held W.failures (message_text order m number) (gathered_bytes gathered.old)
+        (gathered_bytes gathered.new) first.old first.new result }
 {
-    let Ok(()) = show_validated(&mut spare.text, bytes, limits, validated, number) else {
-        return Err(Cause::Memory);
+    let mut page = Page {
+        gathered,
+        first,
+        failed: false,
     };
-    put_out(spare.text.as_bytes(), gathered, first)
+    write_message(&mut page, bytes, limits, validated, number);
+    if page.failed {
+        Err(Cause::WriteFailed)
+    } else {
+        Ok(())
+    }
 }

@@ -5,11 +5,11 @@ ghost use Rattle.dbus_message_model.specs.Messages.{MessageTree, message_bytes};
 ghost use Rattle.dbus_header.specs.MessageOutcomes.{IsWhole};
 ghost use Rattle.dbus_validate.specs.Validating.{IsValidatedWhole};
 ghost use Rattle.dbus_swap.specs.Byteswapping.{other};
-ghost use Rattle.dbus_tool.specs.Gathering.{GathersOrNot};
+ghost use Rattle.dbus_tool.specs.Gathering.{GathersOrNot, gathered_bytes};
 
 use crate::ending::Cause;
-use crate::gathering::{Gathered, put_out};
-use crate::spare::Spare;
+use crate::gathered::Gathered;
+use crate::gathering::put_out;
 use dbus_stream::Sink;
 use dbus_swap::byteswap;
 use dbus_validate::Validated;
@@ -22,15 +22,15 @@ pub(crate) fn swap<A: Allocator + Copy, W: Sink>(
     bytes: &[u8],
     validated: &Validated,
     limits: Limits,
-    spare: &mut Spare<A>,
+    spare: &mut Vec<u8, A>,
     gathered: &mut Gathered,
     first: &mut W,
 ) -> Result<(), Cause>
     requires { IsValidatedWhole limits bytes.now validated.now }
     ensures { (order : Order) (m : MessageTree) →
         IsWhole limits bytes.now order m (length bytes.now) →
-        GathersOrNot W.held W.failures (message_bytes wanted m) gathered.old.items
-        gathered.new.items first.old first.new result }
+        GathersOrNot W.held W.failures (message_bytes wanted m) (gathered_bytes gathered.old)
+        (gathered_bytes gathered.new) first.old first.new result }
 {
     if validated.order == wanted {
         put_out(bytes, gathered, first)
@@ -44,19 +44,19 @@ fn put_byteswapped<A: Allocator + Copy, W: Sink>(
     bytes: &[u8],
     validated: &Validated,
     limits: Limits,
-    spare: &mut Spare<A>,
+    spare: &mut Vec<u8, A>,
     gathered: &mut Gathered,
     first: &mut W,
 ) -> Result<(), Cause>
     requires { IsValidatedWhole limits bytes.now validated.now }
     ensures { (m : MessageTree) → IsWhole limits bytes.now validated.now.order m (length bytes.now) →
-        GathersOrNot W.held W.failures (message_bytes (other validated.now.order) m) gathered.old.items
-        gathered.new.items first.old first.new result }
+        GathersOrNot W.held W.failures (message_bytes (other validated.now.order) m) (gathered_bytes gathered.old)
+        (gathered_bytes gathered.new) first.old first.new result }
 {
-    spare.bytes.clear();
-    let Ok(()) = spare.bytes.extend_from_slice(bytes) else {
+    spare.clear();
+    let Ok(()) = spare.extend_from_slice(bytes) else {
         return Err(Cause::Memory);
     };
-    byteswap(bytes, spare.bytes.as_mut_slice(), validated, limits);
-    put_out(spare.bytes.as_slice(), gathered, first)
+    byteswap(bytes, spare.as_mut_slice(), validated, limits);
+    put_out(spare.as_slice(), gathered, first)
 }

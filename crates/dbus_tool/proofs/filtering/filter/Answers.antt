@@ -1,6 +1,7 @@
 use Rattle.std.proofs.Common.{[], inl, inr, refl, sym, ◌∙◌}
 use Rattle.std.proofs.lemmas.Bool.{false≢true}
-use Rattle.dbus_tool.proofs.GatherSteps.{passes_none}
+use Rattle.dbus_tool.specs.PageLaws.{passes_none}
+use Rattle.dbus_tool.specs.Gathering.{gathered_bytes}
 use Rattle.dbus_tool.proofs.LentSteps.{bytes_are, views_it}
 use Rattle.dbus_tool.proofs.filtering.filter.Goals as goal
 
@@ -17,5 +18,5 @@ returns-else-matches_view g c = λ order m whole.
     let views = views_it c.args.limits c.args.bytes.now c.of_validated-view.result order m c.of_validated-view.ensures.viewed whole in (
       [],
       inr (λ met. absurd (false≢true (sym c.if-matches_view.false ∙ (c.matches_view.ensures order m views).1 met)), refl),
-      passes_none g.W.Sink.held g.W.Sink.failures c.args.gathered.now.items c.args.first.now,
+      passes_none g.W.Sink.held g.W.Sink.failures (gathered_bytes c.args.gathered.now) c.args.first.now,
     )

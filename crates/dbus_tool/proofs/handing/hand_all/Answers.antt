@@ -1,68 +1,97 @@
-use Rattle.std.proofs.Common.{◌≡◌, ◌≤◌, ◌<◌, ◌^◌, ◌++◌, ℕ, None, arith, refl, sym, ap, ◌∙◌, subst}
+use Rattle.std.proofs.Common.{◌≡◌, ◌≤◌, ◌<◌, ◌^◌, ◌+◌, ◌++◌, Ok, Err, arith, refl, sym, ap, ◌∙◌, subst}
 use Rattle.dbus_header.proofs.OutcomeLaws.{whole_inside}
-use Rattle.dbus_stream.specs.RawNext.{Lends}
+use Rattle.dbus_stream.specs.Cut.{CutMessage, Ended}
+use Rattle.dbus_stream.specs.Gathering.{gathering}
+use Rattle.dbus_stream.specs.RawNext.{Lends, Reads}
 use Rattle.dbus_stream.specs.RawReading.{limits_of, done_of, most_reads_of, source_of, kept}
+use Rattle.dbus_tool.specs.Commands.{command_of}
 use Rattle.dbus_tool.specs.Counting.{stopped_by}
 use Rattle.dbus_tool.specs.Devices.{reading, writing}
-use Rattle.dbus_tool.specs.Handing.{HandsAll, Hands}
-use Rattle.dbus_tool.proofs.CountSteps.{length-sizes}
-use Rattle.dbus_tool.proofs.HandSteps.{hands_none, hands_more, hands_ended, hands_stopped, hands_not}
+use Rattle.dbus_tool.specs.Handing.{Hands}
+use Rattle.dbus_tool.specs.Gathering.{gathered_bytes}
+use Rattle.dbus_tool.proofs.GatherSteps.{gathers_after}
+use Rattle.dbus_tool.proofs.ReadSteps.{length-sizes, read_none}
+use Rattle.dbus_tool.proofs.HandSteps.{HasHanded, hands_none, hands_more, hands_all, hands_stopped, hands_not}
 use Rattle.dbus_tool.proofs.LentSteps.{lent_validated, lent_whole}
 use Rattle.dbus_tool.proofs.handing.hand_all.Goals as goal
+use Rattle.dbus_tool.proofs.handing.hand_all.Goals.{In-Ok-Some}
 
 pub messages-init : goal.messages-init
-messages-init g c = (hands_none g.R.Source.left g.R.Source.calls g.R.Source.failures g.W.Sink.held g.W.Sink.failures c.args.limits (most_reads_of c.args.messages.now) c.args.command.now c.args.messages.now c.args.gathered.now.items c.args.first.now c.requires, refl)
+messages-init g c =
+    let new = c.requires in
+    let m = c.args.messages.now in
+    let none = hands_none gathering g.R.Source.left g.R.Source.calls g.R.Source.failures g.W.Sink.held g.W.Sink.failures c.args.limits (most_reads_of c.args.messages.now) (command_of c.args.output) m.reader (gathered_bytes c.args.gathered.now) c.args.first.now
+    (read_none gathering g.R.Source.left g.R.Source.calls c.args.limits (most_reads_of m) m.reader new.reads refl new.limits new.ended) new.done new.stopped in
+    (subst (λ w. HasHanded gathering g.R.Source.left g.R.Source.calls g.R.Source.failures g.W.Sink.held g.W.Sink.failures c.args.limits (most_reads_of c.args.messages.now) (command_of c.args.output) 0 m.reader m.reader w (gathered_bytes c.args.gathered.now) (gathered_bytes c.args.gathered.now) c.args.first.now c.args.first.now) (sym new.kept) none, refl)
+
+-- what the reader lends
+lent : (g : _) (c : In-Ok-Some g) → (r : Reads g.R.Source.left g.R.Source.calls c.messages.messages c.next_message.new.messages)
+    × Lends (kept c.messages.messages ++ r.bytes) c.in-Ok-Some.validated c.messages.messages c.next_message.new.messages
+lent g c =
+    let given = rw c.in-Ok-Some.field-0-is at c.in-Ok-Some.ensures.gives in
+    (given.0, given.1)
 
 pub overflow_add-count : goal.overflow_add-count
 overflow_add-count g c =
-    let h = c.messages.invariant.0.counted in
-    let given = rw c.in-Ok-Some.field-0-is at c.in-Ok-Some.ensures.gives in
-    let l : Lends (kept c.messages.messages ++ given.0.bytes) c.in-Ok-Some.validated c.messages.messages c.next_message.new.messages = given.1 in
+    let h = c.messages.invariant.0 in
+    let l = (lent g (goal.at.overflow_add-count g c).In-Ok-Some).1 in
     let few : done_of c.next_message.new.messages ≤ 2 ^ 50 = c.in-Ok-Some.ensures.few in
-    omega (arith, c.messages.invariant.0.count_is, length-sizes c.args.limits h.bytes h.items _ h.messages, h.done, l.gives.done, few)
+    omega (arith, h.count_is, length-sizes c.args.limits h.read.bytes h.items (kept c.messages.messages) h.read.messages, h.done, l.gives.done, few)
 
 pub write_one-requires : goal.write_one-requires
 write_one-requires g c =
-    let given = rw c.in-Ok-Some.field-0-is at c.in-Ok-Some.ensures.gives in
-    let l : Lends (kept c.messages.messages ++ given.0.bytes) c.in-Ok-Some.validated c.messages.messages c.next_message.new.messages = given.1 in
-    lent_validated c.args.limits (kept c.messages.messages ++ given.0.bytes) c.message-message.result.now c.in-Ok-Some.validated c.messages.messages c.next_message.new.messages c.message-message.ensures c.messages.invariant.0.counted.limits_are l
+    let lent = lent g (goal.at.write_one-requires g c).In-Ok-Some in
+    lent_validated c.args.limits (kept c.messages.messages ++ lent.0.bytes) c.message-message.result.now c.in-Ok-Some.validated c.messages.messages c.next_message.new.messages c.message-message.ensures
+    c.messages.invariant.0.read.limits_are lent.1
 
 pub messages-preserved : goal.messages-preserved
 messages-preserved g c =
+    let mid = c.messages.messages in
+    let new = c.next_message.new.messages in
     let given = rw c.in-Ok-Some.field-0-is at c.in-Ok-Some.ensures.gives in
-    let l : Lends (kept c.messages.messages ++ given.0.bytes) c.in-Ok-Some.validated c.messages.messages c.next_message.new.messages = given.1 in
-    let whole = lent_whole c.args.limits (kept c.messages.messages ++ given.0.bytes) c.message-message.result.now c.in-Ok-Some.validated c.messages.messages c.next_message.new.messages c.message-message.ensures c.messages.invariant.0.counted.limits_are l in (
-      hands_more g.R.Source.left g.R.Source.calls g.R.Source.failures g.W.Sink.held g.W.Sink.failures c.args.limits (most_reads_of c.args.messages.now) c.args.command.now c.messages.count c.args.messages.now c.messages.messages c.next_message.new.messages
-          c.args.gathered.now.items c.messages.gathered.items c.next_message.new.gathered.items c.write_one.new.gathered.items
-          c.args.first.now c.messages.first c.next_message.new.first c.write_one.new.first c.messages.invariant.0 c.in-Ok-Some.validated given.0 l given.2 given.3 (c.in-Ok.ensures l.gives.order l.gives.message whole),
+    let lent = lent g (goal.at.messages-preserved g c).In-Ok-Some in
+    let l = lent.1 in
+    let whole = lent_whole c.args.limits (kept mid ++ lent.0.bytes) c.message-message.result.now c.in-Ok-Some.validated mid new c.message-message.ensures c.messages.invariant.0.read.limits_are l in
+    let item : CutMessage = record { order = l.gives.order; message = l.gives.message; size = l.size } in
+    let one = c.in-Ok.ensures l.gives.order l.gives.message whole in
+    let gathers = gathers_after g.W.Sink.held g.W.Sink.failures one.0 (gathered_bytes c.messages.gathered) (gathered_bytes c.next_message.new.gathered) (gathered_bytes c.write_one.new.gathered)
+    c.messages.first c.next_message.new.first c.write_one.new.first (Ok tt) given.3 one.2 in
+    let more = hands_more gathering g.R.Source.left g.R.Source.calls g.R.Source.failures g.W.Sink.held g.W.Sink.failures c.args.limits (most_reads_of c.args.messages.now) (command_of c.args.output) c.messages.count c.args.messages.now.reader mid.reader new.reader (kept mid) (gathered_bytes c.args.gathered.now) (gathered_bytes c.messages.gathered) (gathered_bytes c.write_one.new.gathered)
+    c.args.first.now c.messages.first c.write_one.new.first item one.0 c.messages.invariant.0 lent.0 l.gives.whole l.gives.done l.gives.unstopped given.2 one.1 gathers in (
+      subst (λ v. HasHanded gathering g.R.Source.left g.R.Source.calls g.R.Source.failures g.W.Sink.held g.W.Sink.failures c.args.limits (most_reads_of c.args.messages.now) (command_of c.args.output) (c.messages.count + 1) c.args.messages.now.reader new.reader v (gathered_bytes c.args.gathered.now) (gathered_bytes c.write_one.new.gathered) c.args.first.now c.write_one.new.first) (sym l.gives.kept) more,
       c.next_message.ensures.same_reference ∙ c.messages.invariant.1,
     )
 
 pub messages-smaller : goal.messages-smaller
 messages-smaller g c =
     let mid = c.messages.messages in
-    let given = rw c.in-Ok-Some.field-0-is at c.in-Ok-Some.ensures.gives in
-    let l : Lends (kept mid ++ given.0.bytes) c.in-Ok-Some.validated mid c.next_message.new.messages = given.1 in
-    let some : 0 < l.size = (whole_inside (limits_of mid) (kept mid ++ given.0.bytes) l.gives.order l.gives.message l.size l.gives.whole).0 in
+    let lent = lent g (goal.at.messages-smaller g c).In-Ok-Some in
+    let l = lent.1 in
     let few : done_of c.next_message.new.messages ≤ 2 ^ 50 = c.in-Ok-Some.ensures.few in
+    let some : 0 < l.size = (whole_inside (limits_of mid) (kept mid ++ lent.0.bytes) l.gives.order l.gives.message l.size l.gives.whole).0 in
     omega (arith, l.gives.done, few, some)
 
 pub returns-in-Err-write_one-clause-hands : goal.returns-in-Err-write_one-clause-hands
 returns-in-Err-write_one-clause-hands g c =
+    let mid = c.messages.messages in
+    let new = c.next_message.new.messages in
     let given = rw c.in-Ok-Some.field-0-is at c.in-Ok-Some.ensures.gives in
-    let l : Lends (kept c.messages.messages ++ given.0.bytes) c.in-Ok-Some.validated c.messages.messages c.next_message.new.messages = given.1 in
-    let whole = lent_whole c.args.limits (kept c.messages.messages ++ given.0.bytes) c.message-message.result.now c.in-Ok-Some.validated c.messages.messages c.next_message.new.messages c.message-message.ensures c.messages.invariant.0.counted.limits_are l in
-    hands_not g.R.Source.left g.R.Source.calls g.R.Source.failures g.W.Sink.held g.W.Sink.failures c.args.limits (most_reads_of c.args.messages.now) c.args.command.now c.in-Err-write_one.cause c.messages.count c.args.messages.now c.messages.messages c.next_message.new.messages
-    c.args.gathered.now.items c.messages.gathered.items c.next_message.new.gathered.items c.write_one.new.gathered.items
-    c.args.first.now c.messages.first c.next_message.new.first c.write_one.new.first c.messages.invariant.0 c.in-Ok-Some.validated given.0 l given.2 given.3 (c.in-Err-write_one.ensures l.gives.order l.gives.message whole)
+    let lent = lent g (goal.at.returns-in-Err-write_one-clause-hands g c).In-Ok-Some in
+    let l = lent.1 in
+    let whole = lent_whole c.args.limits (kept mid ++ lent.0.bytes) c.message-message.result.now c.in-Ok-Some.validated mid new c.message-message.ensures c.messages.invariant.0.read.limits_are l in
+    let item : CutMessage = record { order = l.gives.order; message = l.gives.message; size = l.size } in
+    let one = c.in-Err-write_one.ensures l.gives.order l.gives.message whole in
+    let gathers = gathers_after g.W.Sink.held g.W.Sink.failures one.0 (gathered_bytes c.messages.gathered) (gathered_bytes c.next_message.new.gathered) (gathered_bytes c.write_one.new.gathered)
+    c.messages.first c.next_message.new.first c.write_one.new.first (Err c.in-Err-write_one.cause) given.3 one.2 in
+    hands_not gathering g.R.Source.left g.R.Source.calls g.R.Source.failures g.W.Sink.held g.W.Sink.failures c.args.limits (most_reads_of c.args.messages.now) (command_of c.args.output) c.in-Err-write_one.cause c.messages.count c.args.messages.now.reader mid.reader new.reader (kept mid) (gathered_bytes c.args.gathered.now) (gathered_bytes c.messages.gathered) (gathered_bytes c.write_one.new.gathered)
+    c.args.first.now c.messages.first c.write_one.new.first item one.0 c.messages.invariant.0 lent.0 l.gives.whole given.2 one.1 gathers
 
 pub returns-in-Ok-None-clause-hands : goal.returns-in-Ok-None-clause-hands
 returns-in-Ok-None-clause-hands g c =
     let given = rw c.in-Ok-None.field-0-is at c.in-Ok-None.ensures.gives in
-    subst (λ (n : ℕ). HandsAll g.R.Source.left g.R.Source.calls g.R.Source.failures g.W.Sink.held g.W.Sink.failures c.args.limits (most_reads_of c.args.messages.now) c.args.command.now (record { count = c.messages.count; size = n; fault = None })
-    (source_of c.args.messages.now) (source_of c.next_message.new.messages) c.args.gathered.now.items c.next_message.new.gathered.items c.args.first.now c.next_message.new.first) (sym c.done.ensures)
-    (hands_ended g.R.Source.left g.R.Source.calls g.R.Source.failures g.W.Sink.held g.W.Sink.failures c.args.limits (most_reads_of c.args.messages.now) c.args.command.now c.messages.count c.args.messages.now c.messages.messages c.next_message.new.messages
-    c.args.gathered.now.items c.messages.gathered.items c.next_message.new.gathered.items c.args.first.now c.messages.first c.next_message.new.first c.messages.invariant.0 given.0 given.1 given.2 given.3)
+    hands_all gathering g.R.Source.left g.R.Source.calls g.R.Source.failures g.W.Sink.held g.W.Sink.failures c.args.limits (most_reads_of c.args.messages.now) (command_of c.args.output) c.messages.count c.args.messages.now.reader c.messages.messages.reader c.next_message.new.messages.reader (kept c.messages.messages)
+    (gathered_bytes c.args.gathered.now) (gathered_bytes c.messages.gathered) (gathered_bytes c.next_message.new.gathered) c.args.first.now c.messages.first c.next_message.new.first Ended _
+    c.messages.invariant.0 given.0 refl (c.done.ensures ∙ given.1.2.done) refl given.1.0 (λ _. given.1.1) given.2 given.3
 
 pub returns-in-Err-clause-hands : goal.returns-in-Err-clause-hands
 returns-in-Err-clause-hands g c =
@@ -70,7 +99,8 @@ returns-in-Err-clause-hands g c =
     let answer : c.stopped_by.result ≡ stopped_by c.messages.count (done_of c.next_message.new.messages) stop
     = c.stopped_by.ensures ∙ ap (λ n. stopped_by c.messages.count n stop) c.done-in-Err.ensures in
     subst (λ x. Hands (reading g.R.Source.left g.R.Source.calls g.R.Source.failures (source_of c.args.messages.now) (source_of c.next_message.new.messages))
-    (writing g.W.Sink.held g.W.Sink.failures c.args.first.now c.next_message.new.first) c.args.limits (most_reads_of c.args.messages.now) c.args.command.now
-    c.args.gathered.now.items c.next_message.new.gathered.items x) (sym answer)
-    (hands_stopped g.R.Source.left g.R.Source.calls g.R.Source.failures g.W.Sink.held g.W.Sink.failures c.args.limits (most_reads_of c.args.messages.now) c.args.command.now stop c.messages.count c.args.messages.now c.messages.messages c.next_message.new.messages
-    c.args.gathered.now.items c.messages.gathered.items c.next_message.new.gathered.items c.args.first.now c.messages.first c.next_message.new.first c.messages.invariant.0 c.in-Err.ensures.gives)
+    (writing g.W.Sink.held g.W.Sink.failures c.args.first.now c.next_message.new.first) c.args.limits (most_reads_of c.args.messages.now) (command_of c.args.output)
+    (gathered_bytes c.args.gathered.now) (gathered_bytes c.next_message.new.gathered) x) (sym answer)
+    (hands_stopped g.R.Source.left g.R.Source.calls g.R.Source.failures g.W.Sink.held g.W.Sink.failures c.args.limits (most_reads_of c.args.messages.now) (command_of c.args.output) stop c.messages.count
+    c.args.messages.now c.messages.messages c.next_message.new.messages (gathered_bytes c.args.gathered.now) (gathered_bytes c.messages.gathered) (gathered_bytes c.next_message.new.gathered)
+    c.args.first.now c.messages.first c.next_message.new.first c.messages.invariant.0 c.in-Err.ensures.gives)

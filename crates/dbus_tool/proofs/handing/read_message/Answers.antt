@@ -1,3 +1,4 @@
+use Rattle.dbus_tool.specs.Gathering.{gathered_bytes}
 use Rattle.dbus_tool.proofs.GivenSteps.{gives_unwritten, written_out}
 use Rattle.dbus_tool.proofs.handing.read_message.Goals as goal
 
@@ -9,8 +10,8 @@ returns-in-Ok-advance-clause-gives g c =
 pub returns-in-Err-advance-clause-gives : goal.returns-in-Err-advance-clause-gives
 returns-in-Err-advance-clause-gives g c =
     let read = c.in-Err-advance.ensures.read in
-    (read.0, read.1 c.requires, c.in-Err-advance.ensures.failed, c.in-Ok.ensures.gathers, written_out c.in-Err-advance.fault c.write_out.new.gathered.items c.in-Ok.ensures.emptied)
+    (read.0, read.1 c.requires, c.in-Err-advance.ensures.failed, c.in-Ok.ensures.gathers, written_out c.in-Err-advance.fault (gathered_bytes c.write_out.new.gathered) c.in-Ok.ensures.emptied)
 
 pub returns-in-Err-clause-gives : goal.returns-in-Err-clause-gives
 returns-in-Err-clause-gives g c =
-    gives_unwritten g.R.Source.left g.R.Source.calls g.R.Source.failures g.W.Sink.held g.W.Sink.failures c.args.messages.now c.args.gathered.now.items c.write_out.new.gathered.items c.args.first.now c.write_out.new.first c.in-Err.ensures.gathers
+    gives_unwritten g.R.Source.left g.R.Source.calls g.R.Source.failures g.W.Sink.held g.W.Sink.failures c.args.messages.now (gathered_bytes c.args.gathered.now) (gathered_bytes c.write_out.new.gathered) c.args.first.now c.write_out.new.first c.in-Err.ensures.gathers

@@ -3,7 +3,7 @@ use Rattle.dbus_value_model.specs.declared.order.Order.{Order}
 use Rattle.dbus_message_model.specs.Messages.{message_bytes}
 use Rattle.dbus_header.specs.MessageOutcomes.{IsWhole}
 use Rattle.dbus_swap.specs.Byteswapping.{other}
-use Rattle.dbus_tool.specs.Gathering.{GathersOrNot}
+use Rattle.dbus_tool.specs.Gathering.{GathersOrNot, gathered_bytes}
 use Rattle.dbus_tool.proofs.LentSteps.{bytes_are, validated_order}
 use Rattle.dbus_tool.proofs.swapping.swap.Goals as goal
 
@@ -14,7 +14,7 @@ returns-then-eq g c = λ order m whole.
     let wanted : j.order ≡ c.args.wanted = search rules in
     let own = validated_order c.args.limits b j order m c.requires whole in
     let is : b ≡ message_bytes c.args.wanted m = bytes_are c.args.limits b order m whole ∙ ap (λ (o : Order). message_bytes o m) (sym own ∙ wanted) in
-    subst (λ (l : List ℕ). GathersOrNot g.W.Sink.held g.W.Sink.failures l c.args.gathered.now.items c.put_out.new.gathered.items c.args.first.now c.put_out.new.first c.put_out.result) is c.put_out.ensures
+    subst (λ (l : List ℕ). GathersOrNot g.W.Sink.held g.W.Sink.failures l (gathered_bytes c.args.gathered.now) (gathered_bytes c.put_out.new.gathered) c.args.first.now c.put_out.new.first c.put_out.result) is c.put_out.ensures
 
 pub returns-else-eq : goal.returns-else-eq
 returns-else-eq g c = λ order m whole.
@@ -23,4 +23,4 @@ returns-else-eq g c = λ order m whole.
     let wanted : other j.order ≡ c.args.wanted = search rules in
     let own = validated_order c.args.limits b j order m c.requires whole in
     let here : IsWhole c.args.limits b j.order m (length b) = subst (λ (o : Order). IsWhole c.args.limits b o m (length b)) (sym own) whole in
-    subst (λ (o : Order). GathersOrNot g.W.Sink.held g.W.Sink.failures (message_bytes o m) c.args.gathered.now.items c.put_byteswapped.new.gathered.items c.args.first.now c.put_byteswapped.new.first c.put_byteswapped.result) wanted (c.put_byteswapped.ensures m here)
+    subst (λ (o : Order). GathersOrNot g.W.Sink.held g.W.Sink.failures (message_bytes o m) (gathered_bytes c.args.gathered.now) (gathered_bytes c.put_byteswapped.new.gathered) c.args.first.now c.put_byteswapped.new.first c.put_byteswapped.result) wanted (c.put_byteswapped.ensures m here)

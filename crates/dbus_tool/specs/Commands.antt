@@ -1,0 +1,10 @@
+-- Which command writes what of each message.
+use Rattle.dbus_command.specs.declared.command.Command.{Command}
+use Rattle.dbus_command.specs.declared.command.Command.TheVariants.{Show, Swap, Filter}
+use Rattle.dbus_tool.specs.declared.output.Output.{Output}
+use Rattle.dbus_tool.specs.declared.output.Output.TheVariants.{Text, InOrder, Matching}
+
+abbrev pub command_of : Output → Command
+command_of Text = Show
+command_of (InOrder order) = Swap order
+command_of (Matching rule) = Filter rule.now
