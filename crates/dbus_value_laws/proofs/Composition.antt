@@ -1,5 +1,5 @@
 -- What the items of a type pass, one after another, is what is spelled.
-use Rattle.std.proofs.Common.{◌≡◌, ℕ, suc, ◌+◌, ◌^◌, ◌<◌, ◌≤◌, List, [], ◌∷◌, ◌++◌, length, ltb, Option, None, Some, IfSome, refl, sym, ap, subst, ◌∙◌, arith, inl, inr, append_assoc}
+use Rattle.std.proofs.Common.{◌≡◌, ℕ, suc, ◌+◌, ◌^◌, ◌<◌, ◌≤◌, ◌↔◌, List, [], ◌∷◌, ◌++◌, length, ltb, Option, None, Some, IfSome, refl, sym, ap, subst, ◌∙◌, arith, inl, inr, append_assoc}
 use Rattle.std.proofs.lemmas.Bool.{ltb-true, ltb-false, lt-ltb, le-ltb}
 use Rattle.std.proofs.lemmas.List.{length-append, length-replicate}
 use Rattle.dbus_texts.specs.Types.{NumberCode, BYTE, BOOLEAN, INT16, UINT16, INT32, UINT32, INT64, UINT64, DOUBLE, UNIX_FD, TextCode, TypeTree, NumberType, TextType, VariantType, ArrayType, StructType, EntryType, TypeTrees, NoTypes, MoreTypes, sig, IsSingleType}
@@ -84,18 +84,16 @@ number_to bounds order depth_left inside end k o s v q r w =
     let padded = w.3 in
     let a = w.4 in
     let read = a.3 in
-    let b = a.4 in
     let rows = row_number bounds.fds k a.1 a.0 read.0 read.4 in
-    let one : Spelled bounds order depth_left end (NumberType k) o s (NumberValue k a.0) q r = record {
+    rw (a.4.0, a.4.1, a.4.2) (record {
       has_type = refl;
       formed = rows.0;
       within = tt;
       indexes = rows.1;
-      bytes = rw b.2 (joined s (pad (width k) o) w.2 (num order (width k) a.0) a.2 padded.0 read.1);
-      place = simp (length-append, length-num, length-replicate) (omega (arith, b.1, read.2, padded.1));
-      bound = omega (arith, b.1, read.3);
-    } in
-    subst (λ (u : ValueTree). Spelled bounds order depth_left end (NumberType k) o s u q r) (sym b.0) one
+      bytes = joined s (pad (width k) o) w.2 (num order (width k) a.0) a.2 padded.0 read.1;
+      place = simp (length-append, length-num, length-replicate) (omega (arith, read.2, padded.1));
+      bound = read.3;
+    })
 
 pub number_from : (bounds : Bounds) (order : Order) (depth_left : ℕ) (inside : ℕ → TypeTree → Item ValueTree) (end : ℕ) (k : NumberCode) (o : ℕ) (s : List ℕ) (n q : ℕ) (r : List ℕ) → Spelled bounds order depth_left end (NumberType k) o s (NumberValue k n) q r → (items bounds order depth_left inside end (NumberType k)).Passed o s (NumberValue k n) q r
 unfolding spelling
@@ -122,24 +120,18 @@ text_to bounds order depth_left inside end k o s v q r w =
     let taken = b.3 in
     let c = b.4 in
     let ended = c.3 in
-    let d = c.4 in
     let len : length b.0 ≡ a.0 = taken.1 in
     let fits = row_fits end a.1 a.0 read.4 in
-    let rest : c.2 ≡ r = sym d.2 in
-    let tail : b.2 ≡ (0 ∷ []) ++ r = ended.0 ∙ ap (λ (u : List ℕ). 0 ∷ u) rest in
-    let text_there : a.2 ≡ (b.0 ++ 0 ∷ []) ++ r = joined a.2 b.0 b.2 (0 ∷ []) r taken.0 tail in
-    let number_there : w.2 ≡ num order (length_width k) (length b.0) ++ a.2 = rw len read.1 in
-    let one : Spelled bounds order depth_left end (TextType k) o s (TextValue k b.0) q r = record {
+    rw (c.4.0, c.4.1, c.4.2) (record {
       has_type = refl;
       formed = (taken.2, rw len read.0);
       within = tt;
       indexes = tt;
-      bytes = joined s (pad (length_width k) o) w.2 (ended_text order (length_width k) b.0) r padded.0
-          (joined w.2 (num order (length_width k) (length b.0)) a.2 (b.0 ++ 0 ∷ []) r number_there text_there);
-      place = simp (length-append, length-num, length-replicate) (omega (arith, d.1, ended.1, taken.3, read.2, padded.1, len));
-      bound = omega (arith, d.1, ended.1, taken.3, fits);
-    } in
-    subst (λ (u : ValueTree). Spelled bounds order depth_left end (TextType k) o s u q r) (sym d.0) one
+      bytes = joined s (pad (length_width k) o) w.2 (ended_text order (length_width k) b.0) c.2 padded.0
+          (joined w.2 (num order (length_width k) (length b.0)) a.2 (b.0 ++ 0 ∷ []) c.2 (rw len read.1) (joined a.2 b.0 b.2 (0 ∷ []) c.2 taken.0 ended.0));
+      place = simp (length-append, length-num, length-replicate) (omega (arith, ended.1, taken.3, read.2, padded.1, len));
+      bound = omega (arith, ended.1, taken.3, fits);
+    })
 
 pub text_from : (bounds : Bounds) (order : Order) (depth_left : ℕ) (inside : ℕ → TypeTree → Item ValueTree) (end : ℕ) (k : TextCode) (o : ℕ) (s t : List ℕ) (q : ℕ) (r : List ℕ) → Spelled bounds order depth_left end (TextType k) o s (TextValue k t) q r → (items bounds order depth_left inside end (TextType k)).Passed o s (TextValue k t) q r
 unfolding spelling
@@ -208,9 +200,11 @@ trees_list_of : (xs : ValueTrees) → value_trees (list_of xs) ≡ xs
 trees_list_of NoValues = refl
 trees_list_of (MoreValues x xs) = ap (λ (u : ValueTrees). MoreValues x u) (trees_list_of xs)
 
-module _ (bounds : Bounds) (order : Order) (depth_left : ℕ) (inside : ℕ → TypeTree → Item ValueTree)
-    (to : (end : ℕ) (t : TypeTree) (o : ℕ) (s : List ℕ) (v : ValueTree) (q : ℕ) (r : List ℕ) → (inside end t).Passed o s v q r → Spelled bounds order depth_left end t o s v q r)
-    (from : (end : ℕ) (t : TypeTree) (o : ℕ) (s : List ℕ) (v : ValueTree) (q : ℕ) (r : List ℕ) → Spelled bounds order depth_left end t o s v q r → (inside end t).Passed o s v q r) where
+-- what is passed inside is what is spelled
+abbrev pub IsInside : (bounds : Bounds) (order : Order) (depth_left : ℕ) → (ℕ → TypeTree → Item ValueTree) → Type 0
+IsInside bounds order depth_left inside = (end : ℕ) (t : TypeTree) (o : ℕ) (s : List ℕ) (v : ValueTree) (q : ℕ) (r : List ℕ) → (inside end t).Passed o s v q r ↔ Spelled bounds order depth_left end t o s v q r
+
+module _ (bounds : Bounds) (order : Order) (depth_left : ℕ) (inside : ℕ → TypeTree → Item ValueTree) (is_inside : IsInside bounds order depth_left inside) where
   pub variant_to : (end o : ℕ) (s : List ℕ) (v : ValueTree) (q : ℕ) (r : List ℕ) → (items bounds order (suc depth_left) inside end VariantType).Passed o s v q r → Spelled bounds order (suc depth_left) end VariantType o s v q r
   unfolding spelling
   variant_to end o s v q r w =
@@ -220,26 +214,23 @@ module _ (bounds : Bounds) (order : Order) (depth_left : ℕ) (inside : ℕ → 
       let b = a.4 in
       let ended = b.3 in
       let c = b.4 in
-      let d = c.4 in
-      let inner = to end a.0 b.1 b.2 c.0 c.1 c.2 c.3 in
+      let inner = (is_inside end a.0 b.1 b.2 c.0 c.1 c.2).0 c.3 in
       let x = c.0 in
       let same : a.0 ≡ type_of x = sym inner.has_type in
       let len : length (sig a.0) ≡ w.0 = held.3 in
       let fits = row_fits end w.1 w.0 read.4 in
       let place : b.1 ≡ o + length (ended_text order 1 (sig a.0)) = simp (length-append, length-num) (omega (arith, ended.1, held.4, read.2, len)) in
       let front : s ≡ ended_text order 1 (sig a.0) ++ b.2 = joined s (num order 1 (length (sig a.0))) w.2 (sig a.0 ++ 0 ∷ []) b.2 (rw len read.1) (joined w.2 (sig a.0) a.2 (0 ∷ []) b.2 held.2 ended.0) in
-      let front_x : s ≡ ended_text order 1 (sig (type_of x)) ++ b.2 = rw (← same) front in
       let place_x : b.1 ≡ o + length (ended_text order 1 (sig (type_of x))) = rw (← same) place in
-      let one : Spelled bounds order (suc depth_left) end VariantType o s (VariantValue x) q r = record {
+      rw (c.4.0, c.4.1, c.4.2) (record {
         has_type = refl;
         formed = (subst IsSingleType same held.0, inner.formed);
         within = rw place_x at inner.within;
         indexes = inner.indexes;
-        bytes = rw d.2 (joined s (ended_text order 1 (sig (type_of x))) b.2 (spelling order (o + length (ended_text order 1 (sig (type_of x)))) x) c.2 front_x (rw place_x at inner.bytes));
-        place = rw (d.1, length-append (ended_text order 1 (sig (type_of x)))) (let e : c.1 ≡ (o + length (ended_text order 1 (sig (type_of x)))) + length (spelling order (o + length (ended_text order 1 (sig (type_of x)))) x) = rw place_x at inner.place in omega (arith, e));
-        bound = omega (arith, d.1, inner.bound);
-      } in
-      subst (λ (u : ValueTree). Spelled bounds order (suc depth_left) end VariantType o s u q r) (sym d.0) one
+        bytes = joined s (ended_text order 1 (sig (type_of x))) b.2 (spelling order (o + length (ended_text order 1 (sig (type_of x)))) x) c.2 (rw (← same) front) (rw place_x at inner.bytes);
+        place = rw (length-append (ended_text order 1 (sig (type_of x)))) (let e : c.1 ≡ (o + length (ended_text order 1 (sig (type_of x)))) + length (spelling order (o + length (ended_text order 1 (sig (type_of x)))) x) = rw place_x at inner.place in omega (arith, e));
+        bound = inner.bound;
+      })
 
   pub variant_from : (end o : ℕ) (s : List ℕ) (x : ValueTree) (q : ℕ) (r : List ℕ) → Spelled bounds order (suc depth_left) end VariantType o s (VariantValue x) q r → (items bounds order (suc depth_left) inside end VariantType).Passed o s (VariantValue x) q r
   unfolding spelling
@@ -265,7 +256,7 @@ module _ (bounds : Bounds) (order : Order) (depth_left : ℕ) (inside : ℕ → 
             p,
             spelling order p x ++ r,
             (refl, at),
-            (x, q, r, from end (type_of x) p (spelling order p x ++ r) x q r inner, (refl, refl, refl)),
+            (x, q, r, (is_inside end (type_of x) p (spelling order p x ++ r) x q r).1 inner, (refl, refl, refl)),
           ),
         ),
       )
@@ -273,7 +264,7 @@ module _ (bounds : Bounds) (order : Order) (depth_left : ℕ) (inside : ℕ → 
   pub seq_to : (end : ℕ) (t : TypeTree) (vs before : List ValueTree) (o : ℕ) (s : List ℕ) (q : ℕ) (r : List ℕ) → Sequence (λ before. inside end t) before vs o s q r → AllOf t (value_trees vs) × SpelledAll bounds order depth_left o s (value_trees vs) q r
   seq_to end t [] before o s q r h = (tt, rw (h.0, h.1) (all_none bounds order depth_left o s))
   seq_to end t (v ∷ vs) before o s q r h =
-      let one = to end t o s v h.0 h.1 h.2 in
+      let one = (is_inside end t o s v h.0 h.1).0 h.2 in
       let more = seq_to end t vs (v ∷ before) h.0 h.1 q r h.3 in
       ((one.has_type, more.0), all_more bounds order depth_left end t o s v h.0 h.1 (value_trees vs) q r one more.1)
 
@@ -282,7 +273,7 @@ module _ (bounds : Bounds) (order : Order) (depth_left : ℕ) (inside : ℕ → 
   seq_from end t NoValues before o s q r bound types h = (omega (arith, h.place), sym h.bytes)
   seq_from end t (MoreValues v vs) before o s q r bound types h =
       let parts = all_parts bounds order depth_left end o s v vs q r bound h in
-      (parts.0, parts.1, from end t o s v parts.0 parts.1 (subst (λ (u : TypeTree). Spelled bounds order depth_left end u o s v parts.0 parts.1) types.0 parts.2), seq_from end t vs (v ∷ before) parts.0 parts.1 q r bound types.1 parts.3)
+      (parts.0, parts.1, (is_inside end t o s v parts.0 parts.1).1 (subst (λ (u : TypeTree). Spelled bounds order depth_left end u o s v parts.0 parts.1) types.0 parts.2), seq_from end t vs (v ∷ before) parts.0 parts.1 q r bound types.1 parts.3)
 
   pub array_to : (end : ℕ) (t : TypeTree) (o : ℕ) (s : List ℕ) (v : ValueTree) (q : ℕ) (r : List ℕ) → (items bounds order (suc depth_left) inside end (ArrayType t)).Passed o s v q r → Spelled bounds order (suc depth_left) end (ArrayType t) o s v q r
   unfolding spelling
@@ -294,7 +285,6 @@ module _ (bounds : Bounds) (order : Order) (depth_left : ℕ) (inside : ℕ → 
       let b = a.4 in
       let padded' = b.3 in
       let c = b.4 in
-      let d = c.4 in
       let xs = value_trees c.0 in
       let start = contents_start t o in
       let at : a.1 ≡ o + gap_to 4 o + 4 = omega (arith, padded.1, read.2) in
@@ -303,18 +293,16 @@ module _ (bounds : Bounds) (order : Order) (depth_left : ℕ) (inside : ℕ → 
       let spelled = seq_to (b.1 + n) t c.0 [] b.1 b.2 c.1 c.2 c.3.0 in
       let all : SpelledAll bounds order depth_left start b.2 xs c.1 c.2 = subst (λ (p : ℕ). SpelledAll bounds order depth_left p b.2 xs c.1 c.2) begins spelled.1 in
       let len : n ≡ length (spellings order start xs) = omega (arith, all.place, c.3.1, begins) in
-      let number_there : w.2 ≡ num order 4 (length (spellings order start xs)) ++ a.2 = rw len at read.1 in
-      let pad_there : a.2 ≡ pad (alignment_of t) (o + gap_to 4 o + 4) ++ b.2 = rw at at padded'.0 in
-      let one : Spelled bounds order (suc depth_left) end (ArrayType t) o s (ArrayValue t xs) q r = record {
+      rw (c.4.0, c.4.1, c.4.2) (record {
         has_type = refl;
         formed = (spelled.0, all.formed);
         within = (rw len at rows.0, all.within);
         indexes = all.indexes;
-        bytes = rw d.2 (joined s (pad 4 o) w.2 _ c.2 padded.0 (joined w.2 (num order 4 (length (spellings order start xs))) a.2 _ c.2 number_there (joined a.2 (pad (alignment_of t) (o + gap_to 4 o + 4)) b.2 (spellings order start xs) c.2 pad_there all.bytes)));
-        place = simp (length-append, length-num, length-replicate) (omega (arith, d.1, all.place));
-        bound = omega (arith, d.1, c.3.1, padded'.1, rows.1);
-      } in
-      subst (λ (u : ValueTree). Spelled bounds order (suc depth_left) end (ArrayType t) o s u q r) (sym d.0) one
+        bytes = joined s (pad 4 o) w.2 _ c.2 padded.0 (joined w.2 (num order 4 (length (spellings order start xs))) a.2 _ c.2 (rw len at read.1)
+            (joined a.2 (pad (alignment_of t) (o + gap_to 4 o + 4)) b.2 (spellings order start xs) c.2 (rw at at padded'.0) all.bytes));
+        place = simp (length-append, length-num, length-replicate) (omega (arith, all.place));
+        bound = omega (arith, c.3.1, padded'.1, rows.1);
+      })
 
   pub array_from : (end : ℕ) (t : TypeTree) (o : ℕ) (s : List ℕ) (xs : ValueTrees) (q : ℕ) (r : List ℕ) → Spelled bounds order (suc depth_left) end (ArrayType t) o s (ArrayValue t xs) q r → (items bounds order (suc depth_left) inside end (ArrayType t)).Passed o s (ArrayValue t xs) q r
   unfolding spelling
@@ -347,7 +335,7 @@ module _ (bounds : Bounds) (order : Order) (depth_left : ℕ) (inside : ℕ → 
   pub fields_to : (end : ℕ) (ts : TypeTrees) (o : ℕ) (s : List ℕ) (vs : ValueTrees) (q : ℕ) (r : List ℕ) → (fields (inside end) ts).Passed o s vs q r → (types_of vs ≡ ts) × SpelledAll bounds order depth_left o s vs q r × (o ≤ end → q ≤ end)
   fields_to end NoTypes o s vs q r h = (rw h.0 refl, rw (h.0, h.1, h.2) (all_none bounds order depth_left o s), omega (arith, h.1))
   fields_to end (MoreTypes t ts) o s vs q r h =
-      let one = to end t o s h.0 h.1 h.2 h.3 in
+      let one = (is_inside end t o s h.0 h.1 h.2).0 h.3 in
       let a = h.4 in
       let more = fields_to end ts h.1 h.2 a.0 a.1 a.2 a.3 in
       let d = a.4 in
@@ -359,27 +347,25 @@ module _ (bounds : Bounds) (order : Order) (depth_left : ℕ) (inside : ℕ → 
   fields_from end NoValues o s q r bound h = (refl, omega (arith, h.place), sym h.bytes)
   fields_from end (MoreValues v vs) o s q r bound h =
       let parts = all_parts bounds order depth_left end o s v vs q r bound h in
-      (v, parts.0, parts.1, from end (type_of v) o s v parts.0 parts.1 parts.2, (vs, q, r, fields_from end vs parts.0 parts.1 q r bound parts.3, (refl, refl, refl)))
+      (v, parts.0, parts.1, (is_inside end (type_of v) o s v parts.0 parts.1).1 parts.2, (vs, q, r, fields_from end vs parts.0 parts.1 q r bound parts.3, (refl, refl, refl)))
 
   pub struct_to : (end : ℕ) (ts : TypeTrees) (o : ℕ) (s : List ℕ) (v : ValueTree) (q : ℕ) (r : List ℕ) → (items bounds order (suc depth_left) inside end (StructType ts)).Passed o s v q r → Spelled bounds order (suc depth_left) end (StructType ts) o s v q r
   unfolding spelling
   struct_to end ts o s v q r w =
       let padded = w.3 in
       let a = w.4 in
-      let d = a.4 in
       let xs = a.0 in
       let spelled = fields_to end ts w.1 w.2 xs a.1 a.2 a.3 in
       let all : SpelledAll bounds order depth_left (o + gap_to 8 o) w.2 xs a.1 a.2 = rw padded.1 at spelled.1 in
-      let one : Spelled bounds order (suc depth_left) end (StructType ts) o s (StructValue xs) q r = record {
+      rw (a.4.0, a.4.1, a.4.2) (record {
         has_type = ap StructType spelled.0;
         formed = all.formed;
         within = all.within;
         indexes = all.indexes;
-        bytes = rw d.2 (joined s (pad 8 o) w.2 (spellings order (o + gap_to 8 o) xs) a.2 padded.0 all.bytes);
-        place = simp (length-append, length-replicate) (omega (arith, d.1, all.place));
-        bound = omega (arith, d.1, spelled.2 padded.2);
-      } in
-      subst (λ (u : ValueTree). Spelled bounds order (suc depth_left) end (StructType ts) o s u q r) (sym d.0) one
+        bytes = joined s (pad 8 o) w.2 (spellings order (o + gap_to 8 o) xs) a.2 padded.0 all.bytes;
+        place = simp (length-append, length-replicate) (omega (arith, all.place));
+        bound = spelled.2 padded.2;
+      })
 
   pub struct_from : (end o : ℕ) (s : List ℕ) (xs : ValueTrees) (q : ℕ) (r : List ℕ) → Spelled bounds order (suc depth_left) end (StructType (types_of xs)) o s (StructValue xs) q r → (items bounds order (suc depth_left) inside end (StructType (types_of xs))).Passed o s (StructValue xs) q r
   unfolding spelling
@@ -403,21 +389,19 @@ entry_to bounds order depth_left inside end k x o s v q r w =
     let padded = w.3 in
     let a = w.4 in
     let b = a.4 in
-    let d = b.4 in
     let p = o + gap_to 8 o in
     let key : Spelled bounds order depth_left end k p w.2 a.0 a.1 a.2 = rw padded.1 at a.3 in
     let at : a.1 ≡ p + length (spelling order p a.0) = key.place in
     let held : Spelled bounds order depth_left end x (p + length (spelling order p a.0)) a.2 b.0 b.1 b.2 = rw at at b.3 in
-    let one : Spelled bounds order depth_left end (EntryType k x) o s (EntryValue a.0 b.0) q r = record {
+    rw (b.4.0, b.4.1, b.4.2) (record {
       has_type = rw (key.has_type, held.has_type) refl;
       formed = (key.formed, held.formed);
       within = (key.within, held.within);
       indexes = (key.indexes, held.indexes);
-      bytes = rw d.2 (joined s (pad 8 o) w.2 _ b.2 padded.0 (joined w.2 (spelling order p a.0) a.2 (spelling order (p + length (spelling order p a.0)) b.0) b.2 key.bytes held.bytes));
-      place = simp (length-append, length-replicate) (omega (arith, d.1, held.place));
-      bound = omega (arith, d.1, held.bound);
-    } in
-    subst (λ (u : ValueTree). Spelled bounds order depth_left end (EntryType k x) o s u q r) (sym d.0) one
+      bytes = joined s (pad 8 o) w.2 _ b.2 padded.0 (joined w.2 (spelling order p a.0) a.2 (spelling order (p + length (spelling order p a.0)) b.0) b.2 key.bytes held.bytes);
+      place = simp (length-append, length-replicate) (omega (arith, held.place));
+      bound = held.bound;
+    })
 
 pub entry_from : (bounds : Bounds) (order : Order) (depth_left : ℕ) (inside : ℕ → TypeTree → Item ValueTree) (end o : ℕ) (s : List ℕ) (k x : ValueTree) (q : ℕ) (r : List ℕ) → Spelled bounds order depth_left end (EntryType (type_of k) (type_of x)) o s (EntryValue k x) q r → (items bounds order depth_left inside end (EntryType (type_of k) (type_of x))).Passed o s (EntryValue k x) q r
 unfolding spelling

@@ -1,36 +1,20 @@
 -- The contents of an array.
-use Rattle.std.proofs.Common.{◌≡◌, ℕ, zero, suc, ◌+◌, ◌<◌, ◌≤◌, List, [], ◌∷◌, ◌++◌, true, false, ltb, eqb, refl, sym, ap, ◌∙◌, arith, inl, inr, append_assoc}
-use Rattle.std.proofs.lemmas.Bool.{ltb-true, lt-ltb, le-ltb, eqb-true, eq-eqb}
+use Rattle.std.proofs.Common.{◌≡◌, ℕ, zero, suc, ◌+◌, ◌<◌, ◌≤◌, List, [], ◌∷◌, ◌++◌, Bool, true, false, cond, ltb, eqb, refl, sym, ap, ◌∙◌, arith, inl, inr, append_assoc}
+use Rattle.std.proofs.lemmas.Bool.{cases_lt, lt-ltb, le-ltb, eqb-true, eq-eqb}
 use Rattle.dbus_value_model.specs.Bytes.{IsBytes}
 use Rattle.dbus_value_model.specs.Items.{Item, Sequence, StopsIn}
 use Rattle.dbus_value_model.specs.declared.fault.Fault.{Fault}
 use Rattle.dbus_value_model.specs.Items as items
-use Rattle.dbus_value_model.specs.Reading.{Reader, Outcome, Done, Faulty, Partial, after, stop, up_to}
+use Rattle.dbus_value_model.specs.Reading.{Reader, Outcome, Done, Faulty, Partial, after, up_to}
 use Rattle.dbus_value_model.specs.Reading as reading
 use Rattle.dbus_value_model.proofs.Numbers.{IsBytes-rest}
-use Rattle.dbus_value_laws.proofs.Agreement.{Agrees, after_done, after_faulty}
-use Rattle.dbus_value_laws.proofs.OwnItems.{chosen}
+use Rattle.dbus_value_laws.proofs.Agreement.{Agrees, Says, says_as}
 
 -- an item takes at least one byte
 abbrev pub Moves : {A : Type 0} → Item A → Type 0
 Moves {A} part = (o : ℕ) (s : List ℕ) (v : A) (q : ℕ) (r : List ℕ) → part.Passed o s v q r → o < q
 
-stop_done : {A : Type 0} (end o : ℕ) (s : List ℕ) (vs : List A) (q : ℕ) (r : List ℕ) → stop end o s ≡ Done vs q r → (vs ≡ []) × (q ≡ o) × (r ≡ s) × (o ≡ end)
-stop_done end o s vs q r e = elim (chosen (eqb o end) _ _ _ e) [
-  | inl h ↦ (cc (h.1), cc (h.1), cc (h.1), eqb-true _ _ h.0)
-  | inr h ↦ absurd (cc (h.1))
-]
-
-stop_faulty : {A : Type 0} (end o : ℕ) (s : List ℕ) (f : Fault) → ◌≡◌ {A = Outcome (List A)} (stop end o s) (Faulty f) → ⊥
-stop_faulty end o s f e = elim (chosen (eqb o end) _ _ _ e) [
-  | inl h ↦ absurd (cc (h.1))
-  | inr h ↦ absurd (cc (h.1))
-]
-
 module _ {A : Type 0} (part : List A → Item A) (run : List A → Reader A) (agrees : (before : List A) → Agrees (part before) (run before)) (end : ℕ) where
-  abbrev turn : ℕ → List A → A → Reader (List A)
-  turn turns before v p t = after (up_to turns end run (v ∷ before) p t) (λ vs. reading.pure (v ∷ vs))
-
   seq_front : (vs before : List A) (o : ℕ) (s : List ℕ) (q : ℕ) (r : List ℕ) → Sequence part before vs o s q r → (given : List ℕ) × (s ≡ given ++ r)
   seq_front [] before o s q r h = ([], sym h.1)
   seq_front (v ∷ vs) before o s q r h =
@@ -46,44 +30,33 @@ module _ {A : Type 0} (part : List A → Item A) (run : List A → Reader A) (ag
   stops_more c [] before o s f h = (h.0, (agrees before).refuses_more c o s f h.1)
   stops_more c (v ∷ vs) before o s f h = (h.0, h.1 ++ c, (agrees before).passes_more c o s v h.0 h.1 h.2, stops_more c vs (v ∷ before) h.0 h.1 f h.3)
 
-  turn_done : (read : Outcome (List A)) (v : A) (vs : List A) (q : ℕ) (r : List ℕ) → after read (λ us. reading.pure (v ∷ us)) ≡ Done vs q r → (us : List A) × (read ≡ Done us q r) × (vs ≡ v ∷ us)
-  turn_done (Done us p t) v vs q r e = (us, cc, cc)
-  turn_done (Faulty f) v vs q r e = absurd cc
-  turn_done Partial v vs q r e = absurd cc
+  -- parts up to the end, after those before
+  abbrev onward : List A → Item (List A)
+  onward before = record { Passed = λ o s vs q r. Sequence part before vs o s q r × (q ≡ end); Refused = λ o s f. (vs : List A) × StopsIn part end before vs o s f }
 
-  turn_faulty : (read : Outcome (List A)) (v : A) (f : Fault) → after read (λ us. reading.pure (v ∷ us)) ≡ Faulty f → read ≡ Faulty f
-  turn_faulty (Done us p t) v f e = absurd cc
-  turn_faulty (Faulty g) v f e = cc
-  turn_faulty Partial v f e = absurd cc
+  stop_says : (before : List A) (o : ℕ) (s : List ℕ) (b : Bool) → eqb o end ≡ b → Says (onward before) o s (cond b (Done [] o s) Partial)
+  stop_says before o s true e = ((refl, refl), eqb-true _ _ e)
+  stop_says before o s false e = tt
 
-  up_to_reads : (turns o : ℕ) (s : List ℕ) (before vs : List A) (q : ℕ) (r : List ℕ) → IsBytes s → up_to turns end run before o s ≡ Done vs q r → Sequence part before vs o s q r × (q ≡ end)
-  up_to_reads zero o s before vs q r bytes e =
-      let w = stop_done end o s vs q r e in
-      (rw w.0 (w.1, w.2), w.1 ∙ w.3)
-  up_to_reads (suc turns) o s before vs q r bytes e = elim (chosen (ltb o end) _ _ _ e) [
-    | inr h ↦ let w = stop_done end o s vs q r h.1 in (rw w.0 (w.1, w.2), w.1 ∙ w.3)
-    | inl h ↦
-        let w = after_done (run before o s) (turn turns before) vs q r h.1 in
-        let was = (agrees before).reads o s w.0 w.1 w.2 bytes w.3 in
-        let front = (agrees before).front o s w.0 w.1 w.2 was in
-        let t = turn_done (up_to turns end run (w.0 ∷ before) w.1 w.2) w.0 vs q r w.4 in
-        let ih = up_to_reads turns w.1 w.2 (w.0 ∷ before) t.0 q r (IsBytes-rest s front.0 w.2 front.1 bytes) t.1 in
-        (rw (t.2) (w.1, w.2, was, ih.0), ih.1)
+  up_to_says : (turns o : ℕ) (s : List ℕ) (before : List A) → IsBytes s → Says (onward before) o s (up_to turns end run before o s)
+  up_to_says zero o s before bytes = stop_says before o s (eqb o end) refl
+  up_to_says (suc turns) o s before bytes = elim (cases_lt o end) [
+    | inr le ↦ rw (le-ltb _ _ le) (stop_says before o s (eqb o end) refl)
+    | inl lt ↦ rw (lt-ltb _ _ lt) (turn lt (λ v p t. up_to_says turns p t (v ∷ before)) (run before o s) ((agrees before).says o s bytes))
   ]
+    where
+      more : (v : A) (p : ℕ) (t : List ℕ) → (part before).Passed o s v p t → (read : Outcome (List A)) → Says (onward (v ∷ before)) p t read → Says (onward before) o s (after read (λ vs. reading.pure (v ∷ vs)))
+      more v p t was (Done vs q r) h = ((p, t, was, h.0), h.1)
+      more v p t was (Faulty f) h = (v ∷ h.0, (p, t, was, h.1))
+      more v p t was Partial h = tt
 
-  up_to_shows : (turns o : ℕ) (s : List ℕ) (before : List A) (f : Fault) → IsBytes s → up_to turns end run before o s ≡ Faulty f → (vs : List A) × StopsIn part end before vs o s f
-  up_to_shows zero o s before f bytes e = absurd (stop_faulty {A = A} end o s f e)
-  up_to_shows (suc turns) o s before f bytes e = elim (chosen (ltb o end) _ _ _ e) [
-    | inr h ↦ absurd (stop_faulty {A = A} end o s f h.1)
-    | inl h ↦ elim (after_faulty (run before o s) (turn turns before) f h.1) [
-      | inl now ↦ ([], (ltb-true _ _ h.0, (agrees before).shows o s f bytes now))
-      | inr w ↦
-          let was = (agrees before).reads o s w.0 w.1 w.2 bytes w.3 in
-          let front = (agrees before).front o s w.0 w.1 w.2 was in
-          let ih = up_to_shows turns w.1 w.2 (w.0 ∷ before) f (IsBytes-rest s front.0 w.2 front.1 bytes) (turn_faulty (up_to turns end run (w.0 ∷ before) w.1 w.2) w.0 f w.4) in
-          (w.0 ∷ ih.0, (w.1, w.2, was, ih.1))
-    ]
-  ]
+      turn : o < end → ((v : A) (p : ℕ) (t : List ℕ) → IsBytes t → Says (onward (v ∷ before)) p t (up_to turns end run (v ∷ before) p t)) → (read : Outcome A) → Says (part before) o s read
+          → Says (onward before) o s (after read (λ v p t. after (up_to turns end run (v ∷ before) p t) (λ vs. reading.pure (v ∷ vs))))
+      turn lt rest (Done v p t) was =
+          let front = (agrees before).front o s v p t was in
+          more v p t was (up_to turns end run (v ∷ before) p t) (rest v p t (IsBytes-rest s front.0 t front.1 bytes))
+      turn lt rest (Faulty f) h = ([], (lt, h))
+      turn lt rest Partial h = tt
 
   module _ (moves : (before : List A) → Moves (part before)) where
     seq_forward : (vs before : List A) (o : ℕ) (s : List ℕ) (q : ℕ) (r : List ℕ) → Sequence part before vs o s q r → o ≤ q
@@ -120,11 +93,10 @@ module _ {A : Type 0} (part : List A → Item A) (run : List A → Reader A) (ag
 
 pub Agrees-contents : {A : Type 0} (n : ℕ) (part : ℕ → List A → Item A) (run : ℕ → List A → Reader A) → ((end : ℕ) (before : List A) → Agrees (part end before) (run end before)) → ((end : ℕ) (before : List A) → Moves (part end before)) → Agrees (items.contents n part) (reading.contents n run)
 Agrees-contents n part run agrees moves = record {
-  reads = λ o s vs q r bytes e. up_to_reads (part (o + n)) (run (o + n)) (agrees (o + n)) (o + n) n o s [] vs q r bytes e;
+  says = λ o s bytes. says_as (onward (part (o + n)) (run (o + n)) (agrees (o + n)) (o + n) []) (items.contents n part) o s (λ vs q r h. h) (λ f h. h) (reading.contents n run o s) (up_to_says (part (o + n)) (run (o + n)) (agrees (o + n)) (o + n) n o s [] bytes);
   passes = λ o s vs q r h.
       let at_end : Sequence (part (o + n)) [] vs o s (o + n) r = rw h.1 at h.0 in
       rw h.1 (up_to_passes (part (o + n)) (run (o + n)) (agrees (o + n)) (o + n) (moves (o + n)) n vs [] o s r (omega arith) at_end);
-  shows = λ o s f bytes e. up_to_shows (part (o + n)) (run (o + n)) (agrees (o + n)) (o + n) n o s [] f bytes e;
   refuses = λ o s f h. up_to_refuses (part (o + n)) (run (o + n)) (agrees (o + n)) (o + n) (moves (o + n)) n h.0 [] o s f (omega arith) h.1;
   front = λ o s vs q r h. seq_front (part (o + n)) (run (o + n)) (agrees (o + n)) (o + n) vs [] o s q r h.0;
   passes_more = λ c o s vs q r h. (seq_more (part (o + n)) (run (o + n)) (agrees (o + n)) (o + n) c vs [] o s q r h.0, h.1);

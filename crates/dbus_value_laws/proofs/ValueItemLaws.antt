@@ -1,5 +1,5 @@
 -- A wanted value and its reader agree.
-use Rattle.std.proofs.Common.{ℕ, zero, suc, ◌+◌, ◌<◌, ◌↔◌, List, length, Bool, true, false, refl, sym, subst, arith}
+use Rattle.std.proofs.Common.{◌≡◌, ℕ, zero, suc, ◌+◌, ◌<◌, List, length, Bool, true, false, refl, sym, subst, arith}
 use Rattle.std.proofs.lemmas.List.{length-append}
 use Rattle.dbus_texts.specs.Types.{NumberCode, BYTE, BOOLEAN, INT16, UINT16, INT32, UINT32, INT64, UINT64, DOUBLE, UNIX_FD, TextCode, TypeTree, NumberType, TextType, VariantType, ArrayType, StructType, EntryType, TypeTrees, NoTypes, MoreTypes, IsShaped, AreShaped, IsBasic}
 use Rattle.dbus_types.specs.Alignments.{width, length_width, alignment_of}
@@ -20,7 +20,7 @@ use Rattle.dbus_value_model.proofs.Numbers.{length-num}
 use Rattle.dbus_value_laws.proofs.Agreement.{Agrees, Agrees-then, Agrees-before, Agrees-as}
 use Rattle.dbus_value_laws.proofs.OwnItems.{Agrees-pure, Agrees-refuse, Agrees-padding, Agrees-number, Agrees-text, Agrees-nul, Agrees-signature}
 use Rattle.dbus_value_laws.proofs.Contents.{Moves, Agrees-contents}
-use Rattle.dbus_value_laws.proofs.Composition.{number_to, number_from, text_to, text_from, variant_to, variant_from, array_to, array_from, struct_to, struct_from, entry_to, entry_from}
+use Rattle.dbus_value_laws.proofs.Composition.{IsInside, number_to, number_from, text_to, text_from, variant_to, variant_from, array_to, array_from, struct_to, struct_from, entry_to, entry_from}
 use Rattle.dbus_value_model.specs.declared.fault.Reason.TheVariants as reasons
 use Rattle.dbus_texts.specs.declared.text_kind.TextKind.TheVariants as kinds
 
@@ -33,6 +33,10 @@ basic_complete b VariantType h = absurd h
 basic_complete b (ArrayType t) h = absurd h
 basic_complete b (StructType ts) h = absurd h
 basic_complete b (EntryType k v) h = absurd h
+
+struct_complete : (b : Bool) (ts : TypeTrees) → IsShaped b (StructType ts) → AreShaped ts
+struct_complete b NoTypes h = absurd h
+struct_complete b (MoreTypes t ts) h = h
 
 width_positive : (k : NumberCode) → 0 < width k
 width_positive BYTE = omega arith
@@ -59,65 +63,44 @@ positive bounds order (EntryValue k x) true o h = simp length-append (omega (ari
 
 -- ---- what the items pass is what is spelled
 
-abbrev pub IsInside : (bounds : Bounds) (order : Order) (depth_left : ℕ) → (ℕ → TypeTree → Item ValueTree) → Type 0
-IsInside bounds order depth_left inside = (end : ℕ) (t : TypeTree) (o : ℕ) (s : List ℕ) (v : ValueTree) (q : ℕ) (r : List ℕ) → (inside end t).Passed o s v q r ↔ Spelled bounds order depth_left end t o s v q r
-
 module _ (bounds : Bounds) (order : Order) (inside : ℕ → TypeTree → Item ValueTree) where
-  to_zero : (end : ℕ) (t : TypeTree) (o : ℕ) (s : List ℕ) (v : ValueTree) (q : ℕ) (r : List ℕ) → (faults.items bounds order zero inside end t).Passed o s v q r → Spelled bounds order zero end t o s v q r
-  to_zero end (NumberType k) o s v q r w = number_to bounds order zero inside end k o s v q r w
-  to_zero end (TextType k) o s v q r w = text_to bounds order zero inside end k o s v q r w
-  to_zero end VariantType o s v q r w = absurd w
-  to_zero end (ArrayType t) o s v q r w = absurd w.4
-  to_zero end (StructType ts) o s v q r w = absurd w.4
-  to_zero end (EntryType k x) o s v q r w = entry_to bounds order zero inside end k x o s v q r w
+  items_to : (depth_left : ℕ) → ((less : ℕ) → depth_left ≡ suc less → IsInside bounds order less inside) → (end : ℕ) (t : TypeTree) (o : ℕ) (s : List ℕ) (v : ValueTree) (q : ℕ) (r : List ℕ) → (faults.items bounds order depth_left inside end t).Passed o s v q r → Spelled bounds order depth_left end t o s v q r
+  items_to depth_left is end (NumberType k) o s v q r w = number_to bounds order depth_left inside end k o s v q r w
+  items_to depth_left is end (TextType k) o s v q r w = text_to bounds order depth_left inside end k o s v q r w
+  items_to zero is end VariantType o s v q r w = absurd w
+  items_to (suc less) is end VariantType o s v q r w = variant_to bounds order less inside (is less refl) end o s v q r w
+  items_to zero is end (ArrayType t) o s v q r w = absurd w.4
+  items_to (suc less) is end (ArrayType t) o s v q r w = array_to bounds order less inside (is less refl) end t o s v q r w
+  items_to zero is end (StructType ts) o s v q r w = absurd w.4
+  items_to (suc less) is end (StructType ts) o s v q r w = struct_to bounds order less inside (is less refl) end ts o s v q r w
+  items_to depth_left is end (EntryType k x) o s v q r w = entry_to bounds order depth_left inside end k x o s v q r w
 
-  from_zero : (end o : ℕ) (s : List ℕ) (v : ValueTree) (q : ℕ) (r : List ℕ) → Spelled bounds order zero end (type_of v) o s v q r → (faults.items bounds order zero inside end (type_of v)).Passed o s v q r
-  from_zero end o s (NumberValue k n) q r h = number_from bounds order zero inside end k o s n q r h
-  from_zero end o s (TextValue k t) q r h = text_from bounds order zero inside end k o s t q r h
-  from_zero end o s (VariantValue x) q r h = absurd h.formed
-  from_zero end o s (ArrayValue t xs) q r h = absurd h.formed
-  from_zero end o s (StructValue xs) q r h = absurd h.formed
-  from_zero end o s (EntryValue k x) q r h = entry_from bounds order zero inside end o s k x q r h
-
-  module _ (depth_left : ℕ) (is_inside : IsInside bounds order depth_left inside) where
-    to_suc : (end : ℕ) (t : TypeTree) (o : ℕ) (s : List ℕ) (v : ValueTree) (q : ℕ) (r : List ℕ) → (faults.items bounds order (suc depth_left) inside end t).Passed o s v q r → Spelled bounds order (suc depth_left) end t o s v q r
-    to_suc end (NumberType k) o s v q r w = number_to bounds order (suc depth_left) inside end k o s v q r w
-    to_suc end (TextType k) o s v q r w = text_to bounds order (suc depth_left) inside end k o s v q r w
-    to_suc end VariantType o s v q r w = variant_to bounds order depth_left inside (λ e t o s v q r. (is_inside e t o s v q r).0) (λ e t o s v q r. (is_inside e t o s v q r).1) end o s v q r w
-    to_suc end (ArrayType t) o s v q r w = array_to bounds order depth_left inside (λ e t o s v q r. (is_inside e t o s v q r).0) (λ e t o s v q r. (is_inside e t o s v q r).1) end t o s v q r w
-    to_suc end (StructType ts) o s v q r w = struct_to bounds order depth_left inside (λ e t o s v q r. (is_inside e t o s v q r).0) (λ e t o s v q r. (is_inside e t o s v q r).1) end ts o s v q r w
-    to_suc end (EntryType k x) o s v q r w = entry_to bounds order (suc depth_left) inside end k x o s v q r w
-
-    from_suc : (end o : ℕ) (s : List ℕ) (v : ValueTree) (q : ℕ) (r : List ℕ) → Spelled bounds order (suc depth_left) end (type_of v) o s v q r → (faults.items bounds order (suc depth_left) inside end (type_of v)).Passed o s v q r
-    from_suc end o s (NumberValue k n) q r h = number_from bounds order (suc depth_left) inside end k o s n q r h
-    from_suc end o s (TextValue k t) q r h = text_from bounds order (suc depth_left) inside end k o s t q r h
-    from_suc end o s (VariantValue x) q r h = variant_from bounds order depth_left inside (λ e t o s v q r. (is_inside e t o s v q r).0) (λ e t o s v q r. (is_inside e t o s v q r).1) end o s x q r h
-    from_suc end o s (ArrayValue t xs) q r h = array_from bounds order depth_left inside (λ e t o s v q r. (is_inside e t o s v q r).0) (λ e t o s v q r. (is_inside e t o s v q r).1) end t o s xs q r h
-    from_suc end o s (StructValue xs) q r h = struct_from bounds order depth_left inside (λ e t o s v q r. (is_inside e t o s v q r).0) (λ e t o s v q r. (is_inside e t o s v q r).1) end o s xs q r h
-    from_suc end o s (EntryValue k x) q r h = entry_from bounds order (suc depth_left) inside end o s k x q r h
+  items_from : (depth_left : ℕ) → ((less : ℕ) → depth_left ≡ suc less → IsInside bounds order less inside) → (end o : ℕ) (s : List ℕ) (v : ValueTree) (q : ℕ) (r : List ℕ) → Spelled bounds order depth_left end (type_of v) o s v q r → (faults.items bounds order depth_left inside end (type_of v)).Passed o s v q r
+  items_from depth_left is end o s (NumberValue k n) q r h = number_from bounds order depth_left inside end k o s n q r h
+  items_from depth_left is end o s (TextValue k t) q r h = text_from bounds order depth_left inside end k o s t q r h
+  items_from zero is end o s (VariantValue x) q r h = absurd h.formed
+  items_from (suc less) is end o s (VariantValue x) q r h = variant_from bounds order less inside (is less refl) end o s x q r h
+  items_from zero is end o s (ArrayValue t xs) q r h = absurd h.formed
+  items_from (suc less) is end o s (ArrayValue t xs) q r h = array_from bounds order less inside (is less refl) end t o s xs q r h
+  items_from zero is end o s (StructValue xs) q r h = absurd h.formed
+  items_from (suc less) is end o s (StructValue xs) q r h = struct_from bounds order less inside (is less refl) end o s xs q r h
+  items_from depth_left is end o s (EntryValue k x) q r h = entry_from bounds order depth_left inside end o s k x q r h
 
 -- a spelled value has the type that was wanted, so it is enough to know its own type
 own_type : (bounds : Bounds) (order : Order) (depth_left end : ℕ) (t : TypeTree) (o : ℕ) (s : List ℕ) (v : ValueTree) (q : ℕ) (r : List ℕ) → Spelled bounds order depth_left end t o s v q r → Spelled bounds order depth_left end (type_of v) o s v q r
 own_type bounds order depth_left end t o s v q r h = record { has_type = refl; formed = h.formed; within = h.within; indexes = h.indexes; bytes = h.bytes; place = h.place; bound = h.bound }
 
-passed_zero : (bounds : Bounds) (order : Order) (inside : ℕ → TypeTree → Item ValueTree) → IsInside bounds order zero (faults.items bounds order zero inside)
-passed_zero bounds order inside end t o s v q r =
-    (to_zero bounds order inside end t o s v q r, λ h. subst (λ (u : TypeTree). (faults.items bounds order zero inside end u).Passed o s v q r) h.has_type (from_zero bounds order inside end o s v q r (own_type bounds order zero end t o s v q r h)))
-
-passed_suc : (bounds : Bounds) (order : Order) (depth_left : ℕ) (inside : ℕ → TypeTree → Item ValueTree) → IsInside bounds order depth_left inside → IsInside bounds order (suc depth_left) (faults.items bounds order (suc depth_left) inside)
-passed_suc bounds order depth_left inside is_inside end t o s v q r =
-    (to_suc bounds order inside depth_left is_inside end t o s v q r, λ h. subst (λ (u : TypeTree). (faults.items bounds order (suc depth_left) inside end u).Passed o s v q r) h.has_type (from_suc bounds order inside depth_left is_inside end o s v q r (own_type bounds order (suc depth_left) end t o s v q r h)))
+items_inside : (bounds : Bounds) (order : Order) (depth_left : ℕ) (inside : ℕ → TypeTree → Item ValueTree) → ((less : ℕ) → depth_left ≡ suc less → IsInside bounds order less inside) → IsInside bounds order depth_left (faults.items bounds order depth_left inside)
+items_inside bounds order depth_left inside is end t o s v q r = (
+  items_to bounds order inside depth_left is end t o s v q r,
+  λ h. subst (λ (u : TypeTree). (faults.items bounds order depth_left inside end u).Passed o s v q r) h.has_type (items_from bounds order inside depth_left is end o s v q r (own_type bounds order depth_left end t o s v q r h)),
+)
 
 pub value_inside : (bounds : Bounds) (order : Order) (depth_left : ℕ) → IsInside bounds order depth_left (faults.value bounds order depth_left)
 value_inside bounds order zero end t o s v q r = (λ h. h, λ h. h)
 value_inside bounds order (suc depth_left) end t o s v q r = (λ h. h, λ h. h)
 
 -- ---- the items of each type agree
-
-Agrees-whole : (bounds : Bounds) (order : Order) (depth_left end : ℕ) (t : TypeTree) (item : Item ValueTree) (run : Reader ValueTree)
-    → ((o : ℕ) (s : List ℕ) (v : ValueTree) (q : ℕ) (r : List ℕ) → item.Passed o s v q r ↔ Spelled bounds order depth_left end t o s v q r)
-    → Agrees item run → Agrees (faults.whole bounds order depth_left end t item) run
-Agrees-whole bounds order depth_left end t item run same a = Agrees-as item (faults.whole bounds order depth_left end t item) run a same (λ o s f. (λ h. h, λ h. h))
 
 agrees_number : (bounds : Bounds) (order : Order) (depth_left : ℕ) (inside : ℕ → TypeTree → Item ValueTree) (run : ℕ → TypeTree → Reader ValueTree) (end : ℕ) (k : NumberCode) → Agrees (faults.items bounds order depth_left inside end (NumberType k)) (reading.items bounds order depth_left run end (NumberType k))
 agrees_number bounds order depth_left inside run end k =
@@ -170,39 +153,25 @@ module _ (bounds : Bounds) (order : Order) (depth_left : ℕ) (inside : ℕ → 
       Agrees-before (faults.fields (inside end) ts) (reading.fields (run end) ts) _ _ (agrees_fields end ts complete) (λ xs.
       Agrees-pure (StructValue xs)))
 
-  struct_complete : (b : Bool) (ts : TypeTrees) → IsShaped b (StructType ts) → AreShaped ts
-  struct_complete b NoTypes h = absurd h
-  struct_complete b (MoreTypes t ts) h = h
-
-  agrees_suc : (end : ℕ) (b : Bool) (t : TypeTree) → IsShaped b t → Agrees (faults.items bounds order (suc depth_left) inside end t) (reading.items bounds order (suc depth_left) run end t)
-  agrees_suc end b (NumberType k) h = agrees_number bounds order (suc depth_left) inside run end k
-  agrees_suc end b (TextType k) h = agrees_text bounds order (suc depth_left) inside run end k
-  agrees_suc end b VariantType h = agrees_variant end
-  agrees_suc end b (ArrayType t) h = agrees_array end t h
-  agrees_suc end b (StructType ts) h = agrees_struct end ts (struct_complete b ts h)
-  agrees_suc end false (EntryType k v) h = absurd h
-  agrees_suc end true (EntryType k v) h =
-      let key = Agrees-whole bounds order (suc depth_left) end k (faults.items bounds order (suc depth_left) inside end k) (reading.items bounds order (suc depth_left) run end k) (passed_suc bounds order depth_left inside is_inside end k) (agrees_suc end false k (basic_complete false k h.0)) in
-      let held = Agrees-whole bounds order (suc depth_left) end v (faults.items bounds order (suc depth_left) inside end v) (reading.items bounds order (suc depth_left) run end v) (passed_suc bounds order depth_left inside is_inside end v) (agrees_suc end false v h.1) in
-      Agrees-before (items.padding 8 end) (reading.padding 8 end) _ _ (Agrees-padding 8 end) (λ _.
-      Agrees-before (faults.whole bounds order (suc depth_left) end k (faults.items bounds order (suc depth_left) inside end k)) (reading.items bounds order (suc depth_left) run end k) _ _ key (λ x.
-      Agrees-before (faults.whole bounds order (suc depth_left) end v (faults.items bounds order (suc depth_left) inside end v)) (reading.items bounds order (suc depth_left) run end v) _ _ held (λ y.
-      Agrees-pure (EntryValue x y))))
-
 module _ (bounds : Bounds) (order : Order) (inside : ℕ → TypeTree → Item ValueTree) (run : ℕ → TypeTree → Reader ValueTree) where
-  agrees_zero : (end : ℕ) (b : Bool) (t : TypeTree) → IsShaped b t → Agrees (faults.items bounds order zero inside end t) (reading.items bounds order zero run end t)
-  agrees_zero end b (NumberType k) h = agrees_number bounds order zero inside run end k
-  agrees_zero end b (TextType k) h = agrees_text bounds order zero inside run end k
-  agrees_zero end b VariantType h = Agrees-refuse reasons.TooDeep
-  agrees_zero end b (ArrayType t) h = Agrees-before (items.padding 4 end) (reading.padding 4 end) _ _ (Agrees-padding 4 end) (λ _. Agrees-refuse reasons.TooDeep)
-  agrees_zero end b (StructType ts) h = Agrees-before (items.padding 8 end) (reading.padding 8 end) _ _ (Agrees-padding 8 end) (λ _. Agrees-refuse reasons.TooDeep)
-  agrees_zero end false (EntryType k v) h = absurd h
-  agrees_zero end true (EntryType k v) h =
-      let key = Agrees-whole bounds order zero end k (faults.items bounds order zero inside end k) (reading.items bounds order zero run end k) (passed_zero bounds order inside end k) (agrees_zero end false k (basic_complete false k h.0)) in
-      let held = Agrees-whole bounds order zero end v (faults.items bounds order zero inside end v) (reading.items bounds order zero run end v) (passed_zero bounds order inside end v) (agrees_zero end false v h.1) in
+  agrees_items : (depth_left : ℕ) → ((less : ℕ) → depth_left ≡ suc less → IsInside bounds order less inside) → ((less : ℕ) → depth_left ≡ suc less → (end : ℕ) (b : Bool) (t : TypeTree) → IsShaped b t → Agrees (inside end t) (run end t))
+      → (end : ℕ) (b : Bool) (t : TypeTree) → IsShaped b t → Agrees (faults.items bounds order depth_left inside end t) (reading.items bounds order depth_left run end t)
+  agrees_items depth_left is agrees end b (NumberType k) h = agrees_number bounds order depth_left inside run end k
+  agrees_items depth_left is agrees end b (TextType k) h = agrees_text bounds order depth_left inside run end k
+  agrees_items zero is agrees end b VariantType h = Agrees-refuse reasons.TooDeep
+  agrees_items (suc less) is agrees end b VariantType h = agrees_variant bounds order less inside run (is less refl) (agrees less refl) end
+  agrees_items zero is agrees end b (ArrayType t) h = Agrees-before (items.padding 4 end) (reading.padding 4 end) _ _ (Agrees-padding 4 end) (λ _. Agrees-refuse reasons.TooDeep)
+  agrees_items (suc less) is agrees end b (ArrayType t) h = agrees_array bounds order less inside run (is less refl) (agrees less refl) end t h
+  agrees_items zero is agrees end b (StructType ts) h = Agrees-before (items.padding 8 end) (reading.padding 8 end) _ _ (Agrees-padding 8 end) (λ _. Agrees-refuse reasons.TooDeep)
+  agrees_items (suc less) is agrees end b (StructType ts) h = agrees_struct bounds order less inside run (is less refl) (agrees less refl) end ts (struct_complete b ts h)
+  agrees_items depth_left is agrees end false (EntryType k v) h = absurd h
+  agrees_items depth_left is agrees end true (EntryType k v) h =
+      let whole = λ (t : TypeTree). Agrees-as (faults.items bounds order depth_left inside end t) (Spelled bounds order depth_left end t) (reading.items bounds order depth_left run end t) in
       Agrees-before (items.padding 8 end) (reading.padding 8 end) _ _ (Agrees-padding 8 end) (λ _.
-      Agrees-before (faults.whole bounds order zero end k (faults.items bounds order zero inside end k)) (reading.items bounds order zero run end k) _ _ key (λ x.
-      Agrees-before (faults.whole bounds order zero end v (faults.items bounds order zero inside end v)) (reading.items bounds order zero run end v) _ _ held (λ y.
+      Agrees-before (faults.whole bounds order depth_left end k (faults.items bounds order depth_left inside end k)) (reading.items bounds order depth_left run end k) _ _
+      (whole k (agrees_items depth_left is agrees end false k (basic_complete false k h.0)) (items_inside bounds order depth_left inside is end k)) (λ x.
+      Agrees-before (faults.whole bounds order depth_left end v (faults.items bounds order depth_left inside end v)) (reading.items bounds order depth_left run end v) _ _
+      (whole v (agrees_items depth_left is agrees end false v h.1) (items_inside bounds order depth_left inside is end v)) (λ y.
       Agrees-pure (EntryValue x y))))
 
 -- ---- what is read is what is spelled, and the faults are the table's
@@ -210,8 +179,9 @@ module _ (bounds : Bounds) (order : Order) (inside : ℕ → TypeTree → Item V
 pub Agrees-value : (bounds : Bounds) (order : Order) (depth_left end : ℕ) (b : Bool) (t : TypeTree) → IsShaped b t → Agrees (faults.value bounds order depth_left end t) (reading.value bounds order depth_left end t)
 unfolding reading.value
 Agrees-value bounds order zero end b t h =
-    Agrees-whole bounds order zero end t (faults.items bounds order zero faults.nowhere end t) (reading.items bounds order zero reading.nowhere end t) (passed_zero bounds order faults.nowhere end t) (agrees_zero bounds order faults.nowhere reading.nowhere end b t h)
+    Agrees-as (faults.items bounds order zero faults.nowhere end t) (Spelled bounds order zero end t) (reading.items bounds order zero reading.nowhere end t)
+    (agrees_items bounds order faults.nowhere reading.nowhere zero (λ less e. absurd cc) (λ less e. absurd cc) end b t h) (items_inside bounds order zero faults.nowhere (λ less e. absurd cc) end t)
 Agrees-value bounds order (suc depth_left) end b t h =
-    Agrees-whole bounds order (suc depth_left) end t (faults.items bounds order (suc depth_left) (faults.value bounds order depth_left) end t) (reading.items bounds order (suc depth_left) (reading.value bounds order depth_left) end t)
-    (passed_suc bounds order depth_left (faults.value bounds order depth_left) (value_inside bounds order depth_left) end t)
-    (agrees_suc bounds order depth_left (faults.value bounds order depth_left) (reading.value bounds order depth_left) (value_inside bounds order depth_left) (λ e b t h. Agrees-value bounds order depth_left e b t h) end b t h)
+    let is : (less : ℕ) → suc depth_left ≡ suc less → IsInside bounds order less (faults.value bounds order depth_left) = λ less e. (let same : depth_left ≡ less = cc in subst (λ (n : ℕ). IsInside bounds order n (faults.value bounds order depth_left)) same (value_inside bounds order depth_left)) in
+    Agrees-as (faults.items bounds order (suc depth_left) (faults.value bounds order depth_left) end t) (Spelled bounds order (suc depth_left) end t) (reading.items bounds order (suc depth_left) (reading.value bounds order depth_left) end t)
+    (agrees_items bounds order (faults.value bounds order depth_left) (reading.value bounds order depth_left) (suc depth_left) is (λ less e end b t h. Agrees-value bounds order depth_left end b t h) end b t h) (items_inside bounds order (suc depth_left) (faults.value bounds order depth_left) is end t)

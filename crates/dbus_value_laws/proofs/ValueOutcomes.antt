@@ -3,7 +3,6 @@ use Rattle.std.proofs.Common.{◌≡◌, ℕ, ◌+◌, ◌≤◌, List, ◌++◌
 use Rattle.dbus_texts.specs.Types.{TypeTree, TypeTrees, IsShaped, AreShaped}
 use Rattle.dbus_value_model.specs.declared.limits.Bounds.{Bounds}
 use Rattle.dbus_value_model.specs.declared.order.Order.{Order}
-use Rattle.dbus_value_model.specs.Bytes.{IsBytes}
 use Rattle.dbus_value_model.specs.Spelling.{spelling, Spelled}
 use Rattle.dbus_value_model.specs.Values.{ValueTrees, type_of}
 use Rattle.dbus_value_model.specs.Items.{Item}
@@ -14,7 +13,7 @@ use Rattle.dbus_value_model.specs.Reading as reading
 use Rattle.dbus_value_model.specs.Outcomes.{IsDone, Outcomes}
 use Rattle.dbus_value_model.specs.Laws.{OneValue, OneOutcome, NotBoth, OneFault, RefusedForGood, DoneForGood, ReadsSpelled, ReadsFaults}
 use Rattle.dbus_value_model.proofs.Indexes.{any_below}
-use Rattle.dbus_value_laws.proofs.Agreement.{Agrees}
+use Rattle.dbus_value_laws.proofs.Agreement.{Agrees, Says, read_passes, read_refuses}
 use Rattle.dbus_value_laws.proofs.Composition.{fields_to, fields_from}
 use Rattle.dbus_value_laws.proofs.ValueItemLaws.{Agrees-value, value_inside, agrees_fields}
 
@@ -41,29 +40,43 @@ module _ {A : Type 0} (item : Item A) (run : Reader A) (agrees : Agrees item run
 
 -- ---- a list of wanted types
 
-Agrees-wanted : (bounds : Bounds) (order : Order) (depth_left end : ℕ) (ts : TypeTrees) → AreShaped ts → Agrees (faults.fields (faults.value bounds order depth_left end) ts) (reading.fields (reading.value bounds order depth_left end) ts)
-Agrees-wanted bounds order depth_left end ts h = agrees_fields bounds order depth_left (faults.value bounds order depth_left) (reading.value bounds order depth_left) (value_inside bounds order depth_left) (λ e b t c. Agrees-value bounds order depth_left e b t c) end ts h
-
 module _ (bounds : Bounds) (order : Order) (depth_left end : ℕ) (ts : TypeTrees) where
-  done_to : (o : ℕ) (s : List ℕ) (vs : ValueTrees) (q : ℕ) (r : List ℕ) → IsDone bounds order depth_left end ts o s vs q r → (faults.fields (faults.value bounds order depth_left end) ts).Passed o s vs q r
-  done_to o s vs q r h = subst (λ (u : TypeTrees). (faults.fields (faults.value bounds order depth_left end) u).Passed o s vs q r) h.types
-      (fields_from bounds order depth_left (faults.value bounds order depth_left) (λ e t o s v q r. (value_inside bounds order depth_left e t o s v q r).0) (λ e t o s v q r. (value_inside bounds order depth_left e t o s v q r).1) end vs o s q r h.bound h.spelled)
+  abbrev wanted : Item ValueTrees
+  wanted = faults.fields (faults.value bounds order depth_left end) ts
 
-  done_from : (o : ℕ) (s : List ℕ) (vs : ValueTrees) (q : ℕ) (r : List ℕ) → o ≤ end → (faults.fields (faults.value bounds order depth_left end) ts).Passed o s vs q r → IsDone bounds order depth_left end ts o s vs q r
-  done_from o s vs q r le h =
-      let w = fields_to bounds order depth_left (faults.value bounds order depth_left) (λ e t o s v q r. (value_inside bounds order depth_left e t o s v q r).0) (λ e t o s v q r. (value_inside bounds order depth_left e t o s v q r).1) end ts o s vs q r h in
-      record { types = w.0; spelled = w.1; bound = w.2 le }
+  abbrev run : Reader ValueTrees
+  run = reading.fields (reading.value bounds order depth_left end) ts
+
+  agree : AreShaped ts → Agrees wanted run
+  agree h = agrees_fields bounds order depth_left (faults.value bounds order depth_left) (reading.value bounds order depth_left) (value_inside bounds order depth_left) (Agrees-value bounds order depth_left) end ts h
+
+  done_to : (o : ℕ) (s : List ℕ) (vs : ValueTrees) (q : ℕ) (r : List ℕ) → IsDone bounds order depth_left end ts o s vs q r → wanted.Passed o s vs q r
+  done_to o s vs q r h = subst (λ (u : TypeTrees). (faults.fields (faults.value bounds order depth_left end) u).Passed o s vs q r) h.types
+      (fields_from bounds order depth_left (faults.value bounds order depth_left) (value_inside bounds order depth_left) end vs o s q r h.bound h.spelled)
+
+  outcome_by : AreShaped ts → (o : ℕ) (s : List ℕ) → o ≤ end → (read : Outcome ValueTrees) → run o s ≡ read → Says wanted o s read → Outcomes bounds order depth_left end ts o s
+  outcome_by h o s le (Done vs q r) e passed =
+      let w = fields_to bounds order depth_left (faults.value bounds order depth_left) (value_inside bounds order depth_left) end ts o s vs q r passed in
+      inl (vs, q, r, record { types = w.0; spelled = w.1; bound = w.2 le })
+  outcome_by h o s le (Faulty f) e refused = inr (inl (f, refused))
+  outcome_by h o s le Partial e none = inr (inr (record {
+    not_done = λ vs q r done. let d : run o s ≡ Done vs q r = (agree h).passes o s vs q r (done_to o s vs q r done) in cc;
+    not_refused = λ f refused. let d : run o s ≡ Faulty f = (agree h).refuses o s f refused in cc;
+  }))
+
+pub one_outcome : OneOutcome
+one_outcome bounds order depth_left end ts o s h le bytes =
+    outcome_by bounds order depth_left end ts h o s le (run bounds order depth_left end ts o s) refl ((agree bounds order depth_left end ts h).says o s bytes)
 
 pub not_both : NotBoth
 not_both bounds order depth_left end ts o s vs q r f h done refused =
-    agreed_either (faults.fields (faults.value bounds order depth_left end) ts) (reading.fields (reading.value bounds order depth_left end) ts) (Agrees-wanted bounds order depth_left end ts h) o s vs q r f (done_to bounds order depth_left end ts o s vs q r done) refused
+    agreed_either (wanted bounds order depth_left end ts) (run bounds order depth_left end ts) (agree bounds order depth_left end ts h) o s vs q r f (done_to bounds order depth_left end ts o s vs q r done) refused
 
 pub one_fault : OneFault
-one_fault bounds order depth_left end ts o s f g h a b =
-    agreed_fault (faults.fields (faults.value bounds order depth_left end) ts) (reading.fields (reading.value bounds order depth_left end) ts) (Agrees-wanted bounds order depth_left end ts h) o s f g a b
+one_fault bounds order depth_left end ts o s f g h a b = agreed_fault (wanted bounds order depth_left end ts) (run bounds order depth_left end ts) (agree bounds order depth_left end ts h) o s f g a b
 
 pub refused_for_good : RefusedForGood
-refused_for_good bounds order depth_left end ts o s c f h a = (Agrees-wanted bounds order depth_left end ts h).refuses_more c o s f a
+refused_for_good bounds order depth_left end ts o s c f h a = (agree bounds order depth_left end ts h).refuses_more c o s f a
 
 pub done_for_good : DoneForGood
 done_for_good bounds order depth_left end ts o s c vs q r h = record {
@@ -71,17 +84,6 @@ done_for_good bounds order depth_left end ts o s c vs q r h = record {
   spelled = record { formed = h.spelled.formed; within = h.spelled.within; indexes = h.spelled.indexes; bytes = ap (λ (t : List ℕ). t ++ c) h.spelled.bytes ∙ append_assoc _ r c; place = h.spelled.place };
   bound = h.bound;
 }
-
-one_outcome_of : (bounds : Bounds) (order : Order) (depth_left end : ℕ) (ts : TypeTrees) (o : ℕ) (s : List ℕ) → AreShaped ts → o ≤ end → IsBytes s → (read : Outcome ValueTrees) → reading.fields (reading.value bounds order depth_left end) ts o s ≡ read → Outcomes bounds order depth_left end ts o s
-one_outcome_of bounds order depth_left end ts o s h le bytes (Done vs q r) e = inl (vs, q, r, done_from bounds order depth_left end ts o s vs q r le ((Agrees-wanted bounds order depth_left end ts h).reads o s vs q r bytes e))
-one_outcome_of bounds order depth_left end ts o s h le bytes (Faulty f) e = inr (inl (f, (Agrees-wanted bounds order depth_left end ts h).shows o s f bytes e))
-one_outcome_of bounds order depth_left end ts o s h le bytes Partial e = inr (inr (record {
-  not_done = λ vs q r done. let d : reading.fields (reading.value bounds order depth_left end) ts o s ≡ Done vs q r = (Agrees-wanted bounds order depth_left end ts h).passes o s vs q r (done_to bounds order depth_left end ts o s vs q r done) in cc;
-  not_refused = λ f refused. let d : reading.fields (reading.value bounds order depth_left end) ts o s ≡ Faulty f = (Agrees-wanted bounds order depth_left end ts h).refuses o s f refused in cc;
-}))
-
-pub one_outcome : OneOutcome
-one_outcome bounds order depth_left end ts o s h le bytes = one_outcome_of bounds order depth_left end ts o s h le bytes (reading.fields (reading.value bounds order depth_left end) ts o s) refl
 
 pub one_value : OneValue
 one_value bounds order depth_left o v w x y a b same_type same =
@@ -99,9 +101,10 @@ one_value bounds order depth_left o v w x y a b same_type same =
 pub reads_spelled : ReadsSpelled
 reads_spelled bounds order depth_left end b t o s v q r h bytes =
     let agrees = Agrees-value bounds order depth_left end b t h in
-    (λ e. (value_inside bounds order depth_left end t o s v q r).0 (agrees.reads o s v q r bytes e), λ p. agrees.passes o s v q r ((value_inside bounds order depth_left end t o s v q r).1 p))
+    let inside = value_inside bounds order depth_left end t o s v q r in
+    (λ e. inside.0 (read_passes (faults.value bounds order depth_left end t) (reading.value bounds order depth_left end t) agrees o s bytes v q r e), λ p. agrees.passes o s v q r (inside.1 p))
 
 pub reads_faults : ReadsFaults
 reads_faults bounds order depth_left end b t o s f h bytes =
     let agrees = Agrees-value bounds order depth_left end b t h in
-    (λ e. agrees.shows o s f bytes e, λ p. agrees.refuses o s f p)
+    (read_refuses (faults.value bounds order depth_left end t) (reading.value bounds order depth_left end t) agrees o s bytes f, agrees.refuses o s f)

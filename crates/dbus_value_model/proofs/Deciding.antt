@@ -1,26 +1,15 @@
 -- What is decided of a value, level by level and along a list.
-use Rattle.std.proofs.Common.{◌≡◌, ℕ, zero, suc, ◌+◌, ◌-◌, ◌<◌, Bool, true, false, List, [], ◌∷◌, length, get_or, drop, Vec, sym, subst, arith, Option, None, Some, refl, not, IsTrue}
+use Rattle.std.proofs.Common.{◌≡◌, ℕ, zero, suc, ◌-◌, ◌<◌, Bool, true, false, List, [], ◌∷◌, Vec, sym, subst, arith, Option, None, Some, refl, not, IsTrue}
 use Rattle.std.specs.Option.{is_some}
 use Rattle.dbus_texts.specs.declared.text_kind.TextKind.{TextKind}
 use Rattle.dbus_texts.specs.Kinds.{IsKind}
 use Rattle.dbus_texts.specs.Verdicts.{IsTextBreak}
 use Rattle.std.proofs.lemmas.Bool.{false≢true}
-use Rattle.std.proofs.lemmas.List.{drop_more}
 use Rattle.dbus_types.specs.declared.sig_type.SigType.{SigType}
-use Rattle.dbus_value_model.specs.Forming.{NestsWithin, NestWithin, IsNamed, AreNamed}
+use Rattle.dbus_value_model.specs.Forming.{NestsWithin, NestWithin, AreNamed}
 use Rattle.dbus_value_model.specs.ValueViews.{value_tree, value_trees_of, byte_values}
 use Rattle.dbus_value_model.specs.declared.value.Value.{Value, Bytes, Array, Struct}
 use Rattle.dbus_value_model.proofs.ValueRows.{tree-Bytes, tree-Array, tree-Struct}
-
--- some item that fails
-pub fails_at : {A : Type 0} (depth_left : ℕ) (vs : List (Value A)) (i : ℕ) (d : Value A) → i < length vs → (NestsWithin depth_left (value_tree (get_or vs i d)) → ⊥) → NestWithin depth_left (value_trees_of vs) → ⊥
-fails_at depth_left [] i d l n h = absurd (omega arith)
-fails_at depth_left (v ∷ vs) zero d l n h = n h.0
-fails_at depth_left (v ∷ vs) (suc i) d l n h = fails_at depth_left vs i d (omega arith) n h.1
-
--- one item more
-pub nest_more : {A : Type 0} (depth_left : ℕ) (vs : List (Value A)) (i : ℕ) (d : Value A) → i < length vs → NestsWithin depth_left (value_tree (get_or vs i d)) → NestWithin depth_left (value_trees_of (drop (i + 1) vs)) → NestWithin depth_left (value_trees_of (drop i vs))
-nest_more depth_left vs i d l h k = subst (λ us. NestWithin depth_left (value_trees_of us)) (sym (drop_more vs i d l)) (h, k)
 
 pub bytes_nest : (depth_left : ℕ) (bs : List ℕ) → NestWithin depth_left (byte_values bs)
 bytes_nest depth_left [] = tt
@@ -52,14 +41,6 @@ bytes_open zero bs h = absurd (subst (NestsWithin zero) (tree-Bytes bs) h)
 bytes_open (suc depth_left) bs h = omega arith
 
 -- ---- texts
-
-pub named_fails_at : {A : Type 0} (vs : List (Value A)) (i : ℕ) (d : Value A) → i < length vs → (IsNamed (value_tree (get_or vs i d)) → ⊥) → AreNamed (value_trees_of vs) → ⊥
-named_fails_at [] i d l n h = absurd (omega arith)
-named_fails_at (v ∷ vs) zero d l n h = n h.0
-named_fails_at (v ∷ vs) (suc i) d l n h = named_fails_at vs i d (omega arith) n h.1
-
-pub named_more : {A : Type 0} (vs : List (Value A)) (i : ℕ) (d : Value A) → i < length vs → IsNamed (value_tree (get_or vs i d)) → AreNamed (value_trees_of (drop (i + 1) vs)) → AreNamed (value_trees_of (drop i vs))
-named_more vs i d l h k = subst (λ us. AreNamed (value_trees_of us)) (sym (drop_more vs i d l)) (h, k)
 
 pub bytes_named : (bs : List ℕ) → AreNamed (byte_values bs)
 bytes_named [] = tt

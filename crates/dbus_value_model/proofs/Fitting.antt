@@ -1,36 +1,17 @@
 -- What is decided of the types of a value's parts, level by level and along a list.
-use Rattle.std.proofs.Common.{◌≡◌, ℕ, zero, suc, ◌+◌, ◌<◌, Bool, ◌&&◌, not, List, [], ◌∷◌, ◌++◌, length, get_or, drop, Vec, refl, sym, subst, arith, rules, ◌↔◌, IsTrue, Result, Ok, Err, IfOk}
+use Rattle.std.proofs.Common.{◌≡◌, ℕ, Bool, ◌&&◌, not, List, [], ◌∷◌, ◌++◌, Vec, refl, sym, subst, rules, ◌↔◌, IsTrue, Result, Ok, Err, IfOk}
 use Rattle.std.proofs.lemmas.Bool.{and_parts, and_from}
-use Rattle.std.proofs.lemmas.List.{drop_more}
-use Rattle.dbus_texts.specs.Types.{TypeTree, NumberType, BYTE, is_byte}
+use Rattle.dbus_texts.specs.Types.{NumberType, BYTE, is_byte}
 use Rattle.dbus_types.specs.SigTypes.{type_tree}
 use Rattle.dbus_types.specs.declared.sig_type.SigType.{SigType}
 use Rattle.dbus_value_model.specs.PackedBytes.{keeps_bytes, keep_bytes}
 use Rattle.dbus_value_model.specs.Forming.{IsUniform, AreUniform}
-use Rattle.dbus_value_model.specs.Values.{AllOf, type_of}
-use Rattle.dbus_value_model.specs.ValueViews.{value_tree, value_trees_of, byte_values}
+use Rattle.dbus_value_model.specs.Values.{AllOf}
+use Rattle.dbus_value_model.specs.ValueViews.{value_tree, byte_values}
 use Rattle.dbus_value_model.specs.declared.value.Value.{Value, Bytes, Array, Struct, the_lemmas}
 use Rattle.dbus_value_model.proofs.ValueRows.{tree-Bytes}
 
--- ---- the items of one type
-
-pub other_at : {A : Type 0} (t : TypeTree) (vs : List (Value A)) (i : ℕ) (d : Value A) → i < length vs → (type_of (value_tree (get_or vs i d)) ≡ t → ⊥) → AllOf t (value_trees_of vs) → ⊥
-other_at t [] i d l n h = absurd (omega arith)
-other_at t (v ∷ vs) zero d l n h = n h.0
-other_at t (v ∷ vs) (suc i) d l n h = other_at t vs i d (omega arith) n h.1
-
-pub all_more : {A : Type 0} (t : TypeTree) (vs : List (Value A)) (i : ℕ) (d : Value A) → i < length vs → type_of (value_tree (get_or vs i d)) ≡ t → AllOf t (value_trees_of (drop (i + 1) vs)) → AllOf t (value_trees_of (drop i vs))
-all_more t vs i d l h k = subst (λ us. AllOf t (value_trees_of us)) (sym (drop_more vs i d l)) (h, k)
-
 -- ---- uniform parts
-
-pub uneven_at : {A : Type 0} (vs : List (Value A)) (i : ℕ) (d : Value A) → i < length vs → (IsUniform (value_tree (get_or vs i d)) → ⊥) → AreUniform (value_trees_of vs) → ⊥
-uneven_at [] i d l n h = absurd (omega arith)
-uneven_at (v ∷ vs) zero d l n h = n h.0
-uneven_at (v ∷ vs) (suc i) d l n h = uneven_at vs i d (omega arith) n h.1
-
-pub uniform_more : {A : Type 0} (vs : List (Value A)) (i : ℕ) (d : Value A) → i < length vs → IsUniform (value_tree (get_or vs i d)) → AreUniform (value_trees_of (drop (i + 1) vs)) → AreUniform (value_trees_of (drop i vs))
-uniform_more vs i d l h k = subst (λ us. AreUniform (value_trees_of us)) (sym (drop_more vs i d l)) (h, k)
 
 pub bytes_uniform : {A : Type 0} (bs : Vec ℕ A) → IsUniform (value_tree {A = A} (Bytes bs))
 bytes_uniform bs = subst IsUniform (sym (tree-Bytes bs)) (each bs.items)
@@ -56,14 +37,6 @@ keeps-Array t vs = search (rules, the_lemmas)
 
 pub keeps-Struct : {A : Type 0} (vs : Vec (Value A) A) → keeps_bytes {A = A} (Struct vs) ≡ keep_bytes vs.items
 keeps-Struct vs = search (rules, the_lemmas)
-
-pub unpacked_at : {A : Type 0} (vs : List (Value A)) (i : ℕ) (d : Value A) → i < length vs → (IsTrue (keeps_bytes (get_or vs i d)) → ⊥) → IsTrue (keep_bytes vs) → ⊥
-unpacked_at [] i d l n h = absurd (omega arith)
-unpacked_at (v ∷ vs) zero d l n h = n (and_parts _ _ h).0
-unpacked_at (v ∷ vs) (suc i) d l n h = unpacked_at vs i d (omega arith) n (and_parts _ _ h).1
-
-pub packed_more : {A : Type 0} (vs : List (Value A)) (i : ℕ) (d : Value A) → i < length vs → IsTrue (keeps_bytes (get_or vs i d)) → IsTrue (keep_bytes (drop (i + 1) vs)) → IsTrue (keep_bytes (drop i vs))
-packed_more vs i d l h k = subst (λ us. IsTrue (keep_bytes us)) (sym (drop_more vs i d l)) (and_from _ _ h k)
 
 pub keep_push : {A : Type 0} (vs : List (Value A)) (v : Value A) (us : List (Value A)) → us ≡ vs ++ v ∷ [] → IsTrue (keep_bytes vs) → IsTrue (keeps_bytes v) → IsTrue (keep_bytes us)
 keep_push vs v us is h k = subst (λ ws. IsTrue (keep_bytes ws)) (sym is) (each vs v h k)

@@ -1,5 +1,5 @@
 -- Which values have all their indexes of descriptors below a number, level by level and along a list.
-use Rattle.std.proofs.Common.{◌≡◌, ℕ, zero, suc, ◌+◌, ◌<◌, ◌≤◌, List, [], ◌∷◌, length, get_or, drop, Option, None, Some, refl, sym, subst, arith, inl, inr}
+use Rattle.std.proofs.Common.{◌≡◌, ℕ, ◌+◌, ◌<◌, ◌≤◌, List, [], ◌∷◌, length, get_or, drop, Option, None, Some, refl, sym, subst, inl, inr}
 use Rattle.std.proofs.lemmas.List.{drop_more, drop_all}
 use Rattle.dbus_texts.specs.Types.{NumberCode, BYTE, BOOLEAN, INT16, UINT16, INT32, UINT32, INT64, UINT64, DOUBLE, UNIX_FD}
 use Rattle.dbus_value_model.specs.FdIndexes.{IsIndexBelow, AreIndexesBelow, AreAllBelow, IsFirstPast}
@@ -48,14 +48,6 @@ all_below fds n (MoreValues v vs) h = elim h [
 ]
 
 -- ---- along a list of values
-
-pub past_at : {A : Type 0} (fds : Option ℕ) (vs : List (Value A)) (i : ℕ) (d : Value A) → i < length vs → (AreIndexesBelow fds (value_tree (get_or vs i d)) → ⊥) → AreAllBelow fds (value_trees_of vs) → ⊥
-past_at fds [] i d l n h = absurd (omega arith)
-past_at fds (v ∷ vs) zero d l n h = n h.0
-past_at fds (v ∷ vs) (suc i) d l n h = past_at fds vs i d (omega arith) n h.1
-
-pub below_more : {A : Type 0} (fds : Option ℕ) (vs : List (Value A)) (i : ℕ) (d : Value A) → i < length vs → AreIndexesBelow fds (value_tree (get_or vs i d)) → AreAllBelow fds (value_trees_of (drop (i + 1) vs)) → AreAllBelow fds (value_trees_of (drop i vs))
-below_more fds vs i d l h k = subst (λ us. AreAllBelow fds (value_trees_of us)) (sym (drop_more vs i d l)) (h, k)
 
 pub bytes_below : (fds : Option ℕ) (bs : List ℕ) → AreAllBelow fds (byte_values bs)
 bytes_below fds [] = tt

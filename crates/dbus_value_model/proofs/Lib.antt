@@ -16,3 +16,4 @@ pub mod ShortLaws
 pub mod PartRanges
 pub mod FreeNumbers
 pub mod Gaps
+pub mod Items

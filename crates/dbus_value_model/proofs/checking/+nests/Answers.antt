@@ -1,8 +1,9 @@
-use Rattle.std.proofs.Common.{refl, sym, subst}
+use Rattle.std.proofs.Common.{refl}
 use Rattle.std.proofs.lemmas.Bool.{false≢true, ltb-true, lt-ltb}
-use Rattle.dbus_value_model.specs.Forming.{NestsWithin}
-use Rattle.dbus_value_model.specs.ValueViews.{value_tree}
-use Rattle.dbus_value_model.proofs.Deciding.{fails_at, nest_more, opens_array, array_opens, opens_struct, struct_opens, opens_bytes, bytes_open}
+use Rattle.dbus_value_model.specs.Forming.{NestsWithin, NestWithin}
+use Rattle.dbus_value_model.specs.ValueViews.{value_tree, value_trees_of}
+use Rattle.dbus_value_model.proofs.Deciding.{opens_array, array_opens, opens_struct, struct_opens, opens_bytes, bytes_open}
+use Rattle.dbus_value_model.proofs.Items.{item_of, items_from}
 use Rattle.dbus_value_model.proofs.checking.+nests.Goals as goal
 
 pub nests_within-returns-in-Bytes : goal.nests_within-returns-in-Bytes
@@ -20,13 +21,10 @@ nests_within-returns-then-depth_left-gt0-2 g t c =
     rw c.in-Struct.is (λ e. opens_struct c.args.depth_left c.in-Struct.fields c.if-depth_left-gt0-2.true (fields.0 e), λ h. fields.1 (struct_opens c.args.depth_left c.in-Struct.fields h).1)
 
 pub nest_within-returns-then-not-nests_within : goal.nest_within-returns-then-not-nests_within
-nest_within-returns-then-not-nests_within g t c =
-    let n = c.if-not-nests_within.ensures in (
-      λ e. absurd (false≢true e),
-      λ h. absurd (fails_at c.args.depth_left c.args.values.now c.loop-value.value-index c.value-item.result c.loop-value-test.true (λ k. false≢true (n.1 (subst (λ x. NestsWithin c.args.depth_left (value_tree x)) (sym c.value-item.is) k))) h),
-    )
+nest_within-returns-then-not-nests_within g t c = (
+  λ e. absurd (false≢true e),
+  λ h. absurd (false≢true (c.if-not-nests_within.ensures.1 (item_of (λ vs. NestWithin c.args.depth_left (value_trees_of vs)) (λ v. NestsWithin c.args.depth_left (value_tree v)) (λ v vs h. h) c.args.values.now c.loop-value.value-index c.value-item.result c.loop-value-test.true c.value-item.is h))),
+)
 
 pub nest_within-loop-value-preserved : goal.nest_within-loop-value-preserved
-nest_within-loop-value-preserved g t c =
-    let n = c.if-not-nests_within.ensures.0 refl in
-    λ h. c.loop-value.invariant (nest_more c.args.depth_left c.args.values.now c.loop-value.value-index c.value-item.result c.loop-value-test.true (subst (λ x. NestsWithin c.args.depth_left (value_tree x)) c.value-item.is n) h)
+nest_within-loop-value-preserved g t c = λ h. c.loop-value.invariant (items_from (λ vs. NestWithin c.args.depth_left (value_trees_of vs)) c.args.values.now c.loop-value.value-index c.value-item.result c.loop-value-test.true c.value-item.is (c.if-not-nests_within.ensures.0 refl, h))

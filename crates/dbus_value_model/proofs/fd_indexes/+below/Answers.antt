@@ -1,9 +1,10 @@
 use Rattle.std.proofs.Common.{Some, refl, sym, subst}
 use Rattle.std.proofs.lemmas.Bool.{false≢true}
-use Rattle.dbus_value_model.specs.FdIndexes.{AreIndexesBelow}
-use Rattle.dbus_value_model.specs.ValueViews.{value_tree}
-use Rattle.dbus_value_model.proofs.Indexes.{past_at, below_more, bytes_below}
+use Rattle.dbus_value_model.specs.FdIndexes.{AreIndexesBelow, AreAllBelow}
+use Rattle.dbus_value_model.specs.ValueViews.{value_tree, value_trees_of}
 use Rattle.dbus_value_model.proofs.ValueRows.{tree-Array, tree-Struct, tree-Bytes}
+use Rattle.dbus_value_model.proofs.Indexes.{bytes_below}
+use Rattle.dbus_value_model.proofs.Items.{item_of, items_from}
 use Rattle.dbus_value_model.proofs.fd_indexes.+below.Goals as goal
 
 pub is_below-returns-in-Array : goal.is_below-returns-in-Array
@@ -22,13 +23,10 @@ pub is_below-returns-in-Bytes : goal.is_below-returns-in-Bytes
 is_below-returns-in-Bytes g t c = rw c.in-Bytes.is (λ e. subst (AreIndexesBelow (Some c.args.limit)) (sym (tree-Bytes c.in-Bytes.field-0)) (bytes_below (Some c.args.limit) c.in-Bytes.field-0.items), λ h. refl)
 
 pub are_below-returns-then-not-is_below : goal.are_below-returns-then-not-is_below
-are_below-returns-then-not-is_below g t c =
-    let n = c.if-not-is_below.ensures in (
-      λ e. absurd (false≢true e),
-      λ h. absurd (past_at (Some c.args.limit) c.args.values.now c.loop-value.value-index c.value-item.result c.loop-value-test.true (λ k. false≢true (n.1 (subst (λ x. AreIndexesBelow (Some c.args.limit) (value_tree x)) (sym c.value-item.is) k))) h),
-    )
+are_below-returns-then-not-is_below g t c = (
+  λ e. absurd (false≢true e),
+  λ h. absurd (false≢true (c.if-not-is_below.ensures.1 (item_of (λ vs. AreAllBelow (Some c.args.limit) (value_trees_of vs)) (λ v. AreIndexesBelow (Some c.args.limit) (value_tree v)) (λ v vs h. h) c.args.values.now c.loop-value.value-index c.value-item.result c.loop-value-test.true c.value-item.is h))),
+)
 
 pub are_below-loop-value-preserved : goal.are_below-loop-value-preserved
-are_below-loop-value-preserved g t c =
-    let n = c.if-not-is_below.ensures.0 refl in
-    λ h. c.loop-value.invariant (below_more (Some c.args.limit) c.args.values.now c.loop-value.value-index c.value-item.result c.loop-value-test.true (subst (λ x. AreIndexesBelow (Some c.args.limit) (value_tree x)) c.value-item.is n) h)
+are_below-loop-value-preserved g t c = λ h. c.loop-value.invariant (items_from (λ vs. AreAllBelow (Some c.args.limit) (value_trees_of vs)) c.args.values.now c.loop-value.value-index c.value-item.result c.loop-value-test.true c.value-item.is (c.if-not-is_below.ensures.0 refl, h))

@@ -1,10 +1,11 @@
-use Rattle.std.proofs.Common.{◌≡◌, ◌&&◌, not, refl, sym, ap, subst, ◌∙◌, IsTrue, arith}
+use Rattle.std.proofs.Common.{◌≡◌, ◌&&◌, not, refl, sym, ap, ◌∙◌, IsTrue, arith}
 use Rattle.std.proofs.lemmas.Bool.{false≢true, and_parts, and_from}
 use Rattle.dbus_texts.specs.Types.{is_byte}
 use Rattle.dbus_types.specs.SigTypes.{type_tree}
 use Rattle.dbus_value_model.specs.PackedBytes.{keeps_bytes, keep_bytes}
 use Rattle.dbus_value_model.specs.declared.value.Value.{the_lemmas}
-use Rattle.dbus_value_model.proofs.Fitting.{keeps-Array, keeps-Struct, unpacked_at, packed_more}
+use Rattle.dbus_value_model.proofs.Fitting.{keeps-Array, keeps-Struct}
+use Rattle.dbus_value_model.proofs.Items.{item_of, items_from}
 use Rattle.dbus_value_model.proofs.uniformity.+packed.Goals as goal
 
 pub has_packed_bytes-have_packed_bytes-requires : goal.has_packed_bytes-have_packed_bytes-requires
@@ -45,13 +46,10 @@ has_packed_bytes-returns-in-Struct g t c =
     (λ e. is ∙ fields.0 e, λ h. fields.1 (sym is ∙ h))
 
 pub have_packed_bytes-returns-then-not-has_packed_bytes : goal.have_packed_bytes-returns-then-not-has_packed_bytes
-have_packed_bytes-returns-then-not-has_packed_bytes g t c =
-    let n = c.if-not-has_packed_bytes.ensures in (
-      λ e. absurd (false≢true e),
-      λ h. absurd (unpacked_at c.args.values.now c.loop-value.value-index c.value-item.result c.loop-value-test.true (λ k. false≢true (n.1 (subst (λ x. IsTrue (keeps_bytes x)) (sym c.value-item.is) k))) h),
-    )
+have_packed_bytes-returns-then-not-has_packed_bytes g t c = (
+  λ e. absurd (false≢true e),
+  λ h. absurd (false≢true (c.if-not-has_packed_bytes.ensures.1 (item_of (λ vs. IsTrue (keep_bytes vs)) (λ v. IsTrue (keeps_bytes v)) (λ v vs h. and_parts _ _ h) c.args.values.now c.loop-value.value-index c.value-item.result c.loop-value-test.true c.value-item.is h))),
+)
 
 pub have_packed_bytes-loop-value-preserved : goal.have_packed_bytes-loop-value-preserved
-have_packed_bytes-loop-value-preserved g t c =
-    let n = c.if-not-has_packed_bytes.ensures.0 refl in
-    λ h. c.loop-value.invariant (packed_more c.args.values.now c.loop-value.value-index c.value-item.result c.loop-value-test.true (subst (λ x. IsTrue (keeps_bytes x)) c.value-item.is n) h)
+have_packed_bytes-loop-value-preserved g t c = λ h. c.loop-value.invariant (items_from (λ vs. IsTrue (keep_bytes vs)) c.args.values.now c.loop-value.value-index c.value-item.result c.loop-value-test.true c.value-item.is (and_from _ _ (c.if-not-has_packed_bytes.ensures.0 refl) h))

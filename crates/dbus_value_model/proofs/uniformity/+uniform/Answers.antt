@@ -5,20 +5,19 @@ use Rattle.dbus_value_model.specs.Forming.{IsUniform, AreUniform}
 use Rattle.dbus_value_model.specs.Values.{AllOf}
 use Rattle.dbus_value_model.specs.ValueViews.{value_tree, value_trees_of}
 use Rattle.dbus_value_model.proofs.ValueRows.{tree-Array, tree-Struct, tree-Entry}
-use Rattle.dbus_value_model.proofs.Fitting.{uneven_at, uniform_more, beside, suffix, bytes_uniform}
+use Rattle.dbus_value_model.proofs.Fitting.{beside, suffix, bytes_uniform}
+use Rattle.dbus_value_model.proofs.Items.{item_of, items_from}
 use Rattle.dbus_value_model.proofs.uniformity.+uniform.Goals as goal
 
 pub are_uniform-returns-then-not-branch : goal.are_uniform-returns-then-not-branch
 are_uniform-returns-then-not-branch g t c =
-    let n = rw c.if-not-branch.true at c.in_ok-is_uniform.ensures in (
-      λ e. absurd (false≢true e),
-      λ h. absurd (uneven_at c.args.values.now c.loop-value.value-index c.value-item.result c.loop-value-test.true (λ k. false≢true (n.1 (subst (λ x. IsUniform (value_tree x)) (sym c.value-item.is) k))) h),
-    )
+    let n = rw c.if-not-branch.true at c.in_ok-is_uniform.ensures in
+    (λ e. absurd (false≢true e), λ h. absurd (false≢true (n.1 (item_of (λ vs. AreUniform (value_trees_of vs)) (λ v. IsUniform (value_tree v)) (λ v vs h. h) c.args.values.now c.loop-value.value-index c.value-item.result c.loop-value-test.true c.value-item.is h))))
 
 pub are_uniform-loop-value-preserved : goal.are_uniform-loop-value-preserved
 are_uniform-loop-value-preserved g t c =
     let n = (rw c.if-not-branch.false at c.in_ok-is_uniform.ensures).0 refl in
-    λ h. c.loop-value.invariant (uniform_more c.args.values.now c.loop-value.value-index c.value-item.result c.loop-value-test.true (subst (λ x. IsUniform (value_tree x)) c.value-item.is n) h)
+    λ h. c.loop-value.invariant (items_from (λ vs. AreUniform (value_trees_of vs)) c.args.values.now c.loop-value.value-index c.value-item.result c.loop-value-test.true c.value-item.is (n, h))
 
 pub is_uniform-returns-in-Bytes : goal.is_uniform-returns-in-Bytes
 is_uniform-returns-in-Bytes g t c = rw c.in-Bytes.is (λ e. bytes_uniform c.in-Bytes.field-0, λ h. refl)

@@ -1,15 +1,16 @@
-use Rattle.std.proofs.Common.{◌∙◌}
-use Rattle.dbus_value_model.proofs.ByteNumbers.{little_at_8, big_at_8, little_places_8, big_places_8}
+use Rattle.std.proofs.Common.{◌≡◌, ◌+◌, arith}
+use Rattle.dbus_value_model.specs.Reading.{number_of}
+use Rattle.dbus_value_model.proofs.ByteNumbers.{bytes_at}
 use Rattle.dbus_value_model.proofs.order.Order.u64_at.Goals as goal
 
-pub returns-in-Little-clause-spelled : goal.returns-in-Little-clause-spelled
-returns-in-Little-clause-spelled c = rw c.in-Little.is (c.from_le_bytes.ensures ∙ little_at_8 c.args.bytes.now c.args.at c.requires)
+pub returns-in-Little : goal.returns-in-Little
+unfolding number_of
+returns-in-Little c =
+    let here : c.args.at + 0 ≡ c.args.at = omega arith in
+    rw c.in-Little.is record { spelled = rw (c.from_le_bytes.ensures, bytes_at 8 c.args.at c.args.bytes.now c.requires, here) (omega arith); places = rw (c.from_le_bytes.ensures, here) (omega arith) }
 
-pub returns-in-Big-clause-spelled : goal.returns-in-Big-clause-spelled
-returns-in-Big-clause-spelled c = rw c.in-Big.is (c.from_be_bytes.ensures ∙ big_at_8 c.args.bytes.now c.args.at c.requires)
-
-pub returns-in-Little-clause-places : goal.returns-in-Little-clause-places
-returns-in-Little-clause-places c = rw c.in-Little.is (c.from_le_bytes.ensures ∙ little_places_8 c.args.bytes.now c.args.at)
-
-pub returns-in-Big-clause-places : goal.returns-in-Big-clause-places
-returns-in-Big-clause-places c = rw c.in-Big.is (c.from_be_bytes.ensures ∙ big_places_8 c.args.bytes.now c.args.at)
+pub returns-in-Big : goal.returns-in-Big
+unfolding number_of
+returns-in-Big c =
+    let here : c.args.at + 0 ≡ c.args.at = omega arith in
+    rw c.in-Big.is record { spelled = rw (c.from_be_bytes.ensures, bytes_at 8 c.args.at c.args.bytes.now c.requires, here) (omega arith); places = rw (c.from_be_bytes.ensures, here) (omega arith) }
