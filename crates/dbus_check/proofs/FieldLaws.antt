@@ -16,7 +16,7 @@ use Rattle.dbus_message_model.specs.Messages.{Want, Name, Serial, want}
 use Rattle.dbus_header.specs.MessageItems.{kind_wanted, not_zero_row}
 use Rattle.dbus_header.specs.MessageReading.{value_wanted}
 use Rattle.dbus_header.specs.HeaderReading.{wanted_signature, wanted_value}
-use Rattle.dbus_header.proofs.ReadingParts.{after_after}
+use Rattle.dbus_value_laws.proofs.ReadSteps.{after_after}
 use Rattle.dbus_value_checker.specs.Suspended.{On}
 use Rattle.dbus_check.specs.Heading.{Kept, kept_of, field_on}
 use Rattle.dbus_check.specs.Fields.{field_code, counted_text, short_text, name_text, padded_number}

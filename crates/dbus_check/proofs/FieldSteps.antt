@@ -15,7 +15,7 @@ use Rattle.dbus_value_model.specs.WantedTexts.{WantedText}
 use Rattle.dbus_message_model.specs.Messages.{is_known}
 use Rattle.dbus_header.specs.MessageItems.{name_row, not_zero_row}
 use Rattle.dbus_header.specs.MessageReading.{opening}
-use Rattle.dbus_header.proofs.ReadingParts.{same_after}
+use Rattle.dbus_value_laws.proofs.ReadSteps.{same_after}
 use Rattle.dbus_value_checker.specs.Fronts.{Fronts}
 use Rattle.dbus_check.specs.Heading.{has, seen_row}
 use Rattle.dbus_value_checker.specs.Suspended.{onward, done}

@@ -15,7 +15,7 @@ use Rattle.dbus_header.specs.HeaderReading.{wanted_value}
 use Rattle.dbus_header.specs.MessageItems.{kind_wanted}
 use Rattle.dbus_header.specs.MessageReading.{value_wanted}
 use Rattle.dbus_message_model.specs.Messages.{Want, Anything, OfType, want}
-use Rattle.dbus_header.proofs.ReadingParts.{same_after}
+use Rattle.dbus_value_laws.proofs.ReadSteps.{same_after}
 use Rattle.dbus_value_checker.specs.Fronts.{Fronts}
 use Rattle.dbus_value_checker.specs.Suspended.{On}
 use Rattle.dbus_check.specs.Fields.{short_text}

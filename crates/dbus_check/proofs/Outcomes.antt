@@ -10,7 +10,6 @@ use Rattle.dbus_header.specs.HeaderReading.{message_read}
 use Rattle.dbus_header.specs.MessageOutcomes.{IsWhole, IsRefused, IsPartial}
 use Rattle.dbus_message_model.specs.Messages.{MessageTree, message_bytes}
 use Rattle.dbus_header.proofs.MessageOutcomes.{reads_messages}
-use Rattle.dbus_header.proofs.ReadingParts.{message_is}
 use Rattle.dbus_header.proofs.Decoded.{refused_read, partial_read}
 use Rattle.dbus_value_checker.specs.Suspended.{done}
 use Rattle.dbus_check.specs.Heading.{message_on}
@@ -42,7 +41,7 @@ module _ (limits : Limits) (w piece : List ℕ) (bytes : IsBytes (w ++ piece)) w
       let read = read_of (message_read limits 0 b) place rest (sym (ap (message_on limits 0) split) ∙ h rest) in
       let order = read.0.0 in
       let m = read.0.1 in
-      let told = (reads_messages limits b order m place rest bytes).0 (sym (message_is limits b) ∙ read.1) in
+      let told = (reads_messages limits b order m place rest bytes).0 read.1 in
       let long = ap length told.1 in
       let a = length-append w piece in
       let d = length-drop n piece in

@@ -8,7 +8,7 @@ use Rattle.dbus_value_model.specs.declared.stop.Stop.TheVariants as stops
 use Rattle.dbus_value_model.specs.Values.{ValueTree}
 use Rattle.dbus_value_model.specs.Reading.{Reader, Outcome, after, pure}
 use Rattle.dbus_message_model.specs.Messages.{Want, Name, OfType, Serial, want, is_known, text_in, number_in}
-use Rattle.dbus_header.proofs.ReadingParts.{after_after, same_after}
+use Rattle.dbus_value_laws.proofs.ReadSteps.{after_after, same_after}
 use Rattle.dbus_value_checker.specs.Fronts.{Fronts}
 use Rattle.dbus_value_checker.specs.Suspended.{On}
 use Rattle.dbus_check.specs.Fields.{seen_as, nothing_of}

@@ -1,22 +1,26 @@
 -- A field of the header: what its items pass is a field that is spelled, and its reader agrees.
-use Rattle.std.proofs.Common.{◌≡◌, ℕ, zero, suc, ◌+◌, ◌-◌, ◌<◌, ◌≤◌, List, ◌∷◌, ◌++◌, length, false, ltb, eqb, ◌&&◌, None, refl, sym, ap, subst, ◌∙◌, arith, inl, inr, append_assoc}
+use Rattle.std.proofs.Common.{◌≡◌, ℕ, zero, suc, ◌+◌, ◌-◌, ◌<◌, ◌≤◌, List, [], ◌∷◌, ◌++◌, length, replicate, false, ltb, eqb, ◌&&◌, None, refl, sym, ap, subst, ◌∙◌, arith, inl, inr, append_assoc}
 use Rattle.std.proofs.lemmas.Bool.{le-ltb, eqb-false, ne_eqb}
 use Rattle.std.proofs.lemmas.List.{length-append, length-replicate}
-use Rattle.dbus_texts.specs.Types.{BYTE, UINT32, STRING, TypeTree, NumberType, TextType, VariantType, NoTypes, MoreTypes, sig, IsSingleType}
+use Rattle.dbus_texts.specs.Types.{UINT32, STRING, TypeTree, NumberType, TextType, sig, IsSingleType}
 use Rattle.dbus_texts.proofs.KindFacts.{shaped_of}
 use Rattle.dbus_value_model.specs.WantedTexts.{WantedText, IsWanted}
 use Rattle.dbus_texts.specs.ComputedKinds.{type_spelled}
 use Rattle.dbus_value_model.specs.declared.limits.Bounds.{Bounds}
+use Rattle.dbus_value_model.specs.declared.limits.Limits.{Limits}
+use Rattle.dbus_value_model.specs.Specification.{bounds_of}
+use Rattle.dbus_header.specs.HeaderReading.{wanted_signature, wanted_value, field_read}
 use Rattle.dbus_value_model.specs.declared.order.Order.{Order}
 use Rattle.dbus_value_model.specs.Bytes.{num, gap_to, pad}
 use Rattle.dbus_value_model.specs.Spelling.{ended_text, spelling, Spelled}
-use Rattle.dbus_value_model.specs.Values.{ValueTree, NoValues, MoreValues, NumberValue, TextValue, VariantValue, StructValue, type_of, IsWellFormed}
+use Rattle.dbus_value_model.specs.Values.{ValueTree, NumberValue, TextValue, type_of, IsWellFormed}
 use Rattle.dbus_value_model.specs.declared.fault.Reason.{Reason}
+use Rattle.dbus_value_model.specs.Measures.{coded}
 use Rattle.dbus_value_model.specs.Items as items
 use Rattle.dbus_value_model.specs.ValueItems.{text_row, value}
 use Rattle.dbus_value_model.specs.Reading as reading
-use Rattle.dbus_message_model.specs.Messages.{FieldTree, Want, Anything, OfType, Name, Serial, want, Suits, IsField, field_type, field_struct, is_known, has_code}
-use Rattle.dbus_header.specs.MessageItems.{name_row, not_zero_row, code_row, kind_wanted, opening, value_wanted, field_items, field}
+use Rattle.dbus_message_model.specs.Messages.{FieldTree, Want, Anything, OfType, Name, Serial, want, Suits, field_type, field_struct, is_known, has_code}
+use Rattle.dbus_header.specs.MessageItems.{name_row, not_zero_row, code_row, kind_wanted, opening, value_wanted, signature_wanted, signed_value, field_items, field}
 use Rattle.dbus_header.specs.MessageReading as reads
 use Rattle.dbus_message_model.proofs.Wants.{WantOk, want_ok}
 use Rattle.dbus_value_model.proofs.Numbers.{length-num}
@@ -24,8 +28,8 @@ use Rattle.dbus_value_laws.proofs.KindLaws.{spelled_sig, only_is, only_same, tex
 use Rattle.dbus_message_model.proofs.NameTexts.{name_is_text}
 use Rattle.dbus_value_laws.proofs.Agreement.{Agrees, Agrees-then, Agrees-before, Agrees-as}
 use Rattle.dbus_value_laws.proofs.OwnItems.{chosen, IsOfSingles, Agrees-pure, Agrees-refuse, Agrees-padding, Agrees-number, Agrees-text, Agrees-nul, Agrees-signature}
-use Rattle.dbus_value_laws.proofs.Composition.{fits_row, number_to, number_from, text_to, text_from, variant_to, struct_to}
-use Rattle.dbus_value_laws.proofs.ValueItemLaws.{Agrees-value, value_inside}
+use Rattle.dbus_value_laws.proofs.Composition.{fits_row, number_to, number_from, text_to, text_from}
+use Rattle.dbus_value_laws.proofs.ValueItemLaws.{Agrees-value, value_inside, positive}
 use Rattle.dbus_value_model.specs.declared.fault.Reason.TheVariants as reasons
 
 -- ---- what is wanted of a code
@@ -135,114 +139,89 @@ pub open_to : (depth_left o : ℕ) (s : List ℕ) (x q : ℕ) (r : List ℕ) →
 open_to zero o s x q r h = absurd h
 open_to (suc depth_left) o s x q r h = (omega (arith, h.0), h.1, h.2)
 
-pub opens : (depth_left o : ℕ) (s : List ℕ) → (opening (suc depth_left)).Passed o s depth_left o s
-opens depth_left o s = (omega arith, refl, refl)
+pub opens : (depth_left within o : ℕ) (s : List ℕ) → depth_left ≡ suc within → (opening depth_left).Passed o s within o s
+opens zero within o s e = absurd cc
+opens (suc depth_left) within o s e = (omega arith, refl, refl)
 
 pub Agrees-opening : (depth_left : ℕ) → Agrees (opening depth_left) (reads.opening depth_left)
 Agrees-opening zero = Agrees-refuse reasons.TooDeep
 Agrees-opening (suc depth_left) = Agrees-pure (suc depth_left - 1)
 
+-- ---- the signature
+
+signature_to : (order : Order) (end : ℕ) (k : WantedText) (o : ℕ) (s : List ℕ) (t : TypeTree) (q : ℕ) (r : List ℕ) → (signature_wanted order end k).Passed o s t q r
+    → IsSingleType t × IsWanted k (sig t) × (s ≡ num order 1 (length (sig t)) ++ (sig t ++ 0 ∷ r)) × (q ≡ o + 1 + length (sig t) + 1)
+signature_to order end k o s t q r w =
+    let a = w.4 in
+    let b = a.4 in
+    let len : length (sig a.0) ≡ w.0 = a.3.3 in
+    rw (b.4.0, b.4.1, b.4.2) (a.3.0, a.3.1, w.3.1 ∙ ap (λ (n : ℕ). num order 1 n ++ w.2) (sym len) ∙ ap (λ (u : List ℕ). num order 1 (length (sig a.0)) ++ u) (a.3.2 ∙ ap (λ (u : List ℕ). sig a.0 ++ u) b.3.0), omega (arith, b.3.1, a.3.4, w.3.2, len))
+
+signature_from : (order : Order) (end : ℕ) (k : WantedText) (o : ℕ) (t : TypeTree) (r : List ℕ) → IsSingleType t → IsWanted k (sig t) → o + 1 + length (sig t) + 1 ≤ end
+    → (signature_wanted order end k).Passed o (num order 1 (length (sig t)) ++ (sig t ++ 0 ∷ r)) t (o + 1 + length (sig t) + 1) r
+signature_from order end k o t r single is fits =
+    let n = length (sig t) in (
+      n,
+      o + 1,
+      sig t ++ 0 ∷ r,
+      (omega (arith, single.1), refl, refl, omega (arith, fits), fits_row end (o + 1) n (omega (arith, fits))),
+      (t, o + 1 + n, 0 ∷ r, (single, is, refl, refl, refl), (tt, o + 1 + n + 1, r, (refl, refl), (refl, refl, refl))),
+    )
+
 -- ---- the field
 
-module _ (bounds : Bounds) (order : Order) (depth_left end : ℕ) (before : List FieldTree) where
-  field_to : (o : ℕ) (s : List ℕ) (f : FieldTree) (q : ℕ) (r : List ℕ) → (field_items bounds order depth_left end before).Passed o s f q r → (field bounds order depth_left end before).Passed o s f q r
+regrouped : (a none c n t v r : List ℕ) → none ≡ [] → (a ++ ((none ++ c) ++ (((n ++ (t ++ 0 ∷ [])) ++ v) ++ []))) ++ r ≡ a ++ (c ++ (n ++ (t ++ 0 ∷ (v ++ r))))
+regrouped a none c n t v r is = rw is (simp append_assoc)
+
+-- where the value of a field at o stands
+abbrev value_place : ℕ → ValueTree → ℕ
+value_place o x = o + gap_to 8 o + 1 + 1 + length (sig (type_of x)) + 1
+
+-- the padding, the code, the signature and a zero, and the value, one after another
+record FieldParts (bounds : Bounds) (order : Order) (inner end o : ℕ) (s : List ℕ) (code : ℕ) (x : ValueTree) (q : ℕ) (r : List ℕ) : Type 0 where
+  code_fits : code < 256
+  single : IsSingleType (type_of x)
+  rest : List ℕ
+  bytes : s ≡ pad 8 o ++ (num order 1 code ++ (num order 1 (length (sig (type_of x))) ++ (sig (type_of x) ++ 0 ∷ rest)))
+  value : Spelled bounds order inner end (type_of x) (value_place o x) rest x q r
+
+module _ (bounds : Bounds) (order : Order) (inner end o : ℕ) (s : List ℕ) (code : ℕ) (x : ValueTree) (q : ℕ) (r : List ℕ) where
+  -- where it stands as the struct is spelled
+  abbrev spelled_place : ℕ
+  spelled_place = o + gap_to 8 o + length (pad 1 (o + gap_to 8 o) ++ num order 1 code) + length (ended_text order 1 (sig (type_of x)))
+
+  same_place : spelled_place ≡ value_place o x
+  same_place = simp (length-append, length-num, length-replicate) (omega (arith, no_gap (o + gap_to 8 o)))
+
+  grouped : (v : List ℕ) → (pad 8 o ++ ((pad 1 (o + gap_to 8 o) ++ num order 1 code) ++ ((ended_text order 1 (sig (type_of x)) ++ v) ++ []))) ++ r ≡ pad 8 o ++ (num order 1 code ++ (num order 1 (length (sig (type_of x))) ++ (sig (type_of x) ++ 0 ∷ (v ++ r))))
+  grouped v = regrouped (pad 8 o) (pad 1 (o + gap_to 8 o)) (num order 1 code) (num order 1 (length (sig (type_of x)))) (sig (type_of x)) v r (ap (λ (n : ℕ). replicate n 0) (no_gap (o + gap_to 8 o)))
+
+  parts_of : Spelled bounds order (suc (suc inner)) end field_type o s (coded code x) q r → FieldParts bounds order inner end o s code x q r
   unfolding spelling
-  field_to o s f q r w =
-      let struct = w.4 in
-      let a = struct.4 in
-      let variant = a.4 in
-      let b = variant.4 in
-      let c = b.4 in
-      let d = c.4 in
-      let e = d.4 in
-      let g = e.4 in
-      let code = a.0 in
-      let x = e.0 in
-      let inner = variant.0 in
-      let within = open_to depth_left w.1 w.2 struct.0 struct.1 struct.2 struct.3 in
-      let deeper = open_to struct.0 a.1 a.2 inner variant.1 variant.2 variant.3 in
-      let rows = code_row_fits before a.1 code a.3.4 in
-      let wanted = wanted_to bounds order inner end (want code) c.0 d.1 d.2 x e.1 e.2 (want_ok code) c.3.1 e.3 in
-      let no_pad = no_gap w.1 in
-      let first : Spelled bounds order (suc inner) end (NumberType BYTE) w.1 w.2 (NumberValue BYTE code) a.1 a.2 = record {
+  parts_of h =
+      let last = spelling order spelled_place x in
+      let ends : q ≡ spelled_place + length last = simp (length-append, length-num, length-replicate) at h.place ∙ simp (length-append, length-num, length-replicate) (omega arith) in
+      record {
+        code_fits = h.formed.0;
+        single = h.formed.1.0.0;
+        rest = last ++ r;
+        bytes = h.bytes ∙ grouped last;
+        value = subst (λ (p : ℕ). Spelled bounds order inner end (type_of x) p (last ++ r) x q r) same_place (record { has_type = refl; formed = h.formed.1.0.1; within = h.within.1.0; indexes = h.indexes.1.0; bytes = refl; place = ends; bound = h.bound });
+      }
+
+  spelled_of : FieldParts bounds order inner end o s code x q r → Spelled bounds order (suc (suc inner)) end field_type o s (coded code x) q r
+  unfolding spelling
+  spelled_of h =
+      let value : Spelled bounds order inner end (type_of x) spelled_place h.rest x q r = subst (λ (p : ℕ). Spelled bounds order inner end (type_of x) p h.rest x q r) (sym same_place) h.value in
+      record {
         has_type = refl;
-        formed = a.3.0;
-        within = tt;
-        indexes = tt;
-        bytes = rw (no_pad, ← within.2) a.3.1;
-        place = rw no_pad (omega (arith, within.1, a.3.2, length-num order 1 code));
-        bound = a.3.3;
-      } in
-      let second : Spelled bounds order (suc inner) end VariantType a.1 a.2 (VariantValue x) e.1 e.2 =
-      variant_to bounds order inner (value bounds order inner) (λ e t o s v q r. (value_inside bounds order inner e t o s v q r).0) (λ e t o s v q r. (value_inside bounds order inner e t o s v q r).1) end a.1 a.2 (VariantValue x) e.1 e.2
-      (b.0, b.1, b.2, rw (deeper.1, deeper.2) at b.3, (c.0, c.1, c.2, (c.3.0, (text_single c.0 c.3.0).0, c.3.2, c.3.3, c.3.4), (d.0, d.1, d.2, d.3, (x, e.1, e.2, (value_inside bounds order inner end c.0 d.1 d.2 x e.1 e.2).1 wanted.0, (refl, refl, refl))))) in
-      let whole : Spelled bounds order (suc (suc inner)) end field_type o s (StructValue (MoreValues (NumberValue BYTE code) (MoreValues (VariantValue x) NoValues))) e.1 e.2 =
-      struct_to bounds order (suc inner) (value bounds order (suc inner)) (λ e t o s v q r. (value_inside bounds order (suc inner) e t o s v q r).0) (λ e t o s v q r. (value_inside bounds order (suc inner) e t o s v q r).1) end (MoreTypes (NumberType BYTE) (MoreTypes VariantType NoTypes)) o s _ e.1 e.2 (
-        w.0,
-        w.1,
-        w.2,
-        w.3,
-        (
-          MoreValues (NumberValue BYTE code) (MoreValues (VariantValue x) NoValues),
-          e.1,
-          e.2,
-          (NumberValue BYTE code, a.1, a.2, first, (MoreValues (VariantValue x) NoValues, e.1, e.2, (VariantValue x, e.1, e.2, second, (NoValues, e.1, e.2, (refl, refl, refl), (refl, refl, refl))), (refl, refl, refl))),
-          (refl, refl, refl),
-        ),
-      ) in
-      let both : Spelled bounds order (suc (suc inner)) end field_type o s (field_struct f) q r × IsField before f =
-      rw (g.0, g.1, g.2) (whole, record { not_zero = rows.0; not_again = rows.1; suits = wanted.1 }) in
-      let room_is : suc (suc inner) ≡ depth_left = sym (within.0 ∙ ap suc deeper.0) in
-      (subst (λ (u : ℕ). Spelled bounds order u end field_type o s (field_struct f) q r) room_is both.0, both.1)
-
--- a struct of two parts, taken apart
-two_parts : (bounds : Bounds) (order : Order) (depth_left end : ℕ) (t : TypeTree) (o : ℕ) (s : List ℕ) (a b : ValueTree) (q : ℕ) (r : List ℕ) → Spelled bounds order (suc depth_left) end t o s (StructValue (MoreValues a (MoreValues b NoValues))) q r
-    → (p : ℕ) × (u : List ℕ) × (p1 : ℕ) × (u1 : List ℕ) × ((s ≡ pad 8 o ++ u) × (p ≡ o + gap_to 8 o) × (p ≤ end)) × Spelled bounds order depth_left end (type_of a) p u a p1 u1 × Spelled bounds order depth_left end (type_of b) p1 u1 b q r
-unfolding spelling
-two_parts bounds order depth_left end t o s a b q r h =
-    let p = o + gap_to 8 o in
-    let one = spelling order p a in
-    let p1 = p + length one in
-    let two = spelling order p1 b in
-    let ends : q ≡ p1 + length two = simp (length-append, length-replicate) at h.place ∙ omega arith in
-    let bound : q ≤ end = h.bound in (
-      p,
-      one ++ (two ++ r),
-      p1,
-      two ++ r,
-      (h.bytes ∙ simp append_assoc, refl, omega arith),
-      record { has_type = refl; formed = h.formed.0; within = h.within.0; indexes = h.indexes.0; bytes = refl; place = refl; bound = omega arith },
-      record { has_type = refl; formed = h.formed.1.0; within = h.within.1.0; indexes = h.indexes.1.0; bytes = refl; place = ends; bound = bound },
-    )
-
--- a variant, taken apart
-variant_parts : (bounds : Bounds) (order : Order) (depth_left end o : ℕ) (s : List ℕ) (x : ValueTree) (q : ℕ) (r : List ℕ) → Spelled bounds order (suc depth_left) end VariantType o s (VariantValue x) q r
-    → (p : ℕ) × (u : List ℕ) × (s ≡ num order 1 (length (sig (type_of x))) ++ (sig (type_of x) ++ 0 ∷ u)) × (p ≡ o + 1 + length (sig (type_of x)) + 1) × IsSingleType (type_of x) × Spelled bounds order depth_left end (type_of x) p u x q r
-unfolding spelling
-variant_parts bounds order depth_left end o s x q r h =
-    let t = sig (type_of x) in
-    let p = o + length (ended_text order 1 t) in
-    let head : length (ended_text order 1 t) ≡ 1 + (length t + 1) = simp (length-append, length-num) in
-    let ends : q ≡ p + length (spelling order p x) = omega (arith, h.place, length-append (ended_text order 1 t) (spelling order p x)) in
-    let there : s ≡ num order 1 (length t) ++ (t ++ 0 ∷ (spelling order p x ++ r)) = h.bytes ∙ simp append_assoc in (
-      p,
-      spelling order p x ++ r,
-      there,
-      omega (arith, head),
-      h.formed.0,
-      record { has_type = refl; formed = h.formed.1; within = h.within; indexes = h.indexes; bytes = refl; place = ends; bound = h.bound },
-    )
-
-byte_there : (bounds : Bounds) (order : Order) (depth_left end o : ℕ) (s : List ℕ) (n q : ℕ) (r : List ℕ) → Spelled bounds order depth_left end (NumberType BYTE) o s (NumberValue BYTE n) q r → (n < 256) × (s ≡ num order 1 n ++ r) × (q ≡ o + 1)
-unfolding spelling
-byte_there bounds order depth_left end o s n q r h =
-    let no_pad = no_gap o in
-    let place : q ≡ o + length (pad 1 o ++ num order 1 n) = h.place in
-    let bytes : s ≡ (pad 1 o ++ num order 1 n) ++ r = h.bytes in
-    (h.formed, rw no_pad at bytes, place ∙ simp (length-append, length-num, length-replicate) (omega (arith, no_pad)))
-
-forward : (bounds : Bounds) (order : Order) (depth_left end : ℕ) (t : TypeTree) (o : ℕ) (s : List ℕ) (v : ValueTree) (q : ℕ) (r : List ℕ) → Spelled bounds order depth_left end t o s v q r → o ≤ q
-forward bounds order depth_left end t o s v q r h = omega (arith, h.place)
+        formed = (h.code_fits, ((h.single, value.formed), tt));
+        within = (tt, (value.within, tt));
+        indexes = (tt, (value.indexes, tt));
+        bytes = h.bytes ∙ ap (λ (u : List ℕ). pad 8 o ++ (num order 1 code ++ (num order 1 (length (sig (type_of x))) ++ (sig (type_of x) ++ 0 ∷ u)))) value.bytes ∙ sym (grouped (spelling order spelled_place x));
+        place = simp (length-append, length-num, length-replicate) (omega (arith, value.place, simp (length-append, length-num, length-replicate) at value.place));
+        bound = value.bound;
+      }
 
 -- a field's struct and its variant are two containers
 pub two_rooms : (depth_left : ℕ) (f : FieldTree) → IsWellFormed depth_left (field_struct f) → (inner : ℕ) × (depth_left ≡ suc (suc inner))
@@ -251,99 +230,118 @@ two_rooms (suc zero) f h = absurd h.1.0
 two_rooms (suc (suc inner)) f h = (inner, refl)
 
 module _ (bounds : Bounds) (order : Order) (depth_left end : ℕ) (before : List FieldTree) where
-  field_from : (inner o : ℕ) (s : List ℕ) (f : FieldTree) (q : ℕ) (r : List ℕ) → depth_left ≡ suc (suc inner) → Spelled bounds order (suc (suc inner)) end field_type o s (field_struct f) q r → IsField before f → (field_items bounds order depth_left end before).Passed o s f q r
-  field_from inner o s f q r room_is spelled is =
-      let a = two_parts bounds order (suc inner) end field_type o s (NumberValue BYTE f.code) (VariantValue f.value) q r spelled in
-      let code = byte_there bounds order (suc inner) end a.0 a.1 f.code a.2 a.3 a.5 in
-      let v = variant_parts bounds order inner end a.2 a.3 f.value q r a.6 in
+  field_to : (o : ℕ) (s : List ℕ) (f : FieldTree) (q : ℕ) (r : List ℕ) → (field_items bounds order depth_left end before).Passed o s f q r → (field bounds order depth_left end before).Passed o s f q r
+  field_to o s f q r w =
+      let padded = w.3 in
+      let struct = w.4 in
+      let a = struct.4 in
+      let variant = a.4 in
+      let e = variant.4 in
+      let held = e.3 in
+      let code = a.0 in
+      let x = e.0 in
+      let inner = variant.0 in
+      let within = open_to depth_left w.1 w.2 struct.0 struct.1 struct.2 struct.3 in
+      let deeper = open_to struct.0 a.1 a.2 inner variant.1 variant.2 variant.3 in
+      let rows = code_row_fits before a.1 code a.3.4 in
+      let signed = signature_to order end (kind_wanted (want code)) variant.1 variant.2 held.0 held.1 held.2 held.3 in
+      let wanted = wanted_to bounds order inner end (want code) held.0 held.1 held.2 x e.1 e.2 (want_ok code) signed.1 held.4 in
+      let same : held.0 ≡ type_of x = sym wanted.0.has_type in
+      let place : held.1 ≡ o + gap_to 8 o + 1 + 1 + length (sig held.0) + 1 = omega (arith, signed.3, deeper.1, a.3.2, within.1, padded.1) in
+      let there = sym deeper.2 ∙ signed.2 in
+      let whole = spelled_of bounds order inner end o s code x e.1 e.2 (record {
+        code_fits = a.3.0;
+        single = subst IsSingleType same signed.0;
+        rest = held.2;
+        bytes = padded.0 ∙ ap (λ (t : List ℕ). pad 8 o ++ t) (sym within.2 ∙ a.3.1 ∙ ap (λ (t : List ℕ). num order 1 code ++ t) (rw same at there));
+        value = rw (place, same) at wanted.0;
+      }) in
+      let deep : suc (suc inner) ≡ depth_left = sym (within.0 ∙ ap suc deeper.0) in
+      rw (e.4.0, e.4.1, e.4.2) (subst (λ (u : ℕ). Spelled bounds order u end field_type o s (coded code x) e.1 e.2) deep whole, record { not_zero = rows.0; not_again = rows.1; suits = wanted.1 })
+
+  field_from : (o : ℕ) (s : List ℕ) (f : FieldTree) (q : ℕ) (r : List ℕ) → (field bounds order depth_left end before).Passed o s f q r → (field_items bounds order depth_left end before).Passed o s f q r
+  field_from o s f q r h =
+      let two = two_rooms depth_left f h.0.formed in
+      let inner = two.0 in
       let x = f.value in
-      let t = sig (type_of x) in
-      let wanted = wanted_from bounds order inner end (want f.code) (type_of x) v.0 v.1 x q r (want_ok f.code) v.4 v.5 is.suits in
-      let fits : v.0 ≤ end = omega (arith, forward bounds order inner end (type_of x) v.0 v.1 x q r v.5, v.5.bound) in
-      let row = fits_code_row before a.2 f.code is.not_zero is.not_again in (
+      let v = parts_of bounds order inner end o s f.code x q r (subst (λ (u : ℕ). Spelled bounds order u end field_type o s (field_struct f) q r) two.1 h.0) in
+      let wanted = wanted_from bounds order inner end (want f.code) (type_of x) (value_place o x) v.rest x q r (want_ok f.code) v.single v.value h.1.suits in
+      let p = o + gap_to 8 o in
+      let signed = num order 1 (length (sig (type_of x))) ++ (sig (type_of x) ++ 0 ∷ v.rest) in
+      let fits : value_place o x ≤ end = omega (arith, v.value.place, v.value.bound) in (
         tt,
-        a.0,
-        a.1,
-        a.4,
+        p,
+        num order 1 f.code ++ signed,
+        (v.bytes, refl, omega (arith, fits)),
         (
           suc inner,
-          a.0,
-          a.1,
-          rw room_is (opens (suc inner) a.0 a.1),
+          p,
+          num order 1 f.code ++ signed,
+          opens depth_left (suc inner) p (num order 1 f.code ++ signed) two.1,
           (
             f.code,
-            a.2,
-            a.3,
-            (code.0, code.1, code.2, omega (arith, fits, v.3), row),
+            p + 1,
+            signed,
+            (v.code_fits, refl, refl, omega (arith, fits), fits_code_row before (p + 1) f.code h.1.not_zero h.1.not_again),
             (
               inner,
-              a.2,
-              a.3,
-              opens inner a.2 a.3,
-              (
-                length t,
-                a.2 + 1,
-                t ++ 0 ∷ v.1,
-                (omega (arith, v.4.1), v.2, refl, omega (arith, fits, v.3), fits_row end (a.2 + 1) (length t) (omega (arith, fits, v.3))),
-                (
-                  type_of x,
-                  a.2 + 1 + length t,
-                  0 ∷ v.1,
-                  (v.4, wanted.0, refl, refl, refl),
-                  (
-                    tt,
-                    v.0,
-                    v.1,
-                    (refl, v.3),
-                    (x, q, r, wanted.1, (refl, refl, refl)),
-                  ),
-                ),
-              ),
+              p + 1,
+              signed,
+              opens (suc inner) inner (p + 1) signed refl,
+              (x, q, r, (type_of x, value_place o x, v.rest, signature_from order end (kind_wanted (want f.code)) (p + 1) (type_of x) v.rest v.single wanted.0 fits, wanted.1), (refl, refl, refl)),
             ),
           ),
         ),
       )
 
-  field_back : (o : ℕ) (s : List ℕ) (f : FieldTree) (q : ℕ) (r : List ℕ) → (field bounds order depth_left end before).Passed o s f q r → (field_items bounds order depth_left end before).Passed o s f q r
-  field_back o s f q r h =
-      let two = two_rooms depth_left f h.0.formed in
-      field_from two.0 o s f q r two.1 (subst (λ (u : ℕ). Spelled bounds order u end field_type o s (field_struct f) q r) two.1 h.0) h.1
-
   pub field_moves : (o : ℕ) (s : List ℕ) (f : FieldTree) (q : ℕ) (r : List ℕ) → (field bounds order depth_left end before).Passed o s f q r → o < q
-  field_moves o s f q r h =
-      let two = two_rooms depth_left f h.0.formed in
-      let inner = two.0 in
-      let spelled = subst (λ (u : ℕ). Spelled bounds order u end field_type o s (field_struct f) q r) two.1 h.0 in
-      let a = two_parts bounds order (suc inner) end field_type o s (NumberValue BYTE f.code) (VariantValue f.value) q r spelled in
-      let code = byte_there bounds order (suc inner) end a.0 a.1 f.code a.2 a.3 a.5 in
-      omega (arith, a.4.1, code.2, forward bounds order (suc inner) end VariantType a.2 a.3 (VariantValue f.value) q r a.6)
+  field_moves o s f q r h = omega (arith, h.0.place, positive bounds order (field_struct f) false o (tt, (tt, tt)))
 
-  agrees_wanted : (inner : ℕ) (w : Want) (t : TypeTree) → WantOk w → IsSingleType t → IsWanted (kind_wanted w) (sig t) → Agrees (value_wanted bounds order inner end w t) (reads.value_wanted bounds order inner end w t)
-  agrees_wanted inner Anything t ok single is = Agrees-value bounds order inner end false t (shaped_of t false 0 0 single.0)
-  agrees_wanted inner (OfType u) t ok single is = Agrees-value bounds order inner end false t (shaped_of t false 0 0 single.0)
-  agrees_wanted inner (Name k) t ok single is =
-      Agrees-before (items.padding 4 end) (reading.padding 4 end) _ _ (Agrees-padding 4 end) (λ _.
-      Agrees-before (items.number order 4 end (name_row end)) (reading.number order 4 end (name_row end)) _ _ (Agrees-number order 4 end (name_row end)) (λ n.
-      Agrees-before (items.text k n) (reading.text k n) _ _ (Agrees-text k n) (λ name.
-      Agrees-before items.nul reading.nul _ _ Agrees-nul (λ _.
-      Agrees-pure (TextValue STRING name)))))
-  agrees_wanted inner Serial t ok single is =
-      Agrees-before (items.padding 4 end) (reading.padding 4 end) _ _ (Agrees-padding 4 end) (λ _.
-      Agrees-before (items.number order 4 end (not_zero_row reasons.ZeroSerial)) (reading.number order 4 end (not_zero_row reasons.ZeroSerial)) _ _ (Agrees-number order 4 end (not_zero_row reasons.ZeroSerial)) (λ n.
-      Agrees-pure (NumberValue UINT32 n)))
+agrees_wanted : (bounds : Bounds) (order : Order) (inner end : ℕ) (w : Want) (t : TypeTree) → WantOk w → IsSingleType t → IsWanted (kind_wanted w) (sig t) → Agrees (value_wanted bounds order inner end w t) (reads.value_wanted bounds order inner end w t)
+agrees_wanted bounds order inner end Anything t ok single is = Agrees-value bounds order inner end false t (shaped_of t false 0 0 single.0)
+agrees_wanted bounds order inner end (OfType u) t ok single is = Agrees-value bounds order inner end false t (shaped_of t false 0 0 single.0)
+agrees_wanted bounds order inner end (Name k) t ok single is =
+    Agrees-before (items.padding 4 end) (reading.padding 4 end) _ _ (Agrees-padding 4 end) (λ _.
+    Agrees-before (items.number order 4 end (name_row end)) (reading.number order 4 end (name_row end)) _ _ (Agrees-number order 4 end (name_row end)) (λ n.
+    Agrees-before (items.text k n) (reading.text k n) _ _ (Agrees-text k n) (λ name.
+    Agrees-before items.nul reading.nul _ _ Agrees-nul (λ _.
+    Agrees-pure (TextValue STRING name)))))
+agrees_wanted bounds order inner end Serial t ok single is =
+    Agrees-before (items.padding 4 end) (reading.padding 4 end) _ _ (Agrees-padding 4 end) (λ _.
+    Agrees-before (items.number order 4 end (not_zero_row reasons.ZeroSerial)) (reading.number order 4 end (not_zero_row reasons.ZeroSerial)) _ _ (Agrees-number order 4 end (not_zero_row reasons.ZeroSerial)) (λ n.
+    Agrees-pure (NumberValue UINT32 n)))
 
-  agrees_field_items : Agrees (field_items bounds order depth_left end before) (reads.field bounds order depth_left end before)
-  agrees_field_items =
-      Agrees-before (items.padding 8 end) (reading.padding 8 end) _ _ (Agrees-padding 8 end) (λ _.
-      Agrees-before (opening depth_left) (reads.opening depth_left) _ _ (Agrees-opening depth_left) (λ within.
-      Agrees-before (items.number order 1 end (code_row before)) (reading.number order 1 end (code_row before)) _ _ (Agrees-number order 1 end (code_row before)) (λ code.
-      Agrees-before (opening within) (reads.opening within) _ _ (Agrees-opening within) (λ inner.
+module _ (limits : Limits) (order : Order) (depth_left end : ℕ) (opened : limits.depth ≡ suc depth_left) (before : List FieldTree) where
+  agrees_signature : (code : ℕ) → Agrees (signature_wanted order end (kind_wanted (want code))) (wanted_signature order end (kind_wanted (want code)))
+  unfolding wanted_signature
+  agrees_signature code =
       Agrees-before (items.number order 1 end (text_row end)) (reading.number order 1 end (text_row end)) _ _ (Agrees-number order 1 end (text_row end)) (λ n.
-      Agrees-then (items.signature (kind_wanted (want code)) n) (reading.signature (kind_wanted (want code)) n) _ _ (Agrees-signature (kind_wanted (want code)) (single_kinds (want code) (want_ok code)) n) (λ held o s q r was.
+      Agrees-before (items.signature (kind_wanted (want code)) n) (reading.signature (kind_wanted (want code)) n) _ _ (Agrees-signature (kind_wanted (want code)) (single_kinds (want code) (want_ok code)) n) (λ held.
       Agrees-before items.nul reading.nul _ _ Agrees-nul (λ _.
-      Agrees-before (value_wanted bounds order inner end (want code) held) (reads.value_wanted bounds order inner end (want code) held) _ _ (agrees_wanted inner (want code) held (want_ok code) was.0 was.1) (λ x.
-      Agrees-pure (record { code = code; value = x })))))))))
+      Agrees-pure held)))
 
-  pub Agrees-field : Agrees (field bounds order depth_left end before) (reads.field bounds order depth_left end before)
-  Agrees-field = Agrees-as (field_items bounds order depth_left end before) (field bounds order depth_left end before) (reads.field bounds order depth_left end before) agrees_field_items
-      (λ o s f q r. (field_to bounds order depth_left end before o s f q r, field_back o s f q r)) (λ o s f. (λ h. h, λ h. h))
+  agrees_signed : (inner code : ℕ) → limits.depth - 3 ≡ inner → Agrees (signed_value (bounds_of limits) order inner end (want code)) (wanted_value limits order end (want code))
+  unfolding wanted_value
+  agrees_signed inner code deep =
+      rw deep (Agrees-then (signature_wanted order end (kind_wanted (want code))) (wanted_signature order end (kind_wanted (want code))) _ _ (agrees_signature code) (λ held o s q r was.
+      let signed = signature_to order end (kind_wanted (want code)) o s held q r was in
+      agrees_wanted (bounds_of limits) order inner end (want code) held (want_ok code) signed.0 signed.1))
+
+  agrees_field_items : Agrees (field_items (bounds_of limits) order depth_left end before) (field_read limits order end before)
+  unfolding field_read
+  agrees_field_items =
+      let array : limits.depth - 1 ≡ depth_left = omega (arith, opened) in
+      rw array (Agrees-before (items.padding 8 end) (reading.padding 8 end) _ _ (Agrees-padding 8 end) (λ _.
+      Agrees-then (opening depth_left) (reads.opening depth_left) _ _ (Agrees-opening depth_left) (λ within o s q r struct.
+      let deep = (open_to depth_left o s within q r struct).0 in
+      Agrees-before (items.number order 1 end (code_row before)) (reading.number order 1 end (code_row before)) _ _ (Agrees-number order 1 end (code_row before)) (λ code.
+      let two : limits.depth - 2 ≡ within = omega (arith, opened, deep) in
+      rw two (Agrees-then (opening within) (reads.opening within) _ _ (Agrees-opening within) (λ inner o s q r variant.
+      let deeper = (open_to within o s inner q r variant).0 in
+      Agrees-before (signed_value (bounds_of limits) order inner end (want code)) (wanted_value limits order end (want code)) _ _ (agrees_signed inner code (omega (arith, opened, deep, deeper))) (λ x.
+      Agrees-pure (record { code = code; value = x }))))))))
+
+  pub Agrees-field : Agrees (field (bounds_of limits) order depth_left end before) (field_read limits order end before)
+  Agrees-field =
+      Agrees-as (field_items (bounds_of limits) order depth_left end before) (field (bounds_of limits) order depth_left end before).Passed (field_read limits order end before) agrees_field_items
+      (λ o s f q r. (field_to (bounds_of limits) order depth_left end before o s f q r, field_from (bounds_of limits) order depth_left end before o s f q r))

@@ -4,7 +4,6 @@ pub mod Whole
 pub mod MessageOutcomes
 pub mod OutcomeLaws
 pub mod FixedItems
-pub mod ReadingParts
 pub mod FieldSteps
 pub mod FieldLoop
 pub mod BodyLoop

@@ -1,5 +1,5 @@
 -- A message: what its items pass is a message that is spelled, and its reader agrees.
-use Rattle.std.proofs.Common.{◌≡◌, ℕ, ◌+◌, ◌≤◌, List, [], ◌∷◌, ◌++◌, Bool, true, false, cond, ltb, eqb, Option, Some, None, refl, sym, ap, subst, ◌∙◌, inl, inr, arith}
+use Rattle.std.proofs.Common.{◌≡◌, ℕ, suc, ◌+◌, ◌-◌, ◌≤◌, List, [], ◌∷◌, ◌++◌, Bool, true, false, cond, ltb, eqb, Option, Some, None, refl, sym, ap, subst, ◌∙◌, inl, inr, arith}
 use Rattle.std.proofs.lemmas.Bool.{ltb-false, le-ltb, eqb-true}
 use Rattle.dbus_texts.specs.Types.{SIGNATURE, TextType, TypeTrees, NoTypes, sigs, AreShaped}
 use Rattle.dbus_value_model.specs.declared.limits.Limits.{Limits}
@@ -12,24 +12,24 @@ use Rattle.dbus_texts.specs.declared.text_kind.TextKind.TheVariants as kinds
 use Rattle.dbus_value_model.specs.declared.order.Order.{Order}
 use Rattle.dbus_value_model.specs.declared.order.Order.TheVariants.{Little, Big}
 use Rattle.dbus_value_model.specs.Bytes.{gap_to}
-use Rattle.dbus_value_model.specs.Values.{IsWellFormed, ValueTree, NumberValue, TextValue, VariantValue, ArrayValue, StructValue, EntryValue, type_of}
+use Rattle.dbus_value_model.specs.Values.{IsWellFormed, ValueTree, ValueTrees, NumberValue, TextValue, VariantValue, ArrayValue, StructValue, EntryValue, type_of}
 use Rattle.dbus_value_model.specs.Items.{Sequence, fault, validate, no_row}
-use Rattle.dbus_value_model.specs.declared.fault.Fault.{Fault}
 use Rattle.dbus_value_model.specs.declared.fault.Reason.{Reason}
 use Rattle.dbus_value_model.specs.Items as items
 use Rattle.dbus_value_model.specs.ValueItems.{value}
 use Rattle.dbus_value_model.specs.ValueItems as faults
 use Rattle.dbus_value_model.specs.Reading.{Done, Faulty}
 use Rattle.dbus_value_model.specs.Reading as reading
-use Rattle.dbus_message_model.specs.Messages.{FieldTree, Suits, field_struct, want, order_byte, lacks, required, text_in, body_signature, body_fds}
-use Rattle.dbus_header.specs.MessageItems.{not_zero_row, version_row, fields_row, opening, field, byte_order, types_of_text, body_items, message_items}
+use Rattle.dbus_message_model.specs.Messages.{FieldTree, MessageTree, Suits, field_struct, want, order_byte, lacks, required, text_in, body_signature, body_fds}
+use Rattle.dbus_header.specs.MessageItems.{not_zero_row, version_row, fields_row, opening, field, byte_order, types_of_text, body_items, fixed_items, message_items}
+use Rattle.dbus_header.specs.HeaderReading.{fixed_header, field_read, fields_read, body_read, message_read}
 use Rattle.dbus_header.specs.MessageReading as reads
 use Rattle.dbus_value_laws.proofs.KindLaws.{signature_text, spelled_sigs}
-use Rattle.dbus_value_laws.proofs.Agreement.{Agrees, Agrees-then, Agrees-before}
-use Rattle.dbus_value_laws.proofs.OwnItems.{chosen, same_fault, Agrees-pure, Agrees-padding, Agrees-number, Agrees-validate, Agrees-bounded, Agrees-ends}
+use Rattle.dbus_value_laws.proofs.Agreement.{Agrees, Says, Agrees-then, Agrees-before}
+use Rattle.dbus_value_laws.proofs.OwnItems.{chosen, Agrees-pure, Agrees-padding, Agrees-number, Agrees-validate, Agrees-bounded, Agrees-ends}
 use Rattle.dbus_value_laws.proofs.Contents.{Agrees-contents}
 use Rattle.dbus_value_laws.proofs.ValueItemLaws.{Agrees-value, value_inside, agrees_fields}
-use Rattle.dbus_header.proofs.Fields.{Agrees-opening, Agrees-field, field_moves, two_rooms}
+use Rattle.dbus_header.proofs.Fields.{Agrees-opening, Agrees-field, field_moves, open_to, two_rooms}
 use Rattle.dbus_value_model.specs.declared.fault.Reason.TheVariants as reasons
 
 -- ---- rows
@@ -62,35 +62,20 @@ fits_fields_row limits body p n a b = rw (le-ltb _ _ a, le-ltb _ _ b) refl
 
 -- ---- the byte order
 
-order_done : (o b : ℕ) (s : List ℕ) (order : Order) (q : ℕ) (r : List ℕ) → reads.order_of b (Done Little (o + 1) s) (Done Big (o + 1) s) (Faulty (fault o reasons.ByteOrder)) ≡ Done order q r → (b ≡ order_byte order) × (q ≡ o + 1) × (r ≡ s)
-order_done o b s order q r e = elim (chosen (eqb b 108) _ _ _ e) [
-  | inl h ↦ let is : b ≡ 108 = eqb-true _ _ h.0 in let same : Little ≡ order = cc (h.1) in (is ∙ ap order_byte same, cc (h.1), cc (h.1))
-  | inr h ↦ elim (chosen (eqb b 66) _ _ _ h.1) [
-    | inl k ↦ let is : b ≡ 66 = eqb-true _ _ k.0 in let same : Big ≡ order = cc (k.1) in (is ∙ ap order_byte same, cc (k.1), cc (k.1))
-    | inr k ↦ absurd (cc (k.1))
-  ]
-]
-
-byte_order_reads : (o : ℕ) (s : List ℕ) (order : Order) (q : ℕ) (r : List ℕ) → reads.byte_order o s ≡ Done order q r → byte_order.Passed o s order q r
+byte_order_says : (o : ℕ) (s : List ℕ) → Says byte_order o s (reads.byte_order o s)
 unfolding reads.byte_order
-byte_order_reads o [] order q r e = absurd cc
-byte_order_reads o (b ∷ s) order q r e = let w = order_done o b s order q r e in (let is : b ≡ order_byte order = w.0 in let rest : r ≡ s = w.2 in cc, w.1)
+byte_order_says o [] = tt
+byte_order_says o (b ∷ s) = by_byte (eqb b 108) (eqb b 66) refl refl
+  where
+    by_byte : (little big : Bool) → eqb b 108 ≡ little → eqb b 66 ≡ big → Says byte_order o (b ∷ s) (cond little (Done Little (o + 1) s) (cond big (Done Big (o + 1) s) (Faulty (fault o reasons.ByteOrder))))
+    by_byte true big e d = (ap (λ (c : ℕ). c ∷ s) (eqb-true _ _ e), refl)
+    by_byte false true e d = (ap (λ (c : ℕ). c ∷ s) (eqb-true _ _ d), refl)
+    by_byte false false e d = (b, s, refl, e, d, refl)
 
 byte_order_passes : (o : ℕ) (order : Order) (r : List ℕ) → reads.byte_order o (order_byte order ∷ r) ≡ Done order (o + 1) r
 unfolding reads.byte_order
 byte_order_passes o Little r = refl
 byte_order_passes o Big r = refl
-
-byte_order_shows : (o : ℕ) (s : List ℕ) (f : Fault) → reads.byte_order o s ≡ Faulty f → byte_order.Refused o s f
-unfolding reads.byte_order
-byte_order_shows o [] f e = absurd cc
-byte_order_shows o (b ∷ s) f e = elim (chosen (eqb b 108) _ _ _ e) [
-  | inl h ↦ absurd (cc (h.1))
-  | inr h ↦ elim (chosen (eqb b 66) _ _ _ h.1) [
-    | inl k ↦ absurd (cc (k.1))
-    | inr k ↦ (b, s, refl, h.0, k.0, sym (same_fault {A = Order} (fault o reasons.ByteOrder) f k.1))
-  ]
-]
 
 byte_order_refuses : (o b : ℕ) (s : List ℕ) → eqb b 108 ≡ false → eqb b 66 ≡ false → reads.byte_order o (b ∷ s) ≡ Faulty (fault o reasons.ByteOrder)
 unfolding reads.byte_order
@@ -98,9 +83,8 @@ byte_order_refuses o b s e d = rw (e, d) refl
 
 pub Agrees-byte_order : Agrees byte_order reads.byte_order
 Agrees-byte_order = record {
-  reads = λ o s order q r bytes e. byte_order_reads o s order q r e;
+  says = λ o s bytes. byte_order_says o s;
   passes = λ o s order q r h. rw (h.0, h.1) (byte_order_passes o order r);
-  shows = λ o s f bytes e. byte_order_shows o s f e;
   refuses = λ o s f h. rw (h.2, h.5) (byte_order_refuses o h.0 h.1 h.3 h.4);
   front = λ o s order q r h. (order_byte order ∷ [], h.0);
   passes_more = λ c o s order q r h. (ap (λ (t : List ℕ). t ++ c) h.0, h.1);
@@ -141,26 +125,28 @@ module _ (bounds : Bounds) (order : Order) (depth_left end : ℕ) where
 -- ---- agreement
 
 -- the text is the signatures of some types
-Agrees-types : (text : List ℕ) → AreShaped (types_spelled text) × (sigs (types_spelled text) ≡ text) → Agrees (types_of_text text) (reads.types_of_text text)
+Agrees-types : (text : List ℕ) → AreShaped (types_spelled text) × (sigs (types_spelled text) ≡ text) → Agrees (types_of_text text) (reading.pure (types_spelled text))
 Agrees-types text ok = record {
-  reads = λ o s ts q r bytes e. let same : types_spelled text ≡ ts = cc in (ap sigs (sym same) ∙ ok.1, subst AreShaped same ok.0, cc, cc);
+  says = λ o s bytes. (ok.1, ok.0, refl, refl);
   passes = λ o s ts q r h. let same : types_spelled text ≡ ts = ap types_spelled (sym h.0) ∙ spelled_sigs ts in rw (same, h.2, h.3) refl;
-  shows = λ o s f bytes e. absurd cc;
   refuses = λ o s f h. absurd h;
   front = λ o s ts q r h. ([], sym h.3);
   passes_more = λ c o s ts q r h. (h.0, h.1, h.2, ap (λ (t : List ℕ). t ++ c) h.3);
   refuses_more = λ c o s f h. absurd h;
 }
 
-Agrees-body : (bounds : Bounds) (order : Order) (depth_left : ℕ) (ts : TypeTrees) → AreShaped ts → (end : ℕ) → Agrees (body_items bounds order depth_left ts end) (reads.body_items bounds order depth_left ts end)
-Agrees-body bounds order depth_left ts complete end =
-    Agrees-before (faults.fields (value bounds order depth_left end) ts) (reading.fields (reading.value bounds order depth_left end) ts) _ _
-    (agrees_fields bounds order depth_left (value bounds order depth_left) (reading.value bounds order depth_left) (value_inside bounds order depth_left) (λ e b t c. Agrees-value bounds order depth_left e b t c) end ts complete) (λ xs.
+Agrees-body : (limits : Limits) (fds : Option ℕ) (order : Order) (ts : TypeTrees) → AreShaped ts → (end : ℕ) → Agrees (body_items (bounds_with limits fds) order limits.depth ts end) (body_read limits fds order ts end)
+unfolding body_read
+Agrees-body limits fds order ts complete end =
+    let bounds = bounds_with limits fds in
+    Agrees-before (faults.fields (value bounds order limits.depth end) ts) (reading.fields (reading.value bounds order limits.depth end) ts) _ _
+    (agrees_fields bounds order limits.depth (value bounds order limits.depth) (reading.value bounds order limits.depth) (value_inside bounds order limits.depth) (Agrees-value bounds order limits.depth) end ts complete) (λ xs.
     Agrees-before (items.ends end) (reading.ends end) _ _ (Agrees-ends end) (λ _.
     Agrees-pure xs))
 
-pub Agrees-message_items : (limits : Limits) → Agrees (message_items limits) (reads.message limits)
-Agrees-message_items limits =
+pub Agrees-fixed : (limits : Limits) → Agrees (fixed_items limits) (fixed_header limits)
+unfolding fixed_header
+Agrees-fixed limits =
     Agrees-before byte_order reads.byte_order _ _ Agrees-byte_order (λ order.
     Agrees-before (items.number order 1 16 (not_zero_row reasons.Kind)) (reading.number order 1 16 (not_zero_row reasons.Kind)) _ _ (Agrees-number order 1 16 (not_zero_row reasons.Kind)) (λ kind.
     Agrees-before (items.number order 1 16 no_row) (reading.number order 1 16 no_row) _ _ (Agrees-number order 1 16 no_row) (λ flags.
@@ -169,11 +155,24 @@ Agrees-message_items limits =
     Agrees-before (items.number order 4 16 (not_zero_row reasons.ZeroSerial)) (reading.number order 4 16 (not_zero_row reasons.ZeroSerial)) _ _ (Agrees-number order 4 16 (not_zero_row reasons.ZeroSerial)) (λ serial.
     Agrees-before (opening limits.depth) (reads.opening limits.depth) _ _ (Agrees-opening limits.depth) (λ depth_left.
     Agrees-before (items.number order 4 16 (fields_row limits body)) (reading.number order 4 16 (fields_row limits body)) _ _ (Agrees-number order 4 16 (fields_row limits body)) (λ n.
-    Agrees-then (items.contents n (field (bounds_of limits) order depth_left)) (reading.contents n (reads.field (bounds_of limits) order depth_left)) _ _
-    (Agrees-contents n (field (bounds_of limits) order depth_left) (reads.field (bounds_of limits) order depth_left) (λ end before. Agrees-field (bounds_of limits) order depth_left end before) (λ end before. field_moves (bounds_of limits) order depth_left end before)) (λ fs o s q r was.
-    Agrees-before (items.validate (lacks (required kind) fs)) (reading.validate (lacks (required kind) fs)) _ _ (Agrees-validate (lacks (required kind) fs)) (λ _.
+    Agrees-pure (record { order = order; kind = kind; flags = flags; body = body; serial = serial; fields = n })))))))))
+
+pub Agrees-fields : (limits : Limits) (order : Order) (n : ℕ) → limits.depth ≡ suc (limits.depth - 1) → Agrees (items.contents n (field (bounds_of limits) order (limits.depth - 1))) (fields_read limits order n)
+unfolding fields_read
+Agrees-fields limits order n deep = Agrees-contents n (field (bounds_of limits) order (limits.depth - 1)) (field_read limits order) (λ end before. Agrees-field limits order (limits.depth - 1) end deep before) (field_moves (bounds_of limits) order (limits.depth - 1))
+
+pub Agrees-message_items : (limits : Limits) → Agrees (message_items limits) (message_read limits)
+unfolding message_read
+Agrees-message_items limits =
+    Agrees-then (fixed_items limits) (fixed_header limits) _ _ (Agrees-fixed limits) (λ h o s p t fixed.
+    let room = fixed.4.4.4.4.4.4 in
+    let deep : limits.depth ≡ suc (limits.depth - 1) = omega (arith, (open_to limits.depth fixed.4.4.4.4.4.1 fixed.4.4.4.4.4.2 room.0 room.1 room.2 room.3).0) in
+    Agrees-then (items.contents h.fields (field (bounds_of limits) h.order (limits.depth - 1))) (fields_read limits h.order h.fields) _ _ (Agrees-fields limits h.order h.fields deep) (λ fs o s q r was.
+    let signed = signature_text (body_signature fs) (field_signature (bounds_of limits) h.order (limits.depth - 1) (o + h.fields) fs [] o s q r was.0) in
+    let whole : ValueTrees → Order × MessageTree = λ xs. (h.order, record { kind = h.kind; flags = h.flags; serial = h.serial; fields = fs; body = xs }) in
+    Agrees-before (items.validate (lacks (required h.kind) fs)) (reading.validate (lacks (required h.kind) fs)) _ _ (Agrees-validate (lacks (required h.kind) fs)) (λ _.
     Agrees-before (items.bounded 8 (items.padding 8)) (reading.bounded 8 (reading.padding 8)) _ _ (Agrees-bounded 8 (items.padding 8) (reading.padding 8) (Agrees-padding 8)) (λ _.
-    Agrees-then (types_of_text (body_signature fs)) (reads.types_of_text (body_signature fs)) _ _ (Agrees-types (body_signature fs) (signature_text (body_signature fs) (field_signature (bounds_of limits) order depth_left (o + n) fs [] o s q r was.0))) (λ ts o s q r typed.
-    Agrees-before (items.bounded body (body_items (bounds_with limits (body_fds limits fs)) order limits.depth ts)) (reading.bounded body (reads.body_items (bounds_with limits (body_fds limits fs)) order limits.depth ts)) _ _
-    (Agrees-bounded body (body_items (bounds_with limits (body_fds limits fs)) order limits.depth ts) (reads.body_items (bounds_with limits (body_fds limits fs)) order limits.depth ts) (Agrees-body (bounds_with limits (body_fds limits fs)) order limits.depth ts typed.1)) (λ xs.
-    Agrees-pure (order, record { kind = kind; flags = flags; serial = serial; fields = fs; body = xs }))))))))))))))
+    Agrees-then (types_of_text (body_signature fs)) (reading.pure (types_spelled (body_signature fs))) _ (λ ts. reading.◌>>=◌ (reading.bounded h.body (body_read limits (body_fds limits fs) h.order ts)) (λ xs. reading.pure (whole xs))) (Agrees-types (body_signature fs) signed) (λ ts o s q r typed.
+    Agrees-before (items.bounded h.body (body_items (bounds_with limits (body_fds limits fs)) h.order limits.depth ts)) (reading.bounded h.body (body_read limits (body_fds limits fs) h.order ts)) _ _
+    (Agrees-bounded h.body (body_items (bounds_with limits (body_fds limits fs)) h.order limits.depth ts) (body_read limits (body_fds limits fs) h.order ts) (Agrees-body limits (body_fds limits fs) h.order ts typed.1)) (λ xs.
+    Agrees-pure (whole xs)))))))

@@ -3,14 +3,16 @@ use Rattle.std.proofs.Common.{◌≡◌, ℕ, ◌<◌, ◌≤◌, List, [], ◌+
 use Rattle.std.proofs.lemmas.List.{length-append, take_at, drop_at}
 use Rattle.dbus_value_model.specs.declared.limits.Limits.{Limits}
 use Rattle.dbus_value_model.specs.declared.order.Order.{Order}
+use Rattle.dbus_value_model.specs.declared.order.Order.TheVariants.{Little, Big}
 use Rattle.dbus_value_model.specs.declared.fault.Fault.{Fault}
 use Rattle.dbus_value_model.specs.Reading.{Faulty, Partial}
 use Rattle.dbus_message_model.specs.Messages.{MessageTree, message_bytes}
-use Rattle.dbus_header.specs.MessageReading as reads
+use Rattle.dbus_header.specs.HeaderReading.{fixed_header, message_read}
+use Rattle.dbus_header.specs.MessageReading.{byte_order}
 use Rattle.dbus_message_model.specs.ValidMessages.{IsValidMessage}
 use Rattle.dbus_header.specs.MessageOutcomes.{IsWhole, IsRefused, IsPartial}
 use Rattle.dbus_header.specs.OutcomeLaws.{OneMessage, OneLength, SomeOutcome, OneOutcome, OneWhole, OneFault, WholeForGood, RefusedForGood, WiderWhole}
-use Rattle.dbus_message_model.proofs.BothOrders.{valid_from, same_message_length}
+use Rattle.dbus_message_model.proofs.BothOrders.{valid_from, any_message_length}
 use Rattle.dbus_message_model.proofs.Widening.{wider_message}
 use Rattle.dbus_header.proofs.MessageParts.{Agrees-message_items}
 use Rattle.dbus_header.proofs.MessageOutcomes as within
@@ -19,7 +21,7 @@ pub one_message : OneMessage
 one_message limits order other m n x y a b same = within.one_message limits order other m n x y (a order) (b other) same
 
 pub one_length : OneLength
-one_length m = same_message_length m
+one_length m = any_message_length Little Big m
 
 pub some_outcome : SomeOutcome
 unfolding IsWhole IsRefused IsPartial
@@ -63,8 +65,8 @@ whole_inside limits b order m n w =
     let all = ap length w.bytes ∙ length-append (message_bytes order m) w.rest in
     (rw w.size (omega arith), omega (arith, all, w.size))
 
-nothing_read : (limits : Limits) → reads.message limits 0 [] ≡ Partial
-unfolding reads.byte_order
+nothing_read : (limits : Limits) → message_read limits 0 [] ≡ Partial
+unfolding message_read fixed_header byte_order
 nothing_read limits = refl
 
 -- where there are no bytes, more are wanted
@@ -72,7 +74,7 @@ pub nothing_partial : (limits : Limits) → IsPartial limits []
 unfolding IsWhole IsRefused IsPartial
 nothing_partial limits = record {
   not_whole = λ order m n w. let none : List ℕ = [] in let e : none ≡ message_bytes order m ++ w.rest = w.bytes in absurd cc;
-  not_refused = λ f refused. let e : reads.message limits 0 [] ≡ Faulty f = (Agrees-message_items limits).refuses 0 [] f refused in let d = sym (nothing_read limits) ∙ e in absurd cc;
+  not_refused = λ f refused. let e : message_read limits 0 [] ≡ Faulty f = (Agrees-message_items limits).refuses 0 [] f refused in let d = sym (nothing_read limits) ∙ e in absurd cc;
 }
 
 -- the first n bytes are the message's, and the others follow

@@ -15,6 +15,7 @@ use Rattle.dbus_value_model.specs.declared.fault.Reason.{Reason}
 use Rattle.dbus_value_model.specs.ValueItems.{text_row, opened, value, fields}
 use Rattle.dbus_message_model.specs.Messages.{FieldTree, MessageTree, order_byte, field_type, field_struct, Want, Anything, OfType, Name, Serial, want, is_known, has_code, IsField, lacks, required, body_signature, body_fds}
 use Rattle.dbus_value_model.specs.declared.fault.Reason.TheVariants as reasons
+use Rattle.dbus_header.specs.declared.fixed_header.FixedHeader.{FixedHeader}
 use Rattle.dbus_texts.specs.declared.text_kind.TextKind.TheVariants as kinds
 
 abbrev pub not_zero_row : Reason → ℕ → ℕ → Option Reason
@@ -62,6 +63,20 @@ value_wanted bounds order depth_left end Serial t = do
   n ← number order 4 end (not_zero_row reasons.ZeroSerial)
   pure (NumberValue UINT32 n)
 
+-- the signature of a field's variant
+abbrev pub signature_wanted : Order → ℕ → WantedText → Item TypeTree
+signature_wanted order end k = do
+  n ← number order 1 end (text_row end)
+  held ← signature k n
+  nul
+  pure held
+
+-- the signature and the value that are wanted of a field
+abbrev pub signed_value : Bounds → Order → ℕ → ℕ → Want → Item ValueTree
+signed_value bounds order depth_left end w = do
+  held ← signature_wanted order end (kind_wanted w)
+  value_wanted bounds order depth_left end w held
+
 -- a struct of the code and a variant, where so many containers may be opened
 abbrev pub field_items : Bounds → Order → ℕ → ℕ → List FieldTree → Item FieldTree
 field_items bounds order depth_left end before = do
@@ -69,10 +84,7 @@ field_items bounds order depth_left end before = do
   within ← opening depth_left
   code ← number order 1 end (code_row before)
   inner ← opening within
-  n ← number order 1 end (text_row end)
-  held ← signature (kind_wanted (want code)) n
-  nul
-  x ← value_wanted bounds order inner end (want code) held
+  x ← signed_value bounds order inner end (want code)
   pure (record { code = code; value = x })
 
 -- a field is passed where it is spelled, whole, and is one after those before it
@@ -103,20 +115,26 @@ body_items bounds order depth_left ts end = do
   ends end
   pure xs
 
--- In the first 16 bytes and in the padding after the fields there is no end: 16 and 8 are far enough.
-abbrev pub message_items : Limits → Item (Order × MessageTree)
-message_items limits = do
+-- The items that have fixed places: the first 16 bytes, before whose end there is no other.
+abbrev pub fixed_items : Limits → Item FixedHeader
+fixed_items limits = do
   order ← byte_order
   kind ← number order 1 16 (not_zero_row reasons.Kind)
   flags ← number order 1 16 no_row
   number order 1 16 version_row
   body ← number order 4 16 no_row
   serial ← number order 4 16 (not_zero_row reasons.ZeroSerial)
-  depth_left ← opening limits.depth
+  opening limits.depth
   n ← number order 4 16 (fields_row limits body)
-  fs ← contents n (field (bounds_of limits) order depth_left)
-  validate (lacks (required kind) fs)
+  pure (record { order = order; kind = kind; flags = flags; body = body; serial = serial; fields = n })
+
+-- In the padding after the fields there is no end: 8 is far enough.
+abbrev pub message_items : Limits → Item (Order × MessageTree)
+message_items limits = do
+  h ← fixed_items limits
+  fs ← contents h.fields (field (bounds_of limits) h.order (limits.depth - 1))
+  validate (lacks (required h.kind) fs)
   bounded 8 (padding 8)
   ts ← types_of_text (body_signature fs)
-  xs ← bounded body (body_items (bounds_with limits (body_fds limits fs)) order limits.depth ts)
-  pure (order, record { kind = kind; flags = flags; serial = serial; fields = fs; body = xs })
+  xs ← bounded h.body (body_items (bounds_with limits (body_fds limits fs)) h.order limits.depth ts)
+  pure (h.order, record { kind = h.kind; flags = h.flags; serial = h.serial; fields = fs; body = xs })

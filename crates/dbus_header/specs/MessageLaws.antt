@@ -7,7 +7,7 @@ use Rattle.dbus_value_model.specs.Bytes.{IsBytes}
 use Rattle.dbus_value_model.specs.declared.fault.Fault.{Fault}
 use Rattle.dbus_message_model.specs.Messages.{MessageTree, message_bytes, IsMessage}
 use Rattle.dbus_value_model.specs.Reading.{Done, Faulty}
-use Rattle.dbus_header.specs.MessageReading as reads
+use Rattle.dbus_header.specs.HeaderReading.{message_read}
 use Rattle.dbus_header.specs.MessageRelations.{IsWhole, IsRefused, IsPartial}
 
 -- No message's bytes begin another's: one list of bytes begins with one message of one order at most.
@@ -36,7 +36,7 @@ MessageWholeForGood = (limits : Limits) (b c : List ℕ) (order : Order) (m : Me
 -- Reading answers what the relations say, both ways.
 abbrev pub ReadsMessages : Type 0
 ReadsMessages = (limits : Limits) (b : List ℕ) (order : Order) (m : MessageTree) (n : ℕ) (rest : List ℕ) → IsBytes b
-    → (reads.message limits 0 b ≡ Done (order, m) n rest) ↔ (IsMessage limits order m × (b ≡ message_bytes order m ++ rest) × (n ≡ length (message_bytes order m)))
+    → (message_read limits 0 b ≡ Done (order, m) n rest) ↔ (IsMessage limits order m × (b ≡ message_bytes order m ++ rest) × (n ≡ length (message_bytes order m)))
 
 abbrev pub ReadsMessageFaults : Type 0
-ReadsMessageFaults = (limits : Limits) (b : List ℕ) (f : Fault) → IsBytes b → (reads.message limits 0 b ≡ Faulty f) ↔ IsRefused limits b f
+ReadsMessageFaults = (limits : Limits) (b : List ℕ) (f : Fault) → IsBytes b → (message_read limits 0 b ≡ Faulty f) ↔ IsRefused limits b f

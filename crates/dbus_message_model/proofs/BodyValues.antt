@@ -4,6 +4,7 @@ use Rattle.std.proofs.lemmas.Bool.{and_parts}
 use Rattle.dbus_value_model.specs.PackedBytes.{keeps_bytes, keep_bytes}
 use Rattle.dbus_value_model.specs.ValueViews.{value_tree, value_trees_of}
 use Rattle.dbus_value_model.specs.declared.value.Value.{Value}
+use Rattle.dbus_value_model.proofs.Items.{item_of}
 use Rattle.dbus_message_model.specs.Lookups.{body_value}
 
 module _ {A : Type 0} where
@@ -22,12 +23,7 @@ module _ {A : Type 0} where
   value_found xs n more None is h = past xs n h
   value_found xs n more (Some x) is h = there xs n x.now h.0 ∙ ap (λ (v : Value A). Some (value_tree v)) (sym is)
 
-  kept_at : (xs : List (Value A)) (n : ℕ) (d : Value A) → n < length xs → IsTrue (keep_bytes xs) → IsTrue (keeps_bytes (get_or xs n d))
-  kept_at [] n d h kept = absurd (omega arith)
-  kept_at (x ∷ xs) zero d h kept = (and_parts _ _ kept).0
-  kept_at (x ∷ xs) (suc n) d h kept = kept_at xs n d (omega arith) (and_parts _ _ kept).1
-
   pub kept_found : (xs : List (Value A)) (n : ℕ) (more : Bor (Value A) → Type 0) (r : Option (Bor (Value A))) → IsTrue (keep_bytes xs) → IfSome r (λ x. x.now ≡ get_or xs n x.now) → MatchOption r (length xs ≤ n) (λ x. (n < length xs) × more x)
       → IfSome r (λ v. IsTrue (keeps_bytes v.now))
   kept_found xs n more None kept is h = tt
-  kept_found xs n more (Some x) kept is h = subst (λ (v : Value A). IsTrue (keeps_bytes v)) (sym is) (kept_at xs n x.now h.0 kept)
+  kept_found xs n more (Some x) kept is h = item_of (λ vs. IsTrue (keep_bytes vs)) (λ v. IsTrue (keeps_bytes v)) (λ v vs k. and_parts _ _ k) xs n x.now h.0 is kept

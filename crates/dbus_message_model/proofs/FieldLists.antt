@@ -6,6 +6,7 @@ use Rattle.dbus_message_model.specs.Lookups.{field_value}
 use Rattle.dbus_message_model.specs.Messages.{has_code, text_in, body_signature, number_in, fd_count}
 use Rattle.dbus_value_model.specs.PackedBytes.{keeps_bytes, keep_bytes}
 use Rattle.dbus_value_model.specs.ValueViews.{value_tree}
+use Rattle.dbus_value_model.proofs.Items.{item_of}
 use Rattle.dbus_message_model.specs.PackedParts.{field_values}
 use Rattle.dbus_message_model.specs.PartsViews.{field_tree, field_trees}
 use Rattle.dbus_message_model.specs.declared.header_field.HeaderField.{HeaderField}
@@ -45,10 +46,5 @@ module _ {A : Type 0} (fields : List (HeaderField A)) (i : ℕ) where
   pub value_here : (c : ℕ) (f : HeaderField A) → i < length fields → f ≡ get_or fields i f → f.code ≡ c → field_value c (field_trees (drop i fields)) ≡ Some (value_tree f.value)
   value_here c f h is e = rw (fields_from f h is, eq-eqb f.code c e) refl
 
-field_kept_at : {A : Type 0} (fields : List (HeaderField A)) (i : ℕ) (d : HeaderField A) → i < length fields → IsTrue (keep_bytes (field_values fields)) → IsTrue (keeps_bytes (get_or fields i d).value)
-field_kept_at [] i d h kept = absurd (omega arith)
-field_kept_at (f ∷ fields) zero d h kept = (and_parts _ _ kept).0
-field_kept_at (f ∷ fields) (suc i) d h kept = field_kept_at fields i d (omega arith) (and_parts _ _ kept).1
-
 pub field_kept : {A : Type 0} (fields : List (HeaderField A)) (i : ℕ) (f : HeaderField A) → i < length fields → f ≡ get_or fields i f → IsTrue (keep_bytes (field_values fields)) → IsTrue (keeps_bytes f.value)
-field_kept fields i f h is kept = subst (λ (u : HeaderField _). IsTrue (keeps_bytes u.value)) (sym is) (field_kept_at fields i f h kept)
+field_kept fields i f h is kept = item_of (λ fs. IsTrue (keep_bytes (field_values fs))) (λ u. IsTrue (keeps_bytes u.value)) (λ u fs k. and_parts _ _ k) fields i f h is kept

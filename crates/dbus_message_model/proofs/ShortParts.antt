@@ -4,25 +4,8 @@ use Rattle.std.specs.Coded.{×_prop, Unit-prop, le_prop}
 use Rattle.dbus_texts.specs.Types.{STRING, OBJECT_PATH, SIGNATURE}
 use Rattle.dbus_value_model.specs.ShortSignatures.{HasShortSignatures, HaveShortSignatures}
 use Rattle.dbus_value_model.specs.Values.{ValueTree, ValueTrees, NoValues, MoreValues, NumberValue, TextValue, VariantValue, ArrayValue, StructValue, EntryValue, value_trees, IsWellFormed, AreWellFormed}
+use Rattle.dbus_value_model.proofs.ShortLaws.{all_short}
 use Rattle.dbus_message_model.specs.Messages.{FieldTree, field_struct, field_array}
-
-mutual
-  pub short_of : (room : ℕ) (v : ValueTree) → IsWellFormed room v → HasShortSignatures v
-  short_of room (NumberValue k n) h = tt
-  short_of room (TextValue STRING t) h = tt
-  short_of room (TextValue OBJECT_PATH t) h = tt
-  short_of room (TextValue SIGNATURE t) h = h.1
-  short_of zero (VariantValue x) h = absurd h
-  short_of (suc room) (VariantValue x) h = (h.0.1, short_of room x h.1)
-  short_of zero (ArrayValue t xs) h = absurd h
-  short_of (suc room) (ArrayValue t xs) h = short_all room xs h.1
-  short_of zero (StructValue xs) h = absurd h
-  short_of (suc room) (StructValue xs) h = short_all room xs h
-  short_of room (EntryValue k v) h = (short_of room k h.0, short_of room v h.1)
-
-  pub short_all : (room : ℕ) (vs : ValueTrees) → AreWellFormed room vs → HaveShortSignatures vs
-  short_all room NoValues h = tt
-  short_all room (MoreValues x xs) h = (short_of room x h.0, short_all room xs h.1)
 
 mutual
   pub short_prop : (v : ValueTree) → IsProp (HasShortSignatures v)
@@ -39,6 +22,9 @@ mutual
   shorts_prop NoValues = Unit-prop
   shorts_prop (MoreValues x xs) = ×_prop (short_prop x) (shorts_prop xs)
 
+pub short_all : (room : ℕ) (vs : ValueTrees) → AreWellFormed room vs → HaveShortSignatures vs
+short_all room vs h = all_short room vs h
+
 -- the fields' structs too
 pub short_fields : (room : ℕ) (fs : List FieldTree) → IsWellFormed (suc room) (field_array fs) → HaveShortSignatures (value_trees (map field_struct fs))
-short_fields room fs h = short_all room (value_trees (map field_struct fs)) h.1
+short_fields room fs h = all_short room (value_trees (map field_struct fs)) h.1

@@ -13,7 +13,7 @@ use Rattle.dbus_value_model.proofs.Indexes.{any_all_below}
 use Rattle.dbus_message_model.specs.Messages.{MessageTree, IsMessage, field_array, body_start, fd_count, KeepsIndexes}
 use Rattle.dbus_message_model.specs.LimitLaws.{AreWider, WiderLimits, ValidWithin}
 use Rattle.dbus_message_model.specs.ValidMessages.{IsValidMessage}
-use Rattle.dbus_message_model.proofs.BothOrders.{any_within, any_within_all, any_body_start, any_message_length}
+use Rattle.dbus_message_model.proofs.BothOrders.{message_under, any_within, any_within_all, any_body_start, any_message_length}
 use Rattle.dbus_value_model.specs.Bytes.{gap_to}
 use Rattle.dbus_value_model.specs.Forming.{NestsWithin, NestWithin}
 use Rattle.dbus_value_model.specs.Spelling.{contents_start, ended_text, spelling, IsWithinLimits, AreWithinLimits}
@@ -56,13 +56,7 @@ module _ (array longer : ℕ) (le : array ≤ longer) (order : Order) where
 
 -- ---- well-formed values
 
-formed_wider : (room more : ℕ) (v : ValueTree) → room ≤ more → IsWellFormed room v → IsWellFormed more v
-formed_wider room more v le h = let w = parts_of room v h in formed_of more v (nests_wider room more v le w.0) w.1 w.2 w.3
-
-are_formed_wider : (room more : ℕ) (vs : ValueTrees) → room ≤ more → AreWellFormed room vs → AreWellFormed more vs
-are_formed_wider room more vs le h = let w = all_parts_of room vs h in all_formed_of more vs (nest_wider room more vs le w.0) w.1 w.2 w.3
-
--- what nests within less room is well formed there
+-- what nests within some room is well formed there
 formed_within : (room more : ℕ) (v : ValueTree) → NestsWithin room v → IsWellFormed more v → IsWellFormed room v
 formed_within room more v nests h = let w = parts_of more v h in formed_of room v nests w.1 w.2 w.3
 
@@ -80,22 +74,13 @@ wider_indexes limits wider m rule h = elim rule [
 -- ---- messages
 
 pub wider_message : (limits wider : Limits) (order : Order) (m : MessageTree) → AreWider wider limits → IsMessage limits order m → IsMessage wider order m
-wider_message limits wider order m le h = record {
-  kind = h.kind;
-  kind_fits = h.kind_fits;
-  flags = h.flags;
-  serial = h.serial;
-  serial_fits = h.serial_fits;
-  fields = h.fields;
-  formed_fields = formed_wider limits.depth wider.depth (field_array m.fields) le.2 h.formed_fields;
-  within_fields = within_wider limits.array wider.array le.1 order 12 (field_array m.fields) h.within_fields;
-  required_codes = h.required_codes;
-  signature = h.signature;
-  formed_body = are_formed_wider limits.depth wider.depth m.body le.2 h.formed_body;
-  within_body = are_within_wider limits.array wider.array le.1 order (body_start order m.fields) m.body h.within_body;
-  limit = omega (arith, h.limit, le.0);
-  indexes = wider_indexes limits wider m le.3 h.indexes;
-}
+wider_message limits wider order m le h =
+    let fields = field_array m.fields in
+    message_under limits wider order order m h
+    (formed_within wider.depth limits.depth fields (nests_wider limits.depth wider.depth fields le.2 (parts_of limits.depth fields h.formed_fields).0) h.formed_fields)
+    (within_wider limits.array wider.array le.1 order 12 fields h.within_fields)
+    (are_formed_within wider.depth limits.depth m.body (nest_wider limits.depth wider.depth m.body le.2 (all_parts_of limits.depth m.body h.formed_body).0) h.formed_body)
+    (are_within_wider limits.array wider.array le.1 order (body_start order m.fields) m.body h.within_body) (omega (arith, h.limit, le.0)) (wider_indexes limits wider m le.3 h.indexes)
 
 -- no limits are wider than those of the specification
 pub widest : (limits : Limits) → AreWider specification limits
@@ -107,23 +92,10 @@ widest_valid limits m valid order = wider_message limits specification order m (
 pub kept_valid : (limits : Limits) (m : MessageTree) → IsValidMessage specification m → KeepsLimits limits m → IsValidMessage limits m
 kept_valid limits m valid keeps order =
     let h = valid order in
-    record {
-      kind = h.kind;
-      kind_fits = h.kind_fits;
-      flags = h.flags;
-      serial = h.serial;
-      serial_fits = h.serial_fits;
-      fields = h.fields;
-      formed_fields = formed_within limits.depth specification.depth (field_array m.fields) keeps.0.0 h.formed_fields;
-      within_fields = any_within limits.array Little order 12 (field_array m.fields) keeps.1.0;
-      required_codes = h.required_codes;
-      signature = h.signature;
-      formed_body = are_formed_within limits.depth specification.depth m.body keeps.0.1 h.formed_body;
-      within_body = any_within_all limits.array Little order (body_start order m.fields) m.body
-          (subst (λ (n : ℕ). AreWithinLimits limits.array Little n m.body) (any_body_start Little order m.fields) keeps.1.1);
-      limit = omega (arith, keeps.2, any_message_length Little order m);
-      indexes = keeps.3;
-    }
+    message_under specification limits order order m h (formed_within limits.depth specification.depth (field_array m.fields) keeps.0.0 h.formed_fields)
+    (any_within limits.array Little order 12 (field_array m.fields) keeps.1.0) (are_formed_within limits.depth specification.depth m.body keeps.0.1 h.formed_body)
+    (any_within_all limits.array Little order (body_start order m.fields) m.body (subst (λ (n : ℕ). AreWithinLimits limits.array Little n m.body) (any_body_start Little order m.fields) keeps.1.1))
+    (omega (arith, keeps.2, any_message_length Little order m)) keeps.3
 
 pub valid_keeps : (limits : Limits) (m : MessageTree) → IsValidMessage limits m → KeepsLimits limits m
 valid_keeps limits m valid =

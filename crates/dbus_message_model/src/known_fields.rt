@@ -15,7 +15,7 @@ use dbus_value_model::Value;
 use std::alloc::Allocator;
 
 /// Whether a field of the code is there.
-#[tactic(auto, using(crate::proofs::FieldLists::has_here, crate::proofs::FieldLists::has_no_more))]
+#[tactic(auto, using(crate::proofs::FieldLists::has_here, crate::proofs::FieldLists::has_later, crate::proofs::FieldLists::has_no_more))]
 pub fn has_field<A: Allocator>(fields: &[HeaderField<A>], code: u8) -> bool
     ensures { result ≡ has_code code (field_trees fields.now) }
 {
@@ -70,6 +70,7 @@ pub fn text_in<A: Allocator>(value: &Value<A>) -> &[u8]
 }
 
 /// The signature of the body: the text of the first SIGNATURE field, or nothing.
+#[tactic(auto, using(crate::proofs::FieldLists::signature_here, crate::proofs::FieldLists::signature_later))]
 pub fn body_signature<A: Allocator>(fields: &[HeaderField<A>]) -> &[u8]
     ensures { result.now ≡ body_signature (field_trees fields.now) }
 {
@@ -93,6 +94,7 @@ fn number_in<A: Allocator>(value: &Value<A>) -> u32
 
 /// How many descriptors come with the message: the number of the first UNIX_FDS field, or 0. D-Bus Specification, "Header
 /// Fields".
+#[tactic(auto, using(crate::proofs::FieldLists::count_here, crate::proofs::FieldLists::count_later))]
 pub fn fd_count<A: Allocator>(fields: &[HeaderField<A>]) -> u32
     ensures { result ≡ fd_count (field_trees fields.now) }
 {

@@ -16,7 +16,6 @@ use Rattle.dbus_header.specs.HeaderReading.{body_read, message_read}
 use Rattle.dbus_header.specs.MessageOutcomes.{IsWhole}
 use Rattle.dbus_header.proofs.Decoded.{whole_read}
 use Rattle.dbus_header.proofs.MessageOutcomes.{reads_messages}
-use Rattle.dbus_header.proofs.ReadingParts.{message_is}
 use Rattle.dbus_header.proofs.StatedLengths.{header_states}
 use Rattle.dbus_value_validator.specs.Endings.{EndsAt, IsNotRead}
 use Rattle.dbus_validate.specs.declared.validating.Head.{Head}
@@ -63,7 +62,7 @@ module _ (limits : Limits) (bytes : List ℕ) (are : (i : ℕ) → get_or bytes 
 
   reading : (order : Order) (m : MessageTree) (n : ℕ) → IsWhole limits bytes order m n → (rest : List ℕ) × (message_read limits 0 bytes ≡ Done (order, m) n rest)
   unfolding IsWhole
-  reading order m n w = (w.rest, message_is limits bytes ∙ (reads_messages limits bytes order m n w.rest (bytes_from bytes are)).1 (w.message, w.bytes, w.size))
+  reading order m n w = (w.rest, (reads_messages limits bytes order m n w.rest (bytes_from bytes are)).1 (w.message, w.bytes, w.size))
 
   pub known : (order : Order) (m : MessageTree) (n : ℕ) → IsWhole limits bytes order m n → IsValidated limits bytes (validated_of x seen) × (x.end ≡ n)
   known order m n w =

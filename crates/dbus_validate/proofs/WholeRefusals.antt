@@ -18,7 +18,6 @@ use Rattle.dbus_header.specs.HeaderReading.{fixed_header, fields_read, body_read
 use Rattle.dbus_header.specs.MessageOutcomes.{IsWhole}
 use Rattle.dbus_header.proofs.MessageOutcomes.{reads_messages}
 use Rattle.dbus_header.proofs.OutcomeLaws.{whole_for_good}
-use Rattle.dbus_header.proofs.ReadingParts.{message_is}
 use Rattle.dbus_header.proofs.StatedLengths.{header_states, stated_holds}
 use Rattle.dbus_value_validator.specs.Endings.{IsNotRead}
 use Rattle.dbus_value_validator.proofs.ReadParts.{not_same, not_first, not_second, not_faulty, not_partial}
@@ -44,7 +43,7 @@ module _ (limits : Limits) (bytes : List ℕ) (are : IsBytes bytes) where
   -- a message that they begin with is read
   pub not_read : IsNotRead (message_read limits 0 bytes) → BeginsWithNone limits bytes
   unfolding IsWhole
-  not_read unread = λ order m n w. unread (order, m) n w.rest (message_is limits bytes ∙ (reads_messages limits bytes order m n w.rest are).1 (w.message, w.bytes, w.size))
+  not_read unread = λ order m n w. unread (order, m) n w.rest ((reads_messages limits bytes order m n w.rest are).1 (w.message, w.bytes, w.size))
 
   pub no_header : IsNotRead (fixed_header limits 0 bytes) → BeginsWithNone limits bytes
   unfolding message_read

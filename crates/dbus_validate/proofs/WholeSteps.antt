@@ -6,22 +6,19 @@ use Rattle.dbus_texts.specs.declared.text_kind.TextKind.TheVariants.{Signature}
 use Rattle.dbus_value_model.specs.declared.limits.Limits.{Limits}
 use Rattle.dbus_value_model.specs.declared.order.Order.{Order}
 use Rattle.dbus_value_model.specs.Bytes.{IsBytes, gap_to}
-use Rattle.dbus_value_model.specs.Items.{Sequence}
+use Rattle.dbus_value_model.specs.Items.{Sequence, contents}
 use Rattle.dbus_value_model.specs.Specification.{bounds_of}
 use Rattle.dbus_value_model.specs.Values.{ValueTrees}
 use Rattle.dbus_value_model.specs.Reading.{Done, padding}
-use Rattle.dbus_value_laws.proofs.Contents.{Agrees-contents}
+use Rattle.dbus_value_laws.proofs.Agreement.{read_passes}
 use Rattle.dbus_value_laws.proofs.ReadSteps.{padding_is, bytes_from, bytes_at}
 use Rattle.dbus_message_model.specs.Messages.{FieldTree, MessageTree, lacks, required, body_signature, body_fds}
 use Rattle.dbus_header.specs.declared.fixed_header.FixedHeader.{FixedHeader}
 use Rattle.dbus_header.specs.HeaderReading.{fixed_header, fields_read, body_read, message_read}
 use Rattle.dbus_header.specs.MessageItems.{field}
-use Rattle.dbus_header.specs.MessageReading as reads
 use Rattle.dbus_header.specs.MessageOutcomes.{IsWhole}
 use Rattle.dbus_header.proofs.Decoded.{whole_read}
-use Rattle.dbus_header.proofs.Fields.{Agrees-field, field_moves}
-use Rattle.dbus_header.proofs.MessageParts.{field_signature}
-use Rattle.dbus_header.proofs.ReadingParts.{fields_are}
+use Rattle.dbus_header.proofs.MessageParts.{Agrees-fields, field_signature}
 use Rattle.dbus_validate.specs.declared.seen.Seen.{Seen}
 use Rattle.dbus_validate.specs.Validating.{IsValidated}
 use Rattle.dbus_validate.specs.Seen.{AreNoted}
@@ -41,10 +38,8 @@ padded_to end o q bytes is le read =
 pub in_sequence : (limits : Limits) (order : Order) (n o : ℕ) (s : List ℕ) (fs : List FieldTree) (q : ℕ) (r : List ℕ) → 0 < limits.depth → IsBytes s → fields_read limits order n o s ≡ Done fs q r
     → Sequence (field (bounds_of limits) order (limits.depth - 1) (o + n)) [] fs o s q r
 in_sequence limits order n o s fs q r opened are e =
-    let depth_left = limits.depth - 1 in
-    let deep : limits.depth ≡ suc depth_left = omega (arith, opened) in
-    let agrees = Agrees-contents n (field (bounds_of limits) order depth_left) (reads.field (bounds_of limits) order depth_left) (λ end before. Agrees-field (bounds_of limits) order depth_left end before) (λ end before. field_moves (bounds_of limits) order depth_left end before) in
-    (agrees.reads o s fs q r are (sym (fields_are limits order depth_left deep n o s) ∙ e)).0
+    let agrees = Agrees-fields limits order n (omega (arith, opened)) in
+    (read_passes (contents n (field (bounds_of limits) order (limits.depth - 1))) (fields_read limits order n) agrees o s are fs q r e).0
 
 module _ (limits : Limits) (bytes : List ℕ) (are : (i : ℕ) → get_or bytes i 0 < 256) (h : FixedHeader) (opened : 0 < limits.depth) (fs : List FieldTree) (fielded : fields_read limits h.order h.fields 16 (drop 16 bytes) ≡ Done fs (16 + h.fields) (drop (16 + h.fields) bytes)) where
   sequence : Sequence (field (bounds_of limits) h.order (limits.depth - 1) (16 + h.fields)) [] fs 16 (drop 16 bytes) (16 + h.fields) (drop (16 + h.fields) bytes)

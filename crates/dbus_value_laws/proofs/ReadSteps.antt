@@ -24,6 +24,18 @@ pub stops_after : {A B : Type 0} (e : Stop) (r : Outcome A) (next : A → Reader
 stops_after stops.Partial r next h = rw h refl
 stops_after (stops.Refused f) r next h = rw h refl
 
+-- ---- readers one after another
+
+pub same_after : {A B : Type 0} (r : Outcome A) (f g : A → Reader B) → ((x : A) (p : ℕ) (t : List ℕ) → f x p t ≡ g x p t) → after r f ≡ after r g
+same_after (Done x p t) f g h = h x p t
+same_after (Faulty f) _ g h = refl
+same_after Partial f g h = refl
+
+pub after_after : {A B C : Type 0} (r : Outcome A) (f : A → Reader B) (g : B → Reader C) → after (after r f) g ≡ after r (λ x p t. after (f x p t) g)
+after_after (Done x p t) f g = refl
+after_after (Faulty f) _ g = refl
+after_after Partial f g = refl
+
 -- ---- padding, byte by byte
 
 zeros_at : (k i b : ℕ) (s : List ℕ) → b ≡ 0 → zeros (suc k) i (b ∷ s) ≡ zeros k (i + 1) s

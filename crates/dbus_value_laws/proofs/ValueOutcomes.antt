@@ -108,3 +108,5 @@ pub reads_faults : ReadsFaults
 reads_faults bounds order depth_left end b t o s f h bytes =
     let agrees = Agrees-value bounds order depth_left end b t h in
     (read_refuses (faults.value bounds order depth_left end t) (reading.value bounds order depth_left end t) agrees o s bytes f, agrees.refuses o s f)
+
+pub ruleset laws = (one_value, one_outcome, done_for_good, reads_faults)

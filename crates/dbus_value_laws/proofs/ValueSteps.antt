@@ -12,23 +12,9 @@ use Rattle.dbus_types.specs.Alignments.{alignment_of}
 use Rattle.dbus_value_model.specs.ValueItems.{array_row}
 use Rattle.dbus_value_model.specs.ValueReaders.{number_value, text_value, variant_value, held_value, array_frame, open_array, array_value, open_struct, struct_value, entry_value}
 use Rattle.dbus_value_model.specs.Reading as reading
+use Rattle.dbus_value_laws.proofs.ReadSteps.{same_after, after_after}
 
 -- ---- reading a value of each type is its own reading
-
-same_suffix : {A B : Type 0} (read : Outcome A) (f g : A → Reader B) → ((x : A) (p : ℕ) (u : List ℕ) → f x p u ≡ g x p u) → after read f ≡ after read g
-same_suffix (Done x p u) f g h = h x p u
-same_suffix (Faulty x) f g h = refl
-same_suffix Partial f g h = refl
-
-framed_at : {B : Type 0} (n : ℕ) (next : ℕ → Reader B) (read : Outcome (Unit {0})) → after read (λ _. next n) ≡ after (after read (λ _. pure n)) next
-framed_at n next (Done x q r) = refl
-framed_at n next (Faulty f) = refl
-framed_at n next Partial = refl
-
-framed : {B : Type 0} (p : ℕ → Reader (Unit {0})) (next : ℕ → Reader B) (read : Outcome ℕ) → after read (λ n o s. after (p n o s) (λ _. next n)) ≡ after (after read (λ n o s. after (p n o s) (λ _. pure n))) next
-framed p next (Done n q r) = framed_at n next (p n q r)
-framed p next (Faulty f) = refl
-framed p next Partial = refl
 
 -- what stands after an array's length and padding
 abbrev array_rest : Bounds → Order → ℕ → ℕ → TypeTree → ℕ → Reader ValueTree
@@ -65,7 +51,8 @@ module _ (bounds : Bounds) (order : Order) where
   value_array zero end t o s = refl
   value_array (suc depth_left) end t o s =
       let e : suc depth_left - 1 ≡ depth_left = omega arith in
-      rw e (same_suffix (padding 4 end o s) _ _ (λ x p u. framed (λ n. padding (alignment_of t) end) (λ n. array_rest bounds order depth_left end t n) (number order 4 end (array_row bounds t end) p u)))
+      rw e (same_after (padding 4 end o s) _ _ (λ x p u. sym (after_after (number order 4 end (array_row bounds t end) p u) _ (array_rest bounds order depth_left end t)
+      ∙ same_after (number order 4 end (array_row bounds t end) p u) _ _ (λ n q v. after_after (padding (alignment_of t) end q v) (λ _. pure n) (array_rest bounds order depth_left end t)))))
 
 -- ---- containers
 

@@ -7,6 +7,7 @@ use Rattle.dbus_value_model.specs.declared.order.Order.{Order}
 use Rattle.dbus_value_model.specs.Spelling.{Spelled, SpelledAll, spelling, spellings}
 use Rattle.dbus_value_model.specs.ValueItems as faults
 use Rattle.dbus_value_model.specs.Reading as reading
+use Rattle.dbus_value_laws.proofs.Agreement.{read_passes}
 use Rattle.dbus_value_laws.proofs.Composition.{fields_from, fields_to}
 use Rattle.dbus_value_laws.proofs.ValueItemLaws.{Agrees-value, value_inside, agrees_fields}
 use Rattle.dbus_value_laws.proofs.ValueOutcomes.{reads_spelled}
@@ -18,8 +19,8 @@ pub spelled_to : (bounds : Bounds) (order : Order) (depth_left end : ℕ) (ts : 
 spelled_to bounds order depth_left end ts at after bytes shaped le are read =
     let part = faults.value bounds order depth_left in
     let agrees = agrees_fields bounds order depth_left part (reading.value bounds order depth_left) (value_inside bounds order depth_left) (λ e b t h. Agrees-value bounds order depth_left e b t h) end ts shaped in
-    let passed = agrees.reads at (drop at bytes) read.0 after (drop after bytes) (bytes_at bytes at are) read.1 in
-    let w = fields_to bounds order depth_left part (λ e t o s v q r. (value_inside bounds order depth_left e t o s v q r).0) (λ e t o s v q r. (value_inside bounds order depth_left e t o s v q r).1) end ts at (drop at bytes) read.0 after (drop after bytes) passed in
+    let passed = read_passes (faults.fields (part end) ts) (reading.fields (reading.value bounds order depth_left end) ts) agrees at (drop at bytes) (bytes_at bytes at are) read.0 after (drop after bytes) read.1 in
+    let w = fields_to bounds order depth_left part (value_inside bounds order depth_left) end ts at (drop at bytes) read.0 after (drop after bytes) passed in
     (read.0, record { types = w.0; spelled = w.1; bound = w.2 le })
 
 pub value_spelled_to : (bounds : Bounds) (order : Order) (depth_left end : ℕ) (t : TypeTree) (at after : ℕ) (bytes : List ℕ) → IsShaped true t → ((i : ℕ) → get_or bytes i 0 < 256)
@@ -33,7 +34,7 @@ pub spelled_read : (bounds : Bounds) (order : Order) (depth_left end : ℕ) (ts 
 spelled_read bounds order depth_left end ts at after bytes shaped w =
     let part = faults.value bounds order depth_left in
     let agrees = agrees_fields bounds order depth_left part (reading.value bounds order depth_left) (value_inside bounds order depth_left) (λ e b t h. Agrees-value bounds order depth_left e b t h) end ts shaped in
-    let passed = fields_from bounds order depth_left part (λ e t o s v q r. (value_inside bounds order depth_left e t o s v q r).0) (λ e t o s v q r. (value_inside bounds order depth_left e t o s v q r).1) end w.0 at (drop at bytes) after (drop after bytes) w.1.bound w.1.spelled in
+    let passed = fields_from bounds order depth_left part (value_inside bounds order depth_left) end w.0 at (drop at bytes) after (drop after bytes) w.1.bound w.1.spelled in
     (w.0, agrees.passes at (drop at bytes) w.0 after (drop after bytes) (subst (λ (u : TypeTrees). (faults.fields (part end) u).Passed at (drop at bytes) w.0 after (drop after bytes)) w.1.types passed))
 
 pub value_spelled_read : (bounds : Bounds) (order : Order) (depth_left end : ℕ) (t : TypeTree) (at after : ℕ) (bytes : List ℕ) → IsShaped true t → ((i : ℕ) → get_or bytes i 0 < 256)
@@ -59,7 +60,7 @@ pub fields_unread : (bounds : Bounds) (order : Order) (depth_left end : ℕ) (ts
 fields_unread bounds order depth_left end ts at bytes shaped le are none = λ vs q rest e.
     let part = faults.value bounds order depth_left in
     let agrees = agrees_fields bounds order depth_left part (reading.value bounds order depth_left) (value_inside bounds order depth_left) (λ e b t h. Agrees-value bounds order depth_left e b t h) end ts shaped in
-    let passed = agrees.reads at (drop at bytes) vs q rest (bytes_at bytes at are) e in
-    let w = fields_to bounds order depth_left part (λ e t o s v q r. (value_inside bounds order depth_left e t o s v q r).0) (λ e t o s v q r. (value_inside bounds order depth_left e t o s v q r).1) end ts at (drop at bytes) vs q rest passed in
+    let passed = read_passes (faults.fields (part end) ts) (reading.fields (reading.value bounds order depth_left end) ts) agrees at (drop at bytes) (bytes_at bytes at are) vs q rest e in
+    let w = fields_to bounds order depth_left part (value_inside bounds order depth_left) end ts at (drop at bytes) vs q rest passed in
     let left = left_after bytes (spellings order at vs) rest at q (length (spellings order at vs)) w.1.bytes refl w.1.place in
     none q (vs, record { types = w.0; spelled = subst (λ (r : List ℕ). SpelledAll bounds order depth_left at (drop at bytes) vs q r) left w.1; bound = w.2 le })
