@@ -1,5 +1,5 @@
 -- A valid message has short signatures.
-use Rattle.std.proofs.Common.{ℕ, zero, suc, List, map}
+use Rattle.std.proofs.Common.{ℕ, suc, List, map}
 use Rattle.std.specs.Coded.{×_prop, Unit-prop, le_prop}
 use Rattle.dbus_texts.specs.Types.{STRING, OBJECT_PATH, SIGNATURE}
 use Rattle.dbus_value_model.specs.ShortSignatures.{HasShortSignatures, HaveShortSignatures}
