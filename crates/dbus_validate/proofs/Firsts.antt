@@ -1,7 +1,6 @@
 -- The message that bytes begin with, taken by itself, and the sixteen bytes that state its length.
 use Rattle.std.proofs.Common.{Option, Some, None, Ok, ◌≡◌, ℕ, ◌+◌, ◌≤◌, List, [], ◌++◌, length, take, drop, sym, ap, subst, ◌∙◌, arith}
 use Rattle.std.proofs.lemmas.List.{append-nil, length-append, length-take-le, take-append-drop}
-use Rattle.dbus_value_model.specs.Bytes.{num}
 use Rattle.dbus_value_model.specs.declared.limits.Limits.{Limits}
 use Rattle.dbus_value_model.specs.declared.order.Order.{Order}
 use Rattle.dbus_value_model.proofs.Numbers.{length-num}
