@@ -1,4 +1,5 @@
--- Reading a message in the parts in which the code validates and checks it.
+-- Reading a message in the parts in which the code validates and checks it: the same answers as the relations of MessageItems give,
+-- computed, plain and slow. It is the bridge from the relations to the code.
 -- D-Bus Specification, "Message Format", "Header Fields".
 use Rattle.std.specs.Prelude.{ℕ, ◌-◌, List, Option}
 use Rattle.dbus_texts.specs.Types.{TypeTree, TypeTrees}

@@ -1,5 +1,4 @@
--- Reading a message from left to right: the same answers as the relations of MessageItems give, computed, plain and slow. It is the bridge
--- from the relations to the code: no public contract names it.
+-- Reading the parts of a message that MessageItems gives names, from left to right; HeaderReading reads a whole message of them.
 -- D-Bus Specification, "Message Format".
 use Rattle.std.specs.Prelude.{ℕ, ◌+◌, ◌-◌, [], ◌∷◌, if◌then◌else◌, nat_eq}
 use Rattle.dbus_texts.specs.Types.{UINT32, STRING, TypeTree, TypeTrees}
