@@ -103,8 +103,8 @@ module _ {order : Order} {depth_left : ℕ} {types : List ℕ} {at : ℕ} {bytes
   numbers_byteswap p first end size half now some wide is_first is_end byteswaps =
       let suffix = at + gap_to 4 at + 4 in
       let k = number_is p.type size some (wide p.type p.code) in
-      let begins : first ≡ suffix + gap_to (width k.0) suffix = is_first ∙ ap (λ (w : ℕ). suffix + gap_to w suffix) (ap alignment_of k.1) in
-      let aligned : gap_to size first ≡ 0 = ap (λ (w : ℕ). gap_to w first) (sym k.2) ∙ ap (gap_to (width k.0)) begins ∙ comes_aligned k.0 suffix in
+      let begins : first ≡ suffix + gap_to size suffix = is_first ∙ ap (λ (w : ℕ). suffix + gap_to w suffix) (ap alignment_of k.1 ∙ k.2) in
+      let aligned : gap_to size first ≡ 0 = ap (gap_to size) begins ∙ comes_aligned size suffix some in
       let ends = is_end ∙ (elements_there s p first p.n is_first refl).ends in
       subst (λ (q : ℕ). Replaces q (spellings order q p.xs) (spellings (other order) q p.xs) half now) is_first (byteswaps order k.0 p.xs k.2 (subst (λ (t : TypeTree). AllOf t p.xs) k.1 p.all) aligned ends)
 

@@ -62,7 +62,7 @@ module _ {order : Order} {k : NumberCode} {at end : ℕ} {xs : ValueTrees} where
         let long : length s ≡ width k = ap length (is order) ∙ length-num order (width k) n.0 in
         let ends : end ≡ place + width k + length (spellings order (place + width k) us) =
         omega (arith, keeps.ends, long, length-append s (spellings order (place + length s) us), ap (λ (m : ℕ). length (spellings order (place + m) us)) long) in
-        record { n = n.0; is = is; left = record { all = keeps.all.1; aligned = stays_aligned k place keeps.aligned; ends = ends }; ends = omega (arith, ends) }
+        record { n = n.0; is = is; left = record { all = keeps.all.1; aligned = stays_aligned (width k) place keeps.aligned; ends = ends }; ends = omega (arith, ends) }
 
     pub number_byteswapped : (next : List ℕ) → place < end → next ≡ take place now ++ (reverse (take (width k) (drop place now)) ++ drop (place + width k) now) → NumbersByteswapped order k at end xs before (place + width k) next
     unfolding spellings

@@ -17,7 +17,7 @@ use Rattle.dbus_header.specs.HeaderReading.{body_read}
 use Rattle.dbus_header.proofs.BodyLoop.{body_whole, body_trailing}
 use Rattle.dbus_value_validator.specs.Endings.{EndsAt, IsNotRead, AreSpelledTo, AreNotSpelled}
 use Rattle.dbus_value_validator.proofs.ReadParts.{not_first, not_faulty}
-use Rattle.dbus_value_validator.proofs.Spelled.{spelled_read, fields_unread}
+use Rattle.dbus_value_validator.proofs.Spelled.{fields_read, fields_spelled}
 
 pub body_ends : (limits : Limits) (order : Order) (at end after : ℕ) (bytes types : List ℕ) (bounds : Bounds) (fs : List FieldTree) → types ≡ body_signature fs → bounds ≡ bounds_with limits (body_fds limits fs) → IsKind Signature (body_signature fs)
     → ((ts : TypeTrees) → sigs ts ≡ types → AreShaped ts → AreSpelledTo bounds order limits.depth end ts at bytes after) → after ≡ end
@@ -26,7 +26,7 @@ body_ends limits order at end after bytes types bounds fs typed bound kind spell
     let fds = body_fds limits fs in
     let ts = types_spelled (body_signature fs) in
     let signed = signature_text (body_signature fs) kind in
-    let read = spelled_read bounds order limits.depth end ts at after bytes signed.0 (spelled ts (signed.1 ∙ sym typed) signed.0) in
+    let read = fields_read bounds order limits.depth end at bytes ts signed.0 after (spelled ts (signed.1 ∙ sym typed) signed.0) in
     let values = subst (λ (b : Bounds). EndsAt bytes after (fields (value b order limits.depth end) ts at (drop at bytes))) bound read in
     let whole = body_whole limits fds order end ts at (drop at bytes) values.0 after (drop after bytes) values.1 here in
     (values.0, whole ∙ ap (λ (q : ℕ). Done values.0 q (drop q bytes)) here)
@@ -42,7 +42,7 @@ module _ (limits : Limits) (order : Order) (at end : ℕ) (bytes types : List �
   unfolding body_read
   body_unspelled le are none =
       let signed = signature_text (body_signature fs) kind in
-      let unread = fields_unread bounds order limits.depth end shaped at bytes signed.0 le are (none shaped (signed.1 ∙ sym typed) signed.0) in
+      let unread : IsNotRead (fields (value bounds order limits.depth end) shaped at (drop at bytes)) = λ vs q rest e. none shaped (signed.1 ∙ sym typed) signed.0 q (vs, fields_spelled bounds order limits.depth end at bytes shaped signed.0 le are vs q rest e) in
       let values = subst (λ (b : Bounds). IsNotRead (fields (value b order limits.depth end) shaped at (drop at bytes))) bound unread in
       not_first (fields (value (bounds_with limits (body_fds limits fs)) order limits.depth end) shaped at (drop at bytes)) _ values
 
@@ -51,7 +51,7 @@ module _ (limits : Limits) (order : Order) (at end : ℕ) (bytes types : List �
       → IsNotRead (body_read limits (body_fds limits fs) order shaped end at (drop at bytes))
   body_longer after spelled lt =
       let signed = signature_text (body_signature fs) kind in
-      let read = spelled_read bounds order limits.depth end shaped at after bytes signed.0 (spelled shaped (signed.1 ∙ sym typed) signed.0) in
+      let read = fields_read bounds order limits.depth end at bytes shaped signed.0 after (spelled shaped (signed.1 ∙ sym typed) signed.0) in
       let values = subst (λ (b : Bounds). EndsAt bytes after (fields (value b order limits.depth end) shaped at (drop at bytes))) bound read in
       not_faulty (body_read limits (body_fds limits fs) order shaped end at (drop at bytes)) (fault after reasons.Trailing)
       (body_trailing limits (body_fds limits fs) order end shaped at (drop at bytes) values.0 after (drop after bytes) values.1 lt)

@@ -1,8 +1,7 @@
 mod HeldSteps
-mod HeldRefusals
 mod SeenSteps
 mod FieldTurns
-mod FieldRefusals
+mod FieldSteps
 mod BodySteps
 mod BodyPlaces
 mod WholeSteps

@@ -20,7 +20,7 @@ use Rattle.dbus_header.proofs.MessageOutcomes.{reads_messages}
 use Rattle.dbus_header.proofs.OutcomeLaws.{whole_for_good}
 use Rattle.dbus_header.proofs.StatedLengths.{header_states, stated_holds}
 use Rattle.dbus_value_validator.specs.Endings.{IsNotRead}
-use Rattle.dbus_value_validator.proofs.ReadParts.{not_same, not_first, not_second, not_faulty, not_partial}
+use Rattle.dbus_value_validator.proofs.ReadParts.{not_same, not_first, not_faulty, not_partial}
 use Rattle.dbus_validate.specs.Validating.{BeginsWithNone}
 
 -- where reading stops nothing is read
@@ -31,9 +31,6 @@ stops_unread (stops.Refused f) read h = not_faulty read f h
 validate_unread : (why : Option Reason) (o : ℕ) (s : List ℕ) → (why ≡ None → ⊥) → IsNotRead (validate why o s)
 validate_unread None o s some = absurd (some refl)
 validate_unread (Some why) o s some = not_faulty (validate (Some why) o s) (fault o why) refl
-
-validate_passes : (why : Option Reason) (o : ℕ) (s : List ℕ) → why ≡ None → validate why o s ≡ Done tt o s
-validate_passes why o s none = rw none refl
 
 gap_near : (o : ℕ) → gap_to 8 o ≤ 8
 unfolding gap_to
@@ -60,7 +57,7 @@ module _ (limits : Limits) (bytes : List ℕ) (are : IsBytes bytes) where
 
     pub no_fields : IsNotRead (fields_read limits h.order h.fields 16 (drop 16 bytes)) → BeginsWithNone limits bytes
     unfolding message_read
-    no_fields unread = not_read (not_second (fixed_header limits 0 bytes) _ h 16 (drop 16 bytes) headed (not_first (fields_read limits h.order h.fields 16 (drop 16 bytes)) _ unread))
+    no_fields unread = not_read (rw headed (not_first (fields_read limits h.order h.fields 16 (drop 16 bytes)) _ unread))
 
     module _ (fs : List FieldTree) (fielded : fields_read limits h.order h.fields 16 (drop 16 bytes) ≡ Done fs (16 + h.fields) (drop (16 + h.fields) bytes)) where
       abbrev ends : ℕ
@@ -68,19 +65,12 @@ module _ (limits : Limits) (bytes : List ℕ) (are : IsBytes bytes) where
 
       pub some_lacks : (lacks (required h.kind) fs ≡ None → ⊥) → BeginsWithNone limits bytes
       unfolding message_read
-      some_lacks unlike =
-          not_read (not_second (fixed_header limits 0 bytes) _ h 16 (drop 16 bytes) headed
-          (not_second (fields_read limits h.order h.fields 16 (drop 16 bytes)) _ fs ends (drop ends bytes) fielded
-          (not_first (validate (lacks (required h.kind) fs) ends (drop ends bytes)) _ (validate_unread (lacks (required h.kind) fs) ends (drop ends bytes) unlike))))
+      some_lacks unlike = not_read (rw (headed, fielded) (not_first (validate (lacks (required h.kind) fs) ends (drop ends bytes)) _ (validate_unread (lacks (required h.kind) fs) ends (drop ends bytes) unlike)))
 
       module _ (none : lacks (required h.kind) fs ≡ None) where
         unpadded : IsNotRead (padding 8 (ends + 8) ends (drop ends bytes)) → BeginsWithNone limits bytes
         unfolding message_read
-        unpadded unread =
-            not_read (not_second (fixed_header limits 0 bytes) _ h 16 (drop 16 bytes) headed
-            (not_second (fields_read limits h.order h.fields 16 (drop 16 bytes)) _ fs ends (drop ends bytes) fielded
-            (not_second (validate (lacks (required h.kind) fs) ends (drop ends bytes)) _ tt ends (drop ends bytes) (validate_passes (lacks (required h.kind) fs) ends (drop ends bytes) none)
-            (not_first (padding 8 (ends + 8) ends (drop ends bytes)) _ unread))))
+        unpadded unread = not_read (rw (headed, fielded, none) (not_first (padding 8 (ends + 8) ends (drop ends bytes)) _ unread))
 
         -- the bytes end after the padding, or before its end
         pub no_padding : IsNotRead (padding 8 (length bytes) ends (drop ends bytes)) → BeginsWithNone limits bytes
@@ -96,8 +86,4 @@ module _ (limits : Limits) (bytes : List ℕ) (are : IsBytes bytes) where
             → IsNotRead (body_read limits (body_fds limits fs) h.order (types_spelled (body_signature fs)) (start + h.body) start (drop start bytes)) → BeginsWithNone limits bytes
         unfolding message_read
         no_body start padded unread =
-            not_read (not_second (fixed_header limits 0 bytes) _ h 16 (drop 16 bytes) headed
-            (not_second (fields_read limits h.order h.fields 16 (drop 16 bytes)) _ fs ends (drop ends bytes) fielded
-            (not_second (validate (lacks (required h.kind) fs) ends (drop ends bytes)) _ tt ends (drop ends bytes) (validate_passes (lacks (required h.kind) fs) ends (drop ends bytes) none)
-            (not_second (padding 8 (ends + 8) ends (drop ends bytes)) _ tt start (drop start bytes) padded
-            (not_first (body_read limits (body_fds limits fs) h.order (types_spelled (body_signature fs)) (start + h.body) start (drop start bytes)) _ unread)))))
+            not_read (rw (headed, fielded, none, padded) (not_first (body_read limits (body_fds limits fs) h.order (types_spelled (body_signature fs)) (start + h.body) start (drop start bytes)) _ unread))

@@ -1,12 +1,13 @@
 -- The value of a header field, as it is validated: where its text stands, and its number.
 -- D-Bus Specification, "Header Fields".
-use Rattle.std.specs.Prelude.{◌≡◌, ℕ, List, take, drop}
+use Rattle.std.specs.Prelude.{◌≡◌, ℕ, List, Option, Some, None, true, false, ◌&&◌, take, drop}
 use Rattle.dbus_value_model.specs.declared.limits.Limits.{Limits}
 use Rattle.dbus_value_model.specs.declared.order.Order.{Order}
 use Rattle.dbus_value_model.specs.Values.{ValueTree}
 use Rattle.dbus_value_model.specs.Reading.{Done}
-use Rattle.dbus_message_model.specs.Messages.{FieldTree, want, Want, Anything, OfType, Name, Serial, text_in, number_in}
+use Rattle.dbus_message_model.specs.Messages.{FieldTree, want, Want, Anything, OfType, Name, Serial, text_in, number_in, is_known, has_code}
 use Rattle.dbus_header.specs.HeaderReading.{wanted_value, field_read}
+use Rattle.dbus_value_validator.specs.Endings.{IsNotRead}
 use Rattle.dbus_validate.specs.declared.field_values.Held.{Held}
 
 -- of a known field: its text stands there, and its number is this, where it has one
@@ -21,7 +22,19 @@ abbrev pub IsHeld : Limits → Order → (end : ℕ) → Want → (at : ℕ) →
 IsHeld limits order end w at bytes h =
     (v : ValueTree) × (wanted_value limits order end w at (drop at bytes) ≡ Done v h.after (drop h.after bytes)) × IsNoted w v bytes h
 
+-- what a call says of it: where it is held, or that it is not read whole
+abbrev pub Holds : Limits → Order → (end : ℕ) → Want → (at : ℕ) → List ℕ → Option Held → Type 0
+Holds limits order end w at bytes None = IsNotRead (wanted_value limits order end w at (drop at bytes))
+Holds limits order end w at bytes (Some h) = IsHeld limits order end w at bytes h
+
 -- a field of a code, after those before it, is read whole, and its value is noted
 abbrev pub IsHeldField : Limits → Order → (end : ℕ) → (before : List FieldTree) → (at : ℕ) → List ℕ → (code : ℕ) → Held → Type 0
 IsHeldField limits order end before at bytes code h =
     (v : ValueTree) × (field_read limits order end before at (drop at bytes) ≡ Done (record { code = code; value = v }) h.after (drop h.after bytes)) × IsNoted (want code) v bytes h
+
+-- what a call says of a field: which it is, where its code is unknown or not among those before it, and else that none is read whole
+abbrev pub HoldsField : Limits → Order → (end : ℕ) → (before : List FieldTree) → (at : ℕ) → List ℕ → Option (ℕ × Held) → Type 0
+HoldsField limits order end before at bytes None = IsNotRead (field_read limits order end before at (drop at bytes))
+HoldsField limits order end before at bytes (Some f) =
+    (is_known f.0 && has_code f.0 before ≡ false → IsHeldField limits order end before at bytes f.0 f.1)
+    × (is_known f.0 && has_code f.0 before ≡ true → IsNotRead (field_read limits order end before at (drop at bytes)))

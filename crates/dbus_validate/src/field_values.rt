@@ -13,10 +13,10 @@ ghost use Rattle.dbus_value_model.specs.declared.order.Order.{Order};
 ghost use Rattle.dbus_value_model.specs.Reading.{Done};
 ghost use Rattle.dbus_value_model.specs.WantedTexts.{Of, Only};
 ghost use Rattle.dbus_message_model.specs.Messages.{Anything, OfType, Name, Serial, want};
-ghost use Rattle.dbus_header.specs.HeaderReading.{wanted_signature, wanted_value};
+ghost use Rattle.dbus_header.specs.HeaderReading.{wanted_signature};
 ghost use Rattle.dbus_header.specs.declared.field_limits.TheConstants.{FIELD_DEPTH};
 ghost use Rattle.dbus_value_validator.specs.Endings.{IsNotRead};
-ghost use Rattle.dbus_validate.specs.Held.{IsHeld};
+ghost use Rattle.dbus_validate.specs.Held.{Holds};
 
 use dbus_header::{FIELD_DEPTH, NAME_LIMIT};
 use dbus_message_model::field_table::{Wanted, want};
@@ -67,10 +67,8 @@ fn letter(bytes: &[u8], at: usize, end: usize, wanted: u8) -> Option<usize>
 fn name(bytes: &[u8], at: usize, end: usize, order: Order, kind: TextKind) -> Option<Held>
     requires at_most { at ≤ end }
     requires inside { end ≤ length bytes.now }
-    ensures held { IfSome result (λ h. (limits : Limits) →
-        IsHeld limits order end (Name (Of kind)) at bytes.now h) }
-    ensures none { result ≡ None → (limits : Limits) →
-        IsNotRead (wanted_value limits order end (Name (Of kind)) at (drop at bytes.now)) }
+    ensures held { (limits : Limits) →
+        Holds limits order end (Name (Of kind)) at bytes.now result }
     ensures moves { IfSome result (λ h. (at ≤ h.after) × (h.after ≤ end)) }
     ensures within { IfSome result (λ h. h.start + h.length ≤ h.after) }
 {
@@ -100,11 +98,8 @@ fn name(bytes: &[u8], at: usize, end: usize, order: Order, kind: TextKind) -> Op
 fn path(bytes: &[u8], at: usize, end: usize, order: Order) -> Option<Held>
     requires at_most { at ≤ end }
     requires inside { end ≤ length bytes.now }
-    ensures held { IfSome result (λ h. (limits : Limits) →
-        IsHeld limits order end (OfType (TextType OBJECT_PATH)) at bytes.now h) }
-    ensures none { result ≡ None → (limits : Limits) →
-        IsNotRead
-        (wanted_value limits order end (OfType (TextType OBJECT_PATH)) at (drop at bytes.now)) }
+    ensures held { (limits : Limits) →
+        Holds limits order end (OfType (TextType OBJECT_PATH)) at bytes.now result }
     ensures moves { IfSome result (λ h. (at ≤ h.after) × (h.after ≤ end)) }
     ensures within { IfSome result (λ h. h.start + h.length ≤ h.after) }
 {
@@ -131,11 +126,8 @@ fn path(bytes: &[u8], at: usize, end: usize, order: Order) -> Option<Held>
 fn signature(bytes: &[u8], at: usize, end: usize, order: Order) -> Option<Held>
     requires at_most { at ≤ end }
     requires inside { end ≤ length bytes.now }
-    ensures held { IfSome result (λ h. (limits : Limits) →
-        IsHeld limits order end (OfType (TextType SIGNATURE)) at bytes.now h) }
-    ensures none { result ≡ None → (limits : Limits) →
-        IsNotRead
-        (wanted_value limits order end (OfType (TextType SIGNATURE)) at (drop at bytes.now)) }
+    ensures held { (limits : Limits) →
+        Holds limits order end (OfType (TextType SIGNATURE)) at bytes.now result }
     ensures moves { IfSome result (λ h. (at ≤ h.after) × (h.after ≤ end)) }
     ensures within { IfSome result (λ h. h.start + h.length ≤ h.after) }
 {
@@ -154,11 +146,8 @@ fn signature(bytes: &[u8], at: usize, end: usize, order: Order) -> Option<Held>
 fn number(bytes: &[u8], at: usize, end: usize, order: Order) -> Option<Held>
     requires at_most { at ≤ end }
     requires inside { end ≤ length bytes.now }
-    ensures held { IfSome result (λ h. (limits : Limits) →
-        IsHeld limits order end (OfType (NumberType UINT32)) at bytes.now h) }
-    ensures none { result ≡ None → (limits : Limits) →
-        IsNotRead
-        (wanted_value limits order end (OfType (NumberType UINT32)) at (drop at bytes.now)) }
+    ensures held { (limits : Limits) →
+        Holds limits order end (OfType (NumberType UINT32)) at bytes.now result }
     ensures moves { IfSome result (λ h. (at ≤ h.after) × (h.after ≤ end)) }
     ensures within { IfSome result (λ h. h.start + h.length ≤ h.after) }
 {
@@ -177,10 +166,8 @@ fn number(bytes: &[u8], at: usize, end: usize, order: Order) -> Option<Held>
 fn serial(bytes: &[u8], at: usize, end: usize, order: Order) -> Option<Held>
     requires at_most { at ≤ end }
     requires inside { end ≤ length bytes.now }
-    ensures held { IfSome result (λ h. (limits : Limits) →
-        IsHeld limits order end Serial at bytes.now h) }
-    ensures none { result ≡ None → (limits : Limits) →
-        IsNotRead (wanted_value limits order end Serial at (drop at bytes.now)) }
+    ensures held { (limits : Limits) →
+        Holds limits order end Serial at bytes.now result }
     ensures moves { IfSome result (λ h. (at ≤ h.after) × (h.after ≤ end)) }
     ensures within { IfSome result (λ h. h.start + h.length ≤ h.after) }
 {
@@ -203,9 +190,7 @@ fn anything(bytes: &[u8], at: usize, end: usize, order: Order, limits: Limits) -
     requires opened { FIELD_DEPTH ≤ limits.depth }
     requires at_most { at ≤ end }
     requires inside { end ≤ length bytes.now }
-    ensures held { IfSome result (λ h. IsHeld limits order end Anything at bytes.now h) }
-    ensures none { result ≡ None →
-        IsNotRead (wanted_value limits order end Anything at (drop at bytes.now)) }
+    ensures held { Holds limits order end Anything at bytes.now result }
     ensures moves { IfSome result (λ h. (at ≤ h.after) × (h.after ≤ end)) }
     ensures within { IfSome result (λ h. h.start + h.length ≤ h.after) }
 {
@@ -247,9 +232,7 @@ pub(crate) fn validate_field_value(
     requires opened { FIELD_DEPTH ≤ limits.depth }
     requires at_most { at ≤ end }
     requires inside { end ≤ length bytes.now }
-    ensures held { IfSome result (λ h. IsHeld limits order end (want code) at bytes.now h) }
-    ensures none { result ≡ None →
-        IsNotRead (wanted_value limits order end (want code) at (drop at bytes.now)) }
+    ensures held { Holds limits order end (want code) at bytes.now result }
     ensures moves { IfSome result (λ h. (at ≤ h.after) × (h.after ≤ end)) }
     ensures within { IfSome result (λ h. h.start + h.length ≤ h.after) }
 {

@@ -1,12 +1,12 @@
 //! Header fields. D-Bus Specification, "Header Fields".
 #![tactic(auto)]
 
-ghost use Rattle.std.specs.Prelude.{◌≡◌, ◌+◌, ◌≤◌, ◌<◌, ◌^◌, List, [], length, drop, None, IfSome, false, true, ◌&&◌};
+ghost use Rattle.std.specs.Prelude.{◌≡◌, ◌+◌, ◌≤◌, ◌<◌, ◌^◌, List, [], length, drop, IfSome, false, true};
 ghost use Rattle.dbus_value_model.specs.Reading.{Done};
-ghost use Rattle.dbus_header.specs.HeaderReading.{field_read, fields_read};
-ghost use Rattle.dbus_message_model.specs.Messages.{FieldTree, is_known, has_code};
+ghost use Rattle.dbus_header.specs.HeaderReading.{fields_read};
+ghost use Rattle.dbus_message_model.specs.Messages.{FieldTree};
 ghost use Rattle.dbus_value_validator.specs.Endings.{IsNotRead};
-ghost use Rattle.dbus_validate.specs.Held.{IsHeldField};
+ghost use Rattle.dbus_validate.specs.Held.{HoldsField};
 ghost use Rattle.dbus_validate.specs.Seen.{AreNoted};
 
 use crate::field_values::{Held, validate_field_value};
@@ -31,11 +31,8 @@ pub(crate) fn validate_field(
 ) -> Option<(u8, Held)>
     requires at_most { at ≤ end }
     requires inside { end ≤ length bytes.now }
-    ensures field { IfSome result (λ f. (before : List FieldTree) →
-        is_known f.0 && has_code f.0 before ≡ false →
-        IsHeldField limits order end before at bytes.now f.0 f.1) }
-    ensures none { result ≡ None → (before : List FieldTree) →
-        IsNotRead (field_read limits order end before at (drop at bytes.now)) }
+    ensures field { (before : List FieldTree) →
+        HoldsField limits order end before at bytes.now result }
     ensures moves { IfSome result (λ f. (at < f.1.after) × (f.1.after ≤ end)) }
     ensures within { IfSome result (λ f. f.1.start + f.1.length ≤ f.1.after) }
 {

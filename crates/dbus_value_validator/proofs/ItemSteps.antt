@@ -1,59 +1,79 @@
--- Items that are there, as the code passes them over.
-use Rattle.std.proofs.Common.{◌≡◌, ℕ, ◌+◌, ◌<◌, ◌≤◌, List, length, take, drop, get_or, Option, Some, None, refl, sym, ap, subst, arith}
-use Rattle.std.proofs.lemmas.Bool.{lt-ltb}
-use Rattle.dbus_texts.specs.Types.{NumberCode, BOOLEAN, UNIX_FD, TextCode, SIGNATURE}
+-- Numbers, texts and the lengths of arrays: what is said of them where one of their parts is read, or is not.
+use Rattle.std.proofs.Common.{◌≡◌, ℕ, ◌+◌, ◌<◌, ◌≤◌, List, length, take, drop, get_or, Option, Some, None, false, ltb, refl, ap, subst, ◌∙◌, arith}
+use Rattle.std.proofs.lemmas.Bool.{lt-ltb, le-ltb}
+use Rattle.std.proofs.lemmas.List.{length-take, length-drop}
+use Rattle.dbus_texts.specs.Types.{NumberCode, BOOLEAN, UNIX_FD, TextCode, SIGNATURE, TypeTree}
 use Rattle.dbus_texts.specs.declared.text_kind.TextKind.{TextKind}
 use Rattle.dbus_texts.specs.declared.text_kind.TextKind.TheVariants.{Signature}
 use Rattle.dbus_texts.specs.Kinds.{IsKind}
 use Rattle.dbus_types.specs.Alignments.{width, length_width, alignment_of}
-use Rattle.dbus_texts.specs.Types.{TypeTree}
+use Rattle.dbus_value_model.specs.declared.fault.Reason.{Reason}
 use Rattle.dbus_value_model.specs.declared.limits.Bounds.{Bounds}
 use Rattle.dbus_value_model.specs.declared.order.Order.{Order}
 use Rattle.dbus_value_model.specs.Bytes.{gap_to}
-use Rattle.dbus_value_model.specs.Items.{no_row}
-use Rattle.dbus_value_model.specs.Values.{NumberValue, TextValue}
-use Rattle.dbus_value_model.specs.ValueItems.{number_row, text_row}
-use Rattle.dbus_value_model.specs.WantedTexts.{kind_of, Of}
-use Rattle.dbus_value_model.specs.Reading.{Done, padding, number, number_of}
-use Rattle.dbus_value_model.specs.ValueReaders.{number_value, text_value, array_frame}
-use Rattle.dbus_value_laws.proofs.ReadSteps.{number_done, number_passes, text_fits, row_fits, frame_done, nul_done}
-use Rattle.dbus_value_laws.proofs.StringSteps.{text_there, sig_done}
-use Rattle.std.proofs.lemmas.List.{length-take, length-drop}
 use Rattle.dbus_value_model.specs.FreeNumbers.{IsFree}
-use Rattle.dbus_value_validator.specs.Endings.{EndsAt, EndedText}
+use Rattle.dbus_value_model.specs.Items.{no_row}
+use Rattle.dbus_value_model.specs.Values.{ValueTree, NumberValue, TextValue}
+use Rattle.dbus_value_model.specs.ValueItems.{number_row, text_row, array_row}
+use Rattle.dbus_value_model.specs.WantedTexts.{kind_of, Of}
+use Rattle.dbus_value_model.specs.Reading.{Reader, Outcome, Done, after, pure, padding, number, number_of, text, nul}
+use Rattle.dbus_value_model.specs.ValueReaders.{number_value, text_value, array_frame}
+use Rattle.dbus_value_laws.proofs.Composition as rows
+use Rattle.dbus_value_laws.proofs.ReadSteps.{number_done, number_passes, number_overrun, text_fits, row_fits, frame_done, nul_done, no_padding}
+use Rattle.dbus_value_laws.proofs.StringSteps.{text_there, sig_done}
+use Rattle.dbus_value_validator.specs.Endings.{Answers, EndsAt, IsNotRead, EndedText}
+use Rattle.dbus_value_validator.proofs.ReadParts.{not_same, not_faulty, not_first, not_then, answers_same, answers_made, number_read, row_unread, row_against, not_ended, short_unread}
 
 -- ---- numbers
 
-module _ (index_limit : Option ℕ) (order : Order) (end : ℕ) (k : NumberCode) (at start : ℕ) (bytes : List ℕ) where
-  number_ends : (n q : ℕ) → padding (width k) end at (drop at bytes) ≡ Done tt start (drop start bytes) → number order (width k) end (number_row index_limit k) start (drop start bytes) ≡ Done n q (drop q bytes)
-      → EndsAt bytes q (number_value index_limit order end k at (drop at bytes))
-  unfolding number_value
-  number_ends n q padded there = (NumberValue k n, rw (padded, there) refl)
+-- a number after its padding, of which a row says what may stand
+abbrev pub number_by : Order → ℕ → (w : ℕ) → (ℕ → ℕ → Option Reason) → NumberCode → Reader ValueTree
+number_by order end w row k o s = after (padding w end o s) (λ x p u. after (number order w end row p u) (λ n. pure (NumberValue k n)))
 
-  pub free_ends : (w : ℕ) → width k ≡ w → IsFree index_limit k → padding w end at (drop at bytes) ≡ Done tt start (drop start bytes) → start + w ≤ end → end ≤ length bytes
-      → EndsAt bytes (start + w) (number_value index_limit order end k at (drop at bytes))
-  free_ends w e free padded fits inside =
-      let n = number_of order (take w (drop start bytes)) in
-      let there = number_done order w end (number_row index_limit k) start bytes fits n (omega arith) refl (free (start + w) n) in
-      number_ends n (start + w)
-      (subst (λ (v : ℕ). padding v end at (drop at bytes) ≡ Done tt start (drop start bytes)) (sym e) padded)
-      (subst (λ (v : ℕ). number order v end (number_row index_limit k) start (drop start bytes) ≡ Done n (start + w) (drop (start + w) bytes)) (sym e) there)
+pub is_number : (index_limit : Option ℕ) (order : Order) (end : ℕ) (k : NumberCode) (w o : ℕ) (s : List ℕ) → width k ≡ w → number_value index_limit order end k o s ≡ number_by order end w (number_row index_limit k) k o s
+unfolding number_value
+is_number index_limit order end k w o s wide = rw wide refl
 
-module _ (index_limit : Option ℕ) (order : Order) (end at start : ℕ) (bytes : List ℕ) (padded : padding 4 end at (drop at bytes) ≡ Done tt start (drop start bytes)) (n : ℕ) (there : number order 4 end no_row start (drop start bytes) ≡ Done n (start + 4) (drop (start + 4) bytes)) where
-  pub boolean_ends : n ≤ 1 → EndsAt bytes (start + 4) (number_value index_limit order end BOOLEAN at (drop at bytes))
-  boolean_ends few =
-      let row : number_row index_limit BOOLEAN (start + 4) n ≡ None = rw (lt-ltb n 2 (omega arith)) refl in
-      number_ends index_limit order end BOOLEAN at start bytes n (start + 4) padded (number_passes order 4 end (number_row index_limit BOOLEAN) start (drop start bytes) n (start + 4) (drop (start + 4) bytes) there row)
+module _ (order : Order) (end w : ℕ) (row : ℕ → ℕ → Option Reason) (k : NumberCode) (at : ℕ) (bytes : List ℕ) (read : Outcome ValueTree) (run : read ≡ number_by order end w row k at (drop at bytes)) where
+  pub number_unpadded : IsNotRead (padding w end at (drop at bytes)) → IsNotRead read
+  number_unpadded unread = not_same read _ run (not_first (padding w end at (drop at bytes)) _ unread)
 
-  descriptor_passes : number_row index_limit UNIX_FD (start + 4) n ≡ None → EndsAt bytes (start + 4) (number_value index_limit order end UNIX_FD at (drop at bytes))
-  descriptor_passes row =
-      number_ends index_limit order end UNIX_FD at start bytes n (start + 4) padded (number_passes order 4 end (number_row index_limit UNIX_FD) start (drop start bytes) n (start + 4) (drop (start + 4) bytes) there row)
+  module _ (start : ℕ) (padded : padding w end at (drop at bytes) ≡ Done tt start (drop start bytes)) where
+    no_number : IsNotRead (number order w end row start (drop start bytes)) → IsNotRead read
+    no_number unread = not_same read _ run (rw padded (not_first (number order w end row start (drop start bytes)) _ unread))
 
-  pub any_descriptor_ends : index_limit ≡ None → EndsAt bytes (start + 4) (number_value index_limit order end UNIX_FD at (drop at bytes))
-  any_descriptor_ends e = descriptor_passes (rw e refl)
+    pub number_short : end < start + w → IsNotRead read
+    number_short short = no_number (not_faulty _ _ (number_overrun order w end row start bytes short))
 
-  pub descriptor_ends : (limit : ℕ) → index_limit ≡ Some limit → n < limit → EndsAt bytes (start + 4) (number_value index_limit order end UNIX_FD at (drop at bytes))
-  descriptor_ends limit e h = descriptor_passes (rw (e, lt-ltb n limit h) refl)
+    pub number_unread : IsNotRead (number order w end no_row start (drop start bytes)) → IsNotRead read
+    number_unread unread = no_number (row_unread order w end row start (drop start bytes) unread)
+
+    module _ (n : ℕ) where
+      number_made : number order w end row start (drop start bytes) ≡ Done n (start + w) (drop (start + w) bytes) → read ≡ Done (NumberValue k n) (start + w) (drop (start + w) bytes)
+      number_made there = run ∙ rw (padded, there) refl
+
+      pub free_ends : start + w ≤ end → end ≤ length bytes → n ≡ number_of order (take w (drop start bytes)) → row (start + w) n ≡ None → read ≡ Done (NumberValue k n) (start + w) (drop (start + w) bytes)
+      free_ends fits inside is free = number_made (number_done order w end row start bytes fits n (omega arith) is free)
+
+      module _ (there : number order w end no_row start (drop start bytes) ≡ Done n (start + w) (drop (start + w) bytes)) where
+        pub number_ends : row (start + w) n ≡ None → read ≡ Done (NumberValue k n) (start + w) (drop (start + w) bytes)
+        number_ends passes = number_made (number_passes order w end row start (drop start bytes) n (start + w) (drop (start + w) bytes) there passes)
+
+        -- its row says something against it
+        pub number_against : (row (start + w) n ≡ None → ⊥) → IsNotRead read
+        number_against against = no_number (row_against order w end row start (drop start bytes) n (start + w) (drop (start + w) bytes) there against)
+
+pub is_boolean : (index_limit : Option ℕ) (p n : ℕ) → n ≤ 1 → number_row index_limit BOOLEAN p n ≡ None
+is_boolean index_limit p n few = rw (lt-ltb n 2 (omega arith)) refl
+
+pub no_boolean : (index_limit : Option ℕ) (p n : ℕ) → 1 < n → number_row index_limit BOOLEAN p n ≡ None → ⊥
+no_boolean index_limit p n h = let over : ltb n 2 ≡ false = le-ltb _ _ (omega arith) in rw over (λ e. absurd cc)
+
+pub is_index : (index_limit : Option ℕ) (p n limit : ℕ) → index_limit ≡ Some limit → n < limit → number_row index_limit UNIX_FD p n ≡ None
+is_index index_limit p n limit is h = rw (is, lt-ltb n limit h) refl
+
+pub no_index : (index_limit : Option ℕ) (p n limit : ℕ) → index_limit ≡ Some limit → limit ≤ n → number_row index_limit UNIX_FD p n ≡ None → ⊥
+no_index index_limit p n limit is h = let over : ltb n limit ≡ false = le-ltb _ _ h in rw (is, over) (λ e. absurd cc)
 
 -- ---- texts
 
@@ -67,25 +87,77 @@ text_ends kind n start bytes given inside is good zero =
       is_kind = subst (IsKind kind) is good;
     }
 
-module _ (order : Order) (end at start : ℕ) (bytes : List ℕ) (n : ℕ) (kind : TextKind) where
-  pub long_text_ends : (k : TextCode) → kind_of k ≡ Of kind → length_width k ≡ 4 → padding 4 end at (drop at bytes) ≡ Done tt start (drop start bytes)
-      → number order 4 end no_row start (drop start bytes) ≡ Done n (start + 4) (drop (start + 4) bytes) → start + 4 + n + 1 ≤ end → EndedText kind n (start + 4) bytes
-      → EndsAt bytes (start + 4 + n + 1) (text_value order end k at (drop at bytes))
-  unfolding text_value
-  long_text_ends k e four padded there fits ended =
-      let measured = number_passes order 4 end (text_row end) start (drop start bytes) n (start + 4) (drop (start + 4) bytes) there (text_fits end (start + 4) n fits) in
-      (TextValue k (take n (drop (start + 4) bytes)), rw (four, e, padded, measured, ended.is_text, ended.is_ended) refl)
+-- a text after the padding and its length, of which a row says what it may be
+abbrev pub text_by : Order → ℕ → (w : ℕ) → (ℕ → ℕ → Option Reason) → TextKind → TextCode → Reader ValueTree
+text_by order end w row kind k o s = after (padding w end o s) (λ x p u. after (number order w end row p u) (λ n p u. after (text (Of kind) n p u) (λ t p u. after (nul p u) (λ x. pure (TextValue k t)))))
 
-pub short_text_ends : (order : Order) (end at n : ℕ) (bytes : List ℕ) → at ≤ end → number order 1 end (text_row end) at (drop at bytes) ≡ Done n (at + 1) (drop (at + 1) bytes) → EndedText Signature n (at + 1) bytes
-    → EndsAt bytes (at + 1 + n + 1) (text_value order end SIGNATURE at (drop at bytes))
-short_text_ends order end at n bytes le measured ended =
-    (TextValue SIGNATURE (take n (drop (at + 1) bytes)), sig_done order end at (drop at bytes) le n (at + 1) (drop (at + 1) bytes) measured (take n (drop (at + 1) bytes)) (at + 1 + n) (drop (at + 1 + n) bytes) ended.is_text (at + 1 + n + 1) (drop (at + 1 + n + 1) bytes) ended.is_ended)
+pub is_text : (order : Order) (end : ℕ) (k : TextCode) (kind : TextKind) (w o : ℕ) (s : List ℕ) → kind_of k ≡ Of kind → length_width k ≡ w → text_value order end k o s ≡ text_by order end w (text_row end) kind k o s
+unfolding text_value
+is_text order end k kind w o s is wide = rw (wide, is) refl
+
+pub no_text_fits : (end p n : ℕ) → end < p + n + 1 → text_row end p n ≡ None → ⊥
+no_text_fits end p n over e = absurd (omega (arith, over, rows.row_fits end p n e))
+
+module _ (order : Order) (end w : ℕ) (row : ℕ → ℕ → Option Reason) (kind : TextKind) (k : TextCode) (at : ℕ) (bytes : List ℕ) (read : Outcome ValueTree) (run : read ≡ text_by order end w row kind k at (drop at bytes)) where
+  pub text_unpadded : IsNotRead (padding w end at (drop at bytes)) → IsNotRead read
+  text_unpadded unread = not_same read _ run (not_first (padding w end at (drop at bytes)) _ unread)
+
+  module _ (start : ℕ) (padded : padding w end at (drop at bytes) ≡ Done tt start (drop start bytes)) where
+    no_length : IsNotRead (number order w end row start (drop start bytes)) → IsNotRead read
+    no_length unread = not_same read _ run (rw padded (not_first (number order w end row start (drop start bytes)) _ unread))
+
+    pub text_unmeasured : IsNotRead (number order w end no_row start (drop start bytes)) → IsNotRead read
+    text_unmeasured unread = no_length (row_unread order w end row start (drop start bytes) unread)
+
+    module _ (n : ℕ) (plain : number order w end no_row start (drop start bytes) ≡ Done n (start + w) (drop (start + w) bytes)) where
+      -- its row says something against the length
+      pub text_against : (row (start + w) n ≡ None → ⊥) → IsNotRead read
+      text_against against = no_length (row_against order w end row start (drop start bytes) n (start + w) (drop (start + w) bytes) plain against)
+
+      module _ (fits : row (start + w) n ≡ None) where
+        measured : number order w end row start (drop start bytes) ≡ Done n (start + w) (drop (start + w) bytes)
+        measured = number_passes order w end row start (drop start bytes) n (start + w) (drop (start + w) bytes) plain fits
+
+        pub text_not_ended : (EndedText kind n (start + w) bytes → ⊥) → IsNotRead read
+        text_not_ended unended = not_same read _ run (rw (padded, measured) (not_ended kind n (start + w) bytes (λ t. pure (TextValue k t)) unended))
+
+        pub text_done : EndedText kind n (start + w) bytes → read ≡ Done (TextValue k (take n (drop (start + w) bytes))) (start + w + n + 1) (drop (start + w + n + 1) bytes)
+        text_done ended = run ∙ rw (padded, measured, ended.is_text, ended.is_ended) refl
+
+module _ (order : Order) (end at : ℕ) (bytes : List ℕ) (le : at ≤ end) where
+  pub signature_done : (n : ℕ) → number order 1 end (text_row end) at (drop at bytes) ≡ Done n (at + 1) (drop (at + 1) bytes) → EndedText Signature n (at + 1) bytes
+      → text_value order end SIGNATURE at (drop at bytes) ≡ Done (TextValue SIGNATURE (take n (drop (at + 1) bytes))) (at + 1 + n + 1) (drop (at + 1 + n + 1) bytes)
+  signature_done n measured ended =
+      sig_done order end at (drop at bytes) le n (at + 1) (drop (at + 1) bytes) measured (take n (drop (at + 1) bytes)) (at + 1 + n) (drop (at + 1 + n) bytes) ended.is_text (at + 1 + n + 1) (drop (at + 1 + n + 1) bytes) ended.is_ended
+
+  pub signature_unread : ((n : ℕ) → number order 1 end (text_row end) at (drop at bytes) ≡ Done n (at + 1) (drop (at + 1) bytes) → EndedText Signature n (at + 1) bytes → ⊥) → IsNotRead (text_value order end SIGNATURE at (drop at bytes))
+  unfolding text_value
+  signature_unread unread =
+      rw (no_padding end at (drop at bytes) le) (short_unread Signature order end at (text_row end) bytes _ unread (λ n unended. not_ended Signature n (at + 1) bytes (λ t. pure (TextValue SIGNATURE t)) unended))
 
 -- ---- an array's length, and the padding after it
 
-pub frame_ends : (bounds : Bounds) (order : Order) (end : ℕ) (t : TypeTree) (at : ℕ) (bytes : List ℕ) (n a first : ℕ) → a ≡ alignment_of t → number order 4 end no_row at (drop at bytes) ≡ Done n (at + 4) (drop (at + 4) bytes)
-    → n ≤ bounds.array → first ≡ at + 4 + gap_to a (at + 4) → first + n ≤ end → padding a end (at + 4) (drop (at + 4) bytes) ≡ Done tt first (drop first bytes)
-    → array_frame bounds order end t at (drop at bytes) ≡ Done n first (drop first bytes)
-frame_ends bounds order end t at bytes n a first e there few is fits padded =
-    let row = row_fits bounds t a end (at + 4) n e few (omega arith) in
-    frame_done bounds order end t at (drop at bytes) n (at + 4) (drop (at + 4) bytes) there row first (drop first bytes) (subst (λ (b : ℕ). padding b end (at + 4) (drop (at + 4) bytes) ≡ Done tt first (drop first bytes)) e padded)
+module _ (bounds : Bounds) (order : Order) (end : ℕ) (t : TypeTree) (at : ℕ) (bytes : List ℕ) where
+  no_frame : IsNotRead (number order 4 end (array_row bounds t end) at (drop at bytes)) → IsNotRead (array_frame bounds order end t at (drop at bytes))
+  unfolding array_frame
+  no_frame unread = not_first (number order 4 end (array_row bounds t end) at (drop at bytes)) _ unread
+
+  pub frame_unmeasured : IsNotRead (number order 4 end no_row at (drop at bytes)) → IsNotRead (array_frame bounds order end t at (drop at bytes))
+  frame_unmeasured unread = no_frame (row_unread order 4 end (array_row bounds t end) at (drop at bytes) unread)
+
+  pub frame_unpadded : (a : ℕ) → a ≡ alignment_of t → IsNotRead (padding a end (at + 4) (drop (at + 4) bytes)) → IsNotRead (array_frame bounds order end t at (drop at bytes))
+  unfolding array_frame
+  frame_unpadded a is unread = not_then (number order 4 end (array_row bounds t end) at (drop at bytes)) _ (λ n p u e.
+      let r = number_read order 4 end (array_row bounds t end) at bytes n p u e in
+      rw (r.ends, r.left, ← is) (not_first (padding a end (at + 4) (drop (at + 4) bytes)) _ unread))
+
+  module _ (n : ℕ) (there : number order 4 end no_row at (drop at bytes) ≡ Done n (at + 4) (drop (at + 4) bytes)) where
+    -- it is too long, or ends after the end
+    pub frame_against : (n ≤ bounds.array → at + 4 + gap_to (alignment_of t) (at + 4) + n ≤ end → ⊥) → IsNotRead (array_frame bounds order end t at (drop at bytes))
+    frame_against against = no_frame (row_against order 4 end (array_row bounds t end) at (drop at bytes) n (at + 4) (drop (at + 4) bytes) there (λ e. let w = rows.array_row_fits bounds t end (at + 4) n e in against w.0 w.1))
+
+    pub frame_ends : (a first : ℕ) → a ≡ alignment_of t → n ≤ bounds.array → first ≡ at + 4 + gap_to a (at + 4) → first + n ≤ end → padding a end (at + 4) (drop (at + 4) bytes) ≡ Done tt first (drop first bytes)
+        → array_frame bounds order end t at (drop at bytes) ≡ Done n first (drop first bytes)
+    frame_ends a first e few is fits padded =
+        let row = row_fits bounds t a end (at + 4) n e few (omega arith) in
+        frame_done bounds order end t at (drop at bytes) n (at + 4) (drop (at + 4) bytes) there row first (drop first bytes) (subst (λ (b : ℕ). padding b end (at + 4) (drop (at + 4) bytes) ≡ Done tt first (drop first bytes)) e padded)

@@ -1,10 +1,7 @@
 pub mod ReadParts
-pub mod ReadContainers
-mod ItemSteps
+pub mod ItemSteps
 mod NotedTypes
-pub mod ItemRefusals
 pub mod NumberArrays
-mod ValueSteps
-pub mod ValueRefusals
+pub mod ValueSteps
 pub mod Spelled
 mod PlainBlocks

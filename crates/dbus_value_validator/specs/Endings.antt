@@ -1,6 +1,6 @@
 -- What is read of the bytes of a message, and where it ends; its value is forgotten.
 -- D-Bus Specification, "Marshaling (Wire Format)".
-use Rattle.std.specs.Prelude.{◌≡◌, ℕ, ◌+◌, List, take, drop}
+use Rattle.std.specs.Prelude.{◌≡◌, ℕ, ◌+◌, List, Option, Some, None, take, drop}
 use Rattle.dbus_texts.specs.Types.{TypeTree, TypeTrees}
 use Rattle.dbus_texts.specs.Kinds.{IsKind}
 use Rattle.dbus_texts.specs.declared.text_kind.TextKind.{TextKind}
@@ -19,6 +19,11 @@ EndsAt {A} bytes q read = (x : A) × (read ≡ Done x q (drop q bytes))
 -- it is not read whole: a fault shows, or bytes are wanting
 abbrev pub IsNotRead : {A : Type 0} → Outcome A → Type 0
 IsNotRead {A} read = (x : A) (q : ℕ) (rest : List ℕ) → read ≡ Done x q rest → ⊥
+
+-- what a call answers of it: where it ends, or that it is not read whole
+abbrev pub Answers : {A : Type 0} → List ℕ → Option ℕ → Outcome A → Type 0
+Answers bytes (Some q) read = EndsAt bytes q read
+Answers bytes None read = IsNotRead read
 
 -- a text of a kind has n bytes from start on, and a zero stands after it
 pub record EndedText (kind : TextKind) (n start : ℕ) (bytes : List ℕ) : Type 0 where

@@ -1,11 +1,11 @@
 //! Values of basic types. D-Bus Specification, "Basic types".
 #![tactic(auto)]
 
-ghost use Rattle.std.specs.Prelude.{◌≡◌, ℕ, ◌+◌, ◌≤◌, length, None, IfSome};
+ghost use Rattle.std.specs.Prelude.{◌≡◌, ℕ, ◌+◌, ◌≤◌, length, IfSome};
 ghost use Rattle.dbus_texts.specs.Types.{TypeTree, IsBasic};
 ghost use Rattle.dbus_texts.specs.SignatureScans.{is_basic_code};
 ghost use Rattle.dbus_types.specs.SignatureCodes.{first_code};
-ghost use Rattle.dbus_value_validator.specs.Endings.{EndsAt, IsNotRead};
+ghost use Rattle.dbus_value_validator.specs.Endings.{Answers};
 ghost use Rattle.dbus_value_validator.specs.Sources.{value_in};
 
 use crate::numbers::{boolean, descriptor, free_number};
@@ -28,11 +28,8 @@ pub(crate) fn is_basic(code: u8) -> bool
 pub(crate) fn basic_value(source: &Source<'_>, at: usize, end: usize, code: u8) -> Option<usize>
     requires at_most { at ≤ end }
     requires inside { end ≤ length source.now.bytes.now }
-    ensures gives { IfSome result (λ q. (depth_left : ℕ) (t : TypeTree) →
-        first_code t ≡ code →
-        EndsAt source.now.bytes.now q (value_in source.now depth_left end t at)) }
-    ensures none { result ≡ None → (depth_left : ℕ) (t : TypeTree) → first_code t ≡ code → IsBasic t →
-        IsNotRead (value_in source.now depth_left end t at) }
+    ensures gives { (depth_left : ℕ) (t : TypeTree) → first_code t ≡ code → IsBasic t →
+        Answers source.now.bytes.now result (value_in source.now depth_left end t at) }
     ensures moves { IfSome result (λ q. (at ≤ q) × (q ≤ end)) }
 {
     let width = free_width(code);

@@ -1,12 +1,12 @@
 //! Values that are one number. D-Bus Specification, "Basic types", "Marshaling (Wire Format)".
 #![tactic(auto)]
 
-ghost use Rattle.std.specs.Prelude.{◌≡◌, ℕ, ◌+◌, ◌<◌, ◌≤◌, length, drop, Option, None, IfSome};
+ghost use Rattle.std.specs.Prelude.{◌≡◌, ℕ, ◌+◌, ◌<◌, ◌≤◌, length, drop, Option, IfSome};
 ghost use Rattle.dbus_texts.specs.Types.{NumberCode, BOOLEAN, UNIX_FD};
 ghost use Rattle.dbus_types.specs.Alignments.{width};
 ghost use Rattle.dbus_value_model.specs.declared.order.Order.{Order};
 ghost use Rattle.dbus_value_model.specs.ValueReaders.{number_value};
-ghost use Rattle.dbus_value_validator.specs.Endings.{EndsAt, IsNotRead};
+ghost use Rattle.dbus_value_validator.specs.Endings.{Answers};
 ghost use Rattle.dbus_value_model.specs.FreeNumbers.{IsFree};
 
 use crate::items::{padding, word};
@@ -17,11 +17,9 @@ pub(crate) fn free_number(bytes: &[u8], at: usize, end: usize, size: u8) -> Opti
     requires some { 0 < size }
     requires at_most { at ≤ end }
     requires inside { end ≤ length bytes.now }
-    ensures gives { IfSome result (λ q. (index_limit : Option ℕ) (order : Order) (k : NumberCode) →
+    ensures gives { (index_limit : Option ℕ) (order : Order) (k : NumberCode) →
         width k ≡ size → IsFree index_limit k →
-        EndsAt bytes.now q (number_value index_limit order end k at (drop at bytes.now))) }
-    ensures none { result ≡ None → (index_limit : Option ℕ) (order : Order) (k : NumberCode) →
-        width k ≡ size → IsNotRead (number_value index_limit order end k at (drop at bytes.now)) }
+        Answers bytes.now result (number_value index_limit order end k at (drop at bytes.now)) }
     ensures moves { IfSome result (λ q. (at ≤ q) × (q ≤ end)) }
 {
     let start = padding(bytes, at, end, size)?;
@@ -36,10 +34,9 @@ pub(crate) fn free_number(bytes: &[u8], at: usize, end: usize, size: u8) -> Opti
 pub(crate) fn boolean(bytes: &[u8], at: usize, end: usize, order: Order) -> Option<usize>
     requires at_most { at ≤ end }
     requires inside { end ≤ length bytes.now }
-    ensures gives { IfSome result (λ q. (index_limit : Option ℕ) →
-        EndsAt bytes.now q (number_value index_limit order end BOOLEAN at (drop at bytes.now))) }
-    ensures none { result ≡ None → (index_limit : Option ℕ) →
-        IsNotRead (number_value index_limit order end BOOLEAN at (drop at bytes.now)) }
+    ensures gives { (index_limit : Option ℕ) →
+        Answers bytes.now result
+        (number_value index_limit order end BOOLEAN at (drop at bytes.now)) }
     ensures moves { IfSome result (λ q. (at ≤ q) × (q ≤ end)) }
 {
     let start = padding(bytes, at, end, 4)?;
@@ -60,10 +57,8 @@ pub(crate) fn descriptor(
 ) -> Option<usize>
     requires at_most { at ≤ end }
     requires inside { end ≤ length bytes.now }
-    ensures gives { IfSome result (λ q.
-        EndsAt bytes.now q (number_value index_limit order end UNIX_FD at (drop at bytes.now))) }
-    ensures none { result ≡ None →
-        IsNotRead (number_value index_limit order end UNIX_FD at (drop at bytes.now)) }
+    ensures gives { Answers bytes.now result
+        (number_value index_limit order end UNIX_FD at (drop at bytes.now)) }
     ensures moves { IfSome result (λ q. (at ≤ q) × (q ≤ end)) }
 {
     let start = padding(bytes, at, end, 4)?;

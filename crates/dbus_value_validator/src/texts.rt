@@ -9,7 +9,7 @@ ghost use Rattle.dbus_value_model.specs.WantedTexts.{kind_of, Of};
 ghost use Rattle.dbus_value_model.specs.ValueItems.{text_row};
 ghost use Rattle.dbus_value_model.specs.Reading.{Done, number};
 ghost use Rattle.dbus_value_model.specs.ValueReaders.{text_value};
-ghost use Rattle.dbus_value_validator.specs.Endings.{EndsAt, EndedText, IsNotRead};
+ghost use Rattle.dbus_value_validator.specs.Endings.{Answers, EndedText};
 
 use crate::items::{byte, is_ended_text, padding, word};
 use dbus_types::TextKind;
@@ -25,11 +25,8 @@ pub(crate) fn long_text(
 ) -> Option<usize>
     requires at_most { at ≤ end }
     requires inside { end ≤ length bytes.now }
-    ensures gives { IfSome result (λ q. (k : TextCode) →
-        kind_of k ≡ Of kind → length_width k ≡ 4 →
-        EndsAt bytes.now q (text_value order end k at (drop at bytes.now))) }
-    ensures none { result ≡ None → (k : TextCode) → kind_of k ≡ Of kind → length_width k ≡ 4 →
-        IsNotRead (text_value order end k at (drop at bytes.now)) }
+    ensures gives { (k : TextCode) → kind_of k ≡ Of kind → length_width k ≡ 4 →
+        Answers bytes.now result (text_value order end k at (drop at bytes.now)) }
     ensures moves { IfSome result (λ q. (at ≤ q) × (q ≤ end)) }
 {
     let start = padding(bytes, at, end, 4)?;
@@ -73,10 +70,8 @@ pub fn short_text(bytes: &[u8], at: usize, end: usize, kind: TextKind) -> Option
 pub(crate) fn signature(bytes: &[u8], at: usize, end: usize) -> Option<usize>
     requires at_most { at ≤ end }
     requires inside { end ≤ length bytes.now }
-    ensures gives { IfSome result (λ q. (order : Order) →
-        EndsAt bytes.now q (text_value order end SIGNATURE at (drop at bytes.now))) }
-    ensures none { result ≡ None → (order : Order) →
-        IsNotRead (text_value order end SIGNATURE at (drop at bytes.now)) }
+    ensures gives { (order : Order) →
+        Answers bytes.now result (text_value order end SIGNATURE at (drop at bytes.now)) }
     ensures moves { IfSome result (λ q. (at ≤ q) × (q ≤ end)) }
 {
     let n = short_text(bytes, at, end, TextKind::Signature)?;

@@ -6,9 +6,9 @@
 //! D-Bus Specification, "Marshaling (Wire Format)".
 #![tactic(auto)]
 
-ghost use Rattle.std.specs.Prelude.{◌≡◌, ℕ, ◌+◌, ◌<◌, ◌≤◌, ◌^◌, length, drop, true, None, IfSome};
+ghost use Rattle.std.specs.Prelude.{◌≡◌, ℕ, ◌+◌, ◌<◌, ◌≤◌, ◌^◌, length, drop, true, IfSome};
 ghost use Rattle.dbus_texts.specs.Types.{TypeTree, TypeTrees, NoTypes, MoreTypes, sig, sigs, IsShaped, AreShaped};
-ghost use Rattle.dbus_value_validator.specs.Endings.{EndsAt, IsNotRead};
+ghost use Rattle.dbus_value_validator.specs.Endings.{Answers};
 ghost use Rattle.dbus_value_validator.specs.NotedTypes.{AreNoted};
 ghost use Rattle.dbus_value_validator.specs.Sources.{value_in, values_in, elements_in, variant_in, array_in, struct_in, entry_in};
 
@@ -34,11 +34,8 @@ pub(crate) fn one_value(
     requires inside { end ≤ length source.now.bytes.now }
     requires near { pos + length types.now < 2 ^ 64 }
     requires noted { AreNoted types.now source.now.lengths.now pos }
-    ensures gives { IfSome result (λ q. (t : TypeTree) →
-        sig t ≡ types.now → IsShaped true t →
-        EndsAt source.now.bytes.now q (value_in source.now depth_left end t at)) }
-    ensures none { result ≡ None → (t : TypeTree) → sig t ≡ types.now → IsShaped true t →
-        IsNotRead (value_in source.now depth_left end t at) }
+    ensures gives { (t : TypeTree) → sig t ≡ types.now → IsShaped true t →
+        Answers source.now.bytes.now result (value_in source.now depth_left end t at) }
     ensures moves { IfSome result (λ q. (at ≤ q) × (q ≤ end)) }
 {
     if types.is_empty() {
@@ -76,11 +73,8 @@ pub(crate) fn all_values(
     requires inside { end ≤ length source.now.bytes.now }
     requires near { pos + length types.now < 2 ^ 64 }
     requires noted { AreNoted types.now source.now.lengths.now pos }
-    ensures gives { IfSome result (λ q. (ts : TypeTrees) →
-        sigs ts ≡ types.now → AreShaped ts →
-        EndsAt source.now.bytes.now q (values_in source.now depth_left end ts at)) }
-    ensures none { result ≡ None → (ts : TypeTrees) → sigs ts ≡ types.now → AreShaped ts →
-        IsNotRead (values_in source.now depth_left end ts at) }
+    ensures gives { (ts : TypeTrees) → sigs ts ≡ types.now → AreShaped ts →
+        Answers source.now.bytes.now result (values_in source.now depth_left end ts at) }
     ensures moves { IfSome result (λ q. (at ≤ q) × (q ≤ end)) }
 {
     let mut place = at;
@@ -111,11 +105,8 @@ pub(crate) fn noted_values(
     requires at_most { at ≤ end }
     requires inside { end ≤ length source.now.bytes.now }
     requires few { length types.now ≤ 255 }
-    ensures gives { IfSome result (λ q. (ts : TypeTrees) →
-        sigs ts ≡ types.now → AreShaped ts →
-        EndsAt source.now.bytes.now q (values_in source.now depth_left end ts at)) }
-    ensures none { result ≡ None → (ts : TypeTrees) → sigs ts ≡ types.now → AreShaped ts →
-        IsNotRead (values_in source.now depth_left end ts at) }
+    ensures gives { (ts : TypeTrees) → sigs ts ≡ types.now → AreShaped ts →
+        Answers source.now.bytes.now result (values_in source.now depth_left end ts at) }
     ensures moves { IfSome result (λ q. (at ≤ q) × (q ≤ end)) }
 {
     let mut table = [0; 255];
@@ -133,10 +124,7 @@ pub(crate) fn noted_values(
 fn variant(source: &Source<'_>, at: usize, end: usize, depth_left: u8) -> Option<usize>
     requires at_most { at ≤ end }
     requires inside { end ≤ length source.now.bytes.now }
-    ensures gives { IfSome result (λ q.
-        EndsAt source.now.bytes.now q (variant_in source.now depth_left end at)) }
-    ensures none { result ≡ None →
-        IsNotRead (variant_in source.now depth_left end at) }
+    ensures gives { Answers source.now.bytes.now result (variant_in source.now depth_left end at) }
     ensures moves { IfSome result (λ q. (at ≤ q) × (q ≤ end)) }
 {
     if depth_left == 0 {
@@ -163,11 +151,8 @@ pub(crate) fn own_value(
 ) -> Option<usize>
     requires at_most { at ≤ end }
     requires inside { end ≤ length source.now.bytes.now }
-    ensures gives { IfSome result (λ q. (t : TypeTree) →
-        sig t ≡ types.now → IsShaped true t →
-        EndsAt source.now.bytes.now q (value_in source.now depth_left end t at)) }
-    ensures none { result ≡ None → (t : TypeTree) → sig t ≡ types.now → IsShaped true t →
-        IsNotRead (value_in source.now depth_left end t at) }
+    ensures gives { (t : TypeTree) → sig t ≡ types.now → IsShaped true t →
+        Answers source.now.bytes.now result (value_in source.now depth_left end t at) }
     ensures moves { IfSome result (λ q. (at ≤ q) × (q ≤ end)) }
 {
     if wants_lengths(types) {
@@ -188,11 +173,8 @@ fn noted_value(
     requires at_most { at ≤ end }
     requires inside { end ≤ length source.now.bytes.now }
     requires few { length types.now ≤ 255 }
-    ensures gives { IfSome result (λ q. (t : TypeTree) →
-        sig t ≡ types.now → IsShaped true t →
-        EndsAt source.now.bytes.now q (value_in source.now depth_left end t at)) }
-    ensures none { result ≡ None → (t : TypeTree) → sig t ≡ types.now → IsShaped true t →
-        IsNotRead (value_in source.now depth_left end t at) }
+    ensures gives { (t : TypeTree) → sig t ≡ types.now → IsShaped true t →
+        Answers source.now.bytes.now result (value_in source.now depth_left end t at) }
     ensures moves { IfSome result (λ q. (at ≤ q) × (q ≤ end)) }
 {
     let mut table = [0; 255];
@@ -219,11 +201,8 @@ fn array(
     requires inside { end ≤ length source.now.bytes.now }
     requires near { pos + length types.now < 2 ^ 64 }
     requires noted { AreNoted types.now source.now.lengths.now pos }
-    ensures gives { IfSome result (λ q. (t : TypeTree) →
-        sig t ≡ types.now → IsShaped true t →
-        EndsAt source.now.bytes.now q (array_in source.now depth_left end t at)) }
-    ensures none { result ≡ None → (t : TypeTree) → sig t ≡ types.now → IsShaped true t →
-        IsNotRead (array_in source.now depth_left end t at) }
+    ensures gives { (t : TypeTree) → sig t ≡ types.now → IsShaped true t →
+        Answers source.now.bytes.now result (array_in source.now depth_left end t at) }
     ensures moves { IfSome result (λ q. (at ≤ q) × (q ≤ end)) }
 {
     if depth_left == 0 || types.is_empty() {
@@ -263,11 +242,8 @@ fn elements(
     requires inside { at + n ≤ length source.now.bytes.now }
     requires near { pos + length types.now < 2 ^ 64 }
     requires noted { AreNoted types.now source.now.lengths.now pos }
-    ensures gives { IfSome result (λ q. (t : TypeTree) →
-        sig t ≡ types.now → IsShaped true t →
-        EndsAt source.now.bytes.now q (elements_in source.now n depth_left t at)) }
-    ensures none { result ≡ None → (t : TypeTree) → sig t ≡ types.now → IsShaped true t →
-        IsNotRead (elements_in source.now n depth_left t at) }
+    ensures gives { (t : TypeTree) → sig t ≡ types.now → IsShaped true t →
+        Answers source.now.bytes.now result (elements_in source.now n depth_left t at) }
     ensures ends { IfSome result (λ q. q ≡ at + n) }
 {
     let end = at + n;
@@ -296,11 +272,8 @@ fn structure(
     requires inside { end ≤ length source.now.bytes.now }
     requires near { pos + length types.now < 2 ^ 64 }
     requires noted { AreNoted types.now source.now.lengths.now pos }
-    ensures gives { IfSome result (λ q. (ts : TypeTrees) →
-        sigs ts ≡ types.now → AreShaped ts →
-        EndsAt source.now.bytes.now q (struct_in source.now depth_left end ts at)) }
-    ensures none { result ≡ None → (ts : TypeTrees) → sigs ts ≡ types.now → AreShaped ts →
-        IsNotRead (struct_in source.now depth_left end ts at) }
+    ensures gives { (ts : TypeTrees) → sigs ts ≡ types.now → AreShaped ts →
+        Answers source.now.bytes.now result (struct_in source.now depth_left end ts at) }
     ensures moves { IfSome result (λ q. (at ≤ q) × (q ≤ end)) }
 {
     if depth_left == 0 {
@@ -324,14 +297,10 @@ fn entry(
     requires inside { end ≤ length source.now.bytes.now }
     requires near { pos + length types.now < 2 ^ 64 }
     requires noted { AreNoted types.now source.now.lengths.now pos }
-    ensures gives { IfSome result (λ q. (k v : TypeTree) →
+    ensures gives { (k v : TypeTree) →
         sigs (MoreTypes k (MoreTypes v NoTypes)) ≡ types.now →
         AreShaped (MoreTypes k (MoreTypes v NoTypes)) →
-        EndsAt source.now.bytes.now q (entry_in source.now depth_left end k v at)) }
-    ensures none { result ≡ None → (k v : TypeTree) →
-        sigs (MoreTypes k (MoreTypes v NoTypes)) ≡ types.now →
-        AreShaped (MoreTypes k (MoreTypes v NoTypes)) →
-        IsNotRead (entry_in source.now depth_left end k v at) }
+        Answers source.now.bytes.now result (entry_in source.now depth_left end k v at) }
     ensures moves { IfSome result (λ q. (at ≤ q) × (q ≤ end)) }
 {
     let start = padding(source.bytes, at, end, 8)?;

@@ -1,20 +1,25 @@
-use Rattle.std.proofs.Common.{arith}
-use Rattle.dbus_validate.proofs.HeldSteps.{serial_held}
+use Rattle.std.proofs.Common.{◌+◌, refl, arith}
+use Rattle.dbus_texts.specs.Types.{UINT32}
+use Rattle.dbus_value_model.specs.declared.fault.Reason.TheVariants as reasons
 use Rattle.dbus_message_model.specs.Messages.{Serial}
-use Rattle.dbus_validate.proofs.HeldRefusals.{unsigned, serial_unpadded, serial_unread, serial_zero}
+use Rattle.dbus_header.specs.MessageItems.{not_zero_row}
+use Rattle.dbus_header.proofs.Fields.{fits_not_zero}
+use Rattle.dbus_value_model.specs.Values.{NumberValue}
+use Rattle.dbus_value_validator.proofs.ItemSteps.{number_unpadded, number_unread, number_ends, number_against}
+use Rattle.dbus_validate.proofs.HeldSteps.{unsigned, is_serial}
 use Rattle.dbus_validate.proofs.field_values.serial.Goals as goal
 
 pub returns-clause-held : goal.returns-clause-held
-returns-clause-held c = λ limits. serial_held limits c.args.order c.args.end c.args.at c.in_ok-signed.signed c.in_ok-place.place c.args.bytes.now c.in_ok-place.ensures.gives c.in_ok-number.number c.in_ok-number.ensures.gives (c.in_ok-signed.ensures.gives c.args.order) (omega arith)
+returns-clause-held c = λ limits. (NumberValue UINT32 c.in_ok-number.number, number_ends c.args.order c.args.end 4 (not_zero_row reasons.ZeroSerial) UINT32 c.in_ok-signed.signed c.args.bytes.now _ (is_serial limits c.args.order c.args.end c.args.at c.args.bytes.now c.in_ok-signed.signed (c.in_ok-signed.ensures.gives c.args.order)) c.in_ok-place.place c.in_ok-place.ensures.gives c.in_ok-number.number c.in_ok-number.ensures.gives (fits_not_zero reasons.ZeroSerial (c.in_ok-place.place + 4) c.in_ok-number.number (omega arith)), (refl, refl))
 
-pub returns-in_err-signed-clause-none : goal.returns-in_err-signed-clause-none
-returns-in_err-signed-clause-none c = λ none limits. unsigned limits c.args.order c.args.end Serial c.args.at c.args.bytes.now (c.letter.ensures.none c.in_err-signed.was c.args.order)
+pub returns-in_err-signed-clause-held : goal.returns-in_err-signed-clause-held
+returns-in_err-signed-clause-held c = λ limits. rw c.from_residual.ensures (unsigned limits c.args.order c.args.end c.args.at c.args.bytes.now Serial (c.letter.ensures.none c.in_err-signed.was c.args.order))
 
-pub returns-in_err-place-clause-none : goal.returns-in_err-place-clause-none
-returns-in_err-place-clause-none c = λ none limits. serial_unpadded limits c.args.order c.args.end c.args.at c.in_ok-signed.signed c.args.bytes.now (c.in_ok-signed.ensures.gives c.args.order) (c.padding.ensures.none c.in_err-place.was)
+pub returns-in_err-place-clause-held : goal.returns-in_err-place-clause-held
+returns-in_err-place-clause-held c = λ limits. rw c.from_residual-in_err-place.ensures (number_unpadded c.args.order c.args.end 4 (not_zero_row reasons.ZeroSerial) UINT32 c.in_ok-signed.signed c.args.bytes.now _ (is_serial limits c.args.order c.args.end c.args.at c.args.bytes.now c.in_ok-signed.signed (c.in_ok-signed.ensures.gives c.args.order)) (c.padding.ensures.none c.in_err-place.was))
 
-pub returns-in_err-number-clause-none : goal.returns-in_err-number-clause-none
-returns-in_err-number-clause-none c = λ none limits. serial_unread limits c.args.order c.args.end c.args.at c.in_ok-signed.signed c.args.bytes.now (c.in_ok-signed.ensures.gives c.args.order) c.in_ok-place.place c.in_ok-place.ensures.gives (c.word.ensures.none c.in_err-number.was)
+pub returns-in_err-number-clause-held : goal.returns-in_err-number-clause-held
+returns-in_err-number-clause-held c = λ limits. rw c.from_residual-in_err-number.ensures (number_unread c.args.order c.args.end 4 (not_zero_row reasons.ZeroSerial) UINT32 c.in_ok-signed.signed c.args.bytes.now _ (is_serial limits c.args.order c.args.end c.args.at c.args.bytes.now c.in_ok-signed.signed (c.in_ok-signed.ensures.gives c.args.order)) c.in_ok-place.place c.in_ok-place.ensures.gives (c.word.ensures.none c.in_err-number.was))
 
-pub returns-then-number-eq0-clause-none : goal.returns-then-number-eq0-clause-none
-returns-then-number-eq0-clause-none c = λ none limits. serial_zero limits c.args.order c.args.end c.args.at c.in_ok-signed.signed c.args.bytes.now (c.in_ok-signed.ensures.gives c.args.order) c.in_ok-place.place c.in_ok-place.ensures.gives c.in_ok-number.number c.in_ok-number.ensures.gives c.if-number-eq0.true
+pub returns-then-number-eq0-clause-held : goal.returns-then-number-eq0-clause-held
+returns-then-number-eq0-clause-held c = λ limits. number_against c.args.order c.args.end 4 (not_zero_row reasons.ZeroSerial) UINT32 c.in_ok-signed.signed c.args.bytes.now _ (is_serial limits c.args.order c.args.end c.args.at c.args.bytes.now c.in_ok-signed.signed (c.in_ok-signed.ensures.gives c.args.order)) c.in_ok-place.place c.in_ok-place.ensures.gives c.in_ok-number.number c.in_ok-number.ensures.gives (rw c.if-number-eq0.true (λ e. absurd cc))

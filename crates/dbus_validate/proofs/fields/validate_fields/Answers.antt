@@ -1,8 +1,7 @@
-use Rattle.std.proofs.Common.{◌≡◌, ℕ, [], ◌&&◌, true, false, ◌+◌, ◌-◌, ◌≤◌, length, reverse, suc, refl, sym, ◌∙◌, arith}
+use Rattle.std.proofs.Common.{◌≡◌, ◌&&◌, true, false, ◌+◌, ◌-◌, ◌≤◌, length, reverse, suc, sym, ◌∙◌, arith}
 use Rattle.std.proofs.lemmas.Bool.{eqb-true, eqb-false}
 use Rattle.dbus_message_model.specs.Messages.{is_known, has_code}
-use Rattle.dbus_validate.proofs.FieldTurns.{none_left, one_left, left_ends}
-use Rattle.dbus_validate.proofs.FieldRefusals.{one_unread, one_again, none_unread}
+use Rattle.dbus_validate.proofs.FieldTurns.{none_left, same_before, one_left, left_ends, one_unread, none_unread}
 use Rattle.dbus_validate.proofs.fields.validate_fields.Goals as goal
 
 pub loop-turn-init : goal.loop-turn-init
@@ -20,7 +19,7 @@ loop-turn-preserved c =
     record {
       at_most = c.in-Some.ensures.moves.1;
       left = one_left c.args.limits c.args.order c.args.bytes.now c.args.at c.args.n (c.args.n - c.loop-turn._turn) (c.args.n - (c.loop-turn._turn + 1)) c.loop-turn.place c.in-Some.code c.in-Some.held c.loop-turn.seen c.note.new.self left
-          more (omega (arith, c.if-place-end.false)) alone c.in-Some.ensures.field (λ v is. c.note.ensures c.args.bytes.now left.front v left.noted alone is fits);
+          more (omega (arith, c.if-place-end.false)) alone (λ before. (c.in-Some.ensures.field before).0) (λ v is. c.note.ensures c.args.bytes.now left.front v left.noted alone is fits);
     }
 
 pub returns-then-place-end-clause-accepts : goal.returns-then-place-end-clause-accepts
@@ -34,17 +33,14 @@ returns-clause-accepts c = λ h.
 pub returns-in_default-clause-refuses : goal.returns-in_default-clause-refuses
 returns-in_default-clause-refuses c = λ none.
     one_unread c.args.limits c.args.order c.args.bytes.now c.args.at c.args.n (c.args.n - c.loop-turn._turn) c.loop-turn.place c.loop-turn.seen c.loop-turn.invariant.left
-    (c.args.n - (c.loop-turn._turn + 1)) (omega arith) (omega (arith, c.if-place-end.false)) (c.validate_field.ensures.none c.in_default.is (reverse c.loop-turn.invariant.left.front))
+    (c.args.n - (c.loop-turn._turn + 1)) (omega arith) (omega (arith, c.if-place-end.false)) (rw c.in_default.is at (c.validate_field.ensures.field (reverse c.loop-turn.invariant.left.front)))
 
 pub returns-then-has-clause-refuses : goal.returns-then-has-clause-refuses
 returns-then-has-clause-refuses c = λ none.
     let left = c.loop-turn.invariant.left in
     let again : is_known c.in-Some.code && has_code c.in-Some.code left.front ≡ true = sym (c.has.ensures c.args.bytes.now left.front left.noted) ∙ c.if-has.true in
-    one_again c.args.limits c.args.order c.args.bytes.now c.args.at c.args.n (c.args.n - c.loop-turn._turn) c.loop-turn.place c.loop-turn.seen c.loop-turn.invariant.left
-    (c.args.n - (c.loop-turn._turn + 1)) c.in-Some.code c.in-Some.held (omega arith) (omega (arith, c.if-place-end.false)) again (c.in-Some.ensures.field [] (none_before c.in-Some.code))
-  where
-    none_before : (code : ℕ) → is_known code && has_code code [] ≡ false
-    none_before code = elim (is_known code) as (λ b. b && false ≡ false) [ true ↦ refl | false ↦ refl ]
+    one_unread c.args.limits c.args.order c.args.bytes.now c.args.at c.args.n (c.args.n - c.loop-turn._turn) c.loop-turn.place c.loop-turn.seen left
+    (c.args.n - (c.loop-turn._turn + 1)) (omega arith) (omega (arith, c.if-place-end.false)) ((c.in-Some.ensures.field (reverse left.front)).1 (same_before c.args.limits c.args.order c.args.bytes.now c.args.at c.args.n c.in-Some.code left.front ∙ again))
 
 pub returns-clause-refuses : goal.returns-clause-refuses
 returns-clause-refuses c = λ none. none_unread c.args.limits c.args.order c.args.bytes.now c.args.at c.args.n (c.args.n - c.loop-turn._turn) c.loop-turn.place c.loop-turn.seen c.loop-turn.invariant.left (omega arith) (λ e. eqb-false (c.args.at + c.args.n) c.loop-turn.place none (sym e))

@@ -1,19 +1,24 @@
-use Rattle.std.proofs.Common.{◌+◌, refl, arith}
+use Rattle.std.proofs.Common.{◌+◌, drop, refl}
 use Rattle.dbus_texts.specs.Types.{BOOLEAN}
-use Rattle.dbus_value_validator.proofs.ItemRefusals.{number_unpadded, number_unread, number_against, no_boolean}
-use Rattle.dbus_value_validator.proofs.ItemSteps.{boolean_ends}
+use Rattle.dbus_value_model.specs.Values.{NumberValue}
+use Rattle.dbus_value_model.specs.ValueItems.{number_row}
+use Rattle.dbus_value_validator.proofs.ItemSteps.{is_number, number_unpadded, number_unread, number_ends, number_against, is_boolean, no_boolean}
 use Rattle.dbus_value_validator.proofs.numbers.boolean.Goals as goal
 
 pub returns-clause-gives : goal.returns-clause-gives
-returns-clause-gives c = λ index_limit. boolean_ends index_limit c.args.order c.args.end c.args.at c.in_ok-start.start c.args.bytes.now c.in_ok-start.ensures.gives c.in_ok-n.n c.in_ok-n.ensures.gives (omega arith)
+returns-clause-gives c = λ index_limit. (
+  NumberValue BOOLEAN c.in_ok-n.n,
+  number_ends c.args.order c.args.end 4 (number_row index_limit BOOLEAN) BOOLEAN c.args.at c.args.bytes.now _ (is_number index_limit c.args.order c.args.end BOOLEAN 4 c.args.at (drop c.args.at c.args.bytes.now) refl) c.in_ok-start.start c.in_ok-start.ensures.gives c.in_ok-n.n c.in_ok-n.ensures.gives
+  (is_boolean index_limit (c.in_ok-start.start + 4) c.in_ok-n.n c.if-n-gt1.false),
+)
 
-pub returns-in_err-start-clause-none : goal.returns-in_err-start-clause-none
-returns-in_err-start-clause-none c = λ none index_limit. number_unpadded index_limit c.args.order c.args.end BOOLEAN c.args.at c.args.bytes.now 4 refl (c.padding.ensures.none c.in_err-start.was)
+pub returns-in_err-start-clause-gives : goal.returns-in_err-start-clause-gives
+returns-in_err-start-clause-gives c = λ index_limit. rw c.from_residual.ensures (number_unpadded c.args.order c.args.end 4 (number_row index_limit BOOLEAN) BOOLEAN c.args.at c.args.bytes.now _ (is_number index_limit c.args.order c.args.end BOOLEAN 4 c.args.at (drop c.args.at c.args.bytes.now) refl) (c.padding.ensures.none c.in_err-start.was))
 
-pub returns-in_err-n-clause-none : goal.returns-in_err-n-clause-none
-returns-in_err-n-clause-none c = λ none index_limit.
-    number_unread index_limit c.args.order c.args.end BOOLEAN c.args.at c.args.bytes.now 4 refl c.in_ok-start.start c.in_ok-start.ensures.gives (omega arith) (c.word.ensures.none c.in_err-n.was)
+pub returns-in_err-n-clause-gives : goal.returns-in_err-n-clause-gives
+returns-in_err-n-clause-gives c = λ index_limit. rw c.from_residual-in_err-n.ensures (number_unread c.args.order c.args.end 4 (number_row index_limit BOOLEAN) BOOLEAN c.args.at c.args.bytes.now _ (is_number index_limit c.args.order c.args.end BOOLEAN 4 c.args.at (drop c.args.at c.args.bytes.now) refl) c.in_ok-start.start c.in_ok-start.ensures.gives (c.word.ensures.none c.in_err-n.was))
 
-pub returns-then-n-gt1-clause-none : goal.returns-then-n-gt1-clause-none
-returns-then-n-gt1-clause-none c = λ none index_limit.
-    number_against index_limit c.args.order c.args.end BOOLEAN c.args.at c.args.bytes.now 4 refl c.in_ok-start.start c.in_ok-start.ensures.gives (omega arith) c.in_ok-n.n c.in_ok-n.ensures.gives (no_boolean index_limit (c.in_ok-start.start + 4) c.in_ok-n.n c.if-n-gt1.true)
+pub returns-then-n-gt1-clause-gives : goal.returns-then-n-gt1-clause-gives
+returns-then-n-gt1-clause-gives c = λ index_limit.
+    number_against c.args.order c.args.end 4 (number_row index_limit BOOLEAN) BOOLEAN c.args.at c.args.bytes.now _ (is_number index_limit c.args.order c.args.end BOOLEAN 4 c.args.at (drop c.args.at c.args.bytes.now) refl) c.in_ok-start.start c.in_ok-start.ensures.gives c.in_ok-n.n c.in_ok-n.ensures.gives
+    (no_boolean index_limit (c.in_ok-start.start + 4) c.in_ok-n.n c.if-n-gt1.true)

@@ -1,7 +1,7 @@
 use Rattle.std.proofs.Common.{◌≡◌, ◌+◌, ◌-◌, ◌*◌, ◌≤◌, length, true}
 use Rattle.dbus_texts.specs.Types.{TypeTree, TypeTrees, sig, sigs, IsShaped, AreShaped}
 use Rattle.dbus_value_model.specs.Reading.{value}
-use Rattle.dbus_value_validator.proofs.ValueSteps.{Left, LeadsTo, LacksAll}
+use Rattle.dbus_value_validator.proofs.ValueSteps.{Left, LeadsTo}
 use Rattle.dbus_value_validator.proofs.values.+values.Given as goal
 
 -- a container takes one of the room, or bytes of its type, and a variant's own type has at most 255 bytes
@@ -48,5 +48,4 @@ abbrev pub invariant-elements-loop-turn : goal.invariant-elements-loop-turn
 invariant-elements-loop-turn l = record {
   at_most : l.place ≤ l.end;
   leads : (t : TypeTree) → sig t ≡ l.types → IsShaped true t → LeadsTo (value l.source.bounds l.source.order l.depth_left l.end t) l.source.bytes.now l.n (l.n - l._turn) l.end l.fn.at l.place;
-  lacks : (t : TypeTree) → sig t ≡ l.types → IsShaped true t → LacksAll (value l.source.bounds l.source.order l.depth_left l.end t) l.source.bytes.now l.n (l.n - l._turn) l.end l.fn.at l.place;
 }
