@@ -10,7 +10,8 @@ use Rattle.dbus_value_model.specs.declared.limits.Limits.{Limits}
 use Rattle.dbus_value_model.specs.declared.order.Order.{Order}
 use Rattle.dbus_value_model.specs.Specification.{bounds_with}
 use Rattle.dbus_value_model.specs.Items.{fault}
-use Rattle.dbus_value_model.specs.Reading.{Done, value, fields}
+use Rattle.dbus_value_model.specs.Values.{ValueTrees}
+use Rattle.dbus_value_model.specs.Reading.{Outcome, Done, value, fields}
 use Rattle.dbus_value_laws.proofs.KindLaws.{signature_text}
 use Rattle.dbus_message_model.specs.Messages.{FieldTree, body_signature, body_fds}
 use Rattle.dbus_header.specs.HeaderReading.{body_read}
@@ -19,39 +20,33 @@ use Rattle.dbus_value_validator.specs.Endings.{EndsAt, IsNotRead, AreSpelledTo, 
 use Rattle.dbus_value_validator.proofs.ReadParts.{not_first, not_faulty}
 use Rattle.dbus_value_validator.proofs.Spelled.{fields_read, fields_spelled}
 
-pub body_ends : (limits : Limits) (order : Order) (at end after : ℕ) (bytes types : List ℕ) (bounds : Bounds) (fs : List FieldTree) → types ≡ body_signature fs → bounds ≡ bounds_with limits (body_fds limits fs) → IsKind Signature (body_signature fs)
-    → ((ts : TypeTrees) → sigs ts ≡ types → AreShaped ts → AreSpelledTo bounds order limits.depth end ts at bytes after) → after ≡ end
-    → EndsAt bytes end (body_read limits (body_fds limits fs) order (types_spelled (body_signature fs)) end at (drop at bytes))
-body_ends limits order at end after bytes types bounds fs typed bound kind spelled here =
-    let fds = body_fds limits fs in
-    let ts = types_spelled (body_signature fs) in
-    let signed = signature_text (body_signature fs) kind in
-    let read = fields_read bounds order limits.depth end at bytes ts signed.0 after (spelled ts (signed.1 ∙ sym typed) signed.0) in
-    let values = subst (λ (b : Bounds). EndsAt bytes after (fields (value b order limits.depth end) ts at (drop at bytes))) bound read in
-    let whole = body_whole limits fds order end ts at (drop at bytes) values.0 after (drop after bytes) values.1 here in
-    (values.0, whole ∙ ap (λ (q : ℕ). Done values.0 q (drop q bytes)) here)
-
--- ---- a body that is not there
-
 module _ (limits : Limits) (order : Order) (at end : ℕ) (bytes types : List ℕ) (bounds : Bounds) (fs : List FieldTree) (typed : types ≡ body_signature fs) (bound : bounds ≡ bounds_with limits (body_fds limits fs)) (kind : IsKind Signature (body_signature fs)) where
   abbrev shaped : TypeTrees
   shaped = types_spelled (body_signature fs)
 
-  pub body_unspelled : at ≤ end → ((i : ℕ) → get_or bytes i 0 < 256) → ((ts : TypeTrees) → sigs ts ≡ types → AreShaped ts → AreNotSpelled bounds order limits.depth end ts at bytes)
-      → IsNotRead (body_read limits (body_fds limits fs) order shaped end at (drop at bytes))
+  abbrev read : Outcome ValueTrees
+  read = fields (value (bounds_with limits (body_fds limits fs)) order limits.depth end) shaped at (drop at bytes)
+
+  abbrev body : Outcome ValueTrees
+  body = body_read limits (body_fds limits fs) order shaped end at (drop at bytes)
+
+  module _ (after : ℕ) (spelled : (ts : TypeTrees) → sigs ts ≡ types → AreShaped ts → AreSpelledTo bounds order limits.depth end ts at bytes after) where
+    values_end : EndsAt bytes after read
+    values_end =
+        let signed = signature_text (body_signature fs) kind in
+        rw (← bound) (fields_read bounds order limits.depth end at bytes shaped signed.0 after (spelled shaped (signed.1 ∙ sym typed) signed.0))
+
+    pub body_ends : after ≡ end → EndsAt bytes end body
+    body_ends here =
+        let whole = body_whole limits (body_fds limits fs) order end shaped at (drop at bytes) values_end.0 after (drop after bytes) values_end.1 here in
+        (values_end.0, whole ∙ ap (λ (q : ℕ). Done values_end.0 q (drop q bytes)) here)
+
+    -- its values end before its end
+    pub body_longer : after < end → IsNotRead body
+    body_longer lt = not_faulty body (fault after reasons.Trailing) (body_trailing limits (body_fds limits fs) order end shaped at (drop at bytes) values_end.0 after (drop after bytes) values_end.1 lt)
+
+  pub body_unspelled : at ≤ end → ((i : ℕ) → get_or bytes i 0 < 256) → ((ts : TypeTrees) → sigs ts ≡ types → AreShaped ts → AreNotSpelled bounds order limits.depth end ts at bytes) → IsNotRead body
   unfolding body_read
   body_unspelled le are none =
       let signed = signature_text (body_signature fs) kind in
-      let unread : IsNotRead (fields (value bounds order limits.depth end) shaped at (drop at bytes)) = λ vs q rest e. none shaped (signed.1 ∙ sym typed) signed.0 q (vs, fields_spelled bounds order limits.depth end at bytes shaped signed.0 le are vs q rest e) in
-      let values = subst (λ (b : Bounds). IsNotRead (fields (value b order limits.depth end) shaped at (drop at bytes))) bound unread in
-      not_first (fields (value (bounds_with limits (body_fds limits fs)) order limits.depth end) shaped at (drop at bytes)) _ values
-
-  -- its values end before its end
-  pub body_longer : (after : ℕ) → ((ts : TypeTrees) → sigs ts ≡ types → AreShaped ts → AreSpelledTo bounds order limits.depth end ts at bytes after) → after < end
-      → IsNotRead (body_read limits (body_fds limits fs) order shaped end at (drop at bytes))
-  body_longer after spelled lt =
-      let signed = signature_text (body_signature fs) kind in
-      let read = fields_read bounds order limits.depth end at bytes shaped signed.0 after (spelled shaped (signed.1 ∙ sym typed) signed.0) in
-      let values = subst (λ (b : Bounds). EndsAt bytes after (fields (value b order limits.depth end) shaped at (drop at bytes))) bound read in
-      not_faulty (body_read limits (body_fds limits fs) order shaped end at (drop at bytes)) (fault after reasons.Trailing)
-      (body_trailing limits (body_fds limits fs) order end shaped at (drop at bytes) values.0 after (drop after bytes) values.1 lt)
+      not_first read _ (rw (← bound) (λ vs q rest e. none shaped (signed.1 ∙ sym typed) signed.0 q (vs, fields_spelled bounds order limits.depth end at bytes shaped signed.0 le are vs q rest e)))

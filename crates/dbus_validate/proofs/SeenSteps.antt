@@ -2,6 +2,7 @@
 use Rattle.std.proofs.Common.{take, ◌≡◌, ℕ, zero, suc, eqb, true, false, Bool, cond, ◌&&◌, ◌||◌, ◌+◌, ◌<◌, ◌≤◌, List, [], ◌∷◌, ◌++◌, length, drop, get_or, set, Option, Some, None, refl, sym, ap, subst, ◌∙◌, inl, inr, arith}
 use Rattle.std.specs.Option.{is_some}
 use Rattle.std.proofs.lemmas.Bool.{cases_lt, eqb-true, eqb-false, ne_eqb, or_parts}
+use Rattle.std.proofs.lemmas.Bool.Decides.{nat_tests}
 use Rattle.std.proofs.lemmas.List.{drop_more, get_or-set_same, get_or-set_other}
 use Rattle.dbus_value_model.specs.declared.fault.Reason.TheVariants as reasons
 use Rattle.dbus_value_model.specs.Values.{ValueTree}
@@ -30,17 +31,7 @@ value_other c [] f other = rw other refl
 value_other c (g ∷ fs) f other = ap (λ (v : Option ValueTree). cond (eqb g.code c) (Some g.value) v) (value_other c fs f other)
 
 unknown : (c : ℕ) → 10 ≤ c → is_known c ≡ false
-unknown c h =
-    let a : eqb c 1 ≡ false = ne_eqb c 1 (omega arith) in
-    let b : eqb c 2 ≡ false = ne_eqb c 2 (omega arith) in
-    let d : eqb c 3 ≡ false = ne_eqb c 3 (omega arith) in
-    let e : eqb c 4 ≡ false = ne_eqb c 4 (omega arith) in
-    let f : eqb c 5 ≡ false = ne_eqb c 5 (omega arith) in
-    let g : eqb c 6 ≡ false = ne_eqb c 6 (omega arith) in
-    let i : eqb c 7 ≡ false = ne_eqb c 7 (omega arith) in
-    let j : eqb c 8 ≡ false = ne_eqb c 8 (omega arith) in
-    let k : eqb c 9 ≡ false = ne_eqb c 9 (omega arith) in
-    rw (a, b, d, e, f, g, i, j, k) refl
+unknown c h = grind (arith, nat_tests)
 
 known_below : (c : ℕ) → is_known c ≡ true → c < 10
 known_below c known = elim (cases_lt c 10) [ inl h ↦ h | inr h ↦ let no = unknown c h in absurd cc ]
@@ -102,7 +93,7 @@ module _ (fs : List FieldTree) (bytes : List ℕ) (seen : Seen) (noted : AreNote
 
 module _ (items : List ℕ) (i : ℕ) (here : i < length items) (fs : List FieldTree) where
   pub lacks_later : has_code (get_or items i 0) fs ≡ true → lacks (drop (i + 1) items) fs ≡ lacks (drop i items) fs
-  lacks_later h = sym (ap (λ (l : List ℕ). lacks l fs) (drop_more items i 0 here) ∙ ap (λ (b : Bool). cond b (lacks (drop (i + 1) items) fs) (Some (reasons.FieldMissing (get_or items i 0)))) h)
+  lacks_later h = sym (rw (drop_more items i 0 here, h) refl)
 
 -- every code that is required is a known field's
 abbrev AreKnown : List ℕ → Type 0
@@ -127,9 +118,7 @@ pub lacks_one : (kind : ℕ) (items : List ℕ) (i : ℕ) (fs : List FieldTree) 
 lacks_one kind items i fs is here unseen none =
     let known : is_known (get_or items i 0) ≡ true = known_at items i (subst AreKnown (sym is) (required_known kind)) here in
     let absent : has_code (get_or items i 0) fs ≡ false = ap (λ (b : Bool). b && has_code (get_or items i 0) fs) (sym known) ∙ unseen in
-    let lacked : lacks (drop i items) fs ≡ Some (reasons.FieldMissing (get_or items i 0)) =
-    ap (λ (l : List ℕ). lacks l fs) (drop_more items i 0 here) ∙ ap (λ (b : Bool). cond b (lacks (drop (i + 1) items) fs) (Some (reasons.FieldMissing (get_or items i 0)))) absent in
-    let against = sym lacked ∙ none in
+    let lacked : Some (reasons.FieldMissing (get_or items i 0)) ≡ None = rw (drop_more items i 0 here, absent) at none in
     absurd cc
 
 -- ---- the signature and the descriptors
@@ -151,29 +140,29 @@ count_of [] = refl
 count_of (f ∷ fs) = elim (eqb f.code 9) as (λ b. cond b (number_in f.value) (fd_count fs) ≡ number_of (cond b (Some f.value) (field_value 9 fs))) [ true ↦ refl | false ↦ count_of fs ]
 
 module _ (bytes : List ℕ) where
-  seen_text : (p : Place) (v : Option ValueTree) → IsNotedOf v bytes (Some p) → (text_of v ≡ take p.length (drop p.start bytes)) × (p.start + p.length ≤ length bytes)
-  seen_text p None n = absurd n
-  seen_text p (Some v) n = (n.text, n.inside)
+  abbrev pub text_at : Option Place → List ℕ
+  text_at None = []
+  text_at (Some p) = take p.length (drop p.start bytes)
 
-  seen_number : (p : Place) (v : Option ValueTree) → IsNotedOf v bytes (Some p) → number_of v ≡ p.number
-  seen_number p None n = absurd n
-  seen_number p (Some v) n = n.number
+  seen_text : (v : Option ValueTree) (p : Option Place) → IsNotedOf v bytes p → text_of v ≡ text_at p
+  seen_text None None n = refl
+  seen_text None (Some p) n = absurd n
+  seen_text (Some v) None n = absurd n
+  seen_text (Some v) (Some p) n = n.text
 
-  unseen : (v : Option ValueTree) → IsNotedOf v bytes None → v ≡ None
-  unseen None n = refl
-  unseen (Some v) n = absurd n
+  abbrev pub number_at : Option Place → ℕ
+  number_at None = 0
+  number_at (Some p) = p.number
 
-module _ (fs : List FieldTree) (bytes : List ℕ) (seen : Seen) (noted : AreNoted fs bytes seen) where
-  pub signature_there : (p : Place) → get_or seen.places 8 None ≡ Some p → (body_signature fs ≡ take p.length (drop p.start bytes)) × (p.start + p.length ≤ length bytes)
-  signature_there p is =
-      let w = seen_text bytes p (field_value 8 fs) (subst (λ (x : Option Place). IsNotedOf (field_value 8 fs) bytes x) is (noted 8 refl)) in
-      (signature_of fs ∙ w.0, w.1)
+  seen_number : (v : Option ValueTree) (p : Option Place) → IsNotedOf v bytes p → number_of v ≡ number_at p
+  seen_number None None n = refl
+  seen_number None (Some p) n = absurd n
+  seen_number (Some v) None n = absurd n
+  seen_number (Some v) (Some p) n = n.number
 
-  pub signature_absent : get_or seen.places 8 None ≡ None → body_signature fs ≡ []
-  signature_absent is = signature_of fs ∙ ap text_of (unseen bytes (field_value 8 fs) (subst (λ (x : Option Place). IsNotedOf (field_value 8 fs) bytes x) is (noted 8 refl)))
+  module _ (fs : List FieldTree) (seen : Seen) (noted : AreNoted fs bytes seen) where
+    pub signature_there : body_signature fs ≡ text_at (get_or seen.places 8 None)
+    signature_there = signature_of fs ∙ seen_text (field_value 8 fs) (get_or seen.places 8 None) (noted 8 refl)
 
-  pub count_there : (p : Place) → get_or seen.places 9 None ≡ Some p → fd_count fs ≡ p.number
-  count_there p is = count_of fs ∙ seen_number bytes p (field_value 9 fs) (subst (λ (x : Option Place). IsNotedOf (field_value 9 fs) bytes x) is (noted 9 refl))
-
-  pub count_absent : get_or seen.places 9 None ≡ None → fd_count fs ≡ 0
-  count_absent is = count_of fs ∙ ap number_of (unseen bytes (field_value 9 fs) (subst (λ (x : Option Place). IsNotedOf (field_value 9 fs) bytes x) is (noted 9 refl)))
+    pub count_there : fd_count fs ≡ number_at (get_or seen.places 9 None)
+    count_there = count_of fs ∙ seen_number (field_value 9 fs) (get_or seen.places 9 None) (noted 9 refl)

@@ -10,7 +10,7 @@ pub returns-in-Some-clause-accepts : goal.returns-in-Some-clause-accepts
 returns-in-Some-clause-accepts c = λ here fs noted kind.
     let fds : c.index_limit-fds.result ≡ body_fds c.args.limits fs = c.index_limit-fds.ensures ∙ ap (λ (n : ℕ). index_limit c.args.limits.fds n) (c.fd_count.ensures c.args.bytes.now fs noted) in
     let bounds = c.bounds_with-bounds.ensures ∙ ap (λ (l : Option ℕ). bounds_with c.args.limits l) fds in
-    body_ends c.args.limits c.args.order c.args.at c.args.end c.in-Some.after c.args.bytes.now c.signature-types.result.now c.bounds_with-bounds.result fs (c.signature-types.ensures fs noted) bounds kind c.in-Some.ensures.spelled (eqb-true c.in-Some.after c.args.end here)
+    body_ends c.args.limits c.args.order c.args.at c.args.end c.args.bytes.now c.signature-types.result.now c.bounds_with-bounds.result fs (c.signature-types.ensures fs noted) bounds kind c.in-Some.after c.in-Some.ensures.spelled (eqb-true c.in-Some.after c.args.end here)
 
 pub returns-in-Some-clause-refuses : goal.returns-in-Some-clause-refuses
 returns-in-Some-clause-refuses c = λ other fs noted kind.
