@@ -24,9 +24,7 @@ pub number_put : (order : Order) (w n at : ℕ) (out now r : List ℕ) → drop 
 number_put order w n at out now r is e =
     let front : take w (drop at out) ≡ num order w n = ap (take w) is ∙ take_at (num order w n) r w (length-num order w n) in
     let rest : drop (at + w) out ≡ r = sym (drop-drop w at out) ∙ ap (drop w) is ∙ drop_at (num order w n) r w (length-num order w n) in
-    e ∙ ap (λ (l : List ℕ). take at out ++ (reverse l ++ drop (at + w) out)) front
-    ∙ ap (λ (l : List ℕ). take at out ++ (l ++ drop (at + w) out)) (byteswapped_num order w n)
-    ∙ ap (λ (l : List ℕ). take at out ++ (num (other order) w n ++ l)) rest
+    e ∙ rw (front, rest, byteswapped_num order w n) refl
 
 -- and where no more is done it is byteswapped
 pub byte_byteswapped : (at : ℕ) (l : List ℕ) → at + 1 ≤ length l → l ≡ take at l ++ (reverse (take 1 (drop at l)) ++ drop (at + 1) l)

@@ -35,9 +35,7 @@ module _ (order : Order) (at q : ℕ) (f : FieldTree) (begins : q ≡ inside ord
       let ended = ended_text order 1 (sig (type_of f.value)) in
       let padded : pad 1 start ++ code ≡ code = ap (λ (g : ℕ). replicate g 0 ++ code) (no_gap start) in
       let place : start + length code + length ended ≡ q = omega (arith, begins, length-num order 1 f.code) in
-      ap (λ (l : List ℕ). pad 8 at ++ (l ++ ((ended ++ spelling order (start + length l + length ended) f.value) ++ []))) padded
-      ∙ ap (λ (k : ℕ). pad 8 at ++ (code ++ ((ended ++ spelling order k f.value) ++ []))) place
-      ∙ simp (append_assoc, append-nil)
+      rw (padded, place) (simp (append_assoc, append-nil))
 
 module _ (order : Order) (at q : ℕ) (f : FieldTree) (before now : List ℕ) (begins : q ≡ inside order (at + gap_to 8 at + 1) (VariantValue f.value)) where
   pub field_byteswaps : Replaces q (spelling order q f.value) (spelling (other order) q f.value) before now
@@ -46,12 +44,10 @@ module _ (order : Order) (at q : ℕ) (f : FieldTree) (before now : List ℕ) (b
       let x = before_value order at f in
       let y = before_value (other order) at f in
       let t = sig (type_of f.value) in
-      let same : x ≡ y =
-      ap (λ (l : List ℕ). pad 8 at ++ (l ++ ended_text order 1 t)) (one_byte order f.code) ∙ ap (λ (l : List ℕ). pad 8 at ++ (num (other order) 1 f.code ++ (l ++ (t ++ 0 ∷ [])))) (one_byte order (length t)) in
+      let same : x ≡ y = rw (one_byte order f.code, one_byte order (length t)) refl in
       let begins_other : q ≡ inside (other order) (at + gap_to 8 at + 1) (VariantValue f.value) = begins ∙ same_inside order (other order) (at + gap_to 8 at + 1) (VariantValue f.value) in
-      subst (λ (l : List ℕ). Replaces at l (spelling (other order) at (field_struct f)) before now) (sym (field_spelled order at q f begins))
-      (subst (λ (l : List ℕ). Replaces at (x ++ spelling order q f.value) l before now) (sym (field_spelled (other order) at q f begins_other))
-      (then_put at x y (spelling order q f.value) (spelling (other order) q f.value) before before now q (field_long order at q f begins) (ap length same) (nothing_put at x y before before same refl) value))
+      rw (field_spelled order at q f begins, field_spelled (other order) at q f begins_other)
+      (then_put at x y (spelling order q f.value) (spelling (other order) q f.value) before before now q (field_long order at q f begins) (ap length same) (nothing_put at x y before before same refl) value)
 
 -- These fields are byteswapped, after what stands before all fields, and the next one begins at `place`.
 pub record FieldsByteswapped (order : Order) (fs : List FieldTree) (before now : List ℕ) (place : ℕ) (done : List FieldTree) : Type 0 where

@@ -45,14 +45,11 @@ module _ (order : Order) (at size start n : ℕ) (out now : List ℕ) (begins : 
 
   pub number_byteswaps : (k : NumberCode) → width k ≡ size → Replaces at (spelling order at (NumberValue k n)) (spelling (other order) at (NumberValue k n)) out now
   unfolding spelling
-  number_byteswaps k wide = subst (λ (w : ℕ). Replaces at (pad w at ++ num order w n) (pad w at ++ num (other order) w n) out now) (sym wide) padded_byteswaps
+  number_byteswaps k wide = rw wide padded_byteswaps
 
   pub text_byteswaps : (k : TextCode) (t : List ℕ) → n ≡ length t → length_width k ≡ size → Replaces at (spelling order at (TextValue k t)) (spelling (other order) at (TextValue k t)) out now
   unfolding spelling
-  text_byteswaps k t is wide =
-      let z = t ++ 0 ∷ [] in
-      subst (λ (w : ℕ). Replaces at (pad w at ++ (num order w (length t) ++ z)) (pad w at ++ (num (other order) w (length t) ++ z)) out now) (sym wide)
-      (subst (λ (m : ℕ). Replaces at (pad size at ++ (num order size m ++ z)) (pad size at ++ (num (other order) size m ++ z)) out now) is (fronted_byteswaps z))
+  text_byteswaps k t is wide = rw (wide, ← is) (fronted_byteswaps (t ++ 0 ∷ []))
 
 pub array_opens : (order : Order) (at start : ℕ) (out now : List ℕ) (t : TypeTree) (xs : ValueTrees) → start ≡ at + gap_to 4 at
     → now ≡ take start out ++ (reverse (take 4 (drop start out)) ++ drop (start + 4) out)
@@ -69,19 +66,18 @@ module _ {order : Order} {depth_left : ℕ} {types : List ℕ} {at : ℕ} {bytes
       → ((k : NumberCode) → width k ≡ size → now ≡ take start out ++ (reverse (take size (drop start out)) ++ drop (start + size) out)) → Replaces at (spelling order at v) (spelling (other order) at v) out now
   number_there_byteswaps size some wide begins byteswapped =
       let p = number_stands s size some wide in
-      subst (λ (x : ValueTree). Replaces at (spelling order at x) (spelling (other order) at x) out now) (sym p.is) (number_byteswaps order at size start p.n out now begins (byteswapped p.code p.wide) p.code p.wide)
+      rw p.is (number_byteswaps order at size start p.n out now begins (byteswapped p.code p.wide) p.code p.wide)
 
   pub text_there_byteswaps : (get_or types 0 0 ≡ 115) ⊎ (get_or types 0 0 ≡ 111) → start ≡ at + gap_to 4 at → now ≡ take start out ++ (reverse (take 4 (drop start out)) ++ drop (start + 4) out)
       → Replaces at (spelling order at v) (spelling (other order) at v) out now
   text_there_byteswaps code begins byteswapped =
       let p = long_stands s code in
-      subst (λ (x : ValueTree). Replaces at (spelling order at x) (spelling (other order) at x) out now) (sym p.is)
-      (text_byteswaps order at 4 start (length p.text) out now begins byteswapped p.code p.text refl p.wide)
+      rw p.is (text_byteswaps order at 4 start (length p.text) out now begins byteswapped p.code p.text refl p.wide)
 
   pub array_there_opens : get_or types 0 0 ≡ 97 → start ≡ at + gap_to 4 at → now ≡ take start out ++ (reverse (take 4 (drop start out)) ++ drop (start + 4) out) → Replaces at (front order at v) (front (other order) at v) out now
   array_there_opens code begins byteswapped =
       let p = array_stands s code in
-      subst (λ (x : ValueTree). Replaces at (front order at x) (front (other order) at x) out now) (sym p.is) (array_opens order at start out now p.type p.xs begins byteswapped)
+      rw p.is (array_opens order at start out now p.type p.xs begins byteswapped)
 
 -- a length of one byte is the same in both orders
 pub short_stays : {order : Order} {depth_left : ℕ} {types : List ℕ} {at : ℕ} {bytes : List ℕ} {v : ValueTree} {rest : List ℕ} → Stands order depth_left types at bytes v rest → (out : List ℕ)
@@ -89,11 +85,7 @@ pub short_stays : {order : Order} {depth_left : ℕ} {types : List ℕ} {at : �
 unfolding spelling
 short_stays {order = order} {at = at} {v = v} s out code =
     let p = short_stands s code in
-    let z = p.text ++ 0 ∷ [] in
-    let byte : pad 1 at ++ (num order 1 (length p.text) ++ z) ≡ pad 1 at ++ (num (other order) 1 (length p.text) ++ z) = ap (λ (l : List ℕ). pad 1 at ++ (l ++ z)) (one_byte order (length p.text)) in
-    let same : spelling order at (TextValue p.code p.text) ≡ spelling (other order) at (TextValue p.code p.text) =
-    subst (λ (w : ℕ). pad w at ++ (num order w (length p.text) ++ z) ≡ pad w at ++ (num (other order) w (length p.text) ++ z)) (sym p.wide) byte in
-    nothing_put at (spelling order at v) (spelling (other order) at v) out out (subst (λ (x : ValueTree). spelling order at x ≡ spelling (other order) at x) (sym p.is) same) refl
+    nothing_put at (spelling order at v) (spelling (other order) at v) out out (rw (p.is, p.wide, one_byte order (length p.text)) refl) refl
 
 -- the numbers of an array
 module _ {order : Order} {depth_left : ℕ} {types : List ℕ} {at : ℕ} {bytes : List ℕ} {v : ValueTree} {rest : List ℕ} (s : Stands order depth_left types at bytes v rest) where

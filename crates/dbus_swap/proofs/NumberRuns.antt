@@ -31,12 +31,7 @@ unfolding spelling spellings
 bytes_same order k at NoValues wide all = refl
 bytes_same order k at (MoreValues v xs) wide all =
     let n = number_of_type v k all.0 in
-    let byte : pad (width k) at ++ num order (width k) n.0 ≡ pad (width k) at ++ num (other order) (width k) n.0 =
-    subst (λ (w : ℕ). pad w at ++ num order w n.0 ≡ pad w at ++ num (other order) w n.0) (sym wide) (ap (λ (l : List ℕ). pad 1 at ++ l) (one_byte order n.0)) in
-    let first : spelling order at v ≡ spelling (other order) at v =
-    ap (λ (x : ValueTree). spelling order at x) n.1 ∙ byte ∙ sym (ap (λ (x : ValueTree). spelling (other order) at x) n.1) in
-    let own = spelling (other order) at v in
-    ap (λ (l : List ℕ). l ++ spellings order (at + length l) xs) first ∙ ap (λ (l : List ℕ). own ++ l) (bytes_same order k (at + length own) xs wide all.1)
+    rw (n.1, wide, one_byte order n.0, bytes_same order k (at + length (pad 1 at ++ num (other order) 1 n.0)) xs wide all.1) refl
 
 module _ {order : Order} {k : NumberCode} {at end : ℕ} {xs : ValueTrees} where
   pub none_byteswapped : (before : List ℕ) → AllOf (NumberType k) xs → gap_to (width k) at ≡ 0 → end ≡ at + length (spellings order at xs) → NumbersByteswapped order k at end xs before at before
@@ -78,7 +73,7 @@ module _ {order : Order} {k : NumberCode} {at end : ℕ} {xs : ValueTrees} where
             let one : Replaces place (spelling order place v) (spelling (other order) place v) now next =
             λ rest h stands. number_put order w p.n place now next rest (stands ∙ ap (λ (s : List ℕ). s ++ rest) (p.is order)) byteswapped ∙ ap (λ (s : List ℕ). take place now ++ (s ++ rest)) (sym (p.is (other order))) in
             less_left order at xs P P (ByteswappedTo order at before now place) (ByteswappedTo order at before next (place + w)) place l v us e (place + w) long
-            (subst (λ (q : ℕ). P q us) long p.left) (one_more order at place (place + w) l.done v before now next l.walked long one)
+            (rw (← long) p.left) (one_more order at place (place + w) l.done v before now next l.walked long one)
 
     -- if not one more fits, then none is left
     pub all_byteswapped : end < place + width k → Replaces at (spellings order at xs) (spellings (other order) at xs) before now
