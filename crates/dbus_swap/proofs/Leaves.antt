@@ -1,5 +1,5 @@
 -- What byteswaps numbers, texts, and arrays as they open.
-use Rattle.std.proofs.Common.{◌≡◌, ℕ, ◌+◌, ◌<◌, List, [], ◌∷◌, ◌++◌, length, get_or, take, drop, reverse, refl, sym, ap, subst, ◌∙◌, ◌⊎◌, arith}
+use Rattle.std.proofs.Common.{◌≡◌, ℕ, ◌+◌, ◌<◌, List, [], ◌∷◌, ◌++◌, length, get_or, take, drop, reverse, refl, ap, subst, ◌∙◌, ◌⊎◌, arith}
 use Rattle.std.proofs.lemmas.List.{length-replicate}
 use Rattle.dbus_texts.specs.Types.{NumberCode, TextCode, TypeTree, NumberType, sig}
 use Rattle.dbus_types.specs.Alignments.{width, length_width, alignment_of}

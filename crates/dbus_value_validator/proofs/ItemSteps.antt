@@ -11,7 +11,6 @@ use Rattle.dbus_value_model.specs.declared.fault.Reason.{Reason}
 use Rattle.dbus_value_model.specs.declared.limits.Bounds.{Bounds}
 use Rattle.dbus_value_model.specs.declared.order.Order.{Order}
 use Rattle.dbus_value_model.specs.Bytes.{gap_to}
-use Rattle.dbus_value_model.specs.FreeNumbers.{IsFree}
 use Rattle.dbus_value_model.specs.Items.{no_row}
 use Rattle.dbus_value_model.specs.Values.{ValueTree, NumberValue, TextValue}
 use Rattle.dbus_value_model.specs.ValueItems.{number_row, text_row, array_row}
@@ -19,10 +18,10 @@ use Rattle.dbus_value_model.specs.WantedTexts.{kind_of, Of}
 use Rattle.dbus_value_model.specs.Reading.{Reader, Outcome, Done, after, pure, padding, number, number_of, text, nul}
 use Rattle.dbus_value_model.specs.ValueReaders.{number_value, text_value, array_frame}
 use Rattle.dbus_value_laws.proofs.Composition as rows
-use Rattle.dbus_value_laws.proofs.ReadSteps.{number_done, number_passes, number_overrun, text_fits, row_fits, frame_done, nul_done, no_padding}
+use Rattle.dbus_value_laws.proofs.ReadSteps.{number_done, number_passes, number_overrun, row_fits, frame_done, nul_done, no_padding}
 use Rattle.dbus_value_laws.proofs.StringSteps.{text_there, sig_done}
-use Rattle.dbus_value_validator.specs.Endings.{Answers, EndsAt, IsNotRead, EndedText}
-use Rattle.dbus_value_validator.proofs.ReadParts.{not_same, not_faulty, not_first, not_then, answers_same, answers_made, number_read, row_unread, row_against, not_ended, short_unread}
+use Rattle.dbus_value_validator.specs.Endings.{IsNotRead, EndedText}
+use Rattle.dbus_value_validator.proofs.ReadParts.{not_same, not_faulty, not_first, not_then, number_read, row_unread, row_against, not_ended, short_unread}
 
 -- ---- numbers
 

@@ -13,7 +13,7 @@ use Rattle.dbus_value_model.proofs.FreeNumbers.{FreeType}
 use Rattle.dbus_value_laws.proofs.ReadSteps.{padding_is}
 use Rattle.dbus_value_laws.proofs.ValueSteps.{value_number}
 use Rattle.dbus_value_validator.specs.Endings.{Answers, EndsAt, IsNotRead}
-use Rattle.dbus_value_validator.proofs.ReadParts.{not_same, not_first, answers_same, answers_made}
+use Rattle.dbus_value_validator.proofs.ReadParts.{not_first, answers_made}
 use Rattle.dbus_value_validator.proofs.ItemSteps.{is_number, free_ends, number_short}
 
 -- a number of w bytes ends at a boundary of its own

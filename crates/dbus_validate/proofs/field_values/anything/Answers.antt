@@ -1,4 +1,4 @@
-use Rattle.std.proofs.Common.{◌+◌, ◌-◌, ◌∙◌, arith}
+use Rattle.std.proofs.Common.{◌+◌, ◌-◌, arith}
 use Rattle.dbus_message_model.specs.Messages.{Anything}
 use Rattle.dbus_value_validator.proofs.ReadParts.{not_same}
 use Rattle.dbus_value_validator.proofs.Spelled.{value_read, value_spelled}

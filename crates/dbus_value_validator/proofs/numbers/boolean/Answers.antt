@@ -9,7 +9,7 @@ pub returns-clause-gives : goal.returns-clause-gives
 returns-clause-gives c = λ index_limit. (
   NumberValue BOOLEAN c.in_ok-n.n,
   number_ends c.args.order c.args.end 4 (number_row index_limit BOOLEAN) BOOLEAN c.args.at c.args.bytes.now _ (is_number index_limit c.args.order c.args.end BOOLEAN 4 c.args.at (drop c.args.at c.args.bytes.now) refl) c.in_ok-start.start c.in_ok-start.ensures.gives c.in_ok-n.n c.in_ok-n.ensures.gives
-  (is_boolean index_limit (c.in_ok-start.start + 4) c.in_ok-n.n (omega arith)),
+      (is_boolean index_limit (c.in_ok-start.start + 4) c.in_ok-n.n (omega arith)),
 )
 
 pub returns-in_err-start-clause-gives : goal.returns-in_err-start-clause-gives

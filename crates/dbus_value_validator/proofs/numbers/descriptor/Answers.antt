@@ -10,10 +10,10 @@ pub returns-clause-gives : goal.returns-clause-gives
 returns-clause-gives c = (
   NumberValue UNIX_FD c.in_ok-n.n,
   number_ends c.args.order c.args.end 4 (number_row c.args.index_limit UNIX_FD) UNIX_FD c.args.at c.args.bytes.now _ (is_number c.args.index_limit c.args.order c.args.end UNIX_FD 4 c.args.at (drop c.args.at c.args.bytes.now) refl) c.in_ok-start.start c.in_ok-start.ensures.gives c.in_ok-n.n c.in_ok-n.ensures.gives
-  (elim c.match-index_limit.branch [
-    | in-Some+else-n-limit w ↦ is_index c.args.index_limit (c.in_ok-start.start + 4) c.in_ok-n.n w.in-Some.limit w.in-Some.is w.if-n-limit.false
-    | in_default w ↦ rw w.in_default.is refl
-  ]),
+      (elim c.match-index_limit.branch [
+        | in-Some+else-n-limit w ↦ is_index c.args.index_limit (c.in_ok-start.start + 4) c.in_ok-n.n w.in-Some.limit w.in-Some.is w.if-n-limit.false
+        | in_default w ↦ rw w.in_default.is refl
+      ]),
 )
 
 pub returns-in_err-start-clause-gives : goal.returns-in_err-start-clause-gives

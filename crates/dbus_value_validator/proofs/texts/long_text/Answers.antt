@@ -12,7 +12,7 @@ returns-clause-gives c = λ k e four.
     let ended = c.is_ended_text.ensures.accepts (rw c.if-not-is_ended_text.false (search rules)) in (
       TextValue k (take n (drop first c.args.bytes.now)),
       text_done c.args.order c.args.end 4 (text_row c.args.end) c.args.kind k c.args.at c.args.bytes.now _ (is_text c.args.order c.args.end k c.args.kind 4 c.args.at (drop c.args.at c.args.bytes.now) e four) c.in_ok-start.start c.in_ok-start.ensures.gives n c.in_ok-n.ensures.gives
-      (text_fits c.args.end first n (omega (arith, c.in_ok-n.ensures.fits))) ended,
+          (text_fits c.args.end first n (omega (arith, c.in_ok-n.ensures.fits))) ended,
     )
 
 pub returns-in_err-start-clause-gives : goal.returns-in_err-start-clause-gives
