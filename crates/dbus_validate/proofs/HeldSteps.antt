@@ -2,9 +2,9 @@
 use Rattle.std.proofs.Common.{◌≡◌, ℕ, zero, suc, ◌+◌, ◌-◌, ◌≤◌, List, [], ◌∷◌, length, take, drop, get_or, true, None, refl, sym, ap, ◌∙◌, arith}
 use Rattle.std.proofs.lemmas.List.{drop_more, length-take}
 use Rattle.dbus_texts.specs.ComputedKinds.{type_spelled}
-use Rattle.dbus_texts.specs.Types.{TypeTree, UINT32, STRING, TextCode, text_code, NumberType, TextType, sig, IsShaped}
+use Rattle.dbus_texts.specs.Types.{TypeTree, OBJECT_PATH, UINT32, STRING, TextCode, text_code, NumberType, TextType, sig, IsShaped}
 use Rattle.dbus_texts.specs.declared.text_kind.TextKind.{TextKind}
-use Rattle.dbus_texts.specs.declared.text_kind.TextKind.TheVariants.{Single}
+use Rattle.dbus_texts.specs.declared.text_kind.TextKind.TheVariants.{Path, Single}
 use Rattle.dbus_value_model.specs.declared.fault.Reason.TheVariants as reasons
 use Rattle.dbus_value_model.specs.declared.limits.Limits.{Limits}
 use Rattle.dbus_value_model.specs.declared.order.Order.{Order}
@@ -23,7 +23,7 @@ use Rattle.dbus_header.specs.HeaderReading.{wanted_signature, wanted_value}
 use Rattle.dbus_header.specs.MessageItems.{kind_wanted, name_row, not_zero_row}
 use Rattle.dbus_header.proofs.FieldSteps.{typed_value, any_value}
 use Rattle.dbus_value_validator.specs.Endings.{IsNotRead, EndedText}
-use Rattle.dbus_value_validator.proofs.ItemSteps.{number_by, is_number, text_by}
+use Rattle.dbus_value_validator.proofs.ItemSteps.{number_by, is_number, text_by, is_text}
 use Rattle.dbus_value_validator.proofs.ReadParts.{not_same, not_first, not_then, made_first, number_read, unlike, not_ended, short_unread}
 
 -- ---- the signature
@@ -95,6 +95,9 @@ module _ (limits : Limits) (order : Order) (end at : ℕ) (bytes : List ℕ) whe
 
     pub is_text_value : (k : TextCode) → IsSigned (text_code k) → wanted_value limits order end (OfType (TextType k)) at (drop at bytes) ≡ text_value order end k signed (drop signed bytes)
     is_text_value k found = typed_value limits order end at bytes signed (TextType k) (text_code k ∷ []) refl found ∙ value_text (bounds_of limits) order (limits.depth - 3) end k signed (drop signed bytes)
+
+    pub is_path : IsSigned 111 → wanted_value limits order end (OfType (TextType OBJECT_PATH)) at (drop at bytes) ≡ text_by order end 4 (text_row end) Path OBJECT_PATH signed (drop signed bytes)
+    is_path found = is_text_value OBJECT_PATH found ∙ is_text order end OBJECT_PATH Path 4 signed (drop signed bytes) refl refl
 
   -- any value is one of the type that its signature spells
   pub is_any : (n w : ℕ) → number order 1 end (text_row end) at (drop at bytes) ≡ Done n (at + 1) (drop (at + 1) bytes) → EndedText Single n (at + 1) bytes → w ≡ n

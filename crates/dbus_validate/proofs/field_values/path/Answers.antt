@@ -4,17 +4,18 @@ use Rattle.dbus_texts.specs.declared.text_kind.TextKind.TheVariants.{Path}
 use Rattle.dbus_value_model.specs.ValueItems.{text_row}
 use Rattle.dbus_value_laws.proofs.ReadSteps.{text_fits}
 use Rattle.dbus_message_model.specs.Messages.{OfType}
-use Rattle.dbus_validate.proofs.HeldSteps.{unsigned, is_text_value}
+use Rattle.dbus_validate.proofs.HeldSteps.{unsigned, is_path}
 use Rattle.dbus_value_model.specs.Values.{TextValue}
-use Rattle.dbus_value_validator.proofs.ItemSteps.{is_text, no_text_fits, text_unpadded, text_unmeasured, text_against, text_not_ended, text_done}
+use Rattle.dbus_value_validator.proofs.ItemSteps.{no_text_fits, text_unpadded, text_unmeasured, text_against, text_not_ended, text_done}
 use Rattle.dbus_validate.proofs.field_values.path.Goals as goal
 
 pub returns-clause-held : goal.returns-clause-held
 returns-clause-held c = λ limits.
+    let run = is_path limits c.args.order c.args.end c.args.at c.args.bytes.now c.in_ok-signed.signed (c.in_ok-signed.ensures.gives c.args.order) in
     let place = c.in_ok-place.place in
     let ended = c.is_ended_text.ensures.accepts (rw c.if-not-is_ended_text.false (search rules)) in (
       TextValue OBJECT_PATH (take c.in_ok-n.n (drop (place + 4) c.args.bytes.now)),
-      text_done c.args.order c.args.end 4 (text_row c.args.end) Path OBJECT_PATH c.in_ok-signed.signed c.args.bytes.now _ (is_text_value limits c.args.order c.args.end c.args.at c.args.bytes.now c.in_ok-signed.signed OBJECT_PATH (c.in_ok-signed.ensures.gives c.args.order) ∙ is_text c.args.order c.args.end OBJECT_PATH Path 4 c.in_ok-signed.signed (drop c.in_ok-signed.signed c.args.bytes.now) refl refl) place c.in_ok-place.ensures.gives c.in_ok-n.n c.in_ok-n.ensures.gives
+      text_done c.args.order c.args.end 4 (text_row c.args.end) Path OBJECT_PATH c.in_ok-signed.signed c.args.bytes.now _ run place c.in_ok-place.ensures.gives c.in_ok-n.n c.in_ok-n.ensures.gives
           (text_fits c.args.end (c.in_ok-place.place + 4) c.in_ok-n.n (omega (arith, c.in_ok-n.ensures.fits))) ended,
       (refl, refl),
     )
@@ -23,17 +24,23 @@ pub returns-in_err-signed-clause-held : goal.returns-in_err-signed-clause-held
 returns-in_err-signed-clause-held c = λ limits. rw c.from_residual.ensures (unsigned limits c.args.order c.args.end c.args.at c.args.bytes.now (OfType (TextType OBJECT_PATH)) (c.letter.ensures.none c.in_err-signed.was c.args.order))
 
 pub returns-in_err-place-clause-held : goal.returns-in_err-place-clause-held
-returns-in_err-place-clause-held c = λ limits. rw c.from_residual-in_err-place.ensures (text_unpadded c.args.order c.args.end 4 (text_row c.args.end) Path OBJECT_PATH c.in_ok-signed.signed c.args.bytes.now _ (is_text_value limits c.args.order c.args.end c.args.at c.args.bytes.now c.in_ok-signed.signed OBJECT_PATH (c.in_ok-signed.ensures.gives c.args.order) ∙ is_text c.args.order c.args.end OBJECT_PATH Path 4 c.in_ok-signed.signed (drop c.in_ok-signed.signed c.args.bytes.now) refl refl) (c.padding.ensures.none c.in_err-place.was))
+returns-in_err-place-clause-held c = λ limits.
+    let run = is_path limits c.args.order c.args.end c.args.at c.args.bytes.now c.in_ok-signed.signed (c.in_ok-signed.ensures.gives c.args.order) in
+    rw c.from_residual-in_err-place.ensures (text_unpadded c.args.order c.args.end 4 (text_row c.args.end) Path OBJECT_PATH c.in_ok-signed.signed c.args.bytes.now _ run (c.padding.ensures.none c.in_err-place.was))
 
 pub returns-in_err-n-clause-held : goal.returns-in_err-n-clause-held
-returns-in_err-n-clause-held c = λ limits. rw c.from_residual-in_err-n.ensures (text_unmeasured c.args.order c.args.end 4 (text_row c.args.end) Path OBJECT_PATH c.in_ok-signed.signed c.args.bytes.now _ (is_text_value limits c.args.order c.args.end c.args.at c.args.bytes.now c.in_ok-signed.signed OBJECT_PATH (c.in_ok-signed.ensures.gives c.args.order) ∙ is_text c.args.order c.args.end OBJECT_PATH Path 4 c.in_ok-signed.signed (drop c.in_ok-signed.signed c.args.bytes.now) refl refl) c.in_ok-place.place c.in_ok-place.ensures.gives (c.word.ensures.none c.in_err-n.was))
+returns-in_err-n-clause-held c = λ limits.
+    let run = is_path limits c.args.order c.args.end c.args.at c.args.bytes.now c.in_ok-signed.signed (c.in_ok-signed.ensures.gives c.args.order) in
+    rw c.from_residual-in_err-n.ensures (text_unmeasured c.args.order c.args.end 4 (text_row c.args.end) Path OBJECT_PATH c.in_ok-signed.signed c.args.bytes.now _ run c.in_ok-place.place c.in_ok-place.ensures.gives (c.word.ensures.none c.in_err-n.was))
 
 pub returns-then-end-start-clause-held : goal.returns-then-end-start-clause-held
 returns-then-end-start-clause-held c = λ limits.
-    text_against c.args.order c.args.end 4 (text_row c.args.end) Path OBJECT_PATH c.in_ok-signed.signed c.args.bytes.now _ (is_text_value limits c.args.order c.args.end c.args.at c.args.bytes.now c.in_ok-signed.signed OBJECT_PATH (c.in_ok-signed.ensures.gives c.args.order) ∙ is_text c.args.order c.args.end OBJECT_PATH Path 4 c.in_ok-signed.signed (drop c.in_ok-signed.signed c.args.bytes.now) refl refl) c.in_ok-place.place c.in_ok-place.ensures.gives c.in_ok-n.n c.in_ok-n.ensures.gives
+    let run = is_path limits c.args.order c.args.end c.args.at c.args.bytes.now c.in_ok-signed.signed (c.in_ok-signed.ensures.gives c.args.order) in
+    text_against c.args.order c.args.end 4 (text_row c.args.end) Path OBJECT_PATH c.in_ok-signed.signed c.args.bytes.now _ run c.in_ok-place.place c.in_ok-place.ensures.gives c.in_ok-n.n c.in_ok-n.ensures.gives
     (no_text_fits c.args.end (c.in_ok-place.place + 4) c.in_ok-n.n (omega (arith, c.if-end-start.true, c.in_ok-n.ensures.fits)))
 
 pub returns-then-not-is_ended_text-clause-held : goal.returns-then-not-is_ended_text-clause-held
 returns-then-not-is_ended_text-clause-held c = λ limits.
-    text_not_ended c.args.order c.args.end 4 (text_row c.args.end) Path OBJECT_PATH c.in_ok-signed.signed c.args.bytes.now _ (is_text_value limits c.args.order c.args.end c.args.at c.args.bytes.now c.in_ok-signed.signed OBJECT_PATH (c.in_ok-signed.ensures.gives c.args.order) ∙ is_text c.args.order c.args.end OBJECT_PATH Path 4 c.in_ok-signed.signed (drop c.in_ok-signed.signed c.args.bytes.now) refl refl) c.in_ok-place.place c.in_ok-place.ensures.gives c.in_ok-n.n c.in_ok-n.ensures.gives
+    let run = is_path limits c.args.order c.args.end c.args.at c.args.bytes.now c.in_ok-signed.signed (c.in_ok-signed.ensures.gives c.args.order) in
+    text_not_ended c.args.order c.args.end 4 (text_row c.args.end) Path OBJECT_PATH c.in_ok-signed.signed c.args.bytes.now _ run c.in_ok-place.place c.in_ok-place.ensures.gives c.in_ok-n.n c.in_ok-n.ensures.gives
     (text_fits c.args.end (c.in_ok-place.place + 4) c.in_ok-n.n (omega (arith, c.in_ok-n.ensures.fits))) (c.is_ended_text.ensures.refuses c.if-not-is_ended_text.true)
