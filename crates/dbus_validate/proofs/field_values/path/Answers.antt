@@ -1,4 +1,4 @@
-use Rattle.std.proofs.Common.{◌+◌, take, drop, refl, arith, rules, ◌∙◌}
+use Rattle.std.proofs.Common.{◌+◌, take, drop, refl, arith, rules}
 use Rattle.dbus_texts.specs.Types.{OBJECT_PATH, TextType}
 use Rattle.dbus_texts.specs.declared.text_kind.TextKind.TheVariants.{Path}
 use Rattle.dbus_value_model.specs.ValueItems.{text_row}
