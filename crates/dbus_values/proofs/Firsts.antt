@@ -7,30 +7,10 @@ use Rattle.dbus_types.specs.SignatureCodes.{IsTypeEnd}
 use Rattle.dbus_types.proofs.TypeCodes.{begins}
 use Rattle.dbus_value_model.specs.Spelling.{spelling, spellings}
 use Rattle.dbus_value_model.specs.Values.{ValueTree, ValueTrees, NoValues, MoreValues, type_of, types_of}
-use Rattle.dbus_walk.specs.Standing.{Stands, AllStand, ElementsStand}
-use Rattle.dbus_walk.proofs.Enclosed.{stands_positive}
-use Rattle.dbus_walk.proofs.Lists.{first_element, other_elements, first_value, other_values, none_ends, some_ends}
+use Rattle.dbus_walk.specs.Standing.{Stands, AllStand}
+use Rattle.dbus_walk.proofs.Lists.{first_value, other_values}
 use Rattle.dbus_values.specs.Seen.{IsFirstCode}
-use Rattle.dbus_values.specs.States.{ValuesState, AreLeft, ElementsState, ElementsAreLeft}
-
--- ---- elements of an array
-
-pub no_elements : (e : ElementsState) (xs : ValueTrees) (rest : List ℕ) → ElementsAreLeft e xs rest → e.at ≡ e.end → xs ≡ NoValues
-no_elements e NoValues rest l is = refl
-no_elements e (MoreValues x us) rest l is = absurd (omega (arith, is, some_ends l, stands_positive e.order x e.at (first_element l).shaped))
-
-pub record FirstElement (e : ElementsState) (xs : ValueTrees) (rest : List ℕ) : Type 0 where
-  pub x : ValueTree
-  pub us : ValueTrees
-  pub begins : xs ≡ MoreValues x us
-  pub stands : Stands e.order e.depth_left e.type e.at e.bytes x (spellings e.order (e.at + length (spelling e.order e.at x)) us ++ rest)
-  pub some : 0 < length (spelling e.order e.at x)
-  pub inside : e.at + length (spelling e.order e.at x) ≤ e.end
-  pub others : ElementsStand e.order e.depth_left e.type (e.at + length (spelling e.order e.at x)) e.end e.bytes us rest
-
-pub element_of : (e : ElementsState) (xs : ValueTrees) (rest : List ℕ) → ElementsAreLeft e xs rest → (e.at ≡ e.end → ⊥) → FirstElement e xs rest
-element_of e NoValues rest l some = absurd (some (sym (none_ends l)))
-element_of e (MoreValues x us) rest l some = record { x = x; us = us; begins = refl; stands = first_element l; some = stands_positive e.order x e.at (first_element l).shaped; inside = some_ends l; others = other_elements l }
+use Rattle.dbus_values.specs.States.{ValuesState, AreLeft}
 
 -- ---- values of some types
 

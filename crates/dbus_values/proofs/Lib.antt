@@ -1,3 +1,3 @@
 pub mod Views
 pub mod Firsts
-mod NumberRuns
+pub mod NumberRuns

@@ -36,22 +36,14 @@ some_bytes k = by_width (λ (w : ℕ). 0 < w) (omega arith) (omega arith) (omega
 
 pub one_byte : (k : NumberCode) → width k ≡ 1 → k ≡ BYTE
 one_byte BYTE e = refl
-one_byte BOOLEAN e = absurd (omega arith)
-one_byte INT16 e = absurd (omega arith)
-one_byte UINT16 e = absurd (omega arith)
-one_byte INT32 e = absurd (omega arith)
-one_byte UINT32 e = absurd (omega arith)
-one_byte INT64 e = absurd (omega arith)
-one_byte UINT64 e = absurd (omega arith)
-one_byte DOUBLE e = absurd (omega arith)
-one_byte UNIX_FD e = absurd (omega arith)
+one_byte k e = absurd (omega arith)
 
 -- padding reaches a boundary, and a number that begins at one ends at one
-comes_aligned : (k : NumberCode) (o : ℕ) → gap_to (width k) (o + gap_to (width k) o) ≡ 0
+pub comes_aligned : (k : NumberCode) (o : ℕ) → gap_to (width k) (o + gap_to (width k) o) ≡ 0
 unfolding gap_to
 comes_aligned k o = by_width (λ (w : ℕ). gap_to w (o + gap_to w o) ≡ 0) (omega arith) (omega arith) (omega arith) (omega arith) k
 
-stays_aligned : (k : NumberCode) (o : ℕ) → gap_to (width k) o ≡ 0 → gap_to (width k) (o + width k) ≡ 0
+pub stays_aligned : (k : NumberCode) (o : ℕ) → gap_to (width k) o ≡ 0 → gap_to (width k) (o + width k) ≡ 0
 unfolding gap_to
 stays_aligned k o = by_width (λ (w : ℕ). gap_to w o ≡ 0 → gap_to w (o + w) ≡ 0) (λ h. omega arith) (λ h. omega arith) (λ h. omega arith) (λ h. omega arith) k
 

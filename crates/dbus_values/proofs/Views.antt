@@ -16,23 +16,21 @@ use Rattle.dbus_walk.specs.declared.spot.Source.{Source}
 use Rattle.dbus_walk.specs.declared.spot.Spot.{Spot}
 use Rattle.dbus_walk.specs.Layouts.{IsNumberAt, IsTextAt, IsVariantAt, IsArrayAt, of_elements}
 use Rattle.dbus_walk.specs.Standing.{Stands, AllStand, StandsAt}
-use Rattle.dbus_walk.proofs.Enclosed.{stands_positive}
 use Rattle.dbus_walk.proofs.Parts.{number_is}
-use Rattle.dbus_walk.proofs.Seams.{there_within}
+use Rattle.dbus_walk.proofs.Seams.{ends_within}
 use Rattle.dbus_walk.proofs.ReadThere.{formed_utf8}
 use Rattle.dbus_values.specs.Seen.{IsSeen}
 use Rattle.dbus_values.proofs.NumberRuns.{one_byte, bytes_there}
 use Rattle.dbus_values.specs.declared.view.ValueView.{ValueView}
 
 path_left : (k : TextCode) → length_width k ≡ 4 → (text_code k ≡ 115 → ⊥) → k ≡ OBJECT_PATH
-path_left STRING wide not = absurd (not refl)
 path_left OBJECT_PATH wide not = refl
+path_left STRING wide not = absurd (not refl)
 path_left SIGNATURE wide not = absurd (omega (arith, wide))
 
 signature_left : (k : TextCode) → length_width k ≡ 1 → k ≡ SIGNATURE
-signature_left STRING wide = absurd (omega (arith, wide))
-signature_left OBJECT_PATH wide = absurd (omega (arith, wide))
 signature_left SIGNATURE wide = refl
+signature_left k wide = absurd (omega (arith, wide))
 
 -- one value that stands there is all of some
 pub one_left : {order : Order} {depth_left : ℕ} {types : List ℕ} {at : ℕ} {bytes : List ℕ} {v : ValueTree} {rest : List ℕ} → Stands order depth_left types at bytes v rest → IsShaped false (type_of v) → AllStand order depth_left types at bytes (MoreValues v NoValues) rest
@@ -45,7 +43,7 @@ one_left {order} {depth_left} {types} {at} {bytes} {v} {rest} s shaped = record 
   small = s.small;
   within = (s.within, tt);
   spelled = s.spelled ∙ ap (λ (l : List ℕ). l ++ rest) (sym (append-nil (spelling order at v)));
-  inside = omega (arith, there_within at (spelling order at v) rest bytes s.spelled (stands_positive order v at s.shaped));
+  inside = omega (arith, ends_within s);
 }
 
 module _ (source : Source) (spot : Spot) (v : ValueTree) (rest : List ℕ) (s : StandsAt source spot v rest) where
@@ -113,14 +111,3 @@ module _ (source : Source) (spot : Spot) (v : ValueTree) (rest : List ℕ) (s : 
       let k = number_is t 1 (omega arith) (sym one ∙ wide) in
       k.1 ∙ ap NumberType (one_byte k.0 k.2) in
       p.is ∙ ap (λ (t : TypeTree). ArrayValue t p.xs) (byte p.type type) ∙ ap (ArrayValue (NumberType BYTE)) (bytes_there p.held (byte p.held.type p.held.text))
-
-  -- brackets stand around the types of parts
-  pub parts_long : ((xs : ValueTrees) × (v ≡ StructValue xs)) ⊎ ((x : ValueTree) × (y : ValueTree) × (v ≡ EntryValue x y)) → 2 ≤ length spot.types.now
-  parts_long (inl (xs, is)) =
-      let whole : 40 ∷ (sigs (types_of xs) ++ 41 ∷ []) ≡ spot.types.now = ap (λ (u : ValueTree). sig (type_of u)) (sym is) ∙ s.text in
-      omega (arith, ap length whole, length-append (sigs (types_of xs)) (41 ∷ []))
-  parts_long (inr (x, y, is)) =
-      let t = sig (type_of x) in
-      let u = sig (type_of y) in
-      let whole : 123 ∷ (t ++ (u ++ 125 ∷ [])) ≡ spot.types.now = ap (λ (w : ValueTree). sig (type_of w)) (sym is) ∙ s.text in
-      omega (arith, ap length whole, length-append t (u ++ 125 ∷ []), length-append u (125 ∷ []))

@@ -3,17 +3,17 @@
 
 ghost use Rattle.std.specs.Prelude.{◌≡◌, ◌<◌, ◌≤◌, ℕ, List, length};
 ghost use Rattle.dbus_value_model.specs.Values.{ValueTree};
-ghost use Rattle.dbus_walk.specs.Layouts.{IsLaidOut};
 ghost use Rattle.dbus_walk.specs.Standing.{StandsAt, StandsThere, end_of};
 ghost use Rattle.dbus_values.specs.Seen.{IsSeen, weight_in};
 ghost use Rattle.dbus_values.specs.States.{weight};
 
-use crate::seeing::view_of;
+use crate::seeing::{array_view, number_view};
+use crate::values::Values;
 use crate::view::ValueView;
 use dbus_types::lengths_in;
-use dbus_walk::{Layout, Source, Spot, layout, skip_value};
+use dbus_walk::{Layout, Source, Spot, layout, skip_value, text_in};
 
-/// How the value at a spot is seen, and the offset after it.
+/// How the value at a spot is seen, and the offset after it. Only a container other than an array is gone through.
 pub(crate) fn pass<'a>(source: &Source<'a>, spot: &Spot<'a>) -> (ValueView<'a>, usize)
     requires stands { StandsThere source.now spot.now }
     requires few { length spot.now.types.now ≤ 255 }
@@ -21,36 +21,43 @@ pub(crate) fn pass<'a>(source: &Source<'a>, spot: &Spot<'a>) -> (ValueView<'a>, 
         IsSeen result.0 v × (result.1 ≡ end_of source.now spot.now v) }
     ensures less { weight_in result.0 < weight spot.now.depth_left spot.now.types.now }
 {
-    let parts = layout(source, spot);
-    let after = after_value(source, spot, parts);
-    (view_of(source, spot, parts), after)
-}
-
-/// The offset after the value at a spot, which is laid out so. Only a container other than an array is gone through.
-fn after_value(source: &Source<'_>, spot: &Spot<'_>, parts: Layout<'_>) -> usize
-    requires stands { StandsThere source.now spot.now }
-    requires few { length spot.now.types.now ≤ 255 }
-    requires laid { (v : ValueTree) (rest : List ℕ) → StandsAt source.now spot.now v rest →
-        IsLaidOut source.now spot.now v rest parts }
-    ensures { (v : ValueTree) (rest : List ℕ) → StandsAt source.now spot.now v rest →
-        result ≡ end_of source.now spot.now v }
-{
-    match parts {
-        Layout::Number { start, size } => start + usize::from(size),
-        Layout::LongText { start, size } => start + 4 + size + 1,
-        Layout::ShortText { size } => spot.at + 1 + size + 1,
-        Layout::Array(run) => run.end,
-        Layout::Variant { .. } => {
+    match layout(source, spot) {
+        Layout::Number { start, size } => {
+            (number_view(source, start, spot.types[0]), start + usize::from(size))
+        }
+        Layout::LongText { start, size } => {
+            let text = text_in(source.bytes, start + 4, size);
+            let after = start + 4 + size + 1;
+            if spot.types[0] == b's' {
+                return (ValueView::Str(text), after);
+            }
+            (ValueView::Path(text), after)
+        }
+        Layout::ShortText { size } => {
+            let text = text_in(source.bytes, spot.at + 1, size);
+            (ValueView::Sig(text), spot.at + 1 + size + 1)
+        }
+        Layout::Variant { types, at } => {
             let noted = Spot {
                 at: spot.at,
                 types: spot.types,
                 lengths: &[1],
                 depth_left: spot.depth_left,
             };
-            skip_value(source, &noted)
+            let held = Values::new(source, at, types, spot.depth_left - 1);
+            (ValueView::Variant(held), skip_value(source, &noted))
         }
-        Layout::Struct { .. } => after_parts(source, spot),
-        Layout::Entry { .. } => after_parts(source, spot),
+        Layout::Array(run) => (array_view(source, spot, run), run.end),
+        Layout::Struct { start } => {
+            let fields = &spot.types[1..spot.types.len() - 1];
+            let parts = Values::new(source, start, fields, spot.depth_left - 1);
+            (ValueView::Struct(parts), after_parts(source, spot))
+        }
+        Layout::Entry { start } => {
+            let both = &spot.types[1..spot.types.len() - 1];
+            let parts = Values::new(source, start, both, spot.depth_left);
+            (ValueView::Entry(parts), after_parts(source, spot))
+        }
     }
 }
 

@@ -1,4 +1,4 @@
-//! How a value that is laid out is seen.
+//! How numbers and arrays are seen.
 #![tactic(auto)]
 
 ghost use Rattle.std.specs.Prelude.{◌≡◌, ◌+◌, ◌<◌, ◌≤◌, ℕ, List, length, take, drop};
@@ -6,59 +6,34 @@ ghost use Rattle.dbus_texts.specs.Types.{NumberCode, number_code};
 ghost use Rattle.dbus_types.specs.Alignments.{width};
 ghost use Rattle.dbus_value_model.specs.Reading.{number_of};
 ghost use Rattle.dbus_value_model.specs.Values.{ValueTree, NumberValue, IsNumber};
-ghost use Rattle.dbus_walk.specs.Layouts.{IsLaidOut};
+ghost use Rattle.dbus_walk.specs.Layouts.{IsArrayAt};
 ghost use Rattle.dbus_walk.specs.Standing.{StandsAt, StandsThere};
 ghost use Rattle.dbus_values.specs.Seen.{IsSeen, weight_in};
 ghost use Rattle.dbus_values.specs.States.{weight};
 
 use crate::elements::Elements;
-use crate::values::Values;
 use crate::view::ValueView;
-use dbus_walk::{Layout, Source, Spot, text_in};
+use dbus_walk::{Run, Source, Spot};
 
-/// How the value at a spot is seen, which is laid out so.
-pub(crate) fn view_of<'a>(source: &Source<'a>, spot: &Spot<'a>, parts: Layout<'a>) -> ValueView<'a>
+/// How an array is seen, whose elements stand there.
+pub(crate) fn array_view<'a>(source: &Source<'a>, spot: &Spot<'a>, run: Run) -> ValueView<'a>
     requires stands { StandsThere source.now spot.now }
     requires few { length spot.now.types.now ≤ 255 }
     requires laid { (v : ValueTree) (rest : List ℕ) → StandsAt source.now spot.now v rest →
-        IsLaidOut source.now spot.now v rest parts }
+        IsArrayAt source.now spot.now v rest run }
     ensures seen { (v : ValueTree) (rest : List ℕ) → StandsAt source.now spot.now v rest → IsSeen result v }
     ensures less { weight_in result < weight spot.now.depth_left spot.now.types.now }
 {
-    match parts {
-        Layout::Number { start, .. } => number_view(source, start, spot.types[0]),
-        Layout::LongText { start, size } => {
-            let text = text_in(source.bytes, start + 4, size);
-            if spot.types[0] == b's' {
-                return ValueView::Str(text);
-            }
-            ValueView::Path(text)
-        }
-        Layout::ShortText { size } => ValueView::Sig(text_in(source.bytes, spot.at + 1, size)),
-        Layout::Variant { types, at } => {
-            ValueView::Variant(Values::new(source, at, types, spot.depth_left - 1))
-        }
-        Layout::Array(run) => {
-            // Of all numbers only a BYTE has one byte.
-            if run.size == 1 {
-                return ValueView::Bytes(&source.bytes[run.first..run.end]);
-            }
-            ValueView::Array(Elements::new(source, run, &spot.types[1..], spot.depth_left - 1))
-        }
-        Layout::Struct { start } => {
-            let fields = &spot.types[1..spot.types.len() - 1];
-            ValueView::Struct(Values::new(source, start, fields, spot.depth_left - 1))
-        }
-        Layout::Entry { start } => {
-            let both = &spot.types[1..spot.types.len() - 1];
-            ValueView::Entry(Values::new(source, start, both, spot.depth_left))
-        }
+    // Of all numbers only a BYTE has one byte.
+    if run.size == 1 {
+        return ValueView::Bytes(&source.bytes[run.first..run.end]);
     }
+    ValueView::Array(Elements::new(source, run, &spot.types[1..], spot.depth_left - 1))
 }
 
 /// How the number is seen that begins at `start`, of the type that has this code.
 #[inline]
-fn number_view<'a>(source: &Source<'_>, start: usize, code: u8) -> ValueView<'a>
+pub(crate) fn number_view<'a>(source: &Source<'_>, start: usize, code: u8) -> ValueView<'a>
     requires inside { (k : NumberCode) → number_code k ≡ code → start + width k ≤ length source.now.bytes.now }
     requires known { (k : NumberCode) × (number_code k ≡ code) }
     ensures seen { (k : NumberCode) (n : ℕ) → number_code k ≡ code → IsNumber k n →

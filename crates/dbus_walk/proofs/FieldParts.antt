@@ -13,12 +13,15 @@ use Rattle.dbus_value_laws.proofs.ReadSteps.{one_byte}
 use Rattle.dbus_walk.specs.Containers.{inside}
 use Rattle.dbus_walk.specs.Fields.{FieldsStand, FieldsLeft, FieldStands, field_types, field_end}
 use Rattle.dbus_walk.specs.Standing.{Stands, AllStand, ElementsStand}
+use Rattle.dbus_walk.specs.declared.container.Container.TheVariants as kind
 use Rattle.dbus_walk.specs.declared.spot.Source.{Source}
-use Rattle.dbus_walk.proofs.Containers.{formed_variant, variant_stands, variant_held, variant_begins, variant_ends, array_stands, array_found, elements_there}
-use Rattle.dbus_walk.proofs.Enclosed.{struct_stands, enclosed_there, enclosed_ends, stands_positive}
+use Rattle.dbus_walk.proofs.Containers.{variant_parts, array_stands, array_found, elements_there}
+use Rattle.dbus_walk.proofs.Enclosed.{struct_parts}
+use Rattle.dbus_walk.proofs.Fronts.{parts_end}
 use Rattle.dbus_walk.proofs.Lists.{none_ends, some_ends, first_element, other_elements, first_value, other_values}
 use Rattle.dbus_walk.proofs.Parts.{no_gap, number_of_width, number_ends}
 use Rattle.dbus_walk.proofs.ReadThere.{number_read}
+use Rattle.dbus_walk.proofs.Seams.{stands_positive}
 
 -- ---- a field
 
@@ -41,9 +44,8 @@ module _ (source : Source) (depth_left at : ℕ) (f : FieldTree) (rest : List �
   unfolding spellings
   coded =
       let order = source.order in
-      let p = struct_stands s.stands refl in
-      let is : p.1.vs ≡ coded_values = sym p.1.has in
-      let all = subst (λ (us : ValueTrees). AllStand order (depth_left - 1 - 1) (121 ∷ 118 ∷ []) start bytes us rest) is (enclosed_there s.stands p.1 start begins) in
+      let p = struct_parts coded_values s.stands refl in
+      let all = subst (λ (k : ℕ). AllStand order (depth_left - 1 - 1) (121 ∷ 118 ∷ []) k bytes coded_values rest) (sym begins) p.1 in
       let first = first_value (121 ∷ 118 ∷ []) 0 1 (ends_there (121 ∷ 118 ∷ []) 0 1 refl) all in
       let more = other_values (121 ∷ 118 ∷ []) 0 1 (ends_there (121 ∷ 118 ∷ []) 0 1 refl) all in
       let one = spelling order start (NumberValue BYTE f.code) in
@@ -56,9 +58,8 @@ module _ (source : Source) (depth_left at : ℕ) (f : FieldTree) (rest : List �
       let same : number.n ≡ f.code = let e = number.is in cc in
       let place : after ≡ start + 1 = sym (number_ends first 1 start number begin) in
       let two = spelling order after (VariantValue f.value) in
-      let whole : length (spellings order start p.1.vs) ≡ length one + (length two + 0) =
-      ap (λ (us : ValueTrees). length (spellings order start us)) is ∙ length-append one (two ++ []) ∙ ap (λ (k : ℕ). length one + k) (length-append two []) in
-      let ended = enclosed_ends s.stands p.1 start begins in
+      let whole : length (spellings order start coded_values) ≡ length one + (length two + 0) = length-append one (two ++ []) ∙ ap (λ (k : ℕ). length one + k) (length-append two []) in
+      let ended : start + length (spellings order start coded_values) ≡ field_end source at f = ap (λ (k : ℕ). k + length (spellings order k coded_values)) begins ∙ parts_end s.stands kind.Struct tt in
       let same_two : length two ≡ length (spelling order (start + 1) (VariantValue f.value)) = ap (λ (k : ℕ). length (spelling order k (VariantValue f.value))) place in
       record {
         some = p.0;
@@ -81,25 +82,20 @@ module _ (source : Source) (depth_left at : ℕ) (f : FieldTree) (rest : List �
 
   pub field_apart : (n : ℕ) → n ≡ get_or bytes (start + 1) 0 → FieldApart n
   field_apart n read =
-      let v = variant_stands coded.held refl in
-      let count : n ≡ v.n = read ∙ v.counts in
+      let v = variant_parts f.value coded.held n read in
       let deep : 3 ≤ depth_left = omega (arith, v.some) in
       let less : depth_left - 1 - 1 - 1 ≡ depth_left - 3 = omega arith in
-      let same : v.x ≡ f.value = let e = v.is in cc in
       let q = start + 1 + 1 + n + 1 in
       let types = take (start + 1 + 1 + n - (start + 1 + 1)) (drop (start + 1 + 1) bytes) in
-      let place : q + length (spelling source.order q v.x) ≡ start + 1 + 1 + v.n + 1 + length (spelling source.order (start + 1 + 1 + v.n + 1) v.x) =
-      ap (λ (k : ℕ). start + 1 + 1 + k + 1 + length (spelling source.order (start + 1 + 1 + k + 1) v.x)) count in
       record {
         deep = deep;
         code = coded.code;
-        few = omega (arith, count, v.few);
-        single = (formed_variant (depth_left - 1 - 1) f.value coded.held.formed).1;
-        inside = omega (arith, count, v.inside);
-        value_begins = omega (arith, count, variant_begins coded.held v);
-        value = subst (λ (u : ValueTree). Stands source.order (depth_left - 3) types q bytes u rest) same
-            (subst (λ (r : ℕ). Stands source.order r types q bytes v.x rest) less (variant_held coded.held v n count));
-        ends = ap (λ (u : ValueTree). q + length (spelling source.order q u)) (sym same) ∙ place ∙ variant_ends coded.held v ∙ coded.ends;
+        few = v.few;
+        single = v.single;
+        inside = v.inside;
+        value_begins = v.begins;
+        value = subst (λ (r : ℕ). Stands source.order r types q bytes f.value rest) less v.held;
+        ends = v.ends ∙ coded.ends;
       }
 
 -- whatever field it is

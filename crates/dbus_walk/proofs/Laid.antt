@@ -1,5 +1,5 @@
 -- Values that stand at a spot, by their layout.
-use Rattle.std.proofs.Common.{◌≡◌, ℕ, ◌+◌, ◌-◌, ◌<◌, List, length, get_or, take, drop, refl, sym, ap, subst, ◌∙◌, ◌⊎◌, inl, inr, arith}
+use Rattle.std.proofs.Common.{◌≡◌, ℕ, ◌+◌, ◌-◌, ◌<◌, List, length, get_or, take, drop, sym, ap, subst, ◌∙◌, ◌⊎◌, inl, inr, arith}
 use Rattle.std.proofs.lemmas.List.{length-take}
 use Rattle.dbus_texts.specs.Types.{TextCode, STRING, OBJECT_PATH, SIGNATURE, TypeTree, TextType}
 use Rattle.dbus_types.specs.Alignments.{length_width, alignment_of}
@@ -12,30 +12,16 @@ use Rattle.dbus_walk.specs.declared.container.Container.TheVariants as kind
 use Rattle.dbus_walk.specs.declared.spot.Layout.{Layout}
 use Rattle.dbus_walk.specs.declared.spot.Source.{Source}
 use Rattle.dbus_walk.specs.declared.spot.Spot.{Spot}
-use Rattle.dbus_walk.specs.Containers.{IsOf, inside, parts}
+use Rattle.dbus_walk.specs.Containers.{inside}
 use Rattle.dbus_walk.specs.Layouts.{of_parts, IsNumberAt, IsTextAt, IsVariantAt, IsArrayAt, IsStructAt, IsEntryAt, IsLaidOut}
 use Rattle.dbus_walk.specs.Standing.{AllStand, StandsAt, end_of}
 use Rattle.dbus_walk.specs.Widths.{number_width}
-use Rattle.dbus_walk.proofs.Containers.{formed_variant, variant_stands, variant_held, variant_begins, variant_ends, array_stands, array_found, array_ends, elements_there}
-use Rattle.dbus_walk.proofs.Enclosed.{struct_stands, entry_stands, enclosed_there, enclosed_long, enclosed_ends}
+use Rattle.dbus_walk.proofs.Containers.{variant_stands, variant_held, array_stands, array_found, elements_there}
+use Rattle.dbus_walk.proofs.Enclosed.{struct_stands, entry_stands, enclosed_long}
+use Rattle.dbus_walk.proofs.Fronts.{parts_end}
 use Rattle.dbus_walk.proofs.Parts.{TextStands, number_stands, number_ends, text_ends}
 use Rattle.dbus_walk.proofs.ReadThere.{number_read, text_there}
-
-struct_is_of : (v : ValueTree) (xs : ValueTrees) → IsOf kind.Struct v → parts v ≡ xs → v ≡ StructValue xs
-struct_is_of (NumberValue k n) xs is has = absurd is
-struct_is_of (TextValue k t) xs is has = absurd is
-struct_is_of (VariantValue x) xs is has = absurd is
-struct_is_of (ArrayValue t ys) xs is has = absurd is
-struct_is_of (StructValue ys) xs is has = ap (λ (u : ValueTrees). StructValue u) has
-struct_is_of (EntryValue x y) xs is has = absurd is
-
-entry_is_of : (v : ValueTree) (xs : ValueTrees) → IsOf kind.Entry v → parts v ≡ xs → (x : ValueTree) × (y : ValueTree) × (v ≡ EntryValue x y) × (xs ≡ MoreValues x (MoreValues y NoValues))
-entry_is_of (NumberValue k n) xs is has = absurd is
-entry_is_of (TextValue k t) xs is has = absurd is
-entry_is_of (VariantValue x) xs is has = absurd is
-entry_is_of (ArrayValue t ys) xs is has = absurd is
-entry_is_of (StructValue ys) xs is has = absurd is
-entry_is_of (EntryValue x y) xs is has = (x, y, refl, sym has)
+use Rattle.dbus_walk.proofs.Seams.{stands_as}
 
 -- the bytes that types of texts begin with
 pub long_coded : (k : TextCode) {c : ℕ} → length_width k ≡ 4 → c ≡ first_code (TextType k) → (c ≡ 115) ⊎ (c ≡ 111)
@@ -44,9 +30,8 @@ long_coded OBJECT_PATH w e = inr e
 long_coded SIGNATURE w e = absurd (omega arith)
 
 pub short_coded : (k : TextCode) {c : ℕ} → length_width k ≡ 1 → c ≡ first_code (TextType k) → c ≡ 103
-short_coded STRING w e = absurd (omega arith)
-short_coded OBJECT_PATH w e = absurd (omega arith)
 short_coded SIGNATURE w e = e
+short_coded k w e = absurd (omega arith)
 
 -- a layout is another's
 pub laid_as : (source : Source) (spot : Spot) {l m : Layout} → l ≡ m → ((v : ValueTree) (rest : List ℕ) → StandsAt source spot v rest → IsLaidOut source spot v rest l)
@@ -73,40 +58,45 @@ module _ (source : Source) (spot : Spot) (v : ValueTree) (rest : List ℕ) (s : 
   }
 
   pub variant_laid : (n : ℕ) → get_or spot.types.now 0 0 ≡ 118 → n ≡ get_or source.bytes.now spot.at 0 → IsVariantAt source spot v rest (take (spot.at + 1 + n - (spot.at + 1)) (drop (spot.at + 1) source.bytes.now)) (spot.at + 1 + n + 1)
-  variant_laid n code counts =
-      let p = variant_stands s code in
-      let count : n ≡ p.n = counts ∙ p.counts in
+  variant_laid n code counted =
+      let w = variant_stands s code in
+      let p = variant_held s code n counted in
       record {
-        x = p.x;
-        is = p.is;
+        x = w.0;
+        is = w.1;
         some = p.some;
-        single = (formed_variant spot.depth_left p.x (subst (IsWellFormed spot.depth_left) p.is s.formed)).1;
-        few = omega (arith, count, p.few, length-take (spot.at + 1 + n - (spot.at + 1)) (drop (spot.at + 1) source.bytes.now));
-        begins = ap (λ (k : ℕ). spot.at + 1 + k + 1) count ∙ variant_begins s p;
-        held = variant_held s p n count;
-        ends = ap (λ (k : ℕ). spot.at + 1 + k + 1 + length (spelling source.order (spot.at + 1 + k + 1) p.x)) count ∙ variant_ends s p;
+        single = p.single;
+        few = omega (arith, p.few, length-take (spot.at + 1 + n - (spot.at + 1)) (drop (spot.at + 1) source.bytes.now));
+        begins = p.begins ∙ ap (inside source.order spot.at) (sym w.1);
+        held = p.held;
+        ends = p.ends ∙ ap (λ (u : ValueTree). end_of source spot u) (sym w.1);
       }
 
   pub struct_laid : (start : ℕ) → get_or spot.types.now 0 0 ≡ 40 → start ≡ spot.at + gap_to 8 spot.at → IsStructAt source spot v rest start
   struct_laid start code place =
-      let t = struct_stands s code in
-      let p = t.1 in
-      record { xs = p.vs; is = struct_is_of v p.vs p.is_of p.has; some = t.0; long = enclosed_long s (inl code); begins = place ∙ sym p.begins; held = enclosed_there s p start place; ends = enclosed_ends s p start place }
+      let w = struct_stands s code in
+      record {
+        xs = w.0;
+        is = w.1;
+        some = w.2;
+        long = enclosed_long s (inl code);
+        begins = place ∙ ap (inside source.order spot.at) (sym w.1);
+        held = subst (λ (k : ℕ). AllStand source.order (spot.depth_left - 1) (of_parts spot.types.now) k source.bytes.now w.0 rest) (sym place) w.3;
+        ends = ap (λ (k : ℕ). k + length (spellings source.order k w.0)) place ∙ parts_end (stands_as s w.1) kind.Struct tt ∙ ap (λ (u : ValueTree). end_of source spot u) (sym w.1);
+      }
 
   pub entry_laid : (start : ℕ) → get_or spot.types.now 0 0 ≡ 123 → start ≡ spot.at + gap_to 8 spot.at → IsEntryAt source spot v rest start
   entry_laid start code place =
-      let p = entry_stands s code in
-      let w = entry_is_of v p.vs p.is_of p.has in
-      let held = enclosed_there s p start place in
-      let ends = enclosed_ends s p start place in
+      let w = entry_stands s code in
+      let both = MoreValues w.0 (MoreValues w.1 NoValues) in
       record {
         x = w.0;
         y = w.1;
         is = w.2;
         long = enclosed_long s (inr code);
-        begins = place ∙ sym p.begins;
-        held = subst (λ (u : ValueTrees). AllStand source.order spot.depth_left (of_parts spot.types.now) start source.bytes.now u rest) w.3 held;
-        ends = subst (λ (u : ValueTrees). start + length (spellings source.order start u) ≡ end_of source spot v) w.3 ends;
+        begins = place ∙ ap (inside source.order spot.at) (sym w.2);
+        held = subst (λ (k : ℕ). AllStand source.order spot.depth_left (of_parts spot.types.now) k source.bytes.now both rest) (sym place) w.3;
+        ends = ap (λ (k : ℕ). k + length (spellings source.order k both)) place ∙ parts_end (stands_as s w.2) kind.Entry tt ∙ ap (λ (u : ValueTree). end_of source spot u) (sym w.2);
       }
 
   pub array_laid : {g b h n size : ℕ} → get_or spot.types.now 0 0 ≡ 97
@@ -135,5 +125,5 @@ module _ (source : Source) (spot : Spot) (v : ValueTree) (rest : List ℕ) (s : 
         };
         begins = found.0 ∙ ap (inside source.order spot.at) (sym p.is);
         held = elements_there s p (spot.at + g + 4 + h) n found.0 found.1;
-        ends = omega (arith, found.0, found.1, array_ends s p);
+        ends = omega (arith, found.0, found.1, p.ends);
       }

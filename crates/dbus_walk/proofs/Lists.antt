@@ -1,5 +1,5 @@
 -- Values one after another, and elements of an array: the first of them, and the others.
-use Rattle.std.proofs.Common.{◌≡◌, ℕ, ◌+◌, ◌-◌, ◌≤◌, List, ◌++◌, length, take, drop, true, refl, sym, ap, subst, ◌∙◌, arith, append_assoc}
+use Rattle.std.proofs.Common.{◌≡◌, ℕ, ◌+◌, ◌-◌, ◌<◌, ◌≤◌, List, ◌++◌, length, take, drop, true, refl, sym, ap, subst, ◌∙◌, arith, append_assoc}
 use Rattle.std.proofs.lemmas.List.{length-append, take_at, drop_at, drop-drop}
 use Rattle.dbus_texts.specs.Types.{sig, sigs, IsShaped}
 use Rattle.dbus_value_model.specs.declared.order.Order.{Order}
@@ -8,8 +8,7 @@ use Rattle.dbus_value_model.specs.Values.{ValueTree, ValueTrees, NoValues, MoreV
 use Rattle.dbus_value_laws.proofs.ValueSteps.{shaped_inside}
 use Rattle.dbus_types.specs.SignatureCodes.{IsTypeEnd}
 use Rattle.dbus_walk.specs.Standing.{Stands, AllStand, ElementsStand}
-use Rattle.dbus_walk.proofs.Enclosed.{stands_positive}
-use Rattle.dbus_walk.proofs.Seams.{there_within, stands_after}
+use Rattle.dbus_walk.proofs.Seams.{there_within, stands_after, stands_positive}
 
 -- the first value of some, and those after it
 module _ (order : Order) (place : ℕ) (bytes : List ℕ) (v : ValueTree) (us : ValueTrees) (rest : List ℕ) (spelled : drop place bytes ≡ spellings order place (MoreValues v us) ++ rest) where
@@ -64,6 +63,27 @@ module _ {order : Order} {depth_left : ℕ} {types : List ℕ} {place end : ℕ}
   pub some_ends : place + length (spelling order place v) ≤ end
   unfolding spellings
   some_ends = omega (arith, e.ends, length-append (spelling order place v) (spellings order (place + length (spelling order place v)) us))
+
+-- the first of some elements, and the others
+pub record FirstElement (order : Order) (depth_left : ℕ) (types : List ℕ) (place end : ℕ) (bytes rest : List ℕ) (vs : ValueTrees) : Type 0 where
+  pub v : ValueTree
+  pub us : ValueTrees
+  pub begins : vs ≡ MoreValues v us
+  pub stands : Stands order depth_left types place bytes v (spellings order (place + length (spelling order place v)) us ++ rest)
+  pub some : 0 < length (spelling order place v)
+  pub inside : place + length (spelling order place v) ≤ end
+  pub others : ElementsStand order depth_left types (place + length (spelling order place v)) end bytes us rest
+
+module _ {order : Order} {depth_left : ℕ} {types : List ℕ} {place end : ℕ} {bytes rest : List ℕ} where
+  pub element_of : (vs : ValueTrees) → ElementsStand order depth_left types place end bytes vs rest → (place ≡ end → ⊥) → FirstElement order depth_left types place end bytes rest vs
+  element_of NoValues e some = absurd (some (sym (none_ends e)))
+  element_of (MoreValues v us) e some =
+      let s = first_element e in
+      record { v = v; us = us; begins = refl; stands = s; some = stands_positive order v place s.shaped; inside = some_ends e; others = other_elements e }
+
+  pub no_elements : (vs : ValueTrees) → ElementsStand order depth_left types place end bytes vs rest → end ≤ place → vs ≡ NoValues
+  no_elements NoValues e le = refl
+  no_elements (MoreValues v us) e le = absurd (omega (arith, le, some_ends e, stands_positive order v place (first_element e).shaped))
 
 -- ---- values of some types
 

@@ -22,15 +22,7 @@ use Rattle.dbus_walk.proofs.Seams.{there_within, stands_after}
 
 some_bytes : (k : NumberCode) → 0 < width k
 some_bytes BYTE = omega arith
-some_bytes BOOLEAN = omega arith
-some_bytes INT16 = omega arith
-some_bytes UINT16 = omega arith
-some_bytes INT32 = omega arith
-some_bytes UINT32 = omega arith
-some_bytes INT64 = omega arith
-some_bytes UINT64 = omega arith
-some_bytes DOUBLE = omega arith
-some_bytes UNIX_FD = omega arith
+some_bytes k = omega arith
 
 -- what is no other is enclosed in brackets
 pub enclosed_is : (t : TypeTree) {c : ℕ} → first_code t ≡ c → (0 < number_width t → ⊥) → (c ≡ 115 → ⊥) → (c ≡ 111 → ⊥) → (c ≡ 103 → ⊥) → (c ≡ 118 → ⊥) → (c ≡ 97 → ⊥) → (c ≡ 40) ⊎ (c ≡ 123)
@@ -45,19 +37,11 @@ enclosed_is (EntryType k x) e w s o g v a = inr (sym e)
 
 pub number_is : (t : TypeTree) (w : ℕ) → 0 < w → w ≡ number_width t → (k : NumberCode) × (t ≡ NumberType k) × (width k ≡ w)
 number_is (NumberType k) w some e = (k, refl, sym e)
-number_is (TextType k) w some e = absurd (omega (arith, some, e))
-number_is VariantType w some e = absurd (omega (arith, some, e))
-number_is (ArrayType u) w some e = absurd (omega (arith, some, e))
-number_is (StructType ts) w some e = absurd (omega (arith, some, e))
-number_is (EntryType k v) w some e = absurd (omega (arith, some, e))
+number_is t w some e = absurd (omega (arith, some, e))
 
 text_of_type : (v : ValueTree) (k : TextCode) → type_of v ≡ TextType k → (t : List ℕ) × (v ≡ TextValue k t)
-text_of_type (NumberValue j n) k e = absurd cc
 text_of_type (TextValue j t) k e = let same : j ≡ k = cc in (t, ap (λ (c : TextCode). TextValue c t) same)
-text_of_type (VariantValue x) k e = absurd cc
-text_of_type (ArrayValue t xs) k e = absurd cc
-text_of_type (StructValue xs) k e = absurd cc
-text_of_type (EntryValue x y) k e = absurd cc
+text_of_type v k e = absurd cc
 
 -- ---- numbers
 

@@ -35,28 +35,13 @@ formed_utf8 depth_left SIGNATURE t h = signature_utf8 t h.0
 pub number_fits : (k : NumberCode) (n : ℕ) → IsNumber k n → n < 256 ^ width k
 number_fits BYTE n h = omega arith
 number_fits BOOLEAN n h = omega arith
-number_fits INT16 n h = h
-number_fits UINT16 n h = h
-number_fits INT32 n h = h
-number_fits UINT32 n h = h
-number_fits INT64 n h = h
-number_fits UINT64 n h = h
-number_fits DOUBLE n h = h
-number_fits UNIX_FD n h = h
+number_fits k n h = h
 
 -- ---- which number it is
 
 pub byte_code : (k : NumberCode) → number_code k ≡ 121 → k ≡ BYTE
 byte_code BYTE e = refl
-byte_code BOOLEAN e = absurd (omega arith)
-byte_code INT16 e = absurd (omega arith)
-byte_code UINT16 e = absurd (omega arith)
-byte_code INT32 e = absurd (omega arith)
-byte_code UINT32 e = absurd (omega arith)
-byte_code INT64 e = absurd (omega arith)
-byte_code UINT64 e = absurd (omega arith)
-byte_code DOUBLE e = absurd (omega arith)
-byte_code UNIX_FD e = absurd (omega arith)
+byte_code k e = absurd (omega arith)
 
 module _ {order : Order} {depth_left : ℕ} {types : List ℕ} {at : ℕ} {bytes : List ℕ} {v : ValueTree} {rest : List ℕ} (s : Stands order depth_left types at bytes v rest) where
   pub number_read : (size start : ℕ) (p : NumberStands s size) → start ≡ at + gap_to size at → number_of order (take size (drop start bytes)) ≡ p.n

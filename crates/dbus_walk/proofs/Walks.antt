@@ -9,8 +9,8 @@ use Rattle.dbus_value_model.specs.Values.{ValueTree, ValueTrees, NoValues, MoreV
 use Rattle.dbus_types.specs.SignatureCodes.{IsTypeEnd}
 use Rattle.dbus_walk.specs.Standing.{Stands, AllStand, ElementsStand}
 use Rattle.dbus_walk.specs.Containers.{is_none}
-use Rattle.dbus_walk.proofs.Enclosed.{stands_positive}
-use Rattle.dbus_walk.proofs.Lists.{first_element, other_elements, first_value, other_values, none_ends, some_ends}
+use Rattle.dbus_walk.proofs.Seams.{stands_positive}
+use Rattle.dbus_walk.proofs.Lists.{FirstElement, element_of, no_elements, first_value, other_values}
 
 -- values before others
 abbrev pub in_front : List ValueTree → ValueTrees → ValueTrees
@@ -68,40 +68,16 @@ module _ (order : Order) (at : ℕ) (vs : ValueTrees) where
 
 module _ {order : Order} {depth_left : ℕ} {types : List ℕ} {end : ℕ} {bytes rest : List ℕ} {at : ℕ} {vs : ValueTrees} {Q : List ValueTree → Type 0} {place : ℕ}
     (l : Left order at vs (λ q us. ElementsStand order depth_left types q end bytes us rest) Q place) where
-  pub record NextElement : Type 0 where
-    pub v : ValueTree
-    pub us : ValueTrees
-    pub begins : l.us ≡ MoreValues v us
-    pub stands : Stands order depth_left types place bytes v (spellings order (place + length (spelling order place v)) us ++ rest)
-    pub some : 0 < length (spelling order place v)
-    pub others : ElementsStand order depth_left types (place + length (spelling order place v)) end bytes us rest
+  pub next_element : place < end → FirstElement order depth_left types place end bytes rest l.us
+  next_element lt = element_of l.us l.keeps (λ e. omega (arith, lt, e))
 
-  keeps_as : (us : ValueTrees) → l.us ≡ us → ElementsStand order depth_left types place end bytes us rest
-  keeps_as us e = subst (λ (u : ValueTrees). ElementsStand order depth_left types place end bytes u rest) e l.keeps
-
-  pub next_element : place < end → NextElement
-  next_element lt = of l.us refl
-    where
-      of : (us : ValueTrees) → l.us ≡ us → NextElement
-      of NoValues e = absurd (omega (arith, lt, none_ends (keeps_as NoValues e)))
-      of (MoreValues v us) e =
-          let keeps = keeps_as (MoreValues v us) e in
-          let s = first_element keeps in
-          record { v = v; us = us; begins = e; stands = s; some = stands_positive order v place s.shaped; others = other_elements keeps }
-
-  pub element_left : (Q' : List ValueTree → Type 0) (n : NextElement) (q : ℕ) → q ≡ place + length (spelling order place n.v) → Q' (l.done ++ n.v ∷ [])
+  pub element_left : (Q' : List ValueTree → Type 0) (n : FirstElement order depth_left types place end bytes rest l.us) (q : ℕ) → q ≡ place + length (spelling order place n.v) → Q' (l.done ++ n.v ∷ [])
       → Left order at vs (λ p us. ElementsStand order depth_left types p end bytes us rest) Q' q
   element_left Q' n q after walked =
       less_left order at vs (λ p us. ElementsStand order depth_left types p end bytes us rest) (λ p us. ElementsStand order depth_left types p end bytes us rest) Q Q' place l n.v n.us n.begins q after n.others walked
 
   pub no_element : end ≤ place → (vs ≡ value_trees l.done) × (place ≡ at + length (spellings order at vs))
-  no_element le = none_left order at vs (λ p us. ElementsStand order depth_left types p end bytes us rest) Q place l (of l.us refl)
-    where
-      of : (us : ValueTrees) → l.us ≡ us → l.us ≡ NoValues
-      of NoValues e = e
-      of (MoreValues v us) e =
-          let keeps = keeps_as (MoreValues v us) e in
-          absurd (omega (arith, le, some_ends keeps, stands_positive order v place (first_element keeps).shaped))
+  no_element le = none_left order at vs (λ p us. ElementsStand order depth_left types p end bytes us rest) Q place l (no_elements l.us l.keeps le)
 
 -- ---- values of some types
 

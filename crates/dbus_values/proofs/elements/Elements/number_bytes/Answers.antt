@@ -4,7 +4,7 @@ use Rattle.dbus_texts.proofs.TypeTexts.{sig_positive}
 use Rattle.dbus_types.proofs.TypeCodes.{code_is}
 use Rattle.dbus_value_model.specs.Bytes.{gap_to}
 use Rattle.dbus_values.specs.States.{ElementsState, ElementsAreLeft, AreNumbersIn}
-use Rattle.dbus_values.proofs.Firsts.{no_elements}
+use Rattle.dbus_walk.proofs.Lists.{no_elements}
 use Rattle.dbus_values.proofs.NumberRuns.{some_bytes, elements_within, numbers_in, none_in}
 use Rattle.dbus_values.proofs.elements.Elements.number_bytes.Goals as goal
 
@@ -21,7 +21,7 @@ returns-then-self c = λ xs rest l.
     let is = c.self.view_is in
     let ended = ap (λ (s : ElementsState). s.at) (sym is) ∙ c.if-self.true ∙ ap (λ (s : ElementsState). s.end) is in
     let some : 0 < c.number_width-width.result = omega (arith, c.if-width-eq0.false) in
-    none_in l c.number_width-width.result some (c.number_width-width.ensures.value l.type (code_is l.type c.args.self.now.type l.text ∙ ap (λ (s : ElementsState). get_or s.type 0 0) (sym is))) (no_elements c.args.self.now xs rest l ended)
+    none_in l c.number_width-width.result some (c.number_width-width.ensures.value l.type (code_is l.type c.args.self.now.type l.text ∙ ap (λ (s : ElementsState). get_or s.type 0 0) (sym is))) (no_elements xs l (omega (arith, ended)))
 
 pub overflow_add-start : goal.overflow_add-start
 overflow_add-start c =
