@@ -27,24 +27,16 @@ use Rattle.dbus_unmarshal.specs.Builds.{IsFormed, IsBuilt, AreBuilt, Makes, IsVa
 -- ---- the types of parts
 
 struct_types : (ts : TypeTrees) (v : ValueTree) → IsStructOf ts v → ts ≡ types_of (parts v)
-struct_types ts (NumberValue k n) is = absurd is
-struct_types ts (TextValue k u) is = absurd is
-struct_types ts (VariantValue z) is = absurd is
-struct_types ts (ArrayValue u zs) is = absurd is
 struct_types ts (StructValue zs) is = is
-struct_types ts (EntryValue a b) is = absurd is
+struct_types ts v is = absurd is
 
 all_type : (u : TypeTree) (done us : List ValueTree) (x : ValueTree) → AllOf u (value_trees (done ++ x ∷ us)) → u ≡ type_of x
 all_type u [] us x h = sym h.0
 all_type u (y ∷ done) us x h = all_type u done us x h.1
 
 element_type : (t : TypeTree) (v : ValueTree) → IsArrayOf t v → (done us : List ValueTree) (x : ValueTree) → parts v ≡ value_trees (done ++ x ∷ us) → t ≡ type_of x
-element_type t (NumberValue k n) is done us x has = absurd is
-element_type t (TextValue k u) is done us x has = absurd is
-element_type t (VariantValue z) is done us x has = absurd is
 element_type t (ArrayValue u zs) is done us x has = is.0 ∙ all_type u done us x (subst (AllOf u) has is.2)
-element_type t (StructValue zs) is done us x has = absurd is
-element_type t (EntryValue a b) is done us x has = absurd is
+element_type t v is done us x has = absurd is
 
 array_all : (depth_left : ℕ) (u : TypeTree) (xs : ValueTrees) → IsWellFormed depth_left (ArrayValue u xs) → AllOf u xs
 array_all zero u xs h = absurd h
@@ -57,14 +49,10 @@ pub same_types : (ts us : TypeTrees) (w : List ℕ) → sigs ts ≡ w → sigs u
 same_types ts us w first second = sym (spelled_sigs ts) ∙ ap types_spelled (first ∙ sym second) ∙ spelled_sigs us
 
 pub variant_opened : (v : ValueTree) → IsOf kind.Variant v → (next : TypeTree) (types : List ℕ) → sigs (types_of (parts v)) ≡ types → sig next ≡ types → (IsVariant v × ◌≡◌ {A = List ValueTree} [] []) × IsNext next v []
-variant_opened (NumberValue k n) is next types text spelled = absurd is
-variant_opened (TextValue k t) is next types text spelled = absurd is
-variant_opened (ArrayValue t xs) is next types text spelled = absurd is
-variant_opened (StructValue xs) is next types text spelled = absurd is
-variant_opened (EntryValue x y) is next types text spelled = absurd is
 variant_opened (VariantValue x) is next types text spelled =
     let same : next ≡ type_of x = same_type next (type_of x) types spelled (sym (append-nil (sig (type_of x))) ∙ text) in
     ((tt, refl), λ y us e. let first : x ≡ y = cc in same ∙ ap type_of first)
+variant_opened v is next types text spelled = absurd is
 
 module _ {A : Type 0} where
   pub at_field : (ts : List (SigType A)) (d : SigType A) (done us : List ValueTree) (x : ValueTree) → type_trees_of ts ≡ types_of (value_trees (done ++ x ∷ us)) → (length done < length ts) × (type_tree (get_or ts (length done) d) ≡ type_of x)
@@ -79,7 +67,7 @@ module _ {A : Type 0} where
   pub none_built : {rs : List (Value A)} → rs ≡ [] → AreBuilt [] rs
   none_built e = subst (λ (l : List (Value A)). AreBuilt [] l) (sym e) (record { trees = refl; packed = refl })
 
-  built_more : {xs : List ValueTree} {v : ValueTree} {r : Value A} (rs us : List (Value A)) → us ≡ rs ++ r ∷ [] → AreBuilt xs rs → IsBuilt v r → AreBuilt (xs ++ v ∷ []) us
+  pub built_more : {xs : List ValueTree} {v : ValueTree} {r : Value A} (rs us : List (Value A)) → us ≡ rs ++ r ∷ [] → AreBuilt xs rs → IsBuilt v r → AreBuilt (xs ++ v ∷ []) us
   built_more {xs} {v} {r} rs us is a b = record {
     trees = ap (map value_tree) is ∙ map_push value_tree rs r ∙ ap (λ (l : List ValueTree). l ++ value_tree r ∷ []) a.trees ∙ ap (λ (t : ValueTree). xs ++ t ∷ []) b.tree;
     packed = keep_push rs r us is a.packed b.packed;
@@ -96,21 +84,24 @@ module _ {A : Type 0} where
 
   pub struct_opened : (v : ValueTree) → IsOf kind.Struct v → (w : SigType A) (fields types : Arc (Vec (SigType A) A) A) (next : TypeTree) (rs : List (Value A)) → w ≡ ty.Struct fields → types.value ≡ fields.value → rs ≡ [] → IsFieldType (type_trees_of types.value.items) 0 next
       → type_tree w ≡ type_of v → (IsStructOf (type_trees_of types.value.items) v × AreBuilt [] rs) × IsNext next v []
-  struct_opened (NumberValue k n) is w fields types next rs e same none field typed = absurd is
-  struct_opened (TextValue k t) is w fields types next rs e same none field typed = absurd is
-  struct_opened (VariantValue x) is w fields types next rs e same none field typed = absurd is
-  struct_opened (ArrayValue t xs) is w fields types next rs e same none field typed = absurd is
-  struct_opened (EntryValue x y) is w fields types next rs e same none field typed = absurd is
   struct_opened (StructValue xs) is w fields types next rs e same none field typed =
       let all : StructType (type_trees_of fields.value.items) ≡ StructType (types_of xs) = sym (type_tree-Struct fields) ∙ ap type_tree (sym e) ∙ typed in
       let fit : type_trees_of types.value.items ≡ types_of xs = ap (λ (l : Vec (SigType A) A). type_trees_of l.items) same ∙ (let inner : type_trees_of fields.value.items ≡ types_of xs = cc in inner) in
       ((fit, none_built none), λ x us there. field [] x us refl (fit ∙ ap types_of there))
+  struct_opened v is w fields types next rs e same none field typed = absurd is
 
-  pub elements_opened : (u : TypeTree) (xs : ValueTrees) (w item : SigType A) (element : Arc (SigType A) A) (next : TypeTree) (rs : List (Value A)) → w ≡ ty.Array element → type_tree item ≡ type_tree element.value → rs ≡ [] → next ≡ type_tree item
-      → is_byte u ≡ false → IsFormed (ArrayValue u xs) → type_tree w ≡ ArrayType u → (((type_tree item ≡ u) × (is_byte u ≡ false) × AllOf u xs) × AreBuilt [] rs) × IsNext next (ArrayValue u xs) []
-  elements_opened u xs w item element next rs e same none is_next no_byte formed typed =
-      let all : ArrayType (type_tree element.value) ≡ ArrayType u = sym (type_tree-Array element) ∙ ap type_tree (sym e) ∙ typed in
-      let fit : type_tree item ≡ u = same ∙ (let inner : type_tree element.value ≡ u = cc in inner) in
+  pub element_made : {E : Type 0} (r : Result (SigType A) E) (bad : E → Type 0) (w d : SigType A) (element : Arc (SigType A) A) → MatchResult r (λ copy. type_tree copy ≡ type_tree d) bad → w ≡ ty.Array element → d ≡ element.value
+      → IfOk r (λ t. (u : TypeTree) → type_tree w ≡ ArrayType u → type_tree t ≡ u)
+  element_made (Ok t) bad w d element made is same = λ u typed.
+      let all : ArrayType (type_tree element.value) ≡ ArrayType u = sym (type_tree-Array element) ∙ ap type_tree (sym is) ∙ typed in
+      let inner : type_tree element.value ≡ u = cc in
+      made ∙ ap type_tree same ∙ inner
+  element_made (Err e) bad w d element made is same = tt
+
+  pub elements_opened : (u : TypeTree) (xs : ValueTrees) (w : TypeTree) (item : SigType A) (next : TypeTree) (rs : List (Value A)) → ((t : TypeTree) → w ≡ ArrayType t → type_tree item ≡ t) → rs ≡ [] → next ≡ type_tree item
+      → is_byte u ≡ false → IsFormed (ArrayValue u xs) → w ≡ ArrayType u → (((type_tree item ≡ u) × (is_byte u ≡ false) × AllOf u xs) × AreBuilt [] rs) × IsNext next (ArrayValue u xs) []
+  elements_opened u xs w item next rs fits none is_next no_byte formed typed =
+      let fit = fits u typed in
       let each = array_all formed.0 u xs formed.1 in
       (((fit, no_byte, each), none_built none), λ x us there. is_next ∙ fit ∙ all_type u [] us x (subst (AllOf u) there each))
 
@@ -140,53 +131,33 @@ module _ {A : Type 0} where
   close_fields v ts rs e = close_as v (Struct rs) e (of v)
     where
       of : (v : ValueTree) → Closes (gathered.Fields ts rs) v (Struct rs)
-      of (NumberValue k n) xs h has = absurd h.0
-      of (TextValue k t) xs h has = absurd h.0
-      of (VariantValue y) xs h has = absurd h.0
-      of (ArrayValue t ys) xs h has = absurd h.0
       of (StructValue ys) xs h has = record {
         tree = tree-Struct rs ∙ ap (λ (l : List ValueTree). StructValue (value_trees l)) h.1.trees ∙ ap StructValue (sym has);
         packed = keeps-Struct rs ∙ h.1.packed;
       }
-      of (EntryValue y z) xs h has = absurd h.0
+      of v xs h has = absurd h.0
 
   pub close_elements : {m : Gathered A} (v : ValueTree) (t : SigType A) (rs : Vec (Value A) A) → m ≡ gathered.Elements t rs → Closes m v (Array t rs)
   close_elements v t rs e = close_as v (Array t rs) e (of v)
     where
       of : (v : ValueTree) → Closes (gathered.Elements t rs) v (Array t rs)
-      of (NumberValue k n) xs h has = absurd h.0
-      of (TextValue k u) xs h has = absurd h.0
-      of (VariantValue y) xs h has = absurd h.0
       of (ArrayValue u ys) xs h has = record {
         tree = tree-Array t rs ∙ ap (λ (l : List ValueTree). ArrayValue (type_tree t) (value_trees l)) h.1.trees ∙ ap (ArrayValue (type_tree t)) (sym has) ∙ ap (λ w. ArrayValue w ys) h.0.0;
         packed = keeps-Array t rs ∙ and_from _ _ (ap (λ u. not (is_byte u)) h.0.0 ∙ ap not h.0.1) h.1.packed;
       }
-      of (StructValue ys) xs h has = absurd h.0
-      of (EntryValue y z) xs h has = absurd h.0
+      of v xs h has = absurd h.0
 
   -- what has no part yet, or a key alone, is not all of a container
   pub close_none : (m : Gathered A) (v : ValueTree) (r : Value A) → ((x : Value A) → m ≡ gathered.Held x → ⊥) → ((e : DictEntry A) → m ≡ gathered.Both e → ⊥)
       → ((ts : Arc (Vec (SigType A) A) A) (rs : Vec (Value A) A) → m ≡ gathered.Fields ts rs → ⊥) → ((t : SigType A) (rs : Vec (Value A) A) → m ≡ gathered.Elements t rs → ⊥) → Closes m v r
   close_none gathered.Variant (VariantValue y) r a b c d xs h has = let z : MoreValues y NoValues ≡ NoValues = has ∙ ap value_trees h.1 in absurd cc
-  close_none gathered.Variant (NumberValue k n) r a b c d xs h has = absurd h.0
-  close_none gathered.Variant (TextValue k t) r a b c d xs h has = absurd h.0
-  close_none gathered.Variant (ArrayValue t ys) r a b c d xs h has = absurd h.0
-  close_none gathered.Variant (StructValue ys) r a b c d xs h has = absurd h.0
-  close_none gathered.Variant (EntryValue y z) r a b c d xs h has = absurd h.0
+  close_none gathered.Variant v r a b c d xs h has = absurd h.0
   close_none (gathered.Held x) v r a b c d xs h has = absurd (a x refl)
   close_none (gathered.Entry t) (EntryValue y z) r a b c d xs h has = let q : MoreValues y (MoreValues z NoValues) ≡ NoValues = has ∙ ap value_trees h.1 in absurd cc
-  close_none (gathered.Entry t) (NumberValue k n) r a b c d xs h has = absurd h.0
-  close_none (gathered.Entry t) (TextValue k u) r a b c d xs h has = absurd h.0
-  close_none (gathered.Entry t) (VariantValue y) r a b c d xs h has = absurd h.0
-  close_none (gathered.Entry t) (ArrayValue u ys) r a b c d xs h has = absurd h.0
-  close_none (gathered.Entry t) (StructValue ys) r a b c d xs h has = absurd h.0
+  close_none (gathered.Entry t) v r a b c d xs h has = absurd h.0
   close_none (gathered.Key x) (EntryValue y z) r a b c d xs h has =
       let q : MoreValues y (MoreValues z NoValues) ≡ MoreValues (value_tree x) NoValues = has ∙ ap value_trees (sym h.1.trees) in absurd cc
-  close_none (gathered.Key x) (NumberValue k n) r a b c d xs h has = absurd h.0
-  close_none (gathered.Key x) (TextValue k u) r a b c d xs h has = absurd h.0
-  close_none (gathered.Key x) (VariantValue y) r a b c d xs h has = absurd h.0
-  close_none (gathered.Key x) (ArrayValue u ys) r a b c d xs h has = absurd h.0
-  close_none (gathered.Key x) (StructValue ys) r a b c d xs h has = absurd h.0
+  close_none (gathered.Key x) v r a b c d xs h has = absurd h.0
   close_none (gathered.Both e) v r a b c d xs h has = absurd (b e refl)
   close_none (gathered.Fields ts rs) v r a b c d xs h has = absurd (c ts rs refl)
   close_none (gathered.Elements t rs) v r a b c d xs h has = absurd (d t rs refl)
@@ -219,10 +190,5 @@ module _ {A : Type 0} where
   fields_built m vs xs ts rs e h = (subst (λ (n : Gathered A). Holds n (StructValue vs) xs) e h).1
 
   pub only_fields : (m : Gathered A) (vs : ValueTrees) (xs : List ValueTree) → Holds m (StructValue vs) xs → ((ts : Arc (Vec (SigType A) A) A) (rs : Vec (Value A) A) → m ≡ gathered.Fields ts rs → ⊥) → ⊥
-  only_fields gathered.Variant vs xs h n = h.0
-  only_fields (gathered.Held x) vs xs h n = h.0
-  only_fields (gathered.Entry t) vs xs h n = h.0
-  only_fields (gathered.Key x) vs xs h n = h.0
-  only_fields (gathered.Both e) vs xs h n = h.0
   only_fields (gathered.Fields ts rs) vs xs h n = n ts rs refl
-  only_fields (gathered.Elements t rs) vs xs h n = h.0
+  only_fields m vs xs h n = h.0

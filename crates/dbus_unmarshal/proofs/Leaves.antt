@@ -1,59 +1,31 @@
 -- Values that are built where they stand: numbers, texts, arrays of BYTE, and arrays as they open.
-use Rattle.std.proofs.Common.{◌≡◌, ℕ, ◌+◌, ◌-◌, ◌%◌, ◌<◌, List, [], ◌∷◌, ◌++◌, length, get_or, take, drop, replicate, Vec, String, true, false, refl, sym, ap, subst, ◌∙◌, arith, rules}
-use Rattle.std.specs.Prelude.{◌==◌, string_bytes}
-use Rattle.std.proofs.lemmas.Bool.{eqb-true}
-use Rattle.std.proofs.lemmas.List.{take_at}
-use Rattle.dbus_texts.specs.Types.{NumberCode, BYTE, TextCode, STRING, OBJECT_PATH, SIGNATURE, TypeTree, NumberType, TextType, VariantType, ArrayType, StructType, EntryType, number_code, text_code, is_byte}
-use Rattle.dbus_types.specs.Alignments.{width}
+use Rattle.std.proofs.Common.{◌≡◌, ℕ, ◌+◌, ◌-◌, ◌<◌, List, length, get_or, take, drop, Vec, String, not, true, false, refl, sym, ap, subst, ◌∙◌, arith, rules}
+use Rattle.std.specs.Prelude.{string_bytes}
+use Rattle.std.proofs.lemmas.Bool.{and_from}
+use Rattle.dbus_texts.specs.Types.{NumberCode, BYTE, TextCode, TypeTree, NumberType, TextType, number_code, text_code, sig, is_byte}
+use Rattle.dbus_types.specs.Alignments.{width, alignment_of}
+use Rattle.dbus_types.specs.SigTypes.{type_tree}
 use Rattle.dbus_types.specs.SignatureCodes.{first_code}
+use Rattle.dbus_types.specs.declared.sig_type.SigType.{SigType}
 use Rattle.dbus_types.proofs.TypeCodes.{code_is, text_is}
-use Rattle.dbus_value_model.specs.Bytes.{gap_to, low_first, num}
+use Rattle.dbus_value_model.specs.Bytes.{gap_to}
 use Rattle.dbus_value_model.specs.PackedBytes.{keeps_bytes}
 use Rattle.dbus_value_model.specs.Reading.{number_of}
-use Rattle.dbus_value_model.specs.Spelling.{spelling, spellings, contents_start}
+use Rattle.dbus_value_model.specs.Spelling.{contents_start}
 use Rattle.dbus_value_model.specs.ValueViews.{value_tree, byte_values}
-use Rattle.dbus_value_model.specs.Values.{ValueTree, ValueTrees, NumberValue, TextValue, ArrayValue, NoValues, MoreValues, type_of, AllOf, IsNumber, IsWellFormed, AreWellFormed}
+use Rattle.dbus_value_model.specs.Values.{ValueTree, NumberValue, TextValue, ArrayValue, type_of, value_trees, IsNumber, IsWellFormed}
 use Rattle.dbus_value_model.specs.declared.order.Order.{Order}
-use Rattle.dbus_value_model.specs.declared.order.Order.TheVariants.{Little, Big}
-use Rattle.dbus_value_model.specs.declared.value.Value.{Value, Str, Path, Sig, Bytes, the_lemmas}
-use Rattle.dbus_value_model.proofs.ValueRows.{tree-Bytes}
-use Rattle.dbus_walk.specs.Standing.{Stands}
-use Rattle.dbus_walk.proofs.Containers.{ArrayStands, elements_there}
-use Rattle.dbus_walk.proofs.NumberFacts.{number_of_type}
-use Rattle.dbus_walk.proofs.Parts.{NumberStands, TextStands, no_gap}
-use Rattle.dbus_walk.proofs.ReadThere.{byte_code, number_read}
-
--- ---- arrays of BYTE
-
-byte_is : (t : TypeTree) → first_code t ≡ 121 → t ≡ NumberType BYTE
-byte_is (NumberType k) e = ap NumberType (byte_code k e)
-byte_is (TextType STRING) e = absurd (omega arith)
-byte_is (TextType OBJECT_PATH) e = absurd (omega arith)
-byte_is (TextType SIGNATURE) e = absurd (omega arith)
-byte_is VariantType e = absurd (omega arith)
-byte_is (ArrayType u) e = absurd (omega arith)
-byte_is (StructType ts) e = absurd (omega arith)
-byte_is (EntryType k v) e = absurd (omega arith)
-
-one_num : (order : Order) (n : ℕ) → n < 256 → num order 1 n ≡ n ∷ []
-unfolding num low_first
-one_num Little n h = let same : n % 256 ≡ n = omega arith in ap (λ (k : ℕ). k ∷ []) same
-one_num Big n h = let same : n % 256 ≡ n = omega arith in ap (λ (k : ℕ). k ∷ []) same
-
-byte_spelled : (order : Order) (o n : ℕ) → n < 256 → spelling order o (NumberValue BYTE n) ≡ n ∷ []
-unfolding spelling
-byte_spelled order o n h = ap (λ (g : ℕ). replicate g 0 ++ num order 1 n) (no_gap o) ∙ one_num order n h
-
-bytes_are : (order : Order) (depth_left o : ℕ) (xs : ValueTrees) → AllOf (NumberType BYTE) xs → AreWellFormed depth_left xs → byte_values (spellings order o xs) ≡ xs
-unfolding spellings
-bytes_are order depth_left o NoValues all formed = refl
-bytes_are order depth_left o (MoreValues v xs) all formed =
-    let n = number_of_type v BYTE all.0 in
-    let fits : n.0 < 256 = subst (λ (x : ValueTree). IsWellFormed depth_left x) n.1 formed.0 in
-    let one : spelling order o v ≡ n.0 ∷ [] = ap (λ (x : ValueTree). spelling order o x) n.1 ∙ byte_spelled order o n.0 fits in
-    ap (λ (s : List ℕ). byte_values (s ++ spellings order (o + length (spelling order o v)) xs)) one
-    ∙ ap (MoreValues (NumberValue BYTE n.0)) (bytes_are order depth_left (o + length (spelling order o v)) xs all.1 formed.1)
-    ∙ ap (λ (x : ValueTree). MoreValues x xs) (sym n.1)
+use Rattle.dbus_value_model.specs.declared.value.Value.{Value, Str, Path, Sig, Bytes, Array, the_lemmas}
+use Rattle.dbus_value_model.proofs.Fitting.{keeps-Array}
+use Rattle.dbus_value_model.proofs.ValueRows.{tree-Bytes, tree-Array}
+use Rattle.dbus_walk.specs.Standing.{Stands, ElementsStand}
+use Rattle.dbus_walk.specs.Widths.{number_width}
+use Rattle.dbus_walk.specs.declared.spot.Run.{Run}
+use Rattle.dbus_walk.proofs.Containers.{ArrayStands, element_types, array_stands, array_begins, array_counts, elements_there}
+use Rattle.dbus_walk.proofs.Parts.{NumberStands, TextStands, number_is}
+use Rattle.dbus_walk.proofs.ReadThere.{number_read}
+use Rattle.dbus_values.proofs.NumberRuns.{one_byte, comes_aligned, bytes_there}
+use Rattle.dbus_unmarshal.specs.Builds.{IsBuilt, AreBuilt}
 
 module _ {order : Order} {depth_left : ℕ} {types : List ℕ} {at : ℕ} {bytes : List ℕ} {v : ValueTree} {rest : List ℕ} (s : Stands order depth_left types at bytes v rest) where
   coded : first_code (type_of v) ≡ get_or types 0 0
@@ -81,26 +53,59 @@ module _ {order : Order} {depth_left : ℕ} {types : List ℕ} {at : ℕ} {bytes
         let same : p.code ≡ k = cc in
         tree ∙ ap (TextValue k) is ∙ ap (λ (j : TextCode). TextValue j p.text) (sym same) ∙ sym p.is
 
-  -- ---- arrays
+-- ---- arrays
 
-  module _ {A : Type 0} (p : ArrayStands s) where
-    pub bytes_built : (first end : ℕ) (r : Vec ℕ A) → first ≡ contents_start p.type at → end ≡ first + p.n → get_or types 1 0 ≡ 121 → r.items ≡ take (end - first) (drop first bytes) → value_tree {A = A} (Bytes r) ≡ v
-    bytes_built first end r begins ends byte items =
-        let there = elements_there s p first p.n begins refl in
-        let is : p.type ≡ NumberType BYTE = byte_is p.type (p.code ∙ byte) in
-        let all : AllOf (NumberType BYTE) p.xs = subst (λ (t : TypeTree). AllOf t p.xs) is p.all in
-        let long : length (spellings order first p.xs) ≡ end - first = omega (arith, there.ends, ends) in
-        let held : r.items ≡ spellings order first p.xs = items ∙ ap (take (end - first)) there.spelled ∙ take_at (spellings order first p.xs) rest (end - first) long in
-        tree-Bytes r ∙ ap (λ (l : List ℕ). ArrayValue (NumberType BYTE) (byte_values l)) held
-        ∙ ap (ArrayValue (NumberType BYTE)) (bytes_are order (depth_left - 1) first p.xs all there.formed)
-        ∙ ap (λ (t : TypeTree). ArrayValue t p.xs) (sym is) ∙ sym p.is
+pub not_byte : (t : TypeTree) → (number_width t ≡ 1 → ⊥) → is_byte t ≡ false
+not_byte (NumberType BYTE) h = absurd (h refl)
+not_byte t h = search rules
 
-pub not_bytes : (t : TypeTree) (c : ℕ) → first_code t ≡ c → (c == 121) ≡ false → is_byte t ≡ false
-not_bytes (NumberType BYTE) c e differs = let z : (121 == 121) ≡ false = subst (λ (k : ℕ). (k == 121) ≡ false) (sym e) differs in absurd cc
-not_bytes t c e differs = search rules
+-- an array of numbers, whose elements stand up to an end
+module _ {order : Order} {depth_left : ℕ} {types : List ℕ} {at : ℕ} {bytes : List ℕ} {v : ValueTree} {rest : List ℕ} (s : Stands order depth_left types at bytes v rest) (run : Run) (code : get_or types 0 0 ≡ 97)
+    (some : 0 < run.size) (wide : (t : TypeTree) → first_code t ≡ get_or types 1 0 → run.size ≡ number_width t) (begins : run.start ≡ at + gap_to 4 at)
+    (parts : (t : TypeTree) → first_code t ≡ get_or types 1 0 → run.first ≡ run.start + 4 + gap_to (alignment_of t) (run.start + 4)) (ends : run.end ≡ run.first + number_of order (take 4 (drop run.start bytes))) where
+  abbrev p : ArrayStands s
+  p = array_stands s code
 
-pub stroke_is : (c : ℕ) → (c == 121) ≡ true → c ≡ 121
-stroke_is c e = eqb-true c 121 e
+  starts : run.first ≡ contents_start p.type at
+  starts = array_begins s p run.start run.first begins parts
+
+  pub held : ElementsStand order (depth_left - 1) (element_types types) run.first run.end bytes p.xs rest
+  held =
+      subst (λ (k : ℕ). ElementsStand order (depth_left - 1) (element_types types) run.first k bytes p.xs rest) (sym ends)
+      (elements_there s p run.first (number_of order (take 4 (drop run.start bytes))) starts (array_counts s p run.start _ begins refl))
+
+  same_code : get_or (element_types types) 0 0 ≡ get_or types 1 0
+  same_code = sym (code_is p.type (element_types types) p.text) ∙ p.code
+
+  wide_there : (t : TypeTree) → first_code t ≡ get_or (element_types types) 0 0 → run.size ≡ number_width t
+  wide_there t e = wide t (e ∙ same_code)
+
+  number : (t : TypeTree) → sig t ≡ element_types types → (k : NumberCode) × (t ≡ NumberType k) × (width k ≡ run.size)
+  number t text = number_is t run.size some (wide_there t (code_is t (element_types types) text))
+
+  pub aligned : gap_to run.size run.first ≡ 0
+  aligned =
+      let k = number p.type p.text in
+      let from = at + gap_to 4 at + 4 in
+      let first : run.first ≡ from + gap_to (width k.0) from = starts ∙ ap (λ (t : TypeTree). from + gap_to (alignment_of t) from) k.1 in
+      subst (λ (w : ℕ). gap_to w run.first ≡ 0) k.2 (subst (λ (q : ℕ). gap_to (width k.0) q ≡ 0) (sym first) (comes_aligned k.0 from))
+
+  byte_is : run.size ≡ 1 → (t : TypeTree) → sig t ≡ element_types types → t ≡ NumberType BYTE
+  byte_is one t text = let k = number t text in k.1 ∙ ap NumberType (one_byte k.0 (k.2 ∙ one))
+
+  pub bytes_built : {A : Type 0} (r : Vec ℕ A) → run.size ≡ 1 → r.items ≡ take (run.end - run.first) (drop run.first bytes) → value_tree {A = A} (Bytes r) ≡ v
+  bytes_built r one items =
+      tree-Bytes r ∙ ap (λ (l : List ℕ). ArrayValue (NumberType BYTE) (byte_values l)) items
+      ∙ ap (ArrayValue (NumberType BYTE)) (sym (bytes_there held (byte_is one held.type held.text)))
+      ∙ ap (λ (t : TypeTree). ArrayValue t p.xs) (sym (byte_is one p.type p.text)) ∙ sym p.is
+
+  pub numbers_built : {A : Type 0} (t : SigType A) (rs : Vec (Value A) A) (xs : List ValueTree) → (run.size ≡ 1 → ⊥) → (type_tree t ≡ p.type) → p.xs ≡ value_trees xs → AreBuilt xs rs.items → IsBuilt v (Array t rs)
+  numbers_built t rs xs wider fit are built =
+      let no_byte : is_byte (type_tree t) ≡ false = not_byte (type_tree t) (λ e. wider (wide p.type p.code ∙ ap number_width (sym fit) ∙ e)) in
+      record {
+        tree = tree-Array t rs ∙ ap (λ (l : List ValueTree). ArrayValue (type_tree t) (value_trees l)) built.trees ∙ ap (ArrayValue (type_tree t)) (sym are) ∙ ap (λ (u : TypeTree). ArrayValue u p.xs) fit ∙ sym p.is;
+        packed = keeps-Array t rs ∙ and_from _ _ (ap not no_byte) built.packed;
+      }
 
 -- ---- these hold no array whose elements are kept one by one
 

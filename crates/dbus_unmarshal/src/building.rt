@@ -1,13 +1,13 @@
 //! Values built from where they stand. D-Bus Specification, "Marshaling (Wire Format)".
 #![tactic(auto)]
 
-ghost use Rattle.std.specs.Prelude.{◌≡◌, ◌==◌};
+ghost use Rattle.std.specs.Prelude.{◌≡◌, nat_lt};
 ghost use Rattle.dbus_types.specs.SigTypes.{type_tree};
 ghost use Rattle.dbus_unmarshal.specs.Builds.{Makes, Opens, Gathers, Closes, Pushes};
 ghost use Rattle.dbus_unmarshal.specs.BuildLaws.{none_gathered, more_gathered, whole_built};
 
 use crate::gathered::{Builder, Gathered};
-use crate::numbers::number_at;
+use crate::numbers::{number_at, numbers_up_to};
 use crate::opening::field_type;
 use dbus_value_model::{DictEntry, Value};
 use dbus_walk::{Container, Run, Source, Spot, Visitor, text_in};
@@ -22,7 +22,7 @@ impl<A: Allocator + Copy> Visitor for Builder<A> {
 
     ghost ready = { λ _ _. Unit {0} };
 
-    ghost strokes = { λ code _. code == 121 };
+    ghost strokes = { λ _ size. nat_lt 0 size };
 
     ghost one = { λ s _ _ v r _. Makes (type_tree s.wanted) v r };
 
@@ -37,10 +37,10 @@ impl<A: Allocator + Copy> Visitor for Builder<A> {
     ghost pushes = { λ _ m r later t. Pushes m r later (type_tree t.wanted) };
 
     #[inline]
-    fn at_one_stroke(code: u8, _size: u8) -> bool
-        ensures { result ≡ (code == 121) }
+    fn at_one_stroke(_code: u8, size: u8) -> bool
+        ensures { result ≡ nat_lt 0 size }
     {
-        code == b'y'
+        size > 0
     }
 
     #[inline]
@@ -81,11 +81,23 @@ impl<A: Allocator + Copy> Visitor for Builder<A> {
     fn whole_array(
         &mut self,
         source: &Source<'_>,
-        _spot: &Spot<'_>,
+        spot: &Spot<'_>,
         run: Run,
     ) -> Result<Value<A>, AllocError> {
-        let bytes = Vec::from_slice(self.alloc, &source.bytes[run.first..run.end])?;
-        Ok(Value::Bytes(bytes))
+        // Of all numbers only a BYTE has one byte.
+        if run.size == 1 {
+            let bytes = Vec::from_slice(self.alloc, &source.bytes[run.first..run.end])?;
+            return Ok(Value::Bytes(bytes));
+        }
+        let item = self.element_type()?;
+        let held = Spot {
+            at: run.first,
+            types: &spot.types[1..],
+            lengths: &[],
+            depth_left: spot.depth_left - 1,
+        };
+        let values = numbers_up_to(self.alloc, source, &held, run.end, run.size)?;
+        Ok(Value::Array(item, values))
     }
 
     fn open_array(

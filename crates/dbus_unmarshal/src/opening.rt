@@ -3,7 +3,7 @@
 
 ghost use Rattle.std.specs.Prelude.{◌≡◌, false, IfOk};
 ghost use Rattle.dbus_texts.specs.Kinds.{IsKind};
-ghost use Rattle.dbus_texts.specs.Types.{TypeTree, is_byte, sigs};
+ghost use Rattle.dbus_texts.specs.Types.{TypeTree, ArrayType, is_byte, sigs};
 ghost use Rattle.dbus_texts.specs.declared.text_kind.TextKind.TheVariants.{Single};
 ghost use Rattle.dbus_types.specs.SigTypes.{type_tree, type_trees_of};
 ghost use Rattle.dbus_value_model.specs.Values.{ValueTree, ValueTrees, ArrayValue, types_of};
@@ -70,16 +70,23 @@ impl<A: Allocator + Copy> Builder<A> {
         Ok(Gathered::Entry(second))
     }
 
+    /// The type of the elements of the array that is wanted. If none is wanted, it may be any.
+    pub(crate) fn element_type(&self) -> Result<SigType<A>, AllocError>
+        ensures { IfOk result (λ t. (u : TypeTree) → type_tree self.now.wanted ≡ ArrayType u →
+            type_tree t ≡ u) }
+    {
+        match &self.wanted {
+            SigType::Array(element) => SigType::clone(element),
+            _ => Ok(SigType::Byte),
+        }
+    }
+
     /// An array opens, whose elements are not of BYTE. They have so many bytes.
     pub(crate) fn open_elements(&mut self, size: usize) -> Result<Gathered<A>, AllocError>
         ensures { (u : TypeTree) (xs : ValueTrees) → is_byte u ≡ false →
             IfOk result (λ m. Opens (type_tree self.old.wanted) (ArrayValue u xs) m (type_tree self.new.wanted)) }
     {
-        let SigType::Array(element) = &self.wanted else {
-            // The type that is wanted is an array's.
-            return Ok(Gathered::Variant);
-        };
-        let item = SigType::clone(element)?;
+        let item = self.element_type()?;
         let values = Vec::with_capacity(self.alloc, first_room(&item, size))?;
         self.wanted = item.clone()?;
         Ok(Gathered::Elements(item, values))

@@ -1,6 +1,8 @@
 use Rattle.std.proofs.Common.{arith}
+use Rattle.std.proofs.lemmas.Bool.{ltb-false}
+use Rattle.dbus_walk.specs.Widths.{number_width}
 use Rattle.dbus_walk.proofs.Containers.{array_stands}
-use Rattle.dbus_unmarshal.proofs.Leaves.{not_bytes}
+use Rattle.dbus_unmarshal.proofs.Leaves.{not_byte}
 use Rattle.dbus_unmarshal.proofs.building.BuilderVisitor.open_array.Goals as goal
 
 pub u32_at-size-requires : goal.u32_at-size-requires
@@ -9,4 +11,4 @@ u32_at-size-requires g c = let p = array_stands c.requires.stands.2 c.requires.c
 pub returns-clause-takes : goal.returns-clause-takes
 returns-clause-takes g c = λ v rest s.
     let p = array_stands s c.requires.code in
-    rw p.is (c.open_elements.ensures p.type p.xs (not_bytes p.type _ p.code (c.requires.listed p.type p.code)))
+    rw p.is (c.open_elements.ensures p.type p.xs (not_byte p.type (λ one. omega (arith, one, ltb-false 0 (number_width p.type) (c.requires.listed p.type p.code)))))

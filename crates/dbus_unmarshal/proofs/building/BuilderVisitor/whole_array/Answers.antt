@@ -1,21 +1,45 @@
-use Rattle.std.proofs.Common.{ℕ, ◌+◌, get_or, refl, ap, ◌∙◌, arith}
-use Rattle.dbus_walk.proofs.Containers.{array_stands, array_begins, array_counts}
-use Rattle.dbus_unmarshal.proofs.Leaves.{bytes_built, stroke_is, keeps-Bytes}
+use Rattle.std.proofs.Common.{arith, ap, ◌∙◌}
+use Rattle.std.proofs.lemmas.Bool.{ltb-true}
+use Rattle.dbus_value_model.specs.Values.{type_of}
+use Rattle.dbus_walk.proofs.Containers.{array_stands}
+use Rattle.dbus_values.proofs.NumberRuns.{elements_within}
+use Rattle.dbus_unmarshal.proofs.Leaves.{held, aligned, bytes_built, numbers_built, keeps-Bytes}
 use Rattle.dbus_unmarshal.proofs.building.BuilderVisitor.whole_array.Goals as goal
 
 pub slice_bounds-from_slice-end : goal.slice_bounds-from_slice-end
 slice_bounds-from_slice-end g c =
-    let s = c.requires.stands.2 in
-    let p = array_stands s c.requires.code in
-    let begins = array_begins s p c.args.run.start c.args.run.first c.requires.begins c.requires.parts in
-    let counts = array_counts s p c.args.run.start _ c.requires.begins refl in
-    omega (arith, p.inside, begins, counts, c.requires.ends)
+    let r = c.requires in
+    omega (arith, elements_within (held r.stands.2 c.args.run r.code (ltb-true 0 c.args.run.size r.stroke) r.wide r.begins r.parts r.ends))
+
+pub returns-then-run-eq1-clause-takes : goal.returns-then-run-eq1-clause-takes
+returns-then-run-eq1-clause-takes g c = λ v rest s.
+    let r = c.requires in
+    λ formed typed. record {
+      tree = bytes_built s c.args.run r.code (ltb-true 0 c.args.run.size r.stroke) r.wide r.begins r.parts r.ends c.in_ok-bytes.bytes c.if-run-eq1.true c.in_ok-bytes.ensures.items;
+      packed = keeps-Bytes c.in_ok-bytes.bytes;
+    }
+
+pub overflow_sub-held : goal.overflow_sub-held
+overflow_sub-held g c = let p = array_stands c.requires.stands.2 c.requires.code in omega (arith, p.some)
+
+pub slice_bounds-held-start : goal.slice_bounds-held-start
+slice_bounds-held-start g c = let p = array_stands c.requires.stands.2 c.requires.code in omega (arith, p.long)
+
+pub numbers_up_to-requires-clause-stand : goal.numbers_up_to-requires-clause-stand
+numbers_up_to-requires-clause-stand g c =
+    let r = c.requires in
+    ((array_stands r.stands.2 r.code).xs, r.stands.1, held r.stands.2 c.args.run r.code (ltb-true 0 c.args.run.size r.stroke) r.wide r.begins r.parts r.ends)
+
+pub numbers_up_to-requires-clause-aligned : goal.numbers_up_to-requires-clause-aligned
+numbers_up_to-requires-clause-aligned g c =
+    let r = c.requires in
+    aligned r.stands.2 c.args.run r.code (ltb-true 0 c.args.run.size r.stroke) r.wide r.begins r.parts r.ends
 
 pub returns-clause-takes : goal.returns-clause-takes
 returns-clause-takes g c = λ v rest s.
-    let p = array_stands s c.requires.code in
+    let r = c.requires in
     let run = c.args.run in
-    let begins = array_begins s p run.start run.first c.requires.begins c.requires.parts in
-    let ends = c.requires.ends ∙ ap (λ (k : ℕ). run.first + k) (array_counts s p run.start _ c.requires.begins refl) in
-    let byte = stroke_is (get_or c.args._spot.now.types.now 1 0) c.requires.stroke in
-    λ formed typed. record { tree = bytes_built s p run.first run.end c.in_ok-bytes.bytes begins ends byte c.in_ok-bytes.ensures.items; packed = keeps-Bytes c.in_ok-bytes.bytes }
+    let some = ltb-true 0 run.size r.stroke in
+    let p = array_stands s r.code in
+    let made = c.in_ok-values.ensures p.xs rest (held s run r.code some r.wide r.begins r.parts r.ends) in
+    λ formed typed. numbers_built s run r.code some r.wide r.begins r.parts r.ends c.in_ok-item.item c.in_ok-values.values made.0 c.if-run-eq1.false (c.in_ok-item.ensures p.type (typed ∙ ap type_of p.is)) made.1 made.2
