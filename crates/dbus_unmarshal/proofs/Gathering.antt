@@ -162,29 +162,14 @@ module _ {A : Type 0} where
   close_none (gathered.Fields ts rs) v r a b c d xs h has = absurd (c ts rs refl)
   close_none (gathered.Elements t rs) v r a b c d xs h has = absurd (d t rs refl)
 
-  -- ---- a value, and the offset after it
-
-  module _ {E : Type 0} (x : Result (Value A × ℕ) E) (wanted : TypeTree) (v : ValueTree) (n : ℕ) (formed : IsFormed v) (typed : wanted ≡ type_of v) where
-    pub value_made : IfOk x (λ r. Makes wanted v r.0 × (r.1 ≡ n)) → IfOk x (λ r. (value_tree r.0 ≡ v) × (r.1 ≡ n))
-    value_made = of x
-      where
-        of : (x : Result (Value A × ℕ) E) → IfOk x (λ r. Makes wanted v r.0 × (r.1 ≡ n)) → IfOk x (λ r. (value_tree r.0 ≡ v) × (r.1 ≡ n))
-        of (Ok r) h = ((h.0 formed typed).tree, h.1)
-        of (Err e) h = tt
-
-    pub value_packed : IfOk x (λ r. Makes wanted v r.0 × (r.1 ≡ n)) → IfOk x (λ r. IsTrue (keeps_bytes r.0))
-    value_packed = of x
-      where
-        of : (x : Result (Value A × ℕ) E) → IfOk x (λ r. Makes wanted v r.0 × (r.1 ≡ n)) → IfOk x (λ r. IsTrue (keeps_bytes r.0))
-        of (Ok r) h = (h.0 formed typed).packed
-        of (Err e) h = tt
-
   -- ---- values one after another, as if they were the fields of a struct
 
-  pub all_gathered : (wanted next : TypeTree) (m : Gathered A) (vs : ValueTrees) (xs : List ValueTree) (ts : Arc (Vec (SigType A) A) A) (depth_left : Vec (Value A) A) → depth_left.items ≡ [] → vs ≡ value_trees xs → type_trees_of ts.value.items ≡ types_of vs
-      → IsFieldType (type_trees_of ts.value.items) 0 wanted → (depth : ℕ) → AreWellFormed depth vs → Gathers wanted (gathered.Fields ts depth_left) xs m next → Holds m (StructValue vs) xs
-  all_gathered wanted next m vs xs ts depth_left none is fit field depth formed many =
-      (many (StructValue vs) [] [] (suc depth, formed) (is ∙ ap value_trees (sym (append-nil xs))) (fit, none_built none) (λ x us there. field [] x us refl (fit ∙ ap types_of there))).0
+  pub all_gathered : {wanted next : TypeTree} (m : Gathered A) {vs : ValueTrees} (xs : List ValueTree) (ts : Arc (Vec (SigType A) A) A) (types : Vec (SigType A) A) {given : List (SigType A)} (list : Vec (Value A) A) {text : List ℕ} (depth : ℕ) → ts.value ≡ types → given ≡ types.items → list.items ≡ []
+      → sigs (type_trees_of types.items) ≡ text → IsFieldType (type_trees_of given) 0 wanted → sigs (types_of vs) ≡ text → AreWellFormed depth vs → vs ≡ value_trees xs → Gathers wanted (gathered.Fields ts list) xs m next → Holds m (StructValue vs) xs
+  all_gathered {wanted} m {vs} xs ts types list depth own is none spelled first text formed are many =
+      let fit : type_trees_of ts.value.items ≡ types_of vs = ap (λ (l : Vec (SigType A) A). type_trees_of l.items) own ∙ same_types (type_trees_of types.items) (types_of vs) _ spelled text in
+      let field : IsFieldType (type_trees_of ts.value.items) 0 wanted = subst (λ (l : List (SigType A)). IsFieldType (type_trees_of l) 0 wanted) (is ∙ ap (λ (l : Vec (SigType A) A). l.items) (sym own)) first in
+      (many (StructValue vs) [] [] (suc depth, formed) (are ∙ ap value_trees (sym (append-nil xs))) (fit, none_built none) (λ x us there. field [] x us refl (fit ∙ ap types_of there))).0
 
   pub fields_built : (m : Gathered A) (vs : ValueTrees) (xs : List ValueTree) (ts : Arc (Vec (SigType A) A) A) (rs : Vec (Value A) A) → m ≡ gathered.Fields ts rs → Holds m (StructValue vs) xs → AreBuilt xs rs.items
   fields_built m vs xs ts rs e h = (subst (λ (n : Gathered A). Holds n (StructValue vs) xs) e h).1

@@ -9,13 +9,12 @@ use Rattle.dbus_types.specs.SignatureCodes.{first_code}
 use Rattle.dbus_types.specs.declared.sig_type.SigType.{SigType}
 use Rattle.dbus_types.proofs.TypeCodes.{code_is, text_is}
 use Rattle.dbus_value_model.specs.Bytes.{gap_to}
-use Rattle.dbus_value_model.specs.PackedBytes.{keeps_bytes}
 use Rattle.dbus_value_model.specs.Reading.{number_of}
 use Rattle.dbus_value_model.specs.Spelling.{contents_start}
 use Rattle.dbus_value_model.specs.ValueViews.{value_tree, byte_values}
 use Rattle.dbus_value_model.specs.Values.{ValueTree, NumberValue, TextValue, ArrayValue, type_of, value_trees, IsNumber, IsWellFormed}
 use Rattle.dbus_value_model.specs.declared.order.Order.{Order}
-use Rattle.dbus_value_model.specs.declared.value.Value.{Value, Str, Path, Sig, Bytes, Array, the_lemmas}
+use Rattle.dbus_value_model.specs.declared.value.Value.{Value, Bytes, Array}
 use Rattle.dbus_value_model.proofs.Fitting.{keeps-Array}
 use Rattle.dbus_value_model.proofs.ValueRows.{tree-Bytes, tree-Array}
 use Rattle.dbus_walk.specs.Standing.{Stands, ElementsStand}
@@ -106,17 +105,3 @@ module _ {order : Order} {depth_left : ℕ} {types : List ℕ} {at : ℕ} {bytes
         tree = tree-Array t rs ∙ ap (λ (l : List ValueTree). ArrayValue (type_tree t) (value_trees l)) built.trees ∙ ap (ArrayValue (type_tree t)) (sym are) ∙ ap (λ (u : TypeTree). ArrayValue u p.xs) fit ∙ sym p.is;
         packed = keeps-Array t rs ∙ and_from _ _ (ap not no_byte) built.packed;
       }
-
--- ---- these hold no array whose elements are kept one by one
-
-pub keeps-Str : {A : Type 0} (t : String A) → keeps_bytes {A = A} (Str t) ≡ true
-keeps-Str t = search (rules, the_lemmas)
-
-pub keeps-Path : {A : Type 0} (t : String A) → keeps_bytes {A = A} (Path t) ≡ true
-keeps-Path t = search (rules, the_lemmas)
-
-pub keeps-Sig : {A : Type 0} (t : String A) → keeps_bytes {A = A} (Sig t) ≡ true
-keeps-Sig t = search (rules, the_lemmas)
-
-pub keeps-Bytes : {A : Type 0} (bs : Vec ℕ A) → keeps_bytes {A = A} (Bytes bs) ≡ true
-keeps-Bytes bs = search (rules, the_lemmas)

@@ -19,7 +19,7 @@ use dbus_walk::{Source, Spot};
 use std::alloc::{AllocError, Allocator};
 
 /// The number that begins at `start`, of the type that has this code.
-#[inline]
+#[inline(always)]
 pub(crate) fn number_at<A: Allocator>(source: &Source<'_>, start: usize, code: u8) -> Value<A>
     requires inside { (k : NumberCode) → number_code k ≡ code → start + width k ≤ length source.now.bytes.now }
     requires known { (k : NumberCode) × (number_code k ≡ code) }

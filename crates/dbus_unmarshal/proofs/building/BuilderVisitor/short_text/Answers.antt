@@ -1,9 +1,10 @@
-use Rattle.std.proofs.Common.{◌+◌, ◌∙◌, arith}
+use Rattle.std.proofs.Common.{◌+◌, ◌∙◌, arith, rules}
 use Rattle.dbus_texts.specs.Types.{SIGNATURE}
 use Rattle.dbus_value_model.proofs.ValueRows.{tree-Sig}
 use Rattle.dbus_walk.proofs.Parts.{no_gap, short_stands, short_counts}
 use Rattle.dbus_walk.proofs.ReadThere.{text_there, text_utf8}
-use Rattle.dbus_unmarshal.proofs.Leaves.{text_built, keeps-Sig}
+use Rattle.dbus_value_model.specs.declared.value.Value.{the_lemmas}
+use Rattle.dbus_unmarshal.proofs.Leaves.{text_built}
 use Rattle.dbus_unmarshal.proofs.building.BuilderVisitor.short_text.Goals as goal
 
 pub overflow_add-spot : goal.overflow_add-spot
@@ -22,4 +23,4 @@ returns-clause-takes g c = λ v rest s.
     let p = short_stands s c.requires.code in
     let at = c.args.spot.now.at in
     let is = c.in_ok-text.ensures.ok ∙ c.text_in.ensures ∙ text_there s 1 p (at + 1) c.args.size (omega (arith, no_gap at)) (c.requires.counts ∙ (short_counts s p).0) in
-    λ formed typed. record { tree = text_built s p SIGNATURE c.in_ok-text.text _ c.requires.code is (tree-Sig c.in_ok-text.text); packed = keeps-Sig c.in_ok-text.text }
+    λ formed typed. record { tree = text_built s p SIGNATURE c.in_ok-text.text _ c.requires.code is (tree-Sig c.in_ok-text.text); packed = search (rules, the_lemmas) }

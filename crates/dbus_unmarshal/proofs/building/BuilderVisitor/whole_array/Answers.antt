@@ -1,9 +1,10 @@
-use Rattle.std.proofs.Common.{arith, ap, ◌∙◌}
+use Rattle.std.proofs.Common.{arith, ap, ◌∙◌, rules}
 use Rattle.std.proofs.lemmas.Bool.{ltb-true}
 use Rattle.dbus_value_model.specs.Values.{type_of}
 use Rattle.dbus_walk.proofs.Containers.{array_stands}
 use Rattle.dbus_values.proofs.NumberRuns.{elements_within}
-use Rattle.dbus_unmarshal.proofs.Leaves.{held, aligned, bytes_built, numbers_built, keeps-Bytes}
+use Rattle.dbus_value_model.specs.declared.value.Value.{the_lemmas}
+use Rattle.dbus_unmarshal.proofs.Leaves.{held, aligned, bytes_built, numbers_built}
 use Rattle.dbus_unmarshal.proofs.building.BuilderVisitor.whole_array.Goals as goal
 
 pub slice_bounds-from_slice-end : goal.slice_bounds-from_slice-end
@@ -16,7 +17,7 @@ returns-then-run-eq1-clause-takes g c = λ v rest s.
     let r = c.requires in
     λ formed typed. record {
       tree = bytes_built s c.args.run r.code (ltb-true 0 c.args.run.size r.stroke) r.wide r.begins r.parts r.ends c.in_ok-bytes.bytes c.if-run-eq1.true c.in_ok-bytes.ensures.items;
-      packed = keeps-Bytes c.in_ok-bytes.bytes;
+      packed = search (rules, the_lemmas);
     }
 
 pub overflow_sub-held : goal.overflow_sub-held
