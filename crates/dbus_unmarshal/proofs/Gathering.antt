@@ -1,5 +1,5 @@
 -- A container opens, its parts are gathered one after another, and it is built of them.
-use Rattle.std.proofs.Common.{◌≡◌, ℕ, zero, suc, ◌<◌, List, [], ◌∷◌, ◌++◌, length, get_or, map, Vec, not, false, IsTrue, Result, Ok, Err, IfOk, append-nil, refl, sym, ap, subst, ◌∙◌, arith}
+use Rattle.std.proofs.Common.{◌≡◌, ℕ, zero, suc, ◌<◌, List, [], ◌∷◌, ◌++◌, length, get_or, map, Box, Vec, not, false, IsTrue, Result, Ok, Err, IfOk, append-nil, refl, sym, ap, subst, ◌∙◌, arith}
 use Rattle.std.proofs.lemmas.Bool.{and_from}
 use Rattle.std.specs.declared.sync.Arc.{Arc}
 use Rattle.std.proofs.lemmas.List.{map_push, length-map}
@@ -148,7 +148,7 @@ module _ {A : Type 0} where
       of v xs h has = absurd h.0
 
   -- what has no part yet, or a key alone, is not all of a container
-  pub close_none : (m : Gathered A) (v : ValueTree) (r : Value A) → ((x : Value A) → m ≡ gathered.Held x → ⊥) → ((e : DictEntry A) → m ≡ gathered.Both e → ⊥)
+  pub close_none : (m : Gathered A) (v : ValueTree) (r : Value A) → ((x : Value A) → m ≡ gathered.Held x → ⊥) → ((e : Box (DictEntry A) A) → m ≡ gathered.Both e → ⊥)
       → ((ts : Arc (Vec (SigType A) A) A) (rs : Vec (Value A) A) → m ≡ gathered.Fields ts rs → ⊥) → ((t : SigType A) (rs : Vec (Value A) A) → m ≡ gathered.Elements t rs → ⊥) → Closes m v r
   close_none gathered.Variant (VariantValue y) r a b c d xs h has = let z : MoreValues y NoValues ≡ NoValues = has ∙ ap value_trees h.1 in absurd cc
   close_none gathered.Variant v r a b c d xs h has = absurd h.0

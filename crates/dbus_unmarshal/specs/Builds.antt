@@ -58,7 +58,7 @@ Holds gathered.Variant v done = IsVariant v × (done ≡ [])
 Holds (gathered.Held x) v done = IsVariant v × AreBuilt done (x ∷ [])
 Holds (gathered.Entry t) v done = IsEntryOf (type_tree t) v × (done ≡ [])
 Holds (gathered.Key x) v done = IsEntry v × AreBuilt done (x ∷ [])
-Holds (gathered.Both e) v done = IsEntry v × AreBuilt done (e.key ∷ e.value ∷ [])
+Holds (gathered.Both e) v done = IsEntry v × AreBuilt done (e.value.key ∷ e.value.value ∷ [])
 Holds (gathered.Fields ts rs) v done = IsStructOf (type_trees_of ts.value.items) v × AreBuilt done rs.items
 Holds (gathered.Elements t rs) v done = IsArrayOf (type_tree t) v × AreBuilt done rs.items
 

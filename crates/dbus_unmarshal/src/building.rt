@@ -133,7 +133,7 @@ impl<A: Allocator + Copy> Visitor for Builder<A> {
     ) -> Result<Value<A>, AllocError> {
         match gathered {
             Gathered::Held(value) => Ok(Value::Variant(Box::new(self.alloc, value)?)),
-            Gathered::Both(entry) => Ok(Value::Entry(Box::new(self.alloc, entry)?)),
+            Gathered::Both(entry) => Ok(Value::Entry(entry)),
             Gathered::Fields(_, values) => Ok(Value::Struct(values)),
             Gathered::Elements(item, values) => Ok(Value::Array(item, values)),
             // All parts of a container are gathered where it closes.
@@ -157,7 +157,10 @@ impl<A: Allocator + Copy> Visitor for Builder<A> {
                 self.wanted = value;
                 Ok(Gathered::Key(made))
             }
-            Gathered::Key(key) => Ok(Gathered::Both(DictEntry { key, value: made })),
+            Gathered::Key(key) => {
+                let entry = DictEntry { key, value: made };
+                Ok(Gathered::Both(Box::new(self.alloc, entry)?))
+            }
             Gathered::Fields(types, mut values) => {
                 values.push(made)?;
                 self.wanted = field_type(&types, values.len())?;

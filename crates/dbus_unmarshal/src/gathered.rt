@@ -27,8 +27,8 @@ pub(crate) enum Gathered<A: Allocator> {
     Entry(SigType<A>),
     /// The key of a dict entry.
     Key(Value<A>),
-    /// The key and the value of a dict entry.
-    Both(DictEntry<A>),
+    /// The key and the value of a dict entry, on the heap as the value takes them: so what is moved stays small.
+    Both(Box<DictEntry<A>, A>),
     /// The types of a struct's fields, and the fields.
     Fields(Arc<Vec<SigType<A>, A>, A>, Vec<Value<A>, A>),
     /// The type of an array's elements, and the elements.
