@@ -1,14 +1,14 @@
 -- Variants and arrays that stand in the bytes, taken apart.
-use Rattle.std.proofs.Common.{◌≡◌, ℕ, zero, suc, ◌+◌, ◌-◌, ◌^◌, ◌<◌, ◌≤◌, List, [], ◌∷◌, ◌++◌, length, get_or, take, drop, true, refl, sym, ap, subst, ◌∙◌, arith, append_assoc}
+use Rattle.std.proofs.Common.{◌≡◌, ℕ, zero, suc, ◌+◌, ◌-◌, ◌^◌, ◌<◌, ◌≤◌, List, [], ◌∷◌, ◌++◌, length, get_or, take, drop, refl, sym, ap, subst, ◌∙◌, arith, append_assoc}
 use Rattle.std.proofs.lemmas.List.{length-append, length-replicate, take_at}
-use Rattle.dbus_texts.specs.Types.{TypeTree, VariantType, ArrayType, sig, IsShaped, IsSingleType}
+use Rattle.dbus_texts.specs.Types.{TypeTree, VariantType, ArrayType, sig, IsSingleType}
 use Rattle.dbus_texts.proofs.TypeTexts.{sig_positive}
 use Rattle.dbus_types.specs.Alignments.{alignment_of}
 use Rattle.dbus_value_model.specs.Bytes.{gap_to, pad, num}
 use Rattle.dbus_value_model.specs.Reading.{number_of}
 use Rattle.dbus_value_model.specs.declared.order.Order.{Order}
 use Rattle.dbus_value_model.specs.Spelling.{spelling, spellings, contents_start, ended_text, IsWithinLimits}
-use Rattle.dbus_value_model.specs.Values.{ValueTree, ValueTrees, NumberValue, TextValue, VariantValue, ArrayValue, StructValue, EntryValue, type_of, AllOf, IsWellFormed, AreWellFormed}
+use Rattle.dbus_value_model.specs.Values.{ValueTree, ValueTrees, VariantValue, ArrayValue, type_of, AllOf, IsWellFormed, AreWellFormed}
 use Rattle.dbus_value_model.proofs.Numbers.{length-num}
 use Rattle.dbus_value_laws.proofs.ReadSteps.{one_byte}
 use Rattle.dbus_value_laws.proofs.ValueSteps.{single_shaped}

@@ -6,8 +6,8 @@ use Rattle.dbus_types.specs.Alignments.{length_width, alignment_of}
 use Rattle.dbus_types.specs.SignatureCodes.{first_code}
 use Rattle.dbus_value_model.specs.Bytes.{gap_to}
 use Rattle.dbus_value_model.specs.Reading.{number_of}
-use Rattle.dbus_value_model.specs.Spelling.{spelling, spellings}
-use Rattle.dbus_value_model.specs.Values.{ValueTree, ValueTrees, NoValues, MoreValues, NumberValue, TextValue, VariantValue, ArrayValue, StructValue, EntryValue, IsWellFormed}
+use Rattle.dbus_value_model.specs.Spelling.{spellings}
+use Rattle.dbus_value_model.specs.Values.{ValueTree, NoValues, MoreValues}
 use Rattle.dbus_walk.specs.declared.container.Container.TheVariants as kind
 use Rattle.dbus_walk.specs.declared.spot.Layout.{Layout}
 use Rattle.dbus_walk.specs.declared.spot.Source.{Source}

@@ -1,14 +1,14 @@
 -- Values that stand in the bytes, taken apart: numbers and texts.
 use Rattle.std.proofs.Common.{◌≡◌, ℕ, ◌+◌, ◌^◌, ◌<◌, ◌≤◌, List, [], ◌∷◌, ◌++◌, length, get_or, take, drop, refl, sym, ap, subst, ◌∙◌, arith, append_assoc, ◌⊎◌, inl, inr}
 use Rattle.std.proofs.lemmas.List.{length-append, length-replicate}
-use Rattle.dbus_texts.specs.Types.{NumberCode, BYTE, BOOLEAN, INT16, UINT16, INT32, UINT32, INT64, UINT64, DOUBLE, UNIX_FD, TextCode, STRING, OBJECT_PATH, SIGNATURE, TypeTree, NumberType, TextType, VariantType, ArrayType, StructType, EntryType}
+use Rattle.dbus_texts.specs.Types.{NumberCode, BYTE, TextCode, STRING, OBJECT_PATH, SIGNATURE, TypeTree, NumberType, TextType, VariantType, ArrayType, StructType, EntryType}
 use Rattle.dbus_texts.proofs.TypeTexts.{sig_positive}
 use Rattle.dbus_types.specs.Alignments.{width, length_width}
 use Rattle.dbus_value_model.specs.Bytes.{gap_to, pad, num}
 use Rattle.dbus_value_model.specs.Reading.{number_of}
 use Rattle.dbus_value_model.specs.declared.order.Order.{Order}
 use Rattle.dbus_value_model.specs.Spelling.{spelling}
-use Rattle.dbus_value_model.specs.Values.{ValueTree, NumberValue, TextValue, VariantValue, ArrayValue, StructValue, EntryValue, type_of, IsWellFormed}
+use Rattle.dbus_value_model.specs.Values.{ValueTree, NumberValue, TextValue, type_of, IsWellFormed}
 use Rattle.dbus_value_model.proofs.Numbers.{length-num}
 use Rattle.dbus_value_laws.proofs.ReadSteps.{one_byte}
 use Rattle.dbus_types.specs.SignatureCodes.{first_code}

@@ -2,7 +2,7 @@
 use Rattle.std.proofs.Common.{◌≡◌, ℕ, ◌+◌, ◌-◌, ◌^◌, ◌<◌, List, [], ◌∷◌, ◌++◌, length, take, drop, take_all, IsUtf8, refl, sym, ap, subst, ◌∙◌, arith, append_assoc}
 use Rattle.std.proofs.lemmas.List.{length-append, length-replicate, take_at}
 use Rattle.dbus_texts.specs.Kinds.{IsKind}
-use Rattle.dbus_texts.specs.Types.{NumberCode, BYTE, BOOLEAN, INT16, UINT16, INT32, UINT32, INT64, UINT64, DOUBLE, UNIX_FD, TextCode, STRING, OBJECT_PATH, SIGNATURE, number_code}
+use Rattle.dbus_texts.specs.Types.{NumberCode, BYTE, BOOLEAN, TextCode, STRING, OBJECT_PATH, SIGNATURE, number_code}
 use Rattle.dbus_texts.specs.declared.text_kind.TextKind.TheVariants.{Text, Path, Signature}
 use Rattle.dbus_texts.proofs.KindFacts.{text_utf8 as utf8_of, kind_is, is_kind_of, path_is_text}
 use Rattle.dbus_types.specs.Alignments.{width}

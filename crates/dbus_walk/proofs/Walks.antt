@@ -9,7 +9,6 @@ use Rattle.dbus_value_model.specs.Values.{ValueTree, ValueTrees, NoValues, MoreV
 use Rattle.dbus_types.specs.SignatureCodes.{IsTypeEnd}
 use Rattle.dbus_walk.specs.Standing.{Stands, AllStand, ElementsStand}
 use Rattle.dbus_walk.specs.Containers.{is_none}
-use Rattle.dbus_walk.proofs.Seams.{stands_positive}
 use Rattle.dbus_walk.proofs.Lists.{FirstElement, element_of, no_elements, first_value, other_values}
 
 -- values before others
