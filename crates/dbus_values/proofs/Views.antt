@@ -1,7 +1,7 @@
 -- How values are seen where they stand.
-use Rattle.std.proofs.Common.{◌≡◌, ℕ, ◌+◌, ◌-◌, ◌≤◌, List, [], ◌∷◌, ◌++◌, length, get_or, take, false, take_all, drop, IsUtf8, refl, sym, ap, subst, ◌∙◌, arith, ◌⊎◌, inl, inr}
-use Rattle.std.proofs.lemmas.List.{append-nil, length-append, length-drop}
-use Rattle.dbus_texts.specs.Types.{NumberCode, BYTE, TextCode, STRING, OBJECT_PATH, SIGNATURE, TypeTree, NumberType, TextType, number_code, text_code, sig, sigs, IsShaped}
+use Rattle.std.proofs.Common.{◌≡◌, ℕ, ◌+◌, ◌-◌, ◌≤◌, List, ◌∷◌, ◌++◌, length, get_or, take, false, take_all, drop, IsUtf8, refl, sym, ap, subst, ◌∙◌, arith}
+use Rattle.std.proofs.lemmas.List.{append-nil, length-drop}
+use Rattle.dbus_texts.specs.Types.{NumberCode, BYTE, TextCode, STRING, OBJECT_PATH, SIGNATURE, TypeTree, NumberType, TextType, number_code, text_code, sig, IsShaped}
 use Rattle.dbus_texts.proofs.TypeTexts.{shaped_of}
 use Rattle.dbus_types.specs.Alignments.{width, length_width}
 use Rattle.dbus_types.specs.SignatureCodes.{first_code}
@@ -9,7 +9,7 @@ use Rattle.dbus_types.proofs.TypeCodes.{code_is, text_is}
 use Rattle.dbus_value_model.specs.declared.order.Order.{Order}
 use Rattle.dbus_value_model.specs.Reading.{number_of}
 use Rattle.dbus_value_model.specs.Spelling.{spelling}
-use Rattle.dbus_value_model.specs.Values.{ValueTree, ValueTrees, NumberValue, TextValue, ArrayValue, StructValue, EntryValue, NoValues, MoreValues, type_of, types_of, IsNumber, IsWellFormed}
+use Rattle.dbus_value_model.specs.Values.{ValueTree, ValueTrees, NumberValue, TextValue, ArrayValue, NoValues, MoreValues, type_of, IsNumber, IsWellFormed}
 use Rattle.dbus_value_model.specs.ValueViews.{byte_values}
 use Rattle.dbus_walk.specs.declared.spot.Run.{Run}
 use Rattle.dbus_walk.specs.declared.spot.Source.{Source}

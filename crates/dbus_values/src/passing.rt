@@ -23,7 +23,10 @@ pub(crate) fn pass<'a>(source: &Source<'a>, spot: &Spot<'a>) -> (ValueView<'a>, 
 {
     match layout(source, spot) {
         Layout::Number { start, size } => {
-            (number_view(source, start, spot.types[0]), start + usize::from(size))
+            (
+                number_view(source, start, spot.types[0]),
+                start + usize::from(size),
+            )
         }
         Layout::LongText { start, size } => {
             let text = text_in(source.bytes, start + 4, size);
