@@ -1,5 +1,5 @@
 -- A container opens, its parts are gathered one after another, and it is built of them.
-use Rattle.std.proofs.Common.{◌≡◌, ℕ, zero, suc, ◌<◌, List, [], ◌∷◌, ◌++◌, length, get_or, map, Box, Vec, not, false, IsTrue, Result, Ok, Err, IfOk, append-nil, refl, sym, ap, subst, ◌∙◌, arith}
+use Rattle.std.proofs.Common.{◌≡◌, ℕ, zero, suc, ◌<◌, List, [], ◌∷◌, ◌++◌, length, get_or, map, Box, Vec, not, false, Result, Ok, Err, IfOk, append-nil, refl, sym, ap, subst, ◌∙◌, arith}
 use Rattle.std.proofs.lemmas.Bool.{and_from}
 use Rattle.std.specs.declared.sync.Arc.{Arc}
 use Rattle.std.proofs.lemmas.List.{map_push, length-map}
@@ -11,9 +11,8 @@ use Rattle.dbus_types.specs.SigTypes.{type_tree, type_trees_of}
 use Rattle.dbus_types.specs.declared.sig_type.SigType as ty
 use Rattle.dbus_types.specs.declared.sig_type.SigType.{SigType}
 use Rattle.dbus_types.proofs.TypeViews.{type_tree-Array, type_tree-Struct}
-use Rattle.dbus_value_model.specs.PackedBytes.{keeps_bytes}
 use Rattle.dbus_value_model.specs.ValueViews.{value_tree}
-use Rattle.dbus_value_model.specs.Values.{ValueTree, ValueTrees, NumberValue, TextValue, VariantValue, ArrayValue, StructValue, EntryValue, NoValues, MoreValues, AllOf, IsWellFormed, AreWellFormed, type_of, types_of, value_trees}
+use Rattle.dbus_value_model.specs.Values.{ValueTree, ValueTrees, VariantValue, ArrayValue, StructValue, EntryValue, NoValues, MoreValues, AllOf, IsWellFormed, AreWellFormed, type_of, types_of, value_trees}
 use Rattle.dbus_value_model.specs.declared.value.Value.{Value, Array, Struct}
 use Rattle.dbus_value_model.specs.declared.value.DictEntry.{DictEntry}
 use Rattle.dbus_value_model.proofs.Fitting.{keeps-Array, keeps-Struct, keep_push}
@@ -22,7 +21,7 @@ use Rattle.dbus_walk.specs.Containers.{IsOf, parts}
 use Rattle.dbus_walk.specs.declared.container.Container.TheVariants as kind
 use Rattle.dbus_unmarshal.specs.declared.gathered.Gathered.{Gathered}
 use Rattle.dbus_unmarshal.specs.declared.gathered.Gathered.TheVariants as gathered
-use Rattle.dbus_unmarshal.specs.Builds.{IsFormed, IsBuilt, AreBuilt, Makes, IsVariant, IsStructOf, IsArrayOf, IsNext, IsFieldType, Holds, Gathers, Pushes, Closes}
+use Rattle.dbus_unmarshal.specs.Builds.{IsFormed, IsBuilt, AreBuilt, IsVariant, IsStructOf, IsArrayOf, IsNext, IsFieldType, Holds, Gathers, Pushes, Closes}
 
 -- ---- the types of parts
 

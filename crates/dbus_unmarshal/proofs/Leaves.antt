@@ -1,5 +1,5 @@
 -- Values that are built where they stand: numbers, texts, arrays of BYTE, and arrays as they open.
-use Rattle.std.proofs.Common.{◌≡◌, ℕ, ◌+◌, ◌-◌, ◌<◌, List, length, get_or, take, drop, Vec, String, not, true, false, refl, sym, ap, subst, ◌∙◌, arith, rules}
+use Rattle.std.proofs.Common.{◌≡◌, ℕ, ◌+◌, ◌-◌, ◌<◌, List, get_or, take, drop, Vec, String, not, false, refl, sym, ap, subst, ◌∙◌, rules}
 use Rattle.std.specs.Prelude.{string_bytes}
 use Rattle.std.proofs.lemmas.Bool.{and_from}
 use Rattle.dbus_texts.specs.Types.{NumberCode, BYTE, TextCode, TypeTree, NumberType, TextType, number_code, text_code, sig, is_byte}
