@@ -11,7 +11,7 @@ use Rattle.dbus_texts.specs.declared.names.Place.{Place}
 use Rattle.dbus_texts.specs.declared.names.Place.TheVariants.{PathStart, Root, BusStart, First, More}
 use Rattle.dbus_texts.specs.declared.names.NameScan.{NameScan}
 use Rattle.dbus_texts.specs.declared.utf8.Utf8Place.{Utf8Place}
-use Rattle.dbus_texts.specs.declared.utf8.Utf8Place.TheVariants.{Free, Last, LastTwo, LastThree, AfterE0, AfterEd, AfterF0, AfterF4}
+use Rattle.dbus_texts.specs.declared.utf8.Utf8Place.TheVariants.{Free}
 use Rattle.dbus_texts.specs.Names.{is_word, is_word_start, is_dashed, is_dashed_start}
 use Rattle.dbus_texts.specs.NameScans.{begins, goes_on, separator, name_next_at, name_next, name_end}
 use Rattle.dbus_texts.specs.Utf8Scans.{text_next, text_end}
@@ -78,9 +78,7 @@ goes_on_plain WellKnown b e = dashed_plain b e
 
 separator_plain : (l : Letters) → IsPlain (separator l)
 separator_plain Word = refl
-separator_plain Name = refl
-separator_plain Unique = refl
-separator_plain WellKnown = refl
+separator_plain _ = refl
 
 -- a test that was passed
 one_test : (c : Bool) (o : Option NameScan) (t : NameScan) → cond c o None ≡ Some t → c ≡ true
@@ -115,13 +113,7 @@ name_text s w h = plain_text w (accepts_bytes name_next name_end (λ b. IsPlain 
 -- no byte of a text is 0
 text_byte : (p : Utf8Place) (q : Utf8Place) → text_next p 0 ≡ Some q → ⊥
 text_byte Free q e = cc
-text_byte Last q e = cc
-text_byte LastTwo q e = cc
-text_byte LastThree q e = cc
-text_byte AfterE0 q e = cc
-text_byte AfterEd q e = cc
-text_byte AfterF0 q e = cc
-text_byte AfterF4 q e = cc
+text_byte _ q e = cc
 
 pub text_bytes : (w : List ℕ) → accepts text_next text_end Free w ≡ true → AllByRecursion (λ b. b ≢ 0) w
 text_bytes w h = accepts_bytes text_next text_end (λ b. b ≢ 0) (λ p b q e z. text_byte p q (subst (λ x. text_next p x ≡ Some q) z e)) w Free h

@@ -1,9 +1,9 @@
 -- The longest prefix of a text with which some text of a set begins.
-use Rattle.std.proofs.Common.{◌≡◌, ℕ, ◌+◌, ◌<◌, ◌≤◌, Option, Some, None, List, [], ◌∷◌, ◌++◌, length, get_or, take, drop, refl, sym, ap, ◌∙◌, subst, arith, append_assoc, append-nil, take-append-drop}
+use Rattle.std.proofs.Common.{◌≡◌, ℕ, ◌+◌, ◌<◌, ◌≤◌, Bool, true, false, Option, Some, None, List, [], ◌∷◌, ◌++◌, length, get_or, take, drop, refl, sym, ap, ◌∙◌, subst, arith, append_assoc, append-nil, take-append-drop}
 use Rattle.std.proofs.lemmas.List.{take_more, take_all, take-take}
 use Rattle.dbus_texts.proofs.Quotients.{quotient_prefix, quotient_dead, quotient_push, quotient_ended, quotient_ends}
 use Rattle.dbus_texts.proofs.Runs.{break_along}
-use Rattle.dbus_texts.specs.Prefixes.{IsPrefixIn, IsBreakIn, IsBreakFrom, IsQuotient, Moves}
+use Rattle.dbus_texts.specs.Prefixes.{IsPrefixIn, IsBreakIn, IsBreakFrom, IsQuotient, Steps}
 
 pub prefix_closed : (L : List ℕ → Type 0) (w v : List ℕ) → IsPrefixIn L (w ++ v) → IsPrefixIn L w
 prefix_closed L w v h = (v ++ h.0, subst L (append_assoc w v h.0) h.1)
@@ -29,13 +29,16 @@ pub break_at_end : (L : List ℕ → Type 0) (w : List ℕ) → IsPrefixIn L w �
 break_at_end L w p n =
     (n, record { within = omega arith; front = subst (λ v. IsPrefixIn L v) (sym (take_all (length w) w (omega arith))) p; longest = λ m h k q. absurd (omega arith) })
 
--- a scan that stands at a prefix, where R may follow, refuses the next byte
-pub front_refuses : (L : List ℕ → Type 0) (w : List ℕ) (R : List ℕ → Type 0) (i : ℕ) → IsQuotient L (take i w) R → i < length w → ((c : List ℕ) → R (get_or w i 0 ∷ c) → ⊥) → (L w → ⊥) × IsBreakIn L w i
-front_refuses L w R i q l n = break_within L w i (get_or w i 0) l refl (quotient_prefix L (take i w) R q) (quotient_dead L (take i w) R (get_or w i 0) q n)
+-- a scan that stands at a prefix refuses the next byte
+pub front_refuses : {S : Type 0} (Rest : S → List ℕ → Type 0) (L : List ℕ → Type 0) (w : List ℕ) (i : ℕ) (s t : S) (r : Bool) → IsQuotient L (take i w) (Rest s) → i < length w → Steps Rest s (get_or w i 0) r t → r ≡ false → (L w → ⊥) × IsBreakIn L w i
+front_refuses Rest L w i s t r q l m e =
+    let dead = (subst (λ x. Steps Rest s (get_or w i 0) x t) e m).0 in
+    break_within L w i (get_or w i 0) l refl (quotient_prefix L (take i w) (Rest s) q) (quotient_dead L (take i w) (Rest s) (get_or w i 0) q dead)
 
 -- or takes it
-pub front_takes : (L : List ℕ → Type 0) (w : List ℕ) (R R' : List ℕ → Type 0) (i : ℕ) → IsQuotient L (take i w) R → i < length w → Moves R (get_or w i 0) R' → IsQuotient L (take (i + 1) w) R'
-front_takes L w R R' i q l m = subst (λ v. IsQuotient L v R') (sym (take_more w i 0 l)) (quotient_push L (take i w) R (get_or w i 0) R' q m)
+pub front_takes : {S : Type 0} (Rest : S → List ℕ → Type 0) (L : List ℕ → Type 0) (w : List ℕ) (i : ℕ) (s t : S) (r : Bool) → IsQuotient L (take i w) (Rest s) → i < length w → Steps Rest s (get_or w i 0) r t → r ≡ true → IsQuotient L (take (i + 1) w) (Rest t)
+front_takes Rest L w i s t r q l m e =
+    subst (λ v. IsQuotient L v (Rest t)) (sym (take_more w i 0 l)) (quotient_push L (take i w) (Rest s) (get_or w i 0) (Rest t) q (subst (λ x. Steps Rest s (get_or w i 0) x t) e m))
 
 -- a scan that stands at the whole text, which may not end there
 pub front_stops : (L : List ℕ → Type 0) (w : List ℕ) (R : List ℕ → Type 0) (i : ℕ) → IsQuotient L (take i w) R → length w ≤ i → (R [] → ⊥) → (L w → ⊥) × IsBreakIn L w (length w)

@@ -1,26 +1,17 @@
 -- The types that one byte spells.
 use Rattle.std.proofs.Common.{◌≡◌, ℕ, Bool, true, false, ◌||◌, eqb, List, [], ◌∷◌, length, get_or, append-nil, arith, ◌⊎◌, ⊎_elim, inl, inr, refl, sym, ap, ◌∙◌}
 use Rattle.std.proofs.lemmas.Bool.{eqb-true}
-use Rattle.dbus_texts.specs.Types.{TypeTree, NumberCode, BYTE, BOOLEAN, INT16, UINT16, INT32, UINT32, INT64, UINT64, DOUBLE, UNIX_FD, TextCode, STRING, OBJECT_PATH, SIGNATURE, NumberType, TextType, VariantType, ArrayType, StructType, EntryType, NoTypes, MoreTypes, number_code, text_code, sig, IsBasic, IsComplete}
+use Rattle.dbus_texts.specs.Types.{TypeTree, NumberCode, BYTE, BOOLEAN, INT16, UINT16, INT32, UINT32, INT64, UINT64, DOUBLE, UNIX_FD, TextCode, STRING, OBJECT_PATH, SIGNATURE, NumberType, TextType, VariantType, NoTypes, MoreTypes, number_code, text_code, sig, IsBasic, IsComplete}
 use Rattle.dbus_texts.specs.Signatures.{IsSignature, IsSingle}
 use Rattle.dbus_texts.specs.SignatureScans.{is_basic_code, is_type_code}
 
 pub number_is_basic : (n : NumberCode) → is_basic_code (number_code n) ≡ true
 number_is_basic BYTE = refl
-number_is_basic BOOLEAN = refl
-number_is_basic INT16 = refl
-number_is_basic UINT16 = refl
-number_is_basic INT32 = refl
-number_is_basic UINT32 = refl
-number_is_basic INT64 = refl
-number_is_basic UINT64 = refl
-number_is_basic DOUBLE = refl
-number_is_basic UNIX_FD = refl
+number_is_basic _ = refl
 
 pub text_is_basic : (t : TextCode) → is_basic_code (text_code t) ≡ true
 text_is_basic STRING = refl
-text_is_basic OBJECT_PATH = refl
-text_is_basic SIGNATURE = refl
+text_is_basic _ = refl
 
 pub basic_is_code : (b : ℕ) → is_basic_code b ≡ true → is_type_code b ≡ true
 basic_is_code b e = ap (λ x. x || eqb b 118) e
@@ -65,10 +56,7 @@ basic_type b =
 basic_complete : (t : TypeTree) → IsBasic t → (inside : Bool) (arrays structs : ℕ) → IsComplete t inside arrays structs
 basic_complete (NumberType n) h inside a s = tt
 basic_complete (TextType n) h inside a s = tt
-basic_complete VariantType h inside a s = tt
-basic_complete (ArrayType t) h inside a s = absurd h
-basic_complete (StructType ts) h inside a s = absurd h
-basic_complete (EntryType k v) h inside a s = absurd h
+basic_complete _ h inside a s = absurd h
 
 -- a complete type that the byte spells
 abbrev pub Coded : ℕ → Type 0

@@ -96,23 +96,13 @@ pub kind_is : (k : TextKind) (t : List ℕ) → is_kind k t ≡ true → IsKind 
 unfolding is_kind
 kind_is Text t h = (of_kind_is Text t h, tt)
 kind_is Path t h = (of_kind_is Path t h, tt)
-kind_is Interface t h = limited_is Interface t h
-kind_is Member t h = limited_is Member t h
-kind_is ErrorName t h = limited_is ErrorName t h
-kind_is BusName t h = limited_is BusName t h
-kind_is Signature t h = limited_is Signature t h
-kind_is Single t h = limited_is Single t h
+kind_is k t h = limited_is k t h
 
 pub is_kind_of : (k : TextKind) (t : List ℕ) → IsKind k t → is_kind k t ≡ true
 unfolding is_kind
 is_kind_of Text t h = is_of_kind_of Text t h.0
 is_kind_of Path t h = is_of_kind_of Path t h.0
-is_kind_of Interface t h = limited_of Interface t h
-is_kind_of Member t h = limited_of Member t h
-is_kind_of ErrorName t h = limited_of ErrorName t h
-is_kind_of BusName t h = limited_of BusName t h
-is_kind_of Signature t h = limited_of Signature t h
-is_kind_of Single t h = limited_of Single t h
+is_kind_of k t h = limited_of k t h
 
 -- breaks
 name_breaks : (L : List ℕ → Type 0) (s : NameScan) (w : List ℕ) → ((c : List ℕ) → L c → name_rest s c) → ((c : List ℕ) → name_rest s c → L c) → (c : List ℕ) × L c → IsBreakIn L w (taken name_next s w)

@@ -6,7 +6,7 @@ use Rattle.std.proofs.lemmas.List.{length-map}
 use lib.Lanes.{zip2, mask_l, top, Each1, Each2, chunk}
 use Rattle.dbus_texts.proofs.ByteLanes.{less, below, same_as, differs, below_holds, first_one, pow_two, whole_mask}
 use Rattle.dbus_texts.specs.declared.names.Letters.{Letters}
-use Rattle.dbus_texts.specs.declared.names.Letters.TheVariants.{Word, Name, Unique, WellKnown}
+use Rattle.dbus_texts.specs.declared.names.Letters.TheVariants.{Word}
 use Rattle.dbus_texts.specs.NameScans.{begins, goes_on, separator}
 use Rattle.dbus_texts.specs.Neighbours.{may_follow, extra, first_digits}
 
@@ -18,15 +18,11 @@ within_mark e k b = bit_or (alpha_mark e b) (below (less b 48) k)
 
 goes_on_mark : (l : Letters) (b : ℕ) → b < 256 → within_mark (extra l) 10 b ≡ cond (goes_on l b) 255 0
 goes_on_mark Word b h = eqb-true _ _ (below_holds (λ x. eqb (within_mark 95 10 x) (cond (goes_on Word x) 255 0)) 256 refl b h)
-goes_on_mark Name b h = eqb-true _ _ (below_holds (λ x. eqb (within_mark 95 10 x) (cond (goes_on Name x) 255 0)) 256 refl b h)
-goes_on_mark Unique b h = eqb-true _ _ (below_holds (λ x. eqb (within_mark 45 10 x) (cond (goes_on Unique x) 255 0)) 256 refl b h)
-goes_on_mark WellKnown b h = eqb-true _ _ (below_holds (λ x. eqb (within_mark 45 10 x) (cond (goes_on WellKnown x) 255 0)) 256 refl b h)
+goes_on_mark l b h = eqb-true _ _ (below_holds (λ x. eqb (within_mark (extra l) 10 x) (cond (goes_on l x) 255 0)) 256 refl b h)
 
 begins_mark : (l : Letters) (b : ℕ) → b < 256 → within_mark (extra l) (first_digits l) b ≡ cond (begins l b) 255 0
 begins_mark Word b h = eqb-true _ _ (below_holds (λ x. eqb (within_mark 95 10 x) (cond (begins Word x) 255 0)) 256 refl b h)
-begins_mark Name b h = eqb-true _ _ (below_holds (λ x. eqb (within_mark 95 0 x) (cond (begins Name x) 255 0)) 256 refl b h)
-begins_mark Unique b h = eqb-true _ _ (below_holds (λ x. eqb (within_mark 45 10 x) (cond (begins Unique x) 255 0)) 256 refl b h)
-begins_mark WellKnown b h = eqb-true _ _ (below_holds (λ x. eqb (within_mark 45 0 x) (cond (begins WellKnown x) 255 0)) 256 refl b h)
+begins_mark l b h = eqb-true _ _ (below_holds (λ x. eqb (within_mark (extra l) (first_digits l) x) (cond (begins l x) 255 0)) 256 refl b h)
 
 abbrev link_mark : ℕ → ℕ → ℕ → ℕ → ℕ → ℕ
 link_mark s e k a b = bit_and (bit_or (within_mark e 10 b) (same_as b s)) (bit_or (differs a s) (within_mark e k b))

@@ -16,15 +16,11 @@ use Rattle.dbus_texts.specs.NameScans.{begins, goes_on, separator, MayFollow, El
 -- a letter may begin each element, and no separator stands in one
 a_begins : (l : Letters) → begins l 97 ≡ true
 a_begins Word = refl
-a_begins Name = refl
-a_begins Unique = refl
-a_begins WellKnown = refl
+a_begins _ = refl
 
 pub apart : (l : Letters) → goes_on l (separator l) ≡ false
 apart Word = refl
-apart Name = refl
-apart Unique = refl
-apart WellKnown = refl
+apart _ = refl
 
 a_only : (l : Letters) → IsElement (begins l) (goes_on l) (97 ∷ [])
 a_only l = (a_begins l, tt)
@@ -64,8 +60,7 @@ MayGo Free = Unit {0}
 
 may_go : (t : Tail) (e : List ℕ) (es : List (List ℕ)) → MayFollow t (e ∷ es) → MayGo t
 may_go Alone e es h = h
-may_go Needed e es h = tt
-may_go Free e es h = tt
+may_go _ e es h = tt
 
 goes_on_at : (l : Letters) (t : Tail) (b : ℕ) (c run : List ℕ) (others : List (List ℕ)) → AllByRecursion (λ x. IsTrue (goes_on l x)) run → AllByRecursion (IsElement (begins l) (goes_on l)) others → MayFollow t others → b ∷ c ≡ run ++ each_after (separator l) others → ((goes_on l b ≡ true) × GoesOn l t c) ⊎ ((b ≡ separator l) × MayGo t × Elements l Free c)
 goes_on_at l t b c [] [] r o m e = cc
@@ -90,8 +85,7 @@ goes_on_more l t b e =
 -- a separator
 follow_one : (t : Tail) → MayGo t → (e : List ℕ) (es : List (List ℕ)) → MayFollow t (e ∷ es)
 follow_one Alone h e es = h
-follow_one Needed h e es = tt
-follow_one Free h e es = tt
+follow_one _ h e es = tt
 
 pub goes_on_separator : (l : Letters) (t : Tail) (b : ℕ) → MayGo t → goes_on l b ≡ false → b ≡ separator l → Moves (GoesOn l t) b (Elements l Free)
 goes_on_separator l t b g n e =
@@ -263,13 +257,3 @@ pub interface_some : (c : List ℕ) × IsInterface c
 interface_some =
     let w = elements_some Name Needed in
     (w.0, elements_interface w.0 w.1)
-
-name_some_at : (p : Place) (l : Letters) (t : Tail) → (c : List ℕ) × name_rest_at p l t c
-name_some_at PathStart l t = path_some
-name_some_at Root l t = ([], inl refl)
-name_some_at BusStart l t = bus_some
-name_some_at First l t = elements_some l t
-name_some_at More l t = goes_on_some l t
-
-pub name_some : (s : NameScan) → (c : List ℕ) × name_rest s c
-name_some s = name_some_at s.place s.letters s.tail

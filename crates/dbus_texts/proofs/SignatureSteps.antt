@@ -10,7 +10,7 @@ use Rattle.dbus_texts.specs.declared.signature.SigPlace.TheVariants.{After, One,
 use Rattle.dbus_texts.specs.Prefixes.{IsStepFrom, IsStep, Moves}
 use Rattle.dbus_texts.proofs.Codes.{number_is_basic, text_is_basic, number_is_code, text_is_code, basic_type, code_type}
 use Rattle.dbus_texts.specs.Types.{TypeTree, NumberType, TextType, VariantType, BYTE, number_code, text_code, TypeTrees, ArrayType, StructType, EntryType, NoTypes, MoreTypes, sig, sigs, IsComplete, AreComplete}
-use Rattle.dbus_texts.specs.SignatureScans.{is_basic_code, is_type_code, OneThen, MoreThen, CloseThen, KeyThen, frame_rest_at, frame_rest, frames_rest, AtTop, SigState, after, sig_rest_at, sig_rest, sig_state, frame, begin, innermost, others, in_frame_at, past, sig_next_at, sig_next, no_frames, sig_end_at}
+use Rattle.dbus_texts.specs.SignatureScans.{is_basic_code, is_type_code, OneThen, MoreThen, CloseThen, KeyThen, frame_rest_at, frame_rest, frames_rest, AtTop, SigState, after, sig_rest, sig_state, frame, begin, innermost, others, in_frame_at, past, sig_next_at, sig_next, no_frames, sig_end_at}
 use Rattle.dbus_texts.specs.Signatures.{IsSignature, IsSingle}
 
 -- how a struct's text joins with what follows
@@ -360,11 +360,7 @@ sig_moves s b = sig_moves_at s.single s.place s.arrays s.structs s.frames b
 -- the end
 sig_nil : (t : TypeTree) (r : List ℕ) → [] ≡ sig t ++ r → ⊥
 sig_nil (NumberType n) r e = cc
-sig_nil (TextType n) r e = cc
-sig_nil VariantType r e = cc
-sig_nil (ArrayType t) r e = cc
-sig_nil (StructType ts) r e = cc
-sig_nil (EntryType k v) r e = cc
+sig_nil _ r e = cc
 
 one_nil : (inside : Bool) (a s : ℕ) (K : List ℕ → Type 0) → OneThen inside a s K [] → ⊥
 one_nil inside a s K h = sig_nil h.first h.rest h.spelled
@@ -398,9 +394,7 @@ sig_ended_at single Key a s fs h = absurd h
 
 pub sig_ends_at : (single : Bool) (p : SigPlace) (a s : ℕ) (fs : List Frame) → sig_end_at p fs ≡ true → sig_rest (sig_state single p a s fs) []
 sig_ends_at single After a s fs e = after_ends single fs e
-sig_ends_at single One a s fs e = absurd (false≢true e)
-sig_ends_at single Element a s fs e = absurd (false≢true e)
-sig_ends_at single Key a s fs e = absurd (false≢true e)
+sig_ends_at single _ a s fs e = absurd (false≢true e)
 
 -- where each kind begins
 single_to : (c : List ℕ) → IsSingle c → OneThen false 0 0 (AtTop true) c
@@ -417,12 +411,3 @@ signature_some = ([], (NoTypes, tt, refl))
 
 pub single_some : (c : List ℕ) × IsSingle c
 single_some = (121 ∷ [], (NumberType BYTE, tt, refl))
-
-sig_some_at : (p : SigPlace) (a s : ℕ) (single : Bool) (fs : List Frame) → (c : List ℕ) × sig_rest_at p a s (after single fs) c
-sig_some_at After a s single fs = after_some single fs
-sig_some_at One a s single fs = one_some false a s (after single fs) (after_some single fs)
-sig_some_at Element a s single fs = one_some true a s (after single fs) (after_some single fs)
-sig_some_at Key a s single fs = key_some a s (after single fs) (after_some single fs)
-
-pub sig_some : (s : SigState) → (c : List ℕ) × sig_rest s c
-sig_some s = sig_some_at s.place s.arrays s.structs s.single s.frames

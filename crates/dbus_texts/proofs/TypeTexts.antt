@@ -1,45 +1,22 @@
 -- The types that a text spells, read back.
 use Rattle.std.proofs.Common.{◌≡◌, ℕ, zero, suc, ◌+◌, ◌<◌, ◌≤◌, Bool, true, false, List, [], ◌∷◌, ◌++◌, length, eqb, Some, refl, sym, ap, ◌∙◌, arith, append_assoc, length-append, append-nil}
 use Rattle.std.proofs.lemmas.Bool.{false≢true}
-use Rattle.dbus_texts.specs.Types.{TypeTree, NumberType, TextType, VariantType, ArrayType, StructType, EntryType, TypeTrees, NoTypes, MoreTypes, NumberCode, BYTE, BOOLEAN, INT16, UINT16, INT32, UINT32, INT64, UINT64, DOUBLE, UNIX_FD, TextCode, STRING, OBJECT_PATH, SIGNATURE, number_code, text_code, sig, sigs, IsComplete, AreComplete, IsShaped, AreShaped}
+use Rattle.dbus_texts.specs.Types.{TypeTree, NumberType, TextType, VariantType, ArrayType, StructType, EntryType, TypeTrees, NoTypes, MoreTypes, NumberCode, BYTE, TextCode, STRING, number_code, text_code, sig, sigs, IsComplete, AreComplete, IsShaped, AreShaped}
 use Rattle.dbus_texts.specs.ComputedKinds.{opening, OneCode, parse, parses, type_spelled, types_spelled}
 
 opening_number : (k : NumberCode) → opening (number_code k) ≡ OneCode (NumberType k)
 opening_number BYTE = refl
-opening_number BOOLEAN = refl
-opening_number INT16 = refl
-opening_number UINT16 = refl
-opening_number INT32 = refl
-opening_number UINT32 = refl
-opening_number INT64 = refl
-opening_number UINT64 = refl
-opening_number DOUBLE = refl
-opening_number UNIX_FD = refl
+opening_number _ = refl
 
-opening_text : (k : TextCode) → opening (text_code k) ≡ OneCode (TextType k)
+pub opening_text : (k : TextCode) → opening (text_code k) ≡ OneCode (TextType k)
 opening_text STRING = refl
-opening_text OBJECT_PATH = refl
-opening_text SIGNATURE = refl
+opening_text _ = refl
 
 -- no type begins with a closing parenthesis
 begins : (t : TypeTree) → (c : ℕ) × (s : List ℕ) × (sig t ≡ c ∷ s) × (eqb c 41 ≡ false)
 begins (NumberType BYTE) = (_, _, refl, refl)
-begins (NumberType BOOLEAN) = (_, _, refl, refl)
-begins (NumberType INT16) = (_, _, refl, refl)
-begins (NumberType UINT16) = (_, _, refl, refl)
-begins (NumberType INT32) = (_, _, refl, refl)
-begins (NumberType UINT32) = (_, _, refl, refl)
-begins (NumberType INT64) = (_, _, refl, refl)
-begins (NumberType UINT64) = (_, _, refl, refl)
-begins (NumberType DOUBLE) = (_, _, refl, refl)
-begins (NumberType UNIX_FD) = (_, _, refl, refl)
 begins (TextType STRING) = (_, _, refl, refl)
-begins (TextType OBJECT_PATH) = (_, _, refl, refl)
-begins (TextType SIGNATURE) = (_, _, refl, refl)
-begins VariantType = (_, _, refl, refl)
-begins (ArrayType t) = (_, _, refl, refl)
-begins (StructType ts) = (_, _, refl, refl)
-begins (EntryType k v) = (_, _, refl, refl)
+begins _ = (_, _, refl, refl)
 
 parses_more : (turns : ℕ) (s u w r : List ℕ) (t : TypeTree) (ts : TypeTrees) (c : ℕ) → s ≡ c ∷ u → eqb c 41 ≡ false → parse turns s ≡ Some (t, w) → parses turns w ≡ Some (ts, r) → parses (suc turns) s ≡ Some (MoreTypes t ts, r)
 unfolding parses

@@ -1,10 +1,11 @@
 -- The steps of a text.
-use Rattle.std.proofs.Common.{◌≡◌, ◌≢◌, ℕ, ◌+◌, ◌-◌, ◌*◌, ◌/◌, ◌%◌, ◌<◌, ◌≤◌, true, false, cond, eqb, leb, Option, Some, None, List, [], ◌∷◌, ◌++◌, ◌⊎◌, ⊎_elim, inl, inr, refl, sym, ap, ◌∙◌, subst, arith, encode_utf8_all, MatchOption}
+use Rattle.std.proofs.Common.{◌≡◌, ℕ, ◌+◌, ◌-◌, ◌*◌, ◌/◌, ◌%◌, ◌<◌, ◌≤◌, true, false, cond, eqb, leb, Option, Some, None, List, [], ◌∷◌, ◌++◌, ◌⊎◌, ⊎_elim, inl, inr, refl, sym, ap, ◌∙◌, subst, arith, encode_utf8_all, MatchOption}
 use Rattle.std.specs.List.{AllByRecursion}
 use Rattle.std.specs.Int.{is_in_range, IsInRange}
 use Rattle.std.specs.Char.{IsScalar}
 use Rattle.std.proofs.Math.Utf8.{encode, scalar_cases}
-use Rattle.std.proofs.lemmas.Bool.{cond_both, eqb-true, lt-ltb, le-ltb, le-leb, leb-true, false≢true, and_parts, and_from, ne_eqb, and_right, lt-leb, cases_lt}
+use Rattle.std.proofs.lemmas.Bool.{cond_both, eqb-true, lt-ltb, le-ltb, le-leb, leb-true, false≢true, and_parts, and_from, and_right, lt-leb, cases_lt}
+use Rattle.std.proofs.lemmas.Bool.Decides.{nat_tests}
 use Rattle.dbus_texts.specs.declared.utf8.Utf8Place.{Utf8Place}
 use Rattle.dbus_texts.specs.declared.utf8.Utf8Place.TheVariants.{Free, Last, LastTwo, LastThree, AfterE0, AfterEd, AfterF0, AfterF4}
 use Rattle.dbus_texts.specs.Prefixes.{IsStep}
@@ -77,43 +78,9 @@ lead_means b =
     (λ n7. cond_both (is_in_range 241 243 b) _ _ P (λ e. in_range 241 243 b e)
     (λ n8. cond_both (eqb b 244) _ _ P (λ e. eqb-true b 244 e) (λ n9. tt)))))))))
 
-lead_is_free : (b : ℕ) → 1 ≤ b → b ≤ 127 → lead b ≡ Some Free
-lead_is_free b l h = rw (in_range_is 1 127 b l h)
-
-lead_is_last : (b : ℕ) → 194 ≤ b → b ≤ 223 → lead b ≡ Some Last
-lead_is_last b l h =
-    let a : 127 < b = omega arith in
-    rw (out_above 1 127 b a, in_range_is 194 223 b l h)
-
-lead_is_two : (b : ℕ) → 225 ≤ b → b ≤ 236 → lead b ≡ Some LastTwo
-lead_is_two b l h =
-    let a : 127 < b = omega arith in
-    let a2 : 223 < b = omega arith in
-    let a3 : b ≢ 224 = omega arith in
-    rw (out_above 1 127 b a, out_above 194 223 b a2, ne_eqb b 224 a3, in_range_is 225 236 b l h)
-
-lead_is_two_more : (b : ℕ) → 238 ≤ b → b ≤ 239 → lead b ≡ Some LastTwo
-lead_is_two_more b l h =
-    let a : 127 < b = omega arith in
-    let a2 : 223 < b = omega arith in
-    let a3 : b ≢ 224 = omega arith in
-    let a4 : 236 < b = omega arith in
-    let a5 : b ≢ 237 = omega arith in
-    rw (out_above 1 127 b a, out_above 194 223 b a2, ne_eqb b 224 a3, out_above 225 236 b a4, ne_eqb b 237 a5, in_range_is 238 239 b l h)
-
-lead_is_three : (b : ℕ) → 241 ≤ b → b ≤ 243 → lead b ≡ Some LastThree
-lead_is_three b l h =
-    let a : 127 < b = omega arith in
-    let a2 : 223 < b = omega arith in
-    let a3 : b ≢ 224 = omega arith in
-    let a4 : 236 < b = omega arith in
-    let a5 : b ≢ 237 = omega arith in
-    let a6 : 239 < b = omega arith in
-    let a7 : b ≢ 240 = omega arith in
-    rw (out_above 1 127 b a, out_above 194 223 b a2, ne_eqb b 224 a3, out_above 225 236 b a4, ne_eqb b 237 a5, out_above 238 239 b a6, ne_eqb b 240 a7, in_range_is 241 243 b l h)
-
-lead_at : (p : Utf8Place) (n b : ℕ) → b ≡ n → lead n ≡ Some p → lead b ≡ Some p
-lead_at p n b e h = ap lead e ∙ h
+lead_is : (p : Utf8Place) (b : ℕ) → Leads p b → lead b ≡ Some p
+lead_is Free b h = grind (arith, nat_tests, h)
+lead_is _ b h = grind (arith, nat_tests, h)
 
 -- a character's first byte, and what it leaves
 record Led (b : ℕ) (c : List ℕ) : Type 0 where
@@ -121,84 +88,36 @@ record Led (b : ℕ) (c : List ℕ) : Type 0 where
   leads : lead b ≡ Some place
   follows : text_rest place c
 
-led_1 : (x b : ℕ) (c r : List ℕ) → x ≢ 0 → x < 128 → IsText r → b ∷ c ≡ x ∷ r → Led b c
-led_1 x b c r z h t e =
-    let same : b ≡ x = cc in
+led : (p : Utf8Place) (n b : ℕ) (c r : List ℕ) → Leads p n → text_rest p r → b ∷ c ≡ n ∷ r → Led b c
+led p n b c r l f e =
+    let same : b ≡ n = cc in
     let rest : r ≡ c = cc in
-    record { place = Free; leads = lead_is_free b (omega arith) (omega arith); follows = subst (λ v. IsText v) rest t }
-
-led_2 : (x b : ℕ) (c r : List ℕ) → 128 ≤ x → x < 2048 → IsText r → b ∷ c ≡ (192 + x / 64) ∷ (128 + x % 64) ∷ r → Led b c
-led_2 x b c r l h t e =
-    let same : b ≡ 192 + x / 64 = cc in
-    let rest : (128 + x % 64) ∷ r ≡ c = cc in
-    let f : text_rest Last ((128 + x % 64) ∷ r) = ((omega arith, omega arith), t) in
-    record { place = Last; leads = lead_is_last b (omega arith) (omega arith); follows = subst (λ v. text_rest Last v) rest f }
-
--- three bytes, by where the first is
-led_e0 : (x b : ℕ) (c r : List ℕ) → 2048 ≤ x → x < 4096 → IsText r → b ∷ c ≡ (224 + x / 4096) ∷ (128 + (x / 64) % 64) ∷ (128 + x % 64) ∷ r → Led b c
-led_e0 x b c r l h t e =
-    let same : b ≡ 224 + x / 4096 = cc in
-    let rest : (128 + (x / 64) % 64) ∷ (128 + x % 64) ∷ r ≡ c = cc in
-    let f : text_rest AfterE0 ((128 + (x / 64) % 64) ∷ (128 + x % 64) ∷ r) = ((omega arith, omega arith), ((omega arith, omega arith), t)) in
-    record { place = AfterE0; leads = lead_at AfterE0 224 b (omega arith) refl; follows = subst (λ v. text_rest AfterE0 v) rest f }
-
-led_ed : (x b : ℕ) (c r : List ℕ) → 53248 ≤ x → x < 55296 → IsText r → b ∷ c ≡ (224 + x / 4096) ∷ (128 + (x / 64) % 64) ∷ (128 + x % 64) ∷ r → Led b c
-led_ed x b c r l h t e =
-    let same : b ≡ 224 + x / 4096 = cc in
-    let rest : (128 + (x / 64) % 64) ∷ (128 + x % 64) ∷ r ≡ c = cc in
-    let f : text_rest AfterEd ((128 + (x / 64) % 64) ∷ (128 + x % 64) ∷ r) = ((omega arith, omega arith), ((omega arith, omega arith), t)) in
-    record { place = AfterEd; leads = lead_at AfterEd 237 b (omega arith) refl; follows = subst (λ v. text_rest AfterEd v) rest f }
-
-led_3 : (x b : ℕ) (c r : List ℕ) → lead (224 + x / 4096) ≡ Some LastTwo → IsText r → b ∷ c ≡ (224 + x / 4096) ∷ (128 + (x / 64) % 64) ∷ (128 + x % 64) ∷ r → Led b c
-led_3 x b c r i t e =
-    let same : b ≡ 224 + x / 4096 = cc in
-    let rest : (128 + (x / 64) % 64) ∷ (128 + x % 64) ∷ r ≡ c = cc in
-    let f : text_rest LastTwo ((128 + (x / 64) % 64) ∷ (128 + x % 64) ∷ r) = ((omega arith, omega arith), ((omega arith, omega arith), t)) in
-    record { place = LastTwo; leads = lead_at LastTwo (224 + x / 4096) b same i; follows = subst (λ v. text_rest LastTwo v) rest f }
-
--- four bytes
-led_f0 : (x b : ℕ) (c r : List ℕ) → 65536 ≤ x → x < 262144 → IsText r → b ∷ c ≡ (240 + x / 262144) ∷ (128 + (x / 4096) % 64) ∷ (128 + (x / 64) % 64) ∷ (128 + x % 64) ∷ r → Led b c
-led_f0 x b c r l h t e =
-    let same : b ≡ 240 + x / 262144 = cc in
-    let rest : (128 + (x / 4096) % 64) ∷ (128 + (x / 64) % 64) ∷ (128 + x % 64) ∷ r ≡ c = cc in
-    let f : text_rest AfterF0 ((128 + (x / 4096) % 64) ∷ (128 + (x / 64) % 64) ∷ (128 + x % 64) ∷ r) = ((omega arith, omega arith), ((omega arith, omega arith), ((omega arith, omega arith), t))) in
-    record { place = AfterF0; leads = lead_at AfterF0 240 b (omega arith) refl; follows = subst (λ v. text_rest AfterF0 v) rest f }
-
-led_f4 : (x b : ℕ) (c r : List ℕ) → 1048576 ≤ x → x < 1114112 → IsText r → b ∷ c ≡ (240 + x / 262144) ∷ (128 + (x / 4096) % 64) ∷ (128 + (x / 64) % 64) ∷ (128 + x % 64) ∷ r → Led b c
-led_f4 x b c r l h t e =
-    let same : b ≡ 240 + x / 262144 = cc in
-    let rest : (128 + (x / 4096) % 64) ∷ (128 + (x / 64) % 64) ∷ (128 + x % 64) ∷ r ≡ c = cc in
-    let f : text_rest AfterF4 ((128 + (x / 4096) % 64) ∷ (128 + (x / 64) % 64) ∷ (128 + x % 64) ∷ r) = ((omega arith, omega arith), ((omega arith, omega arith), ((omega arith, omega arith), t))) in
-    record { place = AfterF4; leads = lead_at AfterF4 244 b (omega arith) refl; follows = subst (λ v. text_rest AfterF4 v) rest f }
-
-led_4 : (x b : ℕ) (c r : List ℕ) → 262144 ≤ x → x < 1048576 → IsText r → b ∷ c ≡ (240 + x / 262144) ∷ (128 + (x / 4096) % 64) ∷ (128 + (x / 64) % 64) ∷ (128 + x % 64) ∷ r → Led b c
-led_4 x b c r l h t e =
-    let same : b ≡ 240 + x / 262144 = cc in
-    let rest : (128 + (x / 4096) % 64) ∷ (128 + (x / 64) % 64) ∷ (128 + x % 64) ∷ r ≡ c = cc in
-    let f : text_rest LastThree ((128 + (x / 4096) % 64) ∷ (128 + (x / 64) % 64) ∷ (128 + x % 64) ∷ r) = ((omega arith, omega arith), ((omega arith, omega arith), ((omega arith, omega arith), t))) in
-    record { place = LastThree; leads = lead_is_three b (omega arith) (omega arith); follows = subst (λ v. text_rest LastThree v) rest f }
+    record { place = p; leads = ap lead same ∙ lead_is p n l; follows = subst (λ v. text_rest p v) rest f }
 
 char_led : (x b : ℕ) (c r : List ℕ) → IsTextChar x → IsText r → b ∷ c ≡ encode x ++ r → Led b c
 char_led x b c r h t e =
-    ⊎_elim (λ k. led_1 x b c r h.1 k t (e ∙ ap (λ v. v ++ r) (encode_1 x k)))
-    (λ l1. ⊎_elim (λ k. led_2 x b c r l1 k t (e ∙ ap (λ v. v ++ r) (encode_2 x l1 k)))
+    ⊎_elim (λ k. let z = h.1 in led Free x b c r (omega arith, omega arith) t (e ∙ ap (λ v. v ++ r) (encode_1 x k)))
+    (λ l1. ⊎_elim (λ k. led Last _ b c _ (omega arith, omega arith) (one x, t) (e ∙ ap (λ v. v ++ r) (encode_2 x l1 k)))
     (λ l2. ⊎_elim (λ k. wide l2 k (e ∙ ap (λ v. v ++ r) (encode_3 x l2 k)))
     (λ l3. wider l3 (e ∙ ap (λ v. v ++ r) (encode_4 x l3)))
     (cases_lt x 65536)) (cases_lt x 2048)) (cases_lt x 128)
   where
+    one : (y : ℕ) → IsInRange 128 191 (128 + y % 64)
+    one y = (omega arith, omega arith)
+
     wide : 2048 ≤ x → x < 65536 → b ∷ c ≡ (224 + x / 4096) ∷ (128 + (x / 64) % 64) ∷ (128 + x % 64) ∷ r → Led b c
     wide l2 k e' =
-        ⊎_elim (λ m. led_e0 x b c r l2 m t e')
-        (λ g1. ⊎_elim (λ m. led_3 x b c r (lead_is_two (224 + x / 4096) (omega arith) (omega arith)) t e')
-        (λ g2. ⊎_elim (λ m. led_ed x b c r g2 m t e')
-        (λ g3. led_3 x b c r (lead_is_two_more (224 + x / 4096) (⊎_elim (λ s. absurd (omega arith)) (λ s. omega arith) (scalar_cases x h.0)) (omega arith)) t e')
+        ⊎_elim (λ m. led AfterE0 _ b c _ (omega arith) ((omega arith, omega arith), (one x, t)) e')
+        (λ g1. ⊎_elim (λ m. led LastTwo _ b c _ (inl (omega arith, omega arith)) (one (x / 64), (one x, t)) e')
+        (λ g2. ⊎_elim (λ m. led AfterEd _ b c _ (omega arith) ((omega arith, omega arith), (one x, t)) e')
+        (λ g3. led LastTwo _ b c _ (inr (⊎_elim (λ s. absurd (omega arith)) (λ s. omega arith) (scalar_cases x h.0), omega arith)) (one (x / 64), (one x, t)) e')
         (cases_lt x 55296)) (cases_lt x 53248)) (cases_lt x 4096)
 
     wider : 65536 ≤ x → b ∷ c ≡ (240 + x / 262144) ∷ (128 + (x / 4096) % 64) ∷ (128 + (x / 64) % 64) ∷ (128 + x % 64) ∷ r → Led b c
     wider l3 e' =
-        ⊎_elim (λ m. led_f0 x b c r l3 m t e')
-        (λ g1. ⊎_elim (λ m. led_4 x b c r g1 m t e')
-        (λ g2. led_f4 x b c r g2 (⊎_elim (λ s. absurd (omega arith)) (λ s. s.1) (scalar_cases x h.0)) t e')
+        ⊎_elim (λ m. led AfterF0 _ b c _ (omega arith) ((omega arith, omega arith), (one (x / 64), (one x, t))) e')
+        (λ g1. ⊎_elim (λ m. led LastThree _ b c _ (omega arith, omega arith) (one (x / 4096), (one (x / 64), (one x, t))) e')
+        (λ g2. let small : x < 1114112 = ⊎_elim (λ s. absurd (omega arith)) (λ s. s.1) (scalar_cases x h.0) in led AfterF4 _ b c _ (omega arith) ((omega arith, omega arith), (one (x / 64), (one x, t))) e')
         (cases_lt x 1048576)) (cases_lt x 262144)
 
 text_led_at : (cs : List ℕ) (b : ℕ) (c : List ℕ) → AllByRecursion IsTextChar cs → b ∷ c ≡ encode_utf8_all cs → Led b c
@@ -244,10 +163,6 @@ back_4 b i j k c l h ri rj rk low high t =
     let e3 : 128 + x % 64 ≡ k = omega arith in
     let e : b ∷ i ∷ j ∷ k ∷ c ≡ ((240 + x / 262144) ∷ (128 + (x / 4096) % 64) ∷ (128 + (x / 64) % 64) ∷ (128 + x % 64) ∷ []) ++ c = cc in
     text_cons x (b ∷ i ∷ j ∷ k ∷ c) c (scalar_high x (omega arith) high, omega arith) (e ∙ ap (λ v. v ++ c) (sym (encode_4 x low))) t
-
--- three bytes after one that begins them
-abbrev Trailing : ℕ → ℕ → ℕ → (List ℕ → Type 0) → List ℕ → Type 0
-Trailing low high b R c = ByteThen low high R c
 
 back_two : (low high b : ℕ) (c : List ℕ) → 224 ≤ b → b ≤ 239 → ((i j : ℕ) → IsInRange low high i → IsInRange 128 191 j → IsInRange 128 191 i × (2048 ≤ (b - 224) * 4096 + (i - 128) * 64 + (j - 128)) × IsScalar ((b - 224) * 4096 + (i - 128) * 64 + (j - 128))) → ByteThen low high (ByteThen 128 191 IsText) c → IsText (b ∷ c)
 back_two low high b [] l h f t = absurd t
@@ -321,23 +236,11 @@ text_moves AfterF4 b = after_moves AfterF4 LastTwo 128 143 b (λ c h. h) (λ c r
 
 pub text_ended : (p : Utf8Place) → text_rest p [] → text_end p ≡ true
 text_ended Free h = refl
-text_ended Last h = absurd h
-text_ended LastTwo h = absurd h
-text_ended LastThree h = absurd h
-text_ended AfterE0 h = absurd h
-text_ended AfterEd h = absurd h
-text_ended AfterF0 h = absurd h
-text_ended AfterF4 h = absurd h
+text_ended _ h = absurd h
 
 pub text_ends : (p : Utf8Place) → text_end p ≡ true → text_rest p []
 text_ends Free e = nil_text
-text_ends Last e = absurd (false≢true e)
-text_ends LastTwo e = absurd (false≢true e)
-text_ends LastThree e = absurd (false≢true e)
-text_ends AfterE0 e = absurd (false≢true e)
-text_ends AfterEd e = absurd (false≢true e)
-text_ends AfterF0 e = absurd (false≢true e)
-text_ends AfterF4 e = absurd (false≢true e)
+text_ends _ e = absurd (false≢true e)
 
 pub text_some : (c : List ℕ) × IsText c
 text_some = ([], nil_text)

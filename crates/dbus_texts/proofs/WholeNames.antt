@@ -3,7 +3,7 @@ use Rattle.std.proofs.Common.{◌≡◌, ℕ, zero, suc, ◌+◌, ◌<◌, Bool,
 use Rattle.std.specs.List.{list_any}
 use Rattle.std.proofs.lemmas.Bool.{and_parts, eqb-true, eqb-false, false≢true}
 use Rattle.dbus_texts.specs.declared.names.Letters.{Letters}
-use Rattle.dbus_texts.specs.declared.names.Letters.TheVariants.{Word, Name, Unique, WellKnown}
+use Rattle.dbus_texts.specs.declared.names.Letters.TheVariants.{Word}
 use Rattle.dbus_texts.specs.declared.names.Tail.TheVariants.{Needed, Free}
 use Rattle.dbus_texts.specs.Names.{IsPath}
 use Rattle.dbus_texts.specs.NameScans.{begins, goes_on, separator, Elements, GoesOn}
@@ -13,9 +13,7 @@ use Rattle.dbus_texts.proofs.NameSteps.{apart, elements_move, goes_on_more, goes
 -- the separator begins no element
 begins_apart : (l : Letters) → begins l (separator l) ≡ false
 begins_apart Word = refl
-begins_apart Name = refl
-begins_apart Unique = refl
-begins_apart WellKnown = refl
+begins_apart _ = refl
 
 -- each byte after a may stand where it does, and the last is no separator
 abbrev Chain : Letters → ℕ → List ℕ → Type 0

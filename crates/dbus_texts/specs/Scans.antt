@@ -1,10 +1,10 @@
 -- What a scan has read so far.
 -- D-Bus Specification, "Basic types", "Valid Object Paths", "Valid Names" and "Valid Signatures".
-use Rattle.std.specs.Prelude.{◌≡◌, ℕ, Bool, true, false, List, ◌∷◌, length, min}
+use Rattle.std.specs.Prelude.{◌≡◌, ℕ, List, length, min}
 use Rattle.dbus_texts.specs.declared.scan.TextScan.{TextScan}
 use Rattle.dbus_texts.specs.declared.scan.ScanState.{ScanState}
 use Rattle.dbus_texts.specs.declared.scan.ScanState.TheVariants.{InText, InName, InSignature}
-use Rattle.dbus_texts.specs.Prefixes.{IsQuotient, Moves}
+use Rattle.dbus_texts.specs.Prefixes.{IsQuotient}
 use Rattle.dbus_texts.specs.NameScans.{name_rest}
 use Rattle.dbus_texts.specs.Utf8Scans.{text_rest}
 use Rattle.dbus_texts.specs.SignatureScans.{sig_rest}
@@ -17,11 +17,6 @@ abbrev pub state_rest : ScanState → List ℕ → Type 0
 state_rest (InText p) c = text_rest p c
 state_rest (InName n) c = name_rest n c
 state_rest (InSignature s) c = sig_rest (sig_view s) c
-
--- the scan goes on by the byte b, or the byte cannot stand here and nothing changes
-abbrev pub Steps : ScanState → ℕ → Bool → ScanState → Type 0
-Steps old b true new = Moves (state_rest old) b (state_rest new)
-Steps old b false new = ((c : List ℕ) → state_rest old (b ∷ c) → ⊥) × (new ≡ old)
 
 abbrev pub kind_of : TextScan → TextKind
 kind_of x = x.kind

@@ -2,6 +2,7 @@
 #![tactic(auto)]
 
 mod ascii;
+mod byte_scan;
 mod check;
 pub mod laws;
 mod name_blocks;

@@ -3,7 +3,9 @@
 
 ghost use Rattle.std.specs.Prelude.{◌≡◌};
 ghost use Rattle.dbus_texts.specs.Names.{is_word, is_dashed_start};
-ghost use Rattle.dbus_texts.specs.NameScans.{begins, goes_on, separator, name_next, name_end, name_rest};
+ghost use Rattle.dbus_texts.specs.NameScans.{begins, goes_on, separator, name_next, name_rest};
+
+use crate::byte_scan::ByteScan;
 
 /// Which bytes an element may have.
 #[derive(Clone, Copy, PartialEq, Eq, Debug)]
@@ -101,82 +103,87 @@ impl Letters {
 }
 
 impl NameScan {
-    ghost use Rattle.dbus_texts.specs.Prefixes.{IsBreakFrom};
+    ghost use Rattle.dbus_texts.specs.NameScans.{name_next_at, name_state};
+    ghost use Rattle.dbus_texts.specs.declared.names.Place.TheVariants.{More};
+
+    /// What is wanted at the place.
+    pub const fn at(place: Place, letters: Letters, tail: Tail) -> NameScan
+        ensures { result ≡ name_state place letters tail }
+    {
+        NameScan {
+            place,
+            letters,
+            tail,
+        }
+    }
 
     /// What is wanted after one byte more, if it may stand here.
-    pub fn next(self, byte: u8) -> Option<NameScan>
+    fn next(self, byte: u8) -> Option<NameScan>
         ensures { result ≡ name_next self byte }
     {
         match self.place {
-            Place::PathStart => (byte == b'/').then_some(NameScan {
-                place: Place::Root,
-                letters: Letters::Word,
-                tail: Tail::Free,
-            }),
-            Place::Root => is_word(byte).then_some(NameScan {
-                place: Place::More,
-                letters: Letters::Word,
-                tail: Tail::Free,
-            }),
+            Place::PathStart => {
+                (byte == b'/').then_some(NameScan::at(Place::Root, Letters::Word, Tail::Free))
+            }
+            Place::Root => {
+                is_word(byte).then_some(NameScan::at(Place::More, Letters::Word, Tail::Free))
+            }
             Place::BusStart => {
                 if byte == b':' {
-                    return Some(NameScan {
-                        place: Place::First,
-                        letters: Letters::Unique,
-                        tail: Tail::Needed,
-                    });
+                    return Some(NameScan::at(Place::First, Letters::Unique, Tail::Needed));
                 }
-                is_dashed_start(byte).then_some(NameScan {
-                    place: Place::More,
-                    letters: Letters::WellKnown,
-                    tail: Tail::Needed,
-                })
+                is_dashed_start(byte).then_some(NameScan::at(
+                    Place::More,
+                    Letters::WellKnown,
+                    Tail::Needed,
+                ))
             }
             Place::First => self.letters.begins(byte).then_some(NameScan {
                 place: Place::More,
                 ..self
             }),
-            Place::More => {
-                if self.letters.goes_on(byte) {
-                    return Some(self);
-                }
-                if byte != self.letters.separator() {
-                    return None;
-                }
-                match self.tail {
-                    Tail::Alone => None,
-                    Tail::Needed | Tail::Free => Some(NameScan {
-                        place: Place::First,
-                        tail: Tail::Free,
-                        ..self
-                    }),
-                }
-            }
+            Place::More => self.next_within(byte),
         }
     }
 
-    /// Whether the name may end here.
-    pub fn end(self) -> bool
-        ensures { result ≡ name_end self }
+    /// The same within an element, or after it.
+    fn next_within(self, byte: u8) -> Option<NameScan>
+        requires { self.place ≡ More }
+        ensures { result ≡ name_next_at More self.letters self.tail byte }
     {
+        if self.letters.goes_on(byte) {
+            return Some(self);
+        }
+        if byte != self.letters.separator() {
+            return None;
+        }
+        match self.tail {
+            Tail::Alone => None,
+            Tail::Needed | Tail::Free => {
+                Some(NameScan::at(Place::First, self.letters, Tail::Free))
+            }
+        }
+    }
+}
+
+impl ByteScan for NameScan {
+    ghost rest = { name_rest };
+
+    fn step(&mut self, byte: u8) -> bool {
+        match self.next(byte) {
+            Some(next) => {
+                *self = next;
+                true
+            }
+            None => false,
+        }
+    }
+
+    fn end(&self) -> bool {
         match self.place {
             Place::Root => true,
             Place::More => self.tail != Tail::Needed,
             _ => false,
         }
-    }
-
-    /// Where a name breaks that goes on from here, or `None` where it may go on so and end.
-    pub fn break_of(self, text: &[u8]) -> Option<usize>
-        ensures { IsBreakFrom (name_rest self) text.now result }
-    {
-        let mut scan = self;
-        for (i, byte) in text.iter().enumerate() {
-            match scan.next(*byte) {
-                Some(next) => scan = next,
-                None => return Some(i),
-            }
-        }
-        if scan.end() { None } else { Some(text.len()) }
     }
 }

@@ -4,9 +4,9 @@
 ghost use Rattle.std.specs.Prelude.{◌≡◌, ◌↔◌, ℕ, ◌+◌, ◌<◌, ◌≤◌, List, [], ◌∷◌, ◌++◌, length, take, IsTrue, IsFalse};
 ghost use Rattle.dbus_texts.specs.declared.scan.ScanState.TheVariants.{InText};
 ghost use Rattle.dbus_texts.specs.declared.utf8.Utf8Place.TheVariants.{Free};
-ghost use Rattle.dbus_texts.specs.NameScans.{name_state};
 
 use crate::ascii::plain_prefix;
+use crate::byte_scan::{ByteScan, break_of};
 use crate::names::{Letters, NameScan, Place, Tail};
 use crate::signature::SigScan;
 use crate::text_kind::TextKind;
@@ -22,8 +22,8 @@ pub enum ScanState {
 
 impl ScanState {
     ghost use Rattle.dbus_texts.specs.Kinds.{IsOfKind};
-    ghost use Rattle.dbus_texts.specs.Prefixes.{IsQuotient, IsBreakFrom};
-    ghost use Rattle.dbus_texts.specs.Scans.{Steps, state_rest};
+    ghost use Rattle.dbus_texts.specs.Prefixes.{IsQuotient, IsBreakFrom, Steps};
+    ghost use Rattle.dbus_texts.specs.Scans.{state_rest};
 
     /// The state before any byte of a text of the kind.
     pub fn of_kind(kind: TextKind) -> Self
@@ -32,16 +32,16 @@ impl ScanState {
         match kind {
             TextKind::Text => ScanState::InText(Utf8Place::Free),
             TextKind::Path => {
-                ScanState::InName(name_scan(Place::PathStart, Letters::Word, Tail::Free))
+                ScanState::InName(NameScan::at(Place::PathStart, Letters::Word, Tail::Free))
             }
             TextKind::Interface | TextKind::ErrorName => {
-                ScanState::InName(name_scan(Place::First, Letters::Name, Tail::Needed))
+                ScanState::InName(NameScan::at(Place::First, Letters::Name, Tail::Needed))
             }
             TextKind::Member => {
-                ScanState::InName(name_scan(Place::First, Letters::Name, Tail::Alone))
+                ScanState::InName(NameScan::at(Place::First, Letters::Name, Tail::Alone))
             }
             TextKind::BusName => {
-                ScanState::InName(name_scan(Place::BusStart, Letters::Unique, Tail::Needed))
+                ScanState::InName(NameScan::at(Place::BusStart, Letters::Unique, Tail::Needed))
             }
             TextKind::Signature => ScanState::InSignature(SigScan::new(false)),
             TextKind::Single => ScanState::InSignature(SigScan::new(true)),
@@ -50,23 +50,11 @@ impl ScanState {
 
     /// Takes one byte more, if it may stand here; else changes nothing.
     fn step(&mut self, byte: u8) -> bool
-        ensures { Steps self.old byte result self.new }
+        ensures { Steps state_rest self.old byte result self.new }
     {
         match self {
-            ScanState::InText(place) => match place.next(byte) {
-                Some(next) => {
-                    *place = next;
-                    true
-                }
-                None => false,
-            },
-            ScanState::InName(name) => match name.next(byte) {
-                Some(next) => {
-                    *name = next;
-                    true
-                }
-                None => false,
-            },
+            ScanState::InText(place) => place.step(byte),
+            ScanState::InName(name) => name.step(byte),
             ScanState::InSignature(signature) => signature.step(byte),
         }
     }
@@ -91,23 +79,14 @@ impl ScanState {
 
     /// Where a text breaks that goes on from here, or `None` where it may go on so and end.
     pub fn break_of(self, text: &[u8]) -> Option<usize>
+        requires { (more : List ℕ) × state_rest self more }
         ensures { IsBreakFrom (state_rest self) text.now result }
     {
         match self {
-            ScanState::InText(place) => place.break_of(text),
-            ScanState::InName(name) => name.break_of(text),
-            ScanState::InSignature(signature) => signature.break_of(text),
+            ScanState::InText(place) => break_of(place, text),
+            ScanState::InName(name) => break_of(name, text),
+            ScanState::InSignature(signature) => break_of(signature, text),
         }
-    }
-}
-
-const fn name_scan(place: Place, letters: Letters, tail: Tail) -> NameScan
-    ensures { result ≡ name_state place letters tail }
-{
-    NameScan {
-        place,
-        letters,
-        tail,
     }
 }
 

@@ -1,9 +1,10 @@
 //! The scan of signatures.
 #![tactic(auto)]
 
-ghost use Rattle.std.specs.Prelude.{◌≡◌, ◌+◌, ◌<◌, ◌≤◌, length, IsTrue};
+ghost use Rattle.std.specs.Prelude.{◌≡◌, ◌+◌, ◌<◌, ◌≤◌, ◌++◌, ◌∷◌, [], length, IsTrue};
 ghost use Rattle.dbus_texts.specs.Frames.{AreBounded, AreBounded-prop, spare};
 
+use crate::byte_scan::ByteScan;
 use crate::type_codes::{is_basic_code, is_type_code};
 use arrayvec::ArrayVec;
 
@@ -47,8 +48,7 @@ pub struct SigScan {
 }
 
 impl SigScan {
-    ghost use Rattle.dbus_texts.specs.SignatureScans.{begin, sig_next, sig_end, sig_rest};
-    ghost use Rattle.dbus_texts.specs.Prefixes.{IsBreakFrom};
+    ghost use Rattle.dbus_texts.specs.SignatureScans.{begin, sig_next, sig_state, frame};
     ghost use Rattle.dbus_texts.specs.SigViews.{sig_view, sig_start, Follows};
 
     /// A scan that has read nothing.
@@ -66,6 +66,25 @@ impl SigScan {
             structs: 0,
             frames: ArrayVec::new(),
         }
+    }
+
+    /// A struct or a dict entry begins, with so many arrays and structs open in it.
+    fn open(&mut self, place: SigPlace, entry: bool, arrays: u8, structs: u8)
+        requires arrays_in { arrays ≤ 32 }
+        requires structs_in { structs ≤ 32 }
+        requires room { length self.old.frames.items < arrays + structs }
+        requires place { spare place ≡ 0 }
+        ensures { sig_view self.new ≡ sig_state self.old.single place arrays structs
+            (self.old.frames.items ++ frame entry arrays structs ∷ []) }
+    {
+        self.frames.push(Frame {
+            entry,
+            arrays,
+            structs,
+        });
+        self.place = place;
+        self.arrays = arrays;
+        self.structs = structs;
     }
 
     /// A complete type begins, with so many arrays and structs open around it.
@@ -97,28 +116,14 @@ impl SigScan {
                 if structs == 32 {
                     return false;
                 }
-                self.frames.push(Frame {
-                    entry: false,
-                    arrays,
-                    structs: structs + 1,
-                });
-                self.place = SigPlace::One;
-                self.arrays = arrays;
-                self.structs = structs + 1;
+                self.open(SigPlace::One, false, arrays, structs + 1);
                 true
             }
             b'{' => {
                 if !inside {
                     return false;
                 }
-                self.frames.push(Frame {
-                    entry: true,
-                    arrays,
-                    structs,
-                });
-                self.place = SigPlace::Key;
-                self.arrays = arrays;
-                self.structs = structs;
+                self.open(SigPlace::Key, true, arrays, structs);
                 true
             }
             _ => false,
@@ -126,7 +131,7 @@ impl SigScan {
     }
 
     /// Takes one byte more, if it may stand here; else changes nothing.
-    pub fn step(&mut self, byte: u8) -> bool
+    fn go_on(&mut self, byte: u8) -> bool
         ensures { Follows self.old result self.new (sig_next (sig_view self.old) byte) }
     {
         match self.place {
@@ -163,24 +168,19 @@ impl SigScan {
             }
         }
     }
+}
 
-    /// Whether the signature may end here.
-    pub fn end(&self) -> bool
-        ensures { result ≡ sig_end (sig_view self.now) }
-    {
-        self.place == SigPlace::After && self.frames.is_empty()
+impl ByteScan for SigScan {
+    ghost use Rattle.dbus_texts.specs.SignatureScans.{sig_rest};
+    ghost use Rattle.dbus_texts.specs.SigViews.{sig_view};
+
+    ghost rest = { λ scan. sig_rest (sig_view scan) };
+
+    fn step(&mut self, byte: u8) -> bool {
+        self.go_on(byte)
     }
 
-    /// Where a signature breaks that goes on from here, or `None` where it may go on so and end.
-    pub fn break_of(self, text: &[u8]) -> Option<usize>
-        ensures { IsBreakFrom (sig_rest (sig_view self)) text.now result }
-    {
-        let mut scan = self;
-        for (i, byte) in text.iter().enumerate() {
-            if !scan.step(*byte) {
-                return Some(i);
-            }
-        }
-        if scan.end() { None } else { Some(text.len()) }
+    fn end(&self) -> bool {
+        self.place == SigPlace::After && self.frames.is_empty()
     }
 }

@@ -3,9 +3,10 @@
 
 ghost use Rattle.std.specs.Prelude.{◌≡◌, ◌↔◌, Option, IsTrue};
 ghost use Rattle.dbus_texts.specs.Utf8.{IsText};
-ghost use Rattle.dbus_texts.specs.Utf8Scans.{lead, text_next, text_end, text_rest};
+ghost use Rattle.dbus_texts.specs.Utf8Scans.{lead, text_next, text_rest};
 
 use crate::ascii::plain_prefix;
+use crate::byte_scan::ByteScan;
 use std::str;
 
 /// Where in a character the scan stands.
@@ -62,10 +63,8 @@ pub(crate) fn is_text(text: &[u8]) -> bool
 }
 
 impl Utf8Place {
-    ghost use Rattle.dbus_texts.specs.Prefixes.{IsBreakFrom};
-
     /// What is wanted after one byte more, if it may stand here.
-    pub fn next(self, byte: u8) -> Option<Utf8Place>
+    fn next(self, byte: u8) -> Option<Utf8Place>
         ensures { result ≡ text_next self byte }
     {
         match self {
@@ -79,25 +78,22 @@ impl Utf8Place {
             Utf8Place::AfterF4 => matches!(byte, 0x80..=0x8f).then_some(Utf8Place::LastTwo),
         }
     }
+}
 
-    /// Whether the text may end here.
-    pub fn end(self) -> bool
-        ensures { result ≡ text_end self }
-    {
-        self == Utf8Place::Free
+impl ByteScan for Utf8Place {
+    ghost rest = { text_rest };
+
+    fn step(&mut self, byte: u8) -> bool {
+        match self.next(byte) {
+            Some(next) => {
+                *self = next;
+                true
+            }
+            None => false,
+        }
     }
 
-    /// Where a text breaks that goes on from here, or `None` where it may go on so and end.
-    pub fn break_of(self, text: &[u8]) -> Option<usize>
-        ensures { IsBreakFrom (text_rest self) text.now result }
-    {
-        let mut place = self;
-        for (i, byte) in text.iter().enumerate() {
-            match place.next(*byte) {
-                Some(next) => place = next,
-                None => return Some(i),
-            }
-        }
-        if place.end() { None } else { Some(text.len()) }
+    fn end(&self) -> bool {
+        *self == Utf8Place::Free
     }
 }

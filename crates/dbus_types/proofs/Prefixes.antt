@@ -96,11 +96,7 @@ code_first w b c e n1 n2 n3 h =
 
 not_nil : (t : TypeTree) (r : List ℕ) → [] ≡ sig t ++ r → ⊥
 not_nil (NumberType n) r e = cc
-not_nil (TextType n) r e = cc
-not_nil VariantType r e = cc
-not_nil (ArrayType t) r e = cc
-not_nil (StructType ts) r e = cc
-not_nil (EntryType k v) r e = cc
+not_nil _ r e = cc
 
 pub not_empty : StartsType [] → ⊥
 not_empty h = not_nil h.tree h.rest h.spelled

@@ -22,20 +22,11 @@ type_length deep (c ∷ s) = suc (if c == 97 then type_length deep s else unless
 
 number_ends : (deep : ℕ) (k : NumberCode) (s : List ℕ) → type_length deep (number_code k ∷ s) ≡ suc (unless_closed deep (λ n. type_length n s))
 number_ends deep BYTE s = refl
-number_ends deep BOOLEAN s = refl
-number_ends deep INT16 s = refl
-number_ends deep UINT16 s = refl
-number_ends deep INT32 s = refl
-number_ends deep UINT32 s = refl
-number_ends deep INT64 s = refl
-number_ends deep UINT64 s = refl
-number_ends deep DOUBLE s = refl
-number_ends deep UNIX_FD s = refl
+number_ends deep _ s = refl
 
 text_ends : (deep : ℕ) (k : TextCode) (s : List ℕ) → type_length deep (text_code k ∷ s) ≡ suc (unless_closed deep (λ n. type_length n s))
 text_ends deep STRING s = refl
-text_ends deep OBJECT_PATH s = refl
-text_ends deep SIGNATURE s = refl
+text_ends deep _ s = refl
 
 struct_parts : (ts : TypeTrees) (r : List ℕ) → (sigs ts ++ 41 ∷ []) ++ r ≡ sigs ts ++ 41 ∷ r
 struct_parts ts r = append_assoc (sigs ts) (41 ∷ []) r

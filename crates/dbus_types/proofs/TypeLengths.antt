@@ -2,37 +2,23 @@
 use Rattle.std.proofs.Common.{◌≡◌, ℕ, ◌+◌, ◌-◌, ◌<◌, ◌⊎◌, inl, inr, ◌||◌, ◌==◌, Bool, false, List, [], ◌∷◌, ◌++◌, length, take, drop, get_or, refl, sym, ap, subst, ◌∙◌, arith, append_assoc}
 use Rattle.std.proofs.lemmas.List.{length-append, length-drop, length-take, drop_more, drop_at, drop-drop, drop-take, take-append-drop, get_or-take, get_or-drop}
 use Rattle.dbus_texts.specs.Types.{TypeTree, NumberType, TextType, VariantType, ArrayType, StructType, EntryType, TypeTrees, NoTypes, MoreTypes, BYTE, BOOLEAN, INT16, UINT16, INT32, UINT32, INT64, UINT64, DOUBLE, UNIX_FD, STRING, OBJECT_PATH, SIGNATURE, sig, sigs}
+use Rattle.dbus_texts.specs.ComputedKinds.{Nothing, opening}
 use Rattle.dbus_texts.proofs.TypeTexts.{sig_positive}
 use Rattle.dbus_types.specs.SignatureCodes.{first_code, IsTypeEnd}
 use Rattle.dbus_types.specs.TypeLengths.{AreLengths, AreNoted}
-use Rattle.dbus_types.proofs.TypeCodes.{begins, code_is, array_is, struct_is, entry_is}
+use Rattle.dbus_types.proofs.TypeCodes.{begins, code_is, opens, opening_is, array_is, struct_is, entry_is}
 
 -- no type begins with a closing bracket
-abbrev is_close : ℕ → Bool
-is_close c = (c == 41) || (c == 125)
+no_close : (t : TypeTree) (c : ℕ) → first_code t ≡ c → (c ≡ 41) ⊎ (c ≡ 125) → ⊥
+no_close t c e close = of t (sym (opening_is t) ∙ ap opening e ∙ nothing close)
+  where
+    nothing : (c ≡ 41) ⊎ (c ≡ 125) → opening c ≡ Nothing
+    nothing (inl is) = ap opening is
+    nothing (inr is) = ap opening is
 
-none_closes : (t : TypeTree) → is_close (first_code t) ≡ false
-none_closes (NumberType BYTE) = refl
-none_closes (NumberType BOOLEAN) = refl
-none_closes (NumberType INT16) = refl
-none_closes (NumberType UINT16) = refl
-none_closes (NumberType INT32) = refl
-none_closes (NumberType UINT32) = refl
-none_closes (NumberType INT64) = refl
-none_closes (NumberType UINT64) = refl
-none_closes (NumberType DOUBLE) = refl
-none_closes (NumberType UNIX_FD) = refl
-none_closes (TextType STRING) = refl
-none_closes (TextType OBJECT_PATH) = refl
-none_closes (TextType SIGNATURE) = refl
-none_closes VariantType = refl
-none_closes (ArrayType t) = refl
-none_closes (StructType ts) = refl
-none_closes (EntryType k v) = refl
-
-pub no_close : (t : TypeTree) (c : ℕ) → first_code t ≡ c → (c ≡ 41) ⊎ (c ≡ 125) → ⊥
-no_close t c e (inl is) = let z : is_close 41 ≡ false = ap is_close (sym (e ∙ is)) ∙ none_closes t in cc
-no_close t c e (inr is) = let z : is_close 125 ≡ false = ap is_close (sym (e ∙ is)) ∙ none_closes t in cc
+    of : (t : TypeTree) → opens t ≡ Nothing → ⊥
+    of (NumberType k) h = cc
+    of _ h = cc
 
 -- the byte at which a type's text stands
 pub first_there : (types : List ℕ) (pos : ℕ) (t : TypeTree) (more : List ℕ) → pos < length types → drop pos types ≡ sig t ++ more → first_code t ≡ get_or types pos 0

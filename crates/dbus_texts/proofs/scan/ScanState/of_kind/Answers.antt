@@ -15,18 +15,18 @@ at_kind : (k m : TextKind) (R : List ℕ → Type 0) → k ≡ m → IsQuotient 
 at_kind k m R e h = subst (λ x. IsQuotient (IsOfKind x) [] R) (sym e) h
 
 pub returns-in-Path : goal.returns-in-Path
-returns-in-Path c = at_kind c.args.kind Path _ c.in-Path.is (name_starts IsPath c.name_scan.result (name_state PathStart Word Free) c.name_scan.ensures path_starts)
+returns-in-Path c = at_kind c.args.kind Path _ c.in-Path.is (name_starts IsPath c.at.result (name_state PathStart Word Free) c.at.ensures path_starts)
 
 pub returns-in-Interface : goal.returns-in-Interface
 returns-in-Interface c =
-    let q = name_starts IsInterface c.name_scan-in-Interface.result (name_state First Name Needed) c.name_scan-in-Interface.ensures interface_starts in
+    let q = name_starts IsInterface c.at-in-Interface.result (name_state First Name Needed) c.at-in-Interface.ensures interface_starts in
     ⊎_elim (λ e. at_kind c.args.kind Interface _ e q) (λ e. at_kind c.args.kind ErrorName _ e q) c.in-Interface.is
 
 pub returns-in-Member : goal.returns-in-Member
-returns-in-Member c = at_kind c.args.kind Member _ c.in-Member.is (name_starts IsMember c.name_scan-in-Member.result (name_state First Name Alone) c.name_scan-in-Member.ensures member_starts)
+returns-in-Member c = at_kind c.args.kind Member _ c.in-Member.is (name_starts IsMember c.at-in-Member.result (name_state First Name Alone) c.at-in-Member.ensures member_starts)
 
 pub returns-in-BusName : goal.returns-in-BusName
-returns-in-BusName c = at_kind c.args.kind BusName _ c.in-BusName.is (name_starts IsBusName c.name_scan-in-BusName.result (name_state BusStart Unique Needed) c.name_scan-in-BusName.ensures bus_starts)
+returns-in-BusName c = at_kind c.args.kind BusName _ c.in-BusName.is (name_starts IsBusName c.at-in-BusName.result (name_state BusStart Unique Needed) c.at-in-BusName.ensures bus_starts)
 
 pub returns-in-Signature : goal.returns-in-Signature
 returns-in-Signature c = at_kind c.args.kind Signature _ c.in-Signature.is (signature_starts c.new.result c.new.ensures)

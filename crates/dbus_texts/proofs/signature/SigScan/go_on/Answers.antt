@@ -1,6 +1,6 @@
 use Rattle.std.proofs.Common.{◌≡◌, Some, sym, subst, length, ◌-◌, rules}
 use Rattle.dbus_texts.proofs.FrameBounds.{AreBounded-take, AreBounded-innermost}
-use Rattle.dbus_texts.proofs.signature.SigScan.step.Goals as goal
+use Rattle.dbus_texts.proofs.signature.SigScan.go_on.Goals as goal
 use Rattle.dbus_texts.specs.Frames.{AreBounded}
 use Rattle.dbus_texts.specs.SignatureScans.{innermost}
 

@@ -1,0 +1,6 @@
+use Rattle.std.proofs.Common.{take}
+use Rattle.dbus_texts.specs.Prefixes.{IsQuotient}
+use Rattle.dbus_texts.proofs.byte_scan.break_of.Given as goal
+
+abbrev pub invariant-loop-i : goal.invariant-loop-i
+invariant-loop-i g l = IsQuotient (g.S.ByteScan.rest l.fn.start) (take l.i l.text) (g.S.ByteScan.rest l.scan)
