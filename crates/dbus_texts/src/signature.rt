@@ -112,17 +112,11 @@ impl SigScan {
                 self.structs = structs;
                 true
             }
-            b'(' => {
-                if structs == 32 {
-                    return false;
-                }
+            b'(' if structs < 32 => {
                 self.open(SigPlace::One, false, arrays, structs + 1);
                 true
             }
-            b'{' => {
-                if !inside {
-                    return false;
-                }
+            b'{' if inside => {
                 self.open(SigPlace::Key, true, arrays, structs);
                 true
             }
