@@ -1,7 +1,7 @@
 -- Which type begins with a byte.
-use Rattle.std.proofs.Common.{◌≡◌, ℕ, suc, ◌-◌, List, [], ◌∷◌, ◌++◌, length, get_or, take, drop, Bool, true, false, ◌||◌, ◌==◌, if◌then◌else◌, refl, sym, ap, subst, ◌∙◌, arith, append_assoc}
+use Rattle.std.proofs.Common.{◌≡◌, ℕ, suc, ◌-◌, List, [], ◌∷◌, ◌++◌, length, get_or, take, drop, true, false, ◌||◌, ◌==◌, if◌then◌else◌, refl, sym, ap, ◌∙◌, arith, append_assoc}
 use Rattle.std.proofs.lemmas.List.{length-append, length-drop, append-nil, take_at, take_all}
-use Rattle.dbus_texts.specs.Types.{NumberCode, BYTE, BOOLEAN, INT16, UINT16, INT32, UINT32, INT64, UINT64, DOUBLE, UNIX_FD, TextCode, STRING, OBJECT_PATH, SIGNATURE, TypeTree, NumberType, TextType, VariantType, ArrayType, StructType, EntryType, TypeTrees, NoTypes, MoreTypes, number_code, text_code, sig, sigs, IsShaped, AreShaped, IsBasic}
+use Rattle.dbus_texts.specs.Types.{BYTE, BOOLEAN, UNIX_FD, TextCode, STRING, TypeTree, NumberType, TextType, VariantType, ArrayType, StructType, EntryType, TypeTrees, NoTypes, MoreTypes, text_code, sig, sigs, IsShaped, AreShaped, IsBasic}
 use Rattle.dbus_texts.specs.ComputedKinds.{Opening, OneCode, AnArray, AStruct, AnEntry, opening}
 use Rattle.dbus_texts.proofs.TypeTexts.{opening_text}
 use Rattle.dbus_types.specs.Alignments.{alignment_of}
