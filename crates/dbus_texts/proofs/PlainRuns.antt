@@ -1,21 +1,18 @@
 -- Bytes from 1 to 127 between the characters of a text.
-use Rattle.std.proofs.Common.{◌≡◌, ℕ, Some, List, [], ◌∷◌, ◌++◌, refl, sym, subst, append_assoc, append-nil}
+use Rattle.std.proofs.Common.{ℕ, List, [], ◌∷◌, ◌++◌, sym, subst, append_assoc, append-nil}
 use Rattle.std.specs.List.{AllByRecursion}
 use Rattle.std.specs.Int.{IsInRange}
 use Rattle.dbus_texts.specs.declared.utf8.Utf8Place.TheVariants.{Free}
 use Rattle.dbus_texts.specs.Prefixes.{Moves, IsQuotient}
 use Rattle.dbus_texts.specs.Utf8.{IsText}
-use Rattle.dbus_texts.specs.Utf8Scans.{lead, text_rest, text_next}
+use Rattle.dbus_texts.specs.Utf8Scans.{text_rest, text_next}
 use Rattle.dbus_texts.proofs.Quotients.{quotient_push}
 use Rattle.dbus_texts.proofs.ScanSteps.{step_some}
-use Rattle.dbus_texts.proofs.Utf8Steps.{in_range_is, text_moves}
-
-plain_leads : (b : ℕ) → IsInRange 1 127 b → Some Free ≡ lead b
-plain_leads b h = rw (in_range_is 1 127 b h.0 h.1) refl
+use Rattle.dbus_texts.proofs.Utf8Steps.{lead_is, text_moves}
 
 -- such a byte changes nothing
 pub plain_moves : (b : ℕ) → IsInRange 1 127 b → Moves IsText b IsText
-plain_moves b h = step_some text_rest (text_rest Free) b (text_next Free b) Free (text_moves Free b) (plain_leads b h)
+plain_moves b h = step_some text_rest (text_rest Free) b (text_next Free b) Free (text_moves Free b) (sym (lead_is Free b h))
 
 -- nor do many
 pub plain_run : (L : List ℕ → Type 0) (w u : List ℕ) → AllByRecursion (IsInRange 1 127) u → IsQuotient L w IsText → IsQuotient L (w ++ u) IsText

@@ -1,10 +1,10 @@
 -- The steps of a text.
-use Rattle.std.proofs.Common.{◌≡◌, ℕ, ◌+◌, ◌-◌, ◌*◌, ◌/◌, ◌%◌, ◌<◌, ◌≤◌, true, false, cond, eqb, leb, Option, Some, None, List, [], ◌∷◌, ◌++◌, ◌⊎◌, ⊎_elim, inl, inr, refl, sym, ap, ◌∙◌, subst, arith, encode_utf8_all, MatchOption}
+use Rattle.std.proofs.Common.{◌≡◌, ℕ, ◌+◌, ◌-◌, ◌*◌, ◌/◌, ◌%◌, ◌<◌, ◌≤◌, true, cond, Option, Some, None, List, [], ◌∷◌, ◌++◌, ◌⊎◌, ⊎_elim, inl, inr, refl, ap, ◌∙◌, subst, arith, encode_utf8_all}
 use Rattle.std.specs.List.{AllByRecursion}
 use Rattle.std.specs.Int.{is_in_range, IsInRange}
 use Rattle.std.specs.Char.{IsScalar}
 use Rattle.std.proofs.Math.Utf8.{encode, scalar_cases}
-use Rattle.std.proofs.lemmas.Bool.{cond_both, eqb-true, lt-ltb, le-ltb, le-leb, leb-true, false≢true, and_parts, and_from, and_right, lt-leb, cases_lt}
+use Rattle.std.proofs.lemmas.Bool.{cond_both, lt-ltb, le-ltb, false≢true, cases_lt}
 use Rattle.std.proofs.lemmas.Bool.Decides.{nat_tests}
 use Rattle.dbus_texts.specs.declared.utf8.Utf8Place.{Utf8Place}
 use Rattle.dbus_texts.specs.declared.utf8.Utf8Place.TheVariants.{Free, Last, LastTwo, LastThree, AfterE0, AfterEd, AfterF0, AfterF4}
@@ -34,28 +34,11 @@ encode_4 x l =
     let m : 2048 ≤ x = omega arith in
     rw (le-ltb x 128 k, le-ltb x 2048 m, le-ltb x 65536 l)
 
-scalar_low : (x : ℕ) → x < 55296 → IsScalar x
-scalar_low x h = rw (lt-ltb x 55296 h)
-
-scalar_high : (x : ℕ) → 57344 ≤ x → x < 1114112 → IsScalar x
-scalar_high x l h =
-    let k : 55296 ≤ x = omega arith in
-    rw (le-ltb x 55296 k, le-leb 57344 x l, lt-ltb x 1114112 h)
-
--- tests of a range
-in_range : (low high b : ℕ) → is_in_range low high b ≡ true → IsInRange low high b
-in_range low high b e =
-    let p = and_parts (leb low b) (leb b high) e in
-    (leb-true low b p.0, leb-true b high p.1)
-
-pub in_range_is : (low high b : ℕ) → low ≤ b → b ≤ high → is_in_range low high b ≡ true
-in_range_is low high b l h = and_from (leb low b) (leb b high) (le-leb low b l) (le-leb b high h)
-
-out_above : (low high b : ℕ) → high < b → is_in_range low high b ≡ false
-out_above low high b h = and_right (leb low b) (leb b high) (lt-leb b high h)
+is_scalar : (x : ℕ) → (x < 55296) ⊎ ((57344 ≤ x) × (x < 1114112)) → IsScalar x
+is_scalar x h = grind (arith, nat_tests)
 
 -- what a first byte says
-abbrev Leads : Utf8Place → ℕ → Type 0
+abbrev pub Leads : Utf8Place → ℕ → Type 0
 Leads Free b = (1 ≤ b) × (b ≤ 127)
 Leads Last b = (194 ≤ b) × (b ≤ 223)
 Leads LastTwo b = ((225 ≤ b) × (b ≤ 236)) ⊎ ((238 ≤ b) × (b ≤ 239))
@@ -65,20 +48,10 @@ Leads AfterEd b = b ≡ 237
 Leads AfterF0 b = b ≡ 240
 Leads AfterF4 b = b ≡ 244
 
-lead_means : (b : ℕ) → MatchOption (lead b) (Unit {0}) (λ p. Leads p b)
-lead_means b =
-    let P : Option Utf8Place → Type 0 = λ o. MatchOption o (Unit {0}) (λ p. Leads p b) in
-    cond_both (is_in_range 1 127 b) _ _ P (λ e. in_range 1 127 b e)
-    (λ n1. cond_both (is_in_range 194 223 b) _ _ P (λ e. in_range 194 223 b e)
-    (λ n2. cond_both (eqb b 224) _ _ P (λ e. eqb-true b 224 e)
-    (λ n3. cond_both (is_in_range 225 236 b) _ _ P (λ e. inl (in_range 225 236 b e))
-    (λ n4. cond_both (eqb b 237) _ _ P (λ e. eqb-true b 237 e)
-    (λ n5. cond_both (is_in_range 238 239 b) _ _ P (λ e. inr (in_range 238 239 b e))
-    (λ n6. cond_both (eqb b 240) _ _ P (λ e. eqb-true b 240 e)
-    (λ n7. cond_both (is_in_range 241 243 b) _ _ P (λ e. in_range 241 243 b e)
-    (λ n8. cond_both (eqb b 244) _ _ P (λ e. eqb-true b 244 e) (λ n9. tt)))))))))
+lead_means : (p : Utf8Place) (b : ℕ) → lead b ≡ Some p → Leads p b
+lead_means p b e = grind (arith, nat_tests)
 
-lead_is : (p : Utf8Place) (b : ℕ) → Leads p b → lead b ≡ Some p
+pub lead_is : (p : Utf8Place) (b : ℕ) → Leads p b → lead b ≡ Some p
 lead_is Free b h = grind (arith, nat_tests, h)
 lead_is _ b h = grind (arith, nat_tests, h)
 
@@ -96,10 +69,10 @@ led p n b c r l f e =
 
 char_led : (x b : ℕ) (c r : List ℕ) → IsTextChar x → IsText r → b ∷ c ≡ encode x ++ r → Led b c
 char_led x b c r h t e =
-    ⊎_elim (λ k. let z = h.1 in led Free x b c r (omega arith, omega arith) t (e ∙ ap (λ v. v ++ r) (encode_1 x k)))
-    (λ l1. ⊎_elim (λ k. led Last _ b c _ (omega arith, omega arith) (one x, t) (e ∙ ap (λ v. v ++ r) (encode_2 x l1 k)))
-    (λ l2. ⊎_elim (λ k. wide l2 k (e ∙ ap (λ v. v ++ r) (encode_3 x l2 k)))
-    (λ l3. wider l3 (e ∙ ap (λ v. v ++ r) (encode_4 x l3)))
+    ⊎_elim (λ k. let z = h.1 in led Free x b c r (omega arith, omega arith) t (rw (encode_1 x k) at e))
+    (λ l1. ⊎_elim (λ k. led Last _ b c _ (omega arith, omega arith) (one x, t) (rw (encode_2 x l1 k) at e))
+    (λ l2. ⊎_elim (λ k. wide l2 k (rw (encode_3 x l2 k) at e))
+    (λ l3. wider l3 (rw (encode_4 x l3) at e))
     (cases_lt x 65536)) (cases_lt x 2048)) (cases_lt x 128)
   where
     one : (y : ℕ) → IsInRange 128 191 (128 + y % 64)
@@ -131,67 +104,53 @@ text_led b c h = text_led_at h.0 b c h.1 h.2
 text_cons : (x : ℕ) (w r : List ℕ) → IsTextChar x → w ≡ encode x ++ r → IsText r → IsText w
 text_cons x w r h e t = (x ∷ t.0, (h, t.1), e ∙ ap (λ v. encode x ++ v) t.2)
 
-back_free : (b : ℕ) (c : List ℕ) → 1 ≤ b → b ≤ 127 → IsText c → IsText (b ∷ c)
-back_free b c l h t = text_cons b (b ∷ c) c (scalar_low b (omega arith), omega arith) (ap (λ v. v ++ c) (sym (encode_1 b (omega arith)))) t
-
-back_last : (b : ℕ) (c : List ℕ) → 194 ≤ b → b ≤ 223 → text_rest Last c → IsText (b ∷ c)
+back_last : (b : ℕ) (c : List ℕ) → 194 ≤ b → b ≤ 223 → ByteThen 128 191 IsText c → IsText (b ∷ c)
 back_last b [] l h t = absurd t
 back_last b (i ∷ c) l h t =
     let x = (b - 192) * 64 + (i - 128) in
-    let f : (128 ≤ x) × (x < 2048) = (omega arith, omega arith) in
     let e0 : 192 + x / 64 ≡ b = omega arith in
     let e1 : 128 + x % 64 ≡ i = omega arith in
-    let e : b ∷ i ∷ c ≡ ((192 + x / 64) ∷ (128 + x % 64) ∷ []) ++ c = cc in
-    text_cons x (b ∷ i ∷ c) c (scalar_low x (omega arith), omega arith) (e ∙ ap (λ v. v ++ c) (sym (encode_2 x f.0 f.1))) t.1
+    text_cons x (b ∷ i ∷ c) c (is_scalar x (inl (omega arith)), omega arith) (rw (encode_2 x (omega arith) (omega arith), e0, e1)) t.1
 
-back_3 : (b i j : ℕ) (c : List ℕ) → 224 ≤ b → b ≤ 239 → IsInRange 128 191 i → IsInRange 128 191 j → 2048 ≤ (b - 224) * 4096 + (i - 128) * 64 + (j - 128) → IsScalar ((b - 224) * 4096 + (i - 128) * 64 + (j - 128)) → IsText c → IsText (b ∷ i ∷ j ∷ c)
-back_3 b i j c l h ri rj low s t =
+-- the least and the greatest character that begin with b and a byte from low to high
+abbrev least : ℕ → ℕ → ℕ
+least b low = (b - 224) * 4096 + (low - 128) * 64
+
+abbrev greatest : ℕ → ℕ → ℕ
+greatest b high = (b - 224) * 4096 + (high - 128) * 64 + 63
+
+back_two : (low high b : ℕ) (c : List ℕ) → 224 ≤ b → b ≤ 239 → 128 ≤ low → high ≤ 191 → 2048 ≤ least b low → (greatest b high < 55296) ⊎ (57344 ≤ least b low) → ByteThen low high (ByteThen 128 191 IsText) c → IsText (b ∷ c)
+back_two low high b [] l h p q m s t = absurd t
+back_two low high b (i ∷ []) l h p q m s t = absurd t.1
+back_two low high b (i ∷ j ∷ c) l h p q m s t =
     let x = (b - 224) * 4096 + (i - 128) * 64 + (j - 128) in
-    let f : x < 65536 = omega arith in
     let e0 : 224 + x / 4096 ≡ b = omega arith in
     let e1 : 128 + (x / 64) % 64 ≡ i = omega arith in
     let e2 : 128 + x % 64 ≡ j = omega arith in
-    let e : b ∷ i ∷ j ∷ c ≡ ((224 + x / 4096) ∷ (128 + (x / 64) % 64) ∷ (128 + x % 64) ∷ []) ++ c = cc in
-    text_cons x (b ∷ i ∷ j ∷ c) c (s, omega arith) (e ∙ ap (λ v. v ++ c) (sym (encode_3 x low f))) t
+    text_cons x (b ∷ i ∷ j ∷ c) c (is_scalar x (⊎_elim (λ k. inl (omega arith)) (λ k. inr (omega arith, omega arith)) s), omega arith) (rw (encode_3 x (omega arith) (omega arith), e0, e1, e2)) t.1.1
 
-back_4 : (b i j k : ℕ) (c : List ℕ) → 240 ≤ b → b ≤ 244 → IsInRange 128 191 i → IsInRange 128 191 j → IsInRange 128 191 k → 65536 ≤ (b - 240) * 262144 + (i - 128) * 4096 + (j - 128) * 64 + (k - 128) → (b - 240) * 262144 + (i - 128) * 4096 + (j - 128) * 64 + (k - 128) < 1114112 → IsText c → IsText (b ∷ i ∷ j ∷ k ∷ c)
-back_4 b i j k c l h ri rj rk low high t =
+back_three : (low high b : ℕ) (c : List ℕ) → 240 ≤ b → b ≤ 244 → 128 ≤ low → high ≤ 191 → 16 ≤ (b - 240) * 64 + (low - 128) → (b - 240) * 64 + (high - 128) < 272 → ByteThen low high (ByteThen 128 191 (ByteThen 128 191 IsText)) c → IsText (b ∷ c)
+back_three low high b [] l h p q m s t = absurd t
+back_three low high b (i ∷ []) l h p q m s t = absurd t.1
+back_three low high b (i ∷ j ∷ []) l h p q m s t = absurd t.1.1
+back_three low high b (i ∷ j ∷ k ∷ c) l h p q m s t =
     let x = (b - 240) * 262144 + (i - 128) * 4096 + (j - 128) * 64 + (k - 128) in
     let e0 : 240 + x / 262144 ≡ b = omega arith in
     let e1 : 128 + (x / 4096) % 64 ≡ i = omega arith in
     let e2 : 128 + (x / 64) % 64 ≡ j = omega arith in
     let e3 : 128 + x % 64 ≡ k = omega arith in
-    let e : b ∷ i ∷ j ∷ k ∷ c ≡ ((240 + x / 262144) ∷ (128 + (x / 4096) % 64) ∷ (128 + (x / 64) % 64) ∷ (128 + x % 64) ∷ []) ++ c = cc in
-    text_cons x (b ∷ i ∷ j ∷ k ∷ c) c (scalar_high x (omega arith) high, omega arith) (e ∙ ap (λ v. v ++ c) (sym (encode_4 x low))) t
-
-back_two : (low high b : ℕ) (c : List ℕ) → 224 ≤ b → b ≤ 239 → ((i j : ℕ) → IsInRange low high i → IsInRange 128 191 j → IsInRange 128 191 i × (2048 ≤ (b - 224) * 4096 + (i - 128) * 64 + (j - 128)) × IsScalar ((b - 224) * 4096 + (i - 128) * 64 + (j - 128))) → ByteThen low high (ByteThen 128 191 IsText) c → IsText (b ∷ c)
-back_two low high b [] l h f t = absurd t
-back_two low high b (i ∷ []) l h f t = absurd t.1
-back_two low high b (i ∷ j ∷ c) l h f t =
-    let g = f i j t.0 t.1.0 in
-    back_3 b i j c l h g.0 t.1.0 g.1 g.2 t.1.1
-
-back_three : (low high b : ℕ) (c : List ℕ) → 240 ≤ b → b ≤ 244 → ((i j k : ℕ) → IsInRange low high i → IsInRange 128 191 j → IsInRange 128 191 k → IsInRange 128 191 i × (65536 ≤ (b - 240) * 262144 + (i - 128) * 4096 + (j - 128) * 64 + (k - 128)) × ((b - 240) * 262144 + (i - 128) * 4096 + (j - 128) * 64 + (k - 128) < 1114112)) → ByteThen low high (ByteThen 128 191 (ByteThen 128 191 IsText)) c → IsText (b ∷ c)
-back_three low high b [] l h f t = absurd t
-back_three low high b (i ∷ []) l h f t = absurd t.1
-back_three low high b (i ∷ j ∷ []) l h f t = absurd t.1.1
-back_three low high b (i ∷ j ∷ k ∷ c) l h f t =
-    let g = f i j k t.0 t.1.0 t.1.1.0 in
-    back_4 b i j k c l h g.0 t.1.0 t.1.1.0 g.1 g.2 t.1.1.1
+    text_cons x (b ∷ i ∷ j ∷ k ∷ c) c (is_scalar x (inr (omega arith, omega arith)), omega arith) (rw (encode_4 x (omega arith), e0, e1, e2, e3)) t.1.1.1
 
 back : (p : Utf8Place) (b : ℕ) (c : List ℕ) → Leads p b → text_rest p c → IsText (b ∷ c)
-back Free b c h t = back_free b c h.0 h.1 t
+back Free b c h t = text_cons b (b ∷ c) c (is_scalar b (inl (omega arith)), omega arith) (rw (encode_1 b (omega arith))) t
 back Last b c h t = back_last b c h.0 h.1 t
-back LastTwo b c h t =
-    ⊎_elim
-    (λ w. back_two 128 191 b c (omega arith) (omega arith) (λ i j ri rj. let x = (b - 224) * 4096 + (i - 128) * 64 + (j - 128) in (ri, omega arith, scalar_low x (omega arith))) t)
-    (λ w. back_two 128 191 b c (omega arith) (omega arith) (λ i j ri rj. let x = (b - 224) * 4096 + (i - 128) * 64 + (j - 128) in (ri, omega arith, scalar_high x (omega arith) (omega arith))) t)
-    h
-back LastThree b c h t = back_three 128 191 b c (omega arith) (omega arith) (λ i j k ri rj rk. (ri, omega arith, omega arith)) t
-back AfterE0 b c h t = back_two 160 191 b c (omega arith) (omega arith) (λ i j ri rj. let x = (b - 224) * 4096 + (i - 128) * 64 + (j - 128) in ((omega arith, omega arith), omega arith, scalar_low x (omega arith))) t
-back AfterEd b c h t = back_two 128 159 b c (omega arith) (omega arith) (λ i j ri rj. let x = (b - 224) * 4096 + (i - 128) * 64 + (j - 128) in ((omega arith, omega arith), omega arith, scalar_low x (omega arith))) t
-back AfterF0 b c h t = back_three 144 191 b c (omega arith) (omega arith) (λ i j k ri rj rk. ((omega arith, omega arith), omega arith, omega arith)) t
-back AfterF4 b c h t = back_three 128 143 b c (omega arith) (omega arith) (λ i j k ri rj rk. ((omega arith, omega arith), omega arith, omega arith)) t
+back LastTwo b c (inl h) t = back_two 128 191 b c (omega arith) (omega arith) (omega arith) (omega arith) (omega arith) (inl (omega arith)) t
+back LastTwo b c (inr h) t = back_two 128 191 b c (omega arith) (omega arith) (omega arith) (omega arith) (omega arith) (inr (omega arith)) t
+back AfterE0 b c h t = back_two 160 191 b c (omega arith) (omega arith) (omega arith) (omega arith) (omega arith) (inl (omega arith)) t
+back AfterEd b c h t = back_two 128 159 b c (omega arith) (omega arith) (omega arith) (omega arith) (omega arith) (inl (omega arith)) t
+back LastThree b c h t = back_three 128 191 b c (omega arith) (omega arith) (omega arith) (omega arith) (omega arith) (omega arith) t
+back AfterF0 b c h t = back_three 144 191 b c (omega arith) (omega arith) (omega arith) (omega arith) (omega arith) (omega arith) t
+back AfterF4 b c h t = back_three 128 143 b c (omega arith) (omega arith) (omega arith) (omega arith) (omega arith) (omega arith) t
 
 -- something may always follow
 nil_text : IsText []
@@ -213,7 +172,7 @@ free_moves b None e = λ c h. let l = text_led b c h in let w = l.leads in cc
 free_moves b (Some p) e =
     record {
       to = λ c h. let l = text_led b c h in let q = l.leads in let same : l.place ≡ p = cc in subst (λ s. text_rest s c) same l.follows;
-      from = λ c h. back p b c (subst (λ o. MatchOption o (Unit {0}) (λ s. Leads s b)) e (lead_means b)) h;
+      from = λ c h. back p b c (lead_means p b e) h;
       some = rest_some p;
     }
 
@@ -221,8 +180,8 @@ free_moves b (Some p) e =
 after_moves : (p q : Utf8Place) (low high b : ℕ) → ((c : List ℕ) → text_rest p (b ∷ c) → IsInRange low high b × text_rest q c) → ((c : List ℕ) → IsInRange low high b → text_rest q c → text_rest p (b ∷ c)) → IsStep text_rest p b (cond (is_in_range low high b) (Some q) None)
 after_moves p q low high b to from =
     cond_both (is_in_range low high b) _ _ (IsStep text_rest p b)
-    (λ e. record { to = λ c h. (to c h).1; from = λ c h. from c (in_range low high b e) h; some = rest_some q })
-    (λ e. λ c h. let r = (to c h).0 in false≢true (sym e ∙ in_range_is low high b r.0 r.1))
+    (λ e. let within : IsInRange low high b = grind (arith, nat_tests) in record { to = λ c h. (to c h).1; from = λ c h. from c within h; some = rest_some q })
+    (λ e. λ c h. let within = (to c h).0 in grind (arith, nat_tests))
 
 pub text_moves : (p : Utf8Place) (b : ℕ) → IsStep text_rest p b (text_next p b)
 text_moves Free b = free_moves b (lead b) refl
