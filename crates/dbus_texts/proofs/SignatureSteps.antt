@@ -31,19 +31,16 @@ entry_at inside a s K b c n v rest z i h k e =
     let f : KeyThen a s (CloseThen K) (n ∷ ((sig v ++ 125 ∷ []) ++ rest)) = (z, record { first = v; rest = 125 ∷ rest; complete = h; follows = (refl, k); spelled = append_assoc (sig v) (125 ∷ []) rest }) in
     inr (inr (inr (cc, i, subst (λ w. KeyThen a s (CloseThen K) w) tail f)))
 
+code_at : (inside : Bool) (a s : ℕ) (K : List ℕ → Type 0) (b : ℕ) (c : List ℕ) (n : ℕ) (rest : List ℕ) → is_type_code n ≡ true → K rest → b ∷ c ≡ n ∷ rest → Begun inside a s K b c
+code_at inside a s K b c n rest z k e =
+    let same : b ≡ n = cc in
+    let end : rest ≡ c = cc in
+    inl (ap is_type_code same ∙ z, subst K end k)
+
 one_at : (inside : Bool) (a s : ℕ) (K : List ℕ → Type 0) (b : ℕ) (c : List ℕ) (t : TypeTree) (rest : List ℕ) → IsComplete t inside a s → K rest → b ∷ c ≡ sig t ++ rest → Begun inside a s K b c
-one_at inside a s K b c (NumberType n) rest h k e =
-    let same : b ≡ number_code n = cc in
-    let end : rest ≡ c = cc in
-    inl (subst (λ y. is_type_code y ≡ true) (sym same) (number_is_code n), subst K end k)
-one_at inside a s K b c (TextType n) rest h k e =
-    let same : b ≡ text_code n = cc in
-    let end : rest ≡ c = cc in
-    inl (subst (λ y. is_type_code y ≡ true) (sym same) (text_is_code n), subst K end k)
-one_at inside a s K b c VariantType rest h k e =
-    let same : b ≡ 118 = cc in
-    let end : rest ≡ c = cc in
-    inl (subst (λ y. is_type_code y ≡ true) (sym same) refl, subst K end k)
+one_at inside a s K b c (NumberType n) rest h k e = code_at inside a s K b c (number_code n) rest (number_is_code n) k e
+one_at inside a s K b c (TextType n) rest h k e = code_at inside a s K b c (text_code n) rest (text_is_code n) k e
+one_at inside a s K b c VariantType rest h k e = code_at inside a s K b c 118 rest refl k e
 one_at inside a s K b c (ArrayType t) rest h k e =
     inr (inl (cc, h.0, record { first = t; rest = rest; complete = h.1; follows = k; spelled = cc }))
 one_at inside a s K b c (StructType NoTypes) rest h k e = absurd h.1
@@ -52,10 +49,7 @@ one_at inside a s K b c (StructType (MoreTypes t ts)) rest h k e =
     inr (inr (inl (cc, h.0, record { first = t; rest = sigs ts ++ 41 ∷ rest; complete = h.2.0; follows = record { types = ts; rest = rest; complete = h.2.1; follows = k; spelled = refl }; spelled = tail ∙ struct_spelled (sig t) (sigs ts) rest })))
 one_at inside a s K b c (EntryType (NumberType x) v) rest h k e = entry_at inside a s K b c (number_code x) v rest (number_is_basic x) h.0 h.2 k e
 one_at inside a s K b c (EntryType (TextType x) v) rest h k e = entry_at inside a s K b c (text_code x) v rest (text_is_basic x) h.0 h.2 k e
-one_at inside a s K b c (EntryType VariantType v) rest h k e = absurd h.1
-one_at inside a s K b c (EntryType (ArrayType x) v) rest h k e = absurd h.1
-one_at inside a s K b c (EntryType (StructType x) v) rest h k e = absurd h.1
-one_at inside a s K b c (EntryType (EntryType x y) v) rest h k e = absurd h.1
+one_at inside a s K b c (EntryType _ v) rest h k e = absurd h.1
 
 one_head : (inside : Bool) (a s : ℕ) (K : List ℕ → Type 0) (b : ℕ) (c : List ℕ) → OneThen inside a s K (b ∷ c) → Begun inside a s K b c
 one_head inside a s K b c h = one_at inside a s K b c h.first h.rest h.complete h.follows h.spelled
@@ -85,14 +79,6 @@ close_at inside a s K b k c v (x ∷ rest) e i z h f q =
 from_entry : (inside : Bool) (a s : ℕ) (K : List ℕ → Type 0) (b : ℕ) (c : List ℕ) → b ≡ 123 → inside ≡ true → KeyThen a s (CloseThen K) c → OneThen inside a s K (b ∷ c)
 from_entry inside a s K b [] e i h = absurd h
 from_entry inside a s K b (k ∷ c) e i h = close_at inside a s K b k c h.1.first h.1.rest e i h.0 h.1.complete h.1.follows h.1.spelled
-
--- what follows may be said in another way
-one_map : (inside : Bool) (a s : ℕ) (K L : List ℕ → Type 0) → ((c : List ℕ) → K c → L c) → (c : List ℕ) → OneThen inside a s K c → OneThen inside a s L c
-one_map inside a s K L f c h = record { first = h.first; rest = h.rest; complete = h.complete; follows = f h.rest h.follows; spelled = h.spelled }
-
-key_map : (a s : ℕ) (K L : List ℕ → Type 0) → ((c : List ℕ) → K c → L c) → (c : List ℕ) → KeyThen a s K c → KeyThen a s L c
-key_map a s K L f [] h = absurd h
-key_map a s K L f (b ∷ c) h = (h.0, one_map false a s K L f c h.1)
 
 -- the first byte of what is left of a struct
 more_at : (a s : ℕ) (K : List ℕ → Type 0) (b : ℕ) (c : List ℕ) (ts : TypeTrees) (rest : List ℕ) → AreComplete ts a s → K rest → b ∷ c ≡ sigs ts ++ 41 ∷ rest → ((b ≡ 41) × K c) ⊎ OneThen false a s (MoreThen a s K) (b ∷ c)
@@ -125,13 +111,12 @@ signature_from : (c : List ℕ) → OneThen false 0 0 IsSignature c → IsSignat
 signature_from c h = (MoreTypes h.first h.follows.0, (h.complete, h.follows.1), h.spelled ∙ ap (λ w. sig h.first ++ w) h.follows.2)
 
 -- one frame more
-push_to : (fs : List Frame) (f : Frame) (K : List ℕ → Type 0) (c : List ℕ) → frames_rest (fs ++ f ∷ []) K c → frame_rest f (λ r. frames_rest fs K r) c
-push_to [] f K c h = h
-push_to (g ∷ fs) f K c h = push_to fs f (frame_rest g K) c h
+frames_push : (fs : List Frame) (f : Frame) (K : List ℕ → Type 0) → frames_rest (fs ++ f ∷ []) K ≡ frame_rest f (frames_rest fs K)
+frames_push [] f K = refl
+frames_push (g ∷ fs) f K = frames_push fs f (frame_rest g K)
 
-push_from : (fs : List Frame) (f : Frame) (K : List ℕ → Type 0) (c : List ℕ) → frame_rest f (λ r. frames_rest fs K r) c → frames_rest (fs ++ f ∷ []) K c
-push_from [] f K c h = h
-push_from (g ∷ fs) f K c h = push_from fs f (frame_rest g K) c h
+after_push : (single : Bool) (fs : List Frame) (f : Frame) → after single (fs ++ f ∷ []) ≡ frame_rest f (after single fs)
+after_push single fs f = frames_push fs f (AtTop single)
 
 -- something may always follow
 one_some : (inside : Bool) (a s : ℕ) (K : List ℕ → Type 0) → (c : List ℕ) × K c → (c : List ℕ) × OneThen inside a s K c
@@ -158,71 +143,45 @@ after_some : (single : Bool) (fs : List Frame) → (c : List ℕ) × after singl
 after_some single fs = frames_rest_some fs (AtTop single) (top_some single)
 
 -- a complete type begins
-not_code : (b n : ℕ) → b ≡ n → is_type_code n ≡ false → is_type_code b ≡ true → ⊥
-not_code b n e f t = false≢true (sym f ∙ sym (ap is_type_code e) ∙ t)
+module _ (single inside : Bool) (a s : ℕ) (fs : List Frame) (b : ℕ) where
+  abbrev K : List ℕ → Type 0
+  K = after single fs
 
-begin_code : (single inside : Bool) (a s : ℕ) (fs : List Frame) (b : ℕ) → is_type_code b ≡ true → Moves (OneThen inside a s (after single fs)) b (after single fs)
-begin_code single inside a s fs b e =
-    record {
-      to = λ c h.
-          ⊎_elim (λ w. w.1)
-          (⊎_elim (λ w. absurd (not_code b 97 w.0 refl e))
-          (⊎_elim (λ w. absurd (not_code b 40 w.0 refl e))
-          (λ w. absurd (not_code b 123 w.0 refl e))))
-          (one_head inside a s (after single fs) b c h);
-      from = λ c h. from_code inside a s (after single fs) b c e h;
-      some = after_some single fs;
-    }
+  begin_code : is_type_code b ≡ true → Moves (OneThen inside a s K) b K
+  begin_code e =
+      record {
+        to = λ c h. let w = one_head inside a s K b c h in grind arith;
+        from = λ c h. from_code inside a s K b c e h;
+        some = after_some single fs;
+      }
 
-begin_array : (single inside : Bool) (a s : ℕ) (fs : List Frame) (b : ℕ) → b ≡ 97 → a < 32 → Moves (OneThen inside a s (after single fs)) b (OneThen true (a + 1) s (after single fs))
-begin_array single inside a s fs b e l =
-    record {
-      to = λ c h.
-          ⊎_elim (λ w. absurd (not_code b 97 e refl w.0))
-          (⊎_elim (λ w. w.2)
-          (⊎_elim (λ w. let n = w.0 in absurd (omega arith))
-          (λ w. let n = w.0 in absurd (omega arith))))
-          (one_head inside a s (after single fs) b c h);
-      from = λ c h. from_array inside a s (after single fs) b c e l h;
-      some = one_some true (a + 1) s (after single fs) (after_some single fs);
-    }
+  begin_array : b ≡ 97 → a < 32 → Moves (OneThen inside a s K) b (OneThen true (a + 1) s K)
+  begin_array e l =
+      record {
+        to = λ c h. let w = one_head inside a s K b c h in grind arith;
+        from = λ c h. from_array inside a s K b c e l h;
+        some = one_some true (a + 1) s K (after_some single fs);
+      }
 
-begin_struct : (single inside : Bool) (a s : ℕ) (fs : List Frame) (b : ℕ) → b ≡ 40 → s < 32 → Moves (OneThen inside a s (after single fs)) b (OneThen false a (s + 1) (after single (fs ++ frame false a (s + 1) ∷ [])))
-begin_struct single inside a s fs b e l =
-    let f = frame false a (s + 1) in
-    record {
-      to = λ c h.
-          ⊎_elim (λ w. absurd (not_code b 40 e refl w.0))
-          (⊎_elim (λ w. let n = w.0 in absurd (omega arith))
-          (⊎_elim (λ w. one_map false a (s + 1) (MoreThen a (s + 1) (after single fs)) (after single (fs ++ f ∷ [])) (λ r k. push_from fs f (AtTop single) r k) c w.2)
-          (λ w. let n = w.0 in absurd (omega arith))))
-          (one_head inside a s (after single fs) b c h);
-      from = λ c h. from_struct inside a s (after single fs) b c e l (one_map false a (s + 1) (after single (fs ++ f ∷ [])) (MoreThen a (s + 1) (after single fs)) (λ r k. push_to fs f (AtTop single) r k) c h);
-      some = one_some false a (s + 1) (after single (fs ++ f ∷ [])) (after_some single (fs ++ f ∷ []));
-    }
+  begin_struct : b ≡ 40 → s < 32 → Moves (OneThen inside a s K) b (OneThen false a (s + 1) (after single (fs ++ frame false a (s + 1) ∷ [])))
+  begin_struct e l =
+      subst (λ L. Moves (OneThen inside a s K) b (OneThen false a (s + 1) L)) (sym (after_push single fs (frame false a (s + 1)))) (record {
+        to = λ c h. let w = one_head inside a s K b c h in grind arith;
+        from = λ c h. from_struct inside a s K b c e l h;
+        some = one_some false a (s + 1) (MoreThen a (s + 1) K) (frame_rest_some_at false a (s + 1) K (after_some single fs));
+      })
 
-begin_entry : (single inside : Bool) (a s : ℕ) (fs : List Frame) (b : ℕ) → b ≡ 123 → inside ≡ true → Moves (OneThen inside a s (after single fs)) b (KeyThen a s (after single (fs ++ frame true a s ∷ [])))
-begin_entry single inside a s fs b e i =
-    let f = frame true a s in
-    record {
-      to = λ c h.
-          ⊎_elim (λ w. absurd (not_code b 123 e refl w.0))
-          (⊎_elim (λ w. let n = w.0 in absurd (omega arith))
-          (⊎_elim (λ w. let n = w.0 in absurd (omega arith))
-          (λ w. key_map a s (CloseThen (after single fs)) (after single (fs ++ f ∷ [])) (λ r k. push_from fs f (AtTop single) r k) c w.2)))
-          (one_head inside a s (after single fs) b c h);
-      from = λ c h. from_entry inside a s (after single fs) b c e i (key_map a s (after single (fs ++ f ∷ [])) (CloseThen (after single fs)) (λ r k. push_to fs f (AtTop single) r k) c h);
-      some = key_some a s (after single (fs ++ f ∷ [])) (after_some single (fs ++ f ∷ []));
-    }
+  begin_entry : b ≡ 123 → inside ≡ true → Moves (OneThen inside a s K) b (KeyThen a s (after single (fs ++ frame true a s ∷ [])))
+  begin_entry e i =
+      subst (λ L. Moves (OneThen inside a s K) b (KeyThen a s L)) (sym (after_push single fs (frame true a s))) (record {
+        to = λ c h. let w = one_head inside a s K b c h in grind arith;
+        from = λ c h. from_entry inside a s K b c e i h;
+        some = key_some a s (CloseThen K) (frame_rest_some_at true a s K (after_some single fs));
+      })
 
--- nothing else begins one
-begin_dead : (single inside : Bool) (a s : ℕ) (fs : List Frame) (b : ℕ) → is_type_code b ≡ false → (b ≡ 97 → a < 32 → ⊥) → (b ≡ 40 → s < 32 → ⊥) → (b ≡ 123 → inside ≡ true → ⊥) → (c : List ℕ) → OneThen inside a s (after single fs) (b ∷ c) → ⊥
-begin_dead single inside a s fs b n1 n2 n3 n4 c h =
-    ⊎_elim (λ w. false≢true (sym n1 ∙ w.0))
-    (⊎_elim (λ w. n2 w.0 w.1)
-    (⊎_elim (λ w. n3 w.0 w.1)
-    (λ w. n4 w.0 w.1)))
-    (one_head inside a s (after single fs) b c h)
+  -- nothing else begins one
+  begin_dead : is_type_code b ≡ false → (b ≡ 97 → a < 32 → ⊥) → (b ≡ 40 → s < 32 → ⊥) → (b ≡ 123 → inside ≡ true → ⊥) → (c : List ℕ) → OneThen inside a s K (b ∷ c) → ⊥
+  begin_dead n1 n2 n3 n4 c h = let w = one_head inside a s K b c h in grind arith
 
 begin_moves : (single inside : Bool) (a s : ℕ) (fs : List Frame) (b : ℕ) → IsStepFrom sig_rest (OneThen inside a s (after single fs)) b (begin single inside a s fs b)
 begin_moves single inside a s fs b =
@@ -248,52 +207,28 @@ step_along R Q b None to from h = λ c r. h c (to c r)
 step_along R Q b (Some t) to from h = record { to = λ c r. h.to c (to c r); from = λ c r. from c (h.from c r); some = h.some }
 
 -- within a frame
-close_moves : (R Q : List ℕ → Type 0) (n b : ℕ) → b ≡ n → ((c : List ℕ) → R (n ∷ c) → Q c) → ((c : List ℕ) → Q c → R (n ∷ c)) → (c : List ℕ) × Q c → Moves R b Q
-close_moves R Q n b e to from some =
-    record {
-      to = λ c h. to c (subst (λ x. R (x ∷ c)) e h);
-      from = λ c h. subst (λ x. R (x ∷ c)) (sym e) (from c h);
-      some = some;
-    }
-
 in_entry : (single : Bool) (pa ps a s : ℕ) (front : List Frame) (b : ℕ) → IsStepFrom sig_rest (after single (front ++ frame true a s ∷ [])) b (cond (eqb b 125) (Some (sig_state single After pa ps front)) None)
 in_entry single pa ps a s front b =
-    let f = frame true a s in
-    let R : List ℕ → Type 0 = λ c. after single (front ++ f ∷ []) c in
-    cond_both (eqb b 125) _ _ (λ o. IsStepFrom sig_rest (after single (front ++ f ∷ [])) b o)
-    (λ e. close_moves (after single (front ++ f ∷ [])) (after single front) 125 b (eqb-true b 125 e) (λ c h. (push_to front f (AtTop single) (125 ∷ c) h).1) (λ c h. push_from front f (AtTop single) (125 ∷ c) (refl, h)) (after_some single front))
-    (λ n. λ c h. eqb-false b 125 n (push_to front f (AtTop single) (b ∷ c) h).0)
-
-struct_one : (single : Bool) (a s : ℕ) (front : List Frame) (b : ℕ) (c : List ℕ) → (b ≡ 41 → ⊥) → after single (front ++ frame false a s ∷ []) (b ∷ c) → OneThen false a s (after single (front ++ frame false a s ∷ [])) (b ∷ c)
-struct_one single a s front b c n h =
-    let f = frame false a s in
-    ⊎_elim
-    (λ w. absurd (n w.0))
-    (λ w. one_map false a s (MoreThen a s (after single front)) (after single (front ++ f ∷ [])) (λ r k. push_from front f (AtTop single) r k) (b ∷ c) w)
-    (more_head a s (after single front) b c (push_to front f (AtTop single) (b ∷ c) h))
-
-one_struct : (single : Bool) (a s : ℕ) (front : List Frame) (c : List ℕ) → OneThen false a s (after single (front ++ frame false a s ∷ [])) c → after single (front ++ frame false a s ∷ []) c
-one_struct single a s front c h =
-    let f = frame false a s in
-    push_from front f (AtTop single) c (more_one a s (after single front) c (one_map false a s (after single (front ++ f ∷ [])) (MoreThen a s (after single front)) (λ r k. push_to front f (AtTop single) r k) c h))
+    subst (λ R. IsStepFrom sig_rest R b (cond (eqb b 125) (Some (sig_state single After pa ps front)) None)) (sym (after_push single front (frame true a s)))
+    (cond_both (eqb b 125) _ _ (λ o. IsStepFrom sig_rest (CloseThen (after single front)) b o)
+    (λ e. record { to = λ c h. h.1; from = λ c h. (eqb-true b 125 e, h); some = after_some single front })
+    (λ n. λ c h. eqb-false b 125 n h.0))
 
 in_struct : (single : Bool) (pa ps a s : ℕ) (front : List Frame) (b : ℕ) → IsStepFrom sig_rest (after single (front ++ frame false a s ∷ [])) b (cond (eqb b 41) (Some (sig_state single After pa ps front)) (begin single false a s (front ++ frame false a s ∷ []) b))
 in_struct single pa ps a s front b =
-    let f = frame false a s in
-    cond_both (eqb b 41) _ _ (λ o. IsStepFrom sig_rest (after single (front ++ f ∷ [])) b o)
-    (λ e. close_moves (after single (front ++ f ∷ [])) (after single front) 41 b (eqb-true b 41 e)
-    (λ c h. ⊎_elim (λ w. w.1) (λ w. absurd (no_one c w)) (more_head a s (after single front) 41 c (push_to front f (AtTop single) (41 ∷ c) h)))
-    (λ c h. push_from front f (AtTop single) (41 ∷ c) (more_close a s (after single front) 41 c refl h))
-    (after_some single front))
-    (λ n. step_along (after single (front ++ f ∷ [])) (OneThen false a s (after single (front ++ f ∷ []))) b _ (λ c h. struct_one single a s front b c (eqb-false b 41 n) h) (λ c h. one_struct single a s front (b ∷ c) h) (begin_moves single false a s (front ++ f ∷ []) b))
-  where
-    no_one : (c : List ℕ) → OneThen false a s (MoreThen a s (after single front)) (41 ∷ c) → ⊥
-    no_one c h =
-        ⊎_elim (λ w. false≢true w.0)
-        (⊎_elim (λ w. let n = w.0 in absurd (omega arith))
-        (⊎_elim (λ w. let n = w.0 in absurd (omega arith))
-        (λ w. let n = w.0 in absurd (omega arith))))
-        (one_head false a s (MoreThen a s (after single front)) 41 c h)
+    let fs = front ++ frame false a s ∷ [] in
+    let K : List ℕ → Type 0 = after single front in
+    let same = after_push single front (frame false a s) in
+    subst (λ R. IsStepFrom sig_rest R b (cond (eqb b 41) (Some (sig_state single After pa ps front)) (begin single false a s fs b))) (sym same)
+    (cond_both (eqb b 41) _ _ (λ o. IsStepFrom sig_rest (MoreThen a s K) b o)
+    (λ e. let at : b ≡ 41 = eqb-true b 41 e in record {
+      to = λ c h. ⊎_elim (λ w. w.1) (λ w. let v = one_head false a s (MoreThen a s K) b c w in absurd (grind arith)) (more_head a s K b c h);
+      from = λ c h. more_close a s K b c at h;
+      some = after_some single front;
+    })
+    (λ n. step_along (MoreThen a s K) (OneThen false a s (MoreThen a s K)) b _
+    (λ c h. ⊎_elim (λ w. absurd (eqb-false b 41 n w.0)) (λ w. w) (more_head a s K b c h)) (λ c h. more_one a s K (b ∷ c) h)
+    (subst (λ R. IsStepFrom sig_rest (OneThen false a s R) b (begin single false a s fs b)) same (begin_moves single false a s fs b))))
 
 -- a list of frames, from its end
 split_frames : (fs : List Frame) → (fs ≡ []) ⊎ ((front : List Frame) × (f : Frame) × (fs ≡ front ++ f ∷ []))
