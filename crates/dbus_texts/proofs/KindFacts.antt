@@ -1,5 +1,5 @@
 -- The computed kinds are the kinds, and what the crates above use of them.
-use Rattle.std.proofs.Common.{◌≡◌, ◌≢◌, ℕ, ◌<◌, ◌≤◌, true, false, ◌&&◌, List, [], ◌++◌, length, refl, sym, ap, ◌∙◌, subst, arith, IsUtf8, ltb}
+use Rattle.std.proofs.Common.{◌≡◌, ◌≢◌, ℕ, ◌<◌, ◌≤◌, Bool, Option, true, false, ◌&&◌, List, [], ◌++◌, length, refl, sym, ap, ◌∙◌, subst, arith, IsUtf8, ltb}
 use Rattle.std.specs.List.{AllByRecursion}
 use Rattle.std.proofs.lemmas.Bool.{and_parts, and_from, ltb-true, lt-ltb}
 use Rattle.dbus_texts.specs.declared.text_kind.TextKind.{TextKind}
@@ -9,7 +9,7 @@ use Rattle.dbus_texts.specs.declared.names.Tail.TheVariants.{Alone, Needed, Free
 use Rattle.dbus_texts.specs.declared.names.Place.TheVariants.{PathStart, BusStart, First}
 use Rattle.dbus_texts.specs.declared.names.NameScan.{NameScan}
 use Rattle.dbus_texts.specs.declared.utf8.Utf8Place.TheVariants as utf8
-use Rattle.dbus_texts.specs.Prefixes.{IsBreakIn}
+use Rattle.dbus_texts.specs.Prefixes.{IsBreakIn, IsStep, IsQuotient}
 use Rattle.dbus_texts.specs.Names.{IsPath, IsInterface, IsMember, IsBusName}
 use Rattle.dbus_texts.specs.NameScans.{name_rest, name_next, name_end, name_state}
 use Rattle.dbus_texts.specs.Utf8.{IsText}
@@ -22,105 +22,74 @@ use Rattle.dbus_texts.specs.Types.{TypeTree, TypeTrees, sig, sigs, IsSingleType,
 use Rattle.dbus_texts.specs.ComputedKinds.{taken, accepts, is_of_kind, is_kind, break_at, IsName, type_spelled, types_spelled}
 use Rattle.dbus_texts.proofs.Runs.{taken_more, accepts_is, accepts_of, taken_breaks, one_break_in, break_along}
 use Rattle.dbus_texts.proofs.Breaks.{break_of_whole}
-use Rattle.dbus_texts.proofs.NameSteps.{name_moves, name_ended_at, name_ends_at, member_elements, elements_member, interface_elements, elements_interface, path_some, bus_some, member_some, interface_some}
+use Rattle.dbus_texts.proofs.NameSteps.{name_moves, name_ended_at, name_ends_at}
+use Rattle.dbus_texts.proofs.Quotients.{quotient_start}
+use Rattle.dbus_texts.proofs.ScanSteps.{path_starts, interface_starts, member_starts, bus_starts, signature_starts, single_starts}
 use Rattle.dbus_texts.proofs.Utf8Steps.{text_moves, text_ended, text_ends, text_some}
-use Rattle.dbus_texts.proofs.SignatureSteps.{sig_moves, sig_ended_at, sig_ends_at, single_start, signature_some, single_some}
+use Rattle.dbus_texts.proofs.SignatureSteps.{sig_moves, sig_ended_at, sig_ends_at}
 pub use Rattle.dbus_texts.proofs.TypeTexts.{spelled_sig, spelled_sigs, sigs_same, shaped_of, are_shaped_of}
 use Rattle.dbus_texts.proofs.AsciiNames.{name_text, text_bytes}
 use Rattle.dbus_texts.proofs.TextUtf8.{utf8_of_text, text_of_utf8}
 
--- each automaton
-name_ends : (s : NameScan) → name_end s ≡ true → name_rest s []
-name_ends s h = name_ends_at s.place s.letters s.tail h
+-- what an automaton says of the set of texts that it reads
+record Automaton (L : List ℕ → Type 0) (accepted : List ℕ → Bool) (stop : List ℕ → ℕ) : Type 0 where
+  is : (w : List ℕ) → accepted w ≡ true → L w
+  of : (w : List ℕ) → L w → accepted w ≡ true
+  breaks : (w : List ℕ) → IsBreakIn L w (stop w)
+  more : (w c : List ℕ) → stop w < length w → stop (w ++ c) ≡ stop w
 
-name_ended : (s : NameScan) → name_rest s [] → name_end s ≡ true
-name_ended s h = name_ended_at s.place s.letters s.tail h
+automaton : {S : Type 0} (next : S → ℕ → Option S) (end : S → Bool) (Rest : S → List ℕ → Type 0) → ((s : S) (b : ℕ) → IsStep Rest s b (next s b)) → ((s : S) → end s ≡ true → Rest s []) → ((s : S) → Rest s [] → end s ≡ true) → (s : S) (L : List ℕ → Type 0) → IsQuotient L [] (Rest s) → Automaton L (accepts next end s) (taken next s)
+automaton next end Rest moves ends ended s L q = record {
+  is = λ w h. q.from w (accepts_is next end Rest moves ends w s h);
+  of = λ w h. accepts_of next end Rest moves ended w s (q.to w h);
+  breaks = λ w. break_along (Rest s) L w (taken next s w) q.from q.to (taken_breaks next Rest moves w s q.some);
+  more = λ w c h. taken_more next w s c h;
+}
 
-sig_ends : (s : SigState) → sig_end s ≡ true → sig_rest s []
-sig_ends s h = sig_ends_at s.single s.place s.arrays s.structs s.frames h
+name_automaton : (s : NameScan) (L : List ℕ → Type 0) → IsQuotient L [] (name_rest s) → Automaton L (accepts name_next name_end s) (taken name_next s)
+name_automaton = automaton name_next name_end name_rest name_moves (λ s h. name_ends_at s.place s.letters s.tail h) (λ s h. name_ended_at s.place s.letters s.tail h)
 
-sig_ended : (s : SigState) → sig_rest s [] → sig_end s ≡ true
-sig_ended s h = sig_ended_at s.single s.place s.arrays s.structs s.frames h
+types_automaton : (s : SigState) (L : List ℕ → Type 0) → IsQuotient L [] (sig_rest s) → Automaton L (accepts sig_next sig_end s) (taken sig_next s)
+types_automaton = automaton sig_next sig_end sig_rest sig_moves (λ s h. sig_ends_at s.single s.place s.arrays s.structs s.frames h) (λ s h. sig_ended_at s.single s.place s.arrays s.structs s.frames h)
 
-name_is : (s : NameScan) (w : List ℕ) → accepts name_next name_end s w ≡ true → name_rest s w
-name_is s w h = accepts_is name_next name_end name_rest name_moves name_ends w s h
-
-name_of : (s : NameScan) (w : List ℕ) → name_rest s w → accepts name_next name_end s w ≡ true
-name_of s w h = accepts_of name_next name_end name_rest name_moves name_ended w s h
-
-types_is : (s : SigState) (w : List ℕ) → accepts sig_next sig_end s w ≡ true → sig_rest s w
-types_is s w h = accepts_is sig_next sig_end sig_rest sig_moves sig_ends w s h
-
-types_of : (s : SigState) (w : List ℕ) → sig_rest s w → accepts sig_next sig_end s w ≡ true
-types_of s w h = accepts_of sig_next sig_end sig_rest sig_moves sig_ended w s h
-
-text_is : (w : List ℕ) → accepts text_next text_end utf8.Free w ≡ true → IsText w
-text_is w h = accepts_is text_next text_end text_rest text_moves text_ends w utf8.Free h
-
-text_of : (w : List ℕ) → IsText w → accepts text_next text_end utf8.Free w ≡ true
-text_of w h = accepts_of text_next text_end text_rest text_moves text_ended w utf8.Free h
+kind_automaton : (k : TextKind) → Automaton (IsOfKind k) (is_of_kind k) (break_at k)
+unfolding break_at
+kind_automaton Text = automaton text_next text_end text_rest text_moves text_ends text_ended utf8.Free IsText (quotient_start IsText text_some)
+kind_automaton Path = name_automaton (name_state PathStart Word Free) IsPath path_starts
+kind_automaton Interface = name_automaton (name_state First Name Needed) IsInterface interface_starts
+kind_automaton Member = name_automaton (name_state First Name Alone) IsMember member_starts
+kind_automaton ErrorName = name_automaton (name_state First Name Needed) IsInterface interface_starts
+kind_automaton BusName = name_automaton (name_state BusStart Unique Needed) IsBusName bus_starts
+kind_automaton Signature = types_automaton (sig_start false) IsSignature signature_starts
+kind_automaton Single = types_automaton (sig_start true) IsSingle single_starts
 
 -- each kind
-pub of_kind_is : (k : TextKind) (w : List ℕ) → is_of_kind k w ≡ true → IsOfKind k w
-of_kind_is Text w h = text_is w h
-of_kind_is Path w h = name_is (name_state PathStart Word Free) w h
-of_kind_is Interface w h = elements_interface w (name_is (name_state First Name Needed) w h)
-of_kind_is Member w h = elements_member w (name_is (name_state First Name Alone) w h)
-of_kind_is ErrorName w h = elements_interface w (name_is (name_state First Name Needed) w h)
-of_kind_is BusName w h = name_is (name_state BusStart Unique Needed) w h
-of_kind_is Signature w h = types_is (sig_start false) w h
-of_kind_is Single w h = (single_start w).1 (types_is (sig_start true) w h)
-
-pub is_of_kind_of : (k : TextKind) (w : List ℕ) → IsOfKind k w → is_of_kind k w ≡ true
-is_of_kind_of Text w h = text_of w h
-is_of_kind_of Path w h = name_of (name_state PathStart Word Free) w h
-is_of_kind_of Interface w h = name_of (name_state First Name Needed) w (interface_elements w h)
-is_of_kind_of Member w h = name_of (name_state First Name Alone) w (member_elements w h)
-is_of_kind_of ErrorName w h = name_of (name_state First Name Needed) w (interface_elements w h)
-is_of_kind_of BusName w h = name_of (name_state BusStart Unique Needed) w h
-is_of_kind_of Signature w h = types_of (sig_start false) w h
-is_of_kind_of Single w h = types_of (sig_start true) w ((single_start w).0 h)
-
 limited_is : (k : TextKind) (w : List ℕ) → (is_of_kind k w && ltb (length w) 256) ≡ true → IsOfKind k w × (length w ≤ 255)
 limited_is k w h =
     let p = and_parts (is_of_kind k w) (ltb (length w) 256) h in
     let l : length w < 256 = ltb-true (length w) 256 p.1 in
-    (of_kind_is k w p.0, omega arith)
+    ((kind_automaton k).is w p.0, omega arith)
 
 limited_of : (k : TextKind) (w : List ℕ) → IsOfKind k w × (length w ≤ 255) → (is_of_kind k w && ltb (length w) 256) ≡ true
 limited_of k w h =
     let l : length w < 256 = omega (arith, h.1) in
-    and_from (is_of_kind k w) (ltb (length w) 256) (is_of_kind_of k w h.0) (lt-ltb (length w) 256 l)
+    and_from (is_of_kind k w) (ltb (length w) 256) ((kind_automaton k).of w h.0) (lt-ltb (length w) 256 l)
 
 pub kind_is : (k : TextKind) (t : List ℕ) → is_kind k t ≡ true → IsKind k t
 unfolding is_kind
-kind_is Text t h = (of_kind_is Text t h, tt)
-kind_is Path t h = (of_kind_is Path t h, tt)
+kind_is Text t h = ((kind_automaton Text).is t h, tt)
+kind_is Path t h = ((kind_automaton Path).is t h, tt)
 kind_is k t h = limited_is k t h
 
 pub is_kind_of : (k : TextKind) (t : List ℕ) → IsKind k t → is_kind k t ≡ true
 unfolding is_kind
-is_kind_of Text t h = is_of_kind_of Text t h.0
-is_kind_of Path t h = is_of_kind_of Path t h.0
+is_kind_of Text t h = (kind_automaton Text).of t h.0
+is_kind_of Path t h = (kind_automaton Path).of t h.0
 is_kind_of k t h = limited_of k t h
 
 -- breaks
-name_breaks : (L : List ℕ → Type 0) (s : NameScan) (w : List ℕ) → ((c : List ℕ) → L c → name_rest s c) → ((c : List ℕ) → name_rest s c → L c) → (c : List ℕ) × L c → IsBreakIn L w (taken name_next s w)
-name_breaks L s w to from some = break_along (name_rest s) L w (taken name_next s w) from to (taken_breaks name_next name_rest name_moves w s (some.0, to some.0 some.1))
-
-types_break : (L : List ℕ → Type 0) (s : SigState) (w : List ℕ) → ((c : List ℕ) → L c → sig_rest s c) → ((c : List ℕ) → sig_rest s c → L c) → (c : List ℕ) × L c → IsBreakIn L w (taken sig_next s w)
-types_break L s w to from some = break_along (sig_rest s) L w (taken sig_next s w) from to (taken_breaks sig_next sig_rest sig_moves w s (some.0, to some.0 some.1))
-
 pub break_is : (k : TextKind) (t : List ℕ) → IsBreak k t (break_at k t)
-unfolding break_at
-break_is Text t = taken_breaks text_next text_rest text_moves t utf8.Free text_some
-break_is Path t = name_breaks IsPath (name_state PathStart Word Free) t (λ c h. h) (λ c h. h) path_some
-break_is Interface t = name_breaks IsInterface (name_state First Name Needed) t interface_elements elements_interface interface_some
-break_is Member t = name_breaks IsMember (name_state First Name Alone) t member_elements elements_member member_some
-break_is ErrorName t = name_breaks IsInterface (name_state First Name Needed) t interface_elements elements_interface interface_some
-break_is BusName t = name_breaks IsBusName (name_state BusStart Unique Needed) t (λ c h. h) (λ c h. h) bus_some
-break_is Signature t = types_break IsSignature (sig_start false) t (λ c h. h) (λ c h. h) signature_some
-break_is Single t = types_break IsSingle (sig_start true) t (λ c h. (single_start c).0 h) (λ c h. (single_start c).1 h) single_some
+break_is k t = (kind_automaton k).breaks t
 
 pub one_break : (k : TextKind) (t : List ℕ) (i j : ℕ) → IsBreak k t i → IsBreak k t j → i ≡ j
 one_break k t i j p q = one_break_in (IsOfKind k) t i j p q
@@ -130,15 +99,7 @@ break_le k t = (break_is k t).within
 
 -- once a text has broken, it stays broken there
 pub break_more : (k : TextKind) (t c : List ℕ) → break_at k t < length t → break_at k (t ++ c) ≡ break_at k t
-unfolding break_at
-break_more Text t c h = taken_more text_next t utf8.Free c h
-break_more Path t c h = taken_more name_next t (name_state PathStart Word Free) c h
-break_more Interface t c h = taken_more name_next t (name_state First Name Needed) c h
-break_more Member t c h = taken_more name_next t (name_state First Name Alone) c h
-break_more ErrorName t c h = taken_more name_next t (name_state First Name Needed) c h
-break_more BusName t c h = taken_more name_next t (name_state BusStart Unique Needed) c h
-break_more Signature t c h = taken_more sig_next t (sig_start false) c h
-break_more Single t c h = taken_more sig_next t (sig_start true) c h
+break_more k t c h = (kind_automaton k).more t c h
 
 pub break_whole : (k : TextKind) (t : List ℕ) → is_kind k t ≡ true → break_at k t ≡ length t
 break_whole k t h = one_break k t (break_at k t) (length t) (break_is k t) (break_of_whole (IsOfKind k) t (kind_is k t h).0)
@@ -188,7 +149,7 @@ path_is_text t h = name_text (name_state PathStart Word Free) t h
 
 -- a text of kind Text is UTF-8 without a zero byte
 pub text_utf8 : (t : List ℕ) → IsText t → IsUtf8 t × AllByRecursion (λ b. b ≢ 0) t
-text_utf8 t h = (utf8_of_text t h, text_bytes t (text_of t h))
+text_utf8 t h = (utf8_of_text t h, text_bytes t ((kind_automaton Text).of t h))
 
 pub utf8_text : (t : List ℕ) → IsUtf8 t → AllByRecursion (λ b. b ≢ 0) t → IsText t
 utf8_text t h n = text_of_utf8 t h n

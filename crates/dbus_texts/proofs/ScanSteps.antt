@@ -6,7 +6,6 @@ use Rattle.dbus_texts.specs.declared.names.Place.TheVariants.{PathStart, BusStar
 use Rattle.dbus_texts.specs.declared.names.NameScan.{NameScan}
 use Rattle.dbus_texts.specs.declared.signature.SigScan.{SigScan}
 use Rattle.dbus_texts.specs.declared.scan.ScanState.{ScanState}
-use Rattle.dbus_texts.specs.declared.scan.ScanState.TheVariants.{InName, InSignature}
 use Rattle.dbus_texts.proofs.Quotients.{quotient_start, quotient_from}
 use Rattle.dbus_texts.proofs.NameSteps.{name_ended_at, name_ends_at, member_elements, elements_member, interface_elements, elements_interface, path_some, bus_some, member_some, interface_some}
 use Rattle.dbus_texts.proofs.SignatureSteps.{sig_moves, sig_ended_at, sig_ends_at, single_start, signature_some, single_some}
@@ -50,9 +49,6 @@ pub signature_at_end : (s : SigScan) (r : Bool) → r ≡ sig_end (sig_view s) �
 signature_at_end s r e = (λ t. sig_ends_at s.single s.place s.arrays s.structs s.frames.items (sym e ∙ t), λ h. e ∙ sig_ended_at s.single s.place s.arrays s.structs s.frames.items h)
 
 -- the start
-pub name_starts : (L : List ℕ → Type 0) (n m : NameScan) → n ≡ m → IsQuotient L [] (name_rest m) → IsQuotient L [] (state_rest (InName n))
-name_starts L n m e h = subst (λ x. IsQuotient L [] (name_rest x)) (sym e) h
-
 pub path_starts : IsQuotient IsPath [] (name_rest (name_state PathStart Word Free))
 path_starts = quotient_start IsPath path_some
 
@@ -65,8 +61,8 @@ member_starts = quotient_from IsMember (Elements Name Alone) member_elements ele
 pub bus_starts : IsQuotient IsBusName [] (name_rest (name_state BusStart Unique Needed))
 bus_starts = quotient_start IsBusName bus_some
 
-pub signature_starts : (s : SigScan) → sig_view s ≡ sig_start false → IsQuotient IsSignature [] (state_rest (InSignature s))
-signature_starts s e = subst (λ v. IsQuotient IsSignature [] (sig_rest v)) (sym e) (quotient_start IsSignature signature_some)
+pub signature_starts : IsQuotient IsSignature [] (sig_rest (sig_start false))
+signature_starts = quotient_start IsSignature signature_some
 
-pub single_starts : (s : SigScan) → sig_view s ≡ sig_start true → IsQuotient IsSingle [] (state_rest (InSignature s))
-single_starts s e = subst (λ v. IsQuotient IsSingle [] (sig_rest v)) (sym e) (quotient_from IsSingle (sig_rest (sig_start true)) (λ c h. (single_start c).0 h) (λ c h. (single_start c).1 h) single_some)
+pub single_starts : IsQuotient IsSingle [] (sig_rest (sig_start true))
+single_starts = quotient_from IsSingle (sig_rest (sig_start true)) (λ c h. (single_start c).0 h) (λ c h. (single_start c).1 h) single_some
