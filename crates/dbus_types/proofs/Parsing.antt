@@ -1,5 +1,5 @@
 -- The parser's steps.
-use Rattle.std.proofs.Common.{◌≡◌, ℕ, ◌-◌, ◌<◌, ◌≤◌, false, List, [], ◌∷◌, ◌++◌, refl, sym, ap, ◌∙◌, subst, arith, append_assoc, append-nil, length, length-append, get_or, take, drop, Vec}
+use Rattle.std.proofs.Common.{◌≡◌, ℕ, ◌-◌, ◌<◌, ◌≤◌, false, List, [], ◌∷◌, ◌++◌, sym, ap, ◌∙◌, subst, arith, append_assoc, append-nil, length, length-append, get_or, take, drop, Vec}
 use Rattle.std.specs.declared.sync.Arc.{Arc}
 use Rattle.std.proofs.lemmas.List.{take_all}
 use Rattle.dbus_types.specs.declared.sig_type.SigType as ty
@@ -10,38 +10,21 @@ use Rattle.dbus_types.specs.SigTypes.{type_tree, type_trees_of}
 use Rattle.dbus_types.specs.TypeReads.{StartsType, StartsFields, ReadsType, ReadsFields, IsTypeText, IsTextOfTypes}
 use Rattle.dbus_texts.proofs.TypeTexts.{sig_positive}
 use Rattle.dbus_types.proofs.TypeViews.{type_tree-Struct, type_tree-Entry}
-use Rattle.dbus_types.proofs.Prefixes.{text_same, StartsPair, not_empty, entry_spelled}
-
-pub first_of_list : (w : List ℕ) → 0 < length w → (b : ℕ) × (c : List ℕ) × (w ≡ b ∷ c)
-first_of_list [] h = absurd (omega arith)
-first_of_list (b ∷ c) h = (b, c, refl)
-
--- the first byte of types up to `)`
-first_go : (w : List ℕ) (ts : TypeTrees) (r : List ℕ) → w ≡ sigs ts ++ 41 ∷ r → 0 < length w
-first_go w ts r e =
-    let l = ap length e ∙ length-append (sigs ts) (41 ∷ r) in
-    omega arith
-
-pub first_byte : (w : List ℕ) → StartsFields w → (b : ℕ) × (c : List ℕ) × (w ≡ b ∷ c)
-first_byte w h = first_of_list w (first_go w h.trees h.rest h.spelled)
-
-pub first_is : (w : List ℕ) (b : ℕ) (c : List ℕ) → w ≡ b ∷ c → b ≡ get_or w 0 0
-first_is w b c e = sym (ap (λ v. get_or v 0 0) e)
+use Rattle.dbus_types.proofs.Prefixes.{text_same, StartsPair}
 
 pub not_empty_at : (w : List ℕ) → length w ≡ 0 → StartsType w → ⊥
-not_empty_at [] e h = not_empty h
-not_empty_at (b ∷ w) e h = omega arith
+not_empty_at w e h = omega (arith, e, ap length h.spelled, length-append (sig h.tree) h.rest, sig_positive h.tree)
 
 pub left_of_end : (s : List ℕ) → (rest : List ℕ) × (s ≡ 125 ∷ rest) → 1 ≤ length s
 left_of_end s z = let l = ap length z.1 in omega arith
 
 -- types up to `)`
-fields_go : (w : List ℕ) (b : ℕ) (c : List ℕ) (ts : TypeTrees) (r : List ℕ) → w ≡ b ∷ c → (b ≡ 41 → ⊥) → w ≡ sigs ts ++ 41 ∷ r → StartsType w
-fields_go w b c NoTypes r e n q = let z : b ∷ c ≡ 41 ∷ r = sym e ∙ q in absurd (n cc)
-fields_go w b c (MoreTypes t ts) r e n q = record { tree = t; rest = sigs ts ++ 41 ∷ r; spelled = q ∙ append_assoc (sig t) (sigs ts) (41 ∷ r) }
+fields_go : (w : List ℕ) (ts : TypeTrees) (r : List ℕ) → (get_or w 0 0 ≡ 41 → ⊥) → w ≡ sigs ts ++ 41 ∷ r → StartsType w
+fields_go w NoTypes r n q = absurd (n (ap (λ v. get_or v 0 0) q))
+fields_go w (MoreTypes t ts) r n q = record { tree = t; rest = sigs ts ++ 41 ∷ r; spelled = q ∙ append_assoc (sig t) (sigs ts) (41 ∷ r) }
 
-pub fields_type : (w : List ℕ) (b : ℕ) (c : List ℕ) → w ≡ b ∷ c → (b ≡ 41 → ⊥) → StartsFields w → StartsType w
-fields_type w b c e n h = fields_go w b c h.trees h.rest e n h.spelled
+pub fields_type : (w : List ℕ) → (get_or w 0 0 ≡ 41 → ⊥) → StartsFields w → StartsType w
+fields_type w n h = fields_go w h.trees h.rest n h.spelled
 
 -- a text of types that is not empty begins with one
 types_start : (w : List ℕ) (ts : TypeTrees) → w ≡ sigs ts → 0 < length w → StartsType w
@@ -70,14 +53,14 @@ module _ {A : Type 0} where
       (p.rest, sym z.1)
 
   -- types up to `)`
-  more_go : (w : List ℕ) (t : SigType A) (more : List ℕ) (b : ℕ) (c : List ℕ) (ts : TypeTrees) (r : List ℕ) → w ≡ b ∷ c → (b ≡ 41 → ⊥) → w ≡ sigs ts ++ 41 ∷ r → ReadsType w t more → StartsFields more
-  more_go w t more b c NoTypes r e n q h = let z : b ∷ c ≡ 41 ∷ r = sym e ∙ q in absurd (n cc)
-  more_go w t more b c (MoreTypes u ts) r e n q h =
+  more_go : (w : List ℕ) (t : SigType A) (more : List ℕ) (ts : TypeTrees) (r : List ℕ) → (get_or w 0 0 ≡ 41 → ⊥) → w ≡ sigs ts ++ 41 ∷ r → ReadsType w t more → StartsFields more
+  more_go w t more NoTypes r n q h = absurd (n (ap (λ v. get_or v 0 0) q))
+  more_go w t more (MoreTypes u ts) r n q h =
       let z = text_same u (type_tree t) (sigs ts ++ 41 ∷ r) more (sym (append_assoc (sig u) (sigs ts) (41 ∷ r)) ∙ sym q ∙ h.spelled) in
       record { trees = ts; rest = r; spelled = sym z.1 }
 
-  pub fields_more : (w : List ℕ) (t : SigType A) (more : List ℕ) (b : ℕ) (c : List ℕ) → w ≡ b ∷ c → (b ≡ 41 → ⊥) → StartsFields w → ReadsType w t more → StartsFields more
-  fields_more w t more b c e n h i = more_go w t more b c h.trees h.rest e n h.spelled i
+  pub fields_more : (w : List ℕ) (t : SigType A) (more : List ℕ) → (get_or w 0 0 ≡ 41 → ⊥) → StartsFields w → ReadsType w t more → StartsFields more
+  fields_more w t more n h i = more_go w t more h.trees h.rest n h.spelled i
 
   pub texts_push : (ts : List (SigType A)) (t : SigType A) → sigs (type_trees_of (ts ++ t ∷ [])) ≡ sigs (type_trees_of ts) ++ sig (type_tree t)
   texts_push [] t = append-nil (sig (type_tree t))
@@ -90,21 +73,14 @@ module _ {A : Type 0} where
   -- a type made from those inside it
   pub reads_struct : (w c : List ℕ) (b : ℕ) (p : Arc (Vec (SigType A) A) A) (v : Vec (SigType A) A) (r : List ℕ) → w ≡ b ∷ c → b ≡ 40 → p.value ≡ v → ReadsFields c v.items r → ReadsType w (ty.Struct p) r
   reads_struct w c b p v r e n same h =
-      let tail : c ≡ (sigs (type_trees_of v.items) ++ 41 ∷ []) ++ r = h.spelled ∙ sym (append_assoc (sigs (type_trees_of v.items)) (41 ∷ []) r) in
-      let whole : w ≡ sig (StructType (type_trees_of v.items)) ++ r = e ∙ ap (λ x. x ∷ c) n ∙ ap (λ x. 40 ∷ x) tail in
-      let shared : w ≡ sig (StructType (type_trees_of p.value.items)) ++ r = whole ∙ ap (λ (y : Vec (SigType A) A). sig (StructType (type_trees_of y.items)) ++ r) (sym same) in
-      record { spelled = subst (λ t. w ≡ sig t ++ r) (sym (type_tree-Struct p)) shared }
+      let whole : w ≡ sig (StructType (type_trees_of p.value.items)) ++ r = simp (e, n, h.spelled, same, append_assoc) in
+      record { spelled = whole ∙ ap (λ t. sig t ++ r) (sym (type_tree-Struct p)) }
 
   pub reads_entry : (w c : List ℕ) (b : ℕ) (k v : Arc (SigType A) A) (x y : SigType A) (r s : List ℕ) → w ≡ b ∷ c → b ≡ 123 → k.value ≡ x → v.value ≡ y → ReadsType c x r → ReadsType r y s → (rest : List ℕ) × (s ≡ 125 ∷ rest) → ReadsType w (ty.Entry k v) (take (length s - 1) (drop 1 s))
   reads_entry w c b k v x y r s e n ek ev hx hy z =
       let end : take (length s - 1) (drop 1 s) ≡ z.0 = ap (λ q. take (length q - 1) (drop 1 q)) z.1 ∙ take_all (length (125 ∷ z.0) - 1) z.0 (omega arith) in
-      let tail : c ≡ (sig (type_tree x) ++ (sig (type_tree y) ++ 125 ∷ [])) ++ z.0 =
-      hx.spelled ∙ ap (λ q. sig (type_tree x) ++ q) (hy.spelled ∙ ap (λ q. sig (type_tree y) ++ q) z.1) ∙ sym (entry_spelled (sig (type_tree x)) (sig (type_tree y)) z.0) in
-      let whole : w ≡ sig (EntryType (type_tree x) (type_tree y)) ++ z.0 = e ∙ ap (λ q. q ∷ c) n ∙ ap (λ q. 123 ∷ q) tail in
-      let boxed : w ≡ sig (EntryType (type_tree k.value) (type_tree v.value)) ++ z.0 =
-      whole ∙ ap (λ t. sig (EntryType (type_tree t) (type_tree y)) ++ z.0) (sym ek) ∙ ap (λ t. sig (EntryType (type_tree k.value) (type_tree t)) ++ z.0) (sym ev) in
-      let made : ReadsType w (ty.Entry k v) z.0 = record { spelled = subst (λ t. w ≡ sig t ++ z.0) (sym (type_tree-Entry k v)) boxed } in
-      subst (λ q. ReadsType w (ty.Entry k v) q) (sym end) made
+      let whole : w ≡ sig (EntryType (type_tree k.value) (type_tree v.value)) ++ z.0 = simp (e, n, hx.spelled, hy.spelled, z.1, ek, ev, append_assoc) in
+      record { spelled = whole ∙ ap (λ t. sig t ++ z.0) (sym (type_tree-Entry k v)) ∙ ap (λ q. sig (type_tree (ty.Entry k v)) ++ q) (sym end) }
 
   -- the types after the first
   types_go : (w : List ℕ) (t : SigType A) (more : List ℕ) (ts : TypeTrees) → w ≡ sigs ts → 0 < length w → ReadsType w t more → IsTextOfTypes more

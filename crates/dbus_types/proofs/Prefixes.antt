@@ -1,11 +1,11 @@
 -- A list of bytes begins with at most one type.
-use Rattle.std.proofs.Common.{◌≡◌, ℕ, ◌+◌, true, Some, List, [], ◌∷◌, ◌++◌, length, sym, ap, ◌∙◌, arith, append_assoc, length-append}
+use Rattle.std.proofs.Common.{◌≡◌, ℕ, ◌+◌, true, Some, List, [], ◌∷◌, ◌++◌, length, sym, ap, ◌∙◌, arith, append_assoc}
 use Rattle.dbus_texts.specs.Types.{TypeTree, NumberType, TextType, VariantType, ArrayType, StructType, EntryType, number_code, text_code, sig, sigs}
 use Rattle.dbus_texts.specs.SignatureScans.{is_type_code}
 use Rattle.dbus_types.specs.TypeReads.{StartsType, StartsFields}
 use Rattle.dbus_texts.specs.ComputedKinds.{parse, opening, AnArray, AStruct, AnEntry}
 use Rattle.dbus_texts.proofs.Codes.{number_is_code, text_is_code}
-use Rattle.dbus_texts.proofs.TypeTexts.{parse_sig, sig_positive}
+use Rattle.dbus_texts.proofs.TypeTexts.{parse_sig}
 use Rattle.dbus_types.specs.SignatureCodes.{first_code}
 use Rattle.dbus_types.proofs.TypeCodes.{after_code, begins, opens, opening_is}
 
@@ -33,19 +33,16 @@ opened t b c r e =
 opened_at : (w : List ℕ) (b : ℕ) (c : List ℕ) → w ≡ b ∷ c → (h : StartsType w) → (opens h.tree ≡ opening b) × (c ≡ after_code h.tree ++ h.rest)
 opened_at w b c e h = opened h.tree b c h.rest (sym e ∙ h.spelled)
 
-pub front_is : (w : List ℕ) (b n : ℕ) (c : List ℕ) → w ≡ b ∷ c → b ≡ n → w ≡ n ∷ c
-front_is w b n c e f = e ∙ ap (λ x. x ∷ c) f
-
 -- what stands after the first byte of a type
-pub inside_array : (w c : List ℕ) → w ≡ 97 ∷ c → StartsType w → StartsType c
-inside_array w c e h = let o = opened_at w 97 c e h in of h.tree o.0 o.1
+pub inside_array : (w : List ℕ) (b : ℕ) (c : List ℕ) → w ≡ b ∷ c → b ≡ 97 → StartsType w → StartsType c
+inside_array w b c e f h = let o = opened_at w b c e h in of h.tree (o.0 ∙ ap opening f) o.1
   where
     of : (t : TypeTree) → opens t ≡ AnArray → c ≡ after_code t ++ h.rest → StartsType c
     of (ArrayType u) o q = record { tree = u; rest = h.rest; spelled = q }
     of _ o q = absurd cc
 
-pub inside_struct : (w c : List ℕ) → w ≡ 40 ∷ c → StartsType w → StartsFields c
-inside_struct w c e h = let o = opened_at w 40 c e h in of h.tree o.0 o.1
+pub inside_struct : (w : List ℕ) (b : ℕ) (c : List ℕ) → w ≡ b ∷ c → b ≡ 40 → StartsType w → StartsFields c
+inside_struct w b c e f h = let o = opened_at w b c e h in of h.tree (o.0 ∙ ap opening f) o.1
   where
     of : (t : TypeTree) → opens t ≡ AStruct → c ≡ after_code t ++ h.rest → StartsFields c
     of (StructType ts) o q = record { trees = ts; rest = h.rest; spelled = q ∙ append_assoc (sigs ts) (41 ∷ []) h.rest }
@@ -58,8 +55,8 @@ pub record StartsPair (w : List ℕ) : Type 0 where
   pub rest : List ℕ
   pub spelled : w ≡ sig key ++ (sig value ++ 125 ∷ rest)
 
-pub inside_entry : (w c : List ℕ) → w ≡ 123 ∷ c → StartsType w → StartsPair c
-inside_entry w c e h = let o = opened_at w 123 c e h in of h.tree o.0 o.1
+pub inside_entry : (w : List ℕ) (b : ℕ) (c : List ℕ) → w ≡ b ∷ c → b ≡ 123 → StartsType w → StartsPair c
+inside_entry w b c e f h = let o = opened_at w b c e h in of h.tree (o.0 ∙ ap opening f) o.1
   where
     of : (t : TypeTree) → opens t ≡ AnEntry → c ≡ after_code t ++ h.rest → StartsPair c
     of (EntryType k v) o q = record { key = k; value = v; rest = h.rest; spelled = q ∙ entry_spelled (sig k) (sig v) h.rest }
@@ -75,6 +72,3 @@ code_first w b c e n1 n2 n3 h = of h.tree (sym e ∙ h.spelled)
     of (ArrayType t) q = absurd (n1 cc)
     of (StructType ts) q = absurd (n2 cc)
     of (EntryType k v) q = absurd (n3 cc)
-
-pub not_empty : StartsType [] → ⊥
-not_empty h = omega (arith, ap length h.spelled, length-append (sig h.tree) h.rest, sig_positive h.tree)

@@ -1,14 +1,13 @@
 use Rattle.std.proofs.Common.{arith, ◌∙◌, sym}
 use Rattle.std.proofs.lemmas.Bool.{false≢true}
-use Rattle.dbus_types.proofs.Prefixes.{inside_array, inside_struct, inside_entry, code_first, front_is}
-use Rattle.dbus_types.proofs.Parsing.{left_of_end, reads_shorter, pair_value, pair_end, fields_type, fields_more, reads_struct, reads_entry, first_byte, first_is, not_empty_at, spelled_push}
+use Rattle.dbus_types.proofs.Prefixes.{inside_array, inside_struct, inside_entry, code_first}
+use Rattle.dbus_types.proofs.Parsing.{left_of_end, reads_shorter, pair_value, pair_end, fields_type, fields_more, reads_struct, reads_entry, not_empty_at, spelled_push}
 use Rattle.dbus_types.proofs.parse.+parse.Goals as goal
 
 pub parse_fields-parse_type-requires : goal.parse_fields-parse_type-requires
 parse_fields-parse_type-requires g t c =
     let l = c.loop-rest.invariant.starts in
-    let f = first_byte c.loop-rest.rest.now l in
-    λ κs h. (omega (arith, c.loop-rest.invariant.shorter), (h, fields_type c.loop-rest.rest.now f.0 f.1 f.2 (λ e. c.loop-rest-test.true (sym (first_is c.loop-rest.rest.now f.0 f.1 f.2) ∙ e)) l))
+    λ κs h. (omega (arith, c.loop-rest.invariant.shorter), (h, fields_type c.loop-rest.rest.now c.loop-rest-test.true l))
 
 pub parse_fields-loop-rest-smaller : goal.parse_fields-loop-rest-smaller
 parse_fields-loop-rest-smaller g t c = reads_shorter c.loop-rest.rest.now c.in_ok-ty.ty c.in_ok-ty.more.now c.in_ok-ty.ensures
@@ -16,23 +15,23 @@ parse_fields-loop-rest-smaller g t c = reads_shorter c.loop-rest.rest.now c.in_o
 pub parse_type-parse_type-requires : goal.parse_type-parse_type-requires
 parse_type-parse_type-requires g t c =
     let e = c.in-Some.ensures.cases in
-    λ κs h. (omega (arith, e.1), (h, inside_array c.args.bytes.now c.in-Some.rest.now (front_is c.args.bytes.now c.in-Some.byte.now 97 c.in-Some.rest.now e.0 c.in-97.is) c.requires))
+    λ κs h. (omega (arith, e.1), (h, inside_array c.args.bytes.now c.in-Some.byte.now c.in-Some.rest.now e.0 c.in-97.is c.requires))
 
 pub parse_type-parse_fields-requires : goal.parse_type-parse_fields-requires
 parse_type-parse_fields-requires g t c =
     let e = c.in-Some.ensures.cases in
-    λ κs h. (omega (arith, e.1), (h, inside_struct c.args.bytes.now c.in-Some.rest.now (front_is c.args.bytes.now c.in-Some.byte.now 40 c.in-Some.rest.now e.0 c.in-40.is) c.requires))
+    λ κs h. (omega (arith, e.1), (h, inside_struct c.args.bytes.now c.in-Some.byte.now c.in-Some.rest.now e.0 c.in-40.is c.requires))
 
 pub parse_type-parse_type-requires-in-123 : goal.parse_type-parse_type-requires-in-123
 parse_type-parse_type-requires-in-123 g t c =
     let e = c.in-Some.ensures.cases in
-    let p = inside_entry c.args.bytes.now c.in-Some.rest.now (front_is c.args.bytes.now c.in-Some.byte.now 123 c.in-Some.rest.now e.0 c.in-123.is) c.requires in
+    let p = inside_entry c.args.bytes.now c.in-Some.byte.now c.in-Some.rest.now e.0 c.in-123.is c.requires in
     λ κs h. (omega (arith, e.1), (h, record { tree = p.key; rest = _; spelled = p.spelled }))
 
 pub parse_type-parse_type-requires-in-123-2 : goal.parse_type-parse_type-requires-in-123-2
 parse_type-parse_type-requires-in-123-2 g t c =
     let e = c.in-Some.ensures.cases in
-    let p = inside_entry c.args.bytes.now c.in-Some.rest.now (front_is c.args.bytes.now c.in-Some.byte.now 123 c.in-Some.rest.now e.0 c.in-123.is) c.requires in
+    let p = inside_entry c.args.bytes.now c.in-Some.byte.now c.in-Some.rest.now e.0 c.in-123.is c.requires in
     let r = c.in_ok-key-in-123.ensures in
     let l = reads_shorter c.in-Some.rest.now c.in_ok-key-in-123.key c.in_ok-key-in-123.rest.now r in
     λ κs h. (omega (arith, e.1, l), (h, pair_value c.in-Some.rest.now c.in_ok-key-in-123.key c.in_ok-key-in-123.rest.now p r))
@@ -40,7 +39,7 @@ parse_type-parse_type-requires-in-123-2 g t c =
 pub parse_type-slice_bounds-result-count : goal.parse_type-slice_bounds-result-count
 parse_type-slice_bounds-result-count g t c =
     let e = c.in-Some.ensures.cases in
-    let p = inside_entry c.args.bytes.now c.in-Some.rest.now (front_is c.args.bytes.now c.in-Some.byte.now 123 c.in-Some.rest.now e.0 c.in-123.is) c.requires in
+    let p = inside_entry c.args.bytes.now c.in-Some.byte.now c.in-Some.rest.now e.0 c.in-123.is c.requires in
     let z = pair_end c.in-Some.rest.now c.in_ok-key-in-123.key c.in_ok-key-in-123.rest.now c.in_ok-value-in-123.value c.in_ok-value-in-123.rest.now p c.in_ok-key-in-123.ensures c.in_ok-value-in-123.ensures in
     left_of_end c.in_ok-value-in-123.rest.now z
 
@@ -62,7 +61,7 @@ parse_type-returns-in_ok-fields-in-40-2 g t c =
 pub parse_type-returns-in_ok-value-in-123-2 : goal.parse_type-returns-in_ok-value-in-123-2
 parse_type-returns-in_ok-value-in-123-2 g t c =
     let e = c.in-Some.ensures.cases in
-    let p = inside_entry c.args.bytes.now c.in-Some.rest.now (front_is c.args.bytes.now c.in-Some.byte.now 123 c.in-Some.rest.now e.0 c.in-123.is) c.requires in
+    let p = inside_entry c.args.bytes.now c.in-Some.byte.now c.in-Some.rest.now e.0 c.in-123.is c.requires in
     let z = pair_end c.in-Some.rest.now c.in_ok-key-in-123.key c.in_ok-key-in-123.rest.now c.in_ok-value-in-123.value c.in_ok-value-in-123.rest.now p c.in_ok-key-in-123.ensures c.in_ok-value-in-123.ensures in
     reads_entry c.args.bytes.now c.in-Some.rest.now c.in-Some.byte.now c.in_ok-key-in-123-2.key c.in_ok-value-in-123-2.value c.in_ok-key-in-123.key c.in_ok-value-in-123.value c.in_ok-key-in-123.rest.now c.in_ok-value-in-123.rest.now e.0 c.in-123.is c.in_ok-key-in-123-2.ensures.ok c.in_ok-value-in-123-2.ensures.ok c.in_ok-key-in-123.ensures c.in_ok-value-in-123.ensures z
 
@@ -71,9 +70,8 @@ parse_fields-loop-rest-preserved g t c =
     let x = c.loop-rest in
     let i = x.invariant in
     let r = c.in_ok-ty.ensures in
-    let f = first_byte x.rest.now i.starts in
     record {
-      starts = fields_more x.rest.now c.in_ok-ty.ty c.in_ok-ty.more.now f.0 f.1 f.2 (λ e. c.loop-rest-test.true (sym (first_is x.rest.now f.0 f.1 f.2) ∙ e)) i.starts r;
+      starts = fields_more x.rest.now c.in_ok-ty.ty c.in_ok-ty.more.now c.loop-rest-test.true i.starts r;
       spelled = i.spelled ∙ spelled_push x.types.items c.in_ok-ty.ty c.push.new.self.items x.rest.now c.in_ok-ty.more.now c.in_ok-push.ensures.items r.spelled;
       shorter = omega (arith, reads_shorter x.rest.now c.in_ok-ty.ty c.in_ok-ty.more.now r);
     }
