@@ -34,39 +34,28 @@ struct_parts ts r = append_assoc (sigs ts) (41 ∷ []) r
 entry_parts : (k v : TypeTree) (r : List ℕ) → (sig k ++ (sig v ++ 125 ∷ [])) ++ r ≡ sig k ++ (sig v ++ 125 ∷ r)
 entry_parts k v r = simp append_assoc
 
--- within brackets a type's text is passed over whole
+-- a type's text is passed over whole; outside of brackets the count ends there
 mutual
-  inside : (t : TypeTree) (deep : ℕ) (r : List ℕ) → type_length (suc deep) (sig t ++ r) ≡ length (sig t) + type_length (suc deep) r
-  inside (NumberType k) deep r = number_ends (suc deep) k r ∙ omega arith
-  inside (TextType k) deep r = text_ends (suc deep) k r ∙ omega arith
-  inside VariantType deep r = omega arith
-  inside (ArrayType t) deep r = ap suc (inside t deep r) ∙ omega arith
-  inside (StructType ts) deep r =
-      ap (λ (s : List ℕ). suc (type_length (suc (suc deep)) s)) (struct_parts ts r) ∙ ap suc (all_inside ts (suc deep) (41 ∷ r))
-      ∙ omega (arith, length-append (sigs ts) (41 ∷ []))
-  inside (EntryType k v) deep r =
-      ap (λ (s : List ℕ). suc (type_length (suc (suc deep)) s)) (entry_parts k v r)
-      ∙ ap suc (inside k (suc deep) (sig v ++ 125 ∷ r) ∙ ap (λ (n : ℕ). length (sig k) + n) (inside v (suc deep) (125 ∷ r)))
+  passed : (t : TypeTree) (deep : ℕ) (r : List ℕ) → type_length deep (sig t ++ r) ≡ length (sig t) + unless_closed deep (λ n. type_length n r)
+  passed (NumberType k) deep r = number_ends deep k r ∙ omega arith
+  passed (TextType k) deep r = text_ends deep k r ∙ omega arith
+  passed VariantType deep r = omega arith
+  passed (ArrayType t) deep r = ap suc (passed t deep r) ∙ omega arith
+  passed (StructType ts) deep r =
+      ap (λ (s : List ℕ). suc (type_length (suc deep) s)) (struct_parts ts r) ∙ ap suc (all_passed ts deep (41 ∷ r)) ∙ omega (arith, length-append (sigs ts) (41 ∷ []))
+  passed (EntryType k v) deep r =
+      ap (λ (s : List ℕ). suc (type_length (suc deep) s)) (entry_parts k v r)
+      ∙ ap suc (passed k (suc deep) (sig v ++ 125 ∷ r) ∙ ap (λ (n : ℕ). length (sig k) + n) (passed v (suc deep) (125 ∷ r)))
       ∙ omega (arith, length-append (sig k) (sig v ++ 125 ∷ []), length-append (sig v) (125 ∷ []))
 
-  all_inside : (ts : TypeTrees) (deep : ℕ) (r : List ℕ) → type_length (suc deep) (sigs ts ++ r) ≡ length (sigs ts) + type_length (suc deep) r
-  all_inside NoTypes deep r = omega arith
-  all_inside (MoreTypes t ts) deep r =
-      ap (λ (s : List ℕ). type_length (suc deep) s) (append_assoc (sig t) (sigs ts) r) ∙ inside t deep (sigs ts ++ r)
-      ∙ ap (λ (n : ℕ). length (sig t) + n) (all_inside ts deep r) ∙ omega (arith, length-append (sig t) (sigs ts))
+  all_passed : (ts : TypeTrees) (deep : ℕ) (r : List ℕ) → type_length (suc deep) (sigs ts ++ r) ≡ length (sigs ts) + type_length (suc deep) r
+  all_passed NoTypes deep r = omega arith
+  all_passed (MoreTypes t ts) deep r =
+      ap (λ (s : List ℕ). type_length (suc deep) s) (append_assoc (sig t) (sigs ts) r) ∙ passed t (suc deep) (sigs ts ++ r)
+      ∙ ap (λ (n : ℕ). length (sig t) + n) (all_passed ts deep r) ∙ omega (arith, length-append (sig t) (sigs ts))
 
--- outside of brackets the first type ends where its text does
 pub type_ends : (t : TypeTree) (r : List ℕ) → type_length 0 (sig t ++ r) ≡ length (sig t)
-type_ends (NumberType k) r = number_ends 0 k r
-type_ends (TextType k) r = text_ends 0 k r
-type_ends VariantType r = refl
-type_ends (ArrayType t) r = ap suc (type_ends t r)
-type_ends (StructType ts) r =
-    ap (λ (s : List ℕ). suc (type_length 1 s)) (struct_parts ts r) ∙ ap suc (all_inside ts 0 (41 ∷ r)) ∙ omega (arith, length-append (sigs ts) (41 ∷ []))
-type_ends (EntryType k v) r =
-    ap (λ (s : List ℕ). suc (type_length 1 s)) (entry_parts k v r)
-    ∙ ap suc (inside k 0 (sig v ++ 125 ∷ r) ∙ ap (λ (n : ℕ). length (sig k) + n) (inside v 0 (125 ∷ r)))
-    ∙ omega (arith, length-append (sig k) (sig v ++ 125 ∷ []), length-append (sig v) (125 ∷ []))
+type_ends t r = passed t 0 r ∙ omega arith
 
 -- so a count of the brackets from a place on ends where the type there does
 pub ends_there : (types : List ℕ) (pos at : ℕ) → at ≡ pos + type_length 0 (drop pos types) → IsTypeEnd types pos at

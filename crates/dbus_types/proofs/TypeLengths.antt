@@ -25,6 +25,9 @@ pub first_there : (types : List ℕ) (pos : ℕ) (t : TypeTree) (more : List ℕ
 first_there types pos t more lt e =
     ap (λ (s : List ℕ). get_or s 0 0) (ap (λ (s : List ℕ). s ++ more) (sym (begins t)) ∙ sym e ∙ drop_more types pos 0 lt)
 
+first_of_text : (types : List ℕ) (pos : ℕ) (t : TypeTree) (more : List ℕ) → pos < length types → drop pos types ≡ sig t ++ more → get_or types pos 0 ≡ get_or (sig t) 0 0
+first_of_text types pos t more lt e = sym (first_there types pos t more lt e) ∙ code_is t (sig t) refl
+
 -- Of what stands between the brackets of the type t, which begins at `at`, some types are left from a place on.
 pub record Enclosed (types : List ℕ) (at : ℕ) (t : TypeTree) (more : List ℕ) (place : ℕ) : Type 0 where
   pub us : TypeTrees
@@ -38,20 +41,17 @@ module _ (types : List ℕ) (at : ℕ) (t : TypeTree) (more : List ℕ) where
   pub enclosed_all : at < length types → (get_or types at 0 ≡ 40) ⊎ (get_or types at 0 ≡ 123) → drop at types ≡ sig t ++ more → Enclosed types at t more (at + 1)
   enclosed_all lt opens e = of opens
     where
-      coded : get_or (sig t) 0 0 ≡ get_or types at 0
-      coded = sym (code_is t (sig t) refl) ∙ first_there types at t more lt e
-
       after : (s : List ℕ) (c : ℕ) → drop at types ≡ c ∷ s → drop (at + 1) types ≡ s
       after s c e1 = sym (drop-drop 1 at types) ∙ ap (drop 1) e1
 
       of : (get_or types at 0 ≡ 40) ⊎ (get_or types at 0 ≡ 123) → Enclosed types at t more (at + 1)
       of (inl o) =
-          let p = struct_is t (sig t) refl (coded ∙ o) in
+          let p = struct_is t (sig t) refl (sym (first_of_text types at t more lt e) ∙ o) in
           let ts = p.0 in
           let whole : drop at types ≡ 40 ∷ (sigs ts ++ (41 ∷ more)) = e ∙ ap (λ (v : TypeTree). sig v ++ more) p.1 ∙ ap (λ (s : List ℕ). 40 ∷ s) (append_assoc (sigs ts) (41 ∷ []) more) in
           record { us = ts; close = 41; closes = inl refl; here = after (sigs ts ++ (41 ∷ more)) 40 whole; ends = omega (arith, ap (λ (v : TypeTree). length (sig v)) p.1, length-append (sigs ts) (41 ∷ [])) }
       of (inr o) =
-          let p = entry_is t (sig t) refl (coded ∙ o) in
+          let p = entry_is t (sig t) refl (sym (first_of_text types at t more lt e) ∙ o) in
           let k = p.0 in
           let v = p.1 in
           let joined : (sig k ++ (sig v ++ 125 ∷ [])) ++ more ≡ (sig k ++ (sig v ++ [])) ++ (125 ∷ more) = simp append_assoc in
@@ -100,9 +100,6 @@ module _ (types : List ℕ) (at : ℕ) (t : TypeTree) (more : List ℕ) where
 -- ---- a type by its first byte
 
 module _ (types : List ℕ) (at : ℕ) (t : TypeTree) (more : List ℕ) (lt : at < length types) (e : drop at types ≡ sig t ++ more) where
-  first_byte : get_or (sig t) 0 0 ≡ get_or types at 0
-  first_byte = sym (code_is t (sig t) refl) ∙ first_there types at t more lt e
-
   -- an array is its element's type after one byte
   pub record ArrayThere : Type 0 where
     pub element : TypeTree
@@ -111,7 +108,7 @@ module _ (types : List ℕ) (at : ℕ) (t : TypeTree) (more : List ℕ) (lt : at
 
   pub array_there : get_or types at 0 ≡ 97 → ArrayThere
   array_there a =
-      let p = array_is t (sig t) refl (first_byte ∙ a) in
+      let p = array_is t (sig t) refl (sym (first_of_text types at t more lt e) ∙ a) in
       let whole : drop at types ≡ 97 ∷ (sig p.0 ++ more) = e ∙ ap (λ (v : TypeTree). sig v ++ more) p.1 in
       record { element = p.0; long = ap (λ (v : TypeTree). length (sig v)) p.1 ∙ omega arith; here = sym (drop-drop 1 at types) ∙ ap (drop 1) whole }
 
