@@ -3,7 +3,7 @@ use Rattle.std.proofs.Common.{◌≡◌, ℕ, zero, suc, ◌+◌, ◌-◌, ◌*�
 use Rattle.std.proofs.lemmas.Bool.{and_parts, cases_lt, eqb-true}
 use Rattle.std.proofs.lemmas.Simd.{mask_l-mod}
 use native.Mathlib.Numerals.{unary_clauses}
-use lib.Lanes.{mask_l}
+use lib.Lanes.{mask_l, top}
 
 -- the lanes of the operations
 abbrev pub less : ℕ → ℕ → ℕ
@@ -28,6 +28,11 @@ below_holds p zero h i l = absurd (omega arith)
 below_holds p (suc n) h i l =
     let both = and_parts (p n) (holds_below p n) h in
     ⊎_elim (λ k. below_holds p n both.1 i k) (λ k. let same : i ≡ n = omega arith in subst (λ j. p j ≡ true) (sym same) both.0) (cases_lt i n)
+
+-- the mark of a lane is its top bit
+pub top_mark : (p : Bool) → top 7 (cond p 255 0) ≡ p
+top_mark true = refl
+top_mark false = refl
 
 -- a mask of ones only
 pub first_one : (b : Bool) (m p : ℕ) → cond b 1 0 + 2 * m + 1 ≡ 2 * p → (b ≡ true) × (m + 1 ≡ p)

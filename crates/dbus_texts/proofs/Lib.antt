@@ -1,7 +1,7 @@
 pub mod Codes
 mod Quotients
-mod ByteLanes
-mod PlainBlocks
+pub mod ByteLanes
+pub mod PlainBlocks
 mod NameSteps
 mod WordBlocks
 mod LinkedBlocks

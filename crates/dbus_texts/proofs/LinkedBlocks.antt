@@ -4,7 +4,7 @@ use Rattle.std.proofs.lemmas.Bool.{cases_lt, eqb-true}
 use Rattle.std.proofs.lemmas.Simd.{get_or-chunk, length-chunk}
 use Rattle.std.proofs.lemmas.List.{length-map}
 use lib.Lanes.{zip2, mask_l, top, Each1, Each2, chunk}
-use Rattle.dbus_texts.proofs.ByteLanes.{less, below, same_as, differs, below_holds, first_one, pow_two, whole_mask}
+use Rattle.dbus_texts.proofs.ByteLanes.{less, below, same_as, differs, below_holds, first_one, pow_two, whole_mask, top_mark}
 use Rattle.dbus_texts.specs.declared.names.Letters.{Letters}
 use Rattle.dbus_texts.specs.declared.names.Letters.TheVariants.{Word}
 use Rattle.dbus_texts.specs.NameScans.{begins, goes_on, separator}
@@ -38,10 +38,6 @@ and_marks true true = refl
 and_marks true false = refl
 and_marks false true = refl
 and_marks false false = refl
-
-top_mark : (p : Bool) → top 7 (cond p 255 0) ≡ p
-top_mark true = refl
-top_mark false = refl
 
 link_mark_is : (l : Letters) (a b : ℕ) → b < 256 → top 7 (link_mark (separator l) (extra l) (first_digits l) a b) ≡ may_follow l a b
 link_mark_is l a b h =
@@ -85,10 +81,7 @@ links_of_marks l xs ys first second f e =
 
 pub links_of_mask : (l : Letters) (s e k : ℕ) (xs ys : List ℕ) → s ≡ separator l → e ≡ extra l → k ≡ first_digits l → length xs ≡ 16 → length ys ≡ 16 → Each1 (Fits w8) ys → eqb (mask_l (map (top 7) (link_marks s e k 16 xs ys)) % 2 ^ 64) 65535 ≡ true → Links l xs ys
 links_of_mask l s e k xs ys p q r first second f h =
-    links_of_marks l xs ys first second f
-    (subst (λ z. eqb (mask_l (map (top 7) (link_marks (separator l) (extra l) z 16 xs ys)) % 2 ^ 64) 65535 ≡ true) r
-    (subst (λ y. eqb (mask_l (map (top 7) (link_marks (separator l) y k 16 xs ys)) % 2 ^ 64) 65535 ≡ true) q
-    (subst (λ x. eqb (mask_l (map (top 7) (link_marks x e k 16 xs ys)) % 2 ^ 64) 65535 ≡ true) p h)))
+    links_of_marks l xs ys first second f (rw (p, q, r) at h)
 
 -- from blocks to the text
 links_at : (l : Letters) (xs ys : List ℕ) → Links l xs ys → (i : ℕ) → i < length xs → i < length ys → IsTrue (may_follow l (get_or xs i 0) (get_or ys i 0))

@@ -27,14 +27,12 @@ a_only l = (a_begins l, tt)
 
 -- something may always follow
 elements_some : (l : Letters) (t : Tail) → (c : List ℕ) × Elements l t c
-elements_some l Alone = (97 ∷ [], record { first = 97 ∷ []; others = []; first_is = a_only l; others_are = tt; follow = tt; spelled = refl })
 elements_some l Needed = (97 ∷ separator l ∷ 97 ∷ [], record { first = 97 ∷ []; others = (97 ∷ []) ∷ []; first_is = a_only l; others_are = (a_only l, tt); follow = tt; spelled = refl })
-elements_some l Free = (97 ∷ [], record { first = 97 ∷ []; others = []; first_is = a_only l; others_are = tt; follow = tt; spelled = refl })
+elements_some l _ = (97 ∷ [], record { first = 97 ∷ []; others = []; first_is = a_only l; others_are = tt; follow = tt; spelled = refl })
 
 goes_on_some : (l : Letters) (t : Tail) → (c : List ℕ) × GoesOn l t c
-goes_on_some l Alone = ([], record { run = []; others = []; run_is = tt; others_are = tt; follow = tt; spelled = refl })
 goes_on_some l Needed = (separator l ∷ 97 ∷ [], record { run = []; others = (97 ∷ []) ∷ []; run_is = tt; others_are = (a_only l, tt); follow = tt; spelled = refl })
-goes_on_some l Free = ([], record { run = []; others = []; run_is = tt; others_are = tt; follow = tt; spelled = refl })
+goes_on_some l _ = ([], record { run = []; others = []; run_is = tt; others_are = tt; follow = tt; spelled = refl })
 
 -- the first byte of elements
 elements_at : (l : Letters) (t : Tail) (b : ℕ) (c first : List ℕ) (others : List (List ℕ)) → IsElement (begins l) (goes_on l) first → AllByRecursion (IsElement (begins l) (goes_on l)) others → MayFollow t others → b ∷ c ≡ first ++ each_after (separator l) others → (begins l b ≡ true) × GoesOn l t c
@@ -97,8 +95,7 @@ goes_on_separator l t b g n e =
 
 goes_on_past : (l : Letters) (t : Tail) (b : ℕ) → goes_on l b ≡ false → b ≡ separator l → IsStep name_rest (name_state More l t) b (past_separator t l)
 goes_on_past l Alone b n e = λ c h. ⊎_elim (λ w. false≢true (sym n ∙ w.0)) (λ w. w.1) (goes_on_head l Alone b c h)
-goes_on_past l Needed b n e = goes_on_separator l Needed b tt n e
-goes_on_past l Free b n e = goes_on_separator l Free b tt n e
+goes_on_past l t b n e = goes_on_separator l t b tt n e
 
 -- the start of a path
 path_at : (b : ℕ) (c : List ℕ) → IsPath (b ∷ c) → (b ≡ 47) × ((c ≡ []) ⊎ Elements Word Free c)
@@ -183,45 +180,37 @@ name_moves_at More l t b =
 pub name_moves : (s : NameScan) (b : ℕ) → IsStep name_rest s b (name_next s b)
 name_moves s b = name_moves_at s.place s.letters s.tail b
 
-elements_nil_at : (l : Letters) (t : Tail) (first : List ℕ) (others : List (List ℕ)) → IsElement (begins l) (goes_on l) first → [] ≡ first ++ each_after (separator l) others → ⊥
-elements_nil_at l t [] others f e = f
-elements_nil_at l t (x ∷ first) others f e = cc
+element_nil : (start more : ℕ → Bool) (e r : List ℕ) → IsElement start more e → [] ≡ e ++ r → ⊥
+element_nil start more [] r h e = h
+element_nil start more (x ∷ run) r h e = cc
 
 goes_on_nil_at : (l : Letters) (t : Tail) (run : List ℕ) (others : List (List ℕ)) → MayFollow t others → [] ≡ run ++ each_after (separator l) others → may_end t ≡ true
-goes_on_nil_at l Alone run others m e = refl
 goes_on_nil_at l Needed [] [] m e = absurd m
 goes_on_nil_at l Needed [] (f ∷ others) m e = cc
 goes_on_nil_at l Needed (x ∷ run) others m e = cc
-goes_on_nil_at l Free run others m e = refl
+goes_on_nil_at l _ run others m e = refl
 
 pub goes_on_end : (l : Letters) (t : Tail) → may_end t ≡ true → GoesOn l t []
-goes_on_end l Alone e = record { run = []; others = []; run_is = tt; others_are = tt; follow = tt; spelled = refl }
 goes_on_end l Needed e = absurd (false≢true e)
-goes_on_end l Free e = record { run = []; others = []; run_is = tt; others_are = tt; follow = tt; spelled = refl }
-
-joined_nil_at : (start more : ℕ → Bool) (e : List ℕ) (f : List ℕ) (es : List (List ℕ)) → IsElement start more e → [] ≡ e ++ each_after 46 (f ∷ es) → ⊥
-joined_nil_at start more [] f es h e = h
-joined_nil_at start more (x ∷ run) f es h e = cc
+goes_on_end l _ e = record { run = []; others = []; run_is = tt; others_are = tt; follow = tt; spelled = refl }
 
 path_nil : IsPath [] → ⊥
 path_nil h = ⊎_elim (λ e. cc) (λ w. cc) h
 
 bus_nil : IsBusName [] → ⊥
-bus_nil h = ⊎_elim (λ w. cc) (λ w. joined_nil_at is_dashed_start is_dashed w.0 w.1 w.2 w.3.0 w.4) h
+bus_nil h = ⊎_elim (λ w. cc) (λ w. element_nil is_dashed_start is_dashed w.0 _ w.3.0 w.4) h
 
 pub name_ended_at : (p : Place) (l : Letters) (t : Tail) → name_rest_at p l t [] → name_end_at p l t ≡ true
 name_ended_at PathStart l t h = absurd (path_nil h)
 name_ended_at Root l t h = refl
 name_ended_at BusStart l t h = absurd (bus_nil h)
-name_ended_at First l t h = absurd (elements_nil_at l t h.first h.others h.first_is h.spelled)
+name_ended_at First l t h = absurd (element_nil (begins l) (goes_on l) h.first _ h.first_is h.spelled)
 name_ended_at More l t h = goes_on_nil_at l t h.run h.others h.follow h.spelled
 
 pub name_ends_at : (p : Place) (l : Letters) (t : Tail) → name_end_at p l t ≡ true → name_rest_at p l t []
-name_ends_at PathStart l t e = absurd (false≢true e)
 name_ends_at Root l t e = inl refl
-name_ends_at BusStart l t e = absurd (false≢true e)
-name_ends_at First l t e = absurd (false≢true e)
 name_ends_at More l t e = goes_on_end l t e
+name_ends_at _ l t e = absurd (false≢true e)
 
 -- where each kind begins
 pub member_elements : (c : List ℕ) → IsMember c → Elements Name Alone c

@@ -1,5 +1,5 @@
 -- The steps of a signature.
-use Rattle.std.proofs.Common.{◌≡◌, ℕ, ◌+◌, ◌-◌, ◌<◌, ◌≤◌, Bool, true, false, cond, eqb, ltb, Option, Some, None, List, [], ◌∷◌, ◌++◌, ◌⊎◌, ⊎_elim, inl, inr, refl, sym, ap, ◌∙◌, subst, arith, append_assoc, append-nil, length, take_at}
+use Rattle.std.proofs.Common.{◌≡◌, ℕ, ◌+◌, ◌-◌, ◌<◌, ◌≤◌, Bool, true, false, cond, eqb, ltb, Option, Some, None, List, [], ◌∷◌, ◌++◌, ◌⊎◌, ⊎_elim, inl, inr, refl, sym, ap, ◌∙◌, subst, arith, append_assoc, append-nil, length, length-append, take_at}
 use Rattle.std.specs.Prelude.{slice_get}
 use Rattle.std.proofs.lemmas.Bool.{cond_both, eqb-true, eqb-false, ltb-true, ltb-false, false≢true}
 use Rattle.std.proofs.lemmas.Option.{slice_get-get_or}
@@ -8,6 +8,7 @@ use Rattle.dbus_texts.specs.declared.signature.Frame.{Frame}
 use Rattle.dbus_texts.specs.declared.signature.SigPlace.{SigPlace}
 use Rattle.dbus_texts.specs.declared.signature.SigPlace.TheVariants.{After, One, Element, Key}
 use Rattle.dbus_texts.specs.Prefixes.{IsStepFrom, IsStep, Moves}
+use Rattle.dbus_texts.proofs.TypeTexts.{sig_positive}
 use Rattle.dbus_texts.proofs.Codes.{number_is_basic, text_is_basic, number_is_code, text_is_code, basic_type, code_type}
 use Rattle.dbus_texts.specs.Types.{TypeTree, NumberType, TextType, VariantType, BYTE, number_code, text_code, TypeTrees, ArrayType, StructType, EntryType, NoTypes, MoreTypes, sig, sigs, IsComplete, AreComplete}
 use Rattle.dbus_texts.specs.SignatureScans.{is_basic_code, is_type_code, OneThen, MoreThen, CloseThen, KeyThen, frame_rest_at, frame_rest, frames_rest, AtTop, SigState, after, sig_rest, sig_state, frame, begin, innermost, others, in_frame_at, past, sig_next_at, sig_next, no_frames, sig_end_at}
@@ -293,12 +294,8 @@ pub sig_moves : (s : SigState) (b : ℕ) → IsStep sig_rest s b (sig_next s b)
 sig_moves s b = sig_moves_at s.single s.place s.arrays s.structs s.frames b
 
 -- the end
-sig_nil : (t : TypeTree) (r : List ℕ) → [] ≡ sig t ++ r → ⊥
-sig_nil (NumberType n) r e = cc
-sig_nil _ r e = cc
-
 one_nil : (inside : Bool) (a s : ℕ) (K : List ℕ → Type 0) → OneThen inside a s K [] → ⊥
-one_nil inside a s K h = sig_nil h.first h.rest h.spelled
+one_nil inside a s K h = omega (arith, ap length h.spelled, length-append (sig h.first) h.rest, sig_positive h.first)
 
 list_nil : (xs : List ℕ) (r : List ℕ) → [] ≡ xs ++ 41 ∷ r → ⊥
 list_nil [] r e = cc

@@ -1,7 +1,8 @@
 -- A text in which each byte may stand after the one before it is a name.
-use Rattle.std.proofs.Common.{◌≡◌, ℕ, zero, suc, ◌+◌, ◌<◌, Bool, true, false, not, ◌||◌, eqb, List, [], ◌∷◌, length, get_or, inr, refl, sym, ap, ◌∙◌, subst, arith}
+use Rattle.std.proofs.Common.{◌≡◌, ℕ, zero, suc, ◌+◌, ◌<◌, Bool, true, false, eqb, List, [], ◌∷◌, length, get_or, inr, refl, sym, ap, ◌∙◌, subst, arith}
 use Rattle.std.specs.List.{list_any}
-use Rattle.std.proofs.lemmas.Bool.{and_parts, eqb-true, eqb-false, false≢true}
+use Rattle.std.proofs.lemmas.Bool.Decides.{nat_tests}
+use Rattle.std.proofs.lemmas.Bool.{eqb-true, eqb-false, false≢true}
 use Rattle.dbus_texts.specs.declared.names.Letters.{Letters}
 use Rattle.dbus_texts.specs.declared.names.Letters.TheVariants.{Word}
 use Rattle.dbus_texts.specs.declared.names.Tail.TheVariants.{Needed, Free}
@@ -24,53 +25,39 @@ chain_of : (l : Letters) (a : ℕ) (w : List ℕ) → ((i : ℕ) → i < length 
 chain_of l a [] h e = e
 chain_of l a (b ∷ w) h e = (h 0 (omega arith), chain_of l b w (λ i k. h (suc i) (omega arith)) e)
 
-right_of : (p q : Bool) → (p || q) ≡ true → p ≡ false → q ≡ true
-right_of true q h e = absurd (false≢true (sym e))
-right_of false q h e = h
-
-left_of : (p q : Bool) → (p || q) ≡ true → q ≡ false → p ≡ true
-left_of true q h e = refl
-left_of false q h e = absurd (false≢true (sym e ∙ h))
-
 -- what follows a
 abbrev frame_rest_at : Bool → Letters → List ℕ → Type 0
 frame_rest_at true l w = Elements l Free w
 frame_rest_at false l w = GoesOn l Free w
 
 begins_on : (l : Letters) (b : ℕ) → begins l b ≡ true → eqb b (separator l) ≡ false
-begins_on l b h = go (eqb b (separator l)) refl
-  where
-    go : (t : Bool) → eqb b (separator l) ≡ t → eqb b (separator l) ≡ false
-    go true e = absurd (false≢true (sym (begins_apart l) ∙ (sym (ap (begins l) (eqb-true b (separator l) e)) ∙ h)))
-    go false e = e
+begins_on l b h = grind (arith, nat_tests, begins_apart l)
 
 stops : (l : Letters) (b : ℕ) → b ≡ separator l → goes_on l b ≡ false
 stops l b e = ap (goes_on l) e ∙ apart l
 
 module _ (l : Letters) (a b : ℕ) (w : List ℕ) (link : may_follow l a b ≡ true) (rest : frame_rest_at (eqb b (separator l)) l w) where
-  may_stand : (goes_on l b || eqb b (separator l)) ≡ true
-  may_stand = (and_parts (goes_on l b || eqb b (separator l)) (not (eqb a (separator l)) || begins l b) link).0
+  within : eqb b (separator l) ≡ false → goes_on l b ≡ true
+  within e = grind arith
 
-  may_begin : (not (eqb a (separator l)) || begins l b) ≡ true
-  may_begin = (and_parts (goes_on l b || eqb b (separator l)) (not (eqb a (separator l)) || begins l b) link).1
+  begun : eqb a (separator l) ≡ true → begins l b ≡ true
+  begun e = grind arith
 
   rest_at : (t : Bool) → eqb b (separator l) ≡ t → frame_rest_at t l w
   rest_at t e = subst (λ u. frame_rest_at u l w) e rest
 
   within_at : (t : Bool) → eqb b (separator l) ≡ t → GoesOn l Free (b ∷ w)
   within_at true e = let at = eqb-true b (separator l) e in (goes_on_separator l Free b tt (stops l b at) at).from w (rest_at true e)
-  within_at false e = (goes_on_more l Free b (left_of (goes_on l b) (eqb b (separator l)) may_stand e)).from w (rest_at false e)
+  within_at false e = (goes_on_more l Free b (within e)).from w (rest_at false e)
 
   first_at : (t : Bool) → eqb a (separator l) ≡ t → frame_rest_at t l (b ∷ w)
-  first_at true e =
-      let begun = right_of (not (eqb a (separator l))) (begins l b) may_begin (ap not e) in
-      (elements_move l Free b begun).from w (rest_at false (begins_on l b begun))
+  first_at true e = (elements_move l Free b (begun e)).from w (rest_at false (begins_on l b (begun e)))
   first_at false e = within_at (eqb b (separator l)) refl
 
   needed_at : (t : Bool) → eqb b (separator l) ≡ t → (i : ℕ) → i < suc (length w) → get_or (b ∷ w) i 0 ≡ separator l → ((j : ℕ) → j < length w → get_or w j 0 ≡ separator l → GoesOn l Needed w) → GoesOn l Needed (b ∷ w)
   needed_at true e i k s ih = let at = eqb-true b (separator l) e in (goes_on_separator l Needed b tt (stops l b at) at).from w (rest_at true e)
   needed_at false e zero k s ih = absurd (eqb-false b (separator l) e s)
-  needed_at false e (suc i) k s ih = (goes_on_more l Needed b (left_of (goes_on l b) (eqb b (separator l)) may_stand e)).from w (ih i (omega arith) s)
+  needed_at false e (suc i) k s ih = (goes_on_more l Needed b (within e)).from w (ih i (omega arith) s)
 
 frame_rest : (l : Letters) (a : ℕ) (w : List ℕ) → Chain l a w → frame_rest_at (eqb a (separator l)) l w
 frame_rest l a [] h = subst (λ t. frame_rest_at t l []) (sym h) (goes_on_end l Free refl)
@@ -82,11 +69,7 @@ after_needed l a [] h i k e = absurd (omega arith)
 after_needed l a (b ∷ w) h i k e = needed_at l a b w h.0 (frame_rest l b w h.1) (eqb b (separator l)) refl i k e (λ j m s. after_needed l b w h.1 j m s)
 
 unlike : (a b : ℕ) → (a ≡ b → ⊥) → eqb a b ≡ false
-unlike a b n = go (eqb a b) refl
-  where
-    go : (t : Bool) → eqb a b ≡ t → eqb a b ≡ false
-    go true e = absurd (n (eqb-true a b e))
-    go false e = e
+unlike a b n = grind (arith, nat_tests)
 
 -- of a whole text
 linked_chain : (l : Letters) (a : ℕ) (w : List ℕ) (n : ℕ) → n ≡ length w → (get_or (a ∷ w) n 0 ≡ separator l → ⊥) → AreLinked l (a ∷ w) → Chain l a w
@@ -102,7 +85,7 @@ found_at (b ∷ w) s h = go (eqb b s) refl (found_at w s)
   where
     go : (t : Bool) → eqb b s ≡ t → (list_any (λ c. eqb c s) w ≡ true → (i : ℕ) × (i < length w) × (get_or w i 0 ≡ s)) → (i : ℕ) × (i < length (b ∷ w)) × (get_or (b ∷ w) i 0 ≡ s)
     go true e more = (0, omega arith, eqb-true b s e)
-    go false e more = let rest = more (right_of (eqb b s) (list_any (λ c. eqb c s) w) h e) in (suc rest.0, omega (arith, rest.1), rest.2)
+    go false e more = let rest = more (grind arith) in (suc rest.0, omega (arith, rest.1), rest.2)
 
 pub joined_of : (l : Letters) (w : List ℕ) (n i : ℕ) → n + 1 ≡ length w → begins l (get_or w 0 0) ≡ true → (get_or w n 0 ≡ separator l → ⊥) → i < length w → get_or w i 0 ≡ separator l → AreLinked l w → Elements l Needed w
 joined_of l [] n i long b e k s h = absurd (omega arith)

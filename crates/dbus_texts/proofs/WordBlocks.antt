@@ -1,12 +1,13 @@
 -- Blocks of letters, digits and `_`, and texts of such blocks.
-use Rattle.std.proofs.Common.{◌≡◌, ℕ, zero, suc, ◌+◌, ◌-◌, ◌*◌, ◌%◌, ◌^◌, ◌<◌, ◌≤◌, Bool, true, false, ◌||◌, cond, eqb, List, [], ◌∷◌, ⊎_elim, map, length, get_or, replicate, bit_or, refl, sym, ap, ◌∙◌, subst, arith, w8, Fits, IsTrue}
+use Rattle.std.proofs.Common.{◌≡◌, ℕ, zero, suc, ◌+◌, ◌-◌, ◌*◌, ◌%◌, ◌^◌, ◌<◌, ◌≤◌, true, false, cond, eqb, List, [], ◌∷◌, ⊎_elim, map, length, get_or, replicate, bit_or, refl, sym, ap, ◌∙◌, subst, arith, w8, Fits, IsTrue}
 use Rattle.std.specs.List.{AllByRecursion}
 use Rattle.std.specs.Int.{is_in_range}
-use Rattle.std.proofs.lemmas.Bool.{cases_lt, eqb-true, false≢true}
+use Rattle.std.proofs.lemmas.Bool.{cases_lt, eqb-true}
+use Rattle.std.proofs.lemmas.Bool.Decides.{nat_tests}
 use Rattle.std.proofs.lemmas.Simd.{get_or-chunk, length-chunk}
 use Rattle.std.proofs.lemmas.List.{length-map}
 use lib.Lanes.{zip2, mask_l, top, Each1, chunk}
-use Rattle.dbus_texts.proofs.ByteLanes.{less, below, same_as, below_holds, first_one, pow_two, whole_mask}
+use Rattle.dbus_texts.proofs.ByteLanes.{less, below, same_as, below_holds, first_one, pow_two, whole_mask, top_mark}
 use Rattle.dbus_texts.specs.Names.{is_word, is_word_start, IsMember}
 
 abbrev word_mark : ℕ → ℕ
@@ -26,11 +27,7 @@ words_marked [] f e = tt
 words_marked (x ∷ xs) f e =
     let twice : 2 ^ suc (length xs) ≡ 2 * 2 ^ length xs = pow_two (length xs) in
     let ones = first_one (top 7 (word_mark x)) (mask_l (map (top 7) (word_marks (length xs) xs))) (2 ^ length xs) (omega (arith, e, twice)) in
-    (go (is_word x) refl (sym (ap (top 7) (word_mark_is x f.0.fits)) ∙ ones.0), words_marked xs f.1 ones.1)
-  where
-    go : (t : Bool) → is_word x ≡ t → top 7 (cond t 255 0) ≡ true → is_word x ≡ true
-    go true p q = p
-    go false p q = absurd (false≢true q)
+    (sym (ap (top 7) (word_mark_is x f.0.fits) ∙ top_mark (is_word x)) ∙ ones.0, words_marked xs f.1 ones.1)
 
 marks_each : (xs : List ℕ) → word_marks (length xs) xs ≡ map word_mark xs
 marks_each [] = refl
@@ -57,19 +54,12 @@ words_after xs at room h i l k =
 pub words_more : (xs : List ℕ) (at : ℕ) → at + 16 ≤ length xs → ((i : ℕ) → i < at → IsTrue (is_word (get_or xs i 0))) → Words (chunk at 16 xs) → (i : ℕ) → i < at + 16 → IsTrue (is_word (get_or xs i 0))
 words_more xs at room before h i l = ⊎_elim (λ k. before i k) (λ k. words_after xs at room h i (omega arith) l) (cases_lt i at)
 
-pub words_one : (xs : List ℕ) (at : ℕ) → ((i : ℕ) → i < at → IsTrue (is_word (get_or xs i 0))) → is_word (get_or xs at 0) ≡ true → (i : ℕ) → i < at + 1 → IsTrue (is_word (get_or xs i 0))
-words_one xs at before h i l = ⊎_elim (λ k. before i k) (λ k. let same : i ≡ at = omega arith in subst (λ j. IsTrue (is_word (get_or xs j 0))) (sym same) h) (cases_lt i at)
-
 words_all : (xs : List ℕ) → ((i : ℕ) → i < length xs → IsTrue (is_word (get_or xs i 0))) → Words xs
 words_all [] h = tt
 words_all (x ∷ xs) h = (h 0 (omega arith), words_all xs (λ i l. h (suc i) (omega arith)))
 
-no_digit : (d u l e : Bool) → (((d || u) || l) || e) ≡ true → d ≡ false → ((u || l) || e) ≡ true
-no_digit true u l e w n = absurd (false≢true (sym n))
-no_digit false u l e w n = w
-
 start_of : (b : ℕ) → is_word b ≡ true → is_in_range 48 57 b ≡ false → is_word_start b ≡ true
-start_of b w n = no_digit (is_in_range 48 57 b) (is_in_range 65 90 b) (is_in_range 97 122 b) (eqb b 95) w n
+start_of b w n = grind (arith, nat_tests)
 
 pub member_of : (xs : List ℕ) → 0 < length xs → is_in_range 48 57 (get_or xs 0 0) ≡ false → ((i : ℕ) → i < length xs → IsTrue (is_word (get_or xs i 0))) → IsMember xs
 member_of [] some d h = absurd (omega arith)

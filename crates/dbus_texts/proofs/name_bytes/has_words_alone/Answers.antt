@@ -1,12 +1,13 @@
-use Rattle.std.proofs.Common.{sym, ◌∙◌, arith}
-use Rattle.dbus_texts.proofs.WordBlocks.{words_one}
+use Rattle.std.proofs.Common.{get_or, IsTrue, sym, ◌∙◌, arith}
+use borrow.Author.Count.{below_more}
+use Rattle.dbus_texts.specs.Names.{is_word}
 use Rattle.dbus_texts.proofs.name_bytes.has_words_alone.Goals as goal
 
 pub loop-at-preserved : goal.loop-at-preserved
 loop-at-preserved c =
     record {
       within = omega arith;
-      words = words_one c.args.text.now c.loop-at.at c.loop-at.invariant.words (sym c.is_word.ensures ∙ c.if-not-is_word.false);
+      words = below_more (λ i. IsTrue (is_word (get_or c.args.text.now i 0))) c.loop-at.at c.loop-at.invariant.words (sym c.is_word.ensures ∙ c.if-not-is_word.false);
     }
 
 pub returns : goal.returns
