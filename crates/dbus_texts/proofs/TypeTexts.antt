@@ -24,54 +24,30 @@ parses_more turns s u w r t ts c is other first more =
     let at : parse turns (c ∷ u) ≡ Some (t, w) = rw is at first in
     rw (is, other, at, more) refl
 
-parses_none : (turns : ℕ) (r : List ℕ) → parses (suc turns) (41 ∷ r) ≡ Some (NoTypes, r)
-unfolding parses
-parses_none turns r = refl
-
-parse_alone : (turns c : ℕ) (s : List ℕ) (t : TypeTree) → opening c ≡ OneCode t → parse (suc turns) (c ∷ s) ≡ Some (t, s)
-unfolding parse
-parse_alone turns c s t e = rw (e, parse) refl
-
-parse_array : (turns : ℕ) (s r : List ℕ) (t : TypeTree) → parse turns s ≡ Some (t, r) → parse (suc turns) (97 ∷ s) ≡ Some (ArrayType t, r)
-unfolding parse
-parse_array turns s r t e = rw e refl
-
-parse_struct : (turns : ℕ) (s r : List ℕ) (ts : TypeTrees) → parses turns s ≡ Some (ts, r) → parse (suc turns) (40 ∷ s) ≡ Some (StructType ts, r)
-unfolding parse
-parse_struct turns s r ts e = rw e refl
-
-parse_entry : (turns : ℕ) (s u r : List ℕ) (k v : TypeTree) → parse turns s ≡ Some (k, u) → parse turns u ≡ Some (v, 125 ∷ r) → parse (suc turns) (123 ∷ s) ≡ Some (EntryType k v, r)
-unfolding parse
-parse_entry turns s u r k v e d = rw (e, d) refl
-
 pub sig_positive : (t : TypeTree) → 0 < length (sig t)
 sig_positive t = let w = begins t in rw w.2 (omega arith)
 
 mutual
+  unfolding parse parses
+
   pub parse_sig : (t : TypeTree) (turns : ℕ) (r : List ℕ) → length (sig t) ≤ turns → parse turns (sig t ++ r) ≡ Some (t, r)
-  parse_sig (NumberType k) zero r h = absurd (omega arith)
-  parse_sig (NumberType k) (suc turns) r h = parse_alone turns (number_code k) r (NumberType k) (opening_number k)
-  parse_sig (TextType k) zero r h = absurd (omega arith)
-  parse_sig (TextType k) (suc turns) r h = parse_alone turns (text_code k) r (TextType k) (opening_text k)
-  parse_sig VariantType zero r h = absurd (omega arith)
-  parse_sig VariantType (suc turns) r h = parse_alone turns 118 r VariantType refl
-  parse_sig (ArrayType t) zero r h = absurd (omega arith)
-  parse_sig (ArrayType t) (suc turns) r h = parse_array turns (sig t ++ r) r t (parse_sig t turns r (omega arith))
-  parse_sig (StructType ts) zero r h = absurd (omega arith)
+  parse_sig t zero r h = absurd (omega (arith, sig_positive t))
+  parse_sig (NumberType k) (suc turns) r h = rw (opening_number k, parse) refl
+  parse_sig (TextType k) (suc turns) r h = rw (opening_text k, parse) refl
+  parse_sig VariantType (suc turns) r h = refl
+  parse_sig (ArrayType t) (suc turns) r h = rw (parse_sig t turns r (omega arith)) refl
   parse_sig (StructType ts) (suc turns) r h =
       let e : (sigs ts ++ 41 ∷ []) ++ r ≡ sigs ts ++ 41 ∷ r = append_assoc (sigs ts) (41 ∷ []) r in
-      rw e (parse_struct turns (sigs ts ++ 41 ∷ r) r ts (parses_sig ts turns r (omega (arith, length-append (sigs ts) (41 ∷ [])))))
-  parse_sig (EntryType k v) zero r h = absurd (omega arith)
+      rw (e, parses_sig ts turns r (omega (arith, length-append (sigs ts) (41 ∷ [])))) refl
   parse_sig (EntryType k v) (suc turns) r h =
       let e : (sig k ++ (sig v ++ 125 ∷ [])) ++ r ≡ sig k ++ (sig v ++ 125 ∷ r) = append_assoc (sig k) (sig v ++ 125 ∷ []) r ∙ ap (λ w. sig k ++ w) (append_assoc (sig v) (125 ∷ []) r) in
-      rw e (parse_entry turns (sig k ++ (sig v ++ 125 ∷ r)) (sig v ++ 125 ∷ r) r k v
-      (parse_sig k turns (sig v ++ 125 ∷ r) (omega (arith, length-append (sig k) (sig v ++ 125 ∷ []), length-append (sig v) (125 ∷ []))))
-      (parse_sig v turns (125 ∷ r) (omega (arith, length-append (sig k) (sig v ++ 125 ∷ []), length-append (sig v) (125 ∷ [])))))
+      let long = length-append (sig k) (sig v ++ 125 ∷ []) in
+      let more = length-append (sig v) (125 ∷ []) in
+      rw (e, parse_sig k turns (sig v ++ 125 ∷ r) (omega arith), parse_sig v turns (125 ∷ r) (omega arith)) refl
 
   pub parses_sig : (ts : TypeTrees) (turns : ℕ) (r : List ℕ) → length (sigs ts) + 1 ≤ turns → parses turns (sigs ts ++ 41 ∷ r) ≡ Some (ts, r)
-  parses_sig NoTypes zero r h = absurd (omega arith)
-  parses_sig NoTypes (suc turns) r h = parses_none turns r
-  parses_sig (MoreTypes t ts) zero r h = absurd (omega arith)
+  parses_sig ts zero r h = absurd (omega arith)
+  parses_sig NoTypes (suc turns) r h = refl
   parses_sig (MoreTypes t ts) (suc turns) r h =
       let w = begins t in
       let one : parse turns (sig t ++ (sigs ts ++ 41 ∷ r)) ≡ Some (t, sigs ts ++ 41 ∷ r) = parse_sig t turns (sigs ts ++ 41 ∷ r) (omega (arith, length-append (sig t) (sigs ts))) in

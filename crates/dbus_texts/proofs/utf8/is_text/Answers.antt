@@ -5,19 +5,16 @@ use Rattle.std.proofs.lemmas.Bool.{false≢true, eqb-true}
 use Rattle.std.proofs.lemmas.List.{take_all}
 use Rattle.dbus_texts.specs.declared.utf8.Utf8Place.TheVariants.{Free}
 use Rattle.dbus_texts.specs.Utf8.{IsText}
-use Rattle.dbus_texts.proofs.PlainRuns.{plain_moves}
-use Rattle.dbus_texts.proofs.Utf8Steps.{text_ends}
+use Rattle.dbus_texts.proofs.PlainRuns.{plain_run}
+use Rattle.dbus_texts.proofs.Utf8Steps.{text_ends, text_some}
+use Rattle.dbus_texts.proofs.Quotients.{quotient_start}
 use Rattle.dbus_texts.proofs.TextUtf8.{no_zero, a_zero}
 use Rattle.dbus_texts.proofs.KindFacts.{text_utf8, utf8_text}
 use Rattle.dbus_texts.proofs.utf8.is_text.Goals as goal
 
 -- a prefix of ASCII without a zero byte changes nothing
 text_after : (u v : List ℕ) → AllByRecursion (IsInRange 1 127) u → IsText v ↔ IsText (u ++ v)
-text_after [] v h = (λ t. t, λ t. t)
-text_after (b ∷ u) v h =
-    let m = plain_moves b h.0 in
-    let i = text_after u v h.1 in
-    (λ t. m.from (u ++ v) (i.0 t), λ t. i.1 (m.to (u ++ v) t))
+text_after u v h = let q = plain_run IsText [] u h (quotient_start IsText text_some) in (q.from v, q.to v)
 
 abbrev frame_rest : ℕ → List ℕ → List ℕ
 frame_rest n w = take (length w - n) (drop n w)

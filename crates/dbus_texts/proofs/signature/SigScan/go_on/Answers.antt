@@ -14,20 +14,9 @@ invariant_of-self-then-byte-eq41-clause-bounded c =
     let x = c.args.self.now in
     subst (λ fs. AreBounded 0 fs) (sym c.pop-then-byte-eq41.ensures.rest) (AreBounded-take 0 (length x.frames.items - 1) x.frames.items x.bounded)
 
-pub begin-requires-in-Some-clause-arrays_in : goal.begin-requires-in-Some-clause-arrays_in
-begin-requires-in-Some-clause-arrays_in c =
+pub begin-requires-in-Some : goal.begin-requires-in-Some
+begin-requires-in-Some c =
     let x = c.args.self.now in
     let e : innermost x.frames.items ≡ Some c.in-Some.frame = search rules in
-    (AreBounded-innermost x.frames.items c.in-Some.frame x.bounded e).1.0
-
-pub begin-requires-in-Some-clause-structs_in : goal.begin-requires-in-Some-clause-structs_in
-begin-requires-in-Some-clause-structs_in c =
-    let x = c.args.self.now in
-    let e : innermost x.frames.items ≡ Some c.in-Some.frame = search rules in
-    (AreBounded-innermost x.frames.items c.in-Some.frame x.bounded e).1.1
-
-pub begin-requires-in-Some-clause-room : goal.begin-requires-in-Some-clause-room
-begin-requires-in-Some-clause-room c =
-    let x = c.args.self.now in
-    let e : innermost x.frames.items ≡ Some c.in-Some.frame = search rules in
-    (AreBounded-innermost x.frames.items c.in-Some.frame x.bounded e).0
+    let few = AreBounded-innermost x.frames.items c.in-Some.frame x.bounded e in
+    record { arrays_in = few.1.0; structs_in = few.1.1; room = few.0; spare = search rules }
