@@ -14,12 +14,10 @@ use std::simd::prelude::*;
 fn has_words_alone(text: &[u8]) -> bool
     ensures { IsTrue result → AreWords text.now }
 {
-    let mut at = 0;
-    while at < text.len() {
-        if !is_word(text[at]) {
+    for byte in text {
+        if !is_word(*byte) {
             return false;
         }
-        at += 1;
     }
     true
 }

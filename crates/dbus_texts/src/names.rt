@@ -107,6 +107,7 @@ impl NameScan {
     ghost use Rattle.dbus_texts.specs.declared.names.Place.TheVariants.{More};
 
     /// What is wanted at the place.
+    #[inline(always)]
     pub const fn at(place: Place, letters: Letters, tail: Tail) -> NameScan
         ensures { result ≡ name_state place letters tail }
     {

@@ -69,6 +69,7 @@ impl SigScan {
     }
 
     /// A struct or a dict entry begins, with so many arrays and structs open in it.
+    #[inline]
     fn open(&mut self, place: SigPlace, entry: bool, arrays: u8, structs: u8)
         requires arrays_in { arrays ≤ 32 }
         requires structs_in { structs ≤ 32 }
@@ -170,6 +171,7 @@ impl ByteScan for SigScan {
 
     ghost rest = { λ scan. sig_rest (sig_view scan) };
 
+    #[inline(always)]
     fn step(&mut self, byte: u8) -> bool {
         self.go_on(byte)
     }

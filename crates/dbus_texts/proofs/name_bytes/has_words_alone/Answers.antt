@@ -3,12 +3,8 @@ use borrow.Author.Count.{below_more}
 use Rattle.dbus_texts.specs.Names.{is_word}
 use Rattle.dbus_texts.proofs.name_bytes.has_words_alone.Goals as goal
 
-pub loop-at-preserved : goal.loop-at-preserved
-loop-at-preserved c =
-    record {
-      within = omega arith;
-      words = below_more (λ i. IsTrue (is_word (get_or c.args.text.now i 0))) c.loop-at.at c.loop-at.invariant.words (sym c.is_word.ensures ∙ c.if-not-is_word.false);
-    }
+pub loop-byte-preserved : goal.loop-byte-preserved
+loop-byte-preserved c = below_more (λ i. IsTrue (is_word (get_or c.args.text.now i 0))) c.loop-byte.byte-index c.loop-byte.invariant (sym c.is_word.ensures ∙ c.if-not-is_word.false)
 
 pub returns : goal.returns
-returns c = λ h i l. c.loop-at.invariant.words i (omega arith)
+returns c = λ h i l. c.loop-byte.invariant i (omega arith)
