@@ -1,14 +1,16 @@
 -- A message under way, stage by stage.
 use Rattle.std.proofs.Common.{◌≡◌, ℕ, zero, suc, ◌+◌, ◌<◌, ◌≤◌, List, [], ◌++◌, length, take, drop, false, Option, Some, None, Ok, Err, refl, sym, ap, ◌∙◌, arith}
 use Rattle.std.proofs.lemmas.Bool.{le-ltb, eq-eqb}
-use Rattle.std.proofs.lemmas.List.{append-nil, take_all, drop_all, length-take}
+use Rattle.std.proofs.lemmas.List.{append-nil, take_all, drop_all, length-take, take-append-drop}
 use Rattle.dbus_texts.specs.ComputedKinds.{types_spelled}
 use Rattle.dbus_texts.specs.Kinds.{IsKind}
 use Rattle.dbus_texts.proofs.KindFacts.{shaped_of}
 use Rattle.dbus_texts.specs.Types.{TypeTree, TypeTrees, NoTypes, MoreTypes, IsSingleType, sig, sigs, AreShaped}
 use Rattle.dbus_texts.specs.declared.text_kind.TextKind.TheVariants as kinds
 use Rattle.dbus_value_laws.proofs.KindLaws.{signature_text}
+use Rattle.dbus_value_model.specs.Bytes.{IsBytes}
 use Rattle.dbus_value_model.specs.FdIndexes.{index_limit}
+use Rattle.dbus_value_model.proofs.Numbers.{IsBytes-front}
 use Rattle.dbus_value_model.specs.Specification.{bounds_with}
 use Rattle.dbus_value_model.specs.declared.limits.Bounds.{Bounds}
 use Rattle.dbus_value_model.specs.declared.limits.Limits.{Limits}
@@ -31,7 +33,8 @@ use Rattle.dbus_check.specs.Heading.{Kept, missing, body_on, after_fields, field
 use Rattle.dbus_check.specs.Progress.{To, Moves, Under}
 use Rattle.dbus_check.specs.declared.progress.Progress.{Progress}
 use Rattle.dbus_check.proofs.Heading.{after_fixed, message_on_is}
-use Rattle.dbus_check.proofs.Lasts.{lasts_fixed, sized_fixed}
+use Rattle.dbus_header.proofs.StatedLengths as stated
+use Rattle.dbus_check.proofs.Lasts.{fixed_read, fixed_refused}
 use Rattle.dbus_value_checker.proofs.Chains.{split-at}
 
 -- the empty text is a signature
@@ -40,18 +43,21 @@ no_signature = ((NoTypes, tt, refl), omega arith)
 
 -- ---- the fixed header
 
-module _ (limits : Limits) (s : List ℕ) where
+module _ (limits : Limits) (s : List ℕ) (bytes : IsBytes s) where
   few : length (take 16 s) ≤ 16
   few = omega (arith, length-take 16 s)
+
+  are : IsBytes (take 16 s)
+  are = IsBytes-front s (take 16 s) _ (sym (take-append-drop 16 s)) bytes
 
   pub header_taken : (h : FixedHeader) → fixed_header limits 0 (take 16 s) ≡ Done h 16 (drop 16 (take 16 s)) → (c : List ℕ) → message_on limits 0 (take 16 s ++ c) ≡ after_fixed limits h 16 c
   header_taken h e c =
       message_on_is limits 0 (take 16 s ++ c)
-      ∙ ap (λ (r : Outcome FixedHeader). after r (after_fixed limits)) ((lasts_fixed limits).reads 0 (take 16 s) h 16 (drop 16 (take 16 s)) e c)
+      ∙ ap (λ (r : Outcome FixedHeader). after r (after_fixed limits)) (fixed_read limits 0 (take 16 s) are c h 16 (drop 16 (take 16 s)) e)
       ∙ ap (λ (t : List ℕ). after_fixed limits h 16 (t ++ c)) (drop_all 16 (take 16 s) few)
 
   pub header_short : fixed_header limits 0 (take 16 s) ≡ Partial → length s < 16
-  header_short e = let h = (sized_fixed limits).waits 0 (take 16 s) e in omega (arith, length-take 16 s, h)
+  header_short e = let h = stated.header_short limits (take 16 s) e in omega (arith, length-take 16 s, h)
 
   pub header_stops : (e : Stop) → Stops e (fixed_header limits 0 (take 16 s)) → (x : Progress) (to : To) → ((c : List ℕ) → message_on limits 0 c ≡ to c) → Moves x s (Err e) x to
   header_stops stops.Partial h x to same =
@@ -60,7 +66,7 @@ module _ (limits : Limits) (s : List ℕ) where
       (refl, sym (same s) ∙ message_on_is limits 0 s ∙ ap (λ (t : List ℕ). after (fixed_header limits 0 t) (after_fixed limits)) (sym all) ∙ ap (λ (r : Outcome FixedHeader). after r (after_fixed limits)) h)
   header_stops (stops.Refused f) h x to same = λ c.
       sym (same (s ++ c)) ∙ ap (message_on limits 0) (split-at 16 s c) ∙ message_on_is limits 0 (take 16 s ++ (drop 16 s ++ c))
-      ∙ ap (λ (r : Outcome FixedHeader). after r (after_fixed limits)) ((lasts_fixed limits).refuses 0 (take 16 s) f h (drop 16 s ++ c))
+      ∙ ap (λ (r : Outcome FixedHeader). after r (after_fixed limits)) (fixed_refused limits 0 (take 16 s) are (drop 16 s ++ c) f h)
 
 -- ---- after the fields
 

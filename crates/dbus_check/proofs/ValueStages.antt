@@ -74,9 +74,12 @@ module _ (x : Progress) (to : To) (w : WantsMore x to) (v : Values) (s : List �
     pub more_on : x.stage ≡ stage.Value → (n ≤ length s) × progress.Denotes (record x { values = v }) (after_bytes to (take n s))
     more_on at = ((runs answer (w.under.value last)).0, subst (λ (st : Stage). progress.denotes st (record x { values = v }) (after_bytes to (take n s))) (sym at) more_goes)
 
+    pub more_waits : IsLive v.doing → to s ≡ Partial
+    more_waits live = sym (w.same s) ∙ (runs answer (w.under.value last)).2 live
+
     -- no byte was taken
     pub more_still : x.stage ≡ stage.Value → n ≡ 0 → IsLive v.doing → progress.Denotes (record x { values = v }) to × (to s ≡ Partial)
-    more_still at none live = (subst (λ (k : ℕ). progress.Denotes (record x { values = v }) (after_bytes to (take k s))) none (more_on at).1, sym (w.same s) ∙ (runs answer (w.under.value last)).2 live)
+    more_still at none live = (subst (λ (k : ℕ). progress.Denotes (record x { values = v }) (after_bytes to (take k s))) none (more_on at).1, more_waits live)
 
     -- they are over
     pub more_ended : (IsLive v.doing → ⊥) → (o : ℕ) → o ≡ offset_of v → (n ≤ length s) × WantsFields (record x { values = v; offset = o; stage = stage.Fields }) (after_bytes to (take n s))
@@ -140,9 +143,12 @@ module _ (x : Progress) (to : To) (w : WantsBody x to) (v : Values) (s : List �
     pub body_on : x.stage ≡ stage.Body → (n ≤ length s) × progress.Denotes (record x { values = v }) (after_bytes to (take n s))
     body_on at = ((runs body_answer (w.under.value ended)).0, subst (λ (st : Stage). progress.denotes st (record x { values = v }) (after_bytes to (take n s))) (sym at) body_goes)
 
+    pub body_waits : IsLive v.doing → to s ≡ Partial
+    body_waits live = sym (w.same s) ∙ (runs body_answer (w.under.value ended)).2 live
+
     -- no byte was taken
     pub body_still : x.stage ≡ stage.Body → n ≡ 0 → IsLive v.doing → progress.Denotes (record x { values = v }) to × (to s ≡ Partial)
-    body_still at none live = (subst (λ (k : ℕ). progress.Denotes (record x { values = v }) (after_bytes to (take k s))) none (body_on at).1, sym (w.same s) ∙ (runs body_answer (w.under.value ended)).2 live)
+    body_still at none live = (subst (λ (k : ℕ). progress.Denotes (record x { values = v }) (after_bytes to (take k s))) none (body_on at).1, body_waits live)
 
     -- they are over
     module _ (over : IsLive v.doing → ⊥) (o : ℕ) (is : o ≡ offset_of v) where

@@ -1,7 +1,7 @@
 //! A message under way, read as far as the bytes go.
 #![tactic(auto)]
 
-ghost use Rattle.std.specs.Prelude.{◌≡◌, ◌+◌, ◌<◌, length, IfOk, IfErr, ◌⊎◌, ◌↔◌, IsTrue};
+ghost use Rattle.std.specs.Prelude.{◌≡◌, ◌+◌, ◌<◌, length, true, false, Ok, IfOk, IfErr, ◌⊎◌, ◌↔◌, IsTrue};
 ghost use Rattle.dbus_value_model.specs.declared.stop.Stop.TheVariants.{Partial};
 
 use crate::progress::{Progress, Stage};
@@ -41,6 +41,21 @@ impl Progress {
             Stage::Padding => self.padding(bytes),
             Stage::Body => self.body(bytes),
             Stage::Done => Ok(0),
+        }
+    }
+
+    /// Takes all of the bytes at once if they are an array's numbers, of which more are wanted after them: whether they are.
+    pub(crate) fn skip(&mut self, bytes: &[u8]) -> bool
+        requires valid { (to : To) × Denotes self.old to }
+        ensures runs { result ≡ true → (to : To) → Denotes self.old to →
+            Runs bytes.now (Ok (length bytes.now)) self.new to }
+        ensures live { result ≡ true → IsLive self.new.stage }
+        ensures same { result ≡ false → self.new ≡ self.old }
+    {
+        match self.stage {
+            Stage::Value => self.values.skip(bytes),
+            Stage::Body => self.values.skip(bytes),
+            _ => false,
         }
     }
 

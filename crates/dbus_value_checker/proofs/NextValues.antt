@@ -24,7 +24,7 @@ low_of reach low high bottom text f fs (w ∷ ws) h = h.0.low_is
 
 -- ---- an array goes on
 
-false_true : (b : Bool) → b ≡ false → b ≡ true → ⊥
+pub false_true : (b : Bool) → b ≡ false → b ≡ true → ⊥
 false_true b e d = cc
 
 next_element_at : (x : Values) (answer : Answer) (ws : List Work) → HasFrames x.offset x ws → HasNotes x → ((c : List ℕ) → rest_of answer x ws x.offset c ≡ answer.to c) → x.inner.array ≡ true → x.offset < x.inner.end → Wants x x.inner.pos x.inner.stop answer

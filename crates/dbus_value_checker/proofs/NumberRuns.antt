@@ -1,7 +1,8 @@
 -- Numbers of an array, any of which may stand there: so many at once.
-use Rattle.std.proofs.Common.{◌≡◌, ℕ, zero, suc, ◌+◌, ◌-◌, ◌*◌, ◌/◌, ◌%◌, ◌<◌, ◌≤◌, List, [], ◌∷◌, ◌++◌, length, take, drop, Option, None, refl, sym, ap, ◌∙◌, arith, append_assoc}
+use Rattle.std.proofs.Common.{◌≡◌, ℕ, zero, suc, ◌+◌, ◌-◌, ◌*◌, ◌/◌, ◌%◌, ◌<◌, ◌≤◌, List, [], ◌∷◌, ◌++◌, length, take, drop, Option, None, refl, sym, ap, ◌∙◌, arith, inl, inr}
+use Rattle.std.proofs.lemmas.Bool.{cases_lt}
 use Rattle.std.proofs.Math.Nat.{suc-mul, zero-mul}
-use Rattle.std.proofs.lemmas.List.{length-take, length-drop, take-append-drop}
+use Rattle.std.proofs.lemmas.List.{append-nil, length-take, length-drop}
 use Rattle.dbus_texts.specs.Types.{NumberCode, BYTE, BOOLEAN, INT16, UINT16, INT32, UINT32, INT64, UINT64, DOUBLE, UNIX_FD, TypeTree, NumberType}
 use Rattle.dbus_types.specs.Alignments.{width}
 use Rattle.dbus_value_model.specs.declared.limits.Bounds.{Bounds}
@@ -12,6 +13,7 @@ use Rattle.dbus_value_model.specs.Reading.{Partial, after, zeros, number_of}
 use Rattle.dbus_types.specs.SignatureCodes.{first_code, free_width_of}
 use Rattle.dbus_value_model.proofs.FreeNumbers.{free_is}
 use Rattle.dbus_value_checker.specs.Suspended.{On, Elements, work, ANumber, AHead, own}
+use Rattle.dbus_value_checker.proofs.Chains.{split-at}
 use Rattle.dbus_value_checker.proofs.Suspension.{elements_more, value_begins, padding_zeros, head_passed, head_waits}
 
 -- ---- widths
@@ -32,8 +34,9 @@ by_width P one two four eight UNIX_FD = four
 pub width_some : (k : NumberCode) → 0 < width k
 width_some = by_width (λ (w : ℕ). 0 < w) (omega arith) (omega arith) (omega arith) (omega arith)
 
-pub width_few : (k : NumberCode) → width k ≤ 8
-width_few = by_width (λ (w : ℕ). w ≤ 8) (omega arith) (omega arith) (omega arith) (omega arith)
+-- so many numbers have at least so many bytes
+pub at_least : (k : NumberCode) (m : ℕ) → m ≤ m * width k
+at_least k m = by_width (λ (w : ℕ). m ≤ m * w) (omega arith) (omega arith) (omega arith) (omega arith) k
 
 -- a number ends at a boundary of its own
 aligned_more : (k : NumberCode) (o : ℕ) → gap_to (width k) o ≡ 0 → gap_to (width k) (o + width k) ≡ 0
@@ -41,12 +44,11 @@ unfolding gap_to
 aligned_more k o = by_width (λ (w : ℕ). gap_to w o ≡ 0 → gap_to w (o + w) ≡ 0) (λ h. omega arith) (λ h. omega arith) (λ h. omega arith) (λ h. omega arith) k
 
 -- the bytes of whole numbers among so many
-pub whole_numbers : (k : NumberCode) (there : ℕ) → (m : ℕ) × ((there - there % width k ≡ m * width k) × (m ≤ m * width k))
-whole_numbers k there = by_width (λ (w : ℕ). (m : ℕ) × ((there - there % w ≡ m * w) × (m ≤ m * w))) (there, (omega arith, omega arith)) (there / 2, (omega arith, omega arith)) (there / 4, (omega arith, omega arith)) (there / 8, (omega arith, omega arith)) k
+pub whole_numbers : (k : NumberCode) (there : ℕ) → (m : ℕ) × (there - there % width k ≡ m * width k)
+whole_numbers k there = by_width (λ (w : ℕ). (m : ℕ) × (there - there % w ≡ m * w)) (there, omega arith) (there / 2, omega arith) (there / 4, omega arith) (there / 8, omega arith) k
 
--- fewer than one number's
-pub no_number : (k : NumberCode) (there : ℕ) → there - there % width k ≡ 0 → there < width k
-no_number k there = by_width (λ (w : ℕ). there - there % w ≡ 0 → there < w) (λ e. omega arith) (λ e. omega arith) (λ e. omega arith) (λ e. omega arith) k
+pub some_numbers : (k : NumberCode) (there : ℕ) → width k ≤ there → 0 < there - there % width k
+some_numbers k there = by_width (λ (w : ℕ). w ≤ there → 0 < there - there % w) (λ e. omega arith) (λ e. omega arith) (λ e. omega arith) (λ e. omega arith) k
 
 -- a type of which every number may stand
 pub plain_type : (t : TypeTree) (c w : ℕ) → first_code t ≡ c → ((u : TypeTree) → first_code u ≡ c → w ≡ free_width_of u) → 0 < w → (k : NumberCode) × ((t ≡ NumberType k) × (width k ≡ w) × ((index_limit : Option ℕ) (p n : ℕ) → number_row index_limit k p n ≡ None))
@@ -74,9 +76,27 @@ module _ (bounds : Bounds) (order : Order) (k : NumberCode) (plain : (index_limi
       ∙ padding_zeros (width k) end o s (λ x. element turns) (omega arith)
       ∙ ap (λ (n : ℕ). after (zeros n o s) (λ x. element turns)) aligned
 
-  -- the bytes end within a number
-  pub numbers_wait : (turns o : ℕ) (s : List ℕ) → gap_to (width k) o ≡ 0 → o + width k ≤ end → length s < width k → array (suc turns) o s ≡ Partial
-  numbers_wait turns o s aligned le short = begins turns o s aligned le ∙ head_waits bounds order end (ANumber k) (array turns) o s short le
+  -- a number is there
+  passed : (turns o : ℕ) (bs c : List ℕ) → width k ≤ length bs → o + width k ≤ end → gap_to (width k) o ≡ 0 → array (suc turns) o (bs ++ c) ≡ array turns (o + width k) (drop (width k) bs ++ c)
+  passed turns o bs c long le aligned =
+      let one : length (take (width k) bs) ≡ width k = omega (arith, length-take (width k) bs) in
+      ap (array (suc turns) o) (split-at (width k) bs c)
+      ∙ begins turns o (take (width k) bs ++ (drop (width k) bs ++ c)) aligned le
+      ∙ head_passed bounds order end (ANumber k) (array turns) o (take (width k) bs) (drop (width k) bs ++ c) one le (plain bounds.fds (o + width k) (number_of order (take (width k) bs)))
+
+  -- fewer bytes are there than m numbers have
+  pub numbers_lack : (m turns o : ℕ) (bs : List ℕ) → length bs < m * width k → o + m * width k ≤ end → gap_to (width k) o ≡ 0 → array (m + turns) o bs ≡ Partial
+  numbers_lack zero turns o bs short le aligned = let z = zero-mul (width k) in absurd (omega arith)
+  numbers_lack (suc m) turns o bs short le aligned =
+      let w = width k in
+      let more = suc-mul m w in
+      let n : suc m + turns ≡ suc (m + turns) = omega arith in
+      ap (λ (t : ℕ). array t o bs) n ∙ elim (cases_lt (length bs) w) [
+        | inl few ↦ begins (m + turns) o bs aligned (omega arith) ∙ head_waits bounds order end (ANumber k) (array (m + turns)) o bs few (omega arith)
+        | inr long ↦
+            ap (array (suc (m + turns)) o) (sym (append-nil bs)) ∙ passed (m + turns) o bs [] long (omega arith) aligned ∙ ap (array (m + turns) (o + w)) (append-nil (drop w bs))
+            ∙ numbers_lack m turns (o + w) (drop w bs) (omega (arith, length-drop w bs)) (omega arith) (aligned_more k o aligned)
+      ]
 
   -- the bytes of m numbers are m elements
   pub numbers_run : (m turns o : ℕ) (bs c : List ℕ) → length bs ≡ m * width k → o + m * width k ≤ end → gap_to (width k) o ≡ 0 → array (m + turns) o (bs ++ c) ≡ array turns (o + m * width k) c
@@ -88,14 +108,10 @@ module _ (bounds : Bounds) (order : Order) (k : NumberCode) (plain : (index_limi
   numbers_run (suc m) turns o bs c len le aligned =
       let w = width k in
       let more = suc-mul m w in
-      let one : length (take w bs) ≡ w = omega (arith, length-take w bs) in
       let others : length (drop w bs) ≡ m * w = omega (arith, length-drop w bs) in
       let n : suc m + turns ≡ suc (m + turns) = omega arith in
       let p : o + w + m * w ≡ o + suc m * w = omega arith in
-      let split : bs ++ c ≡ take w bs ++ (drop w bs ++ c) = ap (λ (s : List ℕ). s ++ c) (sym (take-append-drop w bs)) ∙ append_assoc (take w bs) (drop w bs) c in
-      ap (λ (s : List ℕ). array (suc m + turns) o s) split
-      ∙ ap (λ (t : ℕ). array t o (take w bs ++ (drop w bs ++ c))) n
-      ∙ begins (m + turns) o (take w bs ++ (drop w bs ++ c)) aligned (omega arith)
-      ∙ head_passed bounds order end (ANumber k) (array (m + turns)) o (take w bs) (drop w bs ++ c) one (omega arith) (plain bounds.fds (o + w) (number_of order (take w bs)))
+      ap (λ (t : ℕ). array t o (bs ++ c)) n
+      ∙ passed (m + turns) o bs c (omega arith) (omega arith) aligned
       ∙ numbers_run m turns (o + w) (drop w bs) c others (omega arith) (aligned_more k o aligned)
       ∙ ap (λ (q : ℕ). array turns q c) p

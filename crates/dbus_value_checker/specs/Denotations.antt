@@ -1,5 +1,5 @@
 -- What the fields of `Values` stand for: what they answer to the bytes still to come.
-use Rattle.std.specs.Prelude.{◌≡◌, ℕ, suc, ◌+◌, ◌<◌, ◌≤◌, List, ◌∷◌, ◌++◌, length, reverse, Option, None}
+use Rattle.std.specs.Prelude.{◌≡◌, ℕ, suc, ◌+◌, ◌*◌, ◌<◌, ◌≤◌, List, ◌∷◌, ◌++◌, length, reverse, Option, None}
 use Rattle.dbus_texts.specs.Types.{NumberCode, NumberType, TextCode, TypeTree, text_code, sig, IsShaped}
 use Rattle.dbus_types.specs.Alignments.{width}
 use Rattle.dbus_texts.specs.Scans.{Stands}
@@ -96,25 +96,30 @@ pub record Nuls (x : Values) (answer : Answer) : Type 0 where
   pub near : x.inner.end < 18446744073709551616
   pub same : (c : List ℕ) → onward nul (rest_of answer x ws) x.offset c ≡ answer.to c
 
--- the innermost container is an array that goes on, and its next element is a whole number of w bytes, any of which may stand there
-pub record Numbers (x : Values) (w : ℕ) (answer : Answer) : Type 0 where
+-- so many bytes of an array's elements are wanted: after these, which began at the offset start, they are so many whole numbers, any of
+-- which may stand there
+pub record Numbers (x : Values) (left : ℕ) (answer : Answer) : Type 0 where
   pub ws : List Work
   pub code : NumberCode
+  pub count : ℕ
   pub turns : ℕ
   pub depth_left : ℕ
   pub stop : ℕ
-  pub width_is : width code ≡ w
+  pub start : ℕ
+  pub bytes : List ℕ
   pub plain : (index_limit : Option ℕ) (p n : ℕ) → number_row index_limit code p n ≡ None
-  pub frames : HasFrames x.offset x (Elements turns depth_left stop (NumberType code) ∷ ws)
+  pub frames : HasFrames start x (Elements (count + turns) depth_left stop (NumberType code) ∷ ws)
   pub noted : HasNotes x
-  pub aligned : gap_to w x.offset ≡ 0
-  pub more : x.offset + w ≤ x.inner.end
-  pub same : (c : List ℕ) → rest_of answer x (Elements turns depth_left stop (NumberType code) ∷ ws) x.offset c ≡ answer.to c
+  pub aligned : gap_to (width code) start ≡ 0
+  pub offset : start + length bytes ≡ x.offset
+  pub left_is : length bytes + left ≡ count * width code
+  pub fits : x.offset + left ≤ x.inner.end
+  pub same : (c : List ℕ) → rest_of answer x (Elements (count + turns) depth_left stop (NumberType code) ∷ ws) start (bytes ++ c) ≡ answer.to c
 
 abbrev pub denotes : Doing → Values → Answer → Type 0
 denotes (doing.Wanted pos stop) x answer = Wants x pos stop answer
 denotes (doing.Text code left) x answer = (0 < left) × Texts x code left answer
-denotes (doing.Numbers w) x answer = Numbers x w answer
+denotes (doing.Numbers left) x answer = (0 < left) × Numbers x left answer
 denotes doing.Nul x answer = Nuls x answer
 denotes doing.Over x answer = (x.offset ≤ x.end) × (x.end < 18446744073709551616) × ((c : List ℕ) → answer.last x.offset c ≡ answer.to c)
 

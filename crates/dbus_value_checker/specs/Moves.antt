@@ -48,7 +48,7 @@ Enters x pos stop n depth_left answer =
 abbrev pub IsLive : Doing → Type 0
 IsLive (doing.Wanted pos stop) = Unit {0}
 IsLive (doing.Text code left) = Unit {0}
-IsLive (doing.Numbers w) = Unit {0}
+IsLive (doing.Numbers left) = Unit {0}
 IsLive doing.Nul = Unit {0}
 IsLive doing.Over = ⊥
 
@@ -68,7 +68,7 @@ offset_of x = x.offset
 abbrev pub wide : Doing → ℕ
 wide (doing.Wanted pos stop) = stop - pos
 wide (doing.Text code left) = 0
-wide (doing.Numbers w) = 0
+wide (doing.Numbers left) = 0
 wide doing.Nul = 0
 wide doing.Over = 0
 

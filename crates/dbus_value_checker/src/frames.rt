@@ -30,7 +30,7 @@ impl Values {
         stop
     }
 
-    /// What is wanted of an array that goes on: numbers, of which none need be looked at, or one element.
+    /// What is wanted of an array that goes on: the bytes of all of its whole numbers, if none need be looked at; else one element.
     fn element(&self) -> Doing
         requires valid { (answer : Answer) × Goes self.now answer }
         requires array { self.now.inner.array ≡ true }
@@ -39,13 +39,11 @@ impl Values {
             denotes result (record self.now { doing = result }) answer }
     {
         let width = free_width(self.text.as_slice()[self.inner.pos]);
-        if width == 0
-            || gap(width, self.offset) > 0
-            || self.inner.end - self.offset < usize::from(width)
-        {
+        let room = self.inner.end - self.offset;
+        if width == 0 || gap(width, self.offset) > 0 || room < usize::from(width) {
             return Doing::Wanted(self.inner.pos, self.inner.stop);
         }
-        Doing::Numbers(usize::from(width))
+        Doing::Numbers(room - room % usize::from(width))
     }
 
     /// The innermost container goes on, or is at its end, and then the one around it.

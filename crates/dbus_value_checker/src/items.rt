@@ -5,7 +5,7 @@ ghost use Rattle.std.specs.Prelude.{◌≡◌, ◌≢◌, ◌-◌, ◌<◌, leng
 
 use crate::fronts::{array_front, front, number_front, padding, rest_after, variant_front};
 use crate::signatures::sign;
-use crate::values::{Frame, Values};
+use crate::values::{Doing, Frame, Values};
 use dbus_types::boundary;
 use dbus_value_model::{Reason, Stop, refuse};
 
@@ -83,22 +83,26 @@ impl Values {
         }
     }
 
-    /// Numbers of an array, of so many bytes each: as many whole ones as are there.
-    pub(crate) fn numbers(&mut self, width: usize, bytes: &[u8]) -> Result<usize, Stop>
-        requires valid { (answer : Answer) × Numbers self.old width answer }
-        ensures moves { (answer : Answer) → Numbers self.old width answer →
+    /// So many bytes of an array's numbers: as many as are there.
+    pub(crate) fn numbers(&mut self, left: usize, bytes: &[u8]) -> Result<usize, Stop>
+        requires valid { (answer : Answer) × Numbers self.old left answer }
+        requires more { 0 < left }
+        ensures moves { (answer : Answer) → Numbers self.old left answer →
             Moves self.old bytes.now result self.new answer }
         ensures some { IfOk result (λ n. 0 < n) }
-        ensures short { IfErr result (λ e. e ≡ Partial → length bytes.now < 8) }
+        ensures short { IfErr result (λ e. e ≡ Partial → length bytes.now < 1) }
     {
-        let there = front(bytes, self.inner.end - self.offset).len();
-        let whole = there - there % width;
-        if whole == 0 {
+        let n = front(bytes, left).len();
+        if n == 0 {
             return Err(Stop::Partial);
         }
-        self.offset += whole;
+        self.offset += n;
+        if n < left {
+            self.doing = Doing::Numbers(left - n);
+            return Ok(n);
+        }
         self.next();
-        Ok(whole)
+        Ok(n)
     }
 
     /// A variant: its value's type is noted, and is wanted.

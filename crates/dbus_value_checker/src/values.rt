@@ -1,7 +1,7 @@
 //! Values that are wanted: what is noted of them between pieces.
 #![tactic(auto)]
 
-ghost use Rattle.std.specs.Prelude.{◌≡◌, ◌+◌, ◌*◌, ◌<◌, ◌≤◌, ◌^◌, ℕ, length, drop, IfOk, IfErr, ◌⊎◌, ◌↔◌, IsTrue};
+ghost use Rattle.std.specs.Prelude.{◌≡◌, ◌+◌, ◌*◌, ◌<◌, ◌≤◌, ◌^◌, ℕ, length, drop, true, false, Ok, IfOk, IfErr, ◌⊎◌, ◌↔◌, IsTrue};
 
 use crate::fronts::rest_after;
 use crate::signatures::sign;
@@ -31,7 +31,7 @@ pub(crate) struct Frame {
 pub(crate) enum Doing {
     /// A value of the type that stands there in the signatures, from the first place up to the second.
     Wanted(usize, usize),
-    /// Elements of an array of numbers of so many bytes, any of which may stand there.
+    /// Bytes of an array's numbers, any of which may stand there: so many, to the end of the last whole one.
     Numbers(usize),
     /// Bytes of a text of the type that has this code, so many.
     Text(u8, usize),
@@ -142,7 +142,7 @@ impl Values {
         match self.doing {
             Doing::Wanted(pos, stop) => self.value(pos, stop, bytes),
             Doing::Text(code, left) => self.text(code, left, bytes),
-            Doing::Numbers(width) => self.numbers(width, bytes),
+            Doing::Numbers(left) => self.numbers(left, bytes),
             Doing::Nul => self.nul(bytes),
             Doing::Over => Ok(0),
         }
@@ -160,6 +160,25 @@ impl Values {
         ensures { result ≡ offset_of self.now }
     {
         self.offset
+    }
+
+    /// Takes all of the bytes at once if they are an array's numbers, of which more are wanted after them: whether they are.
+    /// It says no less than [`Values::run`], and is quicker where the bytes come one by one.
+    pub fn skip(&mut self, bytes: &[u8]) -> bool
+        requires valid { (answer : Answer) × Denotes self.old answer }
+        ensures runs { result ≡ true → (answer : Answer) → Denotes self.old answer →
+            Runs bytes.now (Ok (length bytes.now)) self.new answer }
+        ensures live { result ≡ true → IsLive self.new.doing }
+        ensures same { result ≡ false → self.new ≡ self.old }
+    {
+        match self.doing {
+            Doing::Numbers(left) if bytes.len() < left => {
+                self.offset += bytes.len();
+                self.doing = Doing::Numbers(left - bytes.len());
+                true
+            }
+            _ => false,
+        }
     }
 
     /// Takes what is wanted as far as it is there whole: how many bytes. Where something is wanted still, what is left of the

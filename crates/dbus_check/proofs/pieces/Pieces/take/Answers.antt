@@ -50,16 +50,16 @@ returns-then-not-is_empty-2 c = λ to h.
 pub overflow_add-result : goal.overflow_add-result
 overflow_add-result c =
     let i = c.loop-n.invariant in
-    let b = (c.in-Ok-read.ensures i.some.0 i.some.1).0 in
+    let b = (c.in-Ok-pass.ensures i.some.0 i.some.1).0 in
     let l = ap length c.rest_after-2.ensures ∙ length-drop c.loop-n.n c.args.piece.now in
     omega arith
 
-pub returns-in-Ok-read : goal.returns-in-Ok-read
-returns-in-Ok-read c = λ to h.
+pub returns-in-Ok-pass : goal.returns-in-Ok-pass
+returns-in-Ok-pass c = λ to h.
     let i = c.loop-n.invariant in
-    both_fed c.args.piece.now c.loop-n.n i.within to c.rest_after-2.result.now c.rest_after-2.ensures c.read.new.self c.in-Ok-read.more (c.in-Ok-read.ensures _ (i.goes to h))
+    both_fed c.args.piece.now c.loop-n.n i.within to c.rest_after-2.result.now c.rest_after-2.ensures c.pass.new.self c.in-Ok-pass.more (c.in-Ok-pass.ensures _ (i.goes to h))
 
-pub returns-in-Err-read : goal.returns-in-Err-read
-returns-in-Err-read c = λ to h.
+pub returns-in-Err-pass : goal.returns-in-Err-pass
+returns-in-Err-pass c = λ to h.
     let i = c.loop-n.invariant in
-    both_refused c.args.piece.now c.loop-n.n i.within to c.rest_after-2.result.now c.rest_after-2.ensures c.in-Err-read.fault (c.in-Err-read.ensures _ (i.goes to h))
+    both_refused c.args.piece.now c.loop-n.n i.within to c.rest_after-2.result.now c.rest_after-2.ensures c.in-Err-pass.fault (c.in-Err-pass.ensures _ (i.goes to h))

@@ -3,6 +3,7 @@ use Rattle.std.proofs.lemmas.List.{length-take}
 use Rattle.dbus_value_model.specs.declared.stop.Stop.{Stop}
 use Rattle.dbus_value_model.specs.Gives.{Stops}
 use Rattle.dbus_value_model.specs.Reading.{Done}
+use Rattle.dbus_value_laws.proofs.ReadSteps.{bytes_from}
 use Rattle.dbus_header.specs.HeaderReading.{fixed_header}
 use Rattle.dbus_check.specs.Heading.{nothing}
 use Rattle.dbus_check.proofs.Stages.{no_signature, header_taken, header_stops, header_short}
@@ -11,6 +12,7 @@ use Rattle.dbus_check.proofs.progress.Progress.header.Goals as goal
 pub returns-in-Ok-clause-moves : goal.returns-in-Ok-clause-moves
 returns-in-Ok-clause-moves c = λ to same.
     let s = c.args.bytes.now in
+    let bytes = bytes_from s (λ i. omega (arith, c.type_inv.bytes i)) in
     let x = c.args.self.now in
     let h = c.in-Ok.header in
     let front = c.front.ensures in
@@ -29,17 +31,17 @@ returns-in-Ok-clause-moves c = λ to same.
         low = omega arith;
         turns_is = omega arith;
         near = omega (arith, fits, most);
-        same = λ c. sym (header_taken x.limits s h read c) ∙ same (_);
+        same = λ c. sym (header_taken x.limits s bytes h read c) ∙ same (_);
       },
     )
 
 pub returns-in-Err-clause-moves : goal.returns-in-Err-clause-moves
 returns-in-Err-clause-moves c = λ to same.
-    header_stops c.args.self.now.limits c.args.bytes.now c.in-Err.stop
+    header_stops c.args.self.now.limits c.args.bytes.now (bytes_from _ (λ i. omega (arith, c.type_inv.bytes i))) c.in-Err.stop
     (subst (λ (u : List ℕ). Stops c.in-Err.stop (fixed_header c.args.self.now.limits 0 u)) c.front.ensures c.in-Err.ensures.gives) c.args.self.now to same
 
 pub returns-in-Err-clause-short : goal.returns-in-Err-clause-short
 returns-in-Err-clause-short c = λ e.
-    header_short c.args.self.now.limits c.args.bytes.now
+    header_short c.args.self.now.limits c.args.bytes.now (bytes_from _ (λ i. omega (arith, c.type_inv.bytes i)))
     (subst (λ (stop : Stop). Stops stop (fixed_header c.args.self.now.limits 0 (take 16 c.args.bytes.now))) e
     (subst (λ (u : List ℕ). Stops c.in-Err.stop (fixed_header c.args.self.now.limits 0 u)) c.front.ensures c.in-Err.ensures.gives))

@@ -1,17 +1,30 @@
-use Rattle.std.proofs.Common.{arith, refl}
-use Rattle.dbus_value_checker.proofs.ArrayRuns.{numbers_there, numbers_lack, numbers_go}
+use Rattle.std.proofs.Common.{length, arith, refl, ap, ◌∙◌}
+use Rattle.std.proofs.lemmas.List.{length-take}
+use Rattle.dbus_value_checker.proofs.ArrayRuns.{numbers_near, numbers_wait, numbers_on, numbers_over}
 use Rattle.dbus_value_checker.proofs.values.Values.numbers.Goals as goal
 
-pub returns-then-whole-eq0-clause-moves : goal.returns-then-whole-eq0-clause-moves
-returns-then-whole-eq0-clause-moves c = λ answer b. (refl, (numbers_lack c.args.self.now c.args.width answer b c.args.bytes.now c.front-there.result.now c.front-there.ensures c.if-whole-eq0.true).0)
+pub overflow_add-self : goal.overflow_add-self
+overflow_add-self c =
+    let v = c.requires.valid in
+    let near = numbers_near c.args.self.now c.args.left v.0 v.1 in
+    let l = ap length c.front-n.ensures ∙ length-take c.args.left c.args.bytes.now in
+    omega arith
 
-pub returns-then-whole-eq0-clause-short : goal.returns-then-whole-eq0-clause-short
-returns-then-whole-eq0-clause-short c = λ e. (numbers_lack c.args.self.now c.args.width c.requires.valid.0 c.requires.valid.1 c.args.bytes.now c.front-there.result.now c.front-there.ensures c.if-whole-eq0.true).1
+pub returns-then-n-eq0-clause-moves : goal.returns-then-n-eq0-clause-moves
+returns-then-n-eq0-clause-moves c = λ answer b. let l = ap length c.front-n.ensures ∙ length-take c.args.left c.args.bytes.now in (refl, numbers_wait c.args.self.now c.args.left answer b c.args.bytes.now (omega arith))
+
+pub returns-then-n-left-clause-moves : goal.returns-then-n-left-clause-moves
+returns-then-n-left-clause-moves c = λ answer b.
+    let l = ap length c.front-n.ensures ∙ length-take c.args.left c.args.bytes.now in
+    (omega arith, (omega arith, numbers_on c.args.self.now c.args.left answer b c.args.bytes.now (length c.front-n.result.now) (omega arith) _ (omega arith)))
 
 pub next-requires : goal.next-requires
-next-requires c = record { valid = (_, numbers_go c.args.self.now c.args.width c.requires.valid.0 c.requires.valid.1 c.args.bytes.now c.front-there.result.now c.front-there.ensures) }
+next-requires c =
+    let v = c.requires.valid in
+    let l = ap length c.front-n.ensures ∙ length-take c.args.left c.args.bytes.now in
+    record { valid = (_, numbers_over c.args.self.now c.args.left v.0 v.1 c.args.bytes.now (length c.front-n.result.now) (omega arith) (omega arith)) }
 
 pub returns-clause-moves : goal.returns-clause-moves
 returns-clause-moves c = λ answer b.
-    let le = numbers_there c.args.self.now c.args.width answer b c.args.bytes.now c.front-there.result.now c.front-there.ensures in
-    (omega arith, c.next.ensures _ (numbers_go c.args.self.now c.args.width answer b c.args.bytes.now c.front-there.result.now c.front-there.ensures))
+    let l = ap length c.front-n.ensures ∙ length-take c.args.left c.args.bytes.now in
+    (omega arith, c.next.ensures _ (numbers_over c.args.self.now c.args.left answer b c.args.bytes.now (length c.front-n.result.now) (omega arith) (omega arith)))
