@@ -1,5 +1,5 @@
 -- What a checker answers of all bytes that it was handed, by what it does with a piece.
-use Rattle.std.proofs.Common.{◌≡◌, ℕ, List, ◌++◌, take, Option, Some, None, Result, Ok, Err, sym, ap, subst, ◌∙◌, arith, append_assoc}
+use Rattle.std.proofs.Common.{◌≡◌, ℕ, List, ◌++◌, take, Option, Some, None, Result, Ok, Err, sym, ap, subst, ◌∙◌, arith, append_assoc, ◌+◌, length, refl}
 use Rattle.std.proofs.lemmas.List.{take_all, take-append-drop}
 use Rattle.dbus_value_model.specs.Bytes.{IsBytes}
 use Rattle.dbus_value_model.specs.Reading.{Faulty}
@@ -7,7 +7,6 @@ use Rattle.dbus_value_model.specs.declared.fault.Fault.{Fault}
 use Rattle.dbus_value_model.specs.declared.limits.Limits.{Limits}
 use Rattle.dbus_value_model.proofs.Numbers.{IsBytes-append, IsBytes-front}
 use Rattle.dbus_check.specs.declared.check.Check.{Check}
-use Rattle.dbus_check.proofs.ExactAnswers.{takes_exact}
 use Rattle.dbus_check.specs.Checks.{IsExact, taken, CheckerState, StandsAfter, Stands, Takes}
 use Rattle.dbus_check.specs.declared.check.Check.TheVariants as check
 use Rattle.dbus_check.specs.declared.pieces.Pieces.{Pieces}
@@ -16,6 +15,33 @@ use Rattle.dbus_check.specs.Pieces.{Holds, Fed, IsLive}
 use Rattle.dbus_check.specs.Progress.{To, after_bytes}
 use Rattle.dbus_check.proofs.Outcomes.{done_is, refused_is, partial_is}
 use Rattle.dbus_check.proofs.PieceSteps.{whole_answers}
+use Rattle.dbus_header.proofs.OutcomeLaws.{one_outcome, one_whole, one_fault}
+
+pub takes_exact : (limits : Limits) (w piece : List ℕ) (answer : Check) → Takes limits w piece answer → IsExact limits w piece answer
+takes_exact limits w piece check.Partial t =
+    let laws = one_outcome limits (w ++ piece) in
+    record {
+      whole = λ order m n h. absurd (laws.1 order m (length w + n) h t);
+      refused = λ f h. absurd (laws.2 f h t);
+      partial = λ h. refl;
+    }
+takes_exact limits w piece (check.Done k) t =
+    let laws = one_outcome limits (w ++ piece) in
+    record {
+      whole = λ order m n h.
+          let same = (one_whole limits (w ++ piece) t.1 order t.2 m (length w + k) (length w + n) t.3 h).2 in
+          let k_is : k ≡ n = omega (arith, same) in
+          ap (λ (i : ℕ). check.Done i) k_is;
+      refused = λ f h. absurd (laws.0 t.1 t.2 (length w + k) f t.3 h);
+      partial = λ h. absurd (laws.1 t.1 t.2 (length w + k) t.3 h);
+    }
+takes_exact limits w piece (check.Refused g) t =
+    let laws = one_outcome limits (w ++ piece) in
+    record {
+      whole = λ order m n h. absurd (laws.0 order m (length w + n) g h t);
+      refused = λ f h. ap (λ (i : Fault). check.Refused i) (one_fault limits (w ++ piece) g f t h);
+      partial = λ h. absurd (laws.2 g t h);
+    }
 
 module _ (limits : Limits) (p : Pieces) (w piece : List ℕ) (bytes : IsBytes w) (more : IsBytes piece) where
   both : IsBytes (w ++ piece)

@@ -30,19 +30,15 @@ or_assoc : (a b c : Bool) → ((a || b) || c) ≡ (a || (b || c))
 or_assoc true b c = refl
 or_assoc false b c = refl
 
-or_comm : (a b : Bool) → (a || b) ≡ (b || a)
-or_comm true true = refl
-or_comm true false = refl
-or_comm false true = refl
-or_comm false false = refl
-
 has_joined : (c : ℕ) (fs gs : List FieldTree) → has_code c (fs ++ gs) ≡ (has_code c fs || has_code c gs)
 has_joined c [] gs = refl
 has_joined c (f ∷ fs) gs = ap (λ (b : Bool). eqb f.code c || b) (has_joined c fs gs) ∙ sym (or_assoc (eqb f.code c) (has_code c fs) (has_code c gs))
 
-or_false : (a : Bool) → (a || false) ≡ a
-or_false true = refl
-or_false false = refl
+or_last : (a b : Bool) → (a || (b || false)) ≡ (b || a)
+or_last true true = refl
+or_last true false = refl
+or_last false true = refl
+or_last false false = refl
 
 has_reversed : (c : ℕ) (fs : List FieldTree) → has_code c (reverse fs) ≡ has_code c fs
 has_reversed c [] = refl
@@ -50,8 +46,7 @@ has_reversed c (f ∷ fs) =
     ap (has_code c) (reverse-append (f ∷ []) fs)
     ∙ has_joined c (reverse fs) (f ∷ [])
     ∙ ap (λ (b : Bool). b || (eqb f.code c || false)) (has_reversed c fs)
-    ∙ or_comm (has_code c fs) (eqb f.code c || false)
-    ∙ ap (λ (b : Bool). b || has_code c fs) (or_false (eqb f.code c))
+    ∙ or_last (has_code c fs) (eqb f.code c)
 
 missing_is : (cs : List ℕ) (fs : List FieldTree) → missing cs (codes_of fs) ≡ lacks cs (reverse fs)
 missing_is [] fs = refl

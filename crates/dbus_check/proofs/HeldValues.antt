@@ -17,19 +17,12 @@ use Rattle.dbus_header.specs.MessageReading.{value_wanted}
 use Rattle.dbus_message_model.specs.Messages.{Want, Anything, OfType, want}
 use Rattle.dbus_value_laws.proofs.ReadSteps.{same_after}
 use Rattle.dbus_value_checker.specs.Fronts.{Fronts}
-use Rattle.dbus_value_checker.specs.Suspended.{On}
-use Rattle.dbus_check.specs.Fields.{short_text}
+use Rattle.dbus_value_checker.specs.Suspended.{On, short_text}
 use Rattle.dbus_check.specs.Heading.{Kept, kept_of, fields_on}
 use Rattle.dbus_check.specs.Progress.{To, WantsValue, WantsHeld, Moves, after_bytes}
 use Rattle.dbus_check.specs.declared.progress.Progress.{Progress}
 use Rattle.dbus_check.proofs.FieldLaws.{value_begins}
-use Rattle.dbus_check.proofs.PassedFields.{the_kept, kept_plain}
-
-pub path_plain : (code : ℕ) → OfType (TextType OBJECT_PATH) ≡ want code → (code ≡ 8 → ⊥) × (code ≡ 9 → ⊥)
-path_plain code h = ((λ e. let d : OfType (TextType OBJECT_PATH) ≡ OfType (TextType SIGNATURE) = h ∙ ap want e in absurd cc), (λ e. let d : OfType (TextType OBJECT_PATH) ≡ OfType (NumberType UINT32) = h ∙ ap want e in absurd cc))
-
-pub any_plain : (code : ℕ) → Anything ≡ want code → (code ≡ 8 → ⊥) × (code ≡ 9 → ⊥)
-any_plain code h = ((λ e. let d : Anything ≡ OfType (TextType SIGNATURE) = h ∙ ap want e in absurd cc), (λ e. let d : Anything ≡ OfType (NumberType UINT32) = h ∙ ap want e in absurd cc))
+use Rattle.dbus_check.proofs.PassedFields.{the_kept, kept_plain, plain_code}
 
 module _ (x : Progress) (code n : ℕ) (to : To) (w : WantsValue x code n to) (wanted : Want) (is : wanted ≡ want code) (plain : (code ≡ 8 → ⊥) × (code ≡ 9 → ⊥)) (s : List ℕ)
     (free : (t : TypeTree) → value_wanted (bounds_of x.limits) x.order (x.limits.depth - 3) x.end wanted t ≡ value (bounds_of x.limits) x.order (x.limits.depth - 3) x.end t) where
@@ -79,10 +72,10 @@ pub any_held : (x : Progress) (code n : ℕ) (to : To) (w : WantsValue x code n 
     → (types : List ℕ) → types ≡ take m (drop 1 s) → (t : TypeTree) × (WantsHeld x code (n + m + 2) t (after_bytes to (take (m + 2) s)) × (types ≡ sig t) × IsSingleType t)
 any_held x code n to w wanted s m h low kind types types_is =
     let single = single_text (take m (drop 1 s)) kind in
-    (type_spelled (take m (drop 1 s)), (held_there x code n to w Anything wanted (any_plain code wanted) s (λ t. refl) (λ (n : ℕ). (take n (drop 1 s), n + 2)) m h (n + m + 2) (omega arith) (omega arith), types_is ∙ sym single.1, single.0))
+    (type_spelled (take m (drop 1 s)), (held_there x code n to w Anything wanted (plain_code Anything code wanted (λ e. cc) (λ e. cc)) s (λ t. refl) (λ (n : ℕ). (take n (drop 1 s), n + 2)) m h (n + m + 2) (omega arith) (omega arith), types_is ∙ sym single.1, single.0))
 
 -- a path
 pub path_held : (x : Progress) (code n : ℕ) (to : To) (w : WantsValue x code n to) → OfType (TextType OBJECT_PATH) ≡ want code → (s : List ℕ) → Fronts (λ (u : Unit {0}). (111 ∷ [], 3)) (x.offset + n) s (Ok tt) (short_text x.order x.end (Only (111 ∷ []))) → x.offset + n + 3 ≤ x.end → WantsHeld x code (n + 3) (TextType OBJECT_PATH) (after_bytes to (take 3 s))
 path_held x code n to w wanted s h low =
     subst (λ (t : TypeTree). WantsHeld x code (n + 3) t (after_bytes to (take 3 s))) (spelled_sig (TextType OBJECT_PATH))
-    (held_there x code n to w (OfType (TextType OBJECT_PATH)) wanted (path_plain code wanted) s (λ t. refl) (λ (u : Unit {0}). (111 ∷ [], 3)) tt h (n + 3) refl low)
+    (held_there x code n to w (OfType (TextType OBJECT_PATH)) wanted (plain_code (OfType (TextType OBJECT_PATH)) code wanted (λ e. cc) (λ e. cc)) s (λ t. refl) (λ (u : Unit {0}). (111 ∷ [], 3)) tt h (n + 3) refl low)

@@ -5,16 +5,12 @@ pub mod FieldLaws
 pub mod FieldSteps
 pub mod SeenSteps
 pub mod OnlySteps
-pub mod ValueSteps
 pub mod Stages
 pub mod PassedFields
 pub mod HeldValues
 pub mod WholeFields
 pub mod NextFields
-pub mod Advances
 pub mod Underway
 pub mod ValueStages
 pub mod PieceSteps
 pub mod CheckSteps
-pub mod StageSteps
-pub mod ExactAnswers

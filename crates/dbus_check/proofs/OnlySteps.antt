@@ -27,13 +27,6 @@ alone w [] h le e = absurd (omega arith)
 alone w (b ∷ []) h le e = ap (λ (c : ℕ). c ∷ []) e
 alone w (b ∷ (d ∷ given)) h le e = absurd (omega arith)
 
-pub is_empty : (n : ℕ) (b : Bool) → b ≡ eqb n 0 → b ≡ true → n ≡ 0
-is_empty n b is e = eqb-true n 0 (sym is ∙ e)
-
-pub not_empty : (n : ℕ) (b : Bool) → b ≡ eqb n 0 → b ≡ false → 0 < n
-not_empty zero b is e = let d : true ≡ false = sym is ∙ e in absurd cc
-not_empty (suc n) b is e = omega arith
-
 module _ (w n o : ℕ) (s given : List ℕ) (is : given ≡ take n s) where
   abbrev k : WantedText
   k = Only (w ∷ [])

@@ -2,16 +2,15 @@
 use Rattle.std.proofs.Common.{◌≡◌, ℕ, ◌+◌, List, [], ◌∷◌, ◌++◌, take, Bool, true, false, ◌||◌, ◌&&◌, cond, eqb, Result, Ok, Err, refl, sym, ap, subst, ◌∙◌, ◌≤◌, arith}
 use Rattle.std.proofs.lemmas.Bool.{eq-eqb, ne_eqb, eqb-true}
 use Rattle.dbus_texts.specs.Types.{UINT32, SIGNATURE, NumberType, TextType}
-use Rattle.dbus_value_model.specs.WantedTexts.{WantedText}
 use Rattle.dbus_value_model.specs.declared.stop.Stop.{Stop}
 use Rattle.dbus_value_model.specs.declared.stop.Stop.TheVariants as stops
 use Rattle.dbus_value_model.specs.Values.{ValueTree}
 use Rattle.dbus_value_model.specs.Reading.{Reader, Outcome, after, pure}
-use Rattle.dbus_message_model.specs.Messages.{Want, Name, OfType, Serial, want, is_known, text_in, number_in}
+use Rattle.dbus_message_model.specs.Messages.{Want, OfType, want, is_known, text_in, number_in}
 use Rattle.dbus_value_laws.proofs.ReadSteps.{after_after, same_after}
 use Rattle.dbus_value_checker.specs.Fronts.{Fronts}
 use Rattle.dbus_value_checker.specs.Suspended.{On}
-use Rattle.dbus_check.specs.Fields.{seen_as, nothing_of}
+use Rattle.dbus_check.specs.Fields.{seen_as}
 use Rattle.dbus_check.specs.Seen.{Sees}
 use Rattle.dbus_header.specs.HeaderReading.{wanted_value}
 use Rattle.dbus_check.specs.Heading.{Kept, kept_of, has, fields_on}
@@ -55,11 +54,9 @@ count_code code h = find h
         (λ n. chosen P (eqb code 5) _ _ (λ b e. absurd cc) (λ n. chosen P (eqb code 6) _ _ (λ b e. absurd cc) (λ n. chosen P (eqb code 7) _ _ (λ b e. absurd cc)
         (λ n. chosen P (eqb code 8) _ _ (λ b e. absurd cc) (λ n. chosen P (eqb code 9) _ _ (λ b e. eqb-true code 9 b) (λ n e. absurd cc)))))))))
 
-pub name_plain : (k : WantedText) (code : ℕ) → Name k ≡ want code → (code ≡ 8 → ⊥) × (code ≡ 9 → ⊥)
-name_plain k code h = ((λ e. let d : Name k ≡ OfType (TextType SIGNATURE) = h ∙ ap want e in absurd cc), (λ e. let d : Name k ≡ OfType (NumberType UINT32) = h ∙ ap want e in absurd cc))
-
-pub serial_plain : (code : ℕ) → Serial ≡ want code → (code ≡ 8 → ⊥) × (code ≡ 9 → ⊥)
-serial_plain code h = ((λ e. let d : Serial ≡ OfType (TextType SIGNATURE) = h ∙ ap want e in absurd cc), (λ e. let d : Serial ≡ OfType (NumberType UINT32) = h ∙ ap want e in absurd cc))
+-- neither of these codes
+pub plain_code : (u : Want) (code : ℕ) → u ≡ want code → (u ≡ OfType (TextType SIGNATURE) → ⊥) → (u ≡ OfType (NumberType UINT32) → ⊥) → (code ≡ 8 → ⊥) × (code ≡ 9 → ⊥)
+plain_code u code h a b = (λ e. a (h ∙ ap want e), λ e. b (h ∙ ap want e))
 
 -- ---- what is kept
 
@@ -156,17 +153,16 @@ module _ (x : Progress) (code n : ℕ) (to : To) (w : WantsValue x code n to) (u
 
   -- one of whose value nothing is kept
   module _ (other : (code ≡ 8 → ⊥) × (code ≡ 9 → ⊥)) where
-    abbrev plain : Unit {0} → Kept
+    abbrev plain : {B : Type 0} → B → Kept
     plain b = the_kept (code ∷ w.kept.codes) w.kept.text w.kept.count
 
-    same_plain : (v : ValueTree) → kept_of w.kept code v ≡ plain (nothing_of v)
-    same_plain v = kept_plain w.kept code w.keeps.no_text w.keeps.no_count v other.0 other.1
+    same_plain : {B : Type 0} (g : ValueTree → B) (v : ValueTree) → kept_of w.kept code v ≡ plain (g v)
+    same_plain g v = kept_plain w.kept code w.keeps.no_text w.keeps.no_count v other.0 other.1
 
-    abbrev PlainGives : Result ℕ Stop → Type 0
-    PlainGives r = Fronts (λ (m : ℕ). (tt, m)) (x.offset + n) s r (seen_as nothing_of (wanted_value x.limits x.order x.end u))
+    module _ {B X : Type 0} (g : ValueTree → B) (view : X → B × ℕ) where
+      pub plain_stops : (e : Stop) → Fronts view (x.offset + n) s (Err e) (seen_as g (wanted_value x.limits x.order x.end u)) → Passes x s (Err e) x to
+      plain_stops e h = field_stops g plain view (same_plain g) e h
 
-    pub plain_stops : (e : Stop) → PlainGives (Err e) → Passes x s (Err e) x to
-    plain_stops e h = field_stops nothing_of plain (λ (m : ℕ). (tt, m)) same_plain e h
-
-    pub plain_passed : (y : Progress) (m : ℕ) → PlainGives (Ok m) → Moved x y (x.offset + n + m) → x.offset + n + m ≤ x.end → Sees y.seen (code ∷ w.kept.codes) → y.signature.items ≡ x.signature.items → y.fds ≡ x.fds → Passes x s (Ok m) y to
-    plain_passed y m h moved low sees signature count = field_passed nothing_of plain (λ (m : ℕ). (tt, m)) same_plain y m h moved low (keeps_plain x y w.kept code w.keeps sees signature count)
+      pub plain_passed : (y : Progress) (z : X) → Fronts view (x.offset + n) s (Ok z) (seen_as g (wanted_value x.limits x.order x.end u)) → Moved x y (x.offset + n + (view z).1) → x.offset + n + (view z).1 ≤ x.end
+          → Sees y.seen (code ∷ w.kept.codes) → y.signature.items ≡ x.signature.items → y.fds ≡ x.fds → Passes x s (Ok (view z).1) y to
+      plain_passed y z h moved low sees signature count = field_passed g plain view (same_plain g) y z h moved low (keeps_plain x y w.kept code w.keeps sees signature count)

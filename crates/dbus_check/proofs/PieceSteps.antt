@@ -1,6 +1,7 @@
 -- A message whose bytes come in pieces, by what a run over those that are kept makes of it.
 use Rattle.std.proofs.Common.{◌≡◌, ℕ, zero, suc, ◌+◌, ◌-◌, ◌<◌, ◌≤◌, ◌⊎◌, List, [], ◌∷◌, ◌++◌, length, take, drop, Result, Ok, Err, refl, sym, ap, subst, ◌∙◌, arith, inl, inr, append_assoc}
-use Rattle.std.proofs.lemmas.List.{append-nil, take_all, take-take, take-append-drop, length-append, length-take, length-drop}
+use Rattle.std.proofs.Math.Seq.{take-append-add}
+use Rattle.std.proofs.lemmas.List.{append-nil, take_all, take-append-le, take-take, take-append-drop, length-append, length-take, length-drop}
 use Rattle.dbus_value_model.specs.declared.fault.Fault.{Fault}
 use Rattle.dbus_value_model.specs.Reading.{Done, Faulty, Partial}
 use Rattle.dbus_value_checker.proofs.Chains.{take-both, split-at}
@@ -13,15 +14,6 @@ use Rattle.dbus_check.specs.declared.progress.Stage.{Stage}
 use Rattle.dbus_check.specs.declared.progress.Stage.TheVariants as stage
 
 -- ---- lists
-
-take_past : (a g : List ℕ) (n : ℕ) → take (length a + n) (a ++ g) ≡ a ++ take n g
-take_past [] g n = let e : 0 + n ≡ n = omega arith in ap (λ (k : ℕ). take k g) e
-take_past (b ∷ a) g n = let e : suc (length a) + n ≡ suc (length a + n) = omega arith in ap (λ (k : ℕ). take k (b ∷ (a ++ g))) e ∙ ap (λ (l : List ℕ). b ∷ l) (take_past a g n)
-
-take_within : (a g : List ℕ) (n : ℕ) → n ≤ length a → take n (a ++ g) ≡ take n a
-take_within a g zero le = refl
-take_within [] g (suc n) le = absurd (omega arith)
-take_within (b ∷ a) g (suc n) le = ap (λ (l : List ℕ). b ∷ l) (take_within a g n (omega arith))
 
 none_left : (t : List ℕ) → (0 < length t → ⊥) → t ≡ []
 none_left [] h = refl
@@ -85,7 +77,7 @@ module _ (x : Pieces) (to : To) (h : Holds x to) (piece : List ℕ) (room : ℕ)
       let some = r.0 in
       let back : before + n ≡ k = omega (arith, le) in
       let fits : n ≤ room = omega (arith, some, a, l, back) in
-      let front : take k both ≡ x.kept.items ++ take n piece = ap (λ (i : ℕ). take i both) (sym back) ∙ take_past x.kept.items given n ∙ ap (λ (t : List ℕ). x.kept.items ++ t) (take-take n room piece fits) in (
+      let front : take k both ≡ x.kept.items ++ take n piece = ap (λ (i : ℕ). take i both) (sym back) ∙ take-append-add x.kept.items given n ∙ ap (λ (t : List ℕ). x.kept.items ++ t) (take-take n room piece fits) in (
         omega (arith, some, a, l, back),
         record {
           from = after_bytes h.from (take k both);
@@ -108,7 +100,7 @@ module _ (x : Pieces) (to : To) (h : Holds x to) (piece : List ℕ) (room : ℕ)
         | inr over ↦
             let waits : h.from x.kept.items ≡ Partial = h.waits (omega (arith, lt)) in
             let ends = over_ends p (after_bytes h.from (take k both)) over r.1 (drop k x.kept.items) in
-            let here : take k both ++ drop k x.kept.items ≡ x.kept.items = ap (λ (t : List ℕ). t ++ drop k x.kept.items) (take_within x.kept.items given k (omega (arith, lt))) ∙ take-append-drop k x.kept.items in
+            let here : take k both ++ drop k x.kept.items ≡ x.kept.items = ap (λ (t : List ℕ). t ++ drop k x.kept.items) (take-append-le k x.kept.items given (omega (arith, lt))) ∙ take-append-drop k x.kept.items in
             absurd (let e : Partial ≡ Done tt p.end (drop k x.kept.items) = sym waits ∙ ap h.from (sym here) ∙ ends in cc)
       ] in
       let few = short live in

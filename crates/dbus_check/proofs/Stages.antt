@@ -30,7 +30,7 @@ use Rattle.dbus_value_checker.specs.Denotations as values
 use Rattle.dbus_value_checker.specs.Moves.{values_on}
 use Rattle.dbus_value_checker.specs.declared.values.Values.{Values}
 use Rattle.dbus_check.specs.Heading.{Kept, missing, body_on, after_fields, fields_on, message_on}
-use Rattle.dbus_check.specs.Progress.{To, Moves, Under}
+use Rattle.dbus_check.specs.Progress.{To, Moves, Flows}
 use Rattle.dbus_check.specs.declared.progress.Progress.{Progress}
 use Rattle.dbus_check.proofs.Heading.{after_fixed, message_on_is}
 use Rattle.dbus_header.proofs.StatedLengths as stated
@@ -92,17 +92,26 @@ pub signature_types : (t : List ℕ) → IsKind kinds.Signature t → (ts : Type
 signature_types t h = let w = signature_text t h in (types_spelled t, (sym w.1, w.0))
 
 module _ (limits : Limits) (order : Order) (body : ℕ) (kept : Kept) (bounds : Bounds) (end o : ℕ) (bounds_is : bounds ≡ bounds_with limits (index_limit limits.fds kept.count)) (end_is : end ≡ o + body) where
-  pub body_begins : (c : List ℕ) → onward (fields (value bounds order limits.depth end) (types_spelled kept.text)) (onward (ends end) done) o c ≡ body_on limits order body kept o c
+  body_begins : (c : List ℕ) → onward (fields (value bounds order limits.depth end) (types_spelled kept.text)) (onward (ends end) done) o c ≡ body_on limits order body kept o c
   body_begins c =
       ap (λ (b : Bounds). onward (fields (value b order limits.depth end) (types_spelled kept.text)) (onward (ends end) done) o c) bounds_is
       ∙ ap (λ (e : ℕ). onward (fields (value (bounds_with limits (index_limit limits.fds kept.count)) order limits.depth e) (types_spelled kept.text)) (onward (ends e) done) o c) end_is
 
-  pub body_under : (x : Values) (text : List ℕ) → text ≡ kept.text → IsKind kinds.Signature kept.text
+  pub body_flows : (x : Values) (text : List ℕ) (to : To) → text ≡ kept.text → IsKind kinds.Signature kept.text
       → ((ts : TypeTrees) (last : On) → text ≡ sigs ts → AreShaped ts → values.Denotes x (values_on bounds order limits.depth end ts last o))
-      → Under x bounds order limits.depth end (types_spelled kept.text) o []
-  body_under x text text_is signature begun =
+      → ((c : List ℕ) → body_on limits order body kept o c ≡ to c) → Flows x bounds order limits.depth end (onward (ends end) done) to
+  body_flows x text to text_is signature begun same =
       let w = signature_text kept.text signature in
-      record { complete = w.0; bytes = tt; low = omega (arith, end_is); value = λ last. begun (types_spelled kept.text) last (text_is ∙ sym w.1) w.0 }
+      record {
+        types = types_spelled kept.text;
+        start = o;
+        given = [];
+        complete = w.0;
+        bytes = tt;
+        low = omega (arith, end_is);
+        value = λ next. begun (types_spelled kept.text) next (text_is ∙ sym w.1) w.0;
+        same = λ c. body_begins c ∙ same c;
+      }
 
 -- ---- the value of a field
 

@@ -5,7 +5,7 @@ use Rattle.std.proofs.lemmas.List.{length-drop, take-append-drop}
 use Rattle.dbus_value_model.specs.declared.stop.Stop.{Stop}
 use Rattle.dbus_value_model.specs.declared.stop.Stop.TheVariants as stops
 use Rattle.dbus_value_checker.proofs.Chains.{take-both, split-at}
-use Rattle.dbus_check.specs.Progress.{To, Denotes, denotes, Moves, Passes, Coded, after_bytes}
+use Rattle.dbus_check.specs.Progress.{To, Denotes, denotes, Moves, Passes, Coded, after_bytes, Steps}
 use Rattle.dbus_check.specs.declared.progress.Progress.{Progress}
 use Rattle.dbus_check.specs.declared.progress.Stage.{Stage}
 use Rattle.dbus_check.specs.declared.progress.Stage.TheVariants as stage
@@ -32,3 +32,8 @@ module _ (old new : Progress) (s : List ℕ) (n : ℕ) (there : n ≤ length s) 
 pub coded_stops : (x : Progress) (s : List ℕ) (e : Stop) (to : To) → Coded x s (Err e) to → Moves x s (Err e) x to
 coded_stops x s stops.Partial to h = (refl, h)
 coded_stops x s (stops.Refused f) to h = h
+
+pub steps_of : (old new : Progress) (s : List ℕ) (r : Result ℕ Stop) (to : To) → Denotes old to → Moves old s r new to → Steps s r new to
+steps_of old new s (Ok n) to d h = h
+steps_of old new s (Err stops.Partial) to d h = (subst (λ (y : Progress). Denotes y to) (sym h.0) d, h.1)
+steps_of old new s (Err (stops.Refused f)) to d h = h

@@ -1,13 +1,17 @@
 -- The parts of a header's field, each read from its front.
 -- D-Bus Specification, "Header Fields".
-use Rattle.std.specs.Prelude.{ℕ, ◌-◌, List, Option}
+use Rattle.std.specs.Prelude.{ℕ, ◌-◌, List, Bool, true, false, Option, None}
+use Rattle.dbus_texts.specs.Types.{UINT32, NumberType}
 use Rattle.dbus_value_model.specs.declared.limits.Limits.{Limits}
 use Rattle.dbus_value_model.specs.declared.order.Order.{Order}
 use Rattle.dbus_value_model.specs.declared.fault.Reason.{Reason}
-use Rattle.dbus_value_model.specs.ValueItems.{text_row}
+use Rattle.dbus_value_model.specs.declared.fault.Reason.TheVariants as reasons
+use Rattle.dbus_value_model.specs.ValueItems.{number_row}
 use Rattle.dbus_value_model.specs.WantedTexts.{WantedText}
 use Rattle.dbus_value_model.specs.Reading.{Reader, after, ◌>>=◌, ◌>>◌, pure, padding, number, text, nul}
-use Rattle.dbus_header.specs.MessageItems.{name_row}
+use Rattle.dbus_value_checker.specs.Suspended.{counted_text}
+use Rattle.dbus_message_model.specs.Messages.{Want, OfType, Serial}
+use Rattle.dbus_header.specs.MessageItems.{name_row, not_zero_row}
 use Rattle.dbus_header.specs.MessageReading.{opening}
 use Rattle.dbus_check.specs.Heading.{seen_row}
 
@@ -20,18 +24,6 @@ field_code limits order end codes = do
   opening (limits.depth - 2)
   pure code
 
--- a text after its length, and the zero after it
-unfoldable pub counted_text : Order → (end width : ℕ) → (ℕ → ℕ → Option Reason) → WantedText → Reader (List ℕ)
-counted_text order end width row k = do
-  n ← number order width end row
-  t ← text k n
-  nul
-  pure t
-
--- one whose length has one byte: a signature
-abbrev pub short_text : Order → ℕ → WantedText → Reader (List ℕ)
-short_text order end = counted_text order end 1 (text_row end)
-
 -- a name
 unfoldable pub name_text : Order → ℕ → WantedText → Reader (List ℕ)
 name_text order end k = do
@@ -43,6 +35,16 @@ unfoldable pub padded_number : Order → ℕ → (ℕ → ℕ → Option Reason)
 padded_number order end row = do
   padding 4 end
   number order 4 end row
+
+-- the rows of a number that is to be a serial, and of any other
+abbrev pub uint32_row : Bool → ℕ → ℕ → Option Reason
+uint32_row true = not_zero_row reasons.ZeroSerial
+uint32_row false = number_row None UINT32
+
+-- what is wanted where it stands
+abbrev pub uint32_wanted : Bool → Want
+uint32_wanted true = Serial
+uint32_wanted false = OfType (NumberType UINT32)
 
 -- what was read is seen in another light
 abbrev pub seen_as : {A B : Type 0} → (A → B) → Reader A → Reader B

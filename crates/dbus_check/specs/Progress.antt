@@ -53,33 +53,31 @@ pub record WantsPadding (x : Progress) (to : To) : Type 0 where
   pub near : x.offset + 8 + x.body < 4294967296
   pub same : (c : List ℕ) → onward (padding 8 (x.offset + 8)) (body_on x.limits x.order x.body kept) x.offset c ≡ to c
 
--- values of these types are under way, which began at the offset start, and these bytes of them were taken
-pub record Under (x : Values) (bounds : Bounds) (order : Order) (room end : ℕ) (types : TypeTrees) (start : ℕ) (given : List ℕ) : Type 0 where
-  pub complete : AreShaped types
-  pub bytes : IsBytes given
-  pub low : start ≤ end
-  pub value : (last : On) → values.Denotes x (record { last = last; to = λ c. onward (fields (value bounds order room end) types) last start (given ++ c) })
-
--- a field's value is under way, which began at the offset; after it come fields
-pub record WantsMore (x : Progress) (to : To) : Type 0 where
-  pub kept : Kept
-  pub turns : ℕ
-  pub types : TypeTrees
-  pub given : List ℕ
-  pub keeps : Keeps x kept
-  pub turns_is : x.end ≤ x.offset + turns
-  pub near : x.end + 8 + x.body < 4294967296
-  pub under : Under x.values (bounds_of x.limits) x.order (x.limits.depth - 3) x.end types x.offset given
-  pub same : (c : List ℕ) → onward (fields (value (bounds_of x.limits) x.order (x.limits.depth - 3) x.end) types) (fields_on x.limits x.order x.kind x.body turns x.end kept) x.offset (given ++ c) ≡ to c
-
--- the body is under way, which began at the offset start
-pub record WantsBody (x : Progress) (to : To) : Type 0 where
-  pub bounds : Bounds
+-- Values are under way, and last is read after them: they are of these types and began at the offset start, and these bytes of them
+-- were taken.
+pub record Flows (x : Values) (bounds : Bounds) (order : Order) (room end : ℕ) (last : On) (to : To) : Type 0 where
   pub types : TypeTrees
   pub start : ℕ
   pub given : List ℕ
-  pub under : Under x.values bounds x.order x.limits.depth x.end types start given
-  pub same : (c : List ℕ) → onward (fields (value bounds x.order x.limits.depth x.end) types) (onward (ends x.end) done) start (given ++ c) ≡ to c
+  pub complete : AreShaped types
+  pub bytes : IsBytes given
+  pub low : start ≤ end
+  pub same : (c : List ℕ) → onward (fields (value bounds order room end) types) last start (given ++ c) ≡ to c
+  pub value : (next : On) → values.Denotes x (record { last = next; to = λ c. onward (fields (value bounds order room end) types) next start (given ++ c) })
+
+-- a field's value is under way; after it come fields
+pub record WantsMore (x : Progress) (to : To) : Type 0 where
+  pub kept : Kept
+  pub turns : ℕ
+  pub keeps : Keeps x kept
+  pub flows : Flows x.values (bounds_of x.limits) x.order (x.limits.depth - 3) x.end (fields_on x.limits x.order x.kind x.body turns x.end kept) to
+  pub turns_is : x.end ≤ flows.start + turns
+  pub near : x.end + 8 + x.body < 4294967296
+
+-- the body is under way
+pub record WantsBody (x : Progress) (to : To) : Type 0 where
+  pub bounds : Bounds
+  pub flows : Flows x.values bounds x.order x.limits.depth x.end (onward (ends x.end) done) to
 
 abbrev pub denotes : Stage → Progress → To → Type 0
 denotes stage.Header x to = (c : List ℕ) → message_on x.limits 0 c ≡ to c

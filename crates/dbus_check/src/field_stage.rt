@@ -7,13 +7,13 @@ ghost use Rattle.dbus_value_model.specs.WantedTexts.{Of};
 ghost use Rattle.dbus_value_model.specs.declared.stop.Stop.TheVariants.{Partial};
 ghost use Rattle.dbus_message_model.specs.Messages.{Anything, Name, OfType, Serial, want};
 
-use crate::field_fronts::{code_front, only_front, signature_front};
-use crate::field_values::{count_field, name_field, serial_field, text_field};
+use crate::field_fronts::{code_front, only_front};
+use crate::field_values::{name_field, text_field, uint32_field};
 use crate::progress::{Progress, Stage};
 use dbus_header::FIELD_DEPTH;
 use dbus_message_model::field_table::{Wanted, want};
 use dbus_types::TextKind;
-use dbus_value_checker::{front, rest_after};
+use dbus_value_checker::{front, rest_after, signature_front};
 use dbus_value_model::Stop;
 
 impl Progress {
@@ -92,73 +92,6 @@ impl Progress {
         }
     }
 
-    /// A name, n bytes further.
-    pub(crate) fn name(
-        &mut self,
-        kind: TextKind,
-        code: u8,
-        n: usize,
-        bytes: &[u8],
-    ) -> Result<usize, Stop>
-        requires valid { (to : To) × WantsValue self.old code n to }
-        requires wanted { Name (Of kind) ≡ want code }
-        ensures stage { self.new.stage ≡ self.old.stage }
-        ensures passes { (to : To) → WantsValue self.old code n to →
-            Passes self.old bytes.now result self.new to }
-        ensures few { IfOk result (λ m. m < 4294967296) }
-        ensures short { IfErr result (λ e. e ≡ Partial → length bytes.now < 270) }
-    {
-        match name_field(kind, bytes, self.offset + n, self.end, self.order) {
-            Ok(size) => {
-                self.seen.note(code);
-                self.offset += n + size;
-                Ok(size)
-            }
-            Err(stop) => Err(stop),
-        }
-    }
-
-    /// A REPLY_SERIAL, n bytes further.
-    pub(crate) fn serial(&mut self, code: u8, n: usize, bytes: &[u8]) -> Result<usize, Stop>
-        requires valid { (to : To) × WantsValue self.old code n to }
-        requires wanted { Serial ≡ want code }
-        ensures stage { self.new.stage ≡ self.old.stage }
-        ensures passes { (to : To) → WantsValue self.old code n to →
-            Passes self.old bytes.now result self.new to }
-        ensures few { IfOk result (λ m. m < 4294967296) }
-        ensures short { IfErr result (λ e. e ≡ Partial → length bytes.now < 270) }
-    {
-        match serial_field(bytes, self.offset + n, self.end, self.order) {
-            Ok(size) => {
-                self.seen.note(code);
-                self.offset += n + size;
-                Ok(size)
-            }
-            Err(stop) => Err(stop),
-        }
-    }
-
-    /// How many descriptors come with the message, n bytes further.
-    pub(crate) fn count(&mut self, code: u8, n: usize, bytes: &[u8]) -> Result<usize, Stop>
-        requires valid { (to : To) × WantsValue self.old code n to }
-        requires wanted { OfType (NumberType UINT32) ≡ want code }
-        ensures stage { self.new.stage ≡ self.old.stage }
-        ensures passes { (to : To) → WantsValue self.old code n to →
-            Passes self.old bytes.now result self.new to }
-        ensures few { IfOk result (λ m. m < 4294967296) }
-        ensures short { IfErr result (λ e. e ≡ Partial → length bytes.now < 270) }
-    {
-        match count_field(bytes, self.offset + n, self.end, self.order) {
-            Ok((count, size)) => {
-                self.fds = count;
-                self.seen.note(code);
-                self.offset += n + size;
-                Ok(size)
-            }
-            Err(stop) => Err(stop),
-        }
-    }
-
     /// The body's signature, n bytes further: it is noted.
     pub(crate) fn types(&mut self, code: u8, n: usize, bytes: &[u8]) -> Result<usize, Stop>
         requires valid { (to : To) × WantsValue self.old code n to }
@@ -201,10 +134,50 @@ impl Progress {
         match want(code) {
             Wanted::Anything => self.anything(code, n, bytes),
             Wanted::Path => self.path(code, n, bytes),
-            Wanted::Name(kind) => self.name(kind, code, n, bytes),
-            Wanted::Serial => self.serial(code, n, bytes),
             Wanted::Signature => self.types(code, n, bytes),
-            Wanted::Number => self.count(code, n, bytes),
+            Wanted::Name(kind) => match name_field(
+                kind,
+                bytes,
+                self.offset + n,
+                self.end,
+                self.order,
+            ) {
+                Ok(size) => {
+                    self.seen.note(code);
+                    self.offset += n + size;
+                    Ok(size)
+                }
+                Err(stop) => Err(stop),
+            },
+            Wanted::Serial => match uint32_field(
+                true,
+                bytes,
+                self.offset + n,
+                self.end,
+                self.order,
+            ) {
+                Ok(taken) => {
+                    self.seen.note(code);
+                    self.offset += n + taken.1;
+                    Ok(taken.1)
+                }
+                Err(stop) => Err(stop),
+            },
+            Wanted::Number => match uint32_field(
+                false,
+                bytes,
+                self.offset + n,
+                self.end,
+                self.order,
+            ) {
+                Ok((count, size)) => {
+                    self.fds = count;
+                    self.seen.note(code);
+                    self.offset += n + size;
+                    Ok(size)
+                }
+                Err(stop) => Err(stop),
+            },
         }
     }
 

@@ -7,20 +7,20 @@
 
 ghost use Rattle.std.specs.Prelude.{◌≡◌, ◌+◌, ◌<◌, ◌≤◌, length, take, drop, IfOk, IfErr};
 ghost use Rattle.dbus_texts.specs.Kinds.{IsKind};
-ghost use Rattle.dbus_texts.specs.Types.{UINT32, SIGNATURE, NumberType, TextType};
+ghost use Rattle.dbus_texts.specs.Types.{SIGNATURE, TextType};
 ghost use Rattle.dbus_texts.specs.declared.text_kind.TextKind.TheVariants.{Signature};
 ghost use Rattle.dbus_value_model.specs.WantedTexts.{Of};
 ghost use Rattle.dbus_value_model.specs.declared.limits.Limits.{Limits};
 ghost use Rattle.dbus_value_model.specs.declared.order.Order.{Order};
 ghost use Rattle.dbus_value_model.specs.declared.stop.Stop.TheVariants.{Partial};
 ghost use Rattle.dbus_header.specs.HeaderReading.{wanted_value};
-ghost use Rattle.dbus_message_model.specs.Messages.{Name, OfType, Serial, number_in, text_in};
+ghost use Rattle.dbus_message_model.specs.Messages.{Name, OfType, number_in, text_in};
 ghost use Rattle.dbus_value_checker.specs.Fronts.{Fronts};
-ghost use Rattle.dbus_check.specs.Fields.{seen_as, nothing_of};
+ghost use Rattle.dbus_check.specs.Fields.{uint32_wanted, seen_as, nothing_of};
 
-use crate::field_fronts::{count_front, name_front, only_front, serial_front, signature_front};
+use crate::field_fronts::{name_front, only_front, uint32_front};
 use dbus_types::TextKind;
-use dbus_value_checker::rest_after;
+use dbus_value_checker::{rest_after, signature_front};
 use dbus_value_model::{Order, Stop};
 
 /// A name of a kind.
@@ -49,28 +49,9 @@ pub fn name_field(
     }
 }
 
-/// A REPLY_SERIAL.
-pub fn serial_field(bytes: &[u8], offset: usize, end: usize, order: Order) -> Result<usize, Stop>
-    requires at_most { offset ≤ end }
-    requires near { end < 4294967296 }
-    ensures gives { (limits : Limits) →
-        Fronts (λ n. (tt, n)) offset bytes.now result
-        (seen_as nothing_of (wanted_value limits order end Serial)) }
-    ensures moves { IfOk result (λ n. (n ≤ length bytes.now) × (offset + n ≤ end)) }
-    ensures short { IfErr result (λ e. e ≡ Partial → length bytes.now < 270) }
-{
-    match only_front(b'u', bytes, offset, end) {
-        Ok(()) => {}
-        Err(stop) => return Err(stop),
-    }
-    match serial_front(rest_after(bytes, 3), offset + 3, end, order) {
-        Ok(n) => Ok(n + 3),
-        Err(stop) => Err(stop),
-    }
-}
-
-/// How many descriptors come with the message.
-pub fn count_field(
+/// A UINT32: a REPLY_SERIAL, or how many descriptors come with the message.
+pub fn uint32_field(
+    serial: bool,
     bytes: &[u8],
     offset: usize,
     end: usize,
@@ -80,7 +61,7 @@ pub fn count_field(
     requires near { end < 4294967296 }
     ensures gives { (limits : Limits) →
         Fronts (λ x. x) offset bytes.now result
-        (seen_as number_in (wanted_value limits order end (OfType (NumberType UINT32)))) }
+        (seen_as number_in (wanted_value limits order end (uint32_wanted serial))) }
     ensures moves { IfOk result (λ x. (x.1 ≤ length bytes.now) × (offset + x.1 ≤ end)) }
     ensures short { IfErr result (λ e. e ≡ Partial → length bytes.now < 270) }
 {
@@ -88,7 +69,7 @@ pub fn count_field(
         Ok(()) => {}
         Err(stop) => return Err(stop),
     }
-    match count_front(rest_after(bytes, 3), offset + 3, end, order) {
+    match uint32_front(serial, rest_after(bytes, 3), offset + 3, end, order) {
         Ok((count, n)) => Ok((count, n + 3)),
         Err(stop) => Err(stop),
     }

@@ -13,7 +13,7 @@ use Rattle.dbus_value_checker.specs.Suspended.{On, Work, Parts, Elements, work}
 use Rattle.dbus_value_checker.specs.Denotations.{Answer, rest_of, HasFrames, HasNotes, Goes, Numbers, after_piece}
 use Rattle.dbus_value_checker.proofs.NumberRuns.{at_least, whole_numbers, some_numbers, plain_type, numbers_lack, numbers_run}
 use Rattle.dbus_value_checker.proofs.Slices.{slice_head}
-use Rattle.dbus_value_checker.proofs.FrameLaws.{frames_reach, frames_small, within}
+use Rattle.dbus_value_checker.proofs.FrameLaws.{frames_reach, frames_small, frames_at}
 use Rattle.dbus_value_checker.proofs.NextValues.{false_true}
 
 -- how many bytes its whole numbers have
@@ -108,7 +108,7 @@ module _ (x : Values) (left : ℕ) (answer : Answer) (b : Numbers x left answer)
           start = b.start;
           bytes = on;
           plain = b.plain;
-          frames = within b.start x.offset (length x.text.items) (x.offset + n) (length x.text.items) x.end x.text.items x.inner (reverse x.frames.items) (Elements (b.count + b.turns) b.depth_left b.stop (NumberType b.code) ∷ b.ws) (omega arith) b.frames.0.high_is b.frames;
+          frames = frames_at x (Elements (b.count + b.turns) b.depth_left b.stop (NumberType b.code) ∷ b.ws) b.start b.start (x.offset + n) b.frames (omega arith) (omega arith);
           noted = b.noted;
           aligned = b.aligned;
           offset = omega arith;

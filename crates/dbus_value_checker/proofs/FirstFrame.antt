@@ -1,5 +1,5 @@
 -- Values that are wanted, before any byte of them.
-use Rattle.std.proofs.Common.{◌≡◌, ℕ, ◌<◌, ◌≤◌, List, [], ◌∷◌, length, reverse, false, refl, ap, ◌∙◌, arith}
+use Rattle.std.proofs.Common.{◌≡◌, ℕ, ◌<◌, ◌≤◌, List, [], ◌∷◌, length, reverse, false, refl, sym, ap, subst, ◌∙◌, arith}
 use Rattle.std.proofs.lemmas.List.{take_all}
 use Rattle.dbus_texts.specs.Types.{TypeTrees, sigs, AreShaped}
 use Rattle.dbus_value_checker.specs.declared.values.Values.{Values}
@@ -13,10 +13,11 @@ use Rattle.dbus_value_checker.proofs.Notes.{after_noted}
 
 -- a state whose only frame is that of these types
 pub begun_goes : (x : Values) (types : List ℕ) (depth_left : ℕ) (ts : TypeTrees) (last : On)
-    → x.frames.items ≡ [] → x.text.items ≡ types → AreLengths types x.lengths.items → x.inner ≡ record { array = false; pos = 0; stop = length types; top = length types; end = x.end; depth_left = depth_left }
+    → x.frames.items ≡ [] → x.text.items ≡ types → ((more : List ℕ) × AreLengths types more × (x.lengths.items ≡ more)) → x.inner ≡ record { array = false; pos = 0; stop = length types; top = length types; end = x.end; depth_left = depth_left }
     → x.offset ≤ x.end → x.end < 18446744073709551616 → depth_left ≤ 64 → length types ≤ 255 → types ≡ sigs ts → AreShaped ts
     → Goes x (values_on x.bounds x.order depth_left x.end ts last x.offset)
-begun_goes x types depth_left ts last none text lengths inner at_most near few short spelled complete =
+begun_goes x types depth_left ts last none text sizes inner at_most near few short spelled complete =
+    let lengths = subst (AreLengths types) (sym sizes.2) sizes.1 in
     let w : Work = Parts depth_left x.end ts in
     let begun : Frame = record { array = false; pos = 0; stop = length types; top = length types; end = x.end; depth_left = depth_left } in
     let back : reverse x.frames.items ≡ [] = ap (λ (fs : List Frame). reverse fs) none in

@@ -29,10 +29,10 @@ frames_small reach low high bottom text (f ∷ fs) (w ∷ ws) h = let a = h.0.lo
 frames_small reach low high bottom text [] (w ∷ ws) h = absurd h
 frames_small reach low high bottom text (f ∷ fs) [] h = absurd h
 
--- nor is an end
-pub end_small : (reach low high bottom : ℕ) (text : List ℕ) (f : Frame) (fs : List Frame) (ws : List Work) → AreFrames reach low high bottom text (f ∷ fs) ws → f.end < 18446744073709551616
-end_small reach low high bottom text f fs [] h = absurd h
-end_small reach low high bottom text f fs (w ∷ ws) h = frames_small reach f.end f.top bottom text fs ws h.1
+-- nor is an end, and the innermost frame is within its bounds
+pub frame_within : (reach low high bottom : ℕ) (text : List ℕ) (f : Frame) (fs : List Frame) (ws : List Work) → AreFrames reach low high bottom text (f ∷ fs) ws → (low ≤ f.end) × (f.top ≤ high) × (f.end < 18446744073709551616)
+frame_within reach low high bottom text f fs [] h = absurd h
+frame_within reach low high bottom text f fs (w ∷ ws) h = (h.0.low_is, h.0.high_is, frames_small reach f.end f.top bottom text fs ws h.1)
 
 -- ---- a frame is pushed
 
@@ -52,6 +52,12 @@ inner_of x reach (w ∷ ws) h = record { low = h.0.low_is; high = h.0.high_is; s
 pub within : (reach low high next more bottom : ℕ) (text : List ℕ) (f : Frame) (fs : List Frame) (ws : List Work) → next ≤ f.end → f.top ≤ more → AreFrames reach low high bottom text (f ∷ fs) ws → AreFrames reach next more bottom text (f ∷ fs) ws
 within reach low high next more bottom text f fs [] le top h = h
 within reach low high next more bottom text f fs (w ∷ ws) le top h = (assumption h, h.1)
+
+-- further on, within the innermost frame
+pub frames_at : (x : Values) (ws : List Work) (reach more o : ℕ) → HasFrames reach x ws → reach ≤ more → o ≤ x.inner.end → HasFrames more (record x { offset = o }) ws
+frames_at x ws reach more o h le fits =
+    within more x.offset (length x.text.items) o (length x.text.items) x.end x.text.items x.inner (reverse x.frames.items) ws fits (inner_of x reach ws h).high
+    (frames_reach reach more x.offset (length x.text.items) x.end x.text.items (x.inner ∷ reverse x.frames.items) ws le h)
 
 pub pushed_frames : (x y : Values) (f : Frame) (reach : ℕ) (v : Work) (ws : List Work) → Pushed x y f → HasFrames reach x ws
     → Framed reach x.offset (length x.text.items) (suc (length x.frames.items)) x.text.items f v → f.end ≤ x.inner.end → x.inner.top ≤ f.top → HasFrames reach y (v ∷ ws)

@@ -24,7 +24,7 @@ use Rattle.dbus_value_model.specs.declared.stop.Stop.{Stop}
 use Rattle.dbus_value_model.specs.declared.stop.Stop.TheVariants as stops
 use Rattle.dbus_value_checker.specs.declared.values.Values.{Values}
 use Rattle.dbus_value_checker.specs.Moves.{Moves}
-use Rattle.dbus_value_checker.specs.Fronts.{Fronts, Lack}
+use Rattle.dbus_value_checker.specs.Fronts.{Halts, Fronts, Lack}
 use Rattle.dbus_value_checker.specs.Suspended.{On, onward, done, held_text}
 use Rattle.dbus_value_model.specs.Items.{text_reason}
 use Rattle.dbus_texts.specs.declared.text_kind.TextKind.TheVariants as kinds
@@ -142,14 +142,14 @@ plain_row index_limit DOUBLE c n p e b f = refl
 plain_row index_limit UNIX_FD c n p e b f = absurd (f (sym e))
 
 -- the bytes of a number are not there
-pub lacks_number : {X : Type 0} (view : X → ℕ × ℕ) (order : Order) (w end : ℕ) (row : ℕ → ℕ → Option Reason) (o : ℕ) (s : List ℕ) (e : Stop) → Lack w o end s e → Fronts view o s (Err e) (number order w end row)
-lacks_number view order w end row o s stops.Partial h = number_waits order w end row o s h.0 h.1
-lacks_number view order w end row o s (stops.Refused f) h = λ c. number_over order w end row o (s ++ c) h.0 ∙ ap (λ (g : Fault). Faulty g) (sym h.1)
+pub lacks_number : (order : Order) (w end : ℕ) (row : ℕ → ℕ → Option Reason) (o : ℕ) (s : List ℕ) (e : Stop) → Lack w o end s e → Halts o s e (number order w end row)
+lacks_number order w end row o s stops.Partial h = number_waits order w end row o s h.0 h.1
+lacks_number order w end row o s (stops.Refused f) h = λ c. number_over order w end row o (s ++ c) h.0 ∙ ap (λ (g : Fault). Faulty g) (sym h.1)
 
 -- a number of the width of its type, which is forgotten
 module _ (index_limit : Option ℕ) (order : Order) (end o : ℕ) (s : List ℕ) (k : NumberCode) (w : ℕ) (w_is : w ≡ width k) where
   pub number_stop : (e : Stop) → Lack w o end s e → Fronts (λ (n : ℕ). (tt, n)) o s (Err e) (onward (number order (width k) end (number_row index_limit k)) done)
-  number_stop e h = rw (← w_is) (forgotten (λ (n : ℕ). (n, n)) o s (number order w end (number_row index_limit k)) (Err e) (lacks_number (λ (n : ℕ). (n, n)) order w end (number_row index_limit k) o s e h))
+  number_stop e h = rw (← w_is) (forgotten (λ (n : ℕ). (n, n)) o s (number order w end (number_row index_limit k)) (Err e) (lacks_number order w end (number_row index_limit k) o s e h))
 
   module _ (n : ℕ) (there : w ≤ length s) (fits : o + w ≤ end) (n_is : n ≡ number_of order (take w s)) where
     pub number_there : number_row index_limit k (o + w) n ≡ None → Fronts (λ (n : ℕ). (tt, n)) o s (Ok w) (onward (number order (width k) end (number_row index_limit k)) done)
@@ -171,16 +171,12 @@ short_width k c e h = elim (length_code k c e) [ inl a ↦ a.1 | inr a ↦ absur
 pub long_width : (k : TextCode) (c : ℕ) → text_code k ≡ c → (c ≡ 103 → ⊥) → length_width k ≡ 4
 long_width k c e h = elim (length_code k c e) [ inl a ↦ absurd (h a.0) | inr a ↦ a.1 ]
 
-module _ (order : Order) (end o : ℕ) (s : List ℕ) (k : TextCode) (w : ℕ) (w_is : length_width k ≡ w) where
-  pub length_stop : (e : Stop) → Lack w o end s e → Fronts (λ (x : ℕ × ℕ). x) o s (Err e) (number order (length_width k) end (text_row end))
-  length_stop e h = rw w_is (lacks_number (λ (x : ℕ × ℕ). x) order w end (text_row end) o s e h)
+module _ (order : Order) (w end o : ℕ) (s : List ℕ) (n : ℕ) (there : w ≤ length s) (n_is : n ≡ number_of order (take w s)) where
+  pub length_there : o + w + n + 1 ≤ end → Fronts (λ (n : ℕ). (n, w)) o s (Ok n) (number order w end (text_row end))
+  length_there fits = (there, number_taken order w end (text_row end) o s n there (omega arith) n_is (rw (le-ltb end (o + w + n + 1) fits) refl))
 
-  module _ (n : ℕ) (there : w ≤ length s) (n_is : n ≡ number_of order (take w s)) where
-    pub length_there : o + w + n + 1 ≤ end → Fronts (λ (x : ℕ × ℕ). x) o s (Ok (n, w)) (number order (length_width k) end (text_row end))
-    length_there fits = rw w_is (there, number_taken order w end (text_row end) o s n there (omega arith) n_is (rw (le-ltb end (o + w + n + 1) fits) refl))
-
-    pub length_past : o + w ≤ end → end < o + w + n + 1 → Fronts (λ (x : ℕ × ℕ). x) o s (Err (stops.Refused (fault o reasons.Overrun))) (number order (length_width k) end (text_row end))
-    length_past low past = rw w_is (number_refused order w end (text_row end) o s n there low n_is reasons.Overrun (rw (lt-ltb end (o + w + n + 1) past) refl))
+  pub length_past : o + w ≤ end → end < o + w + n + 1 → Halts o s (stops.Refused (fault o reasons.Overrun)) (number order w end (text_row end))
+  length_past low past = number_refused order w end (text_row end) o s n there low n_is reasons.Overrun (rw (lt-ltb end (o + w + n + 1) past) refl)
 
 -- ---- an array's length and the padding after it
 
@@ -191,40 +187,35 @@ module _ (bounds : Bounds) (order : Order) (end o : ℕ) (s : List ℕ) (t : Typ
   abbrev padded : ℕ → Reader ℕ
   padded n p u = after (padding (alignment_of t) end p u) (λ z. Done n)
 
-  pub array_stop : (e : Stop) → Lack 4 o end s e → Fronts (λ (x : ℕ × ℕ). x) o s (Err e) (array_frame bounds order end t)
+  pub array_stop : (e : Stop) → Lack 4 o end s e → Halts o s e (array_frame bounds order end t)
   unfolding array_frame
-  array_stop e h = first_err (λ (n : ℕ). (n, n)) (λ (x : ℕ × ℕ). x) o s sized padded e (lacks_number (λ (n : ℕ). (n, n)) order 4 end (array_row bounds t end) o s e h)
+  array_stop e h = first_err o s sized padded e (lacks_number order 4 end (array_row bounds t end) o s e h)
 
   module _ (n : ℕ) (there : 4 ≤ length s) (low : o + 4 ≤ end) (n_is : n ≡ number_of order (take 4 s)) where
-    array_refused : (why : Reason) → array_row bounds t end (o + 4) n ≡ Some why → Fronts (λ (x : ℕ × ℕ). x) o s (Err (stops.Refused (fault o why))) (array_frame bounds order end t)
+    array_refused : (why : Reason) → array_row bounds t end (o + 4) n ≡ Some why → Halts o s (stops.Refused (fault o why)) (array_frame bounds order end t)
     unfolding array_frame
-    array_refused why row = first_err (λ (m : ℕ). (n, m)) (λ (x : ℕ × ℕ). x) o s sized padded (stops.Refused (fault o why)) (number_refused order 4 end (array_row bounds t end) o s n there low n_is why row)
+    array_refused why row = first_err o s sized padded (stops.Refused (fault o why)) (number_refused order 4 end (array_row bounds t end) o s n there low n_is why row)
 
-    pub array_too_long : bounds.array < n → Fronts (λ (x : ℕ × ℕ). x) o s (Err (stops.Refused (fault o reasons.ArrayTooLong))) (array_frame bounds order end t)
+    pub array_too_long : bounds.array < n → Halts o s (stops.Refused (fault o reasons.ArrayTooLong)) (array_frame bounds order end t)
     array_too_long h = array_refused reasons.ArrayTooLong (rw (lt-ltb bounds.array n h) refl)
 
     module _ (short : n ≤ bounds.array) (a : ℕ) (a_is : a ≡ alignment_of t) where
-      pub array_past : end < o + 4 + gap_to a (o + 4) + n → Fronts (λ (x : ℕ × ℕ). x) o s (Err (stops.Refused (fault o reasons.Overrun))) (array_frame bounds order end t)
+      pub array_past : end < o + 4 + gap_to a (o + 4) + n → Halts o s (stops.Refused (fault o reasons.Overrun)) (array_frame bounds order end t)
       array_past h = array_refused reasons.Overrun (rw (le-ltb bounds.array n short, ← a_is, lt-ltb end (o + 4 + gap_to a (o + 4) + n) h) refl)
 
       module _ (fits : o + 4 + gap_to a (o + 4) + n ≤ end) (rest : List ℕ) (rest_is : rest ≡ drop 4 s) where
         sized_there : Fronts (λ (m : ℕ). (n, m)) o s (Ok 4) sized
         sized_there = (there, number_taken order 4 end (array_row bounds t end) o s n there low n_is (rw (le-ltb bounds.array n short, ← a_is, le-ltb end (o + 4 + gap_to a (o + 4) + n) fits) refl))
 
-        after_it : (e : Result ℕ Stop) → Fronts (λ (n : ℕ). (tt, n)) (o + 4) rest e (padding a end) → Fronts (λ (n : ℕ). (tt, n)) (o + 4) (drop 4 s) e (padding (alignment_of t) end)
-        after_it e h = rw (← a_is, ← rest_is) h
-
         pub array_there : (z : ℕ) → Fronts (λ (n : ℕ). (tt, n)) (o + 4) rest (Ok z) (padding a end) → Fronts (λ (x : ℕ × ℕ). x) o s (Ok (n, 4 + z)) (array_frame bounds order end t)
         unfolding array_frame
         array_there z h =
-            then_ok (λ (m : ℕ). (n, m)) (λ (m : ℕ). (n, m)) (λ (x : ℕ × ℕ). x) o s sized padded 4 sized_there z
-            (front_as (λ (m : ℕ). (tt, m)) (λ (m : ℕ). (n, m)) (λ (u : Unit {0}). n) (o + 4) (drop 4 s) (padding (alignment_of t) end) z (after_it (Ok z) h) z refl refl) (n, 4 + z) refl refl
+            then_ok (λ (m : ℕ). (n, m)) o s sized padded 4 sized_there rest rest_is (λ (m : ℕ). (n, m)) (λ (x : ℕ × ℕ). x) z
+            (front_as (λ (m : ℕ). (tt, m)) (λ (m : ℕ). (n, m)) (λ (u : Unit {0}). n) (o + 4) rest (padding (alignment_of t) end) z (rw (← a_is) h) z refl refl) (n, 4 + z) refl refl
 
-        pub array_padding : (e : Stop) → Fronts (λ (n : ℕ). (tt, n)) (o + 4) rest (Err e) (padding a end) → Fronts (λ (x : ℕ × ℕ). x) o s (Err e) (array_frame bounds order end t)
+        pub array_padding : (e : Stop) → Halts (o + 4) rest e (padding a end) → Halts o s e (array_frame bounds order end t)
         unfolding array_frame
-        array_padding e h =
-            then_err (λ (m : ℕ). (n, m)) (λ (m : ℕ). (n, m)) (λ (x : ℕ × ℕ). x) o s sized padded 4 sized_there e
-            (first_err (λ (m : ℕ). (tt, m)) (λ (m : ℕ). (n, m)) (o + 4) (drop 4 s) (padding (alignment_of t) end) (λ z. Done n) e (after_it (Err e) h))
+        array_padding e h = then_err (λ (m : ℕ). (n, m)) o s sized padded 4 sized_there rest rest_is e (first_err (o + 4) rest (padding (alignment_of t) end) (λ z. Done n) e (rw (← a_is) h))
 
 -- ---- a text
 
@@ -271,62 +262,3 @@ module _ (k : WantedText) (n o : ℕ) (s given : List ℕ) (is : given ≡ take 
         let le = g.0 in
         let fits = g.1 in
         (omega arith, λ c. subst (λ (t : List ℕ). text k n o (t ++ c) ≡ Done t (o + n) c) is (text_ends k n o given c (omega arith) (is_wanted k given wanted)))
-
--- ---- a variant's signature
-
-module _ (order : Order) (end o : ℕ) (s : List ℕ) where
-  abbrev seen : ℕ → List ℕ × ℕ
-  seen n = (take n (drop 1 s), n + 2)
-
-  abbrev numbered : Reader ℕ
-  numbered = number order 1 end (text_row end)
-
-  abbrev named : ℕ → Reader (List ℕ)
-  named n p u = after (text (Of kinds.Single) n p u) (λ t q v. after (nul q v) (λ z. Done t))
-
-  pub variant_stop : (e : Stop) → Lack 1 o end s e → Fronts seen o s (Err e) (held_text order end)
-  variant_stop e h = first_err (λ (n : ℕ). (n, n)) seen o s numbered named e (lacks_number (λ (n : ℕ). (n, n)) order 1 end (text_row end) o s e h)
-
-  module _ (n : ℕ) (there : 1 ≤ length s) (low : o + 1 ≤ end) (is : n ≡ number_of order (take 1 s)) where
-    pub variant_past : end < o + 1 + n + 1 → Fronts seen o s (Err (stops.Refused (fault o reasons.Overrun))) (held_text order end)
-    variant_past h =
-        first_err (λ (m : ℕ). (n, m)) seen o s numbered named (stops.Refused (fault o reasons.Overrun)) (number_refused order 1 end (text_row end) o s n there low is reasons.Overrun (rw (lt-ltb end (o + 1 + n + 1) h) refl))
-
-    module _ (fits : o + 1 + n + 1 ≤ end) (rest : List ℕ) (rest_is : rest ≡ drop 1 s) where
-      first_taken : Fronts (λ (m : ℕ). (n, m)) o s (Ok 1) numbered
-      first_taken = (there, number_taken order 1 end (text_row end) o s n there low is (rw (le-ltb end (o + 1 + n + 1) fits) refl))
-
-      abbrev zeroed : List ℕ → Reader (List ℕ)
-      zeroed t q v = after (nul q v) (λ z. Done t)
-
-      abbrev lettered : List ℕ → Unit {0} → List ℕ × ℕ
-      lettered t x = (take n t, n)
-
-      letters : (e : Result (Unit {0}) Stop) → Fronts (lettered rest) (o + 1) rest e (text (Of kinds.Single) n) → Fronts (lettered (drop 1 s)) (o + 1) (drop 1 s) e (text (Of kinds.Single) n)
-      letters e h = subst (λ (t : List ℕ). Fronts (lettered t) (o + 1) t e (text (Of kinds.Single) n)) rest_is h
-
-      pub variant_text_stop : (e : Stop) → Fronts (lettered rest) (o + 1) rest (Err e) (text (Of kinds.Single) n) → Fronts seen o s (Err e) (held_text order end)
-      variant_text_stop e h =
-          then_err (λ (m : ℕ). (n, m)) seen seen o s numbered named 1 first_taken e
-          (first_err (lettered (drop 1 s)) seen (o + 1) (drop 1 s) (text (Of kinds.Single) n) zeroed e (letters (Err e) h))
-
-      module _ (texted : Fronts (lettered rest) (o + 1) rest (Ok tt) (text (Of kinds.Single) n)) (last : List ℕ) (last_is : last ≡ drop n rest) where
-        abbrev zero_seen : Unit {0} → Unit {0} × ℕ
-        zero_seen x = (tt, 1)
-
-        nulled : (e : Result (Unit {0}) Stop) → Fronts zero_seen (o + 1 + n) last e nul → Fronts zero_seen (o + 1 + n) (drop n (drop 1 s)) e nul
-        nulled e h = subst (λ (t : List ℕ). Fronts zero_seen (o + 1 + n) t e nul) (last_is ∙ ap (drop n) rest_is) h
-
-        pub variant_nul_stop : (e : Stop) → Fronts zero_seen (o + 1 + n) last (Err e) nul → Fronts seen o s (Err e) (held_text order end)
-        variant_nul_stop e h =
-            then_err (λ (m : ℕ). (n, m)) seen seen o s numbered named 1 first_taken e
-            (then_err (lettered (drop 1 s)) seen seen (o + 1) (drop 1 s) (text (Of kinds.Single) n) zeroed tt (letters (Ok tt) texted) e
-            (first_err zero_seen seen (o + 1 + n) (drop n (drop 1 s)) nul (λ z. Done (take n (drop 1 s))) e (nulled (Err e) h)))
-
-        pub variant_there : Fronts zero_seen (o + 1 + n) last (Ok tt) nul → Fronts seen o s (Ok n) (held_text order end)
-        variant_there h =
-            let t = take n (drop 1 s) in
-            then_ok (λ (m : ℕ). (n, m)) (λ (x : Unit {0}). (t, n + 1)) seen o s numbered named 1 first_taken tt
-            (then_ok (lettered (drop 1 s)) (λ (x : Unit {0}). (t, 1)) (λ (x : Unit {0}). (t, n + 1)) (o + 1) (drop 1 s) (text (Of kinds.Single) n) zeroed tt (letters (Ok tt) texted) tt
-            (front_as zero_seen (λ (x : Unit {0}). (t, 1)) (λ (x : Unit {0}). t) (o + 1 + n) (drop n (drop 1 s)) nul tt (nulled (Ok tt) h) tt refl refl) tt refl refl)
-            n refl (omega arith)

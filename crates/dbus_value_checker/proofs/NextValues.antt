@@ -13,14 +13,11 @@ use Rattle.dbus_value_checker.specs.Suspended.{onward, Work, Parts, Elements}
 use Rattle.dbus_value_checker.specs.Frames.{slice, AreFrames, AreNoted}
 use Rattle.dbus_value_checker.specs.Denotations.{Answer, rest_of, HasFrames, HasNotes, Goes, Wants}
 use Rattle.dbus_value_checker.proofs.Suspension.{parts_more, elements_more, elements_none}
-use Rattle.dbus_value_checker.proofs.FrameLaws.{within, frames_reach}
+use Rattle.dbus_value_checker.specs.Moves.{Pushed}
+use Rattle.dbus_value_checker.proofs.FrameLaws.{frame_within, within, frames_reach}
 use Rattle.dbus_value_checker.proofs.Notes.{part_noted, same_notes}
 use Rattle.dbus_value_checker.proofs.TypeCodes.{sigs_some}
 use Rattle.dbus_value_checker.proofs.Slices.{slice_room, slice_whole, slice_after, slice_first}
-
-pub low_of : (reach low high bottom : ℕ) (text : List ℕ) (f : Frame) (fs : List Frame) (ws : List Work) → AreFrames reach low high bottom text (f ∷ fs) ws → low ≤ f.end
-low_of reach low high bottom text f fs [] h = absurd h
-low_of reach low high bottom text f fs (w ∷ ws) h = h.0.low_is
 
 -- ---- an array goes on
 
@@ -99,10 +96,6 @@ next_part x answer q is g a lt le =
 
 -- ---- nothing more is wanted of the innermost container
 
-top_of : (reach low high bottom : ℕ) (text : List ℕ) (f : Frame) (fs : List Frame) (ws : List Work) → AreFrames reach low high bottom text (f ∷ fs) ws → f.top ≤ high
-top_of reach low high bottom text f fs [] h = absurd h
-top_of reach low high bottom text f fs (w ∷ ws) h = h.0.high_is
-
 empty_reverse : (fs : List Frame) → length fs ≡ 0 → reverse fs ≡ []
 empty_reverse [] e = refl
 empty_reverse (f ∷ fs) e = absurd (omega arith)
@@ -130,37 +123,27 @@ over_at x answer (Elements turns depth_left end t) ws h same over c = elim over 
   | inr o ↦ absurd (false_true x.inner.array o.0 h.0.is.elements)
 ]
 
-pub record Popped (x y : Values) (f : Frame) : Type 0 where
-  pub bounds : y.bounds ≡ x.bounds
-  pub order : y.order ≡ x.order
-  pub end : y.end ≡ x.end
-  pub offset : y.offset ≡ x.offset
-  pub text : y.text.items ≡ x.text.items
-  pub lengths : y.lengths.items ≡ x.lengths.items
-  pub inner : y.inner ≡ f
-  pub frames : x.frames.items ≡ y.frames.items ++ f ∷ []
-
-popped_at : (x y : Values) (f : Frame) (answer : Answer) (ws : List Work) → HasFrames x.offset x ws → HasNotes x → ((c : List ℕ) → rest_of answer x ws x.offset c ≡ answer.to c) → IsOver x → Popped x y f → Goes y answer
-popped_at x y f answer [] h noted same over p = absurd h
-popped_at x y f answer (w ∷ ws) h noted same over p =
-    let back : reverse x.frames.items ≡ f ∷ reverse y.frames.items = ap (λ (fs : List Frame). reverse fs) p.frames ∙ reverse-append y.frames.items (f ∷ []) in
-    let tail : AreFrames x.offset x.inner.end x.inner.top x.end x.text.items (f ∷ reverse y.frames.items) ws = subst (λ (fs : List Frame). AreFrames x.offset x.inner.end x.inner.top x.end x.text.items fs ws) back h.1 in
-    let left : AreNoted x.text.items x.lengths.items (f ∷ reverse y.frames.items) = subst (λ (fs : List Frame). AreNoted x.text.items x.lengths.items fs) back noted.1.1 in
+-- the state y is left when the frame of x is popped, as x is reached when it is pushed
+popped_at : (x y : Values) (answer : Answer) (ws : List Work) → HasFrames x.offset x ws → HasNotes x → ((c : List ℕ) → rest_of answer x ws x.offset c ≡ answer.to c) → IsOver x → Pushed y x x.inner → Goes y answer
+popped_at x y answer [] h noted same over p = absurd h
+popped_at x y answer (w ∷ ws) h noted same over p =
+    let back : reverse x.frames.items ≡ y.inner ∷ reverse y.frames.items = ap (λ (fs : List Frame). reverse fs) p.frames ∙ reverse-append y.frames.items (y.inner ∷ []) in
+    let tail : AreFrames x.offset x.inner.end x.inner.top x.end x.text.items (y.inner ∷ reverse y.frames.items) ws = subst (λ (fs : List Frame). AreFrames x.offset x.inner.end x.inner.top x.end x.text.items fs ws) back h.1 in
+    let left : AreNoted x.text.items x.lengths.items (y.inner ∷ reverse y.frames.items) = subst (λ (fs : List Frame). AreNoted x.text.items x.lengths.items fs) back noted.1.1 in
     let low = h.0.low_is in
     let high = h.0.high_is in
-    let below = low_of x.offset x.inner.end x.inner.top x.end x.text.items f (reverse y.frames.items) ws tail in
-    let top = top_of x.offset x.inner.end x.inner.top x.end x.text.items f (reverse y.frames.items) ws tail in
-    let here : AreFrames x.offset x.offset (length x.text.items) x.end x.text.items (f ∷ reverse y.frames.items) ws =
-    within x.offset x.inner.end x.inner.top x.offset (length x.text.items) x.end x.text.items f (reverse y.frames.items) ws (omega arith) (omega arith) tail in
+    let bounds = frame_within x.offset x.inner.end x.inner.top x.end x.text.items y.inner (reverse y.frames.items) ws tail in
+    let here : AreFrames x.offset x.offset (length x.text.items) x.end x.text.items (y.inner ∷ reverse y.frames.items) ws =
+    within x.offset x.inner.end x.inner.top x.offset (length x.text.items) x.end x.text.items y.inner (reverse y.frames.items) ws (omega (arith, bounds.0)) (omega (arith, bounds.1)) tail in
     record {
       ws = ws;
-      frames = rw (p.offset, p.end, p.text, p.inner) here;
-      noted = same_notes x.text.items y.text.items x.lengths.items y.lengths.items (f ∷ reverse y.frames.items) (y.inner ∷ reverse y.frames.items) (sym p.text) (sym p.lengths) (ap (λ (g : Frame). g ∷ reverse y.frames.items) (sym p.inner)) (noted.0, left);
-      same = rw (p.offset, p.bounds, p.order) (over_at x answer w ws h same over);
+      frames = rw (← p.offset, ← p.end, ← p.text) here;
+      noted = same_notes x.text.items y.text.items x.lengths.items y.lengths.items (y.inner ∷ reverse y.frames.items) (y.inner ∷ reverse y.frames.items) p.text p.lengths refl (noted.0, left);
+      same = rw (← p.offset, ← p.bounds, ← p.order) (over_at x answer w ws h same over);
     }
 
-pub next_popped : (x y : Values) (f : Frame) (answer : Answer) → Goes x answer → IsOver x → Popped x y f → Goes y answer
-next_popped x y f answer g over p = popped_at x y f answer g.ws g.frames g.noted g.same over p
+pub next_popped : (x y : Values) (answer : Answer) → Goes x answer → IsOver x → Pushed y x x.inner → Goes y answer
+next_popped x y answer g over p = popped_at x y answer g.ws g.frames g.noted g.same over p
 
 last_at : (x : Values) (answer : Answer) (ws : List Work) (fs : List Frame) → fs ≡ reverse x.frames.items → AreFrames x.offset x.offset (length x.text.items) x.end x.text.items (x.inner ∷ fs) ws → ((c : List ℕ) → rest_of answer x ws x.offset c ≡ answer.to c) → HasFrames x.offset x ws → IsOver x → fs ≡ []
     → (x.offset ≤ x.end) × (x.end < 18446744073709551616) × ((c : List ℕ) → answer.last x.offset c ≡ answer.to c)

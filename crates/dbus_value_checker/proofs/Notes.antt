@@ -37,7 +37,7 @@ pushed_notes x y f p noted own =
 
 -- ---- another signature follows those in use
 
-shorter : (a b : List ℕ) (m n : ℕ) → m ≤ n → take n a ≡ take n b → take m a ≡ take m b
+pub shorter : (a b : List ℕ) (m n : ℕ) → m ≤ n → take n a ≡ take n b → take m a ≡ take m b
 shorter a b m n h e = sym (take-take m n a h) ∙ ap (take m) e ∙ take-take m n b h
 
 module _ (a b l m : List ℕ) where

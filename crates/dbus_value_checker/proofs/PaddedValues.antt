@@ -35,7 +35,7 @@ use Rattle.dbus_value_checker.proofs.Suspension.{works_as, value_begins, after_a
 use Rattle.dbus_value_checker.proofs.FrontSteps.{front_taken, front_stops}
 use Rattle.dbus_value_checker.proofs.Chains.{take-both}
 use Rattle.dbus_value_checker.proofs.Slices.{slice_head, slice_room, slice_after, slice_inner}
-use Rattle.dbus_value_checker.proofs.FrameLaws.{frames_reach, end_small, pushed_frames, inner_of, within}
+use Rattle.dbus_value_checker.proofs.FrameLaws.{frames_at, frame_within, pushed_frames, inner_of}
 use Rattle.dbus_value_checker.proofs.TypeCodes.{array_of, struct_of, entry_of, text_of, number_type, array_complete, struct_complete, entry_complete, entry_text, parts_some, sigs_some}
 use Rattle.dbus_value_checker.proofs.NextValues.{next_part_at}
 use Rattle.dbus_value_checker.proofs.Notes.{part_noted, pushed_notes}
@@ -66,7 +66,7 @@ module _ (x : Values) (pos stop : ℕ) (answer : Answer) (w : Wants x pos stop a
     pub wants_ready : (s : List ℕ) (n : ℕ) → Fronts (λ (n : ℕ). (tt, n)) x.offset s (Ok n) (padding a x.inner.end) → x.offset + n ≤ x.inner.end → Ready x pos stop n (after_piece answer (take n s))
     wants_ready s n h fits =
         let i = inner_of x (suc x.offset) w.ws w.frames in
-        let near = end_small (suc x.offset) x.offset (length x.text.items) x.end x.text.items x.inner (reverse x.frames.items) w.ws w.frames in
+        let near = (frame_within (suc x.offset) x.offset (length x.text.items) x.end x.text.items x.inner (reverse x.frames.items) w.ws w.frames).2 in
         let there : stop ≤ length x.text.items = (let a = i.high in let b = w.stop_is in omega arith) in
         record {
           ws = w.ws;
@@ -101,9 +101,7 @@ module _ (x : Values) (pos stop n : ℕ) (answer : Answer) (r : Ready x pos stop
 
   -- further by at least one byte
   further : (q : ℕ) → x.offset < q → q ≤ x.inner.end → HasFrames q (record x { offset = q }) r.ws
-  further q lt le =
-      within q x.offset (length x.text.items) q (length x.text.items) x.end x.text.items x.inner (reverse x.frames.items) r.ws le (inner_of x (suc x.offset) r.ws r.frames).high
-      (frames_reach (suc x.offset) q x.offset (length x.text.items) x.end x.text.items (x.inner ∷ reverse x.frames.items) r.ws (omega arith) r.frames)
+  further q lt le = frames_at x r.ws (suc x.offset) q q r.frames (omega arith) le
 
   -- a number
   module _ (is : IsNumberCode code) where
@@ -139,9 +137,7 @@ module _ (x : Values) (pos stop n : ℕ) (answer : Answer) (r : Ready x pos stop
   -- ---- a struct or an entry
 
   arrived : HasFrames (suc (x.offset + n)) (record x { offset = x.offset + n }) r.ws
-  arrived =
-      within (suc (x.offset + n)) x.offset (length x.text.items) (x.offset + n) (length x.text.items) x.end x.text.items x.inner (reverse x.frames.items) r.ws r.fits (inner_of x (suc x.offset) r.ws r.frames).high
-      (frames_reach (suc x.offset) (suc (x.offset + n)) x.offset (length x.text.items) x.end x.text.items (x.inner ∷ reverse x.frames.items) r.ws (omega arith) r.frames)
+  arrived = frames_at x r.ws (suc x.offset) (suc (x.offset + n)) (x.offset + n) r.frames (omega arith) r.fits
 
   module _ (inner : ℕ) where
     abbrev f : Frame

@@ -21,7 +21,7 @@ use Rattle.dbus_value_checker.specs.Moves.{Moves}
 use Rattle.dbus_value_checker.proofs.FrontSteps.{front_taken, front_stops}
 use Rattle.std.proofs.Common.{Ok, Err}
 use Rattle.dbus_value_checker.proofs.Suspension.{text_waits, text_breaks, text_ends, text_not}
-use Rattle.dbus_value_checker.proofs.FrameLaws.{frames_reach, inner_of, within}
+use Rattle.dbus_value_checker.proofs.FrameLaws.{frames_at}
 use Rattle.dbus_value_laws.proofs.KindLaws.{break_is, one_break, is_wanted, is_not_wanted}
 
 pub take_one : (s : List ℕ) (n : ℕ) (w : List ℕ) → n < length s → (w ++ take n s) ++ get_or s n 0 ∷ [] ≡ w ++ take (n + 1) s
@@ -58,11 +58,6 @@ one_byte_breaks k w b h unlike =
 
 -- ---- a text that is under way
 
-moved_on : (x : Values) (ws : List Work) (q : ℕ) → HasFrames x.offset x ws → x.offset ≤ q → q ≤ x.inner.end → HasFrames q (record x { offset = q }) ws
-moved_on x ws q h le fits =
-    within q x.offset (length x.text.items) q (length x.text.items) x.end x.text.items x.inner (reverse x.frames.items) ws fits (inner_of x x.offset ws h).high
-    (frames_reach x.offset q x.offset (length x.text.items) x.end x.text.items (x.inner ∷ reverse x.frames.items) ws le h)
-
 module _ (x : Values) (code left : ℕ) (answer : Answer) (t : Texts x code left answer) where
   so_far : break_at (kind_of t.kind) t.bytes ≡ length t.bytes
   so_far = ap (λ (k : WantedText). break_at k t.bytes) (sym t.scans) ∙ prefix_break (scans.kind_of x.scan) t.bytes (stands_prefix x.scan t.bytes t.stands)
@@ -90,7 +85,7 @@ module _ (x : Values) (code left : ℕ) (answer : Answer) (t : Texts x code left
           size = t.size;
           start = t.start;
           bytes = t.bytes ++ take m s;
-          frames = moved_on x t.ws (x.offset + m) t.frames (omega arith) (let f = t.fits in omega arith);
+          frames = frames_at x t.ws x.offset (x.offset + m) (x.offset + m) t.frames (omega arith) (let f = t.fits in omega arith);
           noted = t.noted;
           kind_is = t.kind_is;
           scans = ap Of kind ∙ t.scans;
@@ -179,7 +174,7 @@ module _ (x : Values) (answer : Answer) (u : Nuls x answer) where
   pub nuls_pass : (s : List ℕ) → Fronts seen x.offset s (Ok tt) nul → Goes (record x { offset = x.offset + 1 }) (after_piece answer (take 1 s))
   nuls_pass s h = record {
     ws = u.ws;
-    frames = moved_on x u.ws (x.offset + 1) u.frames (omega arith) u.fits;
+    frames = frames_at x u.ws x.offset (x.offset + 1) (x.offset + 1) u.frames (omega arith) u.fits;
     noted = u.noted;
     same = front_taken seen x.offset s nul (λ z. rest_of answer x u.ws) answer.to u.same tt h;
   }

@@ -22,21 +22,18 @@ use Rattle.dbus_value_checker.proofs.Suspension.{works_as, variant_begins, after
 use Rattle.dbus_value_checker.proofs.FrameLaws.{frames_reach, inner_of, within}
 use Rattle.dbus_types.proofs.TypeCodes.{variant_is}
 use Rattle.dbus_types.specs.TypeLengths.{AreLengths}
-use Rattle.dbus_value_checker.proofs.Notes.{notes_same, after_noted, same_notes}
+use Rattle.dbus_value_checker.proofs.Notes.{shorter, notes_same, after_noted, same_notes}
 use Rattle.dbus_value_checker.proofs.FrontSteps.{front_taken, front_stops}
 use Rattle.dbus_value_checker.proofs.PaddedValues.{code_first}
 
 -- ---- the signatures in use stay as they are
 
 slice_same : (a b : List ℕ) (pos stop top : ℕ) → stop ≤ top → take top a ≡ take top b → slice a pos stop ≡ slice b pos stop
-slice_same a b pos stop top h e = ap (drop pos) (sym (take-take stop top a h) ∙ ap (take stop) e ∙ take-take stop top b h)
+slice_same a b pos stop top h e = ap (drop pos) (shorter a b stop top h e)
 
 frame_same : (reach : ℕ) (a b : List ℕ) (f : Frame) (w : Work) → slice a f.pos f.stop ≡ slice b f.pos f.stop → IsFrame reach a f w → IsFrame reach b f w
 frame_same reach a b f (Parts depth_left end ts) e h = assumption (h, sym e ∙ h.types)
 frame_same reach a b f (Elements turns depth_left end t) e h = assumption (h, sym e ∙ h.type)
-
-shorter : (a b : List ℕ) (m n : ℕ) → m ≤ n → take n a ≡ take n b → take m a ≡ take m b
-shorter a b m n h e = sym (take-take m n a h) ∙ ap (take m) e ∙ take-take m n b h
 
 frames_same : (reach low high bottom : ℕ) (a b : List ℕ) (fs : List Frame) (ws : List Work) → take high a ≡ take high b → AreFrames reach low high bottom a fs ws → AreFrames reach low high bottom b fs ws
 frames_same reach low high bottom a b [] [] e h = h

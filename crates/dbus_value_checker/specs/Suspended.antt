@@ -5,7 +5,7 @@ use Rattle.dbus_texts.specs.Types.{NumberCode, TextCode, TypeTree, NumberType, T
 use Rattle.dbus_types.specs.Alignments.{width, length_width, alignment_of}
 use Rattle.dbus_texts.specs.ComputedKinds.{type_spelled}
 use Rattle.dbus_texts.specs.declared.text_kind.TextKind.TheVariants as kinds
-use Rattle.dbus_value_model.specs.WantedTexts.{kind_of, Of}
+use Rattle.dbus_value_model.specs.WantedTexts.{WantedText, kind_of, Of}
 use Rattle.dbus_value_model.specs.declared.limits.Bounds.{Bounds}
 use Rattle.dbus_value_model.specs.declared.order.Order.{Order}
 use Rattle.dbus_value_model.specs.Values.{ValueTree}
@@ -73,9 +73,21 @@ head_row bounds end (AVariant inner) = text_row end
 abbrev pub held_on : Bounds → Order → ℕ → ℕ → On → TypeTree → On
 held_on bounds order inner end next t = onward nul (onward (value bounds order inner end t) next)
 
--- the signature of a variant's value
+-- a text of n bytes, and the zero after it
+abbrev pub ended_text : WantedText → ℕ → Reader (List ℕ)
+ended_text k n o s = after (text k n o s) (λ t q v. after (nul q v) (λ z. Done t))
+
+-- the same after its length
+abbrev pub counted_text : Order → (end width : ℕ) → (ℕ → ℕ → Option Reason) → WantedText → Reader (List ℕ)
+counted_text order end width row k o s = after (number order width end row o s) (ended_text k)
+
+-- one whose length has one byte: a signature
+abbrev pub short_text : Order → ℕ → WantedText → Reader (List ℕ)
+short_text order end = counted_text order end 1 (text_row end)
+
+-- that of a variant's value
 abbrev pub held_text : Order → ℕ → Reader (List ℕ)
-held_text order end o s = after (number order 1 end (text_row end) o s) (λ n p u. after (text (Of kinds.Single) n p u) (λ t q v. after (nul q v) (λ z. Done t)))
+held_text order end = short_text order end (Of kinds.Single)
 
 -- what stands after the number n
 abbrev pub tail : Bounds → Order → ℕ → Head → On → ℕ → On

@@ -14,6 +14,7 @@ ghost use Rattle.dbus_types.specs.Alignments.{width, length_width};
 ghost use Rattle.dbus_value_model.specs.Reading.{padding, number, text, nul};
 ghost use Rattle.dbus_texts.specs.Kinds.{IsKind};
 ghost use Rattle.dbus_texts.specs.declared.text_kind.TextKind.TheVariants.{Single};
+ghost use Rattle.dbus_value_model.specs.declared.fault.Reason.TheVariants as reasons;
 ghost use Rattle.dbus_value_model.specs.declared.order.Order.{Order};
 ghost use Rattle.dbus_value_model.specs.WantedTexts.{Of};
 ghost use Rattle.dbus_value_model.specs.Items.{text_reason};
@@ -22,7 +23,7 @@ ghost use Rattle.dbus_value_model.specs.ValueReaders.{array_frame};
 ghost use Rattle.dbus_types.specs.SignatureCodes.{first_code};
 ghost use Rattle.dbus_value_model.specs.declared.stop.Stop.TheVariants.{Partial};
 ghost use Rattle.dbus_value_checker.specs.Fronts.{Fronts, IsThere, IsWord, IsByte};
-ghost use Rattle.dbus_value_checker.specs.Suspended.{onward, done, held_text};
+ghost use Rattle.dbus_value_checker.specs.Suspended.{onward, done, ended_text, short_text, held_text};
 
 use dbus_types::{TextKind, boundary, text_break};
 use dbus_value_model::{Bounds, Order, Reason, Stop, gap, refuse};
@@ -163,6 +164,27 @@ pub fn number_front(
     }
 }
 
+/// The length of a signature.
+///
+/// `Overrun` at `offset` where the length, the text or the zero after it ends past the end.
+pub fn short_length_front(bytes: &[u8], offset: usize, end: usize) -> Result<usize, Stop>
+    requires at_most { offset ≤ end }
+    ensures gives { (order : Order) →
+        Fronts (λ n. (n, 1)) offset bytes.now result (number order 1 end (text_row end)) }
+    ensures moves { IfOk result (λ n. (n < 256) × (1 ≤ length bytes.now) ×
+        (offset + 1 + n + 1 ≤ end)) }
+    ensures short { IfErr result (λ e. e ≡ Partial → length bytes.now < 1) }
+{
+    let n = match byte(bytes, offset, end) {
+        Ok(n) => n as usize,
+        Err(stop) => return Err(stop),
+    };
+    if end - (offset + 1) <= n {
+        return refuse(offset, Reason::Overrun);
+    }
+    Ok(n)
+}
+
 /// The length of a text of the type that has this code, and how many bytes the length has: one for a SIGNATURE, else four.
 /// Its padding is taken already.
 ///
@@ -182,15 +204,8 @@ pub fn length_front(
     ensures short { IfErr result (λ e. e ≡ Partial → length bytes.now < 4) }
 {
     if code == b'g' {
-        return match byte(bytes, offset, end) {
-            Ok(n) => {
-                let n = n as usize;
-                if end - (offset + 1) <= n {
-                    refuse(offset, Reason::Overrun)
-                } else {
-                    Ok((n, 1))
-                }
-            }
+        return match short_length_front(bytes, offset, end) {
+            Ok(n) => Ok((n, 1)),
             Err(stop) => Err(stop),
         };
     }
@@ -288,6 +303,60 @@ pub fn nul_front(bytes: &[u8], offset: usize) -> Result<(), Stop>
     Ok(())
 }
 
+/// A text of n bytes of a kind and the zero after it, whose length is taken already: the faults of [`text_front`], then that of
+/// [`nul_front`].
+pub fn ended_front(
+    kind: TextKind,
+    n: usize,
+    bytes: &[u8],
+    offset: usize,
+    reason: Reason,
+) -> Result<(), Stop>
+    requires near { offset + n < 2 ^ 64 }
+    requires reason { text_reason (Of kind) ≡ reason }
+    ensures gives { Fronts (λ _.
+        (take n bytes.now, n + 1)) offset bytes.now result (ended_text (Of kind) n) }
+    ensures kind { IfOk result (λ _. IsKind kind (take n bytes.now)) }
+    ensures there { IfOk result (λ _. n + 1 ≤ length bytes.now) }
+    ensures short { IfErr result (λ e. e ≡ Partial → length bytes.now < n + 1) }
+{
+    match text_front(kind, n, bytes, offset, reason) {
+        Ok(()) => {}
+        Err(stop) => return Err(stop),
+    }
+    match nul_front(rest_after(bytes, n), offset + n) {
+        Ok(()) => Ok(()),
+        Err(stop) => Err(stop),
+    }
+}
+
+/// A signature of a kind, with its length and the zero after it: how many bytes its text has.
+pub fn signature_front(
+    kind: TextKind,
+    bytes: &[u8],
+    offset: usize,
+    end: usize,
+) -> Result<usize, Stop>
+    requires at_most { offset ≤ end }
+    requires kind { text_reason (Of kind) ≡ reasons.Signature }
+    ensures gives { (order : Order) →
+        Fronts (λ n. (take n (drop 1 bytes.now), n + 2)) offset bytes.now result
+        (short_text order end (Of kind)) }
+    ensures moves { IfOk result (λ n.
+        (n < 256) × (n + 2 ≤ length bytes.now) × (offset + n + 2 ≤ end) ×
+        IsKind kind (take n (drop 1 bytes.now))) }
+    ensures short { IfErr result (λ e. e ≡ Partial → length bytes.now < 257) }
+{
+    let n = match short_length_front(bytes, offset, end) {
+        Ok(n) => n,
+        Err(stop) => return Err(stop),
+    };
+    match ended_front(kind, n, rest_after(bytes, 1), offset + 1, Reason::Signature) {
+        Ok(()) => Ok(n),
+        Err(stop) => Err(stop),
+    }
+}
+
 /// The signature of a variant's value, with its length before it and the zero after it: how many bytes the signature has.
 ///
 /// `Overrun` at `offset` where the length, the signature or the zero ends past the end; else `Signature` where the signature
@@ -302,20 +371,5 @@ pub fn variant_front(bytes: &[u8], offset: usize, end: usize) -> Result<usize, S
         IsKind Single (take n (drop 1 bytes.now))) }
     ensures short { IfErr result (λ e. e ≡ Partial → length bytes.now < 257) }
 {
-    let n = match byte(bytes, offset, end) {
-        Ok(n) => n as usize,
-        Err(stop) => return Err(stop),
-    };
-    if end - (offset + 1) <= n {
-        return refuse(offset, Reason::Overrun);
-    }
-    let rest = rest_after(bytes, 1);
-    match text_front(TextKind::Single, n, rest, offset + 1, Reason::Signature) {
-        Ok(()) => {}
-        Err(stop) => return Err(stop),
-    }
-    match nul_front(rest_after(rest, n), offset + 1 + n) {
-        Ok(()) => Ok(n),
-        Err(stop) => Err(stop),
-    }
+    signature_front(TextKind::Single, bytes, offset, end)
 }

@@ -1,4 +1,4 @@
-use Rattle.std.proofs.Common.{ℕ, ◌+◌, sym, ◌∙◌}
+use Rattle.std.proofs.Common.{◌+◌, drop, refl, sym, ◌∙◌}
 use Rattle.dbus_value_model.specs.declared.fault.Reason.TheVariants as reasons
 use Rattle.dbus_value_model.specs.declared.stop.Stop.TheVariants as stops
 use Rattle.dbus_value_model.specs.Items.{fault}
@@ -11,21 +11,21 @@ pub returns-in-Err-clause-gives : goal.returns-in-Err-clause-gives
 returns-in-Err-clause-gives c = λ order codes sees. padding_stops c.args.limits order c.args.end codes c.args.offset c.args.bytes.now c.in-Err.stop c.in-Err.ensures.gives
 
 pub returns-then-limits-lt2-clause-gives : goal.returns-then-limits-lt2-clause-gives
-returns-then-limits-lt2-clause-gives c = λ order codes sees. rw c.refuse.ensures (struct_too_deep c.args.limits order c.args.end codes c.args.offset c.args.bytes.now c.in-Ok.zeros c.in-Ok.ensures.gives c.if-limits-lt2.true)
+returns-then-limits-lt2-clause-gives c = λ order codes sees. rw c.refuse.ensures (struct_too_deep c.args.limits order c.args.end codes c.args.offset c.args.bytes.now c.in-Ok.zeros c.in-Ok.ensures.gives (drop c.in-Ok.zeros c.args.bytes.now) refl c.if-limits-lt2.true)
 
 pub returns-in-Err-byte-clause-gives : goal.returns-in-Err-byte-clause-gives
 returns-in-Err-byte-clause-gives c = λ order codes sees.
     let n = c.in-Ok.zeros in
     let e = c.in-Err-byte.stop in
-    code_stops c.args.limits order c.args.end codes c.args.offset c.args.bytes.now n c.in-Ok.ensures.gives c.if-limits-lt2.false c.rest_after.result.now c.rest_after.ensures e
-    ((lacks_number (λ (n : ℕ). (n, 1)) order 1 c.args.end (seen_row codes) (c.args.offset + n) c.rest_after.result.now e c.in-Err-byte.ensures))
+    code_stops c.args.limits order c.args.end codes c.args.offset c.args.bytes.now n c.in-Ok.ensures.gives c.rest_after.result.now c.rest_after.ensures c.if-limits-lt2.false e
+    ((lacks_number order 1 c.args.end (seen_row codes) (c.args.offset + n) c.rest_after.result.now e c.in-Err-byte.ensures))
 
 pub returns-then-code-eq0-clause-gives : goal.returns-then-code-eq0-clause-gives
 returns-then-code-eq0-clause-gives c = λ order codes sees.
     let n = c.in-Ok.zeros in
     let h = c.in-Ok-byte.ensures in
     let e = stops.Refused (fault (c.args.offset + n) reasons.FieldCode) in
-    rw c.refuse-then-code-eq0.ensures (code_stops c.args.limits order c.args.end codes c.args.offset c.args.bytes.now n c.in-Ok.ensures.gives c.if-limits-lt2.false c.rest_after.result.now c.rest_after.ensures e
+    rw c.refuse-then-code-eq0.ensures (code_stops c.args.limits order c.args.end codes c.args.offset c.args.bytes.now n c.in-Ok.ensures.gives c.rest_after.result.now c.rest_after.ensures c.if-limits-lt2.false e
     ((number_refused order 1 c.args.end (seen_row codes) (c.args.offset + n) c.rest_after.result.now c.in-Ok-byte.code h.0 h.1 (h.2 order) reasons.FieldCode (no_code codes (c.args.offset + n + 1) c.in-Ok-byte.code c.if-code-eq0.true))))
 
 pub returns-then-is_again-clause-gives : goal.returns-then-is_again-clause-gives
@@ -34,7 +34,7 @@ returns-then-is_again-clause-gives c = λ order codes sees.
     let h = c.in-Ok-byte.ensures in
     let e = stops.Refused (fault (c.args.offset + n) reasons.FieldTwice) in
     let again = sym (c.is_again.ensures codes sees) ∙ c.if-is_again.true in
-    rw c.refuse-then-is_again.ensures (code_stops c.args.limits order c.args.end codes c.args.offset c.args.bytes.now n c.in-Ok.ensures.gives c.if-limits-lt2.false c.rest_after.result.now c.rest_after.ensures e
+    rw c.refuse-then-is_again.ensures (code_stops c.args.limits order c.args.end codes c.args.offset c.args.bytes.now n c.in-Ok.ensures.gives c.rest_after.result.now c.rest_after.ensures c.if-limits-lt2.false e
     ((number_refused order 1 c.args.end (seen_row codes) (c.args.offset + n) c.rest_after.result.now c.in-Ok-byte.code h.0 h.1 (h.2 order) reasons.FieldTwice (code_again codes (c.args.offset + n + 1) c.in-Ok-byte.code c.if-code-eq0.false again))))
 
 pub returns-then-limits-lt3-clause-gives : goal.returns-then-limits-lt3-clause-gives
@@ -43,7 +43,7 @@ returns-then-limits-lt3-clause-gives c = λ order codes sees.
     let h = c.in-Ok-byte.ensures in
     let code = c.in-Ok-byte.code in
     let again = sym (c.is_again.ensures codes sees) ∙ c.if-is_again.false in
-    rw c.refuse-then-limits-lt3.ensures (variant_too_deep c.args.limits order c.args.end codes c.args.offset c.args.bytes.now n c.in-Ok.ensures.gives c.if-limits-lt2.false c.rest_after.result.now c.rest_after.ensures code
+    rw c.refuse-then-limits-lt3.ensures (variant_too_deep c.args.limits order c.args.end codes c.args.offset c.args.bytes.now n c.in-Ok.ensures.gives c.rest_after.result.now c.rest_after.ensures c.if-limits-lt2.false code
     ((h.0, number_taken order 1 c.args.end (seen_row codes) (c.args.offset + n) c.rest_after.result.now c.in-Ok-byte.code h.0 h.1 (h.2 order) (code_new codes (c.args.offset + n + 1) c.in-Ok-byte.code c.if-code-eq0.false again))) c.if-limits-lt3.true)
 
 pub returns-clause-gives : goal.returns-clause-gives
@@ -52,7 +52,7 @@ returns-clause-gives c = λ order codes sees.
     let h = c.in-Ok-byte.ensures in
     let code = c.in-Ok-byte.code in
     let again = sym (c.is_again.ensures codes sees) ∙ c.if-is_again.false in
-    code_there c.args.limits order c.args.end codes c.args.offset c.args.bytes.now n c.in-Ok.ensures.gives c.if-limits-lt2.false c.rest_after.result.now c.rest_after.ensures code
+    code_there c.args.limits order c.args.end codes c.args.offset c.args.bytes.now n c.in-Ok.ensures.gives c.rest_after.result.now c.rest_after.ensures c.if-limits-lt2.false code
     ((h.0, number_taken order 1 c.args.end (seen_row codes) (c.args.offset + n) c.rest_after.result.now c.in-Ok-byte.code h.0 h.1 (h.2 order) (code_new codes (c.args.offset + n + 1) c.in-Ok-byte.code c.if-code-eq0.false again))) c.if-limits-lt3.false
 
 pub returns-clause-once : goal.returns-clause-once

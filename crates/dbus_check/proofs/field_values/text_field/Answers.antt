@@ -5,24 +5,24 @@ use Rattle.dbus_texts.specs.Kinds.{IsKind}
 use Rattle.dbus_texts.specs.declared.text_kind.TextKind.TheVariants as kinds
 use Rattle.dbus_value_model.specs.WantedTexts.{Of}
 use Rattle.dbus_message_model.specs.Messages.{OfType, text_in}
-use Rattle.dbus_check.specs.Fields.{short_text}
-use Rattle.dbus_check.proofs.ValueSteps.{signature_stops, value_stops, value_there, text_is}
+use Rattle.dbus_value_checker.specs.Suspended.{short_text}
+use Rattle.dbus_check.proofs.FieldLaws.{signature_stops, value_stops, value_there, text_is}
 use Rattle.dbus_check.proofs.field_values.text_field.Goals as goal
 
 pub returns-in-Err-clause-gives : goal.returns-in-Err-clause-gives
 returns-in-Err-clause-gives c = λ limits order.
     let a = c.args in
-    signature_stops limits order a.end (OfType (TextType SIGNATURE)) text_in 103 refl (short_text order a.end (Of kinds.Signature)) a.offset a.bytes.now (λ (n : ℕ). (take n (drop 4 a.bytes.now), n + 5)) c.in-Err.stop (c.in-Err.ensures.gives order)
+    signature_stops limits order a.end (OfType (TextType SIGNATURE)) text_in 103 refl (short_text order a.end (Of kinds.Signature)) a.offset a.bytes.now c.in-Err.stop (c.in-Err.ensures.gives order)
 
 pub returns-in-Ok-signature_front-clause-gives : goal.returns-in-Ok-signature_front-clause-gives
 returns-in-Ok-signature_front-clause-gives c = λ limits order.
     let a = c.args in let n = c.in-Ok-signature_front.n in
-    value_there limits order a.end (OfType (TextType SIGNATURE)) text_in 103 refl (short_text order a.end (Of kinds.Signature)) a.offset a.bytes.now (λ (n : ℕ). (take n (drop 4 a.bytes.now), n + 5)) (c.in-Ok.ensures.gives order) (λ (t : List ℕ) (n : ℕ). (take n (drop 1 t), n + 2)) c.rest_after.result.now c.rest_after.ensures (λ t. text_is limits order a.end (a.offset + 3) t c.in-Ok.ensures.moves.1) n (c.in-Ok-signature_front.ensures.gives order) n (ap (take n) (sym (drop-drop 1 3 a.bytes.now))) (omega arith)
+    value_there limits order a.end (OfType (TextType SIGNATURE)) text_in 103 refl (short_text order a.end (Of kinds.Signature)) a.offset a.bytes.now (c.in-Ok.ensures.gives order) c.rest_after.result.now c.rest_after.ensures (λ t. text_is limits order a.end (a.offset + 3) t c.in-Ok.ensures.moves.1) (λ (n : ℕ). (take n (drop 1 c.rest_after.result.now), n + 2)) (λ (n : ℕ). (take n (drop 4 a.bytes.now), n + 5)) n (c.in-Ok-signature_front.ensures.gives order) n (ap (take n) (sym (ap (drop 1) c.rest_after.ensures ∙ drop-drop 1 3 a.bytes.now))) (omega arith)
 
 pub returns-in-Err-signature_front-clause-gives : goal.returns-in-Err-signature_front-clause-gives
 returns-in-Err-signature_front-clause-gives c = λ limits order.
     let a = c.args in
-    value_stops limits order a.end (OfType (TextType SIGNATURE)) text_in 103 refl (short_text order a.end (Of kinds.Signature)) a.offset a.bytes.now (λ (n : ℕ). (take n (drop 4 a.bytes.now), n + 5)) (c.in-Ok.ensures.gives order) (λ (t : List ℕ) (n : ℕ). (take n (drop 1 t), n + 2)) c.rest_after.result.now c.rest_after.ensures (λ t. text_is limits order a.end (a.offset + 3) t c.in-Ok.ensures.moves.1) c.in-Err-signature_front.stop (c.in-Err-signature_front.ensures.gives order)
+    value_stops limits order a.end (OfType (TextType SIGNATURE)) text_in 103 refl (short_text order a.end (Of kinds.Signature)) a.offset a.bytes.now (c.in-Ok.ensures.gives order) c.rest_after.result.now c.rest_after.ensures (λ t. text_is limits order a.end (a.offset + 3) t c.in-Ok.ensures.moves.1) c.in-Err-signature_front.stop (c.in-Err-signature_front.ensures.gives order)
 
 pub returns-in-Err-signature_front-clause-short : goal.returns-in-Err-signature_front-clause-short
 returns-in-Err-signature_front-clause-short c = λ e. omega (arith, c.in-Err-signature_front.ensures.short e, ap length c.rest_after.ensures, length-drop 3 c.args.bytes.now, c.in-Ok.ensures.moves.0)

@@ -1,6 +1,7 @@
 use Rattle.std.proofs.Common.{take, drop, ◌+◌, ℕ, refl, ap, ◌∙◌, arith}
 use Rattle.dbus_message_model.specs.Messages.{Anything}
-use Rattle.dbus_check.proofs.HeldValues.{any_plain, any_held, held_stops}
+use Rattle.dbus_check.proofs.PassedFields.{plain_code}
+use Rattle.dbus_check.proofs.HeldValues.{any_held, held_stops}
 use Rattle.dbus_check.proofs.progress.Progress.anything.Goals as goal
 
 pub hold-requires-clause-valid : goal.hold-requires-clause-valid
@@ -18,4 +19,4 @@ returns-in-Ok-clause-moves c = λ to w.
 pub returns-in-Err-clause-moves : goal.returns-in-Err-clause-moves
 returns-in-Err-clause-moves c = λ to w.
     let a = c.args in let x = a.self.now in
-    held_stops x a.code a.n to w Anything c.requires.wanted (any_plain a.code c.requires.wanted) a.bytes.now (λ t. refl) (λ (n : ℕ). (take n (drop 1 a.bytes.now), n + 2)) c.in-Err.stop (c.in-Err.ensures.gives x.order)
+    held_stops x a.code a.n to w Anything c.requires.wanted (plain_code Anything a.code c.requires.wanted (λ e. cc) (λ e. cc)) a.bytes.now (λ t. refl) (λ (n : ℕ). (take n (drop 1 a.bytes.now), n + 2)) c.in-Err.stop (c.in-Err.ensures.gives x.order)

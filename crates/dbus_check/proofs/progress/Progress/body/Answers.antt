@@ -5,7 +5,7 @@ use Rattle.dbus_check.proofs.ValueStages.{body_on, body_still, body_left, body_e
 use Rattle.dbus_check.proofs.progress.Progress.body.Goals as goal
 
 pub run-requires : goal.run-requires
-run-requires c = let v = c.requires.valid.1 in record { valid = (_, v.under.value done) }
+run-requires c = let v = c.requires.valid.1 in record { valid = (_, v.flows.value done) }
 
 pub returns-then-n-eq0-clause-steps : goal.returns-then-n-eq0-clause-steps
 returns-then-n-eq0-clause-steps c = λ to w. body_still c.args.self.now to w c.run.new.self c.args.bytes.now c.in-Ok.n (bytes_from _ (λ i. omega (arith, c.type_inv.bytes i))) c.in-Ok.ensures.runs c.requires.stage c.if-n-eq0.true (c.if-is_live.ensures.0 refl)

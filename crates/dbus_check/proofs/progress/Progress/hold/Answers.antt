@@ -26,17 +26,18 @@ returns c = λ to t w is single.
       kept = kept;
       turns = w.turns;
       keeps = keeps_plain x _ w.kept c.args.code w.keeps (c.note.ensures w.kept.codes w.keeps.sees) refl refl;
-      turns_is = w.turns_is;
-      near = w.near;
-      types = MoreTypes t NoTypes;
-      given = [];
-      under = record {
+      flows = record {
+        types = MoreTypes t NoTypes;
+        start = x.offset + c.args.n;
+        given = [];
         complete = held.1;
         bytes = tt;
         low = w.low;
-        value = λ last.
-            subst (λ (b : Bounds). values.Denotes c.begin.new.self (values_on b x.order room x.end (MoreTypes t NoTypes) last (x.offset + c.args.n))) c.bounds.ensures
-            (c.begin.ensures (MoreTypes t NoTypes) last held.0 held.1);
+        value = λ next.
+            subst (λ (b : Bounds). values.Denotes c.begin.new.self (values_on b x.order room x.end (MoreTypes t NoTypes) next (x.offset + c.args.n))) c.bounds.ensures
+            (c.begin.ensures (MoreTypes t NoTypes) next held.0 held.1);
+        same = λ u. parts_more (bounds_of x.limits) x.order room x.end t NoTypes last (x.offset + c.args.n) u ∙ w.same u;
       };
-      same = λ u. parts_more (bounds_of x.limits) x.order room x.end t NoTypes last (x.offset + c.args.n) u ∙ w.same u;
+      turns_is = w.turns_is;
+      near = w.near;
     }

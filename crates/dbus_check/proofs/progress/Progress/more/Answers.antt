@@ -5,7 +5,7 @@ use Rattle.dbus_check.proofs.ValueStages.{more_on, more_still, more_ended, more_
 use Rattle.dbus_check.proofs.progress.Progress.more.Goals as goal
 
 pub run-requires : goal.run-requires
-run-requires c = let v = c.requires.valid.1 in record { valid = (_, v.under.value done) }
+run-requires c = let v = c.requires.valid.1 in record { valid = (_, v.flows.value done) }
 
 pub returns-then-not-is_live-clause-steps : goal.returns-then-not-is_live-clause-steps
 returns-then-not-is_live-clause-steps c = λ to w. more_ended c.args.self.now to w c.run.new.self c.args.bytes.now c.in-Ok.n (bytes_from _ (λ i. omega (arith, c.type_inv.bytes i))) c.in-Ok.ensures.runs (λ h. let e = c.if-not-is_live.ensures.1 h in absurd cc) c.offset-self.result c.offset-self.ensures

@@ -1,8 +1,7 @@
-use Rattle.std.proofs.Common.{◌+◌, [], sym, ap, ◌∙◌, refl}
+use Rattle.std.proofs.Common.{◌+◌, sym, ap, ◌∙◌, refl}
 use Rattle.dbus_value_model.specs.FdIndexes.{index_limit}
 use Rattle.dbus_value_model.specs.Specification.{bounds_with}
-use Rattle.dbus_texts.specs.ComputedKinds.{types_spelled}
-use Rattle.dbus_check.proofs.Stages.{padding_taken, signature_types, body_begins, body_under}
+use Rattle.dbus_check.proofs.Stages.{padding_taken, signature_types, body_flows}
 use Rattle.dbus_check.proofs.progress.Progress.padding.Goals as goal
 
 pub begin-requires-clause-types : goal.begin-requires-clause-types
@@ -21,10 +20,7 @@ returns-in-Ok-clause-moves c = λ to w.
       c.in-Ok.ensures.moves.2,
       record {
         bounds = c.bounds_with.result;
-        types = types_spelled w.kept.text;
-        start = o;
-        given = [];
-        under = body_under x.limits x.order x.body w.kept c.bounds_with.result (o + x.body) o bounds_is refl c.begin.new.self c.as_slice.result.now (c.as_slice.ensures.value ∙ w.keeps.text) w.keeps.signature c.begin.ensures;
-        same = λ t. body_begins x.limits x.order x.body w.kept c.bounds_with.result (o + x.body) o bounds_is refl t ∙ sym (padding_taken x.limits x.order x.kind x.body w.kept x.offset s n c.in-Ok.ensures.gives t) ∙ w.same (_);
+        flows = body_flows x.limits x.order x.body w.kept c.bounds_with.result (o + x.body) o bounds_is refl c.begin.new.self c.as_slice.result.now _ (c.as_slice.ensures.value ∙ w.keeps.text) w.keeps.signature c.begin.ensures
+            (λ t. sym (padding_taken x.limits x.order x.kind x.body w.kept x.offset s n c.in-Ok.ensures.gives t) ∙ w.same (_));
       },
     )

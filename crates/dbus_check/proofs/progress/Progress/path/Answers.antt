@@ -1,7 +1,8 @@
 use Rattle.std.proofs.Common.{[], ◌∷◌, refl, arith}
 use Rattle.dbus_texts.specs.Types.{OBJECT_PATH, TextType}
 use Rattle.dbus_message_model.specs.Messages.{OfType}
-use Rattle.dbus_check.proofs.HeldValues.{path_plain, path_held, held_stops}
+use Rattle.dbus_check.proofs.PassedFields.{plain_code}
+use Rattle.dbus_check.proofs.HeldValues.{path_held, held_stops}
 use Rattle.dbus_check.proofs.progress.Progress.path.Goals as goal
 
 pub hold-requires-clause-valid : goal.hold-requires-clause-valid
@@ -17,4 +18,4 @@ returns-in-Ok-clause-moves c = λ to w.
 pub returns-in-Err-clause-moves : goal.returns-in-Err-clause-moves
 returns-in-Err-clause-moves c = λ to w.
     let a = c.args in let x = a.self.now in
-    held_stops x a.code a.n to w (OfType (TextType OBJECT_PATH)) c.requires.wanted (path_plain a.code c.requires.wanted) a.bytes.now (λ t. refl) (λ (u : Unit {0}). (111 ∷ [], 3)) c.in-Err.stop (c.in-Err.ensures.gives x.order)
+    held_stops x a.code a.n to w (OfType (TextType OBJECT_PATH)) c.requires.wanted (plain_code (OfType (TextType OBJECT_PATH)) a.code c.requires.wanted (λ e. cc) (λ e. cc)) a.bytes.now (λ t. refl) (λ (u : Unit {0}). (111 ∷ [], 3)) c.in-Err.stop (c.in-Err.ensures.gives x.order)

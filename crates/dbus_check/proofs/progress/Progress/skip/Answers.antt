@@ -10,7 +10,7 @@ use Rattle.dbus_check.proofs.progress.Progress.skip.Goals as goal
 pub skip-requires : goal.skip-requires
 skip-requires c =
     let v = c.requires.valid in
-    record { valid = (_, (subst (λ (st : Stage). denotes st c.args.self.now v.0) c.in-Value.is v.1).under.value done) }
+    record { valid = (_, (subst (λ (st : Stage). denotes st c.args.self.now v.0) c.in-Value.is v.1).flows.value done) }
 
 pub returns-in-Value-clause-runs : goal.returns-in-Value-clause-runs
 returns-in-Value-clause-runs c = λ yes to d.
@@ -31,4 +31,4 @@ returns-in-Body-clause-runs c = λ yes to d.
 pub skip-requires-in-Body : goal.skip-requires-in-Body
 skip-requires-in-Body c =
     let v = c.requires.valid in
-    record { valid = (_, (subst (λ (st : Stage). denotes st c.args.self.now v.0) c.in-Body.is v.1).under.value done) }
+    record { valid = (_, (subst (λ (st : Stage). denotes st c.args.self.now v.0) c.in-Body.is v.1).flows.value done) }

@@ -12,8 +12,8 @@ loop-self-preserved c =
     let over : IsOver x = elim c.if-self.branch [ then-self+else-self-2 w ↦ inl (w.if-self.true, w.if-self-2.false) | else-self+else-self-3 w ↦ inr (w.if-self.false, w.if-self-3.false) ] in
     let s = c.loop-self.invariant.some in
     record {
-      some = (s.0, next_popped x _ c.in-Some.frame s.0 s.1 over (record { bounds = refl; order = refl; end = refl; offset = refl; text = refl; lengths = refl; inner = refl; frames = c.in-Some.ensures.items }));
-      goes = λ answer g. next_popped x _ c.in-Some.frame answer (c.loop-self.invariant.goes answer g) over (record { bounds = refl; order = refl; end = refl; offset = refl; text = refl; lengths = refl; inner = refl; frames = c.in-Some.ensures.items });
+      some = (s.0, next_popped x _ s.0 s.1 over (record { bounds = refl; order = refl; end = refl; offset = refl; text = refl; lengths = refl; inner = refl; frames = c.in-Some.ensures.items }));
+      goes = λ answer g. next_popped x _ answer (c.loop-self.invariant.goes answer g) over (record { bounds = refl; order = refl; end = refl; offset = refl; text = refl; lengths = refl; inner = refl; frames = c.in-Some.ensures.items });
     }
 
 pub returns-then-self-2 : goal.returns-then-self-2
