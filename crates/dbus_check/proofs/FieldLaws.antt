@@ -1,5 +1,5 @@
 -- A field, by what its code asks of its value.
-use Rattle.std.proofs.Common.{◌≡◌, ℕ, zero, suc, ◌-◌, List, ◌∙◌, ◌+◌, ◌≤◌, [], ◌∷◌, drop, Bool, true, false, Ok, Err, refl, sym, ap, Result, subst}
+use Rattle.std.proofs.Common.{◌≡◌, ℕ, zero, suc, ◌-◌, List, ◌∙◌, ◌+◌, ◌≤◌, [], ◌∷◌, drop, Bool, true, false, Ok, refl, sym, ap}
 use Rattle.dbus_texts.specs.Types.{UINT32, STRING, SIGNATURE, TypeTree, NumberType, TextType}
 use Rattle.dbus_texts.specs.ComputedKinds.{type_spelled}
 use Rattle.dbus_texts.specs.declared.text_kind.TextKind.TheVariants as kinds

@@ -1,5 +1,5 @@
 -- The parts of a header's field, front by front.
-use Rattle.std.proofs.Common.{◌≡◌, ℕ, zero, suc, ◌+◌, ◌-◌, ◌<◌, ◌≤◌, List, ◌++◌, take, drop, Bool, true, false, ◌&&◌, cond, eqb, Option, Some, None, Ok, Err, refl, sym, ap, ◌∙◌, arith, Result, subst}
+use Rattle.std.proofs.Common.{◌≡◌, ℕ, zero, suc, ◌+◌, ◌-◌, ◌<◌, ◌≤◌, List, ◌++◌, take, drop, Bool, true, false, ◌&&◌, cond, eqb, Option, Some, None, Ok, refl, sym, ap, ◌∙◌, arith}
 use Rattle.std.proofs.lemmas.Bool.{lt-ltb, le-ltb, eq-eqb, ne_eqb}
 use Rattle.dbus_value_model.specs.declared.limits.Limits.{Limits}
 use Rattle.dbus_value_model.specs.declared.order.Order.{Order}
@@ -8,8 +8,7 @@ use Rattle.dbus_value_model.specs.declared.fault.Reason.TheVariants as reasons
 use Rattle.dbus_value_model.specs.declared.stop.Stop.{Stop}
 use Rattle.dbus_value_model.specs.declared.stop.Stop.TheVariants as stops
 use Rattle.dbus_value_model.specs.Items.{fault}
-use Rattle.dbus_value_model.specs.Reading.{Reader, Faulty, after, pure, padding, number, text, nul}
-use Rattle.dbus_value_model.specs.ValueItems.{text_row}
+use Rattle.dbus_value_model.specs.Reading.{Reader, Faulty, after, pure, padding, number}
 use Rattle.dbus_value_model.specs.WantedTexts.{WantedText}
 use Rattle.dbus_message_model.specs.Messages.{is_known}
 use Rattle.dbus_header.specs.MessageItems.{name_row}

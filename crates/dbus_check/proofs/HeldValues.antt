@@ -1,6 +1,6 @@
 -- Fields whose values are under way once their signatures are read.
 use Rattle.std.proofs.Common.{◌≡◌, ℕ, ◌+◌, ◌-◌, ◌≤◌, List, [], ◌∷◌, ◌++◌, take, drop, Ok, Err, refl, sym, ap, subst, ◌∙◌, arith}
-use Rattle.dbus_texts.specs.Types.{TypeTree, OBJECT_PATH, SIGNATURE, UINT32, NumberType, TextType, IsSingleType, sig}
+use Rattle.dbus_texts.specs.Types.{TypeTree, OBJECT_PATH, TextType, IsSingleType, sig}
 use Rattle.dbus_texts.specs.declared.text_kind.TextKind.TheVariants as kinds
 use Rattle.dbus_texts.specs.Kinds.{IsKind}
 use Rattle.dbus_value_model.specs.WantedTexts.{Of, Only}

@@ -8,7 +8,7 @@ use Rattle.dbus_value_model.specs.declared.fault.Reason.{Reason}
 use Rattle.dbus_value_model.specs.declared.fault.Reason.TheVariants as reasons
 use Rattle.dbus_value_model.specs.ValueItems.{number_row}
 use Rattle.dbus_value_model.specs.WantedTexts.{WantedText}
-use Rattle.dbus_value_model.specs.Reading.{Reader, after, ◌>>=◌, ◌>>◌, pure, padding, number, text, nul}
+use Rattle.dbus_value_model.specs.Reading.{Reader, after, ◌>>=◌, ◌>>◌, pure, padding, number}
 use Rattle.dbus_value_checker.specs.Suspended.{counted_text}
 use Rattle.dbus_message_model.specs.Messages.{Want, OfType, Serial}
 use Rattle.dbus_header.specs.MessageItems.{name_row, not_zero_row}

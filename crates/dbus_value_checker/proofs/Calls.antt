@@ -55,11 +55,6 @@ wants_code x pos stop answer w =
     let b = w.stop_is in
     omega arith
 
--- a container's opening does not wait for bytes
-pub opens_at_once : (y : Values) (e : Stop) (answer : Answer) → Opens (Err e) y answer → e ≡ stops.Partial → ⊥
-opens_at_once y stops.Partial answer h is = h
-opens_at_once y (stops.Refused f) answer h is = absurd cc
-
 -- once nothing is wanted any more, the last is read from here on
 pub over_last : (x : Values) (answer : Answer) → Denotes x answer → (IsLive x.doing → ⊥) → (c : List ℕ) → answer.last (offset_of x) c ≡ answer.to c
 over_last x answer h over c = over_at x x.doing answer h over c

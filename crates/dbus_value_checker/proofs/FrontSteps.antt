@@ -12,7 +12,7 @@ use Rattle.dbus_value_model.specs.declared.fault.Fault.{Fault}
 use Rattle.dbus_value_model.specs.Bytes.{gap_to}
 use Rattle.dbus_value_model.specs.Items.{fault}
 use Rattle.dbus_value_model.specs.Reading.{Reader, Outcome, Done, Faulty, Partial, after, zeros, padding, number, number_of, validated}
-use Rattle.std.proofs.Common.{Ok, Err, Result}
+use Rattle.std.proofs.Common.{Ok, Err}
 use Rattle.dbus_value_checker.proofs.Chains.{split-at, first_err, then_err, then_ok, front_as, forgotten}
 use Rattle.dbus_texts.specs.Types.{NumberCode, BYTE, BOOLEAN, INT16, UINT16, INT32, UINT32, INT64, UINT64, DOUBLE, UNIX_FD, TextCode, STRING, OBJECT_PATH, SIGNATURE, number_code, text_code}
 use Rattle.dbus_types.specs.Alignments.{width, length_width, alignment_of}
@@ -25,11 +25,10 @@ use Rattle.dbus_value_model.specs.declared.stop.Stop.TheVariants as stops
 use Rattle.dbus_value_checker.specs.declared.values.Values.{Values}
 use Rattle.dbus_value_checker.specs.Moves.{Moves}
 use Rattle.dbus_value_checker.specs.Fronts.{Halts, Fronts, Lack}
-use Rattle.dbus_value_checker.specs.Suspended.{On, onward, done, held_text}
+use Rattle.dbus_value_checker.specs.Suspended.{On, onward, done}
 use Rattle.dbus_value_model.specs.Items.{text_reason}
-use Rattle.dbus_texts.specs.declared.text_kind.TextKind.TheVariants as kinds
-use Rattle.dbus_value_model.specs.Reading.{text, nul}
-use Rattle.dbus_value_model.specs.WantedTexts.{WantedText, Of, IsWanted, IsBreakOf}
+use Rattle.dbus_value_model.specs.Reading.{text}
+use Rattle.dbus_value_model.specs.WantedTexts.{WantedText, IsWanted, IsBreakOf}
 use Rattle.dbus_value_model.specs.ComputedTexts.{break_at}
 use Rattle.dbus_value_laws.proofs.KindLaws.{break_le, break_is, one_break, break_whole, is_wanted, is_not_wanted}
 use Rattle.dbus_value_checker.proofs.Suspension.{number_waits, number_over, number_read, text_waits, text_breaks, text_ends, text_not}

@@ -2,19 +2,20 @@
 use Rattle.std.proofs.Common.{◌≡◌, ℕ, zero, suc, ◌+◌, ◌-◌, ◌*◌, ◌/◌, ◌%◌, ◌<◌, ◌≤◌, List, [], ◌∷◌, ◌++◌, length, take, drop, Option, None, refl, sym, ap, ◌∙◌, arith, inl, inr}
 use Rattle.std.proofs.lemmas.Bool.{cases_lt}
 use Rattle.std.proofs.Math.Nat.{suc-mul, zero-mul}
-use Rattle.std.proofs.lemmas.List.{append-nil, length-take, length-drop}
+use Rattle.std.proofs.lemmas.List.{append-nil, length-drop}
 use Rattle.dbus_texts.specs.Types.{NumberCode, BYTE, BOOLEAN, INT16, UINT16, INT32, UINT32, INT64, UINT64, DOUBLE, UNIX_FD, TypeTree, NumberType}
 use Rattle.dbus_types.specs.Alignments.{width}
 use Rattle.dbus_value_model.specs.declared.limits.Bounds.{Bounds}
 use Rattle.dbus_value_model.specs.declared.order.Order.{Order}
 use Rattle.dbus_value_model.specs.Bytes.{gap_to}
 use Rattle.dbus_value_model.specs.ValueItems.{number_row}
-use Rattle.dbus_value_model.specs.Reading.{Partial, after, zeros, number_of}
+use Rattle.dbus_value_model.specs.Reading.{Outcome, Partial, after, zeros, number_of}
 use Rattle.dbus_types.specs.SignatureCodes.{first_code, free_width_of}
 use Rattle.dbus_value_model.proofs.FreeNumbers.{free_is}
 use Rattle.dbus_value_checker.specs.Suspended.{On, Elements, work, ANumber, AHead, own}
 use Rattle.dbus_value_checker.proofs.Chains.{split-at}
-use Rattle.dbus_value_checker.proofs.Suspension.{elements_more, value_begins, padding_zeros, head_passed, head_waits}
+use Rattle.dbus_value_checker.proofs.Suspension.{elements_more, value_begins, padding_zeros, number_waits}
+use Rattle.dbus_value_checker.proofs.FrontSteps.{number_taken}
 
 -- ---- widths
 
@@ -79,10 +80,10 @@ module _ (bounds : Bounds) (order : Order) (k : NumberCode) (plain : (index_limi
   -- a number is there
   passed : (turns o : ℕ) (bs c : List ℕ) → width k ≤ length bs → o + width k ≤ end → gap_to (width k) o ≡ 0 → array (suc turns) o (bs ++ c) ≡ array turns (o + width k) (drop (width k) bs ++ c)
   passed turns o bs c long le aligned =
-      let one : length (take (width k) bs) ≡ width k = omega (arith, length-take (width k) bs) in
+      let n = number_of order (take (width k) bs) in
       ap (array (suc turns) o) (split-at (width k) bs c)
       ∙ begins turns o (take (width k) bs ++ (drop (width k) bs ++ c)) aligned le
-      ∙ head_passed bounds order end (ANumber k) (array turns) o (take (width k) bs) (drop (width k) bs ++ c) one le (plain bounds.fds (o + width k) (number_of order (take (width k) bs)))
+      ∙ ap (λ (r : Outcome ℕ). after r (λ _. array turns)) (number_taken order (width k) end (number_row bounds.fds k) o bs n long le refl (plain bounds.fds (o + width k) n) (drop (width k) bs ++ c))
 
   -- fewer bytes are there than m numbers have
   pub numbers_lack : (m turns o : ℕ) (bs : List ℕ) → length bs < m * width k → o + m * width k ≤ end → gap_to (width k) o ≡ 0 → array (m + turns) o bs ≡ Partial
@@ -92,7 +93,7 @@ module _ (bounds : Bounds) (order : Order) (k : NumberCode) (plain : (index_limi
       let more = suc-mul m w in
       let n : suc m + turns ≡ suc (m + turns) = omega arith in
       ap (λ (t : ℕ). array t o bs) n ∙ elim (cases_lt (length bs) w) [
-        | inl few ↦ begins (m + turns) o bs aligned (omega arith) ∙ head_waits bounds order end (ANumber k) (array (m + turns)) o bs few (omega arith)
+        | inl few ↦ begins (m + turns) o bs aligned (omega arith) ∙ ap (λ (r : Outcome ℕ). after r (λ _. array (m + turns))) (number_waits order (width k) end (number_row bounds.fds k) o bs few (omega arith))
         | inr long ↦
             ap (array (suc (m + turns)) o) (sym (append-nil bs)) ∙ passed (m + turns) o bs [] long (omega arith) aligned ∙ ap (array (m + turns) (o + w)) (append-nil (drop w bs))
             ∙ numbers_lack m turns (o + w) (drop w bs) (omega (arith, length-drop w bs)) (omega arith) (aligned_more k o aligned)

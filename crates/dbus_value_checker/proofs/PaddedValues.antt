@@ -2,7 +2,7 @@
 use Rattle.std.proofs.Common.{◌≡◌, ℕ, suc, ◌+◌, ◌-◌, ◌*◌, ◌<◌, ◌≤◌, List, [], ◌∷◌, ◌++◌, length, reverse, take, drop, get_or, true, false, Ok, Err, refl, sym, ap, subst, ◌∙◌, arith, inl, inr}
 use Rattle.std.specs.Prelude.{◌⊎◌}
 use Rattle.std.proofs.lemmas.List.{length-drop}
-use Rattle.dbus_texts.specs.Types.{NumberCode, TextCode, TypeTree, NumberType, TextType, VariantType, ArrayType, StructType, EntryType, TypeTrees, NoTypes, MoreTypes, number_code, text_code, sig, sigs, AreShaped}
+use Rattle.dbus_texts.specs.Types.{NumberCode, TextCode, TypeTree, NumberType, TextType, VariantType, ArrayType, StructType, EntryType, TypeTrees, NoTypes, MoreTypes, number_code, text_code, sig, sigs, IsShaped, AreShaped}
 use Rattle.dbus_types.specs.Alignments.{width, length_width, alignment_of}
 use Rattle.dbus_texts.specs.declared.scan.TextScan.{TextScan}
 use Rattle.dbus_texts.specs.Scans.{Stands}
@@ -36,7 +36,7 @@ use Rattle.dbus_value_checker.proofs.FrontSteps.{front_taken, front_stops}
 use Rattle.dbus_value_checker.proofs.Chains.{take-both}
 use Rattle.dbus_value_checker.proofs.Slices.{slice_head, slice_room, slice_after, slice_inner}
 use Rattle.dbus_value_checker.proofs.FrameLaws.{frames_at, frame_within, pushed_frames, inner_of}
-use Rattle.dbus_value_checker.proofs.TypeCodes.{array_of, struct_of, entry_of, text_of, number_type, array_complete, struct_complete, entry_complete, entry_text, parts_some, sigs_some}
+use Rattle.dbus_value_checker.proofs.TypeCodes.{array_of, struct_of, entry_of, text_of, number_type, array_complete, struct_complete, entry_complete, entry_text, sigs_some}
 use Rattle.dbus_value_checker.proofs.NextValues.{next_part_at}
 use Rattle.dbus_value_checker.proofs.Notes.{part_noted, pushed_notes}
 
@@ -69,15 +69,8 @@ module _ (x : Values) (pos stop : ℕ) (answer : Answer) (w : Wants x pos stop a
         let near = (frame_within (suc x.offset) x.offset (length x.text.items) x.end x.text.items x.inner (reverse x.frames.items) w.ws w.frames).2 in
         let there : stop ≤ length x.text.items = (let a = i.high in let b = w.stop_is in omega arith) in
         record {
-          ws = w.ws;
-          type = w.type;
-          frames = w.frames;
-          noted = w.noted;
-          text = w.text;
-          type_noted = w.type_noted;
-          complete = w.complete;
-          pos_is = w.pos_is;
-          stop_is = w.stop_is;
+          before = answer;
+          wants = w;
           fits = fits;
           near = near;
           there = there;
@@ -90,30 +83,30 @@ module _ (x : Values) (pos stop : ℕ) (answer : Answer) (w : Wants x pos stop a
 -- ---- what stands after the padding
 
 module _ (x : Values) (pos stop n : ℕ) (answer : Answer) (r : Ready x pos stop n answer) (code : ℕ) (there : get_or x.text.items pos 0 ≡ code) where
-  pub ready_first : first_code r.type ≡ code
-  ready_first = sym (slice_head x.text.items pos stop (first_code r.type) (after_code r.type) r.pos_is (r.text ∙ begins r.type)) ∙ there
+  pub ready_first : first_code r.wants.type ≡ code
+  ready_first = sym (slice_head x.text.items pos stop (first_code r.wants.type) (after_code r.wants.type) r.wants.pos_is (r.wants.text ∙ begins r.wants.type)) ∙ there
 
   -- the same, where its type is known
-  ready_at : (t : TypeTree) (d : ℕ) → r.type ≡ t → x.inner.depth_left ≡ d → (c : List ℕ) → own x.bounds x.order x.inner.end (own_of t d) (works x.bounds x.order (rest_of answer x r.ws) (opened_by t d x.inner.end)) (x.offset + n) c ≡ answer.to c
+  ready_at : (t : TypeTree) (d : ℕ) → r.wants.type ≡ t → x.inner.depth_left ≡ d → (c : List ℕ) → own x.bounds x.order x.inner.end (own_of t d) (works x.bounds x.order (rest_of answer x r.wants.ws) (opened_by t d x.inner.end)) (x.offset + n) c ≡ answer.to c
   ready_at t d e f c =
-      subst (λ (u : TypeTree). own x.bounds x.order x.inner.end (own_of u d) (works x.bounds x.order (rest_of answer x r.ws) (opened_by u d x.inner.end)) (x.offset + n) c ≡ answer.to c) e
-      (subst (λ (k : ℕ). own x.bounds x.order x.inner.end (own_of r.type k) (works x.bounds x.order (rest_of answer x r.ws) (opened_by r.type k x.inner.end)) (x.offset + n) c ≡ answer.to c) f (r.same c))
+      subst (λ (u : TypeTree). own x.bounds x.order x.inner.end (own_of u d) (works x.bounds x.order (rest_of answer x r.wants.ws) (opened_by u d x.inner.end)) (x.offset + n) c ≡ answer.to c) e
+      (subst (λ (k : ℕ). own x.bounds x.order x.inner.end (own_of r.wants.type k) (works x.bounds x.order (rest_of answer x r.wants.ws) (opened_by r.wants.type k x.inner.end)) (x.offset + n) c ≡ answer.to c) f (r.same c))
 
   -- further by at least one byte
-  further : (q : ℕ) → x.offset < q → q ≤ x.inner.end → HasFrames q (record x { offset = q }) r.ws
-  further q lt le = frames_at x r.ws (suc x.offset) q q r.frames (omega arith) le
+  further : (q : ℕ) → x.offset < q → q ≤ x.inner.end → HasFrames q (record x { offset = q }) r.wants.ws
+  further q lt le = frames_at x r.wants.ws (suc x.offset) q q r.wants.frames (omega arith) le
 
   -- a number
   module _ (is : IsNumberCode code) where
-    ready_number : (k : NumberCode) × (r.type ≡ NumberType k)
-    ready_number = number_type r.type code ready_first is.array is.struct is.entry is.signature is.path is.string is.variant
+    ready_number : (k : NumberCode) × (r.wants.type ≡ NumberType k)
+    ready_number = number_type r.wants.type code ready_first is.array is.struct is.entry is.signature is.path is.string is.variant
 
     abbrev run : NumberCode → Reader (Unit {0})
     run k = onward (number x.order (width k) x.inner.end (number_row x.bounds.fds k)) done
 
-    number_same : (c : List ℕ) → after (run ready_number.0 (x.offset + n) c) (λ z. rest_of answer x r.ws) ≡ answer.to c
+    number_same : (c : List ℕ) → after (run ready_number.0 (x.offset + n) c) (λ z. rest_of answer x r.wants.ws) ≡ answer.to c
     number_same c =
-        after_after (number x.order (width ready_number.0) x.inner.end (number_row x.bounds.fds ready_number.0) (x.offset + n) c) (λ z. done) (λ z. rest_of answer x r.ws)
+        after_after (number x.order (width ready_number.0) x.inner.end (number_row x.bounds.fds ready_number.0) (x.offset + n) c) (λ z. done) (λ z. rest_of answer x r.wants.ws)
         ∙ ready_at (NumberType ready_number.0) x.inner.depth_left ready_number.1 refl c
 
     module _ (s : List ℕ) where
@@ -125,19 +118,19 @@ module _ (x : Values) (pos stop n : ℕ) (answer : Answer) (r : Ready x pos stop
 
       pub number_goes : (w : ℕ) → Gives (Ok w) → 0 < w → x.offset + n + w ≤ x.inner.end → Goes (record x { offset = x.offset + n + w }) (after_piece answer (take w s))
       number_goes w h some fits = record {
-        ws = r.ws;
+        ws = r.wants.ws;
         frames = further (x.offset + n + w) (omega arith) fits;
-        noted = r.noted;
-        same = front_taken (λ (m : ℕ). (tt, m)) (x.offset + n) s (run ready_number.0) (λ z. rest_of answer x r.ws) answer.to number_same w (given (Ok w) h);
+        noted = r.wants.noted;
+        same = front_taken (λ (m : ℕ). (tt, m)) (x.offset + n) s (run ready_number.0) (λ z. rest_of answer x r.wants.ws) answer.to number_same w (given (Ok w) h);
       }
 
       pub number_stops : (e : Stop) → Gives (Err e) → Moves x s (Err e) x answer
-      number_stops e h = front_stops (λ (m : ℕ). (tt, m)) (x.offset + n) s (run ready_number.0) (λ z. rest_of answer x r.ws) answer.to number_same x answer.last e (given (Err e) h)
+      number_stops e h = front_stops (λ (m : ℕ). (tt, m)) (x.offset + n) s (run ready_number.0) (λ z. rest_of answer x r.wants.ws) answer.to number_same x answer.last e (given (Err e) h)
 
   -- ---- a struct or an entry
 
-  arrived : HasFrames (suc (x.offset + n)) (record x { offset = x.offset + n }) r.ws
-  arrived = frames_at x r.ws (suc x.offset) (suc (x.offset + n)) (x.offset + n) r.frames (omega arith) r.fits
+  arrived : HasFrames (suc (x.offset + n)) (record x { offset = x.offset + n }) r.wants.ws
+  arrived = frames_at x r.wants.ws (suc x.offset) (suc (x.offset + n)) (x.offset + n) r.wants.frames (omega arith) r.fits
 
   module _ (inner : ℕ) where
     abbrev f : Frame
@@ -154,18 +147,19 @@ module _ (x : Values) (pos stop n : ℕ) (answer : Answer) (r : Ready x pos stop
       size : pos + 1 + length (sigs ts) ≡ stop - 1
       count : suc (length x.frames.items) + 2 * inner ≤ 128
       less : inner ≤ x.inner.depth_left
-      same : (c : List ℕ) → work x.bounds x.order (Parts inner x.inner.end ts) (rest_of answer x r.ws) (x.offset + n) c ≡ answer.to c
+      same : (c : List ℕ) → work x.bounds x.order (Parts inner x.inner.end ts) (rest_of answer x r.wants.ws) (x.offset + n) c ≡ answer.to c
 
     within_struct : code ≡ 40 → x.inner.depth_left ≡ suc inner → (ts : TypeTrees) × Within ts
     within_struct is depth_left =
-        let u = struct_of r.type (ready_first ∙ is) in
-        let i = inner_of x (suc x.offset) r.ws r.frames in
-        let inside = slice_inner x.text.items pos stop 40 41 (sigs u.0) r.pos_is r.there (r.text ∙ ap sig u.1) in (
+        let u = struct_of r.wants.type (ready_first ∙ is) in
+        let i = inner_of x (suc x.offset) r.wants.ws r.wants.frames in
+        let parts = struct_complete x.inner.array u.0 (subst (λ (t : TypeTree). IsShaped x.inner.array t) u.1 r.wants.complete) in
+        let inside = slice_inner x.text.items pos stop 40 41 (sigs u.0) r.wants.pos_is r.there (r.wants.text ∙ ap sig u.1) in (
           u.0,
           record {
             types = inside.0;
-            complete = struct_complete x.inner.array r.type u.0 u.1 r.complete;
-            some = parts_some x.inner.array r.type u.0 u.1 r.complete;
+            complete = parts.0;
+            some = parts.1;
             size = inside.1;
             count = (let a = i.count in omega arith);
             less = omega arith;
@@ -176,11 +170,11 @@ module _ (x : Values) (pos stop n : ℕ) (answer : Answer) (r : Ready x pos stop
     -- an entry takes no room
     within_entry : code ≡ 123 → x.inner.depth_left ≡ inner → (ts : TypeTrees) × Within ts
     within_entry is depth_left =
-        let u = entry_of r.type (ready_first ∙ is) in
+        let u = entry_of r.wants.type (ready_first ∙ is) in
         let ts : TypeTrees = MoreTypes u.0 (MoreTypes u.1.0 NoTypes) in
-        let i = inner_of x (suc x.offset) r.ws r.frames in
-        let inside = slice_inner x.text.items pos stop 123 125 (sigs ts) r.pos_is r.there (r.text ∙ ap sig u.1.1 ∙ entry_text u.0 u.1.0) in
-        let c = entry_complete x.inner.array r.type u.0 u.1.0 u.1.1 r.complete in
+        let i = inner_of x (suc x.offset) r.wants.ws r.wants.frames in
+        let inside = slice_inner x.text.items pos stop 123 125 (sigs ts) r.wants.pos_is r.there (r.wants.text ∙ ap sig u.1.1 ∙ entry_text u.0 u.1.0) in
+        let c = entry_complete x.inner.array u.0 u.1.0 (subst (λ (t : TypeTree). IsShaped x.inner.array t) u.1.1 r.wants.complete) in
         let one : extra x.inner.array ≡ 1 = ap extra c.0 in (
           ts,
           record {
@@ -204,46 +198,46 @@ module _ (x : Values) (pos stop n : ℕ) (answer : Answer) (r : Ready x pos stop
       pub bracket_opens : Enters x pos stop n inner answer
       bracket_opens y p q q_is =
           let b = (bracket_of h).1 in
-          let i = inner_of x (suc x.offset) r.ws r.frames in
+          let i = inner_of x (suc x.offset) r.wants.ws r.wants.frames in
           let w : Work = Parts inner x.inner.end (bracket_of h).0 in
           let framed : Framed (suc (x.offset + n)) (x.offset + n) (length x.text.items) (suc (length x.frames.items)) x.text.items f w = record {
             low_is = r.fits;
             high_is = i.high;
-            stop_is = (let a = r.stop_is in omega arith);
+            stop_is = (let a = r.wants.stop_is in omega arith);
             pos_is = (let s = b.some in let z = b.size in omega arith);
             count_is = (let k = b.count in omega arith);
             room_is = (let a = i.depth_left in let l = b.less in omega arith);
             is = record { parts = refl; room_is = refl; end_is = refl; types = b.types; complete = b.complete };
           } in
-          let frames = pushed_frames z y f (suc (x.offset + n)) w r.ws p arrived framed (omega arith) (omega arith) in
+          let frames = pushed_frames z y f (suc (x.offset + n)) w r.wants.ws p arrived framed (omega arith) (omega arith) in
           let at : y.offset ≡ x.offset + n = p.offset in
           let in_pos : y.inner.pos ≡ pos + 1 = ap (λ (g : Frame). g.pos) p.inner in
           let in_stop : y.inner.stop ≡ stop - 1 = ap (λ (g : Frame). g.stop) p.inner in
           let size_is : length y.text.items ≡ length x.text.items = ap length p.text in
-          next_part_at y answer (w ∷ r.ws) q q_is (subst (λ (k : ℕ). HasFrames (suc k) y (w ∷ r.ws)) (sym at) frames)
-          (pushed_notes z y f p r.noted (part_noted x.text.items x.lengths.items pos stop (pos + 1) (stop - 1) r.type_noted (omega arith) (omega arith)))
-          (λ c. subst (λ (k : ℕ). works y.bounds y.order answer.last (w ∷ r.ws) k c ≡ answer.to c) (sym at) (works_as y.bounds x.bounds y.order x.order p.bounds p.order answer.last (w ∷ r.ws) (x.offset + n) c (answer.to c) (b.same c)))
-          (ap (λ (g : Frame). g.array) p.inner) (let s = b.some in let z = b.size in omega arith) (let a = i.high in let b = r.stop_is in omega arith)
+          next_part_at y answer (w ∷ r.wants.ws) q q_is (subst (λ (k : ℕ). HasFrames (suc k) y (w ∷ r.wants.ws)) (sym at) frames)
+          (pushed_notes z y f p r.wants.noted (part_noted x.text.items x.lengths.items pos stop (pos + 1) (stop - 1) r.wants.type_noted (omega arith) (omega arith)))
+          (λ c. subst (λ (k : ℕ). works y.bounds y.order answer.last (w ∷ r.wants.ws) k c ≡ answer.to c) (sym at) (works_as y.bounds x.bounds y.order x.order p.bounds p.order answer.last (w ∷ r.wants.ws) (x.offset + n) c (answer.to c) (b.same c)))
+          (ap (λ (g : Frame). g.array) p.inner) (let s = b.some in let z = b.size in omega arith) (let a = i.high in let b = r.wants.stop_is in omega arith)
 
   -- no room is left
   pub deep_struct : code ≡ 40 → x.inner.depth_left ≡ 0 → (c : List ℕ) → answer.to c ≡ Faulty (fault (x.offset + n) reasons.TooDeep)
-  deep_struct is depth_left c = let u = struct_of r.type (ready_first ∙ is) in sym (ready_at (StructType u.0) 0 u.1 depth_left c)
+  deep_struct is depth_left c = let u = struct_of r.wants.type (ready_first ∙ is) in sym (ready_at (StructType u.0) 0 u.1 depth_left c)
 
   -- ---- an array
 
   module _ (is : code ≡ 97) where
-    ready_array : (u : TypeTree) × (r.type ≡ ArrayType u)
-    ready_array = array_of r.type (ready_first ∙ is)
+    ready_array : (u : TypeTree) × (r.wants.type ≡ ArrayType u)
+    ready_array = array_of r.wants.type (ready_first ∙ is)
 
     array_text : slice x.text.items pos stop ≡ 97 ∷ sig ready_array.0
-    array_text = r.text ∙ ap sig ready_array.1
+    array_text = r.wants.text ∙ ap sig ready_array.1
 
     element_text : slice x.text.items (pos + 1) stop ≡ sig ready_array.0
     element_text = slice_after x.text.items pos stop (97 ∷ []) (sig ready_array.0) array_text
 
     pub element_there : (pos + 1 < stop) × (pos + 1 < length x.text.items)
     element_there =
-        let depth_left = slice_room x.text.items pos stop (97 ∷ sig ready_array.0) r.pos_is array_text in
+        let depth_left = slice_room x.text.items pos stop (97 ∷ sig ready_array.0) r.wants.pos_is array_text in
         let some = ap length (begins ready_array.0) in
         let le = r.there in
         (omega arith, omega arith)
@@ -256,7 +250,7 @@ module _ (x : Values) (pos stop n : ℕ) (answer : Answer) (r : Ready x pos stop
       frame = array_frame x.bounds x.order x.inner.end ready_array.0
 
       abbrev fill : ℕ → On
-      fill size q v = elements size (q + size) (value x.bounds x.order inner (q + size) ready_array.0) (rest_of answer x r.ws) q v
+      fill size q v = elements size (q + size) (value x.bounds x.order inner (q + size) ready_array.0) (rest_of answer x r.wants.ws) q v
 
       array_same : (c : List ℕ) → after (frame (x.offset + n) c) fill ≡ answer.to c
       unfolding array_frame
@@ -279,7 +273,7 @@ module _ (x : Values) (pos stop n : ℕ) (answer : Answer) (r : Ready x pos stop
           → Goes y (after_piece answer (take k s))
       array_goes y size k h some fits p =
           let q = x.offset + n + k in
-          let i = inner_of x (suc x.offset) r.ws r.frames in
+          let i = inner_of x (suc x.offset) r.wants.ws r.wants.frames in
           let w : Work = Elements size inner (q + size) ready_array.0 in
           let g : Frame = record { array = true; pos = pos + 1; stop = stop; top = x.inner.top; end = q + size; depth_left = inner } in
           let z : Values = record x { offset = q } in
@@ -287,27 +281,27 @@ module _ (x : Values) (pos stop n : ℕ) (answer : Answer) (r : Ready x pos stop
           let framed : Framed q q (length x.text.items) (suc (length x.frames.items)) x.text.items g w = record {
             low_is = omega arith;
             high_is = i.high;
-            stop_is = r.stop_is;
+            stop_is = r.wants.stop_is;
             pos_is = omega arith;
             count_is = (let a = i.count in omega arith);
             room_is = (let a = i.depth_left in omega arith);
-            is = record { elements = refl; room_is = refl; end_is = refl; type = element_text; complete = array_complete x.inner.array r.type ready_array.0 ready_array.1 r.complete; turns_is = omega arith };
+            is = record { elements = refl; room_is = refl; end_is = refl; type = element_text; complete = array_complete x.inner.array ready_array.0 (subst (λ (t : TypeTree). IsShaped x.inner.array t) ready_array.1 r.wants.complete); turns_is = omega arith };
           } in
-          let frames = pushed_frames z y g q w r.ws p (further q (omega arith) (omega arith)) framed fits (omega arith) in
+          let frames = pushed_frames z y g q w r.wants.ws p (further q (omega arith) (omega arith)) framed fits (omega arith) in
           record {
-            ws = w ∷ r.ws;
-            frames = subst (λ (o : ℕ). HasFrames o y (w ∷ r.ws)) (sym p.offset) frames;
-            noted = pushed_notes z y g p r.noted (part_noted x.text.items x.lengths.items pos stop (pos + 1) stop r.type_noted (omega arith) (omega arith));
-            same = λ c. subst (λ (o : ℕ). works y.bounds y.order answer.last (w ∷ r.ws) o c ≡ answer.to (take k s ++ c)) (sym p.offset)
-                (works_as y.bounds x.bounds y.order x.order p.bounds p.order answer.last (w ∷ r.ws) q c (answer.to (take k s ++ c))
+            ws = w ∷ r.wants.ws;
+            frames = subst (λ (o : ℕ). HasFrames o y (w ∷ r.wants.ws)) (sym p.offset) frames;
+            noted = pushed_notes z y g p r.wants.noted (part_noted x.text.items x.lengths.items pos stop (pos + 1) stop r.wants.type_noted (omega arith) (omega arith));
+            same = λ c. subst (λ (o : ℕ). works y.bounds y.order answer.last (w ∷ r.wants.ws) o c ≡ answer.to (take k s ++ c)) (sym p.offset)
+                (works_as y.bounds x.bounds y.order x.order p.bounds p.order answer.last (w ∷ r.wants.ws) q c (answer.to (take k s ++ c))
                 (front_taken (λ (m : ℕ × ℕ). m) (x.offset + n) s frame fill answer.to array_same (size, k) (sizes (Ok (size, k)) h) c));
           }
 
   -- ---- a text
 
   module _ (is : (code ≡ 103) ⊎ ((code ≡ 111) ⊎ (code ≡ 115))) where
-    ready_text : (k : TextCode) × (r.type ≡ TextType k)
-    ready_text = text_of r.type code ready_first is
+    ready_text : (k : TextCode) × (r.wants.type ≡ TextType k)
+    ready_text = text_of r.wants.type code ready_first is
 
     text_is : text_code ready_text.0 ≡ code
     text_is = ap first_code (sym ready_text.1) ∙ ready_first
@@ -316,7 +310,7 @@ module _ (x : Values) (pos stop n : ℕ) (answer : Answer) (r : Ready x pos stop
     sized k = number x.order (length_width k) x.inner.end (text_row x.inner.end)
 
     abbrev lettered : ℕ → On
-    lettered size p u = after (text (kind_of ready_text.0) size p u) (λ t. onward nul (rest_of answer x r.ws))
+    lettered size p u = after (text (kind_of ready_text.0) size p u) (λ t. onward nul (rest_of answer x r.wants.ws))
 
     sized_same : (c : List ℕ) → after (sized ready_text.0 (x.offset + n) c) lettered ≡ answer.to c
     sized_same c = ready_at (TextType ready_text.0) x.inner.depth_left ready_text.1 refl c
@@ -332,18 +326,18 @@ module _ (x : Values) (pos stop n : ℕ) (answer : Answer) (r : Ready x pos stop
       text_stops e h = front_stops (λ (m : ℕ × ℕ). m) (x.offset + n) s (sized ready_text.0) lettered answer.to sized_same x answer.last e (h ready_text.0 text_is)
 
       module _ (size k : ℕ) (gives : Counts (Ok (size, k))) (some : 0 < k) (fits : x.offset + n + k + size + 1 ≤ x.inner.end) (kind : TextKind) (kind_is : (k : TextCode) → text_code k ≡ code → Of kind ≡ kind_of k) where
-        letters_same : (c : List ℕ) → after (text (kind_of ready_text.0) size (x.offset + n + k) c) (λ t. onward nul (rest_of answer x r.ws)) ≡ answer.to (take k s ++ c)
+        letters_same : (c : List ℕ) → after (text (kind_of ready_text.0) size (x.offset + n + k) c) (λ t. onward nul (rest_of answer x r.wants.ws)) ≡ answer.to (take k s ++ c)
         letters_same = front_taken (λ (m : ℕ × ℕ). m) (x.offset + n) s (sized ready_text.0) lettered answer.to sized_same (size, k) (gives ready_text.0 text_is)
 
         pub text_starts : (scan : TextScan) → scans.kind_of scan ≡ kind → Stands scan [] → Texts (record x { offset = x.offset + n + k; scan = scan }) code size (after_piece answer (take k s))
         text_starts scan scans_is stands = record {
-          ws = r.ws;
+          ws = r.wants.ws;
           kind = ready_text.0;
           size = size;
           start = x.offset + n + k;
           bytes = [];
           frames = further (x.offset + n + k) (omega arith) (omega arith);
-          noted = r.noted;
+          noted = r.wants.noted;
           kind_is = text_is;
           scans = ap Of scans_is ∙ kind_is ready_text.0 text_is;
           stands = stands;
@@ -372,13 +366,13 @@ module _ (x : Values) (pos stop n : ℕ) (answer : Answer) (r : Ready x pos stop
               let d = length-drop k s in (
                 omega arith,
                 record {
-                  ws = r.ws;
+                  ws = r.wants.ws;
                   frames = further (x.offset + n + k + size) (omega arith) (omega arith);
-                  noted = r.noted;
+                  noted = r.wants.noted;
                   fits = fits;
                   near = r.near;
                   same = λ c.
-                      front_taken (named (drop k s)) (x.offset + n + k) (drop k s) (text (kind_of ready_text.0) size) (λ t. onward nul (rest_of answer x r.ws)) (λ c. answer.to (take k s ++ c)) letters_same tt f c
+                      front_taken (named (drop k s)) (x.offset + n + k) (drop k s) (text (kind_of ready_text.0) size) (λ t. onward nul (rest_of answer x r.wants.ws)) (λ c. answer.to (take k s ++ c)) letters_same tt f c
                       ∙ ap answer.to (sym (take-both k size s c le));
                 },
               )
@@ -386,4 +380,4 @@ module _ (x : Values) (pos stop n : ℕ) (answer : Answer) (r : Ready x pos stop
           pub text_whole_stops : (e : Stop) → Fronts (named rest) (x.offset + n + k) rest (Err e) (text (Of kind) size) → Moves x s (Err e) x answer
           text_whole_stops e h =
               after_err x x s k answer (drop k s) refl e
-              (front_stops (named (drop k s)) (x.offset + n + k) (drop k s) (text (kind_of ready_text.0) size) (λ t. onward nul (rest_of answer x r.ws)) (λ c. answer.to (take k s ++ c)) letters_same x answer.last e (letters (Err e) h))
+              (front_stops (named (drop k s)) (x.offset + n + k) (drop k s) (text (kind_of ready_text.0) size) (λ t. onward nul (rest_of answer x r.wants.ws)) (λ c. answer.to (take k s ++ c)) letters_same x answer.last e (letters (Err e) h))

@@ -1,5 +1,5 @@
 -- A suspended reading, one item and one byte further.
-use Rattle.std.proofs.Common.{◌≡◌, ℕ, zero, suc, ◌+◌, ◌-◌, ◌<◌, ◌≤◌, List, [], ◌∷◌, ◌++◌, length, take, drop, Bool, true, false, cond, eqb, ltb, Option, None, refl, sym, ap, ◌∙◌, arith}
+use Rattle.std.proofs.Common.{◌≡◌, ℕ, zero, suc, ◌+◌, ◌-◌, ◌<◌, ◌≤◌, List, [], ◌∷◌, ◌++◌, length, take, drop, Bool, true, false, cond, eqb, ltb, Option, refl, sym, ap, ◌∙◌, arith}
 use Rattle.std.proofs.lemmas.Bool.{lt-ltb, le-ltb, eq-eqb}
 use Rattle.std.proofs.lemmas.List.{take_at, drop_at, take_all, length-append}
 use Rattle.std.proofs.Math.Seq.{take-append-add}
@@ -17,7 +17,7 @@ use Rattle.dbus_value_model.specs.Items.{fault, text_reason}
 use Rattle.dbus_value_model.specs.ValueItems.{array_row}
 use Rattle.dbus_value_model.specs.Reading.{Reader, Outcome, Done, Faulty, Partial, after, zeros, padding, validated, number_of, number, text, up_to, items, value}
 use Rattle.dbus_value_laws.proofs.KindLaws.{break_more, computed_whole}
-use Rattle.dbus_value_checker.specs.Suspended.{AnArray, On, onward, Work, Parts, Elements, elements, work, works, Head, head_width, head_row, tail, head, own, own_of, opened_by}
+use Rattle.dbus_value_checker.specs.Suspended.{AnArray, On, onward, Work, Parts, Elements, elements, work, works, head, own, own_of, opened_by}
 
 pub after_after : {A B C : Type 0} (r : Outcome A) (f : A → Reader B) (g : B → Reader C) → after (after r f) g ≡ after r (λ x o s. after (f x o s) g)
 after_after (Done x p t) f g = refl
@@ -159,14 +159,3 @@ module _ (k : WantedText) (n p : ℕ) where
 
   pub text_not : (given c : List ℕ) → length given ≡ n → break_at k given ≡ length given → is_kind k given ≡ false → text k n p (given ++ c) ≡ Faulty (fault (p + break_at k given) (text_reason k))
   text_not given c len whole is = text_at given c len whole false is
-
--- ---- heads
-
-module _ (bounds : Bounds) (order : Order) (end : ℕ) where
-  pub head_waits : (h : Head) (next : On) (p : ℕ) (got : List ℕ) → length got < head_width h → p + head_width h ≤ end → head bounds order end h next p got ≡ Partial
-  head_waits h next p got short fits = ap (λ (r : Outcome ℕ). after r (tail bounds order end h next)) (number_waits order (head_width h) end (head_row bounds end h) p got short fits)
-
-  pub head_passed : (h : Head) (next : On) (p : ℕ) (got c : List ℕ) → length got ≡ head_width h → p + head_width h ≤ end → head_row bounds end h (p + head_width h) (number_of order got) ≡ None → head bounds order end h next p (got ++ c) ≡ tail bounds order end h next (number_of order got) (p + head_width h) c
-  head_passed h next p got c whole fits row =
-      ap (λ (r : Outcome ℕ). after r (tail bounds order end h next)) (number_read order (head_width h) end (head_row bounds end h) p got c whole fits
-      ∙ ap (λ (j : Option Reason). validated j (number_of order got) p (p + head_width h) c) row)

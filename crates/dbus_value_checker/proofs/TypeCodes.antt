@@ -1,5 +1,5 @@
 -- Which type begins with a code, what a type opens, and which types are complete in it.
-use Rattle.std.proofs.Common.{◌≡◌, ℕ, ◌<◌, List, [], ◌∷◌, ◌++◌, length, Bool, true, false, refl, sym, ap, subst, ◌∙◌, arith, append_assoc}
+use Rattle.std.proofs.Common.{◌≡◌, ℕ, ◌<◌, List, [], ◌∷◌, ◌++◌, length, Bool, true, false, refl, sym, ap, ◌∙◌, arith, append_assoc}
 use Rattle.std.proofs.lemmas.List.{length-append, append-nil}
 use Rattle.std.specs.Prelude.{◌⊎◌}
 use Rattle.std.proofs.Common.{inl, inr}
@@ -35,40 +35,22 @@ number_type (EntryType k v) c e n1 n2 n3 n4 n5 n6 n7 = absurd (n3 (sym e))
 
 -- ---- which types are complete
 
-pub array_complete : (b : Bool) (t u : TypeTree) → t ≡ ArrayType u → IsShaped b t → IsShaped true u
-array_complete b t u e h = complete_inside b u (subst (λ (v : TypeTree). IsShaped b v) e h)
-  where
-    complete_inside : (b : Bool) (u : TypeTree) → IsShaped b (ArrayType u) → IsShaped true u
-    complete_inside true u h = h
-    complete_inside false u h = h
-
-pub struct_complete : (b : Bool) (t : TypeTree) (ts : TypeTrees) → t ≡ StructType ts → IsShaped b t → AreShaped ts
-struct_complete b t ts e h = complete_parts b ts (subst (λ (v : TypeTree). IsShaped b v) e h)
-  where
-    complete_parts : (b : Bool) (ts : TypeTrees) → IsShaped b (StructType ts) → AreShaped ts
-    complete_parts true NoTypes h = absurd h
-    complete_parts false NoTypes h = absurd h
-    complete_parts true (MoreTypes t ts) h = h
-    complete_parts false (MoreTypes t ts) h = h
-
-pub entry_text : (k v : TypeTree) → sig (EntryType k v) ≡ 123 ∷ (sigs (MoreTypes k (MoreTypes v NoTypes)) ++ 125 ∷ [])
-entry_text k v = simp (append_assoc, append-nil)
-
-pub entry_complete : (b : Bool) (t k v : TypeTree) → t ≡ EntryType k v → IsShaped b t → (b ≡ true) × AreShaped (MoreTypes k (MoreTypes v NoTypes))
-entry_complete b t k v e h = complete_pair b k v (subst (λ (u : TypeTree). IsShaped b u) e h)
-  where
-    complete_pair : (b : Bool) (k v : TypeTree) → IsShaped b (EntryType k v) → (b ≡ true) × AreShaped (MoreTypes k (MoreTypes v NoTypes))
-    complete_pair true k v h = (refl, entry_shaped k v h)
-    complete_pair false k v h = absurd h
+pub array_complete : (b : Bool) (u : TypeTree) → IsShaped b (ArrayType u) → IsShaped true u
+array_complete true u h = h
+array_complete false u h = h
 
 pub sigs_some : (t : TypeTree) (ts : TypeTrees) → 0 < length (sigs (MoreTypes t ts))
 sigs_some t ts = let e = ap (λ (l : List ℕ). length l) (begins t) in omega (arith, e, length-append (sig t) (sigs ts))
 
-pub parts_some : (b : Bool) (t : TypeTree) (ts : TypeTrees) → t ≡ StructType ts → IsShaped b t → 0 < length (sigs ts)
-parts_some b t ts e h = some_in b ts (subst (λ (u : TypeTree). IsShaped b u) e h)
-  where
-    some_in : (b : Bool) (ts : TypeTrees) → IsShaped b (StructType ts) → 0 < length (sigs ts)
-    some_in true NoTypes h = absurd h
-    some_in false NoTypes h = absurd h
-    some_in true (MoreTypes t ts) h = sigs_some t ts
-    some_in false (MoreTypes t ts) h = sigs_some t ts
+pub struct_complete : (b : Bool) (ts : TypeTrees) → IsShaped b (StructType ts) → AreShaped ts × (0 < length (sigs ts))
+struct_complete true NoTypes h = absurd h
+struct_complete false NoTypes h = absurd h
+struct_complete true (MoreTypes t ts) h = (h, sigs_some t ts)
+struct_complete false (MoreTypes t ts) h = (h, sigs_some t ts)
+
+pub entry_text : (k v : TypeTree) → sig (EntryType k v) ≡ 123 ∷ (sigs (MoreTypes k (MoreTypes v NoTypes)) ++ 125 ∷ [])
+entry_text k v = simp (append_assoc, append-nil)
+
+pub entry_complete : (b : Bool) (k v : TypeTree) → IsShaped b (EntryType k v) → (b ≡ true) × AreShaped (MoreTypes k (MoreTypes v NoTypes))
+entry_complete true k v h = (refl, entry_shaped k v h)
+entry_complete false k v h = absurd h

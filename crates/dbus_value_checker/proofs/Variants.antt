@@ -1,6 +1,6 @@
 -- A variant's signature is noted after those that are in use.
 use Rattle.std.proofs.Common.{◌≡◌, ℕ, suc, ◌+◌, ◌≤◌, List, [], ◌∷◌, ◌++◌, length, reverse, take, drop, get_or, false, Ok, Err, refl, sym, ap, subst, ◌∙◌, arith}
-use Rattle.std.proofs.lemmas.List.{reverse-append, length-append, length-reverse, length-take, take-take, take_at, drop_at, take_all, append-nil, length-drop}
+use Rattle.std.proofs.lemmas.List.{reverse-append, length-append, length-reverse, length-take, take_at, drop_at, take_all, append-nil, length-drop}
 use Rattle.dbus_texts.specs.Types.{TypeTree, VariantType, NoTypes, MoreTypes, sig, sigs}
 use Rattle.dbus_texts.specs.ComputedKinds.{type_spelled}
 use Rattle.dbus_texts.specs.Kinds.{IsKind}

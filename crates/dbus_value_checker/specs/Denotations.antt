@@ -55,19 +55,12 @@ pub record Wants (x : Values) (pos stop : ℕ) (answer : Answer) : Type 0 where
 
 -- a value of the type that stands there is wanted, and so many bytes of padding before it are there
 pub record Ready (x : Values) (pos stop n : ℕ) (answer : Answer) : Type 0 where
-  pub ws : List Work
-  pub type : TypeTree
-  pub frames : HasFrames (suc x.offset) x ws
-  pub noted : HasNotes x
-  pub text : slice x.text.items pos stop ≡ sig type
-  pub type_noted : IsNoted x.text.items x.lengths.items pos stop
-  pub complete : IsShaped (x.inner.array) type
-  pub pos_is : pos ≤ stop
-  pub stop_is : stop ≤ x.inner.top
+  pub before : Answer
+  pub wants : Wants x pos stop before
   pub fits : x.offset + n ≤ x.inner.end
   pub near : x.inner.end < 18446744073709551616
   pub there : stop ≤ length x.text.items
-  pub same : (c : List ℕ) → own x.bounds x.order x.inner.end (own_of type x.inner.depth_left) (works x.bounds x.order (rest_of answer x ws) (opened_by type x.inner.depth_left x.inner.end)) (x.offset + n) c ≡ answer.to c
+  pub same : (c : List ℕ) → own x.bounds x.order x.inner.end (own_of wants.type x.inner.depth_left) (works x.bounds x.order (rest_of answer x wants.ws) (opened_by wants.type x.inner.depth_left x.inner.end)) (x.offset + n) c ≡ answer.to c
 
 -- so many bytes of a text of a type are wanted
 pub record Texts (x : Values) (code left : ℕ) (answer : Answer) : Type 0 where

@@ -1,7 +1,7 @@
 //! The containers that are open: which value is wanted next, and how a container is entered and left.
 #![tactic(auto)]
 
-ghost use Rattle.std.specs.Prelude.{◌≡◌, ◌+◌, ◌-◌, ◌<◌, ◌≤◌, ◌^◌, length, take, slice_index, true, IfOk};
+ghost use Rattle.std.specs.Prelude.{◌≡◌, ◌≢◌, ◌+◌, ◌-◌, ◌<◌, ◌≤◌, ◌^◌, length, take, slice_index, true, IfOk, IfErr};
 
 use crate::values::{Doing, Frame, Values};
 use dbus_types::free_width;
@@ -12,6 +12,7 @@ impl Values {
     ghost use Rattle.dbus_value_checker.specs.Denotations.{Answer, Denotes, Goes, HasNotes, Ready, denotes};
     ghost use Rattle.dbus_value_checker.specs.Frames.{IsNoted};
     ghost use Rattle.dbus_value_checker.specs.Moves.{Opens, Enters, wide};
+    ghost use Rattle.dbus_value_model.specs.declared.stop.Stop.TheVariants.{Partial};
 
     /// The type of the next part is no longer wanted: where it ends.
     pub(crate) fn part(&mut self) -> usize
@@ -39,10 +40,13 @@ impl Values {
             denotes result (record self.now { doing = result }) answer }
     {
         let width = free_width(self.text.as_slice()[self.inner.pos]);
-        let room = self.inner.end - self.offset;
-        if width == 0 || gap(width, self.offset) > 0 || room < usize::from(width) {
+        if width == 0
+            || gap(width, self.offset) > 0
+            || self.inner.end - self.offset < usize::from(width)
+        {
             return Doing::Wanted(self.inner.pos, self.inner.stop);
         }
+        let room = self.inner.end - self.offset;
         Doing::Numbers(room - room % usize::from(width))
     }
 
@@ -106,6 +110,7 @@ impl Values {
         requires code { slice_index self.old.text.items pos ≡ 40 }
         ensures opens { (answer : Answer) → Ready self.old pos stop n answer →
             Opens result self.new answer }
+        ensures decided { IfErr result (λ e. e ≢ Partial) }
         ensures narrower { IfOk result (λ _. wide self.new.doing < stop - pos) }
     {
         let depth_left = self.inner.depth_left;

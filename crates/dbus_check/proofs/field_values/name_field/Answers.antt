@@ -1,4 +1,4 @@
-use Rattle.std.proofs.Common.{ℕ, ◌+◌, List, length, refl, ap, arith}
+use Rattle.std.proofs.Common.{ℕ, ◌+◌, length, refl, ap, arith}
 use Rattle.std.proofs.lemmas.List.{length-drop}
 use Rattle.dbus_value_model.specs.WantedTexts.{Of}
 use Rattle.dbus_message_model.specs.Messages.{Name}

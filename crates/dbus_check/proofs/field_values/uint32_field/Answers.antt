@@ -1,4 +1,4 @@
-use Rattle.std.proofs.Common.{ℕ, ◌+◌, List, length, refl, ap, arith}
+use Rattle.std.proofs.Common.{ℕ, ◌+◌, length, refl, ap, arith}
 use Rattle.std.proofs.lemmas.List.{length-drop}
 use Rattle.dbus_message_model.specs.Messages.{number_in}
 use Rattle.dbus_check.specs.Fields.{padded_number, uint32_row, uint32_wanted}

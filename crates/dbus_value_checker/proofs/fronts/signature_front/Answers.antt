@@ -1,6 +1,4 @@
-use Rattle.std.proofs.Common.{ℕ, ◌+◌, length, take, drop, refl, sym, ap, ◌∙◌, arith, subst, List}
-use Rattle.std.proofs.lemmas.List.{length-drop}
-use Rattle.dbus_texts.specs.Kinds.{IsKind}
+use Rattle.std.proofs.Common.{ℕ, ◌+◌, take, drop, sym, ap, arith}
 use Rattle.dbus_value_model.specs.Reading.{number}
 use Rattle.dbus_value_model.specs.ValueItems.{text_row}
 use Rattle.dbus_value_model.specs.WantedTexts.{Of}

@@ -1,4 +1,4 @@
-use Rattle.std.proofs.Common.{length, drop, ◌++◌, ℕ, List, refl, sym, ap, ◌∙◌, subst, arith}
+use Rattle.std.proofs.Common.{length, ◌++◌, ℕ, List, refl, sym, ap, ◌∙◌, subst, arith}
 use Rattle.std.proofs.lemmas.List.{append-nil, drop_all}
 use Rattle.dbus_check.specs.Pieces.{Holds}
 use Rattle.dbus_check.specs.declared.progress.Progress.{Progress}

@@ -1,7 +1,6 @@
-use Rattle.std.proofs.Common.{length, arith, ap, subst}
+use Rattle.std.proofs.Common.{length, arith, subst}
 use Rattle.dbus_value_laws.proofs.ReadSteps.{bytes_from}
 use Rattle.dbus_value_checker.specs.Suspended.{done}
-use Rattle.dbus_value_checker.specs.declared.values.Values.{Values}
 use Rattle.dbus_check.specs.Progress.{denotes}
 use Rattle.dbus_check.specs.declared.progress.Stage.{Stage}
 use Rattle.dbus_check.proofs.ValueStages.{more_on, more_waits, body_on, body_waits}

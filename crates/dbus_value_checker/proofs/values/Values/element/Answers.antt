@@ -16,7 +16,7 @@ returns c = λ answer g.
     let same : c.from-2.result ≡ w = c.from-2.ensures in
     let aligned : gap_to w x.offset ≡ 0 = (let e = c.gap.ensures in let le = c.if-gap-gt0.false in omega arith) in
     let e = c.from.ensures in
-    let le = c.if-room-from.false in
+    let le = c.if-self-from.false in
     let lt = c.requires.more in
     numbers_begin x _ answer (get_or c.as_slice.result.now x.inner.pos 0) c.from-2.result g c.requires.array (sym (ap (λ (t : List ℕ). get_or t x.inner.pos 0) c.as_slice.ensures.value)) (λ t e. same ∙ c.free_width-width.ensures.value t e) (omega arith)
     (subst (λ (v : ℕ). gap_to v x.offset ≡ 0) (sym same) aligned) (omega arith)
