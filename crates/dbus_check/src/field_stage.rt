@@ -131,17 +131,12 @@ impl Progress {
         ensures few { IfOk result (λ m. m < 4294967296) }
         ensures short { IfErr result (λ e. e ≡ Partial → length bytes.now < 270) }
     {
+        let at = self.offset + n;
         match want(code) {
             Wanted::Anything => self.anything(code, n, bytes),
             Wanted::Path => self.path(code, n, bytes),
             Wanted::Signature => self.types(code, n, bytes),
-            Wanted::Name(kind) => match name_field(
-                kind,
-                bytes,
-                self.offset + n,
-                self.end,
-                self.order,
-            ) {
+            Wanted::Name(kind) => match name_field(kind, bytes, at, self.end, self.order) {
                 Ok(size) => {
                     self.seen.note(code);
                     self.offset += n + size;
@@ -149,13 +144,7 @@ impl Progress {
                 }
                 Err(stop) => Err(stop),
             },
-            Wanted::Serial => match uint32_field(
-                true,
-                bytes,
-                self.offset + n,
-                self.end,
-                self.order,
-            ) {
+            Wanted::Serial => match uint32_field(true, bytes, at, self.end, self.order) {
                 Ok(taken) => {
                     self.seen.note(code);
                     self.offset += n + taken.1;
@@ -163,13 +152,7 @@ impl Progress {
                 }
                 Err(stop) => Err(stop),
             },
-            Wanted::Number => match uint32_field(
-                false,
-                bytes,
-                self.offset + n,
-                self.end,
-                self.order,
-            ) {
+            Wanted::Number => match uint32_field(false, bytes, at, self.end, self.order) {
                 Ok((count, size)) => {
                     self.fds = count;
                     self.seen.note(code);

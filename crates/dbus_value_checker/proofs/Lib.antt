@@ -4,7 +4,6 @@ pub mod TypeCodes
 pub mod Slices
 pub mod FrameLaws
 pub mod Notes
-pub mod FirstFrame
 pub mod NextValues
 pub mod PaddedValues
 pub mod Variants

@@ -1,7 +1,7 @@
 use Rattle.std.proofs.Common.{refl, arith}
 use Rattle.dbus_value_checker.specs.Suspended.{done}
 use Rattle.dbus_value_checker.specs.Moves.{values_on}
-use Rattle.dbus_value_checker.proofs.FirstFrame.{begun_goes}
+use Rattle.dbus_value_checker.proofs.NextValues.{begun_goes}
 use Rattle.dbus_value_checker.proofs.values.Values.begin.Goals as goal
 
 pub next-requires : goal.next-requires
