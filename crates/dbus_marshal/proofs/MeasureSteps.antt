@@ -2,7 +2,7 @@
 use Rattle.std.proofs.Common.{◌≡◌, ℕ, Bool, cond, ◌+◌, ◌-◌, ◌%◌, ◌<◌, ◌≤◌, List, [], ◌∷◌, length, get_or, drop, Vec, Box, String, Option, Some, None, refl, sym, ap, subst, ◌∙◌, arith}
 use Rattle.std.proofs.lemmas.List.{drop_more, drop_all}
 use Rattle.std.proofs.Math.Decide.{dec_lt}
-use Rattle.std.specs.Prelude.{ℤ, string_bytes}
+use Rattle.std.specs.Prelude.{MatchOption}
 use Rattle.std.specs.Int.{cast_unsigned, w16, w32, w64}
 use Rattle.dbus_texts.specs.Types.{sig, TypeTree, NumberType, NumberCode, BYTE, BOOLEAN, INT16, UINT16, INT32, UINT32, INT64, UINT64, DOUBLE, UNIX_FD, TextCode, STRING, OBJECT_PATH, SIGNATURE}
 use Rattle.dbus_types.specs.Alignments.{width, length_width, alignment_of}
@@ -137,70 +137,52 @@ module _ (limits : Limits) where
       sym (onward-from b p (gap_to (alignment_of t) p) (gap_to (alignment_of t) b) s there (sym (gap-of_type t b p (rest-of b p there))) begins)
 
   -- contents that begin at a small offset are within the array's limit exactly where their capped end is, which is then exact
-  pub near-end : (m n e : ℕ) → m < 8 → e ≡ capped (m + n) → e ≤ m + limits.array → (n ≤ limits.array) × (e ≡ m + n)
+  near-end : (m n e : ℕ) → m < 8 → e ≡ capped (m + n) → e ≤ m + limits.array → (n ≤ limits.array) × (e ≡ m + n)
   near-end m n e small is le = elim (dec_lt (m + n) 134217736) [
     | yes h ↦ (omega (arith, capped-near (m + n) h), omega (arith, capped-near (m + n) h))
     | no h ↦ let far : 134217736 ≤ m + n = omega arith in absurd (omega (arith, capped-far (m + n) far, limits.array_in))
   ]
 
-  pub far-end : (m n e : ℕ) → m < 8 → e ≡ capped (m + n) → m + limits.array < e → limits.array < n
+  far-end : (m n e : ℕ) → m < 8 → e ≡ capped (m + n) → m + limits.array < e → limits.array < n
   far-end m n e small is lt = elim (dec_lt (m + n) 134217736) [
     | yes h ↦ omega (arith, capped-near (m + n) h)
     | no h ↦ omega (arith, limits.array_in)
   ]
 
-  small-rest : (s : ℕ) → s % 8 < 8
-  small-rest s = omega arith
-
-  pub measured-array : (t : TypeTree) (xs : ValueTrees) (at p s e end : ℕ) → p ≡ capped (at + (gap_to 4 at + 4)) → s ≡ capped (p + gap_to (alignment_of t) p) → AreMeasured limits.array xs (s % 8) (Some e) →
-      e ≤ s % 8 + limits.array → end ≡ capped (s - s % 8 + e) → IsMeasured limits.array (ArrayValue t xs) at (Some end)
-  measured-array t xs at p s e end is begins inner fits ends = record {
-    from = λ order o h.
-        let z = contents_start t o in
-        let m = s % 8 in
-        let small : m < 8 = small-rest s in
-        let low : m < 134217736 = omega arith in
-        let there : capped z ≡ s = contents-from t o at p s h is begins in
-        let again : m % 8 ≡ m = omega arith in
-        let rest : m % 8 ≡ z % 8 = again ∙ sym (rest-of z s there) in
-        let contents = inner.from order m (capped-near m low) in
-        let near = near-end m (length (spellings order m xs)) e small contents.1 fits in
-        let same : length (spellings order m xs) ≡ length (spellings order z xs) = lengths-period order xs m z rest in
-        let shift : s - m + e ≡ s + length (spellings order z xs) = omega (arith, near.1, same) in
-        let n = length (spellings order z xs) in (
-          (omega (arith, near.0, same), are_within-period limits.array order xs m z rest contents.0),
-          ends ∙ ap capped shift ∙ capped-onward z s n there ∙ ap capped (sym (length-array order o t xs)),
-        );
-  }
-
-  pub measured-over : (t : TypeTree) (xs : ValueTrees) (at p s e : ℕ) → p ≡ capped (at + (gap_to 4 at + 4)) → s ≡ capped (p + gap_to (alignment_of t) p) → AreMeasured limits.array xs (s % 8) (Some e) →
-      s % 8 + limits.array < e → IsMeasured limits.array (ArrayValue t xs) at None
-  measured-over t xs at p s e is begins inner over = record {
-    from = λ order o h.
-        let z = contents_start t o in
-        let m = s % 8 in
-        let small : m < 8 = small-rest s in
-        let low : m < 134217736 = omega arith in
-        let there : capped z ≡ s = contents-from t o at p s h is begins in
-        let again : m % 8 ≡ m = omega arith in
-        let rest : m % 8 ≡ z % 8 = again ∙ sym (rest-of z s there) in
-        let contents = inner.from order m (capped-near m low) in
-        let far = far-end m (length (spellings order m xs)) e small contents.1 over in
-        let same : length (spellings order m xs) ≡ length (spellings order z xs) = lengths-period order xs m z rest in
-        λ w. absurd (omega (arith, far, same, w.0));
-  }
-
-  pub measured-items : (t : TypeTree) (xs : ValueTrees) (at p s : ℕ) → p ≡ capped (at + (gap_to 4 at + 4)) → s ≡ capped (p + gap_to (alignment_of t) p) → AreMeasured limits.array xs (s % 8) None → IsMeasured limits.array (ArrayValue t xs) at None
-  measured-items t xs at p s is begins inner = record {
-    from = λ order o h.
+  -- contents as they are measured from a small offset, 8 bytes apart from where they begin
+  module _ (t : TypeTree) (xs : ValueTrees) (at p s : ℕ) (is : p ≡ capped (at + (gap_to 4 at + 4))) (begins : s ≡ capped (p + gap_to (alignment_of t) p)) where
+    contents : (r : Option ℕ) → AreMeasured limits.array xs (s % 8) r → (order : Order) (o : ℕ) → capped o ≡ at →
+        EndsAt (s % 8 + length (spellings order (contents_start t o) xs)) (AreWithinLimits limits.array order (contents_start t o) xs) r
+    contents r inner order o h =
         let z = contents_start t o in
         let m = s % 8 in
         let low : m < 134217736 = omega arith in
-        let there : capped z ≡ s = contents-from t o at p s h is begins in
-        let again : m % 8 ≡ m = omega arith in
-        let rest : z % 8 ≡ m % 8 = rest-of z s there ∙ sym again in
-        λ w. inner.from order m (capped-near m low) (are_within-period limits.array order xs z m rest w.1);
-  }
+        let again : m % 8 ≡ s % 8 = omega arith in
+        let rest : m % 8 ≡ z % 8 = again ∙ sym (rest-of z s (contents-from t o at p s h is begins)) in
+        let same : m + length (spellings order m xs) ≡ m + length (spellings order z xs) = omega (arith, lengths-period order xs m z rest) in
+        ends-as r (m + length (spellings order m xs)) (m + length (spellings order z xs)) (AreWithinLimits limits.array order m xs) (AreWithinLimits limits.array order z xs) same
+        (are_within-period limits.array order xs m z rest) (are_within-period limits.array order xs z m (sym rest)) (inner.from order m (capped-near m low))
+
+    pub measured-items : AreMeasured limits.array xs (s % 8) None → IsMeasured limits.array (ArrayValue t xs) at None
+    measured-items inner = record { from = λ order o h. λ w. contents None inner order o h w.1 }
+
+    pub measured-array : (e : ℕ) (r : Option ℕ) → AreMeasured limits.array xs (s % 8) (Some e) → MatchOption r (s % 8 + limits.array < e) (λ end. (e ≤ s % 8 + limits.array) × (end ≡ capped (s - s % 8 + e))) →
+        IsMeasured limits.array (ArrayValue t xs) at r
+    measured-array e None inner over = record {
+      from = λ order o h.
+          let n = length (spellings order (contents_start t o) xs) in
+          let far = far-end (s % 8) n e (omega arith) (contents (Some e) inner order o h).1 over in
+          λ w. absurd (omega (arith, far, w.0));
+    }
+    measured-array e (Some end) inner fits = record {
+      from = λ order o h.
+          let z = contents_start t o in
+          let n = length (spellings order z xs) in
+          let all = contents (Some e) inner order o h in
+          let near = near-end (s % 8) n e (omega arith) all.1 fits.0 in
+          let shift : s - s % 8 + e ≡ s + n = omega (arith, near.1) in
+          ((near.0, all.0), fits.1 ∙ ap capped shift ∙ capped-onward z s n (contents-from t o at p s h is begins) ∙ ap capped (sym (length-array order o t xs)));
+    }
 
   -- ---- bytes
 
@@ -216,111 +198,16 @@ module _ (limits : Limits) where
   bytes-within order o [] = tt
   bytes-within order o (b ∷ bs) = (tt, bytes-within order (o + length (spelling order o (NumberValue BYTE b))) bs)
 
-  -- bytes begin where their length ends
-  bytes-from : (o at p : ℕ) → capped o ≡ at → p ≡ capped (at + (gap_to 4 at + 4)) → capped (contents_start (NumberType BYTE) o) ≡ p
+  pub measured-bytes : (bs : List ℕ) (at p e : ℕ) (r : Option ℕ) → p ≡ capped (at + (gap_to 4 at + 4)) → e ≡ capped (p % 8 + capped (length bs)) →
+      MatchOption r (p % 8 + limits.array < e) (λ end. (e ≤ p % 8 + limits.array) × (end ≡ capped (p - p % 8 + e))) → IsMeasured limits.array (ArrayValue (NumberType BYTE) (byte_values bs)) at r
   unfolding gap_to
-  bytes-from o at p h is =
+  measured-bytes bs at p e r is ends fits =
       let low : IsCapped p = omega (arith, capped-bound (at + (gap_to 4 at + 4))) in
       let none : p ≡ p + gap_to 1 p = omega arith in
-      contents-from (NumberType BYTE) o at p p h is (sym (capped-same p low) ∙ ap capped none)
-
-  pub measured-bytes : (bs : List ℕ) (at p end : ℕ) → p ≡ capped (at + (gap_to 4 at + 4)) → length bs ≤ limits.array → end ≡ capped (p + length bs) →
-      IsMeasured limits.array (ArrayValue (NumberType BYTE) (byte_values bs)) at (Some end)
-  measured-bytes bs at p end is fits ends = record {
-    from = λ order o h.
-        let t = NumberType BYTE in
-        let z = contents_start t o in
-        let there : capped z ≡ p = bytes-from o at p h is in
-        let len = length-bytes order z bs in (
-          (omega (arith, len, fits), bytes-within order z bs),
-          onward-from z p (length bs) (length (spellings order z (byte_values bs))) end there (sym len) ends ∙ ap capped (sym (length-array order o t (byte_values bs))),
-        );
-  }
-
-  pub measured-bytes_over : (bs : List ℕ) (at : ℕ) → limits.array < length bs → IsMeasured limits.array (ArrayValue (NumberType BYTE) (byte_values bs)) at None
-  measured-bytes_over bs at over = record {
-    from = λ order o h. λ w. absurd (omega (arith, over, length-bytes order (contents_start (NumberType BYTE) o) bs, w.0));
-  }
-
-  -- ---- of a `Value`
-
-  abbrev MeasuredTo : ℕ → Option ℕ → ValueTree → Type 0
-  MeasuredTo at r v = IsMeasured limits.array v at r
-
-  pub measured-Byte : (A : Type 0) (at end : ℕ) (n : ℕ) → end ≡ capped (at + (gap_to 1 at + 1)) → IsMeasured limits.array (value_tree {A = A} (Byte n)) at (Some end)
-  measured-Byte A at end n is = subst (MeasuredTo at (Some end)) (sym (tree-Byte A n)) (measured-number BYTE n at end is)
-
-  pub measured-Bool : (A : Type 0) (at end : ℕ) (b : Bool) → end ≡ capped (at + (gap_to 4 at + 4)) → IsMeasured limits.array (value_tree {A = A} (BoolOf b)) at (Some end)
-  measured-Bool A at end b is = subst (MeasuredTo at (Some end)) (sym (tree-Bool A b)) (measured-number BOOLEAN (cond b 1 0) at end is)
-
-  pub measured-I16 : (A : Type 0) (at end : ℕ) (z : ℤ) → end ≡ capped (at + (gap_to 2 at + 2)) → IsMeasured limits.array (value_tree {A = A} (I16 z)) at (Some end)
-  measured-I16 A at end z is = subst (MeasuredTo at (Some end)) (sym (tree-I16 A z)) (measured-number INT16 (cast_unsigned w16 z) at end is)
-
-  pub measured-U16 : (A : Type 0) (at end : ℕ) (n : ℕ) → end ≡ capped (at + (gap_to 2 at + 2)) → IsMeasured limits.array (value_tree {A = A} (U16 n)) at (Some end)
-  measured-U16 A at end n is = subst (MeasuredTo at (Some end)) (sym (tree-U16 A n)) (measured-number UINT16 n at end is)
-
-  pub measured-I32 : (A : Type 0) (at end : ℕ) (z : ℤ) → end ≡ capped (at + (gap_to 4 at + 4)) → IsMeasured limits.array (value_tree {A = A} (I32 z)) at (Some end)
-  measured-I32 A at end z is = subst (MeasuredTo at (Some end)) (sym (tree-I32 A z)) (measured-number INT32 (cast_unsigned w32 z) at end is)
-
-  pub measured-U32 : (A : Type 0) (at end : ℕ) (n : ℕ) → end ≡ capped (at + (gap_to 4 at + 4)) → IsMeasured limits.array (value_tree {A = A} (U32 n)) at (Some end)
-  measured-U32 A at end n is = subst (MeasuredTo at (Some end)) (sym (tree-U32 A n)) (measured-number UINT32 n at end is)
-
-  pub measured-I64 : (A : Type 0) (at end : ℕ) (z : ℤ) → end ≡ capped (at + (gap_to 8 at + 8)) → IsMeasured limits.array (value_tree {A = A} (I64 z)) at (Some end)
-  measured-I64 A at end z is = subst (MeasuredTo at (Some end)) (sym (tree-I64 A z)) (measured-number INT64 (cast_unsigned w64 z) at end is)
-
-  pub measured-U64 : (A : Type 0) (at end : ℕ) (n : ℕ) → end ≡ capped (at + (gap_to 8 at + 8)) → IsMeasured limits.array (value_tree {A = A} (U64 n)) at (Some end)
-  measured-U64 A at end n is = subst (MeasuredTo at (Some end)) (sym (tree-U64 A n)) (measured-number UINT64 n at end is)
-
-  pub measured-Double : (A : Type 0) (at end : ℕ) (n : ℕ) → end ≡ capped (at + (gap_to 8 at + 8)) → IsMeasured limits.array (value_tree {A = A} (Double n)) at (Some end)
-  measured-Double A at end n is = subst (MeasuredTo at (Some end)) (sym (tree-Double A n)) (measured-number DOUBLE n at end is)
-
-  pub measured-Fd : (A : Type 0) (at end : ℕ) (n : ℕ) → end ≡ capped (at + (gap_to 4 at + 4)) → IsMeasured limits.array (value_tree {A = A} (Fd n)) at (Some end)
-  measured-Fd A at end n is = subst (MeasuredTo at (Some end)) (sym (tree-Fd A n)) (measured-number UNIX_FD n at end is)
-
-  pub measured-Str : {A : Type 0} (at end : ℕ) (s : String A) → end ≡ capped (at + (gap_to 4 at + (4 + (length (string_bytes s) + 1)))) → IsMeasured limits.array (value_tree {A = A} (Str s)) at (Some end)
-  measured-Str at end s is = subst (MeasuredTo at (Some end)) (sym (tree-Str s)) (measured-text STRING (string_bytes s) at end is)
-
-  pub measured-Path : {A : Type 0} (at end : ℕ) (s : String A) → end ≡ capped (at + (gap_to 4 at + (4 + (length (string_bytes s) + 1)))) → IsMeasured limits.array (value_tree {A = A} (Path s)) at (Some end)
-  measured-Path at end s is = subst (MeasuredTo at (Some end)) (sym (tree-Path s)) (measured-text OBJECT_PATH (string_bytes s) at end is)
-
-  pub measured-Sig : {A : Type 0} (at end : ℕ) (s : String A) → end ≡ capped (at + (gap_to 1 at + (1 + (length (string_bytes s) + 1)))) → IsMeasured limits.array (value_tree {A = A} (Sig s)) at (Some end)
-  measured-Sig at end s is = subst (MeasuredTo at (Some end)) (sym (tree-Sig s)) (measured-text SIGNATURE (string_bytes s) at end is)
-
-  pub measured-Struct : {A : Type 0} (at p : ℕ) (r : Option ℕ) (vs : Vec (Value A) A) → p ≡ capped (at + gap_to 8 at) → AreMeasured limits.array (value_trees_of vs.items) p r → IsMeasured limits.array (value_tree {A = A} (Struct vs)) at r
-  measured-Struct at p r vs is inner = subst (MeasuredTo at r) (sym (tree-Struct vs)) (measured-struct (value_trees_of vs.items) at p r is inner)
-
-  pub measured-Entry : {A : Type 0} (at p q : ℕ) (r : Option ℕ) (e : Box (DictEntry A) A) → p ≡ capped (at + gap_to 8 at) → IsMeasured limits.array (value_tree e.value.key) p (Some q) → IsMeasured limits.array (value_tree e.value.value) q r →
-      IsMeasured limits.array (value_tree {A = A} (Entry e)) at r
-  measured-Entry at p q r e is key held = subst (MeasuredTo at r) (sym (tree-Entry e)) (measured-entry (value_tree e.value.key) (value_tree e.value.value) at p q r is key held)
-
-  pub measured-Entry_key : {A : Type 0} (at p : ℕ) (e : Box (DictEntry A) A) → p ≡ capped (at + gap_to 8 at) → IsMeasured limits.array (value_tree e.value.key) p None → IsMeasured limits.array (value_tree {A = A} (Entry e)) at None
-  measured-Entry_key at p e is key = subst (MeasuredTo at None) (sym (tree-Entry e)) (measured-key (value_tree e.value.key) (value_tree e.value.value) at p is key)
-
-  pub measured-Variant : {A : Type 0} (at p : ℕ) (r : Option ℕ) (v : Box (Value A) A) → p ≡ capped (at + (gap_to 1 at + (1 + (length (sig (type_of (value_tree v.value))) + 1)))) → IsMeasured limits.array (value_tree v.value) p r →
-      IsMeasured limits.array (value_tree {A = A} (Variant v)) at r
-  measured-Variant at p r v is inner = subst (MeasuredTo at r) (sym (tree-Variant v)) (measured-variant (value_tree v.value) at p r is inner)
-
-  pub measured-Bytes : {A : Type 0} (at p end : ℕ) (bs : Vec ℕ A) → p ≡ capped (at + (gap_to 4 at + 4)) → length bs.items ≤ limits.array → end ≡ capped (p + length bs.items) →
-      IsMeasured limits.array (value_tree {A = A} (Bytes bs)) at (Some end)
-  measured-Bytes at p end bs is fits ends = subst (MeasuredTo at (Some end)) (sym (tree-Bytes bs)) (measured-bytes bs.items at p end is fits ends)
-
-  pub measured-Bytes_over : {A : Type 0} (at : ℕ) (bs : Vec ℕ A) → limits.array < length bs.items → IsMeasured limits.array (value_tree {A = A} (Bytes bs)) at None
-  measured-Bytes_over at bs over = subst (MeasuredTo at None) (sym (tree-Bytes bs)) (measured-bytes_over bs.items at over)
-
-  pub measured-Array : {A : Type 0} (at p s e end : ℕ) (t : SigType A) (vs : Vec (Value A) A) → p ≡ capped (at + (gap_to 4 at + 4)) → s ≡ capped (p + gap_to (alignment_of (type_tree t)) p) →
-      AreMeasured limits.array (value_trees_of vs.items) (s % 8) (Some e) → e ≤ s % 8 + limits.array → end ≡ capped (s - s % 8 + e) → IsMeasured limits.array (value_tree {A = A} (Array t vs)) at (Some end)
-  measured-Array at p s e end t vs is begins inner fits ends =
-      subst (MeasuredTo at (Some end)) (sym (tree-Array t vs)) (measured-array (type_tree t) (value_trees_of vs.items) at p s e end is begins inner fits ends)
-
-  pub measured-Array_over : {A : Type 0} (at p s e : ℕ) (t : SigType A) (vs : Vec (Value A) A) → p ≡ capped (at + (gap_to 4 at + 4)) → s ≡ capped (p + gap_to (alignment_of (type_tree t)) p) →
-      AreMeasured limits.array (value_trees_of vs.items) (s % 8) (Some e) → s % 8 + limits.array < e → IsMeasured limits.array (value_tree {A = A} (Array t vs)) at None
-  measured-Array_over at p s e t vs is begins inner over =
-      subst (MeasuredTo at None) (sym (tree-Array t vs)) (measured-over (type_tree t) (value_trees_of vs.items) at p s e is begins inner over)
-
-  pub measured-Array_items : {A : Type 0} (at p s : ℕ) (t : SigType A) (vs : Vec (Value A) A) → p ≡ capped (at + (gap_to 4 at + 4)) → s ≡ capped (p + gap_to (alignment_of (type_tree t)) p) →
-      AreMeasured limits.array (value_trees_of vs.items) (s % 8) None → IsMeasured limits.array (value_tree {A = A} (Array t vs)) at None
-  measured-Array_items at p s t vs is begins inner =
-      subst (MeasuredTo at None) (sym (tree-Array t vs)) (measured-items (type_tree t) (value_trees_of vs.items) at p s is begins inner)
+      let all : e ≡ capped (p % 8 + length bs) = ends ∙ capped-step (p % 8) (length bs) in
+      measured-array (NumberType BYTE) (byte_values bs) at p p is (sym (capped-same p low) ∙ ap capped none) e r
+      (record { from = λ order o h. (bytes-within order o bs, onward-from o (p % 8) (length bs) (length (spellings order o (byte_values bs))) e h (sym (length-bytes order o bs)) all) })
+      fits
 
   -- ---- along a list
 
@@ -352,4 +239,4 @@ module _ (limits : Limits) where
       let c : at + (g + w) + (n + 1) ≡ at + (g + (w + (n + 1))) = omega arith in
       ends ∙ ap capped a ∙ capped-step (p + 1) n ∙ ap capped b ∙ capped-onward (at + (g + w)) p (n + 1) (sym is) ∙ ap capped c
 
-pub ruleset measuring = (measured-coded, measured-Str, measured-Path, measured-Sig, number-steps, text-steps)
+pub ruleset measuring = (measured-coded, number-steps, text-steps)

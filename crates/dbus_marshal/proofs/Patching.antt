@@ -89,6 +89,9 @@ array_grows order t xs m front =
     let l4 = length_values order xs y in
     (omega arith, omega arith)
 
+pub after_count : (order : Order) (front o : List ℕ) (at n : ℕ) → at ≤ length o → take at o ≡ with_padding 4 front ++ num order 4 n → 4 ≤ at
+after_count order front o at n h is = omega (arith, length-take-le at o h, ap length is, length-append (with_padding 4 front) (num order 4 n), length-num order 4 n)
+
 -- o1, o2 and o3 are the bytes once the length's place, the padding and the items are there
 module _ (order : Order) (t : TypeTree) (xs : ValueTrees) (front o1 o2 o3 : List ℕ) (counted start end : ℕ) (h1 : counted ≤ length o1) (h2 : start ≤ length o2) (h3 : end ≤ length o3)
     (is_z : take counted o1 ≡ with_padding 4 front ++ num order 4 0) (is_y : take start o2 ≡ with_padding (alignment_of t) (take counted o1)) (is_x : take end o3 ≡ with_values order xs (take start o2)) where

@@ -3,7 +3,8 @@ use Rattle.std.proofs.Common.{◌≡◌, ℕ, ℤ, ◌+◌, ◌<◌, ◌≤◌, 
 use Rattle.std.specs.Prelude.{Bool, string_bytes}
 use Rattle.std.specs.Int.{cast_unsigned, w16, w32, w64}
 use Rattle.std.proofs.lemmas.List.{at_drop_more, at_drop_all, length-append}
-use Rattle.dbus_texts.specs.Types.{NumberType, BYTE, UINT16, UINT32, UINT64, STRING, SIGNATURE, sig}
+use Rattle.dbus_texts.specs.Types.{NumberType, NumberCode, BYTE, STRING, sig}
+use Rattle.dbus_types.specs.Alignments.{width}
 use Rattle.dbus_types.specs.SigTypes.{type_tree}
 use Rattle.dbus_types.specs.declared.sig_type.SigType.{SigType}
 use Rattle.dbus_value_model.specs.declared.order.Order.{Order}
@@ -16,77 +17,10 @@ use Rattle.dbus_value_model.specs.declared.value.Value.{Value, Byte, Bool as Boo
 use Rattle.dbus_value_model.specs.declared.value.DictEntry.{DictEntry}
 use Rattle.dbus_value_model.proofs.ValueRows.{tree-Byte, tree-Bool, tree-I16, tree-U16, tree-I32, tree-U32, tree-I64, tree-U64, tree-Double, tree-Str, tree-Path, tree-Sig, tree-Fd, tree-Bytes, tree-Array, tree-Struct, tree-Entry, tree-Variant}
 use Rattle.dbus_value_model.proofs.Numbers.{length-num}
-use Rattle.dbus_marshal.proofs.Written.{length_value, written_number, written_32, written_path, written_variant, written_struct, written_entry, written_none, written_more, num_1, no_padding, no_gap}
-
-abbrev writing : Order → List ℕ → ValueTree → List ℕ
-writing order front v = with_value order v front
-
-pub writes-Byte : (A : Type 0) (order : Order) (n : ℕ) (front : List ℕ) → n < 256 → with_value order (value_tree {A = A} (Byte n)) front ≡ front ++ n ∷ []
-writes-Byte A order n front h =
-    ap (writing order front) (tree-Byte A n) ∙ written_number order BYTE n front ∙ ap (λ (l : List ℕ). l ++ num order 1 n) (no_padding front)
-    ∙ ap (λ (l : List ℕ). front ++ l) (num_1 order n h)
-
-pub writes-Bool : (A : Type 0) (order : Order) (b : Bool) (front : List ℕ) → with_value order (value_tree {A = A} (BoolOf b)) front ≡ with_value order (NumberValue UINT32 (cond b 1 0)) front
-unfolding with_value spelling
-writes-Bool A order b front = ap (writing order front) (tree-Bool A b)
-
-pub writes-I16 : (A : Type 0) (order : Order) (z : ℤ) (front : List ℕ) → with_value order (value_tree {A = A} (I16 z)) front ≡ with_value order (NumberValue UINT16 (cast_unsigned w16 z)) front
-unfolding with_value spelling
-writes-I16 A order z front = ap (writing order front) (tree-I16 A z)
-
-pub writes-U16 : (A : Type 0) (order : Order) (n : ℕ) (front : List ℕ) → with_value order (value_tree {A = A} (U16 n)) front ≡ with_value order (NumberValue UINT16 n) front
-unfolding with_value spelling
-writes-U16 A order n front = ap (writing order front) (tree-U16 A n)
-
-pub writes-I32 : (A : Type 0) (order : Order) (z : ℤ) (front : List ℕ) → with_value order (value_tree {A = A} (I32 z)) front ≡ with_value order (NumberValue UINT32 (cast_unsigned w32 z)) front
-unfolding with_value spelling
-writes-I32 A order z front = ap (writing order front) (tree-I32 A z)
-
-pub writes-U32 : (A : Type 0) (order : Order) (n : ℕ) (front : List ℕ) → with_value order (value_tree {A = A} (U32 n)) front ≡ with_value order (NumberValue UINT32 n) front
-unfolding with_value spelling
-writes-U32 A order n front = ap (writing order front) (tree-U32 A n)
-
-pub writes-I64 : (A : Type 0) (order : Order) (z : ℤ) (front : List ℕ) → with_value order (value_tree {A = A} (I64 z)) front ≡ with_value order (NumberValue UINT64 (cast_unsigned w64 z)) front
-unfolding with_value spelling
-writes-I64 A order z front = ap (writing order front) (tree-I64 A z)
-
-pub writes-U64 : (A : Type 0) (order : Order) (n : ℕ) (front : List ℕ) → with_value order (value_tree {A = A} (U64 n)) front ≡ with_value order (NumberValue UINT64 n) front
-unfolding with_value spelling
-writes-U64 A order n front = ap (writing order front) (tree-U64 A n)
-
-pub writes-Double : (A : Type 0) (order : Order) (n : ℕ) (front : List ℕ) → with_value order (value_tree {A = A} (Double n)) front ≡ with_value order (NumberValue UINT64 n) front
-unfolding with_value spelling
-writes-Double A order n front = ap (writing order front) (tree-Double A n)
-
-pub writes-Fd : (A : Type 0) (order : Order) (n : ℕ) (front : List ℕ) → with_value order (value_tree {A = A} (Fd n)) front ≡ with_value order (NumberValue UINT32 n) front
-unfolding with_value spelling
-writes-Fd A order n front = ap (writing order front) (tree-Fd A n)
-
-pub writes-Str : {A : Type 0} (order : Order) (s : String A) (front : List ℕ) → with_value order (value_tree {A = A} (Str s)) front ≡ with_value order (TextValue STRING (string_bytes s)) front
-writes-Str order s front = ap (writing order front) (tree-Str s)
+use Rattle.dbus_marshal.proofs.Written.{length_value, length_number, written_number, written_path, written_variant, written_struct, written_entry, written_none, written_more, num_1, no_padding, no_gap}
 
 pub writes-Path : {A : Type 0} (order : Order) (s : String A) (front : List ℕ) → with_value order (value_tree {A = A} (Path s)) front ≡ with_value order (TextValue STRING (string_bytes s)) front
-writes-Path order s front = ap (writing order front) (tree-Path s) ∙ written_path order (string_bytes s) front
-
-pub writes-Sig : {A : Type 0} (order : Order) (s : String A) (front : List ℕ) → with_value order (value_tree {A = A} (Sig s)) front ≡ with_value order (TextValue SIGNATURE (string_bytes s)) front
-writes-Sig order s front = ap (writing order front) (tree-Sig s)
-
-pub writes-Bytes : {A : Type 0} (order : Order) (bs : Vec ℕ A) (front : List ℕ) → with_value order (value_tree {A = A} (Bytes bs)) front ≡ with_value order (ArrayValue (NumberType BYTE) (byte_values bs.items)) front
-writes-Bytes order bs front = ap (writing order front) (tree-Bytes bs)
-
-pub writes-Array : {A : Type 0} (order : Order) (t : SigType A) (vs : Vec (Value A) A) (front : List ℕ) → with_value order (value_tree {A = A} (Array t vs)) front ≡ with_value order (ArrayValue (type_tree t) (value_trees_of vs.items)) front
-writes-Array order t vs front = ap (writing order front) (tree-Array t vs)
-
-pub writes-Struct : {A : Type 0} (order : Order) (vs : Vec (Value A) A) (front : List ℕ) → with_value order (value_tree {A = A} (Struct vs)) front ≡ with_values order (value_trees_of vs.items) (with_padding 8 front)
-writes-Struct order vs front = ap (writing order front) (tree-Struct vs) ∙ written_struct order (value_trees_of vs.items) front
-
-pub writes-Entry : {A : Type 0} (order : Order) (e : Box (DictEntry A) A) (front : List ℕ) → with_value order (value_tree {A = A} (Entry e)) front ≡ with_value order (value_tree e.value.value) (with_value order (value_tree e.value.key) (with_padding 8 front))
-writes-Entry order e front = ap (writing order front) (tree-Entry e) ∙ written_entry order (value_tree e.value.key) (value_tree e.value.value) front
-
-pub writes-Variant : {A : Type 0} (order : Order) (v : Box (Value A) A) (front : List ℕ) →
-    with_value order (value_tree {A = A} (Variant v)) front
-    ≡ with_value order (value_tree v.value) (((front ++ num order 1 (length (sig (type_of (value_tree v.value))))) ++ sig (type_of (value_tree v.value))) ++ 0 ∷ [])
-writes-Variant order v front = ap (writing order front) (tree-Variant v) ∙ written_variant order (value_tree v.value) front
+writes-Path order s front = ap (λ (v : ValueTree). with_value order v front) (tree-Path s) ∙ written_path order (string_bytes s) front
 
 pub writes_more : {A : Type 0} (order : Order) (vs : List (Value A)) (i : ℕ) (v : Value A) (front : List ℕ) → i < length vs → v ≡ get_or vs i v →
     with_values order (value_trees_of (drop i vs)) front ≡ with_values order (value_trees_of (drop (i + 1) vs)) (with_value order (value_tree v) front)
@@ -133,11 +67,13 @@ length_bytes order bs front h =
 
 -- ---- what has to fit
 
-pub byte_fits : (front all : List ℕ) (n cap : ℕ) → all ≡ front ++ n ∷ [] → length all ≤ cap → length front + 1 ≤ cap
-byte_fits front all n cap e h = let l = ap length e ∙ length-append front (n ∷ []) in omega arith
+-- a value that is a number, written as m
+module _ {A : Type 0} (k : NumberCode) (v : Value A) (order : Order) (front : List ℕ) (n : ℕ) (tree : value_tree v ≡ NumberValue k n) where
+  pub number_fits : (cap : ℕ) → length (with_value order (value_tree v) front) ≤ cap → length (with_padding (width k) front) + width k ≤ cap
+  number_fits cap h = omega (arith, ap (λ (x : ValueTree). length (with_value order x front)) tree, length_number order k n front)
 
-pub counted_long : (order : Order) (n : ℕ) (front : List ℕ) → length (with_value order (NumberValue UINT32 n) front) ≡ length (with_padding 4 front) + 4
-counted_long order n front = ap length (written_32 order n front) ∙ length-append (with_padding 4 front) (num order 4 n) ∙ ap (λ (k : ℕ). length (with_padding 4 front) + k) (length-num order 4 n)
+  pub number_is : (m : ℕ) (s : List ℕ) → s ≡ with_padding (width k) front ++ num order (width k) m → m ≡ n → s ≡ with_value order (value_tree v) front
+  number_is m s h e = h ∙ ap (λ (x : ℕ). with_padding (width k) front ++ num order (width k) x) e ∙ sym (ap (λ (x : ValueTree). with_value order x front) tree ∙ written_number order k n front)
 
 pub variant_fits : (order : Order) (x : ValueTree) (front : List ℕ) (cap : ℕ) → length (with_value order x (((front ++ num order 1 (length (sig (type_of x)))) ++ sig (type_of x)) ++ 0 ∷ [])) ≤ cap → length front + length (sig (type_of x)) + 2 ≤ cap
 variant_fits order x front cap h =
@@ -146,4 +82,6 @@ variant_fits order x front cap h =
     let before : length (((front ++ num order 1 (length ty)) ++ ty) ++ 0 ∷ []) ≡ length front + length ty + 2 = simp (length-append, length-num) (omega arith) in
     omega arith
 
-pub ruleset spells = (writes-Byte, writes-Bool, writes-I16, writes-U16, writes-I32, writes-U32, writes-I64, writes-U64, writes-Double, writes-Fd, writes-Str, writes-Path, writes-Sig, writes-Bytes, writes-Array, writes-Struct, writes-Entry, writes-Variant)
+pub ruleset trees = (tree-Byte, tree-Bool, tree-I16, tree-U16, tree-I32, tree-U32, tree-I64, tree-U64, tree-Double, tree-Fd, tree-Str, tree-Path, tree-Sig, tree-Bytes, tree-Array, tree-Struct, tree-Entry, tree-Variant)
+
+pub ruleset spells = (trees, writes-Path)

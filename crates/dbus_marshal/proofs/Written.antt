@@ -1,7 +1,8 @@
 -- What is written one after the other.
-use Rattle.std.proofs.Common.{◌≡◌, ℕ, zero, suc, ◌+◌, ◌-◌, ◌%◌, ◌≤◌, ◌<◌, List, [], ◌∷◌, ◌++◌, length, replicate, take, refl, sym, ap, ◌∙◌, arith, append_assoc}
-use Rattle.std.proofs.lemmas.List.{length-append, length-take-le, take_at, take_all, append-nil, length-replicate}
-use Rattle.dbus_texts.specs.Types.{NumberCode, TextCode, UINT16, UINT32, UINT64, STRING, OBJECT_PATH, sig}
+use Rattle.std.proofs.Common.{◌≡◌, ℕ, zero, suc, ◌+◌, ◌-◌, ◌/◌, ◌%◌, ◌≤◌, ◌<◌, List, [], ◌∷◌, ◌++◌, length, replicate, reverse, take, drop, refl, sym, ap, ◌∙◌, arith, append_assoc}
+use Rattle.std.proofs.lemmas.List.{length-append, length-drop, length-reverse, length-take, length-take-le, reverse-append, take-append-drop, drop_at, take_at, take_all, append-nil, length-replicate}
+use Rattle.std.specs.Int.{w64, to_le_bytes, to_be_bytes}
+use Rattle.dbus_texts.specs.Types.{NumberCode, TextCode, STRING, OBJECT_PATH, sig}
 use Rattle.dbus_types.specs.Alignments.{width, length_width}
 use Rattle.dbus_value_model.specs.declared.order.Order.{Order}
 use Rattle.dbus_value_model.specs.declared.order.Order.TheVariants.{Little, Big}
@@ -9,6 +10,7 @@ use Rattle.dbus_value_model.specs.Values.{ValueTree, ValueTrees, NumberValue, Te
 use Rattle.dbus_value_model.specs.Bytes.{gap_to, pad, num, low_first}
 use Rattle.dbus_value_model.specs.Spelling.{ended_text, spelling, spellings}
 use Rattle.dbus_value_model.specs.Appending.{with_padding, with_value, with_values}
+use Rattle.dbus_value_model.proofs.NumberBytes.{num_64_little, num_64_big}
 use Rattle.dbus_value_model.proofs.Numbers.{length-num}
 
 -- ---- lengths
@@ -39,14 +41,29 @@ pub written_number : (order : Order) (k : NumberCode) (n : ℕ) (front : List �
 unfolding with_value with_padding spelling
 written_number order k n front = sym (append_assoc front (pad (width k) (length front)) (num order (width k) n))
 
-pub written_16 : (order : Order) (n : ℕ) (front : List ℕ) → with_value order (NumberValue UINT16 n) front ≡ with_padding 2 front ++ num order 2 n
-written_16 order n front = written_number order UINT16 n front
+pub length_number : (order : Order) (k : NumberCode) (n : ℕ) (front : List ℕ) → length (with_value order (NumberValue k n) front) ≡ length (with_padding (width k) front) + width k
+length_number order k n front = ap length (written_number order k n front) ∙ length-append (with_padding (width k) front) (num order (width k) n) ∙ ap (λ (w : ℕ). length (with_padding (width k) front) + w) (length-num order (width k) n)
 
-pub written_32 : (order : Order) (n : ℕ) (front : List ℕ) → with_value order (NumberValue UINT32 n) front ≡ with_padding 4 front ++ num order 4 n
-written_32 order n front = written_number order UINT32 n front
+low_front : (w m n : ℕ) → w ≤ m → take w (low_first m n) ≡ low_first w n
+unfolding low_first
+low_front zero m n h = refl
+low_front (suc w) zero n h = absurd (omega arith)
+low_front (suc w) (suc m) n h = ap (λ (l : List ℕ). n % 256 ∷ l) (low_front w m (n / 256) (omega arith))
 
-pub written_64 : (order : Order) (n : ℕ) (front : List ℕ) → with_value order (NumberValue UINT64 n) front ≡ with_padding 8 front ++ num order 8 n
-written_64 order n front = written_number order UINT64 n front
+-- the bytes of a number that has no more than w of the 8 of an UINT64
+pub low_bytes : (w n : ℕ) → w ≤ 8 → take w (to_le_bytes w64 n) ≡ num Little w n
+unfolding num
+low_bytes w n h = ap (take w) (num_64_little n) ∙ low_front w 8 n h
+
+pub high_bytes : (w n : ℕ) → w ≤ 8 → take (8 - (8 - w)) (drop (8 - w) (to_be_bytes w64 n)) ≡ num Big w n
+unfolding num
+high_bytes w n h =
+    let l = low_first 8 n in
+    let parts : reverse l ≡ reverse (drop w l) ++ reverse (take w l) = ap reverse (sym (take-append-drop w l)) ∙ reverse-append (take w l) (drop w l) in
+    let end : drop (8 - w) (to_be_bytes w64 n) ≡ reverse (take w l) =
+        ap (drop (8 - w)) (num_64_big n ∙ parts) ∙ drop_at (reverse (drop w l)) (reverse (take w l)) (8 - w) (omega (arith, length-reverse (drop w l), length-drop w l, length-num Little 8 n)) in
+    let few : length (drop (8 - w) (to_be_bytes w64 n)) ≤ 8 - (8 - w) = omega (arith, ap length end, length-reverse (take w l), length-take w l) in
+    take_all (8 - (8 - w)) (drop (8 - w) (to_be_bytes w64 n)) few ∙ end ∙ ap reverse (low_front w 8 n h)
 
 ended : (order : Order) (w : ℕ) (t front : List ℕ) → front ++ ended_text order w t ≡ ((front ++ num order w (length t)) ++ t) ++ 0 ∷ []
 ended order w t front = sym (append_assoc (front ++ num order w (length t)) t (0 ∷ []) ∙ append_assoc front (num order w (length t)) (t ++ 0 ∷ []))
@@ -139,6 +156,4 @@ no_padding front = ap (λ (n : ℕ). front ++ replicate n 0) (no_gap (length fro
 
 pub ruleset lengths = (length-append, length-take-le, length-num, length_padding, length_value, length_values)
 
-pub ruleset numbers = (lengths, written_16, written_32, written_64)
-
-pub ruleset texts = (numbers, written_text, num_1, no_padding)
+pub ruleset texts = (lengths, written_text, num_1, no_padding)

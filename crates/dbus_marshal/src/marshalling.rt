@@ -1,7 +1,7 @@
 //! Writing a value. D-Bus Specification, "Marshaling (Wire Format)".
 #![tactic(auto, using(crate::proofs::Written::lengths, crate::proofs::Spells::spells))]
 
-ghost use Rattle.std.specs.Prelude.{◌≡◌, ◌<◌, ◌≤◌, ◌^◌, ◌++◌, length, take, vec_capacity, None, OnOk, OnErr, IsOkUnless, MatchResult, if◌then◌else◌};
+ghost use Rattle.std.specs.Prelude.{◌≡◌, ◌<◌, ◌≤◌, ◌^◌, ◌++◌, length, take, vec_capacity, None, OnOk, OnErr, IsOkUnless, MatchResult};
 ghost use Rattle.dbus_types.specs.SigTypes.{type_tree};
 ghost use Rattle.dbus_texts.specs.Types.{NumberType, BYTE};
 ghost use Rattle.dbus_value_model.specs.declared.limits.TheConstants.{MESSAGE_LIMIT};
@@ -16,8 +16,7 @@ ghost use Rattle.dbus_value_model.specs.ValueViews.{value_tree, value_trees_of, 
 use crate::signatures::write_variant_signature;
 use crate::sizes::size_after_within;
 use crate::writing::{
-    overwrite_32, write_byte, write_bytes, write_number_16, write_number_32, write_number_64,
-    write_padding, write_signature, write_text,
+    overwrite_32, write_bytes, write_number, write_padding, write_signature, write_text,
 };
 use dbus_types::{SigType, alignment};
 use dbus_value_model::{Limits, Order, Value, ValueFault};
@@ -91,19 +90,19 @@ pub fn write_value<A: Allocator>(out: &mut [u8], at: usize, order: Order, value:
     ensures within { result ≤ length out.new }
 {
     match value {
-        Value::Byte(n) => write_byte(out, at, *n),
-        Value::Bool(b) => write_number_32(out, at, order, bit(*b)),
-        Value::I16(n) => write_number_16(out, at, order, n.cast_unsigned()),
-        Value::U16(n) => write_number_16(out, at, order, *n),
-        Value::I32(n) => write_number_32(out, at, order, n.cast_unsigned()),
-        Value::U32(n) => write_number_32(out, at, order, *n),
-        Value::I64(n) => write_number_64(out, at, order, n.cast_unsigned()),
-        Value::U64(n) => write_number_64(out, at, order, *n),
-        Value::Double(bits) => write_number_64(out, at, order, *bits),
+        Value::Byte(n) => write_number(out, at, order, 1, u64::from(*n)),
+        Value::Bool(b) => write_number(out, at, order, 4, u64::from(*b)),
+        Value::I16(n) => write_number(out, at, order, 2, u64::from(n.cast_unsigned())),
+        Value::U16(n) => write_number(out, at, order, 2, u64::from(*n)),
+        Value::I32(n) => write_number(out, at, order, 4, u64::from(n.cast_unsigned())),
+        Value::U32(n) => write_number(out, at, order, 4, u64::from(*n)),
+        Value::Fd(n) => write_number(out, at, order, 4, u64::from(*n)),
+        Value::I64(n) => write_number(out, at, order, 8, n.cast_unsigned()),
+        Value::U64(n) => write_number(out, at, order, 8, *n),
+        Value::Double(n) => write_number(out, at, order, 8, *n),
         Value::Str(text) => write_text(out, at, order, text.as_bytes()),
         Value::Path(text) => write_text(out, at, order, text.as_bytes()),
         Value::Sig(text) => write_signature(out, at, text.as_bytes()),
-        Value::Fd(index) => write_number_32(out, at, order, *index),
         Value::Bytes(bytes) => write_byte_array(out, at, order, bytes),
         Value::Array(element, items) => write_array(out, at, order, items, element),
         Value::Struct(fields) => {
@@ -120,13 +119,6 @@ pub fn write_value<A: Allocator>(out: &mut [u8], at: usize, order: Order, value:
             write_value(out, place, order, inner)
         }
     }
-}
-
-/// A BOOLEAN's number.
-fn bit(b: bool) -> u32
-    ensures { result ≡ if b then 1 else 0 }
-{
-    if b { 1 } else { 0 }
 }
 
 /// Writes values one after the other.
@@ -173,7 +165,7 @@ fn write_array<A: Allocator>(
         (take at out.old) }
     ensures within { result ≤ length out.new }
 {
-    let counted = write_number_32(out, at, order, 0);
+    let counted = write_number(out, at, order, 4, 0);
     let start = write_padding(out, counted, alignment(element));
     let end = write_values(out, start, order, items);
     overwrite_32(out, counted - 4, order, (end - start) as u32);
@@ -187,11 +179,10 @@ fn write_byte_array(out: &mut [u8], at: usize, order: Order, bytes: &[u8]) -> us
         (with_value order (ArrayValue (NumberType BYTE) (byte_values bytes.now))
         (take at out.old)) ≤
         length out.old }
-    requires fits { length out.old < 2 ^ 32 }
     ensures written { take result out.new ≡
         with_value order (ArrayValue (NumberType BYTE) (byte_values bytes.now)) (take at out.old) }
     ensures within { result ≤ length out.new }
 {
-    let place = write_number_32(out, at, order, bytes.len() as u32);
+    let place = write_number(out, at, order, 4, bytes.len() as u64);
     write_bytes(out, place, bytes)
 }

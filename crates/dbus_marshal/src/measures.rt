@@ -1,7 +1,7 @@
 //! Where values end, however far, and whether the arrays in them keep their limit.
 #![tactic(auto, using(crate::proofs::MeasureSteps::measuring))]
 
-ghost use Rattle.std.specs.Prelude.{◌≡◌, ℕ, ◌+◌, ◌<◌, IfSome};
+ghost use Rattle.std.specs.Prelude.{◌≡◌, ℕ, ◌+◌, ◌-◌, ◌%◌, ◌<◌, ◌≤◌, IfSome, MatchOption};
 ghost use Rattle.dbus_value_model.specs.Bytes.{gap_to};
 ghost use Rattle.dbus_value_model.specs.Measures.{capped, coded, IsCapped, IsMeasured, AreMeasured};
 ghost use Rattle.dbus_value_model.specs.ShortSignatures.{HasShortSignatures, HaveShortSignatures};
@@ -94,6 +94,23 @@ fn text(width: u8, len: usize, at: u64) -> u64
     cap(number(width, at) + cap(len as u64) + 1)
 }
 
+/// Where an array ends whose contents begin at `start`, or nothing where they have more bytes than the limits' array. `end` is
+/// where they would end from the remainder of `start` modulo 8 on: there they have the same paddings, and an end that is exact
+/// up to the cap.
+fn array_end(start: u64, end: u64, limits: Limits) -> Option<u64>
+    requires start { IsCapped start }
+    requires end { IsCapped end }
+    ensures exact { MatchOption result (start % 8 + limits.array < end) (λ e.
+        (end ≤ start % 8 + limits.array) × (e ≡ capped (start - start % 8 + end))) }
+    ensures within { IfSome result IsCapped }
+{
+    let origin = start % 8;
+    if end > origin + u64::from(limits.array) {
+        return None;
+    }
+    Some(cap(start - origin + end))
+}
+
 #[cycle(size)]
 fn measure_value<A: Allocator>(value: &Value<A>, at: u64, limits: Limits) -> Option<u64>
     requires start { IsCapped at }
@@ -110,21 +127,12 @@ fn measure_value<A: Allocator>(value: &Value<A>, at: u64, limits: Limits) -> Opt
         Value::Sig(types) => Some(text(1, types.len(), at)),
         Value::Bytes(bytes) => {
             let start = number(4, at);
-            let len = bytes.len() as u64;
-            if len > u64::from(limits.array) {
-                return None;
-            }
-            Some(cap(start + len))
+            array_end(start, cap(start % 8 + cap(bytes.len() as u64)), limits)
         }
         Value::Array(element, items) => {
             let start = boundary(alignment(element), number(4, at));
-            // From here the contents have the same paddings, and an end that is exact up to the cap.
-            let origin = start % 8;
-            let end = measure_values(items, origin, limits)?;
-            if end > origin + u64::from(limits.array) {
-                return None;
-            }
-            Some(cap(start - origin + end))
+            let end = measure_values(items, start % 8, limits)?;
+            array_end(start, end, limits)
         }
         Value::Struct(fields) => measure_values(fields, boundary(8, at), limits),
         Value::Entry(entry) => {

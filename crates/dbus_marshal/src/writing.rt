@@ -4,11 +4,11 @@
 //! place where that ends; what stands before the place stays. D-Bus Specification, "Marshaling (Wire Format)".
 #![tactic(auto, using(crate::proofs::Written::lengths))]
 
-ghost use Rattle.std.specs.Prelude.{◌≡◌, ◌+◌, ◌<◌, ◌≤◌, ◌^◌, ◌∷◌, [], ◌++◌, length, take, drop};
-ghost use Rattle.dbus_texts.specs.Types.{STRING, SIGNATURE, UINT16, UINT32, UINT64};
+ghost use Rattle.std.specs.Prelude.{◌≡◌, ◌+◌, ◌<◌, ◌≤◌, ◌∷◌, [], ◌++◌, length, take, drop};
+ghost use Rattle.dbus_texts.specs.Types.{STRING, SIGNATURE};
 ghost use Rattle.dbus_value_model.specs.Appending.{with_padding, with_value};
 ghost use Rattle.dbus_value_model.specs.Bytes.{num};
-ghost use Rattle.dbus_value_model.specs.Values.{NumberValue, TextValue};
+ghost use Rattle.dbus_value_model.specs.Values.{TextValue};
 
 use dbus_value_model::{Order, gap};
 
@@ -61,88 +61,35 @@ pub fn write_padding(out: &mut [u8], at: usize, alignment: u8) -> usize
     end
 }
 
-/// Writes the two bytes of a number, without padding.
-#[inline]
-#[tactic(auto, using(dbus_value_model::proofs::NumberBytes::numbers))]
-pub(crate) fn write_16(out: &mut [u8], at: usize, order: Order, n: u16) -> usize
-    requires space { at + 2 ≤ length out.old }
-    ensures written { take result out.new ≡ take at out.old ++ num order 2 n }
-    ensures ends { result ≡ at + 2 }
-{
-    match order {
-        Order::Little => write_bytes(out, at, &u16::to_le_bytes(n)),
-        Order::Big => write_bytes(out, at, &u16::to_be_bytes(n)),
-    }
-}
-
 /// Writes the four bytes of a number, without padding.
 #[inline]
-#[tactic(auto, using(dbus_value_model::proofs::NumberBytes::numbers))]
 pub fn write_32(out: &mut [u8], at: usize, order: Order, n: u32) -> usize
     requires space { at + 4 ≤ length out.old }
     ensures written { take result out.new ≡ take at out.old ++ num order 4 n }
     ensures ends { result ≡ at + 4 }
 {
+    overwrite_32(out, at, order, n);
+    at + 4
+}
+
+/// Writes a number of `width` bytes, with the padding before it. The width is its alignment too.
+#[inline(always)]
+#[tactic(auto, using(crate::proofs::Written::lengths, crate::proofs::Written::low_bytes, crate::proofs::Written::high_bytes))]
+pub(crate) fn write_number(out: &mut [u8], at: usize, order: Order, width: u8, n: u64) -> usize
+    requires some { 0 < width }
+    requires few { width ≤ 8 }
+    requires start { at ≤ length out.old }
+    requires space { length (with_padding width (take at out.old)) + width ≤ length out.old }
+    ensures written { take result out.new ≡
+        with_padding width (take at out.old) ++ num order width n }
+    ensures within { result ≤ length out.new }
+{
+    let place = write_padding(out, at, width);
+    let count = usize::from(width);
     match order {
-        Order::Little => write_bytes(out, at, &u32::to_le_bytes(n)),
-        Order::Big => write_bytes(out, at, &u32::to_be_bytes(n)),
+        Order::Little => write_bytes(out, place, &u64::to_le_bytes(n)[..count]),
+        Order::Big => write_bytes(out, place, &u64::to_be_bytes(n)[8 - count..]),
     }
-}
-
-/// Writes the eight bytes of a number, without padding.
-#[inline]
-#[tactic(auto, using(dbus_value_model::proofs::NumberBytes::numbers))]
-pub(crate) fn write_64(out: &mut [u8], at: usize, order: Order, n: u64) -> usize
-    requires space { at + 8 ≤ length out.old }
-    ensures written { take result out.new ≡ take at out.old ++ num order 8 n }
-    ensures ends { result ≡ at + 8 }
-{
-    match order {
-        Order::Little => write_bytes(out, at, &u64::to_le_bytes(n)),
-        Order::Big => write_bytes(out, at, &u64::to_be_bytes(n)),
-    }
-}
-
-/// Writes a number of two bytes, with the padding before it.
-#[inline]
-#[tactic(auto, using(crate::proofs::Written::numbers))]
-pub(crate) fn write_number_16(out: &mut [u8], at: usize, order: Order, n: u16) -> usize
-    requires start { at ≤ length out.old }
-    requires space { length (with_value order (NumberValue UINT16 n) (take at out.old)) ≤
-        length out.old }
-    ensures written { take result out.new ≡ with_value order (NumberValue UINT16 n) (take at out.old) }
-    ensures within { result ≤ length out.new }
-{
-    let place = write_padding(out, at, 2);
-    write_16(out, place, order, n)
-}
-
-/// Writes a number of four bytes, with the padding before it.
-#[inline]
-#[tactic(auto, using(crate::proofs::Written::numbers))]
-pub(crate) fn write_number_32(out: &mut [u8], at: usize, order: Order, n: u32) -> usize
-    requires start { at ≤ length out.old }
-    requires space { length (with_value order (NumberValue UINT32 n) (take at out.old)) ≤
-        length out.old }
-    ensures written { take result out.new ≡ with_value order (NumberValue UINT32 n) (take at out.old) }
-    ensures within { result ≤ length out.new }
-{
-    let place = write_padding(out, at, 4);
-    write_32(out, place, order, n)
-}
-
-/// Writes a number of eight bytes, with the padding before it.
-#[inline]
-#[tactic(auto, using(crate::proofs::Written::numbers))]
-pub(crate) fn write_number_64(out: &mut [u8], at: usize, order: Order, n: u64) -> usize
-    requires start { at ≤ length out.old }
-    requires space { length (with_value order (NumberValue UINT64 n) (take at out.old)) ≤
-        length out.old }
-    ensures written { take result out.new ≡ with_value order (NumberValue UINT64 n) (take at out.old) }
-    ensures within { result ≤ length out.new }
-{
-    let place = write_padding(out, at, 8);
-    write_64(out, place, order, n)
 }
 
 /// Writes the text of a STRING or an OBJECT_PATH: padding, its length in four bytes, itself and a zero byte.
@@ -151,12 +98,11 @@ pub(crate) fn write_text(out: &mut [u8], at: usize, order: Order, text: &[u8]) -
     requires start { at ≤ length out.old }
     requires space { length (with_value order (TextValue STRING text.now) (take at out.old)) ≤
         length out.old }
-    requires fits { length out.old < 2 ^ 32 }
     ensures written { take result out.new ≡
         with_value order (TextValue STRING text.now) (take at out.old) }
     ensures within { result ≤ length out.new }
 {
-    let place = write_number_32(out, at, order, text.len() as u32);
+    let place = write_number(out, at, order, 4, text.len() as u64);
     let place = write_bytes(out, place, text);
     write_byte(out, place, 0)
 }
