@@ -32,8 +32,8 @@ capped-same o low = elim (dec_lt o 134217736) [
 ]
 
 -- an offset within a message's limit is read off its capped one, and so is one past it
-pub capped-tells : CappedTells
-capped-tells limits o = elim (dec_lt o 134217736) [
+pub capped_tells : CappedTells
+capped_tells limits o = elim (dec_lt o 134217736) [
   | yes h ↦ ((λ le. omega (arith, capped-near o h), λ le. omega (arith, capped-near o h)), λ le. capped-near o h)
   | no h ↦
       let far : 134217736 ≤ o = omega arith in

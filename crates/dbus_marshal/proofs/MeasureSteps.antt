@@ -1,16 +1,13 @@
 -- Measures, level by level and one value after the other.
-use Rattle.std.proofs.Common.{◌≡◌, ℕ, Bool, cond, ◌+◌, ◌-◌, ◌%◌, ◌<◌, ◌≤◌, List, [], ◌∷◌, length, get_or, drop, Vec, Box, String, Option, Some, None, refl, sym, ap, subst, ◌∙◌, arith}
+use Rattle.std.proofs.Common.{◌≡◌, ℕ, ◌+◌, ◌-◌, ◌%◌, ◌<◌, ◌≤◌, List, [], ◌∷◌, length, get_or, drop, Vec, Option, Some, None, sym, ap, subst, ◌∙◌, arith}
 use Rattle.std.proofs.lemmas.List.{drop_more, drop_all}
 use Rattle.std.proofs.Math.Decide.{dec_lt}
 use Rattle.std.specs.Prelude.{MatchOption}
-use Rattle.std.specs.Int.{cast_unsigned, w16, w32, w64}
-use Rattle.dbus_texts.specs.Types.{sig, TypeTree, NumberType, NumberCode, BYTE, BOOLEAN, INT16, UINT16, INT32, UINT32, INT64, UINT64, DOUBLE, UNIX_FD, TextCode, STRING, OBJECT_PATH, SIGNATURE}
+use Rattle.dbus_texts.specs.Types.{sig, TypeTree, NumberType, NumberCode, BYTE, TextCode}
 use Rattle.dbus_types.specs.Alignments.{width, length_width, alignment_of}
-use Rattle.dbus_types.specs.SigTypes.{type_tree}
-use Rattle.dbus_types.specs.declared.sig_type.SigType.{SigType}
 use Rattle.dbus_value_model.specs.declared.limits.Limits.{Limits}
 use Rattle.dbus_value_model.specs.declared.order.Order.{Order}
-use Rattle.dbus_value_model.specs.declared.value.Value.{Value, Byte, Bool as BoolOf, I16, U16, I32, U32, I64, U64, Double, Str, Path, Sig, Fd, Bytes, Array, Struct, Entry, Variant}
+use Rattle.dbus_value_model.specs.declared.value.Value.{Value, Bytes}
 use Rattle.dbus_value_model.specs.Bytes.{gap_to}
 use Rattle.dbus_value_model.specs.Measures.{IsCapped, capped, coded, EndsAt, IsMeasured, AreMeasured}
 use Rattle.dbus_value_model.specs.ShortSignatures.{HasShortSignatures, HaveShortSignatures}
@@ -19,9 +16,8 @@ use Rattle.dbus_value_model.specs.Values.{ValueTree, ValueTrees, NumberValue, Te
 use Rattle.dbus_value_model.specs.ValueViews.{value_tree, value_trees_of, byte_values}
 use Rattle.dbus_marshal.proofs.Capping.{capped-near, capped-far, capped-bound, capped-same, capped-onward, capped-step, onward-from, rest-of}
 use Rattle.dbus_marshal.proofs.Lengths.{length-number, length-ended, length-text, length-variant, length-struct, length-entry, length-array, length-more, length-none}
-use Rattle.dbus_marshal.proofs.Periods.{gap-of_4, gap-of_8, gap-of_number, gap-of_text, gap-of_type, lengths-period, are_within-period}
-use Rattle.dbus_value_model.specs.declared.value.DictEntry.{DictEntry}
-use Rattle.dbus_value_model.proofs.ValueRows.{tree-Byte, tree-Bool, tree-I16, tree-U16, tree-I32, tree-U32, tree-I64, tree-U64, tree-Double, tree-Str, tree-Path, tree-Sig, tree-Fd, tree-Bytes, tree-Array, tree-Struct, tree-Entry, tree-Variant}
+use Rattle.dbus_marshal.proofs.Periods.{gap-of_4, gap-of_8, gap-of_number, gap-of_text, gap-of_type, values-period}
+use Rattle.dbus_value_model.proofs.ValueRows.{tree-Bytes}
 
 all-short : (bs : List ℕ) → HaveShortSignatures (byte_values bs)
 all-short [] = tt
@@ -159,9 +155,9 @@ module _ (limits : Limits) where
         let low : m < 134217736 = omega arith in
         let again : m % 8 ≡ s % 8 = omega arith in
         let rest : m % 8 ≡ z % 8 = again ∙ sym (rest-of z s (contents-from t o at p s h is begins)) in
-        let same : m + length (spellings order m xs) ≡ m + length (spellings order z xs) = omega (arith, lengths-period order xs m z rest) in
+        let same : m + length (spellings order m xs) ≡ m + length (spellings order z xs) = omega (arith, (values-period order xs m z rest).0) in
         ends-as r (m + length (spellings order m xs)) (m + length (spellings order z xs)) (AreWithinLimits limits.array order m xs) (AreWithinLimits limits.array order z xs) same
-        (are_within-period limits.array order xs m z rest) (are_within-period limits.array order xs z m (sym rest)) (inner.from order m (capped-near m low))
+        ((values-period order xs m z rest).1 limits.array) ((values-period order xs z m (sym rest)).1 limits.array) (inner.from order m (capped-near m low))
 
     pub measured-items : AreMeasured limits.array xs (s % 8) None → IsMeasured limits.array (ArrayValue t xs) at None
     measured-items inner = record { from = λ order o h. λ w. contents None inner order o h w.1 }
@@ -228,10 +224,6 @@ module _ (limits : Limits) where
   pub measured-end : {A : Type 0} (vs : List (Value A)) (i at : ℕ) → length vs ≤ i → IsCapped at → AreMeasured limits.array (value_trees_of (drop i vs)) at (Some at)
   measured-end {A} vs i at le low = subst (λ (l : List (Value A)). AreMeasured limits.array (value_trees_of l) at (Some at)) (sym (drop_all i vs le)) (measured-none at low)
 
-  -- a step after another
-  pub number-steps : (at g w p end : ℕ) → p ≡ capped (at + g) → end ≡ capped (p + w) → end ≡ capped (at + (g + w))
-  number-steps at g w p end is ends = ends ∙ onward-from (at + g) p w w (capped (p + w)) (sym is) refl refl ∙ ap capped (let e : at + g + w ≡ at + (g + w) = omega arith in e)
-
   pub text-steps : (at g w n p end : ℕ) → p ≡ capped (at + (g + w)) → end ≡ capped (p + capped n + 1) → end ≡ capped (at + (g + (w + (n + 1))))
   text-steps at g w n p end is ends =
       let a : p + capped n + 1 ≡ p + 1 + capped n = omega arith in
@@ -239,4 +231,4 @@ module _ (limits : Limits) where
       let c : at + (g + w) + (n + 1) ≡ at + (g + (w + (n + 1))) = omega arith in
       ends ∙ ap capped a ∙ capped-step (p + 1) n ∙ ap capped b ∙ capped-onward (at + (g + w)) p (n + 1) (sym is) ∙ ap capped c
 
-pub ruleset measuring = (measured-coded, number-steps, text-steps)
+pub ruleset measuring = (measured-coded, text-steps)

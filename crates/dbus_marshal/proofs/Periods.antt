@@ -77,63 +77,37 @@ start-of_contents t o p e =
     let second : gap_to (alignment_of t) (o + gap_to 4 o + 4) ≡ gap_to (alignment_of t) (p + gap_to 4 p + 4) = gap-of_type t (o + gap_to 4 o + 4) (p + gap_to 4 p + 4) head in
     omega arith
 
--- ---- lengths
+-- ---- values
 
 mutual
-  pub length-period : (order : Order) (v : ValueTree) (o p : ℕ) → o % 8 ≡ p % 8 → length (spelling order o v) ≡ length (spelling order p v)
-  length-period order (NumberValue k n) o p e = omega (arith, length-number order o n k, length-number order p n k, gap-of_number k o p e)
-  length-period order (TextValue k t) o p e = omega (arith, length-text order o k t, length-text order p k t, gap-of_text k o p e)
-  length-period order (VariantValue x) o p e =
+  pub value-period : (order : Order) (v : ValueTree) (o p : ℕ) → o % 8 ≡ p % 8 →
+      (length (spelling order o v) ≡ length (spelling order p v)) × ((array : ℕ) → IsWithinLimits array order o v → IsWithinLimits array order p v)
+  value-period order (NumberValue k n) o p e = (omega (arith, length-number order o n k, length-number order p n k, gap-of_number k o p e), λ array w. tt)
+  value-period order (TextValue k t) o p e = (omega (arith, length-text order o k t, length-text order p k t, gap-of_text k o p e), λ array w. tt)
+  value-period order (VariantValue x) o p e =
       let n = length (ended_text order 1 (sig (type_of x))) in
-      let inner = length-period order x (o + n) (p + n) (rest-more o p n n e (omega arith)) in
-      omega (arith, length-variant order o x, length-variant order p x, inner)
-  length-period order (ArrayValue t xs) o p e =
-      let inner = lengths-period order xs (contents_start t o) (contents_start t p) (rest-contents t o p e) in
-      omega (arith, length-array order o t xs, length-array order p t xs, start-of_contents t o p e, inner)
-  length-period order (StructValue xs) o p e =
-      let inner = lengths-period order xs (o + gap_to 8 o) (p + gap_to 8 p) (rest-boundary o p e) in
-      omega (arith, length-struct order o xs, length-struct order p xs, gap-of_8 o p e, inner)
-  length-period order (EntryValue k v) o p e =
-      let key = length-period order k (o + gap_to 8 o) (p + gap_to 8 p) (rest-boundary o p e) in
-      let rest = rest-more (o + gap_to 8 o) (p + gap_to 8 p) (length (spelling order (o + gap_to 8 o) k)) (length (spelling order (p + gap_to 8 p) k)) (rest-boundary o p e) key in
-      let held = length-period order v (o + gap_to 8 o + length (spelling order (o + gap_to 8 o) k)) (p + gap_to 8 p + length (spelling order (p + gap_to 8 p) k)) rest in
-      omega (arith, length-entry order o k v, length-entry order p k v, gap-of_8 o p e, key, held)
+      let inner = value-period order x (o + n) (p + n) (rest-more o p n n e (omega arith)) in
+      (omega (arith, length-variant order o x, length-variant order p x, inner.0), λ array w. inner.1 array w)
+  value-period order (ArrayValue t xs) o p e =
+      let inner = values-period order xs (contents_start t o) (contents_start t p) (rest-contents t o p e) in
+      (omega (arith, length-array order o t xs, length-array order p t xs, start-of_contents t o p e, inner.0), λ array w. (subst (λ (n : ℕ). n ≤ array) inner.0 w.0, inner.1 array w.1))
+  value-period order (StructValue xs) o p e =
+      let inner = values-period order xs (o + gap_to 8 o) (p + gap_to 8 p) (rest-boundary o p e) in
+      (omega (arith, length-struct order o xs, length-struct order p xs, gap-of_8 o p e, inner.0), λ array w. inner.1 array w)
+  value-period order (EntryValue k v) o p e =
+      let start = rest-boundary o p e in
+      let key = value-period order k (o + gap_to 8 o) (p + gap_to 8 p) start in
+      let rest = rest-more (o + gap_to 8 o) (p + gap_to 8 p) (length (spelling order (o + gap_to 8 o) k)) (length (spelling order (p + gap_to 8 p) k)) start key.0 in
+      let held = value-period order v (o + gap_to 8 o + length (spelling order (o + gap_to 8 o) k)) (p + gap_to 8 p + length (spelling order (p + gap_to 8 p) k)) rest in
+      (omega (arith, length-entry order o k v, length-entry order p k v, gap-of_8 o p e, key.0, held.0), λ array w. (key.1 array w.0, held.1 array w.1))
 
-  pub lengths-period : (order : Order) (vs : ValueTrees) (o p : ℕ) → o % 8 ≡ p % 8 → length (spellings order o vs) ≡ length (spellings order p vs)
-  lengths-period order NoValues o p e = omega (arith, length-none order o, length-none order p)
-  lengths-period order (MoreValues x xs) o p e =
-      let first = length-period order x o p e in
-      let rest = lengths-period order xs (o + length (spelling order o x)) (p + length (spelling order p x)) (rest-more o p (length (spelling order o x)) (length (spelling order p x)) e first) in
-      omega (arith, length-more order o x xs, length-more order p x xs, first, rest)
+  pub values-period : (order : Order) (vs : ValueTrees) (o p : ℕ) → o % 8 ≡ p % 8 →
+      (length (spellings order o vs) ≡ length (spellings order p vs)) × ((array : ℕ) → AreWithinLimits array order o vs → AreWithinLimits array order p vs)
+  values-period order NoValues o p e = (omega (arith, length-none order o, length-none order p), λ array w. tt)
+  values-period order (MoreValues x xs) o p e =
+      let first = value-period order x o p e in
+      let rest = values-period order xs (o + length (spelling order o x)) (p + length (spelling order p x)) (rest-more o p (length (spelling order o x)) (length (spelling order p x)) e first.0) in
+      (omega (arith, length-more order o x xs, length-more order p x xs, first.0, rest.0), λ array w. (first.1 array w.0, rest.1 array w.1))
 
--- ---- limits
-
-module _ (array : ℕ) where
-  mutual
-    pub within-period : (order : Order) (v : ValueTree) (o p : ℕ) → o % 8 ≡ p % 8 → IsWithinLimits array order o v → IsWithinLimits array order p v
-    within-period order (NumberValue k n) o p e w = tt
-    within-period order (TextValue k t) o p e w = tt
-    within-period order (VariantValue x) o p e w =
-        let n = length (ended_text order 1 (sig (type_of x))) in
-        within-period order x (o + n) (p + n) (rest-more o p n n e (omega arith)) w
-    within-period order (ArrayValue t xs) o p e w =
-        let rest = rest-contents t o p e in
-        (subst (λ (n : ℕ). n ≤ array) (lengths-period order xs (contents_start t o) (contents_start t p) rest) w.0, are_within-period order xs (contents_start t o) (contents_start t p) rest w.1)
-    within-period order (StructValue xs) o p e w = are_within-period order xs (o + gap_to 8 o) (p + gap_to 8 p) (rest-boundary o p e) w
-    within-period order (EntryValue k v) o p e w =
-        let start = rest-boundary o p e in
-        let key = length-period order k (o + gap_to 8 o) (p + gap_to 8 p) start in
-        let rest = rest-more (o + gap_to 8 o) (p + gap_to 8 p) (length (spelling order (o + gap_to 8 o) k)) (length (spelling order (p + gap_to 8 p) k)) start key in (
-          within-period order k (o + gap_to 8 o) (p + gap_to 8 p) start w.0,
-          within-period order v (o + gap_to 8 o + length (spelling order (o + gap_to 8 o) k)) (p + gap_to 8 p + length (spelling order (p + gap_to 8 p) k)) rest w.1,
-        )
-
-    pub are_within-period : (order : Order) (vs : ValueTrees) (o p : ℕ) → o % 8 ≡ p % 8 → AreWithinLimits array order o vs → AreWithinLimits array order p vs
-    are_within-period order NoValues o p e w = tt
-    are_within-period order (MoreValues x xs) o p e w =
-        let first = length-period order x o p e in
-        let rest = rest-more o p (length (spelling order o x)) (length (spelling order p x)) e first in
-        (within-period order x o p e w.0, are_within-period order xs (o + length (spelling order o x)) (p + length (spelling order p x)) rest w.1)
-
-pub offsets-repeat : OffsetsRepeat
-offsets-repeat array order v o p e = (length-period order v o p e, (λ w. within-period array order v o p e w, λ w. within-period array order v p o (sym e) w))
+pub offsets_repeat : OffsetsRepeat
+offsets_repeat array order v o p e = ((value-period order v o p e).0, (λ w. (value-period order v o p e).1 array w, λ w. (value-period order v p o (sym e)).1 array w))

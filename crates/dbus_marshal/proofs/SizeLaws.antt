@@ -1,7 +1,7 @@
 -- A size is where the spelling ends, in both orders, where the limits are kept, and is refused where one is not.
-use Rattle.std.proofs.Common.{◌≡◌, ℕ, ◌+◌, ◌≤◌, ◌⊎◌, inl, inr, Bool, true, false, cond, ltb, eqb, List, length, Option, None, Some, Result, Ok, Err, refl, sym, ap, subst, ◌∙◌, arith}
+use Rattle.std.proofs.Common.{◌≡◌, ℕ, ◌+◌, ◌≤◌, Bool, true, false, cond, ltb, eqb, List, length, Option, None, Some, Result, Ok, Err, refl, sym, ap, subst, ◌∙◌, arith}
 use Rattle.std.proofs.lemmas.Bool.{ltb-true, ltb-false, eqb-true}
-use Rattle.dbus_texts.specs.Types.{sig, TypeTree, NumberCode, TextCode}
+use Rattle.dbus_texts.specs.Types.{sig}
 use Rattle.dbus_types.specs.Alignments.{width, length_width, alignment_of}
 use Rattle.dbus_value_model.specs.declared.limits.Limits.{Limits}
 use Rattle.dbus_value_model.specs.declared.order.Order.{Order}
@@ -10,7 +10,7 @@ use Rattle.dbus_value_model.specs.declared.value_fault.ValueFault.TheVariants.{M
 use Rattle.dbus_value_model.specs.Appending.{with_value}
 use Rattle.dbus_value_model.specs.Values.{ValueTree, ValueTrees, NumberValue, TextValue, VariantValue, ArrayValue, StructValue, EntryValue, NoValues, MoreValues, type_of}
 use Rattle.dbus_value_model.specs.Bytes.{gap_to}
-use Rattle.dbus_value_model.specs.Spelling.{ended_text, contents_start, spelling, spellings, IsWithinLimits, AreWithinLimits}
+use Rattle.dbus_value_model.specs.Spelling.{ended_text, spelling, spellings, IsWithinLimits, AreWithinLimits}
 use Rattle.dbus_value_model.specs.Sizes.{Sizing, and_then, passes, item, padding, contents, narrowed, sized, sizes, ◌⊳◌}
 use Rattle.dbus_value_model.specs.SizeLimits.{Inside, Past, Stops, SizeEnds, SizeStops}
 use Rattle.dbus_marshal.proofs.Lengths.{length-number, length-ended, length-text, length-variant, length-struct, length-entry, length-array, length-more, length-none}

@@ -1,25 +1,25 @@
 -- Sizes, level by level and one item after the other.
-use Rattle.std.proofs.Common.{◌≡◌, ℕ, zero, suc, ◌+◌, ◌-◌, ◌%◌, ◌<◌, ◌≤◌, List, [], ◌∷◌, length, get_or, drop, Vec, Box, String, Bool, false, Option, Some, None, Result, Ok, Err, IfSome, refl, sym, ap, ◌∙◌, arith}
+use Rattle.std.proofs.Common.{◌≡◌, ℕ, zero, suc, ◌+◌, ◌-◌, ◌%◌, ◌<◌, ◌≤◌, List, [], ◌∷◌, length, get_or, drop, Vec, Box, false, Option, Some, None, Result, Ok, Err, IfSome, refl, sym, ap, ◌∙◌, arith}
 use Rattle.std.proofs.Math.Decide.{dec_lt}
 use Rattle.std.proofs.lemmas.Bool.{le-ltb, lt-ltb}
 use Rattle.std.specs.Option.{unwrap_or}
 use Rattle.std.specs.Bool.{◌==◌}
-use Rattle.std.specs.Prelude.{ℤ, string_bytes}
 use Rattle.std.proofs.lemmas.List.{at_drop_more}
-use Rattle.dbus_texts.specs.Types.{sig, BYTE}
-use Rattle.dbus_types.specs.Alignments.{alignment_of}
+use Rattle.dbus_texts.specs.Types.{sig, NumberCode, TextCode, BYTE}
+use Rattle.dbus_types.specs.Alignments.{width, length_width, alignment_of}
 use Rattle.dbus_types.specs.SigTypes.{type_tree}
 use Rattle.dbus_types.specs.declared.sig_type.SigType.{SigType}
-use Rattle.dbus_value_model.specs.Values.{ValueTree, NumberValue, type_of}
+use Rattle.dbus_value_model.specs.Values.{ValueTree, NumberValue, TextValue, type_of}
 use Rattle.dbus_value_model.specs.Bytes.{gap_to}
 use Rattle.dbus_value_model.specs.Sizes.{Sizing, and_then, item, padding, contents, narrowed, sized, sizes, ◌⊳◌}
 use Rattle.dbus_value_model.specs.declared.limits.Limits.{Limits}
 use Rattle.dbus_value_model.specs.ValueViews.{value_tree, value_trees_of, byte_values}
-use Rattle.dbus_value_model.specs.declared.value.Value.{Value, Byte, Bool as BoolOf, I16, U16, I32, U32, I64, U64, Double, Str, Path, Sig, Fd, Bytes, Array, Struct, Entry, Variant}
+use Rattle.dbus_value_model.specs.declared.value.Value.{Value, Bytes, Array, Struct, Entry, Variant}
 use Rattle.dbus_value_model.specs.declared.value_fault.ValueFault.{ValueFault}
 use Rattle.dbus_value_model.specs.declared.value_fault.ValueFault.TheVariants.{ArrayTooLong, TooLong}
 use Rattle.dbus_value_model.specs.declared.value.DictEntry.{DictEntry}
-use Rattle.dbus_value_model.proofs.ValueRows.{tree-Byte, tree-Bool, tree-I16, tree-U16, tree-I32, tree-U32, tree-I64, tree-U64, tree-Double, tree-Str, tree-Path, tree-Sig, tree-Fd, tree-Bytes, tree-Array, tree-Struct, tree-Entry, tree-Variant}
+use Rattle.dbus_value_model.proofs.ValueRows.{tree-Bytes, tree-Array, tree-Struct, tree-Entry, tree-Variant}
+use Rattle.dbus_marshal.proofs.Signing.{trees}
 
 module _ (limits : Limits) where
   -- ---- joined
@@ -44,44 +44,12 @@ module _ (limits : Limits) where
   abbrev size_of : Option ℕ → ℕ → ValueTree → Result ℕ ValueFault
   size_of b o v = sized limits v b o
 
-  pub sized-Byte : (A : Type 0) (b : Option ℕ) (o n : ℕ) → sized limits (value_tree {A = A} (Byte n)) b o ≡ and_then (padding limits b 1 o) (item limits b 1)
-  sized-Byte A b o n = ap (size_of b o) (tree-Byte A n)
+  pub sized_number : {A : Type 0} (v : Value A) (k : NumberCode) (n : ℕ) (b : Option ℕ) (o : ℕ) → value_tree v ≡ NumberValue k n → sized limits (value_tree v) b o ≡ and_then (padding limits b (width k) o) (item limits b (width k))
+  sized_number v k n b o e = ap (size_of b o) e
 
-  pub sized-Bool : (A : Type 0) (b : Option ℕ) (o : ℕ) (x : Bool) → sized limits (value_tree {A = A} (BoolOf x)) b o ≡ and_then (padding limits b 4 o) (item limits b 4)
-  sized-Bool A b o x = ap (size_of b o) (tree-Bool A x)
-
-  pub sized-I16 : (A : Type 0) (b : Option ℕ) (o : ℕ) (z : ℤ) → sized limits (value_tree {A = A} (I16 z)) b o ≡ and_then (padding limits b 2 o) (item limits b 2)
-  sized-I16 A b o z = ap (size_of b o) (tree-I16 A z)
-
-  pub sized-U16 : (A : Type 0) (b : Option ℕ) (o n : ℕ) → sized limits (value_tree {A = A} (U16 n)) b o ≡ and_then (padding limits b 2 o) (item limits b 2)
-  sized-U16 A b o n = ap (size_of b o) (tree-U16 A n)
-
-  pub sized-I32 : (A : Type 0) (b : Option ℕ) (o : ℕ) (z : ℤ) → sized limits (value_tree {A = A} (I32 z)) b o ≡ and_then (padding limits b 4 o) (item limits b 4)
-  sized-I32 A b o z = ap (size_of b o) (tree-I32 A z)
-
-  pub sized-U32 : (A : Type 0) (b : Option ℕ) (o n : ℕ) → sized limits (value_tree {A = A} (U32 n)) b o ≡ and_then (padding limits b 4 o) (item limits b 4)
-  sized-U32 A b o n = ap (size_of b o) (tree-U32 A n)
-
-  pub sized-I64 : (A : Type 0) (b : Option ℕ) (o : ℕ) (z : ℤ) → sized limits (value_tree {A = A} (I64 z)) b o ≡ and_then (padding limits b 8 o) (item limits b 8)
-  sized-I64 A b o z = ap (size_of b o) (tree-I64 A z)
-
-  pub sized-U64 : (A : Type 0) (b : Option ℕ) (o n : ℕ) → sized limits (value_tree {A = A} (U64 n)) b o ≡ and_then (padding limits b 8 o) (item limits b 8)
-  sized-U64 A b o n = ap (size_of b o) (tree-U64 A n)
-
-  pub sized-Double : (A : Type 0) (b : Option ℕ) (o n : ℕ) → sized limits (value_tree {A = A} (Double n)) b o ≡ and_then (padding limits b 8 o) (item limits b 8)
-  sized-Double A b o n = ap (size_of b o) (tree-Double A n)
-
-  pub sized-Fd : (A : Type 0) (b : Option ℕ) (o n : ℕ) → sized limits (value_tree {A = A} (Fd n)) b o ≡ and_then (padding limits b 4 o) (item limits b 4)
-  sized-Fd A b o n = ap (size_of b o) (tree-Fd A n)
-
-  pub sized-Str : {A : Type 0} (b : Option ℕ) (o : ℕ) (s : String A) → sized limits (value_tree {A = A} (Str s)) b o ≡ and_then (padding limits b 4 o) (item limits b 4 ⊳ item limits b (length (string_bytes s)) ⊳ item limits b 1)
-  sized-Str b o s = ap (size_of b o) (tree-Str s)
-
-  pub sized-Path : {A : Type 0} (b : Option ℕ) (o : ℕ) (s : String A) → sized limits (value_tree {A = A} (Path s)) b o ≡ and_then (padding limits b 4 o) (item limits b 4 ⊳ item limits b (length (string_bytes s)) ⊳ item limits b 1)
-  sized-Path b o s = ap (size_of b o) (tree-Path s)
-
-  pub sized-Sig : {A : Type 0} (b : Option ℕ) (o : ℕ) (s : String A) → sized limits (value_tree {A = A} (Sig s)) b o ≡ and_then (padding limits b 1 o) (item limits b 1 ⊳ item limits b (length (string_bytes s)) ⊳ item limits b 1)
-  sized-Sig b o s = ap (size_of b o) (tree-Sig s)
+  pub sized_words : {A : Type 0} (v : Value A) (k : TextCode) (t : List ℕ) (b : Option ℕ) (o : ℕ) → value_tree v ≡ TextValue k t →
+      sized limits (value_tree v) b o ≡ and_then (padding limits b (length_width k) o) (item limits b (length_width k) ⊳ item limits b (length t) ⊳ item limits b 1)
+  sized_words v k t b o e = ap (size_of b o) e
 
   without_padding : (b : Option ℕ) (r : Result ℕ ValueFault) (s : Sizing) → and_then r (padding limits b 1 ⊳ s) ≡ and_then r s
   without_padding b (Ok x) s = ap (λ (r : Result ℕ ValueFault). and_then r s) (no_padding b x)
@@ -245,4 +213,4 @@ module _ (limits : Limits) where
   some_bytes zero e = absurd cc
   some_bytes (suc n) e = omega arith
 
-pub ruleset sizing = (sized-Byte, sized-Bool, sized-I16, sized-U16, sized-I32, sized-U32, sized-I64, sized-U64, sized-Double, sized-Fd, sized-Str, sized-Path, sized-Sig, sized-Bytes, sized-Array, sized-Struct, sized-Entry, sized-Variant, sized_text, contents_is)
+pub ruleset sizing = (trees, sized_number, sized_words, sized-Bytes, sized-Array, sized-Struct, sized-Entry, sized-Variant, sized_text, contents_is)

@@ -1,23 +1,20 @@
 -- What is written of a value, level by level and along a list.
-use Rattle.std.proofs.Common.{◌≡◌, ℕ, ℤ, ◌+◌, ◌<◌, ◌≤◌, List, [], ◌∷◌, ◌++◌, suc, replicate, length, get_or, drop, Vec, Box, String, cond, refl, sym, ap, ◌∙◌, arith, append_assoc}
-use Rattle.std.specs.Prelude.{Bool, string_bytes}
-use Rattle.std.specs.Int.{cast_unsigned, w16, w32, w64}
+use Rattle.std.proofs.Common.{◌≡◌, ℕ, ◌+◌, ◌<◌, ◌≤◌, List, [], ◌∷◌, ◌++◌, suc, replicate, length, get_or, drop, String, refl, sym, ap, ◌∙◌, arith, append_assoc}
+use Rattle.std.specs.Prelude.{string_bytes}
 use Rattle.std.proofs.lemmas.List.{at_drop_more, at_drop_all, length-append}
 use Rattle.dbus_texts.specs.Types.{NumberType, NumberCode, BYTE, STRING, sig}
 use Rattle.dbus_types.specs.Alignments.{width}
-use Rattle.dbus_types.specs.SigTypes.{type_tree}
-use Rattle.dbus_types.specs.declared.sig_type.SigType.{SigType}
 use Rattle.dbus_value_model.specs.declared.order.Order.{Order}
 use Rattle.dbus_value_model.specs.Values.{ValueTree, NumberValue, TextValue, ArrayValue, type_of}
 use Rattle.dbus_value_model.specs.Bytes.{pad, gap_to, num}
 use Rattle.dbus_value_model.specs.Spelling.{spelling, spellings}
 use Rattle.dbus_value_model.specs.Appending.{with_padding, with_value, with_values}
 use Rattle.dbus_value_model.specs.ValueViews.{value_tree, value_trees_of, byte_values}
-use Rattle.dbus_value_model.specs.declared.value.Value.{Value, Byte, Bool as BoolOf, I16, U16, I32, U32, I64, U64, Double, Str, Path, Sig, Fd, Bytes, Array, Struct, Entry, Variant}
-use Rattle.dbus_value_model.specs.declared.value.DictEntry.{DictEntry}
-use Rattle.dbus_value_model.proofs.ValueRows.{tree-Byte, tree-Bool, tree-I16, tree-U16, tree-I32, tree-U32, tree-I64, tree-U64, tree-Double, tree-Str, tree-Path, tree-Sig, tree-Fd, tree-Bytes, tree-Array, tree-Struct, tree-Entry, tree-Variant}
+use Rattle.dbus_value_model.specs.declared.value.Value.{Value, Path}
+use Rattle.dbus_value_model.proofs.ValueRows.{tree-Path}
 use Rattle.dbus_value_model.proofs.Numbers.{length-num}
-use Rattle.dbus_marshal.proofs.Written.{length_value, length_number, written_number, written_path, written_variant, written_struct, written_entry, written_none, written_more, num_1, no_padding, no_gap}
+use Rattle.dbus_marshal.proofs.Signing.{trees}
+use Rattle.dbus_marshal.proofs.Written.{length_value, length_number, written_number, written_path, written_none, written_more, num_1, no_gap}
 
 pub writes-Path : {A : Type 0} (order : Order) (s : String A) (front : List ℕ) → with_value order (value_tree {A = A} (Path s)) front ≡ with_value order (TextValue STRING (string_bytes s)) front
 writes-Path order s front = ap (λ (v : ValueTree). with_value order v front) (tree-Path s) ∙ written_path order (string_bytes s) front
@@ -81,7 +78,5 @@ variant_fits order x front cap h =
     let whole = length_value order x (((front ++ num order 1 (length ty)) ++ ty) ++ 0 ∷ []) in
     let before : length (((front ++ num order 1 (length ty)) ++ ty) ++ 0 ∷ []) ≡ length front + length ty + 2 = simp (length-append, length-num) (omega arith) in
     omega arith
-
-pub ruleset trees = (tree-Byte, tree-Bool, tree-I16, tree-U16, tree-I32, tree-U32, tree-I64, tree-U64, tree-Double, tree-Fd, tree-Str, tree-Path, tree-Sig, tree-Bytes, tree-Array, tree-Struct, tree-Entry, tree-Variant)
 
 pub ruleset spells = (trees, writes-Path)

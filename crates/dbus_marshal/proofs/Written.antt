@@ -61,7 +61,7 @@ high_bytes w n h =
     let l = low_first 8 n in
     let parts : reverse l ≡ reverse (drop w l) ++ reverse (take w l) = ap reverse (sym (take-append-drop w l)) ∙ reverse-append (take w l) (drop w l) in
     let end : drop (8 - w) (to_be_bytes w64 n) ≡ reverse (take w l) =
-        ap (drop (8 - w)) (num_64_big n ∙ parts) ∙ drop_at (reverse (drop w l)) (reverse (take w l)) (8 - w) (omega (arith, length-reverse (drop w l), length-drop w l, length-num Little 8 n)) in
+    ap (drop (8 - w)) (num_64_big n ∙ parts) ∙ drop_at (reverse (drop w l)) (reverse (take w l)) (8 - w) (omega (arith, length-reverse (drop w l), length-drop w l, length-num Little 8 n)) in
     let few : length (drop (8 - w) (to_be_bytes w64 n)) ≤ 8 - (8 - w) = omega (arith, ap length end, length-reverse (take w l), length-take w l) in
     take_all (8 - (8 - w)) (drop (8 - w) (to_be_bytes w64 n)) few ∙ end ∙ ap reverse (low_front w 8 n h)
 

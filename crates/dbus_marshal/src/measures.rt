@@ -16,32 +16,6 @@ use std::alloc::Allocator;
 /// Offsets are exact below this, and known modulo 8 from here on: the limit of messages, and a step to a boundary beyond.
 const CAP: u64 = MESSAGE_LIMIT as u64 + 8;
 
-/// Where a value ends that begins at `at`, in both byte orders, or nothing where the contents of an array in it have more
-/// bytes than the limits' array. D-Bus Specification, "Marshaling (Wire Format)".
-///
-/// `at` is an offset from the message's first byte, or stands for one that is further out: 8 bytes past [`MESSAGE_LIMIT`] and
-/// its remainder modulo 8 for any from there on. The end is given in the same form, so one measure goes on from another however long
-/// the whole is, and it is over [`MESSAGE_LIMIT`] exactly where the true end is. Of the value it asks only that each signature
-/// in it has at most 255 bytes, as is so where it is well formed.
-pub fn measure<A: Allocator>(value: &Value<A>, at: u64, limits: Limits) -> Option<u64>
-    requires start { IsCapped at }
-    requires signed { HasShortSignatures (value_tree value.now) }
-    ensures exact { IsMeasured limits.array (value_tree value.now) at result }
-    ensures within { IfSome result IsCapped }
-{
-    measure_value(value, at, limits)
-}
-
-/// Where values end that stand one after the other from `at` on, as [`measure`] says.
-pub fn measure_all<A: Allocator>(values: &[Value<A>], at: u64, limits: Limits) -> Option<u64>
-    requires start { IsCapped at }
-    requires signed { HaveShortSignatures (value_trees_of values.now) }
-    ensures exact { AreMeasured limits.array (value_trees_of values.now) at result }
-    ensures within { IfSome result IsCapped }
-{
-    measure_values(values, at, limits)
-}
-
 /// Where a struct ends of a BYTE and a VARIANT that holds `value`, as each field of a message's header is one, as
 /// [`measure`] says.
 pub fn measure_header_field<A: Allocator>(value: &Value<A>, at: u64, limits: Limits) -> Option<u64>
@@ -52,7 +26,7 @@ pub fn measure_header_field<A: Allocator>(value: &Value<A>, at: u64, limits: Lim
     ensures within { IfSome result IsCapped }
 {
     let code_end = number(1, boundary(8, at));
-    measure_value(value, text(1, signature_length(value), code_end), limits)
+    measure(value, text(1, signature_length(value), code_end), limits)
 }
 
 /// The offset that stands for `at`.
@@ -81,7 +55,7 @@ fn number(width: u8, at: u64) -> u64
     ensures exact { result ≡ capped (at + (gap_to width at + width)) }
     ensures within { IsCapped result }
 {
-    cap(boundary(width, at) + u64::from(width))
+    cap(at + (u64::from(padding_length(width, at)) + u64::from(width)))
 }
 
 /// A text of `len` bytes, whose length has `width` bytes, and the byte after it.
@@ -111,8 +85,15 @@ fn array_end(start: u64, end: u64, limits: Limits) -> Option<u64>
     Some(cap(start - origin + end))
 }
 
+/// Where a value ends that begins at `at`, in both byte orders, or nothing where the contents of an array in it have more
+/// bytes than the limits' array. D-Bus Specification, "Marshaling (Wire Format)".
+///
+/// `at` is an offset from the message's first byte, or stands for one that is further out: 8 bytes past [`MESSAGE_LIMIT`] and
+/// its remainder modulo 8 for any from there on. The end is given in the same form, so one measure goes on from another however long
+/// the whole is, and it is over [`MESSAGE_LIMIT`] exactly where the true end is. Of the value it asks only that each signature
+/// in it has at most 255 bytes, as is so where it is well formed.
 #[cycle(size)]
-fn measure_value<A: Allocator>(value: &Value<A>, at: u64, limits: Limits) -> Option<u64>
+pub fn measure<A: Allocator>(value: &Value<A>, at: u64, limits: Limits) -> Option<u64>
     requires start { IsCapped at }
     requires signed { HasShortSignatures (value_tree value.now) }
     ensures exact { IsMeasured limits.array (value_tree value.now) at result }
@@ -131,20 +112,21 @@ fn measure_value<A: Allocator>(value: &Value<A>, at: u64, limits: Limits) -> Opt
         }
         Value::Array(element, items) => {
             let start = boundary(alignment(element), number(4, at));
-            let end = measure_values(items, start % 8, limits)?;
+            let end = measure_all(items, start % 8, limits)?;
             array_end(start, end, limits)
         }
-        Value::Struct(fields) => measure_values(fields, boundary(8, at), limits),
+        Value::Struct(fields) => measure_all(fields, boundary(8, at), limits),
         Value::Entry(entry) => {
-            let key_end = measure_value(&entry.key, boundary(8, at), limits)?;
-            measure_value(&entry.value, key_end, limits)
+            let key_end = measure(&entry.key, boundary(8, at), limits)?;
+            measure(&entry.value, key_end, limits)
         }
-        Value::Variant(inner) => measure_value(inner, text(1, signature_length(inner), at), limits),
+        Value::Variant(inner) => measure(inner, text(1, signature_length(inner), at), limits),
     }
 }
 
+/// Where values end that stand one after the other from `at` on, as [`measure`] says.
 #[cycle(size)]
-fn measure_values<A: Allocator>(values: &[Value<A>], at: u64, limits: Limits) -> Option<u64>
+pub fn measure_all<A: Allocator>(values: &[Value<A>], at: u64, limits: Limits) -> Option<u64>
     requires start { IsCapped at }
     requires signed { HaveShortSignatures (value_trees_of values.now) }
     ensures exact { AreMeasured limits.array (value_trees_of values.now) at result }
@@ -152,7 +134,7 @@ fn measure_values<A: Allocator>(values: &[Value<A>], at: u64, limits: Limits) ->
 {
     let mut end = at;
     for value in values {
-        end = measure_value(value, end, limits)?;
+        end = measure(value, end, limits)?;
     }
     Some(end)
 }

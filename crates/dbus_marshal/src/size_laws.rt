@@ -11,11 +11,13 @@ pub fn size_ends()
 {}
 
 /// An array is too long only where one passes its limit, and a value only where it ends past the message's.
+#[tactic(auto, using(crate::proofs::SizeLaws::size_stops))]
 pub fn size_stops()
     ensures { SizeStops }
 {}
 
 /// Each signature in a well-formed value has at most 255 bytes.
+#[tactic(auto, using(dbus_value_model::proofs::ShortLaws::formed_short))]
 pub fn formed_is_short()
     ensures { FormedIsShort }
 {}

@@ -11,7 +11,7 @@ use Rattle.dbus_value_model.specs.ValueViews.{value_tree, value_trees_of}
 use Rattle.dbus_value_model.specs.declared.value.Value.{the_lemmas}
 use Rattle.dbus_marshal.proofs.Measuring.{below_most_of_three}
 use Rattle.dbus_marshal.proofs.Patching.{array_written, length_array, array_grows, after_count}
-use Rattle.dbus_marshal.proofs.Signing.{short-Array, short-Struct, short-Entry, short-Variant, short_more}
+use Rattle.dbus_marshal.proofs.Signing.{short_more}
 use Rattle.dbus_value_model.proofs.ValueRows.{tree-Byte, tree-Bool, tree-I16, tree-U16, tree-I32, tree-U32, tree-I64, tree-U64, tree-Double, tree-Fd, tree-Array, tree-Struct, tree-Entry, tree-Sig, tree-Variant}
 use Rattle.dbus_marshal.proofs.Spells.{number_fits, number_is, variant_fits, writes_more, writes_end}
 use Rattle.dbus_marshal.proofs.Written.{length_value, length_values, length_text, no_padding, written_struct, written_entry, written_variant}
@@ -93,7 +93,7 @@ write_value-write_array-requires g t c κs within =
     let there = c.deref-in-Array.ensures.value in
     let measure = rw is at c.decreases in
     let space = rw (is, tree-Array) at c.requires.space in
-    let short = short-Array c.in-Array.element c.in-Array.items (rw is at c.requires.signed) in
+    let short = rw (is, tree-Array) at c.requires.signed in
     (rw (there, ← measure) (grind (arith, the_lemmas)), (within, (c.requires.start, (rw there space, (c.requires.fits, rw there short)))))
 
 pub write_value-write_padding-place-requires-clause-space : goal.write_value-write_padding-place-requires-clause-space
@@ -109,7 +109,7 @@ write_value-write_values-requires g t c κs within =
     let there = c.deref-in-Struct.ensures.value in
     let measure = rw is at c.decreases in
     let space = rw (is, tree-Struct, written_struct) at c.requires.space in
-    let short = short-Struct c.in-Struct.fields (rw is at c.requires.signed) in
+    let short = rw (is, tree-Struct) at c.requires.signed in
     (rw (there, ← measure) (grind (arith, the_lemmas)), (within, (c.write_padding-place.ensures.within, (rw (there, c.write_padding-place.ensures.written) (omega (arith, space)), (omega arith, rw there short)))))
 
 pub write_value-returns-in-Struct-clause-written : goal.write_value-returns-in-Struct-clause-written
@@ -134,7 +134,7 @@ write_value-write_value-place-requires g t c κs within =
     let front = take c.args.at c.args.out.now in
     let measure = rw is at c.decreases in
     let space = rw (is, tree-Entry, written_entry) at c.requires.space in
-    let short = short-Entry c.in-Entry.entry (rw is at c.requires.signed) in
+    let short = rw (is, tree-Entry) at c.requires.signed in
     let grows = length_value order (value_tree c.in-Entry.entry.value.value) (with_value order (value_tree c.in-Entry.entry.value.key) (with_padding 8 front)) in
     let wrote = c.write_padding-place-in-Entry.ensures.written in
     (rw (there, ← measure) (grind (arith, the_lemmas)), (within, (c.write_padding-place-in-Entry.ensures.within, (rw (there, wrote) (omega (arith, space, grows)), (omega arith, rw there short.0)))))
@@ -145,7 +145,7 @@ write_value-write_value-requires g t c κs within =
     let there = c.deref-in-Entry-2.ensures in
     let measure = rw is at c.decreases in
     let space = rw (is, tree-Entry, written_entry) at c.requires.space in
-    let short = short-Entry c.in-Entry.entry (rw is at c.requires.signed) in
+    let short = rw (is, tree-Entry) at c.requires.signed in
     let wrote = rw (c.deref-in-Entry.ensures, c.write_padding-place-in-Entry.ensures.written) at c.write_value-place.ensures.written in
     (rw (there, ← measure) (grind (arith, the_lemmas)), (within, (c.write_value-place.ensures.within, (rw (there, wrote) (omega (arith, space)), (omega arith, rw there short.1)))))
 
@@ -186,7 +186,7 @@ write_value-write_value-requires-in-Variant g t c κs within =
     let measure = rw is at c.decreases in
     let front = take c.args.at c.args.out.now in
     let space = rw (is, tree-Variant, written_variant) at c.requires.space in
-    let short = short-Variant c.in-Variant.inner (rw is at c.requires.signed) in
+    let short = rw (is, tree-Variant) at c.requires.signed in
     let wrote = rw c.deref-in-Variant.ensures at (c.write_variant_signature-place.ensures.written c.args.order) in
     let ends = rw c.deref-in-Variant.ensures at c.write_variant_signature-place.ensures.ends in
     let start : c.write_variant_signature-place.result ≤ length c.write_variant_signature-place.new.out = omega (arith, ends, variant_fits c.args.order (value_tree c.in-Variant.inner.value) front _ space, length-take-le c.args.at c.args.out.now c.requires.start) in

@@ -1,5 +1,5 @@
-use Rattle.dbus_marshal.proofs.Capping.{capped-tells}
+use Rattle.dbus_marshal.proofs.Capping.{capped_tells}
 use Rattle.dbus_marshal.proofs.measure_laws.capped_tells.Goals as goal
 
 pub returns : goal.returns
-returns c = capped-tells
+returns c = capped_tells

@@ -1,5 +1,5 @@
-use Rattle.dbus_marshal.proofs.Periods.{offsets-repeat}
+use Rattle.dbus_marshal.proofs.Periods.{offsets_repeat}
 use Rattle.dbus_marshal.proofs.measure_laws.offsets_repeat.Goals as goal
 
 pub returns : goal.returns
-returns c = offsets-repeat
+returns c = offsets_repeat

@@ -4,7 +4,7 @@ use Rattle.dbus_value_model.specs.ShortSignatures.{HaveShortSignatures}
 use Rattle.dbus_value_model.specs.ValueViews.{value_trees_of}
 use Rattle.dbus_marshal.proofs.measures.+size.Given as goal
 
-abbrev pub invariant-measure_values-loop-value : goal.invariant-measure_values-loop-value
-invariant-measure_values-loop-value g l =
+abbrev pub invariant-measure_all-loop-value : goal.invariant-measure_all-loop-value
+invariant-measure_all-loop-value g l =
     ((r : Option ℕ) → AreMeasured l.limits.array (value_trees_of (drop l.value-index l.values)) l.end r → AreMeasured l.limits.array (value_trees_of l.values) l.at r) × (IsCapped l.end)
     × HaveShortSignatures (value_trees_of (drop l.value-index l.values))

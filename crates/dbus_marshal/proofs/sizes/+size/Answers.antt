@@ -3,7 +3,8 @@ use Rattle.std.proofs.lemmas.Result.{err_from_is_err_and}
 use Rattle.dbus_value_model.specs.declared.value.Value.{the_lemmas}
 use Rattle.dbus_marshal.proofs.Measuring.{below_most}
 use Rattle.dbus_marshal.proofs.Sizing.{sized_bytes, sized_array, sized_struct, sized_entry, sized_variant, sizes_step, sizes_stop}
-use Rattle.dbus_marshal.proofs.Signing.{short-Array, short-Struct, short_more}
+use Rattle.dbus_value_model.proofs.ValueRows.{tree-Array, tree-Struct}
+use Rattle.dbus_marshal.proofs.Signing.{short_more}
 use Rattle.dbus_marshal.proofs.sizes.+size.Goals as goal
 
 pub size_value-size_values-requires : goal.size_value-size_values-requires
@@ -11,16 +12,16 @@ size_value-size_values-requires g t c κs within =
     let is = c.in-Array.is in
     let there = c.deref-in-Array.ensures.value in
     let measure = rw is at c.decreases in
-    let short = rw is at c.requires.signed in
-    (rw (there, ← measure) (grind (arith, the_lemmas)), (within, (search rules, (search rules, rw there (short-Array c.in-Array.element c.in-Array.items short)))))
+    let short = rw (is, tree-Array) at c.requires.signed in
+    (rw (there, ← measure) (grind (arith, the_lemmas)), (within, (search rules, (search rules, rw there short))))
 
 pub size_value-size_values-requires-in-Struct : goal.size_value-size_values-requires-in-Struct
 size_value-size_values-requires-in-Struct g t c κs within =
     let is = c.in-Struct.is in
     let there = c.deref-in-Struct.ensures.value in
     let measure = rw is at c.decreases in
-    let short = rw is at c.requires.signed in
-    (rw (there, ← measure) (grind (arith, the_lemmas)), (within, (search rules, (search rules, rw there (short-Struct c.in-Struct.fields short)))))
+    let short = rw (is, tree-Struct) at c.requires.signed in
+    (rw (there, ← measure) (grind (arith, the_lemmas)), (within, (search rules, (search rules, rw there short))))
 
 pub size_value-returns-in_err-offset-in-Variant-clause-exact :
     goal.size_value-returns-in_err-offset-in-Variant-clause-exact
