@@ -1,5 +1,5 @@
 -- Parts that are valid within limits, and in which each array of bytes is `Bytes`, have no case of fault.
-use Rattle.std.proofs.Common.{◌≡◌, inl, inr, ℕ, zero, suc, ◌+◌, ◌<◌, List, [], ◌∷◌, ◌++◌, ◌&&◌, ◌||◌, Bool, true, false, length, map, None, IsTrue, if◌then◌else◌, eqb, refl, sym, ap, subst, ◌∙◌, arith}
+use Rattle.std.proofs.Common.{◌≡◌, inl, inr, ℕ, zero, suc, ◌+◌, ◌<◌, List, [], ◌∷◌, ◌++◌, ◌&&◌, Bool, true, false, length, map, None, IsTrue, if◌then◌else◌, eqb, refl, sym, ap, subst, ◌∙◌, arith}
 use Rattle.std.proofs.lemmas.Bool.{ne_eqb, eqb-true, and_parts}
 use Rattle.dbus_texts.specs.Types.{UINT32, NumberType, TextType, VariantType, ArrayType, StructType, EntryType, NoTypes, TypeTrees, AreComplete, sigs}
 use Rattle.dbus_texts.specs.Kinds.{IsKind}
@@ -18,6 +18,7 @@ use Rattle.dbus_build.specs.BuildFaults.{IsFirstWithout, IsNonzero, HasOwnType, 
 use Rattle.dbus_message_model.specs.KeptLimits.{IsShallow}
 use Rattle.dbus_message_model.specs.Messages.{FieldTree, Want, Anything, OfType, Name, Serial, want, Suits, AreFields, field_struct, field_array, has_code, is_known, text_in, body_signature}
 use Rattle.dbus_build.specs.PartLaws.{KeptParts}
+use Rattle.dbus_build.proofs.ValidatedFields.{one_more}
 use Rattle.dbus_message_model.specs.PackedParts.{field_values, PartsKeepBytes}
 use Rattle.dbus_message_model.specs.PartsViews.{field_tree, field_trees, parts_tree}
 use Rattle.dbus_message_model.specs.SingleTypes.{AreSingleTypes}
@@ -25,7 +26,6 @@ use Rattle.dbus_message_model.specs.ValidMessages.{IsValidMessage}
 use Rattle.dbus_message_model.specs.declared.header_field.HeaderField.{HeaderField}
 use Rattle.dbus_message_model.specs.declared.parts.Parts.{Parts}
 use Rattle.dbus_message_model.proofs.SingleTypes.{each_single}
-use Rattle.dbus_message_model.proofs.FieldCodes.{has_append, or_comm, or_false}
 use Rattle.dbus_message_model.proofs.TextValues.{text_of}
 use Rattle.dbus_message_model.proofs.Wants.{WantOk, want_ok}
 use Rattle.dbus_message_model.proofs.Widening.{kept_valid}
@@ -89,9 +89,7 @@ not_twice : (before suffix : List FieldTree) (fs : List FieldTree) → ((c : ℕ
 not_twice before suffix [] same h = refl
 not_twice before suffix (f ∷ fs) same h =
     let e : is_known f.code && has_code f.code suffix ≡ false = ap (λ (b : Bool). is_known f.code && b) (same f.code) ∙ h.0.not_again in
-    rw e (not_twice (f ∷ before) (suffix ++ f ∷ []) fs
-    (λ c. has_append c suffix (f ∷ []) ∙ or_comm (has_code c suffix) (eqb f.code c || false) ∙ ap (λ (b : Bool). b || has_code c suffix) (or_false (eqb f.code c)) ∙ ap (λ (b : Bool). eqb f.code c || b) (same c))
-    h.1)
+    rw e (not_twice (f ∷ before) (suffix ++ f ∷ []) fs (one_more before suffix f same) h.1)
 
 -- ---- the body
 

@@ -119,16 +119,16 @@ module _ (limits : Limits) where
   fields_end_is fs = omega (arith, limits.array_in, limits.message_in, length-append (num Little 4 (length (spellings Little 16 (value_trees (map field_struct fs))))) (spellings Little 16 (value_trees (map field_struct fs))), length-num Little 4 (length (spellings Little 16 (value_trees (map field_struct fs)))))
 
   -- the field array, or an array in it, is too long
-  pub fields_past : (m : MessageTree) → AreFieldEnds limits m.fields 16 None → KeepsArrays limits m → ⊥
+  pub fields_past : (m : MessageTree) → AreFieldEnds limits m.fields None → KeepsArrays limits m → ⊥
   fields_past m h kept = let w = subst (λ (t : Type 0). t) (contents_at m.fields) kept.0 in absurd (omega (arith, limits.array_in, limits.message_in, w.0, h w.1))
 
-  pub fields_keep : (m : MessageTree) (e : ℕ) → AreFieldEnds limits m.fields 16 (Some e) → IsWithinLimits limits.array Little 12 (field_array m.fields)
+  pub fields_keep : (m : MessageTree) (e : ℕ) → AreFieldEnds limits m.fields (Some e) → IsWithinLimits limits.array Little 12 (field_array m.fields)
   fields_keep m e h = subst (λ (t : Type 0). t) (sym (contents_at m.fields)) (omega (arith, limits.array_in, limits.message_in, h.2), h.0)
 
-  pub fields_near : (m : MessageTree) (e : ℕ) → AreFieldEnds limits m.fields 16 (Some e) → e ≤ 16 + limits.array
+  pub fields_near : (m : MessageTree) (e : ℕ) → AreFieldEnds limits m.fields (Some e) → e ≤ 16 + limits.array
   fields_near m e h = omega (arith, limits.array_in, limits.message_in, h.1, h.2)
 
-  pub body_at : (m : MessageTree) (e g : ℕ) → AreFieldEnds limits m.fields 16 (Some e) → g ≡ gap_to 8 e → body_start Little m.fields ≡ e + g
+  pub body_at : (m : MessageTree) (e g : ℕ) → AreFieldEnds limits m.fields (Some e) → g ≡ gap_to 8 e → body_start Little m.fields ≡ e + g
   body_at m e g h gap =
       let f : fields_end Little m.fields ≡ e = fields_end_is m.fields ∙ sym h.1 in
       ap (λ (n : ℕ). n + gap_to 8 n) f ∙ ap (λ (n : ℕ). e + n) (sym gap)
@@ -136,7 +136,7 @@ module _ (limits : Limits) where
   pub whole_at : (m : MessageTree) (s : ℕ) → body_start Little m.fields ≡ s → length (message_bytes Little m) ≡ s + length (spellings Little s m.body)
   whole_at m s at = message_length Little m ∙ ap (λ (n : ℕ). n + length (spellings Little n m.body)) at
 
-  module _ (m : MessageTree) (e g : ℕ) (ends : AreFieldEnds limits m.fields 16 (Some e)) (gap : g ≡ gap_to 8 e) (few : g < 8) where
+  module _ (m : MessageTree) (e g : ℕ) (ends : AreFieldEnds limits m.fields (Some e)) (gap : g ≡ gap_to 8 e) (few : g < 8) where
     start_near : e + g ≤ 24 + limits.array
     start_near = omega (arith, limits.array_in, limits.message_in, fields_near m e ends, few)
 
@@ -149,7 +149,7 @@ module _ (limits : Limits) where
     pub keeps : (n : ℕ) → AreMeasured limits.array m.body (e + g) (Some n) → KeepsArrays limits m
     keeps n h = (fields_keep m e ends, subst (λ (o : ℕ). AreWithinLimits limits.array Little o m.body) (sym start_is) (body_kept limits m.body (e + g) n start_near h))
 
-  module _ {A : Type 0} (p : Parts A) (e g : ℕ) (passed : SignaturePasses limits p) (ends : AreFieldEnds limits (parts_tree p).fields 16 (Some e)) (gap : g ≡ gap_to 8 e) (few : g < 8) where
+  module _ {A : Type 0} (p : Parts A) (e g : ℕ) (passed : SignaturePasses limits p) (ends : AreFieldEnds limits (parts_tree p).fields (Some e)) (gap : g ≡ gap_to 8 e) (few : g < 8) where
     pub too_long : (n : ℕ) → AreMeasured limits.array (parts_tree p).body (e + g) (Some n) → limits.message < n → ArraysPass limits p × IsLong limits (parts_tree p)
     too_long n h long = ((passed, keeps (parts_tree p) e g ends gap few n h), omega (arith, limits.array_in, limits.message_in, body_long limits (parts_tree p).body (e + g) n (start_near (parts_tree p) e g ends gap few) h long, whole_at (parts_tree p) (e + g) (start_is (parts_tree p) e g ends gap few)))
 

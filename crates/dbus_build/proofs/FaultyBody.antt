@@ -1,9 +1,6 @@
 -- Going over a body's values for the first that is at fault, and for their types.
-use Rattle.std.proofs.Common.{◌≡◌, inl, inr, ℕ, ◌+◌, ◌-◌, ◌<◌, ◌≤◌, List, [], ◌∷◌, ◌++◌, length, get_or, drop, Option, Some, None, refl, sym, ap, subst, ◌∙◌, arith, append_assoc}
-use Rattle.std.proofs.lemmas.List.{drop_more, drop_all, length-append, append-nil}
-use Rattle.dbus_texts.specs.Types.{sig, sigs}
-use Rattle.dbus_value_model.specs.Values.{type_of, types_of}
-use Rattle.dbus_value_model.specs.ValueViews.{value_tree, value_trees_of}
+use Rattle.std.proofs.Common.{◌≡◌, inl, inr, ℕ, ◌+◌, ◌-◌, ◌<◌, List, [], ◌∷◌, ◌++◌, length, get_or, drop, Option, Some, None, refl, sym, ap, subst, ◌∙◌, arith}
+use Rattle.std.proofs.lemmas.List.{drop_more, length-append, append-nil}
 use Rattle.dbus_value_model.specs.declared.value.Value.{Value}
 use Rattle.dbus_build.specs.BuildFaults.{IsSound, IsFirstUnsound}
 
@@ -23,17 +20,6 @@ module _ {A : Type 0} (values : List (Value A)) (i : ℕ) where
 
   pub sound_from : (v : Value A) (n : ℕ) → i < length values → v ≡ get_or values i v → IsFirstUnsound n (drop i values) None → IsSound v × IsFirstUnsound (n + 1) (drop (i + 1) values) None
   sound_from v n h is w = none_unsound n v (drop (i + 1) values) (subst (λ (vs : List (Value A)). IsFirstUnsound n vs None) (from v h is) w)
-
-  -- the types from i on
-  pub types_from : (v : Value A) → i < length values → v ≡ get_or values i v → sigs (types_of (value_trees_of (drop i values))) ≡ sig (type_of (value_tree v)) ++ sigs (types_of (value_trees_of (drop (i + 1) values)))
-  types_from v h is = rw (from v h is) refl
-
-  pub no_types_from : length values ≤ i → sigs (types_of (value_trees_of (drop i values))) ≡ []
-  no_types_from h = rw (drop_all i values h) refl
-
--- what is spelled so far and the rest are the whole
-pub spelled_on : (out next head rest tail whole : List ℕ) → rest ≡ head ++ tail → out ++ rest ≡ whole → next ≡ out ++ head → next ++ tail ≡ whole
-spelled_on out next head rest tail whole is all on = ap (λ (t : List ℕ). t ++ tail) on ∙ append_assoc out head tail ∙ ap (λ (t : List ℕ). out ++ t) (sym is) ∙ all
 
 -- too long for the text
 pub spelled_past : (out head rest tail whole text : List ℕ) → rest ≡ head ++ tail → out ++ rest ≡ whole → length text - length out < length head → whole ≡ text → ⊥

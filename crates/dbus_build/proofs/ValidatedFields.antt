@@ -122,12 +122,15 @@ first_of : (b : Bool) (r : Option ℕ) (n : ℕ) → (if b then Some n else r) �
 first_of true r n h = absurd cc
 first_of false r n h = (refl, h)
 
+-- the fields so far have the same codes in either order
+pub one_more : (before suffix : List FieldTree) (f : FieldTree) → ((c : ℕ) → has_code c suffix ≡ has_code c before) → (c : ℕ) → has_code c (suffix ++ f ∷ []) ≡ has_code c (f ∷ before)
+one_more before suffix f same c =
+    has_append c suffix (f ∷ []) ∙ or_comm (has_code c suffix) (eqb f.code c || false) ∙ ap (λ (b : Bool). b || has_code c suffix) (or_false (eqb f.code c)) ∙ ap (λ (b : Bool). eqb f.code c || b) (same c)
+
 pub are_fields : (before suffix : List FieldTree) (fs : List FieldTree) → ((c : ℕ) → has_code c suffix ≡ has_code c before) → AreValidated fs → twice suffix fs ≡ None → AreFields before fs
 are_fields before suffix [] same h t = tt
 are_fields before suffix (f ∷ fs) same h t =
     let w = first_of (is_known f.code && has_code f.code suffix) _ f.code t in (
       record { not_zero = h.0; not_again = ap (λ (b : Bool). is_known f.code && b) (sym (same f.code)) ∙ w.0; suits = (good_value (want f.code) (want_ok f.code) f.value h.1).0 },
-      are_fields (f ∷ before) (suffix ++ f ∷ []) fs
-          (λ c. has_append c suffix (f ∷ []) ∙ or_comm (has_code c suffix) (eqb f.code c || false) ∙ ap (λ (b : Bool). b || has_code c suffix) (or_false (eqb f.code c)) ∙ ap (λ (b : Bool). eqb f.code c || b) (same c))
-          h.2 w.1,
+      are_fields (f ∷ before) (suffix ++ f ∷ []) fs (one_more before suffix f same) h.2 w.1,
     )

@@ -4,7 +4,7 @@ use Rattle.std.specs.Prelude.{◌≡◌, ℕ, ◌+◌, ◌^◌, ◌<◌, ◌≤�
 use Rattle.dbus_value_model.specs.declared.limits.Limits.{Limits}
 use Rattle.dbus_value_model.specs.declared.order.Order.TheVariants.{Little}
 use Rattle.dbus_value_model.specs.Ranges.{HoldsNumbers, HoldNumbers}
-use Rattle.dbus_value_model.specs.Spelling.{spelling, spellings, IsWithinLimits, AreWithinLimits}
+use Rattle.dbus_value_model.specs.Spelling.{spellings, AreWithinLimits}
 use Rattle.dbus_value_model.specs.Values.{value_trees}
 use Rattle.dbus_message_model.specs.Messages.{FieldTree, MessageTree, field_struct}
 
@@ -14,13 +14,11 @@ abbrev pub IsEnd : Limits → Type 0 → ℕ → Option ℕ → Type 0
 IsEnd limits kept n None = kept → 16 + limits.array < n
 IsEnd limits kept n (Some e) = kept × (e ≡ n) × (n ≤ 16 + limits.array)
 
-abbrev pub IsFieldEnd : Limits → FieldTree → ℕ → Option ℕ → Type 0
-IsFieldEnd limits f at end = IsEnd limits (IsWithinLimits limits.array Little at (field_struct f)) (at + length (spelling Little at (field_struct f))) end
-
-abbrev pub AreFieldEnds : Limits → List FieldTree → ℕ → Option ℕ → Type 0
-AreFieldEnds limits fs at end =
+-- the fields begin at 16
+abbrev pub AreFieldEnds : Limits → List FieldTree → Option ℕ → Type 0
+AreFieldEnds limits fs end =
     let structs = value_trees (map field_struct fs) in
-    IsEnd limits (AreWithinLimits limits.array Little at structs) (at + length (spellings Little at structs)) end
+    IsEnd limits (AreWithinLimits limits.array Little 16 structs) (16 + length (spellings Little 16 structs)) end
 
 -- a code is one byte, and a field's value holds numbers of their types
 abbrev pub HoldFieldNumbers : List FieldTree → Type 0

@@ -1,6 +1,5 @@
 use Rattle.dbus_build.proofs.Accepting.{no_fault}
 use Rattle.dbus_build.proofs.Built.{only_memory}
-use Rattle.dbus_build.proofs.PackedFacts.{parts_packed}
 use Rattle.dbus_build.proofs.building.build_within.Goals as goal
 
 pub returns-in-Err-clause-accepted : goal.returns-in-Err-clause-accepted
