@@ -4,17 +4,17 @@ use Rattle.std.proofs.lemmas.List.{length-append, drop_more, drop_all}
 use Rattle.dbus_texts.specs.Types.{BYTE, sig}
 use Rattle.dbus_value_model.specs.declared.order.Order.{Order}
 use Rattle.dbus_value_model.specs.Appending.{with_padding, with_value, with_values}
-use Rattle.dbus_value_model.specs.Values.{ValueTrees, NoValues, MoreValues, NumberValue, VariantValue, type_of, value_trees}
+use Rattle.dbus_value_model.specs.Values.{ValueTree, ValueTrees, NoValues, MoreValues, NumberValue, VariantValue, type_of, value_trees}
 use Rattle.dbus_value_model.specs.Bytes.{num}
+use Rattle.dbus_value_model.specs.Measures.{coded}
+use Rattle.dbus_value_model.specs.Spelling.{spelling}
 use Rattle.dbus_value_model.proofs.Numbers.{length-num}
-use Rattle.dbus_marshal.proofs.Written.{length_value, length_values, written_number, written_variant, written_struct, written_none, written_more, num_1, no_padding}
+use Rattle.dbus_marshal.proofs.Written.{lengths, length_value, length_values, written_number, written_variant, written_struct, written_none, written_more, num_1, no_padding}
 use Rattle.dbus_message_model.specs.Messages.{FieldTree, field_struct}
 use Rattle.dbus_message_model.specs.PartsViews.{field_tree}
 use Rattle.dbus_message_model.specs.declared.header_field.HeaderField.{HeaderField}
 use Rattle.dbus_message_model.proofs.FieldLists.{fields_from, no_fields_from}
 use Rattle.dbus_message_model.proofs.FieldStructs.{structs}
-
-pub ruleset fixed = (length-append, length-num, append_assoc)
 
 -- ---- a field
 
@@ -31,14 +31,17 @@ field_written order f front small =
     ∙ written_none order (with_value order (VariantValue f.value) (with_padding 8 front ++ f.code ∷ []))
     ∙ written_variant order f.value (with_padding 8 front ++ f.code ∷ [])
 
-pub field_length : (order : Order) (f : FieldTree) (front : List ℕ) → f.code < 256 → length (with_padding 8 front) + 1 + 1 + length (sig (type_of f.value)) + 1 ≤ length (with_value order (field_struct f) front)
-field_length order f front small =
-    let whole = ap length (field_written order f front small) ∙ length_value order f.value (before_value order f front) in
-    let a = length-append (with_padding 8 front) (f.code ∷ []) in
-    let b = length-append (with_padding 8 front ++ f.code ∷ []) (num order 1 (length (sig (type_of f.value)))) in
-    let c = length-append ((with_padding 8 front ++ f.code ∷ []) ++ num order 1 (length (sig (type_of f.value)))) (sig (type_of f.value)) in
-    let d = length-append (((with_padding 8 front ++ f.code ∷ []) ++ num order 1 (length (sig (type_of f.value)))) ++ sig (type_of f.value)) (0 ∷ []) in
-    omega (arith, whole, a, b, c, d, length-num order 1 (length (sig (type_of f.value))))
+pub field_length : (order : Order) (code : ℕ) (x : ValueTree) (front : List ℕ) → code < 256 →
+    length (with_value order (coded code x) front) ≡ length (with_padding 8 front) + 1 + 1 + length (sig (type_of x)) + 1 + length (spelling order (length (with_padding 8 front) + 1 + 1 + length (sig (type_of x)) + 1) x)
+field_length order code x front small =
+    let f : FieldTree = record { code = code; value = x } in
+    let n = length (sig (type_of x)) in
+    let before : length (before_value order f front) ≡ length (with_padding 8 front) + 1 + 1 + n + 1 = simp (length-append, length-num) (omega arith) in
+    ap length (field_written order f front small) ∙ length_value order x (before_value order f front) ∙ ap (λ (m : ℕ). m + length (spelling order m x)) before
+
+pub ruleset fixed = (length-append, length-num, append_assoc)
+
+pub ruleset field_lengths = (lengths, field_length)
 
 -- ---- lists of fields
 

@@ -37,6 +37,7 @@ fn write_fixed(out: &mut [u8], order: Order, kind: u8, flags: u8, serial: u32) -
 }
 
 /// Writes a field: its code, and its value in a variant.
+#[tactic(auto, using(crate::proofs::FieldWriting::field_lengths))]
 fn write_field<A: Allocator>(
     out: &mut [u8],
     at: usize,

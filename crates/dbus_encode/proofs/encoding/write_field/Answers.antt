@@ -1,33 +1,9 @@
-use Rattle.std.proofs.Common.{◌<◌, length, take, arith, sym, ap, ◌∙◌}
-use Rattle.std.proofs.lemmas.List.{length-take-le}
+use Rattle.std.proofs.Common.{◌<◌, take, arith, sym, ap, ◌∙◌}
 use Rattle.dbus_value_model.specs.Appending.{with_value}
 use Rattle.dbus_value_model.specs.ValueViews.{value_tree}
 use Rattle.dbus_message_model.specs.PartsViews.{field_tree}
-use Rattle.dbus_encode.proofs.FieldWriting.{field_written, field_length, field_before}
+use Rattle.dbus_encode.proofs.FieldWriting.{field_written, field_before}
 use Rattle.dbus_encode.proofs.encoding.write_field.Goals as goal
-
-pub write_padding-place-requires-clause-space : goal.write_padding-place-requires-clause-space
-write_padding-place-requires-clause-space g c =
-    let small : c.args.field.now.code < 256 = omega arith in
-    omega (arith, field_length c.args.order (field_tree c.args.field.now) (take c.args.at c.args.out.now) small, c.requires.space)
-
-pub write_byte-place-requires : goal.write_byte-place-requires
-write_byte-place-requires g c =
-    let small : c.args.field.now.code < 256 = omega arith in
-    let padded = length-take-le c.write_padding-place.result c.write_padding-place.new.out c.write_padding-place.ensures.within in
-    record { space = omega (arith, field_length c.args.order (field_tree c.args.field.now) (take c.args.at c.args.out.now) small, c.requires.space, padded, ap length c.write_padding-place.ensures.written) }
-
-pub write_variant_signature-place-requires-clause-space : goal.write_variant_signature-place-requires-clause-space
-write_variant_signature-place-requires-clause-space g c =
-    let small : c.args.field.now.code < 256 = omega arith in
-    let padded = length-take-le c.write_padding-place.result c.write_padding-place.new.out c.write_padding-place.ensures.within in
-    omega (arith, field_length c.args.order (field_tree c.args.field.now) (take c.args.at c.args.out.now) small, c.requires.space, padded, ap length c.write_padding-place.ensures.written)
-
-pub write_value-requires-clause-start : goal.write_value-requires-clause-start
-write_value-requires-clause-start g c =
-    let small : c.args.field.now.code < 256 = omega arith in
-    let padded = length-take-le c.write_padding-place.result c.write_padding-place.new.out c.write_padding-place.ensures.within in
-    omega (arith, field_length c.args.order (field_tree c.args.field.now) (take c.args.at c.args.out.now) small, c.requires.space, padded, ap length c.write_padding-place.ensures.written)
 
 pub write_value-requires-clause-space : goal.write_value-requires-clause-space
 write_value-requires-clause-space g c =
