@@ -16,6 +16,7 @@ mod owner;
 mod pair;
 mod parse;
 mod rule;
+mod rule_values;
 mod texts;
 mod to_text;
 mod value_cut;
