@@ -1,0 +1,18 @@
+use Rattle.std.proofs.Common.{◌+◌, sym, subst}
+use Rattle.std.specs.List.{AllByRecursion}
+use Rattle.dbus_rule_set.specs.Buckets.{IsKept}
+use Rattle.dbus_rule_set.proofs.Kept.{unheld, kept_more}
+use Rattle.dbus_rule_set.proofs.rule_set.RuleSet.add.Goals as goal
+
+pub invariant_of-self : goal.invariant_of-self
+invariant_of-self g c =
+    let n = c.args.self.now.next in
+    let h = c.handle_of-handle in
+    record {
+      ordered = c.insert.ensures.ordered;
+      kept = subst (AllByRecursion (IsKept (n + 1))) (sym c.in-Ok.ensures.entries) (kept_more n h.result c.args.rule c.args.self.now.rules.entries h.ensures.mask h.ensures.number h.ensures.placed c.args.self.now.kept);
+    }
+
+pub returns-in-Ok-clause-unheld : goal.returns-in-Ok-clause-unheld
+returns-in-Ok-clause-unheld g c =
+    unheld c.args.self.now.next c.handle_of-handle.result c.args.self.now.rules.entries c.handle_of-handle.ensures.number c.args.self.now.kept

@@ -1,0 +1,16 @@
+use Rattle.std.proofs.Common.{◌≡◌, take, length}
+use Rattle.dbus_value_model.specs.declared.order.Order.{Order}
+use Rattle.dbus_message_model.specs.Messages.{MessageTree}
+use Rattle.dbus_view.specs.Views.{Views}
+use Rattle.dbus_match.specs.Matching.{ownerships}
+use Rattle.dbus_rule_set.specs.Held.{Collects, EntryMatches}
+use Rattle.dbus_rule_set.proofs.Parted.{Below}
+use Rattle.dbus_rule_set.proofs.search.search.Given as goal
+
+-- those under the masks so far are found
+abbrev pub invariant-loop-mask : goal.invariant-loop-mask
+invariant-loop-mask g l =
+    record {
+      found : (order : Order) (m : MessageTree) → Views l.view order m → Collects (Below (EntryMatches m (ownerships l.owners)) l.mask) l.rules.entries l.fn.found.items l.found.items;
+      kept : take (length l.fn.found.items) l.found.items ≡ l.fn.found.items;
+    }

@@ -1,0 +1,4 @@
+pub mod TextNumbers
+pub mod Buckets
+pub mod Handles
+pub mod Held

@@ -1,0 +1,15 @@
+//! Handles of rules.
+#![tactic(auto)]
+
+/// What stands for a rule in a [`crate::RuleSet`], from the call that adds the rule on. A set gives no handle twice.
+///
+/// Handles are ordered; their order says nothing of the order in which rules were added.
+#[derive(Clone, Copy, PartialEq, Eq, PartialOrd, Ord, Debug)]
+pub struct RuleHandle {
+    /// Which of the four indexed keys the rule has.
+    pub(crate) mask: u8,
+    /// A number of the values of these keys.
+    pub(crate) hash: u64,
+    /// How many handles the set gave before this one.
+    pub(crate) number: u64,
+}

@@ -1,0 +1,167 @@
+//! Sets of rules.
+#![tactic(auto)]
+
+ghost use Rattle.std.specs.Prelude.{◌≡◌, ◌+◌, ◌↔◌, [], None, Some, IsTrue, IfOk, IfErr, OnOk, OnErr, length};
+ghost use Rattle.std.specs.List.{AllByRecursion};
+ghost use Rattle.std.specs.BTreeMap.{IsOrdered};
+ghost use Rattle.std.specs.Option.{option_copied};
+ghost use Rattle.std.proofs.Props.{props};
+ghost use Rattle.dbus_value_model.specs.declared.order.Order.{Order};
+ghost use Rattle.dbus_message_model.specs.Messages.{MessageTree};
+ghost use Rattle.dbus_view.specs.Views.{Views};
+ghost use Rattle.dbus_match.specs.Matching.{ownerships};
+ghost use Rattle.dbus_rule_set.specs.Buckets.{IsKept};
+ghost use Rattle.dbus_rule_set.specs.Handles.{handle_cmp};
+
+use crate::bucket::handle_of;
+use crate::handle::RuleHandle;
+use crate::search::search;
+use dbus_match::{Owner, Rule};
+use dbus_view::MessageView;
+use std::alloc::{AllocError, AllocFailed, Allocator, Global};
+use std::collections::BTreeMap;
+
+/// Match rules, each with a handle. Those that match a message are found without asking each of them.
+/// D-Bus Specification, "Match Rules".
+///
+/// The index is by `path`, `interface`, `member` and `arg0`: of the rules that have the same of these keys, only those that ask
+/// for the message's own texts are looked at. Rules that have none of the four are looked at for each message.
+///
+/// This keeps a rule for a client, and finds it for a message:
+///
+/// ```text
+/// let mut rules = RuleSet::new(alloc);
+/// let handle = rules.add(parse_rule(alloc, "type='signal',member='NameOwnerChanged'")?)?;
+/// let mut found = Vec::new(alloc);
+/// rules.matching(&MessageView::of(bytes)?, &owners, &mut found)?;
+/// for handle in &found {
+///     send_to(clients.get(handle), bytes)?;
+/// }
+/// rules.remove(handle);
+/// ```
+#[derive(Drop)]
+pub struct RuleSet<A: Allocator = Global> {
+    rules: BTreeMap<RuleHandle, Rule<A>, A>,
+    /// How many handles were given.
+    next: u64,
+    ghost ordered: { IsOrdered handle_cmp rules } by { Prim.hlevel props },
+    ghost kept: { AllByRecursion (IsKept next) rules.entries } by { Prim.hlevel props },
+}
+
+impl<A: Allocator> RuleSet<A> {
+    ghost use Rattle.dbus_rule_set.specs.Held.{held, given, rule_at, with_rule, without, AreApart, Collects, EntryMatches};
+
+    /// A set with no rules. It takes no memory.
+    pub fn new(alloc: A) -> Self
+        ensures empty { held result ≡ [] }
+        ensures given { given result ≡ 0 }
+    {
+        RuleSet {
+            rules: BTreeMap::new(alloc),
+            next: 0,
+        }
+    }
+
+    /// Adds the rule, and returns its handle, which the set did not give before.
+    ///
+    /// Returns an error, with the rule, only if an allocation failed or the set has given 2^64 - 1 handles. It then holds what it held.
+    ///
+    /// ```text
+    /// let handle = rules.add(parse_rule(alloc, "interface='org.example.Clock',member='Tick'")?)?;
+    /// ```
+    pub fn add(&mut self, rule: Rule<A>) -> Result<RuleHandle, AllocFailed<Rule<A>>>
+    where
+        A: Clone,
+        ensures new { IfOk result (λ h. (h.number ≡ given self.old) × (given self.new ≡ given self.old + 1)) }
+        ensures unheld { IfOk result (λ h. rule_at h (held self.old) ≡ None) }
+        ensures added { IfOk result (λ h. held self.new ≡ with_rule h rule (held self.old)) }
+        ensures unchanged { OnErr result ((held self.new ≡ held self.old) × (given self.new ≡ given self.old)) }
+        ensures returned { IfErr result (λ e. e.value ≡ rule) }
+    {
+        let number = self.next;
+        if number == u64::MAX {
+            return Err(AllocFailed { value: rule });
+        }
+        let handle = handle_of(&rule, number);
+        match self.rules.insert(handle, rule) {
+            Ok(_) => {
+                self.next = number + 1;
+                Ok(handle)
+            }
+            Err(refused) => {
+                let (_, rule) = refused.value;
+                Err(AllocFailed { value: rule })
+            }
+        }
+    }
+
+    /// Removes the rule that the handle stands for, and returns it; `None` if it stands for none. It takes no memory.
+    ///
+    /// ```text
+    /// if let Some(rule) = rules.remove(handle) {
+    ///     println!(rt; "{}", rule_text(alloc, &rule)?)?;
+    /// }
+    /// ```
+    pub fn remove(&mut self, handle: RuleHandle) -> Option<Rule<A>>
+        ensures rule { result ≡ rule_at handle (held self.old) }
+        ensures removed { held self.new ≡ without handle (held self.old) }
+        ensures given { given self.new ≡ given self.old }
+    {
+        self.rules.remove(&handle)
+    }
+
+    /// The rule that the handle stands for; `None` if it stands for none.
+    ///
+    /// ```text
+    /// let is_held = rules.get(handle).is_some();
+    /// ```
+    pub fn get(&self, handle: RuleHandle) -> Option<&Rule<A>>
+        ensures { option_copied result ≡ rule_at handle (held self.now) }
+    {
+        self.rules.get(&handle)
+    }
+
+    /// How many rules the set holds.
+    pub fn len(&self) -> usize
+        ensures { result ≡ length (held self.now) }
+    {
+        self.rules.len()
+    }
+
+    /// Whether the set holds no rule.
+    pub fn is_empty(&self) -> bool
+        ensures { IsTrue result ↔ (held self.now ≡ []) }
+    {
+        self.rules.is_empty()
+    }
+
+    /// Puts the handles of the rules that match the message at the end of `found`: of each once, in the order of the handles.
+    ///
+    /// A rule matches as [`dbus_match::matches_view`] says, with these owners of well-known names. Returns an error only if `found` has to
+    /// grow and the allocation fails; `found` then is as it was.
+    ///
+    /// ```text
+    /// found.clear();
+    /// rules.matching(&view, &owners, &mut found)?;
+    /// ```
+    pub fn matching(
+        &self,
+        view: &MessageView,
+        owners: &[Owner<A>],
+        found: &mut Vec<RuleHandle, A>,
+    ) -> Result<(), AllocError>
+        ensures found { (order : Order) (m : MessageTree) → Views view.now order m →
+            OnOk result (Collects (EntryMatches m (ownerships owners.now)) (held self.now) found.old.items found.new.items) }
+        ensures once { AreApart (held self.now) }
+        ensures unchanged { OnErr result (found.new.items ≡ found.old.items) }
+    {
+        let before = found.len();
+        match search(&self.rules, self.next, view, owners, found) {
+            Ok(()) => Ok(()),
+            Err(refused) => {
+                found.truncate(before);
+                Err(refused)
+            }
+        }
+    }
+}
