@@ -35,6 +35,6 @@ kept_more n h r (e ∷ es) b f p k =
     elim [ Less ↦ λ q. ((b, omega (arith, f), p), kept_on n (e ∷ es) k) | Equal ↦ λ q. absurd (new_differs n h e f k.0 q) | Greater ↦ λ q. ((k.0.0, omega (arith, k.0.1), k.0.2), kept_more n h r es b f p k.1) ] in
     split (handle_cmp h e.0) refl
 
-pub kept_less : {A : Type 0} (n : ℕ) (test : RuleHandle → Bool) (es : List (RuleHandle × Rule A)) → AllByRecursion (IsKept n) es → AllByRecursion (IsKept n) (remove_entry test es)
-kept_less n test [] k = tt
-kept_less n test (e ∷ es) k = cond_both (test e.0) es (e ∷ remove_entry test es) (λ xs. AllByRecursion (IsKept n) xs) (λ _. k.1) (λ _. (k.0, kept_less n test es k.1))
+pub kept_less : {A : Type 0} (P : RuleHandle × Rule A → Type 0) (test : RuleHandle → Bool) (es : List (RuleHandle × Rule A)) → AllByRecursion P es → AllByRecursion P (remove_entry test es)
+kept_less P test [] k = tt
+kept_less P test (e ∷ es) k = cond_both (test e.0) es (e ∷ remove_entry test es) (λ xs. AllByRecursion P xs) (λ _. k.1) (λ _. (k.0, kept_less P test es k.1))

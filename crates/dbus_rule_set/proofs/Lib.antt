@@ -1,8 +1,9 @@
 pub mod Numbered
 pub mod Begins
-pub mod Masks
+pub mod Bits
 pub mod Orders
 pub mod Kept
+pub mod Marked
 pub mod Collected
 pub mod Parted
 pub mod Placed

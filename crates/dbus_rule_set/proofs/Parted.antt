@@ -1,14 +1,15 @@
 -- The entries of a set below a mask, and those of one bucket under that mask.
-use Rattle.std.proofs.Common.{◌≡◌, ℕ, ◌+◌, ◌<◌, ◌≤◌, ⊎_elim, inl, inr, true, List, [], ◌∷◌, Less, subst, arith}
+use Rattle.std.proofs.Common.{◌≡◌, ℕ, ◌+◌, ◌<◌, ◌≤◌, ⊎_elim, inl, inr, true, List, [], ◌∷◌, Less, subst, arith, false, slice_index_or}
 use Rattle.std.specs.List.{AllByRecursion, filter}
 use Rattle.std.specs.List.Sorted.{IsStrictlySortedBy}
 use Rattle.std.specs.Map.{keys_of}
-use Rattle.std.proofs.lemmas.Bool.{cases_lt}
+use Rattle.std.proofs.lemmas.Bool.{cases_lt, both_ways}
 use Rattle.std.proofs.lemmas.Map.Keys.{sorted_head, sorted_tail}
 use Rattle.dbus_match.specs.declared.rule.Rule.{Rule}
 use Rattle.dbus_rule_set.specs.declared.handle.RuleHandle.{RuleHandle}
+use Rattle.dbus_rule_set.specs.declared.masks.Masks.{Masks}
 use Rattle.dbus_rule_set.specs.Handles.{handle_cmp}
-use Rattle.dbus_rule_set.specs.Buckets.{IsKept}
+use Rattle.dbus_rule_set.specs.Buckets.{IsKept, IsMarked}
 use Rattle.dbus_rule_set.specs.Held.{Collects}
 use Rattle.dbus_rule_set.proofs.Orders.{within, mask_rises, mask_within, is_within}
 use Rattle.dbus_rule_set.proofs.Collected.{Parted, passed, joined}
@@ -39,6 +40,22 @@ pub more_found : {A : Type 0} (P : RuleHandle × Rule A → Type 0) (m h n : ℕ
 more_found P m h n es ks u v w hit k s is c d =
     joined (Below P m) (λ e. (within m h n e.0 ≡ true) × P e) (Below P (m + 1)) es u v w (parted P m h n es hit k s) c
     (passed P (λ e. within m h n e.0) es v w (subst (λ xs. Collects P xs v w) is d))
+
+-- under a mask that is not marked there are none
+pub skipped : {A : Type 0} (P : RuleHandle × Rule A → Type 0) (m : ℕ) (us : Masks) (es : List (RuleHandle × Rule A)) → slice_index_or us.used m false ≡ false → AllByRecursion (IsMarked us) es → AllByRecursion (λ e. (Below P m e → Below P (m + 1) e) × (Below P (m + 1) e → Below P m e)) es
+skipped P m us [] f k = tt
+skipped P m us (e ∷ es) f k = (
+  (
+    λ b. (let l : e.0.mask < m = b.0 in omega (arith, l), b.1),
+    λ b. (
+      ⊎_elim (λ l. l)
+          (λ g. let l : e.0.mask < m + 1 = b.0 in let q : e.0.mask ≡ m = omega (arith, l, g) in absurd (both_ways (slice_index_or us.used m false) f (subst (λ j. slice_index_or us.used j false ≡ true) q k.0)))
+          (cases_lt e.0.mask m),
+      b.1,
+    ),
+  ),
+  skipped P m us es f k.1,
+)
 
 -- no mask is below 0, and all are below 16
 pub none_below : {A : Type 0} (P : RuleHandle × Rule A → Type 0) (es : List (RuleHandle × Rule A)) → AllByRecursion (λ e. Below P 0 e → ⊥) es

@@ -1,12 +1,13 @@
 -- The index: under which handle a rule stands, so that it is found by the texts of each message that it matches.
 -- No public clause speaks of it.
-use Rattle.std.specs.Prelude.{◌≡◌, ℕ, ◌+◌, ◌*◌, ◌/◌, ◌%◌, ◌^◌, ◌<◌, ◌==◌, Bool, List, if◌then◌else◌}
+use Rattle.std.specs.Prelude.{◌≡◌, ℕ, ◌+◌, ◌*◌, ◌/◌, ◌%◌, ◌^◌, ◌<◌, ◌==◌, Bool, true, false, List, slice_index_or, if◌then◌else◌}
 use Rattle.dbus_message_model.specs.Messages.{MessageTree}
 use Rattle.dbus_message_model.specs.Lookups.{field_value, body_value}
 use Rattle.dbus_match.specs.declared.rule.Rule.{Rule}
 use Rattle.dbus_match.specs.RuleViews.{rule_pairs}
 use Rattle.dbus_match.specs.Matching.{Matches, Ownership, text_of, string_of}
 use Rattle.dbus_rule_set.specs.declared.handle.RuleHandle.{RuleHandle}
+use Rattle.dbus_rule_set.specs.declared.masks.Masks.{Masks}
 use Rattle.dbus_rule_set.specs.declared.numbers.Numbers.{Numbers}
 use Rattle.dbus_rule_set.specs.TextNumbers.{number_of}
 
@@ -38,3 +39,7 @@ IsPlaced h r = (m : MessageTree) (os : List Ownership) → Matches (rule_pairs r
 -- an entry of a set that gave so many handles
 abbrev pub IsKept : {A : Type 0} → ℕ → RuleHandle × Rule A → Type 0
 IsKept given e = (e.0.mask < 16) × (e.0.number < given) × IsPlaced e.0 e.1
+
+-- the masks that were used have the entry's
+abbrev pub IsMarked : {A : Type 0} → Masks → RuleHandle × Rule A → Type 0
+IsMarked masks e = slice_index_or masks.used e.0.mask false ≡ true

@@ -3,6 +3,7 @@
 
 mod bucket;
 mod handle;
+mod masks;
 mod numbers;
 mod rule_set;
 mod search;

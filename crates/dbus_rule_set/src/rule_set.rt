@@ -10,11 +10,12 @@ ghost use Rattle.dbus_value_model.specs.declared.order.Order.{Order};
 ghost use Rattle.dbus_message_model.specs.Messages.{MessageTree};
 ghost use Rattle.dbus_view.specs.Views.{Views};
 ghost use Rattle.dbus_match.specs.Matching.{ownerships};
-ghost use Rattle.dbus_rule_set.specs.Buckets.{IsKept};
+ghost use Rattle.dbus_rule_set.specs.Buckets.{IsKept, IsMarked};
 ghost use Rattle.dbus_rule_set.specs.Handles.{handle_cmp};
 
 use crate::bucket::handle_of;
 use crate::handle::RuleHandle;
+use crate::masks::Masks;
 use crate::search::search;
 use dbus_match::{Owner, Rule};
 use dbus_view::MessageView;
@@ -44,8 +45,11 @@ pub struct RuleSet<A: Allocator = Global> {
     rules: BTreeMap<RuleHandle, Rule<A>, A>,
     /// How many handles were given.
     next: u64,
+    /// The masks of the rules that were added.
+    masks: Masks,
     ghost ordered: { IsOrdered handle_cmp rules } by { Prim.hlevel props },
     ghost kept: { AllByRecursion (IsKept next) rules.entries } by { Prim.hlevel props },
+    ghost marked: { AllByRecursion (IsMarked masks) rules.entries } by { Prim.hlevel props },
 }
 
 impl<A: Allocator> RuleSet<A> {
@@ -59,6 +63,7 @@ impl<A: Allocator> RuleSet<A> {
         RuleSet {
             rules: BTreeMap::new(alloc),
             next: 0,
+            masks: Masks::new(),
         }
     }
 
@@ -86,6 +91,7 @@ impl<A: Allocator> RuleSet<A> {
         match self.rules.insert(handle, rule) {
             Ok(_) => {
                 self.next = number + 1;
+                self.masks.mark(handle.mask);
                 Ok(handle)
             }
             Err(refused) => {
@@ -156,7 +162,7 @@ impl<A: Allocator> RuleSet<A> {
         ensures unchanged { OnErr result (found.new.items ≡ found.old.items) }
     {
         let before = found.len();
-        match search(&self.rules, self.next, view, owners, found) {
+        match search(&self.rules, self.next, &self.masks, view, owners, found) {
             Ok(()) => Ok(()),
             Err(refused) => {
                 found.truncate(before);

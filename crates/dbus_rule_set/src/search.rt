@@ -8,11 +8,12 @@ ghost use Rattle.dbus_value_model.specs.declared.order.Order.{Order};
 ghost use Rattle.dbus_message_model.specs.Messages.{MessageTree};
 ghost use Rattle.dbus_view.specs.Views.{Views};
 ghost use Rattle.dbus_match.specs.Matching.{ownerships};
-ghost use Rattle.dbus_rule_set.specs.Buckets.{IsKept};
+ghost use Rattle.dbus_rule_set.specs.Buckets.{IsKept, IsMarked};
 ghost use Rattle.dbus_rule_set.specs.Held.{Collects, EntryMatches};
 
 use crate::bucket::{bucket_hash, view_numbers};
 use crate::handle::RuleHandle;
+use crate::masks::Masks;
 use dbus_match::{Owner, Rule, matches_view};
 use dbus_view::MessageView;
 use std::alloc::{AllocError, Allocator};
@@ -39,22 +40,27 @@ fn ask_each<A: Allocator>(
     Ok(())
 }
 
-/// Puts the handles of the rules that match at the end of `found`. So many handles were given.
+/// Puts the handles of the rules that match at the end of `found`. So many handles were given, for these masks.
 #[tactic(auto, using(crate::proofs::Begins::begins_on))]
 pub(crate) fn search<A: Allocator>(
     rules: &BTreeMap<RuleHandle, Rule<A>, A>,
     given: u64,
+    masks: &Masks,
     view: &MessageView,
     owners: &[Owner<A>],
     found: &mut Vec<RuleHandle, A>,
 ) -> Result<(), AllocError>
-    requires { AllByRecursion (IsKept given) rules.now.entries }
+    requires kept { AllByRecursion (IsKept given) rules.now.entries }
+    requires marked { AllByRecursion (IsMarked masks.now) rules.now.entries }
     ensures found { (order : Order) (m : MessageTree) → Views view.now order m →
         OnOk result (Collects (EntryMatches m (ownerships owners.now)) rules.now.entries found.old.items found.new.items) }
     ensures kept { take (vec_len found.old) found.new.items ≡ found.old.items }
 {
     let numbers = view_numbers(view);
     for mask in 0..16u8 {
+        if !masks.has(mask) {
+            continue;
+        }
         let hash = bucket_hash(mask, &numbers);
         let first = RuleHandle {
             mask,

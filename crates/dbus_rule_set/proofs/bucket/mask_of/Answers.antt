@@ -1,5 +1,5 @@
 use Rattle.std.proofs.Common.{◌==◌, ap, ◌∙◌}
-use Rattle.dbus_rule_set.proofs.Masks.{bits}
+use Rattle.dbus_rule_set.proofs.Bits.{bits}
 use Rattle.dbus_rule_set.proofs.bucket.mask_of.Goals as goal
 
 pub returns : goal.returns
