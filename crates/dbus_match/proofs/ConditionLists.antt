@@ -2,7 +2,7 @@
 use Rattle.std.proofs.Common.{◌≡◌, ℕ, zero, suc, ◌<◌, List, [], ◌∷◌, length, get_or, inl, inr, sym, ap, ◌∙◌, string_bytes, arith}
 use Rattle.dbus_match.specs.declared.key.Key.{Key}
 use Rattle.dbus_match.specs.declared.condition.Condition.{Condition}
-use Rattle.dbus_match.specs.Rules.{Pair, HasKey, IsIn}
+use Rattle.dbus_match.specs.Rules.{HasKey, IsIn}
 use Rattle.dbus_match.specs.Conditions.{condition_pairs}
 
 pub has_at : {A : Type 0} (cs : List (Condition A)) (i : ℕ) (c : Condition A) (k : Key) → i < length cs → c ≡ get_or cs i c → c.key ≡ k → HasKey k (condition_pairs cs)
