@@ -20,7 +20,8 @@ mixed a b = ((a * 1099511628211) % 2 ^ 64 + b) % 2 ^ 64
 -- of the four numbers, those whose keys are in the mask
 abbrev pub bucket_hash : ℕ → Numbers → ℕ
 bucket_hash mask n =
-    mixed (mixed (mixed (picked (mask % 2 == 1) n.path) (picked (mask / 2 % 2 == 1) n.interface)) (picked (mask / 4 % 2 == 1) n.member)) (picked (mask / 8 % 2 == 1) n.arg0)
+    let two = mixed (picked (mask % 2 == 1) n.path) (picked (mask / 2 % 2 == 1) n.interface) in
+    mixed (mixed two (picked (mask / 4 % 2 == 1) n.member)) (picked (mask / 8 % 2 == 1) n.arg0)
 
 -- PATH, INTERFACE, MEMBER and a first STRING of the body
 abbrev pub message_numbers : MessageTree → Numbers
