@@ -4,6 +4,7 @@
 use crate::end_growths::{EndTurn, client_takes, server_takes};
 use crate::line_growths::{CutTurn, client_line, cuts, server_line};
 use crate::machine_growths::{ClientTurn, ServerTurn, client_hears, server_hears};
+use crate::rule_sets::rules_found;
 use crate::samples::OK_LINE;
 use crate::signal::{SIGNAL, SIGNAL_TEXT, message_of};
 use dbus_auth::{ClientState, ServerState, Status};
@@ -38,6 +39,8 @@ enum Call {
     RuleRead(&'static str, Option<RuleFault>),
     /// The rule that a text spells is written as another.
     RuleText(&'static str, &'static str),
+    /// Rules are added to a set, and those that match a message are found.
+    RulesFound,
     /// A message is shown.
     Show,
     /// A message is shown in a string kept from before.
@@ -371,6 +374,7 @@ const TEXTS: &[(Call, u64)] = &[
         1,
     ),
     (Call::RuleText(RULE, RULE_TEXT), 1),
+    (Call::RulesFound, 2),
     (Call::Show, 1),
     (Call::ShowInto, 1),
 ];
@@ -428,6 +432,7 @@ fn is_refused(
         Call::ClientTakes(trace, turns) => client_takes(rt, heap, n, trace, turns),
         Call::RuleRead(text, want) => Ok(rule_read(rt, heap, n, text, want)),
         Call::RuleText(text, want) => rule_written(rt, heap, n, text, want),
+        Call::RulesFound => rules_found(rt, heap, n),
         Call::Show => show(rt, heap, n),
         Call::ShowInto => show_kept(rt, heap, n),
     }

@@ -16,6 +16,8 @@ mod long_trace;
 #[cfg(test)]
 mod machine_growths;
 #[cfg(test)]
+mod rule_sets;
+#[cfg(test)]
 mod samples;
 #[cfg(test)]
 mod signal;
