@@ -8,24 +8,39 @@
 # make peers       holds the message cases against libdbus, GDBus and sd-bus, and writes docs/PEERS.md
 # make test-c      builds the examples for C and Rust over it, and holds what they write against dbus-wire check
 # make test-memory runs dbus-wire with each growth of its memory refused in turn
-# make install     puts the proved dbus-wire, its manual page and its completions, and the library for C, below PREFIX
+# make install     installs what make build and make library proved and built: the program with its manual page and completions, and the
+#                  library for C. PREFIX, BINDIR, LIBDIR, INCLUDEDIR, DATADIR, MANDIR and DESTDIR say where. install-program and
+#                  install-c install one of the two
+# make deb         packages both for Debian, by dpkg-deb, in out/
+# make tarball     packs both, and a checksum, in out/
 # make wrong-bodies prints the wrong bodies that the prover refuses, and what refuses each
 # make instructions prints the instructions a byte of each command, by valgrind, and of libdbus where its headers are
 # make bench       MB/s of each command on several streams, by user and system time, and of the calls of the libraries
 
 PREFIX ?= /usr/local
+BINDIR ?= $(PREFIX)/bin
+LIBDIR ?= $(PREFIX)/lib
+INCLUDEDIR ?= $(PREFIX)/include
+DATADIR ?= $(PREFIX)/share
+MANDIR ?= $(DATADIR)/man
+DOCDIR ?= $(DATADIR)/doc/dbus-wire
+
 PROGRAM = crates/dbus_wire/out/dbus_wire
 ARCHIVE = out/libdbus_wire.a
 VERSION = $(shell sed -n 's/.*VERSION: &str = "\(.*\)";/\1/p' crates/dbus_command/src/help.rt)
-INSTALLED = bin/dbus-wire share/man/man1/dbus-wire.1 share/bash-completion/completions/dbus-wire \
-	share/zsh/site-functions/_dbus-wire share/fish/vendor_completions.d/dbus-wire.fish \
-	include/dbus_wire.h lib/libdbus_wire.a lib/pkgconfig/dbus-wire.pc
+# The kit that everything was proved with, as README says.
+KIT = $(shell sed -n 's/.*Proved with\*\* \([^ ,]*\),.*/\1/p' README.md)
+
+COMPLETIONS = bash-completion/completions/dbus-wire zsh/site-functions/_dbus-wire fish/vendor_completions.d/dbus-wire.fish
+INSTALLED = $(BINDIR)/dbus-wire $(MANDIR)/man1/dbus-wire.1 $(addprefix $(DATADIR)/,$(COMPLETIONS)) $(DOCDIR)/LICENSE $(DOCDIR)/NOTICES \
+	$(INCLUDEDIR)/dbus_wire.h $(LIBDIR)/libdbus_wire.a $(LIBDIR)/pkgconfig/dbus-wire.pc
 
 # What make run does, and with which capture.
 ARGS = check
 FILE = samples/session.dbus
 
-.PHONY: kit run quick-test build library test test-c test-memory gate-times wrong-bodies peers instructions bench install uninstall
+.PHONY: kit run quick-test build library test test-c test-memory gate-times wrong-bodies peers instructions bench install install-program \
+	install-c install-notices uninstall deb tarball
 
 run: kit
 	@echo "dbus-wire without its proofs (make build proves it), which takes at most 64 MiB in and gives 1 MiB out:" >&2
@@ -33,6 +48,7 @@ run: kit
 
 kit:
 	@command -v rt > /dev/null || { echo "rt is missing: the bin folder of the Rattle kit has to be on the PATH" >&2; exit 1; }
+	@rt version | grep -q "^$(KIT) " || echo "this was proved with $(KIT); the rt on the PATH is of $$(rt version)" >&2
 
 quick-test: kit
 	bench/quick_test.py
@@ -72,16 +88,34 @@ bench: build
 	bench/commands.sh $(PROGRAM)
 	cd crates/dbus_bench && rt run -- 64 < ../../samples/session.dbus
 
-install: build library
-	install -D -m 755 $(PROGRAM) $(DESTDIR)$(PREFIX)/bin/dbus-wire
-	install -D -m 644 man/dbus-wire.1 $(DESTDIR)$(PREFIX)/share/man/man1/dbus-wire.1
-	install -D -m 644 completions/dbus-wire.bash $(DESTDIR)$(PREFIX)/share/bash-completion/completions/dbus-wire
-	install -D -m 644 completions/_dbus-wire $(DESTDIR)$(PREFIX)/share/zsh/site-functions/_dbus-wire
-	install -D -m 644 completions/dbus-wire.fish $(DESTDIR)$(PREFIX)/share/fish/vendor_completions.d/dbus-wire.fish
-	install -D -m 644 include/dbus_wire.h $(DESTDIR)$(PREFIX)/include/dbus_wire.h
-	install -D -m 644 $(ARCHIVE) $(DESTDIR)$(PREFIX)/lib/libdbus_wire.a
-	install -d $(DESTDIR)$(PREFIX)/lib/pkgconfig
-	sed 's|@PREFIX@|$(PREFIX)|; s|@VERSION@|$(VERSION)|' include/dbus-wire.pc.in > $(DESTDIR)$(PREFIX)/lib/pkgconfig/dbus-wire.pc
+install: install-program install-c
+
+install-program: install-notices
+	@test -x $(PROGRAM) || { echo "there is no $(PROGRAM): run make build" >&2; exit 1; }
+	install -D -m 755 $(PROGRAM) $(DESTDIR)$(BINDIR)/dbus-wire
+	install -D -m 644 man/dbus-wire.1 $(DESTDIR)$(MANDIR)/man1/dbus-wire.1
+	install -D -m 644 completions/dbus-wire.bash $(DESTDIR)$(DATADIR)/bash-completion/completions/dbus-wire
+	install -D -m 644 completions/_dbus-wire $(DESTDIR)$(DATADIR)/zsh/site-functions/_dbus-wire
+	install -D -m 644 completions/dbus-wire.fish $(DESTDIR)$(DATADIR)/fish/vendor_completions.d/dbus-wire.fish
+
+install-c: install-notices
+	@test -f $(ARCHIVE) || { echo "there is no $(ARCHIVE): run make library" >&2; exit 1; }
+	install -D -m 644 include/dbus_wire.h $(DESTDIR)$(INCLUDEDIR)/dbus_wire.h
+	install -D -m 644 $(ARCHIVE) $(DESTDIR)$(LIBDIR)/libdbus_wire.a
+	install -d $(DESTDIR)$(LIBDIR)/pkgconfig
+	sed 's|@INCLUDEDIR@|$(INCLUDEDIR)|; s|@LIBDIR@|$(LIBDIR)|; s|@VERSION@|$(VERSION)|' include/dbus-wire.pc.in \
+		> $(DESTDIR)$(LIBDIR)/pkgconfig/dbus-wire.pc
+
+# The licences of the kit's crates that are linked in come from the kit, so this needs it.
+install-notices: kit
+	install -D -m 644 LICENSE $(DESTDIR)$(DOCDIR)/LICENSE
+	packaging/notices.py > $(DESTDIR)$(DOCDIR)/NOTICES
 
 uninstall:
-	rm -f $(addprefix $(DESTDIR)$(PREFIX)/,$(INSTALLED))
+	rm -f $(addprefix $(DESTDIR),$(INSTALLED))
+
+deb: kit
+	packaging/deb.sh $(VERSION)
+
+tarball: kit
+	packaging/tarball.sh $(VERSION)

@@ -1,0 +1,40 @@
+#!/usr/bin/env python3
+"""Prints the licences of what is linked into dbus-wire and its library: of the kit's crates that their crates use, as the kit has them."""
+
+import pathlib
+import subprocess
+import sys
+
+sys.path.insert(0, str(pathlib.Path(__file__).resolve().parent.parent / "bench"))
+from crate_list import read_crates, read_lines  # noqa: E402
+
+
+def kit_folder():
+    """The kit's folder of sources, where each crate has its licence."""
+    page = subprocess.run(["rt", "doc"], capture_output=True, text=True, check=True).stdout.split()[0]
+    return pathlib.Path(page).parent / "rattle"
+
+
+def kit_crates(names):
+    """The kit's crates that these crates use, and those below them."""
+    own, lines, seen, found = read_crates(), read_lines(), set(), set()
+    left = list(names)
+    while left:
+        name = left.pop()
+        if name not in seen:
+            seen.add(name)
+            left += own[name]
+            found |= set(lines[name].split(":")[1].split()) - set(own)
+    return sorted(found)
+
+
+def main():
+    for name in kit_crates(["dbus_wire", "dbus_c"]):
+        licences = sorted((kit_folder() / name).glob("LICENSE*"))
+        if not licences:
+            sys.exit(f"{name} of the kit has no licence file")
+        for licence in licences:
+            print(f"{name}, {licence.name}\n\n{licence.read_text().strip()}\n")
+
+
+main()
