@@ -143,7 +143,12 @@ fn further_messages_take_no_more_memory(rt: HostRuntime) -> Result<(), Fail> {
 // that byteswaps them takes it once.
 #[test]
 fn messages_in_the_buffer_take_no_memory(rt: HostRuntime) -> Result<(), Fail> {
-    for words in [SHOW, TO_LITTLE, &["filter", ""], &["filter", "type='error'"]] {
+    for words in [
+        SHOW,
+        TO_LITTLE,
+        &["filter", ""],
+        &["filter", "type='error'"],
+    ] {
         assert_eq!(rt; growths_of(&rt, words, 3, 1000)?, 0);
     }
     assert_eq!(rt; growths_of(&rt, TO_BIG, 3, 1000)?, 1);

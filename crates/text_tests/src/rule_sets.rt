@@ -70,13 +70,12 @@ pub(crate) fn rules_found(rt: &impl Abort, heap: &Refusing, n: u64) -> Result<bo
     let mut rules = RuleSet::new(heap);
     let mut refused = false;
     heap.refuse_nth(n);
-    while let Some(rule) = left.pop() {
+    for (row, rule) in left.into_iter().enumerate() {
         let (handle, again) = added(rt, &mut rules, rule)?;
         refused |= again;
-        if RULES[left.len()].1 {
-            wanted.push(handle)?;
-        } else {
-            others.push(handle)?;
+        match RULES.get(row) {
+            Some((_, true)) => wanted.push(handle)?,
+            _ => others.push(handle)?,
         }
     }
     let mut found = Vec::new(heap);
