@@ -100,7 +100,7 @@ signature_at : (b : Bool) (c : ℕ) → eqb c 8 ≡ b → (t u : List ℕ) → I
 signature_at true c e t u own rest = subst (λ (n : ℕ). IsOf (text_wanted (want n)) t) (eqb-true c 8 e) own
 signature_at false c e t u own rest = rest
 
-signature_of : (fs : List FieldTree) → IsFirstWithout HasOwnKind fs None → IsKind kinds.Signature (body_signature fs)
+pub signature_of : (fs : List FieldTree) → IsFirstWithout HasOwnKind fs None → IsKind kinds.Signature (body_signature fs)
 signature_of [] h = no_signature
 signature_of (f ∷ fs) h = elim h [
   | inl x ↦ absurd cc

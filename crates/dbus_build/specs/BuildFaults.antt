@@ -137,10 +137,9 @@ SizePasses limits p = ArraysPass limits p × (IsLong limits (parts_tree p) → �
 abbrev pub NoFault : {A : Type 0} → Limits → Parts A → Type 0
 NoFault limits p = SizePasses limits p × KeepsIndexes limits (parts_tree p)
 
--- The case holds, and none before it does. Memory is answered only where a growth was refused, which says nothing of the
--- parts.
+-- The case holds, and none before it does. No memory is taken, so that Memory is never answered.
 abbrev pub IsFirstFault : {A : Type 0} → Limits → Parts A → BuildFault → Type 0
-IsFirstFault limits p faults.Memory = Unit {0}
+IsFirstFault limits p faults.Memory = ⊥
 IsFirstFault limits p faults.Kind = p.kind ≡ 0
 IsFirstFault limits p faults.ZeroSerial = let m = parts_tree p in KindPasses m × ((m.serial ≡ 0) ⊎ ((c : ℕ) × IsFirstWithout IsNonzero m.fields (Some c)))
 IsFirstFault limits p faults.FieldCode = let m = parts_tree p in SerialsPass m × (has_code 0 m.fields ≡ true)

@@ -25,12 +25,28 @@ pub trait Build: Sized {
     type Parts;
 
     /// The message of these parts, as [`Build::new_within`] says under the limits of the specification.
+    ///
+    /// ```rust
+    /// use dbus_message::{Build, HeaderField, Message, Parts, field_code, message_type};
+    /// use dbus_value::Value;
+    ///
+    /// let path = Value::Path(String::from_str(alloc, "/org/freedesktop/DBus")?);
+    /// let member = Value::Str(String::from_str(alloc, "Hello")?);
+    /// let mut fields = Vec::new(alloc);
+    /// fields.push(HeaderField { code: field_code::PATH, value: path })?;
+    /// fields.push(HeaderField { code: field_code::MEMBER, value: member })?;
+    /// let (kind, flags, serial, body) = (message_type::METHOD_CALL, 0, 1, Vec::new(alloc));
+    /// match Message::new(alloc, Parts { kind, flags, serial, fields, body }) {
+    ///     Ok(message) => println!(rt; "a message of {} bytes", message.size())?,
+    ///     Err((_, fault)) => println!(rt; "no message: {fault}")?,
+    /// }
+    /// ```
     fn new(alloc: Self::Allocator, parts: Self::Parts) -> Result<Self, (Self::Parts, BuildFault)>;
 
-    /// The message of these parts, which is `Ok` exactly if no case of [`BuildFault`] holds of them under the limits and
-    /// memory was there.
+    /// The message of these parts, which is `Ok` exactly if no case of [`BuildFault`] holds of them under the limits.
     ///
-    /// The error hands the parts back, with the first case that holds of them, or `Memory` if an allocation failed.
+    /// The error hands the parts back, with the first case that holds of them. No memory is taken, so `Memory` is never
+    /// answered.
     /// D-Bus Specification, "Message Format", "Header Fields".
     fn new_within(
         alloc: Self::Allocator,
@@ -41,8 +57,8 @@ pub trait Build: Sized {
 
 /// What holds a [`Message`](dbus_message_model::Message) to limits, as `message.within(limits)`.
 pub trait Within {
-    /// Whether the message keeps the limits: it has no more bytes than their message, no array in it, that of its fields
-    /// among them, more than their array, no more arrays, structs and variants are open at once than their depth, and the
+    /// Whether the message keeps the limits. It does if it has no more bytes than their message, no array in it, that of its
+    /// fields among them, more than their array, no more arrays, structs and variants are open at once than their depth, and the
     /// indexes of descriptors in its body are as their rule asks.
     ///
     /// These are the cases of [`BuildFault`] that speak of limits: it is true exactly if [`Build::new_within`] finds no fault
@@ -55,16 +71,16 @@ impl<A: Allocator + Copy> Build for Message<A> {
 
     type Parts = Parts<A>;
 
-    fn new(alloc: A, parts: Parts<A>) -> Result<Message<A>, (Parts<A>, BuildFault)>
+    fn new(_alloc: A, parts: Parts<A>) -> Result<Message<A>, (Parts<A>, BuildFault)>
         ensures built { IsBuilt specification parts result }
         ensures accepted { IsAccepted specification parts result }
         ensures taken { IsTaken specification parts result }
     {
-        build_within(alloc, parts, Limits::specification())
+        build_within(parts, Limits::specification())
     }
 
     fn new_within(
-        alloc: A,
+        _alloc: A,
         parts: Parts<A>,
         limits: Limits,
     ) -> Result<Message<A>, (Parts<A>, BuildFault)>
@@ -72,7 +88,7 @@ impl<A: Allocator + Copy> Build for Message<A> {
         ensures accepted { IsAccepted limits parts result }
         ensures taken { IsTaken limits parts result }
     {
-        build_within(alloc, parts, limits)
+        build_within(parts, limits)
     }
 }
 

@@ -7,13 +7,13 @@ ghost use Rattle.dbus_build.specs.declared.build_fault.BuildFault.TheVariants.{M
 use std::alloc::AllocError;
 use thiserror::Error;
 
-/// Why parts make no message: the first case of this list, in its order, that holds. `Memory` stands outside the order
-/// and comes only where a growth was refused.
+/// Why parts make no message: the first case of this list, in its order, that holds. `Memory` stands outside the order:
+/// making a message takes no memory, so it is never answered.
 ///
 /// D-Bus Specification, "Message Format", "Header Fields" and "Invalid Protocol and Spec Extensions".
 #[derive(Clone, Copy, PartialEq, Eq, Debug, Error)]
 pub enum BuildFault {
-    /// A growth of memory was refused.
+    /// An allocation failed.
     #[error("allocation failed")]
     Memory,
     /// The message type is 0.
@@ -46,7 +46,7 @@ pub enum BuildFault {
     /// The body's value of this number, counted from 0, the first of such, is not well formed.
     #[error("value {0} of the body is not well formed")]
     Value(usize),
-    /// The types of the body's values are not those of the SIGNATURE field, which are none where it is absent.
+    /// The types of the body's values are not those of the SIGNATURE field, which are none if it is absent.
     #[error("the types of the body's values are not those of the SIGNATURE field")]
     SignatureDiffers,
     /// The contents of the field array, or of an array in the message, are over the limit on arrays.
@@ -56,7 +56,7 @@ pub enum BuildFault {
     #[error("the message is over the limit on messages")]
     MessageTooLong,
     /// The body's value of this number, counted from 0, the first of such, holds an index of a descriptor that is not below
-    /// the number of the UNIX_FDS field, which is 0 where there is none. It holds only where the limits' rule asks for that.
+    /// the number of the UNIX_FDS field, which is 0 if there is none. It holds only if the limits' rule asks for that.
     #[error("value {0} of the body has an index of a descriptor that is not below their number")]
     FdIndex(usize),
 }

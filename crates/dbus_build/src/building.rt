@@ -58,11 +58,7 @@ fn check_header<A: Allocator>(parts: &Parts<A>) -> Result<(), BuildFault>
 }
 
 /// Validates how deep the values nest, the texts of the fields, the values, and their types.
-fn check_contents<A: Allocator + Copy>(
-    alloc: A,
-    parts: &Parts<A>,
-    limits: Limits,
-) -> Result<(), BuildFault>
+fn check_contents<A: Allocator>(parts: &Parts<A>, limits: Limits) -> Result<(), BuildFault>
     requires header { NoneIsMissing (parts_tree parts.now) }
     ensures { MatchResult result (λ _. SignaturePasses limits parts.now) (λ f.
         IsFirstFault limits parts.now f) }
@@ -74,15 +70,15 @@ fn check_contents<A: Allocator + Copy>(
         Some(code) => return Err(BuildFault::Name(code)),
         None => {}
     }
-    match first_unsound_field(alloc, &parts.fields)? {
+    match first_unsound_field(&parts.fields) {
         Some(code) => return Err(BuildFault::FieldValue(code)),
         None => {}
     }
-    match first_unsound(alloc, &parts.body)? {
+    match first_unsound(&parts.body) {
         Some(n) => return Err(BuildFault::Value(n)),
         None => {}
     }
-    if !has_types(alloc, &parts.body, body_signature(&parts.fields))? {
+    if !has_types(&parts.body, body_signature(&parts.fields)) {
         return Err(BuildFault::SignatureDiffers);
     }
     Ok(())
@@ -129,8 +125,7 @@ fn check_indexes<A: Allocator>(parts: &Parts<A>, limits: Limits) -> Result<(), B
 
 /// The message of these parts, or the parts and the first case of [`BuildFault`] that holds of them under the limits.
 #[tactic(auto, using(crate::proofs::Accepting::no_fault, crate::proofs::Built::only_memory, crate::proofs::PackedFacts::parts_packed))]
-pub(crate) fn build_within<A: Allocator + Copy>(
-    alloc: A,
+pub(crate) fn build_within<A: Allocator>(
     parts: Parts<A>,
     limits: Limits,
 ) -> Result<Message<A>, (Parts<A>, BuildFault)>
@@ -141,7 +136,7 @@ pub(crate) fn build_within<A: Allocator + Copy>(
     if let Err(fault) = check_header(&parts) {
         return Err((parts, fault));
     }
-    if let Err(fault) = check_contents(alloc, &parts, limits) {
+    if let Err(fault) = check_contents(&parts, limits) {
         return Err((parts, fault));
     }
     let size = match measure(&parts, limits) {

@@ -1,7 +1,7 @@
 //! The first field of a header that is at fault.
 #![tactic(auto)]
 
-ghost use Rattle.std.specs.Prelude.{◌≡◌, ◌↔◌, [], IsTrue, IfOk, option_map};
+ghost use Rattle.std.specs.Prelude.{◌≡◌, ◌↔◌, [], IsTrue, option_map};
 ghost use Rattle.dbus_value_model.specs.WantedTexts.{Of};
 ghost use Rattle.dbus_build.specs.BuildFaults.{IsFirstWithout, IsFirstUnsoundField, IsNonzero, HasOwnType, HasOwnKind, HoldsSound, text_wanted, twice};
 ghost use Rattle.dbus_message_model.specs.Messages.{want};
@@ -13,7 +13,7 @@ use dbus_message_model::field_table::{Wanted, is_known, want};
 use dbus_message_model::known_fields::{is_again, text_in};
 use dbus_types::{TextKind, text_break};
 use dbus_value_model::Value;
-use std::alloc::{AllocError, Allocator};
+use std::alloc::Allocator;
 
 /// Whether a field is no REPLY_SERIAL of 0.
 fn is_nonzero<A: Allocator>(field: &HeaderField<A>) -> bool
@@ -25,7 +25,7 @@ fn is_nonzero<A: Allocator>(field: &HeaderField<A>) -> bool
     }
 }
 
-/// Whether a field is of its own type, where it is known.
+/// Whether a field is of its own type, if it is known.
 fn has_own_type<A: Allocator>(field: &HeaderField<A>) -> bool
     ensures { IsTrue result ↔ HasOwnType (field_tree field.now) }
 {
@@ -50,7 +50,7 @@ fn own_kind(code: u8) -> Option<TextKind>
     }
 }
 
-/// Whether the text of a field is of its kind, where it is known.
+/// Whether the text of a field is of its kind, if it is known.
 fn has_own_kind<A: Allocator>(field: &HeaderField<A>) -> bool
     ensures { IsTrue result ↔ HasOwnKind (field_tree field.now) }
 {
@@ -111,28 +111,22 @@ pub fn first_misnamed<A: Allocator>(fields: &[HeaderField<A>]) -> Option<u8>
     None
 }
 
-/// Whether the value of a field is sound, where the field is unknown.
-fn holds_sound<A: Allocator + Copy>(alloc: A, field: &HeaderField<A>) -> Result<bool, AllocError>
-    ensures { IfOk result (λ answer. IsTrue answer ↔ HoldsSound field.now) }
+/// Whether the value of a field is sound, if the field is unknown.
+fn holds_sound<A: Allocator>(field: &HeaderField<A>) -> bool
+    ensures { IsTrue result ↔ HoldsSound field.now }
 {
-    if is_known(field.code) {
-        return Ok(true);
-    }
-    is_sound(alloc, &field.value)
+    is_known(field.code) || is_sound(&field.value)
 }
 
-/// The code of the first unknown field whose value is not sound. The error is that a growth of memory was refused.
+/// The code of the first unknown field whose value is not sound.
 #[tactic(auto, using(crate::proofs::FaultyFields::unsound_field_here, crate::proofs::FaultyFields::unsound_field_later))]
-pub fn first_unsound_field<A: Allocator + Copy>(
-    alloc: A,
-    fields: &[HeaderField<A>],
-) -> Result<Option<u8>, AllocError>
-    ensures { IfOk result (λ code. IsFirstUnsoundField fields.now code) }
+pub fn first_unsound_field<A: Allocator>(fields: &[HeaderField<A>]) -> Option<u8>
+    ensures { IsFirstUnsoundField fields.now result }
 {
     for field in fields {
-        if !holds_sound(alloc, field)? {
-            return Ok(Some(field.code));
+        if !holds_sound(field) {
+            return Some(field.code);
         }
     }
-    Ok(None)
+    None
 }

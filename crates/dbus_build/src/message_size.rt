@@ -13,7 +13,7 @@ use dbus_message_model::{HeaderField, Parts};
 use dbus_value_model::{Limits, all_numbers_in_range, numbers_in_range};
 use std::alloc::Allocator;
 
-/// Where the fields end, the first of which begins at 16, or nothing where the field array or an array in it is too long.
+/// Where the fields end, the first of which begins at 16, or nothing if the field array or an array in it is too long.
 pub fn fields_end<A: Allocator>(fields: &[HeaderField<A>], limits: Limits) -> Option<u64>
     requires signed { HaveShortSignatures
         (value_trees (map field_struct (field_trees fields.now))) }

@@ -104,7 +104,17 @@ fn write_whole<A: Allocator>(out: &mut [u8], message: &Message<A>, order: Order)
 
 /// Encodes a message in a byte order. D-Bus Specification, "Message Format".
 ///
-/// Memory is taken once, for the whole message; the error is that it was refused.
+/// It allocates once, for the whole message. The error is that this allocation failed.
+///
+/// ```rust
+/// use dbus_message::{Answer, decode, encode};
+/// use dbus_value::Order;
+/// use std::io::Write;
+///
+/// if let Answer::Whole { message, .. } = decode(alloc, bytes)? {
+///     rt.stdout().write_all(&encode(alloc, &message, Order::Big)?)?;
+/// }
+/// ```
 pub fn encode<A: Allocator + Copy>(
     alloc: A,
     message: &Message<A>,
@@ -119,8 +129,8 @@ pub fn encode<A: Allocator + Copy>(
 
 /// Encodes a message as [`encode`] does, into a vector in place of what that holds.
 ///
-/// Memory is taken where the vector's capacity does not do, and at most once; the error is that it was refused there, and
-/// then the vector holds what it held.
+/// It allocates only if the vector's capacity is too small, and at most once. The error is that this allocation failed; then the
+/// vector holds what it held.
 pub fn encode_into<A: Allocator>(
     out: &mut Vec<u8, A>,
     message: &Message<A>,

@@ -7,6 +7,5 @@ pub mod Patching
 pub mod Spells
 pub mod SizeLaws
 pub mod Lengths
-pub mod Periods
 pub mod Capping
 pub mod MeasureSteps

@@ -16,7 +16,7 @@ use Rattle.dbus_value_model.specs.Values.{ValueTree, ValueTrees, NumberValue, Te
 use Rattle.dbus_value_model.specs.ValueViews.{value_tree, value_trees_of, byte_values}
 use Rattle.dbus_marshal.proofs.Capping.{capped-near, capped-far, capped-bound, capped-same, capped-onward, capped-step, onward-from, rest-of}
 use Rattle.dbus_marshal.proofs.Lengths.{length-number, length-ended, length-text, length-variant, length-struct, length-entry, length-array, length-more, length-none}
-use Rattle.dbus_marshal.proofs.Periods.{gap-of_4, gap-of_8, gap-of_number, gap-of_text, gap-of_type, values-period}
+use Rattle.dbus_value_model.proofs.Periods.{gap-of_4, gap-of_8, gap-of_number, gap-of_text, gap-of_type, values-period}
 use Rattle.dbus_value_model.proofs.ValueRows.{tree-Bytes}
 
 all-short : (bs : List ℕ) → HaveShortSignatures (byte_values bs)
@@ -155,7 +155,7 @@ module _ (limits : Limits) where
         let low : m < 134217736 = omega arith in
         let again : m % 8 ≡ s % 8 = omega arith in
         let rest : m % 8 ≡ z % 8 = again ∙ sym (rest-of z s (contents-from t o at p s h is begins)) in
-        let same : m + length (spellings order m xs) ≡ m + length (spellings order z xs) = omega (arith, (values-period order xs m z rest).0) in
+        let same : m + length (spellings order m xs) ≡ m + length (spellings order z xs) = omega (arith, ap length (values-period order xs m z rest).0) in
         ends-as r (m + length (spellings order m xs)) (m + length (spellings order z xs)) (AreWithinLimits limits.array order m xs) (AreWithinLimits limits.array order z xs) same
         ((values-period order xs m z rest).1 limits.array) ((values-period order xs z m (sym rest)).1 limits.array) (inner.from order m (capped-near m low))
 

@@ -23,6 +23,14 @@ use dbus_value_model::{Limits, Order, Value, ValueFault};
 use std::alloc::Allocator;
 
 /// Appends a value's spelling, as [`put_within`] says under the limits of the specification.
+///
+/// ```rust
+/// use dbus_value::{Order, Value, put};
+///
+/// let mut out = Vec::new(alloc);
+/// put(&mut out, Order::Little, &Value::U32(1))?;
+/// println!(rt; "{} bytes", out.len())?;
+/// ```
 pub fn put<A: Allocator>(
     out: &mut Vec<u8, A>,
     order: Order,
@@ -46,9 +54,9 @@ pub fn put<A: Allocator>(
 /// Appends a value's spelling. The vector begins at the message's first byte, so its length is the value's offset, and
 /// is at most the limits' message.
 ///
-/// Of the value it asks only that each signature in it has at most 255 bytes, as is so where it is well formed. It is
-/// refused exactly where `size_after_within` refuses it at this offset, and with that fault; else only by `Memory`, where
-/// the vector's capacity did not do and its growth was refused. A refusal leaves the vector's bytes as they were.
+/// Each signature in the value has at most 255 bytes, as in every well-formed one. The error is that of `size_after_within` at
+/// this offset, if that returns one; else `Memory`, only if the vector's capacity is too small and an allocation failed. After an
+/// error the vector's bytes are as they were.
 #[tactic(auto, using(crate::proofs::SizeLaws::put_needs))]
 pub fn put_within<A: Allocator>(
     out: &mut Vec<u8, A>,

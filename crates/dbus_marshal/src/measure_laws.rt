@@ -4,7 +4,7 @@
 
 ghost use Rattle.dbus_value_model.specs.Measures.{CappedTells, OffsetsRepeat};
 
-/// An offset is within the message's limit exactly where its capped one is, and both are one offset there.
+/// An offset is within the message's limit exactly if its capped one is, and both are one offset there.
 pub fn capped_tells()
     ensures { CappedTells }
 {}

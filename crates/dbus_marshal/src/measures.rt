@@ -68,7 +68,7 @@ fn text(width: u8, len: usize, at: u64) -> u64
     cap(number(width, at) + cap(len as u64) + 1)
 }
 
-/// Where an array ends whose contents begin at `start`, or nothing where they have more bytes than the limits' array. `end` is
+/// Where an array ends whose contents begin at `start`, or nothing if they have more bytes than the limits' array. `end` is
 /// where they would end from the remainder of `start` modulo 8 on: there they have the same paddings, and an end that is exact
 /// up to the cap.
 fn array_end(start: u64, end: u64, limits: Limits) -> Option<u64>
@@ -85,13 +85,13 @@ fn array_end(start: u64, end: u64, limits: Limits) -> Option<u64>
     Some(cap(start - origin + end))
 }
 
-/// Where a value ends that begins at `at`, in both byte orders, or nothing where the contents of an array in it have more
+/// Where a value ends that begins at `at`, in both byte orders, or nothing if the contents of an array in it have more
 /// bytes than the limits' array. D-Bus Specification, "Marshaling (Wire Format)".
 ///
-/// `at` is an offset from the message's first byte, or stands for one that is further out: 8 bytes past [`MESSAGE_LIMIT`] and
-/// its remainder modulo 8 for any from there on. The end is given in the same form, so one measure goes on from another however long
-/// the whole is, and it is over [`MESSAGE_LIMIT`] exactly where the true end is. Of the value it asks only that each signature
-/// in it has at most 255 bytes, as is so where it is well formed.
+/// `at` is an offset from the message's first byte. Offsets from 8 bytes past [`MESSAGE_LIMIT`] on are kept modulo 8, which is all
+/// that padding needs: one there stands for each further out. The end is given in the same form, so one measure goes on from another however long
+/// the whole is, and it is over [`MESSAGE_LIMIT`] exactly if the true end is. Each signature in the value has at
+/// most 255 bytes, as in every well-formed one.
 #[cycle(size)]
 pub fn measure<A: Allocator>(value: &Value<A>, at: u64, limits: Limits) -> Option<u64>
     requires start { IsCapped at }

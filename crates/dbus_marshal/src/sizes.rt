@@ -27,11 +27,11 @@ pub fn size_after<A: Allocator>(value: &Value<A>, offset: u64) -> Result<u64, Va
 /// The offset where a value ends that begins at `offset`, in both byte orders.
 /// D-Bus Specification, "Marshaling (Wire Format)".
 ///
-/// `offset` counts from the message's first byte and is at most the limits' message. Of the value it asks only that each
-/// signature in it has at most 255 bytes, as is so where it is well formed.
+/// `offset` counts from the message's first byte and is at most the limits' message. Each signature
+/// in the value has at most 255 bytes, as in every well-formed one.
 ///
-/// Refused is the first item, in order, whose end passes a bound: `ArrayTooLong` where that is the bound of an open
-/// array, the limits' array from the start of its contents, else `TooLong`, where it is the limits' message. A padding, a
+/// Refused is the first item, in order, whose end passes a bound: `ArrayTooLong` if that is the bound of an open
+/// array, the limits' array from the start of its contents, else `TooLong` if it is the limits' message. A padding, a
 /// number, a length, a text and the byte after a text are an item each.
 pub fn size_after_within<A: Allocator>(
     value: &Value<A>,
@@ -66,7 +66,7 @@ fn item(limits: Limits, bound: Option<u64>, len: usize, offset: u64) -> Result<u
     Ok(end)
 }
 
-/// The padding up to the next multiple of `alignment`, where there is any.
+/// The padding up to the next multiple of `alignment`, if there is any.
 #[tactic(auto, unfolding(dbus_value_model::specs::Sizes::padding))]
 fn padding(
     limits: Limits,

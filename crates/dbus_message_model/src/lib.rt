@@ -1,4 +1,9 @@
-//! Messages of the D-Bus wire format: what they are, and, in `specs/`, the relation that spells them in bytes.
+//! Messages of the D-Bus wire format: what they are, and, in `specs/`, the relation that spells them in bytes. D-Bus
+//! Specification, "Message Format" and "Header Fields".
+//!
+//! A [`Message`] is valid by its invariant: it has [`Parts`], which are a type, flags, a serial, header fields and a body. [`field`]
+//! and [`arg`] look up a header field and a value of the body. The codes are in [`field_code`], [`flag`] and [`message_type`]. It
+//! is made by `dbus_build` or by decoding; `crates/example_greet` does both.
 #![tactic(auto)]
 
 pub mod field_code;

@@ -42,7 +42,7 @@ impl<A: Allocator> Message<A> {
         Message { parts, size }
     }
 
-    /// How many bytes it is spelled by, in either order.
+    /// How many bytes spell it, in either order.
     pub fn size(&self) -> usize
         ensures exact { (order : Order) →
             result ≡ length (message_bytes order (message_tree self.now)) }
@@ -51,7 +51,7 @@ impl<A: Allocator> Message<A> {
         self.size
     }
 
-    /// What it is made of. An array of BYTE in it is `Bytes`.
+    /// Its parts: type, flags, serial, header fields and body. An array of BYTE in it is `Bytes`.
     pub fn parts(&self) -> &Parts<A>
         ensures same { parts_tree result.now ≡ message_tree self.now }
         ensures valid { ∥ IsValidMessage specification (parts_tree result.now) ∥₁ }
@@ -60,7 +60,7 @@ impl<A: Allocator> Message<A> {
         &self.parts
     }
 
-    /// What it was made of, which `Message::new` takes again. An array of BYTE in it is `Bytes`.
+    /// Its parts, which `Message::new` takes again. An array of BYTE in it is `Bytes`.
     pub fn into_parts(self) -> Parts<A>
         ensures same { parts_tree result ≡ message_tree self }
         ensures valid { ∥ IsValidMessage specification (parts_tree result) ∥₁ }

@@ -5,5 +5,5 @@ mod Prefixes
 mod PrefixSteps
 mod Parsing
 mod Spelling
-mod Shapes
+pub mod Rooms
 pub mod TypeLengths

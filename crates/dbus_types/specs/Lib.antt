@@ -4,5 +4,6 @@ pub mod SignatureCodes
 pub mod TypeLengths
 pub mod TypeReads
 pub mod Parses
+pub mod Rooms
 pub mod Laws
 pub mod AppendedPrefixes

@@ -12,7 +12,7 @@ impl<A: Allocator> Clone for SigType<A> {
 
     /// The same type again, which shares the types inside this one and takes no memory.
     ///
-    /// `AllocError` only where a type inside has 2⁶³ owners already.
+    /// `AllocError` only if a type inside has 2⁶³ owners already.
     fn clone(&self) -> Result<SigType<A>, AllocError> {
         match self {
             SigType::Byte => Ok(SigType::Byte),

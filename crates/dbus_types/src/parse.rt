@@ -73,7 +73,7 @@ fn parse_fields<A: Allocator + Copy>(
 /// The types that a text spells, as a signature or a part of one, one for each complete type in it. The text is known to spell
 /// types: it is not validated.
 ///
-/// The one error is that a growth of memory was refused. D-Bus Specification, "Valid Signatures".
+/// The one error is that an allocation failed. D-Bus Specification, "Valid Signatures".
 pub fn spelled_types<A: Allocator + Copy>(
     alloc: A,
     text: &[u8],
@@ -93,7 +93,7 @@ pub fn spelled_types<A: Allocator + Copy>(
 
 /// The type that a text spells, which is known to spell exactly one: it is not validated.
 ///
-/// The one error is that a growth of memory was refused. D-Bus Specification, "Valid Signatures".
+/// The one error is that an allocation failed. D-Bus Specification, "Valid Signatures".
 pub fn spelled_type<A: Allocator + Copy>(alloc: A, text: &[u8]) -> Result<SigType<A>, AllocError>
     requires { IsTypeText text.now }
     ensures { IfOk result (λ t. sig (type_tree t) ≡ text.now) }
@@ -104,8 +104,15 @@ pub fn spelled_type<A: Allocator + Copy>(alloc: A, text: &[u8]) -> Result<SigTyp
 
 /// The types that a signature spells, one for each complete type in it.
 ///
-/// Else `TooLong` over 255 bytes, else `Bad` at its break; `Memory` where a growth was refused.
+/// Else `TooLong` over 255 bytes, else `Bad` at its break; `Memory` if an allocation failed.
 /// D-Bus Specification, "Valid Signatures".
+///
+/// ```rust
+/// use dbus_types::parse_signature;
+///
+/// let types = parse_signature(alloc, b"sa{sv}as")?;
+/// println!(rt; "{} types", types.len())?;
+/// ```
 pub fn parse_signature<A: Allocator + Copy>(
     alloc: A,
     text: &[u8],
@@ -119,7 +126,7 @@ pub fn parse_signature<A: Allocator + Copy>(
 /// The type that a signature of exactly one complete type spells.
 ///
 /// Else `TooLong` over 255 bytes, else `Bad` at its break, which after one complete type is its end;
-/// `Memory` where a growth was refused. D-Bus Specification, "Valid Signatures".
+/// `Memory` if an allocation failed. D-Bus Specification, "Valid Signatures".
 pub fn parse_single<A: Allocator + Copy>(alloc: A, text: &[u8]) -> Result<SigType<A>, SigFault>
     ensures { IsSingleParse text.now result }
 {

@@ -1,10 +1,11 @@
 //! Which types a signature spells, and where their values begin.
 #![tactic(auto)]
 
-ghost use Rattle.std.specs.Prelude.{◌≡◌, ◌↔◌, ◌≤◌, length, min, IsTrue, false, true};
+ghost use Rattle.std.specs.Prelude.{◌≡◌, ◌↔◌, IsTrue};
 ghost use Rattle.dbus_types.specs.SigTypes.{type_tree, type_trees_of};
-ghost use Rattle.dbus_texts.specs.Types.{sig, sigs, is_byte, IsBasic, IsComplete, AreComplete, IsSingleType};
+ghost use Rattle.dbus_texts.specs.Types.{is_byte, IsBasic, IsSingleType};
 ghost use Rattle.dbus_types.specs.Alignments.{alignment_of};
+ghost use Rattle.dbus_types.specs.Rooms.{LeavesOfType, LeavesOfTypes};
 
 use crate::sig_type::SigType;
 use std::alloc::Allocator;
@@ -46,64 +47,57 @@ fn is_basic_type<A: Allocator>(ty: &SigType<A>) -> bool
     }
 }
 
-/// Whether the type is complete, with so many arrays and structs open around it.
-#[cycle(complete)]
-fn is_complete<A: Allocator>(ty: &SigType<A>, inside: bool, arrays: u8, structs: u8) -> bool
-    ensures { IsTrue result ↔ IsComplete (type_tree ty.now) inside arrays structs }
+/// The number of bytes that are left of `left` after the type's text, or nothing if the type is not complete or its text has
+/// more bytes. So many arrays and structs are open around it, and `inside` says that it is an array's element.
+///
+/// D-Bus Specification, "Valid Signatures".
+#[cycle(text_left)]
+pub fn text_left<A: Allocator>(
+    ty: &SigType<A>,
+    inside: bool,
+    arrays: u8,
+    structs: u8,
+    left: u8,
+) -> Option<u8>
+    ensures { LeavesOfType (type_tree ty.now) inside arrays structs left result }
 {
     match ty {
-        SigType::Array(element) => arrays < 32 && is_complete(element, true, arrays + 1, structs),
+        SigType::Array(element) => {
+            if arrays >= 32 || left < 1 {
+                return None;
+            }
+            text_left(element, true, arrays + 1, structs, left - 1)
+        }
         SigType::Struct(fields) => {
-            if structs >= 32 {
-                return false;
-            }
             let fields = fields.as_slice();
-            if fields.is_empty() {
-                return false;
+            if structs >= 32 || left < 2 || fields.is_empty() {
+                return None;
             }
-            are_complete(fields, arrays, structs + 1)
+            texts_left(fields, arrays, structs + 1, left - 2)
         }
         SigType::Entry(key, value) => {
-            inside && is_basic_type(key) && is_complete(value, false, arrays, structs)
+            if !inside || left < 3 || !is_basic_type(key) {
+                return None;
+            }
+            text_left(value, false, arrays, structs, left - 3)
         }
-        _ => true,
+        _ => left.checked_sub(1),
     }
 }
 
-#[cycle(complete)]
-fn are_complete<A: Allocator>(types: &[SigType<A>], arrays: u8, structs: u8) -> bool
-    ensures { IsTrue result ↔ AreComplete (type_trees_of types.now) arrays structs }
+#[cycle(text_left)]
+fn texts_left<A: Allocator>(
+    types: &[SigType<A>],
+    arrays: u8,
+    structs: u8,
+    mut left: u8,
+) -> Option<u8>
+    ensures { LeavesOfTypes (type_trees_of types.now) arrays structs left result }
 {
     for ty in types {
-        if !is_complete(ty, false, arrays, structs) {
-            return false;
-        }
+        left = text_left(ty, false, arrays, structs, left)?;
     }
-    true
-}
-
-/// The length of the type's text, or 256 where it is longer.
-#[cycle(text_len)]
-fn text_len<A: Allocator>(ty: &SigType<A>) -> u16
-    ensures { result ≡ min (length (sig (type_tree ty.now))) 256 }
-{
-    match ty {
-        SigType::Array(element) => (1 + text_len(element)).min(256),
-        SigType::Struct(fields) => (2 + texts_len(fields.as_slice())).min(256),
-        SigType::Entry(key, value) => (2 + text_len(key) + text_len(value)).min(256),
-        _ => 1,
-    }
-}
-
-#[cycle(text_len)]
-fn texts_len<A: Allocator>(types: &[SigType<A>]) -> u16
-    ensures { result ≡ min (length (sigs (type_trees_of types.now))) 256 }
-{
-    let mut len: u16 = 0;
-    for ty in types {
-        len = (len + text_len(ty)).min(256);
-    }
-    len
+    Some(left)
 }
 
 /// Whether the type spells a signature of exactly one complete type.
@@ -112,5 +106,5 @@ fn texts_len<A: Allocator>(types: &[SigType<A>]) -> u16
 pub fn type_ok<A: Allocator>(ty: &SigType<A>) -> bool
     ensures { IsTrue result ↔ IsSingleType (type_tree ty.now) }
 {
-    is_complete(ty, false, 0, 0) && text_len(ty) <= 255
+    text_left(ty, false, 0, 0, 255).is_some()
 }

@@ -7,7 +7,7 @@ ghost use Rattle.dbus_texts.specs.Types.{TypeTree};
 ghost use Rattle.dbus_types.specs.Alignments.{alignment_of};
 ghost use Rattle.dbus_types.specs.SignatureCodes.{first_code, IsTypeEnd, free_width_of};
 
-/// How many brackets are open after a byte, where so many are before it.
+/// How many brackets are open after a byte, if so many are before it.
 #[inline]
 fn open_after(deep: usize, code: u8) -> usize
     requires { deep + 1 < 2 ^ 64 }
@@ -22,7 +22,7 @@ fn open_after(deep: usize, code: u8) -> usize
     }
 }
 
-/// Where the complete type that begins at `pos` ends, whatever follows it. Where none begins there, it is some place after
+/// Where the complete type that begins at `pos` ends, whatever follows it. If none begins there, it is some place after
 /// `pos`. D-Bus Specification, "Valid Signatures", "Container types".
 #[inline]
 pub fn type_end(types: &[u8], pos: usize) -> usize

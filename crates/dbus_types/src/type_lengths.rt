@@ -7,7 +7,7 @@ ghost use Rattle.dbus_types.specs.TypeLengths.{AreLengths, AreNoted};
 
 /// Notes of each place of a signature how many bytes the complete type has that begins there, so that none is looked for again.
 ///
-/// Where no type begins it notes some length, of 1 byte or more, and no more than are left.
+/// If no type begins it notes some length, of 1 byte or more, and no more than are left.
 /// D-Bus Specification, "Valid Signatures".
 pub fn note_lengths(types: &[u8], lengths: &mut [u8])
     requires few { length types.now ≤ 255 }
@@ -33,7 +33,7 @@ pub fn lengths_in<'t>(types: &[u8], table: &'t mut [u8; 255]) -> &'t [u8]
     lengths
 }
 
-/// How many bytes the type has that begins at `at`, where this is noted of the places after it.
+/// How many bytes the type has that begins at `at`, if this is noted of the places after it.
 fn length_at(types: &[u8], lengths: &[u8], at: usize) -> u8
     requires few { length types.now ≤ 255 }
     requires inside { at < length types.now }

@@ -16,9 +16,9 @@ signature_length-requires g c = (sound_from c.args.values.now c.loop-value.value
 
 pub returns-then-signature-end : goal.returns-then-signature-end
 returns-then-signature-end g c =
-    let here = length-take-le c.loop-value.end c.loop-value.bytes (omega (arith, c.loop-value.invariant.within, c.loop-value.invariant.long)) in (
+    let here = length-take-le c.loop-value.end c.loop-value.spelled (omega (arith, c.loop-value.invariant.within, c.loop-value.invariant.long)) in (
       λ e. absurd (false≢true e),
-      λ e. absurd (spelled_past (take c.loop-value.end c.loop-value.bytes) (sig (type_of (value_tree c.value-item.result))) _ (sigs (types_of (value_trees_of (drop (c.loop-value.value-index + 1) c.args.values.now)))) _ c.args.signature.now
+      λ e. absurd (spelled_past (take c.loop-value.end c.loop-value.spelled) (sig (type_of (value_tree c.value-item.result))) _ (sigs (types_of (value_trees_of (drop (c.loop-value.value-index + 1) c.args.values.now)))) _ c.args.signature.now
           (types_more c.args.values.now c.loop-value.value-index c.value-item.result c.loop-value-test.true c.value-item.is) c.loop-value.invariant.on (omega (arith, here, c.signature_length.ensures, c.if-signature-end.true)) e),
     )
 
@@ -32,6 +32,6 @@ loop-value-preserved g c = record {
 
 pub returns : goal.returns
 returns g c =
-    let whole = spelled_whole (take c.loop-value.end c.loop-value.bytes) _ _ (types_end c.args.values.now c.loop-value.value-index c.loop-value-test.false) c.loop-value.invariant.on in
+    let whole = spelled_whole (take c.loop-value.end c.loop-value.spelled) _ _ (types_end c.args.values.now c.loop-value.value-index c.loop-value-test.false) c.loop-value.invariant.on in
     let d = slice_eq-Decides Decides-eqb _ c.args.signature.now c.eq.result c.eq.ensures in
     (λ e. sym whole ∙ d.0 e, λ e. d.1 (whole ∙ e))

@@ -8,7 +8,7 @@ use Rattle.dbus_build.proofs.faulty_body.has_types.Given as goal
 abbrev pub invariant-loop-value : goal.invariant-loop-value
 invariant-loop-value g l = record {
   sound : IsFirstUnsound l.value-index (drop l.value-index l.values) None;
-  on : take l.end l.bytes ++ sigs (types_of (value_trees_of (drop l.value-index l.values))) ≡ sigs (types_of (value_trees_of l.values));
-  long : length l.bytes ≡ length l.signature;
+  on : take l.end l.spelled ++ sigs (types_of (value_trees_of (drop l.value-index l.values))) ≡ sigs (types_of (value_trees_of l.values));
+  long : length l.spelled ≡ length l.signature;
   within : l.end ≤ length l.signature;
 }
