@@ -62,12 +62,25 @@ impl Checker {
 
     /// Takes the piece, or its bytes up to the end of the message under way. D-Bus Specification, "Message Protocol".
     ///
-    /// Of all bytes that it took since it was made or began again, and the piece: `Done` where they begin with a message within
-    /// the limits, with how many bytes of the piece end it; those after it are not looked at. `Refused` where the next item of
-    /// the message is at fault, with the fault's place, as soon as the bytes show it. `Partial` where neither holds: more bytes
+    /// Of all bytes that it took since it was made or began again, and the piece: `Done` if they begin with a message within
+    /// the limits, with how many bytes of the piece end it; those after it are not looked at. `Refused` if the next item of
+    /// the message is at fault, with the fault's place, as soon as the bytes show it. `Partial` if neither holds: more bytes
     /// are wanted.
     ///
     /// After `Done` each call answers `Done(0)`, after `Refused` the same fault, until [`Checker::restart`].
+    ///
+    /// ```rust
+    /// use dbus_message::{Check, Checker};
+    ///
+    /// let mut checker = Checker::new();
+    /// for piece in bytes.chunks(64) {
+    ///     match checker.take(piece) {
+    ///         Check::Partial => {}
+    ///         Check::Done(used) => println!(rt; "a message ends after {used} bytes of this piece")?,
+    ///         Check::Refused(fault) => println!(rt; "{fault}")?,
+    ///     }
+    /// }
+    /// ```
     pub fn take(&mut self, piece: &[u8]) -> Check
         ensures answers { (w : List ℕ) → Stands self.old w →
             Takes (limits_of self.old) w piece.now result }

@@ -33,7 +33,7 @@ impl Progress {
         code_front(bytes, self.offset, self.end, self.limits, &self.seen)
     }
 
-    /// A value of the type that these bytes spell is wanted, n bytes further: the stage of values.
+    /// Begins the field's value, of the type that these bytes spell, n bytes on.
     pub(crate) fn hold(&mut self, code: u8, n: usize, types: &[u8])
         requires valid { (to : To) × (t : TypeTree) ×
             (WantsHeld self.old code n t to × (types.now ≡ sig t) × IsSingleType t) }
@@ -164,7 +164,7 @@ impl Progress {
         }
     }
 
-    /// The next field: all of it, or what stands before a value that goes on by itself.
+    /// Takes the next field, or what comes before its value if that may be long.
     pub(crate) fn field(&mut self, bytes: &[u8]) -> Result<usize, Stop>
         requires valid { (to : To) × WantsFields self.old to }
         requires more { self.old.offset < self.old.end }

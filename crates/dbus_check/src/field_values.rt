@@ -1,7 +1,7 @@
 //! The values of the known fields that stand at the front of some bytes, each after its signature.
 //!
 //! The bytes begin at the offset `offset` of a message, and more may follow them. Each call says how many bytes the signature and
-//! the value have; `Partial` where the bytes end within them; or `Refused` with their fault, as soon as they show it. None takes
+//! the value have; `Partial` if the bytes end within them; or `Refused` with their fault, as soon as they show it. None takes
 //! memory.
 #![tactic(auto)]
 

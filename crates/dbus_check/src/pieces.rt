@@ -91,7 +91,7 @@ impl Pieces {
         }
     }
 
-    /// Takes what is whole of the piece, and keeps the rest where something is wanted still: how many bytes are taken or kept.
+    /// Takes what is whole of the piece, and keeps the rest if something is still wanted: how many bytes are taken or kept.
     fn read(&mut self, piece: &[u8]) -> Result<usize, Fault>
         requires valid { (to : To) × Holds self.old to }
         requires none { self.old.kept.items ≡ [] }
@@ -111,7 +111,7 @@ impl Pieces {
         }
     }
 
-    /// The same: at once where it is an array's numbers, as most pieces of one byte are.
+    /// The same: at once if it is an array's numbers, as most pieces of one byte are.
     fn pass(&mut self, piece: &[u8]) -> Result<usize, Fault>
         requires valid { (to : To) × Holds self.old to }
         requires none { self.old.kept.items ≡ [] }

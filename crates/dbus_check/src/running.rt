@@ -18,7 +18,7 @@ impl Progress {
         !matches!(self.stage, Stage::Done)
     }
 
-    /// What is wanted next, where all of it is there.
+    /// What is wanted next, if all of it is there.
     fn step(&mut self, bytes: &[u8]) -> Result<usize, Stop>
         requires valid { (to : To) × Denotes self.old to }
         requires live { IsLive self.old.stage }
@@ -59,7 +59,7 @@ impl Progress {
         }
     }
 
-    /// Takes what is wanted as far as it is there whole: how many bytes. Where something is wanted still, what is left of the
+    /// Takes what is wanted as far as it is there whole: how many bytes. If something is still wanted, what is left of the
     /// bytes, fewer than 288, is the front of an item: they are to be handed again, with more after them.
     ///
     /// A fault comes as soon as the bytes show it, whatever bytes follow; then the message is to begin again.

@@ -35,7 +35,7 @@ impl Progress {
         }
     }
 
-    /// More of the body: `Trailing` where its values end before it does.
+    /// More of the body: `Trailing` if its values end before it does.
     pub(crate) fn body(&mut self, bytes: &[u8]) -> Result<usize, Stop>
         requires valid { (to : To) × WantsBody self.old to }
         requires stage { self.old.stage ≡ Body }

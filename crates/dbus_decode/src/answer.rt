@@ -5,7 +5,7 @@ use dbus_message_model::Message;
 use dbus_value_model::Order;
 use std::alloc::{Allocator, Global};
 
-/// What bytes gave that are not refused.
+/// A message, or the need for more bytes: what bytes give that are not refused.
 #[derive(Debug, Drop)]
 pub enum Answer<A: Allocator = Global> {
     /// The bytes begin with a message.

@@ -63,7 +63,7 @@ fn build_fields<A: Allocator + Copy>(
 }
 
 /// The message that the bytes begin with, which was validated in them under the limits: what it is made of. An array of BYTE in it is
-/// `Bytes`. The one error is that a growth of memory was refused. D-Bus Specification, "Message Format".
+/// `Bytes`. The one error is that an allocation failed. D-Bus Specification, "Message Format".
 pub fn build_message<A: Allocator + Copy>(
     alloc: A,
     bytes: &[u8],

@@ -22,8 +22,19 @@ use dbus_validate::{Validated, validate, validate_known};
 use dbus_value_model::{Limits, Order, Refusal};
 use std::alloc::{AllocError, Allocator};
 
-/// Decodes the message that the bytes begin with, within the limits of the specification: it is [`decode_within`] under these.
+/// Decodes the message that the bytes begin with, within the limits of the specification, as [`decode_within`] says.
 /// D-Bus Specification, "Message Protocol".
+///
+/// ```rust
+/// use dbus_message::{Answer, decode};
+///
+/// match decode(alloc, bytes)? {
+///     Answer::Whole { message, used, .. } => {
+///         println!(rt; "{used} bytes, serial {}", message.parts().serial)?;
+///     }
+///     Answer::Partial => println!(rt; "read more bytes, and decode them all again")?,
+/// }
+/// ```
 pub fn decode<A: Allocator + Copy>(alloc: A, bytes: &[u8]) -> Result<Answer<A>, Refusal>
     ensures decodes { Decodes specification bytes.now result }
     ensures packed { IfOk result AnswerKeepsBytes }
@@ -36,7 +47,7 @@ pub fn decode<A: Allocator + Copy>(alloc: A, bytes: &[u8]) -> Result<Answer<A>, 
 ///
 /// `Whole` if they do: `used` is how many bytes it has, and those after it are not looked at. `Partial` if they neither do nor are
 /// refused: more bytes are wanted. `Format` if the next item of the message is at fault, with the fault's place, as soon as the
-/// bytes that are there show it. `Memory` only if a growth was refused, and only of a whole message: bytes that are refused or
+/// bytes that are there show it. `Memory` only if an allocation failed, and only of a whole message: bytes that are refused or
 /// partial take no memory. An array of BYTE comes as `Bytes`, in the values of fields and of the body, also within others.
 ///
 /// Of the limits: `MessageTooLong` at 12 if the header states more bytes than the limits' message, `ArrayTooLong` at its length if
@@ -69,8 +80,8 @@ pub fn decode_within<A: Allocator + Copy>(
     }
 }
 
-/// Decodes bytes that are known to be one message within the limits, all of them, as a checker says it, and gives its byte order
-/// too. The values of its body are not looked at before they are built. The one error is that a growth of memory was refused.
+/// Decodes bytes that are known to be one message within the limits, such as those that a checker passed, and returns its byte
+/// order too. The values of its body are not looked at before they are built. The one error is that an allocation failed.
 /// D-Bus Specification, "Message Protocol".
 pub fn decode_known<A: Allocator + Copy>(
     alloc: A,

@@ -32,7 +32,7 @@ pub struct FixedHeader {
     pub fields: u32,
 }
 
-/// The byte order, at 0: `ByteOrder` where the byte is neither `l` nor `B`.
+/// The byte order, at 0: `ByteOrder` if the byte is neither `l` nor `B`.
 #[tactic(auto, using(crate::proofs::FixedItems::orders))]
 fn read_order(bytes: &[u8]) -> Result<Order, Stop>
     ensures gives { Gives (λ order. (order, 1)) bytes.now result (byte_order 0 bytes.now) }
@@ -76,7 +76,7 @@ fn read_u32(bytes: &[u8], at: usize, order: Order) -> Result<u32, Stop>
     Ok(order.u32_at(bytes, at))
 }
 
-/// The message type, at 1: `Kind` where it is 0.
+/// The message type, at 1: `Kind` if it is 0.
 fn read_kind(bytes: &[u8]) -> Result<u8, Stop>
     requires { 1 ≤ length bytes.now }
     ensures gives { (order : Order) →
@@ -91,7 +91,7 @@ fn read_kind(bytes: &[u8]) -> Result<u8, Stop>
     Ok(kind)
 }
 
-/// The protocol version, at 3: `Version` where it is not 1.
+/// The protocol version, at 3: `Version` if it is not 1.
 fn read_version(bytes: &[u8]) -> Result<(), Stop>
     requires { 3 ≤ length bytes.now }
     ensures gives { (order : Order) →
@@ -105,7 +105,7 @@ fn read_version(bytes: &[u8]) -> Result<(), Stop>
     Ok(())
 }
 
-/// The serial, at 8: `ZeroSerial` where it is 0.
+/// The serial, at 8: `ZeroSerial` if it is 0.
 fn read_serial(bytes: &[u8], order: Order) -> Result<u32, Stop>
     requires { 8 ≤ length bytes.now }
     ensures gives { Gives (λ serial. (serial, 12)) bytes.now result
@@ -119,8 +119,8 @@ fn read_serial(bytes: &[u8], order: Order) -> Result<u32, Stop>
     Ok(serial)
 }
 
-/// The length of the field array, at 12, where the body has so many bytes: `ArrayTooLong` where it is over the limits' array,
-/// else `MessageTooLong` where the message is over their message.
+/// The length of the field array, at 12, where the body has so many bytes: `ArrayTooLong` if it is over the limits' array,
+/// else `MessageTooLong` if the message is over their message.
 fn read_fields_length(bytes: &[u8], order: Order, body: u32, limits: Limits) -> Result<u32, Stop>
     requires { 12 ≤ length bytes.now }
     ensures gives { Gives (λ n. (n, 16)) bytes.now result
@@ -139,7 +139,7 @@ fn read_fields_length(bytes: &[u8], order: Order, body: u32, limits: Limits) -> 
     Ok(fields)
 }
 
-/// The items that have fixed places, in their order. `TooDeep` at 12 where the field array may not be opened.
+/// The items that have fixed places, in their order. `TooDeep` at 12 if the field array may not be opened.
 #[tactic(auto, unfolding(crate::specs::HeaderReading::fixed_header))]
 pub fn read_fixed_header(bytes: &[u8], limits: Limits) -> Result<FixedHeader, Stop>
     ensures gives { Gives (λ h. (h, 16)) bytes.now result (fixed_header limits 0 bytes.now) }

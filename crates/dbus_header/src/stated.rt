@@ -13,8 +13,17 @@ use dbus_value_model::{Fault, Limits, Stop, padding_length};
 /// has fewer. D-Bus Specification, "Message Format".
 pub const FIXED_HEADER_LENGTH: usize = 16;
 
-/// How many bytes the message has that the bytes begin with, within the limits of the specification: it is
-/// [`stated_length_within`] under these. D-Bus Specification, "Message Format".
+/// How many bytes the message has that the bytes begin with, within the limits of the specification, as
+/// [`stated_length_within`] says. D-Bus Specification, "Message Format".
+///
+/// ```rust
+/// use dbus_message::stated_length;
+///
+/// match stated_length(bytes)? {
+///     Some(length) => println!(rt; "read up to {length} bytes, and decode them")?,
+///     None => println!(rt; "read up to 16 bytes, and ask again")?,
+/// }
+/// ```
 pub fn stated_length(bytes: &[u8]) -> Result<Option<u64>, Fault>
     ensures stated { Stated specification bytes.now result }
     ensures within { IfOk result (λ stated. IfSome stated (λ n. (16 ≤ n) × (n ≤ MESSAGE_LIMIT))) }
@@ -22,14 +31,14 @@ pub fn stated_length(bytes: &[u8]) -> Result<Option<u64>, Fault>
     stated_length_within(bytes, Limits::specification())
 }
 
-/// How many bytes the message has that the bytes begin with, under limits, as soon as 16 of them tell it: those 16, the header
+/// How many bytes the message has that the bytes begin with, under limits, once 16 of them are there: those 16, the header
 /// fields, the padding after them to a multiple of 8, and the body. D-Bus Specification, "Message Format".
 ///
-/// `Ok(Some(n))` where the first 16 bytes are there and none of their items is at fault: whatever follows, a message that
+/// `Ok(Some(n))` if the first 16 bytes are there and none of their items is at fault: whatever follows, a message that
 /// begins with them has exactly n bytes, from 16 to the limits' message, so that `decode_within` gives none out of fewer. The
-/// fields and the body are not looked at. `Ok(None)` where fewer than 16 bytes are there and show no fault: more are wanted.
-/// `Err` where an item within the first 16 bytes is at fault (the byte order, the type, the version, the serial, or a length
-/// over its limit), with the fault that `decode_within` answers. No memory is taken.
+/// fields and the body are not looked at. `Ok(None)` if fewer than 16 bytes are there and show no fault: more are wanted.
+/// `Err` if an item within the first 16 bytes is at fault (the byte order, the type, the version, the serial, or a length
+/// over its limit), with the fault that `decode_within` returns. No memory is taken.
 pub fn stated_length_within(bytes: &[u8], limits: Limits) -> Result<Option<u64>, Fault>
     ensures stated { Stated limits bytes.now result }
     ensures within { IfOk result (λ stated. IfSome stated (λ n. (16 ≤ n) × (n ≤ limits.message))) }

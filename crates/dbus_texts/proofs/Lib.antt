@@ -10,7 +10,7 @@ mod Utf8Steps
 mod SignatureSteps
 mod FrameBounds
 mod ScanSteps
-mod PlainRuns
+pub mod PlainRuns
 mod Breaks
 mod Runs
 pub mod TypeTexts

@@ -1,9 +1,10 @@
 -- Blocks in which each byte is from 1 to 127.
-use Rattle.std.proofs.Common.{◌≡◌, ℕ, zero, suc, drop, ◌%◌, ◌^◌, ◌<◌, ◌≤◌, Bool, true, false, cond, eqb, leb, List, [], ◌∷◌, ◌++◌, map, length, replicate, refl, sym, ap, ◌∙◌, arith, w8, Fits, eqb-true}
+use Rattle.std.proofs.Common.{◌≡◌, ℕ, zero, suc, drop, ◌+◌, ◌*◌, ◌/◌, ◌%◌, ◌^◌, ◌<◌, ◌≤◌, Bool, true, false, cond, eqb, leb, List, [], ◌∷◌, ◌++◌, map, length, replicate, refl, sym, ap, subst, ◌∙◌, arith, w8, Fits, eqb-true}
 use Rattle.std.specs.List.{AllByRecursion}
 use Rattle.std.specs.Int.{IsInRange}
 use Rattle.std.proofs.lemmas.Bool.Decides.{nat_tests}
 use Rattle.std.proofs.lemmas.Simd.{length-zip2, mask_l-mod}
+use Rattle.std.proofs.Math.Nat.{lt-div-mul-add}
 use Rattle.std.proofs.lemmas.List.{length-map, length-replicate}
 use Rattle.dbus_texts.proofs.ByteLanes.{less, pow_two}
 use lib.Lanes.{zip2, mask_l, top, Each1}
@@ -28,16 +29,26 @@ none_marked zero (x ∷ xs) f h = (plain_lane x f.0.fits (unmarked (top 7 (at_le
     unmarked false l = refl
 none_marked (suc k) (x ∷ xs) f h = none_marked k xs f.1 (omega (arith, pow_two k))
 
+two_positive : (n : ℕ) → 0 < 2 ^ n
+two_positive zero = omega arith
+two_positive (suc n) = omega (arith, pow_two n, two_positive n)
+
+pub plain_from : (lanes lane : ℕ) (xs : List ℕ) → lanes ≤ 64 → length xs ≡ lanes → Each1 (Fits w8) xs → eqb (mask_l (map (top 7) (marks lanes xs)) % 2 ^ 64 / 2 ^ lane) 0 ≡ true → AllByRecursion (IsInRange 1 127) (drop lane xs)
+plain_from lanes lane xs few long f e =
+    let inner : length (zip2 less xs (replicate lanes 1)) ≡ lanes = length-zip2 less xs (replicate lanes 1) (long ∙ sym (length-replicate {A = ℕ} lanes 1)) ∙ long in
+    let outer : length (marks lanes xs) ≡ lanes = length-zip2 at_least (replicate lanes 127) (zip2 less xs (replicate lanes 1)) (length-replicate {A = ℕ} lanes 127 ∙ sym inner) ∙ length-replicate {A = ℕ} lanes 127 in
+    let mask = mask_l (map (top 7) (marks lanes xs)) in
+    let small : mask % 2 ^ 64 ≡ mask = mask_l-mod _ 64 (omega (arith, length-map (marks lanes xs) (top 7), outer, few)) in
+    let none : mask / 2 ^ lane ≡ 0 = ap (λ m. m / 2 ^ lane) (sym small) ∙ eqb-true _ _ e in
+    let near : mask < mask / 2 ^ lane * 2 ^ lane + 2 ^ lane = lt-div-mul-add (two_positive lane) in
+    let below : mask < 2 ^ lane = omega (arith, subst (λ q. mask < q * 2 ^ lane + 2 ^ lane) none near) in
+    none_marked lane xs f (subst (λ n. mask_l (map (top 7) (marks n xs)) < 2 ^ lane) (sym long) below)
+
 pub plain_of_mask : (lanes : ℕ) (xs : List ℕ) → lanes ≤ 64 → length xs ≡ lanes → Each1 (Fits w8) xs → eqb (mask_l (map (top 7) (marks lanes xs)) % 2 ^ 64) 0 ≡ true → AllByRecursion (IsInRange 1 127) xs
 plain_of_mask lanes xs few long f e =
-    let inner : length (zip2 less xs (replicate lanes 1)) ≡ lanes = long_zip lanes less xs 1 long in
-    let outer : length (marks lanes xs) ≡ lanes = omega (arith, length-zip2 at_least (replicate lanes 127) (zip2 less xs (replicate lanes 1)) (length-replicate {A = ℕ} lanes 127 ∙ sym inner), length-replicate {A = ℕ} lanes 127) in
-    let small : mask_l (map (top 7) (marks lanes xs)) % 2 ^ 64 ≡ mask_l (map (top 7) (marks lanes xs)) = mask_l-mod _ 64 (omega (arith, length-map (marks lanes xs) (top 7), outer, few)) in
-    let none : mask_l (map (top 7) (marks (length xs) xs)) ≡ 0 = ap (λ n. mask_l (map (top 7) (marks n xs))) long ∙ (sym small ∙ eqb-true _ _ e) in
-    none_marked 0 xs f (omega (arith, none))
-  where
-    long_zip : (n : ℕ) (g : ℕ → ℕ → ℕ) (ys : List ℕ) (k : ℕ) → length ys ≡ n → length (zip2 g ys (replicate n k)) ≡ n
-    long_zip n g ys k l = length-zip2 g ys (replicate n k) (l ∙ sym (length-replicate {A = ℕ} n k)) ∙ l
+    let mask = mask_l (map (top 7) (marks lanes xs)) % 2 ^ 64 in
+    let whole : mask ≡ mask / 2 ^ 0 = omega arith in
+    plain_from lanes 0 xs few long f (ap (λ m. eqb m 0) (sym whole) ∙ e)
 
 pub plain_append : (xs ys : List ℕ) → AllByRecursion (IsInRange 1 127) xs → AllByRecursion (IsInRange 1 127) ys → AllByRecursion (IsInRange 1 127) (xs ++ ys)
 plain_append [] ys h k = k

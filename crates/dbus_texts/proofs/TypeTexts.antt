@@ -1,6 +1,9 @@
 -- The types that a text spells, read back.
-use Rattle.std.proofs.Common.{◌≡◌, ℕ, zero, suc, ◌+◌, ◌<◌, ◌≤◌, Bool, true, false, List, [], ◌∷◌, ◌++◌, length, eqb, Some, refl, sym, ap, ◌∙◌, arith, append_assoc, length-append, append-nil}
+use Rattle.std.proofs.Common.{◌≡◌, ℕ, zero, suc, ◌+◌, ◌<◌, ◌≤◌, Bool, true, false, List, [], ◌∷◌, ◌++◌, length, eqb, Some, refl, sym, ap, ◌∙◌, arith, lit<, lit≤, append_assoc, length-append, append-nil}
+use Rattle.std.specs.Str.{IsAscii}
 use Rattle.std.proofs.lemmas.Bool.{false≢true}
+use Rattle.std.proofs.lemmas.Str.{IsAscii-append}
+use Rattle.std.proofs.lemmas.Str.Ascii.{IsAscii-nil, IsAscii-cons}
 use Rattle.dbus_texts.specs.Types.{TypeTree, NumberType, TextType, VariantType, ArrayType, StructType, EntryType, TypeTrees, NoTypes, MoreTypes, NumberCode, BYTE, TextCode, STRING, number_code, text_code, sig, sigs, IsComplete, AreComplete, IsShaped, AreShaped}
 use Rattle.dbus_texts.specs.ComputedKinds.{opening, OneCode, parse, parses, type_spelled, types_spelled}
 
@@ -26,6 +29,39 @@ parses_more turns s u w r t ts c is other first more =
 
 pub sig_positive : (t : TypeTree) → 0 < length (sig t)
 sig_positive t = let w = begins t in rw w.2 (omega arith)
+
+number_letter : (k : NumberCode) → (40 ≤ number_code k) × (number_code k < 126)
+number_letter BYTE = (lit≤ tt, lit< tt)
+number_letter _ = (lit≤ tt, lit< tt)
+
+text_letter : (k : TextCode) → (40 ≤ text_code k) × (text_code k < 126)
+text_letter STRING = (lit≤ tt, lit< tt)
+text_letter _ = (lit≤ tt, lit< tt)
+
+-- what holds of the empty text, of each of the bytes 40 to 125, and of two texts one after the other, holds of every type's text
+module _ (P : List ℕ → Type 0) (none : P []) (one : (c : ℕ) → 40 ≤ c → c < 126 → P (c ∷ [])) (join : (s t : List ℕ) → P s → P t → P (s ++ t)) where
+  mutual
+    pub sig_holds : (t : TypeTree) → P (sig t)
+    sig_holds (NumberType k) = let c = number_letter k in one (number_code k) c.0 c.1
+    sig_holds (TextType k) = let c = text_letter k in one (text_code k) c.0 c.1
+    sig_holds VariantType = one 118 (lit≤ tt) (lit< tt)
+    sig_holds (ArrayType t) = join (97 ∷ []) (sig t) (one 97 (lit≤ tt) (lit< tt)) (sig_holds t)
+    sig_holds (StructType ts) = join (40 ∷ []) (sigs ts ++ 41 ∷ []) (one 40 (lit≤ tt) (lit< tt)) (join (sigs ts) (41 ∷ []) (sigs_hold ts) (one 41 (lit≤ tt) (lit< tt)))
+    sig_holds (EntryType k v) =
+        join (123 ∷ []) (sig k ++ (sig v ++ 125 ∷ [])) (one 123 (lit≤ tt) (lit< tt)) (join (sig k) (sig v ++ 125 ∷ []) (sig_holds k) (join (sig v) (125 ∷ []) (sig_holds v) (one 125 (lit≤ tt) (lit< tt))))
+
+    pub sigs_hold : (ts : TypeTrees) → P (sigs ts)
+    sigs_hold NoTypes = none
+    sigs_hold (MoreTypes t ts) = join (sig t) (sigs ts) (sig_holds t) (sigs_hold ts)
+
+letter_ascii : (c : ℕ) → 40 ≤ c → c < 126 → IsAscii (c ∷ [])
+letter_ascii c low high = IsAscii-cons c [] (omega arith) IsAscii-nil
+
+pub sig_ascii : (t : TypeTree) → IsAscii (sig t)
+sig_ascii = sig_holds IsAscii IsAscii-nil letter_ascii IsAscii-append
+
+pub sigs_ascii : (ts : TypeTrees) → IsAscii (sigs ts)
+sigs_ascii = sigs_hold IsAscii IsAscii-nil letter_ascii IsAscii-append
 
 mutual
   unfolding parse parses

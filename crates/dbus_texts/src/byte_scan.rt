@@ -18,7 +18,7 @@ pub trait ByteScan {
         ensures { IsTrue result ↔ rest self.now [] };
 }
 
-/// Where a text breaks that goes on from here, or `None` where it may go on so and end.
+/// Where a text breaks that goes on from here, or `None` if it may go on so and end.
 pub fn break_of<S: ByteScan + Drop>(start: S, text: &[u8]) -> Option<usize>
     requires { (more : List ℕ) × S.rest start more }
     ensures { IsBreakFrom (S.rest start) text.now result }

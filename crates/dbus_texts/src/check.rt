@@ -29,7 +29,7 @@ pub enum NameFault {
 /// Why a text, or the text of some types, is no signature.
 #[derive(Clone, Copy, PartialEq, Eq, Debug, Error)]
 pub enum SigFault {
-    /// A growth of memory was refused.
+    /// An allocation failed.
     #[error("allocation failed")]
     Memory,
     /// It has more than 255 bytes. This comes before `Bad`.
@@ -103,7 +103,7 @@ fn break_of(kind: TextKind, text: &[u8]) -> Option<usize>
 }
 
 /// The length of the text's longest prefix with which some text of the kind begins, limits on length
-/// lifted. This is the text's length where all of it begins some text of the kind.
+/// lifted. This is the text's length if all of it begins some text of the kind.
 pub fn first_break(kind: TextKind, text: &[u8]) -> usize
     ensures { IsBreak kind text.now result }
 {
@@ -114,7 +114,7 @@ pub fn first_break(kind: TextKind, text: &[u8]) -> usize
 }
 
 /// Where a text breaks that is not of the kind: at the length of its longest prefix with which some text of
-/// the kind begins, limits on length lifted. `None` where the text is of the kind.
+/// the kind begins, limits on length lifted. `None` if the text is of the kind.
 pub fn text_break(kind: TextKind, text: &[u8]) -> Option<usize>
     ensures { IsTextBreak kind text.now result }
 {
@@ -151,6 +151,17 @@ fn check_types(kind: TextKind, text: &[u8]) -> Result<(), SigFault>
 /// Whether the text is an object path: `/`, or elements of `[A-Za-z0-9_]`, each after a `/`.
 ///
 /// Else `Bad` at its break; `TooLong` never comes. D-Bus Specification, "Valid Object Paths".
+///
+/// ```rust
+/// use dbus_types::check_path;
+///
+/// for path in ["/org/example", "/org//example"] {
+///     match check_path(path.as_bytes()) {
+///         Ok(()) => println!(rt; "{path} is an object path")?,
+///         Err(fault) => println!(rt; "{path}: {fault}")?,
+///     }
+/// }
+/// ```
 pub fn check_path(text: &[u8]) -> Result<(), NameFault>
     ensures { IsPathVerdict Path text.now result }
 {

@@ -3,7 +3,7 @@
 
 ghost use Rattle.dbus_texts.specs.Laws.{KindsAreComputed, BreaksAreComputed, TextsAreUtf8, NamesAreTexts};
 
-/// A text is of a kind exactly where the slow function says so. "Basic types", "Valid Names".
+/// A text is of a kind exactly if the slow function says so. "Basic types", "Valid Names".
 pub fn kinds_are_computed()
     ensures { KindsAreComputed }
 {}

@@ -37,7 +37,7 @@ pub fn are_words(block: u8x16) -> bool
 }
 
 impl Letters {
-    /// `-` where an element may have it, else `_`, which each may have.
+    /// `-` if an element may have it, else `_`, which each may have.
     #[inline(always)]
     fn extra(self) -> u8
         ensures { result ≡ extra self }

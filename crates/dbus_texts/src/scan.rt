@@ -77,7 +77,7 @@ impl ScanState {
         }
     }
 
-    /// Where a text breaks that goes on from here, or `None` where it may go on so and end.
+    /// Where a text breaks that goes on from here, or `None` if it may go on so and end.
     pub fn break_of(self, text: &[u8]) -> Option<usize>
         requires { (more : List ℕ) × state_rest self more }
         ensures { IsBreakFrom (state_rest self) text.now result }
@@ -98,7 +98,7 @@ impl ScanState {
 pub struct TextScan {
     kind: TextKind,
     state: ScanState,
-    /// How many bytes were taken, or 256 where they are more.
+    /// How many bytes were taken, or 256 if they are more.
     length: u16,
 }
 
@@ -118,7 +118,7 @@ impl TextScan {
         }
     }
 
-    /// Takes one byte more, where some text of the kind begins with the text so far and this byte.
+    /// Takes one byte more, if some text of the kind begins with the text so far and this byte.
     ///
     /// The limit of 255 bytes that some kinds have is left to [`TextScan::end`]. On `false` the scan
     /// is unchanged.
@@ -161,7 +161,7 @@ impl TextScan {
         count
     }
 
-    /// Takes the ASCII that the bytes begin with, where the scan stands between the characters of a text; else no byte.
+    /// Takes the ASCII that the bytes begin with, if the scan stands between the characters of a text; else no byte.
     fn take_plain(&mut self, bytes: &[u8]) -> usize
         ensures within { result ≤ length bytes.now }
         ensures kind { kind_of self.new ≡ kind_of self.old }

@@ -17,7 +17,17 @@ use std::alloc::{AllocError, Allocator};
 /// The first of the values as a tree, as decoding gives it: the value that `next` sees. `None` if there are no values. An array of
 /// BYTE comes as `Bytes`, also within the value. The values stay what they are.
 ///
-/// `AllocError` if a growth of memory was refused. D-Bus Specification, "Marshaling (Wire Format)".
+/// `AllocError` if an allocation failed. D-Bus Specification, "Marshaling (Wire Format)".
+///
+/// ```rust
+/// use dbus_message::{MessageView, copy_value};
+/// use dbus_value::Value;
+///
+/// let view = MessageView::of(bytes)?;
+/// if let Some(Value::Str(text)) = copy_value(alloc, &view.body())? {
+///     println!(rt; "{text}")?;
+/// }
+/// ```
 pub fn copy_value<A: Allocator + Copy>(
     alloc: A,
     values: &Values<'_>,
@@ -39,7 +49,7 @@ pub fn copy_value<A: Allocator + Copy>(
 
 /// All of the values as trees, as decoding gives them. The values stay what they are.
 ///
-/// `AllocError` if a growth of memory was refused. D-Bus Specification, "Marshaling (Wire Format)".
+/// `AllocError` if an allocation failed. D-Bus Specification, "Marshaling (Wire Format)".
 pub fn copy_values<A: Allocator + Copy>(
     alloc: A,
     values: &Values<'_>,

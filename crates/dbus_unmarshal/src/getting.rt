@@ -22,6 +22,17 @@ use std::alloc::Allocator;
 
 /// The value of a type that stands at a place, and the place after it, as [`get_within`] says under the limits of the
 /// specification.
+///
+/// ```rust
+/// use dbus_types::SigType;
+/// use dbus_value::{Got, Order, Value, get};
+///
+/// let spelled = b"\x04\0\0\0text\0";
+/// let answer = get(alloc, spelled, 0, spelled.len(), Order::Little, &SigType::Str, 0)?;
+/// if let Got::Done(Value::Str(text), end) = answer {
+///     println!(rt; "{text} ends at {end}")?;
+/// }
+/// ```
 pub fn get<A: Allocator + Copy>(
     alloc: A,
     bytes: &[u8],
@@ -59,11 +70,11 @@ pub fn get<A: Allocator + Copy>(
 ///
 /// `bytes` begin at the message's first byte, from which padding counts; the value begins at `at` and ends at or
 /// before `end`, and `depth` containers are open around it, at most the limits' depth. Every index of a file descriptor in it
-/// is below `fds`, or any if that is nothing: the limits' own rule has no part in it. An array of BYTE comes as `Bytes`, also
+/// is below `fds`, or any if that is nothing: the limits' own rule is not used. An array of BYTE comes as `Bytes`, also
 /// within the value.
 ///
 /// `Partial` comes if the bytes end within the value and show no fault. A refusal is `Format` with the first fault of the
-/// bytes, which is `FdIndex` at an index that is not below `fds`, or `Memory` if a growth was refused. No memory is taken
+/// bytes, which is `FdIndex` at an index that is not below `fds`, or `Memory` if an allocation failed. No memory is taken
 /// until all of the value is validated: `Memory` comes only if the bytes spell it.
 /// D-Bus Specification, "Marshaling (Wire Format)", "Basic types".
 pub fn get_within<A: Allocator + Copy>(

@@ -1,7 +1,7 @@
 //! Values as trees: built of bytes that were validated, and read from any bytes, which are checked first.
 //!
 //! One walk goes along validated bytes, and a value is made of each part where it stands. Nothing is validated again: the one error is
-//! that a growth of memory was refused.
+//! that an allocation failed.
 #![tactic(auto)]
 
 mod building;

@@ -21,7 +21,7 @@ use std::sync::Arc;
 
 /// The value at a spot as a tree, and the offset after it. An array of BYTE comes as `Bytes`, also within the value.
 ///
-/// `AllocError` if a growth of memory was refused. D-Bus Specification, "Marshaling (Wire Format)".
+/// `AllocError` if an allocation failed. D-Bus Specification, "Marshaling (Wire Format)".
 pub fn build_value<A: Allocator + Copy>(
     alloc: A,
     source: &Source<'_>,
@@ -45,7 +45,7 @@ pub fn build_value<A: Allocator + Copy>(
 /// The values that stand one after another at a spot, one of each type that the text there spells. They take one growth of
 /// memory besides what each takes.
 ///
-/// `AllocError` if a growth of memory was refused. D-Bus Specification, "Marshaling (Wire Format)".
+/// `AllocError` if an allocation failed. D-Bus Specification, "Marshaling (Wire Format)".
 pub fn build_values<A: Allocator + Copy>(
     alloc: A,
     source: &Source<'_>,
@@ -72,7 +72,7 @@ pub fn build_values<A: Allocator + Copy>(
 /// The value at `at`, whose one type these bytes spell, as a tree, and the offset after it. So many containers may be open in it.
 /// How long the types in it are is noted first.
 ///
-/// `AllocError` if a growth of memory was refused. D-Bus Specification, "Marshaling (Wire Format)".
+/// `AllocError` if an allocation failed. D-Bus Specification, "Marshaling (Wire Format)".
 pub fn build_typed<A: Allocator + Copy>(
     alloc: A,
     source: &Source<'_>,

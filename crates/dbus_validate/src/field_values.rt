@@ -27,11 +27,11 @@ use dbus_value_validator::{is_ended_text, padding, short_text, validate_value, w
 /// Where the value of a header field stands.
 #[derive(Clone, Copy)]
 pub(crate) struct Held {
-    /// The offset of its text, or 0 where it is no text.
+    /// The offset of its text, or 0 if it is no text.
     pub start: usize,
     /// How many bytes its text has, or 0.
     pub length: usize,
-    /// Its number, or 0 where it is no UINT32.
+    /// Its number, or 0 if it is no UINT32.
     pub number: u32,
     /// The offset after it.
     pub after: usize,
@@ -215,7 +215,7 @@ fn anything(bytes: &[u8], at: usize, end: usize, order: Order, limits: Limits) -
     })
 }
 
-/// The value of a field of a code: of its own type and kind where the code is known.
+/// The value of a field of a code: of its own type and kind if the code is known.
 ///
 /// Some says that the bytes from `at` on are the signature and the value that such a field has, up to `after`, and where its
 /// text stands or what its number is, if the code is known. None says that no such signature and value begin at `at`: the bytes

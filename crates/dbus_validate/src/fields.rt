@@ -19,7 +19,7 @@ use dbus_value_validator::padding;
 ///
 /// `bytes` begin at the message's first byte, from which offsets count; the field begins at `at` and ends at or before `end`, up
 /// to which the bytes are there. Some says that the bytes from `at` on are a field of that code, after any fields among which the
-/// code does not stand, or any at all where it is not known. None says that no field begins at `at`, whichever stand before it:
+/// code does not stand, or any at all if it is not known. None says that no field begins at `at`, whichever stand before it:
 /// the bytes there are at fault, or the field does not end at or before `end`, or the limits' depth is below [`FIELD_DEPTH`]. The
 /// field array is open around it. D-Bus Specification, "Header Fields".
 pub(crate) fn validate_field(

@@ -1,7 +1,9 @@
-//! Messages validated fast: whether bytes begin with a message, and where its parts stand.
+//! Messages validated fast: whether bytes begin with a message, and where its parts stand. D-Bus Specification, "Message Format".
 //!
-//! A yes says that they do, and a no that they do not: they are at fault, or too few. Who wants to know which, and the place and
-//! the reason of a fault, asks a reader or a checker. So nothing is noted of a fault, and no memory is taken.
+//! [`validate`] returns `None` if the bytes begin with no message: they are at fault, or too few. It notes nothing of a fault and
+//! takes no memory; to learn which of the two holds, and the place and the reason, use `decode` or a checker.
+//! [`validate_first`] finds the message's end first, and [`validate_known`] is for bytes that a checker has passed. A view
+//! (`dbus_view`) is what most callers want: it is made by `validate`.
 #![tactic(auto)]
 
 mod field_values;

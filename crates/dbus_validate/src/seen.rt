@@ -19,11 +19,11 @@ const UNIX_FDS: u8 = 9;
 /// Where the value of a known field stands.
 #[derive(Clone, Copy)]
 pub struct Place {
-    /// The offset of its text, or 0 where it is no text.
+    /// The offset of its text, or 0 if it is no text.
     pub start: u32,
     /// How many bytes its text has, or 0.
     pub length: u32,
-    /// Its number, or 0 where it is no UINT32.
+    /// Its number, or 0 if it is no UINT32.
     pub number: u32,
 }
 
@@ -109,7 +109,7 @@ impl Seen {
         true
     }
 
-    /// The types of the body's values: the text of the SIGNATURE field in the bytes, or nothing where that was not seen.
+    /// The types of the body's values: the text of the SIGNATURE field in the bytes, or nothing if that was not seen.
     pub fn signature<'a>(&self, bytes: &'a [u8]) -> &'a [u8]
         requires noted { (fs : List FieldTree) × AreNoted fs bytes.now self.now }
         ensures { (fs : List FieldTree) → AreNoted fs bytes.now self.now →
@@ -121,7 +121,7 @@ impl Seen {
         }
     }
 
-    /// How many file descriptors come with the message: the number of the UNIX_FDS field, or 0 where that was not seen.
+    /// How many file descriptors come with the message: the number of the UNIX_FDS field, or 0 if that was not seen.
     pub fn fd_count(&self) -> u32
         ensures { (bytes : List ℕ) (fs : List FieldTree) → AreNoted fs bytes self.now →
             result ≡ fd_count fs }

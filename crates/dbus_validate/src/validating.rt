@@ -93,7 +93,7 @@ impl Head {
 }
 
 /// What stands before the body of a message within the limits that the bytes begin with, if all bytes of the body are there; at
-/// its values nothing is looked. Where the values of its known fields stand is noted in `seen`, where none was.
+/// its values nothing is looked. Where the values of its known fields stand is noted in `seen`, which had none.
 #[inline(always)]
 fn read_head(bytes: &[u8], limits: Limits, seen: &mut Seen) -> Option<Head>
     requires unseen { AreNoted [] bytes.now seen.old }

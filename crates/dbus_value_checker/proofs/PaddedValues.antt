@@ -1,7 +1,6 @@
 -- A value whose padding is there.
-use Rattle.std.proofs.Common.{◌≡◌, ℕ, suc, ◌+◌, ◌-◌, ◌*◌, ◌<◌, ◌≤◌, List, [], ◌∷◌, ◌++◌, length, reverse, take, drop, get_or, true, false, Ok, Err, refl, sym, ap, subst, ◌∙◌, arith, inl, inr}
+use Rattle.std.proofs.Common.{◌≡◌, ℕ, suc, ◌+◌, ◌-◌, ◌*◌, ◌<◌, ◌≤◌, List, [], ◌∷◌, ◌++◌, length, reverse, take, get_or, true, false, Ok, Err, refl, sym, ap, subst, ◌∙◌, arith, inl, inr}
 use Rattle.std.specs.Prelude.{◌⊎◌}
-use Rattle.std.proofs.lemmas.List.{length-drop}
 use Rattle.dbus_texts.specs.Types.{NumberCode, TextCode, TypeTree, NumberType, TextType, VariantType, ArrayType, StructType, EntryType, TypeTrees, NoTypes, MoreTypes, number_code, text_code, sig, sigs, IsShaped, AreShaped}
 use Rattle.dbus_types.specs.Alignments.{width, length_width, alignment_of}
 use Rattle.dbus_texts.specs.declared.scan.TextScan.{TextScan}
@@ -22,18 +21,12 @@ use Rattle.dbus_value_checker.specs.Codes.{IsNumberCode}
 use Rattle.dbus_value_checker.specs.Suspended.{On, onward, done, Work, Parts, Elements, elements, work, works, own, own_of, opened_by}
 use Rattle.dbus_value_checker.specs.Fronts.{Fronts}
 use Rattle.dbus_value_checker.specs.Frames.{slice, Framed, extra}
-use Rattle.dbus_value_checker.proofs.Calls.{after_err}
 use Rattle.std.proofs.Common.{Result}
-use Rattle.dbus_value_model.specs.WantedTexts.{WantedText}
-use Rattle.dbus_value_model.specs.Items.{text_reason}
-use Rattle.dbus_value_model.specs.declared.fault.Reason.{Reason}
 use Rattle.dbus_texts.specs.declared.text_kind.TextKind.{TextKind}
-use Rattle.dbus_value_checker.specs.declared.values.Doing.TheVariants as doing
-use Rattle.dbus_value_checker.specs.Denotations.{Answer, rest_of, HasFrames, Goes, Wants, Ready, Texts, Nuls, after_piece}
+use Rattle.dbus_value_checker.specs.Denotations.{Answer, rest_of, HasFrames, Goes, Wants, Ready, Texts, after_piece}
 use Rattle.dbus_value_checker.specs.Moves.{Moves, Pushed, Enters}
 use Rattle.dbus_value_checker.proofs.Suspension.{works_as, value_begins, after_after}
 use Rattle.dbus_value_checker.proofs.FrontSteps.{front_taken, front_stops}
-use Rattle.dbus_value_checker.proofs.Chains.{take-both}
 use Rattle.dbus_value_checker.proofs.Slices.{slice_head, slice_room, slice_after, slice_inner}
 use Rattle.dbus_value_checker.proofs.FrameLaws.{frames_at, frame_within, pushed_frames, inner_of}
 use Rattle.dbus_value_checker.proofs.TypeCodes.{array_of, struct_of, entry_of, text_of, number_type, array_complete, struct_complete, entry_complete, entry_text, sigs_some}
@@ -315,9 +308,6 @@ module _ (x : Values) (pos stop n : ℕ) (answer : Answer) (r : Ready x pos stop
     sized_same : (c : List ℕ) → after (sized ready_text.0 (x.offset + n) c) lettered ≡ answer.to c
     sized_same c = ready_at (TextType ready_text.0) x.inner.depth_left ready_text.1 refl c
 
-    pub text_named : (kind : TextKind) (why : Reason) → ((k : TextCode) → text_code k ≡ code → Of kind ≡ kind_of k) → ((k : TextCode) → text_code k ≡ code → text_reason (kind_of k) ≡ why) → text_reason (Of kind) ≡ why
-    text_named kind why k w = ap text_reason (k ready_text.0 text_is) ∙ w ready_text.0 text_is
-
     module _ (s : List ℕ) where
       abbrev Counts : Result (ℕ × ℕ) Stop → Type 0
       Counts e = (k : TextCode) → text_code k ≡ code → Fronts (λ (m : ℕ × ℕ). m) (x.offset + n) s e (sized k)
@@ -347,37 +337,3 @@ module _ (x : Values) (pos stop n : ℕ) (answer : Answer) (r : Ready x pos stop
           near = r.near;
           same = letters_same;
         }
-
-        -- all of the text is there
-        module _ (rest : List ℕ) (rest_is : rest ≡ drop k s) where
-          abbrev named : List ℕ → Unit {0} → List ℕ × ℕ
-          named t u = (take size t, size)
-
-          letters : (e : Result (Unit {0}) Stop) → Fronts (named rest) (x.offset + n + k) rest e (text (Of kind) size) → Fronts (named (drop k s)) (x.offset + n + k) (drop k s) e (text (kind_of ready_text.0) size)
-          letters e h =
-              subst (λ (w : WantedText). Fronts (named (drop k s)) (x.offset + n + k) (drop k s) e (text w size)) (kind_is ready_text.0 text_is)
-              (subst (λ (t : List ℕ). Fronts (named t) (x.offset + n + k) t e (text (Of kind) size)) rest_is h)
-
-          pub text_whole : Fronts (named rest) (x.offset + n + k) rest (Ok tt) (text (Of kind) size) → (k + size ≤ length s) × Nuls (record x { offset = x.offset + n + k + size; doing = doing.Nul }) (after_piece answer (take (k + size) s))
-          text_whole h =
-              let f = letters (Ok tt) h in
-              let le = (gives ready_text.0 text_is).0 in
-              let more = f.0 in
-              let d = length-drop k s in (
-                omega arith,
-                record {
-                  ws = r.wants.ws;
-                  frames = further (x.offset + n + k + size) (omega arith) (omega arith);
-                  noted = r.wants.noted;
-                  fits = fits;
-                  near = r.near;
-                  same = λ c.
-                      front_taken (named (drop k s)) (x.offset + n + k) (drop k s) (text (kind_of ready_text.0) size) (λ t. onward nul (rest_of answer x r.wants.ws)) (λ c. answer.to (take k s ++ c)) letters_same tt f c
-                      ∙ ap answer.to (sym (take-both k size s c le));
-                },
-              )
-
-          pub text_whole_stops : (e : Stop) → Fronts (named rest) (x.offset + n + k) rest (Err e) (text (Of kind) size) → Moves x s (Err e) x answer
-          text_whole_stops e h =
-              after_err x x s k answer (drop k s) refl e
-              (front_stops (named (drop k s)) (x.offset + n + k) (drop k s) (text (kind_of ready_text.0) size) (λ t. onward nul (rest_of answer x r.wants.ws)) (λ c. answer.to (take k s ++ c)) letters_same x answer.last e (letters (Err e) h))

@@ -14,7 +14,7 @@ impl Values {
     ghost use Rattle.dbus_value_checker.specs.Moves.{Opens, Enters, wide};
     ghost use Rattle.dbus_value_model.specs.declared.stop.Stop.TheVariants.{Partial};
 
-    /// The type of the next part is no longer wanted: where it ends.
+    /// Passes over the next type, and returns the place after it.
     pub(crate) fn part(&mut self) -> usize
         requires pos { self.old.inner.pos < self.old.inner.stop }
         requires stop { self.old.inner.stop ≤ length self.old.text.items }
@@ -31,7 +31,7 @@ impl Values {
         stop
     }
 
-    /// What is wanted of an array that goes on: the bytes of all of its whole numbers, if none need be looked at; else one element.
+    /// Next in an array: the bytes of all of its whole numbers, if none need be looked at; else one element.
     fn element(&self) -> Doing
         requires valid { (answer : Answer) × Goes self.now answer }
         requires array { self.now.inner.array ≡ true }
@@ -77,7 +77,7 @@ impl Values {
         }
     }
 
-    /// What stands within the brackets at `pos`, n bytes further.
+    /// Enters the struct or dict entry whose type is at `pos`, n bytes on.
     pub(crate) fn inside(&mut self, pos: usize, stop: usize, n: usize, depth_left: u8)
         requires near { self.old.offset + n < 2 ^ 64 }
         requires few { length self.old.frames.items < 128 }

@@ -3,7 +3,7 @@
 //!
 //! `bytes` are those of a message from `offset` on, as far as they are there; `offset` counts from the message's first byte,
 //! and an item is to end at or before `end`. Each call gives what the item says and how many bytes it has, once all of them
-//! are there; `Partial` where the bytes end within it and show no fault; `Refused` with its first fault, whatever bytes
+//! are there; `Partial` if the bytes end within it and show no fault; `Refused` with its first fault, whatever bytes
 //! follow. None takes memory.
 #![tactic(auto)]
 
@@ -45,7 +45,7 @@ pub fn front(bytes: &[u8], n: usize) -> &[u8]
 
 /// The zeros up to the next multiple of `alignment`: how many.
 ///
-/// `Overrun` at `offset` where they end past the end; else `Padding` at the first byte that is not 0.
+/// `Overrun` at `offset` if they end past the end; else `Padding` at the first byte that is not 0.
 pub fn padding(bytes: &[u8], offset: usize, end: usize, alignment: u8) -> Result<usize, Stop>
     requires some { 0 < alignment }
     requires few { alignment ≤ 8 }
@@ -72,7 +72,7 @@ pub fn padding(bytes: &[u8], offset: usize, end: usize, alignment: u8) -> Result
 
 /// A number of `width` bytes, whatever it is.
 ///
-/// `Overrun` at `offset` where it ends past the end.
+/// `Overrun` at `offset` if it ends past the end.
 pub fn fixed(bytes: &[u8], offset: usize, end: usize, width: usize) -> Result<(), Stop>
     requires at_most { offset ≤ end }
     ensures { IsThere width offset end bytes.now result }
@@ -88,7 +88,7 @@ pub fn fixed(bytes: &[u8], offset: usize, end: usize, width: usize) -> Result<()
 
 /// A number of four bytes.
 ///
-/// `Overrun` at `offset` where it ends past the end.
+/// `Overrun` at `offset` if it ends past the end.
 pub fn word(bytes: &[u8], offset: usize, end: usize, order: Order) -> Result<u32, Stop>
     requires at_most { offset ≤ end }
     ensures { IsWord order offset end bytes.now result }
@@ -101,7 +101,7 @@ pub fn word(bytes: &[u8], offset: usize, end: usize, order: Order) -> Result<u32
 
 /// A number of one byte.
 ///
-/// `Overrun` at `offset` where it ends past the end.
+/// `Overrun` at `offset` if it ends past the end.
 pub fn byte(bytes: &[u8], offset: usize, end: usize) -> Result<u8, Stop>
     requires at_most { offset ≤ end }
     ensures { IsByte offset end bytes.now result }
@@ -130,8 +130,8 @@ fn row_of(code: u8, n: u32, index_limit: Option<u32>) -> Option<Reason>
 
 /// A number of the type that has this code: how many bytes it has. Its padding is taken already.
 ///
-/// `Overrun` at `offset` where it ends past the end; `Bool` there where it is a BOOLEAN and neither 0 nor 1; `FdIndex` there
-/// where it is a UNIX_FD and not below `index_limit`, if that is something. D-Bus Specification, "Basic types".
+/// `Overrun` at `offset` if it ends past the end; `Bool` there where it is a BOOLEAN and neither 0 nor 1; `FdIndex` there
+/// if it is a UNIX_FD and not below `index_limit`, if that is something. D-Bus Specification, "Basic types".
 pub fn number_front(
     code: u8,
     bytes: &[u8],
@@ -166,7 +166,7 @@ pub fn number_front(
 
 /// The length of a signature.
 ///
-/// `Overrun` at `offset` where the length, the text or the zero after it ends past the end.
+/// `Overrun` at `offset` if the length, the text or the zero after it ends past the end.
 pub fn short_length_front(bytes: &[u8], offset: usize, end: usize) -> Result<usize, Stop>
     requires at_most { offset ≤ end }
     ensures gives { (order : Order) →
@@ -188,7 +188,7 @@ pub fn short_length_front(bytes: &[u8], offset: usize, end: usize) -> Result<usi
 /// The length of a text of the type that has this code, and how many bytes the length has: one for a SIGNATURE, else four.
 /// Its padding is taken already.
 ///
-/// `Overrun` at `offset` where the length, the text or the zero after it ends past the end.
+/// `Overrun` at `offset` if the length, the text or the zero after it ends past the end.
 pub fn length_front(
     code: u8,
     bytes: &[u8],
@@ -263,7 +263,7 @@ pub fn array_front(
 /// A text of n bytes of a kind, whose length is taken already.
 ///
 /// The fault `reason` where the text breaks: at the first byte that no text of the kind goes on with, or after its last byte
-/// where it may not end there.
+/// if it may not end there.
 pub fn text_front(
     kind: TextKind,
     n: usize,
@@ -289,7 +289,7 @@ pub fn text_front(
 
 /// The zero after a text.
 ///
-/// `Nul` at `offset` where the byte is not 0.
+/// `Nul` at `offset` if the byte is not 0.
 pub fn nul_front(bytes: &[u8], offset: usize) -> Result<(), Stop>
     ensures gives { Fronts (λ _. (tt, 1)) offset bytes.now result nul }
     ensures short { IfErr result (λ e. e ≡ Partial → length bytes.now < 1) }
@@ -359,7 +359,7 @@ pub fn signature_front(
 
 /// The signature of a variant's value, with its length before it and the zero after it: how many bytes the signature has.
 ///
-/// `Overrun` at `offset` where the length, the signature or the zero ends past the end; else `Signature` where the signature
+/// `Overrun` at `offset` if the length, the signature or the zero ends past the end; else `Signature` if the signature
 /// breaks, or is not of one complete type; else `Nul` at the byte after it that is not 0. D-Bus Specification, "Variant".
 pub fn variant_front(bytes: &[u8], offset: usize, end: usize) -> Result<usize, Stop>
     requires at_most { offset ≤ end }

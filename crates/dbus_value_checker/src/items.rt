@@ -176,7 +176,7 @@ impl Values {
         self.number(pos, stop, n, code, bytes)
     }
 
-    /// The value that is wanted: its front, where all of it is there.
+    /// The value that is wanted: its front, if all of it is there.
     pub(crate) fn value(&mut self, pos: usize, stop: usize, bytes: &[u8]) -> Result<usize, Stop>
         requires valid { (answer : Answer) × Wants self.old pos stop answer }
         ensures moves { (answer : Answer) → Wants self.old pos stop answer →

@@ -10,6 +10,7 @@ mod items;
 mod signatures;
 mod texts;
 mod values;
+mod whole;
 
 pub use fronts::{
     array_front, byte, ended_front, fixed, front, length_front, nul_front, number_front, padding,

@@ -7,7 +7,7 @@ ghost use Rattle.dbus_value_model.specs.WantedTexts.{Of};
 ghost use Rattle.dbus_value_model.specs.WantedTexts as wanted;
 ghost use Rattle.dbus_value_model.specs.Items.{text_reason};
 
-use crate::fronts::{front, length_front, nul_front, rest_after, text_front};
+use crate::fronts::{front, length_front, nul_front};
 use crate::values::{Doing, Values};
 use dbus_types::{TextKind, TextScan};
 use dbus_value_model::{Reason, Stop, refuse};
@@ -77,24 +77,6 @@ impl Values {
         let at = self.offset + n;
         match length_front(code, bytes, at, self.inner.end, self.order) {
             Ok((size, width)) => {
-                let rest = rest_after(bytes, width);
-                if rest.len() > size {
-                    // All of it is there, and the zero after it.
-                    return match text_front(
-                        kind_of_code(code),
-                        size,
-                        rest,
-                        at + width,
-                        reason_of_code(code),
-                    ) {
-                        Ok(()) => {
-                            self.offset = at + width + size;
-                            self.doing = Doing::Nul;
-                            Ok(width + size)
-                        }
-                        Err(stop) => Err(stop),
-                    };
-                }
                 self.offset = at + width;
                 self.scan = TextScan::new(kind_of_code(code));
                 match self.text_on(code, size) {

@@ -3,7 +3,6 @@
 
 ghost use Rattle.std.specs.Prelude.{◌≡◌, ◌+◌, ◌*◌, ◌<◌, ◌≤◌, ◌^◌, ℕ, length, drop, true, false, Ok, IfOk, IfErr, ◌⊎◌, ◌↔◌, IsTrue};
 
-use crate::fronts::rest_after;
 use crate::signatures::sign;
 use arrayvec::ArrayVec;
 use dbus_types::{TextKind, TextScan};
@@ -130,8 +129,8 @@ impl Values {
         self.next();
     }
 
-    /// What is wanted next, where all of it is there.
-    fn step(&mut self, bytes: &[u8]) -> Result<usize, Stop>
+    /// What is wanted next, if all of it is there.
+    pub(crate) fn step(&mut self, bytes: &[u8]) -> Result<usize, Stop>
         requires valid { (answer : Answer) × Denotes self.old answer }
         requires live { IsLive self.old.doing }
         ensures moves { (answer : Answer) → Denotes self.old answer →
@@ -163,7 +162,7 @@ impl Values {
     }
 
     /// Takes all of the bytes at once if they are an array's numbers, of which more are wanted after them: whether they are.
-    /// It says no less than [`Values::run`], and is quicker where the bytes come one by one.
+    /// It says no less than [`Values::run`], and is quicker if the bytes come one by one.
     pub fn skip(&mut self, bytes: &[u8]) -> bool
         requires valid { (answer : Answer) × Denotes self.old answer }
         ensures runs { result ≡ true → (answer : Answer) → Denotes self.old answer →
@@ -193,8 +192,9 @@ impl Values {
         ensures short { IfOk result (λ n. IsLive self.new.doing → length bytes.now < n + 257) }
     {
         let mut n = 0;
+        let mut misses = 0;
         while self.is_live() {
-            match self.step(rest_after(bytes, n)) {
+            match self.advance(bytes, n, &mut misses) {
                 Ok(more) => n += more,
                 Err(Stop::Partial) => return Ok(n),
                 Err(Stop::Refused(fault)) => return Err(fault),

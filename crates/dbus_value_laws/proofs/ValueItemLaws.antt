@@ -1,7 +1,7 @@
 -- A wanted value and its reader agree.
 use Rattle.std.proofs.Common.{◌≡◌, ℕ, zero, suc, ◌+◌, ◌<◌, List, length, Bool, true, false, refl, sym, subst, arith}
 use Rattle.std.proofs.lemmas.List.{length-append}
-use Rattle.dbus_texts.specs.Types.{NumberCode, BYTE, BOOLEAN, INT16, UINT16, INT32, UINT32, INT64, UINT64, DOUBLE, UNIX_FD, TextCode, TypeTree, NumberType, TextType, VariantType, ArrayType, StructType, EntryType, TypeTrees, NoTypes, MoreTypes, IsShaped, AreShaped, IsBasic}
+use Rattle.dbus_texts.specs.Types.{NumberCode, BYTE, TextCode, TypeTree, NumberType, TextType, VariantType, ArrayType, StructType, EntryType, TypeTrees, NoTypes, MoreTypes, IsShaped, AreShaped, IsBasic}
 use Rattle.dbus_types.specs.Alignments.{width, length_width, alignment_of}
 use Rattle.dbus_texts.proofs.KindFacts.{shaped_of}
 use Rattle.dbus_value_model.specs.WantedTexts.{kind_of, Of}
@@ -40,15 +40,7 @@ struct_complete b (MoreTypes t ts) h = h
 
 width_positive : (k : NumberCode) → 0 < width k
 width_positive BYTE = omega arith
-width_positive BOOLEAN = omega arith
-width_positive INT16 = omega arith
-width_positive UINT16 = omega arith
-width_positive INT32 = omega arith
-width_positive UINT32 = omega arith
-width_positive INT64 = omega arith
-width_positive UINT64 = omega arith
-width_positive DOUBLE = omega arith
-width_positive UNIX_FD = omega arith
+width_positive k = omega arith
 
 pub positive : (bounds : Bounds) (order : Order) (v : ValueTree) (b : Bool) (o : ℕ) → IsShaped b (type_of v) → 0 < length (spelling order o v)
 unfolding spelling

@@ -45,12 +45,12 @@ pub fn number_is_place_sum()
     ensures { NumberIsPlaceSum }
 {}
 
-/// The plain reader gives a value exactly where the bytes spell it.
+/// The plain reader gives a value exactly if the bytes spell it.
 pub fn reads_spelled()
     ensures { ReadsSpelled }
 {}
 
-/// The plain reader gives a fault exactly where the wanted value shows it.
+/// The plain reader gives a fault exactly if the wanted value shows it.
 pub fn reads_faults()
     ensures { ReadsFaults }
 {}

@@ -1,5 +1,5 @@
 -- What is decided of the types of a value's parts, level by level and along a list.
-use Rattle.std.proofs.Common.{◌≡◌, ℕ, Bool, ◌&&◌, not, List, [], ◌∷◌, ◌++◌, Vec, refl, sym, subst, rules, ◌↔◌, IsTrue, Result, Ok, Err, IfOk}
+use Rattle.std.proofs.Common.{◌≡◌, ℕ, Bool, ◌&&◌, not, List, [], ◌∷◌, ◌++◌, Vec, refl, sym, subst, rules, IsTrue}
 use Rattle.std.proofs.lemmas.Bool.{and_parts, and_from}
 use Rattle.dbus_texts.specs.Types.{NumberType, BYTE, is_byte}
 use Rattle.dbus_types.specs.SigTypes.{type_tree}
@@ -19,16 +19,6 @@ bytes_uniform bs = subst IsUniform (sym (tree-Bytes bs)) (each bs.items)
     each : (bs : List ℕ) → AllOf (NumberType BYTE) (byte_values bs) × AreUniform (byte_values bs)
     each [] = (tt, tt)
     each (b ∷ bs) = let rest = each bs in ((refl, rest.0), (tt, rest.1))
-
--- what is asked beside a fact that holds
-pub beside : {E : Type 0} (r : Result Bool E) (P Q : Type 0) → Q → IfOk r (λ b. IsTrue b ↔ P) → IfOk r (λ b. IsTrue b ↔ (P × Q))
-beside (Ok b) P Q q h = (λ e. (h.0 e, q), λ k. h.1 k.0)
-beside (Err e) P Q q h = tt
-
--- the same, where the fact stands first
-pub suffix : {E : Type 0} (r : Result Bool E) (P Q : Type 0) → P → IfOk r (λ b. IsTrue b ↔ Q) → IfOk r (λ b. IsTrue b ↔ (P × Q))
-suffix (Ok b) P Q p h = (λ e. (p, h.0 e), λ k. h.1 k.1)
-suffix (Err e) P Q p h = tt
 
 -- ---- arrays of BYTE
 

@@ -17,3 +17,4 @@ pub mod PartRanges
 pub mod FreeNumbers
 pub mod Gaps
 pub mod Items
+pub mod Periods

@@ -19,10 +19,10 @@ pub record IsTyped {A : Type 0} (v : Value A) : Type 0 where
   pub uniform : IsUniform (value_tree v)
   pub packed : IsTrue (keeps_bytes v)
 
--- What is answered of a value within so many open containers: the first case that holds of any part. Memory is answered
--- only where a growth was refused, which says nothing of the value.
+-- What is answered of a value within so many open containers: the first case that holds of any part. No memory is taken, so
+-- that Memory is never answered.
 abbrev pub Refuses : {A : Type 0} → ValueFault → ℕ → Value A → Type 0
-Refuses Memory depth_left v = Unit {0}
+Refuses Memory depth_left v = ⊥
 Refuses TooDeep depth_left v = NestsWithin depth_left (value_tree v) → ⊥
 Refuses Mixed depth_left v = NestsWithin depth_left (value_tree v) × (IsTyped v → ⊥)
 Refuses Name depth_left v = NestsWithin depth_left (value_tree v) × IsTyped v × (IsNamed (value_tree v) → ⊥)

@@ -37,19 +37,19 @@ pub fn check_value<A: Allocator + Copy>(
     check_value_within(alloc, value, depth, Limits::specification())
 }
 
-/// Whether a value is well formed where `depth` arrays, structs and variants are open around it, at most as many as the
+/// Whether a value is well formed if `depth` arrays, structs and variants are open around it, at most as many as the
 /// limits' depth.
 ///
-/// It is refused for the first case that holds of any part of it: `TooDeep` where more arrays, structs and variants are
-/// open at once than the limits' depth; `Mixed` where an item has another type than its array's, an array of BYTE is not
+/// It is refused for the first case that holds of any part of it: `TooDeep` if more arrays, structs and variants are
+/// open at once than the limits' depth; `Mixed` if an item has another type than its array's, an array of BYTE is not
 /// `Bytes`, a dict entry stands outside an array or its key is not basic, a struct is empty, or a type spells no signature
-/// within the limits; `Name` where an object path or a signature is none, or a text has U+0000. `Memory` where a growth of
-/// memory was refused. A value that passes has short signatures, as writing and measuring ask, and as every value has it,
-/// numbers in the ranges of their types.
+/// within the limits; `Name` if an object path or a signature is none, or a text has U+0000. No memory is taken, so
+/// `Memory` is never answered. A value that passes has short signatures, as writing and measuring ask, and as every value has
+/// it, numbers in the ranges of their types.
 /// D-Bus Specification, "Type System", "Valid Signatures" and "Message Protocol".
 #[tactic(auto, using(crate::proofs::ShortLaws::short_of))]
 pub fn check_value_within<A: Allocator + Copy>(
-    alloc: A,
+    _alloc: A,
     value: &Value<A>,
     depth: u8,
     limits: Limits,
@@ -62,7 +62,7 @@ pub fn check_value_within<A: Allocator + Copy>(
     if !nests_within(value, limits.depth - depth) {
         return Err(ValueFault::TooDeep);
     }
-    if !is_typed(alloc, value)? {
+    if !is_typed(value) {
         return Err(ValueFault::Mixed);
     }
     if !is_named(value) {

@@ -11,7 +11,7 @@ use std::string::String;
 
 /// An equal value, in which each array of BYTE is `Bytes` or an `Array` as it was.
 ///
-/// The one error is that a growth of memory was refused.
+/// The one error is that an allocation failed.
 #[cycle(copy)]
 pub fn copy<A: Allocator + Copy>(alloc: A, value: &Value<A>) -> Result<Value<A>, AllocError>
     ensures equal { IfOk result (λ c. value_tree c ≡ value_tree value.now) }

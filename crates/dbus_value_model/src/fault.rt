@@ -14,7 +14,7 @@ pub enum Reason {
     Version,
     /// The serial, or a REPLY_SERIAL, is 0.
     ZeroSerial,
-    /// An array's length is over the limit on arrays: 67,108,864 bytes, or fewer where such a limit is handed in.
+    /// An array's length is over the limit on arrays: 67,108,864 bytes, or fewer if such a limit is handed in.
     ArrayTooLong,
     /// The header, its padding and the body have more than 134,217,728 bytes.
     MessageTooLong,
@@ -28,23 +28,23 @@ pub enum Reason {
     Text,
     /// The byte after a text is not 0.
     Nul,
-    /// An OBJECT_PATH is no object path.
+    /// An OBJECT_PATH is not a valid object path.
     Path,
-    /// A SIGNATURE is no signature, or a variant's is not of one complete type.
+    /// A SIGNATURE is not a valid signature, or a variant's is not one complete type.
     Signature,
-    /// The INTERFACE field is no interface name.
+    /// The INTERFACE field is not a valid interface name.
     Interface,
-    /// The MEMBER field is no member name.
+    /// The MEMBER field is not a valid member name.
     Member,
-    /// The ERROR_NAME field is no error name.
+    /// The ERROR_NAME field is not a valid error name.
     ErrorName,
-    /// The DESTINATION or SENDER field is no bus name.
+    /// The DESTINATION or SENDER field is not a valid bus name.
     BusName,
     /// The name in a header field has more than 255 bytes.
     NameTooLong,
     /// A header field's code is 0.
     FieldCode,
-    /// A known header field stands twice.
+    /// A known header field occurs twice.
     FieldTwice,
     /// A known header field has another type than its own.
     FieldType,
@@ -52,21 +52,20 @@ pub enum Reason {
     FieldMissing(u8),
     /// Bytes are left after the body's last value, or after the message.
     Trailing,
-    /// A container is opened while as many are open as the limit on depth: 64, or fewer where such a limit is handed in.
+    /// A container is opened while as many are open as the limit on depth: 64, or fewer if such a limit is handed in.
     TooDeep,
     /// The input ends within a message.
     Truncated,
-    /// The index of a file descriptor is not below their count, where that is asked for.
+    /// The index of a file descriptor is not below their count, if that is asked for.
     FdIndex,
-    /// Something that is not read yet. It is answered nowhere: all that the wire format has is read. The case is kept so that
-    /// the reasons keep their order.
+    /// Reserved: no input is refused for it today. The case is kept so that the reasons keep their order.
     NotYet,
 }
 
 /// Why bytes are refused, and where.
 #[derive(Clone, Copy, PartialEq, Eq, Debug)]
 pub struct Fault {
-    /// The place, in bytes from the message's first byte; that of the first byte not yet given, where no byte is needed.
+    /// The place, in bytes from the message's first byte. If no byte shows the fault, it is the number of bytes read before it.
     pub at: u64,
     /// The reason.
     pub reason: Reason,
@@ -75,7 +74,7 @@ pub struct Fault {
 /// Why a call gave nothing.
 #[derive(Clone, Copy, PartialEq, Eq, Debug, Error)]
 pub enum Refusal {
-    /// A growth of memory was refused.
+    /// An allocation failed.
     #[error("allocation failed")]
     Memory,
     /// The bytes are refused.

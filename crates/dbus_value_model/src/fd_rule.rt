@@ -10,14 +10,14 @@ ghost use Rattle.std.specs.Prelude.{◌≡◌};
 pub enum FdRule {
     /// Any index.
     Any,
-    /// Indexes below the number that the UNIX_FDS field says, which is 0 where it is absent.
+    /// Indexes below the number that the UNIX_FDS field says, which is 0 if it is absent.
     BelowCount,
 }
 
 impl FdRule {
     ghost use Rattle.dbus_value_model.specs.FdIndexes.{index_limit};
 
-    /// The number that every index is to be below where `count` descriptors come with the message, or nothing where any
+    /// The number that every index is to be below if `count` descriptors come with the message, or nothing if any
     /// index may stand.
     pub fn index_limit(self, count: u32) -> Option<u32>
         ensures { result ≡ index_limit self count }

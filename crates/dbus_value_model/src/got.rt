@@ -4,7 +4,7 @@
 use crate::value::Value;
 use std::alloc::{Allocator, Global};
 
-/// What bytes gave that are not refused.
+/// A value, or the need for more bytes: what bytes give that are not refused.
 #[derive(Debug, Drop)]
 pub enum Got<A: Allocator = Global> {
     /// The value, and the place after it.

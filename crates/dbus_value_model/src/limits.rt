@@ -40,7 +40,7 @@ pub struct Limits {
 pub struct Bounds {
     /// The most bytes that the contents of an array have, at most [`ARRAY_LIMIT`].
     pub array: u32,
-    /// The number that every index of a file descriptor is below, or nothing where any index may stand.
+    /// The number that every index of a file descriptor is below, or nothing if any index may stand.
     pub fds: Option<u32>,
     pub ghost array_in: { array ≤ ARRAY_LIMIT },
 }
@@ -48,8 +48,18 @@ pub struct Bounds {
 impl Limits {
     ghost use Rattle.dbus_value_model.specs.Specification.{IsLimits, specification, with_fds, bounds_of, bounds_with};
 
-    /// These limits, under which any index of a file descriptor may stand, or nothing where one of them is over that of the
+    /// These limits, under which any index of a file descriptor may stand, or nothing if one of them is over that of the
     /// specification.
+    ///
+    /// ```rust
+    /// use dbus_message::decode_within;
+    /// use dbus_value::Limits;
+    ///
+    /// // Messages of at most 4,096 bytes, arrays of at most 1,024, and eight open containers.
+    /// if let Some(limits) = Limits::new(4_096, 1_024, 8) {
+    ///     decode_within(alloc, bytes, limits)?;
+    /// }
+    /// ```
     pub fn new(message: u32, array: u32, depth: u8) -> Option<Limits>
         ensures { IsLimits message array depth result }
     {
@@ -84,15 +94,15 @@ impl Limits {
         self
     }
 
-    /// What values keep under these limits, where any index of a file descriptor may stand.
+    /// What values keep under these limits, if any index of a file descriptor may stand.
     pub fn bounds(self) -> Bounds
         ensures { result ≡ bounds_of self }
     {
         self.bounds_with(None)
     }
 
-    /// What values keep under these limits, where every index of a file descriptor is below `fds`, or any stands where that
-    /// is nothing. The rule of the limits has no part in it.
+    /// What values keep under these limits, if every index of a file descriptor is below `fds`; `None` allows any. The rule of
+    /// these limits on indexes is not used.
     pub fn bounds_with(self, fds: Option<u32>) -> Bounds
         ensures { result ≡ bounds_with self fds }
     {

@@ -10,7 +10,7 @@ use thiserror::Error;
 /// Why a value is not well formed, or is not written. D-Bus Specification, "Marshaling (Wire Format)".
 #[derive(Clone, Copy, PartialEq, Eq, Debug, Error)]
 pub enum ValueFault {
-    /// A growth of memory was refused.
+    /// An allocation failed.
     #[error("allocation failed")]
     Memory,
     /// More arrays, structs and variants are open at once than the limit on depth.
@@ -21,7 +21,7 @@ pub enum ValueFault {
     /// signature within the limits.
     #[error("a part has no type that fits its place")]
     Mixed,
-    /// A path or a signature is none, or a text has U+0000.
+    /// An object path or a signature is not valid, or a text has U+0000.
     #[error("a path or a signature is none, or a text has U+0000")]
     Name,
     /// The contents of an array end past the limit on arrays, from their start.

@@ -27,10 +27,6 @@ module _ (types lengths : List ℕ) where
         let place : pos + from + at ≡ pos + (from + at) = omega arith in
         ap (λ (i : ℕ). get_or lengths i 0) place ∙ noted (from + at) t (more ++ drop m ys) (omega arith) whole
 
-    -- the type that begins at a place ends there
-    pub noted_end : (at n : ℕ) → pos + at < length lengths → n ≡ get_or lengths (pos + at) 0 → IsTypeEnd types at (at + n)
-    noted_end at n lt is = λ t more e. ap (λ (i : ℕ). at + i) (is ∙ noted at t more lt e)
-
 -- a type that is no container ends after its byte
 pub one_byte_end : (types : List ℕ) (at : ℕ) → at < length types → (get_or types at 0 ≡ 97 → ⊥) → (get_or types at 0 ≡ 40 → ⊥) → (get_or types at 0 ≡ 123 → ⊥) → IsTypeEnd types at (at + 1)
 one_byte_end types at lt array struct entry = λ t more e. ap (λ (i : ℕ). at + i) (sym (one_byte types at t more lt e array struct entry))

@@ -11,7 +11,7 @@ use Rattle.dbus_value_model.specs.ValueItems.{number_row}
 use Rattle.dbus_value_model.specs.Reading.{Reader, Done, up_to, contents, value, number_of}
 use Rattle.dbus_value_model.proofs.FreeNumbers.{FreeType}
 use Rattle.dbus_value_laws.proofs.ReadSteps.{padding_is}
-use Rattle.dbus_value_laws.proofs.ValueSteps.{value_number}
+use Rattle.dbus_value_laws.proofs.ValueSteps.{value_number, no_turn}
 use Rattle.dbus_value_validator.specs.Endings.{Answers, EndsAt, IsNotRead}
 use Rattle.dbus_value_validator.proofs.ReadParts.{not_first, answers_made}
 use Rattle.dbus_value_validator.proofs.ItemSteps.{is_number, free_ends, number_short}
@@ -41,11 +41,7 @@ module _ (part : Reader ValueTree) (bytes : List ℕ) (end w : ℕ) (some : 0 < 
   ends_here turns p before even e is =
       let none : (end - p) % w ≡ 0 = omega arith in
       let yes : even ≡ true = sym is ∙ eq-eqb _ 0 none in
-      rw yes ([], by_turns turns)
-    where
-      by_turns : (turns : ℕ) → up_to turns end (λ before. part) before p (drop p bytes) ≡ Done [] end (drop end bytes)
-      by_turns zero = rw (eq-eqb p end e) (ap (λ (q : ℕ). Done [] q (drop q bytes)) e)
-      by_turns (suc turns) = rw (le-ltb p end (omega arith), eq-eqb p end e) (ap (λ (q : ℕ). Done [] q (drop q bytes)) e)
+      rw yes ([], no_turn (λ before. part) end before turns p (drop p bytes) e ∙ ap (λ (q : ℕ). Done [] q (drop q bytes)) e)
 
   run : (turns p : ℕ) (before : List ValueTree) (even : Bool) → p ≤ end → end ≤ p + turns → gap_to w p ≡ 0 → Wholly turns p before even
   run zero p before even le few aligned is = ends_here zero p before even (omega arith) is

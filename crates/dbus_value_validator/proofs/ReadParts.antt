@@ -34,9 +34,6 @@ same_done x y p q s t e = (cc, cc, cc)
 pub not_first : {A B : Type 0} (read : Outcome A) (next : A → Reader B) → IsNotRead read → IsNotRead (after read next)
 not_first read next unread = λ y q rest h. let w = after_done read next y q rest h in unread w.0 w.1 w.2 w.3
 
-pub not_second : {A B : Type 0} (read : Outcome A) (next : A → Reader B) (x : A) (p : ℕ) (u : List ℕ) → read ≡ Done x p u → IsNotRead (next x p u) → IsNotRead (after read next)
-not_second read next x p u e unread = λ y q rest h. unread y q rest (sym (ap (λ (r : Outcome _). after r next) e) ∙ h)
-
 -- whatever is read first
 pub not_then : {A B : Type 0} (read : Outcome A) (next : A → Reader B) → ((x : A) (p : ℕ) (u : List ℕ) → read ≡ Done x p u → IsNotRead (next x p u)) → IsNotRead (after read next)
 not_then read next unread = λ y q rest h. let w = after_done read next y q rest h in unread w.0 w.1 w.2 w.3 y q rest w.4
@@ -90,12 +87,6 @@ module _ (order : Order) (w end : ℕ) (row : ℕ → ℕ → Option Reason) (at
         left = sym w.5 ∙ drop-drop _ at bytes;
         passes = ap (row _) (sym w.3) ∙ w.2;
       }
-
-  -- the same number, whatever other numbers may stand
-  pub number_plain : 0 < w → number order w end row at (drop at bytes) ≡ Done n q rest → number order w end no_row at (drop at bytes) ≡ Done n (at + w) (drop (at + w) bytes)
-  number_plain some e =
-      let r = number_read e in
-      number_done order w end no_row at bytes r.fits n (omega (arith, r.there, length-drop at bytes)) r.is refl
 
 module _ (order : Order) (w end : ℕ) (row : ℕ → ℕ → Option Reason) (o : ℕ) (s : List ℕ) where
   -- where no number is read, none is whatever the row says

@@ -17,7 +17,8 @@ use Rattle.dbus_value_model.specs.Reading.{Reader, Outcome, Done, Faulty, Partia
 use Rattle.dbus_value_model.specs.WantedTexts.{Of}
 use Rattle.dbus_value_model.specs.ValueReaders.{number_value, text_value, variant_value, held_value, array_frame, open_array, array_value, open_struct, struct_value, entry_value}
 use Rattle.dbus_value_laws.proofs.KindLaws.{single_text}
-use Rattle.dbus_value_laws.proofs.ValueSteps.{value_number, value_text, value_variant, value_array, value_struct, value_entry, with_front, front_none, goes_on_at, ends_in, shaped_inside, single_shaped}
+use Rattle.dbus_value_laws.proofs.ReadSteps.{after_after}
+use Rattle.dbus_value_laws.proofs.ValueSteps.{value_number, value_text, value_variant, value_array, value_struct, value_entry, one_turn, no_turn, same_turns, shaped_inside, single_shaped}
 use Rattle.dbus_value_validator.specs.Endings.{Answers, EndsAt, IsNotRead, EndedText}
 use Rattle.dbus_value_validator.proofs.ReadParts.{not_faulty, not_partial, not_same, not_first, not_then, answers_same, answers_made, made_first, not_ended, short_unread}
 
@@ -86,8 +87,9 @@ module _ (part : Reader ValueTree) (bytes : List ℕ) (n end at turns : ℕ) whe
     module _ (rest : ℕ) (more : turns ≡ suc rest) (lt : place < end) where
       pub leads_on : (q : ℕ) → EndsAt bytes q (part place (drop place bytes)) → LeadsTo part bytes n rest end at q
       leads_on q one = λ r answer.
-          leads r (answers_same bytes r _ (with_front (one.0 ∷ []) (up_to rest end (λ before. part) [] q (drop q bytes)))
-          (sym (front_none (up_to turns end (λ before. part) [] place (drop place bytes))) ∙ goes_on_at part end [] turns rest place (drop place bytes) one.0 q (drop q bytes) more lt one.1)
+          leads r (answers_same bytes r _ (after (up_to rest end (λ before. part) [] q (drop q bytes)) (λ us. pure (one.0 ∷ us)))
+          (one_turn (λ before. part) end [] turns rest place (drop place bytes) one.0 q (drop q bytes) more lt one.1
+          ∙ ap (λ (us : Outcome (List ValueTree)). after us (λ us. pure (one.0 ∷ us))) (same_turns part end rest (one.0 ∷ []) [] q (drop q bytes)))
           (answers_made bytes r (up_to rest end (λ before. part) [] q (drop q bytes)) (λ us. one.0 ∷ us) answer))
 
       -- an element is not read
@@ -95,9 +97,7 @@ module _ (part : Reader ValueTree) (bytes : List ℕ) (n end at turns : ℕ) whe
       lacks_element unread = leads None (rw (more, lt-ltb place end lt) (not_first (part place (drop place bytes)) _ unread))
 
     pub leads_end : place ≡ end → EndsAt bytes end (up_to n end (λ before. part) [] at (drop at bytes))
-    leads_end here =
-        let read = sym (front_none (up_to turns end (λ before. part) [] place (drop place bytes))) ∙ ends_in part end [] turns place (drop place bytes) here in
-        leads (Some end) ([], read ∙ ap (λ (q : ℕ). Done [] q (drop q bytes)) here)
+    leads_end here = leads (Some end) ([], no_turn (λ before. part) end [] turns place (drop place bytes) here ∙ ap (λ (q : ℕ). Done [] q (drop q bytes)) here)
 
     -- they end elsewhere
     pub lacks_end : turns ≡ 0 → (place ≡ end → ⊥) → IsNotRead (up_to n end (λ before. part) [] at (drop at bytes))
@@ -118,16 +118,9 @@ entry_of NoValues = StructValue NoValues
 entry_of (MoreValues k NoValues) = k
 entry_of (MoreValues k (MoreValues x others)) = EntryValue k x
 
-both_made : (k : ValueTree) (held : Outcome ValueTree) → after held (λ x. pure (EntryValue k x)) ≡ after (after (after held (λ x. pure (MoreValues x NoValues))) (λ vs. pure (MoreValues k vs))) (λ vs. pure (entry_of vs))
-both_made k (Done x q r) = refl
-both_made k (Faulty f) = refl
-both_made k Partial = refl
-
 key_made : (key : Outcome ValueTree) (held : Reader ValueTree)
     → after key (λ k p u. after (held p u) (λ x. pure (EntryValue k x))) ≡ after (after key (λ k p u. after (after (held p u) (λ x. pure (MoreValues x NoValues))) (λ vs. pure (MoreValues k vs)))) (λ vs. pure (entry_of vs))
-key_made (Done k p u) held = both_made k (held p u)
-key_made (Faulty f) held = refl
-key_made Partial held = refl
+key_made key held = simp after_after
 
 module _ (bounds : Bounds) (order : Order) (depth_left end at : ℕ) (bytes : List ℕ) where
   pub variant_too_deep : depth_left ≡ 0 → IsNotRead (variant_value bounds order depth_left end at (drop at bytes))

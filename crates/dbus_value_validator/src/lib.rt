@@ -17,5 +17,7 @@ mod validating;
 mod values;
 
 pub use items::{is_ended_text, padding, word};
+pub use source::Source;
 pub use texts::short_text;
 pub use validating::{validate_value, validate_values};
+pub use values::one_value;

@@ -2,7 +2,7 @@
 //!
 //! A value begins at `at` and is to end at or before `end`, up to which the bytes are there; `depth_left` containers may be opened in
 //! it. `types` are the bytes of its type, or of several, and begin at `pos` of the signature of which lengths may be noted. Each
-//! call gives the offset after what it validated, or None where the bytes do not begin with it.
+//! call gives the offset after what it validated, or None if the bytes do not begin with it.
 //! D-Bus Specification, "Marshaling (Wire Format)".
 #![tactic(auto)]
 
@@ -20,9 +20,10 @@ use crate::source::Source;
 use crate::texts::short_text;
 use dbus_types::{TextKind, boundary, free_width, lengths_in};
 
-/// A value of the one type that `types` spell.
+/// A value of the one type that `types` spell, which begin at `pos` of a signature whose lengths are noted: what
+/// [`validate_value`](crate::validate_value) says, for a caller that has noted them. No memory is taken.
 #[cycle(values)]
-pub(crate) fn one_value(
+pub fn one_value(
     source: &Source<'_>,
     at: usize,
     end: usize,

@@ -2,7 +2,7 @@
 use Rattle.std.proofs.Common.{◌≡◌, ℕ, ◌+◌, ◌-◌, ◌%◌, ◌<◌, ◌≤◌, List, [], ◌∷◌, ◌++◌, length, take, drop, replicate, map, refl, sym, ap, subst, ◌∙◌, arith, append_assoc}
 use Rattle.std.specs.List.{flat_map}
 use Rattle.std.proofs.lemmas.List.{length-append, length-drop, length-replicate, take_at}
-use Rattle.dbus_texts.specs.Types.{NumberCode, BYTE, BOOLEAN, INT16, UINT16, INT32, UINT32, INT64, UINT64, DOUBLE, UNIX_FD, TypeTree, NumberType, sig}
+use Rattle.dbus_texts.specs.Types.{NumberCode, BYTE, TypeTree, NumberType, sig}
 use Rattle.dbus_types.specs.Alignments.{width}
 use Rattle.dbus_value_model.specs.Bytes.{gap_to, pad, num, low_first}
 use Rattle.dbus_value_model.specs.declared.order.Order.{Order}
@@ -19,20 +19,9 @@ use Rattle.dbus_walk.proofs.Parts.{number_is}
 use Rattle.dbus_walk.proofs.Seams.{stands_after}
 use Rattle.dbus_values.specs.States.{AreNumbersIn}
 
-by_width : (P : ℕ → Type 0) → P 1 → P 2 → P 4 → P 8 → (k : NumberCode) → P (width k)
-by_width P one two four eight BYTE = one
-by_width P one two four eight BOOLEAN = four
-by_width P one two four eight INT16 = two
-by_width P one two four eight UINT16 = two
-by_width P one two four eight INT32 = four
-by_width P one two four eight UINT32 = four
-by_width P one two four eight INT64 = eight
-by_width P one two four eight UINT64 = eight
-by_width P one two four eight DOUBLE = eight
-by_width P one two four eight UNIX_FD = four
-
 pub some_bytes : (k : NumberCode) → 0 < width k
-some_bytes k = by_width (λ (w : ℕ). 0 < w) (omega arith) (omega arith) (omega arith) (omega arith) k
+some_bytes BYTE = omega arith
+some_bytes k = omega arith
 
 pub one_byte : (k : NumberCode) → width k ≡ 1 → k ≡ BYTE
 one_byte BYTE e = refl
@@ -41,11 +30,13 @@ one_byte k e = absurd (omega arith)
 -- padding reaches a boundary, and a number that begins at one ends at one
 pub comes_aligned : (k : NumberCode) (o : ℕ) → gap_to (width k) (o + gap_to (width k) o) ≡ 0
 unfolding gap_to
-comes_aligned k o = by_width (λ (w : ℕ). gap_to w (o + gap_to w o) ≡ 0) (omega arith) (omega arith) (omega arith) (omega arith) k
+comes_aligned BYTE o = omega arith
+comes_aligned k o = omega arith
 
 pub stays_aligned : (k : NumberCode) (o : ℕ) → gap_to (width k) o ≡ 0 → gap_to (width k) (o + width k) ≡ 0
 unfolding gap_to
-stays_aligned k o = by_width (λ (w : ℕ). gap_to w o ≡ 0 → gap_to w (o + w) ≡ 0) (λ h. omega arith) (λ h. omega arith) (λ h. omega arith) (λ h. omega arith) k
+stays_aligned BYTE o h = omega arith
+stays_aligned k o h = omega arith
 
 module _ (order : Order) (k : NumberCode) where
   -- a number has no padding at its boundary

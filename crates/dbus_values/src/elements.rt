@@ -119,6 +119,21 @@ impl<'a> Elements<'a> {
 
     /// The bytes of the numbers that are left, one number after another, each in the order that [`Elements::order`] gives. `None`
     /// if the elements are no numbers. D-Bus Specification, "Marshaling (Wire Format)".
+    ///
+    /// ```rust
+    /// use dbus_message::{MessageView, ValueView};
+    ///
+    /// for value in MessageView::of(bytes)?.body() {
+    ///     if let ValueView::Array(elements) = value {
+    ///         let order = elements.order();
+    ///         if elements.types() == b"u".as_slice() {
+    ///             for number in elements.number_bytes().unwrap_or(&[]).chunks_exact(4) {
+    ///                 println!(rt; "{}", order.u32_at(number, 0))?;
+    ///             }
+    ///         }
+    ///     }
+    /// }
+    /// ```
     pub fn number_bytes(&self) -> Option<&'a [u8]>
         ensures { (xs : ValueTrees) (rest : List ℕ) → ElementsAreLeft self.now xs rest →
             MatchOption result (IsOfNoNumbers self.now.type) (λ bytes.
@@ -147,7 +162,7 @@ impl<'a> Iterator for Elements<'a> {
     // Each element has a byte at least.
     ghost remaining = { λ s. at_most (s.end - s.at) };
 
-    /// The first of the elements, which are then the others. `None` if there are none.
+    /// The next element, or `None` if no element is left.
     fn next(&mut self) -> Option<ValueView<'a>> {
         if self.at == self.end {
             return None;

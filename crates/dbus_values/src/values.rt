@@ -127,7 +127,7 @@ impl<'a> Iterator for Values<'a> {
 
     ghost remaining = { λ s. at_most (length s.types) };
 
-    /// The first of the values, which are then the others. `None` if there are none.
+    /// The next value, or `None` if no value is left.
     fn next(&mut self) -> Option<ValueView<'a>> {
         if self.types.is_empty() {
             return None;

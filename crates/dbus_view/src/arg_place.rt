@@ -6,8 +6,8 @@
 pub struct ArgPlace {
     /// The first code of its type: of a STRING `s`, of an OBJECT_PATH `o`, of a SIGNATURE `g`.
     pub code: u8,
-    /// The offset of its text, or 0 where it is none.
+    /// The offset of its text, or 0 if it is none.
     pub start: usize,
-    /// How many bytes its text has, or 0 where it is none.
+    /// How many bytes its text has, or 0 if it is none.
     pub length: usize,
 }

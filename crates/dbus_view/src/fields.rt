@@ -76,7 +76,7 @@ impl<'a> Iterator for Fields<'a> {
     // Each field has a byte at least.
     ghost remaining = { λ s. at_most (s.end - s.at) };
 
-    /// The first of the fields, which are then the others. `None` if there are none.
+    /// The next field, or `None` if no field is left.
     fn next(&mut self) -> Option<FieldView<'a>> {
         if self.at == self.end {
             return None;

@@ -1,7 +1,8 @@
-//! Views of messages: what a message says, borrowed from its bytes, without reading it.
+//! Views of messages: what a message has, borrowed from its bytes, without a tree. D-Bus Specification, "Message Format".
 //!
-//! A view is made where bytes, all of them, are one message; else it says the fault. It takes no memory, and has a fixed size. The texts
-//! that it gives are the message's own bytes, so the bytes stay as they are while one of them is in use.
+//! [`MessageView::of`] makes a view if the bytes, all of them, are one message; else it returns the fault. It takes no memory, and
+//! has a fixed size. The texts that it gives are the message's own bytes, so the bytes stay as they are while one of them is in use.
+//! Examples are at [`MessageView::of`] and [`MessageView::body`]; `crates/example_values` goes over dictionaries and arrays.
 #![tactic(auto)]
 
 mod arg;

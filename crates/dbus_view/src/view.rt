@@ -55,7 +55,16 @@ impl<'a> MessageView<'a> {
     ghost use Rattle.dbus_view.specs.Opening.{IsViewFault};
     ghost use Rattle.dbus_view.specs.Views.{Views, ViewsOne, IsViewOf};
 
-    /// A view as [`MessageView::of_within`] makes it, under the limits of the specification.
+    /// A view of the message that the bytes are, as [`MessageView::of_within`] makes it under the limits of the specification.
+    ///
+    /// ```rust
+    /// use dbus_message::MessageView;
+    ///
+    /// let view = MessageView::of(bytes)?;
+    /// if let (Some(sender), Some(member)) = (view.sender(), view.member()) {
+    ///     println!(rt; "{member} from {sender}, serial {}", view.serial())?;
+    /// }
+    /// ```
     pub fn of(bytes: &'a [u8]) -> Result<MessageView<'a>, Fault>
         ensures viewed { IfOk result (λ v. IsViewOf specification bytes.now v) }
         ensures refused { IfErr result (λ f. IsViewFault specification bytes.now f) }
@@ -65,11 +74,11 @@ impl<'a> MessageView<'a> {
         MessageView::of_within(bytes, Limits::specification())
     }
 
-    /// A view of the message within the limits that the bytes, all of them, are. D-Bus Specification, "Message Format".
+    /// A view of the message that the bytes are, all of them, if it keeps the limits. D-Bus Specification, "Message Format".
     ///
     /// Else why they are not one: the fault of the message that begins so, as decoding finds it; `Truncated` at the end of the bytes,
-    /// where a message may begin so and more bytes are wanted; `Trailing` at the end of the message that they begin with, where
-    /// others stand after it.
+    /// if a message may begin so and more bytes are wanted; `Trailing` at the end of the message that they begin with, if
+    /// others follow it.
     pub fn of_within(bytes: &'a [u8], limits: Limits) -> Result<MessageView<'a>, Fault>
         ensures viewed { IfOk result (λ v. IsViewOf limits bytes.now v) }
         ensures refused { IfErr result (λ f. IsViewFault limits bytes.now f) }
@@ -232,12 +241,14 @@ impl<'a> MessageView<'a> {
 
     /// The values of the body, none of them seen yet. D-Bus Specification, "Message Format".
     ///
-    /// The values of a `NameOwnerChanged` signal are three texts: a name, its old owner and its new one. This prints them:
+    /// ```rust
+    /// use dbus_message::{MessageView, ValueView};
     ///
-    /// ```text
-    /// for value in view.body() {
-    ///     if let ValueView::Str(text) = value {
-    ///         println!(rt; "{text}")?;
+    /// for value in MessageView::of(bytes)?.body() {
+    ///     match value {
+    ///         ValueView::Str(text) => println!(rt; "{text}")?,
+    ///         ValueView::Array(elements) => println!(rt; "{} elements", elements.count())?,
+    ///         _ => println!(rt; "another value")?,
     ///     }
     /// }
     /// ```
@@ -254,7 +265,7 @@ impl<'a> MessageView<'a> {
         Values::new(&source, self.validated.body, types, self.limits.depth)
     }
 
-    /// Value `n` of the body, counted from 0, if there are so many. The values before it are passed over.
+    /// Value `n` of the body, counted from 0, if there is one. The values before it are passed over.
     /// D-Bus Specification, "Message Format".
     pub fn arg(&self, n: usize) -> Option<ArgView<'a>>
         ensures { (order : Order) (m : MessageTree) → Views self.now order m →
@@ -266,7 +277,7 @@ impl<'a> MessageView<'a> {
     }
 
     /// Where the text of value `n` of the body stands in the bytes, the values counted from 0, and the first code of its type, if
-    /// there are so many. The values before it are passed over. D-Bus Specification, "Message Format".
+    /// there is one. The values before it are passed over. D-Bus Specification, "Message Format".
     pub fn arg_place(&self, n: usize) -> Option<ArgPlace>
         ensures { (order : Order) (m : MessageTree) → Views self.now order m →
             MatchOption result (body_value n m.body ≡ None) (λ p.

@@ -1,13 +1,14 @@
 use Rattle.std.proofs.Common.{◌≡◌, ◌<◌, length, refl, sym, ap, subst, ◌∙◌, arith}
 use Rattle.std.proofs.lemmas.Bool.{false≢true}
 use Rattle.dbus_types.specs.SigTypes.{type_tree}
+use Rattle.dbus_types.proofs.TypeViews.{type_tree-Struct}
 use Rattle.dbus_value_model.proofs.SameTypes.{same_length, differ_at, same_more, structs_same, entry_told}
 use Rattle.dbus_value_model.proofs.same_types.+same_type.Goals as goal
 
 pub same_type-returns-in-Struct-other : goal.same_type-returns-in-Struct-other
 same_type-returns-in-Struct-other g t c =
     let fields = rw (c.deref-in-Struct-other-2.ensures.value, c.deref-in-Struct-other.ensures, c.deref-in-Struct-other-4.ensures.value, c.deref-in-Struct-other-3.ensures) at c.same_types.ensures in
-    rw (c.in-Struct.is, c.in-Struct-other.is) (structs_same c.in-Struct.fields c.in-Struct-other.others c.same_types.result fields)
+    rw (c.in-Struct.is, c.in-Struct-other.is) (structs_same _ _ _ _ c.same_types.result (type_tree-Struct c.in-Struct.fields) (type_tree-Struct c.in-Struct-other.others) fields)
 
 pub same_type-returns-in_default-other-3 : goal.same_type-returns-in_default-other-3
 same_type-returns-in_default-other-3 g t c = (
@@ -18,7 +19,7 @@ same_type-returns-in_default-other-3 g t c = (
 pub same_types-returns-then-types-others : goal.same_types-returns-then-types-others
 same_types-returns-then-types-others g t c = (
   λ e. absurd (false≢true e),
-  λ e. absurd (c.if-types-others.true (same_length c.args.types.now c.args.others.now e)),
+  λ e. absurd (c.if-types-others.true (same_length type_tree type_tree c.args.types.now c.args.others.now e)),
 )
 
 pub same_types-returns-then-not-same_type : goal.same_types-returns-then-not-same_type
@@ -28,7 +29,7 @@ same_types-returns-then-not-same_type g t c =
     let y = c.index-others-i.result in
     let long : c.loop-i.i < length c.args.others.now = omega (arith, c.loop-i-test.true, c.if-types-others.false) in (
       λ e. absurd (false≢true e),
-      λ e. absurd (differ_at c.args.types.now c.args.others.now c.loop-i.i x y c.loop-i-test.true long (λ s. false≢true (n.1 (ap type_tree c.index-types-i.is ∙ s ∙ sym (ap type_tree c.index-others-i.is)))) e),
+      λ e. absurd (differ_at type_tree type_tree c.args.types.now c.args.others.now c.loop-i.i x y c.loop-i-test.true long (λ s. false≢true (n.1 (ap type_tree c.index-types-i.is ∙ s ∙ sym (ap type_tree c.index-others-i.is)))) e),
     )
 
 pub same_types-loop-i-preserved : goal.same_types-loop-i-preserved
@@ -37,4 +38,4 @@ same_types-loop-i-preserved g t c =
     let x = c.index-types-i.result in
     let y = c.index-others-i.result in
     let long : c.loop-i.i < length c.args.others.now = omega (arith, c.loop-i-test.true, c.if-types-others.false) in
-    λ h. c.loop-i.invariant (same_more c.args.types.now c.args.others.now c.loop-i.i x y c.loop-i-test.true long (sym (ap type_tree c.index-types-i.is) ∙ n ∙ ap type_tree c.index-others-i.is) h)
+    λ h. c.loop-i.invariant (same_more type_tree type_tree c.args.types.now c.args.others.now c.loop-i.i x y c.loop-i-test.true long (sym (ap type_tree c.index-types-i.is) ∙ n ∙ ap type_tree c.index-others-i.is) h)

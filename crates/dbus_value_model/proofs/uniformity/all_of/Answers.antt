@@ -6,12 +6,12 @@ use Rattle.dbus_value_model.specs.ValueViews.{value_tree, value_trees_of}
 use Rattle.dbus_value_model.proofs.Items.{item_of, items_from}
 use Rattle.dbus_value_model.proofs.uniformity.all_of.Goals as goal
 
-pub returns-then-not-branch : goal.returns-then-not-branch
-returns-then-not-branch g c =
-    let n = rw c.if-not-branch.true at c.in_ok-has_type.ensures in
-    (λ e. absurd (false≢true e), λ h. absurd (false≢true (n.1 (item_of (λ vs. AllOf (type_tree c.args.ty.now) (value_trees_of vs)) (λ v. type_of (value_tree v) ≡ type_tree c.args.ty.now) (λ v vs h. h) c.args.values.now c.loop-value.value-index c.value-item.result c.loop-value-test.true c.value-item.is h))))
+pub returns-then-not-has_type : goal.returns-then-not-has_type
+returns-then-not-has_type g c = (
+  λ e. absurd (false≢true e),
+  λ h. absurd (false≢true (c.if-not-has_type.ensures.1 (item_of (λ vs. AllOf (type_tree c.args.ty.now) (value_trees_of vs)) (λ v. type_of (value_tree v) ≡ type_tree c.args.ty.now) (λ v vs h. h) c.args.values.now c.loop-value.value-index c.value-item.result c.loop-value-test.true c.value-item.is h))),
+)
 
 pub loop-value-preserved : goal.loop-value-preserved
 loop-value-preserved g c =
-    let n = (rw c.if-not-branch.false at c.in_ok-has_type.ensures).0 refl in
-    λ h. c.loop-value.invariant (items_from (λ vs. AllOf (type_tree c.args.ty.now) (value_trees_of vs)) c.args.values.now c.loop-value.value-index c.value-item.result c.loop-value-test.true c.value-item.is (n, h))
+    λ h. c.loop-value.invariant (items_from (λ vs. AllOf (type_tree c.args.ty.now) (value_trees_of vs)) c.args.values.now c.loop-value.value-index c.value-item.result c.loop-value-test.true c.value-item.is (c.if-not-has_type.ensures.0 refl, h))

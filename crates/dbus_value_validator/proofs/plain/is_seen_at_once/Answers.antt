@@ -3,7 +3,7 @@ use Rattle.std.proofs.lemmas.List.{length-take, length-drop, get_or-take, drop_m
 use Rattle.dbus_texts.specs.Kinds.{IsKind}
 use Rattle.dbus_texts.specs.declared.text_kind.TextKind.{TextKind}
 use Rattle.dbus_texts.specs.SignatureScans.{is_basic_code}
-use Rattle.dbus_value_validator.proofs.PlainBlocks.{plain_text}
+use Rattle.dbus_texts.proofs.PlainRuns.{plain_text}
 use Rattle.dbus_value_validator.proofs.NotedTypes.{one_code}
 use Rattle.dbus_value_validator.proofs.plain.is_seen_at_once.Goals as goal
 

@@ -1,0 +1,84 @@
+//! Values that stand whole in a piece are validated at once.
+#![tactic(auto)]
+
+ghost use Rattle.std.specs.Prelude.{◌≡◌, ◌+◌, ◌<◌, ◌≤◌, ◌⊎◌, length, take, drop, IfSome, IfOk, IfErr};
+
+use crate::fronts::rest_after;
+use crate::values::{Doing, Values};
+use dbus_value_model::Stop;
+use dbus_value_validator::{Source, one_value};
+
+/// How many values of a piece are tried in vain. What is tried in vain is gone over twice.
+const MOST_MISSES: u8 = 8;
+
+/// Of fewer bytes than that a value is tried only if they are all that it may have.
+const FEW: usize = 64;
+
+impl Values {
+    ghost use Rattle.dbus_value_checker.specs.Denotations.{Answer, Denotes, Goes, after_piece};
+    ghost use Rattle.dbus_value_checker.specs.Moves.{Moves, IsLive, wide};
+    ghost use Rattle.dbus_value_model.specs.declared.stop.Stop.TheVariants.{Partial};
+
+    /// How many bytes the wanted value has, if all of them are among those after the first n, and they are valid.
+    fn whole(&self, bytes: &[u8], n: usize) -> Option<usize>
+        requires valid { (answer : Answer) × Denotes self.now answer }
+        requires within { n ≤ length bytes.now }
+        ensures some { IfSome result (λ m. (0 < m) × (m ≤ length (drop n bytes.now))) }
+        ensures goes { IfSome result (λ m. (answer : Answer) → Denotes self.now answer →
+            Goes (record self.now { offset = self.now.offset + m }) (after_piece answer (take m (drop n bytes.now)))) }
+    {
+        let Doing::Wanted(pos, stop) = self.doing else {
+            return None;
+        };
+        // The validator counts padding from the first byte that it is given.
+        let before = self.offset % 8;
+        if n < before {
+            return None;
+        }
+        let here = &bytes[n - before..];
+        let end = here.len().min(before + (self.inner.end - self.offset));
+        let source = Source {
+            bytes: here,
+            order: self.order,
+            bounds: self.bounds,
+            lengths: self.lengths.as_slice(),
+        };
+        let types = &self.text.as_slice()[pos..stop];
+        let after = one_value(&source, before, end, types, pos, self.inner.depth_left)?;
+        if after == before {
+            return None;
+        }
+        Some(after - before)
+    }
+
+    /// Whether the wanted value is worth trying at once: values in arrays and those around all others, so that what is tried in
+    /// vain because the bytes end is tried once.
+    fn is_tried(&self, bytes: &[u8], n: usize) -> bool
+        requires within { n ≤ length bytes.now }
+    {
+        let left = bytes.len() - n;
+        (self.inner.array || self.frames.is_empty())
+            && (FEW <= left || self.inner.end <= self.offset.saturating_add(left))
+    }
+
+    /// Takes what is wanted from the bytes after the first n: a whole value at once, or what the next step takes.
+    pub(crate) fn advance(&mut self, bytes: &[u8], n: usize, misses: &mut u8) -> Result<usize, Stop>
+        requires valid { (answer : Answer) × Denotes self.old answer }
+        requires live { IsLive self.old.doing }
+        requires within { n ≤ length bytes.now }
+        ensures moves { (answer : Answer) → Denotes self.old answer →
+            Moves self.old (drop n bytes.now) result self.new answer }
+        ensures further { IfOk result (λ m. (0 < m) ⊎ (wide self.new.doing < wide self.old.doing)) }
+        ensures short { IfErr result (λ e. e ≡ Partial → length (drop n bytes.now) < 257) }
+    {
+        if *misses < MOST_MISSES && self.is_tried(bytes, n) {
+            if let Some(size) = self.whole(bytes, n) {
+                self.offset += size;
+                self.next();
+                return Ok(size);
+            }
+            *misses += 1;
+        }
+        self.step(rest_after(bytes, n))
+    }
+}
