@@ -16,7 +16,7 @@ use Rattle.dbus_message_model.specs.Messages.{FieldTree, MessageTree, order_byte
 use Rattle.dbus_message_model.proofs.Widening.{widest_valid}
 use Rattle.dbus_show.specs.Laws.{line_feeds, OneForEachLine}
 use Rattle.dbus_show.specs.ShownValues.{value_text, value_texts}
-use Rattle.dbus_show.specs.ShownMessages.{kind_text, field_name, bare, field_value, field_text, header_line, body_line}
+use Rattle.dbus_show.specs.ShownMessages.{kind_text, field_name, bare, field_value, field_text, start_text, header_line, body_line}
 use Rattle.dbus_show.proofs.LineFeeds.{IsOneLine, AreLines, feeds_append, line_literal, line_append, line_cons, line_either, line_decimal, line_hex, line_sigs, line_value, lines_of}
 
 -- ---- names
@@ -112,7 +112,7 @@ value_line : (c : Bool) (code : ℕ) (v : ValueTree) (room : ℕ) → is_known c
 value_line true code v room known suits formed = bare_line code v room known suits formed
 value_line false code v room known suits formed = line_value v
 
-name_line : (code : ℕ) → IsOneLine (field_name code)
+pub name_line : (code : ℕ) → IsOneLine (field_name code)
 name_line code =
     line_either (eqb code 1) _ _ (line_literal (codes "path") refl) (line_either (eqb code 2) _ _ (line_literal (codes "interface") refl)
     (line_either (eqb code 3) _ _ (line_literal (codes "member") refl) (line_either (eqb code 4) _ _ (line_literal (codes "error_name") refl)
@@ -120,7 +120,7 @@ name_line code =
     (line_either (eqb code 7) _ _ (line_literal (codes "sender") refl) (line_either (eqb code 8) _ _ (line_literal (codes "signature") refl)
     (line_either (eqb code 9) _ _ (line_literal (codes "unix_fds") refl) (line_append (codes "field") (decimal code) (line_literal (codes "field") refl) (line_decimal code))))))))))
 
-kind_line : (kind : ℕ) → IsOneLine (kind_text kind)
+pub kind_line : (kind : ℕ) → IsOneLine (kind_text kind)
 kind_line kind =
     line_either (eqb kind 1) _ _ (line_literal (codes "method_call") refl) (line_either (eqb kind 2) _ _ (line_literal (codes "method_return") refl)
     (line_either (eqb kind 3) _ _ (line_literal (codes "error") refl) (line_either (eqb kind 4) _ _ (line_literal (codes "signal") refl)
@@ -137,7 +137,7 @@ fields_line before (f ∷ fs) inner are formed =
 
 -- ---- lines
 
-order_line : (order : Order) → IsOneLine (order_byte order ∷ [])
+pub order_line : (order : Order) → IsOneLine (order_byte order ∷ [])
 order_line Little = line_literal (108 ∷ []) refl
 order_line Big = line_literal (66 ∷ []) refl
 
@@ -147,13 +147,17 @@ record IsEnded (t : List ℕ) : Type 0 where
 ended : (s t : List ℕ) → IsOneLine s → IsEnded t → IsEnded (s ++ t)
 ended s t hs ht = let e = feeds_append s t in record { one = omega (arith, hs.none, ht.one) }
 
+start_line : (order : Order) (kind serial flags number : ℕ) → IsOneLine (start_text order kind serial flags number)
+start_line order kind serial flags number =
+    line_append (codes "#") _ (line_literal (codes "#") refl) (line_append (decimal number) _ (line_decimal number) (line_append (codes " ") _ (line_literal (codes " ") refl)
+    (line_append (order_byte order ∷ []) _ (order_line order) (line_append (codes " ") _ (line_literal (codes " ") refl) (line_append (kind_text kind) _ (kind_line kind)
+    (line_append (codes " serial=") _ (line_literal (codes " serial=") refl) (line_append (decimal serial) _ (line_decimal serial) (line_append (codes " flags=") _ (line_literal (codes " flags=") refl)
+    (line_append (encode_lower (flags ∷ [])) [] (line_hex (flags ∷ [])) (line_literal [] refl))))))))))
+
 header_ended : (order : Order) (m : MessageTree) (number : ℕ) → IsOneLine (flat_map field_text m.fields) → IsEnded (header_line order m number)
 header_ended order m number fields =
     let end : IsEnded (codes "\n") = record { one = refl } in
-    ended (codes "#") _ (line_literal (codes "#") refl) (ended (decimal number) _ (line_decimal number) (ended (codes " ") _ (line_literal (codes " ") refl)
-    (ended (order_byte order ∷ []) _ (order_line order) (ended (codes " ") _ (line_literal (codes " ") refl) (ended (kind_text m.kind) _ (kind_line m.kind)
-    (ended (codes " serial=") _ (line_literal (codes " serial=") refl) (ended (decimal m.serial) _ (line_decimal m.serial) (ended (codes " flags=") _ (line_literal (codes " flags=") refl)
-    (ended (encode_lower (m.flags ∷ [])) _ (line_hex (m.flags ∷ [])) (ended (flat_map field_text m.fields) (codes "\n") fields end))))))))))
+    ended (start_text order m.kind m.serial m.flags number) _ (start_line order m.kind m.serial m.flags number) (ended (flat_map field_text m.fields) (codes "\n") fields end)
 
 body_lines : (texts : List (List ℕ)) → AreLines texts → line_feeds (flat_map body_line texts) ≡ length texts
 body_lines [] h = refl

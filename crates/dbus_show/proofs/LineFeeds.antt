@@ -6,12 +6,12 @@ use Rattle.std.specs.Int.{cast_signed, w16, w32, w64}
 use Rattle.std.proofs.lemmas.Bool.{eqb-true}
 use Rattle.std.proofs.lemmas.List.Sums.{sum_by-append, sum_by-cons}
 use Rattle.hex.specs.Hex.{encode_with, encode_lower, lower_digits}
-use Rattle.dbus_texts.specs.Types.{NumberCode, BYTE, BOOLEAN, INT16, UINT16, INT32, UINT32, INT64, UINT64, DOUBLE, UNIX_FD, TextCode, STRING, OBJECT_PATH, SIGNATURE, TypeTree, TypeTrees, NumberType, TextType, VariantType, ArrayType, StructType, EntryType, NoTypes, MoreTypes, number_code, text_code, sig, sigs, is_byte}
+use Rattle.dbus_texts.specs.Types.{NumberCode, BYTE, BOOLEAN, INT16, UINT16, INT32, UINT32, INT64, UINT64, DOUBLE, UNIX_FD, TextCode, STRING, TypeTree, TypeTrees, NumberType, TextType, VariantType, ArrayType, StructType, EntryType, NoTypes, MoreTypes, number_code, text_code, sig, sigs, is_byte}
 use Rattle.dbus_value_model.specs.declared.order.Order.TheVariants.{Big}
 use Rattle.dbus_value_model.specs.Values.{ValueTree, ValueTrees, NumberValue, TextValue, VariantValue, ArrayValue, StructValue, EntryValue, NoValues, MoreValues}
 use Rattle.dbus_value_model.specs.Bytes.{num}
 use Rattle.dbus_show.specs.Laws.{line_feeds}
-use Rattle.dbus_show.specs.ShownValues.{number_text, escape, quoted, joined, bytes_in, value_text, value_texts}
+use Rattle.dbus_show.specs.ShownValues.{number_text, escape_by, quoted_by, joined, bytes_in, value_text, value_texts}
 
 -- ---- lists
 
@@ -51,6 +51,10 @@ line_either false s t hs ht = ht
 pub line_flat : (f : ℕ → List ℕ) → ((b : ℕ) → IsOneLine (f b)) → (s : List ℕ) → IsOneLine (flat_map f s)
 line_flat f h [] = line_literal [] refl
 line_flat f h (b ∷ s) = line_append (f b) (flat_map f s) (h b) (line_flat f h s)
+
+-- a text between two brackets
+pub between : (before s suffix : List ℕ) → line_feeds before ≡ 0 → IsOneLine s → line_feeds suffix ≡ 0 → IsOneLine (before ++ (s ++ suffix))
+between before s suffix hb hs ha = line_append before (s ++ suffix) (line_literal before hb) (line_append s suffix hs (line_literal suffix ha))
 
 -- ---- numbers
 
@@ -100,7 +104,7 @@ line_encoded t (b ∷ bytes) h = line_cons (get_or t (b / 16) 0) (get_or t (b % 
 pub line_hex : (bytes : List ℕ) → IsOneLine (encode_lower bytes)
 line_hex bytes = line_encoded lower_digits bytes (other_at lower_digits (others lower_digits refl))
 
-line_number : (k : NumberCode) (n : ℕ) → IsOneLine (number_text k n)
+pub line_number : (k : NumberCode) (n : ℕ) → IsOneLine (number_text k n)
 line_number BYTE n = line_decimal n
 line_number BOOLEAN n = line_either (eqb n 0) (codes "false") (codes "true") (line_literal (codes "false") refl) (line_literal (codes "true") refl)
 line_number INT16 n = line_signed (cast_signed w16 n)
@@ -115,36 +119,27 @@ line_number UNIX_FD n = line_decimal n
 -- ---- texts
 
 -- the cases of an escape
-escape_cases : (b : ℕ) (quote backslash control : Bool) → (b ≡ 10 → control ≡ true) → IsOneLine (cond quote (codes "\\\"") (cond backslash (codes "\\\\") (cond control (codes "\\x" ++ encode_lower (b ∷ [])) (b ∷ []))))
-escape_cases b true backslash control h = line_literal (codes "\\\"") refl
-escape_cases b false true control h = line_literal (codes "\\\\") refl
-escape_cases b false false true h = line_append (codes "\\x") (encode_lower (b ∷ [])) (line_literal (codes "\\x") refl) (line_hex (b ∷ []))
-escape_cases b false false false h = line_cons b [] (λ e. let k = h e in cc) (line_literal [] refl)
+escape_cases : (mark : List ℕ) → IsOneLine mark → (b : ℕ) (quote backslash control : Bool) → (b ≡ 10 → control ≡ true) → IsOneLine (cond quote (codes "\\\"") (cond backslash (codes "\\\\") (cond control (mark ++ encode_lower (b ∷ [])) (b ∷ []))))
+escape_cases mark m b true backslash control h = line_literal (codes "\\\"") refl
+escape_cases mark m b false true control h = line_literal (codes "\\\\") refl
+escape_cases mark m b false false true h = line_append mark (encode_lower (b ∷ [])) m (line_hex (b ∷ []))
+escape_cases mark m b false false false h = line_cons b [] (λ e. let k = h e in cc) (line_literal [] refl)
 
-line_escape : (b : ℕ) → IsOneLine (escape b)
-line_escape b = escape_cases b (eqb b 34) (eqb b 92) (nat_lt b 32 || eqb b 127) (λ e. ap (λ x. nat_lt x 32 || eqb x 127) e)
+line_escape : (mark : List ℕ) → IsOneLine mark → (b : ℕ) → IsOneLine (escape_by mark b)
+line_escape mark m b = escape_cases mark m b (eqb b 34) (eqb b 92) (nat_lt b 32 || eqb b 127) (λ e. ap (λ x. nat_lt x 32 || eqb x 127) e)
 
-line_quoted : (text : List ℕ) → IsOneLine (quoted text)
-line_quoted text = line_append (codes "\"") (flat_map escape text ++ codes "\"") (line_literal (codes "\"") refl) (line_append (flat_map escape text) (codes "\"") (line_flat escape line_escape text) (line_literal (codes "\"") refl))
+pub line_quoted : (mark : List ℕ) → IsOneLine mark → (text : List ℕ) → IsOneLine (quoted_by mark text)
+line_quoted mark m text = between (codes "\"") (flat_map (escape_by mark) text) (codes "\"") refl (line_flat (escape_by mark) (line_escape mark m) text) refl
 
 -- ---- signatures
 
 number_code_other : (k : NumberCode) → number_code k ≢ 10
 number_code_other BYTE = λ e. omega arith
-number_code_other BOOLEAN = λ e. omega arith
-number_code_other INT16 = λ e. omega arith
-number_code_other UINT16 = λ e. omega arith
-number_code_other INT32 = λ e. omega arith
-number_code_other UINT32 = λ e. omega arith
-number_code_other INT64 = λ e. omega arith
-number_code_other UINT64 = λ e. omega arith
-number_code_other DOUBLE = λ e. omega arith
-number_code_other UNIX_FD = λ e. omega arith
+number_code_other k = λ e. omega arith
 
 text_code_other : (k : TextCode) → text_code k ≢ 10
 text_code_other STRING = λ e. omega arith
-text_code_other OBJECT_PATH = λ e. omega arith
-text_code_other SIGNATURE = λ e. omega arith
+text_code_other k = λ e. omega arith
 
 mutual
   pub line_sig : (t : TypeTree) → IsOneLine (sig t)
@@ -174,14 +169,10 @@ line_joined : (ts : List (List ℕ)) → AreLines ts → IsOneLine (joined ts)
 line_joined [] h = line_literal [] refl
 line_joined (t ∷ ts) h = line_append t (flat_map (λ t. codes ", " ++ t) ts) h.0 (line_after ts h.1)
 
--- a text between two brackets
-pub between : (before s suffix : List ℕ) → line_feeds before ≡ 0 → IsOneLine s → line_feeds suffix ≡ 0 → IsOneLine (before ++ (s ++ suffix))
-between before s suffix hb hs ha = line_append before (s ++ suffix) (line_literal before hb) (line_append s suffix hs (line_literal suffix ha))
-
 mutual
   pub line_value : (v : ValueTree) → IsOneLine (value_text v)
   line_value (NumberValue k n) = line_cons (number_code k) (codes ":" ++ number_text k n) (number_code_other k) (line_append (codes ":") (number_text k n) (line_literal (codes ":") refl) (line_number k n))
-  line_value (TextValue k t) = line_cons (text_code k) (codes ":" ++ quoted t) (text_code_other k) (line_append (codes ":") (quoted t) (line_literal (codes ":") refl) (line_quoted t))
+  line_value (TextValue k t) = line_cons (text_code k) (codes ":" ++ quoted_by (codes "\\x") t) (text_code_other k) (line_append (codes ":") (quoted_by (codes "\\x") t) (line_literal (codes ":") refl) (line_quoted (codes "\\x") (line_literal (codes "\\x") refl) t))
   line_value (VariantValue x) = between (codes "<") (value_text x) (codes ">") refl (line_value x) refl
   line_value (ArrayValue t xs) =
       let bytes = encode_lower (bytes_in xs) in

@@ -38,10 +38,14 @@ field_value f = if is_known f.code then bare f.value else value_text f.value
 abbrev pub field_text : FieldTree → List ℕ
 field_text f = codes " " ++ (field_name f.code ++ (codes "=" ++ field_value f))
 
+-- the header's line as far as its fields
+abbrev pub start_text : Order → (kind serial flags : ℕ) → (number : ℕ) → List ℕ
+start_text order kind serial flags number = concat
+    (codes "#" ∷ decimal number ∷ codes " " ∷ (order_byte order ∷ []) ∷ codes " " ∷ kind_text kind ∷ codes " serial=" ∷ decimal serial
+    ∷ codes " flags=" ∷ encode_lower (flags ∷ []) ∷ [])
+
 abbrev pub header_line : Order → MessageTree → ℕ → List ℕ
-header_line order m number = concat
-    (codes "#" ∷ decimal number ∷ codes " " ∷ (order_byte order ∷ []) ∷ codes " " ∷ kind_text m.kind ∷ codes " serial=" ∷ decimal m.serial
-    ∷ codes " flags=" ∷ encode_lower (m.flags ∷ []) ∷ flat_map field_text m.fields ∷ codes "\n" ∷ [])
+header_line order m number = start_text order m.kind m.serial m.flags number ++ (flat_map field_text m.fields ++ codes "\n")
 
 abbrev pub body_line : List ℕ → List ℕ
 body_line text = concat (codes "  " ∷ text ∷ codes "\n" ∷ [])

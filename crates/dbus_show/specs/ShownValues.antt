@@ -31,20 +31,24 @@ number_in (NumberValue k n) = number_text k n
 number_in _ = []
 
 -- A byte of a text: 34 is a quotation mark and 92 a backslash, which stand after a backslash; the bytes below 32 and 127
--- have no sign of their own and are shown as `\x` and two hexadecimal digits. Every other byte is itself.
-abbrev pub escape : ℕ → List ℕ
-escape b =
+-- have no sign of their own and stand as a mark and two hexadecimal digits. Every other byte is itself.
+abbrev pub escape_by : (mark : List ℕ) → ℕ → List ℕ
+escape_by mark b =
     if nat_eq b 34 then codes "\\\""
     else if nat_eq b 92 then codes "\\\\"
-    else if nat_lt b 32 || nat_eq b 127 then codes "\\x" ++ encode_lower (b ∷ [])
+    else if nat_lt b 32 || nat_eq b 127 then mark ++ encode_lower (b ∷ [])
     else b ∷ []
 
--- whether a byte is shown as something other than itself, as in each case of `escape` but the last
+-- whether a byte is shown as something other than itself, as in each case of `escape_by` but the last
 abbrev pub is_escaped : ℕ → Bool
 is_escaped b = nat_lt b 32 || nat_eq b 34 || nat_eq b 92 || nat_eq b 127
 
+abbrev pub quoted_by : (mark : List ℕ) → List ℕ → List ℕ
+quoted_by mark text = concat (codes "\"" ∷ flat_map (escape_by mark) text ∷ codes "\"" ∷ [])
+
+-- a text as it is shown: the mark is `\x`
 abbrev pub quoted : List ℕ → List ℕ
-quoted text = concat (codes "\"" ∷ flat_map escape text ∷ codes "\"" ∷ [])
+quoted text = quoted_by (codes "\\x") text
 
 abbrev pub joined : List (List ℕ) → List ℕ
 joined texts = join_by (λ text. text) (codes ", ") texts

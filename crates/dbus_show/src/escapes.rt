@@ -1,9 +1,9 @@
 //! Texts with their escapes.
 #![tactic(auto)]
 
-ghost use Rattle.std.specs.Prelude.{◌≡◌, ◌<◌, true};
+ghost use Rattle.std.specs.Prelude.{◌≡◌, ◌<◌, true, ℕ, List};
 ghost use Rattle.std.specs.List.{flat_map};
-ghost use Rattle.dbus_show.specs.ShownValues.{escape, is_escaped as is_escaped_byte, quoted};
+ghost use Rattle.dbus_show.specs.ShownValues.{escape_by, is_escaped as is_escaped_byte, quoted, quoted_by};
 
 use crate::draft::Draft;
 use crate::hexadecimal::write_hex;
@@ -17,7 +17,7 @@ fn is_escaped(byte: u8) -> bool
 
 /// Whether each byte is shown as itself. All are looked at, so that many are at once.
 fn is_plain(bytes: &[u8]) -> bool
-    ensures { result ≡ true → flat_map escape bytes.now ≡ bytes.now }
+    ensures { result ≡ true → (mark : List ℕ) → flat_map (escape_by mark) bytes.now ≡ bytes.now }
 {
     let mut found = false;
     for byte in bytes {
@@ -27,45 +27,52 @@ fn is_plain(bytes: &[u8]) -> bool
 }
 
 /// Appends what stands for a byte that is not shown as itself.
-fn write_escape<D: Draft>(draft: &mut D, byte: u8)
+fn write_escape<D: Draft>(draft: &mut D, byte: u8, mark: &str)
     requires { is_escaped_byte byte ≡ true }
-    ensures { D.gains draft.old (escape byte) draft.new }
+    ensures { D.gains draft.old (escape_by mark.now byte) draft.new }
 {
     match byte {
         b'"' => draft.push_str("\\\""),
         b'\\' => draft.push_str("\\\\"),
         _ => {
-            draft.push_str("\\x");
+            draft.push_str(mark);
             write_hex(draft, &[byte]);
         }
     }
 }
 
 /// Appends a text with its escapes, and what stands between two of them at once.
-fn write_escaped<D: Draft>(draft: &mut D, text: &str)
-    ensures { D.gains draft.old (flat_map escape text.now) draft.new }
+fn write_escaped<D: Draft>(draft: &mut D, text: &str, mark: &str)
+    ensures { D.gains draft.old (flat_map (escape_by mark.now) text.now) draft.new }
 {
     let bytes = text.as_bytes();
     let mut start = 0;
     for (i, byte) in bytes.iter().enumerate() {
         if is_escaped(*byte) {
             draft.push_str(&text[start..i]);
-            write_escape(draft, *byte);
+            write_escape(draft, *byte, mark);
             start = i + 1;
         }
     }
     draft.push_str(&text[start..]);
 }
 
-/// Appends a text between quotation marks.
-pub fn write_quoted<D: Draft>(draft: &mut D, text: &str)
-    ensures { D.gains draft.old (quoted text.now) draft.new }
+/// Appends a text between quotation marks. A byte below 32 or 127 stands as the mark and two hexadecimal digits.
+pub fn write_quoted_by<D: Draft>(draft: &mut D, text: &str, mark: &str)
+    ensures { D.gains draft.old (quoted_by mark.now text.now) draft.new }
 {
     draft.push_code(b'"');
     if is_plain(text.as_bytes()) {
         draft.push_str(text);
     } else {
-        write_escaped(draft, text);
+        write_escaped(draft, text, mark);
     }
     draft.push_code(b'"');
+}
+
+/// Appends a text between quotation marks, with `\x` as the mark.
+pub fn write_quoted<D: Draft>(draft: &mut D, text: &str)
+    ensures { D.gains draft.old (quoted text.now) draft.new }
+{
+    write_quoted_by(draft, text, "\\x");
 }

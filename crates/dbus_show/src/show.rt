@@ -8,7 +8,7 @@ ghost use Rattle.dbus_message_model.specs.Messages.{order_byte};
 ghost use Rattle.dbus_message_model.specs.PartsViews.{parts_tree};
 ghost use Rattle.dbus_message_model.specs.MessageViews.{message_tree};
 ghost use Rattle.dbus_show.specs.ShownValues.{value_text, value_texts};
-ghost use Rattle.dbus_show.specs.ShownMessages.{kind_text, header_line, body_line, message_text};
+ghost use Rattle.dbus_show.specs.ShownMessages.{kind_text, start_text, header_line, body_line, message_text};
 
 use crate::draft::Draft;
 use crate::fields::write_fields;
@@ -47,20 +47,37 @@ pub fn write_kind<D: Draft>(draft: &mut D, kind: u8)
     }
 }
 
-/// Appends the line of a message's header.
-fn write_header<D: Draft, A: Allocator>(draft: &mut D, order: Order, parts: &Parts<A>, number: u64)
-    ensures { D.gains draft.old (header_line order (parts_tree parts.now) number) draft.new }
+/// Appends the line of a message's header as far as its fields: `#`, the number, the byte order as `l` or `B`, the message type, the
+/// serial and the flags, as in `#1 l signal serial=2 flags=01`.
+///
+/// The number is that of the message among those that are shown. D-Bus Specification, "Message Format".
+pub fn write_start<D: Draft>(
+    draft: &mut D,
+    order: Order,
+    kind: u8,
+    serial: u32,
+    flags: u8,
+    number: u64,
+)
+    ensures { D.gains draft.old (start_text order kind serial flags number) draft.new }
 {
     draft.push_code(b'#');
     write_integer(draft, number);
     draft.push_code(b' ');
     draft.push_code(order_letter(order));
     draft.push_code(b' ');
-    write_kind(draft, parts.kind);
+    write_kind(draft, kind);
     draft.push_str(" serial=");
-    write_integer(draft, parts.serial);
+    write_integer(draft, serial);
     draft.push_str(" flags=");
-    write_hex(draft, &[parts.flags]);
+    write_hex(draft, &[flags]);
+}
+
+/// Appends the line of a message's header.
+fn write_header<D: Draft, A: Allocator>(draft: &mut D, order: Order, parts: &Parts<A>, number: u64)
+    ensures { D.gains draft.old (header_line order (parts_tree parts.now) number) draft.new }
+{
+    write_start(draft, order, parts.kind, parts.serial, parts.flags, number);
     write_fields(draft, &parts.fields);
     draft.push_code(b'\n');
 }

@@ -3,7 +3,7 @@ use Rattle.std.proofs.Common.{◌≡◌, ℕ, ◌+◌, ◌%◌, ◌<◌, List, [
 use Rattle.std.specs.Str.{IsAscii}
 use Rattle.std.proofs.lemmas.Str.{IsAscii-append}
 use Rattle.std.proofs.lemmas.Str.Ascii.{IsAscii-nil, IsAscii-cons}
-use Rattle.dbus_texts.specs.Types.{NumberCode, BYTE, BOOLEAN, INT16, UINT16, INT32, UINT32, INT64, UINT64, DOUBLE, UNIX_FD, TextCode, STRING, OBJECT_PATH, SIGNATURE, TypeTree, NumberType, TextType, VariantType, ArrayType, StructType, EntryType, TypeTrees, NoTypes, MoreTypes, number_code, text_code, sig, sigs, is_byte}
+use Rattle.dbus_texts.specs.Types.{NumberCode, BYTE, DOUBLE, TextCode, STRING, TypeTree, NumberType, TextType, VariantType, ArrayType, StructType, EntryType, TypeTrees, NoTypes, MoreTypes, number_code, text_code, sig, sigs, is_byte}
 use Rattle.dbus_value_model.specs.Bytes.{low_first, num}
 use Rattle.dbus_value_model.specs.declared.order.Order.{Order}
 use Rattle.dbus_value_model.specs.declared.order.Order.TheVariants.{Little, Big}
@@ -18,20 +18,11 @@ use Rattle.dbus_walk.proofs.Parts.{no_gap}
 
 number_ascii : (k : NumberCode) → number_code k < 128
 number_ascii BYTE = lit< tt
-number_ascii BOOLEAN = lit< tt
-number_ascii INT16 = lit< tt
-number_ascii UINT16 = lit< tt
-number_ascii INT32 = lit< tt
-number_ascii UINT32 = lit< tt
-number_ascii INT64 = lit< tt
-number_ascii UINT64 = lit< tt
-number_ascii DOUBLE = lit< tt
-number_ascii UNIX_FD = lit< tt
+number_ascii k = lit< tt
 
 text_ascii : (k : TextCode) → text_code k < 128
 text_ascii STRING = lit< tt
-text_ascii OBJECT_PATH = lit< tt
-text_ascii SIGNATURE = lit< tt
+text_ascii k = lit< tt
 
 one_ascii : (c : ℕ) → c < 128 → IsAscii (c ∷ [])
 one_ascii c h = IsAscii-cons c [] h IsAscii-nil
@@ -58,51 +49,16 @@ types_ascii t types e = subst IsAscii e (sig_ascii t)
 
 pub byte_is : (t : TypeTree) → first_code t ≡ 121 → t ≡ NumberType BYTE
 byte_is (NumberType BYTE) e = refl
-byte_is (NumberType BOOLEAN) e = absurd (omega arith)
-byte_is (NumberType INT16) e = absurd (omega arith)
-byte_is (NumberType UINT16) e = absurd (omega arith)
-byte_is (NumberType INT32) e = absurd (omega arith)
-byte_is (NumberType UINT32) e = absurd (omega arith)
-byte_is (NumberType INT64) e = absurd (omega arith)
-byte_is (NumberType UINT64) e = absurd (omega arith)
-byte_is (NumberType DOUBLE) e = absurd (omega arith)
-byte_is (NumberType UNIX_FD) e = absurd (omega arith)
 byte_is (TextType STRING) e = absurd (omega arith)
-byte_is (TextType OBJECT_PATH) e = absurd (omega arith)
-byte_is (TextType SIGNATURE) e = absurd (omega arith)
-byte_is VariantType e = absurd (omega arith)
-byte_is (ArrayType u) e = absurd (omega arith)
-byte_is (StructType ts) e = absurd (omega arith)
-byte_is (EntryType k v) e = absurd (omega arith)
-
-pub double_code : (k : NumberCode) → number_code k ≡ 100 → k ≡ DOUBLE
-double_code BYTE e = absurd (omega arith)
-double_code BOOLEAN e = absurd (omega arith)
-double_code INT16 e = absurd (omega arith)
-double_code UINT16 e = absurd (omega arith)
-double_code INT32 e = absurd (omega arith)
-double_code UINT32 e = absurd (omega arith)
-double_code INT64 e = absurd (omega arith)
-double_code UINT64 e = absurd (omega arith)
-double_code DOUBLE e = refl
-double_code UNIX_FD e = absurd (omega arith)
+byte_is t e = absurd (omega arith)
 
 pub not_byte : (t : TypeTree) → (first_code t ≡ 121 → ⊥) → is_byte t ≡ false
 not_byte (NumberType BYTE) h = absurd (h refl)
-not_byte (NumberType BOOLEAN) h = refl
-not_byte (NumberType INT16) h = refl
-not_byte (NumberType UINT16) h = refl
-not_byte (NumberType INT32) h = refl
-not_byte (NumberType UINT32) h = refl
-not_byte (NumberType INT64) h = refl
-not_byte (NumberType UINT64) h = refl
-not_byte (NumberType DOUBLE) h = refl
-not_byte (NumberType UNIX_FD) h = refl
-not_byte (TextType k) h = refl
-not_byte VariantType h = refl
-not_byte (ArrayType u) h = refl
-not_byte (StructType ts) h = refl
-not_byte (EntryType k v) h = refl
+not_byte t h = refl
+
+pub double_code : (k : NumberCode) → number_code k ≡ 100 → k ≡ DOUBLE
+double_code DOUBLE e = refl
+double_code k e = absurd (omega arith)
 
 one_num : (order : Order) (n : ℕ) → n < 256 → num order 1 n ≡ n ∷ []
 unfolding num low_first

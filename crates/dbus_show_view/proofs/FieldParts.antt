@@ -3,12 +3,12 @@ use Rattle.std.proofs.Common.{◌≡◌, ℕ, ◌+◌, List, [], ◌∷◌, ◌+
 use Rattle.std.specs.List.{flat_map}
 use Rattle.std.proofs.lemmas.List.{append-nil}
 use Rattle.std.proofs.lemmas.List.Concat.{flat_map-append}
-use Rattle.dbus_texts.specs.Types.{NumberCode, BYTE, BOOLEAN, INT16, UINT16, INT32, UINT32, INT64, UINT64, DOUBLE, UNIX_FD, STRING, OBJECT_PATH, SIGNATURE, TypeTree, NumberType, TextType, VariantType, ArrayType, StructType, EntryType, number_code}
+use Rattle.dbus_texts.specs.Types.{NumberCode, UINT32, STRING, OBJECT_PATH, SIGNATURE, TypeTree, NumberType, TextType, number_code}
 use Rattle.dbus_value_model.specs.Bytes.{gap_to}
 use Rattle.dbus_value_model.specs.Reading.{number_of}
 use Rattle.dbus_value_model.specs.declared.order.Order.{Order}
 use Rattle.dbus_value_model.specs.Spelling.{spelling}
-use Rattle.dbus_value_model.specs.Values.{ValueTree, NumberValue, TextValue, VariantValue, ArrayValue, StructValue, EntryValue, type_of}
+use Rattle.dbus_value_model.specs.Values.{ValueTree, NumberValue, TextValue, type_of}
 use Rattle.dbus_message_model.specs.Messages.{FieldTree, field_struct, is_known}
 use Rattle.dbus_types.specs.SignatureCodes.{first_code}
 use Rattle.dbus_types.proofs.TypeCodes.{code_is}
@@ -29,36 +29,16 @@ use Rattle.dbus_show_view.proofs.Shown.{number_coded}
 -- ---- values alone
 
 uint32_code : (k : NumberCode) → number_code k ≡ 117 → k ≡ UINT32
-uint32_code BYTE e = absurd (omega arith)
-uint32_code BOOLEAN e = absurd (omega arith)
-uint32_code INT16 e = absurd (omega arith)
-uint32_code UINT16 e = absurd (omega arith)
-uint32_code INT32 e = absurd (omega arith)
 uint32_code UINT32 e = refl
-uint32_code INT64 e = absurd (omega arith)
-uint32_code UINT64 e = absurd (omega arith)
-uint32_code DOUBLE e = absurd (omega arith)
-uint32_code UNIX_FD e = absurd (omega arith)
+uint32_code k e = absurd (omega arith)
 
 -- what is neither a text nor a UINT32 is shown as any value
 bare_other : (v : ValueTree) → (first_code (type_of v) ≡ 115 → ⊥) → (first_code (type_of v) ≡ 111 → ⊥) → (first_code (type_of v) ≡ 103 → ⊥) → (first_code (type_of v) ≡ 117 → ⊥) → bare v ≡ value_text v
-bare_other (NumberValue BYTE n) s o g u = refl
-bare_other (NumberValue BOOLEAN n) s o g u = refl
-bare_other (NumberValue INT16 n) s o g u = refl
-bare_other (NumberValue UINT16 n) s o g u = refl
-bare_other (NumberValue INT32 n) s o g u = refl
 bare_other (NumberValue UINT32 n) s o g u = absurd (u refl)
-bare_other (NumberValue INT64 n) s o g u = refl
-bare_other (NumberValue UINT64 n) s o g u = refl
-bare_other (NumberValue DOUBLE n) s o g u = refl
-bare_other (NumberValue UNIX_FD n) s o g u = refl
 bare_other (TextValue STRING t) s o g u = absurd (s refl)
 bare_other (TextValue OBJECT_PATH t) s o g u = absurd (o refl)
 bare_other (TextValue SIGNATURE t) s o g u = absurd (g refl)
-bare_other (VariantValue x) s o g u = refl
-bare_other (ArrayValue t xs) s o g u = refl
-bare_other (StructValue xs) s o g u = refl
-bare_other (EntryValue x y) s o g u = refl
+bare_other v s o g u = refl
 
 module _ {order : Order} {depth_left : ℕ} {types : List ℕ} {at : ℕ} {bytes : List ℕ} {v : ValueTree} {rest : List ℕ} (s : Stands order depth_left types at bytes v rest) where
   pub bare_text : {D : Type 0} (gains : D → List ℕ → D → Type 0) {size : ℕ} (after : ℕ) (t : List ℕ) (a b : D) (p : TextStands s size) → t ≡ p.text → after ≡ at + length (spelling order at v) → gains a t b → IsWritten gains order at v (bare v) a b after
@@ -68,12 +48,7 @@ module _ {order : Order} {depth_left : ℕ} {types : List ℕ} {at : ℕ} {bytes
   pub wide_4 : get_or types 0 0 ≡ 117 → (t : TypeTree) → first_code t ≡ get_or types 0 0 → 4 ≡ number_width t
   wide_4 code (NumberType k) e = ap (λ (j : NumberCode). number_width (NumberType j)) (sym (uint32_code k (e ∙ code)))
   wide_4 code (TextType STRING) e = absurd (omega (arith, code, e))
-  wide_4 code (TextType OBJECT_PATH) e = absurd (omega (arith, code, e))
-  wide_4 code (TextType SIGNATURE) e = absurd (omega (arith, code, e))
-  wide_4 code VariantType e = absurd (omega (arith, code, e))
-  wide_4 code (ArrayType u) e = absurd (omega (arith, code, e))
-  wide_4 code (StructType ts) e = absurd (omega (arith, code, e))
-  wide_4 code (EntryType k x) e = absurd (omega (arith, code, e))
+  wide_4 code t e = absurd (omega (arith, code, e))
 
   pub bare_number : {D : Type 0} (gains : D → List ℕ → D → Type 0) (start after : ℕ) (a b : D) (p : NumberStands s 4) → start ≡ at + gap_to 4 at → after ≡ start + 4 → get_or types 0 0 ≡ 117
       → gains a (decimal (number_of order (take 4 (drop start bytes)))) b → IsWritten gains order at v (bare v) a b after

@@ -60,19 +60,23 @@ module _ {order : Order} {depth_left : ℕ} {types : List ℕ} {at : ℕ} {bytes
     array_text : types ≡ sig (ArrayType p.type)
     array_text = sym s.text ∙ ap (λ (u : ValueTree). sig (type_of u)) p.is
 
-    pub bytes_shown : {D : Type 0} (gains : D → List ℕ → D → Type 0) (joins : Joins gains) (first end : ℕ) (a b c d : D) → first ≡ contents_start p.type at → end ≡ first + p.n → get_or types 1 0 ≡ 121
-        → gains a types b → gains b (58 ∷ []) c → gains c (encode_lower (take (end - first) (drop first bytes))) d → gains a (value_text v) d
-    bytes_shown gains joins first end a b c d begins ends byte typed parted shown =
+    -- the bytes of an array of BYTE
+    pub bytes_held : (first end : ℕ) → first ≡ contents_start p.type at → end ≡ first + p.n → get_or types 1 0 ≡ 121 → (take (end - first) (drop first bytes) ≡ bytes_in p.xs) × (is_byte p.type ≡ true)
+    bytes_held first end begins ends byte =
         let there = elements_there s p first p.n begins refl in
         let is : p.type ≡ NumberType BYTE = byte_is p.type (p.code ∙ byte) in
         let all : AllOf (NumberType BYTE) p.xs = subst (λ (t : TypeTree). AllOf t p.xs) is p.all in
         let same : spellings order first p.xs ≡ bytes_in p.xs = bytes_spelled order (depth_left - 1) first p.xs all there.formed in
         let long : length (spellings order first p.xs) ≡ end - first = omega (arith, there.ends, ends) in
-        let held : take (end - first) (drop first bytes) ≡ bytes_in p.xs = ap (take (end - first)) there.spelled ∙ take_at (spellings order first p.xs) rest (end - first) long ∙ same in
-        let test : is_byte p.type ≡ true = ap is_byte is in
-        let whole : value_text (ArrayValue p.type p.xs) ≡ sig (ArrayType p.type) ++ (58 ∷ encode_lower (bytes_in p.xs)) = rw test refl in
+        (ap (take (end - first)) there.spelled ∙ take_at (spellings order first p.xs) rest (end - first) long ∙ same, ap is_byte is)
+
+    pub bytes_shown : {D : Type 0} (gains : D → List ℕ → D → Type 0) (joins : Joins gains) (first end : ℕ) (a b c d : D) → first ≡ contents_start p.type at → end ≡ first + p.n → get_or types 1 0 ≡ 121
+        → gains a types b → gains b (58 ∷ []) c → gains c (encode_lower (take (end - first) (drop first bytes))) d → gains a (value_text v) d
+    bytes_shown gains joins first end a b c d begins ends byte typed parted shown =
+        let held = bytes_held first end begins ends byte in
+        let whole : value_text (ArrayValue p.type p.xs) ≡ sig (ArrayType p.type) ++ (58 ∷ encode_lower (bytes_in p.xs)) = rw held.1 refl in
         let text : types ++ (58 ∷ encode_lower (take (end - first) (drop first bytes))) ≡ value_text v =
-        ap (λ (l : List ℕ). types ++ (58 ∷ encode_lower l)) held ∙ ap (λ (l : List ℕ). l ++ (58 ∷ encode_lower (bytes_in p.xs))) array_text ∙ sym whole ∙ sym (ap value_text p.is) in
+        ap (λ (l : List ℕ). types ++ (58 ∷ encode_lower l)) held.0 ∙ ap (λ (l : List ℕ). l ++ (58 ∷ encode_lower (bytes_in p.xs))) array_text ∙ sym whole ∙ sym (ap value_text p.is) in
         subst (λ (l : List ℕ). gains a l d) text (then gains joins typed (then gains joins parted shown))
 
     -- an array opens whose elements are written one by one

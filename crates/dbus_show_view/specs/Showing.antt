@@ -1,16 +1,11 @@
 -- What is written of values that stand in a message's bytes, and where they end.
 -- D-Bus Specification, "Marshaling (Wire Format)".
-use Rattle.std.specs.Prelude.{◌≡◌, ℕ, ◌+◌, List, [], ◌∷◌, length, codes, decimal}
-use Rattle.std.specs.List.{concat}
-use Rattle.hex.specs.Hex.{encode_lower}
+use Rattle.std.specs.Prelude.{◌≡◌, ℕ, ◌+◌, List, length}
 use Rattle.dbus_value_model.specs.declared.order.Order.{Order}
 use Rattle.dbus_value_model.specs.Spelling.{spelling}
 use Rattle.dbus_value_model.specs.Values.{ValueTree}
-use Rattle.dbus_message_model.specs.Messages.{order_byte}
-use Rattle.dbus_validate.specs.declared.validating.Validated.{Validated}
 use Rattle.dbus_walk.specs.declared.spot.Source.{Source}
 use Rattle.dbus_walk.specs.Standing.{Stands}
-use Rattle.dbus_show.specs.ShownMessages.{kind_text}
 
 -- the draft gains a text for a value, and the offset is the one after the value
 pub record IsWritten {D : Type 0} (gains : D → List ℕ → D → Type 0) (order : Order) (at : ℕ) (v : ValueTree) (text : List ℕ) (before now : D) (after : ℕ) : Type 0 where
@@ -20,9 +15,3 @@ pub record IsWritten {D : Type 0} (gains : D → List ℕ → D → Type 0) (ord
 -- a value whose type has this text stands at an offset
 abbrev pub TypedStands : Source → (depth_left : ℕ) → (types : List ℕ) → (at : ℕ) → ValueTree → (rest : List ℕ) → Type 0
 TypedStands source depth_left types at v rest = Stands source.order depth_left types at source.bytes.now v rest
-
--- the line of a message's header as far as its fields
-abbrev pub start_text : Validated → ℕ → List ℕ
-start_text j number = concat
-    (codes "#" ∷ decimal number ∷ codes " " ∷ (order_byte j.order ∷ []) ∷ codes " " ∷ kind_text j.kind ∷ codes " serial=" ∷ decimal j.serial
-    ∷ codes " flags=" ∷ encode_lower (j.flags ∷ []) ∷ [])

@@ -18,8 +18,8 @@ pub(crate) fn write_coded<D: Draft>(draft: &mut D, code: u8, text: &str)
     write_quoted(draft, text);
 }
 
-/// Appends the bytes of a signature.
-pub(crate) fn write_types<D: Draft>(draft: &mut D, types: &[u8])
+/// Appends the bytes of a signature. D-Bus Specification, "Valid Signatures".
+pub fn write_types<D: Draft>(draft: &mut D, types: &[u8])
     requires { IsAscii types.now }
     ensures { D.gains draft.old types.now draft.new }
 {

@@ -1,0 +1,5 @@
+mod Floats
+mod Written
+mod FieldLists
+mod Lines
+mod OneLines

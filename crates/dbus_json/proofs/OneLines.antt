@@ -1,0 +1,162 @@
+-- The JSON of a message has no line feed but its last byte.
+use Rattle.std.proofs.Common.{◌≡◌, ◌≢◌, ℕ, ◌<◌, ◌&&◌, ◌⊎◌, inl, inr, Bool, true, false, List, [], ◌∷◌, ◌++◌, length, nat_lt, codes, decimal, from_bits, refl, sym, subst, arith}
+use Rattle.std.specs.Char.{digit_value}
+use Rattle.std.specs.Float.{binary64, float_is_finite}
+use Rattle.std.specs.Float.Numeral.{exponent_text, text_of}
+use Rattle.std.specs.Fmt.{sign_text}
+use Rattle.std.specs.List.{flat_map}
+use Rattle.std.specs.Str.Parse.{AllDigits}
+use Rattle.hex.specs.Hex.{encode_lower}
+use Rattle.ryu.specs.Plain.{IsPlainNumber}
+use Rattle.dbus_texts.specs.Types.{NumberCode, DOUBLE, sig, is_byte}
+use Rattle.dbus_value_model.specs.declared.order.Order.TheVariants.{Big}
+use Rattle.dbus_value_model.specs.Bytes.{num}
+use Rattle.dbus_value_model.specs.Values.{ValueTree, ValueTrees, NumberValue, TextValue, VariantValue, ArrayValue, StructValue, EntryValue, NoValues, MoreValues, type_of}
+use Rattle.dbus_message_model.specs.Messages.{FieldTree, order_byte, message_bytes, is_known}
+use Rattle.dbus_show.specs.Laws.{line_feeds}
+use Rattle.dbus_show.specs.ShownValues.{bytes_in}
+use Rattle.dbus_show.specs.ShownMessages.{field_name, kind_text}
+use Rattle.dbus_show.proofs.LineFeeds.{IsOneLine, AreLines, line_literal, line_append, line_cons, line_either, line_decimal, line_hex, line_number, line_quoted, line_sig, between}
+use Rattle.dbus_show.proofs.FieldTexts.{name_line, kind_line, order_line}
+use Rattle.dbus_json.specs.JsonValues.{plain, string, listed, array, member, object, IsDouble, IsNumber, IsJson, AreJson}
+use Rattle.dbus_json.specs.JsonMessages.{type_text, IsField, AreFields, fields_of, first_members}
+use Rattle.dbus_json.specs.Laws.{IsOneLineEach}
+
+-- ---- the parts of JSON
+
+plain_line : (t : List ℕ) → IsOneLine t → IsOneLine (plain t)
+plain_line t h = between (codes "\"") t (codes "\"") refl h refl
+
+after_line : (ts : List (List ℕ)) → AreLines ts → IsOneLine (flat_map (λ t. codes "," ++ t) ts)
+after_line [] h = line_literal [] refl
+after_line (t ∷ ts) h = line_append (codes "," ++ t) (flat_map (λ t. codes "," ++ t) ts) (line_cons 44 t (λ e. omega arith) h.0) (after_line ts h.1)
+
+listed_line : (ts : List (List ℕ)) → AreLines ts → IsOneLine (listed ts)
+listed_line [] h = line_literal [] refl
+listed_line (t ∷ ts) h = line_append t (flat_map (λ t. codes "," ++ t) ts) h.0 (after_line ts h.1)
+
+array_line : (items : List (List ℕ)) → AreLines items → IsOneLine (array items)
+array_line items h = between (codes "[") (listed items) (codes "]") refl (listed_line items h) refl
+
+member_line : (name value : List ℕ) → IsOneLine name → IsOneLine value → IsOneLine (member name value)
+member_line name value n h = line_append (plain name) (codes ":" ++ value) (plain_line name n) (line_cons 58 value (λ e. omega arith) h)
+
+object_line : (members : List (List ℕ)) → AreLines members → IsOneLine (object members)
+object_line members h = between (codes "{") (listed members) (codes "}") refl (listed_line members h) refl
+
+lines_append : (ss ts : List (List ℕ)) → AreLines ss → AreLines ts → AreLines (ss ++ ts)
+lines_append [] ts g h = h
+lines_append (s ∷ ss) ts g h = (g.0, lines_append ss ts g.1 h)
+
+-- ---- numbers
+
+digit_other : (c : ℕ) → digit_value c < 10 → c ≢ 10
+digit_other c h e = let feed : digit_value 10 < 10 = subst (λ (b : ℕ). digit_value b < 10) e h in omega arith
+
+digits_line : (ds : List ℕ) → AllDigits 10 ds → IsOneLine ds
+digits_line [] h = line_literal [] refl
+digits_line (c ∷ ds) h = line_cons c ds (digit_other c h.0) (digits_line ds h.1)
+
+sign_line : (negative : Bool) → IsOneLine (sign_text negative)
+sign_line negative = line_either negative (codes "-") [] (line_literal (codes "-") refl) (line_literal [] refl)
+
+exponent_line : (negative : Bool) (ds : List ℕ) → AllDigits 10 ds → IsOneLine (exponent_text negative ds)
+exponent_line negative [] h = line_literal [] refl
+exponent_line negative (d ∷ ds) h = line_cons 101 (sign_text negative ++ d ∷ ds) (λ e. omega arith) (line_append (sign_text negative) (d ∷ ds) (sign_line negative) (digits_line (d ∷ ds) h))
+
+number_line : (text : List ℕ) → IsPlainNumber text → IsOneLine text
+number_line text (negative, p, is, shaped) =
+    let w = shaped.well_formed in
+    let fraction = line_either p.point (46 ∷ p.fraction) [] (line_cons 46 p.fraction (λ e. omega arith) (digits_line p.fraction w.fraction_digits)) (line_literal [] refl) in
+    subst IsOneLine (sym is)
+    (line_append (sign_text negative) (text_of p) (sign_line negative) (line_append p.whole _ (digits_line p.whole w.whole_digits) (line_append _ (exponent_text p.exponent_negative p.exponent) fraction (exponent_line p.exponent_negative p.exponent w.exponent_digits))))
+
+double_line : (bits : ℕ) (text : List ℕ) (answer : Bool) → float_is_finite (from_bits binary64 bits) ≡ answer → IsDouble bits text → IsOneLine text
+double_line bits text true e is = number_line text (is.finite e).0
+double_line bits text false e is = subst IsOneLine (sym (is.other e)) (plain_line (encode_lower (num Big 8 bits)) (line_hex (num Big 8 bits)))
+
+coded_line : (k : NumberCode) (n : ℕ) (text : List ℕ) → IsNumber k n text → IsOneLine text
+coded_line DOUBLE n text is = double_line n text _ refl is
+coded_line k n text is = subst IsOneLine (sym is) (line_number k n)
+
+-- ---- values
+
+eq_or : (b : Bool) → (b ≡ true) ⊎ (b ≡ false)
+eq_or true = inl refl
+eq_or false = inr refl
+
+string_line : (t : List ℕ) → IsOneLine (string t)
+string_line t = line_quoted (codes "\\u00") (line_literal (codes "\\u00") refl) t
+
+mutual
+  json_line : (v : ValueTree) (text : List ℕ) → IsJson v text → IsOneLine text
+  json_line (NumberValue k n) text is = coded_line k n text is
+  json_line (TextValue k t) text is = subst IsOneLine (sym is) (string_line t)
+  json_line (ArrayValue t xs) text is =
+      elim (eq_or (is_byte t)) [
+        | inl byte ↦ subst IsOneLine (sym (is.0 byte)) (plain_line (encode_lower (bytes_in xs)) (line_hex (bytes_in xs)))
+        | inr other ↦ let items = is.1 other in subst IsOneLine (sym items.2) (array_line items.0 (jsons_line xs items.0 items.1))
+      ]
+  json_line (StructValue xs) text is = subst IsOneLine (sym is.2) (array_line is.0 (jsons_line xs is.0 is.1))
+  json_line (EntryValue x y) text is = subst IsOneLine (sym is.4) (array_line (is.0 ∷ is.1 ∷ []) (json_line x is.0 is.2, (json_line y is.1 is.3, tt)))
+  json_line (VariantValue x) text is =
+      let type = member_line (codes "type") (plain (sig (type_of x))) (line_literal (codes "type") refl) (plain_line (sig (type_of x)) (line_sig (type_of x))) in
+      let value = member_line (codes "value") is.0 (line_literal (codes "value") refl) (json_line x is.0 is.1) in
+      subst IsOneLine (sym is.2) (object_line (member (codes "type") (plain (sig (type_of x))) ∷ member (codes "value") is.0 ∷ []) (type, (value, tt)))
+
+  jsons_line : (xs : ValueTrees) (texts : List (List ℕ)) → AreJson xs texts → AreLines texts
+  jsons_line NoValues [] are = tt
+  jsons_line NoValues (t ∷ texts) are = absurd are
+  jsons_line (MoreValues x xs) [] are = absurd are
+  jsons_line (MoreValues x xs) (t ∷ texts) are = (json_line x t are.0, jsons_line xs texts are.1)
+
+-- ---- fields and messages
+
+field_line : (code : ℕ) (v : ValueTree) (text : List ℕ) → IsField code v text → IsOneLine text
+field_line code v text is =
+    let value = json_line v is.value is.json in
+    let named = member_line (field_name code) is.value (name_line code) value in
+    let coded = member_line (codes "code") (decimal code) (line_literal (codes "code") refl) (line_decimal code) in
+    let typed = member_line (codes "type") (plain (sig (type_of v))) (line_literal (codes "type") refl) (plain_line (sig (type_of v)) (line_sig (type_of v))) in
+    let valued = member_line (codes "value") is.value (line_literal (codes "value") refl) value in
+    let other = object_line (member (codes "code") (decimal code) ∷ member (codes "type") (plain (sig (type_of v))) ∷ member (codes "value") is.value ∷ []) (coded, (typed, (valued, tt))) in
+    subst IsOneLine (sym is.is) (line_either (is_known code) _ _ named other)
+
+fields_line : (fs : List FieldTree) (texts : List (List ℕ)) → AreFields fs texts → AreLines texts
+fields_line [] [] are = tt
+fields_line [] (t ∷ texts) are = absurd are
+fields_line (f ∷ fs) [] are = absurd are
+fields_line (f ∷ fs) (t ∷ texts) are = (field_line f.code f.value t are.0, fields_line fs texts are.1)
+
+type_line : (kind : ℕ) → IsOneLine (type_text kind)
+type_line kind = line_either (nat_lt 0 kind && nat_lt kind 5) (plain (kind_text kind)) (decimal kind) (plain_line (kind_text kind) (kind_line kind)) (line_decimal kind)
+
+count_line : (name : List ℕ) → line_feeds name ≡ 0 → (n : ℕ) → IsOneLine (member name (decimal n))
+count_line name h n = member_line name (decimal n) (line_literal name h) (line_decimal n)
+
+pub one_line_each : IsOneLineEach
+one_line_each order m number offset text is =
+    let front = first_members order (length (message_bytes order m)) m.kind m.flags m.serial number offset in
+    let back = member (codes "fields") (array is.others) ∷ member (codes "body") (array is.values) ∷ [] in
+    let first : AreLines front = (
+      count_line (codes "number") refl number,
+      (
+        count_line (codes "offset") refl offset,
+        (
+          count_line (codes "length") refl (length (message_bytes order m)),
+          (
+            member_line (codes "order") (plain (order_byte order ∷ [])) (line_literal (codes "order") refl) (plain_line (order_byte order ∷ []) (order_line order)),
+            (
+              member_line (codes "type") (type_text m.kind) (line_literal (codes "type") refl) (type_line m.kind),
+              (count_line (codes "flags") refl m.flags, (count_line (codes "serial") refl m.serial, tt)),
+            ),
+          ),
+        ),
+      ),
+    ) in
+    let known = fields_line (fields_of true m.fields) is.known is.knows in
+    let others = member_line (codes "fields") (array is.others) (line_literal (codes "fields") refl) (array_line is.others (fields_line (fields_of false m.fields) is.others is.other)) in
+    let body = member_line (codes "body") (array is.values) (line_literal (codes "body") refl) (array_line is.values (jsons_line m.body is.values is.body)) in
+    let last : AreLines back = (others, (body, tt)) in
+    let line = object_line (front ++ (is.known ++ back)) (lines_append front (is.known ++ back) first (lines_append is.known back known last)) in
+    (object (front ++ (is.known ++ back)), is.is, line.none)

@@ -1,0 +1,87 @@
+use Rattle.std.proofs.Common.{ℕ, Bool, [], ◌∷◌, sym, ap, subst, ◌∙◌, rules, arith}
+use Rattle.std.specs.Bool.{beq}
+use Rattle.dbus_message_model.specs.Messages.{is_known}
+use Rattle.dbus_json.specs.JsonMessages.{IsField}
+use Rattle.dbus_walk.proofs.FieldParts.{none_walked, next_field, field_walked, all_walked}
+use Rattle.dbus_json.proofs.FieldLists.{Led, none_led, field_led, field_passed}
+use Rattle.dbus_json.proofs.fields.write_fields.Goals as goal
+
+pub loop-place-init : goal.loop-place-init
+loop-place-init g c = record {
+  left = λ fs rest s. none_walked c.args.source.now c.args.depth_left 16 c.fields_end-end.result fs rest (Led g.D.Draft.gains c.args.known c.args.lead.now c.args.draft.now c.args.draft.now c.args.lead.now) (c.fields_end-end.ensures c.args.depth_left fs rest s)
+      (none_led g.D.Draft.gains c.args.known c.args.lead.now c.args.draft.now (g.met.D.Draft.nothing c.args.draft.now));
+  utf8 = search rules;
+}
+
+pub field_at-field-requires : goal.field_at-field-requires
+field_at-field-requires g c =
+    let there = c.requires.stand in
+    let n = next_field (c.loop-place.invariant.left there.0 there.1 there.2) c.loop-place-test.true in
+    record { stands = (n.f, n.after, n.stands) }
+
+pub lengths_of-requires : goal.lengths_of-requires
+lengths_of-requires g c =
+    let there = c.requires.stand in
+    let n = next_field (c.loop-place.invariant.left there.0 there.1 there.2) c.loop-place-test.true in
+    record { few = (c.field_at-field.ensures n.f n.after n.stands).few }
+
+pub write_field-place-requires-clause-stands : goal.write_field-place-requires-clause-stands
+write_field-place-requires-clause-stands g c =
+    let there = c.requires.stand in
+    let n = next_field (c.loop-place.invariant.left there.0 there.1 there.2) c.loop-place-test.true in
+    (n.f.value, n.after, (c.field_at-field.ensures n.f n.after n.stands).value)
+
+pub skip_value-place-requires-clause-stands : goal.skip_value-place-requires-clause-stands
+skip_value-place-requires-clause-stands g c =
+    let there = c.requires.stand in
+    let n = next_field (c.loop-place.invariant.left there.0 there.1 there.2) c.loop-place-test.true in
+    (n.f.value, n.after, (c.field_at-field.ensures n.f n.after n.stands).value)
+
+pub loop-place-smaller-then-is_known-known : goal.loop-place-smaller-then-is_known-known
+loop-place-smaller-then-is_known-known g c =
+    let there = c.requires.stand in
+    let n = next_field (c.loop-place.invariant.left there.0 there.1 there.2) c.loop-place-test.true in
+    let p = c.field_at-field.ensures n.f n.after n.stands in
+    let w = c.write_field-place.ensures.written n.f.value n.after p.value in
+    omega (arith, w.1 ∙ p.ends, n.some, c.loop-place-test.true)
+
+pub loop-place-smaller : goal.loop-place-smaller
+loop-place-smaller g c =
+    let there = c.requires.stand in
+    let n = next_field (c.loop-place.invariant.left there.0 there.1 there.2) c.loop-place-test.true in
+    let p = c.field_at-field.ensures n.f n.after n.stands in
+    omega (arith, c.skip_value-place.ensures n.f.value n.after p.value ∙ p.ends, n.some, c.loop-place-test.true)
+
+pub loop-place-preserved-then-is_known-known : goal.loop-place-preserved-then-is_known-known
+loop-place-preserved-then-is_known-known g c = record {
+  left = λ fs rest s.
+      let l = c.loop-place.invariant.left fs rest s in
+      let n = next_field l c.loop-place-test.true in
+      let p = c.field_at-field.ensures n.f n.after n.stands in
+      let w = c.write_field-place.ensures.written n.f.value n.after p.value in
+      let coded = λ (k : ℕ). IsField k n.f.value w.0.0 in
+      let chosen = ap (λ (k : ℕ). beq (is_known k) c.args.known) p.code ∙ ap (λ (a : Bool). beq a c.args.known) (sym c.is_known.ensures) ∙ c.if-is_known-known.true in
+      field_walked l (Led g.D.Draft.gains c.args.known c.args.lead.now c.args.draft.now c.write_field-place.new.draft (44 ∷ [])) n c.write_field-place.result (w.1 ∙ p.ends)
+      (field_led g.D.Draft.gains c.args.known c.args.lead.now c.args.draft.now g.met.D.Draft.joins c.loop-place.draft c.push_str.new.self c.write_field-place.new.draft c.loop-place.separator.now l.done n.f w.0.0 l.walked chosen
+      c.push_str.ensures (subst coded (sym p.code) w.0.1) w.0.2);
+  utf8 = search rules;
+}
+
+pub loop-place-preserved : goal.loop-place-preserved
+loop-place-preserved g c = record {
+  left = λ fs rest s.
+      let l = c.loop-place.invariant.left fs rest s in
+      let n = next_field l c.loop-place-test.true in
+      let p = c.field_at-field.ensures n.f n.after n.stands in
+      let passed = ap (λ (k : ℕ). beq (is_known k) c.args.known) p.code ∙ ap (λ (a : Bool). beq a c.args.known) (sym c.is_known.ensures) ∙ c.if-is_known-known.false in
+      field_walked l (Led g.D.Draft.gains c.args.known c.args.lead.now c.args.draft.now c.loop-place.draft c.loop-place.separator.now) n c.skip_value-place.result (c.skip_value-place.ensures n.f.value n.after p.value ∙ p.ends)
+      (field_passed g.D.Draft.gains c.args.known c.args.lead.now c.args.draft.now c.loop-place.draft c.loop-place.separator.now l.done n.f l.walked passed);
+  utf8 = search rules;
+}
+
+pub returns : goal.returns
+returns g c = record {
+  written = λ fs rest s.
+      let all = all_walked (c.loop-place.invariant.left fs rest s) c.loop-place-test.false in
+      (all.texts, all.are, all.gained);
+}

@@ -1,0 +1,17 @@
+use Rattle.std.proofs.Common.{◌-◌, ℕ, List}
+use Rattle.dbus_message_model.specs.Messages.{FieldTree}
+use Rattle.dbus_walk.specs.Fields.{FieldsStand}
+use Rattle.dbus_walk.proofs.FieldParts.{Walked}
+use Rattle.dbus_json.proofs.FieldLists.{Led}
+use Rattle.dbus_json.proofs.fields.write_fields.Given as goal
+use denote.Shadow.{shadow}
+use denote.Text.{Utf8}
+
+abbrev pub invariant-loop-place : goal.invariant-loop-place
+invariant-loop-place g l = record {
+  left : (fs : List FieldTree) (rest : List ℕ) → FieldsStand l.source l.depth_left fs rest → Walked l.source l.depth_left l.end fs rest (Led g.D.Draft.gains l.known l.lead l.initial.draft l.draft l.separator) l.place;
+  utf8 : shadow (Utf8 l.separator);
+}
+
+abbrev pub decreases-loop-place : goal.decreases-loop-place
+decreases-loop-place g l = l.end - l.place

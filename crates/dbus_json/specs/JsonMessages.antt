@@ -1,0 +1,59 @@
+-- A message as a line of JSON: an object, and a line feed after it.
+-- RFC 8259, of the messages of the D-Bus Specification, "Message Format" and "Header Fields".
+use Rattle.std.specs.Prelude.{◌≡◌, ℕ, List, [], ◌∷◌, ◌++◌, Bool, true, false, ◌&&◌, nat_lt, length, filter, codes, decimal, if◌then◌else◌}
+use Rattle.std.specs.Bool.{beq}
+use Rattle.dbus_texts.specs.Types.{sig}
+use Rattle.dbus_value_model.specs.declared.order.Order.{Order}
+use Rattle.dbus_value_model.specs.Values.{ValueTree, type_of}
+use Rattle.dbus_message_model.specs.Messages.{FieldTree, MessageTree, order_byte, message_bytes, is_known}
+use Rattle.dbus_show.specs.ShownMessages.{kind_text, field_name}
+use Rattle.dbus_json.specs.JsonValues.{plain, array, member, object, IsJson, AreJson}
+
+-- a message type's name, or its number if it has none
+abbrev pub type_text : ℕ → List ℕ
+type_text kind = if nat_lt 0 kind && nat_lt kind 5 then plain (kind_text kind) else decimal kind
+
+-- a header field with this code and value: one that is known is a member by its name, and any other an object of its code and its
+-- value with the signature of that
+pub record IsField (code : ℕ) (v : ValueTree) (text : List ℕ) : Type 0 where
+  pub value : List ℕ
+  pub json : IsJson v value
+  pub is : text ≡ (if is_known code then member (field_name code) value
+      else object (member (codes "code") (decimal code) ∷ member (codes "type") (plain (sig (type_of v))) ∷ member (codes "value") value ∷ []))
+
+-- fields, and the text of each
+abbrev pub AreFields : List FieldTree → List (List ℕ) → Type 0
+AreFields [] [] = Unit {0}
+AreFields (f ∷ fs) (text ∷ texts) = IsField f.code f.value text × AreFields fs texts
+AreFields [] (text ∷ texts) = ⊥
+AreFields (f ∷ fs) [] = ⊥
+
+-- the fields that are known, or those that are not, in their order
+abbrev pub fields_of : (known : Bool) → List FieldTree → List FieldTree
+fields_of known fs = filter (λ f. beq (is_known f.code) known) fs
+
+-- what stands before the header fields, of a message of so many bytes
+abbrev pub first_members : Order → (size kind flags serial number offset : ℕ) → List (List ℕ)
+first_members order size kind flags serial number offset =
+    member (codes "number") (decimal number)
+    ∷ member (codes "offset") (decimal offset)
+    ∷ member (codes "length") (decimal size)
+    ∷ member (codes "order") (plain (order_byte order ∷ []))
+    ∷ member (codes "type") (type_text kind)
+    ∷ member (codes "flags") (decimal flags)
+    ∷ member (codes "serial") (decimal serial)
+    ∷ []
+
+-- The line of a message that has this number and begins at this offset: the known fields are members of the object, and all other
+-- fields, and the values of the body, stand in two arrays.
+pub record IsJsonLine (order : Order) (m : MessageTree) (number offset : ℕ) (text : List ℕ) : Type 0 where
+  pub known : List (List ℕ)
+  pub knows : AreFields (fields_of true m.fields) known
+  pub others : List (List ℕ)
+  pub other : AreFields (fields_of false m.fields) others
+  pub values : List (List ℕ)
+  pub body : AreJson m.body values
+  pub is : text ≡ object
+      (first_members order (length (message_bytes order m)) m.kind m.flags m.serial number offset
+      ++ (known ++ (member (codes "fields") (array others) ∷ member (codes "body") (array values) ∷ [])))
+      ++ codes "\n"

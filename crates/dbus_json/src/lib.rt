@@ -1,0 +1,16 @@
+//! Messages as lines of JSON, from their bytes.
+//!
+//! A line is one object. It is written by a walk along the signatures of the message's values, and no value is built: no memory is
+//! taken but that of the text.
+#![tactic(auto)]
+
+mod fields;
+mod json_writer;
+pub mod laws;
+mod line;
+mod numbers;
+mod texts;
+mod values;
+mod visiting;
+
+pub use line::write_json;

@@ -1,0 +1,99 @@
+//! Messages as lines of JSON, from their bytes. RFC 8259; D-Bus Specification, "Message Format".
+#![tactic(auto)]
+
+ghost use Rattle.std.specs.Prelude.{◌≡◌, ℕ, List};
+ghost use Rattle.dbus_message_model.specs.Messages.{MessageTree};
+ghost use Rattle.dbus_header.specs.MessageOutcomes.{IsWhole};
+ghost use Rattle.dbus_validate.specs.Validating.{IsValidated};
+ghost use Rattle.dbus_json.specs.JsonMessages.{IsJsonLine, type_text};
+ghost use Rattle.dbus_json.specs.Writing.{start_text};
+
+use crate::fields::write_fields;
+use crate::values::write_values_at;
+use dbus_show::{Draft, order_letter, write_integer, write_kind};
+use dbus_validate::Validated;
+use dbus_value_model::Limits;
+use dbus_walk::{Source, Spot, lengths_of};
+
+/// Appends the name of a message type, or its number if it has none.
+fn write_type<D: Draft>(draft: &mut D, kind: u8)
+    ensures { D.gains draft.old (type_text kind) draft.new }
+{
+    if kind > 0 && kind < 5 {
+        draft.push_code(b'"');
+        write_kind(draft, kind);
+        draft.push_code(b'"');
+    } else {
+        write_integer(draft, kind);
+    }
+}
+
+/// Appends what stands before the header fields.
+fn write_start<D: Draft>(draft: &mut D, validated: &Validated, number: u64, offset: u64)
+    ensures { D.gains draft.old (start_text validated.now number offset) draft.new }
+{
+    draft.push_str("{\"number\":");
+    write_integer(draft, number);
+    draft.push_str(",\"offset\":");
+    write_integer(draft, offset);
+    draft.push_str(",\"length\":");
+    write_integer(draft, validated.length);
+    draft.push_str(",\"order\":\"");
+    draft.push_code(order_letter(validated.order));
+    draft.push_str("\",\"type\":");
+    write_type(draft, validated.kind);
+    draft.push_str(",\"flags\":");
+    write_integer(draft, validated.flags);
+    draft.push_str(",\"serial\":");
+    write_integer(draft, validated.serial);
+}
+
+/// Appends the message that the bytes begin with as a line of JSON, which ends in a line feed. It was validated in them under the limits.
+///
+/// The line is one object: `number` and `offset` as they are given, which are the message's number, counted from 1, and where it
+/// begins in the input; its length in bytes, its order as `"l"` or `"B"`, its type by name, its flags and its serial; each known
+/// header field by its name; all other fields in the array `fields`, and the values of the body in the array `body`. No message is
+/// built from the bytes, and no memory is taken but what the draft takes.
+///
+/// ```text
+/// {"number":1,"offset":0,"length":96,"order":"l","type":"signal","flags":0,"serial":2,"path":"/a","fields":[],"body":["hi",[1,2]]}
+/// ```
+///
+/// RFC 8259; D-Bus Specification, "Message Format" and "Header Fields".
+pub fn write_json<D: Draft>(
+    draft: &mut D,
+    bytes: &[u8],
+    limits: Limits,
+    validated: &Validated,
+    number: u64,
+    offset: u64,
+)
+    requires validated { IsValidated limits bytes.now validated.now }
+    ensures written { (m : MessageTree) →
+        IsWhole limits bytes.now validated.now.order m validated.now.length →
+        (text : List ℕ) × IsJsonLine validated.now.order m number offset text ×
+        D.gains draft.old text draft.new }
+{
+    let source = Source {
+        bytes: &bytes[..validated.length],
+        order: validated.order,
+    };
+    write_start(draft, validated, number, offset);
+    write_fields(draft, &source, limits.depth, true, ",");
+    draft.push_str(",\"fields\":[");
+    write_fields(draft, &source, limits.depth, false, "");
+    draft.push_str("],\"body\":[");
+    let types = validated.fields.signature(bytes);
+    let mut table = [0; 255];
+    write_values_at(
+        draft,
+        &source,
+        &Spot {
+            at: validated.body,
+            types,
+            lengths: lengths_of(types, &mut table),
+            depth_left: limits.depth,
+        },
+    );
+    draft.push_str("]}\n");
+}
