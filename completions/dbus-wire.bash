@@ -26,8 +26,8 @@ _dbus_wire() {
             COMPREPLY=($(compgen -W 'any below-count' -- "$word"))
             return
             ;;
-        --max-*)
-            # A number.
+        --max-* | --owner)
+            # A number, or NAME=UNIQUE.
             return
             ;;
     esac
@@ -37,8 +37,8 @@ _dbus_wire() {
             ;;
         filter)
             if [[ $word == -* ]]; then
-                COMPREPLY=($(compgen -W "$options" -- "$word"))
-            elif ((COMP_CWORD == 2)); then
+                COMPREPLY=($(compgen -W "--invert --owner $options" -- "$word"))
+            else
                 compopt -o nospace
                 COMPREPLY=($(compgen -W 'type= sender= interface= member= path= path_namespace= destination=' -- "$word"))
             fi

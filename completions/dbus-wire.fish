@@ -12,6 +12,8 @@ complete -c dbus-wire -s h -l help -f -d 'Write the help'
 complete -c dbus-wire -n "not __fish_seen_subcommand_from $commands" -s V -l version -f -d 'Write the version'
 complete -c dbus-wire -n '__fish_seen_subcommand_from help' -f -a 'show check swap filter help'
 complete -c dbus-wire -n '__fish_seen_subcommand_from swap' -l to -x -a 'l B' -d 'The byte order to write'
+complete -c dbus-wire -n '__fish_seen_subcommand_from filter' -l invert -f -d 'Write the messages that match no rule'
+complete -c dbus-wire -n '__fish_seen_subcommand_from filter' -l owner -x -d 'The owner of a well-known name, NAME=UNIQUE'
 complete -c dbus-wire -n '__fish_seen_subcommand_from filter' -f -a 'type= sender= interface= member= path= path_namespace= destination='
 for command in show check swap filter
     complete -c dbus-wire -n "__fish_seen_subcommand_from $command" -l max-message -x -d 'Most bytes of a message'

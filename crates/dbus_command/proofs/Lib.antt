@@ -1,3 +1,6 @@
+pub mod WordLists
+pub mod OwnerWords
+pub mod Selections
 pub mod Nothing
 pub mod Numbers
 pub mod Options

@@ -1,15 +1,19 @@
 -- Subcommands and words after them that name nothing.
 use Rattle.std.proofs.Common.{◌≡◌, ℕ, List, Some, None, sym, ap, ◌∙◌, codes, slice_index, arith}
-use Rattle.clap.specs.Words.{Row, Text, first_of}
+use Rattle.std.specs.List.{AllByRecursion}
+use Rattle.clap.specs.Words.{Row, Text, all_of, first_of}
 use Rattle.dbus_value_model.specs.declared.limits.Limits.{Limits}
 use Rattle.dbus_value_model.specs.declared.order.Order.{Order}
 use Rattle.dbus_match.specs.declared.fault.RuleFault.{RuleFault}
-use Rattle.dbus_match.specs.declared.fault.RuleFault.TheVariants.{Memory, Bad}
+use Rattle.dbus_match.specs.Matching.{Ownership, ownership}
 use Rattle.dbus_command.specs.Limiting.{HasLimits}
-use Rattle.dbus_command.specs.Named.{NamesCommand, HasFault, order_word}
+use Rattle.dbus_command.specs.Named.{NamesCommand, HasFault, IsSelectionGiven, order_word, words_of}
+use Rattle.dbus_command.specs.Owners.{IsOwnerWord}
+use Rattle.dbus_command.proofs.WordLists.{each_can}
 use Rattle.dbus_command.specs.Told.{IsNoCommand, NamesNothing}
 use Rattle.dbus_command.specs.declared.command.Command.{Command}
 use Rattle.dbus_command.specs.declared.command.Command.TheVariants.{Show, Check, Swap, Filter}
+use Rattle.dbus_command.specs.declared.selection.Selection.{Selection}
 
 module _ (sub : Text × List Row) where
   -- options that name no limits
@@ -31,30 +35,37 @@ module _ (rows : List Row) (no_order : (order : Order) → first_of (codes "to")
   unordered_command Show named = let bad : ◌≡◌ {A = ℕ} 119 104 = ap (λ t. slice_index t 1) named in absurd (omega arith)
   unordered_command Check named = let bad : ◌≡◌ {A = ℕ} 115 99 = ap (λ t. slice_index t 0) named in absurd (omega arith)
   unordered_command (Swap order) named = no_order order named.1
-  unordered_command (Filter rule) named = let bad : ◌≡◌ {A = ℕ} 115 102 = ap (λ t. slice_index t 0) named.0 in absurd (omega arith)
-
-  unordered_fault : (fault : RuleFault) → HasFault (codes "swap") rows fault → ⊥
-  unordered_fault Memory found = found
-  unordered_fault (Bad at reason) found = let bad : ◌≡◌ {A = ℕ} 115 102 = ap (λ t. slice_index t 0) found.named in absurd (omega arith)
+  unordered_command (Filter selection) named = let bad : ◌≡◌ {A = ℕ} 115 102 = ap (λ t. slice_index t 0) named.0 in absurd (omega arith)
 
   -- `swap` with no order
   pub unordered_is_no_command : IsNoCommand (codes "swap") rows
-  unordered_is_no_command = record { no_command = unordered_command; no_fault = unordered_fault }
+  unordered_is_no_command = record {
+    no_command = unordered_command;
+    no_fault = λ fault found. let bad : ◌≡◌ {A = ℕ} 115 102 = ap (λ t. slice_index t 0) found.named in absurd (omega arith);
+  }
 
-module _ (rows : List Row) (no_text : first_of (codes "rule") rows ≡ None) where
-  given_none : (text : Text) → first_of (codes "rule") rows ≡ Some text → ⊥
-  given_none text given = let bad : None ≡ Some text = sym no_text ∙ given in cc
+-- `filter`, of whose words there are no selection and no fault
+module _ (rows : List Row) (no_selection : (selection : Selection) → IsSelectionGiven rows selection → ⊥) where
+  unselected_command : (command : Command) → NamesCommand (codes "filter") rows command → ⊥
+  unselected_command Show named = let bad : ◌≡◌ {A = ℕ} 102 115 = ap (λ t. slice_index t 0) named in absurd (omega arith)
+  unselected_command Check named = let bad : ◌≡◌ {A = ℕ} 102 99 = ap (λ t. slice_index t 0) named in absurd (omega arith)
+  unselected_command (Swap order) named = let bad : ◌≡◌ {A = ℕ} 102 115 = ap (λ t. slice_index t 0) named.0 in absurd (omega arith)
+  unselected_command (Filter selection) named = no_selection selection named.1
 
-  bare_command : (command : Command) → NamesCommand (codes "filter") rows command → ⊥
-  bare_command Show named = let bad : ◌≡◌ {A = ℕ} 102 115 = ap (λ t. slice_index t 0) named in absurd (omega arith)
-  bare_command Check named = let bad : ◌≡◌ {A = ℕ} 102 99 = ap (λ t. slice_index t 0) named in absurd (omega arith)
-  bare_command (Swap order) named = let bad : ◌≡◌ {A = ℕ} 102 115 = ap (λ t. slice_index t 0) named.0 in absurd (omega arith)
-  bare_command (Filter rule) named = given_none named.1.text named.1.given
+none_given : (rows : List Row) (texts : List Text) → all_of (codes "rule") rows ≡ None → all_of (codes "rule") rows ≡ Some texts → ⊥
+none_given rows texts no_text given = let bad : None ≡ Some texts = sym no_text ∙ given in cc
 
-  bare_fault : (fault : RuleFault) → HasFault (codes "filter") rows fault → ⊥
-  bare_fault Memory found = found
-  bare_fault (Bad at reason) found = given_none found.text found.given
+-- with no text
+pub bare_is_no_command : (rows : List Row) → all_of (codes "rule") rows ≡ None → IsNoCommand (codes "filter") rows
+bare_is_no_command rows no_text = record {
+  no_command = unselected_command rows (λ selection given. none_given rows given.texts no_text given.given);
+  no_fault = λ fault found. none_given rows found.texts no_text found.given;
+}
 
-  -- `filter` with no text
-  pub bare_is_no_command : IsNoCommand (codes "filter") rows
-  bare_is_no_command = record { no_command = bare_command; no_fault = bare_fault }
+-- with a word that gives no owner
+pub unowned_is_no_command : (rows : List Row) → (AllByRecursion (λ word. (o : Ownership) × IsOwnerWord word o) (words_of (codes "owner") rows) → ⊥) → IsNoCommand (codes "filter") rows
+unowned_is_no_command rows no_owners = record {
+  no_command = unselected_command rows (λ selection given. no_owners
+      (each_can _ _ (λ word owner is. (ownership owner, is)) (words_of (codes "owner") rows) selection.owners.items given.owners));
+  no_fault = λ fault found. no_owners found.owners;
+}

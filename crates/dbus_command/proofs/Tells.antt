@@ -1,6 +1,7 @@
 -- What clap's answer says of what is told.
-use Rattle.std.proofs.Common.{◌≡◌, List, [], true, refl, subst, sym, ap, ◌∙◌, inl, inr, IfOk, Ok, Err, Option, Some, Result}
-use Rattle.clap.specs.Words.{App, HasMatchesOf, Row, Text, is_simple, subcommand_of, subcommand_rows_of}
+use Rattle.std.proofs.Common.{◌≡◌, List, [], true, refl, subst, sym, ap, ◌∙◌, inl, inr, IfOk, Ok, Err, Option, Some, Result, codes}
+use Rattle.std.specs.List.{AllByRecursion}
+use Rattle.clap.specs.Words.{App, HasMatchesOf, Row, Text, all_of, is_simple, subcommand_of, subcommand_rows_of}
 use Rattle.clap.specs.declared.parser.matches.ArgMatches.{ArgMatches}
 use Rattle.clap.specs.Kinds.{IsAmong, HasKind}
 use Rattle.clap.specs.Faults.{fault_of, is_simple_and_free}
@@ -10,10 +11,12 @@ use Rattle.clap.specs.declared.error.kind.ErrorKind.TheVariants.{DisplayHelp, Di
 use Rattle.clap.proofs.OnLiterals.{clap_on_literals}
 use Rattle.dbus_command.specs.CommandLine.{wire_app}
 use Rattle.dbus_value_model.specs.declared.limits.Limits.{Limits}
+use Rattle.dbus_match.specs.Matching.{Ownership}
 use Rattle.dbus_command.specs.Limiting.{HasLimits, TellsLimits}
-use Rattle.dbus_command.specs.Told.{TellsFault, TellsKind, Tells, TellsCommand, IsUsageOrMemory, IsNoCommand, NamesNothing}
-use Rattle.dbus_command.specs.Named.{HasRuleFault, IsNamedBy, Names}
-use Rattle.dbus_command.proofs.Nothing.{no_command_names_nothing, unlimited_names_nothing}
+use Rattle.dbus_command.specs.Told.{TellsFault, TellsKind, Tells, TellsCommand, TellsOwner, TellsOwners, TellsRules, IsUsageOrMemory, IsNoCommand, NamesNothing}
+use Rattle.dbus_command.specs.Named.{HasRuleFault, IsNamedBy, Names, words_of}
+use Rattle.dbus_command.specs.Owners.{IsOwnerWord}
+use Rattle.dbus_command.proofs.Nothing.{no_command_names_nothing, unlimited_names_nothing, unowned_is_no_command}
 use Rattle.dbus_command.specs.declared.command.Command.{Command}
 use Rattle.dbus_command.specs.declared.usage_fault.UsageFault.{UsageFault}
 use Rattle.dbus_command.specs.declared.usage_fault.UsageFault.TheVariants.{Memory, Help, Version, Usage, Rule}
@@ -46,6 +49,40 @@ no_command_told name rows (Help text) is none = absurd is
 no_command_told name rows (Version text) is none = absurd is
 no_command_told name rows (Usage text) is none = none
 no_command_told name rows (Rule fault) is none = absurd is
+
+-- of a word that gives no owner
+pub no_owner_told : (word : Text) (told : UsageFault) → IsUsageOrMemory told → ((o : Ownership) → IsOwnerWord word o → ⊥) → TellsOwner word (Err told)
+no_owner_told word Memory is none = tt
+no_owner_told word (Help text) is none = absurd is
+no_owner_told word (Version text) is none = absurd is
+no_owner_told word (Usage text) is none = none
+no_owner_told word (Rule fault) is none = absurd is
+
+-- of words, of which one gives no owner
+pub no_owners_told : (words : List Text) (word : Text) (told : UsageFault) → TellsOwner word (Err told)
+    → (AllByRecursion (λ w. (o : Ownership) × IsOwnerWord w o) words → (o : Ownership) × IsOwnerWord word o) → TellsOwners words (Err told)
+no_owners_told words word Memory h at = tt
+no_owners_told words word (Help text) h at = absurd h
+no_owners_told words word (Version text) h at = absurd h
+no_owners_told words word (Usage text) h at = λ all. let one = at all in h one.0 one.1
+no_owners_told words word (Rule fault) h at = absurd h
+
+-- and of the words after `filter` that have it
+pub unowned_told : (rows : List Row) (told : UsageFault) → TellsOwners (words_of (codes "owner") rows) (Err told) → TellsCommand (codes "filter") rows (Err told)
+unowned_told rows Memory h = tt
+unowned_told rows (Help text) h = absurd h
+unowned_told rows (Version text) h = absurd h
+unowned_told rows (Usage text) h = unowned_is_no_command rows h
+unowned_told rows (Rule fault) h = absurd h
+
+-- of the words after `filter`, of whose texts one spells no rule
+pub unruled_told : (rows : List Row) (texts : List Text) (told : UsageFault) → all_of (codes "rule") rows ≡ Some texts
+    → AllByRecursion (λ w. (o : Ownership) × IsOwnerWord w o) (words_of (codes "owner") rows) → TellsRules texts (Err told) → TellsCommand (codes "filter") rows (Err told)
+unruled_told rows texts Memory given owners h = tt
+unruled_told rows texts (Help text) given owners h = absurd h
+unruled_told rows texts (Version text) given owners h = absurd h
+unruled_told rows texts (Usage text) given owners h = absurd h
+unruled_told rows texts (Rule fault) given owners h = record { named = refl; texts = texts; given = given; first = h; owners = owners }
 
 -- what is told of options that name no limits
 pub no_limits_told : (rows : List Row) (told : UsageFault) → IsUsageOrMemory told → ((limits : Limits) → HasLimits rows limits → ⊥) → TellsLimits rows (Err told)

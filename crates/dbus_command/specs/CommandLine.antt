@@ -2,6 +2,7 @@
 use Rattle.std.specs.Prelude.{◌≡◌, ℕ, Some, true, false, codes, pos}
 use Rattle.clap.specs.Words.{App, Rule, Text, app_of, new_app, new_rule, with_rule, with_subcommand}
 use Rattle.clap.specs.Simple.{on_top}
+use Rattle.clap.specs.declared.builder.action.ArgAction.TheVariants.{SetTrue, Append}
 use Rattle.clap.specs.declared.builder.command.Command.{Command}
 use Rattle.clap.specs.declared.builder.command.Command.TheViews.{out-Command}
 use Rattle.clap.specs.declared.builder.value_parser.ValueParser.TheVariants.{Signed}
@@ -11,9 +12,17 @@ use Rattle.dbus_value_model.specs.declared.limits.TheConstants.{ARRAY_LIMIT, DEP
 abbrev pub to_rule : Rule
 to_rule = record (new_rule (codes "to")) { long = Some (codes "to"); value_names = 1; required = true }
 
--- the rule's text, one word, which must be there
+-- the rules' texts, each one word, of which one must be there
 abbrev pub text_rule : Rule
-text_rule = record (new_rule (codes "rule")) { value_names = 1; required = true }
+text_rule = record (new_rule (codes "rule")) { value_names = 1; required = true; action = Some Append }
+
+-- the flag `--invert`
+abbrev pub invert_rule : Rule
+invert_rule = record (new_rule (codes "invert")) { long = Some (codes "invert"); action = Some SetTrue }
+
+-- the option `--owner`, with one value each time
+abbrev pub owner_rule : Rule
+owner_rule = record (new_rule (codes "owner")) { long = Some (codes "owner"); value_names = 1; action = Some Append }
 
 -- an option with one value, a number from 0 up to this one
 abbrev pub limit_rule : Text → ℕ → Rule
@@ -40,7 +49,7 @@ abbrev pub swap_app : App
 swap_app = with_limits (with_rule (new_app (codes "swap")) to_rule)
 
 abbrev pub filter_app : App
-filter_app = with_limits (with_rule (new_app (codes "filter")) text_rule)
+filter_app = with_limits (with_rule (with_rule (with_rule (new_app (codes "filter")) text_rule) invert_rule) owner_rule)
 
 -- the program has a version, and one of the subcommands must be named
 abbrev pub bare_app : App

@@ -1,7 +1,8 @@
 -- The command and the limits that words name, and the fault of a rule's text among them.
-use Rattle.std.specs.Prelude.{◌≡◌, ℕ, List, Option, Some, None, codes}
+use Rattle.std.specs.Prelude.{◌≡◌, ◌↔◌, ℕ, true, List, [], ◌∷◌, ◌++◌, Option, Some, None, unwrap_or, codes}
+use Rattle.std.specs.List.{AllByRecursion, AllZip}
 use Rattle.std.specs.declared.alloc.Global.{Global}
-use Rattle.clap.specs.Words.{Row, Text, first_of, subcommand_of}
+use Rattle.clap.specs.Words.{Row, Text, all_of, first_of, subcommand_of}
 use Rattle.dbus_value_model.specs.declared.limits.Limits.{Limits}
 use Rattle.dbus_value_model.specs.declared.order.Order.{Order}
 use Rattle.dbus_value_model.specs.declared.order.Order.TheVariants.{Little, Big}
@@ -10,12 +11,15 @@ use Rattle.dbus_match.specs.declared.fault.RuleFault.TheVariants.{Memory, Bad}
 use Rattle.dbus_match.specs.declared.fault.RuleReason.{RuleReason}
 use Rattle.dbus_match.specs.declared.rule.Rule.{Rule}
 use Rattle.dbus_match.specs.Faults.{IsFault}
-use Rattle.dbus_match.specs.Rules.{SpellsRule}
+use Rattle.dbus_match.specs.Matching.{Ownership}
+use Rattle.dbus_match.specs.Rules.{Pair, SpellsRule}
 use Rattle.dbus_match.specs.RuleViews.{rule_pairs}
 use Rattle.dbus_command.specs.CommandLine.{wire_app}
 use Rattle.dbus_command.specs.Limiting.{HasLimits}
+use Rattle.dbus_command.specs.Owners.{AreOwnersOf, IsOwnerWord}
 use Rattle.dbus_command.specs.declared.command.Command.{Command}
 use Rattle.dbus_command.specs.declared.command.Command.TheVariants.{Show, Check, Swap, Filter}
+use Rattle.dbus_command.specs.declared.selection.Selection.{Selection}
 
 -- the word that stands for a byte order
 abbrev pub order_word : Order → Text
@@ -27,18 +31,32 @@ abbrev pub IsOrderOf : Text → Option Order → Type 0
 IsOrderOf word (Some order) = word ≡ order_word order
 IsOrderOf word None = (order : Order) → word ≡ order_word order → ⊥
 
--- the words after `filter` have a text that spells the rule
-pub record IsRuleGiven (rows : List Row) (rule : Rule Global) : Type 0 where
-  pub text : Text
-  pub given : first_of (codes "rule") rows ≡ Some text
-  pub spelled : SpellsRule text (rule_pairs rule)
+-- the words that an option is given, each time that it stands there
+abbrev pub words_of : Text → List Row → List Text
+words_of id rows = unwrap_or (all_of id rows) []
+
+-- the texts spell the rules, one each
+abbrev pub AreRulesOf : List Text → List (Rule Global) → Type 0
+AreRulesOf texts rules = AllZip (λ text rule. SpellsRule text (rule_pairs rule)) texts rules
+
+-- `--invert` is one of the words
+abbrev pub IsInverted : List Row → Type 0
+IsInverted rows = first_of (codes "invert") rows ≡ Some (codes "true")
+
+-- the words after `filter` are texts that spell the rules, in their order; and so are the owners given
+pub record IsSelectionGiven (rows : List Row) (selection : Selection) : Type 0 where
+  pub texts : List Text
+  pub given : all_of (codes "rule") rows ≡ Some texts
+  pub rules : AreRulesOf texts selection.rules.items
+  pub inverted : (selection.is_inverted ≡ true) ↔ IsInverted rows
+  pub owners : AreOwnersOf (words_of (codes "owner") rows) selection.owners.items
 
 -- the name of a subcommand and the words after it name the command
 abbrev pub NamesCommand : Text → List Row → Command → Type 0
 NamesCommand name rows Show = name ≡ codes "show"
 NamesCommand name rows Check = name ≡ codes "check"
 NamesCommand name rows (Swap order) = (name ≡ codes "swap") × (first_of (codes "to") rows ≡ Some (order_word order))
-NamesCommand name rows (Filter rule) = (name ≡ codes "filter") × IsRuleGiven rows rule
+NamesCommand name rows (Filter selection) = (name ≡ codes "filter") × IsSelectionGiven rows selection
 
 -- the subcommand and the words after it name the command and its limits
 abbrev pub Names : Option (Text × List Row) → Command → Limits → Type 0
@@ -49,17 +67,27 @@ Names (Some sub) command limits = NamesCommand sub.0 sub.1 command × HasLimits 
 abbrev pub IsNamedBy : List Text → Command × Limits → Type 0
 IsNamedBy words named = Names (subcommand_of wire_app words) named.0 named.1
 
--- the words after `filter` have a text with this fault at this place
-pub record HasFaultAt (name : Text) (rows : List Row) (reason : RuleReason) (at : ℕ) : Type 0 where
-  pub named : name ≡ codes "filter"
+-- the first of the texts that spells no rule has this fault at this place
+pub record HasFirstFault (texts : List Text) (reason : RuleReason) (at : ℕ) : Type 0 where
+  pub before : List Text
   pub text : Text
-  pub given : first_of (codes "rule") rows ≡ Some text
+  pub after : List Text
+  pub texts_are : texts ≡ before ++ text ∷ after
+  pub rules : AllByRecursion (λ t. (pairs : List Pair) × SpellsRule t pairs) before
   pub fault : IsFault text reason at
 
 -- the same, of a fault; want of memory is none of a text
-abbrev pub HasFault : Text → List Row → RuleFault → Type 0
-HasFault name rows Memory = ⊥
-HasFault name rows (Bad at reason) = HasFaultAt name rows reason at
+abbrev pub HaveFault : List Text → RuleFault → Type 0
+HaveFault texts Memory = ⊥
+HaveFault texts (Bad at reason) = HasFirstFault texts reason at
+
+-- the words after `filter` are texts with this fault, and options that give owners
+pub record HasFault (name : Text) (rows : List Row) (fault : RuleFault) : Type 0 where
+  pub named : name ≡ codes "filter"
+  pub texts : List Text
+  pub given : all_of (codes "rule") rows ≡ Some texts
+  pub first : HaveFault texts fault
+  pub owners : AllByRecursion (λ word. (o : Ownership) × IsOwnerWord word o) (words_of (codes "owner") rows)
 
 -- the same, after options that name limits
 abbrev pub HasRuleFault : Option (Text × List Row) → RuleFault → Type 0

@@ -1,5 +1,7 @@
 -- What is told of words that name no command.
-use Rattle.std.specs.Prelude.{◌≡◌, ◌≢◌, ◌⊎◌, List, [], Option, Result, Ok, Err}
+use Rattle.std.specs.Prelude.{◌≡◌, ◌≢◌, ◌⊎◌, List, [], Option, Result, Ok, Err, Vec}
+use Rattle.std.specs.List.{AllByRecursion}
+use Rattle.std.specs.declared.alloc.Global.{Global}
 use Rattle.clap.specs.Words.{Row, Text, subcommand_of}
 use Rattle.clap.specs.Kinds.{IsAmong}
 use Rattle.clap.specs.Faults.{fault_of}
@@ -7,8 +9,12 @@ use Rattle.clap.specs.declared.error.kind.ErrorKind.{ErrorKind}
 use Rattle.clap.specs.declared.error.kind.ErrorKind.TheVariants.{DisplayHelp, DisplayVersion, OutOfMemory}
 use Rattle.dbus_value_model.specs.declared.limits.Limits.{Limits}
 use Rattle.dbus_match.specs.declared.fault.RuleFault.{RuleFault}
+use Rattle.dbus_match.specs.declared.owner.Owner.{Owner}
+use Rattle.dbus_match.specs.declared.rule.Rule.{Rule as MatchRule}
+use Rattle.dbus_match.specs.Matching.{Ownership, ownership}
 use Rattle.dbus_command.specs.CommandLine.{wire_app}
-use Rattle.dbus_command.specs.Named.{Names, NamesCommand, HasFault, HasRuleFault}
+use Rattle.dbus_command.specs.Owners.{AreOwnersOf, IsOwnerWord}
+use Rattle.dbus_command.specs.Named.{AreRulesOf, HaveFault, Names, NamesCommand, HasFault, HasRuleFault}
 use Rattle.dbus_command.specs.declared.command.Command.{Command}
 use Rattle.dbus_command.specs.declared.usage_fault.UsageFault.{UsageFault}
 use Rattle.dbus_command.specs.declared.usage_fault.UsageFault.TheVariants.{Memory, Help, Version, Usage, Rule}
@@ -27,6 +33,33 @@ IsUsageOrMemory (Help text) = ⊥
 IsUsageOrMemory (Version text) = ⊥
 IsUsageOrMemory (Usage text) = Unit {0}
 IsUsageOrMemory (Rule fault) = ⊥
+
+-- the owner that a word gives; else a fault of usage
+abbrev pub TellsOwner : Text → Result (Owner Global) UsageFault → Type 0
+TellsOwner word (Ok owner) = IsOwnerWord word (ownership owner)
+TellsOwner word (Err Memory) = Unit {0}
+TellsOwner word (Err (Help text)) = ⊥
+TellsOwner word (Err (Version text)) = ⊥
+TellsOwner word (Err (Usage text)) = (o : Ownership) → IsOwnerWord word o → ⊥
+TellsOwner word (Err (Rule fault)) = ⊥
+
+-- the owners that words give; else a fault of usage
+abbrev pub TellsOwners : List Text → Result (Vec (Owner Global) Global) UsageFault → Type 0
+TellsOwners words (Ok owners) = AreOwnersOf words owners.items
+TellsOwners words (Err Memory) = Unit {0}
+TellsOwners words (Err (Help text)) = ⊥
+TellsOwners words (Err (Version text)) = ⊥
+TellsOwners words (Err (Usage text)) = AllByRecursion (λ word. (o : Ownership) × IsOwnerWord word o) words → ⊥
+TellsOwners words (Err (Rule fault)) = ⊥
+
+-- the rules that texts spell; else the fault of the first that spells none
+abbrev pub TellsRules : List Text → Result (Vec (MatchRule Global) Global) UsageFault → Type 0
+TellsRules texts (Ok rules) = AreRulesOf texts rules.items
+TellsRules texts (Err Memory) = Unit {0}
+TellsRules texts (Err (Help text)) = ⊥
+TellsRules texts (Err (Version text)) = ⊥
+TellsRules texts (Err (Usage text)) = ⊥
+TellsRules texts (Err (Rule fault)) = HaveFault texts fault
 
 -- the name of a subcommand and the words after it name no command, and no rule's text that has a fault
 pub record IsNoCommand (name : Text) (rows : List Row) : Type 0 where

@@ -1,5 +1,5 @@
 //! The commands.
-use dbus_match::Rule;
+use crate::selection::Selection;
 use dbus_value::Order;
 
 /// What the program does with the messages that it reads.
@@ -11,6 +11,6 @@ pub enum Command {
     Check,
     /// Writes each message in this byte order.
     Swap(Order),
-    /// Writes the messages that match the rule, as they came.
-    Filter(Rule),
+    /// Writes the messages that are selected, as they came.
+    Filter(Selection),
 }

@@ -1,16 +1,19 @@
 //! The command that the words of a command line name.
-ghost use Rattle.std.specs.Prelude.{List, IfOk, map, string_bytes, codes};
+ghost use Rattle.std.specs.Prelude.{◌≡◌, ◌↔◌, true, List, IfOk, MatchOption, map, string_bytes, codes};
 ghost use Rattle.clap.specs.Words.{found_of, kind_of, rows_of, subcommand_rows_of};
-ghost use Rattle.dbus_command.specs.Named.{IsNamedBy, IsOrderOf};
-ghost use Rattle.dbus_command.specs.Told.{TellsKind, Tells, TellsCommand, TellsFault};
+ghost use Rattle.dbus_command.specs.Named.{IsInverted, IsNamedBy, IsOrderOf, words_of};
+ghost use Rattle.dbus_command.specs.Told.{TellsKind, Tells, TellsCommand, TellsFault, TellsOwners};
 
 use crate::command::Command;
 use crate::limits_named::limits_named;
+use crate::owners::owners_given;
+use crate::rules::rules_spelled;
+use crate::selection::Selection;
 use crate::usage_fault::{UsageFault, bad_value, usage};
 use crate::wire::wire;
 use clap::ArgMatches;
 use clap::error::ErrorKind;
-use dbus_match::{RuleFault, parse_rule};
+use dbus_match::Owner;
 use dbus_value::{Limits, Order};
 use std::alloc::Global;
 
@@ -18,9 +21,10 @@ use std::alloc::Global;
 /// program's name. `--max-message` and `--max-array`, in bytes, `--max-depth`, in open containers, and `--fds`, a rule on
 /// indexes of descriptors, name the limits; one that they do not name is that of the specification.
 ///
-/// `Usage`: the words name no command of the program, or have what it does not take, a limit over that of the
-/// specification among it. `Rule`: they name `filter`, with a text that spells no rule. `Help`, `Version`: they ask for help,
-/// or for the version. `Memory`: a growth was refused.
+/// `Usage`: the words name no command of the program, or have what it does not take, a limit over that of the specification
+/// and an owner that is no NAME=UNIQUE of two bus names among it. `Rule`: they name `filter`, with a text that spells no rule;
+/// it is the fault of the first such text. `Help`, `Version`: they ask for help, or for the version. `Memory`: an allocation
+/// failed.
 pub fn command_of(alloc: Global, words: &[String]) -> Result<(Command, Limits), UsageFault>
     // A command that is answered is the one that the words name, and so are its limits.
     ensures named { IfOk result (IsNamedBy (map string_bytes words.now)) }
@@ -62,7 +66,7 @@ fn command_with(alloc: Global, name: &str, inner: &ArgMatches) -> Result<Command
         return order_named(alloc, inner);
     }
     if name == "filter" {
-        return rule_named(alloc, inner);
+        return selection_named(alloc, inner);
     }
     Err(usage(alloc, "error: no such command\n"))
 }
@@ -93,17 +97,46 @@ fn order_of(word: &str) -> Option<Order>
     None
 }
 
-// The rule that `filter` is given.
-fn rule_named(alloc: Global, inner: &ArgMatches) -> Result<Command, UsageFault>
+// The messages that `filter` is to select.
+fn selection_named(alloc: Global, inner: &ArgMatches) -> Result<Command, UsageFault>
     ensures { TellsCommand (codes "filter") (rows_of (found_of inner.now)) result }
 {
-    let Some(text) = inner.get_str("rule") else {
+    let Some(texts) = inner.get_strs("rule") else {
         return Err(usage(alloc, "error: no rule\n"));
     };
-    match parse_rule(alloc, text) {
-        Ok(rule) => Ok(Command::Filter(rule)),
-        Err(RuleFault::Memory) => Err(UsageFault::Memory),
-        Err(RuleFault::Bad { at, reason }) => Err(UsageFault::Rule(RuleFault::Bad { at, reason })),
+    let owners = owners_named(alloc, inner)?;
+    let rules = rules_spelled(alloc, texts)?;
+    Ok(Command::Filter(Selection {
+        rules,
+        is_inverted: is_inverted(inner),
+        owners,
+    }))
+}
+
+// The owners that `--owner` gives.
+fn owners_named(alloc: Global, inner: &ArgMatches) -> Result<Vec<Owner>, UsageFault>
+    ensures { TellsOwners (words_of (codes "owner") (rows_of (found_of inner.now))) result }
+{
+    match inner.get_strs("owner") {
+        Some(words) => owners_given(alloc, words),
+        None => Ok(Vec::new(alloc)),
+    }
+}
+
+// Whether `--invert` is given.
+fn is_inverted(inner: &ArgMatches) -> bool
+    ensures { (result ≡ true) ↔ IsInverted (rows_of (found_of inner.now)) }
+{
+    is_true(inner.get_str("invert"))
+}
+
+// Whether the word is there and is `true`.
+fn is_true(word: Option<&str>) -> bool
+    ensures { (result ≡ true) ↔ MatchOption word.entry ⊥ (λ w. w.now ≡ codes "true") }
+{
+    match word {
+        Some(word) => word == "true",
+        None => false,
     }
 }
 

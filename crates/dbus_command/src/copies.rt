@@ -1,15 +1,17 @@
-//! Copies of commands.
+//! Copies of commands and selections.
 #![tactic(auto)]
 
 ghost use Rattle.dbus_command.specs.SameCommands.{AreSameCommand};
+ghost use Rattle.dbus_command.specs.Selections.{AreSameSelection};
 
 use crate::command::Command;
+use crate::selection::Selection;
 use std::alloc::AllocError;
 
 impl Clone for Command {
     ghost is_clone = { λ command copy. AreSameCommand copy command };
 
-    /// The same command; the rule of `Filter` in memory of its own.
+    /// The same command; the selection of `Filter` in memory of its own.
     ///
     /// Answers `AllocError` where memory ran out, and nothing of the copy stands then.
     fn clone(&self) -> Result<Command, AllocError> {
@@ -17,7 +19,22 @@ impl Clone for Command {
             Command::Show => Ok(Command::Show),
             Command::Check => Ok(Command::Check),
             Command::Swap(order) => Ok(Command::Swap(*order)),
-            Command::Filter(rule) => Ok(Command::Filter(rule.clone()?)),
+            Command::Filter(selection) => Ok(Command::Filter(selection.clone()?)),
         }
+    }
+}
+
+impl Clone for Selection {
+    ghost is_clone = { λ selection copy. AreSameSelection copy selection };
+
+    /// The same selection, in memory of its own.
+    ///
+    /// Returns `AllocError` if an allocation failed, and nothing of the copy stands then.
+    fn clone(&self) -> Result<Selection, AllocError> {
+        Ok(Selection {
+            rules: self.rules.clone()?,
+            is_inverted: self.is_inverted,
+            owners: self.owners.clone()?,
+        })
     }
 }

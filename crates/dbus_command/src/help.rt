@@ -90,20 +90,27 @@ pub(crate) const FILTER: &str = "Writes the messages that match a rule, as they 
 /// What stands after the help of `filter`.
 pub(crate) const FILTER_MORE: &str = more!(
     "
-  The raw messages that match, on standard output, each as it came.
-  Of an input that is refused, `refused at P: NAME` on standard error. Of a rule
-  that is refused, `rule refused at P: NAME` there, with the place in the rule.
+  The raw messages that match one of the rules, or with --invert none of them,
+  on standard output, each as it came. Of an input that is refused,
+  `refused at P: NAME` on standard error. Of the first rule that is refused,
+  `rule refused at P: NAME` there, with the place in the rule.
 
   Who owns a well-known name is not known, so sender='org.a.B' matches only a
-  message that has that name itself. Of others take the unique name, as ':1.7':
-  `busctl --user list` prints it, and so does GetNameOwner of the bus.",
+  message that has that name itself. With --owner org.a.B=:1.7 it also matches
+  what :1.7 sent: `busctl --user list` prints unique names, and GetNameOwner of
+  the bus returns them.",
     "
   dbus-wire filter \"type='signal',member='NameLost'\" < capture | dbus-wire show"
 );
 
-/// What the rule of `filter` is.
-pub(crate) const RULE: &str =
-    "A D-Bus match rule, as type='signal',path='/a'; '' matches each message";
+/// What the rules of `filter` are.
+pub(crate) const RULE: &str = "Match rules, as type='signal',path='/a'; '' matches each message";
+
+/// What `--invert` of `filter` does.
+pub(crate) const INVERT: &str = "Writes the messages that match none of the rules";
+
+/// What `--owner` of `filter` is.
+pub(crate) const OWNER: &str = "The owner of a name, as org.a.B=:1.7; any number";
 
 /// What the limit on messages is.
 pub(crate) const MAX_MESSAGE: &str = "Most bytes of a message: 0 to 134217728, the default";

@@ -1,4 +1,7 @@
 //! The command line of the program `dbus-wire`: which command its words name, under which limits.
+//!
+//! [`command_of`] returns the [`Command`] or the [`UsageFault`] of some words. The texts of help stand here too. `dbus_tool` runs the
+//! command. `man/dbus-wire.1` describes the words.
 #![tactic(auto)]
 
 mod command;
@@ -7,9 +10,13 @@ mod copies;
 mod help;
 pub mod laws;
 mod limits_named;
+mod owners;
+mod rules;
+mod selection;
 mod usage_fault;
 mod wire;
 
 pub use command::Command;
 pub use command_line::command_of;
+pub use selection::Selection;
 pub use usage_fault::UsageFault;

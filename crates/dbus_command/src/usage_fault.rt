@@ -15,7 +15,7 @@ pub enum UsageFault {
     Version(String),
     /// The words are wrong: the text that says how, which ends in LF.
     Usage(String),
-    /// The words name `filter` with a text that spells no rule: its one fault, which is never `Memory`.
+    /// The words name `filter` with a text that spells no rule: the one fault of the first of these, which is never `Memory`.
     Rule(RuleFault),
 }
 

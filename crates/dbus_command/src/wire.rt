@@ -1,11 +1,11 @@
 //! The command line, as `clap` is told it.
 ghost use Rattle.std.specs.Prelude.{◌≡◌, IfOk, false};
 ghost use Rattle.clap.specs.Words.{app_of, rule_of};
-ghost use Rattle.dbus_command.specs.CommandLine.{IsLocal, TakesLimits, fds_rule, limit_rule, wire_app, bare_app, show_app, check_app, swap_app, filter_app};
+ghost use Rattle.dbus_command.specs.CommandLine.{IsLocal, TakesLimits, fds_rule, invert_rule, limit_rule, owner_rule, text_rule, wire_app, bare_app, show_app, check_app, swap_app, filter_app};
 
 use crate::help;
 use clap::builder::ValueParser;
-use clap::{Arg, Command};
+use clap::{Arg, ArgAction, Command};
 use dbus_value::{ARRAY_LIMIT, DEPTH_LIMIT, MESSAGE_LIMIT};
 use std::alloc::{AllocError, Global};
 
@@ -82,19 +82,52 @@ fn swap_command<'a>(alloc: Global) -> Result<Command<'a>, AllocError>
     with_limits(alloc, swap)
 }
 
-// `filter`, with its rule.
+// The rules of `filter`, of which there is one at least.
+fn rule_argument<'a>(alloc: Global) -> Arg<'a>
+    ensures rule { rule_of result ≡ text_rule }
+    ensures local { result.global ≡ false }
+{
+    Arg::new(alloc, "rule")
+        .value_name("RULE")
+        .help(help::RULE)
+        .required(true)
+        .action(ArgAction::Append)
+}
+
+// The flag that inverts `filter`.
+fn invert_flag<'a>(alloc: Global) -> Arg<'a>
+    ensures rule { rule_of result ≡ invert_rule }
+    ensures local { result.global ≡ false }
+{
+    Arg::new(alloc, "invert")
+        .long("invert")
+        .help(help::INVERT)
+        .action(ArgAction::SetTrue)
+}
+
+// The option of an owner, which may stand again and again.
+fn owner_option<'a>(alloc: Global) -> Arg<'a>
+    ensures rule { rule_of result ≡ owner_rule }
+    ensures local { result.global ≡ false }
+{
+    Arg::new(alloc, "owner")
+        .long("owner")
+        .value_name("NAME=UNIQUE")
+        .help(help::OWNER)
+        .action(ArgAction::Append)
+}
+
+// `filter`, with its rules, and its options beside those of each command.
 fn filter_command<'a>(alloc: Global) -> Result<Command<'a>, AllocError>
     ensures { IfOk result (IsLocal filter_app) }
 {
-    let rule = Arg::new(alloc, "rule")
-        .value_name("RULE")
-        .help(help::RULE)
-        .required(true);
     let filter = Command::new(alloc, "filter")
         .about(help::FILTER)
-        .after_help(help::FILTER_MORE)
-        .arg(rule)?;
-    with_limits(alloc, filter)
+        .after_help(help::FILTER_MORE);
+    let ruled = filter.arg(rule_argument(alloc))?;
+    let inverting = ruled.arg(invert_flag(alloc))?;
+    let owning = inverting.arg(owner_option(alloc))?;
+    with_limits(alloc, owning)
 }
 
 // The program before it has subcommands, with its version. Its texts call it `dbus-wire`, whatever the first word is.

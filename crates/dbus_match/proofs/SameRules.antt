@@ -1,5 +1,5 @@
--- Rules are equal exactly where they have the same keys with the same values.
-use Rattle.std.proofs.Common.{◌≡◌, Bool, ◌&&◌, nat_eq, ap, subst, arith}
+-- Rules are equal exactly where they have the same keys with the same values, and owners where they have the same names.
+use Rattle.std.proofs.Common.{◌≡◌, Bool, ◌&&◌, nat_eq, ap, subst, arith, string_bytes}
 use Rattle.std.proofs.lemmas.Bool.Decides.{Decides-and}
 use Rattle.std.proofs.lemmas.Grind.{common_steps}
 use Rattle.std.specs.Bool.{Decides}
@@ -7,8 +7,10 @@ use Rattle.std.specs.Cmp.Lexicographic.{pointwise, pointwise_decides, bytes_deci
 use Rattle.std.specs.Cmp.Derive.Mapped.{pointwise-map}
 use Rattle.dbus_match.specs.declared.key.Key.{Key}
 use Rattle.dbus_match.specs.declared.key.Key.TheVariants.{MessageType}
+use Rattle.dbus_match.specs.declared.owner.Owner.{Owner}
 use Rattle.dbus_match.specs.declared.rule.Rule.{Rule}
 use Rattle.dbus_match.specs.contracts.key.KeyPartialEq.TheImpl as key_eq
+use Rattle.dbus_match.specs.Matching.{ownership}
 use Rattle.dbus_match.specs.Rules.{Pair}
 use Rattle.dbus_match.specs.Conditions.{condition_pair, condition_pairs}
 use Rattle.dbus_match.specs.RuleViews.{AreSameRule}
@@ -33,3 +35,11 @@ rules_equal r s =
     let ds = s.conditions.items in
     let P : Bool → Type 0 = λ t. Decides t (condition_pairs cs ≡ condition_pairs ds) in
     subst P (pointwise-map condition_pair same_pair cs ds) (pointwise_decides pairs_equal (condition_pairs cs) (condition_pairs ds))
+
+pub owners_equal : {A : Type 0} (o p : Owner A)
+    → Decides (pointwise nat_eq (string_bytes o.name) (string_bytes p.name) && pointwise nat_eq (string_bytes o.unique) (string_bytes p.unique)) (ownership o ≡ ownership p)
+owners_equal o p =
+    let names = bytes_decides (string_bytes o.name) (string_bytes p.name) in
+    let uniques = bytes_decides (string_bytes o.unique) (string_bytes p.unique) in
+    let both = Decides-and (pointwise nat_eq (string_bytes o.name) (string_bytes p.name)) (pointwise nat_eq (string_bytes o.unique) (string_bytes p.unique)) names uniques in
+    (λ t. λ i. record { name = (both.0 t).0 i; unique = (both.0 t).1 i }, λ h. both.1 (ap (λ r. r.name) h, ap (λ r. r.unique) h))

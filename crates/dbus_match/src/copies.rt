@@ -1,11 +1,13 @@
-//! Copies of rules.
+//! Copies of rules and of owners.
 #![tactic(auto)]
 
 ghost use Rattle.std.specs.Prelude.{◌≡◌};
 ghost use Rattle.dbus_match.specs.Conditions.{condition_pair};
+ghost use Rattle.dbus_match.specs.Matching.{ownership};
 ghost use Rattle.dbus_match.specs.RuleViews.{AreSameRule};
 
 use crate::condition::Condition;
+use crate::owner::Owner;
 use crate::rule::Rule;
 use std::alloc::{AllocError, Allocator};
 
@@ -14,7 +16,7 @@ impl<A: Allocator + Clone> Clone for Condition<A> {
 
     /// A condition of the same key and the same value, in memory of its own from the same allocator.
     ///
-    /// Answers `AllocError` where memory ran out, and nothing of the copy stands then.
+    /// Returns `AllocError` if an allocation failed, and nothing of the copy stands then.
     fn clone(&self) -> Result<Condition<A>, AllocError> {
         Ok(Condition {
             key: self.key,
@@ -28,10 +30,24 @@ impl<A: Allocator + Clone> Clone for Rule<A> {
 
     /// A rule of the same keys and the same values, in memory of its own from the same allocator.
     ///
-    /// Answers `AllocError` where memory ran out, and nothing of the copy stands then.
+    /// Returns `AllocError` if an allocation failed, and nothing of the copy stands then.
     #[tactic(auto, using(crate::proofs::CopiedRules::conditions_copied, crate::proofs::CopiedRules::copy_is_rule))]
     fn clone(&self) -> Result<Rule<A>, AllocError> {
         let conditions = self.conditions.clone()?;
         Ok(Rule { conditions })
+    }
+}
+
+impl<A: Allocator + Clone> Clone for Owner<A> {
+    ghost is_clone = { λ owner copy. ownership copy ≡ ownership owner };
+
+    /// An owner of the same names, in memory of its own from the same allocator.
+    ///
+    /// Returns `AllocError` if an allocation failed, and nothing of the copy stands then.
+    fn clone(&self) -> Result<Owner<A>, AllocError> {
+        Ok(Owner {
+            name: self.name.clone()?,
+            unique: self.unique.clone()?,
+        })
     }
 }

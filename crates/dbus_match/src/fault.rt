@@ -10,7 +10,7 @@ use thiserror::Error;
 /// Why a text spells no rule, and where: places count the bytes of the text.
 #[derive(Clone, Copy, PartialEq, Eq, Debug, Error)]
 pub enum RuleFault {
-    /// A growth of memory was refused.
+    /// An allocation failed.
     #[error("allocation failed")]
     Memory,
     /// The text spells no rule, for this reason, at this place.

@@ -40,7 +40,7 @@ pub fn decided()
     ensures { Decided }
 {}
 
-/// `==` of two rules: they are equal exactly where they have the same keys with the same values.
+/// `==` of two rules: they are equal exactly if they have the same keys with the same values.
 pub fn equal_rules<A: Allocator>(a: &Rule<A>, b: &Rule<A>) -> bool
     ensures { IsTrue result ↔ AreSameRule a.now b.now }
 {

@@ -44,9 +44,19 @@ fn holds<A: Allocator, B: Allocator>(
 
 /// Whether each key of the rule holds of the message. D-Bus Specification, "Match Rules".
 ///
-/// `sender` holds where the message's SENDER is the value, or where an owner of `owners` pairs the value
+/// `sender` holds if the message's SENDER is the value, or if an owner of `owners` pairs the value
 /// with that SENDER; the specification asks the bus for the owner. `destination` is compared with
 /// DESTINATION as it stands, and `eavesdrop` always holds.
+///
+/// ```rust
+/// use dbus_match::{matches, parse_rule};
+/// use dbus_message::{Answer, decode};
+///
+/// let rule = parse_rule(alloc, "type='signal',member='NameAcquired'")?;
+/// if let Answer::Whole { message, .. } = decode(alloc, bytes)? {
+///     println!(rt; "{}", matches(&rule, &message, &[]))?;
+/// }
+/// ```
 pub fn matches<A: Allocator, B: Allocator>(
     rule: &Rule<B>,
     message: &Message<A>,

@@ -37,10 +37,20 @@ fn read_rule<A: Allocator + Copy>(alloc: A, text: &str) -> Result<Rule<A>, RuleF
 /// The rule that the text spells. D-Bus Specification, "Match Rules".
 ///
 /// Else `Bad` with the text's one fault, in the order and at the place that `RuleReason` says; `Memory`
-/// comes only where a growth was refused.
+/// comes only if an allocation failed.
 ///
 /// This differs from the specification in these points: each key stands at most once; spaces stand only
 /// before a key and after the last comma; `destination` takes any bus name, and `arg0namespace` any text.
+///
+/// ```rust
+/// use dbus_match::{RuleFault, parse_rule};
+///
+/// match parse_rule(alloc, "type='signal',member='NameAcquired'") {
+///     Ok(_rule) => println!(rt; "a rule")?,
+///     Err(RuleFault::Bad { at, reason }) => println!(rt; "no rule: {reason}, at {at}")?,
+///     Err(RuleFault::Memory) => println!(rt; "out of memory")?,
+/// }
+/// ```
 #[tactic(auto, using(crate::proofs::RuleVerdicts::this_rule, crate::proofs::RuleVerdicts::this_fault))]
 pub fn parse_rule<A: Allocator + Copy>(alloc: A, text: &str) -> Result<Rule<A>, RuleFault>
     ensures reading { IsRuleReading text.now result }

@@ -58,7 +58,7 @@ pub(crate) fn field_text<A: Allocator>(message: &Message<A>, code: u8) -> Option
     }
 }
 
-/// The text of the message's argument of the number, where that is a STRING.
+/// The text of the message's argument of the number, if that is a STRING.
 pub(crate) fn string_arg<A: Allocator>(message: &Message<A>, n: u8) -> Option<&str>
     ensures { MatchOption result (string_of (body_value n (message_tree message.now).body) ≡
         None) (λ s. string_of (body_value n (message_tree message.now).body) ≡ Some s.now) }
@@ -69,7 +69,7 @@ pub(crate) fn string_arg<A: Allocator>(message: &Message<A>, n: u8) -> Option<&s
     }
 }
 
-/// The text of the message's argument of the number, where that is a STRING or an OBJECT_PATH.
+/// The text of the message's argument of the number, if that is a STRING or an OBJECT_PATH.
 pub(crate) fn string_or_path_arg<A: Allocator>(message: &Message<A>, n: u8) -> Option<&str>
     ensures { MatchOption result (string_or_path_of (body_value n (message_tree message.now).body) ≡
         None) (λ s. string_or_path_of (body_value n (message_tree message.now).body) ≡ Some s.now) }

@@ -59,7 +59,7 @@ fn canonical_text<A: Allocator + Copy>(
 /// The canonical text of the rule: its keys in canonical order, joined by commas without spaces, and
 /// each value in apostrophes, an apostrophe in a value as `'\''`. `parse_rule` reads the rule back.
 ///
-/// `AllocError` comes only where a growth was refused. The specification knows no canonical text; this one
+/// `AllocError` comes only if an allocation failed. The specification knows no canonical text; this one
 /// is the project's own.
 pub fn rule_text<A: Allocator + Copy>(alloc: A, rule: &Rule<A>) -> Result<String<A>, AllocError>
     ensures exact { IfOk result (λ text. string_bytes text ≡ canonical (rule_pairs rule.now)) }

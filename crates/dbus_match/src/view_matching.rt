@@ -17,7 +17,7 @@ use crate::rule::Rule;
 use dbus_view::{ArgView, MessageView};
 use std::alloc::Allocator;
 
-/// The text of argument `n`, where that is a STRING.
+/// The text of argument `n`, if that is a STRING.
 fn string_seen<'a>(view: &MessageView<'a>, n: u8) -> Option<&'a str>
     ensures { (order : Order) (m : MessageTree) → Views view.now order m →
         MatchOption result (string_of (body_value n m.body) ≡ None) (λ s.
@@ -29,7 +29,7 @@ fn string_seen<'a>(view: &MessageView<'a>, n: u8) -> Option<&'a str>
     }
 }
 
-/// The text of argument `n`, where that is a STRING or an OBJECT_PATH.
+/// The text of argument `n`, if that is a STRING or an OBJECT_PATH.
 fn string_or_path_seen<'a>(view: &MessageView<'a>, n: u8) -> Option<&'a str>
     ensures { (order : Order) (m : MessageTree) → Views view.now order m →
         MatchOption result (string_or_path_of (body_value n m.body) ≡ None) (λ s.
@@ -66,6 +66,14 @@ fn holds<A: Allocator>(condition: &Condition<A>, view: &MessageView, owners: &[O
 
 /// Whether each key of the rule holds of the message that the view is of, as [`crate::matches`] says of a message.
 /// D-Bus Specification, "Match Rules".
+///
+/// ```rust
+/// use dbus_match::{matches_view, parse_rule};
+/// use dbus_message::MessageView;
+///
+/// let rule = parse_rule(alloc, "sender='org.freedesktop.DBus',arg0namespace='org'")?;
+/// println!(rt; "{}", matches_view(&rule, &MessageView::of(bytes)?, &[]))?;
+/// ```
 pub fn matches_view<A: Allocator>(rule: &Rule<A>, view: &MessageView, owners: &[Owner<A>]) -> bool
     ensures { (order : Order) (m : MessageTree) → Views view.now order m →
         IsTrue result ↔ Matches (rule_pairs rule.now) m (ownerships owners.now) }

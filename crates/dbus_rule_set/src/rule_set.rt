@@ -28,16 +28,18 @@ use std::collections::BTreeMap;
 /// The index is by `path`, `interface`, `member` and `arg0`: of the rules that have the same of these keys, only those that ask
 /// for the message's own texts are looked at. Rules that have none of the four are looked at for each message.
 ///
-/// This keeps a rule for a client, and finds it for a message:
+/// This keeps a rule, and asks whether it is among those that match a message:
 ///
-/// ```text
+/// ```rust
+/// use dbus_match::parse_rule;
+/// use dbus_message::MessageView;
+/// use dbus_rule_set::RuleSet;
+///
 /// let mut rules = RuleSet::new(alloc);
-/// let handle = rules.add(parse_rule(alloc, "type='signal',member='NameOwnerChanged'")?)?;
+/// let handle = rules.add(parse_rule(alloc, "type='signal',member='NameAcquired'")?)?;
 /// let mut found = Vec::new(alloc);
-/// rules.matching(&MessageView::of(bytes)?, &owners, &mut found)?;
-/// for handle in &found {
-///     send_to(clients.get(handle), bytes)?;
-/// }
+/// rules.matching(&MessageView::of(bytes)?, &[], &mut found)?;
+/// println!(rt; "{}", found.contains(&handle))?;
 /// rules.remove(handle);
 /// ```
 #[derive(Drop)]
@@ -71,8 +73,14 @@ impl<A: Allocator> RuleSet<A> {
     ///
     /// Returns an error, with the rule, only if an allocation failed or the set has given 2^64 - 1 handles. It then holds what it held.
     ///
-    /// ```text
-    /// let handle = rules.add(parse_rule(alloc, "interface='org.example.Clock',member='Tick'")?)?;
+    /// ```rust
+    /// use dbus_match::parse_rule;
+    /// use dbus_rule_set::RuleSet;
+    ///
+    /// let mut rules = RuleSet::new(alloc);
+    /// for text in ["interface='org.example.Clock'", "type='signal',member='Tick'"] {
+    ///     rules.add(parse_rule(alloc, text)?)?;
+    /// }
     /// ```
     pub fn add(&mut self, rule: Rule<A>) -> Result<RuleHandle, AllocFailed<Rule<A>>>
     where
@@ -103,9 +111,14 @@ impl<A: Allocator> RuleSet<A> {
 
     /// Removes the rule that the handle stands for, and returns it; `None` if it stands for none. It takes no memory.
     ///
-    /// ```text
+    /// ```rust
+    /// use dbus_match::{parse_rule, rule_text};
+    /// use dbus_rule_set::RuleSet;
+    ///
+    /// let mut rules = RuleSet::new(alloc);
+    /// let handle = rules.add(parse_rule(alloc, "member='Tick'")?)?;
     /// if let Some(rule) = rules.remove(handle) {
-    ///     println!(rt; "{}", rule_text(alloc, &rule)?)?;
+    ///     println!(rt; "removed {}", rule_text(alloc, &rule)?)?;
     /// }
     /// ```
     pub fn remove(&mut self, handle: RuleHandle) -> Option<Rule<A>>
@@ -118,8 +131,13 @@ impl<A: Allocator> RuleSet<A> {
 
     /// The rule that the handle stands for; `None` if it stands for none.
     ///
-    /// ```text
-    /// let is_held = rules.get(handle).is_some();
+    /// ```rust
+    /// use dbus_match::parse_rule;
+    /// use dbus_rule_set::RuleSet;
+    ///
+    /// let mut rules = RuleSet::new(alloc);
+    /// let handle = rules.add(parse_rule(alloc, "member='Tick'")?)?;
+    /// println!(rt; "{}", rules.get(handle).is_some())?;
     /// ```
     pub fn get(&self, handle: RuleHandle) -> Option<&Rule<A>>
         ensures { option_copied result ≡ rule_at handle (held self.now) }
@@ -146,9 +164,17 @@ impl<A: Allocator> RuleSet<A> {
     /// A rule matches as [`dbus_match::matches_view`] says, with these owners of well-known names. Returns an error only if `found` has to
     /// grow and the allocation fails; `found` then is as it was.
     ///
-    /// ```text
-    /// found.clear();
-    /// rules.matching(&view, &owners, &mut found)?;
+    /// ```rust
+    /// use dbus_match::{Owner, parse_rule};
+    /// use dbus_message::MessageView;
+    /// use dbus_rule_set::RuleSet;
+    ///
+    /// let mut rules = RuleSet::new(alloc);
+    /// rules.add(parse_rule(alloc, "sender='org.example.Clock'")?)?;
+    /// let name = String::from_str(alloc, "org.example.Clock")?;
+    /// let owners = [Owner { name, unique: String::from_str(alloc, ":1.7")? }];
+    /// let mut found = Vec::new(alloc);
+    /// rules.matching(&MessageView::of(bytes)?, &owners, &mut found)?;
     /// ```
     pub fn matching(
         &self,

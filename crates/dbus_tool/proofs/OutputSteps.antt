@@ -4,17 +4,16 @@ use Rattle.dbus_value_model.specs.declared.order.Order.{Order}
 use Rattle.dbus_value_model.specs.declared.fault.Fault.{Fault}
 use Rattle.dbus_message_model.specs.Messages.{MessageTree}
 use Rattle.dbus_stream.specs.Cut.{CutMessage, sizes}
-use Rattle.dbus_match.specs.Rules.{Pair}
-use Rattle.dbus_match.specs.RuleViews.{rule_pairs}
 use Rattle.dbus_command.specs.declared.command.Command.{Command}
 use Rattle.dbus_command.specs.declared.command.Command.TheVariants.{Show, Check, Swap, Filter}
+use Rattle.dbus_command.specs.declared.selection.Selection.{Selection}
 use Rattle.dbus_tool.specs.Commands.{command_of}
 use Rattle.dbus_tool.specs.Output.{IsPrefixTo, IsFiltered, IsOutputOf, IsOutputOfAll, IsFirstOutput, fault_line, last_line, second_output}
 use Rattle.dbus_tool.specs.declared.output.Output.{Output}
 use Rattle.dbus_tool.specs.declared.output.Output.TheVariants.{Text, InOrder, Matching}
 
-filtered_one : (pairs : List Pair) (order : Order) (message : MessageTree) (a b : List ℕ) → IsFiltered pairs order message a → IsFiltered pairs order message b → a ≡ b
-filtered_one pairs order message a b p q = elim p [
+filtered_one : (selection : Selection) (order : Order) (message : MessageTree) (a b : List ℕ) → IsFiltered selection order message a → IsFiltered selection order message b → a ≡ b
+filtered_one selection order message a b p q = elim p [
   | inl met ↦ elim q [ inl too ↦ met.1 ∙ sym too.1 | inr unmet ↦ absurd (unmet.0 met.0) ]
   | inr unmet ↦ elim q [ inl met ↦ absurd (unmet.0 met.0) | inr too ↦ unmet.1 ∙ sym too.1 ]
 ]
@@ -24,7 +23,7 @@ output_one : (command : Command) (order : Order) (message : MessageTree) (n : �
 output_one Show order message n a b p q = p ∙ sym q
 output_one Check order message n a b p q = p ∙ sym q
 output_one (Swap wanted) order message n a b p q = p ∙ sym q
-output_one (Filter rule) order message n a b p q = filtered_one (rule_pairs rule) order message a b p q
+output_one (Filter selection) order message n a b p q = filtered_one selection order message a b p q
 
 -- one more message
 pub output_last : (command : Command) (n : ℕ) (items : List CutMessage) (item : CutMessage) (out one : List ℕ) → IsOutputOfAll command n items out
@@ -79,9 +78,9 @@ prefix_of_whole command items fault out written first o front whole =
 pub nothing_last : (output : Output) (count size : ℕ) (fault : Option Fault) → last_line (command_of output) count size fault ≡ []
 nothing_last Text count size fault = refl
 nothing_last (InOrder order) count size fault = refl
-nothing_last (Matching rule) count size fault = refl
+nothing_last (Matching selection) count size fault = refl
 
 pub told_second : (output : Output) (size : ℕ) (fault : Option Fault) → second_output (command_of output) size fault ≡ fault_line size fault
 told_second Text size fault = refl
 told_second (InOrder order) size fault = refl
-told_second (Matching rule) size fault = refl
+told_second (Matching selection) size fault = refl

@@ -5,18 +5,17 @@ use Rattle.dbus_value_model.specs.declared.order.Order.{Order}
 use Rattle.dbus_message_model.specs.Messages.{MessageTree, message_bytes}
 use Rattle.dbus_stream.specs.Cut.{CutMessage, sizes}
 use Rattle.dbus_show.specs.ShownMessages.{message_text}
-use Rattle.dbus_match.specs.Rules.{Pair}
-use Rattle.dbus_match.specs.RuleViews.{rule_pairs}
-use Rattle.dbus_match.proofs.Decided.{decided}
+use Rattle.dbus_command.proofs.Selections.{selected}
 use Rattle.dbus_command.specs.declared.command.Command.{Command}
 use Rattle.dbus_command.specs.declared.command.Command.TheVariants.{Show, Check, Swap, Filter}
+use Rattle.dbus_command.specs.declared.selection.Selection.{Selection}
 use Rattle.dbus_tool.specs.Output.{IsFiltered, IsOutputOf, IsOutputOfAll, IsFirstOutput, last_line}
 use Rattle.dbus_tool.proofs.OutputSteps.{output_all_one}
 
 -- ---- there is one
 
-some_filtered : (pairs : List Pair) (order : Order) (message : MessageTree) → (out : List ℕ) × IsFiltered pairs order message out
-some_filtered pairs order message = elim (decided pairs message []) [
+some_filtered : (selection : Selection) (order : Order) (message : MessageTree) → (out : List ℕ) × IsFiltered selection order message out
+some_filtered selection order message = elim (selected selection message) [
   | inl h ↦ (message_bytes order message, inl (h, refl))
   | inr n ↦ ([], inr (n, refl))
 ]
@@ -25,7 +24,7 @@ some_of_one : (command : Command) (order : Order) (message : MessageTree) (n : �
 some_of_one Show order message n = (message_text order message n, refl)
 some_of_one Check order message n = ([], refl)
 some_of_one (Swap wanted) order message n = (message_bytes wanted message, refl)
-some_of_one (Filter rule) order message n = some_filtered (rule_pairs rule) order message
+some_of_one (Filter selection) order message n = some_filtered selection order message
 
 some_of_all : (command : Command) (n : ℕ) (items : List CutMessage) → (out : List ℕ) × IsOutputOfAll command n items out
 some_of_all command n [] = ([], refl)

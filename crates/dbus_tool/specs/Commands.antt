@@ -7,4 +7,4 @@ use Rattle.dbus_tool.specs.declared.output.Output.TheVariants.{Text, InOrder, Ma
 abbrev pub command_of : Output → Command
 command_of Text = Show
 command_of (InOrder order) = Swap order
-command_of (Matching rule) = Filter rule.now
+command_of (Matching selection) = Filter selection.now

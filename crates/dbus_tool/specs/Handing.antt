@@ -16,7 +16,7 @@ use Rattle.dbus_stream.specs.declared.raw_reader.RawReader.{RawReader}
 use Rattle.dbus_stream.specs.declared.read_fault.ReadFault.{ReadFault}
 use Rattle.dbus_stream.specs.declared.read_fault.ReadFault.TheVariants as read
 use Rattle.dbus_command.specs.declared.command.Command.{Command}
-use Rattle.dbus_match.specs.Rules.{Pair}
+use Rattle.dbus_command.specs.declared.selection.Selection.{Selection}
 use Rattle.dbus_tool.specs.Counting.{CountsAll}
 use Rattle.dbus_tool.specs.Devices.{Reading, Writing, RisesAtMost}
 use Rattle.dbus_tool.specs.Output.{IsFiltered, IsOutputOf, IsOutputOfAll}
@@ -27,10 +27,10 @@ use Rattle.dbus_tool.specs.declared.ending.Counted.{Counted}
 use Rattle.dbus_tool.specs.declared.ending.NoMessage.{NoMessage}
 use Rattle.dbus_tool.specs.declared.ending.NoMessage.TheVariants.{Reader, Writer}
 
--- what a rule lets through of one message was written or gathered
-abbrev pub Filters : {W : Type 0} → Writing W → List Pair → Order → MessageTree → List ℕ → List ℕ → Result (Unit {0}) Cause → Type 0
-Filters w pairs order message g0 g1 result =
-    (out : List ℕ) × IsFiltered pairs order message out × GathersOrNot w.held w.failures out g0 g1 w.old w.new result
+-- what a selection lets through of one message was written or gathered
+abbrev pub Filters : {W : Type 0} → Writing W → Selection → Order → MessageTree → List ℕ → List ℕ → Result (Unit {0}) Cause → Type 0
+Filters w selection order message g0 g1 result =
+    (out : List ℕ) × IsFiltered selection order message out × GathersOrNot w.held w.failures out g0 g1 w.old w.new result
 
 -- what a command writes of one message, the n-th of its input, was written or gathered
 abbrev pub HandsOne : {W : Type 0} → Writing W → Command → Order → MessageTree → ℕ → List ℕ → List ℕ → Result (Unit {0}) Cause → Type 0

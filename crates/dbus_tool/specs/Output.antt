@@ -5,11 +5,10 @@ use Rattle.dbus_value_model.specs.declared.order.Order.{Order}
 use Rattle.dbus_message_model.specs.Messages.{MessageTree, message_bytes}
 use Rattle.dbus_stream.specs.Cut.{CutMessage, sizes}
 use Rattle.dbus_show.specs.ShownMessages.{message_text}
-use Rattle.dbus_match.specs.Rules.{Pair}
-use Rattle.dbus_match.specs.RuleViews.{rule_pairs}
-use Rattle.dbus_match.specs.Matching.{Matches}
+use Rattle.dbus_command.specs.Selections.{Selects}
 use Rattle.dbus_command.specs.declared.command.Command.{Command}
 use Rattle.dbus_command.specs.declared.command.Command.TheVariants.{Show, Check, Swap, Filter}
+use Rattle.dbus_command.specs.declared.selection.Selection.{Selection}
 use Rattle.dbus_tool.specs.Lines.{ok_line, refused_line}
 use Rattle.dbus_tool.specs.declared.ending.ExitStatus.{ExitStatus}
 use Rattle.dbus_tool.specs.declared.ending.ExitStatus.TheVariants as status
@@ -18,17 +17,17 @@ use Rattle.dbus_tool.specs.declared.ending.ExitStatus.TheVariants as status
 abbrev pub IsPrefixTo : List ℕ → List ℕ → Type 0
 IsPrefixTo front all = (more : List ℕ) × (all ≡ front ++ more)
 
--- a message that matches, with no owners, is written in its own order, and of another nothing
-abbrev pub IsFiltered : List Pair → Order → MessageTree → List ℕ → Type 0
-IsFiltered pairs order message out =
-    (Matches pairs message [] × (out ≡ message_bytes order message)) ⊎ ((Matches pairs message [] → ⊥) × (out ≡ []))
+-- a message that is selected is written in its own order, and of another nothing
+abbrev pub IsFiltered : Selection → Order → MessageTree → List ℕ → Type 0
+IsFiltered selection order message out =
+    (Selects selection message × (out ≡ message_bytes order message)) ⊎ ((Selects selection message → ⊥) × (out ≡ []))
 
 -- what a command writes of one message, the n-th of its input
 abbrev pub IsOutputOf : Command → Order → MessageTree → ℕ → List ℕ → Type 0
 IsOutputOf Show order message n out = out ≡ message_text order message n
 IsOutputOf Check order message n out = out ≡ []
 IsOutputOf (Swap wanted) order message n out = out ≡ message_bytes wanted message
-IsOutputOf (Filter rule) order message n out = IsFiltered (rule_pairs rule) order message out
+IsOutputOf (Filter selection) order message n out = IsFiltered selection order message out
 
 -- what it writes of several, one after the other, of which the first is the n-th
 abbrev pub IsOutputOfAll : Command → ℕ → List CutMessage → List ℕ → Type 0
@@ -46,7 +45,7 @@ abbrev pub last_line : Command → ℕ → ℕ → Option Fault → List ℕ
 last_line Show count size fault = []
 last_line Check count size fault = check_line count size fault
 last_line (Swap order) count size fault = []
-last_line (Filter rule) count size fault = []
+last_line (Filter selection) count size fault = []
 
 -- what the first writer gets
 pub record IsFirstOutput (command : Command) (items : List CutMessage) (fault : Option Fault) (out : List ℕ) : Type 0 where
@@ -63,7 +62,7 @@ abbrev pub second_output : Command → ℕ → Option Fault → List ℕ
 second_output Show size fault = fault_line size fault
 second_output Check size fault = []
 second_output (Swap order) size fault = fault_line size fault
-second_output (Filter rule) size fault = fault_line size fault
+second_output (Filter selection) size fault = fault_line size fault
 
 abbrev pub status_of : Option Fault → ExitStatus
 status_of None = status.Done

@@ -1,4 +1,8 @@
-//! The commands of the program `dbus-wire`, over any reader and writers.
+//! The commands of the program `dbus-wire`, over any reader and two writers.
+//!
+//! [`run_words`] runs the command that the words of a command line name, and [`run_within`] a command under limits, with at most a
+//! given number of reads. Both return the exit status. What a command writes is a function of what it reads, which `specs/` states.
+//! `dbus_wire` is the program.
 #![tactic(auto)]
 
 mod closing;
@@ -19,7 +23,7 @@ mod showing;
 mod swapping;
 mod words;
 
-pub use dbus_command::{Command, UsageFault, command_of};
+pub use dbus_command::{Command, Selection, UsageFault, command_of};
 pub use ending::ExitStatus;
 pub use running::{run, run_reads, run_within};
 pub use words::run_words;

@@ -14,7 +14,7 @@ use crate::filtering::filter;
 use crate::gathered::Gathered;
 use crate::showing::show;
 use crate::swapping::swap;
-use dbus_match::Rule;
+use dbus_command::Selection;
 use dbus_stream::Sink;
 use dbus_validate::Validated;
 use dbus_value::{Limits, Order};
@@ -27,8 +27,8 @@ pub(crate) enum Output<'a> {
     Text,
     /// Its bytes in this order.
     InOrder(Order),
-    /// Its bytes as they are, if the rule matches it.
-    Matching(&'a Rule),
+    /// Its bytes as they are, if it is selected.
+    Matching(&'a Selection),
 }
 
 /// Writes or gathers what is wanted of a message, which has these bytes, as they were validated, and this number among all of
@@ -52,6 +52,6 @@ pub(crate) fn write_one<A: Allocator + Copy, W: Sink>(
     match output {
         Output::Text => show(bytes, validated, limits, number, gathered, first),
         Output::InOrder(wanted) => swap(wanted, bytes, validated, limits, spare, gathered, first),
-        Output::Matching(rule) => filter(rule, bytes, validated, limits, gathered, first),
+        Output::Matching(selection) => filter(selection, bytes, validated, limits, gathered, first),
     }
 }

@@ -62,7 +62,7 @@ pub fn run_reads<A: Allocator + Copy, R: Source, W: Sink, E: Sink>(
 /// output goes to the first writer. At most so many reads are made, the one that finds the end of the input among them.
 ///
 /// `Show` writes each message as text, numbered from 1. `Swap` writes each message in the order that it names. `Filter`
-/// writes each message that the rule matches, with no owners, in its own order. Where the bytes after the messages are
+/// writes each message that is selected, in its own order. Where the bytes after the messages are
 /// none within the limits or too few, each of these writes `refused at P: NAME` on the second writer, with the place from
 /// the start of the input and the name of the reason. `Check` writes that line on the first writer; or, where the input is
 /// messages alone, `ok N messages B bytes`, how many they are and of how many bytes.
@@ -100,8 +100,8 @@ pub fn run_within<A: Allocator + Copy, R: Source, W: Sink, E: Sink>(
             let output = Output::InOrder(order);
             write(alloc, output, limits, reads, reader, first, second)
         }
-        Command::Filter(rule) => {
-            let output = Output::Matching(&rule);
+        Command::Filter(selection) => {
+            let output = Output::Matching(&selection);
             write(alloc, output, limits, reads, reader, first, second)
         }
     }

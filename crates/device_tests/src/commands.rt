@@ -4,18 +4,25 @@ use crate::help_texts::*;
 use crate::running::words_of;
 use crate::usage_texts::*;
 use dbus_match::{RuleFault, RuleReason, rule_text};
-use dbus_tool::{Command, UsageFault, command_of};
+use dbus_tool::{Command, Selection, UsageFault, command_of};
 use dbus_value::{FdRule, Limits, Order};
 use std::alloc::Global;
 use std::process::Abort;
 use std::test::Fail;
 
-// What words name: a command, of which a rule is told by its canonical text; or a rule with a fault.
+// What `filter` is given: rules, by their canonical texts, whether it is inverted, and owners with the names they own.
+type Selected = (
+    &'static [&'static str],
+    bool,
+    &'static [(&'static str, &'static str)],
+);
+
+// What words name: a command; or a rule with a fault.
 enum Named {
     Show,
     Check,
     Swap(Order),
-    Filter(&'static str),
+    Filter(Selected),
     Refused(RuleFault),
 }
 
@@ -25,14 +32,33 @@ fn answer_to(alloc: Global, words: &[&str]) -> Result<Result<(Command, Limits), 
     Ok(command_of(alloc, words.as_slice()))
 }
 
+// Whether the selection is this one.
+fn is_selection(alloc: Global, given: &Selection, selected: &Selected) -> Result<bool, Fail> {
+    let (rules, is_inverted, owners) = selected;
+    if given.rules.len() != rules.len() || given.owners.len() != owners.len() {
+        return Ok(false);
+    }
+    for (rule, text) in given.rules.iter().zip(rules.iter()) {
+        if rule_text(alloc, rule)?.as_str() != *text {
+            return Ok(false);
+        }
+    }
+    let same = given.owners.iter().zip(owners.iter()).all(|(owner, (name, unique))| owner
+        .name
+        .as_str()
+        == *name
+        && owner.unique.as_str() == *unique);
+    Ok(same && given.is_inverted == *is_inverted)
+}
+
 // Whether the words name this.
 fn is_named(alloc: Global, words: &[&str], named: &Named) -> Result<bool, Fail> {
     match (answer_to(alloc, words)?, named) {
         (Ok((Command::Show, _)), Named::Show) => Ok(true),
         (Ok((Command::Check, _)), Named::Check) => Ok(true),
         (Ok((Command::Swap(given), _)), Named::Swap(order)) => Ok(given == *order),
-        (Ok((Command::Filter(rule), _)), Named::Filter(text)) => {
-            Ok(rule_text(alloc, &rule)?.as_str() == *text)
+        (Ok((Command::Filter(given), _)), Named::Filter(selected)) => {
+            is_selection(alloc, &given, selected)
         }
         (Err(UsageFault::Rule(given)), Named::Refused(fault)) => Ok(given == *fault),
         (_, _) => Ok(false),
@@ -44,12 +70,41 @@ const NAMED: &[(&[&str], Named)] = &[
     (&["check"], Named::Check),
     (&["swap", "--to", "l"], Named::Swap(Order::Little)),
     (&["swap", "--to=B"], Named::Swap(Order::Big)),
-    (&["filter", ""], Named::Filter("")),
+    (&["filter", ""], Named::Filter((&[""], false, &[]))),
     (
         &["filter", "member=M,type='signal'"],
-        Named::Filter("type='signal',member='M'"),
+        Named::Filter((&["type='signal',member='M'"], false, &[])),
     ),
-    (&["filter", "--", "arg0='-h'"], Named::Filter("arg0='-h'")),
+    (
+        &["filter", "--", "arg0='-h'"],
+        Named::Filter((&["arg0='-h'"], false, &[])),
+    ),
+    (
+        &[
+            "filter",
+            "type=signal",
+            "--invert",
+            "type=error",
+            "type=signal",
+        ],
+        Named::Filter((
+            &["type='signal'", "type='error'", "type='signal'"],
+            true,
+            &[],
+        )),
+    ),
+    (
+        &["filter", "--owner", "a.b=:1.7", "", "--owner=c-d.e=:1.a"],
+        Named::Filter((&[""], false, &[("a.b", ":1.7"), ("c-d.e", ":1.a")])),
+    ),
+    // The first of two rules that are refused.
+    (
+        &["filter", "", "type", "arg64='x'"],
+        Named::Refused(RuleFault::Bad {
+            at: 4,
+            reason: RuleReason::NoEquals,
+        }),
+    ),
     (
         &["filter", "arg64='x'"],
         Named::Refused(RuleFault::Bad {
@@ -218,7 +273,6 @@ const USAGES: &[(&[&str], &str)] = &[
     (&["--to", "l", "swap"], OPTION_OF_ANOTHER),
     (&["show", "capture"], WORD_AFTER_SHOW),
     (&["check", "--all"], OPTION_OF_CHECK),
-    (&["filter", "type=signal", "type=error"], SECOND_RULE),
     (&["swap"], NO_ORDER),
     (&["swap", "--to"], NO_WORD_OF_ORDER),
     (&["swap", "--to", "l", "--to=B"], TWO_ORDERS),
@@ -239,6 +293,17 @@ const USAGES: &[(&[&str], &str)] = &[
     (&["--max-depth", "1", "check"], DEPTH_BEFORE_COMMAND),
     (&["show", "--fds", "none"], NO_FDS_RULE),
     (&["filter", "arg64='x'", "--fds=none"], NO_FDS_RULE),
+    (&["filter", "--invert", "", "--invert"], TWO_INVERTS),
+    (&["filter", "--invert"], NO_RULE_TO_INVERT),
+    (&["filter", "", "--owner"], NO_WORD_OF_OWNER),
+    // Before a bad rule.
+    (&["filter", "arg64='x'", "--owner", "a.b"], NO_UNIQUE_NAME),
+    (
+        &["filter", "", "--owner=a.b=:1.7", "--owner=a.b=c.d"],
+        NOT_A_UNIQUE_NAME,
+    ),
+    (&["filter", "", "--owner=:1.7=:1.7"], NOT_A_WELL_KNOWN_NAME),
+    (&["filter", "", "--owner=a.b=:1.7="], TWO_EQUALS),
 ];
 
 #[test]

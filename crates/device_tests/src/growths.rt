@@ -11,6 +11,9 @@ use std::test::Fail;
 
 const RETURNS: &[&str] = &["filter", "type='method_return'"];
 
+// Two rules, inverted.
+const OTHERS: &[&str] = &["filter", "type='error'", "type='signal'", "--invert"];
+
 // The same over bytes that come one by one.
 fn ran_by_one<A: Allocator + Copy>(
     alloc: Global,
@@ -66,6 +69,7 @@ pub(crate) const RUNS: &[(&[&str], &[&[u8]], ExitStatus, &[&[u8]], &[u8], u64)] 
     (CHECK, ALL, DONE, &[b"ok 3 messages 144 bytes\n"], b"", 0),
     (TO_LITTLE, ALL, DONE, &[RETURN, SIGNAL, RETURN], b"", 3),
     (RETURNS, ALL, DONE, &[RETURN, BIG_RETURN], b"", 3),
+    (OTHERS, ALL, DONE, &[RETURN, BIG_RETURN], b"", 3),
     (SHOW, CUT, REFUSED, &[RETURN_TEXT], TRUNCATED, 2),
     (CHECK, CUT, REFUSED, &[TRUNCATED], b"", 0),
     (TO_LITTLE, CUT, REFUSED, &[RETURN], TRUNCATED, 2),
@@ -125,6 +129,7 @@ const COMMANDS: &[&[&str]] = &[
     TO_BIG,
     &["filter", ""],
     &["filter", "type='error'"],
+    OTHERS,
 ];
 
 // A message like those before takes no memory, whether it comes whole or byte by byte.
@@ -148,6 +153,7 @@ fn messages_in_the_buffer_take_no_memory(rt: HostRuntime) -> Result<(), Fail> {
         TO_LITTLE,
         &["filter", ""],
         &["filter", "type='error'"],
+        OTHERS,
     ] {
         assert_eq!(rt; growths_of(&rt, words, 3, 1000)?, 0);
     }

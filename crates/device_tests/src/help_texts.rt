@@ -141,17 +141,19 @@ Example:
 pub(crate) const FILTER: &str = "\
 Writes the messages that match a rule, as they came
 
-Usage: dbus-wire filter [OPTIONS] <RULE>
+Usage: dbus-wire filter [OPTIONS] <RULE>...
 
 Arguments:
-  <RULE>  A D-Bus match rule, as type='signal',path='/a'; '' matches each message
+  <RULE>...  Match rules, as type='signal',path='/a'; '' matches each message
 
 Options:
-      --max-message <N>  Most bytes of a message: 0 to 134217728, the default
-      --max-array <N>    Most bytes of an array: 0 to 67108864, the default
-      --max-depth <N>    Most containers open at once: 0 to 64, the default
-      --fds <RULE>       Descriptor indexes: any, the default, or below-count
-  -h, --help             Print help
+      --invert               Writes the messages that match none of the rules
+      --owner <NAME=UNIQUE>  The owner of a name, as org.a.B=:1.7; any number
+      --max-message <N>      Most bytes of a message: 0 to 134217728, the default
+      --max-array <N>        Most bytes of an array: 0 to 67108864, the default
+      --max-depth <N>        Most containers open at once: 0 to 64, the default
+      --fds <RULE>           Descriptor indexes: any, the default, or below-count
+  -h, --help                 Print help
 
 Input:
   Raw messages on standard input, one after the other, as
@@ -159,13 +161,15 @@ Input:
   the options of a command lower, is refused.
 
 Output:
-  The raw messages that match, on standard output, each as it came.
-  Of an input that is refused, `refused at P: NAME` on standard error. Of a rule
-  that is refused, `rule refused at P: NAME` there, with the place in the rule.
+  The raw messages that match one of the rules, or with --invert none of them,
+  on standard output, each as it came. Of an input that is refused,
+  `refused at P: NAME` on standard error. Of the first rule that is refused,
+  `rule refused at P: NAME` there, with the place in the rule.
 
   Who owns a well-known name is not known, so sender='org.a.B' matches only a
-  message that has that name itself. Of others take the unique name, as ':1.7':
-  `busctl --user list` prints it, and so does GetNameOwner of the bus.
+  message that has that name itself. With --owner org.a.B=:1.7 it also matches
+  what :1.7 sent: `busctl --user list` prints unique names, and GetNameOwner of
+  the bus returns them.
 
 Exit status:
   0  the whole input is messages, or help was asked for

@@ -6,7 +6,7 @@ use crate::pieces::Pieces;
 use crate::running::{
     BY_ONE, CHECK, End, SHOW, TO_BIG, TO_LITTLE, assert_end, ran, ran_reads, ran_words,
 };
-use crate::usage_texts::{NO_COMMAND, TOO_DEEP};
+use crate::usage_texts::{NO_COMMAND, NO_UNIQUE_NAME, TOO_DEEP};
 use dbus_stream::{FromRead, FromWrite};
 use dbus_tool::{Command, ExitStatus, run};
 use std::process::Abort;
@@ -41,6 +41,27 @@ const DONE: &[(&[&str], &[&[u8]], &[&[u8]])] = &[
         &["filter", "type='signal',arg0='hi'"],
         &[RETURN, SIGNAL, BIG_RETURN],
         &[SIGNAL],
+    ),
+    // What one of the rules matches, what none does, and what the owner of a name sent.
+    (
+        &["filter", "arg0='hi'", "type='error'", "interface='a.b'"],
+        &[RETURN, SIGNAL, BIG_RETURN],
+        &[SIGNAL],
+    ),
+    (
+        &["filter", "--invert", "arg0='hi'", "type='error'"],
+        &[RETURN, SIGNAL, BIG_RETURN],
+        &[RETURN, BIG_RETURN],
+    ),
+    (
+        &[
+            "filter",
+            "sender='a.b'",
+            "--owner=a.c=:1.7",
+            "--owner=a.b=:1.8",
+        ],
+        &[FROM_7, FROM_8, SIGNAL],
+        &[FROM_8],
     ),
     // Limits that are met, each message by itself.
     (
@@ -256,6 +277,18 @@ const TOLD: &[(&[&str], ExitStatus, &str, &str)] = &[
         ExitStatus::Usage,
         "",
         "rule refused at 0: KeyName\n",
+    ),
+    (
+        &["filter", "type=signal", "type", "arg64='x'"],
+        ExitStatus::Usage,
+        "",
+        "rule refused at 4: NoEquals\n",
+    ),
+    (
+        &["filter", "arg64='x'", "--owner=a.b"],
+        ExitStatus::Usage,
+        "",
+        NO_UNIQUE_NAME,
     ),
 ];
 

@@ -53,14 +53,6 @@ Usage: dbus-wire check [OPTIONS]
 For more information, try '--help'.
 ";
 
-pub(crate) const SECOND_RULE: &str = "\
-error: unexpected argument 'type=error' found
-
-Usage: dbus-wire filter [OPTIONS] <RULE>
-
-For more information, try '--help'.
-";
-
 pub(crate) const NO_ORDER: &str = "\
 error: the following required arguments were not provided:
   --to <ORDER>
@@ -100,9 +92,9 @@ For more information, try '--help'.
 
 pub(crate) const NO_RULE: &str = "\
 error: the following required arguments were not provided:
-  <RULE>
+  <RULE>...
 
-Usage: dbus-wire filter <RULE>
+Usage: dbus-wire filter <RULE>...
 
 For more information, try '--help'.
 ";
@@ -186,3 +178,49 @@ error: invalid value 'none' for '--fds <RULE>'
 
 For more information, try '--help'.
 ";
+
+pub(crate) const TWO_INVERTS: &str = "\
+error: the argument '--invert' cannot be used multiple times
+
+Usage: dbus-wire filter [OPTIONS] <RULE>...
+
+For more information, try '--help'.
+";
+
+pub(crate) const NO_RULE_TO_INVERT: &str = "\
+error: the following required arguments were not provided:
+  <RULE>...
+
+Usage: dbus-wire filter --invert <RULE>...
+
+For more information, try '--help'.
+";
+
+pub(crate) const NO_WORD_OF_OWNER: &str = "\
+error: a value is required for '--owner <NAME=UNIQUE>' but none was supplied
+
+For more information, try '--help'.
+";
+
+// Of an owner that is none.
+macro_rules! bad_owner {
+    ($value:literal) => {
+        concat!(
+            "error: invalid value '",
+            $value,
+            "' for '--owner <NAME=UNIQUE>'
+  [possible values: a well-known bus name, = and a unique one, as org.a.B=:1.7]
+
+For more information, try '--help'.
+"
+        )
+    };
+}
+
+pub(crate) const NO_UNIQUE_NAME: &str = bad_owner!("a.b");
+
+pub(crate) const NOT_A_UNIQUE_NAME: &str = bad_owner!("a.b=c.d");
+
+pub(crate) const NOT_A_WELL_KNOWN_NAME: &str = bad_owner!(":1.7=:1.7");
+
+pub(crate) const TWO_EQUALS: &str = bad_owner!("a.b=:1.7=");

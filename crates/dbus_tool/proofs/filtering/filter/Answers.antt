@@ -5,18 +5,18 @@ use Rattle.dbus_tool.specs.Gathering.{gathered_bytes}
 use Rattle.dbus_tool.proofs.LentSteps.{bytes_are, views_it}
 use Rattle.dbus_tool.proofs.filtering.filter.Goals as goal
 
-pub returns-then-matches_view : goal.returns-then-matches_view
-returns-then-matches_view g c = λ order m whole.
+pub returns-then-selects : goal.returns-then-selects
+returns-then-selects g c = λ order m whole.
     let views = views_it c.args.limits c.args.bytes.now c.of_validated-view.result order m c.of_validated-view.ensures.viewed whole in (
       c.args.bytes.now,
-      inl ((c.matches_view.ensures order m views).0 c.if-matches_view.true, bytes_are c.args.limits c.args.bytes.now order m whole),
+      inl ((c.selects.ensures order m views).0 c.if-selects.true, bytes_are c.args.limits c.args.bytes.now order m whole),
       c.put_out.ensures,
     )
 
-pub returns-else-matches_view : goal.returns-else-matches_view
-returns-else-matches_view g c = λ order m whole.
+pub returns-else-selects : goal.returns-else-selects
+returns-else-selects g c = λ order m whole.
     let views = views_it c.args.limits c.args.bytes.now c.of_validated-view.result order m c.of_validated-view.ensures.viewed whole in (
       [],
-      inr (λ met. absurd (false≢true (sym c.if-matches_view.false ∙ (c.matches_view.ensures order m views).1 met)), refl),
+      inr (λ met. absurd (false≢true (sym c.if-selects.false ∙ (c.selects.ensures order m views).1 met)), refl),
       passes_none g.W.Sink.held g.W.Sink.failures (gathered_bytes c.args.gathered.now) c.args.first.now,
     )

@@ -1,0 +1,38 @@
+use Rattle.std.proofs.Common.{◌≡◌, ◌++◌, ◌+◌, ◌∷◌, ℕ, List, [], map, take, drop, get_or, rules, sym, subst, true}
+use Rattle.std.specs.Borrow.{Bor}
+use Rattle.std.specs.declared.alloc.Global.{Global}
+use Rattle.std.specs.Result.{is_ok}
+use Rattle.clap.specs.Words.{Text}
+use Rattle.dbus_match.specs.declared.rule.Rule.{Rule}
+use Rattle.dbus_match.specs.Rules.{Pair, SpellsRule}
+use Rattle.dbus_match.specs.RuleReadings.{IsRuleFault}
+use Rattle.dbus_match.specs.RuleViews.{rule_pairs}
+use Rattle.dbus_command.specs.Named.{AreRulesOf}
+use Rattle.dbus_command.proofs.WordLists.{each_can, one_more_gives, parted, past_end}
+use Rattle.dbus_command.proofs.rules.rules_spelled.Goals as goal
+
+abbrev text_of : Bor Text → Text
+text_of t = t.now
+
+pub returns-in-Err-Bad : goal.returns-in-Err-Bad
+returns-in-Err-Bad c =
+    let texts = c.args.texts.now in
+    let i = c.loop-text.text-index in
+    rw c.in-Err-Bad.field-0-is (record {
+      before = map text_of (take i texts);
+      text = (get_or texts i past_end).now;
+      after = map text_of (drop (i + 1) texts);
+      texts_are = parted text_of texts i past_end (search rules);
+      rules = each_can (λ (text : Text) (rule : Rule Global). SpellsRule text (rule_pairs rule)) (λ text. (pairs : List Pair) × SpellsRule text pairs) (λ text rule is. (rule_pairs rule, is))
+          (map text_of (take i texts)) c.loop-text.rules.items c.loop-text.invariant;
+      fault = subst (λ e. IsRuleFault (get_or texts i past_end).now e) c.in-Err-Bad.field-0-is c.in-Err-Bad.ensures.reading;
+    })
+
+pub loop-text-preserved : goal.loop-text-preserved
+loop-text-preserved c =
+    let texts = c.args.texts.now in
+    let i = c.loop-text.text-index in
+    let ok : is_ok c.push.result ≡ true = search rules in
+    let items = rw ok at c.push.ensures.items in
+    subst (λ rules. AreRulesOf (map text_of (take (i + 1) texts)) rules) (sym items)
+    (one_more_gives text_of texts i past_end (search rules) (λ (text : Text) (rule : Rule Global). SpellsRule text (rule_pairs rule)) c.loop-text.rules.items c.in-Ok.rule c.loop-text.invariant c.in-Ok.ensures.reading)

@@ -1,0 +1,28 @@
+//! The rules that `filter` is given.
+ghost use Rattle.std.specs.Prelude.{map};
+ghost use Rattle.dbus_command.specs.Told.{TellsRules};
+
+use crate::usage_fault::UsageFault;
+use dbus_match::{Rule, RuleFault, parse_rule};
+use std::alloc::Global;
+
+/// The rules that the texts spell, in their order. `Rule`: the fault of the first text that spells none. `Memory`: an
+/// allocation failed.
+pub(crate) fn rules_spelled(alloc: Global, texts: &[&str]) -> Result<Vec<Rule>, UsageFault>
+    ensures { TellsRules (map (λ text. text.now) texts.now) result }
+{
+    let mut rules = Vec::new(alloc);
+    for text in texts {
+        let rule = match parse_rule(alloc, text) {
+            Ok(rule) => rule,
+            Err(RuleFault::Memory) => return Err(UsageFault::Memory),
+            Err(RuleFault::Bad { at, reason }) => {
+                return Err(UsageFault::Rule(RuleFault::Bad { at, reason }));
+            }
+        };
+        if rules.push(rule).is_err() {
+            return Err(UsageFault::Memory);
+        }
+    }
+    Ok(rules)
+}
