@@ -13,6 +13,8 @@ pub use Rattle.dbus_message_model.specs.PackedMessages
 pub use Rattle.dbus_message_model.specs.LimitLaws
 pub use Rattle.dbus_message_model.specs.KeptLimits
 pub use Rattle.dbus_build.specs.PartLaws
+pub use Rattle.dbus_compose.specs.Drafts
+pub use Rattle.dbus_compose.specs.Composing
 pub use Rattle.dbus_header.specs.MessageItems
 pub use Rattle.dbus_header.specs.MessageReading
 pub use Rattle.dbus_header.specs.MessageLaws

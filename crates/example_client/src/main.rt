@@ -8,7 +8,6 @@
 //! and the exit status is 1.
 #![tactic(auto)]
 
-mod calls;
 mod session;
 
 use anyhow::{Result, bail};

@@ -3,10 +3,9 @@
 ghost use Rattle.std.specs.Prelude.{◌≡◌, true};
 ghost use Rattle.dbus_auth.specs.ClientEndViews.{client_end_state};
 
-use crate::calls::call;
 use anyhow::{Result, bail};
 use dbus_auth::{Client, ClientEnd, Mechanism, Status};
-use dbus_message::{Message, encode, field, field_code};
+use dbus_message::{Compose, Message, encode, field, field_code};
 use dbus_stream::Cutter;
 use dbus_value::{Order, Value};
 use std::alloc::Global;
@@ -109,8 +108,13 @@ impl Session {
         }
     }
 
+    // Appends a call of a method of the bus, which takes nothing. D-Bus Specification, "Message Bus Messages".
     fn append_call(&self, serial: u32, member: &str, send: &mut Vec<u8>) -> Result<()> {
-        let message = call(self.alloc, serial, member)?;
+        let message = Message::call(self.alloc, "/org/freedesktop/DBus", member)
+            .interface("org.freedesktop.DBus")
+            .destination("org.freedesktop.DBus")
+            .serial(serial)
+            .build()?;
         send.extend_from_slice(&encode(self.alloc, &message, Order::Little)?)?;
         Ok(())
     }

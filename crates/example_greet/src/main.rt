@@ -5,12 +5,9 @@
 //! is 1.
 #![tactic(auto)]
 
-use anyhow::{Result, anyhow, bail};
-use dbus_message::{
-    Answer, Build, HeaderField, Message, Parts, decode, encode, field, field_code, message_type,
-};
+use anyhow::{Result, bail};
+use dbus_message::{Answer, Compose, Message, decode, encode, field, field_code};
 use dbus_value::Value;
-use std::alloc::{AllocError, Global};
 use std::io::{Read, Write};
 
 // The text of the message's header field of a code.
@@ -19,37 +16,6 @@ fn text_of(message: &Message, code: u8) -> Result<&str> {
         Some(Value::Str(text) | Value::Path(text)) => Ok(text.as_str()),
         _ => bail!("the message has no text in field {code}"),
     }
-}
-
-// A string as a value.
-fn string(alloc: Global, text: &str) -> Result<Value, AllocError> {
-    Ok(Value::Str(String::from_str(alloc, text)?))
-}
-
-// A call of `Greet` with one string, valid or not.
-fn greet(alloc: Global, path: &str, destination: &str, name: &str) -> Result<Parts, AllocError> {
-    let mut fields = Vec::new(alloc);
-    let path = Value::Path(String::from_str(alloc, path)?);
-    let interface = string(alloc, "org.example.Greeter")?;
-    let member = string(alloc, "Greet")?;
-    let destination = string(alloc, destination)?;
-    let signature = Value::Sig(String::from_str(alloc, "s")?);
-    for (code, value) in [
-        (field_code::PATH, path),
-        (field_code::INTERFACE, interface),
-        (field_code::MEMBER, member),
-        (field_code::DESTINATION, destination),
-        (field_code::SIGNATURE, signature),
-    ] {
-        fields.push(HeaderField { code, value })?;
-    }
-    Ok(Parts {
-        kind: message_type::METHOD_CALL,
-        flags: 0,
-        serial: 1,
-        fields,
-        body: vec![in alloc; string(alloc, name)?]?,
-    })
 }
 
 fn main(rt: HostRuntime) -> Result<()> {
@@ -64,8 +30,11 @@ fn main(rt: HostRuntime) -> Result<()> {
     let sender = text_of(&message, field_code::SENDER)?;
     eprintln!(rt; "{sender} called {member} of {path}")?;
 
-    let parts = greet(alloc, path, sender, member)?;
-    let call = Message::new(alloc, parts).map_err(|(_, fault)| anyhow!("no message: {fault}"))?;
+    let call = Message::call(alloc, path, "Greet")
+        .interface("org.example.Greeter")
+        .destination(sender)
+        .text(member)
+        .build()?;
     rt.stdout().write_all(&encode(alloc, &call, order)?)?;
     Ok(())
 }

@@ -1,9 +1,9 @@
 //! A connection to one client, as bytes that come and bytes that are to be sent.
 
 use crate::replies::reply;
-use anyhow::{Result, anyhow, bail, ensure};
+use anyhow::{Result, bail, ensure};
 use dbus_auth::{Guid, Server, ServerEnd, Status};
-use dbus_message::{Build, Message, encode, flag, message_type};
+use dbus_message::{Message, encode, flag, message_type};
 use dbus_stream::Cutter;
 use dbus_value::Order;
 use std::alloc::Global;
@@ -88,10 +88,7 @@ impl Connection {
         }
         // A serial is not 0.
         self.replies = self.replies.checked_add(1).unwrap_or(1);
-        let parts = reply(self.alloc, message, self.replies)?;
-        let reply = Message::new(self.alloc, parts).map_err(|(_, fault)| anyhow!(
-            "no reply: {fault}"
-        ))?;
+        let reply = reply(self.alloc, message, self.replies)?;
         send.extend_from_slice(&encode(self.alloc, &reply, order)?)?;
         Ok(())
     }

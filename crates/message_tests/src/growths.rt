@@ -271,66 +271,57 @@ enum Change {
     Variants(usize),
 }
 
-// The bytes of a message, what is changed in its parts, the limits under which a message is made of them, how that ends, and a
-// number of growths that it takes at least.
-const BUILT: &[(&[u8], Change, Numbers, Ending, u64)] = &[
-    (PARTS, Change::Nothing, SPECIFICATION, Ending::Done, 3),
+// The bytes of a message, what is changed in its parts, the limits under which a message is made of them, and how that ends.
+const BUILT: &[(&[u8], Change, Numbers, Ending)] = &[
+    (PARTS, Change::Nothing, SPECIFICATION, Ending::Done),
     (
         PARTS,
         Change::LastValue,
         SPECIFICATION,
         Ending::Unbuilt(BuildFault::SignatureDiffers),
-        1,
     ),
-    (REPLY, Change::Nothing, OF_REPLY, Ending::Done, 0),
+    (REPLY, Change::Nothing, OF_REPLY, Ending::Done),
     (
         REPLY,
         Change::NoFields,
         SPECIFICATION,
         Ending::Unbuilt(BuildFault::FieldMissing(5)),
-        0,
     ),
     (
         REPLY,
         Change::Serial(0),
         SPECIFICATION,
         Ending::Unbuilt(BuildFault::ZeroSerial),
-        0,
     ),
     (
         REPLY,
         Change::FirstNumber(0),
         SPECIFICATION,
         Ending::Unbuilt(BuildFault::ZeroSerial),
-        0,
     ),
     (
         REPLY,
         Change::FirstText,
         SPECIFICATION,
         Ending::Unbuilt(BuildFault::FieldType(5)),
-        0,
     ),
     (
         REPLY,
         Change::ReplySerial,
         SPECIFICATION,
         Ending::Unbuilt(BuildFault::FieldTwice(5)),
-        0,
     ),
     (
         REPLY,
         Change::Number,
         SPECIFICATION,
         Ending::Unbuilt(BuildFault::SignatureDiffers),
-        0,
     ),
     (
         REPLY,
         Change::Variants(1000),
         SPECIFICATION,
         Ending::Unbuilt(BuildFault::TooDeep),
-        0,
     ),
 ];
 
@@ -409,71 +400,22 @@ fn made_as<A: Allocator + Copy>(
     })
 }
 
-// How making a message ended that was refused.
-fn refused_as(fault: BuildFault) -> Ending {
-    match fault {
-        BuildFault::Memory => Ending::WantsMemory,
-        fault => Ending::Unbuilt(fault),
-    }
-}
-
-// Where memory is wanted, the same call made again with the parts that came back answers as if nothing had been.
-fn built_again<A: Allocator + Copy>(
-    alloc: A,
-    answer: Result<Message<A>, (Parts<A>, BuildFault)>,
-    limits: Limits,
-    bytes: &[u8],
-    right: Ending,
-) -> Result<Ending, Fail> {
-    match answer {
-        Ok(message) => made_as(alloc, &message, bytes),
-        Err((back, BuildFault::Memory)) => {
-            let again = match made(alloc, back, limits) {
-                Ok(message) => made_as(alloc, &message, bytes)?,
-                Err((_back, fault)) => refused_as(fault),
-            };
-            Ok(if again == right {
-                Ending::WantsMemory
-            } else {
-                Ending::Other
-            })
-        }
-        Err((_back, fault)) => Ok(refused_as(fault)),
-    }
-}
-
-// A row of the table, and the limits that its numbers are.
-type Row = (&'static [u8], Change, Limits, Ending);
-
-// Making a message of its parts with the nth growth refused. The answer is how many growths there were, where none was.
-fn new_refused(rt: &impl Abort, alloc: Global, n: usize, row: Row) -> Result<Option<u64>, Fail> {
-    let (bytes, change, limits, right) = row;
-    let heap = Refusing::none(alloc);
-    let parts = parts_of(&heap, bytes, change)?;
-    heap.refuse_nth(n as u64);
-    let answer = made(&heap, parts, limits);
-    let (growths, refused) = (heap.growths(), heap.refusals() == 1);
-    heap.refuse_none();
-    let ended = built_again(&heap, answer, limits, bytes, right)?;
-    let wanted = if refused { Ending::WantsMemory } else { right };
-    ends(rt, n, (ended, heap.blocks()), (wanted, 0));
-    Ok(if refused { None } else { Some(growths) })
-}
-
-// Where a growth is refused the answer is want of memory, and equal parts come back. Where none is refused the fault is
-// answered.
+// Making a message of its parts takes no memory, however it ends: with the first growth refused none is asked for.
 #[test]
-fn new_with_each_growth_refused(rt: HostRuntime) -> Result<(), Fail> {
-    for (bytes, change, numbers, right, least) in BUILT {
-        let row = (*bytes, *change, limits_of(&rt, *numbers), *right);
-        let mut met = None;
-        for n in 1..100 {
-            met = new_refused(&rt, rt.alloc(), n, row)?;
-            if met.is_some() {
-                break;
-            }
-        }
-        assert!(rt; matches!(met, Some(met) if met >= *least), "{met:?}");
+fn new_takes_no_memory(rt: HostRuntime) -> Result<(), Fail> {
+    for (n, (bytes, change, numbers, right)) in BUILT.iter().enumerate() {
+        let heap = Refusing::none(rt.alloc());
+        let parts = parts_of(&heap, bytes, *change)?;
+        heap.refuse_nth(1);
+        let answer = made(&heap, parts, limits_of(&rt, *numbers));
+        let growths = heap.growths();
+        heap.refuse_none();
+        let ended = match answer {
+            Ok(message) => made_as(&heap, &message, bytes)?,
+            Err((_parts, fault)) => Ending::Unbuilt(fault),
+        };
+        ends(&rt, n, (ended, growths), (*right, 0));
+        ends(&rt, n, (ended, heap.blocks()), (*right, 0));
     }
     Ok(())
 }

@@ -9,6 +9,8 @@ mod building;
 #[cfg(test)]
 mod checking;
 #[cfg(test)]
+mod composing;
+#[cfg(test)]
 mod growths;
 #[cfg(test)]
 mod lookups;

@@ -6,7 +6,7 @@ use anyhow::{Result, bail};
 use case_files::{Case, Tally, cases};
 use dbus_match::{Owner, Rule, matches, matches_view, parse_rule};
 use dbus_message::encode;
-use dbus_tool::Command;
+use dbus_tool::{Command, Selection};
 use dbus_value::{Limits, Order};
 use dbus_view::MessageView;
 use std::alloc::Global;
@@ -57,7 +57,17 @@ fn spell(
     Ok(tally.compare(rt, "encode in the other order", &true, &is_spelled)?)
 }
 
-// Holds the two calls, and the command where nothing has an owner, against whether the rule matches the message of these bytes.
+// The command that writes the messages that the rule matches with these owners, or, inverted, the others.
+fn filter_by(alloc: Global, rule: &Rule, owners: &[Owner], is_inverted: bool) -> Result<Command> {
+    let mut selection = Selection::by_rule(alloc, rule.clone()?)?;
+    selection.is_inverted = is_inverted;
+    for owner in owners {
+        selection.owners.push(owner.clone()?)?;
+    }
+    Ok(Command::Filter(selection))
+}
+
+// Holds the two calls and the command against whether the rule matches the message of these bytes.
 fn try_message(
     rt: &HostRuntime,
     tally: &mut Tally,
@@ -78,13 +88,14 @@ fn try_message(
         &wanted,
         &matches_view(rule, &view, owners),
     )?;
-    if !owners.is_empty() {
-        return Ok(());
-    }
-    let kept = if wanted { bytes } else { &[] };
     let limits = Limits::specification();
-    let got = ran(alloc, Command::Filter(rule.clone()?), limits, bytes, 4096);
-    Ok(tally.compare(rt, "filter", &End::done(alloc, kept)?, &got)?)
+    for is_inverted in [false, true] {
+        let kept = if wanted != is_inverted { bytes } else { &[] };
+        let command = filter_by(alloc, rule, owners, is_inverted)?;
+        let got = ran(alloc, command, limits, bytes, 4096);
+        tally.compare(rt, "filter", &End::done(alloc, kept)?, &got)?;
+    }
+    Ok(())
 }
 
 // Holds all that matches against a case.

@@ -9,7 +9,7 @@ use case_files::{Case, Tally, cases};
 use dbus_match::parse_rule;
 use dbus_message::encode;
 use dbus_show::show_message;
-use dbus_tool::{Command, ExitStatus};
+use dbus_tool::{Command, ExitStatus, Selection};
 use dbus_value::{Limits, Order};
 use std::alloc::{AllocError, Global};
 use std::fs;
@@ -161,9 +161,10 @@ impl Held {
         let text = shown(alloc, &self.contents)?;
         self.run(rt, tally, "show", &Command::Show, &self.end(alloc, &text)?)?;
         let messages = &self.stream.bytes[..self.contents.size().min(self.stream.bytes.len())];
-        let each = Command::Filter(parse_rule(alloc, "")?);
+        let each = Command::Filter(Selection::by_rule(alloc, parse_rule(alloc, "")?)?);
         self.run(rt, tally, "filter", &each, &self.end(alloc, messages)?)?;
-        let none = Command::Filter(parse_rule(alloc, "sender=':0.0'")?);
+        let rule = parse_rule(alloc, "sender=':0.0'")?;
+        let none = Command::Filter(Selection::by_rule(alloc, rule)?);
         self.run(rt, tally, "filter of none", &none, &self.end(alloc, b"")?)?;
         self.swap(rt, tally, Order::Little)?;
         self.swap(rt, tally, Order::Big)

@@ -164,7 +164,7 @@ const CALLS: &[(Call, u64, Answer)] = &[
         2,
         Answer::Done,
     ),
-    (Call::CheckValue(PAIRS, 0), 1, Answer::Done),
+    (Call::CheckValue(PAIRS, 0), 0, Answer::Done),
     (
         Call::CheckValue(PAIRS, 62),
         0,

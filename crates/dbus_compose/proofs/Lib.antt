@@ -1,0 +1,2 @@
+pub mod FieldPlaces
+pub mod Steps

@@ -1,0 +1,107 @@
+#!/usr/bin/env python3
+"""tables.py HABITS TEXTS PROGRAM: holds the header's numbers against the crates' and the program's.
+
+The numbers of message types, flags, header fields, answers and rules are those of the crates' constants, and those of kinds of text are
+those of `kind_of` in dbus_c. The names of reasons, as HABITS prints them, are those of the header's constants. The version is the
+program's. What TEXTS says of the cases of names and signatures (docs/CASES.md) is what these say. The exit status is 1 if not.
+"""
+
+import pathlib
+import re
+import subprocess
+import sys
+
+ROOT = pathlib.Path(__file__).resolve().parent.parent
+sys.path.insert(0, str(ROOT / "cases"))
+from read_cases import read_bytes, read_cases  # noqa: E402
+
+CONSTANTS = (
+    ("TYPE_", "dbus_message_model/src/message_type.rt"),
+    ("FLAG_", "dbus_message_model/src/flag.rt"),
+    ("FIELD_", "dbus_message_model/src/field_code.rt"),
+)
+ANSWERS = "dbus_c/src/answers.rt"
+# The header's name of an answer that means the same as another.
+ALIASES = {"OK": 0}
+# How the header and the cases call the kinds that the crates call otherwise.
+KINDS = {"Text": "STRING", "Path": "OBJECT_PATH", "Single": "SINGLE_TYPE"}
+CASE_KINDS = {"text": "STRING", "path": "OBJECT_PATH"}
+
+
+def upper(name):
+    """The name of a constant for a name in CamelCase."""
+    return re.sub(r"(?<=[a-z])(?=[A-Z])", "_", name).upper()
+
+
+def header_numbers():
+    text = (ROOT / "include" / "dbus_wire.h").read_text()
+    return {name: int(number) for name, number in re.findall(r"\bDBUS_WIRE_(\w+) = (\d+)", text)}
+
+
+def of_prefix(numbers, prefix):
+    return {name.removeprefix(prefix): number for name, number in numbers.items() if name.startswith(prefix)}
+
+
+def constants(path):
+    text = (ROOT / "crates" / path).read_text()
+    return {name: int(number) for name, number in re.findall(r"pub const (\w+): u\d+ = (\d+);", text)}
+
+
+def kinds():
+    text = (ROOT / "crates/dbus_c/src/texts.rt").read_text()
+    return {KINDS.get(name, upper(name)): int(number) for number, name in re.findall(r"(\d+) => Some\(TextKind::(\w+)\)", text)}
+
+
+def run(*words, given=""):
+    return subprocess.run(words, input=given, capture_output=True, text=True, check=True).stdout.splitlines()
+
+
+def text_cases(numbers):
+    """Of each case the number of its kind, its bytes, and what is said of them."""
+    data = ROOT / "crates/value_cases/data"
+    for _, kind, text, said in read_cases(data / "names.txt"):
+        yield numbers[CASE_KINDS.get(kind, kind.upper())], text, said
+    for _, text, signature, single, *_ in read_cases(data / "signatures.txt"):
+        yield numbers["SIGNATURE"], text, signature
+        yield numbers["SINGLE_TYPE"], text, single
+    yield 0, '"a"', "no kind"
+    yield max(numbers.values()) + 1, '"a"', "no kind"
+
+
+def differing_texts(program, numbers):
+    cases = [(kind, read_bytes(text), said) for kind, text, said in text_cases(numbers)]
+    lines = run(program, given="".join(f"{kind} {text.hex()}\n" for kind, text, _ in cases))
+    accepted = ("unique", "well-known")
+    right = ["accepted" if said in accepted else re.sub("^too long .*", "too long", said) for *_, said in cases]
+    print(f"{len(cases)} texts checked")
+    return [f"{kind} {text!r}: {line}, not {said}" for (kind, text, _), line, said in zip(cases, lines, right, strict=True) if line != said]
+
+
+def main(habits, texts, program):
+    numbers, wrong = header_numbers(), []
+
+    def hold(what, one, other):
+        if one != other:
+            wrong.append(f"{what}: {sorted(one.items())} in the header, not {sorted(other.items())}")
+
+    for prefix, path in CONSTANTS:
+        hold(path, of_prefix(numbers, prefix), constants(path))
+    answers = constants(ANSWERS) | ALIASES
+    hold(ANSWERS, {name: numbers.get(name) for name in answers}, answers)
+    rules = constants("dbus_c/src/given_limits.rt")
+    hold("rules", of_prefix(numbers, "FDS_"), {"ANY": rules["ANY_INDEX"], "BELOW_COUNT": rules["INDEX_BELOW_COUNT"]})
+    text_kinds = of_prefix(numbers, "TEXT_")
+    hold("kinds of text", text_kinds, kinds())
+    names = (line.split() for line in run(habits))
+    hold("reasons", of_prefix(numbers, "REASON_"), {upper(name): int(number) for number, name in names})
+    header = (ROOT / "include" / "dbus_wire.h").read_text()
+    version = ".".join(re.findall(r"#define DBUS_WIRE_VERSION_[A-Z]+ (\d+)", header))
+    if run(program, "--version")[0].split()[-1] != version:
+        wrong.append(f"the header has the version {version}, not that of {program}")
+    wrong += differing_texts(texts, text_kinds)
+    print("\n".join(wrong) or "the header's numbers are the crates'")
+    return 1 if wrong else 0
+
+
+if __name__ == "__main__":
+    sys.exit(main(*sys.argv[1:]))
