@@ -1,8 +1,9 @@
 #!/bin/sh
-# test.sh PROGRAM ARCHIVE: builds the examples over the archive, and holds what they write against what `PROGRAM check` does:
-# of the captures in samples/ and of messages of which a byte is changed; the C example once more under AddressSanitizer.
+# test.sh PROGRAM ARCHIVE SHARED: builds the examples over the archive, and holds what they write against what `PROGRAM check` does:
+# of the captures in samples/ and of messages of which a byte is changed; the C example once more under AddressSanitizer, and over
+# the shared library. Holds the header's numbers against the crates', and what is said of texts against the cases of texts.
 set -eu
-program=$1 archive=$2
+program=$1 archive=$2 shared=$3
 here=$(cd "$(dirname "$0")" && pwd)
 built=$here/../out/examples
 mkdir -p "$built"
@@ -10,20 +11,26 @@ cp "$archive" "$built/libdbus_wire.a"
 
 : "${CC:=cc}" "${CXX:=c++}"
 flags="-I$here/../include -Wall -Wextra -Wpedantic -Werror"
+sanitized="-std=c99 -g -fsanitize=address,undefined $flags"
 # No call takes memory: the archive asks the C library for none.
 if nm -u "$archive" | grep -Ew 'malloc|calloc|realloc|aligned_alloc|posix_memalign|mmap|sbrk|free'; then
 	echo "the archive takes memory"
 	exit 1
 fi
+# The shared library exports the calls that the header declares, and needs the C library alone.
+sed -n 's/^\(DBUS_WIRE_[A-Z_]*((.*)) \)\{0,1\}\(void\|uint[0-9]*_t\|size_t\) \(dbus_wire_[a-z_]*\)(.*/\3/p' "$here/../include/dbus_wire.h" | sort > "$built/declared"
+nm -D --defined-only "$shared" | sed -n 's/.* T \([a-z_]*\).*/\1/p' | sort | diff "$built/declared" -
+test "$(objdump -p "$shared" | grep -c NEEDED)" = 1
+"$here/stack.py" "$shared" 131072
 # The header is C99 and C++, and the archive needs no other.
 echo '#include <dbus_wire.h>' | "$CXX" $flags -x c++ -fsyntax-only -
 "$CC" -std=c99 -O2 $flags -o "$built/check" "$here/c/check.c" -L"$built" -ldbus_wire
-"$CC" -std=c99 -g -fsanitize=address,undefined $flags -o "$built/check_sanitized" "$here/c/check.c" -L"$built" -ldbus_wire
-"$CC" -std=c99 -g -fsanitize=address,undefined $flags -o "$built/list" "$here/c/list.c" -L"$built" -ldbus_wire
-"$CC" -std=c99 -g -fsanitize=address,undefined $flags -o "$built/swap" "$here/c/swap.c" -L"$built" -ldbus_wire
-"$CC" -std=c99 -g -fsanitize=address,undefined $flags -o "$built/room" "$here/c/room.c" -L"$built" -ldbus_wire
+"$CC" -std=c99 -O2 $flags -o "$built/check_shared" "$here/c/check.c" "$shared" -Wl,-rpath,"$(cd "$(dirname "$shared")" && pwd)"
+"$CC" $sanitized -o "$built/check_sanitized" "$here/c/check.c" -L"$built" -ldbus_wire
+for name in list swap room habits texts; do "$CC" $sanitized -o "$built/$name" "$here/c/$name.c" -L"$built" -ldbus_wire; done
 for sample in session big-endian; do "$built/room" < "$here/../samples/$sample.dbus"; done
-set -- "$built/list" "$built/swap" "$built/check" "$built/check_sanitized"
+"$here/tables.py" "$built/habits" "$built/texts" "$program"
+set -- "$built/list" "$built/swap" "$built/check" "$built/check_sanitized" "$built/check_shared"
 
 if command -v cargo > /dev/null; then
 	DBUS_WIRE_LIBRARY=$built cargo build --quiet --offline --release --manifest-path "$here/rust/Cargo.toml" --target-dir "$built/rust"

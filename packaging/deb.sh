@@ -1,5 +1,5 @@
 #!/usr/bin/env bash
-# packaging/deb.sh VERSION: the packages dbus-wire and libdbus-wire-dev in out/, of what was built.
+# packaging/deb.sh VERSION: the packages dbus-wire, libdbus-wire0 and libdbus-wire-dev in out/, of what was built.
 source "$(dirname "$0")/stage.sh" "$@"
 architecture=$(dpkg --print-architecture)
 
@@ -24,6 +24,12 @@ build() {
 stage install-program out/stage PREFIX=/usr
 gzip -9n out/stage/usr/share/man/man1/dbus-wire.1
 build dbus-wire "libc6" utils "checks, shows, byte-swaps and filters captured D-Bus streams, proved exact"
-stage install-c out/stage PREFIX=/usr LIBDIR="/usr/lib/$(gcc -print-multiarch)" DOCDIR=/usr/share/doc/libdbus-wire-dev
-build libdbus-wire-dev "" libdevel "the D-Bus wire format as a static library for C, proved exact"
+libraries=/usr/lib/$(gcc -print-multiarch)
+stage install-shared out/stage PREFIX=/usr LIBDIR="$libraries" DOCDIR=/usr/share/doc/libdbus-wire0
+mkdir out/stage/DEBIAN
+echo "libdbus_wire 0 libdbus-wire0" > out/stage/DEBIAN/shlibs
+echo "activate-noawait ldconfig" > out/stage/DEBIAN/triggers
+build libdbus-wire0 "libc6" libs "the D-Bus wire format as a shared library, proved exact"
+stage install-dev out/stage PREFIX=/usr LIBDIR="$libraries" DOCDIR=/usr/share/doc/libdbus-wire-dev
+build libdbus-wire-dev "libdbus-wire0 (= $version)" libdevel "the D-Bus wire format as a library for C, to compile with"
 rm -rf out/stage

@@ -20,25 +20,24 @@ static uint8_t *read_all(size_t *count) {
     return NULL;
 }
 
-/* The line of a refusal, whose offset counts from the start of the input. */
+/* The line of a refusal, whose offset counts from the start of the input; and in words, for people, on standard error. */
 static void print_refusal(uint64_t offset, uint32_t reason, uint32_t field) {
     uint8_t name[32];
     dbus_wire_reason_name(reason, name, sizeof name);
     printf("refused at %llu: %s", (unsigned long long)offset, (const char *)name);
     if (reason == DBUS_WIRE_REASON_FIELD_MISSING) printf("(%u)", (unsigned)field);
     printf("\n");
+    fprintf(stderr, "%s\n", dbus_wire_reason_text(reason));
 }
 
 int main(void) {
-    struct dbus_wire_limits limits;
     struct dbus_wire_checked told;
     size_t count, at = 0, messages = 0;
     uint8_t *bytes = read_all(&count);
     if (bytes == NULL || ferror(stdin)) return 3;
 
-    dbus_wire_specification_limits(&limits);
     while (at < count) {
-        uint32_t answer = dbus_wire_check(bytes + at, count - at, &limits, &told);
+        uint32_t answer = dbus_wire_check(bytes + at, count - at, NULL, &told);
         if (answer == DBUS_WIRE_REFUSED) {
             print_refusal(at + told.offset, told.reason, told.field);
             break;

@@ -8,7 +8,7 @@
 
 static const char *type_name(uint32_t kind) {
     static const char *const names[] = {"method_call", "method_return", "error", "signal"};
-    return kind >= 1 && kind <= 4 ? names[kind - 1] : "other";
+    return kind >= DBUS_WIRE_TYPE_METHOD_CALL && kind <= DBUS_WIRE_TYPE_SIGNAL ? names[kind - 1] : "other";
 }
 
 static void print_text(const char *name, const uint8_t *bytes, struct dbus_wire_text text) {
@@ -52,16 +52,14 @@ static void print_message(unsigned long number, const uint8_t *bytes, const stru
 
 int main(void) {
     static uint8_t bytes[1 << 20];
-    struct dbus_wire_limits limits;
     struct dbus_wire_parts parts;
     struct dbus_wire_argument argument;
     size_t count = fread(bytes, 1, sizeof bytes, stdin), at = 0, value;
     unsigned long number = 0;
 
-    dbus_wire_specification_limits(&limits);
-    while (dbus_wire_parts_of(bytes + at, count - at, &limits, &parts)) {
+    while (dbus_wire_parts_of(bytes + at, count - at, NULL, &parts) == DBUS_WIRE_WHOLE) {
         print_message(++number, bytes + at, &parts);
-        for (value = 0; dbus_wire_argument_of(bytes + at, count - at, &limits, value, &argument); value++)
+        for (value = 0; dbus_wire_argument_of(bytes + at, count - at, NULL, value, &argument) == DBUS_WIRE_WHOLE; value++)
             print_argument(bytes + at, &argument);
         at += parts.length;
     }

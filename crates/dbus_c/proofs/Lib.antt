@@ -3,3 +3,4 @@ pub mod FirstBytes
 pub mod Telling
 pub mod Swapped
 pub mod Fronts
+pub mod Outcomes

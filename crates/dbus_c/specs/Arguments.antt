@@ -1,9 +1,8 @@
 -- A value of the body of the message that bytes begin with, in numbers.
 -- D-Bus Specification, "Message Format" and "Basic types".
-use Rattle.std.specs.Prelude.{◌≡◌, ℕ, List, length, take, None}
+use Rattle.std.specs.Prelude.{◌≡◌, ℕ, List, length, take}
 use Rattle.dbus_value_model.specs.declared.limits.Limits.{Limits}
 use Rattle.dbus_value_model.specs.declared.order.Order.{Order}
-use Rattle.dbus_message_model.specs.Lookups.{body_value}
 use Rattle.dbus_message_model.specs.Messages.{MessageTree}
 use Rattle.dbus_header.specs.MessageOutcomes.{IsWhole}
 use Rattle.dbus_view.specs.Bodies.{IsPlaceThere}
@@ -23,10 +22,7 @@ pub record HasArgument (limits : Limits) (b : List ℕ) (number : ℕ) (a : Argu
   pub count : ℕ
   pub whole : IsWhole limits b order message count
   pub value : IsPlaceThere order message number (take count b) (place_told a)
-
--- a message within the limits that the bytes begin with has no value of the number
-abbrev pub HasNoArgument : Limits → List ℕ → (number : ℕ) → Type 0
-HasNoArgument limits b number = (order : Order) (m : MessageTree) (n : ℕ) → IsWhole limits b order m n → body_value number m.body ≡ None
+  pub reserved : a.reserved ≡ 0
 
 -- a view of the message that the bytes begin with, which is taken by itself
 pub record IsFirstView (limits : Limits) (b : List ℕ) (v : ViewState) : Type 0 where

@@ -6,3 +6,6 @@ pub mod Wanting
 pub mod Parting
 pub mod Swapping
 pub mod Arguments
+pub mod Outcomes
+pub mod TextKinds
+pub mod TextChecking

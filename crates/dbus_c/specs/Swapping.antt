@@ -9,8 +9,7 @@ use Rattle.dbus_message_model.specs.Messages.{MessageTree, message_bytes}
 use Rattle.dbus_header.specs.MessageOutcomes.{IsWhole, IsRefused, IsPartial}
 use Rattle.dbus_c.specs.Checking.{whole_told, nothing_told, fault_told}
 use Rattle.dbus_c.specs.declared.checking.Checked.{Checked}
-use Rattle.dbus_c.specs.declared.checking.TheConstants.{WHOLE, PARTIAL, REFUSED}
-use Rattle.dbus_c.specs.declared.swapping.TheConstants.{NO_ROOM}
+use Rattle.dbus_c.specs.declared.answers.TheConstants.{WHOLE, PARTIAL, REFUSED, NO_ROOM}
 
 -- the order that a number names: big where it is the byte B
 abbrev pub order_named : ℕ → Order

@@ -1,11 +1,14 @@
 //! Where the values of a message's body stand, in numbers.
 #![tactic(auto)]
 
-ghost use Rattle.std.specs.Prelude.{◌≡◌, ◌<◌, None, IfSome};
-ghost use Rattle.dbus_c.specs.Arguments.{HasArgument, HasNoArgument, IsFirstView};
+ghost use Rattle.std.specs.Prelude.{◌≡◌, ◌≢◌, ◌↔◌, None, IfSome};
+ghost use Rattle.dbus_c.specs.Arguments.{HasArgument, IsFirstView};
 ghost use Rattle.dbus_c.specs.GivenLimits.{limits_of};
+ghost use Rattle.dbus_c.specs.Outcomes.{BeginsWithValue, BeginsWithoutValue, TellsApart};
 ghost use Rattle.dbus_validate.specs.Validating.{BeginsWithNone};
 
+use crate::answers::{NO_VALUE, WHOLE};
+use crate::checking::answer_to_none;
 use crate::given_limits::{WireLimits, given_limits};
 use dbus_validate::validate_first;
 use dbus_value_model::Limits;
@@ -15,18 +18,21 @@ use dbus_view::MessageView;
 #[repr(C)]
 #[derive(Drop)]
 pub struct Argument {
-    /// The offset of its text, in bytes from the first, or 0 where it is no text.
+    /// The offset of its text, in bytes from the first, or 0 if it is no text.
     pub offset: u64,
-    /// How many bytes its text has, or 0 where it is no text.
+    /// How many bytes its text has, or 0 if it is no text.
     pub length: u64,
     /// The first code of its type: of a STRING `s`, of an OBJECT_PATH `o`, of a SIGNATURE `g`, of an array `a`.
     pub code: u32,
+    /// 0.
+    pub reserved: u32,
 }
 
-/// Tells of value `number`, counted from 0, of the body of the message within the limits that the bytes begin with, and answers 1;
-/// where they begin with none, or with one whose body has no value of that number, it answers 0, and `out` stays as it is.
+/// Tells of value `number`, counted from 0, of the body of the message within the limits that the bytes begin with, and answers
+/// [`WHOLE`]; [`NO_VALUE`] if the body has no value of that number. If the bytes begin with no message, answers
+/// [`crate::PARTIAL`] or [`crate::REFUSED`], as [`crate::dbus_wire_check`]. In these three cases `out` stays as it is.
 ///
-/// Of a STRING, an OBJECT_PATH and a SIGNATURE its text is told where it stands in the bytes. It takes no memory.
+/// Of a STRING, an OBJECT_PATH and a SIGNATURE its text is told where it stands in the bytes. It allocates nothing.
 /// D-Bus Specification, "Message Format".
 #[unsafe(no_mangle)]
 pub extern "C" fn dbus_wire_argument_of(
@@ -35,14 +41,16 @@ pub extern "C" fn dbus_wire_argument_of(
     number: usize,
     out: &mut Argument,
 ) -> u32
-    ensures answers { result < 2 }
-    ensures argument { result ≡ 1 → HasArgument (limits_of limits.now) bytes.now number out.new }
-    ensures none { result ≡ 0 → HasNoArgument (limits_of limits.now) bytes.now number }
-    ensures unchanged { result ≡ 0 → out.new ≡ out.old }
+    ensures whole { BeginsWithValue (limits_of limits.now) bytes.now number ↔ (result ≡ WHOLE) }
+    ensures no_value { BeginsWithoutValue (limits_of limits.now) bytes.now number ↔ (result ≡ NO_VALUE) }
+    ensures apart { TellsApart (limits_of limits.now) bytes.now result }
+    ensures argument { result ≡ WHOLE → HasArgument (limits_of limits.now) bytes.now number out.new }
+    ensures unchanged { result ≢ WHOLE → out.new ≡ out.old }
 {
-    let view = match first_view(bytes, given_limits(limits)) {
+    let within = given_limits(limits);
+    let view = match first_view(bytes, within) {
         Some(view) => view,
-        None => return 0,
+        None => return answer_to_none(bytes, within),
     };
     match view.arg_place(number) {
         Some(place) => {
@@ -50,10 +58,11 @@ pub extern "C" fn dbus_wire_argument_of(
                 offset: place.start as u64,
                 length: place.length as u64,
                 code: u32::from(place.code),
+                reserved: 0,
             };
-            1
+            WHOLE
         }
-        None => 0,
+        None => NO_VALUE,
     }
 }
 

@@ -1,28 +1,22 @@
 //! Whether bytes begin with a message, told in numbers.
 #![tactic(auto)]
 
-ghost use Rattle.std.specs.Prelude.{◌≡◌, ◌<◌, length};
+ghost use Rattle.std.specs.Prelude.{◌≡◌, ◌<◌, ◌≤◌, length};
 ghost use Rattle.dbus_header.specs.MessageOutcomes.{IsWhole};
 ghost use Rattle.dbus_message_model.specs.Messages.{MessageTree};
 ghost use Rattle.dbus_value_model.specs.declared.limits.Limits.{Limits};
 ghost use Rattle.dbus_value_model.specs.declared.order.Order.{Order};
 ghost use Rattle.dbus_c.specs.Checking.{IsExact, Tells, fault_told, nothing_told, whole_told};
 ghost use Rattle.dbus_c.specs.GivenLimits.{limits_of};
+ghost use Rattle.dbus_c.specs.Outcomes.{TellsApart};
+ghost use Rattle.dbus_validate.specs.Validating.{BeginsWithNone};
 
+use crate::answers::{PARTIAL, REFUSED, WHOLE};
 use crate::given_limits::{WireLimits, given_limits};
 use crate::reasons::{field_named, reason_number};
 use dbus_check::{Check, Checker};
 use dbus_validate::validate;
 use dbus_value_model::{Fault, Limits};
-
-/// The answer that bytes begin with a message.
-pub const WHOLE: u32 = 0;
-
-/// The answer that more bytes are wanted.
-pub const PARTIAL: u32 = 1;
-
-/// The answer that the bytes are refused.
-pub const REFUSED: u32 = 2;
 
 /// What is told of bytes beside the answer. A number that the answer does not speak of is 0.
 #[repr(C)]
@@ -36,8 +30,10 @@ pub struct Checked {
     pub order: u32,
     /// Of a fault: the number of its reason.
     pub reason: u32,
-    /// Of a fault: the code of the header field that is missing, where that is the reason.
+    /// Of a fault: the code of the header field that is missing, if that is the reason.
     pub field: u32,
+    /// 0.
+    pub reserved: u32,
 }
 
 // What is told of bytes that begin with a message of this length.
@@ -52,6 +48,7 @@ pub(crate) fn whole_told(bytes: &[u8], count: usize) -> Checked
         order: u32::from(bytes[0]),
         reason: 0,
         field: 0,
+        reserved: 0,
     }
 }
 
@@ -65,6 +62,7 @@ pub(crate) fn nothing_told() -> Checked
         order: 0,
         reason: 0,
         field: 0,
+        reserved: 0,
     }
 }
 
@@ -78,13 +76,14 @@ pub(crate) fn fault_told(fault: Fault) -> Checked
         order: 0,
         reason: reason_number(fault.reason),
         field: field_named(fault.reason),
+        reserved: 0,
     }
 }
 
-/// Whether the bytes begin with a message within the limits: [`WHOLE`] with its length and byte order, [`PARTIAL`] where a
-/// message may begin so and more bytes are wanted, [`REFUSED`] with the fault. Bytes after the message are not looked at.
+/// Whether the bytes begin with a message within the limits: [`WHOLE`] with its length and byte order, [`PARTIAL`] if a
+/// message may begin so and more bytes are needed, [`REFUSED`] with the fault. Bytes after the message are not looked at.
 ///
-/// It takes no memory but some 50,000 bytes of the stack. D-Bus Specification, "Message Protocol".
+/// It allocates nothing, and takes some 43,000 bytes of the stack. D-Bus Specification, "Message Protocol".
 #[unsafe(no_mangle)]
 pub extern "C" fn dbus_wire_check(bytes: &[u8], limits: &WireLimits, out: &mut Checked) -> u32
     ensures tells { Tells (limits_of limits.now) bytes.now result out.new }
@@ -121,4 +120,15 @@ pub(crate) fn check_all(bytes: &[u8], limits: Limits, out: &mut Checked) -> u32
             REFUSED
         }
     }
+}
+
+// The answer to bytes that begin with no message.
+pub(crate) fn answer_to_none(bytes: &[u8], limits: Limits) -> u32
+    requires { BeginsWithNone limits bytes.now }
+    ensures apart { TellsApart limits bytes.now result }
+    ensures above { WHOLE < result }
+    ensures below { result ≤ REFUSED }
+{
+    let mut told = nothing_told();
+    check_all(bytes, limits, &mut told)
 }

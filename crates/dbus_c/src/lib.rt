@@ -1,6 +1,12 @@
-//! The wire format for C: calls that a static library exports, over numbers and the caller's bytes.
+//! The wire format for C: calls that a static library exports, over numbers and the caller's bytes. D-Bus Specification, "Message
+//! Protocol".
+//!
+//! [`dbus_wire_check`] checks bytes, [`dbus_wire_wanted`] says how many to read, [`dbus_wire_parts_of`] and
+//! [`dbus_wire_argument_of`] give a message's parts, and [`dbus_wire_swap`] byteswaps. None takes memory.
+//! `include/dbus_wire.h` declares them and says what a caller owes; `examples/c` has callers.
 #![tactic(auto)]
 
+mod answers;
 mod arguments;
 mod checking;
 mod given_limits;
@@ -8,13 +14,18 @@ mod names;
 mod parts;
 mod reasons;
 mod swapping;
+mod texts;
+mod version;
 mod wanted;
 
+pub use answers::{NO_KIND, NO_ROOM, NO_VALUE, PARTIAL, REFUSED, WHOLE};
 pub use arguments::{Argument, dbus_wire_argument_of};
-pub use checking::{Checked, PARTIAL, REFUSED, WHOLE, dbus_wire_check};
+pub use checking::{Checked, dbus_wire_check};
 pub use given_limits::{ANY_INDEX, INDEX_BELOW_COUNT, WireLimits, dbus_wire_specification_limits};
 pub use names::{dbus_wire_reason_name, names_are_texts};
 pub use parts::{Parts, TextPlace, dbus_wire_parts_of};
 pub use reasons::{field_named, reason_number, reasons_have_one_number};
-pub use swapping::{NO_ROOM, dbus_wire_swap};
+pub use swapping::dbus_wire_swap;
+pub use texts::{TextChecked, dbus_wire_text_check};
+pub use version::{VERSION, dbus_wire_version};
 pub use wanted::dbus_wire_wanted;

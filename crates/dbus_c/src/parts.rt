@@ -1,14 +1,16 @@
 //! The parts of a message in the caller's bytes, told in numbers.
 #![tactic(auto)]
 
-ghost use Rattle.std.specs.Prelude.{◌≡◌, ◌<◌, List, ℕ, true};
+ghost use Rattle.std.specs.Prelude.{◌≡◌, ◌≢◌, ◌↔◌, List, ℕ, true};
 ghost use Rattle.dbus_c.specs.GivenLimits.{limits_of};
+ghost use Rattle.dbus_c.specs.Outcomes.{BeginsWithMessage, TellsApart};
 ghost use Rattle.dbus_c.specs.Parting.{HasFields, HasParts, IsPlaceOf, number_of};
-ghost use Rattle.dbus_validate.specs.Validating.{BeginsWithNone};
 ghost use Rattle.dbus_validate.specs.Seen.{AreNoted};
 ghost use Rattle.dbus_message_model.specs.Lookups.{field_value};
 ghost use Rattle.dbus_message_model.specs.Messages.{FieldTree, is_known, order_byte};
 
+use crate::answers::WHOLE;
+use crate::checking::answer_to_none;
 use crate::given_limits::{WireLimits, given_limits};
 use dbus_message_model::field_code::{
     DESTINATION, ERROR_NAME, INTERFACE, MEMBER, PATH, REPLY_SERIAL, SENDER, SIGNATURE, UNIX_FDS,
@@ -20,11 +22,11 @@ use dbus_value_model::Order;
 #[repr(C)]
 #[derive(Drop)]
 pub struct TextPlace {
-    /// Its offset, in bytes from the first, or 0 where there is no such field.
+    /// Its offset, in bytes from the first, or 0 if there is no such field.
     pub offset: u64,
     /// How many bytes it has, or 0.
     pub length: u64,
-    /// 1, or 0 where there is no such field.
+    /// 1, or 0 if there is no such field.
     pub is_there: u64,
 }
 
@@ -45,9 +47,9 @@ pub struct Parts {
     pub flags: u32,
     /// The serial.
     pub serial: u32,
-    /// The REPLY_SERIAL, which is never 0, or 0 where there is none.
+    /// The REPLY_SERIAL, which is never 0, or 0 if there is none.
     pub reply_serial: u32,
-    /// The number of the UNIX_FDS field, or 0 where there is none.
+    /// The number of the UNIX_FDS field, or 0 if there is none.
     pub unix_fds: u32,
     /// The PATH.
     pub path: TextPlace,
@@ -65,19 +67,20 @@ pub struct Parts {
     pub signature: TextPlace,
 }
 
-/// Writes the parts of the message within the limits that the bytes begin with, and answers 1; where they begin with none it
-/// answers 0, and `out` stays as it is: [`crate::dbus_wire_check`] tells why. Each part lies within the message, whatever
-/// bytes follow it. It takes no memory.
+/// Writes the parts of the message within the limits that the bytes begin with, and answers [`WHOLE`]. If they begin with none,
+/// answers [`crate::PARTIAL`] or [`crate::REFUSED`], as [`crate::dbus_wire_check`], which tells why, and `out` stays as it is.
+/// Each part lies within the message, whatever bytes follow it. It allocates nothing.
 ///
 /// D-Bus Specification, "Message Format" and "Header Fields".
 #[unsafe(no_mangle)]
 pub extern "C" fn dbus_wire_parts_of(bytes: &[u8], limits: &WireLimits, out: &mut Parts) -> u32
-    ensures answers { result < 2 }
-    ensures parts { result ≡ 1 → HasParts (limits_of limits.now) bytes.now out.new }
-    ensures none { result ≡ 0 → BeginsWithNone (limits_of limits.now) bytes.now }
-    ensures unchanged { result ≡ 0 → out.new ≡ out.old }
+    ensures whole { BeginsWithMessage (limits_of limits.now) bytes.now ↔ (result ≡ WHOLE) }
+    ensures apart { TellsApart (limits_of limits.now) bytes.now result }
+    ensures parts { result ≡ WHOLE → HasParts (limits_of limits.now) bytes.now out.new }
+    ensures unchanged { result ≢ WHOLE → out.new ≡ out.old }
 {
-    match validate_first(bytes, given_limits(limits)) {
+    let within = given_limits(limits);
+    match validate_first(bytes, within) {
         Some(validated) => {
             let seen = &validated.fields;
             *out = Parts {
@@ -97,9 +100,9 @@ pub extern "C" fn dbus_wire_parts_of(bytes: &[u8], limits: &WireLimits, out: &mu
                 sender: place_of(seen, SENDER),
                 signature: place_of(seen, SIGNATURE),
             };
-            1
+            WHOLE
         }
-        None => 0,
+        None => answer_to_none(bytes, within),
     }
 }
 

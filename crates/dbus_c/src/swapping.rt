@@ -8,21 +8,19 @@ ghost use Rattle.dbus_header.specs.MessageOutcomes.{IsWhole};
 ghost use Rattle.dbus_validate.specs.Validating.{IsValidated};
 ghost use Rattle.dbus_message_model.specs.Messages.{MessageTree, message_bytes};
 
-use crate::checking::{Checked, PARTIAL, REFUSED, WHOLE, check_all, whole_told};
+use crate::answers::{NO_ROOM, WHOLE};
+use crate::checking::{Checked, check_all, whole_told};
 use crate::given_limits::{WireLimits, given_limits};
 use dbus_swap::byteswap;
 use dbus_validate::{Validated, validate};
 use dbus_value_model::{Limits, Order};
 
-/// The answer that the caller has too few bytes for what is to be written.
-pub const NO_ROOM: u32 = 4;
-
 /// Writes the message within the limits that the bytes begin with to the start of `out`, in the byte order that `order` names:
 /// big where it is `B`, else little. A message has the same length in both.
 ///
-/// [`WHOLE`] where it is written; `told` has its length, and the order that it was read in. [`PARTIAL`] and [`REFUSED`] as
-/// [`crate::dbus_wire_check`] answers. [`NO_ROOM`] where `out` has fewer bytes than the message, whose length and order are
-/// told. In these three cases `out` stays as it was. It takes no memory. D-Bus Specification, "Message Format".
+/// [`WHOLE`] if it is written; `told` has its length, and the order that it was read in. [`crate::PARTIAL`] and
+/// [`crate::REFUSED`] as [`crate::dbus_wire_check`] answers. [`NO_ROOM`] if `out` has fewer bytes than the message, whose length
+/// and order are told. In these three cases `out` stays as it was. It allocates nothing. D-Bus Specification, "Message Format".
 #[unsafe(no_mangle)]
 pub extern "C" fn dbus_wire_swap(
     bytes: &[u8],

@@ -18,6 +18,7 @@ struct Told {
     order: u32,
     reason: u32,
     field: u32,
+    reserved: u32,
 }
 
 extern "C" {

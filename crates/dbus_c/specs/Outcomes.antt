@@ -1,0 +1,33 @@
+-- The answers of the calls that take a message apart: what each says of the bytes, and which bytes have it.
+-- D-Bus Specification, "Message Protocol".
+use Rattle.std.specs.Prelude.{◌≡◌, ◌↔◌, ℕ, List, Some, None}
+use Rattle.dbus_value_model.specs.Values.{ValueTree}
+use Rattle.dbus_value_model.specs.declared.limits.Limits.{Limits}
+use Rattle.dbus_value_model.specs.declared.order.Order.{Order}
+use Rattle.dbus_value_model.specs.declared.fault.Fault.{Fault}
+use Rattle.dbus_message_model.specs.Lookups.{body_value}
+use Rattle.dbus_message_model.specs.Messages.{MessageTree}
+use Rattle.dbus_header.specs.MessageOutcomes.{IsWhole, IsRefused, IsPartial}
+use Rattle.dbus_c.specs.declared.answers.TheConstants.{PARTIAL, REFUSED}
+
+-- the bytes begin with a message within the limits
+abbrev pub BeginsWithMessage : Limits → List ℕ → Type 0
+BeginsWithMessage limits b = (order : Order) × (m : MessageTree) × (n : ℕ) × IsWhole limits b order m n
+
+-- with one whose body has a value of the number
+abbrev pub BeginsWithValue : Limits → List ℕ → (number : ℕ) → Type 0
+BeginsWithValue limits b number =
+    (order : Order) × (m : MessageTree) × (n : ℕ) × IsWhole limits b order m n × ((x : ValueTree) × (body_value number m.body ≡ Some x))
+
+-- with one whose body has none
+abbrev pub BeginsWithoutValue : Limits → List ℕ → (number : ℕ) → Type 0
+BeginsWithoutValue limits b number = (order : Order) × (m : MessageTree) × (n : ℕ) × IsWhole limits b order m n × (body_value number m.body ≡ None)
+
+-- no message begins so
+abbrev pub AreRefused : Limits → List ℕ → Type 0
+AreRefused limits b = (f : Fault) × IsRefused limits b f
+
+-- the answer says that more bytes are needed exactly if they are, and that no message begins so exactly if none does
+pub record TellsApart (limits : Limits) (b : List ℕ) (answer : ℕ) : Type 0 where
+  pub partial : IsPartial limits b ↔ (answer ≡ PARTIAL)
+  pub refused : AreRefused limits b ↔ (answer ≡ REFUSED)

@@ -1,0 +1,20 @@
+//! The answers of the calls: one set for all of them, in which 0 is success. Their numbers are for good, and 3 is kept for out of memory.
+#![tactic(auto)]
+
+/// The bytes begin with a message, or are a text of the kind that is asked for; what was asked for is written.
+pub const WHOLE: u32 = 0;
+
+/// More bytes are needed.
+pub const PARTIAL: u32 = 1;
+
+/// The bytes are at fault.
+pub const REFUSED: u32 = 2;
+
+/// The caller has too few bytes for what is to be written.
+pub const NO_ROOM: u32 = 4;
+
+/// The body of the message has no value of the number that is asked for.
+pub const NO_VALUE: u32 = 5;
+
+/// No kind of text has the number that is asked for.
+pub const NO_KIND: u32 = 6;

@@ -1,0 +1,114 @@
+/* Holds the library against its header: the version, the sizes of structs, each null pointer that is allowed, each answer of the
+ * calls that take a message apart, and a sentence for each reason that has a name. Prints the number and the name of each reason. */
+#include <dbus_wire.h>
+
+#include <stdio.h>
+#include <string.h>
+
+/* Past the last reason. */
+enum { NUMBERS = 64 };
+
+/* A signal of little-endian bytes with the string "hi", whose last 0 is that of the literal. */
+static const uint8_t SIGNAL[] = "l\4\0\1\7\0\0\0\1\0\0\0\67\0\0\0\1\1o\0\1\0\0\0/\0\0\0\0\0\0\0\2\1s\0\3\0\0\0a.b\0\0\0\0\0\3\1s\0"
+                                "\1\0\0\0c\0\0\0\0\0\0\0\10\1g\0\1s\0\0\2\0\0\0hi";
+enum { SIGNAL_LENGTH = sizeof SIGNAL };
+
+static int failures = 0;
+
+static void expect(int holds, const char *what) {
+    if (!holds) {
+        printf("it does not hold: %s\n", what);
+        failures++;
+    }
+}
+
+static void sizes(void) {
+    expect(dbus_wire_version() == DBUS_WIRE_VERSION, "the library has the header's version");
+    expect(sizeof(struct dbus_wire_limits) == 16 && sizeof(struct dbus_wire_checked) == 32, "limits 16, checked 32 bytes");
+    expect(sizeof(struct dbus_wire_parts) == 208 && sizeof(struct dbus_wire_text) == 24, "parts 208, text 24 bytes");
+    expect(sizeof(struct dbus_wire_argument) == 24 && sizeof(struct dbus_wire_text_checked) == 16, "argument 24, text_checked 16 bytes");
+}
+
+static void nulls(void) {
+    struct dbus_wire_limits limits;
+    struct dbus_wire_checked told, same;
+    struct dbus_wire_parts parts;
+    struct dbus_wire_argument argument;
+    struct dbus_wire_text_checked text;
+
+    expect(dbus_wire_check(NULL, 0, NULL, &told) == DBUS_WIRE_PARTIAL, "no bytes are partial");
+    expect(dbus_wire_parts_of(NULL, 0, NULL, &parts) == DBUS_WIRE_PARTIAL, "no bytes are partial, by parts");
+    expect(dbus_wire_argument_of(NULL, 0, NULL, 0, &argument) == DBUS_WIRE_PARTIAL, "no bytes are partial, by argument");
+    expect(dbus_wire_wanted(NULL, 0, NULL) == 0, "no bytes state no length");
+    expect(dbus_wire_swap(NULL, 0, NULL, 'l', NULL, 0, &told) == DBUS_WIRE_PARTIAL, "no bytes are partial, by swap");
+    expect(dbus_wire_swap(SIGNAL, SIGNAL_LENGTH, NULL, 'B', NULL, 0, &told) == DBUS_WIRE_NO_ROOM, "no room");
+    expect(dbus_wire_text_check(DBUS_WIRE_TEXT_STRING, NULL, 0, &text) == DBUS_WIRE_OK, "the empty text is a STRING");
+    expect(dbus_wire_reason_name(DBUS_WIRE_REASON_KIND, NULL, 0) == 4, "a name's length without room");
+
+    dbus_wire_specification_limits(&limits);
+    expect(dbus_wire_check(SIGNAL, SIGNAL_LENGTH, NULL, &told) == DBUS_WIRE_WHOLE, "a signal is whole");
+    expect(dbus_wire_check(SIGNAL, SIGNAL_LENGTH, &limits, &same) == DBUS_WIRE_WHOLE && memcmp(&told, &same, sizeof told) == 0,
+           "null limits are the specification's");
+    limits.message = 16;
+    expect(dbus_wire_check(SIGNAL, SIGNAL_LENGTH, &limits, &same) == DBUS_WIRE_REFUSED &&
+               same.reason == DBUS_WIRE_REASON_MESSAGE_TOO_LONG,
+           "other limits are not");
+}
+
+/* The bytes of a struct that no call has written, by which it is seen whether one does. */
+#define FRESH(thing) memset(&(thing), 0xAA, sizeof(thing))
+
+static int is_fresh(const void *thing, size_t size) {
+    const uint8_t *bytes = thing;
+    while (size > 0 && bytes[size - 1] == 0xAA) size--;
+    return size == 0;
+}
+
+static void answers(void) {
+    uint8_t bad[SIGNAL_LENGTH];
+    struct dbus_wire_parts parts;
+    struct dbus_wire_argument argument;
+    size_t length;
+
+    FRESH(parts), FRESH(argument);
+    for (length = 0; length < SIGNAL_LENGTH; length++) {
+        expect(dbus_wire_parts_of(SIGNAL, length, NULL, &parts) == DBUS_WIRE_PARTIAL, "a front is partial, by parts");
+        expect(dbus_wire_argument_of(SIGNAL, length, NULL, 0, &argument) == DBUS_WIRE_PARTIAL, "a front is partial, by argument");
+    }
+    memcpy(bad, SIGNAL, SIGNAL_LENGTH);
+    bad[SIGNAL_LENGTH - 1] = 1;
+    expect(dbus_wire_parts_of(bad, SIGNAL_LENGTH, NULL, &parts) == DBUS_WIRE_REFUSED, "a bad signal is refused, by parts");
+    expect(dbus_wire_argument_of(bad, SIGNAL_LENGTH, NULL, 0, &argument) == DBUS_WIRE_REFUSED, "and by argument");
+    expect(dbus_wire_argument_of(SIGNAL, SIGNAL_LENGTH, NULL, 1, &argument) == DBUS_WIRE_NO_VALUE, "there is no second value");
+    expect(is_fresh(&parts, sizeof parts) && is_fresh(&argument, sizeof argument), "then nothing is written");
+
+    expect(dbus_wire_parts_of(SIGNAL, SIGNAL_LENGTH, NULL, &parts) == DBUS_WIRE_WHOLE, "a signal has parts");
+    expect(parts.length == SIGNAL_LENGTH && parts.kind == DBUS_WIRE_TYPE_SIGNAL && parts.flags == 0, "it is a signal");
+    expect(parts.member.is_there && SIGNAL[parts.member.offset] == 'c', "its member is c");
+    expect(dbus_wire_argument_of(SIGNAL, SIGNAL_LENGTH, NULL, 0, &argument) == DBUS_WIRE_WHOLE, "it has a first value");
+    expect(argument.code == 's' && memcmp(SIGNAL + argument.offset, "hi", argument.length) == 0, "which is hi");
+}
+
+static void reasons(void) {
+    uint8_t name[16];
+    uint32_t reason, other;
+
+    for (reason = 0; reason < NUMBERS; reason++) {
+        size_t length = dbus_wire_reason_name(reason, name, sizeof name);
+        const char *text = dbus_wire_reason_text(reason);
+        expect((length > 0) == (strcmp(text, dbus_wire_reason_text(0)) != 0), "a reason has a name if and only if it has a text");
+        expect(length < sizeof name && strlen(text) > 0, "both fit");
+        for (other = 0; length > 0 && other < reason; other++)
+            expect(strcmp(text, dbus_wire_reason_text(other)) != 0, "each text is of one reason");
+        if (length > 0) printf("%u %s\n", (unsigned)reason, (const char *)name);
+    }
+    expect(dbus_wire_reason_text(UINT32_MAX) == dbus_wire_reason_text(0), "the greatest number is no reason");
+}
+
+int main(void) {
+    sizes();
+    nulls();
+    answers();
+    reasons();
+    return failures > 0;
+}
