@@ -1,20 +1,25 @@
 # make run         builds dbus-wire without its proofs, in 40 seconds, and checks a sample capture; ARGS='show' FILE=my.dbus for
 #                  another command and capture
-# make quick-test  the tests and the programs that hold every case, without proofs: some minutes
+# make quick-test  the tests, the programs that compare every case and the examples of doc comments, without proofs: some minutes
+# make api         prints docs/API.md, the calls of the libraries, out of the sources; make quick-test checks that it is current
+# make definitions prints the table of docs/DEFINITIONS.md out of the definitions; make definitions-check, and quick-test, check it
+# make doc-examples builds and runs the examples of doc comments, without proofs: a minute. make quick-test does it too
+# make readme-test runs the commands of README.md, by what make build made or else without proofs, and compares what they write
 # make build       proves dbus-wire and all below it, on all processors, and builds it: half an hour on four
 # make test        the gate: every proof from nothing, the must-fail edits, the tests and the programs' stored runs
 # make gate-times  the gate, and the processor minutes of each of its steps
-# make library     proves and builds the static library for C
-# make peers       holds the message cases against libdbus, GDBus and sd-bus, and writes docs/PEERS.md
-# make test-c      builds the examples for C and Rust over it, and holds what they write against dbus-wire check
-# make test-memory runs dbus-wire with each growth of its memory refused in turn
+# make library     proves and builds the library for C, static and shared
+# make peers       compares the message cases with libdbus, GDBus and sd-bus, and writes docs/PEERS.md
+# make test-c      builds the examples for C and Rust over it, and compares what they write with dbus-wire check
+# make test-memory runs dbus-wire failing each of its allocations in turn
 # make install     installs what make build and make library proved and built: the program with its manual page and completions, and the
 #                  library for C. PREFIX, BINDIR, LIBDIR, INCLUDEDIR, DATADIR, MANDIR and DESTDIR say where. install-program and
-#                  install-c install one of the two
+#                  install-c install one of the two; of the latter install-shared what programs need to run, install-dev what
+#                  compilers need
 # make deb         packages both for Debian, by dpkg-deb, in out/
 # make tarball     packs both, and a checksum, in out/
 # make wrong-bodies prints the wrong bodies that the prover refuses, and what refuses each
-# make instructions prints the instructions a byte of each command, by valgrind, and of libdbus where its headers are
+# make instructions prints the instructions per byte of each command, by valgrind, and of libdbus if its headers are there
 # make bench       MB/s of each command on several streams, by user and system time, and of the calls of the libraries
 
 PREFIX ?= /usr/local
@@ -27,20 +32,24 @@ DOCDIR ?= $(DATADIR)/doc/dbus-wire
 
 PROGRAM = crates/dbus_wire/out/dbus_wire
 ARCHIVE = out/libdbus_wire.a
+# include/dbus_wire.h says what changes its number.
+SONAME = libdbus_wire.so.0
+SHARED = out/$(SONAME)
 VERSION = $(shell sed -n 's/.*VERSION: &str = "\(.*\)";/\1/p' crates/dbus_command/src/help.rt)
 # The kit that everything was proved with, as README says.
 KIT = $(shell sed -n 's/.*Proved with\*\* \([^ ,]*\),.*/\1/p' README.md)
 
 COMPLETIONS = bash-completion/completions/dbus-wire zsh/site-functions/_dbus-wire fish/vendor_completions.d/dbus-wire.fish
 INSTALLED = $(BINDIR)/dbus-wire $(MANDIR)/man1/dbus-wire.1 $(addprefix $(DATADIR)/,$(COMPLETIONS)) $(DOCDIR)/LICENSE $(DOCDIR)/NOTICES \
-	$(INCLUDEDIR)/dbus_wire.h $(LIBDIR)/libdbus_wire.a $(LIBDIR)/pkgconfig/dbus-wire.pc
+	$(INCLUDEDIR)/dbus_wire.h $(addprefix $(LIBDIR)/,libdbus_wire.a libdbus_wire.so $(SONAME) libdbus_wire.so.$(VERSION)) \
+	$(LIBDIR)/pkgconfig/dbus-wire.pc
 
 # What make run does, and with which capture.
 ARGS = check
 FILE = samples/session.dbus
 
-.PHONY: kit run quick-test build library test test-c test-memory gate-times wrong-bodies peers instructions bench install install-program \
-	install-c install-notices uninstall deb tarball
+.PHONY: kit run quick-test build library test test-c test-memory gate-times wrong-bodies api definitions definitions-check doc-examples \
+	readme-test peers instructions bench install install-program install-c install-shared install-dev install-notices uninstall deb tarball
 
 run: kit
 	@echo "dbus-wire without its proofs (make build proves it), which takes at most 64 MiB in and gives 1 MiB out:" >&2
@@ -51,6 +60,9 @@ kit:
 	@rt version | grep -q "^$(KIT) " || echo "this was proved with $(KIT); the rt on the PATH is of $$(rt version)" >&2
 
 quick-test: kit
+	bench/api.py --check
+	bench/definitions.py --check
+	bench/doc_examples.py
 	bench/quick_test.py
 
 build: kit
@@ -59,6 +71,8 @@ build: kit
 library: kit
 	bench/build.py dbus_c
 	cp crates/dbus_c/out/libdbus_c.a $(ARCHIVE)
+	$(CC) -shared -o $(SHARED) -Wl,-soname,$(SONAME) -Wl,--whole-archive $(ARCHIVE) -Wl,--no-whole-archive \
+		-Wl,--version-script=include/libdbus_wire.map -Wl,-z,defs -Wl,-z,text
 
 # (what a killed build left, rt ci would refuse)
 test: kit
@@ -66,7 +80,7 @@ test: kit
 	rt ci
 
 test-c: build library
-	examples/test.sh $(PROGRAM) $(ARCHIVE)
+	examples/test.sh $(PROGRAM) $(ARCHIVE) $(SHARED)
 
 test-memory: build
 	bench/refused_memory.py $(PROGRAM) samples/big-endian.dbus
@@ -77,6 +91,21 @@ gate-times: kit
 
 wrong-bodies:
 	bench/wrong_bodies.py
+
+api:
+	bench/api.py
+
+doc-examples: kit
+	bench/doc_examples.py
+
+definitions:
+	bench/definitions.py
+
+definitions-check:
+	bench/definitions.py --check
+
+readme-test: kit
+	bench/readme_test.py
 
 peers:
 	cases/peers/compare.py
@@ -98,10 +127,18 @@ install-program: install-notices
 	install -D -m 644 completions/_dbus-wire $(DESTDIR)$(DATADIR)/zsh/site-functions/_dbus-wire
 	install -D -m 644 completions/dbus-wire.fish $(DESTDIR)$(DATADIR)/fish/vendor_completions.d/dbus-wire.fish
 
-install-c: install-notices
+install-c: install-shared install-dev
+
+install-shared: install-notices
+	@test -f $(SHARED) || { echo "there is no $(SHARED): run make library" >&2; exit 1; }
+	install -D -m 644 $(SHARED) $(DESTDIR)$(LIBDIR)/libdbus_wire.so.$(VERSION)
+	ln -sf libdbus_wire.so.$(VERSION) $(DESTDIR)$(LIBDIR)/$(SONAME)
+
+install-dev: install-notices
 	@test -f $(ARCHIVE) || { echo "there is no $(ARCHIVE): run make library" >&2; exit 1; }
 	install -D -m 644 include/dbus_wire.h $(DESTDIR)$(INCLUDEDIR)/dbus_wire.h
 	install -D -m 644 $(ARCHIVE) $(DESTDIR)$(LIBDIR)/libdbus_wire.a
+	ln -sf $(SONAME) $(DESTDIR)$(LIBDIR)/libdbus_wire.so
 	install -d $(DESTDIR)$(LIBDIR)/pkgconfig
 	sed 's|@INCLUDEDIR@|$(INCLUDEDIR)|; s|@LIBDIR@|$(LIBDIR)|; s|@VERSION@|$(VERSION)|' include/dbus-wire.pc.in \
 		> $(DESTDIR)$(LIBDIR)/pkgconfig/dbus-wire.pc

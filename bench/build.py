@@ -19,7 +19,7 @@ import subprocess
 import sys
 import time
 
-from crate_list import ROOT, folder_of, lanes, read_crates, read_lines
+from crate_list import ROOT, folder_of, lanes, libraries_below, read_crates, read_lines
 
 # More jobs than that seldom shorten one check.
 MOST_JOBS = 4
@@ -33,11 +33,6 @@ def read_minutes(names):
     lines = (ROOT / "bench" / "minutes.txt").read_text().splitlines()
     table = {name: float(minutes) for name, minutes in (line.split() for line in lines if line and line[0] != "#")}
     return {name: table.get(name, statistics.median(table.values())) for name in names}
-
-
-def below(name, uses):
-    """The libraries below a crate, each after those that it uses."""
-    return list(dict.fromkeys(it for used in uses[name] for it in (*below(used, uses), used)))
 
 
 @contextlib.contextmanager
@@ -96,7 +91,7 @@ class Build:
 
     def __init__(self, target):
         uses = read_crates()
-        self.libraries = {name: below(name, uses) for name in (*below(target, uses), target)}
+        self.libraries = {name: libraries_below(name, uses) for name in (*libraries_below(target, uses), target)}
         self.minutes = read_minutes(self.libraries)
         behind = collections.Counter(self.minutes)
         for name in reversed(self.libraries):

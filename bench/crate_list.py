@@ -20,6 +20,11 @@ def read_crates():
     return {name: [it for it in line.split(":")[1].split() if it in lines] for name, line in lines.items()}
 
 
+def libraries_below(name, uses):
+    """The libraries below a crate, each after those that it uses."""
+    return list(dict.fromkeys(it for used in uses[name] for it in (*libraries_below(used, uses), used)))
+
+
 def folder_of(name):
     return ROOT / "crates" / name
 

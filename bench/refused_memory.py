@@ -24,6 +24,8 @@ COMMAND_LINES = (
     (("check", "--max-array", "1000"), 1),
     (("filter", "type='nothing'"), 1),
     (("filter", "arg64='x'"), 1),
+    (("filter", "type='signal'", "type='error'", "--invert", "--owner", "org.a.B=:1.7"), 1),
+    (("filter", "", "--owner=org.a.B"), 1),
     (("swap",), 1),
     (("swap", "--to", "M"), 1),
     (("show", "--depth"), 22),

@@ -87,7 +87,7 @@ pub struct Client<A: Allocator = Global> {
 impl<A: Allocator + Copy> Client<A> {
     /// A client that has not started. It tries the mechanisms in their order.
     ///
-    /// They are handed back where a trace has over 255 bytes.
+    /// They are handed back if a trace has over 255 bytes.
     pub fn new(mechanisms: Vec<Mechanism<A>, A>) -> Result<Self, Vec<Mechanism<A>, A>>
         ensures made { IfOk result (λ c. client_machine c ≡ fresh_client mechanisms.items) }
         // its mechanisms are those of the laws
@@ -115,7 +115,7 @@ impl<A: Allocator + Copy> Client<A> {
         }
     }
 
-    /// Where the client stands.
+    /// The client's state.
     pub fn state(&self) -> ClientState
         ensures { result ≡ (client_machine self.now).state }
     {
@@ -129,10 +129,10 @@ impl<A: Allocator + Copy> Client<A> {
         }
     }
 
-    /// The line that asks for the first mechanism, or `Disconnect` where there is none. The client
+    /// The line that asks for the first mechanism, or `Disconnect` if there is none. The client
     /// must not have started.
     ///
-    /// Answers `AllocError` where memory ran out, and the client is unchanged then.
+    /// Returns `AllocError` if an allocation failed, and the client is unchanged then.
     pub fn start(&mut self, alloc: A) -> Result<ClientAct<A>, AllocError>
         requires { (client_machine self.old).state ≡ now.Fresh }
         ensures row { IfOk result (λ act.
@@ -148,7 +148,7 @@ impl<A: Allocator + Copy> Client<A> {
     /// What the client does on a line, as the one row of its table says, and the state after it.
     /// The state has to be one of the waiting ones.
     ///
-    /// Answers `AllocError` where memory ran out. The line is lost then, and the client unchanged.
+    /// Returns `AllocError` if an allocation failed. The line is lost then, and the client unchanged.
     pub fn receive(&mut self, alloc: A, line: ServerLine<A>) -> Result<ClientAct<A>, AllocError>
         requires { IsListening (client_machine self.old).state }
         ensures row { IfOk result (λ act.
@@ -191,7 +191,7 @@ impl<A: Allocator + Copy> Client<A> {
         })
     }
 
-    /// The row of the table, and no change yet.
+    /// The answer and the next state, as the table's row says. Nothing is changed.
     #[tactic(auto, unfolding(crate::specs::Machines::client_step))]
     pub(crate) fn step(&self, alloc: A, line: &ServerLine<A>) -> Result<ClientTurn<A>, AllocError>
         ensures { IfOk result (λ turn.

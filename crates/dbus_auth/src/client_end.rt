@@ -138,10 +138,10 @@ impl<A: Allocator + Copy> ClientEnd<A> {
         }
     }
 
-    /// The first bytes to be sent: the byte 0 and the line that asks for the first mechanism. Where
+    /// The first bytes to be sent: the byte 0 and the line that asks for the first mechanism. If
     /// there is no mechanism, no bytes, and the end is closed. The end must not have started.
     ///
-    /// Answers `AllocError` where memory ran out. The end is unchanged then, and is to be started again.
+    /// Returns `AllocError` if an allocation failed. The end is unchanged then, and is to be started again.
     #[tactic(auto, unfolding(crate::specs::Ends::client_starts))]
     pub fn start(&mut self) -> Result<Vec<u8, A>, AllocError>
         requires { (client_end_state self.old).started ≡ false }
@@ -165,14 +165,27 @@ impl<A: Allocator + Copy> ClientEnd<A> {
         Ok(send)
     }
 
-    /// Takes at most one line of the piece, and answers it. Where the piece holds more, the rest is
+    /// Takes at most one line of the piece, and answers it. If the piece holds more, the rest is
     /// to be handed in again. The end must have started.
     ///
     /// A line with a fault closes the end: nothing is taken and nothing sent. An end that has begun
     /// or is closed takes and sends nothing, so nothing after the line of OK is taken.
     ///
-    /// Answers `AllocError` where memory ran out. The end is unchanged then, and the same piece is to
+    /// Returns `AllocError` if an allocation failed. The end is unchanged then, and the same piece is to
     /// be handed in again whole.
+    ///
+    /// ```rust
+    /// use dbus_auth::{Client, ClientEnd, Mechanism, Status};
+    /// use std::io::Write;
+    ///
+    /// if let Ok(client) = Client::new(vec![in alloc; Mechanism::External(Some(1000))]?) {
+    ///     let mut end = ClientEnd::new(alloc, client);
+    ///     rt.stdout().write_all(&end.start()?)?;
+    ///     let step = end.take(b"OK 0123456789abcdef0123456789abcdef\r\n")?;
+    ///     rt.stdout().write_all(&step.send)?;
+    ///     println!(rt; "{}", step.status == Status::Begun)?;
+    /// }
+    /// ```
     #[tactic(auto, unfolding(crate::specs::Ends::client_takes))]
     pub fn take(&mut self, piece: &[u8]) -> Result<EndStep<A>, AllocError>
         requires { (client_end_state self.old).started ≡ true }

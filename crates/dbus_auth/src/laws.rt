@@ -55,7 +55,7 @@ pub fn any_peer_law()
         (ns : List ℕ) × IsFinished (run_server (server_at_first s) bytes ns) }
 {}
 
-/// `==` of two steps of ends: they are equal exactly where they took as many bytes, send the same bytes and
+/// `==` of two steps of ends: they are equal exactly if they took as many bytes, send the same bytes and
 /// say that the end stands at the same.
 pub fn equal_end_steps<A: Allocator>(a: &EndStep<A>, b: &EndStep<A>) -> bool
     ensures { IsTrue result ↔ (end_answer a.now ≡ end_answer b.now) }
@@ -63,21 +63,21 @@ pub fn equal_end_steps<A: Allocator>(a: &EndStep<A>, b: &EndStep<A>) -> bool
     a == b
 }
 
-/// `==` of two mechanisms: they are equal exactly where they say the same.
+/// `==` of two mechanisms: they are equal exactly if they say the same.
 pub fn equal_mechanisms<A: Allocator>(a: &Mechanism<A>, b: &Mechanism<A>) -> bool
     ensures { IsTrue result ↔ (client_mechanism a.now ≡ client_mechanism b.now) }
 {
     a == b
 }
 
-/// `==` of two acts of clients: they are equal exactly where they do the same, and send lines that say the same.
+/// `==` of two acts of clients: they are equal exactly if they do the same, and send lines that say the same.
 pub fn equal_client_acts<A: Allocator>(a: &ClientAct<A>, b: &ClientAct<A>) -> bool
     ensures { IsTrue result ↔ (client_action a.now ≡ client_action b.now) }
 {
     a == b
 }
 
-/// `==` of two acts of servers: they are equal exactly where they do the same, and send lines that say the same.
+/// `==` of two acts of servers: they are equal exactly if they do the same, and send lines that say the same.
 pub fn equal_server_acts<A: Allocator>(a: &ServerAct<A>, b: &ServerAct<A>) -> bool
     ensures { IsTrue result ↔ (server_action a.now ≡ server_action b.now) }
 {

@@ -25,7 +25,7 @@ pub enum ServerAct<A: Allocator = Global> {
 
 /// The server's state machine.
 ///
-/// It offers EXTERNAL where it has a user, and ANONYMOUS where that is allowed, in this order; the
+/// It offers EXTERNAL if it has a user, and ANONYMOUS if that is allowed, in this order; the
 /// lines of REJECTED list them. Its lines of ERROR have no text.
 ///
 /// | state | line | it sends | next state |
@@ -58,7 +58,7 @@ impl Server {
     /// A server in its first state.
     ///
     /// `user` is the client's user **as the transport tells it** (`SO_PEERCRED` of a Unix socket):
-    /// EXTERNAL is offered where there is one, and lets in who names it in decimal or names nobody.
+    /// EXTERNAL is offered if there is one, and lets in who names it in decimal or names nobody.
     /// `anonymous` says whether ANONYMOUS is offered, which lets in everybody.
     pub fn new(guid: Guid, user: Option<u32>, anonymous: bool) -> Self
         ensures machine { server_machine result ≡
@@ -79,7 +79,7 @@ impl Server {
         }
     }
 
-    /// Where the server stands.
+    /// The server's state.
     pub fn state(&self) -> ServerState
         ensures { result ≡ (server_machine self.now).state }
     {
@@ -89,7 +89,7 @@ impl Server {
     /// What the server does on a line, as the one row of its table says, and the state after it.
     /// The state has to be one of the waiting ones.
     ///
-    /// Answers `AllocError` where memory ran out. The line is lost then, and the server unchanged.
+    /// Returns `AllocError` if an allocation failed. The line is lost then, and the server unchanged.
     pub fn receive<A: Allocator + Copy>(
         &mut self,
         alloc: A,
@@ -110,7 +110,7 @@ impl Server {
         Ok(act)
     }
 
-    /// The row of the table, and no change yet.
+    /// The answer and the next state, as the table's row says. Nothing is changed.
     #[tactic(auto, unfolding(crate::specs::Machines::server_step))]
     pub(crate) fn step<A: Allocator + Copy>(
         &self,

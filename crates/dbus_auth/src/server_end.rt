@@ -92,14 +92,31 @@ impl<A: Allocator + Copy> ServerEnd<A> {
     }
 
     /// Takes at most one line of the piece, with the byte 0 before the first line, and answers it.
-    /// Where the piece holds more, the rest is to be handed in again.
+    /// If the piece holds more, the rest is to be handed in again.
     ///
     /// A first byte other than 0 and a line with a fault close the end: nothing is taken and nothing
     /// sent. An end that has begun or is closed takes and sends nothing, so nothing after BEGIN is
     /// taken.
     ///
-    /// Answers `AllocError` where memory ran out. The end is unchanged then, and the same piece is to
+    /// Returns `AllocError` if an allocation failed. The end is unchanged then, and the same piece is to
     /// be handed in again whole.
+    ///
+    /// ```rust
+    /// use dbus_auth::{Guid, Server, ServerEnd, Status};
+    /// use std::io::Write;
+    ///
+    /// let mut end = ServerEnd::new(alloc, Server::new(Guid([7; 16]), Some(1000), false));
+    /// // What a client of user 1000 sends, and then its first message.
+    /// let mut rest = b"\0AUTH EXTERNAL 31303030\r\nBEGIN\r\nl\x01".as_slice();
+    /// for _ in 0..rest.len() {
+    ///     let step = end.take(rest)?;
+    ///     rt.stdout().write_all(&step.send)?;
+    ///     rest = rest.get(step.taken..).unwrap_or(&[]);
+    ///     if step.status != Status::Talking {
+    ///         break;
+    ///     }
+    /// }
+    /// ```
     #[tactic(auto, unfolding(crate::specs::Ends::server_takes))]
     pub fn take(&mut self, piece: &[u8]) -> Result<EndStep<A>, AllocError>
         ensures step { IfOk result (λ s.

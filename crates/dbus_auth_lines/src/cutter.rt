@@ -13,7 +13,7 @@ use thiserror::Error;
 /// Why no line is given.
 #[derive(Clone, Copy, PartialEq, Eq, Debug, Drop, Error)]
 pub enum LineFault {
-    /// Memory ran out. Nothing is changed.
+    /// An allocation failed. Nothing is changed.
     #[error("allocation failed")]
     Memory,
     /// The line has more than 16,384 bytes with its CR LF: its byte at place 16,382 is neither CR
@@ -75,11 +75,11 @@ impl<A: Allocator + Copy> LineCutter<A> {
     }
 
     /// Takes the bytes of the piece up to the end of the line, and gives the line without its CR LF,
-    /// with the number of bytes taken. Where no line ends in the piece, takes all of it and gives
+    /// with the number of bytes taken. If no line ends in the piece, takes all of it and gives
     /// `None`. The rest of a piece is to be handed in again.
     ///
-    /// Where a byte has a fault before any line ends, answers the first one's and takes nothing. That
-    /// answer stays from then on. Answers `Memory` where memory ran out: the cutter is unchanged then,
+    /// If a byte has a fault before any line ends, answers the first one's and takes nothing. That
+    /// answer stays from then on. Returns `Memory` if an allocation failed: the cutter is unchanged then,
     /// and the same piece is to be handed in again.
     #[tactic(auto, using(crate::proofs::CutterAnswers::takes_as))]
     pub fn take(&mut self, piece: &[u8]) -> Result<(usize, Option<Vec<u8, A>>), LineFault>

@@ -40,7 +40,7 @@ pub fn written_line_law()
 {}
 
 /// What a line means, as `read_client` and `read_server` answer it, is what the one row of the table says that has
-/// it: a name, and words after spaces. Where no row has it, it is Other.
+/// it: a name, and words after spaces. If no row has it, it is Other.
 pub fn line_meaning_law()
     ensures client { (line : List ℕ) (c : ClientCommand) →
         MeansToServer line c ↔ (client_meaning line ≡ c) }
@@ -48,14 +48,14 @@ pub fn line_meaning_law()
         MeansToClient line c ↔ (server_meaning line ≡ c) }
 {}
 
-/// `==` of two lines of clients: they are equal exactly where they say the same.
+/// `==` of two lines of clients: they are equal exactly if they say the same.
 pub fn equal_client_lines<A: Allocator>(a: &ClientLine<A>, b: &ClientLine<A>) -> bool
     ensures { IsTrue result ↔ (client_command a.now ≡ client_command b.now) }
 {
     a == b
 }
 
-/// `==` of two lines of servers: they are equal exactly where they say the same.
+/// `==` of two lines of servers: they are equal exactly if they say the same.
 pub fn equal_server_lines<A: Allocator>(a: &ServerLine<A>, b: &ServerLine<A>) -> bool
     ensures { IsTrue result ↔ (server_command a.now ≡ server_command b.now) }
 {

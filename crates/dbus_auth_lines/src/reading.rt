@@ -20,7 +20,7 @@ use std::alloc::{AllocError, Allocator};
 /// with a word that is no hexadecimal text is `Other`, and never an error. After `ERROR` all bytes
 /// after one space are the text, its spaces too.
 ///
-/// Answers `AllocError` where memory ran out.
+/// Returns `AllocError` if an allocation failed.
 #[tactic(auto, unfolding(crate::specs::Lines::client_meaning), using(crate::proofs::Meanings::client_answer_means))]
 pub fn read_client<A: Allocator + Copy>(alloc: A, line: &[u8]) -> Result<ClientLine<A>, AllocError>
     ensures row { IfOk result (λ said. MeansToServer line.now (client_command said)) }
@@ -33,7 +33,7 @@ pub fn read_client<A: Allocator + Copy>(alloc: A, line: &[u8]) -> Result<ClientL
 /// What a line of a server means, given without its CR LF: as `read_client`, with the server's
 /// commands. `OK` takes one word of exactly 32 hexadecimal digits, and `REJECTED` any words.
 ///
-/// Answers `AllocError` where memory ran out.
+/// Returns `AllocError` if an allocation failed.
 #[tactic(auto, unfolding(crate::specs::Lines::server_meaning), using(crate::proofs::Meanings::server_answer_means))]
 pub fn read_server<A: Allocator + Copy>(alloc: A, line: &[u8]) -> Result<ServerLine<A>, AllocError>
     ensures row { IfOk result (λ said. MeansToClient line.now (server_command said)) }

@@ -42,7 +42,7 @@ pub fn find(kept: &[u8], piece: &[u8]) -> Found
 
 /// The line of this size, which `find` found, without its CR LF.
 ///
-/// Answers `AllocError` where memory ran out.
+/// Returns `AllocError` if an allocation failed.
 pub fn line_of<A: Allocator + Copy>(
     alloc: A,
     kept: &[u8],

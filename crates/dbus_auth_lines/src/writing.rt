@@ -14,7 +14,7 @@ use thiserror::Error;
 /// Why a line is not written.
 #[derive(Clone, Copy, PartialEq, Eq, Debug, Drop, Error)]
 pub enum TextFault {
-    /// Memory ran out.
+    /// An allocation failed.
     #[error("allocation failed")]
     Memory,
     /// No line spells this: it is `Other`; a mechanism is empty or has a byte outside 33 to 126; the
@@ -38,7 +38,7 @@ impl From<AllocError> for TextFault {
 /// The line of a client with its CR LF: the command and its words, joined by one space.
 /// Hexadecimal words are in lower case, and empty bytes are written as no word.
 ///
-/// Answers `Unspellable` exactly as [`TextFault`] says, and `Memory` where memory ran out.
+/// Returns `Unspellable` exactly as [`TextFault`] says, and `Memory` if an allocation failed.
 pub fn client_text<A: Allocator + Copy>(
     alloc: A,
     line: &ClientLine<A>,
@@ -54,7 +54,7 @@ pub fn client_text<A: Allocator + Copy>(
 /// The line of a server with its CR LF, written as `client_text` does. The words of `REJECTED` are
 /// mechanisms.
 ///
-/// Answers `Unspellable` exactly as [`TextFault`] says, and `Memory` where memory ran out.
+/// Returns `Unspellable` exactly as [`TextFault`] says, and `Memory` if an allocation failed.
 pub fn server_text<A: Allocator + Copy>(
     alloc: A,
     line: &ServerLine<A>,
@@ -69,7 +69,7 @@ pub fn server_text<A: Allocator + Copy>(
 
 /// The line of a client with its CR LF, whether or not it is spelled. Of `Other`, the CR LF alone.
 ///
-/// Answers `AllocError` where memory ran out.
+/// Returns `AllocError` if an allocation failed.
 pub fn client_bytes<A: Allocator + Copy>(
     alloc: A,
     line: &ClientLine<A>,
@@ -92,7 +92,7 @@ pub fn client_bytes<A: Allocator + Copy>(
 
 /// The line of a server with its CR LF, whether or not it is spelled. Of `Other`, the CR LF alone.
 ///
-/// Answers `AllocError` where memory ran out.
+/// Returns `AllocError` if an allocation failed.
 pub fn server_bytes<A: Allocator + Copy>(
     alloc: A,
     line: &ServerLine<A>,

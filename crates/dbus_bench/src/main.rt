@@ -5,12 +5,14 @@
 #![tactic(auto)]
 
 mod messages;
+mod parts;
 mod samples;
 mod timing;
 mod validated;
 mod values;
 
 use messages::bench_messages;
+use parts::bench_parts;
 use std::process::ExitCode;
 use std::{env, io};
 use timing::Extent;
@@ -28,7 +30,8 @@ fn extent_of(rt: &HostRuntime) -> io::Result<Extent> {
 fn bench(rt: &HostRuntime) -> io::Result<()> {
     let extent = extent_of(rt)?;
     bench_values(rt, extent)?;
-    bench_messages(rt, extent)
+    bench_messages(rt, extent)?;
+    bench_parts(rt, extent)
 }
 
 fn main(rt: HostRuntime) -> ExitCode {

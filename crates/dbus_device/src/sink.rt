@@ -8,19 +8,19 @@ use crate::device_fault::DeviceFault;
 
 /// A device that bytes are written to, as a file, a socket or a list in memory.
 ///
-/// What memory a device takes is its own matter: where it finds none, its call failed.
+/// What memory a device takes is its own matter: if it finds none, its call failed.
 pub trait Sink {
-    /// The bytes that it holds, where the device tells them.
+    /// The bytes that it holds, if the device tells them.
     ghost held: { Self → Option (List ℕ) };
 
     /// How often a call failed or took none of one or more bytes, modulo 2^64. A device failed in a call where this
     /// changed.
     ghost failures: { Self → ℕ };
 
-    /// Which reference it is, where it is one. No call changes it.
+    /// Which reference it is, if it is one. No call changes it.
     ghost reference: { Self → Option GName };
 
-    /// Takes a prefix of the bytes, and answers how many these are.
+    /// Takes a prefix of the bytes, and returns their number.
     ///
     /// `DeviceFault`: the device failed. It took none of these bytes, and the call may be made again.
     fn write(&mut self, bytes: &[u8]) -> Result<usize, DeviceFault>

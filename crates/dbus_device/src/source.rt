@@ -8,9 +8,9 @@ use crate::device_fault::DeviceFault;
 
 /// A device that bytes are read from, as a file, a socket or a list in memory.
 ///
-/// What memory a device takes is its own matter: where it finds none, its call failed.
+/// What memory a device takes is its own matter: if it finds none, its call failed.
 pub trait Source {
-    /// The bytes that are left, where the device tells them.
+    /// The bytes that are left, if the device tells them.
     ghost left: { Self → Option (List ℕ) };
 
     /// How often a call failed, modulo 2^64. A device failed in a call where this changed.
@@ -19,10 +19,10 @@ pub trait Source {
     /// How often it was called, modulo 2^64.
     ghost calls: { Self → ℕ };
 
-    /// Which reference it is, where it is one. No call changes it.
+    /// Which reference it is, if it is one. No call changes it.
     ghost reference: { Self → Option GName };
 
-    /// Fills a prefix of the buffer with the next bytes, and answers how many these are. 0 bytes are the end, or the
+    /// Fills a prefix of the buffer with the next bytes, and returns their number. 0 bytes are the end, or the
     /// buffer has no room.
     ///
     /// `DeviceFault`: the device failed. No byte is lost, and the call may be made again.

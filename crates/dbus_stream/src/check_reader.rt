@@ -16,6 +16,18 @@ use dbus_value::Limits;
 /// It accepts and refuses what a [`crate::MessageReader`] does. A message that lies whole in the buffer is validated there; any
 /// other is checked as it comes. It builds no message, keeps no byte of one outside its buffer but what its checker holds, and
 /// takes no memory, so it never answers `Memory`: it has a fixed size, about 303,000 bytes.
+///
+/// ```rust
+/// use dbus_stream::{CheckReader, FromRead};
+///
+/// let mut reader = CheckReader::new(FromRead::new(rt.stdin()));
+/// for _ in 0..u64::MAX {
+///     let Some(length) = reader.next()? else {
+///         break;
+///     };
+///     println!(rt; "{length} bytes")?;
+/// }
+/// ```
 pub type CheckReader<R> = Reader<R, Lengths, Large>;
 
 impl<R: Source> Reader<R, Lengths, Large> {

@@ -60,11 +60,29 @@ impl<A: Allocator + Copy> Cutter<A> {
         }
     }
 
-    /// Takes up to the end of the message under way and gives that message; or the whole piece, where its end is not
-    /// there yet. It says how many bytes of the piece were taken: hand in the others again.
+    /// Takes the bytes of the piece up to the end of the message under way and returns that message; or the whole piece, if
+    /// the end is not there yet. Returns how many bytes of the piece it took too: hand in the others again.
     ///
-    /// `Format`: the bytes that are held and the piece are no message within its limits; it stays for good. `Memory`: a
-    /// growth was refused. A refused call takes nothing.
+    /// `Format`: the bytes that are held and the piece are no message within its limits; it stays for good. `Memory`: an
+    /// allocation failed. A call that returns an error takes nothing.
+    ///
+    /// ```rust
+    /// use dbus_stream::Cutter;
+    ///
+    /// let mut cutter = Cutter::new(alloc);
+    /// for piece in bytes.chunks(64) {
+    ///     let mut rest = piece;
+    ///     // Each call takes a byte at least.
+    ///     for _ in 0..piece.len() {
+    ///         let (taken, given) = cutter.take(rest)?;
+    ///         if let Some((_, message)) = given {
+    ///             println!(rt; "serial {}", message.parts().serial)?;
+    ///         }
+    ///         rest = rest.get(taken..).unwrap_or(&[]);
+    ///     }
+    /// }
+    /// cutter.finish()?;
+    /// ```
     pub fn take(
         &mut self,
         piece: &[u8],
@@ -86,7 +104,7 @@ impl<A: Allocator + Copy> Cutter<A> {
         }
     }
 
-    // The answer by one decoding, where nothing is held and the piece states that all of its first message is there; else none.
+    // The answer by one decoding, if nothing is held and the piece states that all of its first message is there; else none.
     fn take_stated(
         &mut self,
         piece: &[u8],
@@ -157,10 +175,10 @@ impl<A: Allocator + Copy> Cutter<A> {
         self.gatherer.bytes().len()
     }
 
-    /// The input ended here: nothing is held.
+    /// Whether the input may end here: `Ok` if nothing is held.
     ///
-    /// The fault: `Truncated` at the number of bytes that are held, where there are any; the one that it met, where it
-    /// met one.
+    /// The fault: `Truncated` at the number of bytes that are held, if there are any; or the fault that `take`
+    /// returned, if it returned one.
     pub fn finish(&self) -> Result<(), Fault>
         ensures nothing { self.now.fault ≡ None → self.now.held ≡ [] → result ≡ Ok tt }
         ensures rest { self.now.fault ≡ None → ((self.now.held ≡ []) → ⊥) →

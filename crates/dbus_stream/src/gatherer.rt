@@ -22,7 +22,7 @@ pub struct Gatherer<A: Allocator> {
     alloc: A,
     limits: Limits,
     held: Vec<u8, A>,
-    // It was handed the bytes that are held; nothing, where these are a whole message.
+    // It was handed the bytes that are held; nothing, if these are a whole message.
     checker: Checker,
     whole: bool,
     // How many bytes the message has that it gave last, if that lay whole in the piece.
@@ -55,7 +55,7 @@ impl<A: Allocator + Copy> Gatherer<A> {
         }
     }
 
-    /// Lends no message, and begins the next one where it holds a whole one.
+    /// Lends no message, and begins the next one if it holds a whole one.
     pub(crate) fn begin(&mut self)
         ensures { self.new ≡ begun self.old }
     {
@@ -67,9 +67,9 @@ impl<A: Allocator + Copy> Gatherer<A> {
     }
 
     /// Takes the bytes of the piece up to the end of the message under way, and says how many these are; or the whole piece,
-    /// where its end is not there yet.
+    /// if its end is not there yet.
     ///
-    /// `Format`: the bytes that are held and the piece begin with no message. `Memory`: a growth was refused. Then nothing is
+    /// `Format`: the bytes that are held and the piece begin with no message. `Memory`: an allocation failed. Then nothing is
     /// taken.
     #[inline(always)]
     pub(crate) fn gather(&mut self, piece: &[u8]) -> Result<Option<usize>, StreamFault>
@@ -155,7 +155,7 @@ impl<A: Allocator + Copy> Gatherer<A> {
     }
 
     // Takes a piece that begins with no whole message, or goes on with one that is held, and writes into `given` what is validated of
-    // the message that ends there, if one does. It is not inlined: where a message lies whole in a piece, nothing makes room for it.
+    // the message that ends there, if one does. It is not inlined: if a message lies whole in a piece, nothing makes room for it.
     #[inline(never)]
     fn take_gathered(
         &mut self,

@@ -5,7 +5,7 @@ ghost use Rattle.dbus_stream.specs.Headline.{Headline};
 
 use std::alloc::Allocator;
 
-/// Bytes are accepted exactly where they begin with a message that the marshalling relation spells within the limits;
+/// Bytes are accepted exactly if they begin with a message that the marshalling relation spells within the limits;
 /// that message comes out, encoding it in its order gives those bytes back, and in either order decoding an encoding
 /// gives the message; however the input is cut, the same messages come and no byte past each is taken; a refusal carries
 /// the fault table's one place and reason.
@@ -24,7 +24,7 @@ pub fn one_cut()
     ensures { OneCut }
 {}
 
-/// Where a stream is cut in two anywhere, the messages of its first part are the first of its messages, under any limits.
+/// If a stream is cut in two anywhere, the messages of its first part are the first of its messages, under any limits.
 pub fn cut_of_prefix()
     ensures { CutOfPrefix }
 {}

@@ -75,13 +75,25 @@ impl<R: Source, A: Allocator + Copy> MessageReader<R, A> {
     }
 
     /// The next message with its byte order, or None at the end of the input. Bytes after the message are kept. After
-    /// the end each call answers the same, without reading. A read is made only where no whole message is kept, so a
+    /// the end each call answers the same, without reading. A read is made only if no whole message is kept, so a
     /// message is given at the read that ends it.
     ///
     /// `Format`: the bytes begin with no message within the limits; or the input ended within one, and then the reason is
     /// `Truncated`, at their number. `TooManyReads`: as many reads were made as it may make, none of them found the end, and
-    /// no whole message is kept. Both stay for good. `Device`: a read failed in this call. `Memory`: a growth was refused.
+    /// no whole message is kept. Both stay for good. `Device`: a read failed in this call. `Memory`: an allocation failed.
     /// After these two all that was read is kept, and the call may be made again.
+    ///
+    /// ```rust
+    /// use dbus_stream::{FromRead, MessageReader};
+    ///
+    /// let mut reader = MessageReader::new(alloc, FromRead::new(rt.stdin()));
+    /// for _ in 0..u64::MAX {
+    ///     let Some((_, message)) = reader.next()? else {
+    ///         break;
+    ///     };
+    ///     println!(rt; "serial {}", message.parts().serial)?;
+    /// }
+    /// ```
     pub fn next(&mut self) -> Result<Option<(Order, Message<A>)>, ReadFault>
         // Of what was kept and then read it gives what that begins with.
         ensures read { (r : Reads R.left R.calls self.old self.new) ×
@@ -103,10 +115,10 @@ impl<R: Source, A: Allocator + Copy> MessageReader<R, A> {
     }
 
     /// The next message with its byte order out of what was read already: no read is made. Bytes after the message are
-    /// kept. None where what is kept begins with no whole message; then `next` goes on from there and reads more.
+    /// kept. None if what is kept begins with no whole message; then `next` goes on from there and reads more.
     ///
     /// `Format`: the bytes begin with no message within the limits. It stays for good, and so does a fault that `next`
-    /// answers for good. `Memory`: a growth was refused. Then all that was read is kept, and the call may be made again.
+    /// answers for good. `Memory`: an allocation failed. Then all that was read is kept, and the call may be made again.
     pub fn next_kept(&mut self) -> Result<Option<(Order, Message<A>)>, ReadFault>
         // It gives what the bytes that are kept begin with.
         ensures kept { stopped_of self.old ≡ None → KeptAnswers self.old self.new result }

@@ -87,7 +87,7 @@ impl<R: Source, A: Allocator + Copy> RawReader<R, A> {
     }
 
     /// The bytes of the message that the last call gave, if that was [`RawReader::advance`] or [`RawReader::advance_kept`];
-    /// none where it gave no message.
+    /// none if it gave no message.
     pub fn message(&self) -> &[u8]
         ensures { result.now ≡ lent_of self.now }
     {
@@ -100,15 +100,31 @@ impl<R: Source, A: Allocator + Copy> RawReader<R, A> {
             .part(start - self.reader.taker.lent(), start)
     }
 
-    /// Goes on to the next message, and answers what is validated of its bytes, which [`RawReader::message`] lends then; None at the
+    /// Goes on to the next message, and returns what is validated of its bytes, which [`RawReader::message`] lends then; None at the
     /// end of the input. Bytes after the message are kept. After the end each call answers the same, without reading. A read is
-    /// made only where no whole message is kept, so a message is given at the read that ends it. Memory is taken only for a
+    /// made only if no whole message is kept, so a message is given at the read that ends it. Memory is taken only for a
     /// message that does not lie whole in the buffer. D-Bus Specification, "Message Protocol".
     ///
     /// `Format`: the bytes begin with no message within the limits; or the input ended within one, and then the reason is
     /// `Truncated`, at their number. `TooManyReads`: as many reads were made as it may make, none of them found the end, and
-    /// no whole message is kept. Both stay for good. `Device`: a read failed in this call. `Memory`: a growth was refused.
+    /// no whole message is kept. Both stay for good. `Device`: a read failed in this call. `Memory`: an allocation failed.
     /// After these two all that was read is kept, and the call may be made again.
+    ///
+    /// ```rust
+    /// use dbus_message::message_type;
+    /// use dbus_stream::{FromRead, RawReader};
+    /// use std::io::Write;
+    ///
+    /// let mut reader = RawReader::new(alloc, FromRead::new(rt.stdin()));
+    /// for _ in 0..u64::MAX {
+    ///     let Some(validated) = reader.advance()? else {
+    ///         break;
+    ///     };
+    ///     if validated.kind == message_type::SIGNAL {
+    ///         rt.stdout().write_all(reader.message())?;
+    ///     }
+    /// }
+    /// ```
     pub fn advance(&mut self) -> Result<Option<Validated>, ReadFault>
         // Of what was kept and then read it lends the message that that begins with, and validates it.
         ensures read { (r : Reads R.left R.calls self.old self.new) ×
@@ -129,11 +145,11 @@ impl<R: Source, A: Allocator + Copy> RawReader<R, A> {
         self.reader.next()
     }
 
-    /// Goes on to the next message out of what was read already: no read is made. Bytes after the message are kept. None where
+    /// Goes on to the next message out of what was read already: no read is made. Bytes after the message are kept. None if
     /// what is kept begins with no whole message; then `advance` goes on from there and reads more.
     ///
     /// `Format`: the bytes begin with no message within the limits. It stays for good, and so does a fault that `advance`
-    /// answers for good. `Memory`: a growth was refused. Then all that was read is kept, and the call may be made again.
+    /// answers for good. `Memory`: an allocation failed. Then all that was read is kept, and the call may be made again.
     pub fn advance_kept(&mut self) -> Result<Option<Validated>, ReadFault>
         // It lends the message that the bytes that are kept begin with, and validates it.
         ensures kept { stopped_of self.old ≡ None → KeptAnswers self.old self.new result }
@@ -152,8 +168,8 @@ impl<R: Source, A: Allocator + Copy> RawReader<R, A> {
     }
 
     /// The bytes of the next message, or None at the end of the input: of what [`RawReader::advance`] lends, a copy, or those
-    /// that were gathered. Then no message is lent. Faults are those of `advance`, and `Memory` besides where the copy was
-    /// refused: then the message is kept, and the same call gives it again.
+    /// that were gathered. Then no message is lent. Faults are those of `advance`, and `Memory` also if the copy could not be
+    /// allocated: then the message is kept, and the same call gives it again.
     pub fn next(&mut self) -> Result<Option<Vec<u8, A>>, ReadFault>
         // Of what was kept and then read it gives the bytes of the message that that begins with.
         ensures read { (r : Reads R.left R.calls self.old self.new) ×
@@ -175,7 +191,7 @@ impl<R: Source, A: Allocator + Copy> RawReader<R, A> {
         }
     }
 
-    // The bytes of the message that is lent. Where the memory is not there, the message is kept again.
+    // The bytes of the message that is lent. If the memory is not there, the message is kept again.
     fn give(&mut self) -> Result<Option<Vec<u8, A>>, ReadFault>
         ensures gives { GivesLent self.old self.new result }
         ensures unread { ReadsNothing self.old self.new }

@@ -5,7 +5,7 @@ use thiserror::Error;
 /// Why a reader of messages gives no message.
 #[derive(Clone, Copy, Debug, PartialEq, Eq, Error)]
 pub enum ReadFault {
-    /// A growth was refused. The bytes that were read are kept, and the call may be made again.
+    /// An allocation failed. The bytes that were read are kept, and the call may be made again.
     #[error("allocation failed")]
     Memory,
     /// The bytes that are kept begin with no message, or end within one. Its place counts from the first of them. It

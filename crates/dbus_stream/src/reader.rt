@@ -86,12 +86,12 @@ impl<R: Source, T: Taker, B: Buffer> Reader<R, T, B> {
     }
 
     /// What its taker makes of the next message, or None at the end of the input. Bytes after the message are kept. After
-    /// the end each call answers the same, without reading. A read is made only where no whole message is kept, so a
+    /// the end each call answers the same, without reading. A read is made only if no whole message is kept, so a
     /// message is given at the read that ends it. D-Bus Specification, "Message Protocol".
     ///
     /// `Format`: the bytes begin with no message within the limits; or the input ended within one, and then the reason is
     /// `Truncated`, at their number. `TooManyReads`: as many reads were made as it may make, none of them found the end, and
-    /// no whole message is kept. Both stay for good. `Device`: a read failed in this call. `Memory`: a growth was refused.
+    /// no whole message is kept. Both stay for good. `Device`: a read failed in this call. `Memory`: an allocation failed.
     /// After these two all that was read is kept, and the call may be made again.
     pub fn next(&mut self) -> Result<Option<T::Given>, ReadFault>
         // Of what was kept and then read it gives what that begins with.
@@ -131,10 +131,10 @@ impl<R: Source, T: Taker, B: Buffer> Reader<R, T, B> {
     }
 
     /// What its taker makes of the next message out of what was read already: no read is made. Bytes after the message are
-    /// kept. None where what is kept begins with no whole message; then `next` goes on from there and reads more.
+    /// kept. None if what is kept begins with no whole message; then `next` goes on from there and reads more.
     ///
     /// `Format`: the bytes begin with no message within the limits. It stays for good, and so does a fault that `next`
-    /// answers for good. `Memory`: a growth was refused. Then all that was read is kept, and the call may be made again.
+    /// answers for good. `Memory`: an allocation failed. Then all that was read is kept, and the call may be made again.
     pub fn next_kept(&mut self) -> Result<Option<T::Given>, ReadFault>
         // It gives what the bytes that are kept begin with.
         ensures kept { (w : List ℕ) → Keeps T.known self.old w → stopped_of self.old ≡ None →
@@ -153,7 +153,7 @@ impl<R: Source, T: Taker, B: Buffer> Reader<R, T, B> {
         self.take_kept()
     }
 
-    // What the end of the input comes to.
+    // The input has ended: `None`, or `Truncated` within a message.
     fn finish(&mut self) -> Result<Option<T::Given>, ReadFault>
         ensures finishes { Finishes self.old self.new result }
         ensures unread { ReadsNothing T.known self.old self.new }
@@ -169,7 +169,7 @@ impl<R: Source, T: Taker, B: Buffer> Reader<R, T, B> {
         Err(fault)
     }
 
-    // What it comes to that no more reads may be made.
+    // No read is left: `TooManyReads`, for good.
     fn give_up(&mut self) -> Result<Option<T::Given>, ReadFault>
         ensures gives_up { GivesUp self.old self.new result }
         ensures unread { ReadsNothing T.known self.old self.new }
@@ -178,7 +178,7 @@ impl<R: Source, T: Taker, B: Buffer> Reader<R, T, B> {
         Err(ReadFault::TooManyReads)
     }
 
-    // What the taker makes of what is left of the buffer. Where no message ends there, it takes all of that.
+    // What the taker makes of what is left of the buffer. If no message ends there, it takes all of that.
     fn take_kept(&mut self) -> Result<Option<T::Given>, ReadFault>
         requires { stopped_of self.old ≡ None }
         ensures takes { (w : List ℕ) → Keeps T.known self.old w →

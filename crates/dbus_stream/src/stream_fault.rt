@@ -5,7 +5,7 @@ use thiserror::Error;
 /// Why a cutter gives no message.
 #[derive(Clone, Copy, Debug, PartialEq, Eq, Error)]
 pub enum StreamFault {
-    /// A growth was refused. Nothing was taken, and the call may be made again.
+    /// An allocation failed. Nothing was taken, and the call may be made again.
     #[error("allocation failed")]
     Memory,
     /// The bytes are no message. The place counts from the first byte of the message under way. It stays for good.

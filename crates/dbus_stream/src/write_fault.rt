@@ -4,7 +4,7 @@ use thiserror::Error;
 /// Why a message is not written.
 #[derive(Clone, Copy, Debug, PartialEq, Eq, Error)]
 pub enum WriteFault {
-    /// A growth was refused. Nothing was written.
+    /// An allocation failed. Nothing was written.
     #[error("allocation failed")]
     Memory,
     /// A write failed, or took none of its bytes. The first `written` bytes of the message went out.

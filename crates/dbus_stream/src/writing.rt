@@ -12,8 +12,17 @@ use std::alloc::Allocator;
 
 /// Writes the bytes that spell the message in this order.
 ///
-/// `Memory`: a growth was refused, and nothing was written. `Device`: a call failed or took none, and the bytes before
+/// `Memory`: an allocation failed, and nothing was written. `Device`: a call failed or took none, and the bytes before
 /// it went out. Then the sink is not called again.
+///
+/// ```rust
+/// use dbus_message::{Answer, decode};
+/// use dbus_stream::{FromWrite, write_message};
+///
+/// if let Answer::Whole { order, message, .. } = decode(alloc, bytes)? {
+///     write_message(alloc, &mut FromWrite::new(rt.stdout()), order, &message)?;
+/// }
+/// ```
 pub fn write_message<A: Allocator + Copy, W: Sink>(
     alloc: A,
     sink: &mut W,

@@ -1,0 +1,157 @@
+#!/usr/bin/env python3
+"""api.py [--check]: writes docs/API.md, the calls of the libraries by what a caller wants to do, out of the sources.
+
+A call is a public function, or a method of a public type or trait, that a crate of CALLERS declares or re-exports. Laws are none:
+docs/PROVED.md names them. With --check nothing is written, and the exit status is 1 if the page is not current. It is 1 too if a call has
+no doc comment.
+"""
+
+import collections
+import re
+import sys
+
+from crate_list import ROOT, read_crates
+from sources import TYPES, all_types, cases, exports, methods
+
+PAGE = ROOT / "docs" / "API.md"
+
+# What a program names in its line of crates.txt. A call is listed under the first of them that has it.
+CALLERS = """dbus_value dbus_message dbus_compose dbus_validate dbus_swap dbus_stream dbus_device dbus_match dbus_rule_set dbus_auth
+    dbus_auth_lines dbus_show dbus_show_view dbus_json dbus_types dbus_texts""".split()
+
+# Each heading, with the crates, and the files of crates, whose calls stand below it in this order.
+HEADINGS = {
+    "Read a message": "dbus_decode dbus_message_model dbus_header",
+    "Look at a message without a tree": "dbus_view/view.rt dbus_view dbus_values/values.rt dbus_values dbus_unmarshal/copying.rt",
+    "Check bytes": "dbus_check dbus_validate/validating.rt dbus_validate",
+    "Make a message and encode it": "dbus_compose dbus_build dbus_encode dbus_swap",
+    "Values alone": "dbus_unmarshal dbus_marshal dbus_value_model",
+    "Read and write streams": """dbus_stream/cutter.rt dbus_stream/message_reader.rt dbus_stream/raw_reader.rt dbus_stream/check_reader.rt
+        dbus_stream/writing.rt dbus_device dbus_stream""",
+    "Match rules": "dbus_match/parse.rt dbus_match/to_text.rt dbus_match dbus_rule_set",
+    "The handshake": "dbus_auth/server_end.rt dbus_auth/client_end.rt dbus_auth dbus_auth_lines",
+    "Print": "dbus_show/show.rt dbus_show_view dbus_json dbus_show",
+    "Texts and types": "dbus_types dbus_texts",
+    "Limits": "dbus_value_model/limits.rt dbus_value_model/fd_rule.rt",
+    "Others": "",
+}
+
+HEAD = """\
+# The calls of the libraries
+
+`make api` prints this page out of the sources, and `make quick-test` fails if it is not current. A row has a call without its contract, the first
+sentence of its doc comment, its error type with the cases of that, and the crate that a program names in `crates.txt` to call it. The doc comment, in
+the file of the row, says the rest: when each error comes, and what stands after it. docs/PROVED.md says which clause promises what, and docs/LIBRARY.md
+how a program uses a library.
+"""
+
+# Of an error type with more cases the row has the name alone: "Errors" lists them.
+CASES_IN_A_ROW = 6
+
+
+def first_sentence(doc):
+    """The first sentence of a doc comment, its links as plain names."""
+    text = " ".join(doc).split("  ")[0]
+    text = re.sub(r"\[(`[^`]*`)\](\([^)]*\))?", r"\1", text)
+    return re.match(r"(.*?\.)(?: |$)|(.*)", text)[0].strip().replace("|", "\\|")
+
+
+def calls():
+    """Each call once: the crate that a caller names, how it is called there, and its item."""
+    seen = set()
+    for caller in (it for it in CALLERS if it in read_crates()):
+        for item, path in exports(caller).values():
+            if item in seen:
+                continue
+            seen.add(item)
+            if item.kind == "fn":
+                yield caller, path + item.name, item
+            elif item.kind in TYPES:
+                yield from ((caller, f"{kind}::{it.name}", it) for kind, it in methods(item))
+
+
+def outer_parts(text):
+    """The parts of a list of types, which commas part outside of brackets."""
+    parts, depth = [""], 0
+    for letter in text:
+        depth += (letter in "<([") - (letter in ">)]")
+        if letter == "," and depth == 0:
+            parts.append("")
+        else:
+            parts[-1] += letter
+    return parts
+
+
+def error_of(item):
+    """The error type, if the call returns a Result. One that hands back its arguments has them in a pair with it."""
+    found = re.search(r"-> .*?\bResult<(.*)>", item.signature)
+    return outer_parts(outer_parts(found[1])[-1].strip(" ()"))[-1].strip() if found else None
+
+
+def cases_of(name):
+    """The cases of an error type of ours, each with what is said of it."""
+    item = all_types().get(name)
+    return [(case, first_sentence(doc)) for case, doc in cases(item)] if item and item.kind == "enum" else []
+
+
+def place_of(item):
+    """The heading of a call, by its file, else by its crate, and the number of that below the heading."""
+    for key in (f"{item.crate}/{item.file}", item.crate):
+        for heading, places in HEADINGS.items():
+            if key in places.split():
+                return heading, places.split().index(key)
+    return "Others", 0
+
+
+def row(caller, name, item):
+    signature = name + item.signature.split("fn ", 1)[1].removeprefix(item.name)
+    error = error_of(item)
+    listed = [f"`{case}`" for case, _ in cases_of(error)]
+    told = f"`{error}`" if error else ""
+    if 0 < len(listed) <= CASES_IN_A_ROW:
+        told += ": " + ", ".join(listed)
+    return f"| `{signature}` | {first_sentence(item.doc)} | {told} | `{caller}` | `{item.crate}/src/{item.file}` |"
+
+
+def error_rows(listed):
+    """A row for each case of each error type of ours, in the order of the calls that return it."""
+    names = dict.fromkeys(it for *_, item in listed if (it := error_of(item)) in all_types())
+    # (a fault is a place and a reason)
+    for name in (*names, *(["Reason"] if "Fault" in names else [])):
+        item = all_types()[name]
+        for case, said in cases_of(name) or [("", first_sentence(item.doc))]:
+            yield f"| `{name}{'::' if case else ''}{case}` | {said} | `{item.crate}/src/{item.file}` |"
+
+
+def table(heading, columns, rows):
+    return [f"\n## {heading}\n", f"| {' | '.join(columns)} |", "|" + " --- |" * len(columns), *rows]
+
+
+def page(listed):
+    files = list(dict.fromkeys((item.crate, item.file) for *_, item in listed))
+    found = collections.defaultdict(list)
+    for call in sorted(listed, key=lambda it: (place_of(it[2]), files.index((it[2].crate, it[2].file)), it[2].line)):
+        found[place_of(call[2])[0]].append(row(*call))
+    lines = []
+    for heading in HEADINGS:
+        if found[heading]:
+            lines += table(heading, ("call", "what it does", "errors", "crate", "file"), found[heading])
+    lines += table("Errors", ("error", "when it comes", "file"), error_rows(listed))
+    return HEAD + "\n".join(lines) + "\n"
+
+
+def main(*words):
+    listed = list(calls())
+    faults = [f"{item.crate}/src/{item.file}: {name} has no doc comment" for _, name, item in listed if not item.doc]
+    text = page(listed)
+    if words != ("--check",):
+        PAGE.write_text(text)
+    elif not PAGE.exists() or PAGE.read_text() != text:
+        faults.append("docs/API.md is not current: make api prints it")
+    for fault in faults:
+        print(fault, file=sys.stderr)
+    return 1 if faults else 0
+
+
+if __name__ == "__main__":
+    sys.exit(main(*sys.argv[1:]))

@@ -1,0 +1,121 @@
+#!/usr/bin/env python3
+"""doc_examples.py: compiles and runs the examples in the doc comments of the crates, without proofs.
+
+An example is a block of a doc comment, fenced by ```rust and ```. It is the body of a function that has the allocator `alloc`, the host `rt` and
+`bytes`, one message of samples/session.dbus, and that ends well. The functions become a program out/doc_examples, one file each, which is
+tried by `rt try`. The exit status is 1 if it is not built or does not end well.
+"""
+
+import os
+import re
+import shutil
+import subprocess
+import sys
+import textwrap
+
+from crate_list import ROOT, folder_of, read_crates, read_lines
+
+NAME = "doc_examples"
+APART = ROOT / "out" / NAME
+SECONDS = "120"
+
+EXAMPLE = """\
+//! The example at {place}.
+{uses}
+
+pub(crate) fn example(rt: &HostRuntime, alloc: Global, bytes: &[u8]) -> Result<()> {{
+{body}
+    Ok(())
+}}
+"""
+
+MAIN = """\
+//! The examples of doc comments, each run with the message that standard input has.
+#![tactic(auto)]
+
+{modules}
+
+use anyhow::Result;
+use std::io::Read;
+
+fn main(rt: HostRuntime) -> Result<()> {{
+    let alloc = rt.alloc();
+    let mut bytes = Vec::new(alloc);
+    rt.stdin().read_to_end(&mut bytes)?;
+{calls}
+    Ok(())
+}}
+"""
+
+
+def comment_of(line):
+    """The text of a doc comment's line, or nothing if it is none."""
+    found = re.match(r"\s*//[/!] ?(.*)", line)
+    return found and found[1]
+
+
+def examples_in(file):
+    """The number of the line above each example, and its lines."""
+    lines, began = [], None
+    for number, line in enumerate(file.read_text().splitlines(), 1):
+        text = comment_of(line)
+        if text == "```rust":
+            lines, began = [], number
+        elif text == "```" and began:
+            yield began, lines
+            began = None
+        elif began:
+            lines.append(text or "")
+
+
+def write_example(place, lines):
+    """The module's name, once its file is written."""
+    uses = sorted(["use anyhow::Result;", "use std::alloc::Global;", *(it for it in lines if it.startswith("use "))])
+    body = "\n".join(it for it in lines if not it.startswith("use ")).strip("\n")
+    name = re.sub(r"\W+", "_", place)
+    text = EXAMPLE.format(place=place, uses="\n".join(uses), body=textwrap.indent(body, "    "))
+    (APART / "crates" / NAME / "src" / f"{name}.rt").write_text(text)
+    return name
+
+
+def first_message(stream):
+    """The first message of a little-endian stream: 16 bytes, the header fields, padding to a multiple of 8, and the body."""
+    body, fields = (int.from_bytes(stream[at : at + 4], "little") for at in (4, 12))
+    return stream[: 16 + (fields + 7) // 8 * 8 + body]
+
+
+def write_program():
+    """Lays out the crates and the program, and returns the places of the examples."""
+    shutil.rmtree(APART, ignore_errors=True)
+    libraries = [it for it in read_crates() if (folder_of(it) / "src" / "lib.rt").exists() and "staticlib" not in read_lines()[it].split(":")[0]]
+    for name in libraries:
+        for part in ("src", "specs", "proofs"):
+            if (folder_of(name) / part).is_dir():
+                shutil.copytree(folder_of(name) / part, APART / "crates" / name / part, copy_function=os.link)
+    (APART / "crates" / NAME / "src").mkdir(parents=True)
+    lines = [read_lines()[it] for it in libraries]
+    (APART / "crates.txt").write_text("\n".join([*lines, f"{NAME}: {' '.join(libraries)} anyhow"]) + "\n")
+    found = {}
+    for file in (it for name in libraries for it in sorted((folder_of(name) / "src").glob("*.rt"))):
+        for number, example in examples_in(file):
+            place = f"{file.relative_to(ROOT / 'crates')}:{number}"
+            found[place] = write_example(place, example)
+    modules = "\n".join(f"mod {it};" for it in found.values())
+    calls = "\n".join(f"    {it}::example(&rt, alloc, &bytes)?;" for it in found.values())
+    (APART / "crates" / NAME / "src" / "main.rt").write_text(MAIN.format(modules=modules, calls=calls))
+    return list(found)
+
+
+def main():
+    places = write_program()
+    message = first_message((ROOT / "samples" / "session.dbus").read_bytes())
+    ran = subprocess.run(["rt", "try", "--seconds", SECONDS], cwd=APART / "crates" / NAME, input=message, capture_output=True)
+    if ran.returncode:
+        print(ran.stderr.decode(errors="replace"), f"{len(places)} examples: not built, or one did not end well", sep="\n")
+        return 1
+    print(f"{len(places)} examples of doc comments are built and run")
+    return 0
+
+
+if __name__ == "__main__":
+    sys.exit(main())

@@ -1,0 +1,96 @@
+#!/usr/bin/env python3
+"""readme_test.py: runs the commands that README.md shows with their output, and compares.
+
+A command is a line `$ ..` of an indented block; what it writes, on standard output and standard error, are the lines after it. `dbus-wire` is the
+program that was built by `make build`, or else `rt try`, which builds it without proofs for each run: some minutes in all. The exit status is
+1 if a command writes something else, or if code of the page that is said to be from a crate does not stand there.
+"""
+
+import difflib
+import os
+import pathlib
+import re
+import subprocess
+import sys
+import tempfile
+
+from crate_list import ROOT, folder_of
+
+PAGE = ROOT / "README.md"
+BUILT = folder_of("dbus_wire") / "out" / "dbus_wire"
+
+# `rt try` does not wait for input that comes late, and what it says itself, and empty lines, come on standard error too.
+TRIED = f"""\
+#!/bin/bash
+input=$(mktemp)
+trap 'rm -f "$input"' EXIT
+cat > "$input"
+cd {folder_of("dbus_wire")}
+rt try -- "$@" < "$input" 2> >(grep -v -E '^((interpreter|checked|races|run)[:=].*)?$' >&2)
+"""
+
+
+def shown(text):
+    """Each command of the page, with the lines that it writes there."""
+    for block in re.findall(r"(?:^ {4}.*\n)+", text, re.M):
+        lines = [line[4:] for line in block.splitlines()]
+        starts = [at for at, line in enumerate(lines) if line.startswith("$ ")]
+        for start, end in zip(starts, [*starts[1:], len(lines)]):
+            yield lines[start].removeprefix("$ "), lines[start + 1 : end]
+
+
+def bare(code):
+    """Code without its layout."""
+    return re.sub(r",(?=[)}\]])", "", re.sub(r"\s+", "", code))
+
+
+def misquoted(text):
+    """The crates from which a paragraph of the page says that the block after it is, if it is not."""
+    for crate, block in re.findall(r"^In code, from `crates/(\w+)`.*\n\n((?: {4}.*\n|\n(?= {4}))+)", text, re.M):
+        sources = (bare(it.read_text()) for it in (folder_of(crate) / "src").glob("*.rt"))
+        if not any(bare(block) in source for source in sources):
+            yield crate
+
+
+def written(command, folder):
+    ran = subprocess.run(
+        ["bash", "-c", command],
+        cwd=ROOT,
+        env={**os.environ, "PATH": f"{folder}:{os.environ['PATH']}"},
+        stdin=subprocess.DEVNULL,
+        stdout=subprocess.PIPE,
+        stderr=subprocess.STDOUT,
+        text=True,
+        errors="replace",
+    )
+    return ran.stdout.splitlines()
+
+
+def make_program(folder):
+    program = pathlib.Path(folder) / "dbus-wire"
+    if BUILT.exists():
+        program.symlink_to(BUILT)
+    else:
+        program.write_text(TRIED)
+        program.chmod(0o755)
+
+
+def main():
+    text = PAGE.read_text()
+    wrong = 0
+    for crate in misquoted(text):
+        wrong += 1
+        print(f"the code from {crate} does not stand there")
+    with tempfile.TemporaryDirectory() as folder:
+        make_program(folder)
+        for command, wanted in shown(text):
+            got = written(command, folder)
+            print(f"{'as shown' if got == wanted else 'OTHERWISE'}: {command}", flush=True)
+            if got != wanted:
+                wrong += 1
+                print("\n".join(difflib.unified_diff(wanted, got, "shown", "written", lineterm="")))
+    return 1 if wrong else 0
+
+
+if __name__ == "__main__":
+    sys.exit(main())
