@@ -1,11 +1,11 @@
 #!/usr/bin/env python3
-"""build.py NAME: proves and builds the crate NAME and all that it stands on, side by side, and says how far it is.
+"""build.py NAME: proves and builds the crate NAME and all that it uses, side by side, and says how far it is.
 
 `rt lib` locks each library below its crate, so crates that share one would wait for each other. Each is therefore built in a folder
 out/building/NAME, into which its files and the built libraries below it are linked, and what that makes is put back. First come
 the crates with the longest chain of others behind them; a processor that no other crate waits for joins in.
 
-bench/minutes.txt has the processor minutes of each crate's proof. The order and the time that is left are told by them.
+bench/minutes.txt has the processor minutes of each crate's proof. They give the order, and the time that is left.
 """
 
 import collections

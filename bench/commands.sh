@@ -1,6 +1,6 @@
 #!/usr/bin/env bash
-# bench/commands.sh PROGRAM: the MB a second of each command of PROGRAM, by speed.py; and of libdbus, which reads each message and
-# lets it go, where its headers are.
+# bench/commands.sh PROGRAM: the MB per second of each command of PROGRAM, by speed.py; and of libdbus, which parses each message
+# and frees it, if its headers are there.
 set -euo pipefail
 program=$1 here=$(cd "$(dirname "$0")" && pwd)
 folder=$(mktemp -d)

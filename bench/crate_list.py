@@ -4,7 +4,7 @@ import os
 import pathlib
 
 ROOT = pathlib.Path(__file__).resolve().parent.parent
-# A check takes about so much memory.
+# About the memory that a check takes.
 GIGABYTES_A_CHECK = 2
 
 

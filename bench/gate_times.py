@@ -25,7 +25,7 @@ Process = collections.namedtuple("Process", "parent started seconds")
 
 
 def read_process(pid):
-    """What the process has used so far, with those of its children that have ended, or None where it is gone."""
+    """What the process has used so far, with those of its children that have ended, or None if it is gone."""
     try:
         with open(f"/proc/{pid}/stat") as file:
             fields = file.read().rpartition(")")[2].split()
@@ -36,7 +36,7 @@ def read_process(pid):
 
 
 def read_step(pid):
-    """The crate and the step that the process works on, or None where it is no check or build."""
+    """The crate and the step that the process works on, or None if it is no check or build."""
     try:
         with open(f"/proc/{pid}/cmdline") as file:
             words = file.read().split("\0")

@@ -1,7 +1,7 @@
 #!/usr/bin/env bash
-# bench/instructions.sh PROGRAM: instructions a byte of each command of PROGRAM, as valgrind counts them, over the sample captures
+# bench/instructions.sh PROGRAM: instructions per byte of each command of PROGRAM, as valgrind counts them, over the sample captures
 # and the shapes of bench/shapes.py, then over its worst shapes; and of a check in plain C (bench/plain_check.c), and of libdbus, which
-# reads each message and lets it go, where its headers are. They do not depend on what else the machine does.
+# parses each message and frees it, if its headers are there. They do not depend on what else the machine does.
 set -euo pipefail
 program=$1 here=$(cd "$(dirname "$0")" && pwd)
 folder=$(mktemp -d)
@@ -17,7 +17,7 @@ if flags=$(pkg-config --cflags --libs dbus-1 2> /dev/null); then
     cc -O2 "$here/libdbus.c" -o "$libdbus" $flags
 fi
 
-# The instructions a byte of a command line over a stream.
+# The instructions per byte of a command line over a stream.
 count() {
     local input=$1 said
     shift

@@ -165,7 +165,7 @@ static bool pad(Bytes bytes, size_t *at, size_t end, size_t alignment) {
     return true;
 }
 
-/* A text of so many bytes and the zero after it are there. */
+/* A text of `size` bytes and the zero after it are there. */
 static bool is_there(Bytes bytes, size_t at, size_t end, size_t size) {
     return size < end - at && bytes[at + size] == 0;
 }

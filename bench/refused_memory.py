@@ -1,12 +1,12 @@
 #!/usr/bin/env python3
-"""refused_memory.py PROGRAM SAMPLE: runs dbus-wire with each growth of its memory refused in turn.
+"""refused_memory.py PROGRAM SAMPLE: runs dbus-wire failing each of its allocations in turn.
 
-Each command line below is run once with nothing refused, and then once for each growth. Where a growth is refused the
-program has to end with status 3 and the line `out of memory`, and its output has to be a front of what it is otherwise. The
-exit status is 1 where a run ended in another way, and where more runs than are named below ended as if nothing had been refused.
+Each command line below is run once with nothing refused, and then once for each allocation. If an allocation fails, the program
+must end with status 3 and the line `out of memory`, and its output must be a front of what it is otherwise. The exit status is 1
+if a run ended in another way, or if more runs than are named below ended as if nothing had been refused.
 
-Those that do are of growths that the kit's libraries do without: one in each run, room asked for ahead where the words of the
-command line are collected; and where an option is wrong, those of the search for a similar one, after which none is proposed.
+Those that do are of allocations that the kit's libraries do without: one in each run, room that is asked for ahead when the words of
+the command line are collected; and if an option is wrong, those of the search for a similar one, after which none is proposed.
 """
 
 import os
@@ -15,7 +15,7 @@ import sys
 import tempfile
 
 HERE = os.path.dirname(os.path.abspath(__file__))
-# Each with how many growths pass unseen.
+# Each with the number of failures that pass unseen.
 COMMAND_LINES = (
     (("check",), 1),
     (("show",), 1),
@@ -43,13 +43,13 @@ def run(program, words, sample, environment):
 
 
 def is_right(refused, plain):
-    """Whether a run with a growth refused ended as it should."""
+    """Whether a run with a failing allocation ended as it should."""
     status, out, told = refused
     return status == 3 and told == b"out of memory\n" and plain[1].startswith(out)
 
 
 def try_words(program, words, sample, library, folder):
-    """How many growths a run asks for, which of them passed unseen, and at which it went wrong."""
+    """How many allocations a run makes, the failures of which passed unseen, and at which it went wrong."""
     mark = os.path.join(folder, "refused")
     plain = run(program, words, sample, dict(os.environ))
     unseen = []

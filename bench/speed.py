@@ -1,5 +1,5 @@
 #!/usr/bin/env python3
-"""speed.py PROGRAM [LIBDBUS]: MB a second of user and system time of each command of PROGRAM, of a check in plain C
+"""speed.py PROGRAM [LIBDBUS]: MB per second of user and system time of each command of PROGRAM, of a check in plain C
 (plain_check.c), and of LIBDBUS, a build of libdbus.c.
 
 The streams are the sample captures and the shapes of shapes.py, each repeated to about 32 MB, and one message of 64 MB. Each

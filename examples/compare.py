@@ -1,10 +1,10 @@
 #!/usr/bin/env python3
-"""compare.py PROGRAM LISTER SWAPPER CHECKER..: holds what each CHECKER writes of messages against what `PROGRAM check` does.
+"""compare.py PROGRAM LISTER SWAPPER CHECKER..: compares what each CHECKER writes of messages with what `PROGRAM check` does.
 
 The messages are the captures in samples/, whole and cut short, and those of the first messages of each capture of which one
-byte is changed. Both the text and the exit status are compared. What LISTER writes of the captures is held against what
-`PROGRAM show` writes, whose header fields may stand in another order, and of whose values that are no text the first code of the
-type alone; what SWAPPER writes of them in either byte order, against `PROGRAM swap`. The exit status is 1 where they differ.
+byte is changed. Both the text and the exit status are compared. What LISTER writes of the captures is compared with what
+`PROGRAM show` writes, whose header fields may be in another order, and of whose values that are no text the first code of the
+type alone; what SWAPPER writes of them in either byte order, with `PROGRAM swap`. The exit status is 1 if they differ.
 """
 
 import collections

@@ -1,5 +1,5 @@
 #!/usr/bin/env python3
-"""tables.py HABITS TEXTS PROGRAM: holds the header's numbers against the crates' and the program's.
+"""tables.py HABITS TEXTS PROGRAM: compares the header's numbers with the crates' and the program's.
 
 The numbers of message types, flags, header fields, answers and rules are those of the crates' constants, and those of kinds of text are
 those of `kind_of` in dbus_c. The names of reasons, as HABITS prints them, are those of the header's constants. The version is the

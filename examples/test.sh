@@ -1,7 +1,7 @@
 #!/bin/sh
-# test.sh PROGRAM ARCHIVE SHARED: builds the examples over the archive, and holds what they write against what `PROGRAM check` does:
+# test.sh PROGRAM ARCHIVE SHARED: builds the examples over the archive, and compares what they write with what `PROGRAM check` does:
 # of the captures in samples/ and of messages of which a byte is changed; the C example once more under AddressSanitizer, and over
-# the shared library. Holds the header's numbers against the crates', and what is said of texts against the cases of texts.
+# the shared library. Compares the header's numbers with the crates', and what is said of texts with the cases of texts.
 set -eu
 program=$1 archive=$2 shared=$3
 here=$(cd "$(dirname "$0")" && pwd)

@@ -3,7 +3,7 @@
 source "$(dirname "$0")/stage.sh" "$@"
 name=dbus-wire-$version-x86_64-linux
 stage install out/stage PREFIX="/$name"
-# Where it is unpacked is not known: pkg-config finds it from its own file.
+# The folder that it is unpacked in is not known: pkg-config finds it from its own file.
 sed -i "s|=/$name|=\${pcfiledir}/../..|" "out/stage/$name/lib/pkgconfig/dbus-wire.pc"
 touch -d "@$SOURCE_DATE_EPOCH" "out/stage/$name/lib/pkgconfig/dbus-wire.pc" "out/stage/$name/lib/pkgconfig"
 tar --sort=name --owner=0 --group=0 --numeric-owner -C out/stage -cf - "$name" | gzip -9n > "out/$name.tar.gz"

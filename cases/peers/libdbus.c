@@ -11,7 +11,7 @@ enum answer judge(const unsigned char *bytes, size_t size, struct said *said) {
     int needed = dbus_message_demarshal_bytes_needed(block, (int)size);
     if (needed < 0)
         return REFUSED;
-    /* 0 where it wants 16 bytes first. */
+    /* 0 if it wants 16 bytes first. */
     if (needed == 0 || (size_t)needed > size)
         return PARTIAL;
     message = dbus_message_demarshal(block, needed, &fault);

@@ -1,5 +1,5 @@
 /* sd-bus. No public call of it reads a message of a block of bytes, so it gets them from a socket pair, behind the answers of a server
- * that lets it in. It drops a message that it refuses, or ends the connection; so where it gives none, a signal that follows tells
+ * that lets it in. It drops a message that it refuses, or ends the connection; so if it gives none, a signal that follows shows
  * whether it still waits for bytes. It reads a body only when it is asked for its values: each is asked for. */
 #define _GNU_SOURCE
 #include <stdint.h>

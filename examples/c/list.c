@@ -1,6 +1,6 @@
 /* Lists the D-Bus messages on standard input, as `dbus-wire show` does, but with the header fields in the order of their codes: a
  * line with the number, the byte order, the type, the serial, the flags and the known header fields, and then one for each value
- * of the body, which is its text, or the code of its type where it is none. The texts are written from the bytes that were read:
+ * of the body, which is its text, or the code of its type if it is no text. The texts are written from the bytes that were read:
  * nothing is copied. */
 #include <dbus_wire.h>
 

@@ -10,7 +10,7 @@ enum { MORE = 9, BEFORE = 0xAA };
 
 static struct dbus_wire_limits limits;
 
-/* Whether the message is answered and written as it should be, where there are `room` bytes for it. */
+/* Whether the message is answered and written as it should be, if there are `room` bytes for it. */
 static int is_right(const uint8_t *bytes, const struct dbus_wire_checked *message, uint32_t order, size_t room) {
     static uint8_t out[1 << 20];
     struct dbus_wire_checked told;

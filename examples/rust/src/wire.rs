@@ -9,7 +9,7 @@ pub struct Limits {
     pub fds: u32,
 }
 
-// What is told of bytes: `struct dbus_wire_checked`.
+// The result of checking bytes: `struct dbus_wire_checked`.
 #[repr(C)]
 #[derive(Default)]
 struct Told {
@@ -79,7 +79,7 @@ pub fn wanted(bytes: &[u8], limits: &Limits) -> Option<usize> {
     }
 }
 
-/// The name of a reason, empty where there is none of this number.
+/// The name of a reason, empty if there is none of this number.
 pub fn reason_name(reason: u32) -> String {
     let mut text = [0; 32];
     // SAFETY: the pointer and the length are those of an array.
