@@ -8,7 +8,7 @@ use std::fmt;
 /// What bytes are that a message is looked for in.
 #[derive(Clone, Copy, PartialEq, Eq, Debug)]
 pub enum Answer {
-    /// They begin with a message of so many bytes.
+    /// They begin with a message of this number of bytes.
     Whole(usize),
     /// More bytes are wanted.
     Partial,

@@ -69,7 +69,7 @@ fn split_before(bytes: &[u8], stop: u8) -> (&[u8], &[u8]) {
     }
 }
 
-// Puts the bytes of an item of hexadecimal digits, and gives what stands after it.
+// Puts the bytes of an item of hexadecimal digits, and gives what comes after it.
 fn put_hex<'a>(out: &mut Vec<u8>, item: &'a [u8]) -> Result<&'a [u8], ItemFault> {
     let (digits, rest) = split_before(item, b' ');
     for pair in digits.chunks(2) {
@@ -81,7 +81,7 @@ fn put_hex<'a>(out: &mut Vec<u8>, item: &'a [u8]) -> Result<&'a [u8], ItemFault>
     Ok(rest)
 }
 
-// What an escape stands for, which these bytes begin with after its backslash, and what stands after it.
+// What an escape stands for, which these bytes begin with after its backslash, and what comes after it.
 fn escape_of(text: &[u8]) -> Option<(u8, &[u8])> {
     match text {
         [b'x', high, low, rest @ ..] => Some((byte_of(&[*high, *low])?, rest)),
@@ -90,7 +90,7 @@ fn escape_of(text: &[u8]) -> Option<(u8, &[u8])> {
     }
 }
 
-// Puts the bytes of a text, which these begin with after its first quote, and gives what stands after its last.
+// Puts the bytes of a text, which these begin with after its first quote, and gives what comes after its last.
 fn put_text<'a>(out: &mut Vec<u8>, text: &'a [u8]) -> Result<&'a [u8], ItemFault> {
     let mut rest = text;
     for _ in 0..text.len() {
@@ -126,7 +126,7 @@ fn counted(item: &[u8]) -> Result<(u64, &[u8]), ItemFault> {
     }
 }
 
-// Puts the bytes of the first item, and gives what stands after it.
+// Puts the bytes of the first item, and gives what comes after it.
 fn put_item<'a>(alloc: Global, out: &mut Vec<u8>, items: &'a [u8]) -> Result<&'a [u8], ItemFault> {
     let (count, item) = counted(items)?;
     let mut once = Vec::new(alloc);

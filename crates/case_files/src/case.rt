@@ -25,7 +25,7 @@ impl<'a> Case<'a> {
         self.column(0)
     }
 
-    /// The column of this number, or the empty text where there is none.
+    /// The column of this number, or the empty text if there is none.
     pub fn column(&self, n: usize) -> &'a str {
         match self.columns.get(n) {
             Some(text) => text,
@@ -104,7 +104,7 @@ fn case_of<'a>(alloc: Global, text: &'a str, line: usize) -> Result<Case<'a>, Al
 
 /// The cases of a text, each of which has so many columns, its name among them.
 ///
-/// Where a line has another number of columns, or its first is no name or that of an earlier case, the fault tells so.
+/// If a line has another number of columns, or its first is no name or that of an earlier case, the fault says so.
 pub fn cases<'a>(alloc: Global, text: &'a str, columns: usize) -> Result<Vec<Case<'a>>, CaseFault> {
     let mut all = Vec::new(alloc);
     for (n, line) in text.lines().enumerate() {

@@ -29,7 +29,7 @@
 //! tally.end(&rt)?;
 //! ```
 //!
-//! A text that is not as it should be is a [`CaseFault`] that tells its line. A program hands it on by `?`, and ends with a
+//! A text that is not as it should be is a [`CaseFault`] that names its line. A program hands it on by `?`, and ends with a
 //! status other than 0.
 #![tactic(auto)]
 

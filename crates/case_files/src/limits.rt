@@ -29,7 +29,7 @@ fn limited(limits: Limits, word: &str) -> Option<Limits> {
     Some(Limits::new(message, array, depth)?.with_fds(fds))
 }
 
-/// The limits that a column's words say, or nothing where a word says none. What no word says is as the specification has it.
+/// The limits that a column's words say, or nothing if a word says none. What no word says is as the specification has it.
 pub fn limits_of(column: &str) -> Option<Limits> {
     let mut limits = Limits::specification();
     for word in column.split_whitespace() {

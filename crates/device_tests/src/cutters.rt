@@ -1,4 +1,4 @@
-//! Cutters with each growth refused in turn.
+//! Cutters with each allocation failing in turn.
 
 use crate::captures::*;
 use crate::spelling::is_spelled;
@@ -39,8 +39,8 @@ fn answer_of<A: Allocator + Copy>(cutter: &mut Cutter<A>, rest: &[u8]) -> [bool;
     [gives, refused, cutter.held() == 50]
 }
 
-// The signal in two pieces. Where the growth of this number is refused the cutter is as it was, and answers the same piece as if nothing had
-// happened. Where there are fewer growths, how many there are.
+// The signal in two pieces. If the allocation of this number fails, the cutter is as it was, and answers the same piece as if nothing had
+// happened. If there are fewer allocations, how many there are.
 fn take_refused(
     rt: &(impl Abort + AllocGlobal),
     front: &[u8],
@@ -75,7 +75,7 @@ fn take_with_each_growth_refused(rt: HostRuntime) -> Result<(), Fail> {
     panic!(rt; "each growth is refused")
 }
 
-// Of this piece the cutter takes all and gives no message; it holds so many bytes then, and asked for one growth at most.
+// Of this piece the cutter takes all and gives no message; it holds so many bytes then, and asked for one allocation at most.
 fn takes_by_one_growth<'a>(
     rt: &impl Abort,
     heap: &'a Refusing,
@@ -103,7 +103,7 @@ fn a_piece_within_a_message_takes_one_growth(rt: HostRuntime) -> Result<(), Fail
     Ok(())
 }
 
-// The call with this piece, made again and again, each time with its next growth refused: each is refused memory and changes
+// The call with this piece, made again and again, each time with its next allocation failing: each is refused memory and changes
 // nothing that is held, and the one that meets no refusal takes so many bytes and gives this message, or none.
 fn takes_in_the_end<'a>(
     rt: &impl Abort,
@@ -134,7 +134,7 @@ fn takes_in_the_end<'a>(
     panic!(rt; "each growth is refused")
 }
 
-// The signal in pieces of each size, with each growth of each call refused, also those that decode it at its end.
+// The signal in pieces of each size, with each allocation of each call failing, also those that decode it at its end.
 #[test]
 fn a_call_that_is_refused_memory_is_made_again(rt: HostRuntime) -> Result<(), Fail> {
     for size in 1..97usize {
@@ -151,7 +151,7 @@ fn a_call_that_is_refused_memory_is_made_again(rt: HostRuntime) -> Result<(), Fa
     Ok(())
 }
 
-// A fault is answered with each growth refused too, in every split in two, and stays.
+// A fault is answered with each allocation failing too, in every split in two, and stays.
 #[test]
 fn a_fault_never_becomes_want_of_memory(rt: HostRuntime) -> Result<(), Fail> {
     let fault = StreamFault::Format(Fault {
@@ -177,7 +177,7 @@ fn is_fault<A: Allocator + Copy>(cutter: &mut Cutter<A>, piece: &[u8], fault: St
     matches!(cutter.take(piece), Err(found) if found == fault)
 }
 
-// A reply followed by its first bytes, as one piece and then what was left of it, with each growth of each call refused.
+// A reply followed by its first bytes, as one piece and then what was left of it, with each allocation of each call failing.
 #[test]
 fn a_message_and_a_prefix_with_each_growth_refused(rt: HostRuntime) -> Result<(), Fail> {
     let heap = Refusing::none(rt.alloc());

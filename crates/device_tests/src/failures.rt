@@ -129,7 +129,7 @@ fn failing_at(place: Place, n: u64) -> ([Device; 3], [u64; 3]) {
     }
 }
 
-// The first so many bytes, or all.
+// The first bytes, this number of them, or all.
 fn front(bytes: &[u8], n: usize) -> &[u8] {
     &bytes[..n.min(bytes.len())]
 }

@@ -1,4 +1,4 @@
-//! Each command with each growth refused in turn, and how many growths a message takes.
+//! Each command with each allocation failing in turn, and how many allocations a message takes.
 
 use crate::captures::*;
 use crate::pieces::Pieces;
@@ -24,8 +24,8 @@ fn ran_by_one<A: Allocator + Copy>(
     ran(alloc, heap, words, Pieces::new(bytes, 1, 0))
 }
 
-// Where the growth of this number is refused the run has failed and says so, what it wrote is a front of the whole, and
-// all that was taken is given back. Where there are fewer growths the run ends as it should, and this tells how many.
+// If the allocation of this number fails, the run has failed and says so, what it wrote is a front of the whole, and
+// all that was taken is given back. If there are fewer allocations the run ends as it should, and this tells how many.
 fn growth_refused(
     rt: &(impl Abort + AllocGlobal),
     words: &[&str],
@@ -47,7 +47,7 @@ fn growth_refused(
     Ok(None)
 }
 
-// How many growths a run meets that ends so.
+// How many allocations a run meets that ends so.
 fn growths_met(
     rt: &(impl Abort + AllocGlobal),
     words: &[&str],
@@ -63,7 +63,7 @@ fn growths_met(
 }
 
 /// Words, the input, how the run ends, and what is written on the first writer and on the second. The run meets more
-/// growths than this; `check` takes memory for its line alone. The line of a refusal takes memory too, on either writer.
+/// allocations than this; `check` takes memory for its line alone. The line of a refusal takes memory too, on either writer.
 pub(crate) const RUNS: &[(&[&str], &[&[u8]], ExitStatus, &[&[u8]], &[u8], u64)] = &[
     (SHOW, ALL, DONE, TEXTS, b"", 2),
     (CHECK, ALL, DONE, &[b"ok 3 messages 144 bytes\n"], b"", 0),
@@ -100,7 +100,7 @@ fn runs_with_each_growth_refused(rt: HostRuntime) -> Result<(), Fail> {
     Ok(())
 }
 
-// How many growths a run takes over so many copies of the signal, of which so many bytes come with each read.
+// How many allocations a run takes over so many copies of the signal, of which this number of bytes come with each read.
 fn growths_of(
     rt: &(impl Abort + AllocGlobal),
     words: &[&str],

@@ -1,4 +1,4 @@
-//! Tests of streams, of the command line and of the commands, over devices that fail and with growths refused, and of the texts of streams' faults.
+//! Tests of streams, of the command line and of the commands, over devices that fail and with allocations that fail, and of the texts of streams' faults.
 #![tactic(auto)]
 
 #[cfg(test)]

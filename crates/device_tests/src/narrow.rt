@@ -4,7 +4,7 @@ ghost use Rattle.std.specs.Prelude.{None};
 use dbus_stream::{DeviceFault, Sink};
 use std::alloc::Global;
 
-/// Takes at most so many bytes a write. The write of this number, counted from 1, fails.
+/// Takes at most this number of bytes a write. The write of this number, counted from 1, fails.
 #[derive(Drop)]
 pub(crate) struct Narrow {
     /// The bytes that it took.

@@ -61,7 +61,7 @@ impl Sink for Counting<'_> {
     }
 }
 
-// Whether a run goes through over these bytes, of which so many come with each read, and so many bytes are written before
+// Whether a run goes through over these bytes, of which this number come with each read, and so many bytes are written before
 // each read and in the end.
 fn goes_out(
     alloc: Global,
@@ -94,7 +94,7 @@ fn goes_out(
     Ok(status == ExitStatus::Done && seen.as_slice() == expected)
 }
 
-// Over three method returns of 24 bytes, of which so many bytes come with each read, the words write so many bytes before
+// Over three method returns of 24 bytes, of which this number of bytes come with each read, the words write so many bytes before
 // each read and in the end.
 const ORDERS: &[(&[&str], usize, &[usize])] = &[
     // What a command makes of a message is written before the read after it. The text of each has 52 bytes.

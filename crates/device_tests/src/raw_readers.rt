@@ -1,5 +1,5 @@
 //! Readers of raw messages whose bytes come in pieces, over sources that fail at each read and that may make few reads, and
-//! with each growth refused.
+//! with each allocation failing.
 
 use crate::captures::*;
 use crate::pieces::Pieces;
@@ -253,7 +253,7 @@ fn a_message_that_two_reads_give(rt: HostRuntime) -> Result<(), Fail> {
     Ok(())
 }
 
-// A call that meets a refused growth, made again, gives the message, and nothing is lost. Where there are fewer growths, how
+// A call that meets a failing allocation, made again, gives the message, and nothing is lost. If there are fewer allocations, how
 // many there are.
 fn growth_refused(
     rt: &(impl Abort + AllocGlobal),

@@ -1,4 +1,4 @@
-//! Readers of messages whose bytes come in pieces, over sources that fail at each read, and with each growth refused.
+//! Readers of messages whose bytes come in pieces, over sources that fail at each read, and with each allocation failing.
 
 use crate::captures::*;
 use crate::pieces::Pieces;
@@ -20,7 +20,7 @@ enum Call {
 
 use Call::{Next, NextKept};
 
-// What a call gives: the message that these bytes spell in its order, or none where they are none; or a fault.
+// What a call gives: the message that these bytes spell in its order, or none if they are none; or a fault.
 #[derive(Clone, Copy)]
 enum Given<'a> {
     Gives(&'a [u8]),
@@ -206,9 +206,9 @@ fn each_read_fails_once(rt: HostRuntime) -> Result<(), Fail> {
     each_read_fails(&rt, SIGNAL)
 }
 
-// A reader that finds a growth refused: its input, and how many bytes of it come with each read; the calls before, and how
-// many bytes the messages have that they gave; the call that finds it, which asks for more growths than this, and the message
-// that it gives where none is refused; what the calls after it give; how many bytes the messages have in the end, and how many
+// A reader that finds a failing allocation: its input, and how many bytes of it come with each read; the calls before, and how
+// many bytes the messages have that they gave; the call that finds it, which asks for more allocations than this, and the message
+// that it gives if none is refused; what the calls after it give; how many bytes the messages have in the end, and how many
 // reads there were.
 struct Refused {
     input: &'static [&'static [u8]],
@@ -270,7 +270,7 @@ const REFUSED: &[Refused] = &[
     },
 ];
 
-// The reader, that found a growth refused, kept all that was read: the call made again gives the message.
+// The reader, that found a failing allocation, kept all that was read: the call made again gives the message.
 fn goes_on<A: Allocator + Copy>(
     rt: &impl Abort,
     n: u64,
@@ -304,7 +304,7 @@ fn answer_of<R: Source, A: Allocator + Copy>(
     }
 }
 
-// Where the growth of this number is refused the reader goes on as if nothing had happened. Where there are fewer growths,
+// If the allocation of this number fails, the reader goes on as if nothing had happened. If there are fewer allocations,
 // how many there are.
 fn growth_refused(
     rt: &(impl Abort + AllocGlobal),
@@ -327,7 +327,7 @@ fn growth_refused(
     Ok(None)
 }
 
-// How many growths the row's call meets.
+// How many allocations the row's call meets.
 fn growths_of(rt: &(impl Abort + AllocGlobal), row: &Refused) -> Result<u64, Fail> {
     let bytes = joined(rt.alloc(), row.input)?;
     for n in 1..100 {

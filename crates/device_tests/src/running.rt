@@ -1,4 +1,4 @@
-//! Runs of the commands, and what they come to.
+//! Runs of the commands, and how they end.
 
 use crate::captures::joined;
 use crate::narrow::Narrow;
@@ -71,7 +71,7 @@ pub(crate) fn ran<A: Allocator + Copy, R: Source + Drop>(
     })
 }
 
-/// How the command ends where it may make so many reads of the reader.
+/// How the command ends if the reader may make this number of reads.
 pub(crate) fn ran_reads(
     alloc: Global,
     words: &[&str],

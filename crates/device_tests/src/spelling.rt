@@ -5,7 +5,7 @@ use dbus_value::Order;
 use std::alloc::Allocator;
 use std::test::Fail;
 
-/// Whether this is the message that these bytes spell in its order; or none, where they are none.
+/// Whether this is the message that these bytes spell in its order; or none, if they are none.
 pub(crate) fn is_spelled<A: Allocator + Copy>(
     alloc: A,
     given: Option<(Order, Message<A>)>,

@@ -1,4 +1,4 @@
-//! Messages written over sinks that fail at each byte, and with the growth of a write refused.
+//! Messages written over sinks that fail at each byte, and with the allocation of a write failing.
 
 use crate::captures::SIGNAL;
 use crate::narrow::Narrow;

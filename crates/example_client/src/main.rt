@@ -1,10 +1,10 @@
 //! `example_client`: a client of a message bus, whose connection to it is standard input and output.
 //!
-//! It does the client's side of the handshake, calls `Hello` and then `ListNames`, tells on standard error the name that it
+//! It does the client's side of the handshake, calls `Hello` and then `ListNames`, reports on standard error the name that it
 //! got and the names that are on the bus, and ends.
 //!
-//! It authenticates by EXTERNAL, and by ANONYMOUS where the bus rejects that. The argument is the number of the user that it
-//! comes as; without one it is the user that the transport tells. Where an answer did not come, standard error says why,
+//! It authenticates by EXTERNAL, and by ANONYMOUS if the bus rejects that. The argument is the number of the user that it
+//! comes as; without one it is the user that the transport reports. If an answer did not come, standard error says why,
 //! and the exit status is 1.
 #![tactic(auto)]
 
@@ -36,7 +36,7 @@ fn send(rt: &HostRuntime, bytes: &[u8]) -> Result<()> {
     Ok(())
 }
 
-// Tells what the reply to `ListNames` says.
+// Reports what the reply to `ListNames` says.
 fn tell(rt: &HostRuntime, reply: &Message) -> Result<()> {
     if let Some(Value::Str(name)) = field(reply, field_code::DESTINATION) {
         eprintln!(rt; "the bus calls this client {name}; on the bus are:")?;

@@ -46,7 +46,7 @@ impl Session {
         })
     }
 
-    /// Takes the bytes of the piece, and appends those that are to be sent. Where the reply to `ListNames` is among them, it
+    /// Takes the bytes of the piece, and appends those that are to be sent. If the reply to `ListNames` is among them, it
     /// gives that, and the session is over.
     ///
     /// A line or a message may end anywhere in a piece. So one call of an end or of a cutter takes at most one of them, and
@@ -87,7 +87,7 @@ impl Session {
         Ok(step.taken)
     }
 
-    // Takes at most one message, and says how many bytes that were. It gives the message where it is the reply to
+    // Takes at most one message, and says how many bytes that were. It gives the message if it is the reply to
     // `ListNames`, which is called after the reply to `Hello`. Others, as the signal that the client has a name, are ignored.
     fn take_message(
         &mut self,
@@ -120,7 +120,7 @@ impl Session {
     }
 }
 
-// The serial of the call that the message replies to, where it is a reply. The fault is that it replies by an error.
+// The serial of the call that the message replies to, if it is a reply. The fault is that it replies by an error.
 fn call_of(message: &Message) -> Result<Option<u32>> {
     let Some(Value::U32(serial)) = field(message, field_code::REPLY_SERIAL) else {
         return Ok(None);

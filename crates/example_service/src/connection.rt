@@ -26,7 +26,7 @@ pub(crate) struct Connection {
 }
 
 impl Connection {
-    /// A connection on which nothing came yet. EXTERNAL is offered where there is a user, and otherwise ANONYMOUS.
+    /// A connection on which nothing came yet. EXTERNAL is offered if there is a user, and otherwise ANONYMOUS.
     pub(crate) fn new(alloc: Global, user: Option<u32>) -> Self {
         Connection {
             alloc,
@@ -80,7 +80,7 @@ impl Connection {
         Ok(taken)
     }
 
-    // Appends the reply to a message, where it is a call whose caller wants one.
+    // Appends the reply to a message, if it is a call whose caller wants one.
     fn answer(&mut self, order: Order, message: &Message, send: &mut Vec<u8>) -> Result<()> {
         let parts = message.parts();
         if parts.kind != message_type::METHOD_CALL || parts.flags & flag::NO_REPLY_EXPECTED != 0 {

@@ -3,9 +3,9 @@
 //! It does the server's side of the handshake and then answers calls, in the byte order of each: `Hello` as a message bus
 //! does, `Ping`, `Introspect`, its own method `org.example.Greeter.Greet`, and any other by the error `UnknownMethod`.
 //!
-//! The argument is the number of the client's user, as the transport tells it: the client has to authenticate as that
-//! user, by EXTERNAL. Without an argument anybody may come, by ANONYMOUS. Where the client left between two messages, the
-//! exit status is 0; where it did not, or sent what is no handshake or no message, standard error says so, and it is 1.
+//! The argument is the number of the client's user, as the transport reports it: the client has to authenticate as that
+//! user, by EXTERNAL. Without an argument anybody may come, by ANONYMOUS. If the client left between two messages, the
+//! exit status is 0; if it did not, or sent what is no handshake or no message, standard error says so, and it is 1.
 #![tactic(auto)]
 
 mod connection;

@@ -1,10 +1,10 @@
-//! The methods of the service's object, which stands on every path.
+//! The methods of the service's object, which is on every path.
 
 use dbus_message::{Message, field, field_code};
 use dbus_value::Value;
 use std::alloc::{AllocError, Global};
 
-// What `Introspect` tells. D-Bus Specification, "Introspection Data Format".
+// What `Introspect` returns. D-Bus Specification, "Introspection Data Format".
 const INTROSPECTION: &str =
     "<!DOCTYPE node PUBLIC \"-//freedesktop//DTD D-BUS Object Introspection 1.0//EN\"
 \"http://www.freedesktop.org/standards/dbus/1.0/introspect.dtd\">
@@ -18,7 +18,7 @@ const INTROSPECTION: &str =
 </node>
 ";
 
-/// What a call of a method comes to.
+/// What a call of a method returns.
 #[derive(Drop)]
 pub(crate) enum Outcome {
     /// It returns nothing.

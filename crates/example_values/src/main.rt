@@ -1,4 +1,4 @@
-//! `example_values`: prints the values of the messages on standard input, where they stand in the bytes. No tree is built but of a
+//! `example_values`: prints the values of the messages on standard input, in place. No tree is built but of a
 //! property that is a container.
 //!
 //! Of `NameOwnerChanged` it prints the name and its owners, of `PropertiesChanged` each property and its new value, and of any

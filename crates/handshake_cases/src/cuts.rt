@@ -117,7 +117,7 @@ impl<'a> Cutting<'a> {
         Ok(())
     }
 
-    // What the cutter gave in all, the fault too, which it gives again where it is asked again.
+    // What the cutter gave in all, the fault too, which it gives again if it is asked again.
     fn all_given(mut self) -> Result<String, AllocError> {
         if self.fault.is_some() {
             self.hand_over(b"A\r\n")?;

@@ -127,7 +127,7 @@ fn machine_of(alloc: Global, setup: &Setup) -> Result<(Machine, Outcome)> {
     }
 }
 
-/// What the machine of an end does on the lines of the bytes, and the state that it comes to.
+/// What the machine of an end does on the lines of the bytes, and its state then.
 pub(crate) fn lead_machine(
     alloc: Global,
     setup: &Setup,

@@ -1,4 +1,4 @@
-//! What a dialogue comes to.
+//! How a dialogue ends.
 
 use crate::meanings::guid_of;
 use crate::texts::Text;

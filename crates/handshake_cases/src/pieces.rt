@@ -1,6 +1,6 @@
 //! Bytes in pieces.
 
-/// The bytes after the first so many.
+/// The bytes after this number of them.
 pub(crate) fn after(bytes: &[u8], n: usize) -> &[u8] {
     bytes.get(n..).unwrap_or(&[])
 }

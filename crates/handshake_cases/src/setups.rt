@@ -6,7 +6,7 @@ use dbus_auth::Mechanism;
 use dbus_auth_lines::Guid;
 use std::alloc::{AllocError, Global};
 
-// The GUID of a server where a case has none.
+// The GUID of a server if a case has none.
 const GUID: Guid = Guid([
     1, 35, 69, 103, 137, 171, 205, 239, 1, 35, 69, 103, 137, 171, 205, 239,
 ]);

@@ -65,7 +65,7 @@ fn written_in(alloc: Global, case: &Case) -> Result<Option<Vec<u8>>, CaseFault> 
     Ok(Some(line))
 }
 
-// What the line means that a written one is cut into. Where it is not one line, another one.
+// What the line means that a written one is cut into. If it is not one line, another one.
 fn read_again(alloc: Global, sender: Sender, written: &[u8]) -> Result<Line> {
     match LineCutter::new(alloc).take(written)? {
         (taken, Some(line)) if taken == written.len() => Ok(read(alloc, sender, &line)?),

@@ -82,7 +82,7 @@ impl Side {
     }
 }
 
-/// What a handshake comes to.
+/// How a handshake ends.
 #[derive(Drop)]
 pub(crate) struct Handshake {
     pub(crate) client: Outcome,
@@ -92,7 +92,7 @@ pub(crate) struct Handshake {
     pub(crate) left_to_server: Vec<u8>,
 }
 
-/// What the handshake of these two comes to.
+/// How the handshake of these two ends.
 pub(crate) fn shake_hands(
     alloc: Global,
     client: &Setup,

@@ -5,7 +5,7 @@ use dbus_value::Fault;
 /// What a reader says of some bytes.
 #[derive(Clone, Copy, PartialEq, Eq)]
 pub(crate) enum Answer {
-    /// They begin with a message of so many bytes.
+    /// They begin with a message of this number of bytes.
     Whole(usize),
     /// They begin with no message, for this fault.
     Refused(Fault),

@@ -8,7 +8,7 @@ use dbus_value::{Fault, Reason, Refusal};
 use dbus_view::MessageView;
 use std::alloc::Global;
 
-/// What decoding answers.
+/// What decoding returns.
 pub(crate) fn decoded(alloc: Global, bytes: &[u8]) -> Answer {
     match decode(alloc, bytes) {
         Ok(dbus_message::Answer::Whole { used, .. }) => Answer::Whole(used),
@@ -18,7 +18,7 @@ pub(crate) fn decoded(alloc: Global, bytes: &[u8]) -> Answer {
     }
 }
 
-// What a checker answers of a piece, before which it was handed so many bytes.
+// What a checker answers of a piece, before which it was handed this number of bytes.
 fn checked(checker: &mut Checker, before: usize, piece: &[u8]) -> Answer {
     match checker.take(piece) {
         Check::Done(count) => Answer::Whole(before.saturating_add(count)),
@@ -27,7 +27,7 @@ fn checked(checker: &mut Checker, before: usize, piece: &[u8]) -> Answer {
     }
 }
 
-// What a cutter answers of a piece, before which it was handed so many bytes. Where more are wanted it holds all of them.
+// What a cutter answers of a piece, before which it was handed this number of bytes. If more are wanted it holds all of them.
 fn cut(cutter: &mut Cutter, before: usize, piece: &[u8]) -> Answer {
     match cutter.take(piece) {
         Ok((count, Some(_))) => Answer::Whole(before.saturating_add(count)),
@@ -37,7 +37,7 @@ fn cut(cutter: &mut Cutter, before: usize, piece: &[u8]) -> Answer {
     }
 }
 
-// Why there is no view of all the bytes, where decoding answers so, or nothing where there is one.
+// Why there is no view of all the bytes, if decoding answers so, or nothing if there is one.
 fn unseen(bytes: &[u8], right: Answer) -> Option<Fault> {
     let (at, reason) = match right {
         Answer::Whole(used) if used == bytes.len() => return None,

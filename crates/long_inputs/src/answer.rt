@@ -8,7 +8,7 @@ use std::fmt;
 /// What a reader answers of the next message.
 #[derive(Clone, Copy)]
 pub(crate) enum Answer {
-    /// It has so many bytes.
+    /// It has this number of bytes.
     Given(u64),
     /// There is none.
     End,

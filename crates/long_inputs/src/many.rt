@@ -21,7 +21,7 @@ const MESSAGES: &[Part] = &[
     (b"\x08\0\0\0\x05\x01u\0\x01\0\0\0", 1),
 ];
 
-// What a round came to: how many messages were given, how many growths they took, and how many blocks are out.
+// What a round came to: how many messages were given, how many allocations they took, and how many blocks are out.
 #[derive(Clone, Copy, PartialEq, Eq)]
 struct Round {
     given: u64,

@@ -7,7 +7,7 @@ use case_files::Answer;
 use dbus_check::{Check, Checker};
 use dbus_value::Limits;
 
-// What a checker answers of a piece, before which it was handed so many bytes.
+// What a checker answers of a piece, before which it was handed this number of bytes.
 fn checked(checker: &mut Checker, before: usize, piece: &[u8]) -> Answer {
     match checker.take(piece) {
         Check::Done(count) => Answer::Whole(before.saturating_add(count)),

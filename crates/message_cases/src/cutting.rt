@@ -6,7 +6,7 @@ use anyhow::Result;
 use case_files::Answer;
 use dbus_stream::{Cutter, StreamFault};
 
-// What a cutter answers of a piece, before which it was handed so many bytes. If more are wanted, it took all of the piece and holds
+// What a cutter answers of a piece, before which it was handed this number of bytes. If more are wanted, it took all of the piece and holds
 // all bytes.
 fn cut(cutter: &mut Cutter, before: usize, piece: &[u8]) -> Result<Answer> {
     let together = before.saturating_add(piece.len());

@@ -8,7 +8,7 @@ use dbus_message::{Message, decode_within};
 use dbus_value::{Limits, Order, Refusal};
 use std::alloc::Global;
 
-/// What decoding answers.
+/// What decoding returns.
 pub(crate) fn decoded(alloc: Global, bytes: &[u8], limits: Limits) -> Result<Answer> {
     match decode_within(alloc, bytes, limits) {
         Ok(dbus_message::Answer::Whole { used, .. }) => Ok(Answer::Whole(used)),

@@ -24,7 +24,7 @@ pub(crate) trait Engine {
     }
 }
 
-// An answer of the first so many bytes, or in two pieces of which the first has so many.
+// An answer of the first bytes, this number of them, or in two pieces of which the first has so many.
 #[derive(Clone, Copy)]
 struct At(usize, Answer);
 

@@ -23,7 +23,7 @@ pub(crate) struct Input {
 }
 
 impl Input {
-    /// The input of a case's bytes. Where they are refused and `decides` says so, the last of them is the one that decides it.
+    /// The input of a case's bytes. If they are refused and `decides` says so, the last of them is the one that decides it.
     pub(crate) fn new(
         alloc: Global,
         bytes: &[u8],
@@ -61,7 +61,7 @@ impl Input {
         self.front(self.count)
     }
 
-    /// The first so many bytes, or all where there are fewer.
+    /// The first bytes, this number of them, or all if there are fewer.
     pub(crate) fn front(&self, count: usize) -> &[u8] {
         match self.all.get(..count) {
             Some(front) => front,
@@ -77,7 +77,7 @@ impl Input {
         }
     }
 
-    /// The bytes from one offset up to another, none where there are no such bytes.
+    /// The bytes from one offset up to another, none if there are no such bytes.
     pub(crate) fn piece(&self, from: usize, to: usize) -> &[u8] {
         match self.all.get(from..to) {
             Some(piece) => piece,
@@ -85,7 +85,7 @@ impl Input {
         }
     }
 
-    /// What is wanted of the first so many bytes.
+    /// What is wanted of the first bytes, this number of them.
     pub(crate) fn wanted(&self, count: usize) -> Answer {
         if count < self.least {
             Answer::Partial

@@ -1,4 +1,4 @@
-//! Messages read from a device that gives so many bytes a read.
+//! Messages read from a device that gives this number of bytes a read.
 
 use crate::input::Input;
 use crate::pieces::Pieces;
@@ -12,7 +12,7 @@ use std::fmt;
 // What a reader gives.
 #[derive(Clone, Copy, PartialEq, Eq)]
 enum Given {
-    // A message of so many bytes.
+    // A message of this number of bytes.
     Message(usize),
     // The end.
     End,
@@ -91,7 +91,7 @@ fn next_raw(reader: &mut RawReader<Pieces>, input: &Input) -> Given {
     }
 }
 
-// What a reader gives first and then, of a device that gives so many bytes a read.
+// What a reader gives first and then, of a device that gives this number of bytes a read.
 fn read(reader: Reader, input: &Input, size: usize) -> [Given; 2] {
     let source = Pieces::new(input.bytes(), size);
     match reader {

@@ -90,7 +90,7 @@ fn try_message(
     Ok(())
 }
 
-/// Holds what is made of the input's message against its bytes in little and in big endian, where it is a whole message.
+/// Holds what is made of the input's message against its bytes in little and in big endian, if it is a whole message.
 pub(crate) fn try_messages(
     rt: &HostRuntime,
     tally: &mut Tally,

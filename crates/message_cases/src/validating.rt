@@ -38,7 +38,7 @@ fn stated_whole(stated: Option<u64>, length: usize) -> Answer {
     }
 }
 
-// The answer where no fault is stated of bytes that have this one.
+// The answer if no fault is stated of bytes that have this one.
 fn passed_over(fault: Fault) -> Answer {
     if fault.at < 16 {
         Answer::Partial
@@ -73,7 +73,7 @@ impl Engine for Stating {
 #[derive(Clone, Copy)]
 pub(crate) struct Viewing;
 
-/// What a view of so many bytes is to answer, or a reader whose input ends with them, where others answer so.
+/// What a view of so many bytes is to answer, or a reader whose input ends with them, if others answer so.
 pub(crate) fn at_end(answer: Answer, count: usize) -> Answer {
     let (at, reason) = match answer {
         Answer::Partial => (count, Reason::Truncated),

@@ -53,7 +53,7 @@ fn view_of(value: &Value) -> ArgView<'_> {
     }
 }
 
-// Whether the place is that of the value: where its text stands in the bytes, if it is one.
+// Whether the place is that of the value: where its text is in the bytes, if it is one.
 fn is_place(bytes: &[u8], place: ArgPlace, value: &Value) -> bool {
     let text = match view_of(value) {
         ArgView::Str(text) | ArgView::Path(text) | ArgView::Sig(text) => text,
@@ -79,7 +79,7 @@ fn gives_header(view: &MessageView, order: Order, message: &Message) -> bool {
         && view.sender() == text_of(message, field_code::SENDER)
 }
 
-// Whether the view gives value `n` of the message's body, or nothing where there is none.
+// Whether the view gives value `n` of the message's body, or nothing if there is none.
 fn gives_value(view: &MessageView, message: &Message, n: usize) -> bool {
     match (view.arg(n), view.arg_place(n), arg(message, n)) {
         (Some(seen), Some(place), Some(value)) => {

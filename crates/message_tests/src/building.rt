@@ -31,7 +31,7 @@ enum Item {
 // The parts of a message: its type, its serial, its fields and its body.
 type Row = (u8, u32, &'static [(u8, Item)], &'static [Item]);
 
-// Parts of messages, and their little-endian bytes where they are given.
+// Parts of messages, and their little-endian bytes if they are given.
 const MESSAGES: &[(Row, Option<&[u8]>)] = &[
     (
         (2, 1, &[(5, Item::U32(1))], &[]),
@@ -295,7 +295,7 @@ fn parts_that_are_no_message(rt: HostRuntime) -> Result<(), Fail> {
     Ok(())
 }
 
-// Why parts are no message under limits, or nothing where they are one.
+// Why parts are no message under limits, or nothing if they are one.
 fn fault_within(alloc: Global, parts: Parts, limits: Limits) -> Option<BuildFault> {
     match Message::new_within(alloc, parts, limits) {
         Ok(_) => None,

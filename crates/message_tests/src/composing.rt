@@ -1,4 +1,4 @@
-//! Messages made in a line, and each growth of that refused in turn.
+//! Messages made in a line, and each allocation of that failing in turn.
 #![tactic(auto)]
 
 use dbus_message::{Answer, BuildFault, Compose, Message, MessageBuilder, decode, encode, flag};
@@ -30,7 +30,7 @@ enum Set {
     Number(u32),
     // A body of these numbers.
     Body(&'static [u32]),
-    // A struct of so many numbers.
+    // A struct of this number of numbers.
     Struct(usize),
 }
 
@@ -226,7 +226,7 @@ fn is_right<A: Allocator + Copy>(
     Ok(())
 }
 
-// A row with the nth growth refused. The answer is whether one was.
+// A row with the nth allocation failing. The answer is whether one was.
 fn row_refused(rt: &impl Abort, alloc: Global, n: usize, row: &Row) -> Result<bool, Fail> {
     let heap = Refusing::none(alloc);
     let call = replied_to(&heap, row.0)?;
@@ -244,7 +244,7 @@ fn row_refused(rt: &impl Abort, alloc: Global, n: usize, row: &Row) -> Result<bo
     Ok(refused)
 }
 
-// If a growth is refused, the chain goes on to its end, which reports it, and all that was taken is given back. If none is, the message is
+// If an allocation fails, the chain goes on to its end, which reports it, and all that was taken is given back. If none is, the message is
 // made, or the fault is reported.
 #[test]
 fn composed_with_each_growth_refused(rt: HostRuntime) -> Result<(), Fail> {

@@ -1,4 +1,4 @@
-//! Each growth of decoding, of copying values, of encoding and of making a message of its parts refused in turn.
+//! Each allocation of decoding, of copying values, of encoding and of making a message of its parts failing in turn.
 #![tactic(auto)]
 
 use dbus_message::{
@@ -52,7 +52,7 @@ fn ended_as(refused: bool) -> Ending {
     }
 }
 
-// Decoding under limits, by the call without them where they are the specification's.
+// Decoding under limits, by the call without them if they are the specification's.
 fn decoded<A: Allocator + Copy>(alloc: A, bytes: &[u8], limits: Limits) -> Ending {
     let answer = if limits == Limits::specification() {
         decode(alloc, bytes)
@@ -94,12 +94,12 @@ fn called<A: Allocator + Copy>(alloc: A, asked: Asked<'_>) -> Ending {
     }
 }
 
-// A call of a row ended as it should, and a count of growths or of blocks is then as it should be.
+// A call of a row ended as it should, and a count of allocations or of blocks is then as it should be.
 fn ends(rt: &impl Abort, row: usize, found: (Ending, u64), wanted: (Ending, u64)) {
     assert_eq!(rt; found, wanted, "at {row}");
 }
 
-// What is called, over which bytes, under which limits, how that ends, and a number of growths that it takes at least, or exactly if it
+// What is called, over which bytes, under which limits, how that ends, and a number of allocations that it takes at least, or exactly if it
 // is 0.
 const CALLED: &[(Call, &[u8], Numbers, Ending, u64)] = &[
     (Call::Decode, SIGNAL, SPECIFICATION, Ending::Done, 6),
@@ -119,7 +119,7 @@ const CALLED: &[(Call, &[u8], Numbers, Ending, u64)] = &[
     (Call::CopyFirst, REPLY, OF_REPLY, Ending::Done, 0),
 ];
 
-// A call with the nth growth refused, and then again. The answer is how many growths there were, where none was refused.
+// A call with the nth allocation failing, and then again. The answer is how many allocations there were, if none was refused.
 fn call_refused(
     rt: &impl Abort,
     alloc: Global,
@@ -139,7 +139,7 @@ fn call_refused(
     None
 }
 
-// If a growth is refused the answer is out of memory, all that was taken is given back, and the same call made again
+// If an allocation fails the answer is out of memory, all that was taken is given back, and the same call made again
 // answers the message, or the values. Bytes that are refused take no memory, and neither does copying no value.
 #[test]
 fn calls_with_each_growth_refused(rt: HostRuntime) {
@@ -213,7 +213,7 @@ fn encoded_into<A: Allocator>(out: &mut Vec<u8, A>, message: &Message<A>, wanted
 // How many bytes a vector holds that the signal is encoded into.
 const HELD: &[usize] = &[0, 1, 7, 95];
 
-// Encoding into a vector that holds so many bytes: with its growth refused, again, and where there is room.
+// Encoding into a vector that holds so many bytes: with its allocation failing, again, and if there is room.
 fn encode_into_refused<'h>(
     rt: &impl Abort,
     heap: &'h Refusing,
@@ -234,8 +234,8 @@ fn encode_into_refused<'h>(
     Ok(())
 }
 
-// Where the vector has too little room one growth is asked for. Where that is refused the vector holds what it held, and
-// the same call made again encodes. Where there is room no growth is asked for.
+// If the vector has too little room one allocation is asked for. If that fails the vector holds what it held, and
+// the same call made again encodes. If there is room no allocation is asked for.
 #[test]
 fn encode_into_with_its_growth_refused(rt: HostRuntime) -> Result<(), Fail> {
     let heap = Refusing::none(rt.alloc());
@@ -373,7 +373,7 @@ fn parts_of<A: Allocator + Copy>(alloc: A, bytes: &[u8], change: Change) -> Resu
     Ok(parts)
 }
 
-// A message made of its parts under limits, by the call without them where they are the specification's.
+// A message made of its parts under limits, by the call without them if they are the specification's.
 fn made<A: Allocator + Copy>(
     alloc: A,
     parts: Parts<A>,
@@ -400,7 +400,7 @@ fn made_as<A: Allocator + Copy>(
     })
 }
 
-// Making a message of its parts takes no memory, however it ends: with the first growth refused none is asked for.
+// Making a message of its parts takes no memory, however it ends: with the first allocation failing none is asked for.
 #[test]
 fn new_takes_no_memory(rt: HostRuntime) -> Result<(), Fail> {
     for (n, (bytes, change, numbers, right)) in BUILT.iter().enumerate() {

@@ -54,7 +54,7 @@ impl<'a> Cutting<'a> {
         }
     }
 
-    // What the stream comes to where this stands after the messages, which the cutter tells as well where the input ends.
+    // What the stream comes to where this stands after the messages, which the cutter tells as well if the input ends.
     fn outcome(&self, rest: Rest) -> Result<Outcome> {
         let wanted = match rest {
             Rest::Held(0) => Ok(()),

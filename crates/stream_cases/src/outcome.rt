@@ -1,4 +1,4 @@
-//! What a stream comes to.
+//! How a stream ends.
 
 use anyhow::Result;
 use case_files::Answer;
@@ -28,7 +28,7 @@ impl fmt::Display for Rest {
     }
 }
 
-/// The length of each message of a stream, and what stands after them.
+/// The length of each message of a stream, and what comes after them.
 #[derive(PartialEq, Eq, Drop)]
 pub(crate) struct Outcome {
     pub(crate) lengths: Vec<usize>,
@@ -53,7 +53,7 @@ impl fmt::Display for Outcome {
     }
 }
 
-/// The messages of a stream, each in its order, and what stands after them.
+/// The messages of a stream, each in its order, and what comes after them.
 #[derive(Drop)]
 pub(crate) struct Contents {
     pub(crate) messages: Vec<(Order, Message)>,
@@ -70,7 +70,7 @@ impl Contents {
         size
     }
 
-    /// The lengths of the messages, and what stands after them.
+    /// The lengths of the messages, and what comes after them.
     pub(crate) fn outcome(&self, alloc: Global) -> Result<Outcome, AllocError> {
         let mut lengths = Vec::new(alloc);
         for (_, message) in &self.messages {

@@ -3,7 +3,7 @@ ghost use Rattle.std.specs.Prelude.{None};
 
 use dbus_stream::{DeviceFault, Source};
 
-/// Gives so many bytes a read, or those that are left.
+/// Gives this number of bytes a read, or those that are left.
 #[derive(Drop)]
 pub(crate) struct Pieces<'a> {
     left: &'a [u8],

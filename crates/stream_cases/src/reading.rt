@@ -122,7 +122,7 @@ fn reads_wanted(alloc: Global, stream: &Stream, whole: &Outcome) -> Result<u64> 
     Ok(0)
 }
 
-// Holds each reader against what decoding makes of the stream, with so many bytes a read. By one byte a read, it is to make so
+// Holds each reader against what decoding makes of the stream, with this number of bytes a read. By one byte a read, it is to make so
 // many reads.
 fn read_by(
     rt: &HostRuntime,

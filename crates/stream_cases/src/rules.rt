@@ -64,7 +64,7 @@ fn try_accepted(rt: &HostRuntime, tally: &mut Tally, text: &str, canonical: &Str
     Ok(())
 }
 
-// Holds a text that spells no rule against its fault, which the program tells.
+// Holds a text that spells no rule against its fault, which the program reports.
 fn try_refused(rt: &HostRuntime, tally: &mut Tally, text: &str, refusal: &str) -> Result<()> {
     let alloc = rt.alloc();
     let Some((at, reason)) = refusal.split_once(' ') else {

@@ -1,4 +1,4 @@
-//! Runs of the commands, and what they come to.
+//! Runs of the commands, and how they end.
 
 use crate::pieces::Pieces;
 use dbus_stream::{FromWrite, MOST_READS};
@@ -56,7 +56,7 @@ impl End {
     }
 }
 
-/// How a command ends under these limits over bytes, of which so many come with each read.
+/// How a command ends under these limits over bytes, of which this number come with each read.
 pub(crate) fn ran(
     alloc: Global,
     command: Command,

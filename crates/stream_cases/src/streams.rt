@@ -34,7 +34,7 @@ fn line_of_column(alloc: Global, column: &str) -> Result<String, AllocError> {
     format!(in alloc; "{column}\n")
 }
 
-// The line of `check` for messages and what stands after them.
+// The line of `check` for messages and what comes after them.
 fn line_of(alloc: Global, contents: &Contents) -> Result<String, AllocError> {
     let count = contents.messages.len();
     let size = contents.size() as u64;
@@ -73,7 +73,7 @@ fn spelled(alloc: Global, contents: &Contents, order: Order) -> Result<Vec<u8>, 
     Ok(all)
 }
 
-// The order of all the messages, where it is one.
+// The order of all the messages, if it is one.
 fn one_order(contents: &Contents) -> Option<Order> {
     let mut one = None;
     for (order, _) in &contents.messages {

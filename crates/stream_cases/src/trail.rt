@@ -41,7 +41,7 @@ impl<'a> Trail<'a> {
         self.lengths.len()
     }
 
-    /// A message of so many bytes was given.
+    /// A message of this number of bytes was given.
     pub(crate) fn keep_length(&mut self, length: usize) -> Result<(), AllocError> {
         self.lengths.push(length)?;
         self.done = self.done.saturating_add(length);
@@ -97,7 +97,7 @@ impl<'a> Trail<'a> {
     }
 }
 
-// What stands after the messages where a reader answers so.
+// What stands after the messages if a reader answers so.
 fn rest_of(answer: Result<(), ReadFault>) -> Rest {
     match answer {
         Ok(()) => Rest::Held(0),

@@ -1,4 +1,4 @@
-//! The ends of a connection, with a growth refused: the end is unchanged, and takes the same piece as if nothing had been.
+//! The ends of a connection, with a failing allocation: the end is unchanged, and takes the same piece as if nothing had been.
 
 ghost use Rattle.std.specs.Prelude.{◌≡◌, true};
 ghost use Rattle.dbus_auth.specs.ClientEndViews.{client_end_state};
@@ -13,7 +13,7 @@ use std::test::Fail;
 /// A piece, and what a take of it does.
 pub type EndTurn = (&'static [u8], Done);
 
-/// Whether the end of a server as user 1000 that takes these pieces in turn was refused its `n`th growth.
+/// Whether the end of a server as user 1000 that takes these pieces in turn was refused its `n`th allocation.
 pub fn server_takes(
     rt: &impl Abort,
     heap: &Refusing,
@@ -45,7 +45,7 @@ struct Started<'a> {
 }
 
 impl<'a> Started<'a> {
-    // The end of a client as user 1000 and then, with a trace, by ANONYMOUS, and whether its start was refused the `n`th growth.
+    // The end of a client as user 1000 and then, with a trace, by ANONYMOUS, and whether its start was refused the `n`th allocation.
     fn new(
         rt: &impl Abort,
         heap: &'a Refusing,
@@ -67,7 +67,7 @@ impl<'a> Started<'a> {
     }
 }
 
-/// Whether the end of such a client that starts and takes these pieces in turn was refused its `n`th growth.
+/// Whether the end of such a client that starts and takes these pieces in turn was refused its `n`th allocation.
 pub fn client_takes(
     rt: &impl Abort,
     heap: &Refusing,

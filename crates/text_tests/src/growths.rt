@@ -1,4 +1,4 @@
-//! Each growth refused in turn: the call answers want of memory, no block leaks, and what is changed by calls answers the
+//! Each allocation failing in turn: the call reports out of memory, no block leaks, and what is changed by calls answers the
 //! same call made again as if nothing had been.
 
 use crate::end_growths::{EndTurn, client_takes, server_takes};
@@ -387,7 +387,7 @@ fn each_growth_refused(rt: HostRuntime) -> Result<(), Fail> {
     Ok(())
 }
 
-/// Calls, and how many growths each asks for at least.
+/// Calls, and how many allocations each asks for at least.
 fn all_refused(rt: &(impl Abort + AllocGlobal), calls: &[(Call, u64)]) -> Result<(), Fail> {
     for (row, (call, least)) in calls.iter().enumerate() {
         let growths = growths_of(rt, row, *call)?;
@@ -396,7 +396,7 @@ fn all_refused(rt: &(impl Abort + AllocGlobal), calls: &[(Call, u64)]) -> Result
     Ok(())
 }
 
-/// How many growths the call asks for: it is made with its first growth refused, with its second and so on, up to the
+/// How many allocations the call asks for: it is made with its first allocation failing, with its second and so on, up to the
 /// run in which none is.
 fn growths_of(rt: &(impl Abort + AllocGlobal), row: usize, call: Call) -> Result<u64, Fail> {
     for n in 1..100 {
@@ -414,8 +414,8 @@ fn growths_of(rt: &(impl Abort + AllocGlobal), row: usize, call: Call) -> Result
     Err(Fail::new("the call asks for too many growths"))
 }
 
-/// Whether the call answered want of memory, with its `n`th growth refused. It is then made again, and answers as if nothing
-/// had been; where none is refused, so does the first.
+/// Whether the call reported out of memory, with its `n`th allocation failing. It is then made again, and answers as if nothing
+/// had been; if none is refused, so does the first.
 fn is_refused(
     rt: &(impl Abort + AllocGlobal),
     heap: &Refusing,

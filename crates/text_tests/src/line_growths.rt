@@ -1,4 +1,4 @@
-//! Lines that are read, written and cut, with a growth refused: the call made again answers as if nothing had been.
+//! Lines that are read, written and cut, with a failing allocation: the call made again answers as if nothing had been.
 
 use crate::samples::long_text;
 use dbus_auth_lines::{
@@ -9,7 +9,7 @@ use std::alloc::{AllocError, Global};
 use std::process::Abort;
 use std::test::Fail;
 
-/// Whether a client's line was read or written with the `n`th growth refused. It is written as this text or, for none, no line
+/// Whether a client's line was read or written with the `n`th allocation failing. It is written as this text or, for none, no line
 /// spells it.
 pub fn client_line(
     rt: &impl Abort,
@@ -68,7 +68,7 @@ pub type Cut = Result<(usize, Option<usize>), LineFault>;
 /// A piece, which begins with so many letters, and what a cutter answers of it.
 pub type CutTurn = (usize, &'static [u8], Cut);
 
-/// Whether a cutter that takes these pieces in turn was refused its `n`th growth.
+/// Whether a cutter that takes these pieces in turn was refused its `n`th allocation.
 pub fn cuts(
     rt: &(impl Abort + AllocGlobal),
     heap: &Refusing,

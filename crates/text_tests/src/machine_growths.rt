@@ -1,4 +1,4 @@
-//! The state machines, with a growth refused: the machine is unchanged, and answers an equal line as if nothing had been.
+//! The state machines, with a failing allocation: the machine is unchanged, and answers an equal line as if nothing had been.
 
 use crate::samples::{GUID, mechanisms};
 use dbus_auth::{Client, ClientAct, ClientState, Server, ServerAct, ServerState};
@@ -10,7 +10,7 @@ use std::test::Fail;
 /// A line, what a server sends on it, which is nothing where it begins or is closed, and where it stands then.
 pub type ServerTurn = (&'static [u8], &'static [u8], ServerState);
 
-/// Whether a server as user 1000 that receives these lines in turn was refused its `n`th growth.
+/// Whether a server as user 1000 that receives these lines in turn was refused its `n`th allocation.
 pub fn server_hears(
     rt: &(impl Abort + AllocGlobal),
     heap: &Refusing,
@@ -84,7 +84,7 @@ fn server_sends<'a>(
 pub type ClientTurn = (Option<&'static [u8]>, &'static [u8], ClientState);
 
 /// Whether a client as user 1000 and then, with a trace, by ANONYMOUS that receives these lines in turn was refused its `n`th
-/// growth.
+/// allocation.
 pub fn client_hears(
     rt: &(impl Abort + AllocGlobal),
     heap: &Refusing,

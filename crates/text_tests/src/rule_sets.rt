@@ -1,4 +1,4 @@
-//! A set of rules, with each growth refused: what is refused leaves the set and the list of what it found as they were.
+//! A set of rules, with each allocation failing: what is refused leaves the set and the list of what it found as they were.
 
 use crate::signal::SIGNAL;
 use dbus_match::{Owner, Rule, parse_rule};
@@ -20,7 +20,7 @@ const RULES: &[(&str, bool)] = &[
     ("arg0='hi',path='/a',member='C',interface='a.c'", false),
 ];
 
-// The handle of a rule that is added, and whether a growth was refused first: then the set holds what it held, and is given the
+// The handle of a rule that is added, and whether an allocation failed first: then the set holds what it held, and is given the
 // rule that came back.
 fn added<'a>(
     rt: &impl Abort,
@@ -40,7 +40,7 @@ fn added<'a>(
     }
 }
 
-// Whether a growth was refused where the handles of the rules that match are found. They are found then by the same call.
+// Whether an allocation failed while the handles of the rules that match were looked for. They are found then by the same call.
 fn is_refused<'a>(
     rt: &impl Abort,
     rules: &RuleSet<&'a Refusing>,
@@ -56,7 +56,7 @@ fn is_refused<'a>(
     Ok(true)
 }
 
-/// Adds the rules, finds those that match, and removes them again. Whether the `n`th growth of that was refused.
+/// Adds the rules, finds those that match, and removes them again. Whether the `n`th allocation of that was refused.
 pub(crate) fn rules_found(rt: &impl Abort, heap: &Refusing, n: u64) -> Result<bool, Fail> {
     let Ok(view) = MessageView::of(SIGNAL) else {
         return Err(Fail::new("no message"));

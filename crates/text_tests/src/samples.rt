@@ -44,7 +44,7 @@ pub fn server_end<A: Allocator + Copy>(alloc: A, anonymous: bool) -> ServerEnd<A
     ServerEnd::new(alloc, Server::new(GUID, Some(1000), anonymous))
 }
 
-/// The end of a client that tries EXTERNAL as a user and then ANONYMOUS with a trace, each where there is one.
+/// The end of a client that tries EXTERNAL as a user and then ANONYMOUS with a trace, each if there is one.
 pub fn client_end<A: Allocator + Copy>(
     alloc: A,
     user: Option<u32>,

@@ -31,7 +31,7 @@ impl<'a> Asked<'a> {
         }
     }
 
-    /// The same value where no container is open, under the limits of the specification and with any index.
+    /// The same value if no container is open, under the limits of the specification and with any index.
     pub(crate) fn alone(self) -> Asked<'a> {
         Asked {
             open: 0,

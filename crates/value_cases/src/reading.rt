@@ -43,7 +43,7 @@ pub(crate) fn read(alloc: Global, asked: Asked<'_>, bytes: &[u8]) -> Answer {
     }
 }
 
-/// The value of a message's first bytes, where no container is open and under the limits of the specification, if there is one.
+/// The value of a message's first bytes, if no container is open and under the limits of the specification, if there is one.
 pub(crate) fn value_of(alloc: Global, asked: Asked<'_>, bytes: &[u8]) -> Option<Value> {
     read_value(alloc, asked.alone(), bytes)
         .ok()

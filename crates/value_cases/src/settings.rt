@@ -1,9 +1,9 @@
-//! Where a value stands and what it is to keep, as a column has it.
+//! Where a value is and what it must keep, as a column has it.
 
 use case_files::number_of;
 use dbus_value_model::Limits;
 
-/// Where a value stands and what it is to keep.
+/// Where a value is and what it must keep.
 #[derive(Clone, Copy)]
 pub(crate) struct Settings {
     /// The offset at which it begins.

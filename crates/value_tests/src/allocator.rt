@@ -1,10 +1,10 @@
-//! Which growths the allocator refuses, and what it counts.
+//! Which allocations the allocator refuses, and what it counts.
 
 use refusing_alloc::Refusing;
 use std::alloc::{AllocError, Allocator};
 use std::test::*;
 
-// What a hundred pushes did with one growth refused.
+// What a hundred pushes did with one allocation failing.
 #[derive(Clone, Copy)]
 struct Pushes {
     refused: bool,
@@ -36,7 +36,7 @@ fn push_after<A: Allocator>(heap: &Refusing<A>, n: u64) -> Result<Pushes, AllocE
     })
 }
 
-// Each growth of the pushes refused in turn: the items that were there stay, and no block leaks.
+// Each allocation of the pushes failing in turn: the items that were there stay, and no block leaks.
 #[test]
 fn each_growth_refused(rt: HostRuntime) -> Result<(), Fail> {
     let mut met = 0;
@@ -66,8 +66,8 @@ enum Step {
     RefuseNone,
 }
 
-// What is done one after another with a vector that has a room of 50, where the second growth is refused, and how many
-// growths, refusals and blocks are counted then. A shrink passes and is no growth.
+// What is done one after another with a vector that has a room of 50, if the second allocation fails, and how many
+// allocations, refusals and blocks are counted then. A shrink passes and is no allocation.
 const STEPS: &[(Step, (u64, u64, u64))] = &[
     (Step::Push(7), (1, 0, 1)),
     (Step::Shrink, (1, 0, 1)),

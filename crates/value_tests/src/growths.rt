@@ -1,5 +1,5 @@
-//! The calls on types and values that take memory, with each growth refused in turn: want of memory is answered exactly
-//! where a growth was refused, the same call made again answers what it should, and no block is left.
+//! The calls on types and values that take memory, with each allocation failing in turn: out of memory is returned exactly
+//! if an allocation failed, the same call made again answers what it should, and no block is left.
 
 use crate::made::{Made, NUMBERS, NUMBERS_BYTES, PAIRS, PAIRS_BYTES, make};
 use crate::reading::{self, read};
@@ -63,7 +63,7 @@ const NUMBERS_FRONT: &[u8] = b"\x08\0\0\0\0\0\0\0\x05\0\0\0\0\0\0";
 // A variant, which holds 1.
 const VARIANT: Made = Made::Read("v", b"\x01y\0\x01");
 
-// Each call, a number of growths that it takes at least, and what it answers where none is refused.
+// Each call, a number of allocations that it takes at least, and what it answers if none is refused.
 const CALLS: &[(Call, u64, Answer)] = &[
     (Call::ParseSignature(b"a{sv}(ua(yv))"), 4, Answer::Done),
     (Call::ParseSignature(b"(ua(yv))a{vs}"), 0, Answer::Bad(10)),
@@ -210,7 +210,7 @@ const CALLS: &[(Call, u64, Answer)] = &[
     (Call::TypeOf(Made::OtherItem), 1, Answer::Done),
 ];
 
-// What a call has to say for itself that fails for want of memory alone.
+// What a call has to say for itself that fails only if it is out of memory.
 fn of_growth<T: Drop>(outcome: Result<T, AllocError>) -> Answer {
     match outcome {
         Ok(_) => Answer::Done,
@@ -294,7 +294,7 @@ fn types_for(call: Call) -> types::Made {
     }
 }
 
-// What a call answers with its growth `n` refused, and again; and what the allocator counted.
+// What a call answers with its allocation `n` failing, and again; and what the allocator counted.
 #[derive(Clone, Copy)]
 struct Run {
     answer: Answer,
@@ -334,7 +334,7 @@ fn run_call(heap: &Refusing<Global>, call: Call, n: u64) -> Result<Run, AllocErr
     Ok(run_of(heap, call, n, &value, &types))
 }
 
-// A fault never becomes want of memory where nothing was refused.
+// A fault never becomes out of memory if nothing was refused.
 #[test]
 fn each_growth_refused(rt: HostRuntime) -> Result<(), Fail> {
     for (call, least, right) in CALLS {

@@ -1,5 +1,5 @@
 //! What values take of memory: how many bytes a value has, how many times the bytes that it was read from a tree has, and how
-//! many growths reading it takes.
+//! many allocations reading it takes.
 
 use crate::reading::growths_of_reading;
 use dbus_types::{SigFault, parse_single};
@@ -11,7 +11,7 @@ use std::test::*;
 // How many elements after the first an array has.
 const COUNT: u32 = 1025;
 
-// Trees take at most so many times the bytes that they are read from, where nothing is as dense as BYTEs in structs; and
+// Trees take at most so many times the bytes that they are read from, if nothing is as dense as BYTEs in structs; and
 // those of texts of ordinary length.
 const MOST: usize = 48;
 
@@ -147,7 +147,7 @@ const SHAPES: &[Shape] = &[
     ),
 ];
 
-// Arrays of fixed-size parts alone; and a number of growths, which reading one takes at most.
+// Arrays of fixed-size parts alone; and a number of allocations, which reading one takes at most.
 const GROWTHS: &[Shape] = &[
     ("an", b"", b"", b"\x07\0", 1),
     ("au", b"", b"", b"\x07\0\0\0", 1),

@@ -1,4 +1,4 @@
-//! Putting a value with its growth refused: the vector holds what it held, and the same call made again answers what it should. A
+//! Putting a value with its allocation failing: the vector holds what it held, and the same call made again answers what it should. A
 //! value that is not put for its size takes no memory.
 
 ghost use Rattle.dbus_value_model.specs.ShortSignatures.{HasShortSignatures};
@@ -86,8 +86,8 @@ fn put_short<A: Allocator>(
     put_within(out, Order::Little, value, limits)
 }
 
-// What putting answers with its first growth refused, whether the vector holds then what it held, and how many growths were refused;
-// and what the same call answers after it, how many growths it asked for, and whether the vector holds what it should.
+// What putting answers with its first allocation failing, whether the vector holds then what it held, and how many allocations were refused;
+// and what the same call answers after it, how many allocations it asked for, and whether the vector holds what it should.
 type Run = (
     (Result<(), ValueFault>, bool, u64),
     (Result<(), ValueFault>, u64, bool),

@@ -15,7 +15,7 @@ pub enum Answer {
     Partial,
     /// The fault of the bytes.
     Refused(Fault),
-    /// A growth was refused, of the type that is wanted or of the value.
+    /// An allocation failed, of the type that is wanted or of the value.
     Memory,
     /// No type or no limits are asked for.
     NotAsked,
@@ -62,7 +62,7 @@ pub fn read<A: Allocator + Copy>(
     }
 }
 
-/// The growths that reading a value takes, its type being read already; nothing where the bytes are refused.
+/// The allocations that reading a value takes, its type being read already; nothing if the bytes are refused.
 pub fn growths_of_reading(
     alloc: Global,
     signature: &str,

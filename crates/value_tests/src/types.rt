@@ -13,7 +13,7 @@ pub enum Made {
     /// A dict entry from STRING to VARIANT, on its own and in an array.
     LoneEntry,
     Entries,
-    /// A struct of so many bytes.
+    /// A struct of this number of bytes.
     Struct(usize),
     /// So many bytes, each a type.
     Bytes(usize),
@@ -41,7 +41,7 @@ fn entry<A: Allocator + Copy>(alloc: A) -> Result<SigType<A>, AllocError> {
     Ok(SigType::Entry(key, Arc::new(alloc, SigType::Variant)?))
 }
 
-// A struct of so many bytes.
+// A struct of this number of bytes.
 fn structure<A: Allocator + Copy>(alloc: A, count: usize) -> Result<SigType<A>, AllocError> {
     let fields = bytes(alloc, count)?;
     Ok(SigType::Struct(Arc::new(alloc, fields)?))
