@@ -26,9 +26,9 @@ use std::alloc::Global;
 /// it is the fault of the first such text. `Help`, `Version`: they ask for help, or for the version. `Memory`: an allocation
 /// failed.
 pub fn command_of(alloc: Global, words: &[String]) -> Result<(Command, Limits), UsageFault>
-    // A command that is answered is the one that the words name, and so are its limits.
+    // A command that is returned is the one that the words name, and so are its limits.
     ensures named { IfOk result (IsNamedBy (map string_bytes words.now)) }
-    // Help or the version is told where the words ask for it, a fault of usage where they have one, and a rule's fault where its text has it.
+    // Help or the version is returned if the words ask for it, a fault of usage if they have one, and a rule's fault if its text has it.
     ensures faults { TellsFault (map string_bytes words.now) result }
 {
     let Ok(command) = wire(alloc) else {
@@ -52,7 +52,7 @@ fn command_named(alloc: Global, matches: &ArgMatches) -> Result<(Command, Limits
     Ok((command, limits))
 }
 
-// The command of this name, with what stands after it.
+// The command of this name, with what comes after it.
 fn command_with(alloc: Global, name: &str, inner: &ArgMatches) -> Result<Command, UsageFault>
     ensures { TellsCommand name.now (rows_of (found_of inner.now)) result }
 {
@@ -140,7 +140,7 @@ fn is_true(word: Option<&str>) -> bool
     }
 }
 
-// What is told of words that clap refuses: its own text.
+// What is reported of words that clap rejects: its own text.
 fn fault_told(alloc: Global, error: &clap::Error) -> UsageFault
     ensures { TellsKind (kind_of error.now) result }
 {

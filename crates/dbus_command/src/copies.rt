@@ -13,7 +13,7 @@ impl Clone for Command {
 
     /// The same command; the selection of `Filter` in memory of its own.
     ///
-    /// Answers `AllocError` where memory ran out, and nothing of the copy stands then.
+    /// Returns `AllocError` if an allocation failed, and nothing of the copy is left then.
     fn clone(&self) -> Result<Command, AllocError> {
         match self {
             Command::Show => Ok(Command::Show),
@@ -29,7 +29,7 @@ impl Clone for Selection {
 
     /// The same selection, in memory of its own.
     ///
-    /// Returns `AllocError` if an allocation failed, and nothing of the copy stands then.
+    /// Returns `AllocError` if an allocation failed, and nothing of the copy is left then.
     fn clone(&self) -> Result<Selection, AllocError> {
         Ok(Selection {
             rules: self.rules.clone()?,

@@ -1,6 +1,6 @@
 //! The command line of the program `dbus-wire`: which command its words name, under which limits.
 //!
-//! [`command_of`] returns the [`Command`] or the [`UsageFault`] of some words. The texts of help stand here too. `dbus_tool` runs the
+//! [`command_of`] returns the [`Command`] or the [`UsageFault`] of some words. The texts of help are here too. `dbus_tool` runs the
 //! command. `man/dbus-wire.1` describes the words.
 #![tactic(auto)]
 

@@ -7,7 +7,7 @@ use clap::ArgMatches;
 use dbus_value::{ARRAY_LIMIT, DEPTH_LIMIT, FdRule, Limits, MESSAGE_LIMIT};
 use std::alloc::Global;
 
-/// The limits that the options name. `Usage`: one of them is given what it may not be. `Memory`: a growth was refused.
+/// The limits that the options name. `Usage`: one of them is given what it may not be. `Memory`: an allocation failed.
 pub(crate) fn limits_named(alloc: Global, inner: &ArgMatches) -> Result<Limits, UsageFault>
     ensures { TellsLimits (rows_of (found_of inner.now)) result }
 {
@@ -23,7 +23,7 @@ pub(crate) fn limits_named(alloc: Global, inner: &ArgMatches) -> Result<Limits, 
     }
 }
 
-// Limits of the numbers that the options name, or nothing where one of them is given no number that it may be.
+// Limits of the numbers that the options name, or nothing if one of them is given no number that it may be.
 fn numbers_named(inner: &ArgMatches) -> Option<Limits>
     ensures { GivesNumbers (rows_of (found_of inner.now)) result }
 {
@@ -33,7 +33,7 @@ fn numbers_named(inner: &ArgMatches) -> Option<Limits>
     Limits::new(message, array, u8::try_from(depth).ok()?)
 }
 
-// The number that an option is given, or `most` where it is not given. Nothing, where its text is no number of 32 bits.
+// The number that an option is given, or `most` if it is not given. Nothing, if its text is no number of 32 bits.
 fn number_named(inner: &ArgMatches, name: &str, most: u32) -> Option<u32>
     ensures { GivesNumber (one_of name.now (rows_of (found_of inner.now))) most result }
 {

@@ -7,7 +7,7 @@ use std::alloc::Global;
 /// Why the words of a command line name no command.
 #[derive(Debug, Drop)]
 pub enum UsageFault {
-    /// A growth was refused.
+    /// An allocation failed.
     Memory,
     /// Help was asked for: its text, which ends in LF.
     Help(String),
@@ -29,7 +29,7 @@ pub(crate) fn usage(alloc: Global, text: &str) -> UsageFault
     }
 }
 
-/// A word that an option does not take, told as `clap` tells it.
+/// A word that an option does not take, reported as `clap` reports it.
 pub(crate) fn bad_value(alloc: Global, word: &str, option: &str, possible: &str) -> UsageFault
     ensures { IsUsageOrMemory result }
 {

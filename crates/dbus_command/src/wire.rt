@@ -105,7 +105,7 @@ fn invert_flag<'a>(alloc: Global) -> Arg<'a>
         .action(ArgAction::SetTrue)
 }
 
-// The option of an owner, which may stand again and again.
+// The option of an owner, which may occur again and again.
 fn owner_option<'a>(alloc: Global) -> Arg<'a>
     ensures rule { rule_of result ≡ owner_rule }
     ensures local { result.global ≡ false }

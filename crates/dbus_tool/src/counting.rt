@@ -53,7 +53,7 @@ fn count_through<R: Source + Drop>(
     (counted, messages.into_source())
 }
 
-/// Counts the messages of a source within these limits, up to its end, a fault or so many reads. It takes no memory.
+/// Counts the messages of a source within these limits, up to its end, a fault or this number of reads. It allocates nothing.
 pub(crate) fn count_over<R: Source>(
     limits: Limits,
     reads: u64,

@@ -7,7 +7,7 @@ use dbus_value::Fault;
 pub enum ExitStatus {
     /// 0: all was read, and it is messages alone.
     Done,
-    /// 1: after the messages stand bytes that are none, or the input ends within one.
+    /// 1: the input has bytes that are no message, or ends within one.
     Refused,
     /// 2: the words of the command line name no command.
     Usage,

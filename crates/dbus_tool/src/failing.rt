@@ -1,4 +1,4 @@
-//! What is told where a run fails.
+//! What a failed run reports.
 ghost use Rattle.std.specs.Prelude.{◌≡◌};
 ghost use Rattle.dbus_tool.specs.Running.{Told};
 
@@ -6,7 +6,7 @@ use crate::ending::{Cause, ExitStatus};
 use crate::lines::cause_line;
 use dbus_stream::{Sink, write_all};
 
-/// Tells the second writer the cause.
+/// Writes the cause on the second writer.
 pub(crate) fn give_up<E: Sink>(cause: Cause, second: &mut E) -> ExitStatus
     ensures failed { result ≡ ExitStatus.Failed }
     ensures told { Told E.held E.failures second.old second.new cause }

@@ -10,7 +10,7 @@ use dbus_stream::{Sink, WrittenOnly, write_all};
 #[derive(Clone, Copy, Debug, PartialEq, Eq)]
 pub(crate) struct Unwritten;
 
-/// Gathers the bytes. Where there is no room for them, what is gathered is written, and they are after it.
+/// Gathers the bytes. If there is no room for them, what is gathered is written, and they are after it.
 pub(crate) fn gather<W: Sink>(
     bytes: &[u8],
     gathered: &mut Gathered,
@@ -25,7 +25,7 @@ pub(crate) fn gather<W: Sink>(
     write_after(bytes, gathered, first)
 }
 
-/// Gathers the bytes, as [`gather`] does, with the cause where a write failed.
+/// Gathers the bytes, as [`gather`] does, with the cause if a write failed.
 pub(crate) fn put_out<W: Sink>(
     bytes: &[u8],
     gathered: &mut Gathered,

@@ -16,7 +16,7 @@ use dbus_validate::Validated;
 use dbus_value::Limits;
 use std::alloc::Allocator;
 
-// What is validated of the next message, which the reader lends then, if there is one. Where it keeps none, what is gathered is
+// What is validated of the next message, which the reader lends then, if there is one. If it keeps none, what is gathered is
 // written, and then more is read.
 fn next_message<R: Source, A: Allocator + Copy, W: Sink>(
     messages: &mut RawReader<R, A>,
@@ -106,7 +106,7 @@ fn hand_all<R: Source, A: Allocator + Copy, W: Sink>(
     }
 }
 
-// What it comes to that there is no next message after these.
+// How the run goes on if no message follows.
 fn stopped_by(count: u64, size: u64, stop: NoMessage) -> Result<Counted, Cause>
     ensures { result ≡ stopped_by count size stop }
 {
@@ -116,7 +116,7 @@ fn stopped_by(count: u64, size: u64, stop: NoMessage) -> Result<Counted, Cause>
     }
 }
 
-// What a fault of the reader after these messages comes to.
+// The run's answer to a fault of the reader after these messages.
 pub(crate) fn ended_by(count: u64, size: u64, fault: ReadFault) -> Result<Counted, Cause>
     ensures { result ≡ ended_by count size fault }
 {
@@ -160,7 +160,7 @@ fn hand_and_write<R: Source, A: Allocator + Copy, W: Sink>(
     }
 }
 
-// Writes what is gathered where memory ran out, and answers why the run fails.
+// Writes what is gathered if memory ran out, and returns why the run fails.
 fn out_of_memory<W: Sink>(gathered: &mut Gathered, first: &mut W) -> Cause
     ensures gathers { GathersOrNot W.held W.failures [] (gathered_bytes gathered.old) (gathered_bytes gathered.new)
         first.old first.new (Err result) }
@@ -191,7 +191,7 @@ fn hand_through<R: Source + Drop, A: Allocator + Copy, W: Sink>(
     (counted, messages.into_source())
 }
 
-/// Writes what is wanted of each message of a source within these limits, up to its end, a fault or so many reads.
+/// Writes what is wanted of each message of a source within these limits, up to its end, a fault or this number of reads.
 pub(crate) fn hand_over<R: Source, A: Allocator + Copy, W: Sink>(
     alloc: A,
     output: Output,

@@ -59,24 +59,24 @@ pub fn run_reads<A: Allocator + Copy, R: Source, W: Sink, E: Sink>(
 }
 
 /// Does what the command says with all that the reader gives, in messages that keep these limits, each by itself. Its
-/// output goes to the first writer. At most so many reads are made, the one that finds the end of the input among them.
+/// output goes to the first writer. At most `reads` reads are made, the one that finds the end of the input among them.
 ///
 /// `Show` writes each message as text, numbered from 1. `Swap` writes each message in the order that it names. `Filter`
 /// writes each message that is selected, in its own order. Where the bytes after the messages are
 /// none within the limits or too few, each of these writes `refused at P: NAME` on the second writer, with the place from
-/// the start of the input and the name of the reason. `Check` writes that line on the first writer; or, where the input is
+/// the start of the input and the name of the reason. `Check` writes that line on the first writer; or, if the input is
 /// messages alone, `ok N messages B bytes`, how many they are and of how many bytes.
 ///
-/// Where the run fails, it stops at the first cause that it meets, and writes `read failed`, `write failed`, `too many reads`
+/// If the run fails, it stops at the first cause that it meets, and writes `read failed`, `write failed`, `too many reads`
 /// or `out of memory` on the second writer. Each line ends in LF. What is written is gathered up to 16,384 bytes, and goes
-/// out before each read and before the status is given, also where memory ran out; if it does not go out then, the line is
+/// out before each read and before the status is given, also if memory ran out; if it does not go out then, the line is
 /// `write failed`. A writer gets no more after a write to it failed.
 ///
 /// The run holds at most the bytes of one message and of one read, what is gathered, and for `Swap` room for the longest message
-/// so far that it byteswaps. `Check` holds no message and no byte of one but those of one read, and takes no memory for them.
+/// so far that it byteswaps. `Check` builds no message, and allocates nothing for messages.
 ///
 /// `Done`, `Refused`: all was written, no read and no write failed, and the status says which. `Failed`: a read failed, a
-/// write to either writer failed or took none of its bytes, as many reads were made as may be, or a growth was refused. It
+/// write to either writer failed or took none of its bytes, as many reads were made as may be, or an allocation failed. It
 /// is never `Usage`.
 pub fn run_within<A: Allocator + Copy, R: Source, W: Sink, E: Sink>(
     alloc: A,

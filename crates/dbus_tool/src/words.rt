@@ -13,13 +13,13 @@ use dbus_stream::{MOST_READS, Sink, Source, WrittenOnly, write_all};
 use std::alloc::Global;
 
 /// Does what [`run_within`] does for the command that the words name, of which the first is the program's name, under the
-/// limits that they name and with at most 2^32 reads. Where the words ask for help, its text goes to the first writer.
-/// Where they name no command, a text that says how goes to the second; and where they name `filter` with a text that
+/// limits that they name and with at most 2^32 reads. If the words ask for help, its text goes to the first writer.
+/// If they name no command, a text that says how goes to the second; and if they name `filter` with a text that
 /// spells no rule, `rule refused at P: NAME` and LF, the place in that text and the name of the reason.
 ///
 /// `Done`, `Refused`, `Failed`: as [`run_within`] says. `Done` also where help was written. `Usage`: the words name no
-/// command, and that was told. `Failed` also where such a text was not written, of help with `write failed` on the second
-/// writer; and where a growth was refused, with `out of memory` there.
+/// command, and that was reported. `Failed` also if such a text was not written, of help with `write failed` on the second
+/// writer; and if an allocation failed, with `out of memory` there.
 pub fn run_words<R: Source, W: Sink, E: Sink>(
     alloc: Global,
     words: &[String],
