@@ -1,4 +1,4 @@
-//! Where the values of a message's body stand, in numbers.
+//! Where the values of a message's body are, in numbers.
 #![tactic(auto)]
 
 ghost use Rattle.std.specs.Prelude.{◌≡◌, ◌≢◌, ◌↔◌, None, IfSome};
@@ -20,7 +20,7 @@ use dbus_view::MessageView;
 pub struct Argument {
     /// The offset of its text, in bytes from the first, or 0 if it is no text.
     pub offset: u64,
-    /// How many bytes its text has, or 0 if it is no text.
+    /// The number of bytes of its text, or 0 if it is no text.
     pub length: u64,
     /// The first code of its type: of a STRING `s`, of an OBJECT_PATH `o`, of a SIGNATURE `g`, of an array `a`.
     pub code: u32,
@@ -28,11 +28,11 @@ pub struct Argument {
     pub reserved: u32,
 }
 
-/// Tells of value `number`, counted from 0, of the body of the message within the limits that the bytes begin with, and answers
-/// [`WHOLE`]; [`NO_VALUE`] if the body has no value of that number. If the bytes begin with no message, answers
+/// Describes value `number`, counted from 0, of the body of the message within the limits that the bytes begin with, and returns
+/// [`WHOLE`]; [`NO_VALUE`] if the body has no value of that number. If the bytes begin with no message, returns
 /// [`crate::PARTIAL`] or [`crate::REFUSED`], as [`crate::dbus_wire_check`]. In these three cases `out` stays as it is.
 ///
-/// Of a STRING, an OBJECT_PATH and a SIGNATURE its text is told where it stands in the bytes. It allocates nothing.
+/// Of a STRING, an OBJECT_PATH and a SIGNATURE the place of its text in the bytes is given. It allocates nothing.
 /// D-Bus Specification, "Message Format".
 #[unsafe(no_mangle)]
 pub extern "C" fn dbus_wire_argument_of(

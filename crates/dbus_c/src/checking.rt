@@ -1,4 +1,4 @@
-//! Whether bytes begin with a message, told in numbers.
+//! Whether bytes begin with a message, in numbers.
 #![tactic(auto)]
 
 ghost use Rattle.std.specs.Prelude.{◌≡◌, ◌<◌, ◌≤◌, length};
@@ -18,11 +18,11 @@ use dbus_check::{Check, Checker};
 use dbus_validate::validate;
 use dbus_value_model::{Fault, Limits};
 
-/// What is told of bytes beside the answer. A number that the answer does not speak of is 0.
+/// The result of checking bytes. Fields that do not apply are 0.
 #[repr(C)]
 #[derive(Drop)]
 pub struct Checked {
-    /// Of a message: how many bytes it has.
+    /// Of a message: its number of bytes.
     pub length: u64,
     /// Of a fault: its offset, in bytes from the first.
     pub offset: u64,
@@ -36,7 +36,7 @@ pub struct Checked {
     pub reserved: u32,
 }
 
-// What is told of bytes that begin with a message of this length.
+// The result for bytes that begin with a message of this length.
 pub(crate) fn whole_told(bytes: &[u8], count: usize) -> Checked
     requires { 0 < length bytes.now }
     ensures { (limits : Limits) (order : Order) (m : MessageTree) →
@@ -52,7 +52,7 @@ pub(crate) fn whole_told(bytes: &[u8], count: usize) -> Checked
     }
 }
 
-// What is told where more bytes are wanted.
+// The result for PARTIAL: all zeros.
 pub(crate) fn nothing_told() -> Checked
     ensures { result ≡ nothing_told }
 {
@@ -66,7 +66,7 @@ pub(crate) fn nothing_told() -> Checked
     }
 }
 
-// What is told of a fault.
+// The result for a fault.
 pub(crate) fn fault_told(fault: Fault) -> Checked
     ensures { result ≡ fault_told fault }
 {
@@ -99,7 +99,7 @@ pub extern "C" fn dbus_wire_check(bytes: &[u8], limits: &WireLimits, out: &mut C
     }
 }
 
-// What a checker tells of the bytes.
+// What a checker returns for the bytes.
 #[inline(never)]
 pub(crate) fn check_all(bytes: &[u8], limits: Limits, out: &mut Checked) -> u32
     ensures tells { Tells limits bytes.now result out.new }

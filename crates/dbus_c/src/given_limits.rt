@@ -7,7 +7,7 @@ ghost use Rattle.dbus_c.specs.GivenLimits.{limits_of, rule_of, specification_giv
 
 use dbus_value_model::{ARRAY_LIMIT, DEPTH_LIMIT, FdRule, Limits, MESSAGE_LIMIT};
 
-/// The number of the rule that any index of a file descriptor may stand.
+/// The number of the rule that allows any index of a file descriptor.
 pub const ANY_INDEX: u32 = 0;
 
 /// The number of the rule that each index of a file descriptor is below their count.
@@ -29,7 +29,7 @@ pub struct WireLimits {
     pub fds: u32,
 }
 
-/// Writes the limits of the specification, under which any index of a file descriptor may stand.
+/// Writes the limits of the specification, which allow any index of a file descriptor.
 #[tactic(auto, using(crate::proofs::MeantLimits::specification_meant))]
 #[unsafe(no_mangle)]
 pub extern "C" fn dbus_wire_specification_limits(out: &mut WireLimits)

@@ -4,8 +4,8 @@
 ghost use Rattle.std.specs.Prelude.{◌≡◌, ◌<◌, ◌≤◌, ◌+◌, ◌∷◌, ◌++◌, drop, length};
 ghost use Rattle.dbus_c.specs.ReasonNames.{NamesAreTexts, name_at};
 
-/// Writes the name of the reason of this number, and a 0 after it, at the start of `out`, where that has room for both; else
-/// `out` stays as it is. Answers the name's length, 0 where there is no such reason.
+/// Writes the name of the reason of this number, and a 0 after it, at the start of `out`, if that has room for both; else
+/// `out` stays as it is. Returns the name's length, 0 if there is no such reason.
 #[unsafe(no_mangle)]
 pub extern "C" fn dbus_wire_reason_name(reason: u32, out: &mut [u8]) -> usize
     ensures counted { result ≡ length (name_at reason) }
@@ -66,7 +66,7 @@ fn name_numbered(number: u32) -> &'static str
     }
 }
 
-/// The text of a reason is the name at its number, and the code of the field where one is missing.
+/// The text of a reason is the name at its number, and the code of the field if one is missing.
 pub fn names_are_texts()
     ensures { NamesAreTexts }
 {}

@@ -1,4 +1,4 @@
-//! The parts of a message in the caller's bytes, told in numbers.
+//! The parts of a message in the caller's bytes, in numbers.
 #![tactic(auto)]
 
 ghost use Rattle.std.specs.Prelude.{◌≡◌, ◌≢◌, ◌↔◌, List, ℕ, true};
@@ -18,13 +18,13 @@ use dbus_message_model::field_code::{
 use dbus_validate::{Seen, validate_first};
 use dbus_value_model::Order;
 
-/// Where the text of a header field stands among the bytes that were handed in.
+/// Where the text of a header field is among the bytes that were handed in.
 #[repr(C)]
 #[derive(Drop)]
 pub struct TextPlace {
     /// Its offset, in bytes from the first, or 0 if there is no such field.
     pub offset: u64,
-    /// How many bytes it has, or 0.
+    /// The number of bytes that it has, or 0.
     pub length: u64,
     /// 1, or 0 if there is no such field.
     pub is_there: u64,
@@ -34,7 +34,7 @@ pub struct TextPlace {
 #[repr(C)]
 #[derive(Drop)]
 pub struct Parts {
-    /// How many bytes it has.
+    /// The number of bytes that it has.
     pub length: u64,
     /// The offset of its body, which begins after the header and its padding, and ends where the message does: also where it is
     /// empty.
@@ -67,8 +67,8 @@ pub struct Parts {
     pub signature: TextPlace,
 }
 
-/// Writes the parts of the message within the limits that the bytes begin with, and answers [`WHOLE`]. If they begin with none,
-/// answers [`crate::PARTIAL`] or [`crate::REFUSED`], as [`crate::dbus_wire_check`], which tells why, and `out` stays as it is.
+/// Writes the parts of the message within the limits that the bytes begin with, and returns [`WHOLE`]. If they begin with none,
+/// returns [`crate::PARTIAL`] or [`crate::REFUSED`], as [`crate::dbus_wire_check`], which reports why, and `out` stays as it is.
 /// Each part lies within the message, whatever bytes follow it. It allocates nothing.
 ///
 /// D-Bus Specification, "Message Format" and "Header Fields".
@@ -116,7 +116,7 @@ fn order_byte(order: Order) -> u32
     }
 }
 
-// Where the text of the field of a known code stands.
+// Where the text of the field of a known code is.
 fn place_of(seen: &Seen, code: u8) -> TextPlace
     ensures { (bytes : List ℕ) (fs : List FieldTree) → AreNoted fs bytes seen.now →
         is_known code ≡ true → IsPlaceOf (field_value code fs) bytes result }

@@ -1,4 +1,4 @@
-//! Whether bytes are a text of a kind, told in numbers.
+//! Whether bytes are a text of a kind, in numbers.
 #![tactic(auto)]
 
 ghost use Rattle.std.specs.Prelude.{◌≡◌, None, IfSome, IsTrue, IsFalse};
@@ -10,7 +10,7 @@ use crate::answers::{NO_KIND, REFUSED, WHOLE};
 use dbus_header::NAME_LIMIT;
 use dbus_texts::{TextKind, text_break};
 
-/// What is told of a text beside the answer. A number that the answer does not speak of is 0.
+/// The result of checking a text. Fields that do not apply are 0.
 #[repr(C)]
 #[derive(Drop)]
 pub struct TextChecked {
@@ -58,7 +58,7 @@ fn kind_of(number: u32) -> Option<TextKind>
     }
 }
 
-// What is told of a text of which a text of the kind is asked.
+// The result for a text that is checked for a kind.
 fn check_text(kind: TextKind, text: &[u8], out: &mut TextChecked) -> u32
     ensures { TellsText kind text.now result out.new }
 {

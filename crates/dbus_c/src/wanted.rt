@@ -1,4 +1,4 @@
-//! How many bytes a message has, by its first sixteen.
+//! The length of a message, by its first sixteen bytes.
 #![tactic(auto)]
 
 ghost use Rattle.std.specs.Prelude.{◌≤◌};
@@ -8,11 +8,11 @@ ghost use Rattle.dbus_c.specs.Wanting.{Wants};
 use crate::given_limits::{WireLimits, given_limits};
 use dbus_header::stated_length_within;
 
-/// How many bytes the message has that the bytes begin with, as soon as 16 of them are there and none of their items is at
-/// fault under the limits; else 0. Whatever follows, a message that begins so has exactly so many bytes.
+/// The length in bytes of the message that the bytes begin with, as soon as 16 of them are there and none of their items is at
+/// fault under the limits; else 0. Whatever follows, a message that begins so has exactly this number of bytes.
 ///
-/// 0 says of 16 bytes and more that no message begins so, and [`crate::dbus_wire_check`] tells why; of fewer, that more bytes
-/// are wanted or that they are refused. It takes no memory. D-Bus Specification, "Message Format".
+/// 0 says of 16 bytes and more that no message begins so, and [`crate::dbus_wire_check`] reports why; of fewer, that more bytes
+/// are wanted or that they are refused. It allocates nothing. D-Bus Specification, "Message Format".
 #[unsafe(no_mangle)]
 pub extern "C" fn dbus_wire_wanted(bytes: &[u8], limits: &WireLimits) -> u64
     ensures wants { Wants (limits_of limits.now) bytes.now result }
