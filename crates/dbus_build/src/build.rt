@@ -45,8 +45,8 @@ pub trait Build: Sized {
 
     /// The message of these parts, which is `Ok` exactly if no case of [`BuildFault`] holds of them under the limits.
     ///
-    /// The error hands the parts back, with the first case that holds of them. No memory is taken, so `Memory` is never
-    /// answered.
+    /// The error hands the parts back, with the first case that holds of them. Nothing is allocated, so `Memory` is never
+    /// returned.
     /// D-Bus Specification, "Message Format", "Header Fields".
     fn new_within(
         alloc: Self::Allocator,

@@ -84,7 +84,7 @@ fn check_contents<A: Allocator>(parts: &Parts<A>, limits: Limits) -> Result<(), 
     Ok(())
 }
 
-/// How many bytes the parts are spelled by, within the limits.
+/// The number of bytes that spell the parts, within the limits.
 fn measure<A: Allocator>(parts: &Parts<A>, limits: Limits) -> Result<usize, BuildFault>
     requires passed { SignaturePasses limits parts.now }
     ensures { MatchResult result

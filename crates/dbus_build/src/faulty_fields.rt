@@ -72,7 +72,7 @@ pub fn first_zero_reply<A: Allocator>(fields: &[HeaderField<A>]) -> Option<u8>
     None
 }
 
-/// The code of the first known field that stands after one of its code.
+/// The code of the first known field that comes after one of its code.
 #[tactic(auto, using(crate::proofs::FaultyFields::twice_here, crate::proofs::FaultyFields::twice_later))]
 pub fn first_twice<A: Allocator>(fields: &[HeaderField<A>]) -> Option<u8>
     ensures { result ≡ twice [] (field_trees fields.now) }

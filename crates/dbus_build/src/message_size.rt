@@ -1,4 +1,4 @@
-//! How many bytes parts are spelled by.
+//! The number of bytes that spell parts.
 #![tactic(auto)]
 
 ghost use Rattle.std.specs.Prelude.{map};

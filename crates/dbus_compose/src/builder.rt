@@ -14,7 +14,7 @@ use std::alloc::{AllocError, Allocator, Global};
 
 /// What a message is to be made of, given part by part. D-Bus Specification, "Message Format".
 ///
-/// [`Compose`](crate::Compose) begins one, and [`MessageBuilder::build`] makes the message. The header fields stand in the order of
+/// [`Compose`](crate::Compose) begins one, and [`MessageBuilder::build`] makes the message. The header fields are in the order of
 /// their codes, and one that is set again is replaced. The SIGNATURE field is that of the body's values; there is none if the body
 /// is empty. The serial is 1 unless it is set.
 ///
@@ -157,7 +157,7 @@ impl<A: Allocator + Copy> MessageBuilder<A> {
         self.name(SENDER, name)
     }
 
-    /// Sets the UNIX_FDS field: how many file descriptors come with the message. D-Bus Specification, "Header Fields".
+    /// Sets the UNIX_FDS field: the number of file descriptors that come with the message. D-Bus Specification, "Header Fields".
     pub fn unix_fds(self, count: u32) -> Self
         ensures { Becomes
             (drafted self)
@@ -209,7 +209,7 @@ impl<A: Allocator + Copy> MessageBuilder<A> {
         }
     }
 
-    /// Sets the body, in place of the values that it has. It takes no memory. D-Bus Specification, "Message Format".
+    /// Sets the body, in place of the values that it has. It allocates nothing. D-Bus Specification, "Message Format".
     pub fn body(mut self, values: Vec<Value<A>, A>) -> Self
         ensures { drafted result ≡ option_map (with_body values.items) (drafted self) }
     {
@@ -223,7 +223,7 @@ impl<A: Allocator + Copy> MessageBuilder<A> {
     ///
     /// Else the first case of [`BuildFault`] that holds of these parts, as `Message::new` finds it, or `Memory` if an allocation failed
     /// in this call or in one before it. `Name(8)` means that the types of the values make no signature: their texts have more than
-    /// 255 bytes together, a struct is empty, a dict entry stands outside an array, or a type nests too deep.
+    /// 255 bytes together, a struct is empty, a dict entry is outside an array, or a type nests too deep.
     pub fn build(self) -> Result<Message<A>, BuildFault>
         ensures { IsComposed (drafted self) result }
     {

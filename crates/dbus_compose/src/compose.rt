@@ -39,7 +39,7 @@ pub trait Compose: Sized {
     /// ```
     fn reply_to(alloc: Self::Allocator, message: &Self) -> Self::Builder;
 
-    /// The reply to a call that failed by the error of this name: else it is as [`Compose::reply_to`] says.
+    /// The reply to a call that failed, with the error of this name; otherwise as [`Compose::reply_to`] says.
     fn error_to(alloc: Self::Allocator, message: &Self, name: &str) -> Self::Builder;
 }
 

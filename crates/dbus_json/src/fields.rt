@@ -1,4 +1,4 @@
-//! Header fields as JSON, from where they stand. D-Bus Specification, "Header Fields".
+//! Header fields as JSON, from a message's bytes. D-Bus Specification, "Header Fields".
 #![tactic(auto)]
 
 ghost use Rattle.std.specs.Prelude.{◌≡◌, ℕ, List};
@@ -16,7 +16,7 @@ use dbus_show::{Draft, write_field_name, write_integer};
 use dbus_show_view::write_types;
 use dbus_walk::{FIELDS_START, Source, Spot, field_at, fields_end, lengths_of, skip_value};
 
-/// Appends the field that has this code, and whose value stands at a spot: the offset after the value.
+/// Appends the field that has this code, and whose value is at a spot: the offset after the value.
 fn write_field<D: Draft>(draft: &mut D, source: &Source<'_>, code: u8, spot: &Spot<'_>) -> usize
     requires stands { StandsThere source.now spot.now }
     requires noted { AreLengths spot.now.types.now spot.now.lengths.now }

@@ -28,7 +28,7 @@ fn write_type<D: Draft>(draft: &mut D, kind: u8)
     }
 }
 
-/// Appends what stands before the header fields.
+/// Appends what comes before the header fields.
 fn write_start<D: Draft>(draft: &mut D, validated: &Validated, number: u64, offset: u64)
     ensures { D.gains draft.old (start_text validated.now number offset) draft.new }
 {
@@ -53,7 +53,7 @@ fn write_start<D: Draft>(draft: &mut D, validated: &Validated, number: u64, offs
 /// The line is one object: `number` and `offset` as they are given, which are the message's number, counted from 1, and where it
 /// begins in the input; its length in bytes, its order as `"l"` or `"B"`, its type by name, its flags and its serial; each known
 /// header field by its name; all other fields in the array `fields`, and the values of the body in the array `body`. No message is
-/// built from the bytes, and no memory is taken but what the draft takes.
+/// built from the bytes, and only the draft allocates.
 ///
 /// ```text
 /// {"number":1,"offset":0,"length":96,"order":"l","type":"signal","flags":0,"serial":2,"path":"/a","fields":[],"body":["hi",[1,2]]}

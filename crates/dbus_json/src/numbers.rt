@@ -1,4 +1,4 @@
-//! Numbers as JSON, from where they stand. RFC 8259, section 6.
+//! Numbers as JSON, from a message's bytes. RFC 8259, section 6.
 #![tactic(auto)]
 
 ghost use Rattle.std.specs.Prelude.{◌≡◌, ◌+◌, ◌≤◌, ◌^◌, true, length, take, drop, from_bits};
@@ -18,7 +18,7 @@ use ryu::Buffer;
 /// The bit of a DOUBLE's sign.
 const SIGN: u64 = 1 << 63;
 
-/// The bits of positive infinity. Above them, the sign aside, stand the NaNs.
+/// The bits of positive infinity. Above them, the sign aside, are the NaNs.
 const INFINITY: u64 = 0x7ff0_0000_0000_0000;
 
 /// The float that has these bits, if it is finite.
@@ -50,7 +50,7 @@ fn write_double<D: Draft>(draft: &mut D, bits: u64)
     }
 }
 
-/// Appends the number that stands at `at`, of the type that has this code.
+/// Appends the number at `at`, of the type that has this code.
 pub(crate) fn write_json_number<D: Draft>(
     draft: &mut D,
     bytes: &[u8],

@@ -1,4 +1,4 @@
-//! Values of any type as JSON, from where they stand. D-Bus Specification, "Marshaling (Wire Format)".
+//! Values of any type as JSON, from a message's bytes. D-Bus Specification, "Marshaling (Wire Format)".
 #![tactic(auto)]
 
 ghost use Rattle.std.specs.Prelude.{◌≡◌, ℕ, List};
@@ -26,7 +26,7 @@ pub(crate) fn write_value_at<D: Draft>(draft: &mut D, source: &Source<'_>, spot:
     }
 }
 
-/// Appends the JSON of the values that stand one after another at a spot, with commas between them.
+/// Appends the JSON of the values that follow one another at a spot, with commas between them.
 pub(crate) fn write_values_at<D: Draft>(draft: &mut D, source: &Source<'_>, spot: &Spot<'_>)
     requires stand { AllStandThere source.now spot.now }
     requires noted { AreLengths spot.now.types.now spot.now.lengths.now }

@@ -1,4 +1,4 @@
-//! Values as JSON, from where they stand. RFC 8259; D-Bus Specification, "Marshaling (Wire Format)".
+//! Values as JSON, from a message's bytes. RFC 8259; D-Bus Specification, "Marshaling (Wire Format)".
 #![tactic(auto)]
 
 ghost use Rattle.std.specs.Prelude.{◌≡◌, ◌==◌};

@@ -130,7 +130,7 @@ fn row_of(code: u8, n: u32, index_limit: Option<u32>) -> Option<Reason>
 
 /// A number of the type that has this code: how many bytes it has. Its padding is taken already.
 ///
-/// `Overrun` at `offset` if it ends past the end; `Bool` there where it is a BOOLEAN and neither 0 nor 1; `FdIndex` there
+/// `Overrun` at `offset` if it ends past the end; `Bool` there if it is a BOOLEAN and neither 0 nor 1; `FdIndex` there
 /// if it is a UNIX_FD and not below `index_limit`, if that is something. D-Bus Specification, "Basic types".
 pub fn number_front(
     code: u8,
@@ -222,10 +222,10 @@ pub fn length_front(
     }
 }
 
-/// How many bytes the elements of an array have, whose type begins with this code, and how many bytes stand before them: those
+/// How many bytes the elements of an array have, whose type begins with this code, and how many bytes come before them: those
 /// of the length and of the padding after it. The padding before the length is taken already.
 ///
-/// `ArrayTooLong` at `offset` where they are over the bounds' array; else `Overrun` there where they end past the end; else
+/// `ArrayTooLong` at `offset` if they are over the bounds' array; else `Overrun` there if they end past the end; else
 /// the faults of the padding.
 pub fn array_front(
     code: u8,

@@ -33,7 +33,7 @@ fn put_lengths(lengths: &mut ArrayVec<u8, 16640>, types: &[u8])
     put(lengths, lengths_in(types, &mut table));
 }
 
-/// A signature stands after the first `top` bytes of those in use, with the lengths of its types.
+/// A signature follows the first `top` bytes of those in use, with the lengths of its types.
 pub(crate) fn sign(
     text: &mut ArrayVec<u8, 16640>,
     lengths: &mut ArrayVec<u8, 16640>,

@@ -8,10 +8,10 @@ use arrayvec::ArrayVec;
 use dbus_types::{TextKind, TextScan};
 use dbus_value_model::{Bounds, Fault, Limits, Order, Stop};
 
-/// An open container: where the types of its parts stand in the signatures, and where it ends.
+/// An open container: where the types of its parts are in the signatures, and where it ends.
 #[derive(Clone, Copy, Default)]
 pub(crate) struct Frame {
-    /// Whether it is an array, whose one type stands for all of its elements.
+    /// Whether it is an array, whose one type is that of all of its elements.
     pub(crate) array: bool,
     /// Where the next type begins.
     pub(crate) pos: usize,
@@ -21,18 +21,18 @@ pub(crate) struct Frame {
     pub(crate) top: usize,
     /// The offset where it ends.
     pub(crate) end: usize,
-    /// How many containers may be opened in it.
+    /// The number of containers that may be opened in it.
     pub(crate) depth_left: u8,
 }
 
 /// What is wanted next.
 #[derive(Clone, Copy)]
 pub(crate) enum Doing {
-    /// A value of the type that stands there in the signatures, from the first place up to the second.
+    /// A value of the type that is there in the signatures, from the first place up to the second.
     Wanted(usize, usize),
-    /// Bytes of an array's numbers, any of which may stand there: so many, to the end of the last whole one.
+    /// Bytes of an array's numbers, any of which are valid there: their number, to the end of the last whole one.
     Numbers(usize),
-    /// Bytes of a text of the type that has this code, so many.
+    /// Bytes of a text of the type that has this code: their number.
     Text(u8, usize),
     /// The zero after a text.
     Nul,
@@ -40,7 +40,7 @@ pub(crate) enum Doing {
     Over,
 }
 
-/// Values that are checked as their bytes come, up to an end. It has a fixed size, about 40,000 bytes, takes no memory, and
+/// Values that are checked as their bytes come, up to an end. It has a fixed size, about 40,000 bytes, allocates nothing, and
 /// holds no byte of what it took but signatures of variants: of those that are open and, until the next variant begins, of
 /// some that are over.
 ///
@@ -59,7 +59,7 @@ pub struct Values {
     /// Those around it, the outermost first: 64 containers, and in each array a dict entry, which takes no room.
     pub(crate) frames: ArrayVec<Frame, 128>,
     /// The signatures: that of the values, then those of the variants that are open, each at most 255 bytes. After them may
-    /// stand what is left of variants that are over.
+    /// be what is left of variants that are over.
     pub(crate) text: ArrayVec<u8, 16640>,
     /// Of each byte of the signatures in use how many the type has that begins there.
     pub(crate) lengths: ArrayVec<u8, 16640>,
@@ -180,7 +180,7 @@ impl Values {
         }
     }
 
-    /// Takes what is wanted as far as it is there whole: how many bytes. Where something is wanted still, what is left of the
+    /// Takes what is wanted as far as it is there whole: how many bytes. If something is still wanted, what is left of the
     /// bytes, fewer than 257, is the front of an item: they are to be handed again, with more after them.
     ///
     /// A fault comes as soon as the bytes show it, whatever bytes follow; nothing is said of the values after it, and they are

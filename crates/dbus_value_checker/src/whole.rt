@@ -1,4 +1,4 @@
-//! Values that stand whole in a piece are validated at once.
+//! Values that are whole in a piece are validated at once.
 #![tactic(auto)]
 
 ghost use Rattle.std.specs.Prelude.{◌≡◌, ◌+◌, ◌<◌, ◌≤◌, ◌⊎◌, length, take, drop, IfSome, IfOk, IfErr};

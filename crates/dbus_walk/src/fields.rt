@@ -1,4 +1,4 @@
-//! Header fields, where they stand in a message. D-Bus Specification, "Header Fields".
+//! Header fields, in a message's bytes. D-Bus Specification, "Header Fields".
 #![tactic(auto)]
 
 ghost use Rattle.std.specs.Prelude.{ℕ, List};
@@ -11,7 +11,7 @@ use dbus_value_model::gap;
 /// The offset of a message's first header field. D-Bus Specification, "Message Format".
 pub const FIELDS_START: usize = 16;
 
-/// A header field: its code, and where its value stands.
+/// A header field: its code, and where its value is.
 #[derive(Clone, Copy)]
 pub struct FieldSpot<'a> {
     /// The code.
@@ -20,7 +20,7 @@ pub struct FieldSpot<'a> {
     pub types: &'a [u8],
     /// The offset at which the value begins, with its padding.
     pub at: usize,
-    /// How many containers may be open in the value.
+    /// The number of containers that may be open in the value.
     pub depth_left: u8,
 }
 
@@ -37,7 +37,7 @@ pub fn fields_end(source: &Source<'_>) -> usize
     FIELDS_START + source.order.u32_at(source.bytes, 12) as usize
 }
 
-/// The header field that begins at `at`, with its padding, where `depth_left` containers may be open in the message. The next one begins
+/// The header field that begins at `at`, with its padding, if `depth_left` containers may be open in the message. The next one begins
 /// at the end of its value. D-Bus Specification, "Header Fields".
 #[inline]
 pub fn field_at<'a>(source: &Source<'a>, at: usize, depth_left: u8) -> FieldSpot<'a>

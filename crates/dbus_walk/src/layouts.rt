@@ -1,4 +1,4 @@
-//! How values are laid out: where the number, the text or the parts of each stand.
+//! How values are laid out: where the number, the text or the parts of each are.
 #![tactic(auto)]
 
 ghost use Rattle.std.specs.Prelude.{◌≡◌, ℕ, ◌⊎◌, List, slice_index};
@@ -75,7 +75,7 @@ fn variant<'a>(source: &Source<'a>, spot: &Spot<'_>) -> Layout<'a>
     }
 }
 
-/// Where the elements of an array stand.
+/// Where the elements of an array are.
 #[inline]
 fn array(source: &Source<'_>, spot: &Spot<'_>) -> Run
     requires stands { StandsThere source.now spot.now }

@@ -1,4 +1,4 @@
-//! How long the types are of values that stand somewhere. D-Bus Specification, "Valid Signatures".
+//! How long the types of values are. D-Bus Specification, "Valid Signatures".
 #![tactic(auto)]
 
 ghost use Rattle.std.specs.Prelude.{◌≤◌, length};

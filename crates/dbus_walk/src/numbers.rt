@@ -1,4 +1,4 @@
-//! How many bytes a number has. D-Bus Specification, "Summary of D-Bus marshaling".
+//! The number of bytes of a number. D-Bus Specification, "Summary of D-Bus marshaling".
 #![tactic(auto)]
 
 ghost use Rattle.std.specs.Prelude.{◌≡◌, ◌≤◌};
@@ -8,7 +8,7 @@ ghost use Rattle.dbus_walk.specs.Widths.{number_width};
 
 use dbus_types::free_width;
 
-/// How many bytes a number has of a type that begins with this byte, or 0 if a type that begins with it is none of numbers.
+/// The number of bytes of a number of a type that begins with this byte, or 0 if a type that begins with it is no type of numbers.
 /// D-Bus Specification, "Summary of D-Bus marshaling".
 #[inline]
 pub fn number_width(code: u8) -> u8

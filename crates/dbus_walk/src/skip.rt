@@ -121,7 +121,7 @@ impl Visitor for Skip {
     ghost whole = { λ _ _ _ _ _ _ _ _ _ _ _ _ _ _ _ _ _. tt };
 }
 
-/// The offset after the value that stands at a spot. The elements of arrays are not gone through.
+/// The offset after the value at a spot. The elements of arrays are not gone through.
 pub fn skip_value(source: &Source<'_>, spot: &Spot<'_>) -> usize
     requires stands { StandsThere source.now spot.now }
     requires noted { AreLengths spot.now.types.now spot.now.lengths.now }

@@ -12,7 +12,7 @@ pub struct Source<'a> {
     pub order: Order,
 }
 
-/// Where a value stands, or several values one after another.
+/// Where a value is, or several values one after another.
 #[derive(Clone, Copy)]
 pub struct Spot<'a> {
     /// The offset at which the value begins, with its padding.
@@ -21,11 +21,11 @@ pub struct Spot<'a> {
     pub types: &'a [u8],
     /// Of each of these bytes how many the type has that begins there.
     pub lengths: &'a [u8],
-    /// How many containers may be open in it.
+    /// The number of containers that may be open in it.
     pub depth_left: u8,
 }
 
-/// Where the elements of an array stand.
+/// Where the elements of an array are.
 #[derive(Clone, Copy)]
 pub struct Run {
     /// The offset of the array's length.
@@ -34,30 +34,30 @@ pub struct Run {
     pub first: usize,
     /// The offset after the last element.
     pub end: usize,
-    /// How many bytes each number has, or 0 if the elements are no numbers.
+    /// The number of bytes of each number, or 0 if the elements are no numbers.
     pub size: u8,
 }
 
-/// What a value is, and where in it what stands. D-Bus Specification, "Marshaling (Wire Format)".
+/// What a value is, and where its parts are. D-Bus Specification, "Marshaling (Wire Format)".
 #[derive(Clone, Copy)]
 pub enum Layout<'a> {
     /// A number.
     Number {
         /// The offset of its first byte.
         start: usize,
-        /// How many bytes it has.
+        /// The number of bytes that it has.
         size: u8,
     },
     /// A STRING or an OBJECT_PATH.
     LongText {
         /// The offset of its length, which has 4 bytes.
         start: usize,
-        /// How many bytes the text has.
+        /// The number of bytes of the text.
         size: usize,
     },
     /// A SIGNATURE, whose length has one byte, the value's first.
     ShortText {
-        /// How many bytes the text has.
+        /// The number of bytes of the text.
         size: usize,
     },
     /// A VARIANT.

@@ -1,4 +1,4 @@
-//! Texts where they stand.
+//! Texts, in a message's bytes.
 #![tactic(auto)]
 
 ghost use Rattle.std.specs.Prelude.{◌≡◌, ◌+◌, ◌≤◌, length, take, drop, IsUtf8};

@@ -24,7 +24,7 @@ use dbus_value_model::Order;
 
 /// What takes the values that a walk comes to, and makes something of each.
 ///
-/// Each method is handed a value where it stands, or says what stands around values. Its relations say what each of them makes,
+/// Each method is handed a value in its bytes, or says what is around values. Its relations say what each of them makes,
 /// and its three laws say that this adds up: to what is made of several values, and of a container.
 pub trait Visitor {
     /// What it makes of a value.
@@ -36,17 +36,17 @@ pub trait Visitor {
     /// Why it stops the walk.
     type Stop: Drop;
 
-    // It can take the values of a message of so many bytes.
+    // It can take the values of a message of this number of bytes.
     ghost ready: { Self → ℕ → Type 0 };
 
     // It takes arrays at one stroke, and not element by element, if their elements' type begins with this code, and the elements
-    // have so many bytes each if they are numbers, or else 0.
+    // have this number of bytes each if they are numbers, or else 0.
     ghost strokes: { ℕ → ℕ → Bool };
 
-    // What it makes of a value that stands at an offset.
+    // What it makes of a value at an offset.
     ghost one: { Self → Order → ℕ → ValueTree → Self.One → Self → Type 0 };
 
-    // What it gathers of values that stand one after another from an offset on: what was gathered before them, and after.
+    // What it gathers of values that follow one another from an offset on: what was gathered before them, and after.
     ghost many: { Self → Self.Many → Order → ℕ → List ValueTree → Self.Many → Self → Type 0 };
 
     // A container opens: what is gathered of its parts at first.
@@ -84,7 +84,7 @@ pub trait Visitor {
         ensures takes { (v : ValueTree) (rest : List ℕ) → StandsAt source.now spot.now v rest →
             IfOk result (λ r. one self.old source.now.order spot.now.at v r self.new) };
 
-    /// Takes a STRING or an OBJECT_PATH of `size` bytes. Its length stands at `start`.
+    /// Takes a STRING or an OBJECT_PATH of `size` bytes. Its length is at `start`.
     fn long_text(
         &mut self,
         source: &Source<'_>,
@@ -101,7 +101,7 @@ pub trait Visitor {
         ensures takes { (v : ValueTree) (rest : List ℕ) → StandsAt source.now spot.now v rest →
             IfOk result (λ r. one self.old source.now.order spot.now.at v r self.new) };
 
-    /// Takes a SIGNATURE of `size` bytes. Its length stands where it begins.
+    /// Takes a SIGNATURE of `size` bytes. Its length is where it begins.
     fn short_text(
         &mut self,
         source: &Source<'_>,
@@ -138,7 +138,7 @@ pub trait Visitor {
         ensures takes { (v : ValueTree) (rest : List ℕ) → StandsAt source.now spot.now v rest →
             IfOk result (λ r. one self.old source.now.order spot.now.at v r self.new) };
 
-    /// Opens an array whose elements come one by one. Its length stands at `start`.
+    /// Opens an array whose elements come one by one. Its length is at `start`.
     fn open_array(
         &mut self,
         source: &Source<'_>,

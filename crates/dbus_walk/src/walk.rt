@@ -1,6 +1,6 @@
-//! Values of any type, along the bytes of their signature, handed to a visitor where they stand.
+//! Values of any type, along the bytes of their signature, handed to a visitor in place.
 //!
-//! A value stands there, so nothing is validated: each call hands what begins at its spot to the visitor, and gives what the visitor
+//! A value is there, so nothing is validated: each call hands what begins at its spot to the visitor, and gives what the visitor
 //! made of it and the offset after it. A visitor that stops ends the walk.
 //! D-Bus Specification, "Marshaling (Wire Format)".
 #![tactic(auto)]
