@@ -47,7 +47,7 @@ pub fn refused_for_good()
     ensures { RefusedForGood }
 {}
 
-/// Whatever follows bytes for which `stated_length` gives a length, a message that they begin with has so many bytes, and all
+/// Whatever follows bytes for which `stated_length` gives a length, a message that they begin with has this number of bytes, and all
 /// are there.
 pub fn stated_holds()
     ensures { StatedHolds }
@@ -83,12 +83,12 @@ pub fn valid_within()
     ensures { ValidWithin }
 {}
 
-/// The plain reader gives a message exactly where the bytes begin with its spelling.
+/// The plain reader gives a message exactly if the bytes begin with its spelling.
 pub fn reads_messages()
     ensures { ReadsMessages }
 {}
 
-/// The plain reader gives a fault exactly where the bytes are refused with it.
+/// The plain reader gives a fault exactly if the bytes are refused with it.
 pub fn reads_message_faults()
     ensures { ReadsMessageFaults }
 {}

@@ -24,5 +24,5 @@ pub const SENDER: u8 = 7;
 /// The types of the body's values.
 pub const SIGNATURE: u8 = 8;
 
-/// How many file descriptors come with a message.
+/// The number of file descriptors that come with a message.
 pub const UNIX_FDS: u8 = 9;

@@ -4,7 +4,7 @@
 /// The caller wants no reply, though the message is a call.
 pub const NO_REPLY_EXPECTED: u8 = 1;
 
-/// The bus is to start no owner for the destination's name.
+/// The bus must not start an owner for the destination's name.
 pub const NO_AUTO_START: u8 = 2;
 
 /// The caller is ready to wait while a person is asked to allow the call.

@@ -27,7 +27,7 @@ pub fn has_field<A: Allocator>(fields: &[HeaderField<A>], code: u8) -> bool
     false
 }
 
-/// Whether a code is a known field's and stands among these.
+/// Whether a code is a known field's and is among these.
 pub fn is_again<A: Allocator>(before: &[HeaderField<A>], code: u8) -> bool
     ensures { result ≡ (is_known code && has_code code (field_trees before.now)) }
 {
@@ -92,7 +92,7 @@ fn number_in<A: Allocator>(value: &Value<A>) -> u32
     }
 }
 
-/// How many descriptors come with the message: the number of the first UNIX_FDS field, or 0. D-Bus Specification, "Header
+/// The number of descriptors that come with the message: the number of the first UNIX_FDS field, or 0. D-Bus Specification, "Header
 /// Fields".
 #[tactic(auto, using(crate::proofs::FieldLists::count_here, crate::proofs::FieldLists::count_later))]
 pub fn fd_count<A: Allocator>(fields: &[HeaderField<A>]) -> u32

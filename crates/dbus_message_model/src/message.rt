@@ -13,12 +13,12 @@ use crate::parts::Parts;
 use std::alloc::{Allocator, Global};
 
 /// A valid message within the limits: it has a spelling in both byte orders, of one length. Its values have each array of
-/// BYTE as `Bytes`, so that what a message holds is told by its spelling.
+/// BYTE as `Bytes`, so that what a message holds is known by its spelling.
 /// D-Bus Specification, "Message Format".
 #[derive(Debug, Drop)]
 pub struct Message<A: Allocator = Global> {
     parts: Parts<A>,
-    /// How many bytes it is spelled by.
+    /// The number of bytes that spell it.
     size: usize,
     ghost valid: { ∥ IsValidMessage specification (parts_tree parts) ∥₁ },
     ghost packed: { PartsKeepBytes parts },
@@ -31,7 +31,7 @@ impl<A: Allocator> Message<A> {
     ghost use Rattle.dbus_value_model.specs.declared.limits.TheConstants.{MESSAGE_LIMIT};
     ghost use Rattle.dbus_message_model.specs.MessageViews.{message_tree};
 
-    /// The message of these parts, which the caller knows to be valid, and to be spelled by so many bytes. Parts of which that
+    /// The message of these parts, which the caller knows to be valid, and to be spelled by `size` bytes. Parts of which that
     /// is not known are validated by `Message::new` of `dbus_build`.
     pub fn of_valid(parts: Parts<A>, size: usize) -> Self
         requires valid { IsValidMessage specification (parts_tree parts) }
@@ -42,7 +42,7 @@ impl<A: Allocator> Message<A> {
         Message { parts, size }
     }
 
-    /// How many bytes spell it, in either order.
+    /// The number of bytes that spell it, in either order.
     pub fn size(&self) -> usize
         ensures exact { (order : Order) →
             result ≡ length (message_bytes order (message_tree self.now)) }

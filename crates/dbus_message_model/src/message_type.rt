@@ -1,10 +1,10 @@
-//! The message types that the specification names. Any other type but 0 is taken, and its messages are to be ignored.
+//! The message types that the specification names. Any other type but 0 is accepted, and its messages are to be ignored.
 //! D-Bus Specification, "Message Format".
 
 /// A call of a method.
 pub const METHOD_CALL: u8 = 1;
 
-/// The reply to a call, with what the method gives.
+/// The reply to a call, with what the method returns.
 pub const METHOD_RETURN: u8 = 2;
 
 /// The reply to a call that failed.

@@ -40,7 +40,7 @@ pub fn least_padding()
     ensures { LeastPadding }
 {}
 
-/// A number in so many bytes is the sum of its places, in either order.
+/// A number in a given number of bytes is the sum of its places, in either order.
 pub fn number_is_place_sum()
     ensures { NumberIsPlaceSum }
 {}

@@ -42,9 +42,9 @@ pub fn check_value<A: Allocator + Copy>(
 ///
 /// It is refused for the first case that holds of any part of it: `TooDeep` if more arrays, structs and variants are
 /// open at once than the limits' depth; `Mixed` if an item has another type than its array's, an array of BYTE is not
-/// `Bytes`, a dict entry stands outside an array or its key is not basic, a struct is empty, or a type spells no signature
-/// within the limits; `Name` if an object path or a signature is none, or a text has U+0000. No memory is taken, so
-/// `Memory` is never answered. A value that passes has short signatures, as writing and measuring ask, and as every value has
+/// `Bytes`, a dict entry is outside an array or its key is not basic, a struct is empty, or a type spells no signature
+/// within the limits; `Name` if an object path or a signature is not valid, or a text has U+0000. Nothing is allocated, so
+/// `Memory` is never returned. A value that passes has short signatures, as writing and measuring ask, and as every value has
 /// it, numbers in the ranges of their types.
 /// D-Bus Specification, "Type System", "Valid Signatures" and "Message Protocol".
 #[tactic(auto, using(crate::proofs::ShortLaws::short_of))]

@@ -3,7 +3,7 @@
 
 ghost use Rattle.std.specs.Prelude.{◌≡◌};
 
-/// Which indexes of file descriptors may stand in a message's body. A message has no descriptors itself: they come beside
+/// Which indexes of file descriptors a message's body may have. A message has no descriptors itself: they come beside
 /// it, as many as its UNIX_FDS field says.
 /// D-Bus Specification, "Basic types" for UNIX_FD, "Header Fields" for UNIX_FDS.
 #[derive(Clone, Copy, PartialEq, Eq, Debug)]
@@ -18,7 +18,7 @@ impl FdRule {
     ghost use Rattle.dbus_value_model.specs.FdIndexes.{index_limit};
 
     /// The number that every index is to be below if `count` descriptors come with the message, or nothing if any
-    /// index may stand.
+    /// index is allowed.
     pub fn index_limit(self, count: u32) -> Option<u32>
         ensures { result ≡ index_limit self count }
     {

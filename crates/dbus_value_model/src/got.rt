@@ -1,4 +1,4 @@
-//! What getting a value answers.
+//! What getting a value returns.
 #![tactic(auto)]
 
 use crate::value::Value;

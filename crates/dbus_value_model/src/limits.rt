@@ -28,7 +28,7 @@ pub struct Limits {
     pub array: u32,
     /// The most arrays, structs and variants that are open at once, at most [`DEPTH_LIMIT`].
     pub depth: u8,
-    /// Which indexes of file descriptors may stand in a message's body.
+    /// Which indexes of file descriptors a message's body may have.
     pub fds: FdRule,
     pub ghost message_in: { message ≤ MESSAGE_LIMIT },
     pub ghost array_in: { array ≤ ARRAY_LIMIT },
@@ -40,7 +40,7 @@ pub struct Limits {
 pub struct Bounds {
     /// The most bytes that the contents of an array have, at most [`ARRAY_LIMIT`].
     pub array: u32,
-    /// The number that every index of a file descriptor is below, or nothing if any index may stand.
+    /// The number that every index of a file descriptor is below; `None` allows any index.
     pub fds: Option<u32>,
     pub ghost array_in: { array ≤ ARRAY_LIMIT },
 }
@@ -48,7 +48,7 @@ pub struct Bounds {
 impl Limits {
     ghost use Rattle.dbus_value_model.specs.Specification.{IsLimits, specification, with_fds, bounds_of, bounds_with};
 
-    /// These limits, under which any index of a file descriptor may stand, or nothing if one of them is over that of the
+    /// These limits, which allow any index of a file descriptor, or nothing if one of them is over that of the
     /// specification.
     ///
     /// ```rust
@@ -74,7 +74,7 @@ impl Limits {
         })
     }
 
-    /// The limits of the specification, under which any index of a file descriptor may stand.
+    /// The limits of the specification, which allow any index of a file descriptor.
     pub fn specification() -> Limits
         ensures { result ≡ specification }
     {
@@ -94,7 +94,7 @@ impl Limits {
         self
     }
 
-    /// What values keep under these limits, if any index of a file descriptor may stand.
+    /// What values keep under these limits, if any index of a file descriptor is allowed.
     pub fn bounds(self) -> Bounds
         ensures { result ≡ bounds_of self }
     {

@@ -4,7 +4,7 @@
 ghost use Rattle.std.specs.Prelude.{◌≡◌, ◌<◌};
 ghost use Rattle.dbus_value_model.specs.Bytes.{gap_to};
 
-/// How many bytes of padding stand from the offset `at` to the next multiple of `alignment`, which is not 0: fewer than
+/// The number of bytes of padding from the offset `at` to the next multiple of `alignment`, which is not 0: fewer than
 /// `alignment`. D-Bus Specification, "Marshaling (Wire Format)".
 #[inline]
 #[tactic(auto, unfolding(crate::specs::Bytes::gap_to))]
@@ -17,7 +17,7 @@ pub fn padding_length(alignment: u8, at: u64) -> u8
     ((alignment - at % alignment) % alignment) as u8
 }
 
-/// How many zeros reach the boundary. Those boundaries that there are stand as constants, so that nothing is divided.
+/// How many zeros reach the boundary. The code has a constant for each boundary, so that nothing is divided.
 /// D-Bus Specification, "Marshaling (Wire Format)".
 #[inline]
 pub fn gap(boundary: u8, at: usize) -> usize

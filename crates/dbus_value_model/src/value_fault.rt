@@ -17,7 +17,7 @@ pub enum ValueFault {
     #[error("more containers are open at once than the limit on depth")]
     TooDeep,
     /// A part has no type that fits its place: an item has another type than its array's, an array of BYTE is not
-    /// `Bytes`, a dict entry stands outside an array or its key is not basic, a struct is empty, or a type spells no
+    /// `Bytes`, a dict entry is outside an array or its key is not basic, a struct is empty, or a type spells no
     /// signature within the limits.
     #[error("a part has no type that fits its place")]
     Mixed,

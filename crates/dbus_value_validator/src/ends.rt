@@ -12,7 +12,7 @@ use dbus_types::type_end;
 const FEW: usize = 8;
 
 /// Whether the lengths of the types of a signature are to be noted, so that each byte of a message is validated in a bounded time.
-/// Those of a signature longer than 255 bytes, which stands in no message, cannot be.
+/// Those of a signature longer than 255 bytes, which is in no message, cannot be.
 #[inline]
 pub(crate) fn wants_lengths(types: &[u8]) -> bool
     ensures { IsTrue result → length types.now ≤ 255 }
@@ -30,7 +30,7 @@ pub(crate) fn is_container(code: u8) -> bool
 }
 
 /// Where the complete type ends that begins at `at` of `types`, which begin at `pos` of a signature whose lengths are noted up to
-/// some place. Where no type begins there, it is some place after `at`. D-Bus Specification, "Valid Signatures", "Container types".
+/// some place. If no type begins there, it is some place after `at`. D-Bus Specification, "Valid Signatures", "Container types".
 #[inline]
 pub(crate) fn end_of(types: &[u8], at: usize, lengths: &[u8], pos: usize) -> usize
     requires inside { at < length types.now }

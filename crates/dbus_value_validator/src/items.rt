@@ -74,7 +74,7 @@ pub(crate) fn byte(bytes: &[u8], at: usize, end: usize) -> Option<u8>
     Some(bytes[at])
 }
 
-/// Whether n bytes are a text of a kind, and a zero stands after it.
+/// Whether n bytes are a text of a kind, and a zero follows it.
 pub fn is_ended_text(bytes: &[u8], start: usize, n: usize, kind: TextKind) -> bool
     requires { start + n < length bytes.now }
     ensures accepts { IsTrue result → EndedText kind n start bytes.now }

@@ -12,7 +12,7 @@ ghost use Rattle.dbus_value_model.specs.FreeNumbers.{IsFree};
 use crate::items::{padding, word};
 use dbus_value_model::Order;
 
-/// A number of so many bytes, of a type of which every number may stand: the offset after it.
+/// A number of `size` bytes, of a type of which every number is valid: the offset after it.
 pub(crate) fn free_number(bytes: &[u8], at: usize, end: usize, size: u8) -> Option<usize>
     requires some { 0 < size }
     requires at_most { at ≤ end }

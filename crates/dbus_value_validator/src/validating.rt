@@ -16,7 +16,7 @@ use dbus_value_model::{Bounds, Order};
 /// and `depth_left` containers may be open at once in them. Some(after) says that from `at` up to `after` the bytes spell values of
 /// exactly those types, within the bounds: no array has more bytes than they allow, and each index of a file descriptor is
 /// below their number, if there is one. None says that no such values begin at `at`: the bytes there are at fault, or the values
-/// do not end at or before `end`. Of `types` that are no complete types nothing is said. No memory is taken.
+/// do not end at or before `end`. Of `types` that are no complete types nothing is said. Nothing is allocated.
 /// D-Bus Specification, "Marshaling (Wire Format)".
 pub fn validate_values(
     bytes: &[u8],

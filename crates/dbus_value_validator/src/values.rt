@@ -21,7 +21,7 @@ use crate::texts::short_text;
 use dbus_types::{TextKind, boundary, free_width, lengths_in};
 
 /// A value of the one type that `types` spell, which begin at `pos` of a signature whose lengths are noted: what
-/// [`validate_value`](crate::validate_value) says, for a caller that has noted them. No memory is taken.
+/// [`validate_value`](crate::validate_value) says, for a caller that has noted them. Nothing is allocated.
 #[cycle(values)]
 pub fn one_value(
     source: &Source<'_>,

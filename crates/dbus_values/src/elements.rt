@@ -10,7 +10,7 @@ use dbus_value_model::{Order, gap};
 use dbus_walk::{Run, Source, Spot, number_width};
 use std::marker::Model;
 
-/// Elements of an array, which stand one after another. All have one type. D-Bus Specification, "Marshaling (Wire Format)".
+/// Elements of an array, which follow one another. All have one type. D-Bus Specification, "Marshaling (Wire Format)".
 #[derive(Drop)]
 pub struct Elements<'a> {
     source: Source<'a>,
@@ -48,7 +48,7 @@ impl<'a> Elements<'a> {
     ghost use Rattle.dbus_value_model.specs.Spelling.{spellings};
     ghost use Rattle.dbus_values.specs.States.{AreNumbersIn, ElementsAreLeft, IsOfNoNumbers, SomeElementsAreLeft};
 
-    /// The elements of a run in the bytes, which have this type. So many containers may be open in each.
+    /// The elements of a run in the bytes, which have this type. At most `depth_left` containers may be open in each.
     pub(crate) fn new(
         source: &Source<'a>,
         run: Run,
@@ -101,14 +101,14 @@ impl<'a> Elements<'a> {
         self.element
     }
 
-    /// The order of the bytes of each number. D-Bus Specification, "Message Format".
+    /// The byte order of each number. D-Bus Specification, "Message Format".
     pub fn order(&self) -> Order
         ensures { result ≡ self.now.order }
     {
         self.source.order
     }
 
-    /// How many bytes the elements that are left have, with all padding. It counts no elements.
+    /// The number of bytes of the elements that are left, with all padding. It counts no elements.
     /// D-Bus Specification, "Marshaling (Wire Format)".
     pub fn bytes_left(&self) -> usize
         ensures { (xs : ValueTrees) (rest : List ℕ) → ElementsAreLeft self.now xs rest →

@@ -15,7 +15,7 @@ use crate::elements::Elements;
 use crate::view::ValueView;
 use dbus_walk::{Run, Source, Spot};
 
-/// How an array is seen, whose elements stand there.
+/// How an array is seen, whose elements are there.
 pub(crate) fn array_view<'a>(source: &Source<'a>, spot: &Spot<'a>, run: Run) -> ValueView<'a>
     requires stands { StandsThere source.now spot.now }
     requires few { length spot.now.types.now ≤ 255 }

@@ -10,7 +10,7 @@ use dbus_types::type_end;
 use dbus_walk::{Source, Spot};
 use std::marker::Model;
 
-/// Values of a message that stand one after another, one of each type of a signature: the fields of a struct, the key and the value
+/// Values of a message that follow one another, one of each type of a signature: the fields of a struct, the key and the value
 /// of a dict entry, the value that a variant holds, or the values of a body. D-Bus Specification, "Marshaling (Wire Format)".
 #[derive(Drop)]
 pub struct Values<'a> {
@@ -46,7 +46,7 @@ impl<'a> Values<'a> {
     ghost use Rattle.dbus_values.specs.States.{AreLeft, SomeAreLeft, values_at};
     ghost use Rattle.dbus_values.specs.Seen.{IsFirstCode};
 
-    /// The values that stand in the bytes from `at` on, one of each type of the signature. So many containers may be open in them.
+    /// The values in the bytes from `at` on, one of each type of the signature. At most `depth_left` containers may be open in them.
     pub fn new(source: &Source<'a>, at: usize, types: &'a [u8], depth_left: u8) -> Values<'a>
         requires { SomeAreLeft (record {
           order = source.now.order;
@@ -83,7 +83,7 @@ impl<'a> Values<'a> {
         }
     }
 
-    /// The bytes, and where in them the values stand. How long their types are is not noted there.
+    /// The bytes, and where in them the values are. How long their types are is not noted there.
     pub fn place(&self) -> (Source<'a>, Spot<'a>)
         ensures place { values_at result.0 result.1 ≡ self.now }
         ensures some { SomeAreLeft self.now }

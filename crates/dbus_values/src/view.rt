@@ -4,7 +4,7 @@
 use crate::elements::Elements;
 use crate::values::Values;
 
-/// A value of a message, seen where it stands. D-Bus Specification, "Type System".
+/// A value of a message, seen in place. D-Bus Specification, "Type System".
 #[derive(Drop)]
 pub enum ValueView<'a> {
     /// BYTE.
