@@ -18,7 +18,7 @@ use std::alloc::{AllocError, Allocator, Global};
 #[derive(Debug, Drop)]
 #[derive_where(PartialEq, Eq)]
 pub enum Mechanism<A: Allocator = Global> {
-    /// EXTERNAL, as the user with this number, or as the user that the transport tells.
+    /// EXTERNAL, as the user with this number, or as the user that the transport reports.
     External(Option<u32>),
     /// ANONYMOUS, with a trace of at most 255 bytes.
     Anonymous(Vec<u8, A>),
@@ -36,7 +36,7 @@ pub enum ClientAct<A: Allocator = Global> {
     Disconnect,
 }
 
-/// Where the client stands, with the server's GUID once it has begun.
+/// The client's state, with the server's GUID once it has begun.
 #[derive(Clone, Copy, Debug, Drop)]
 pub enum ClientStage {
     Fresh,
@@ -47,12 +47,12 @@ pub enum ClientStage {
     Closed,
 }
 
-/// What a client is about to do: its act, and where it stands then.
+/// What a client is about to do: its act, and its state then.
 #[derive(Drop)]
 pub struct ClientTurn<A: Allocator> {
     pub act: ClientAct<A>,
     pub stage: ClientStage,
-    /// How many mechanisms were tried then.
+    /// The number of mechanisms that were tried then.
     pub tried: usize,
 }
 

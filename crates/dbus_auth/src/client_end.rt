@@ -123,7 +123,7 @@ impl<A: Allocator + Copy> ClientEnd<A> {
     ghost use Rattle.dbus_auth.specs.World.{client_at_first};
     ghost use Rattle.dbus_auth.specs.declared.states.ClientState.TheVariants as now;
 
-    /// The end of a client that has not started. It takes no memory yet.
+    /// The end of a client that has not started. It allocates nothing yet.
     #[tactic(auto, using(dbus_auth_lines::proofs::Scans::cut_empty))]
     pub fn new(alloc: A, client: Client<A>) -> Self
         requires { (client_machine client).state ≡ now.Fresh }

@@ -16,7 +16,7 @@ impl<A: Allocator + Clone> Clone for EndStep<A> {
 
     /// A step that says the same, its bytes in memory of its own from the same allocator.
     ///
-    /// Returns `AllocError` if an allocation failed, and nothing of the copy stands then.
+    /// Returns `AllocError` if an allocation failed, and nothing of the copy is left then.
     fn clone(&self) -> Result<EndStep<A>, AllocError> {
         Ok(EndStep {
             taken: self.taken,
@@ -31,7 +31,7 @@ impl<A: Allocator + Clone> Clone for Mechanism<A> {
 
     /// A mechanism that says the same, its trace in memory of its own from the same allocator.
     ///
-    /// Returns `AllocError` if an allocation failed, and nothing of the copy stands then.
+    /// Returns `AllocError` if an allocation failed, and nothing of the copy is left then.
     fn clone(&self) -> Result<Mechanism<A>, AllocError> {
         match self {
             Mechanism::External(user) => Ok(Mechanism::External(*user)),
@@ -45,7 +45,7 @@ impl<A: Allocator + Clone> Clone for ClientAct<A> {
 
     /// An act that does the same, its line in memory of its own from the same allocator.
     ///
-    /// Returns `AllocError` if an allocation failed, and nothing of the copy stands then.
+    /// Returns `AllocError` if an allocation failed, and nothing of the copy is left then.
     fn clone(&self) -> Result<ClientAct<A>, AllocError> {
         match self {
             ClientAct::Send(line) => Ok(ClientAct::Send(line.clone()?)),
@@ -60,7 +60,7 @@ impl<A: Allocator + Clone> Clone for ServerAct<A> {
 
     /// An act that does the same, its line in memory of its own from the same allocator.
     ///
-    /// Returns `AllocError` if an allocation failed, and nothing of the copy stands then.
+    /// Returns `AllocError` if an allocation failed, and nothing of the copy is left then.
     fn clone(&self) -> Result<ServerAct<A>, AllocError> {
         match self {
             ServerAct::Send(line) => Ok(ServerAct::Send(line.clone()?)),

@@ -1,8 +1,8 @@
-//! What the calls of an end answer.
+//! What the calls of an end return.
 
 use std::alloc::{Allocator, Global};
 
-/// Where an end of a connection stands.
+/// The status of an end of a connection.
 #[derive(Clone, Copy, PartialEq, Eq, Debug, Drop)]
 pub enum Status {
     /// The handshake goes on.
@@ -17,10 +17,10 @@ pub enum Status {
 #[derive(Debug, Drop)]
 #[derive_where(PartialEq, Eq)]
 pub struct EndStep<A: Allocator = Global> {
-    /// How many bytes of the piece were taken. The others are to be handed in again.
+    /// The number of bytes of the piece that were taken. The others are to be handed in again.
     pub taken: usize,
     /// The bytes that are to be sent to the peer, which may be none.
     pub send: Vec<u8, A>,
-    /// Where the end stands now.
+    /// The end's status now.
     pub status: Status,
 }

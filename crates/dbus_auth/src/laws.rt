@@ -39,7 +39,7 @@ pub fn handshake_law()
 {}
 
 /// Whoever its peer is and whatever it sends, a server's end that has begun sent OK as its last line other than
-/// ERROR. And the lines that it sends and its last status do not depend on how the bytes are cut, where what a
+/// ERROR. And the lines that it sends and its last status do not depend on how the bytes are cut, if what a
 /// call leaves is handed in again.
 pub fn any_peer_law()
     ensures last_ok { (s : ServerMachine) (bytes ns : List ℕ) →
@@ -56,7 +56,7 @@ pub fn any_peer_law()
 {}
 
 /// `==` of two steps of ends: they are equal exactly if they took as many bytes, send the same bytes and
-/// say that the end stands at the same.
+/// report the same status of the end.
 pub fn equal_end_steps<A: Allocator>(a: &EndStep<A>, b: &EndStep<A>) -> bool
     ensures { IsTrue result ↔ (end_answer a.now ≡ end_answer b.now) }
 {

@@ -10,11 +10,11 @@
 //!
 //! # What a caller owes
 //!
-//! **The user that is handed to [`Server::new`] has to be the one that the transport tells**, as
-//! `SO_PEERCRED` does of a Unix socket, and not the one that the caller would like to see. `AUTH
+//! **The user that is handed to [`Server::new`] has to be the one that the transport reports**, as
+//! `SO_PEERCRED` does for a Unix socket, and not the one that the caller would like to see. `AUTH
 //! EXTERNAL` with an empty identity means "the user that you see", and the server lets it in. So a
 //! server made with a user that it did not learn from the transport lets anybody in as that user. A
-//! server whose transport tells no user is made with `None`, and then offers no EXTERNAL.
+//! server whose transport reports no user is made with `None`, and then offers no EXTERNAL.
 //!
 //! # This profile
 //!

@@ -57,7 +57,7 @@ pub struct Server {
 impl Server {
     /// A server in its first state.
     ///
-    /// `user` is the client's user **as the transport tells it** (`SO_PEERCRED` of a Unix socket):
+    /// `user` is the client's user **as the transport reports it** (`SO_PEERCRED` of a Unix socket):
     /// EXTERNAL is offered if there is one, and lets in who names it in decimal or names nobody.
     /// `anonymous` says whether ANONYMOUS is offered, which lets in everybody.
     pub fn new(guid: Guid, user: Option<u32>, anonymous: bool) -> Self

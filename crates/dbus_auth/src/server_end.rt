@@ -76,7 +76,7 @@ impl<A: Allocator + Copy> ServerEnd<A> {
     ghost use Rattle.dbus_auth.specs.World.{server_at_first};
     ghost use Rattle.dbus_auth.specs.declared.states.ServerState.TheVariants as at;
 
-    /// The end of a server in its first state. It takes no memory yet.
+    /// The end of a server in its first state. It allocates nothing yet.
     #[tactic(auto, using(dbus_auth_lines::proofs::Scans::cut_empty))]
     pub fn new(alloc: A, server: Server) -> Self
         requires { (server_machine server).state ≡ at.WaitingForAuth }
@@ -153,7 +153,7 @@ impl<A: Allocator + Copy> ServerEnd<A> {
         }
     }
 
-    /// Takes the bytes up to the end of the line, or the whole piece. `skipped` bytes stood before it.
+    /// Takes the bytes up to the end of the line, or the whole piece. `skipped` bytes came before it.
     #[tactic(auto, using(dbus_auth_lines::proofs::Scans::cut_empty))]
     fn cut_line(&mut self, skipped: usize, piece: &[u8]) -> Result<EndStep<A>, AllocError>
         requires { skipped ≤ 1 }

@@ -1,7 +1,7 @@
 //! The states of both state machines.
 //! D-Bus Specification, "Authentication Protocol", "Authentication state diagrams".
 
-/// Where a server's state machine stands.
+/// The state of a server's state machine.
 #[derive(Clone, Copy, PartialEq, Eq, Debug, Drop)]
 pub enum ServerState {
     /// It waits for AUTH. This is the first state.
@@ -16,7 +16,7 @@ pub enum ServerState {
     Closed,
 }
 
-/// Where a client's state machine stands.
+/// The state of a client's state machine.
 #[derive(Clone, Copy, PartialEq, Eq, Debug, Drop)]
 pub enum ClientState {
     /// It has not started.

@@ -12,7 +12,7 @@ impl<A: Allocator + Clone> Clone for ClientLine<A> {
 
     /// A line that says the same, in memory of its own from the same allocator.
     ///
-    /// Returns `AllocError` if an allocation failed, and nothing of the copy stands then.
+    /// Returns `AllocError` if an allocation failed, and nothing of the copy is left then.
     #[tactic(auto, using(crate::proofs::SameWords::bytes_copied))]
     fn clone(&self) -> Result<ClientLine<A>, AllocError> {
         match self {
@@ -36,7 +36,7 @@ impl<A: Allocator + Clone> Clone for ServerLine<A> {
 
     /// A line that says the same, in memory of its own from the same allocator.
     ///
-    /// Returns `AllocError` if an allocation failed, and nothing of the copy stands then.
+    /// Returns `AllocError` if an allocation failed, and nothing of the copy is left then.
     #[tactic(auto, using(crate::proofs::SameWords::bytes_copied, crate::proofs::SameWords::words_copied))]
     fn clone(&self) -> Result<ServerLine<A>, AllocError> {
         match self {

@@ -62,7 +62,7 @@ pub struct LineCutter<A: Allocator = Global> {
 impl<A: Allocator + Copy> LineCutter<A> {
     ghost use Rattle.dbus_auth_lines.specs.CutterStates.{cutter_state};
 
-    /// A cutter that keeps nothing. It takes no memory yet.
+    /// A cutter that keeps nothing. It allocates nothing yet.
     #[tactic(auto, using(crate::proofs::Scans::cut_empty))]
     pub fn new(alloc: A) -> Self
         ensures { cutter_state result ≡ record { kept = []; fault = None } }
@@ -78,7 +78,7 @@ impl<A: Allocator + Copy> LineCutter<A> {
     /// with the number of bytes taken. If no line ends in the piece, takes all of it and gives
     /// `None`. The rest of a piece is to be handed in again.
     ///
-    /// If a byte has a fault before any line ends, answers the first one's and takes nothing. That
+    /// If a byte has a fault before any line ends, returns the first one's and takes nothing. That
     /// answer stays from then on. Returns `Memory` if an allocation failed: the cutter is unchanged then,
     /// and the same piece is to be handed in again.
     #[tactic(auto, using(crate::proofs::CutterAnswers::takes_as))]
@@ -96,7 +96,7 @@ impl<A: Allocator + Copy> LineCutter<A> {
         self.cut_piece(piece)
     }
 
-    /// `take` where there is no fault so far.
+    /// `take` if there is no fault so far.
     #[tactic(auto, using(crate::proofs::Scans::cut_empty))]
     fn cut_piece(&mut self, piece: &[u8]) -> Result<(usize, Option<Vec<u8, A>>), LineFault>
         requires { self.old.fault ≡ None }

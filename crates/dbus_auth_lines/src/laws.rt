@@ -18,7 +18,7 @@ use crate::lines::{ClientLine, ServerLine};
 use std::alloc::Allocator;
 
 /// Any bytes begin with a line, with one fault or with a prefix of a line, and with one of these alone. A
-/// line and a fault stand whatever follows, so they do not depend on how the bytes are cut. The scan that an
+/// line and a fault stay, whatever follows, so they do not depend on how the bytes are cut. The scan that an
 /// end of a connection is specified by finds them.
 #[tactic(auto, using(crate::proofs::FirstLines::some_beginning, crate::proofs::FirstLines::one_beginning, crate::proofs::FirstLines::stays_settled, crate::proofs::FirstLines::cut_finds))]
 pub fn first_line_law()

@@ -15,7 +15,7 @@ use std::alloc::{AllocError, Allocator};
 
 /// What a line of a client means, given without its CR LF.
 ///
-/// The command is what stands before the first space; words follow it, separated by one or more
+/// The command is what comes before the first space; words follow it, separated by one or more
 /// spaces, and spaces at the end do not count. A line with another command, with a word too many or
 /// with a word that is no hexadecimal text is `Other`, and never an error. After `ERROR` all bytes
 /// after one space are the text, its spaces too.
@@ -43,7 +43,7 @@ pub fn read_server<A: Allocator + Copy>(alloc: A, line: &[u8]) -> Result<ServerL
     server_line_by(alloc, server_name_of(name), rest, line)
 }
 
-/// A client's line, by the command that it names and what stands after that.
+/// A client's line, by the command that it names and what comes after that.
 fn client_line_by<A: Allocator + Copy>(
     alloc: A,
     name: ClientName,
@@ -64,7 +64,7 @@ fn client_line_by<A: Allocator + Copy>(
     }
 }
 
-/// A server's line, by the command that it names and what stands after that.
+/// A server's line, by the command that it names and what comes after that.
 fn server_line_by<A: Allocator + Copy>(
     alloc: A,
     name: ServerName,
@@ -186,7 +186,7 @@ fn read_hex<A: Allocator + Copy>(alloc: A, word: &[u8]) -> Result<Option<Vec<u8,
     }
 }
 
-/// `AUTH`, by what stands after it.
+/// `AUTH`, by what comes after it.
 fn read_auth<A: Allocator + Copy>(alloc: A, rest: &[u8]) -> Result<ClientLine<A>, AllocError>
     ensures { IfOk result (λ line. client_command line ≡ auth_by (words rest.now)) }
 {
@@ -244,7 +244,7 @@ fn read_server_data<A: Allocator + Copy>(alloc: A, rest: &[u8]) -> Result<Server
     }
 }
 
-/// A copy of what stands after `ERROR` and one space.
+/// A copy of what comes after `ERROR` and one space.
 fn text_of<A: Allocator + Copy>(alloc: A, line: &[u8]) -> Result<Vec<u8, A>, AllocError>
     ensures { IfOk result (λ text. text.items ≡ drop 6 line.now) }
 {
@@ -267,7 +267,7 @@ fn all_words<A: Allocator + Copy>(alloc: A, rest: &[u8]) -> Result<Vec<Vec<u8, A
     Ok(found)
 }
 
-/// `OK`, by what stands after it.
+/// `OK`, by what comes after it.
 fn read_accepted<A: Allocator>(rest: &[u8]) -> ServerLine<A>
     ensures { server_command result ≡ accepted (words rest.now) }
 {

@@ -23,7 +23,7 @@ pub enum BadLine {
 pub enum Found {
     /// A line ends: the number of its bytes, its CR LF included.
     Ends(usize),
-    /// The first fault, which stands before any line ends.
+    /// The first fault, which comes before any line ends.
     Bad(BadLine),
     /// Neither: the bytes are a prefix of a line.
     More,
@@ -88,7 +88,7 @@ fn is_past_limit(at: usize, after_cr: bool, b: u8) -> bool
     at == 16382 && !(b == b'\r' || (b == b'\n' && after_cr))
 }
 
-/// Whether the byte may not stand here.
+/// Whether the byte is not allowed here.
 fn is_bad_byte(after_cr: bool, b: u8) -> bool
     ensures { result ≡ is_bad after_cr b }
 {

@@ -4,7 +4,7 @@
 ghost use Rattle.std.specs.Prelude.{◌≡◌, ℕ, ◌+◌, ◌<◌, ◌≤◌, true, List, [], ◌∷◌, length, take, drop, MatchOption};
 ghost use Rattle.dbus_auth_lines.specs.Lines.{command_name, words, arguments, at_word_end};
 
-/// How many bytes stand before the first space.
+/// The number of bytes before the first space.
 #[tactic(auto, using(crate::proofs::Spaces::command_on, crate::proofs::Spaces::command_stops, crate::proofs::Spaces::command_all))]
 fn word_len(bytes: &[u8]) -> usize
     ensures is { result ≡ length (command_name bytes.now) }
@@ -46,7 +46,7 @@ pub fn next_word(bytes: &[u8]) -> Option<(&[u8], &[u8])>
     Some((&start[..n], &start[n..]))
 }
 
-/// The command, and what stands after it.
+/// The command, and what comes after it.
 #[tactic(auto, using(crate::proofs::Spaces::take_command_name, crate::proofs::Spaces::arguments_cut))]
 pub fn split_line(line: &[u8]) -> (&[u8], &[u8])
     ensures name { result.0.now ≡ command_name line.now }

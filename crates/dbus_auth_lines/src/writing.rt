@@ -230,7 +230,7 @@ fn are_printed(bytes: &[u8]) -> bool
     bytes.iter().all(|b| 33 <= *b && *b <= 126)
 }
 
-/// Whether the bytes may stand after `ERROR`.
+/// Whether the bytes are allowed after `ERROR`.
 fn is_error_text(bytes: &[u8]) -> bool
     ensures { result ≡ list_all is_plain bytes.now }
 {

@@ -1,4 +1,4 @@
-//! What a checker answers.
+//! What a checker returns.
 #![tactic(auto)]
 
 use dbus_value_model::Fault;
@@ -8,7 +8,7 @@ use dbus_value_model::Fault;
 pub enum Check {
     /// Neither a message nor a fault: more bytes are wanted.
     Partial,
-    /// They begin with a message, which ends after so many bytes of the last piece.
+    /// They begin with a message, which ends after this number of bytes of the last piece.
     Done(usize),
     /// They are refused.
     Refused(Fault),

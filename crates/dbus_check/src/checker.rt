@@ -10,7 +10,7 @@ use dbus_value_model::{Fault, Limits};
 use std::marker::Model;
 
 /// A checker of one message after another, whose bytes come in pieces of any length. It has a fixed size, about 40,000 bytes,
-/// takes no memory, and holds no byte of a message but the signatures of its body and of the variants that are open, and
+/// allocates nothing, and holds no byte of a message but the signatures of its body and of the variants that are open, and
 /// fewer than 288 bytes of an item that is not whole. The limits of its messages are those that it was made with.
 ///
 /// After each piece its answer is that of decoding all bytes that it took since it was made or began again. A checker costs
@@ -48,7 +48,7 @@ impl Checker {
         Checker::within(Limits::specification())
     }
 
-    /// A checker that was handed nothing, and takes messages that keep these limits.
+    /// A checker that was handed no bytes, and takes messages that keep these limits.
     pub fn within(limits: Limits) -> Self
         ensures stands { Stands result [] }
         ensures limits { limits_of result ≡ limits }
@@ -63,11 +63,11 @@ impl Checker {
     /// Takes the piece, or its bytes up to the end of the message under way. D-Bus Specification, "Message Protocol".
     ///
     /// Of all bytes that it took since it was made or began again, and the piece: `Done` if they begin with a message within
-    /// the limits, with how many bytes of the piece end it; those after it are not looked at. `Refused` if the next item of
+    /// the limits, with the number of bytes of the piece that end it; those after it are not looked at. `Refused` if the next item of
     /// the message is at fault, with the fault's place, as soon as the bytes show it. `Partial` if neither holds: more bytes
     /// are wanted.
     ///
-    /// After `Done` each call answers `Done(0)`, after `Refused` the same fault, until [`Checker::restart`].
+    /// After `Done` each call returns `Done(0)`, after `Refused` the same fault, until [`Checker::restart`].
     ///
     /// ```rust
     /// use dbus_message::{Check, Checker};
@@ -107,7 +107,7 @@ impl Checker {
         }
     }
 
-    /// Begins again, under the same limits: nothing was handed, whatever it answered before.
+    /// Begins again, under the same limits: nothing was handed in, whatever it returned before.
     pub fn restart(&mut self)
         ensures stands { Stands self.new [] }
         ensures limits { limits_of self.new ≡ limits_of self.old }

@@ -1,4 +1,4 @@
-//! The parts of a header's field that stand at the front of some bytes.
+//! The parts of a header's field at the front of some bytes.
 //!
 //! The bytes begin at the offset `offset` of a message, and more may follow them. Each call says how many bytes the part has;
 //! `Partial` if the bytes end within it; or `Refused` with its fault, as soon as they show it. None takes memory.

@@ -1,7 +1,7 @@
-//! Messages checked as their bytes come: in pieces of any length, in fixed room, without memory. D-Bus Specification, "Message
+//! Messages checked as their bytes come: in pieces of any length, in fixed room, without allocating. D-Bus Specification, "Message
 //! Protocol".
 //!
-//! [`Checker::take`] answers after each piece what decoding all bytes so far would: that a message ends, that they are refused and
+//! [`Checker::take`] returns after each piece what decoding all bytes so far would: that a message ends, that they are refused and
 //! why, or that more are wanted. An example is there.
 #![tactic(auto)]
 

@@ -77,7 +77,7 @@ impl Pieces {
         Ok(taken - before)
     }
 
-    /// Keeps only what stands after the first n of the bytes that are kept.
+    /// Keeps only what comes after the first n of the bytes that are kept.
     fn keep_after(&mut self, n: usize)
         requires { n < length self.old.kept.items }
         ensures progress { self.new.progress ≡ self.old.progress }

@@ -15,7 +15,7 @@ use dbus_value_model::{Limits, Order, Reason, Stop, refuse};
 pub(crate) enum Stage {
     /// The items that have fixed places.
     Header,
-    /// A field, or what stands after the fields.
+    /// A field, or what comes after the fields.
     Fields,
     /// The value of a field.
     Value,
@@ -34,7 +34,7 @@ pub(crate) struct Progress {
     pub(crate) limits: Limits,
     /// What is read next.
     pub(crate) stage: Stage,
-    /// The order of its numbers' bytes.
+    /// The byte order of its numbers.
     pub(crate) order: Order,
     /// The message type.
     pub(crate) kind: u8,
@@ -44,7 +44,7 @@ pub(crate) struct Progress {
     pub(crate) offset: usize,
     /// Where the fields end, then the body.
     pub(crate) end: usize,
-    /// How many descriptors come with it.
+    /// The number of descriptors that come with it.
     pub(crate) fds: u32,
     /// The known fields that were seen.
     pub(crate) seen: Seen,

@@ -1,4 +1,4 @@
-//! What decoding answers.
+//! What decoding returns.
 #![tactic(auto)]
 
 use dbus_message_model::Message;
@@ -10,11 +10,11 @@ use std::alloc::{Allocator, Global};
 pub enum Answer<A: Allocator = Global> {
     /// The bytes begin with a message.
     Whole {
-        /// The order of its numbers' bytes.
+        /// The byte order of its numbers.
         order: Order,
         /// The message.
         message: Message<A>,
-        /// How many bytes it has. Those after it were not looked at.
+        /// The number of bytes that it has. Those after it were not looked at.
         used: usize,
     },
     /// Neither a message nor a fault: more bytes are wanted.

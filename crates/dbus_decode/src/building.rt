@@ -20,7 +20,7 @@ use std::alloc::{AllocError, Allocator};
 /// For how many fields room is made at the start: most messages have no more.
 const FIELD_ROOM: usize = 8;
 
-/// The header field that begins at `at`, and the offset after it, where `depth_left` containers may be open in the message.
+/// The header field that begins at `at`, and the offset after it, if `depth_left` containers may be open in the message.
 fn build_field<A: Allocator + Copy>(
     alloc: A,
     source: &Source<'_>,

@@ -45,10 +45,10 @@ pub fn decode<A: Allocator + Copy>(alloc: A, bytes: &[u8]) -> Result<Answer<A>, 
 
 /// Decodes the message that the bytes begin with, under limits. D-Bus Specification, "Message Protocol".
 ///
-/// `Whole` if they do: `used` is how many bytes it has, and those after it are not looked at. `Partial` if they neither do nor are
+/// `Whole` if they do: `used` is its number of bytes, and those after it are not looked at. `Partial` if they neither do nor are
 /// refused: more bytes are wanted. `Format` if the next item of the message is at fault, with the fault's place, as soon as the
-/// bytes that are there show it. `Memory` only if an allocation failed, and only of a whole message: bytes that are refused or
-/// partial take no memory. An array of BYTE comes as `Bytes`, in the values of fields and of the body, also within others.
+/// bytes that are there show it. `Memory` only if an allocation failed, and only of a whole message: nothing is allocated for
+/// bytes that are refused or partial. An array of BYTE comes as `Bytes`, in the values of fields and of the body, also within others.
 ///
 /// Of the limits: `MessageTooLong` at 12 if the header states more bytes than the limits' message, `ArrayTooLong` at its length if
 /// an array has more than their array (the field array at 12), and `TooDeep` if a container is opened while their depth are open:

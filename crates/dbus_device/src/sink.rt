@@ -10,11 +10,11 @@ use crate::device_fault::DeviceFault;
 ///
 /// What memory a device takes is its own matter: if it finds none, its call failed.
 pub trait Sink {
-    /// The bytes that it holds, if the device tells them.
+    /// The bytes that it holds, if the device reports them.
     ghost held: { Self → Option (List ℕ) };
 
-    /// How often a call failed or took none of one or more bytes, modulo 2^64. A device failed in a call where this
-    /// changed.
+    /// How often a call failed or took none of one or more bytes, modulo 2^64. A device failed in a call during
+    /// which this changed.
     ghost failures: { Self → ℕ };
 
     /// Which reference it is, if it is one. No call changes it.

@@ -10,10 +10,10 @@ use crate::device_fault::DeviceFault;
 ///
 /// What memory a device takes is its own matter: if it finds none, its call failed.
 pub trait Source {
-    /// The bytes that are left, if the device tells them.
+    /// The bytes that are left, if the device reports them.
     ghost left: { Self → Option (List ℕ) };
 
-    /// How often a call failed, modulo 2^64. A device failed in a call where this changed.
+    /// How often a call failed, modulo 2^64. A device failed in a call during which this changed.
     ghost failures: { Self → ℕ };
 
     /// How often it was called, modulo 2^64.

@@ -18,7 +18,7 @@ use dbus_value_model::{Limits, Order, Reason, Stop, padding_length, refuse};
 /// What the first sixteen bytes of a message say. D-Bus Specification, "Message Format".
 #[derive(Clone, Copy)]
 pub struct FixedHeader {
-    /// The order of its numbers' bytes.
+    /// The byte order of its numbers.
     pub order: Order,
     /// The message type.
     pub kind: u8,
@@ -119,7 +119,7 @@ fn read_serial(bytes: &[u8], order: Order) -> Result<u32, Stop>
     Ok(serial)
 }
 
-/// The length of the field array, at 12, where the body has so many bytes: `ArrayTooLong` if it is over the limits' array,
+/// The length of the field array, at 12, if the body has `body` bytes: `ArrayTooLong` if it is over the limits' array,
 /// else `MessageTooLong` if the message is over their message.
 fn read_fields_length(bytes: &[u8], order: Order, body: u32, limits: Limits) -> Result<u32, Stop>
     requires { 12 ≤ length bytes.now }

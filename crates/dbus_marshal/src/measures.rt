@@ -124,7 +124,7 @@ pub fn measure<A: Allocator>(value: &Value<A>, at: u64, limits: Limits) -> Optio
     }
 }
 
-/// Where values end that stand one after the other from `at` on, as [`measure`] says.
+/// Where values end that follow one another from `at` on, as [`measure`] says.
 #[cycle(size)]
 pub fn measure_all<A: Allocator>(values: &[Value<A>], at: u64, limits: Limits) -> Option<u64>
     requires start { IsCapped at }

@@ -30,7 +30,7 @@ pub fn size_after<A: Allocator>(value: &Value<A>, offset: u64) -> Result<u64, Va
 /// `offset` counts from the message's first byte and is at most the limits' message. Each signature
 /// in the value has at most 255 bytes, as in every well-formed one.
 ///
-/// Refused is the first item, in order, whose end passes a bound: `ArrayTooLong` if that is the bound of an open
+/// The first item, in order, whose end passes a bound is refused: `ArrayTooLong` if that is the bound of an open
 /// array, the limits' array from the start of its contents, else `TooLong` if it is the limits' message. A padding, a
 /// number, a length, a text and the byte after a text are an item each.
 pub fn size_after_within<A: Allocator>(

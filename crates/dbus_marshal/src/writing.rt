@@ -1,7 +1,7 @@
 //! Numbers, padding and texts stored from a place on, in bytes that have room for them.
 //!
 //! The bytes begin at the message's first one. Each function takes the place where what it writes begins, and gives the
-//! place where that ends; what stands before the place stays. D-Bus Specification, "Marshaling (Wire Format)".
+//! place where that ends; what is before the place stays. D-Bus Specification, "Marshaling (Wire Format)".
 #![tactic(auto, using(crate::proofs::Written::lengths))]
 
 ghost use Rattle.std.specs.Prelude.{◌≡◌, ◌+◌, ◌<◌, ◌≤◌, ◌∷◌, [], ◌++◌, length, take, drop};
@@ -12,7 +12,7 @@ ghost use Rattle.dbus_value_model.specs.Values.{TextValue};
 
 use dbus_value_model::{Order, gap};
 
-/// Puts these bytes over those that stand at `at`.
+/// Puts these bytes over those at `at`.
 #[inline]
 fn overwrite(out: &mut [u8], at: usize, bytes: &[u8])
     requires { at + length bytes.now ≤ length out.old }

@@ -14,7 +14,7 @@ use crate::key::Key;
 use crate::pair::read_pair;
 use std::alloc::{AllocFailed, Allocator};
 
-/// How many of the conditions stand before one with the key.
+/// The number of conditions before one with the key.
 fn place_of<A: Allocator>(conditions: &[Condition<A>], key: Key) -> usize
     ensures { result ≡ prefix_len (λ c. ltb (rank c.key) (rank key)) conditions.now }
 {

@@ -16,7 +16,7 @@ impl<A: Allocator + Clone> Clone for Condition<A> {
 
     /// A condition of the same key and the same value, in memory of its own from the same allocator.
     ///
-    /// Returns `AllocError` if an allocation failed, and nothing of the copy stands then.
+    /// Returns `AllocError` if an allocation failed, and nothing of the copy is left then.
     fn clone(&self) -> Result<Condition<A>, AllocError> {
         Ok(Condition {
             key: self.key,
@@ -30,7 +30,7 @@ impl<A: Allocator + Clone> Clone for Rule<A> {
 
     /// A rule of the same keys and the same values, in memory of its own from the same allocator.
     ///
-    /// Returns `AllocError` if an allocation failed, and nothing of the copy stands then.
+    /// Returns `AllocError` if an allocation failed, and nothing of the copy is left then.
     #[tactic(auto, using(crate::proofs::CopiedRules::conditions_copied, crate::proofs::CopiedRules::copy_is_rule))]
     fn clone(&self) -> Result<Rule<A>, AllocError> {
         let conditions = self.conditions.clone()?;
@@ -43,7 +43,7 @@ impl<A: Allocator + Clone> Clone for Owner<A> {
 
     /// An owner of the same names, in memory of its own from the same allocator.
     ///
-    /// Returns `AllocError` if an allocation failed, and nothing of the copy stands then.
+    /// Returns `AllocError` if an allocation failed, and nothing of the copy is left then.
     fn clone(&self) -> Result<Owner<A>, AllocError> {
         Ok(Owner {
             name: self.name.clone()?,

@@ -29,11 +29,11 @@ pub enum RuleReason {
     Nul,
     /// A pair without `=`: at the comma, or the text's end, that comes before one.
     NoEquals,
-    /// What stands before `=` is no key: at its first byte that is no space.
+    /// What comes before `=` is no key: at its first byte that is no space.
     KeyName,
-    /// The key stands in an earlier pair: at its first byte.
+    /// The key is in an earlier pair: at its first byte.
     KeyTwice,
-    /// `path` and `path_namespace` stand in one rule: at the first byte of the second of the two.
+    /// `path` and `path_namespace` are in one rule: at the first byte of the second of the two.
     PathAndNamespace,
     /// An apostrophe is not closed: at that apostrophe.
     OpenQuote,

@@ -87,7 +87,7 @@ fn push_argument<A: Allocator>(text: &mut String<A>, number: u8) -> Result<(), A
     text.push((b'0' + number % 10) as char)
 }
 
-/// Appends the key's name. After a refusal a part of it may stand there.
+/// Appends the key's name. If an allocation fails, a part of it may be there.
 pub(crate) fn push_key<A: Allocator>(text: &mut String<A>, key: Key) -> Result<(), AllocError>
     ensures { OnOk result (string_bytes text.new ≡ string_bytes text.old ++ key_text key) }
 {

@@ -46,7 +46,7 @@ fn holds<A: Allocator, B: Allocator>(
 ///
 /// `sender` holds if the message's SENDER is the value, or if an owner of `owners` pairs the value
 /// with that SENDER; the specification asks the bus for the owner. `destination` is compared with
-/// DESTINATION as it stands, and `eavesdrop` always holds.
+/// DESTINATION as it is, and `eavesdrop` always holds.
 ///
 /// ```rust
 /// use dbus_match::{matches, parse_rule};

@@ -45,7 +45,7 @@ fn has_key<A: Allocator>(conditions: &[Condition<A>], key: Key) -> bool
     false
 }
 
-/// Why the key may not stand after the conditions.
+/// Why the key may not follow the conditions.
 fn clash<A: Allocator>(conditions: &[Condition<A>], key: Key) -> Option<RuleReason>
     ensures { IsClash (condition_pairs conditions.now) key result }
 {

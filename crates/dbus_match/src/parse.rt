@@ -39,7 +39,7 @@ fn read_rule<A: Allocator + Copy>(alloc: A, text: &str) -> Result<Rule<A>, RuleF
 /// Else `Bad` with the text's one fault, in the order and at the place that `RuleReason` says; `Memory`
 /// comes only if an allocation failed.
 ///
-/// This differs from the specification in these points: each key stands at most once; spaces stand only
+/// This differs from the specification in these points: each key occurs at most once; spaces are allowed only
 /// before a key and after the last comma; `destination` takes any bus name, and `arg0namespace` any text.
 ///
 /// ```rust

@@ -7,7 +7,7 @@ ghost use Rattle.dbus_match.specs.Conditions.{condition_pairs};
 use crate::condition::Condition;
 use std::alloc::{Allocator, Global};
 
-/// A match rule: keys with their values, of which each key stands at most once, and `path` and
+/// A match rule: keys with their values, of which each key occurs at most once, and `path` and
 /// `path_namespace` not both. D-Bus Specification, "Match Rules".
 ///
 /// `parse_rule` makes one of its text, and `rule_text` gives its canonical text.

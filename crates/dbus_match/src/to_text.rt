@@ -11,7 +11,7 @@ use crate::key_name::push_key;
 use crate::rule::Rule;
 use std::alloc::{AllocError, Allocator};
 
-/// Appends the value, each apostrophe as `'\''`. After a refusal a part of it may stand there.
+/// Appends the value, each apostrophe as `'\''`. If an allocation fails, a part of it may be there.
 fn push_escaped<A: Allocator>(text: &mut String<A>, value: &str) -> Result<(), AllocError>
     ensures { OnOk result (string_bytes text.new ≡
         string_bytes text.old ++ quote_escaped value.now) }

@@ -8,14 +8,14 @@ ghost use Rattle.dbus_match.specs.Cuts.{cut_of};
 
 use std::alloc::{AllocError, Allocator};
 
-/// Where the reading of a value stands.
+/// The state of reading a value.
 #[derive(Clone, Copy)]
 pub(crate) enum Mode {
     /// Outside apostrophes.
     Outside,
-    /// After a backslash that stands before an apostrophe, outside apostrophes.
+    /// After a backslash before an apostrophe, outside apostrophes.
     Escape,
-    /// Inside apostrophes, of which the first stands at this place.
+    /// Inside apostrophes, of which the first is at this place.
     Inside(usize),
 }
 

@@ -1,4 +1,4 @@
-//! The index: where a rule stands in a set, and where a message's texts lead.
+//! The index: where a rule is in a set, and where a message's texts lead.
 #![tactic(auto)]
 
 ghost use Rattle.std.specs.Prelude.{◌≡◌, ◌/◌, ◌%◌, ◌<◌, ◌≤◌, ◌==◌, Some, None, MatchOption};

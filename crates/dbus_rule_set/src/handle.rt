@@ -10,6 +10,6 @@ pub struct RuleHandle {
     pub(crate) mask: u8,
     /// A number of the values of these keys.
     pub(crate) hash: u64,
-    /// How many handles the set gave before this one.
+    /// The number of handles that the set gave before this one.
     pub(crate) number: u64,
 }

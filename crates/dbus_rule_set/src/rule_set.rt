@@ -45,7 +45,7 @@ use std::collections::BTreeMap;
 #[derive(Drop)]
 pub struct RuleSet<A: Allocator = Global> {
     rules: BTreeMap<RuleHandle, Rule<A>, A>,
-    /// How many handles were given.
+    /// The number of handles that were given.
     next: u64,
     /// The masks of the rules that were added.
     masks: Masks,
@@ -57,7 +57,7 @@ pub struct RuleSet<A: Allocator = Global> {
 impl<A: Allocator> RuleSet<A> {
     ghost use Rattle.dbus_rule_set.specs.Held.{held, given, rule_at, with_rule, without, AreApart, Collects, EntryMatches};
 
-    /// A set with no rules. It takes no memory.
+    /// A set with no rules. It allocates nothing.
     pub fn new(alloc: A) -> Self
         ensures empty { held result ≡ [] }
         ensures given { given result ≡ 0 }
@@ -109,7 +109,7 @@ impl<A: Allocator> RuleSet<A> {
         }
     }
 
-    /// Removes the rule that the handle stands for, and returns it; `None` if it stands for none. It takes no memory.
+    /// Removes the rule that the handle stands for, and returns it; `None` if it stands for none. It allocates nothing.
     ///
     /// ```rust
     /// use dbus_match::{parse_rule, rule_text};
@@ -145,7 +145,7 @@ impl<A: Allocator> RuleSet<A> {
         self.rules.get(&handle)
     }
 
-    /// How many rules the set holds.
+    /// The number of rules in the set.
     pub fn len(&self) -> usize
         ensures { result ≡ length (held self.now) }
     {

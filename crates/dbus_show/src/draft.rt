@@ -6,7 +6,7 @@ ghost use Rattle.std.specs.Prelude.{◌<◌, ◌∷◌, List, [], ◌++◌, ℕ}
 use std::str;
 
 /// What gains a text piece by piece. If it cannot take a piece, it takes nothing more, and each writer returns as ever, so that
-/// only who made it asks at the end whether it has all.
+/// only its maker asks at the end whether it has all.
 pub trait Draft {
     // It gained a text.
     ghost gains: { Self → List ℕ → Self → Type 0 };

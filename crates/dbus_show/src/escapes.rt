@@ -41,7 +41,7 @@ fn write_escape<D: Draft>(draft: &mut D, byte: u8, mark: &str)
     }
 }
 
-/// Appends a text with its escapes, and what stands between two of them at once.
+/// Appends a text with its escapes, and what is between two of them at once.
 fn write_escaped<D: Draft>(draft: &mut D, text: &str, mark: &str)
     ensures { D.gains draft.old (flat_map (escape_by mark.now) text.now) draft.new }
 {
@@ -57,7 +57,7 @@ fn write_escaped<D: Draft>(draft: &mut D, text: &str, mark: &str)
     draft.push_str(&text[start..]);
 }
 
-/// Appends a text between quotation marks. A byte below 32 or 127 stands as the mark and two hexadecimal digits.
+/// Appends a text between quotation marks. A byte below 32, or 127, is written as the mark and two hexadecimal digits.
 pub fn write_quoted_by<D: Draft>(draft: &mut D, text: &str, mark: &str)
     ensures { D.gains draft.old (quoted_by mark.now text.now) draft.new }
 {

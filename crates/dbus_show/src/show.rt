@@ -115,7 +115,7 @@ fn write_parts<D: Draft, A: Allocator>(draft: &mut D, order: Order, parts: &Part
 /// header field as its name, `=` and its value. A line for each value of the body follows, after two spaces. Each line
 /// ends in a line feed, and no other byte of the text is one.
 ///
-/// `AllocError` comes only where a growth was refused, and nothing stands after it. D-Bus Specification, "Message
+/// `AllocError` comes only if an allocation failed, and then no text is left. D-Bus Specification, "Message
 /// Format" and "Header Fields".
 pub fn show_message<A: Allocator>(
     alloc: A,
@@ -133,7 +133,7 @@ pub fn show_message<A: Allocator>(
 
 /// Shows a message as [`show_message`] does, in a string in place of what that holds.
 ///
-/// `AllocError` comes only where a growth was refused, and so only where the string's capacity is less than the text's
+/// `AllocError` comes only if an allocation failed, and so only if the string's capacity is less than the text's
 /// length; then the string is empty.
 pub fn show_into<A: Allocator>(
     out: &mut String<A>,

@@ -13,13 +13,13 @@ const KEPT: usize = 1024;
 
 /// A text that is written piece by piece into a string of the caller.
 ///
-/// Pieces are gathered, since many short ones cost the string more than a long one. Once a growth was refused, the string gets
-/// nothing more, which [`StringDraft::finish`] tells.
+/// Pieces are gathered, since many short ones cost the string more than a long one. Once an allocation failed, the string gets
+/// nothing more, which [`StringDraft::finish`] reports.
 #[derive(Drop)]
 pub struct StringDraft<'a, A: Allocator> {
     /// The string that is written to.
     pub out: &'a mut String<A>,
-    /// Whether a growth was refused.
+    /// Whether an allocation failed.
     pub refused: bool,
     /// What the string has still to get.
     pub kept: ArrayString<KEPT>,
@@ -61,7 +61,7 @@ impl<'a, A: Allocator> StringDraft<'a, A> {
         self.kept.clear();
     }
 
-    /// Ends the text. If a growth was refused, the string is empty.
+    /// Ends the text. If an allocation failed, the string is empty.
     pub fn finish(&mut self) -> Result<(), AllocError>
         ensures same { self.new.out.ghost_name ≡ self.old.out.ghost_name }
         ensures unrefused { OnOk result (self.old.refused ≡ false) }

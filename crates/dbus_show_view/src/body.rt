@@ -13,7 +13,7 @@ use crate::values::write_value_at;
 use dbus_show::Draft;
 use dbus_walk::{Source, Spot};
 
-/// Appends a line for each of the values that stand one after another at a spot.
+/// Appends a line for each of the values that follow one another at a spot.
 pub(crate) fn write_body<D: Draft>(draft: &mut D, source: &Source<'_>, spot: &Spot<'_>)
     requires stand { AllStandThere source.now spot.now }
     requires noted { AreLengths spot.now.types.now spot.now.lengths.now }

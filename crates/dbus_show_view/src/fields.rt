@@ -1,4 +1,4 @@
-//! Header fields as text, from where they stand. D-Bus Specification, "Header Fields".
+//! Header fields as text, from a message's bytes. D-Bus Specification, "Header Fields".
 #![tactic(auto)]
 
 ghost use Rattle.std.specs.Prelude.{◌≡◌, ℕ, ◌≤◌, List, length};
@@ -15,7 +15,7 @@ use dbus_show::{Draft, write_field_name, write_integer};
 use dbus_value_model::gap;
 use dbus_walk::{FIELDS_START, Source, field_at, fields_end, text_in};
 
-/// Appends a text or a UINT32 alone, and of any other type the text of the value, which stands at `at`, and whose type these bytes
+/// Appends a text or a UINT32 alone, and of any other type the text of the value, which is at `at`, and whose type these bytes
 /// spell: the offset after it.
 fn write_bare_at<D: Draft>(
     draft: &mut D,

@@ -1,4 +1,4 @@
-//! Numbers as text, from where they stand. D-Bus Specification, "Marshaling (Wire Format)".
+//! Numbers as text, from a message's bytes. D-Bus Specification, "Marshaling (Wire Format)".
 #![tactic(auto)]
 
 ghost use Rattle.std.specs.Prelude.{◌≡◌, ◌+◌, ◌≤◌, length, take, drop};
@@ -10,7 +10,7 @@ ghost use Rattle.dbus_show.specs.ShownValues.{number_text};
 use dbus_show::{Draft, write_hex, write_integer};
 use dbus_value_model::Order;
 
-/// Appends the number that stands at `at`, of the type that has this code, as it is shown: an integer in decimal, a BOOLEAN as `true` or
+/// Appends the number at `at`, of the type that has this code, as it is shown: an integer in decimal, a BOOLEAN as `true` or
 /// `false`, a DOUBLE as 16 hexadecimal digits. D-Bus Specification, "Basic types".
 pub fn write_number_at<D: Draft>(draft: &mut D, bytes: &[u8], at: usize, order: Order, code: u8)
     requires { (k : NumberCode) → number_code k ≡ code →

@@ -1,4 +1,4 @@
-//! Texts, from where they stand. D-Bus Specification, "Marshaling (Wire Format)".
+//! Texts, from a message's bytes. D-Bus Specification, "Marshaling (Wire Format)".
 #![tactic(auto)]
 
 ghost use Rattle.std.specs.Prelude.{◌<◌, ◌∷◌};

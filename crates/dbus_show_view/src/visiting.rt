@@ -1,4 +1,4 @@
-//! Values as text, from where they stand. D-Bus Specification, "Marshaling (Wire Format)".
+//! Values as text, from a message's bytes. D-Bus Specification, "Marshaling (Wire Format)".
 #![tactic(auto)]
 
 ghost use Rattle.std.specs.Prelude.{◌≡◌, ◌==◌, map};

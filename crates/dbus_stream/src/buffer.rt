@@ -49,7 +49,7 @@ impl Buffer for Small {
     }
 }
 
-/// Room for 262,144 bytes: so many that nearly every message lies whole in what one read gives.
+/// Room for 262,144 bytes: nearly every message lies whole in what one read gives.
 #[derive(Drop)]
 pub struct Large {
     pub(crate) bytes: [u8; 262_144],

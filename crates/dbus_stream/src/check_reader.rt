@@ -11,11 +11,11 @@ use crate::reads::MOST_READS;
 use dbus_device::Source;
 use dbus_value::Limits;
 
-/// Reads messages from a source, one after another, by a buffer of 262,144 bytes inside it, and tells their lengths.
+/// Reads messages from a source, one after another, by a buffer of 262,144 bytes inside it, and returns their lengths.
 ///
-/// It accepts and refuses what a [`crate::MessageReader`] does. A message that lies whole in the buffer is validated there; any
+/// It accepts and rejects what a [`crate::MessageReader`] does. A message that lies whole in the buffer is validated there; any
 /// other is checked as it comes. It builds no message, keeps no byte of one outside its buffer but what its checker holds, and
-/// takes no memory, so it never answers `Memory`: it has a fixed size, about 303,000 bytes.
+/// allocates nothing, so it never returns `Memory`: it has a fixed size, about 303,000 bytes.
 ///
 /// ```rust
 /// use dbus_stream::{CheckReader, FromRead};
@@ -46,7 +46,7 @@ impl<R: Source> Reader<R, Lengths, Large> {
         CheckReader::within(source, reads, Limits::specification())
     }
 
-    /// A reader of what the source gives, which read nothing yet. It makes at most so many reads in its life, the one that
+    /// A reader of what the source gives, which has read nothing yet. It makes at most `reads` reads in its life, the one that
     /// finds the end of the input among them, and takes messages that keep these limits.
     pub fn within(source: R, reads: u64, limits: Limits) -> Self
         requires { reads ≤ 2 ^ 32 }

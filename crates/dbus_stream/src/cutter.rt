@@ -49,7 +49,7 @@ impl<A: Allocator + Copy> Cutter<A> {
         Cutter::within(alloc, Limits::specification())
     }
 
-    /// A cutter that holds nothing yet, and gives messages that keep these limits. What it keeps is allocated by `alloc`.
+    /// A cutter that holds nothing yet, and returns messages that keep these limits. What it keeps is allocated by `alloc`.
     pub fn within(alloc: A, limits: Limits) -> Self
         ensures { result ≡ fresh limits }
     {
@@ -61,7 +61,7 @@ impl<A: Allocator + Copy> Cutter<A> {
     }
 
     /// Takes the bytes of the piece up to the end of the message under way and returns that message; or the whole piece, if
-    /// the end is not there yet. Returns how many bytes of the piece it took too: hand in the others again.
+    /// the end is not there yet. Also returns the number of bytes of the piece that it took: hand in the others again.
     ///
     /// `Format`: the bytes that are held and the piece are no message within its limits; it stays for good. `Memory`: an
     /// allocation failed. A call that returns an error takes nothing.
@@ -168,7 +168,7 @@ impl<A: Allocator + Copy> Cutter<A> {
         }
     }
 
-    /// How many bytes it holds of the message under way.
+    /// The number of bytes that it holds of the message under way.
     pub fn held(&self) -> usize
         ensures { result ≡ length self.now.held }
     {

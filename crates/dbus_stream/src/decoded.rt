@@ -7,7 +7,7 @@ use dbus_message::{Answer, decode_within};
 use dbus_value::{Limits, Refusal};
 use std::alloc::Allocator;
 
-/// What `decode_within` answers. A message has at least one byte, and all of its bytes are there.
+/// What `decode_within` returns. A message has at least one byte, and all of its bytes are there.
 pub(crate) fn decoded<A: Allocator + Copy>(
     alloc: A,
     bytes: &[u8],

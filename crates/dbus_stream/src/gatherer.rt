@@ -100,7 +100,7 @@ impl<A: Allocator + Copy> Gatherer<A> {
         }
     }
 
-    /// The last so many bytes of the message that it holds are taken back, so that more bytes are wanted.
+    /// The last `count` bytes of the message that it holds are taken back, so that more bytes are wanted.
     pub(crate) fn take_back(&mut self, count: usize)
         requires fits { count ≤ length self.old.held }
         requires partial { IsPartial self.old.limits

@@ -14,7 +14,7 @@ use std::alloc::Allocator;
 ///
 /// It speaks of `decode_within` by `Decodes`, of `encode` by the bytes that it gives, and of a cutter by `Feeds`: any pieces
 /// are handed to `Cutter::take` one after another, and what a call leaves of one is handed in again. Each of them may answer
-/// want of memory, which takes nothing.
+/// out of memory, which takes nothing.
 pub fn headline<A: Allocator>()
     ensures { (limits : Limits) → Headline limits A }
 {}

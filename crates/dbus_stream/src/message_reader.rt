@@ -14,7 +14,7 @@ use std::alloc::{Allocator, Global};
 /// Reads messages from a source, one after another, by a buffer of 4,096 bytes inside it.
 ///
 /// It keeps the bytes that it read and did not give in a message yet: at most those of one message and one buffer. The
-/// limits of its messages, and how many reads it makes at most in its life, are those that it was made with.
+/// limits of its messages, and the number of reads that it makes at most in its life, are those that it was made with.
 #[derive(Drop)]
 pub struct MessageReader<R, A: Allocator = Global> {
     // Its cutter holds the bytes of the message under way that came by earlier reads.
@@ -44,8 +44,8 @@ impl<R: Source, A: Allocator + Copy> MessageReader<R, A> {
         MessageReader::within(alloc, source, reads, Limits::specification())
     }
 
-    /// A reader of what the source gives, which read nothing yet. It makes at most so many reads in its life, the one that
-    /// finds the end of the input among them, and gives messages that keep these limits. What it keeps is allocated by `alloc`.
+    /// A reader of what the source gives, which has read nothing yet. It makes at most `reads` reads in its life, the one that
+    /// finds the end of the input among them, and returns messages that keep these limits. What it keeps is allocated by `alloc`.
     pub fn within(alloc: A, source: R, reads: u64, limits: Limits) -> Self
         requires { reads ≤ 2 ^ 32 }
         ensures { IsNewReader source reads limits result }
@@ -67,7 +67,7 @@ impl<R: Source, A: Allocator + Copy> MessageReader<R, A> {
         self.reader.into_source()
     }
 
-    /// How many bytes all the messages have that it gave.
+    /// The number of bytes of all the messages that it returned.
     pub fn done(&self) -> u64
         ensures { result ≡ done_of self.now }
     {
@@ -75,7 +75,7 @@ impl<R: Source, A: Allocator + Copy> MessageReader<R, A> {
     }
 
     /// The next message with its byte order, or None at the end of the input. Bytes after the message are kept. After
-    /// the end each call answers the same, without reading. A read is made only if no whole message is kept, so a
+    /// the end each call returns the same, without reading. A read is made only if no whole message is kept, so a
     /// message is given at the read that ends it.
     ///
     /// `Format`: the bytes begin with no message within the limits; or the input ended within one, and then the reason is
@@ -118,7 +118,7 @@ impl<R: Source, A: Allocator + Copy> MessageReader<R, A> {
     /// kept. None if what is kept begins with no whole message; then `next` goes on from there and reads more.
     ///
     /// `Format`: the bytes begin with no message within the limits. It stays for good, and so does a fault that `next`
-    /// answers for good. `Memory`: an allocation failed. Then all that was read is kept, and the call may be made again.
+    /// returns for good. `Memory`: an allocation failed. Then all that was read is kept, and the call may be made again.
     pub fn next_kept(&mut self) -> Result<Option<(Order, Message<A>)>, ReadFault>
         // It gives what the bytes that are kept begin with.
         ensures kept { stopped_of self.old ≡ None → KeptAnswers self.old self.new result }

@@ -14,7 +14,7 @@ use std::alloc::{Allocator, Global};
 
 /// Reads messages from a source, one after another, by a buffer of 262,144 bytes inside it, and lends or copies their bytes.
 ///
-/// It accepts and refuses what a [`crate::MessageReader`] does, and builds no message. A message that lies whole in the
+/// It accepts and rejects what a [`crate::MessageReader`] does, and builds no message. A message that lies whole in the
 /// buffer is validated there, and lent where it lies; any other is checked as it comes, and its bytes are gathered. It keeps the
 /// bytes that it read and did not give yet: at most those of one message and one buffer. The limits of its messages, and how
 /// many reads it makes at most in its life, are those that it was made with.
@@ -52,8 +52,8 @@ impl<R: Source, A: Allocator + Copy> RawReader<R, A> {
         RawReader::within(alloc, source, reads, Limits::specification())
     }
 
-    /// A reader of what the source gives, which read nothing yet. It makes at most so many reads in its life, the one that
-    /// finds the end of the input among them, and gives messages that keep these limits. What it keeps outside its buffer, and
+    /// A reader of what the source gives, which has read nothing yet. It makes at most `reads` reads in its life, the one that
+    /// finds the end of the input among them, and returns messages that keep these limits. What it keeps outside its buffer, and
     /// each copy, is allocated by `alloc`.
     pub fn within(alloc: A, source: R, reads: u64, limits: Limits) -> Self
         requires { reads ≤ 2 ^ 32 }
@@ -79,7 +79,7 @@ impl<R: Source, A: Allocator + Copy> RawReader<R, A> {
         self.reader.into_source()
     }
 
-    /// How many bytes all the messages have that it gave.
+    /// The number of bytes of all the messages that it returned.
     pub fn done(&self) -> u64
         ensures { result ≡ done_of self.now }
     {
@@ -101,8 +101,8 @@ impl<R: Source, A: Allocator + Copy> RawReader<R, A> {
     }
 
     /// Goes on to the next message, and returns what is validated of its bytes, which [`RawReader::message`] lends then; None at the
-    /// end of the input. Bytes after the message are kept. After the end each call answers the same, without reading. A read is
-    /// made only if no whole message is kept, so a message is given at the read that ends it. Memory is taken only for a
+    /// end of the input. Bytes after the message are kept. After the end each call returns the same, without reading. A read is
+    /// made only if no whole message is kept, so a message is given at the read that ends it. It allocates only for a
     /// message that does not lie whole in the buffer. D-Bus Specification, "Message Protocol".
     ///
     /// `Format`: the bytes begin with no message within the limits; or the input ended within one, and then the reason is
@@ -149,7 +149,7 @@ impl<R: Source, A: Allocator + Copy> RawReader<R, A> {
     /// what is kept begins with no whole message; then `advance` goes on from there and reads more.
     ///
     /// `Format`: the bytes begin with no message within the limits. It stays for good, and so does a fault that `advance`
-    /// answers for good. `Memory`: an allocation failed. Then all that was read is kept, and the call may be made again.
+    /// returns for good. `Memory`: an allocation failed. Then all that was read is kept, and the call may be made again.
     pub fn advance_kept(&mut self) -> Result<Option<Validated>, ReadFault>
         // It lends the message that the bytes that are kept begin with, and validates it.
         ensures kept { stopped_of self.old ≡ None → KeptAnswers self.old self.new result }
@@ -169,7 +169,7 @@ impl<R: Source, A: Allocator + Copy> RawReader<R, A> {
 
     /// The bytes of the next message, or None at the end of the input: of what [`RawReader::advance`] lends, a copy, or those
     /// that were gathered. Then no message is lent. Faults are those of `advance`, and `Memory` also if the copy could not be
-    /// allocated: then the message is kept, and the same call gives it again.
+    /// allocated: then the message is kept, and the same call returns it again.
     pub fn next(&mut self) -> Result<Option<Vec<u8, A>>, ReadFault>
         // Of what was kept and then read it gives the bytes of the message that that begins with.
         ensures read { (r : Reads R.left R.calls self.old self.new) ×

@@ -1,8 +1,8 @@
-//! Why a reader of messages gives no message.
+//! Why a reader of messages returns no message.
 use dbus_value::Fault;
 use thiserror::Error;
 
-/// Why a reader of messages gives no message.
+/// Why a reader of messages returns no message.
 #[derive(Clone, Copy, Debug, PartialEq, Eq, Error)]
 pub enum ReadFault {
     /// An allocation failed. The bytes that were read are kept, and the call may be made again.

@@ -13,7 +13,7 @@ use dbus_value::{Fault, Reason};
 /// each: a [`crate::MessageReader`] the message, a [`crate::CheckReader`] its length.
 ///
 /// It keeps the bytes that it read and did not give in a message yet: what its taker holds, which is at most one message, and
-/// what is left of the buffer. The limits of its messages, and how many reads it makes at most in its life, are those that it
+/// what is left of the buffer. The limits of its messages, and the number of reads that it makes at most in its life, are those that it
 /// was made with.
 #[derive(Drop)]
 pub struct Reader<R, T, B: Buffer> {
@@ -47,7 +47,7 @@ impl<R: Source, T: Taker, B: Buffer> Reader<R, T, B> {
     ghost use Rattle.dbus_stream.specs.Next.{NextAnswers, KeptAnswers, DeviceCounts, Reads, ReadsNothing};
     ghost use Rattle.dbus_stream.specs.Steps.{IsDrained, TakesAll, Fills, Finishes, GivesUp};
 
-    /// A reader of what the source gives to a taker that holds nothing. It read nothing yet, and makes at most so many reads
+    /// A reader of what the source gives to a taker that holds nothing. It has read nothing yet, and makes at most `reads` reads
     /// in its life, the one that finds the end of the input among them.
     pub(crate) fn over(source: R, taker: T, buffer: B, reads: u64) -> Self
         requires small { B.room.size ≤ 262144 }
@@ -78,7 +78,7 @@ impl<R: Source, T: Taker, B: Buffer> Reader<R, T, B> {
         self.source
     }
 
-    /// How many bytes all the messages have that it gave.
+    /// The number of bytes of all the messages that it returned.
     pub fn done(&self) -> u64
         ensures { result ≡ done_of self.now }
     {
@@ -86,7 +86,7 @@ impl<R: Source, T: Taker, B: Buffer> Reader<R, T, B> {
     }
 
     /// What its taker makes of the next message, or None at the end of the input. Bytes after the message are kept. After
-    /// the end each call answers the same, without reading. A read is made only if no whole message is kept, so a
+    /// the end each call returns the same, without reading. A read is made only if no whole message is kept, so a
     /// message is given at the read that ends it. D-Bus Specification, "Message Protocol".
     ///
     /// `Format`: the bytes begin with no message within the limits; or the input ended within one, and then the reason is
@@ -134,7 +134,7 @@ impl<R: Source, T: Taker, B: Buffer> Reader<R, T, B> {
     /// kept. None if what is kept begins with no whole message; then `next` goes on from there and reads more.
     ///
     /// `Format`: the bytes begin with no message within the limits. It stays for good, and so does a fault that `next`
-    /// answers for good. `Memory`: an allocation failed. Then all that was read is kept, and the call may be made again.
+    /// returns for good. `Memory`: an allocation failed. Then all that was read is kept, and the call may be made again.
     pub fn next_kept(&mut self) -> Result<Option<T::Given>, ReadFault>
         // It gives what the bytes that are kept begin with.
         ensures kept { (w : List ℕ) → Keeps T.known self.old w → stopped_of self.old ≡ None →

@@ -1,8 +1,8 @@
-//! Why a cutter gives no message.
+//! Why a cutter returns no message.
 use dbus_value::Fault;
 use thiserror::Error;
 
-/// Why a cutter gives no message.
+/// Why a cutter returns no message.
 #[derive(Clone, Copy, Debug, PartialEq, Eq, Error)]
 pub enum StreamFault {
     /// An allocation failed. Nothing was taken, and the call may be made again.

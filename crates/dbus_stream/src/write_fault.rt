@@ -10,7 +10,7 @@ pub enum WriteFault {
     /// A write failed, or took none of its bytes. The first `written` bytes of the message went out.
     #[error("the device failed after {written} bytes")]
     Device {
-        /// How many bytes of the message went out.
+        /// The number of bytes of the message that went out.
         written: usize,
     },
 }

@@ -4,6 +4,6 @@
 /// Byteswaps the numbers of what it visits in a copy of the message's bytes.
 #[derive(Drop)]
 pub(crate) struct Byteswapper<'a> {
-    /// The copy. Its bytes stand at the offsets that they have in the message.
+    /// The copy. Its bytes are at the offsets that they have in the message.
     pub(crate) out: &'a mut [u8],
 }

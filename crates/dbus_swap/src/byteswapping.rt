@@ -1,4 +1,4 @@
-//! Values byteswapped where they stand. D-Bus Specification, "Marshaling (Wire Format)".
+//! Values byteswapped in the copy. D-Bus Specification, "Marshaling (Wire Format)".
 #![tactic(auto)]
 
 ghost use Rattle.std.specs.Prelude.{◌≡◌, length, nat_lt};

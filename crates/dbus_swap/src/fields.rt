@@ -1,4 +1,4 @@
-//! Header fields, byteswapped where they stand. D-Bus Specification, "Header Fields".
+//! Header fields, byteswapped in the copy. D-Bus Specification, "Header Fields".
 #![tactic(auto)]
 
 ghost use Rattle.std.specs.Prelude.{◌≡◌, ℕ, List, length};

@@ -1,4 +1,4 @@
-//! Numbers, each byteswapped where it stands. D-Bus Specification, "Marshaling (Wire Format)".
+//! Numbers, each byteswapped in the copy. D-Bus Specification, "Marshaling (Wire Format)".
 #![tactic(auto)]
 
 ghost use Rattle.std.specs.Prelude.{◌≡◌, ◌+◌, ◌<◌, ◌≤◌, ◌++◌, length, take, drop, reverse};
@@ -20,7 +20,7 @@ pub(crate) fn byteswap_4(out: &mut [u8], at: usize)
     out[at..at + 4].reverse();
 }
 
-/// The number of so many bytes at `at`, byteswapped: 1, 2, 4 or 8.
+/// The number of `size` bytes at `at`, byteswapped: 1, 2, 4 or 8.
 #[inline]
 pub(crate) fn byteswap_number(out: &mut [u8], at: usize, size: u8)
     requires { at + size ≤ length out.old }
@@ -37,7 +37,7 @@ pub(crate) fn byteswap_number(out: &mut [u8], at: usize, size: u8)
     }
 }
 
-/// The numbers from `at` up to `end`, each of so many bytes, byteswapped.
+/// The numbers from `at` up to `end`, each of `size` bytes, byteswapped.
 #[inline]
 pub(crate) fn byteswap_numbers(out: &mut [u8], at: usize, end: usize, size: u8)
     requires some { 0 < size }

@@ -1,4 +1,4 @@
-//! Values of any type, byteswapped where they stand. D-Bus Specification, "Marshaling (Wire Format)".
+//! Values of any type, byteswapped in the copy. D-Bus Specification, "Marshaling (Wire Format)".
 #![tactic(auto)]
 
 ghost use Rattle.std.specs.Prelude.{◌≡◌, ℕ, ◌⊎◌, List, length, slice_index};
@@ -28,7 +28,7 @@ fn byteswap_text(source: &Source<'_>, out: &mut [u8], spot: &Spot<'_>) -> usize
     start + (5 + source.order.u32_at(source.bytes, start) as usize)
 }
 
-/// Byteswaps the value at a spot, if it stands in `out` as in the source: the offset after it.
+/// Byteswaps the value at a spot, if it is in `out` as in the source: the offset after it.
 pub(crate) fn byteswap_value(source: &Source<'_>, out: &mut [u8], spot: &Spot<'_>) -> usize
     requires stands { StandsThere source.now spot.now }
     requires noted { AreLengths spot.now.types.now spot.now.lengths.now }

@@ -9,7 +9,7 @@ pub trait ByteScan {
     /// What may follow.
     ghost rest: { Self → List ℕ → Type 0 };
 
-    /// Takes one byte more, if it may stand here; else changes nothing.
+    /// Takes one byte more, if it is allowed here; else changes nothing.
     fn step(&mut self, byte: u8) -> bool
         ensures { Steps rest self.old byte result self.new };
 

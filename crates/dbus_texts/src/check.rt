@@ -70,7 +70,7 @@ fn is_one_code(kind: TextKind, text: &[u8]) -> bool
     }
 }
 
-/// Whether the text is of the kind, limits on length aside, as far as a quick look tells: it knows each STRING, path and name, and
+/// Whether the text is of the kind, limits on length aside, as far as a quick look shows: it knows each STRING, path and name, and
 /// signatures of one byte.
 #[inline(always)]
 fn is_seen_at_once(kind: TextKind, text: &[u8]) -> bool
@@ -83,8 +83,8 @@ fn is_seen_at_once(kind: TextKind, text: &[u8]) -> bool
     }
 }
 
-/// Where a text breaks that is not of the kind, limits on length aside, by its scan. It stands apart, so that the quick look before
-/// it has no room to make for a scan.
+/// Where a text breaks that is not of the kind, limits on length aside, by its scan. A function of its own, so that the
+/// quick look before it makes no room for a scan.
 #[inline(never)]
 fn scanned_break(kind: TextKind, text: &[u8]) -> Option<usize>
     ensures { IsBreakOf kind text.now result }

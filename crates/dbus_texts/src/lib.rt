@@ -2,7 +2,7 @@
 //! "Valid Object Paths", "Valid Names" and "Valid Signatures".
 //!
 //! [`check_path`], [`check_bus_name`], [`check_signature`] and their like say whether a text is of a kind, or at which place it
-//! breaks. [`TextScan`] does the same of a text that comes in pieces. None takes memory. `dbus_match` reads the
+//! breaks. [`TextScan`] does the same of a text that comes in pieces. None allocates. `dbus_match` reads the
 //! values of rules by them.
 #![tactic(auto)]
 

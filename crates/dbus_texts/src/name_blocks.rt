@@ -60,7 +60,7 @@ impl Letters {
     }
 }
 
-/// Whether each byte of the block may stand after the byte at its place in the other.
+/// Whether each byte of the block may follow the byte at its place in the other.
 #[inline(always)]
 pub fn are_linked(letters: Letters, before: u8x16, block: u8x16) -> bool
     ensures { IsTrue result → Each2 (λ a b. IsTrue (may_follow letters a b)) before block }

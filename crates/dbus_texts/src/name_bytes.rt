@@ -1,4 +1,4 @@
-//! Texts in which each byte may stand where it does in a name, by what the byte is and the one before it.
+//! Texts in which each byte may be where it is in a name, by what the byte is and the one before it.
 //!
 //! D-Bus Specification, "Valid Object Paths" and "Valid Names".
 #![tactic(auto)]
@@ -40,7 +40,7 @@ pub fn is_of_words(text: &[u8]) -> bool
 }
 
 impl Letters {
-    /// Whether a byte may stand after another: within an element, between elements, or first in one.
+    /// Whether a byte may follow another: within an element, between elements, or first in one.
     #[inline(always)]
     fn may_follow(self, before: u8, byte: u8) -> bool
         ensures { result ≡ may_follow self before byte }
@@ -50,7 +50,7 @@ impl Letters {
     }
 }
 
-/// Whether each byte of a short text may stand after the one before it.
+/// Whether each byte of a short text may follow the one before it.
 #[inline(always)]
 fn has_links_alone(letters: Letters, text: &[u8]) -> bool
     ensures { IsTrue result → AreLinked letters text.now }
@@ -65,7 +65,7 @@ fn has_links_alone(letters: Letters, text: &[u8]) -> bool
     true
 }
 
-/// Whether each byte of the text may stand after the one before it. The last block overlaps the one before it, so that no
+/// Whether each byte of the text may follow the one before it. The last block overlaps the one before it, so that no
 /// byte is left.
 #[inline(always)]
 pub fn is_linked(letters: Letters, text: &[u8]) -> bool

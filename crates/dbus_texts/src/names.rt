@@ -31,7 +31,7 @@ pub enum Tail {
     Free,
 }
 
-/// Where in a name the scan stands.
+/// Where in a name the scan is.
 #[derive(Clone, Copy, PartialEq, Eq, Debug)]
 pub enum Place {
     /// Before an object path.
@@ -118,7 +118,7 @@ impl NameScan {
         }
     }
 
-    /// What is wanted after one byte more, if it may stand here.
+    /// What is wanted after one byte more, if it is allowed here.
     fn next(self, byte: u8) -> Option<NameScan>
         ensures { result ≡ name_next self byte }
     {

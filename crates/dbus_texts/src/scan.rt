@@ -48,7 +48,7 @@ impl ScanState {
         }
     }
 
-    /// Takes one byte more, if it may stand here; else changes nothing.
+    /// Takes one byte more, if it is allowed here; else changes nothing.
     fn step(&mut self, byte: u8) -> bool
         ensures { Steps state_rest self.old byte result self.new }
     {
@@ -59,7 +59,7 @@ impl ScanState {
         }
     }
 
-    /// Whether the scan stands between the characters of a text.
+    /// Whether the scan is between the characters of a text.
     fn is_between_characters(&self) -> bool
         ensures { IsTrue result → self.now ≡ InText Free }
     {
@@ -98,7 +98,7 @@ impl ScanState {
 pub struct TextScan {
     kind: TextKind,
     state: ScanState,
-    /// How many bytes were taken, or 256 if they are more.
+    /// The number of bytes that were taken, or 256 if there are more.
     length: u16,
 }
 
@@ -139,8 +139,8 @@ impl TextScan {
         true
     }
 
-    /// Takes as many of the bytes as the text may go on with, and says how many: all of them, or those before the first
-    /// byte that [`TextScan::step`] refuses.
+    /// Takes as many of the bytes as the text may go on with, and returns their number: all of them, or those before the first
+    /// byte that [`TextScan::step`] rejects.
     ///
     /// As there, the limit of 255 bytes is left to [`TextScan::end`].
     pub fn take(&mut self, bytes: &[u8]) -> usize
@@ -161,7 +161,7 @@ impl TextScan {
         count
     }
 
-    /// Takes the ASCII that the bytes begin with, if the scan stands between the characters of a text; else no byte.
+    /// Takes the ASCII that the bytes begin with, if the scan is between the characters of a text; else no byte.
     fn take_plain(&mut self, bytes: &[u8]) -> usize
         ensures within { result ≤ length bytes.now }
         ensures kind { kind_of self.new ≡ kind_of self.old }

@@ -8,7 +8,7 @@ use crate::byte_scan::ByteScan;
 use crate::type_codes::{is_basic_code, is_type_code};
 use arrayvec::ArrayVec;
 
-/// Where in a signature the scan stands.
+/// Where in a signature the scan is.
 #[derive(Clone, Copy, PartialEq, Eq, Debug)]
 pub enum SigPlace {
     /// After a complete type, or before a signature.
@@ -68,7 +68,7 @@ impl SigScan {
         }
     }
 
-    /// A struct or a dict entry begins, with so many arrays and structs open in it.
+    /// A struct or a dict entry begins, with `arrays` arrays and `structs` structs open in it.
     #[inline]
     fn open(&mut self, place: SigPlace, entry: bool, arrays: u8, structs: u8)
         requires arrays_in { arrays ≤ 32 }
@@ -88,7 +88,7 @@ impl SigScan {
         self.structs = structs;
     }
 
-    /// A complete type begins, with so many arrays and structs open around it.
+    /// A complete type begins, with `arrays` arrays and `structs` structs open around it.
     fn begin(&mut self, inside: bool, arrays: u8, structs: u8, byte: u8) -> bool
         requires arrays_in { arrays ≤ 32 }
         requires structs_in { structs ≤ 32 }
@@ -125,7 +125,7 @@ impl SigScan {
         }
     }
 
-    /// Takes one byte more, if it may stand here; else changes nothing.
+    /// Takes one byte more, if it is allowed here; else changes nothing.
     fn go_on(&mut self, byte: u8) -> bool
         ensures { Follows self.old result self.new (sig_next (sig_view self.old) byte) }
     {

@@ -3,7 +3,7 @@
 
 ghost use Rattle.std.specs.Prelude.{◌≡◌};
 
-/// A kind of text: which byte strings may stand where it is wanted.
+/// A kind of text: which byte strings are allowed where it is wanted.
 ///
 /// D-Bus Specification, "Basic types", "Valid Object Paths" and "Valid Names".
 #[derive(Clone, Copy, PartialEq, Eq, Debug)]

@@ -9,7 +9,7 @@ use crate::ascii::plain_prefix;
 use crate::byte_scan::ByteScan;
 use std::str;
 
-/// Where in a character the scan stands.
+/// Where in a character the scan is.
 #[derive(Clone, Copy, PartialEq, Eq, Debug)]
 pub enum Utf8Place {
     /// Between characters.
@@ -63,7 +63,7 @@ pub(crate) fn is_text(text: &[u8]) -> bool
 }
 
 impl Utf8Place {
-    /// What is wanted after one byte more, if it may stand here.
+    /// What is wanted after one byte more, if it is allowed here.
     fn next(self, byte: u8) -> Option<Utf8Place>
         ensures { result ≡ text_next self byte }
     {

@@ -10,7 +10,7 @@ use std::alloc::{AllocError, Allocator};
 impl<A: Allocator> Clone for SigType<A> {
     ghost is_clone = { λ ty copy. type_tree copy ≡ type_tree ty };
 
-    /// The same type again, which shares the types inside this one and takes no memory.
+    /// The same type again, which shares the types inside this one and allocates nothing.
     ///
     /// `AllocError` only if a type inside has 2⁶³ owners already.
     fn clone(&self) -> Result<SigType<A>, AllocError> {

@@ -7,7 +7,7 @@ ghost use Rattle.dbus_texts.specs.Types.{TypeTree};
 ghost use Rattle.dbus_types.specs.Alignments.{alignment_of};
 ghost use Rattle.dbus_types.specs.SignatureCodes.{first_code, IsTypeEnd, free_width_of};
 
-/// How many brackets are open after a byte, if so many are before it.
+/// The number of brackets open after a byte, by the number before it.
 #[inline]
 fn open_after(deep: usize, code: u8) -> usize
     requires { deep + 1 < 2 ^ 64 }
@@ -62,7 +62,7 @@ pub fn boundary(code: u8) -> u8
     }
 }
 
-/// How many bytes a number has of the type that begins with this byte, if these bytes may be any; else 0.
+/// The number of bytes of a number of the type that begins with this byte, if any bytes are valid for it; else 0.
 /// D-Bus Specification, "Basic types", "Summary of D-Bus marshaling".
 #[tactic(auto, using(crate::proofs::TypeCodes::free_width_by))]
 #[inline]

@@ -3,7 +3,7 @@
 //! Which code each type has, and which type each code spells. Other tables follow the codes: in `dbus_texts` which bytes
 //! are codes, in `signature_codes` what a code says of boundaries and widths, and in the crates that go along a signature's
 //! bytes (`dbus_value_checker`, `dbus_value_validator`, `dbus_walk`) what they do with a value of the type.
-//! The codes of the containers, `a`, `(` with `)` and `{` with `}`, stand also where these are read and written.
+//! The codes of the containers, `a`, `(` with `)` and `{` with `}`, are also in the code that reads and writes these.
 #![tactic(auto)]
 
 ghost use Rattle.std.specs.Prelude.{◌≡◌, ◌∷◌, [], get_or, MatchOption, false};

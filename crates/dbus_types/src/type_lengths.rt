@@ -5,7 +5,7 @@ ghost use Rattle.std.specs.Prelude.{◌≡◌, ◌+◌, ◌<◌, ◌≤◌, ◌�
 ghost use Rattle.dbus_texts.specs.Types.{TypeTree, sig};
 ghost use Rattle.dbus_types.specs.TypeLengths.{AreLengths, AreNoted};
 
-/// Notes of each place of a signature how many bytes the complete type has that begins there, so that none is looked for again.
+/// Notes for each place of a signature the length of the complete type that begins there, so that none is looked for again.
 ///
 /// If no type begins it notes some length, of 1 byte or more, and no more than are left.
 /// D-Bus Specification, "Valid Signatures".
@@ -33,7 +33,7 @@ pub fn lengths_in<'t>(types: &[u8], table: &'t mut [u8; 255]) -> &'t [u8]
     lengths
 }
 
-/// How many bytes the type has that begins at `at`, if this is noted of the places after it.
+/// The length of the type that begins at `at`, if this is noted for the places after it.
 fn length_at(types: &[u8], lengths: &[u8], at: usize) -> u8
     requires few { length types.now ≤ 255 }
     requires inside { at < length types.now }
@@ -50,7 +50,7 @@ fn length_at(types: &[u8], lengths: &[u8], at: usize) -> u8
     }
 }
 
-/// How many bytes a struct or a dict entry has that begins at `at`, with its brackets.
+/// The length of the struct or dict entry that begins at `at`, with its brackets.
 fn enclosed_length(types: &[u8], lengths: &[u8], at: usize) -> u8
     requires few { length types.now ≤ 255 }
     requires inside { at < length types.now }

@@ -1,4 +1,4 @@
-//! Values built from where they stand. D-Bus Specification, "Marshaling (Wire Format)".
+//! Values built from a message's bytes. D-Bus Specification, "Marshaling (Wire Format)".
 #![tactic(auto)]
 
 ghost use Rattle.std.specs.Prelude.{◌≡◌, nat_lt};

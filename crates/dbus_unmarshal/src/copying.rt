@@ -1,4 +1,4 @@
-//! Values that are seen where they stand, as trees. D-Bus Specification, "Marshaling (Wire Format)".
+//! Values that are seen in place, as trees. D-Bus Specification, "Marshaling (Wire Format)".
 #![tactic(auto)]
 
 ghost use Rattle.std.specs.Prelude.{◌≡◌, ℕ, List, IsTrue, IfOk, IfSome, MatchOption};

@@ -20,7 +20,7 @@ use dbus_value_model::{Bounds, Fault, Got, Limits, Order, Refusal};
 use dbus_walk::{Source, Spot, lengths_of};
 use std::alloc::Allocator;
 
-/// The value of a type that stands at a place, and the place after it, as [`get_within`] says under the limits of the
+/// The value of a type at a place, and the place after it, as [`get_within`] says under the limits of the
 /// specification.
 ///
 /// ```rust
@@ -66,7 +66,7 @@ pub fn get<A: Allocator + Copy>(
     )
 }
 
-/// The value of a type that stands at a place, and the place after it.
+/// The value of a type at a place, and the place after it.
 ///
 /// `bytes` begin at the message's first byte, from which padding counts; the value begins at `at` and ends at or
 /// before `end`, and `depth` containers are open around it, at most the limits' depth. Every index of a file descriptor in it
@@ -74,7 +74,7 @@ pub fn get<A: Allocator + Copy>(
 /// within the value.
 ///
 /// `Partial` comes if the bytes end within the value and show no fault. A refusal is `Format` with the first fault of the
-/// bytes, which is `FdIndex` at an index that is not below `fds`, or `Memory` if an allocation failed. No memory is taken
+/// bytes, which is `FdIndex` at an index that is not below `fds`, or `Memory` if an allocation failed. Nothing is allocated
 /// until all of the value is validated: `Memory` comes only if the bytes spell it.
 /// D-Bus Specification, "Marshaling (Wire Format)", "Basic types".
 pub fn get_within<A: Allocator + Copy>(
@@ -120,8 +120,8 @@ pub fn get_within<A: Allocator + Copy>(
     }
 }
 
-/// Whether the value that is wanted at a spot stands there whole, up to `end` at the latest. If it does not, the bytes end within
-/// it and show no fault. The checker is large: it stands here, so that it is gone when the value is built.
+/// Whether the value that is wanted at a spot is there whole, up to `end` at the latest. If it is not, the bytes end within
+/// it and show no fault. The checker is large: it is here, so that it is gone when the value is built.
 ///
 /// `Err` with the first fault that it shows. D-Bus Specification, "Marshaling (Wire Format)".
 #[inline(never)]

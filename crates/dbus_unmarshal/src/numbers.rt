@@ -1,4 +1,4 @@
-//! Numbers as values, from where they stand. D-Bus Specification, "Marshaling (Wire Format)".
+//! Numbers as values, from a message's bytes. D-Bus Specification, "Marshaling (Wire Format)".
 #![tactic(auto, using(crate::proofs::NumberRows::numbers))]
 
 ghost use Rattle.std.specs.Prelude.{◌≡◌, ℕ, ◌+◌, ◌<◌, ◌≤◌, List, length, take, drop, slice_index, IsTrue, IfOk};
@@ -43,7 +43,7 @@ pub(crate) fn number_at<A: Allocator>(source: &Source<'_>, start: usize, code: u
     }
 }
 
-/// The numbers of `size` bytes each that stand one after another from a spot on up to `end`. Room is made for all of them at once.
+/// The numbers of `size` bytes each that follow one another from a spot on up to `end`. Room is made for all of them at once.
 pub(crate) fn numbers_up_to<A: Allocator + Copy>(
     alloc: A,
     source: &Source<'_>,

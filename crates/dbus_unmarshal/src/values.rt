@@ -1,4 +1,4 @@
-//! Values of any type as trees, from where they stand. D-Bus Specification, "Marshaling (Wire Format)".
+//! Values of any type as trees, from a message's bytes. D-Bus Specification, "Marshaling (Wire Format)".
 #![tactic(auto)]
 
 ghost use Rattle.std.specs.Prelude.{◌≡◌, ℕ, ◌+◌, ◌≤◌, List, length, IsTrue, IfOk};
@@ -42,7 +42,7 @@ pub fn build_value<A: Allocator + Copy>(
     walk_value(&mut builder, source, spot)
 }
 
-/// The values that stand one after another at a spot, one of each type that the text there spells. They take one growth of
+/// The values that follow one another at a spot, one of each type that the text there spells. They take one block of
 /// memory besides what each takes.
 ///
 /// `AllocError` if an allocation failed. D-Bus Specification, "Marshaling (Wire Format)".

@@ -24,12 +24,12 @@ use dbus_types::TextKind;
 use dbus_value_model::{Limits, Order};
 use dbus_value_validator::{is_ended_text, padding, short_text, validate_value, word};
 
-/// Where the value of a header field stands.
+/// Where the value of a header field is.
 #[derive(Clone, Copy)]
 pub(crate) struct Held {
     /// The offset of its text, or 0 if it is no text.
     pub start: usize,
-    /// How many bytes its text has, or 0.
+    /// The number of bytes of its text, or 0.
     pub length: usize,
     /// Its number, or 0 if it is no UINT32.
     pub number: u32,
@@ -218,7 +218,7 @@ fn anything(bytes: &[u8], at: usize, end: usize, order: Order, limits: Limits) -
 /// The value of a field of a code: of its own type and kind if the code is known.
 ///
 /// Some says that the bytes from `at` on are the signature and the value that such a field has, up to `after`, and where its
-/// text stands or what its number is, if the code is known. None says that no such signature and value begin at `at`: the bytes
+/// text is or what its number is, if the code is known. None says that no such signature and value begin at `at`: the bytes
 /// there are at fault, or the value does not end at or before `end`. The field array, the field and its variant are open around
 /// it. D-Bus Specification, "Header Fields".
 pub(crate) fn validate_field_value(

@@ -1,4 +1,4 @@
-//! The known fields that were seen, and where their values stand. D-Bus Specification, "Header Fields".
+//! The known fields that were seen, and where their values are. D-Bus Specification, "Header Fields".
 #![tactic(auto)]
 
 ghost use Rattle.std.specs.Prelude.{◌≡◌, ◌+◌, ◌≤◌, ◌<◌, ◌^◌, ◌++◌, ◌∷◌, [], ◌&&◌, ℕ, List, length, take, drop, true, false, None, slice_index_or};
@@ -16,12 +16,12 @@ const SIGNATURE: u8 = 8;
 /// The code of the field that has the number of the file descriptors.
 const UNIX_FDS: u8 = 9;
 
-/// Where the value of a known field stands.
+/// Where the value of a known field is.
 #[derive(Clone, Copy)]
 pub struct Place {
     /// The offset of its text, or 0 if it is no text.
     pub start: u32,
-    /// How many bytes its text has, or 0.
+    /// The number of bytes of its text, or 0.
     pub length: u32,
     /// Its number, or 0 if it is no UINT32.
     pub number: u32,
@@ -37,7 +37,7 @@ impl Place {
     }
 }
 
-/// Where the values of the known fields stand, each by its code. D-Bus Specification, "Header Fields".
+/// Where the values of the known fields are, each by its code. D-Bus Specification, "Header Fields".
 #[derive(Clone, Copy)]
 pub struct Seen {
     /// Of each code the value of the field that was seen, if one was: the codes of the known fields are 1 to 9.
@@ -54,7 +54,7 @@ impl Seen {
         Seen { places: [None; 10] }
     }
 
-    /// Where the value of the field of a code stands, if it was seen.
+    /// Where the value of the field of a code is, if it was seen.
     pub fn get(&self, code: u8) -> Option<Place>
         ensures { result ≡ slice_index_or self.now.places code None }
     {
@@ -121,7 +121,7 @@ impl Seen {
         }
     }
 
-    /// How many file descriptors come with the message: the number of the UNIX_FDS field, or 0 if that was not seen.
+    /// The number of file descriptors that come with the message: the number of the UNIX_FDS field, or 0 if that was not seen.
     pub fn fd_count(&self) -> u32
         ensures { (bytes : List ℕ) (fs : List FieldTree) → AreNoted fs bytes self.now →
             result ≡ fd_count fs }

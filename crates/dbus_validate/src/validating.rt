@@ -23,9 +23,9 @@ use dbus_value_validator::{padding, validate_values};
 /// What is said of a message that some bytes begin with. D-Bus Specification, "Message Format".
 #[derive(Clone, Copy)]
 pub struct Validated {
-    /// How many bytes the message has.
+    /// The number of bytes of the message.
     pub length: usize,
-    /// The order of its numbers' bytes.
+    /// The byte order of its numbers.
     pub order: Order,
     /// The message type.
     pub kind: u8,
@@ -33,7 +33,7 @@ pub struct Validated {
     pub flags: u8,
     /// The serial.
     pub serial: u32,
-    /// Where the values of its known fields stand.
+    /// Where the values of its known fields are.
     pub fields: Seen,
     /// The offset of its body, which ends where the message does.
     pub body: usize,
@@ -64,7 +64,7 @@ fn is_body(bytes: &[u8], at: usize, end: usize, order: Order, seen: &Seen, limit
     }
 }
 
-/// What stands before the body of a message, and where the body stands.
+/// What comes before the body of a message, and where the body is.
 #[derive(Clone, Copy)]
 pub(crate) struct Head {
     /// The first sixteen bytes.
@@ -76,7 +76,7 @@ pub(crate) struct Head {
 }
 
 impl Head {
-    /// What is validated of the message, with where the values of its known fields stand.
+    /// What is validated of the message, with where the values of its known fields are.
     fn validated(&self, fields: Seen) -> Validated
         ensures { result ≡ validated_of self.now fields }
     {
@@ -92,8 +92,8 @@ impl Head {
     }
 }
 
-/// What stands before the body of a message within the limits that the bytes begin with, if all bytes of the body are there; at
-/// its values nothing is looked. Where the values of its known fields stand is noted in `seen`, which had none.
+/// What comes before the body of a message within the limits that the bytes begin with, if all bytes of the body are there;
+/// its values are not looked at. `seen`, which had none, gets the places of the values of its known fields.
 #[inline(always)]
 fn read_head(bytes: &[u8], limits: Limits, seen: &mut Seen) -> Option<Head>
     requires unseen { AreNoted [] bytes.now seen.old }
@@ -126,12 +126,12 @@ fn read_head(bytes: &[u8], limits: Limits, seen: &mut Seen) -> Option<Head>
     })
 }
 
-/// The message within the limits that the bytes begin with, and where its parts stand.
+/// The message within the limits that the bytes begin with, and where its parts are.
 ///
-/// Some says that the bytes begin with a whole message within the limits, of the length that is answered: its order, type, flags
-/// and serial, where the value of each of its known fields stands, and where its body begins. Offsets count from the first of the
+/// Some says that the bytes begin with a whole message within the limits, of the length that is returned: its order, type, flags
+/// and serial, where the value of each of its known fields is, and where its body begins. Offsets count from the first of the
 /// bytes. None says that they begin with no message within the limits: they are at fault or too few. Which of the two, and the
-/// place and the reason of a fault, a reader or a checker says. No memory is taken.
+/// place and the reason of a fault, a reader or a checker says. Nothing is allocated.
 /// D-Bus Specification, "Message Format".
 pub fn validate(bytes: &[u8], limits: Limits) -> Option<Validated>
     ensures validated { IfSome result (λ j. IsValidated limits bytes.now j) }
@@ -153,7 +153,7 @@ pub fn validate(bytes: &[u8], limits: Limits) -> Option<Validated>
 }
 
 /// What is validated of bytes that are known to be one message within the limits, all of them, as a checker says it. The values of
-/// its body are not looked at again. No memory is taken. D-Bus Specification, "Message Format".
+/// its body are not looked at again. Nothing is allocated. D-Bus Specification, "Message Format".
 pub fn validate_known(bytes: &[u8], limits: Limits) -> Validated
     requires known { (order : Order) × (m : MessageTree) ×
         IsWhole limits bytes.now order m (length bytes.now) }

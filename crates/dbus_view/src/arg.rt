@@ -12,7 +12,7 @@ use crate::arg_place::ArgPlace;
 use crate::arg_view::ArgView;
 use dbus_values::{ValueView, Values};
 
-/// A value of a body, where it stands.
+/// A value of a body, in place.
 #[derive(Drop)]
 pub(crate) struct Arg<'a> {
     /// The offset after it.
@@ -25,7 +25,7 @@ pub(crate) struct Arg<'a> {
 
 ghost use Rattle.dbus_view.specs.Bodies.{IsArg, IsNumbered, IsFound, IsTextPlace};
 
-/// Value `n` of those that are left, counted from 0, if there are so many. Those before it are passed over.
+/// Value `n` of those that are left, counted from 0, if there is one. Those before it are passed over.
 pub(crate) fn arg_at<'a>(values: Values<'a>, n: usize) -> Option<Arg<'a>>
     ensures { (xs : ValueTrees) (rest : List ℕ) → AreLeft values.entry xs rest →
         MatchOption result (body_value n xs ≡ None) (λ a. IsNumbered values.entry n xs a) }
@@ -55,7 +55,7 @@ pub(crate) fn view_of(arg: Arg<'_>) -> ArgView<'_>
     }
 }
 
-/// The first code of the value's type, and where its text stands if it is one.
+/// The first code of the value's type, and where its text is if it is one.
 pub(crate) fn place_of(arg: Arg<'_>) -> ArgPlace
     requires { (order : Order) × (bytes : List ℕ) × (from : ℕ) × (x : ValueTree) × IsFound order bytes from x arg }
     ensures { (order : Order) (bytes : List ℕ) (from : ℕ) (x : ValueTree) → IsFound order bytes from x arg.entry →
@@ -73,7 +73,7 @@ pub(crate) fn place_of(arg: Arg<'_>) -> ArgPlace
     }
 }
 
-/// Where a text stands, after which come one byte and the offset `after`.
+/// The place of a text, after which come one byte and the offset `after`.
 fn text_place(code: u8, after: usize, text: &str) -> ArgPlace
     requires { length text.now < after }
     ensures { result ≡ record { code = code; start = after - 1 - length text.now; length = length text.now } }

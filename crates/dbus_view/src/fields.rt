@@ -8,7 +8,7 @@ use dbus_values::Values;
 use dbus_walk::{FIELDS_START, Source, field_at, fields_end};
 use std::marker::Model;
 
-/// A header field, seen where it stands. D-Bus Specification, "Header Fields".
+/// A header field, seen in place. D-Bus Specification, "Header Fields".
 #[derive(Drop)]
 pub struct FieldView<'a> {
     /// The code.
@@ -50,7 +50,7 @@ impl<'a> Fields<'a> {
     ghost use Rattle.dbus_walk.specs.Fields.{FieldsStand};
     ghost use Rattle.dbus_view.specs.FieldViews.{FieldsAreLeft};
 
-    /// The fields of a message, in which so many containers may be open.
+    /// The fields of a message, in which at most `depth_left` containers may be open.
     pub(crate) fn new(source: &Source<'a>, depth_left: u8) -> Fields<'a>
         requires { (fs : List FieldTree) × (rest : List ℕ) × FieldsStand source.now depth_left fs rest }
         ensures { (fs : List FieldTree) (rest : List ℕ) →

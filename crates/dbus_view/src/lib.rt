@@ -1,6 +1,6 @@
 //! Views of messages: what a message has, borrowed from its bytes, without a tree. D-Bus Specification, "Message Format".
 //!
-//! [`MessageView::of`] makes a view if the bytes, all of them, are one message; else it returns the fault. It takes no memory, and
+//! [`MessageView::of`] makes a view if the bytes, all of them, are one message; else it returns the fault. It allocates nothing, and
 //! has a fixed size. The texts that it gives are the message's own bytes, so the bytes stay as they are while one of them is in use.
 //! Examples are at [`MessageView::of`] and [`MessageView::body`]; `crates/example_values` goes over dictionaries and arrays.
 #![tactic(auto)]

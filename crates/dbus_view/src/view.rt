@@ -28,7 +28,7 @@ use std::marker::Model;
 /// A view of a message, which borrows its bytes. D-Bus Specification, "Message Format".
 ///
 /// All of the bytes are one message, and it keeps the limits that the view was made with. What the calls give is what that message
-/// has; texts are parts of the bytes. No call takes memory.
+/// has; texts are parts of the bytes. No call allocates.
 #[derive(Drop)]
 pub struct MessageView<'a> {
     bytes: &'a [u8],
@@ -124,7 +124,7 @@ impl<'a> MessageView<'a> {
         self.bytes
     }
 
-    /// The order of the message's numbers' bytes.
+    /// The byte order of the message.
     pub fn order(&self) -> Order
         ensures { (order : Order) (m : MessageTree) → Views self.now order m → result ≡ order }
     {
@@ -276,7 +276,7 @@ impl<'a> MessageView<'a> {
         Some(view_of(arg))
     }
 
-    /// Where the text of value `n` of the body stands in the bytes, the values counted from 0, and the first code of its type, if
+    /// Where the text of value `n` of the body is in the bytes, the values counted from 0, and the first code of its type, if
     /// there is one. The values before it are passed over. D-Bus Specification, "Message Format".
     pub fn arg_place(&self, n: usize) -> Option<ArgPlace>
         ensures { (order : Order) (m : MessageTree) → Views self.now order m →
