@@ -1,0 +1,71 @@
+-- Each message has a line of JSON.
+use Rattle.std.proofs.Common.{◌≡◌, ℕ, Bool, true, false, List, [], ◌∷◌, codes, from_bits, refl, sym, ◌∙◌, true≢false}
+use Rattle.std.specs.Float.{binary64, float_is_finite}
+use Rattle.hex.specs.Hex.{encode_lower}
+use Rattle.dbus_texts.specs.Types.{NumberCode, DOUBLE, sig, is_byte}
+use Rattle.dbus_value_model.specs.declared.order.Order.TheVariants.{Big}
+use Rattle.dbus_value_model.specs.Bytes.{num}
+use Rattle.dbus_value_model.specs.Values.{ValueTree, ValueTrees, NumberValue, TextValue, VariantValue, ArrayValue, StructValue, EntryValue, NoValues, MoreValues, type_of}
+use Rattle.dbus_message_model.specs.Messages.{FieldTree}
+use Rattle.dbus_show.specs.ShownValues.{bytes_in}
+use Rattle.dbus_json.specs.JsonValues.{plain, string, array, member, object, IsDouble, IsNumber, IsJson, AreJson}
+use Rattle.dbus_json.specs.JsonMessages.{IsField, AreFields, fields_of}
+use Rattle.dbus_json.specs.Laws.{IsSomeLineEach}
+use Rattle.dbus_json.proofs.FloatTexts.{some_text}
+
+some_double : (bits : ℕ) (answer : Bool) → float_is_finite (from_bits binary64 bits) ≡ answer → (text : List ℕ) × IsDouble bits text
+some_double bits true e =
+    let text = some_text binary64 bits e in
+    (text.0, record { finite = λ _. (text.1, text.2); other = λ no. absurd (true≢false (sym e ∙ no)) })
+some_double bits false e = (plain (encode_lower (num Big 8 bits)), record { finite = λ yes. absurd (true≢false (sym yes ∙ e)); other = λ _. refl })
+
+some_number : (k : NumberCode) (n : ℕ) → (text : List ℕ) × IsNumber k n text
+some_number DOUBLE n = some_double n _ refl
+some_number k n = (_, refl)
+
+some_array : (byte : Bool) (all : List ℕ) (Items : List (List ℕ) → Type 0) → (items : List (List ℕ)) × Items items
+    → (text : List ℕ) × (byte ≡ true → text ≡ all) × (byte ≡ false → (items : List (List ℕ)) × Items items × (text ≡ array items))
+some_array true all Items some = (all, λ _. refl, λ no. absurd (true≢false no))
+some_array false all Items some = (array some.0, λ yes. absurd (true≢false (sym yes)), λ _. (some.0, some.1, refl))
+
+mutual
+  some_json : (v : ValueTree) → (text : List ℕ) × IsJson v text
+  some_json (NumberValue k n) = some_number k n
+  some_json (TextValue k t) = (string t, refl)
+  some_json (ArrayValue t xs) =
+      let some = some_array (is_byte t) (plain (encode_lower (bytes_in xs))) (AreJson xs) (some_jsons xs) in
+      (some.0, (some.1, some.2))
+  some_json (StructValue xs) =
+      let items = some_jsons xs in
+      (array items.0, (items.0, items.1, refl))
+  some_json (EntryValue x y) =
+      let key = some_json x in
+      let value = some_json y in
+      (array (key.0 ∷ value.0 ∷ []), (key.0, value.0, key.1, value.1, refl))
+  some_json (VariantValue x) =
+      let value = some_json x in
+      (object (member (codes "type") (plain (sig (type_of x))) ∷ member (codes "value") value.0 ∷ []), (value.0, value.1, refl))
+
+  some_jsons : (xs : ValueTrees) → (texts : List (List ℕ)) × AreJson xs texts
+  some_jsons NoValues = ([], tt)
+  some_jsons (MoreValues x xs) =
+      let one = some_json x in
+      let more = some_jsons xs in
+      (one.0 ∷ more.0, (one.1, more.1))
+
+some_field : (code : ℕ) (v : ValueTree) → (text : List ℕ) × IsField code v text
+some_field code v = let value = some_json v in (_, record { value = value.0; json = value.1; is = refl })
+
+some_fields : (fs : List FieldTree) → (texts : List (List ℕ)) × AreFields fs texts
+some_fields [] = ([], tt)
+some_fields (f ∷ fs) =
+    let one = some_field f.code f.value in
+    let more = some_fields fs in
+    (one.0 ∷ more.0, (one.1, more.1))
+
+pub some_line_each : IsSomeLineEach
+some_line_each order m number offset =
+    let known = some_fields (fields_of true m.fields) in
+    let others = some_fields (fields_of false m.fields) in
+    let values = some_jsons m.body in
+    (_, record { known = known.0; knows = known.1; others = others.0; other = others.1; values = values.0; body = values.1; is = refl })
