@@ -19,6 +19,7 @@ HERE = os.path.dirname(os.path.abspath(__file__))
 COMMAND_LINES = (
     (("check",), 1),
     (("show",), 1),
+    (("json",), 1),
     (("swap", "--to", "B"), 1),
     (("filter", "type='signal',path_namespace='/org',arg0='x'"), 1),
     (("check", "--max-array", "1000"), 1),

@@ -24,6 +24,7 @@ COMMANDS = {
     "swap l": ("swap", "--to", "l"),
     "swap B": ("swap", "--to", "B"),
     "show": ("show",),
+    "json": ("json",),
 }
 # A method return in little endian, whose body is one array of 64,000,000 bytes.
 LONG_HEADER = (

@@ -2,7 +2,7 @@
 
 _dbus_wire() {
     local word=${COMP_WORDS[COMP_CWORD]} option=${COMP_WORDS[COMP_CWORD-1]}
-    local commands='show check swap filter help'
+    local commands='show json check swap filter help'
     local options='--max-message --max-array --max-depth --fds -h --help'
     COMPREPLY=()
     # A redirection names a file, which bash completes.
@@ -43,7 +43,7 @@ _dbus_wire() {
                 COMPREPLY=($(compgen -W 'type= sender= interface= member= path= path_namespace= destination=' -- "$word"))
             fi
             ;;
-        show | check)
+        show | json | check)
             COMPREPLY=($(compgen -W "$options" -- "$word"))
             ;;
         help)

@@ -1,21 +1,22 @@
 # The completion of dbus-wire's commands and options, for fish.
 
-set -l commands show check swap filter help
+set -l commands show json check swap filter help
 
 complete -c dbus-wire -n "not __fish_seen_subcommand_from $commands" -f
 complete -c dbus-wire -n "not __fish_seen_subcommand_from $commands" -a show -d 'Write each message as text'
+complete -c dbus-wire -n "not __fish_seen_subcommand_from $commands" -a json -d 'Write each message as a line of JSON'
 complete -c dbus-wire -n "not __fish_seen_subcommand_from $commands" -a check -d 'Say whether the whole input is messages'
 complete -c dbus-wire -n "not __fish_seen_subcommand_from $commands" -a swap -d 'Write each message in another byte order'
 complete -c dbus-wire -n "not __fish_seen_subcommand_from $commands" -a filter -d 'Write the messages that match a rule'
 complete -c dbus-wire -n "not __fish_seen_subcommand_from $commands" -a help -d 'Write the help'
 complete -c dbus-wire -s h -l help -f -d 'Write the help'
 complete -c dbus-wire -n "not __fish_seen_subcommand_from $commands" -s V -l version -f -d 'Write the version'
-complete -c dbus-wire -n '__fish_seen_subcommand_from help' -f -a 'show check swap filter help'
+complete -c dbus-wire -n '__fish_seen_subcommand_from help' -f -a 'show json check swap filter help'
 complete -c dbus-wire -n '__fish_seen_subcommand_from swap' -l to -x -a 'l B' -d 'The byte order to write'
 complete -c dbus-wire -n '__fish_seen_subcommand_from filter' -l invert -f -d 'Write the messages that match no rule'
 complete -c dbus-wire -n '__fish_seen_subcommand_from filter' -l owner -x -d 'The owner of a well-known name, NAME=UNIQUE'
 complete -c dbus-wire -n '__fish_seen_subcommand_from filter' -f -a 'type= sender= interface= member= path= path_namespace= destination='
-for command in show check swap filter
+for command in show json check swap filter
     complete -c dbus-wire -n "__fish_seen_subcommand_from $command" -l max-message -x -d 'Most bytes of a message'
     complete -c dbus-wire -n "__fish_seen_subcommand_from $command" -l max-array -x -d 'Most bytes of an array'
     complete -c dbus-wire -n "__fish_seen_subcommand_from $command" -l max-depth -x -d 'Most containers open at once'

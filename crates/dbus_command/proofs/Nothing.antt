@@ -12,7 +12,7 @@ use Rattle.dbus_command.specs.Owners.{IsOwnerWord}
 use Rattle.dbus_command.proofs.WordLists.{each_can}
 use Rattle.dbus_command.specs.Told.{IsNoCommand, NamesNothing}
 use Rattle.dbus_command.specs.declared.command.Command.{Command}
-use Rattle.dbus_command.specs.declared.command.Command.TheVariants.{Show, Check, Swap, Filter}
+use Rattle.dbus_command.specs.declared.command.Command.TheVariants.{Show, Json, Check, Swap, Filter}
 use Rattle.dbus_command.specs.declared.selection.Selection.{Selection}
 
 module _ (sub : Text × List Row) where
@@ -33,6 +33,7 @@ module _ (sub : Text × List Row) where
 module _ (rows : List Row) (no_order : (order : Order) → first_of (codes "to") rows ≡ Some (order_word order) → ⊥) where
   unordered_command : (command : Command) → NamesCommand (codes "swap") rows command → ⊥
   unordered_command Show named = let bad : ◌≡◌ {A = ℕ} 119 104 = ap (λ t. slice_index t 1) named in absurd (omega arith)
+  unordered_command Json named = let bad : ◌≡◌ {A = ℕ} 115 106 = ap (λ t. slice_index t 0) named in absurd (omega arith)
   unordered_command Check named = let bad : ◌≡◌ {A = ℕ} 115 99 = ap (λ t. slice_index t 0) named in absurd (omega arith)
   unordered_command (Swap order) named = no_order order named.1
   unordered_command (Filter selection) named = let bad : ◌≡◌ {A = ℕ} 115 102 = ap (λ t. slice_index t 0) named.0 in absurd (omega arith)
@@ -48,6 +49,7 @@ module _ (rows : List Row) (no_order : (order : Order) → first_of (codes "to")
 module _ (rows : List Row) (no_selection : (selection : Selection) → IsSelectionGiven rows selection → ⊥) where
   unselected_command : (command : Command) → NamesCommand (codes "filter") rows command → ⊥
   unselected_command Show named = let bad : ◌≡◌ {A = ℕ} 102 115 = ap (λ t. slice_index t 0) named in absurd (omega arith)
+  unselected_command Json named = let bad : ◌≡◌ {A = ℕ} 102 106 = ap (λ t. slice_index t 0) named in absurd (omega arith)
   unselected_command Check named = let bad : ◌≡◌ {A = ℕ} 102 99 = ap (λ t. slice_index t 0) named in absurd (omega arith)
   unselected_command (Swap order) named = let bad : ◌≡◌ {A = ℕ} 102 115 = ap (λ t. slice_index t 0) named.0 in absurd (omega arith)
   unselected_command (Filter selection) named = no_selection selection named.1

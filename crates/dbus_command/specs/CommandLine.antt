@@ -42,6 +42,9 @@ with_limits app = with_rule
 abbrev pub show_app : App
 show_app = with_limits (new_app (codes "show"))
 
+abbrev pub json_app : App
+json_app = with_limits (new_app (codes "json"))
+
 abbrev pub check_app : App
 check_app = with_limits (new_app (codes "check"))
 
@@ -55,9 +58,11 @@ filter_app = with_limits (with_rule (with_rule (with_rule (new_app (codes "filte
 abbrev pub bare_app : App
 bare_app = on_top (λ s. record s { subcommand_required = true; has_version = true }) (new_app (codes "dbus-wire"))
 
--- the program, with its four subcommands
+-- the program, with its five subcommands
 abbrev pub wire_app : App
-wire_app = with_subcommand (with_subcommand (with_subcommand (with_subcommand bare_app show_app.top) check_app.top) swap_app.top) filter_app.top
+wire_app = with_subcommand
+    (with_subcommand (with_subcommand (with_subcommand (with_subcommand bare_app show_app.top) json_app.top) check_app.top) swap_app.top)
+    filter_app.top
 
 -- clap reads this of the command, and it has no argument that its subcommands share
 pub record IsLocal (app : App) (command : Command) : Type 0 where

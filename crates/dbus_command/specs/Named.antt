@@ -18,7 +18,7 @@ use Rattle.dbus_command.specs.CommandLine.{wire_app}
 use Rattle.dbus_command.specs.Limiting.{HasLimits}
 use Rattle.dbus_command.specs.Owners.{AreOwnersOf, IsOwnerWord}
 use Rattle.dbus_command.specs.declared.command.Command.{Command}
-use Rattle.dbus_command.specs.declared.command.Command.TheVariants.{Show, Check, Swap, Filter}
+use Rattle.dbus_command.specs.declared.command.Command.TheVariants.{Show, Json, Check, Swap, Filter}
 use Rattle.dbus_command.specs.declared.selection.Selection.{Selection}
 
 -- the word that stands for a byte order
@@ -54,6 +54,7 @@ pub record IsSelectionGiven (rows : List Row) (selection : Selection) : Type 0 w
 -- the name of a subcommand and the words after it name the command
 abbrev pub NamesCommand : Text → List Row → Command → Type 0
 NamesCommand name rows Show = name ≡ codes "show"
+NamesCommand name rows Json = name ≡ codes "json"
 NamesCommand name rows Check = name ≡ codes "check"
 NamesCommand name rows (Swap order) = (name ≡ codes "swap") × (first_of (codes "to") rows ≡ Some (order_word order))
 NamesCommand name rows (Filter selection) = (name ≡ codes "filter") × IsSelectionGiven rows selection

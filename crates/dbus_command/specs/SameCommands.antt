@@ -2,11 +2,12 @@
 use Rattle.std.specs.Prelude.{◌≡◌}
 use Rattle.dbus_command.specs.Selections.{AreSameSelection}
 use Rattle.dbus_command.specs.declared.command.Command.{Command}
-use Rattle.dbus_command.specs.declared.command.Command.TheVariants.{Show, Check, Swap, Filter}
+use Rattle.dbus_command.specs.declared.command.Command.TheVariants.{Show, Json, Check, Swap, Filter}
 
--- both are `Show` or both `Check`; or they are `Swap` to one order, or `Filter` by the same selection
+-- both are `Show`, both `Json` or both `Check`; or they are `Swap` to one order, or `Filter` by the same selection
 abbrev pub AreSameCommand : Command → Command → Type 0
 AreSameCommand Show Show = Unit {0}
+AreSameCommand Json Json = Unit {0}
 AreSameCommand Check Check = Unit {0}
 AreSameCommand (Swap a) (Swap b) = a ≡ b
 AreSameCommand (Filter r) (Filter s) = AreSameSelection r s

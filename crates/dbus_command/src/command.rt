@@ -7,7 +7,9 @@ use dbus_value::Order;
 pub enum Command {
     /// Writes each message as text.
     Show,
-    /// Tells whether the input is messages, and how many.
+    /// Writes each message as a line of JSON.
+    Json,
+    /// Checks that the input is messages, and counts them.
     Check,
     /// Writes each message in this byte order.
     Swap(Order),

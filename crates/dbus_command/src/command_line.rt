@@ -59,6 +59,9 @@ fn command_with(alloc: Global, name: &str, inner: &ArgMatches) -> Result<Command
     if name == "show" {
         return Ok(Command::Show);
     }
+    if name == "json" {
+        return Ok(Command::Json);
+    }
     if name == "check" {
         return Ok(Command::Check);
     }

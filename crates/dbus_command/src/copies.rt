@@ -17,6 +17,7 @@ impl Clone for Command {
     fn clone(&self) -> Result<Command, AllocError> {
         match self {
             Command::Show => Ok(Command::Show),
+            Command::Json => Ok(Command::Json),
             Command::Check => Ok(Command::Check),
             Command::Swap(order) => Ok(Command::Swap(*order)),
             Command::Filter(selection) => Ok(Command::Filter(selection.clone()?)),

@@ -16,8 +16,8 @@ Output:",
 Exit status:
   0  the whole input is messages, or help was asked for
   1  the input is refused: it has bytes that are no message, or ends within one
-  2  the words of the command line are wrong, or a limit is out of its range
-  3  a read or a write failed, too many reads were made, or memory was refused
+  2  the command line is wrong, or a limit is out of its range
+  3  a read or a write failed, too many reads were made, or memory ran out
 
 Example:",
             $example
@@ -35,10 +35,10 @@ pub(crate) const PROGRAM: &str =
 /// What stands after the program's help.
 pub(crate) const PROGRAM_MORE: &str = more!(
     "
-  What the command makes of the messages, on standard output. Of an input that
-  is refused, `refused at P: NAME` tells the place, in bytes from its start, and
-  the reason. check writes that line to standard output; the others write it to
-  standard error, and what they made of the messages before that place stays.",
+  What the command makes of the messages, on standard output. If the input is
+  refused, `refused at P: NAME` gives the place, in bytes from its start, and the
+  reason. check writes that line to standard output; the others write it to
+  standard error, and what they wrote of the messages before that place stays.",
     "
   dbus-monitor --session --binary > capture
   dbus-wire check < capture"
@@ -52,13 +52,32 @@ pub(crate) const SHOW_MORE: &str = more!(
     "
   For each message a line on standard output with its number from 1, byte order,
   type, serial, flags and header fields, and below it a line for each value of
-  its body. Of an input that is refused, `refused at P: NAME` on standard error.",
+  its body. If the input is refused, `refused at P: NAME` on standard error.",
     "
   dbus-monitor --session --binary | dbus-wire show"
 );
 
+/// What `json` does.
+pub(crate) const JSON: &str = "Writes each message as a line of JSON";
+
+/// What stands after the help of `json`.
+pub(crate) const JSON_MORE: &str = more!(
+    "
+  For each message one line on standard output, an object: its number from 1,
+  its offset, in bytes from the start of the input, its length, order, type,
+  flags and serial, each header field by its name, fields of other codes in
+  `fields`, and the values of its body in `body`. If the input is refused,
+  `refused at P: NAME` on standard error.
+
+  JSON nests as deep as the message does, which can be over 128 levels: some
+  parsers refuse that. Integers of 64 bits are written exactly; JavaScript
+  rounds them.",
+    "
+  dbus-monitor --session --binary | dbus-wire json"
+);
+
 /// What `check` does.
-pub(crate) const CHECK: &str = "Tells whether the input is messages, and how many";
+pub(crate) const CHECK: &str = "Checks that the input is messages, and counts them";
 
 /// What stands after the help of `check`.
 pub(crate) const CHECK_MORE: &str = more!(
@@ -76,7 +95,7 @@ pub(crate) const SWAP: &str = "Writes each message in one byte order";
 pub(crate) const SWAP_MORE: &str = more!(
     "
   The raw messages on standard output, each in the byte order that is named.
-  Of an input that is refused, `refused at P: NAME` on standard error.",
+  If the input is refused, `refused at P: NAME` on standard error.",
     "
   dbus-wire swap --to B < capture > big-endian"
 );
@@ -91,9 +110,9 @@ pub(crate) const FILTER: &str = "Writes the messages that match a rule, as they 
 pub(crate) const FILTER_MORE: &str = more!(
     "
   The raw messages that match one of the rules, or with --invert none of them,
-  on standard output, each as it came. Of an input that is refused,
-  `refused at P: NAME` on standard error. Of the first rule that is refused,
-  `rule refused at P: NAME` there, with the place in the rule.
+  on standard output, each as it came. If the input is refused,
+  `refused at P: NAME` on standard error. If a rule is refused, the first such
+  rule gives `rule refused at P: NAME` there, with the place in the rule.
 
   Who owns a well-known name is not known, so sender='org.a.B' matches only a
   message that has that name itself. With --owner org.a.B=:1.7 it also matches

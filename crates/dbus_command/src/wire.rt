@@ -1,7 +1,7 @@
 //! The command line, as `clap` is told it.
 ghost use Rattle.std.specs.Prelude.{◌≡◌, IfOk, false};
 ghost use Rattle.clap.specs.Words.{app_of, rule_of};
-ghost use Rattle.dbus_command.specs.CommandLine.{IsLocal, TakesLimits, fds_rule, invert_rule, limit_rule, owner_rule, text_rule, wire_app, bare_app, show_app, check_app, swap_app, filter_app};
+ghost use Rattle.dbus_command.specs.CommandLine.{IsLocal, TakesLimits, fds_rule, invert_rule, limit_rule, owner_rule, text_rule, wire_app, bare_app, show_app, json_app, check_app, swap_app, filter_app};
 
 use crate::help;
 use clap::builder::ValueParser;
@@ -54,6 +54,16 @@ fn show_command<'a>(alloc: Global) -> Result<Command<'a>, AllocError>
         .about(help::SHOW)
         .after_help(help::SHOW_MORE);
     with_limits(alloc, show)
+}
+
+// `json`, which takes no words but its options.
+fn json_command<'a>(alloc: Global) -> Result<Command<'a>, AllocError>
+    ensures { IfOk result (IsLocal json_app) }
+{
+    let json = Command::new(alloc, "json")
+        .about(help::JSON)
+        .after_help(help::JSON_MORE);
+    with_limits(alloc, json)
 }
 
 // `check`, which takes no words but its options.
@@ -147,12 +157,14 @@ pub(crate) fn wire<'a>(alloc: Global) -> Result<Command<'a>, AllocError>
     ensures { IfOk result (λ c. app_of c ≡ wire_app) }
 {
     let show = show_command(alloc)?;
+    let json = json_command(alloc)?;
     let check = check_command(alloc)?;
     let swap = swap_command(alloc)?;
     let filter = filter_command(alloc)?;
     let bare = bare_command(alloc)?;
     let showing = bare.subcommand(show)?;
-    let checking = showing.subcommand(check)?;
+    let listing = showing.subcommand(json)?;
+    let checking = listing.subcommand(check)?;
     let swapping = checking.subcommand(swap)?;
     swapping.subcommand(filter)
 }

@@ -43,7 +43,7 @@ module _ {R T B G W : Type 0} {b : Ghosts B} (k : Taking T G) (left : R → Opti
     pub failed : failures (source_of new) ≡ failures (source_of old)
     pub count_is : count ≡ length items
     pub out : List ℕ
-    pub output : IsOutputOfAll command 1 items out
+    pub output : IsOutputOfAll command 1 0 items out
     pub passes : Passes held write_failures out g0 g1 w0 w1
 
   pub hands_none : (reader : Reader R T B b) (g : List ℕ) (w : W) → HasRead k left calls limits most reader reader [] [] → done_of reader ≡ 0 → stopped_of reader ≡ None
@@ -60,13 +60,20 @@ module _ {R T B G W : Type 0} {b : Ghosts B} (k : Taking T G) (left : R → Opti
     passes = passes_none held write_failures g w;
   }
 
+  next_output : (count : ℕ) (old mid : Reader R T B b) (rest g0 g1 : List ℕ) (w0 w1 : W) (item : CutMessage) (one : List ℕ) (h : HasHanded count old mid rest g0 g1 w0 w1)
+      → IsOutputOf command item.order item.message (count + 1) (done_of mid) one → IsOutputOfAll command 1 0 (h.items ++ item ∷ []) (h.out ++ one)
+  next_output count old mid rest g0 g1 w0 w1 item one h output =
+      let number : count + 1 ≡ 1 + length h.items = omega (arith, h.count_is) in
+      let place : done_of mid ≡ 0 + sizes h.items = omega (arith, h.done) in
+      output_last command 1 0 h.items item h.out one h.output
+      (subst (λ n. IsOutputOf command item.order item.message n (0 + sizes h.items) one) number (subst (λ k. IsOutputOf command item.order item.message (count + 1) k one) place output))
+
   -- one more message
   pub hands_more : (count : ℕ) (old mid new : Reader R T B b) (rest g0 g1 g2 : List ℕ) (w0 w1 w2 : W) (item : CutMessage) (one : List ℕ) → HasHanded count old mid rest g0 g1 w0 w1
       → (r : Reads k left calls rest mid new) → IsWhole (limits_of k mid) (rest ++ r.bytes) item.order item.message item.size → done_of new ≡ done_of mid + item.size → stopped_of new ≡ None
-      → failures (source_of new) ≡ failures (source_of mid) → IsOutputOf command item.order item.message (count + 1) one → Passes held write_failures one g1 g2 w1 w2
+      → failures (source_of new) ≡ failures (source_of mid) → IsOutputOf command item.order item.message (count + 1) (done_of mid) one → Passes held write_failures one g1 g2 w1 w2
       → HasHanded (count + 1) old new (drop item.size (rest ++ r.bytes)) g0 g2 w0 w2
   hands_more count old mid new rest g0 g1 g2 w0 w1 w2 item one h r whole done unstopped same output p =
-      let number : count + 1 ≡ 1 + length h.items = omega (arith, h.count_is) in
       record {
         items = h.items ++ item ∷ [];
         read = read_message k left calls limits most old new h.items item (rest ++ r.bytes) (read_more k left calls limits most old mid new h.items rest h.read r)
@@ -76,7 +83,7 @@ module _ {R T B G W : Type 0} {b : Ghosts B} (k : Taking T G) (left : R → Opti
         failed = same ∙ h.failed;
         count_is = ap (λ n. n + 1) h.count_is ∙ sym (length-last h.items item);
         out = h.out ++ one;
-        output = output_last command 1 h.items item h.out one h.output (subst (λ n. IsOutputOf command item.order item.message n one) number output);
+        output = next_output count old mid rest g0 g1 w0 w1 item one h output;
         passes = passes_both held write_failures h.out one g0 g1 g2 w0 w1 w2 h.passes p;
       }
 
@@ -153,7 +160,7 @@ module _ {R T B G W : Type 0} {b : Ghosts B} (k : Taking T G) (left : R → Opti
   -- nothing is written of the last message that was given
   pub hands_not : (cause : Cause) (count : ℕ) (old mid new : Reader R T B b) (rest g0 g1 g2 : List ℕ) (w0 w1 w2 : W) (item : CutMessage) (one : List ℕ) (h : HasHanded count old mid rest g0 g1 w0 w1)
       (r : Reads k left calls rest mid new) → IsWhole (limits_of k mid) (rest ++ r.bytes) item.order item.message item.size
-      → failures (source_of new) ≡ failures (source_of mid) → IsOutputOf command item.order item.message (count + 1) one
+      → failures (source_of new) ≡ failures (source_of mid) → IsOutputOf command item.order item.message (count + 1) (done_of mid) one
       → GathersOrNot held write_failures one g1 g2 w1 w2 (Err cause)
       → HandsSome left calls failures held write_failures limits most command cause (source_of old) (source_of new) g0 g2 w0 w2
   hands_not Memory count old mid new rest g0 g1 g2 w0 w1 w2 item one h r whole same output p =
@@ -163,7 +170,6 @@ module _ {R T B G W : Type 0} {b : Ghosts B} (k : Taking T G) (left : R → Opti
   hands_not WriteFailed count old mid new rest g0 g1 g2 w0 w1 w2 item one h r whole same output p =
       let more = read_more k left calls limits most old mid new h.items rest h.read r in
       let m = read_message k left calls limits most old new h.items item (rest ++ r.bytes) more (subst (λ l. IsWhole l (rest ++ r.bytes) item.order item.message item.size) h.read.limits_are whole) in
-      let number : count + 1 ≡ 1 + length h.items = omega (arith, h.count_is) in
       record {
         bytes = m.bytes;
         items = h.items ++ item ∷ [];
@@ -172,7 +178,7 @@ module _ {R T B G W : Type 0} {b : Ghosts B} (k : Taking T G) (left : R → Opti
         consumed = m.consumed;
         messages = m.messages;
         all = tt;
-        output = output_last command 1 h.items item h.out one h.output (subst (λ n. IsOutputOf command item.order item.message n one) number output);
+        output = next_output count old mid rest g0 g1 w0 w1 item one h output;
         leaves = breaks_after held write_failures h.out one g0 g1 w0 w1 w2 h.passes p;
         called = few_called k left calls limits most old new (h.items ++ item ∷ []) (drop item.size (rest ++ r.bytes)) m;
         caused = same ∙ h.failed;

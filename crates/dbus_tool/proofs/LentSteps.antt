@@ -44,6 +44,13 @@ module _ (limits : Limits) where
   validated_order b j order m validated whole =
       (one_whole limits b j.order order validated.validated.message m j.length (length b) validated.validated.whole whole).0
 
+  -- in that order it is the message that was validated
+  pub validated_whole : (b : List ℕ) (j : Validated) (order : Order) (m : MessageTree) → IsValidatedWhole limits b j → IsWhole limits b order m (length b)
+      → (j.order ≡ order) × IsWhole limits b j.order m j.length
+  validated_whole b j order m validated whole =
+      let same = validated_order b j order m validated whole in
+      (same, subst (λ (o : Order). IsWhole limits b o m j.length) (sym same) (subst (λ (n : ℕ). IsWhole limits b order m n) (sym validated.all) whole))
+
   -- the message is the one that a view is of
   pub views_it : (b : List ℕ) (v : ViewState) (order : Order) (m : MessageTree) → IsViewOf limits b v → IsWhole limits b order m (length b) → Views v order m
   views_it b v order m is whole =

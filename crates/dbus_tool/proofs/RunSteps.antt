@@ -10,7 +10,7 @@ use Rattle.dbus_value_model.specs.declared.fault.Fault.{Fault}
 use Rattle.dbus_value_model.specs.declared.limits.Limits.{Limits}
 use Rattle.dbus_command.specs.declared.command.Command.{Command}
 use Rattle.dbus_tool.specs.Devices.{reading, writing}
-use Rattle.dbus_tool.specs.Output.{IsPrefixTo, IsFirstOutput, last_line, second_output}
+use Rattle.dbus_tool.specs.Output.{IsFront, IsPrefixTo, last_line, second_output}
 use Rattle.dbus_tool.specs.Handing.{HandsAll, HandsSome}
 use Rattle.dbus_tool.specs.Checking.{TellsLine, WritesBefore, Answers, Fails, IsCause}
 use Rattle.dbus_tool.specs.Running.{Runs}
@@ -20,7 +20,7 @@ use Rattle.dbus_tool.specs.declared.ending.Cause.{Cause}
 use Rattle.dbus_tool.specs.declared.ending.Cause.TheVariants.{Memory, ReadFailed, WriteFailed, TooManyReads}
 use Rattle.dbus_tool.specs.declared.ending.Counted.{Counted}
 use Rattle.dbus_tool.proofs.GatherSteps.{passes_whole}
-use Rattle.dbus_tool.proofs.OutputSteps.{prefix_of_first, prefix_of_whole}
+use Rattle.dbus_tool.proofs.Outputs.{front_of_first, front_of_whole}
 
 module _ {R W : Type 0} (left : R → Option (List ℕ)) (calls read_failures : R → ℕ) (held : W → Option (List ℕ)) (write_failures : W → ℕ)
     (limits : Limits) (most : ℕ) (command : Command) where
@@ -37,15 +37,14 @@ module _ {R W : Type 0} (left : R → Option (List ℕ)) (calls read_failures : 
   -- what was written of the last line says how much was written of all
   prefix_of_all : (counted : Counted) (written : List ℕ) (r0 r1 : R) (w0 w1 : W) (a : HandsAll left calls read_failures held write_failures limits most command counted r0 r1 [] [] w0 w1)
       → IsPrefixTo written (last_line command counted.count counted.size counted.fault)
-      → (items : List CutMessage) (rest : List ℕ) (outcome : CutOutcome) (out : List ℕ) → IsCut limits a.counts.bytes items rest outcome
-      → IsFirstOutput command items (fault_at_end rest outcome) out → IsPrefixTo (a.out ++ written) out
-  prefix_of_all counted written r0 r1 w0 w1 a front items rest outcome out cut whole =
+      → (items : List CutMessage) (rest : List ℕ) (outcome : CutOutcome) → IsCut limits a.counts.bytes items rest outcome
+      → IsFront command items (fault_at_end rest outcome) (a.out ++ written)
+  prefix_of_all counted written r0 r1 w0 w1 a front items rest outcome cut =
       let one = IsCut-one limits a.counts.bytes a.counts.items items a.counts.rest rest a.counts.outcome outcome a.counts.cut cut in
-      let fault_is : fault_at_end rest outcome ≡ fault_at_end a.counts.rest a.counts.outcome = sym (λ i. fault_at_end (one.1 i) (one.2 i)) in
-      let here : IsFirstOutput command a.counts.items (fault_at_end a.counts.rest a.counts.outcome) out
-      = subst (λ f. IsFirstOutput command a.counts.items f out) fault_is (subst (λ l. IsFirstOutput command l (fault_at_end rest outcome) out) (sym one.0) whole) in
-      prefix_of_whole command a.counts.items (fault_at_end a.counts.rest a.counts.outcome) a.out (a.out ++ written) out a.output
-      (front.0, ap (λ l. a.out ++ l) (sym (last_is counted r0 r1 w0 w1 a) ∙ front.1) ∙ sym (append_assoc a.out written front.0)) here
+      let fault_is : fault_at_end a.counts.rest a.counts.outcome ≡ fault_at_end rest outcome = λ i. fault_at_end (one.1 i) (one.2 i) in
+      let here = front_of_whole command a.counts.items (fault_at_end a.counts.rest a.counts.outcome) a.out (a.out ++ written) a.output
+      (front.0, ap (λ l. a.out ++ l) (sym (last_is counted r0 r1 w0 w1 a) ∙ front.1) ∙ sym (append_assoc a.out written front.0)) in
+      subst (λ l. IsFront command l (fault_at_end rest outcome) (a.out ++ written)) one.0 (subst (λ f. IsFront command a.counts.items f (a.out ++ written)) fault_is here)
 
   -- all messages were handed on, and then not all was told
   not_closed : (counted : Counted) (cause : Cause) (written : List ℕ) (r0 r1 : R) (w0 w1 w2 : W)
@@ -89,11 +88,11 @@ module _ {R W : Type 0} (left : R → Option (List ℕ)) (calls read_failures : 
 
   -- of the messages that were handed on a prefix was written
   some_front : (cause : Cause) (written : List ℕ) (r0 r1 : R) (w0 w1 : W) (s : HandsSome left calls read_failures held write_failures limits most command cause r0 r1 [] [] w0 w1)
-      → IsPrefixTo written s.out → (items : List CutMessage) (rest : List ℕ) (outcome : CutOutcome) (first : List ℕ) → IsCut limits s.bytes items rest outcome
-      → IsFirstOutput command items (fault_at_end rest outcome) first → IsPrefixTo written first
-  some_front cause written r0 r1 w0 w1 s front items rest outcome first cut whole =
+      → IsPrefixTo written s.out → (items : List CutMessage) (rest : List ℕ) (outcome : CutOutcome) → IsCut limits s.bytes items rest outcome
+      → IsFront command items (fault_at_end rest outcome) written
+  some_front cause written r0 r1 w0 w1 s front items rest outcome cut =
       let more = BeginWith-first limits s.bytes s.items items s.rest rest outcome s.messages cut.messages cut.outcome_is in
-      prefix_of_first command s.items more.0 items (fault_at_end rest outcome) s.out written first more.1 s.output front whole
+      front_of_first command s.items more.0 items (fault_at_end rest outcome) s.out written more.1 s.output front
 
   some_written : (cause : Cause) (r0 r1 : R) (w0 w1 : W) → (s : HandsSome left calls read_failures held write_failures limits most command cause r0 r1 [] [] w0 w1)
       → Wrote held write_failures w0 s.out w1 → WritesBefore limits command cause s.bytes s.out

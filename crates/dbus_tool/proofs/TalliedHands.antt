@@ -19,9 +19,9 @@ use Rattle.dbus_tool.specs.PageLaws.{passes_none}
 use Rattle.dbus_tool.proofs.HandSteps.{Faults}
 
 -- `check` writes nothing of a message
-no_output : (n : ℕ) (items : List CutMessage) → IsOutputOfAll Check n items []
-no_output n [] = refl
-no_output n (item ∷ items) = ([], [], refl, refl, no_output (n + 1) items)
+no_output : (n offset : ℕ) (items : List CutMessage) → IsOutputOfAll Check n offset items []
+no_output n offset [] = refl
+no_output n offset (item ∷ items) = ([], [], refl, refl, no_output (n + 1) (offset + item.size) items)
 
 module _ {R W : Type 0} (left : R → Option (List ℕ)) (calls failures : R → ℕ) (held : W → Option (List ℕ)) (write_failures : W → ℕ)
     (limits : Limits) (most : ℕ) where
@@ -36,7 +36,7 @@ module _ {R W : Type 0} (left : R → Option (List ℕ)) (calls failures : R →
     consumed = t.consumed;
     messages = t.messages;
     all = t.all;
-    output = no_output 1 t.items;
+    output = no_output 1 0 t.items;
     leaves = leaves;
     called = t.called;
     caused = caused;
@@ -47,7 +47,7 @@ module _ {R W : Type 0} (left : R → Option (List ℕ)) (calls failures : R →
   hands_tallied old new w (Ok counted) t = record {
     counts = t.counts;
     out = [];
-    output = no_output 1 t.counts.items;
+    output = no_output 1 0 t.counts.items;
     passes = passes_none held write_failures [] w;
     failed = t.failed;
   }

@@ -10,7 +10,7 @@ use Rattle.dbus_device.specs.Write.{Wrote, Stopped}
 use Rattle.dbus_stream.specs.Cut.{CutMessage, BeginWith, IsCut, CutOutcome, Refused, fault_at_end, sizes}
 use Rattle.dbus_command.specs.declared.command.Command.{Command}
 use Rattle.dbus_tool.specs.Devices.{RisesAtMost}
-use Rattle.dbus_tool.specs.Output.{IsOutputOfAll, IsFirstOutput, second_output, status_of, IsPrefixTo}
+use Rattle.dbus_tool.specs.Output.{IsOutputOfAll, IsFirstOutput, IsFront, second_output, status_of}
 use Rattle.dbus_tool.specs.declared.ending.ExitStatus.{ExitStatus}
 use Rattle.dbus_tool.specs.declared.ending.ExitStatus.TheVariants as status
 use Rattle.dbus_tool.specs.declared.ending.Cause.{Cause}
@@ -27,7 +27,7 @@ pub record WritesMessages (limits : Limits) (command : Command) (bytes written :
   pub rest : List ℕ
   pub messages : BeginWith limits bytes items rest
   pub partial : IsPartial limits rest
-  pub output : IsOutputOfAll command 1 items written
+  pub output : IsOutputOfAll command 1 0 items written
 
 -- where reading was given up, all messages that were read were written
 abbrev pub WritesBefore : Limits → Command → Cause → List ℕ → List ℕ → Type 0
@@ -71,7 +71,7 @@ module _ {R W : Type 0} (left : R → Option (List ℕ)) (calls read_failures : 
     pub consumed : Consumes (left old) (left new) bytes
     pub called : RisesAtMost most (calls old) (calls new)
     pub appended : Appends (held first_old) (held first_new) written
-    pub front : (items : List CutMessage) (rest : List ℕ) (outcome : CutOutcome) (out : List ℕ) → IsCut limits bytes items rest outcome
-        → IsFirstOutput command items (fault_at_end rest outcome) out → IsPrefixTo written out
+    pub front : (items : List CutMessage) (rest : List ℕ) (outcome : CutOutcome) → IsCut limits bytes items rest outcome
+        → IsFront command items (fault_at_end rest outcome) written
     pub before : WritesBefore limits command cause bytes written
     pub caused : IsCause old new first_old first_new cause

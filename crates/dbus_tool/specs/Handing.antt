@@ -15,6 +15,7 @@ use Rattle.dbus_stream.specs.RawReading.{kept, source_of}
 use Rattle.dbus_stream.specs.declared.raw_reader.RawReader.{RawReader}
 use Rattle.dbus_stream.specs.declared.read_fault.ReadFault.{ReadFault}
 use Rattle.dbus_stream.specs.declared.read_fault.ReadFault.TheVariants as read
+use Rattle.dbus_json.specs.JsonMessages.{IsJsonLine}
 use Rattle.dbus_command.specs.declared.command.Command.{Command}
 use Rattle.dbus_command.specs.declared.selection.Selection.{Selection}
 use Rattle.dbus_tool.specs.Counting.{CountsAll}
@@ -26,16 +27,22 @@ use Rattle.dbus_tool.specs.declared.ending.Cause.TheVariants.{Memory, ReadFailed
 use Rattle.dbus_tool.specs.declared.ending.Counted.{Counted}
 use Rattle.dbus_tool.specs.declared.ending.NoMessage.{NoMessage}
 use Rattle.dbus_tool.specs.declared.ending.NoMessage.TheVariants.{Reader, Writer}
+use Rattle.dbus_tool.specs.declared.place.Place.{Place}
 
 -- what a selection lets through of one message was written or gathered
 abbrev pub Filters : {W : Type 0} → Writing W → Selection → Order → MessageTree → List ℕ → List ℕ → Result (Unit {0}) Cause → Type 0
 Filters w selection order message g0 g1 result =
     (out : List ℕ) × IsFiltered selection order message out × GathersOrNot w.held w.failures out g0 g1 w.old w.new result
 
--- what a command writes of one message, the n-th of its input, was written or gathered
-abbrev pub HandsOne : {W : Type 0} → Writing W → Command → Order → MessageTree → ℕ → List ℕ → List ℕ → Result (Unit {0}) Cause → Type 0
-HandsOne w command order message n g0 g1 result =
-    (out : List ℕ) × IsOutputOf command order message n out × GathersOrNot w.held w.failures out g0 g1 w.old w.new result
+-- a line of JSON of one message was written or gathered, which has this place in its input
+abbrev pub WritesJson : {W : Type 0} → Writing W → Order → MessageTree → Place → List ℕ → List ℕ → Result (Unit {0}) Cause → Type 0
+WritesJson w order message place g0 g1 result =
+    (out : List ℕ) × IsJsonLine order message place.number place.offset out × GathersOrNot w.held w.failures out g0 g1 w.old w.new result
+
+-- what a command writes of one message, which has this place in its input, was written or gathered
+abbrev pub HandsOne : {W : Type 0} → Writing W → Command → Order → MessageTree → Place → List ℕ → List ℕ → Result (Unit {0}) Cause → Type 0
+HandsOne w command order message place g0 g1 result =
+    (out : List ℕ) × IsOutputOf command order message place.number place.offset out × GathersOrNot w.held w.failures out g0 g1 w.old w.new result
 
 -- where reading was given up, what is left is no message and no fault, as far as it goes
 abbrev pub AreAll : Limits → Cause → List ℕ → Type 0
@@ -73,7 +80,7 @@ module _ {R W : Type 0} (left : R → Option (List ℕ)) (calls read_failures : 
   pub record HandsAll (command : Command) (counted : Counted) (old new : R) (g0 g1 : List ℕ) (w0 w1 : W) : Type 0 where
     pub counts : CountsAll left calls limits most counted old new
     pub out : List ℕ
-    pub output : IsOutputOfAll command 1 counts.items out
+    pub output : IsOutputOfAll command 1 0 counts.items out
     pub passes : Passes held write_failures out g0 g1 w0 w1
     pub failed : read_failures new ≡ read_failures old
 
@@ -86,7 +93,7 @@ module _ {R W : Type 0} (left : R → Option (List ℕ)) (calls read_failures : 
     pub consumed : Consumes (left old) (left new) bytes
     pub messages : BeginWith limits bytes items rest
     pub all : AreAll limits cause rest
-    pub output : IsOutputOfAll command 1 items out
+    pub output : IsOutputOfAll command 1 0 items out
     pub leaves : Leaves held write_failures cause out g0 g1 w0 w1
     pub called : RisesAtMost most (calls old) (calls new)
     pub caused : IsReadCause old new cause

@@ -5,9 +5,10 @@ use Rattle.dbus_value_model.specs.declared.order.Order.{Order}
 use Rattle.dbus_message_model.specs.Messages.{MessageTree, message_bytes}
 use Rattle.dbus_stream.specs.Cut.{CutMessage, sizes}
 use Rattle.dbus_show.specs.ShownMessages.{message_text}
+use Rattle.dbus_json.specs.JsonMessages.{IsJsonLine}
 use Rattle.dbus_command.specs.Selections.{Selects}
 use Rattle.dbus_command.specs.declared.command.Command.{Command}
-use Rattle.dbus_command.specs.declared.command.Command.TheVariants.{Show, Check, Swap, Filter}
+use Rattle.dbus_command.specs.declared.command.Command.TheVariants.{Show, Json, Check, Swap, Filter}
 use Rattle.dbus_command.specs.declared.selection.Selection.{Selection}
 use Rattle.dbus_tool.specs.Lines.{ok_line, refused_line}
 use Rattle.dbus_tool.specs.declared.ending.ExitStatus.{ExitStatus}
@@ -22,18 +23,28 @@ abbrev pub IsFiltered : Selection → Order → MessageTree → List ℕ → Typ
 IsFiltered selection order message out =
     (Selects selection message × (out ≡ message_bytes order message)) ⊎ ((Selects selection message → ⊥) × (out ≡ []))
 
--- what a command writes of one message, the n-th of its input
-abbrev pub IsOutputOf : Command → Order → MessageTree → ℕ → List ℕ → Type 0
-IsOutputOf Show order message n out = out ≡ message_text order message n
-IsOutputOf Check order message n out = out ≡ []
-IsOutputOf (Swap wanted) order message n out = out ≡ message_bytes wanted message
-IsOutputOf (Filter selection) order message n out = IsFiltered selection order message out
+-- what a command writes of one message, the n-th of its input, which begins at this offset there
+abbrev pub IsOutputOf : Command → Order → MessageTree → (n offset : ℕ) → List ℕ → Type 0
+IsOutputOf Show order message n offset out = out ≡ message_text order message n
+IsOutputOf Json order message n offset out = IsJsonLine order message n offset out
+IsOutputOf Check order message n offset out = out ≡ []
+IsOutputOf (Swap wanted) order message n offset out = out ≡ message_bytes wanted message
+IsOutputOf (Filter selection) order message n offset out = IsFiltered selection order message out
 
--- what it writes of several, one after the other, of which the first is the n-th
-abbrev pub IsOutputOfAll : Command → ℕ → List CutMessage → List ℕ → Type 0
-IsOutputOfAll command n [] out = out ≡ []
-IsOutputOfAll command n (item ∷ items) out = (one : List ℕ) × (more : List ℕ) × (out ≡ one ++ more)
-    × IsOutputOf command item.order item.message n one × IsOutputOfAll command (n + 1) items more
+-- what it writes of several, one after the other, of which the first is the n-th and begins at this offset
+abbrev pub IsOutputOfAll : Command → (n offset : ℕ) → List CutMessage → List ℕ → Type 0
+IsOutputOfAll command n offset [] out = out ≡ []
+IsOutputOfAll command n offset (item ∷ items) out = (one : List ℕ) × (more : List ℕ) × (out ≡ one ++ more)
+    × IsOutputOf command item.order item.message n offset one × IsOutputOfAll command (n + 1) (offset + item.size) items more
+
+-- the messages and the fault after them determine each byte that the command writes. `json` may write a DOUBLE by any digits that read
+-- back as its bits.
+abbrev pub IsExact : Command → Type 0
+IsExact Show = Unit {0}
+IsExact Json = ⊥
+IsExact Check = Unit {0}
+IsExact (Swap order) = Unit {0}
+IsExact (Filter selection) = Unit {0}
 
 -- how many messages of how many bytes, or the fault, whose place counts from the start of the input
 abbrev pub check_line : ℕ → ℕ → Option Fault → List ℕ
@@ -43,6 +54,7 @@ check_line count size (Some fault) = refused_line (size + fault.at) fault.reason
 -- what is written after so many messages of so many bytes: only `check` writes a line there
 abbrev pub last_line : Command → ℕ → ℕ → Option Fault → List ℕ
 last_line Show count size fault = []
+last_line Json count size fault = []
 last_line Check count size fault = check_line count size fault
 last_line (Swap order) count size fault = []
 last_line (Filter selection) count size fault = []
@@ -50,8 +62,12 @@ last_line (Filter selection) count size fault = []
 -- what the first writer gets
 pub record IsFirstOutput (command : Command) (items : List CutMessage) (fault : Option Fault) (out : List ℕ) : Type 0 where
   pub written : List ℕ
-  pub each : IsOutputOfAll command 1 items written
+  pub each : IsOutputOfAll command 1 0 items written
   pub joined : out ≡ written ++ last_line command (length items) (sizes items) fault
+
+-- a prefix of what the first writer gets
+abbrev pub IsFront : Command → List CutMessage → Option Fault → List ℕ → Type 0
+IsFront command items fault front = (out : List ℕ) × IsFirstOutput command items fault out × IsPrefixTo front out
 
 abbrev pub fault_line : ℕ → Option Fault → List ℕ
 fault_line size None = []
@@ -60,6 +76,7 @@ fault_line size (Some fault) = refused_line (size + fault.at) fault.reason
 -- what the second writer gets: the fault, which `check` tells the first
 abbrev pub second_output : Command → ℕ → Option Fault → List ℕ
 second_output Show size fault = fault_line size fault
+second_output Json size fault = fault_line size fault
 second_output Check size fault = []
 second_output (Swap order) size fault = fault_line size fault
 second_output (Filter selection) size fault = fault_line size fault

@@ -9,9 +9,9 @@ pub enum ExitStatus {
     Done,
     /// 1: the input has bytes that are no message, or ends within one.
     Refused,
-    /// 2: the words of the command line name no command.
+    /// 2: the command line is wrong.
     Usage,
-    /// 3: a device failed, a growth was refused, or too many reads were wanted.
+    /// 3: a device failed, memory ran out, or too many reads were made.
     Failed,
 }
 

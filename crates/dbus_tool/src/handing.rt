@@ -11,6 +11,7 @@ use crate::ending::{Cause, Counted, NoMessage};
 use crate::gathered::Gathered;
 use crate::gathering::{Unwritten, write_out};
 use crate::output::{Output, write_one};
+use crate::place::Place;
 use dbus_stream::{RawReader, ReadFault, Sink, Source};
 use dbus_validate::Validated;
 use dbus_value::Limits;
@@ -83,12 +84,17 @@ fn hand_all<R: Source, A: Allocator + Copy, W: Sink>(
     let mut count = 0u64;
     let mut spare = Vec::new(alloc);
     'messages: loop {
+        let offset = messages.done();
         match next_message(messages, gathered, first) {
             Ok(Some(validated)) => {
                 count += 1;
                 let message = messages.message();
+                let place = Place {
+                    number: count,
+                    offset,
+                };
                 match write_one(
-                    output, message, &validated, limits, count, &mut spare, gathered, first,
+                    output, message, &validated, limits, place, &mut spare, gathered, first,
                 ) {
                     Ok(()) => {}
                     Err(cause) => return Err(cause),

@@ -1,7 +1,8 @@
 //! The commands of the program `dbus-wire`, over any reader and two writers.
 //!
 //! [`run_words`] runs the command that the words of a command line name, and [`run_within`] a command under limits, with at most a
-//! given number of reads. Both return the exit status. What a command writes is a function of what it reads, which `specs/` states.
+//! given number of reads. Both return the exit status. `specs/` states what a command writes: of all but `Json` it is a function of what
+//! it reads.
 //! `dbus_wire` is the program.
 #![tactic(auto)]
 
@@ -13,10 +14,12 @@ mod filtering;
 mod gathered;
 mod gathering;
 mod handing;
+mod json_lines;
 pub mod laws;
 mod lines;
 mod output;
 mod page;
+mod place;
 mod rule_lines;
 mod running;
 mod showing;

@@ -12,6 +12,8 @@ ghost use Rattle.dbus_tool.specs.Commands.{command_of};
 use crate::ending::Cause;
 use crate::filtering::filter;
 use crate::gathered::Gathered;
+use crate::json_lines::write_json_line;
+use crate::place::Place;
 use crate::showing::show;
 use crate::swapping::swap;
 use dbus_command::Selection;
@@ -25,20 +27,21 @@ use std::alloc::Allocator;
 pub(crate) enum Output<'a> {
     /// Its text.
     Text,
+    /// Its line of JSON.
+    JsonLine,
     /// Its bytes in this order.
     InOrder(Order),
     /// Its bytes as they are, if it is selected.
     Matching(&'a Selection),
 }
 
-/// Writes or gathers what is wanted of a message, which has these bytes, as they were validated, and this number among all of
-/// the input. A message is byteswapped in `spare`, so that only a longer one than those before takes memory.
+/// Writes or gathers what is wanted of a message, which has these bytes, as they were validated, and this place in the input. A message is byteswapped in `spare`, so that only a longer one than those before takes memory.
 pub(crate) fn write_one<A: Allocator + Copy, W: Sink>(
     output: Output,
     bytes: &[u8],
     validated: &Validated,
     limits: Limits,
-    number: u64,
+    place: Place,
     spare: &mut Vec<u8, A>,
     gathered: &mut Gathered,
     first: &mut W,
@@ -46,11 +49,12 @@ pub(crate) fn write_one<A: Allocator + Copy, W: Sink>(
     requires { IsValidatedWhole limits bytes.now validated.now }
     ensures { (order : Order) (m : MessageTree) →
         IsWhole limits bytes.now order m (length bytes.now) →
-        HandsOne (writing W.held W.failures first.old first.new) (command_of output.entry) order m number
+        HandsOne (writing W.held W.failures first.old first.new) (command_of output.entry) order m place
         (gathered_bytes gathered.old) (gathered_bytes gathered.new) result }
 {
     match output {
-        Output::Text => show(bytes, validated, limits, number, gathered, first),
+        Output::Text => show(bytes, validated, limits, place.number, gathered, first),
+        Output::JsonLine => write_json_line(bytes, validated, limits, place, gathered, first),
         Output::InOrder(wanted) => swap(wanted, bytes, validated, limits, spare, gathered, first),
         Output::Matching(selection) => filter(selection, bytes, validated, limits, gathered, first),
     }

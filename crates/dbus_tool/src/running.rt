@@ -61,7 +61,8 @@ pub fn run_reads<A: Allocator + Copy, R: Source, W: Sink, E: Sink>(
 /// Does what the command says with all that the reader gives, in messages that keep these limits, each by itself. Its
 /// output goes to the first writer. At most `reads` reads are made, the one that finds the end of the input among them.
 ///
-/// `Show` writes each message as text, numbered from 1. `Swap` writes each message in the order that it names. `Filter`
+/// `Show` writes each message as text, numbered from 1. `Json` writes each message as one line, an object of JSON, with that number
+/// and the offset at which the message begins in the input. `Swap` writes each message in the order that it names. `Filter`
 /// writes each message that is selected, in its own order. Where the bytes after the messages are
 /// none within the limits or too few, each of these writes `refused at P: NAME` on the second writer, with the place from
 /// the start of the input and the name of the reason. `Check` writes that line on the first writer; or, if the input is
@@ -96,6 +97,10 @@ pub fn run_within<A: Allocator + Copy, R: Source, W: Sink, E: Sink>(
     match command {
         Command::Check => check(alloc, limits, reads, reader, first, second),
         Command::Show => write(alloc, Output::Text, limits, reads, reader, first, second),
+        Command::Json => {
+            let output = Output::JsonLine;
+            write(alloc, output, limits, reads, reader, first, second)
+        }
         Command::Swap(order) => {
             let output = Output::InOrder(order);
             write(alloc, output, limits, reads, reader, first, second)

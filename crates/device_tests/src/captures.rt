@@ -12,12 +12,20 @@ pub(crate) const BIG_RETURN: &[u8] =
 
 pub(crate) const RETURN_TEXT: &[u8] = b"#1 l method_return serial=1 flags=01 reply_serial=1\n";
 
+/// Its line of JSON, if it is the first message.
+pub(crate) const RETURN_JSON: &[u8] =
+    b"{\"number\":1,\"offset\":0,\"length\":24,\"order\":\"l\",\"type\":\"method_return\",\"flags\":1,\"serial\":1,\"reply_serial\":1,\"fields\":[],\"body\":[]}\n";
+
 /// The same in Big, as the second, third and fourth of some messages.
 pub(crate) const BIG_AS_SECOND: &[u8] = b"#2 B method_return serial=1 flags=01 reply_serial=1\n";
 
 pub(crate) const BIG_AS_THIRD: &[u8] = b"#3 B method_return serial=1 flags=01 reply_serial=1\n";
 
 pub(crate) const BIG_AS_FOURTH: &[u8] = b"#4 B method_return serial=1 flags=01 reply_serial=1\n";
+
+/// The line of JSON of the one in Big, as the third after 120 bytes.
+pub(crate) const BIG_JSON_AS_THIRD: &[u8] =
+    b"{\"number\":3,\"offset\":120,\"length\":24,\"order\":\"B\",\"type\":\"method_return\",\"flags\":1,\"serial\":1,\"reply_serial\":1,\"fields\":[],\"body\":[]}\n";
 
 /// The first 5 bytes of the one in Little.
 pub(crate) const FRONT: &[u8] = b"\x6c\x02\x01\x01\x00";
@@ -35,6 +43,10 @@ pub(crate) const SIGNAL: &[u8] =
 /// It as the second of some messages.
 pub(crate) const SIGNAL_AS_SECOND: &[u8] =
     b"#2 l signal serial=2 flags=00 path=/a interface=a.b member=C signature=sv\n  s:\"hi\"\n  <au:[u:1, u:2]>\n";
+
+/// Its line of JSON, as the second after 24 bytes.
+pub(crate) const SIGNAL_JSON_AS_SECOND: &[u8] =
+    b"{\"number\":2,\"offset\":24,\"length\":96,\"order\":\"l\",\"type\":\"signal\",\"flags\":0,\"serial\":2,\"path\":\"/a\",\"interface\":\"a.b\",\"member\":\"C\",\"signature\":\"sv\",\"fields\":[],\"body\":[\"hi\",{\"type\":\"au\",\"value\":[1,2]}]}\n";
 
 /// The header of a method return with a body of 5,000 bytes in an array, and the length of that array.
 pub(crate) const LONG_HEADER: &[u8] =
@@ -58,6 +70,10 @@ pub(crate) const INDEX_PAST_ONE: &[u8] =
 /// Messages of a type without a name, which have nothing but a SENDER: `:1.7`, and `:1.8`.
 pub(crate) const FROM_7: &[u8] =
     b"\x6c\x05\x00\x01\x00\x00\x00\x00\x01\x00\x00\x00\x0d\x00\x00\x00\x07\x01\x73\x00\x04\x00\x00\x00:1.7\x00\x00\x00\x00";
+
+/// The line of JSON of the first of them, as the first message.
+pub(crate) const FROM_7_JSON: &[u8] =
+    b"{\"number\":1,\"offset\":0,\"length\":32,\"order\":\"l\",\"type\":5,\"flags\":0,\"serial\":1,\"sender\":\":1.7\",\"fields\":[],\"body\":[]}\n";
 
 pub(crate) const FROM_8: &[u8] =
     b"\x6c\x05\x00\x01\x00\x00\x00\x00\x01\x00\x00\x00\x0d\x00\x00\x00\x07\x01\x73\x00\x04\x00\x00\x00:1.8\x00\x00\x00\x00";

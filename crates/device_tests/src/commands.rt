@@ -20,6 +20,7 @@ type Selected = (
 // What words name: a command; or a rule with a fault.
 enum Named {
     Show,
+    Json,
     Check,
     Swap(Order),
     Filter(Selected),
@@ -55,6 +56,7 @@ fn is_selection(alloc: Global, given: &Selection, selected: &Selected) -> Result
 fn is_named(alloc: Global, words: &[&str], named: &Named) -> Result<bool, Fail> {
     match (answer_to(alloc, words)?, named) {
         (Ok((Command::Show, _)), Named::Show) => Ok(true),
+        (Ok((Command::Json, _)), Named::Json) => Ok(true),
         (Ok((Command::Check, _)), Named::Check) => Ok(true),
         (Ok((Command::Swap(given), _)), Named::Swap(order)) => Ok(given == *order),
         (Ok((Command::Filter(given), _)), Named::Filter(selected)) => {
@@ -67,6 +69,7 @@ fn is_named(alloc: Global, words: &[&str], named: &Named) -> Result<bool, Fail> 
 
 const NAMED: &[(&[&str], Named)] = &[
     (&["show"], Named::Show),
+    (&["json"], Named::Json),
     (&["check"], Named::Check),
     (&["swap", "--to", "l"], Named::Swap(Order::Little)),
     (&["swap", "--to=B"], Named::Swap(Order::Big)),
@@ -247,6 +250,7 @@ const HELPS: &[(&[&str], &str)] = &[
     (&["help"], PROGRAM),
     (&["show", "--help"], SHOW),
     (&["help", "show"], SHOW),
+    (&["json", "-h"], JSON),
     (&["check", "-h"], CHECK),
     (&["swap", "--help"], SWAP),
     (&["swap", "--to", "x", "--help"], SWAP),

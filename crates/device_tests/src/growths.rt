@@ -2,7 +2,7 @@
 
 use crate::captures::*;
 use crate::pieces::Pieces;
-use crate::running::{CHECK, End, SHOW, TO_BIG, TO_LITTLE, assert_end, ran};
+use crate::running::{CHECK, End, JSON, SHOW, TO_BIG, TO_LITTLE, assert_end, ran};
 use dbus_tool::ExitStatus;
 use refusing_alloc::Refusing;
 use std::alloc::{Allocator, Global};
@@ -71,6 +71,7 @@ pub(crate) const RUNS: &[(&[&str], &[&[u8]], ExitStatus, &[&[u8]], &[u8], u64)] 
     (RETURNS, ALL, DONE, &[RETURN, BIG_RETURN], b"", 3),
     (OTHERS, ALL, DONE, &[RETURN, BIG_RETURN], b"", 3),
     (SHOW, CUT, REFUSED, &[RETURN_TEXT], TRUNCATED, 2),
+    (JSON, CUT, REFUSED, &[RETURN_JSON], TRUNCATED, 2),
     (CHECK, CUT, REFUSED, &[TRUNCATED], b"", 0),
     (TO_LITTLE, CUT, REFUSED, &[RETURN], TRUNCATED, 2),
     (RETURNS, CUT, REFUSED, &[RETURN], TRUNCATED, 2),
@@ -124,6 +125,7 @@ fn growths_of(
 
 const COMMANDS: &[&[&str]] = &[
     SHOW,
+    JSON,
     CHECK,
     TO_LITTLE,
     TO_BIG,
@@ -144,12 +146,13 @@ fn further_messages_take_no_more_memory(rt: HostRuntime) -> Result<(), Fail> {
     Ok(())
 }
 
-// Of messages that come whole with one read, `show`, `filter` and a `swap` into their own order take no memory, and a `swap`
+// Of messages that come whole with one read, `show`, `json`, `filter` and a `swap` into their own order take no memory, and a `swap`
 // that byteswaps them takes it once.
 #[test]
 fn messages_in_the_buffer_take_no_memory(rt: HostRuntime) -> Result<(), Fail> {
     for words in [
         SHOW,
+        JSON,
         TO_LITTLE,
         &["filter", ""],
         &["filter", "type='error'"],

@@ -8,7 +8,8 @@ Usage: dbus-wire <COMMAND>
 
 Commands:
   show    Writes each message as text
-  check   Tells whether the input is messages, and how many
+  json    Writes each message as a line of JSON
+  check   Checks that the input is messages, and counts them
   swap    Writes each message in one byte order
   filter  Writes the messages that match a rule, as they came
   help    Print this message or the help of the given subcommand(s)
@@ -23,16 +24,16 @@ Input:
   the options of a command lower, is refused.
 
 Output:
-  What the command makes of the messages, on standard output. Of an input that
-  is refused, `refused at P: NAME` tells the place, in bytes from its start, and
-  the reason. check writes that line to standard output; the others write it to
-  standard error, and what they made of the messages before that place stays.
+  What the command makes of the messages, on standard output. If the input is
+  refused, `refused at P: NAME` gives the place, in bytes from its start, and the
+  reason. check writes that line to standard output; the others write it to
+  standard error, and what they wrote of the messages before that place stays.
 
 Exit status:
   0  the whole input is messages, or help was asked for
   1  the input is refused: it has bytes that are no message, or ends within one
-  2  the words of the command line are wrong, or a limit is out of its range
-  3  a read or a write failed, too many reads were made, or memory was refused
+  2  the command line is wrong, or a limit is out of its range
+  3  a read or a write failed, too many reads were made, or memory ran out
 
 Example:
   dbus-monitor --session --binary > capture
@@ -60,21 +61,60 @@ Input:
 Output:
   For each message a line on standard output with its number from 1, byte order,
   type, serial, flags and header fields, and below it a line for each value of
-  its body. Of an input that is refused, `refused at P: NAME` on standard error.
+  its body. If the input is refused, `refused at P: NAME` on standard error.
 
 Exit status:
   0  the whole input is messages, or help was asked for
   1  the input is refused: it has bytes that are no message, or ends within one
-  2  the words of the command line are wrong, or a limit is out of its range
-  3  a read or a write failed, too many reads were made, or memory was refused
+  2  the command line is wrong, or a limit is out of its range
+  3  a read or a write failed, too many reads were made, or memory ran out
 
 Example:
   dbus-monitor --session --binary | dbus-wire show
 ";
 
+/// Of `json`.
+pub(crate) const JSON: &str = "\
+Writes each message as a line of JSON
+
+Usage: dbus-wire json [OPTIONS]
+
+Options:
+      --max-message <N>  Most bytes of a message: 0 to 134217728, the default
+      --max-array <N>    Most bytes of an array: 0 to 67108864, the default
+      --max-depth <N>    Most containers open at once: 0 to 64, the default
+      --fds <RULE>       Descriptor indexes: any, the default, or below-count
+  -h, --help             Print help
+
+Input:
+  Raw messages on standard input, one after the other, as
+  `dbus-monitor --binary` writes them. A message over one of the limits, which
+  the options of a command lower, is refused.
+
+Output:
+  For each message one line on standard output, an object: its number from 1,
+  its offset, in bytes from the start of the input, its length, order, type,
+  flags and serial, each header field by its name, fields of other codes in
+  `fields`, and the values of its body in `body`. If the input is refused,
+  `refused at P: NAME` on standard error.
+
+  JSON nests as deep as the message does, which can be over 128 levels: some
+  parsers refuse that. Integers of 64 bits are written exactly; JavaScript
+  rounds them.
+
+Exit status:
+  0  the whole input is messages, or help was asked for
+  1  the input is refused: it has bytes that are no message, or ends within one
+  2  the command line is wrong, or a limit is out of its range
+  3  a read or a write failed, too many reads were made, or memory ran out
+
+Example:
+  dbus-monitor --session --binary | dbus-wire json
+";
+
 /// Of `check`.
 pub(crate) const CHECK: &str = "\
-Tells whether the input is messages, and how many
+Checks that the input is messages, and counts them
 
 Usage: dbus-wire check [OPTIONS]
 
@@ -97,8 +137,8 @@ Output:
 Exit status:
   0  the whole input is messages, or help was asked for
   1  the input is refused: it has bytes that are no message, or ends within one
-  2  the words of the command line are wrong, or a limit is out of its range
-  3  a read or a write failed, too many reads were made, or memory was refused
+  2  the command line is wrong, or a limit is out of its range
+  3  a read or a write failed, too many reads were made, or memory ran out
 
 Example:
   dbus-wire check < capture
@@ -125,13 +165,13 @@ Input:
 
 Output:
   The raw messages on standard output, each in the byte order that is named.
-  Of an input that is refused, `refused at P: NAME` on standard error.
+  If the input is refused, `refused at P: NAME` on standard error.
 
 Exit status:
   0  the whole input is messages, or help was asked for
   1  the input is refused: it has bytes that are no message, or ends within one
-  2  the words of the command line are wrong, or a limit is out of its range
-  3  a read or a write failed, too many reads were made, or memory was refused
+  2  the command line is wrong, or a limit is out of its range
+  3  a read or a write failed, too many reads were made, or memory ran out
 
 Example:
   dbus-wire swap --to B < capture > big-endian
@@ -162,9 +202,9 @@ Input:
 
 Output:
   The raw messages that match one of the rules, or with --invert none of them,
-  on standard output, each as it came. Of an input that is refused,
-  `refused at P: NAME` on standard error. Of the first rule that is refused,
-  `rule refused at P: NAME` there, with the place in the rule.
+  on standard output, each as it came. If the input is refused,
+  `refused at P: NAME` on standard error. If a rule is refused, the first such
+  rule gives `rule refused at P: NAME` there, with the place in the rule.
 
   Who owns a well-known name is not known, so sender='org.a.B' matches only a
   message that has that name itself. With --owner org.a.B=:1.7 it also matches
@@ -174,8 +214,8 @@ Output:
 Exit status:
   0  the whole input is messages, or help was asked for
   1  the input is refused: it has bytes that are no message, or ends within one
-  2  the words of the command line are wrong, or a limit is out of its range
-  3  a read or a write failed, too many reads were made, or memory was refused
+  2  the command line is wrong, or a limit is out of its range
+  3  a read or a write failed, too many reads were made, or memory ran out
 
 Example:
   dbus-wire filter \"type='signal',member='NameLost'\" < capture | dbus-wire show

@@ -13,6 +13,8 @@ use std::test::Fail;
 /// The words of the commands that take no rule.
 pub(crate) const SHOW: &[&str] = &["show"];
 
+pub(crate) const JSON: &[&str] = &["json"];
+
 pub(crate) const CHECK: &[&str] = &["check"];
 
 pub(crate) const TO_LITTLE: &[&str] = &["swap", "--to", "l"];

@@ -4,7 +4,7 @@ use crate::captures::*;
 use crate::help_texts::PROGRAM;
 use crate::pieces::Pieces;
 use crate::running::{
-    BY_ONE, CHECK, End, SHOW, TO_BIG, TO_LITTLE, assert_end, ran, ran_reads, ran_words,
+    BY_ONE, CHECK, End, JSON, SHOW, TO_BIG, TO_LITTLE, assert_end, ran, ran_reads, ran_words,
 };
 use crate::usage_texts::{NO_COMMAND, NO_UNIQUE_NAME, TOO_DEEP};
 use dbus_stream::{FromRead, FromWrite};
@@ -34,6 +34,12 @@ fn ends(
 const DONE: &[(&[&str], &[&[u8]], &[&[u8]])] = &[
     // Messages are numbered from 1.
     (SHOW, &[RETURN, SIGNAL], &[RETURN_TEXT, SIGNAL_AS_SECOND]),
+    (
+        JSON,
+        &[RETURN, SIGNAL, BIG_RETURN],
+        &[RETURN_JSON, SIGNAL_JSON_AS_SECOND, BIG_JSON_AS_THIRD],
+    ),
+    (JSON, &[FROM_7], &[FROM_7_JSON]),
     (CHECK, &[], &[b"ok 0 messages 0 bytes\n"]),
     (TO_BIG, &[RETURN, BIG_RETURN], &[BIG_RETURN, BIG_RETURN]),
     (TO_LITTLE, &[RETURN, BIG_RETURN], &[RETURN, RETURN]),
@@ -111,6 +117,7 @@ const TRUNCATED: &[u8] = b"refused at 29: Truncated\n";
 // Words, the input, and what is written on the first writer and on the second. Each command keeps what came before.
 const REFUSED: &[(&[&str], &[&[u8]], &[u8], &[u8])] = &[
     (SHOW, &[RETURN, FRONT], RETURN_TEXT, TRUNCATED),
+    (JSON, &[RETURN, FRONT], RETURN_JSON, TRUNCATED),
     (TO_BIG, &[RETURN, FRONT], BIG_RETURN, TRUNCATED),
     (
         &["filter", "type='method_return'"],
@@ -181,6 +188,7 @@ const FEW_READS: &[(&[&str], u32, ExitStatus, &[u8], &[u8])] = &[
     (CHECK, 0, ExitStatus::Failed, b"", TOO_MANY),
     (CHECK, 2, ExitStatus::Failed, b"", TOO_MANY),
     (SHOW, 24, ExitStatus::Failed, RETURN_TEXT, TOO_MANY),
+    (JSON, 24, ExitStatus::Failed, RETURN_JSON, TOO_MANY),
     (TO_BIG, 24, ExitStatus::Failed, BIG_RETURN, TOO_MANY),
     (&["filter", ""], 24, ExitStatus::Failed, RETURN, TOO_MANY),
     (TO_BIG, 25, ExitStatus::Done, BIG_RETURN, b""),

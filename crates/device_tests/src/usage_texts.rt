@@ -2,7 +2,7 @@
 
 pub(crate) const NO_COMMAND: &str = "\
 error: 'dbus-wire' requires a subcommand but one was not provided
-  [subcommands: show, check, swap, filter, help]
+  [subcommands: show, json, check, swap, filter, help]
 
 Usage: dbus-wire <COMMAND>
 

@@ -9,6 +9,7 @@ top_of a b e = ap (λ (x : App). x.top) e
 pub returns : goal.returns
 returns c =
     let showing = c.in_ok-showing.ensures.shape c.in_ok-show.ensures.local ∙ ap₂ with_subcommand c.in_ok-bare.ensures (top_of _ _ c.in_ok-show.ensures.app_is) in
-    let checking = c.in_ok-checking.ensures.shape c.in_ok-check.ensures.local ∙ ap₂ with_subcommand showing (top_of _ _ c.in_ok-check.ensures.app_is) in
+    let listing = c.in_ok-listing.ensures.shape c.in_ok-json.ensures.local ∙ ap₂ with_subcommand showing (top_of _ _ c.in_ok-json.ensures.app_is) in
+    let checking = c.in_ok-checking.ensures.shape c.in_ok-check.ensures.local ∙ ap₂ with_subcommand listing (top_of _ _ c.in_ok-check.ensures.app_is) in
     let swapping = c.in_ok-swapping.ensures.shape c.in_ok-swap.ensures.local ∙ ap₂ with_subcommand checking (top_of _ _ c.in_ok-swap.ensures.app_is) in
-    IfOk-weaker c.subcommand-4.result _ _ (λ m h. h.shape c.in_ok-filter.ensures.local ∙ ap₂ with_subcommand swapping (top_of _ _ c.in_ok-filter.ensures.app_is)) c.subcommand-4.ensures
+    IfOk-weaker c.subcommand-5.result _ _ (λ m h. h.shape c.in_ok-filter.ensures.local ∙ ap₂ with_subcommand swapping (top_of _ _ c.in_ok-filter.ensures.app_is)) c.subcommand-5.ensures

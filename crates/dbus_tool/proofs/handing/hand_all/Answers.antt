@@ -9,6 +9,7 @@ use Rattle.dbus_tool.specs.Counting.{stopped_by}
 use Rattle.dbus_tool.specs.Devices.{reading, writing}
 use Rattle.dbus_tool.specs.Handing.{Hands}
 use Rattle.dbus_tool.specs.Gathering.{gathered_bytes}
+use Rattle.dbus_tool.specs.Output.{IsOutputOf}
 use Rattle.dbus_tool.proofs.GatherSteps.{gathers_after}
 use Rattle.dbus_tool.proofs.ReadSteps.{length-sizes, read_none}
 use Rattle.dbus_tool.proofs.HandSteps.{HasHanded, hands_none, hands_more, hands_all, hands_stopped, hands_not}
@@ -54,10 +55,11 @@ messages-preserved g c =
     let whole = lent_whole c.args.limits (kept mid ++ lent.0.bytes) c.message-message.result.now c.in-Ok-Some.validated mid new c.message-message.ensures c.messages.invariant.0.read.limits_are l in
     let item : CutMessage = record { order = l.gives.order; message = l.gives.message; size = l.size } in
     let one = c.in-Ok.ensures l.gives.order l.gives.message whole in
+    let output = subst (λ k. IsOutputOf (command_of c.args.output) l.gives.order l.gives.message (c.messages.count + 1) k one.0) c.done-offset.ensures one.1 in
     let gathers = gathers_after g.W.Sink.held g.W.Sink.failures one.0 (gathered_bytes c.messages.gathered) (gathered_bytes c.next_message.new.gathered) (gathered_bytes c.write_one.new.gathered)
     c.messages.first c.next_message.new.first c.write_one.new.first (Ok tt) given.3 one.2 in
     let more = hands_more gathering g.R.Source.left g.R.Source.calls g.R.Source.failures g.W.Sink.held g.W.Sink.failures c.args.limits (most_reads_of c.args.messages.now) (command_of c.args.output) c.messages.count c.args.messages.now.reader mid.reader new.reader (kept mid) (gathered_bytes c.args.gathered.now) (gathered_bytes c.messages.gathered) (gathered_bytes c.write_one.new.gathered)
-    c.args.first.now c.messages.first c.write_one.new.first item one.0 c.messages.invariant.0 lent.0 l.gives.whole l.gives.done l.gives.unstopped given.2 one.1 gathers in (
+    c.args.first.now c.messages.first c.write_one.new.first item one.0 c.messages.invariant.0 lent.0 l.gives.whole l.gives.done l.gives.unstopped given.2 output gathers in (
       subst (λ v. HasHanded gathering g.R.Source.left g.R.Source.calls g.R.Source.failures g.W.Sink.held g.W.Sink.failures c.args.limits (most_reads_of c.args.messages.now) (command_of c.args.output) (c.messages.count + 1) c.args.messages.now.reader new.reader v (gathered_bytes c.args.gathered.now) (gathered_bytes c.write_one.new.gathered) c.args.first.now c.write_one.new.first) (sym l.gives.kept) more,
       c.next_message.ensures.same_reference ∙ c.messages.invariant.1,
     )
@@ -81,10 +83,11 @@ returns-in-Err-write_one-clause-hands g c =
     let whole = lent_whole c.args.limits (kept mid ++ lent.0.bytes) c.message-message.result.now c.in-Ok-Some.validated mid new c.message-message.ensures c.messages.invariant.0.read.limits_are l in
     let item : CutMessage = record { order = l.gives.order; message = l.gives.message; size = l.size } in
     let one = c.in-Err-write_one.ensures l.gives.order l.gives.message whole in
+    let output = subst (λ k. IsOutputOf (command_of c.args.output) l.gives.order l.gives.message (c.messages.count + 1) k one.0) c.done-offset.ensures one.1 in
     let gathers = gathers_after g.W.Sink.held g.W.Sink.failures one.0 (gathered_bytes c.messages.gathered) (gathered_bytes c.next_message.new.gathered) (gathered_bytes c.write_one.new.gathered)
     c.messages.first c.next_message.new.first c.write_one.new.first (Err c.in-Err-write_one.cause) given.3 one.2 in
     hands_not gathering g.R.Source.left g.R.Source.calls g.R.Source.failures g.W.Sink.held g.W.Sink.failures c.args.limits (most_reads_of c.args.messages.now) (command_of c.args.output) c.in-Err-write_one.cause c.messages.count c.args.messages.now.reader mid.reader new.reader (kept mid) (gathered_bytes c.args.gathered.now) (gathered_bytes c.messages.gathered) (gathered_bytes c.write_one.new.gathered)
-    c.args.first.now c.messages.first c.write_one.new.first item one.0 c.messages.invariant.0 lent.0 l.gives.whole given.2 one.1 gathers
+    c.args.first.now c.messages.first c.write_one.new.first item one.0 c.messages.invariant.0 lent.0 l.gives.whole given.2 output gathers
 
 pub returns-in-Ok-None-clause-hands : goal.returns-in-Ok-None-clause-hands
 returns-in-Ok-None-clause-hands g c =

@@ -4,7 +4,10 @@ use Rattle.dbus_show.specs.ShownMessages.{message_text}
 use Rattle.dbus_tool.proofs.output.write_one.Goals as goal
 
 pub returns-in-Text : goal.returns-in-Text
-returns-in-Text g c = λ order m whole. rw c.in-Text.is (message_text order m c.args.number, refl, c.show.ensures order m whole)
+returns-in-Text g c = λ order m whole. rw c.in-Text.is (message_text order m c.args.place.number, refl, c.show.ensures order m whole)
+
+pub returns-in-JsonLine : goal.returns-in-JsonLine
+returns-in-JsonLine g c = λ order m whole. rw c.in-JsonLine.is (c.write_json_line.ensures order m whole)
 
 pub returns-in-InOrder : goal.returns-in-InOrder
 returns-in-InOrder g c = λ order m whole. rw c.in-InOrder.is (message_bytes c.in-InOrder.wanted m, refl, c.swap.ensures order m whole)

@@ -1,25 +1,13 @@
-use Rattle.std.proofs.Common.{◌≡◌, ℕ, length, rules, refl, subst, sym}
+use Rattle.std.proofs.Common.{◌≡◌, rules, refl, subst}
 use Rattle.dbus_value_model.specs.declared.order.Order.{Order}
-use Rattle.dbus_message_model.specs.Messages.{MessageTree}
-use Rattle.dbus_header.specs.MessageOutcomes.{IsWhole}
 use Rattle.dbus_show.specs.ShownMessages.{message_text}
 use Rattle.dbus_tool.specs.Gathering.{Breaks, Passes, gathered_bytes}
-use Rattle.dbus_tool.proofs.LentSteps.{validated_order}
+use Rattle.dbus_tool.proofs.LentSteps.{validated_whole}
 use Rattle.dbus_tool.proofs.showing.show.Goals as goal
-use Rattle.dbus_tool.proofs.showing.show.Goals.{After-write_message}
-
--- the message is one of the order that was validated
-own : (g : _) (c : After-write_message g) (order : Order) (m : MessageTree) → IsWhole c.args.limits c.args.bytes.now order m (length c.args.bytes.now)
-    → (c.args.validated.now.order ≡ order) × IsWhole c.args.limits c.args.bytes.now c.args.validated.now.order m c.args.validated.now.length
-own g c order m whole =
-    let b = c.args.bytes.now in
-    let j = c.args.validated.now in
-    let same : j.order ≡ order = validated_order c.args.limits b j order m c.requires whole in
-    (same, subst (λ (o : Order). IsWhole c.args.limits b o m j.length) (sym same) (subst (λ (n : ℕ). IsWhole c.args.limits b order m n) (sym c.requires.all) whole))
 
 pub returns-then-page : goal.returns-then-page
 returns-then-page g c = λ order m whole.
-    let own = own g (goal.at.returns-then-page g c).After-write_message order m whole in
+    let own = validated_whole c.args.limits c.args.bytes.now c.args.validated.now order m c.requires whole in
     let goes = c.write_message.ensures.shown m own.1 in
     let same = goes.same_first in
     let back : c.write_message.new.draft.first.now ≡ c.first-1.given.0 = search rules in
@@ -28,7 +16,7 @@ returns-then-page g c = λ order m whole.
 
 pub returns-else-page : goal.returns-else-page
 returns-else-page g c = λ order m whole.
-    let own = own g (goal.at.returns-else-page g c).After-write_message order m whole in
+    let own = validated_whole c.args.limits c.args.bytes.now c.args.validated.now order m c.requires whole in
     let goes = c.write_message.ensures.shown m own.1 in
     let same = goes.same_first in
     let too = goes.same_gathered in
