@@ -40,22 +40,18 @@ const CHANGED: [(&str, Now); 17] = [
 // The properties that changed to something that is not told.
 const INVALIDATED: [&str; 4] = ["ExecStart", "ExecStop", "ExecMainStatus", "ExecMainCode"];
 
-fn string(alloc: Global, text: &str) -> Result<Value, AllocError> {
-    Ok(Value::Str(String::from_str(alloc, text)?))
-}
-
 // The properties and what they are now, `a{sv}`.
 fn changed(alloc: Global) -> Result<Value, AllocError> {
     let mut entries = Vec::with_capacity(alloc, CHANGED.len())?;
     for (name, now) in &CHANGED {
         let now = match *now {
-            Now::Text(text) => string(alloc, text)?,
+            Now::Text(text) => Value::text_unchecked(alloc, text)?,
             Now::Number(number) => Value::U32(number),
             Now::Count(count) => Value::U64(count),
             Now::Is(so) => Value::Bool(so),
         };
         let entry = DictEntry {
-            key: string(alloc, name)?,
+            key: Value::text_unchecked(alloc, name)?,
             value: Value::Variant(Box::new(alloc, now)?),
         };
         entries.push(Value::Entry(Box::new(alloc, entry)?))?;
@@ -69,7 +65,7 @@ fn changed(alloc: Global) -> Result<Value, AllocError> {
 fn invalidated(alloc: Global) -> Result<Value, AllocError> {
     let mut names = Vec::with_capacity(alloc, INVALIDATED.len())?;
     for name in &INVALIDATED {
-        names.push(string(alloc, name)?)?;
+        names.push(Value::text_unchecked(alloc, name)?)?;
     }
     Ok(Value::Array(SigType::Str, names))
 }
@@ -82,10 +78,13 @@ fn header(alloc: Global) -> Result<Vec<HeaderField>, AllocError> {
         (field_code::PATH, Value::Path(path)),
         (
             field_code::INTERFACE,
-            string(alloc, "org.freedesktop.DBus.Properties")?,
+            Value::text_unchecked(alloc, "org.freedesktop.DBus.Properties")?,
         ),
-        (field_code::MEMBER, string(alloc, "PropertiesChanged")?),
-        (field_code::SENDER, string(alloc, ":1.3")?),
+        (
+            field_code::MEMBER,
+            Value::text_unchecked(alloc, "PropertiesChanged")?,
+        ),
+        (field_code::SENDER, Value::text_unchecked(alloc, ":1.3")?),
         (field_code::SIGNATURE, Value::Sig(signature)),
     ] {
         fields.push(HeaderField { code, value })?;
@@ -95,7 +94,7 @@ fn header(alloc: Global) -> Result<Vec<HeaderField>, AllocError> {
 
 // The signal PropertiesChanged.
 fn properties_changed(alloc: Global) -> Result<Parts, AllocError> {
-    let interface = string(alloc, "org.freedesktop.systemd1.Service")?;
+    let interface = Value::text_unchecked(alloc, "org.freedesktop.systemd1.Service")?;
     Ok(Parts {
         kind: message_type::SIGNAL,
         flags: 0,

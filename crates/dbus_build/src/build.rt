@@ -31,7 +31,7 @@ pub trait Build: Sized {
     /// use dbus_value::Value;
     ///
     /// let path = Value::Path(String::from_str(alloc, "/org/freedesktop/DBus")?);
-    /// let member = Value::Str(String::from_str(alloc, "Hello")?);
+    /// let member = Value::text(alloc, "Hello")?;
     /// let mut fields = Vec::new(alloc);
     /// fields.push(HeaderField { code: field_code::PATH, value: path })?;
     /// fields.push(HeaderField { code: field_code::MEMBER, value: member })?;

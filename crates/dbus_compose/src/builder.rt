@@ -120,8 +120,8 @@ impl<A: Allocator + Copy> MessageBuilder<A> {
         ensures { Becomes (drafted self) (with_field (name_field code name.now)) (drafted result) }
     {
         let alloc = self.alloc;
-        match String::from_str(alloc, name) {
-            Ok(name) => self.field(code, Value::Str(name)),
+        match Value::text_unchecked(alloc, name) {
+            Ok(name) => self.field(code, name),
             Err(error) => MessageBuilder::failed(alloc, error),
         }
     }
@@ -203,8 +203,8 @@ impl<A: Allocator + Copy> MessageBuilder<A> {
         ensures { AppendsText text.now (drafted self) (drafted result) }
     {
         let alloc = self.alloc;
-        match String::from_str(alloc, text) {
-            Ok(text) => self.value(Value::Str(text)),
+        match Value::text_unchecked(alloc, text) {
+            Ok(text) => self.value(text),
             Err(error) => MessageBuilder::failed(alloc, error),
         }
     }

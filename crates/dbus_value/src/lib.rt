@@ -3,7 +3,7 @@
 //!
 //! A [`Value`] is a tree of any of the types. [`put`] appends its bytes to a vector, [`get`] reads one of a given type, and
 //! [`check_value`] asks whether one is well formed. [`Limits`] are what calls with `_within` in their names keep. The
-//! values of a message come with it: `crates/example_greet` makes and reads some.
+//! values of a message come with it: `crates/example_service` makes and reads some.
 //!
 //! It is one name for four crates: the values and the relation that spells them (`dbus_value_model`), writing (`dbus_marshal`),
 //! reading (`dbus_unmarshal`) and the laws over what bytes spell (`dbus_value_laws`); and the law that joins writing and reading.
@@ -16,6 +16,6 @@ pub use dbus_unmarshal::{get, get_within};
 pub use dbus_value_laws::laws;
 pub use dbus_value_model::{
     ARRAY_LIMIT, DEPTH_LIMIT, DictEntry, Fault, FdRule, Got, Limits, MESSAGE_LIMIT, Order, Reason,
-    Refusal, Value, ValueFault, check_laws, check_value, check_value_within, copy, plain_type_of,
-    type_of,
+    Refusal, StringFault, Value, ValueFault, check_laws, check_value, check_value_within, copy,
+    plain_type_of, type_of,
 };

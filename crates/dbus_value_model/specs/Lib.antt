@@ -26,3 +26,4 @@ pub mod Ranges
 pub mod Specification
 pub mod RoundTrip
 pub mod FaultTexts
+pub mod TextValues

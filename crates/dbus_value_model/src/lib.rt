@@ -3,7 +3,7 @@
 //!
 //! A [`Value`] is a tree of any of the types. [`check_value`] asks whether it is well formed, [`type_of`] returns its type, and
 //! [`copy`] an equal one. Here too are what all crates above speak of: [`Limits`], the byte [`Order`], and the [`Fault`]s with their
-//! [`Reason`]s. Callers use the crate `dbus_value`. `crates/example_greet` makes values.
+//! [`Reason`]s. Callers use the crate `dbus_value`. `crates/example_service` makes values.
 #![tactic(auto)]
 
 pub mod check_laws;
@@ -20,6 +20,7 @@ mod padding;
 mod ranges;
 mod same_types;
 mod stop;
+mod text_value;
 mod typing;
 mod uniformity;
 mod value;
@@ -36,6 +37,7 @@ pub use order::Order;
 pub use padding::{gap, padding_length};
 pub use ranges::{all_numbers_in_range, numbers_in_range};
 pub use stop::{Stop, refuse};
+pub use text_value::StringFault;
 pub use typing::{plain_type_of, type_of};
 pub use uniformity::is_typed;
 pub use value::{DictEntry, Value};

@@ -206,7 +206,7 @@ fn value_of(alloc: Global, item: Item) -> Result<Value, Fail> {
         Item::Byte(number) => Value::Byte(number),
         Item::U32(number) => Value::U32(number),
         Item::Fd(number) => Value::Fd(number),
-        Item::Str(text) => Value::Str(String::from_str(alloc, text)?),
+        Item::Str(text) => Value::text_unchecked(alloc, text)?,
         Item::Path(text) => Value::Path(String::from_str(alloc, text)?),
         Item::Sig(text) => Value::Sig(String::from_str(alloc, text)?),
         Item::Nested(count) => nested(alloc, count)?,

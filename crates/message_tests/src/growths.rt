@@ -352,7 +352,7 @@ fn change_parts<A: Allocator + Copy>(
         Change::NoFields => parts.fields.clear(),
         Change::Serial(number) => parts.serial = number,
         Change::FirstNumber(number) => put_first(parts, Value::U32(number)),
-        Change::FirstText => put_first(parts, Value::Str(String::from_str(alloc, "1")?)),
+        Change::FirstText => put_first(parts, Value::text_unchecked(alloc, "1")?),
         Change::ReplySerial => parts.fields.push(HeaderField {
             code: 5,
             value: Value::U32(2),

@@ -5,7 +5,7 @@ use dbus_auth_lines::{LineFault, TextFault};
 use dbus_match::{RuleFault, RuleReason};
 use dbus_message::BuildFault;
 use dbus_types::{NameFault, SigFault};
-use dbus_value::{Fault, Reason, Refusal, ValueFault};
+use dbus_value::{Fault, Reason, Refusal, StringFault, ValueFault};
 use std::alloc::Global;
 use std::fmt::Display;
 use std::process::Abort;
@@ -29,6 +29,14 @@ const SIGNATURE_FAULTS: &[(SigFault, &str)] = &[
     (
         SigFault::Bad { at: 255 },
         "no signature: it breaks at offset 255",
+    ),
+];
+
+const STRING_FAULTS: &[(StringFault, &str)] = &[
+    (StringFault::Memory, "allocation failed"),
+    (
+        StringFault::Bad { at: 3 },
+        "no STRING: U+0000 stands at offset 3",
     ),
 ];
 
@@ -198,6 +206,7 @@ fn are_told<T: Display>(rt: &impl Abort, alloc: Global, rows: &[(T, &str)]) -> R
 #[test]
 fn names_and_signatures(rt: HostRuntime) -> Result<(), Fail> {
     are_told(&rt, rt.alloc(), NAME_FAULTS)?;
+    are_told(&rt, rt.alloc(), STRING_FAULTS)?;
     are_told(&rt, rt.alloc(), SIGNATURE_FAULTS)
 }
 

@@ -6,7 +6,8 @@ use crate::reading::{self, read};
 use crate::types;
 use dbus_types::{SigFault, SigType, parse_signature, parse_single, signature_text};
 use dbus_value_model::{
-    Fault, Limits, Reason, Value, ValueFault, check_value, check_value_within, copy, type_of,
+    Fault, Limits, Reason, StringFault, Value, ValueFault, check_value, check_value_within, copy,
+    type_of,
 };
 use refusing_alloc::Refusing;
 use std::alloc::{AllocError, Allocator, Global};
@@ -18,6 +19,7 @@ enum Call {
     ParseSignature(&'static [u8]),
     ParseSingle(&'static [u8]),
     SignatureText(types::Made),
+    Text(&'static str),
     // Of a type, the bytes of a value, where that ends at the latest, and limits.
     Get(&'static str, &'static [u8], usize, (u32, u32, u8)),
     // With so many containers open around the value.
@@ -33,7 +35,7 @@ enum Answer {
     Done,
     // More bytes are wanted.
     Partial,
-    // The types of a text, or none at this byte.
+    // The text is none of the kind, by this byte.
     Bad(usize),
     TooLong,
     // The bytes, or the value, are at fault.
@@ -111,6 +113,9 @@ const CALLS: &[(Call, u64, Answer)] = &[
         1,
         Answer::TooLong,
     ),
+    (Call::Text("hello"), 1, Answer::Done),
+    (Call::Text(""), 0, Answer::Done),
+    (Call::Text("\u{e9}\0a\0"), 0, Answer::Bad(2)),
     (
         Call::Get("a(yv)", PAIRS_BYTES, 19, SPECIFICATION),
         4,
@@ -227,6 +232,14 @@ fn of_signature<T: Drop>(outcome: Result<T, SigFault>) -> Answer {
     }
 }
 
+fn of_string<T: Drop>(outcome: Result<T, StringFault>) -> Answer {
+    match outcome {
+        Ok(_) => Answer::Done,
+        Err(StringFault::Memory) => Answer::Memory,
+        Err(StringFault::Bad { at }) => Answer::Bad(at),
+    }
+}
+
 // The type is read too.
 fn of_bytes(answer: reading::Answer) -> Answer {
     match answer {
@@ -264,6 +277,7 @@ fn answer_of<A: Allocator + Copy>(
         Call::ParseSignature(text) => of_signature(parse_signature(alloc, text)),
         Call::ParseSingle(text) => of_signature(parse_single(alloc, text)),
         Call::SignatureText(_) => of_signature(signature_text(alloc, types)),
+        Call::Text(text) => of_string(Value::text(alloc, text)),
         Call::Get(signature, bytes, end, limits) => {
             of_bytes(read(alloc, signature, bytes, end, limits))
         }
