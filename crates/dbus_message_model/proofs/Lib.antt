@@ -9,4 +9,5 @@ pub mod MessageLengths
 pub mod BothOrders
 pub mod ShortParts
 pub mod BodyValues
+pub mod KnownValues
 pub mod Widening

@@ -10,3 +10,4 @@ pub mod KeptLimits
 pub mod PackedParts
 pub mod PackedMessages
 pub mod LimitLaws
+pub mod KnownFields

@@ -1,8 +1,9 @@
 //! Messages of the D-Bus wire format: what they are, and, in `specs/`, the relation that spells them in bytes. D-Bus
 //! Specification, "Message Format" and "Header Fields".
 //!
-//! A [`Message`] is valid by its invariant: it has [`Parts`], which are a type, flags, a serial, header fields and a body. [`field`]
-//! and [`arg`] look up a header field and a value of the body. The codes are in [`field_code`], [`flag`] and [`message_type`]. It
+//! A [`Message`] is valid by its invariant: it has [`Parts`], which are a type, flags, a serial, header fields and a body.
+//! [`Message::path`] and its like give the known header fields; [`field`] and [`arg`] look up any header field and a value of the
+//! body. The codes are in [`field_code`], [`flag`] and [`message_type`]. It
 //! is made by `dbus_build` or by decoding; `crates/example_greet` does both.
 #![tactic(auto)]
 
@@ -14,6 +15,7 @@ pub mod known_fields;
 mod lookups;
 mod message;
 pub mod message_type;
+mod named_fields;
 mod parts;
 
 pub use header_field::HeaderField;

@@ -7,9 +7,10 @@ use Rattle.dbus_message_model.specs.Lookups.{field_value}
 use Rattle.dbus_message_model.specs.Messages.{MessageTree, want}
 use Rattle.dbus_validate.specs.declared.validating.Validated.{Validated}
 use Rattle.dbus_validate.specs.declared.seen.Place.{Place}
-use Rattle.dbus_view.specs.Fields.{WantsText, IsTextOf}
+use Rattle.dbus_message_model.specs.KnownFields.{WantsText, IsTextOf}
 use Rattle.dbus_validate.specs.Validating.{IsValidatedWhole}
-use Rattle.dbus_view.proofs.FieldTexts.{suits_of, formed_of, has_text, text_known, has_number, stands, absent}
+use Rattle.dbus_message_model.proofs.KnownValues.{suits_of, has_text, text_known, has_number}
+use Rattle.dbus_view.proofs.FieldTexts.{formed_of, stands, absent}
 use Rattle.dbus_walk.proofs.ReadThere.{formed_utf8}
 use Rattle.dbus_view.proofs.Whole.{message, valid}
 

@@ -51,7 +51,7 @@ impl<'a> MessageView<'a> {
     ghost use Rattle.dbus_values.specs.States.{AreLeft};
     ghost use Rattle.dbus_view.specs.Bodies.{IsArgThere, IsPlaceThere, all_values};
     ghost use Rattle.dbus_view.specs.FieldViews.{FieldsAreLeft};
-    ghost use Rattle.dbus_view.specs.Fields.{WantsText, IsTextOf};
+    ghost use Rattle.dbus_message_model.specs.KnownFields.{WantsText, IsTextOf};
     ghost use Rattle.dbus_view.specs.Opening.{IsViewFault};
     ghost use Rattle.dbus_view.specs.Views.{Views, ViewsOne, IsViewOf};
 

@@ -1,24 +1,8 @@
 //! What a view gives, held against the message.
 
-use dbus_message::{Message, arg, field, field_code};
+use dbus_message::{Message, arg};
 use dbus_value::{Limits, Order, Value};
 use dbus_view::{ArgPlace, ArgView, MessageView};
-
-// The text of a field.
-fn text_of(message: &Message, code: u8) -> Option<&str> {
-    match field(message, code) {
-        Some(Value::Str(text) | Value::Path(text)) => Some(text.as_str()),
-        _ => None,
-    }
-}
-
-// The number of the REPLY_SERIAL field.
-fn reply_of(message: &Message) -> Option<u32> {
-    match field(message, field_code::REPLY_SERIAL) {
-        Some(Value::U32(number)) => Some(*number),
-        _ => None,
-    }
-}
 
 /// The first code of a value's type.
 pub(crate) fn code_of(value: &Value) -> u8 {
@@ -70,13 +54,13 @@ fn gives_header(view: &MessageView, order: Order, message: &Message) -> bool {
     let parts = message.parts();
     let numbers = (view.order(), view.kind(), view.flags(), view.serial());
     numbers == (order, parts.kind, parts.flags, parts.serial)
-        && view.reply_serial() == reply_of(message)
-        && view.path() == text_of(message, field_code::PATH)
-        && view.interface() == text_of(message, field_code::INTERFACE)
-        && view.member() == text_of(message, field_code::MEMBER)
-        && view.error_name() == text_of(message, field_code::ERROR_NAME)
-        && view.destination() == text_of(message, field_code::DESTINATION)
-        && view.sender() == text_of(message, field_code::SENDER)
+        && view.reply_serial() == message.reply_serial()
+        && view.path() == message.path()
+        && view.interface() == message.interface()
+        && view.member() == message.member()
+        && view.error_name() == message.error_name()
+        && view.destination() == message.destination()
+        && view.sender() == message.sender()
 }
 
 // Whether the view gives value `n` of the message's body, or nothing if there is none.

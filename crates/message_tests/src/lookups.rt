@@ -2,7 +2,7 @@
 #![tactic(auto)]
 
 use crate::answers::{is_encoded, whole};
-use dbus_message::{arg, encode_into, field};
+use dbus_message::{Compose, Message, arg, encode_into, field};
 use dbus_value::{Order, Value};
 use std::test::Fail;
 
@@ -81,6 +81,60 @@ fn fields_and_values_are_looked_up(rt: HostRuntime) -> Result<(), Fail> {
         };
         assert!(rt; holds(found, *wanted), "at {row}");
     }
+    Ok(())
+}
+
+// The known fields by their names: the texts, then the numbers.
+fn named(message: &Message) -> ([Option<&str>; 7], [Option<u32>; 2]) {
+    let texts = [
+        message.path(),
+        message.interface(),
+        message.member(),
+        message.error_name(),
+        message.destination(),
+        message.sender(),
+        message.signature(),
+    ];
+    (texts, [message.reply_serial(), message.unix_fds()])
+}
+
+#[test]
+fn known_fields_by_name(rt: HostRuntime) -> Result<(), Fail> {
+    let alloc = rt.alloc();
+    let call = Message::call(alloc, "/a", "Go")
+        .interface("b.c")
+        .destination(":1.2")
+        .sender(":1.3")
+        .serial(7);
+    let Ok(call) = call.build() else {
+        panic!(rt; "no call");
+    };
+    let (texts, numbers) = named(&call);
+    assert_eq!(rt;
+        texts,
+        [
+            Some("/a"),
+            Some("b.c"),
+            Some("Go"),
+            None,
+            Some(":1.2"),
+            Some(":1.3"),
+            None
+        ]
+    );
+    assert_eq!(rt; numbers, [None, None]);
+    let error = Message::error_to(alloc, &call, "d.e")
+        .unix_fds(2)
+        .text("hi");
+    let Ok(error) = error.build() else {
+        panic!(rt; "no error");
+    };
+    let (texts, numbers) = named(&error);
+    assert_eq!(rt;
+        texts,
+        [None, None, None, Some("d.e"), Some(":1.3"), None, Some("s")]
+    );
+    assert_eq!(rt; numbers, [Some(7), Some(2)]);
     Ok(())
 }
 
