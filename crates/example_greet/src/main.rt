@@ -5,18 +5,9 @@
 //! is 1.
 #![tactic(auto)]
 
-use anyhow::{Result, bail};
-use dbus_message::{Answer, Compose, Message, decode, encode, field, field_code};
-use dbus_value::Value;
+use anyhow::{Context, Result, bail};
+use dbus_message::{Answer, Compose, Message, decode, encode};
 use std::io::{Read, Write};
-
-// The text of the message's header field of a code.
-fn text_of(message: &Message, code: u8) -> Result<&str> {
-    match field(message, code) {
-        Some(Value::Str(text) | Value::Path(text)) => Ok(text.as_str()),
-        _ => bail!("the message has no text in field {code}"),
-    }
-}
 
 fn main(rt: HostRuntime) -> Result<()> {
     let alloc = rt.alloc();
@@ -25,9 +16,9 @@ fn main(rt: HostRuntime) -> Result<()> {
     let Answer::Whole { order, message, .. } = decode(alloc, &bytes)? else {
         bail!("the input ends within a message");
     };
-    let path = text_of(&message, field_code::PATH)?;
-    let member = text_of(&message, field_code::MEMBER)?;
-    let sender = text_of(&message, field_code::SENDER)?;
+    let path = message.path().context("the message has no path")?;
+    let member = message.member().context("the message has no member")?;
+    let sender = message.sender().context("the message has no sender")?;
     eprintln!(rt; "{sender} called {member} of {path}")?;
 
     let call = Message::call(alloc, path, "Greet")
