@@ -1,5 +1,5 @@
 -- Going over a body's values for the first that is at fault, and for their types.
-use Rattle.std.proofs.Common.{◌≡◌, inl, inr, ℕ, ◌+◌, ◌-◌, ◌<◌, List, [], ◌∷◌, ◌++◌, length, get_or, drop, Option, Some, None, refl, sym, ap, subst, ◌∙◌, arith}
+use Rattle.std.proofs.Common.{◌≡◌, inl, inr, ℕ, ◌+◌, ◌-◌, ◌<◌, List, [], ◌∷◌, ◌++◌, length, get_or, drop, None, sym, ap, subst, ◌∙◌, arith}
 use Rattle.std.proofs.lemmas.List.{drop_more, length-append, append-nil}
 use Rattle.dbus_value_model.specs.declared.value.Value.{Value}
 use Rattle.dbus_build.specs.BuildFaults.{IsSound, IsFirstUnsound}
@@ -11,12 +11,6 @@ module _ {A : Type 0} where
 module _ {A : Type 0} (values : List (Value A)) (i : ℕ) where
   from : (v : Value A) → i < length values → v ≡ get_or values i v → drop i values ≡ v ∷ drop (i + 1) values
   from v h is = drop_more values i v h ∙ ap (λ (u : Value A). u ∷ drop (i + 1) values) (sym is)
-
-  pub unsound_here : (v : Value A) (n : ℕ) → i < length values → v ≡ get_or values i v → (IsSound v → ⊥) → IsFirstUnsound n (drop i values) (Some n)
-  unsound_here v n h is p = subst (λ (vs : List (Value A)). IsFirstUnsound n vs (Some n)) (sym (from v h is)) (inl (p, refl))
-
-  pub unsound_later : (v : Value A) (n : ℕ) (r : Option ℕ) → i < length values → v ≡ get_or values i v → IsSound v → IsFirstUnsound (n + 1) (drop (i + 1) values) r → IsFirstUnsound n (drop i values) r
-  unsound_later v n r h is p w = subst (λ (vs : List (Value A)). IsFirstUnsound n vs r) (sym (from v h is)) (inr (p, w))
 
   pub sound_from : (v : Value A) (n : ℕ) → i < length values → v ≡ get_or values i v → IsFirstUnsound n (drop i values) None → IsSound v × IsFirstUnsound (n + 1) (drop (i + 1) values) None
   sound_from v n h is w = none_unsound n v (drop (i + 1) values) (subst (λ (vs : List (Value A)). IsFirstUnsound n vs None) (from v h is) w)

@@ -1,8 +1,8 @@
 -- Going over a list of header fields for the first that is at fault.
 use Rattle.std.proofs.Common.{◌≡◌, inl, inr, ℕ, ◌+◌, ◌<◌, ◌≤◌, List, [], ◌∷◌, ◌++◌, length, get_or, take, drop, Bool, true, false, ◌&&◌, Option, Some, None, refl, sym, ap, subst, ◌∙◌}
-use Rattle.std.proofs.lemmas.List.{map_push, take_more, drop_more}
+use Rattle.std.proofs.lemmas.List.{map_push, take_more}
 use Rattle.dbus_message_model.specs.Messages.{FieldTree, has_code, is_known}
-use Rattle.dbus_build.specs.BuildFaults.{IsFirstWithout, IsFirstUnsoundField, HoldsSound, twice}
+use Rattle.dbus_build.specs.BuildFaults.{IsFirstWithout, twice}
 use Rattle.dbus_message_model.specs.PartsViews.{field_tree, field_trees}
 use Rattle.dbus_message_model.specs.declared.header_field.HeaderField.{HeaderField}
 use Rattle.dbus_message_model.proofs.FieldLists.{fields_from, no_fields_from}
@@ -29,9 +29,3 @@ module _ {A : Type 0} (fields : List (HeaderField A)) (i : ℕ) where
   twice_later f h is e =
       let front : field_trees (take (i + 1) fields) ≡ field_trees (take i fields) ++ field_tree f ∷ [] = ap field_trees (take_more fields i f h) ∙ map_push field_tree (take i fields) (get_or fields i f) ∙ ap (λ (u : HeaderField A). field_trees (take i fields) ++ field_tree u ∷ []) (sym is) in
       rw (fields_from fields i f h is, e, front) refl
-
-  pub unsound_field_here : (f : HeaderField A) → i < length fields → f ≡ get_or fields i f → (HoldsSound f → ⊥) → IsFirstUnsoundField (drop i fields) (Some f.code)
-  unsound_field_here f h is p = subst (λ (fs : List (HeaderField A)). IsFirstUnsoundField fs (Some f.code)) (sym (drop_more fields i f h ∙ ap (λ (u : HeaderField A). u ∷ drop (i + 1) fields) (sym is))) (inl (p, refl))
-
-  pub unsound_field_later : (f : HeaderField A) (r : Option ℕ) → i < length fields → f ≡ get_or fields i f → HoldsSound f → IsFirstUnsoundField (drop (i + 1) fields) r → IsFirstUnsoundField (drop i fields) r
-  unsound_field_later f r h is p w = subst (λ (fs : List (HeaderField A)). IsFirstUnsoundField fs r) (sym (drop_more fields i f h ∙ ap (λ (u : HeaderField A). u ∷ drop (i + 1) fields) (sym is))) (inr (p, w))

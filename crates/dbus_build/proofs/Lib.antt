@@ -1,6 +1,6 @@
 pub mod FaultyFields
 pub mod FaultyBody
-pub mod Nesting
+pub mod Finding
 pub mod ValidatedFields
 pub mod PartEnds
 pub mod Built

@@ -1,12 +1,13 @@
 -- Why parts make no message: the cases, and which of them is the first that holds.
 -- D-Bus Specification, "Message Format", "Header Fields" and "Invalid Protocol and Spec Extensions".
-use Rattle.std.specs.Prelude.{◌≡◌, ◌⊎◌, ℕ, ◌+◌, List, [], ◌∷◌, ◌++◌, true, false, ◌&&◌, if◌then◌else◌, Option, Some, None, Result, Ok, Err}
+use Rattle.std.specs.Prelude.{◌≡◌, ◌⊎◌, ℕ, ◌+◌, ◌<◌, List, [], ◌∷◌, ◌++◌, true, false, ◌&&◌, if◌then◌else◌, Option, Some, None, Result, Ok, Err}
 use Rattle.dbus_texts.specs.Types.{UINT32, STRING, TypeTree, NumberType, TextType, sigs}
 use Rattle.dbus_value_model.specs.declared.fault.Reason.TheVariants as reasons
 use Rattle.dbus_value_model.specs.declared.limits.Limits.{Limits}
 use Rattle.dbus_value_model.specs.Checks.{IsTyped}
 use Rattle.dbus_value_model.specs.FdIndexes.{IsFirstPast}
 use Rattle.dbus_value_model.specs.Forming.{IsNamed}
+use Rattle.dbus_value_model.specs.Ranges.{HoldsNumbers}
 use Rattle.dbus_value_model.specs.Values.{ValueTree, NumberValue, type_of, types_of}
 use Rattle.dbus_value_model.specs.ValueViews.{value_tree}
 use Rattle.dbus_value_model.specs.declared.value.Value.{Value}
@@ -14,12 +15,15 @@ use Rattle.dbus_value_model.specs.WantedTexts.{WantedText, IsWanted, kind_of}
 use Rattle.dbus_message_model.specs.Messages.{FieldTree, MessageTree, Want, Anything, OfType, Name, Serial, want, is_known, has_code, lacks, required, text_in, body_signature, body_fds, KeepsIndexes}
 use Rattle.dbus_message_model.specs.KeptLimits.{IsShallow, KeepsArrays, IsLong}
 use Rattle.dbus_message_model.specs.PackedParts.{PartsKeepBytes}
-use Rattle.dbus_message_model.specs.PartsViews.{parts_tree}
+use Rattle.dbus_message_model.specs.PartsViews.{field_tree, parts_tree}
 use Rattle.dbus_message_model.specs.ValidMessages.{IsValidMessage}
 use Rattle.dbus_message_model.specs.MessageViews.{message_tree}
 use Rattle.dbus_message_model.specs.declared.header_field.HeaderField.{HeaderField}
 use Rattle.dbus_message_model.specs.declared.parts.Parts.{Parts}
 use Rattle.dbus_message_model.specs.declared.message.Message.{Message}
+use Rattle.dbus_value_model.specs.declared.verdict.Verdict.{Verdict}
+use Rattle.dbus_value_model.specs.declared.verdict.Verdict.TheVariants.{TooDeep, Mixed, Misnamed, Sound}
+use Rattle.dbus_build.specs.MessageSizes.{HoldFieldNumbers}
 use Rattle.dbus_build.specs.declared.build_fault.BuildFault.{BuildFault}
 use Rattle.dbus_build.specs.declared.build_fault.BuildFault.TheVariants as faults
 
@@ -87,6 +91,28 @@ IsFirstUnsoundField (f ∷ fs) r = ((HoldsSound f → ⊥) × (r ≡ Some f.code
 abbrev pub IsFirstUnsound : {A : Type 0} → ℕ → List (Value A) → Option ℕ → Type 0
 IsFirstUnsound n [] r = r ≡ None
 IsFirstUnsound n (v ∷ vs) r = ((IsSound v → ⊥) × (r ≡ Some n)) ⊎ (IsSound v × IsFirstUnsound (n + 1) vs r)
+
+-- ---- values and fields, one and all
+
+-- What is found of one: it opens more containers than may be open, it is not sound, or neither.
+abbrev pub IsSoundness : Type 0 → Type 0 → Type 0 → Verdict → Type 0
+IsSoundness shallow sound ranged TooDeep = shallow → ⊥
+IsSoundness shallow sound ranged Mixed = shallow × (sound → ⊥)
+IsSoundness shallow sound ranged Misnamed = shallow × (sound → ⊥)
+IsSoundness shallow sound ranged Sound = shallow × sound × ranged
+
+-- What is found of all: they open more containers than may be open, or the answer is which is the first that is not sound.
+abbrev pub IsFound : Type 0 → (Option ℕ → Type 0) → Type 0 → Result (Option ℕ) BuildFault → Type 0
+IsFound shallow IsFirst ranged (Ok first) = shallow × IsFirst first × (first ≡ None → ranged)
+IsFound shallow IsFirst ranged (Err fault) = (fault ≡ faults.TooDeep) × (shallow → ⊥)
+
+-- a field of its own type holds a number of its type
+abbrev pub HoldsTypedNumber : {A : Type 0} → HeaderField A → Type 0
+HoldsTypedNumber f = (f.code < 256) × (HasOwnType (field_tree f) → HoldsNumbers (value_tree f.value))
+
+-- fields of their own types hold numbers of their types
+abbrev pub HoldTypedNumbers : List FieldTree → Type 0
+HoldTypedNumbers fs = IsFirstWithout HasOwnType fs None → HoldFieldNumbers fs
 
 -- ---- none of the cases holds, from the first up to one
 

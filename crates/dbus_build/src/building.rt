@@ -6,17 +6,17 @@ ghost use Rattle.dbus_value_model.specs.declared.order.Order.TheVariants.{Little
 ghost use Rattle.dbus_value_model.specs.Specification.{specification};
 ghost use Rattle.dbus_value_model.specs.declared.limits.Limits.{Limits};
 ghost use Rattle.dbus_build.specs.BuildFaults.{IsAccepted, IsBuilt, IsTaken, IsFirstFault, NoFault, NoneIsMissing, SignaturePasses, SizePasses};
+ghost use Rattle.dbus_build.specs.MessageSizes.{HoldTheirNumbers};
 ghost use Rattle.dbus_message_model.specs.Messages.{message_bytes};
 ghost use Rattle.dbus_message_model.specs.PartsViews.{parts_tree};
 ghost use Rattle.dbus_message_model.specs.ValidMessages.{IsValidMessage};
 
 use crate::build_fault::BuildFault;
-use crate::depth::is_shallow;
 use crate::faulty_body::{first_unsound, has_types};
 use crate::faulty_fields::{
     first_misnamed, first_mistyped, first_twice, first_unsound_field, first_zero_reply,
 };
-use crate::message_size::{fields_end, parts_in_range};
+use crate::message_size::fields_end;
 use dbus_marshal::measure_all;
 use dbus_message_model::known_fields::{body_signature, fd_count, has_field, missing_field};
 use dbus_message_model::{Message, Parts};
@@ -60,21 +60,22 @@ fn check_header<A: Allocator>(parts: &Parts<A>) -> Result<(), BuildFault>
 /// Validates how deep the values nest, the texts of the fields, the values, and their types.
 fn check_contents<A: Allocator>(parts: &Parts<A>, limits: Limits) -> Result<(), BuildFault>
     requires header { NoneIsMissing (parts_tree parts.now) }
-    ensures { MatchResult result (λ _. SignaturePasses limits parts.now) (λ f.
+    ensures { MatchResult result
+        (λ _. SignaturePasses limits parts.now × HoldTheirNumbers (parts_tree parts.now)) (λ f.
         IsFirstFault limits parts.now f) }
 {
-    if !is_shallow(parts, limits) {
-        return Err(BuildFault::TooDeep);
-    }
+    let (_kind, _flags, _serial) = (parts.kind, parts.flags, parts.serial);
+    let field = first_unsound_field(&parts.fields, limits.depth)?;
+    let value = first_unsound(&parts.body, limits.depth)?;
     match first_misnamed(&parts.fields) {
         Some(code) => return Err(BuildFault::Name(code)),
         None => {}
     }
-    match first_unsound_field(&parts.fields) {
+    match field {
         Some(code) => return Err(BuildFault::FieldValue(code)),
         None => {}
     }
-    match first_unsound(&parts.body) {
+    match value {
         Some(n) => return Err(BuildFault::Value(n)),
         None => {}
     }
@@ -87,13 +88,13 @@ fn check_contents<A: Allocator>(parts: &Parts<A>, limits: Limits) -> Result<(), 
 /// The number of bytes that spell the parts, within the limits.
 fn measure<A: Allocator>(parts: &Parts<A>, limits: Limits) -> Result<usize, BuildFault>
     requires passed { SignaturePasses limits parts.now }
+    requires ranged { HoldTheirNumbers (parts_tree parts.now) }
     ensures { MatchResult result
         (λ n.
         IsValidMessage specification (parts_tree parts.now) ×
         (n ≡ length (message_bytes Little (parts_tree parts.now))) × SizePasses limits parts.now)
         (λ f. IsFirstFault limits parts.now f) }
 {
-    parts_in_range(parts);
     let fields = match fields_end(&parts.fields, limits) {
         Some(end) => end,
         None => return Err(BuildFault::ArrayTooLong),

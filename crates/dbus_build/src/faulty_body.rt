@@ -3,32 +3,35 @@
 
 ghost use Rattle.std.specs.Prelude.{◌≡◌, ◌↔◌, ◌<◌, None, IsTrue, length};
 ghost use Rattle.dbus_texts.specs.Types.{sigs};
+ghost use Rattle.dbus_value_model.specs.Forming.{NestWithin};
+ghost use Rattle.dbus_value_model.specs.Ranges.{HoldNumbers};
 ghost use Rattle.dbus_value_model.specs.Values.{types_of};
 ghost use Rattle.dbus_value_model.specs.ValueViews.{value_trees_of};
-ghost use Rattle.dbus_build.specs.BuildFaults.{IsSound, IsFirstUnsound};
+ghost use Rattle.dbus_build.specs.BuildFaults.{IsFound, IsFirstUnsound};
 
+use crate::build_fault::BuildFault;
 use dbus_marshal::{signature_length, write_type_of};
-use dbus_value_model::{Value, is_named, is_typed};
+use dbus_value_model::{Value, Verdict, check_nested};
 use std::alloc::Allocator;
 
-/// Whether a value's types fit together and its texts are of their kinds, however deep it nests.
-pub fn is_sound<A: Allocator>(value: &Value<A>) -> bool
-    ensures { IsTrue result ↔ IsSound value.now }
+/// The number of the first value that is not sound, or `TooDeep` if more than `depth_left` arrays, structs and variants are open
+/// at once in any value.
+pub fn first_unsound<A: Allocator>(
+    values: &[Value<A>],
+    depth_left: u8,
+) -> Result<Option<usize>, BuildFault>
+    ensures { IsFound (NestWithin depth_left (value_trees_of values.now))
+        (IsFirstUnsound 0 values.now) (HoldNumbers (value_trees_of values.now)) result }
 {
-    is_typed(value) && is_named(value)
-}
-
-/// The number of the first value that is not sound.
-#[tactic(auto, using(crate::proofs::FaultyBody::unsound_here, crate::proofs::FaultyBody::unsound_later))]
-pub fn first_unsound<A: Allocator>(values: &[Value<A>]) -> Option<usize>
-    ensures { IsFirstUnsound 0 values.now result }
-{
+    let mut first = None;
     for (i, value) in values.iter().enumerate() {
-        if !is_sound(value) {
-            return Some(i);
+        match check_nested(value, depth_left) {
+            Verdict::TooDeep => return Err(BuildFault::TooDeep),
+            Verdict::Sound => {}
+            _ => first = first.or(Some(i)),
         }
     }
-    None
+    Ok(first)
 }
 
 /// Whether the values, each of them sound, are of the types that the signature spells.

@@ -2,17 +2,18 @@
 #![tactic(auto)]
 
 ghost use Rattle.std.specs.Prelude.{◌≡◌, ◌↔◌, [], IsTrue, option_map};
+ghost use Rattle.dbus_value_model.specs.Forming.{NestsWithin};
 ghost use Rattle.dbus_value_model.specs.WantedTexts.{Of};
-ghost use Rattle.dbus_build.specs.BuildFaults.{IsFirstWithout, IsFirstUnsoundField, IsNonzero, HasOwnType, HasOwnKind, HoldsSound, text_wanted, twice};
-ghost use Rattle.dbus_message_model.specs.Messages.{want};
+ghost use Rattle.dbus_build.specs.BuildFaults.{IsFirstWithout, IsFirstUnsoundField, IsFound, IsNonzero, IsSoundness, HasOwnType, HasOwnKind, HoldTypedNumbers, HoldsSound, HoldsTypedNumber, text_wanted, twice};
+ghost use Rattle.dbus_message_model.specs.Messages.{field_array, field_struct, want};
 ghost use Rattle.dbus_message_model.specs.PartsViews.{field_tree, field_trees};
 
-use crate::faulty_body::is_sound;
+use crate::build_fault::BuildFault;
 use dbus_message_model::HeaderField;
 use dbus_message_model::field_table::{Wanted, is_known, want};
 use dbus_message_model::known_fields::{is_again, text_in};
 use dbus_types::{TextKind, text_break};
-use dbus_value_model::Value;
+use dbus_value_model::{Value, Verdict, basic_in_range, check_nested};
 use std::alloc::Allocator;
 
 /// Whether a field is no REPLY_SERIAL of 0.
@@ -111,22 +112,48 @@ pub fn first_misnamed<A: Allocator>(fields: &[HeaderField<A>]) -> Option<u8>
     None
 }
 
-/// Whether the value of a field is sound, if the field is unknown.
-fn holds_sound<A: Allocator>(field: &HeaderField<A>) -> bool
-    ensures { IsTrue result ↔ HoldsSound field.now }
+/// What is found of a field where `depth_left` arrays, structs and variants may be open at once: those of its struct, its
+/// variant and its value. The value of a known field is sound if its type and its text are the field's own.
+fn check_field<A: Allocator>(field: &HeaderField<A>, depth_left: u8) -> Verdict
+    ensures { IsSoundness (NestsWithin depth_left (field_struct (field_tree field.now)))
+        (HoldsSound field.now) (HoldsTypedNumber field.now) result }
 {
-    is_known(field.code) || is_sound(&field.value)
-}
-
-/// The code of the first unknown field whose value is not sound.
-#[tactic(auto, using(crate::proofs::FaultyFields::unsound_field_here, crate::proofs::FaultyFields::unsound_field_later))]
-pub fn first_unsound_field<A: Allocator>(fields: &[HeaderField<A>]) -> Option<u8>
-    ensures { IsFirstUnsoundField fields.now result }
-{
-    for field in fields {
-        if !holds_sound(field) {
-            return Some(field.code);
+    let code = field.code;
+    if depth_left < 2 {
+        return Verdict::TooDeep;
+    }
+    let found = check_nested(&field.value, depth_left - 2);
+    if !is_known(code) {
+        return found;
+    }
+    match found {
+        Verdict::TooDeep => found,
+        _ => {
+            basic_in_range(&field.value);
+            Verdict::Sound
         }
     }
-    None
+}
+
+/// The code of the first unknown field whose value is not sound, or `TooDeep` if more than `depth_left` arrays, structs and
+/// variants are open at once in the field array, itself among them.
+pub fn first_unsound_field<A: Allocator>(
+    fields: &[HeaderField<A>],
+    depth_left: u8,
+) -> Result<Option<u8>, BuildFault>
+    ensures { IsFound (NestsWithin depth_left (field_array (field_trees fields.now)))
+        (IsFirstUnsoundField fields.now) (HoldTypedNumbers (field_trees fields.now)) result }
+{
+    if depth_left == 0 {
+        return Err(BuildFault::TooDeep);
+    }
+    let mut first = None;
+    for field in fields {
+        match check_field(field, depth_left - 1) {
+            Verdict::TooDeep => return Err(BuildFault::TooDeep),
+            Verdict::Sound => {}
+            _ => first = first.or(Some(field.code)),
+        }
+    }
+    Ok(first)
 }

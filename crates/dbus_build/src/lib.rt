@@ -7,7 +7,6 @@
 mod build;
 mod build_fault;
 mod building;
-mod depth;
 mod faulty_body;
 mod faulty_fields;
 pub mod laws;

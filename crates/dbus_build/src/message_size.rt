@@ -5,12 +5,12 @@ ghost use Rattle.std.specs.Prelude.{map};
 ghost use Rattle.dbus_value_model.specs.ShortSignatures.{HaveShortSignatures};
 ghost use Rattle.dbus_value_model.specs.Values.{value_trees};
 ghost use Rattle.dbus_message_model.specs.Messages.{field_struct};
-ghost use Rattle.dbus_build.specs.MessageSizes.{AreFieldEnds, HoldTheirNumbers};
-ghost use Rattle.dbus_message_model.specs.PartsViews.{field_trees, parts_tree};
+ghost use Rattle.dbus_build.specs.MessageSizes.{AreFieldEnds};
+ghost use Rattle.dbus_message_model.specs.PartsViews.{field_trees};
 
 use dbus_marshal::measure_header_field;
-use dbus_message_model::{HeaderField, Parts};
-use dbus_value_model::{Limits, all_numbers_in_range, numbers_in_range};
+use dbus_message_model::HeaderField;
+use dbus_value_model::Limits;
 use std::alloc::Allocator;
 
 /// Where the fields end, the first of which begins at 16, or nothing if the field array or an array in it is too long.
@@ -27,16 +27,4 @@ pub fn fields_end<A: Allocator>(fields: &[HeaderField<A>], limits: Limits) -> Op
         return None;
     }
     Some(at)
-}
-
-/// Shows that each number of the parts is in the range of its type. It looks at each and does nothing with it.
-pub fn parts_in_range<A: Allocator>(parts: &Parts<A>)
-    ensures { HoldTheirNumbers (parts_tree parts.now) }
-{
-    for field in &parts.fields {
-        let _code = field.code;
-        numbers_in_range(&field.value);
-    }
-    all_numbers_in_range(&parts.body);
-    let (_kind, _flags, _serial) = (parts.kind, parts.flags, parts.serial);
 }

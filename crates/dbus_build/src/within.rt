@@ -4,18 +4,27 @@
 ghost use Rattle.std.specs.Prelude.{◌↔◌, map, IsTrue};
 ghost use Rattle.dbus_value_model.specs.ShortSignatures.{HaveShortSignatures};
 ghost use Rattle.dbus_value_model.specs.Values.{value_trees};
-ghost use Rattle.dbus_message_model.specs.KeptLimits.{KeepsArrays, KeepsLimits};
+ghost use Rattle.dbus_message_model.specs.KeptLimits.{IsShallow, KeepsArrays, KeepsLimits};
 ghost use Rattle.dbus_message_model.specs.Messages.{field_struct, KeepsIndexes};
 ghost use Rattle.dbus_message_model.specs.MessageViews.{message_tree};
 ghost use Rattle.dbus_message_model.specs.PartsViews.{parts_tree};
 
-use crate::depth::is_shallow;
+use crate::faulty_body::first_unsound;
+use crate::faulty_fields::first_unsound_field;
 use crate::message_size::fields_end;
 use dbus_marshal::measure_all;
 use dbus_message_model::known_fields::fd_count;
 use dbus_message_model::{Message, Parts};
 use dbus_value_model::{Limits, first_past, padding_length};
 use std::alloc::Allocator;
+
+/// Whether no more arrays, structs and variants are open at once than the limits' depth.
+fn is_shallow<A: Allocator>(parts: &Parts<A>, limits: Limits) -> bool
+    ensures { IsTrue result ↔ IsShallow limits (parts_tree parts.now) }
+{
+    first_unsound_field(&parts.fields, limits.depth).is_ok()
+        && first_unsound(&parts.body, limits.depth).is_ok()
+}
 
 /// Whether the field array, and each array in the parts, has no more bytes than the limits' array.
 fn keeps_arrays<A: Allocator>(parts: &Parts<A>, limits: Limits) -> bool

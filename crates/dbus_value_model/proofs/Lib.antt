@@ -4,8 +4,8 @@ pub mod WorkedExamples
 pub mod ValueRows
 pub mod TypeRows
 pub mod NumberBytes
-pub mod Deciding
 pub mod Fitting
+pub mod Verdicts
 pub mod Copied
 pub mod Formed
 pub mod SameTypes

@@ -23,6 +23,7 @@ pub mod Forming
 pub mod PackedBytes
 pub mod Checks
 pub mod Ranges
+pub mod Verdicts
 pub mod Specification
 pub mod RoundTrip
 pub mod FaultTexts

@@ -1,29 +1,32 @@
 //! Whether a value is well formed.
 #![tactic(auto)]
 
-ghost use Rattle.std.specs.Prelude.{◌↔◌, ◌≤◌, IsTrue, IfOk};
-ghost use Rattle.std.specs.Bool.{OnTrue};
+ghost use Rattle.std.specs.Prelude.{◌≡◌, ◌≤◌, IsTrue, IfOk, not};
 ghost use Rattle.dbus_texts.specs.Kinds.{IsKind};
-ghost use Rattle.dbus_value_model.specs.Checks.{Checks};
+ghost use Rattle.dbus_texts.specs.Types.{is_byte, IsSingleType};
+ghost use Rattle.dbus_types.specs.SigTypes.{type_tree};
+ghost use Rattle.dbus_value_model.specs.Checks.{Checks, IsTyped};
 ghost use Rattle.dbus_value_model.specs.declared.limits.TheConstants.{DEPTH_LIMIT};
-ghost use Rattle.dbus_value_model.specs.Forming.{NestsWithin, NestWithin, IsNamed, AreNamed};
-ghost use Rattle.dbus_value_model.specs.Ranges.{HoldsNumbers, HoldNumbers};
+ghost use Rattle.dbus_value_model.specs.Forming.{NestsWithin, IsNamed};
+ghost use Rattle.dbus_value_model.specs.Ranges.{HoldsNumbers};
 ghost use Rattle.dbus_value_model.specs.Specification.{specification};
 ghost use Rattle.dbus_value_model.specs.ShortSignatures.{HasShortSignatures};
+ghost use Rattle.dbus_value_model.specs.Values.{AllOf, type_of as tree_type};
 ghost use Rattle.dbus_value_model.specs.ValueViews.{value_tree, value_trees_of};
+ghost use Rattle.dbus_value_model.specs.Verdicts.{IsVerdict, IsPartsVerdict, ArePartsVerdict};
 
 use crate::limits::Limits;
-use crate::ranges::numbers_in_range;
-use crate::uniformity::is_typed;
+use crate::ranges::{basic_in_range, bytes_in_range};
+use crate::typed::{all_of, has_single_type};
 use crate::value::Value;
 use crate::value_fault::ValueFault;
-use dbus_types::{TextKind, text_break};
+use crate::verdict::{Verdict, earlier};
+use dbus_types::{SigType, TextKind, is_byte, text_break};
 use std::alloc::Allocator;
 
 /// Whether a value is well formed, as [`check_value_within`] says under the limits of the specification.
 ///
 /// `depth` arrays, structs and variants are open around it, [`DEPTH_LIMIT`] at most.
-#[tactic(auto, using(crate::proofs::ShortLaws::short_of))]
 pub fn check_value<A: Allocator + Copy>(
     alloc: A,
     value: &Value<A>,
@@ -59,88 +62,116 @@ pub fn check_value_within<A: Allocator + Copy>(
     ensures short { IfOk result (λ _. HasShortSignatures (value_tree value.now)) }
     ensures numbers { IfOk result (λ _. HoldsNumbers (value_tree value.now)) }
 {
-    if !nests_within(value, limits.depth - depth) {
-        return Err(ValueFault::TooDeep);
+    match check_nested(value, limits.depth - depth) {
+        Verdict::TooDeep => Err(ValueFault::TooDeep),
+        Verdict::Mixed => Err(ValueFault::Mixed),
+        Verdict::Misnamed => Err(ValueFault::Name),
+        Verdict::Sound => Ok(()),
     }
-    if !is_typed(value) {
-        return Err(ValueFault::Mixed);
-    }
-    if !is_named(value) {
-        return Err(ValueFault::Name);
-    }
-    Ok(())
 }
 
-/// Whether no more than `depth_left` arrays, structs and variants are open at once.
-#[cycle(nests)]
-pub fn nests_within<A: Allocator>(value: &Value<A>, depth_left: u8) -> bool
-    ensures { IsTrue result ↔ NestsWithin depth_left (value_tree value.now) }
+/// What is found of a value where `depth_left` arrays, structs and variants may be open at once, in one walk over it.
+///
+/// D-Bus Specification, "Type System" and "Valid Signatures".
+#[tactic(auto, using(crate::proofs::Verdicts::whole_found))]
+pub fn check_nested<A: Allocator>(value: &Value<A>, depth_left: u8) -> Verdict
+    ensures { IsVerdict (NestsWithin depth_left (value_tree value.now)) (IsTyped value.now)
+        (IsNamed (value_tree value.now)) (HoldsNumbers (value_tree value.now)) result }
+{
+    earlier(check_single(value), check_parts(value, depth_left))
+}
+
+/// What is found of a value, its own type left aside: the items of an array are of its element type, which is not BYTE, and a
+/// signature spells the type of a variant's value.
+#[cycle(check)]
+fn check_parts<A: Allocator>(value: &Value<A>, depth_left: u8) -> Verdict
+    ensures { IsPartsVerdict depth_left value.now result }
 {
     match value {
-        Value::Bytes(_) => 0 < depth_left,
-        Value::Array(_, items) => 0 < depth_left && nest_within(items, depth_left - 1),
-        Value::Struct(fields) => 0 < depth_left && nest_within(fields, depth_left - 1),
-        Value::Entry(entry) => nests_within(&entry.key, depth_left)
-            && nests_within(&entry.value, depth_left),
-        Value::Variant(inner) => 0 < depth_left && nests_within(inner, depth_left - 1),
-        _ => true,
-    }
-}
-
-/// Whether no more than `depth_left` arrays, structs and variants are open at once in any of the values.
-#[cycle(nests)]
-pub fn nest_within<A: Allocator>(values: &[Value<A>], depth_left: u8) -> bool
-    ensures { IsTrue result ↔ NestWithin depth_left (value_trees_of values.now) }
-{
-    for value in values {
-        if !nests_within(value, depth_left) {
-            return false;
+        Value::Str(text) => check_text(TextKind::Text, text.as_bytes()),
+        Value::Path(text) => check_text(TextKind::Path, text.as_bytes()),
+        Value::Sig(text) => check_text(TextKind::Signature, text.as_bytes()),
+        Value::Bytes(bytes) => {
+            if depth_left == 0 {
+                return Verdict::TooDeep;
+            }
+            bytes_in_range(bytes);
+            Verdict::Sound
         }
-    }
-    true
-}
-
-/// Whether every text is one of its kind: a path's an object path, a signature's a signature, and a text without U+0000.
-/// The numbers, of which no `Value` holds one out of its range, are looked at for the clause alone.
-#[cycle(named)]
-pub fn is_named<A: Allocator>(value: &Value<A>) -> bool
-    ensures named { IsTrue result ↔ IsNamed (value_tree value.now) }
-    ensures numbers { OnTrue result (HoldsNumbers (value_tree value.now)) }
-{
-    match value {
-        Value::Str(text) => is_of_kind(TextKind::Text, text.as_bytes()),
-        Value::Path(text) => is_of_kind(TextKind::Path, text.as_bytes()),
-        Value::Sig(text) => is_of_kind(TextKind::Signature, text.as_bytes()),
-        Value::Bytes(_) => {
-            numbers_in_range(value);
-            true
+        Value::Array(element, items) => {
+            if depth_left == 0 {
+                return Verdict::TooDeep;
+            }
+            earlier(
+                check_items(element, items),
+                check_all(items, depth_left - 1),
+            )
         }
-        Value::Array(_, items) => are_named(items),
-        Value::Struct(fields) => are_named(fields),
-        Value::Entry(entry) => is_named(&entry.key) && is_named(&entry.value),
-        Value::Variant(inner) => is_named(inner),
+        Value::Struct(fields) => {
+            if depth_left == 0 {
+                return Verdict::TooDeep;
+            }
+            check_all(fields, depth_left - 1)
+        }
+        Value::Entry(entry) => earlier(
+            check_parts(&entry.key, depth_left),
+            check_parts(&entry.value, depth_left),
+        ),
+        Value::Variant(inner) => {
+            if depth_left == 0 {
+                return Verdict::TooDeep;
+            }
+            earlier(check_single(inner), check_parts(inner, depth_left - 1))
+        }
         _ => {
-            numbers_in_range(value);
-            true
+            basic_in_range(value);
+            Verdict::Sound
         }
     }
 }
 
-#[cycle(named)]
-fn are_named<A: Allocator>(values: &[Value<A>]) -> bool
-    ensures named { IsTrue result ↔ AreNamed (value_trees_of values.now) }
-    ensures numbers { OnTrue result (HoldNumbers (value_trees_of values.now)) }
+#[cycle(check)]
+fn check_all<A: Allocator>(values: &[Value<A>], depth_left: u8) -> Verdict
+    ensures { ArePartsVerdict depth_left values.now result }
 {
+    let mut found = Verdict::Sound;
     for value in values {
-        if !is_named(value) {
-            return false;
-        }
+        found = earlier(found, check_parts(value, depth_left));
     }
-    true
+    found
 }
 
-fn is_of_kind(kind: TextKind, text: &[u8]) -> bool
-    ensures { IsTrue result ↔ IsKind kind text.now }
+/// Whether a text is of its kind.
+fn check_text(kind: TextKind, text: &[u8]) -> Verdict
+    ensures { IsVerdict (Unit {0}) (Unit {0}) (IsKind kind text.now) (Unit {0}) result }
 {
-    text_break(kind, text).is_none()
+    match text_break(kind, text) {
+        None => Verdict::Sound,
+        Some(_) => Verdict::Misnamed,
+    }
+}
+
+/// Whether a signature spells a value's type.
+fn check_single<A: Allocator>(value: &Value<A>) -> Verdict
+    ensures { IsVerdict (Unit {0}) (IsSingleType (tree_type (value_tree value.now))) (Unit {0})
+        (Unit {0}) result }
+{
+    if has_single_type(value) {
+        Verdict::Sound
+    } else {
+        Verdict::Mixed
+    }
+}
+
+/// Whether every item has its array's type, which is not BYTE.
+fn check_items<A: Allocator>(element: &SigType<A>, items: &[Value<A>]) -> Verdict
+    ensures { let ty = type_tree element.now in
+        IsVerdict (Unit {0}) (IsTrue (not (is_byte ty)) × AllOf ty (value_trees_of items.now))
+        (Unit {0}) (Unit {0}) result }
+{
+    if !is_byte(element) && all_of(element, items) {
+        Verdict::Sound
+    } else {
+        Verdict::Mixed
+    }
 }

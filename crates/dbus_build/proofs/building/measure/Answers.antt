@@ -30,4 +30,4 @@ returns-in-None-measure_all g c =
 pub returns-else-end-from : goal.returns-else-end-from
 returns-else-end-from g c =
     built c.args.limits c.args.parts.now c.in-Some.end c.from.result c.requires.passed (rw c.deref.ensures.value at c.in-Some.ensures) (omega arith) (omega arith)
-    c.in-Some-measure_all.end (rw c.deref-2.ensures.value at c.in-Some-measure_all.ensures.exact) (omega arith) c.parts_in_range.ensures
+    c.in-Some-measure_all.end (rw c.deref-2.ensures.value at c.in-Some-measure_all.ensures.exact) (omega arith) c.requires.ranged

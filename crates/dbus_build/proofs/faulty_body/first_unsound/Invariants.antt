@@ -1,6 +1,9 @@
-use Rattle.std.proofs.Common.{ℕ, Option, drop}
+use Rattle.dbus_value_model.specs.Forming.{NestWithin}
+use Rattle.dbus_value_model.specs.Ranges.{HoldNumbers}
+use Rattle.dbus_value_model.specs.ValueViews.{value_trees_of}
 use Rattle.dbus_build.specs.BuildFaults.{IsFirstUnsound}
+use Rattle.dbus_build.proofs.Finding.{IsOn}
 use Rattle.dbus_build.proofs.faulty_body.first_unsound.Given as goal
 
 abbrev pub invariant-loop-i : goal.invariant-loop-i
-invariant-loop-i g l = (r : Option ℕ) → IsFirstUnsound l.i (drop l.i l.values) r → IsFirstUnsound 0 l.values r
+invariant-loop-i g l = IsOn (λ vs. NestWithin l.depth_left (value_trees_of vs)) IsFirstUnsound (λ vs. HoldNumbers (value_trees_of vs)) l.values l.i l.first

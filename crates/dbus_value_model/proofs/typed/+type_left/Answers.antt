@@ -1,4 +1,4 @@
-use Rattle.std.proofs.Common.{ℕ, ◌+◌, ◌-◌, ◌<◌, false, List, [], ◌∷◌, Some, None, length, drop, sym, ap, subst, ◌∙◌, arith}
+use Rattle.std.proofs.Common.{◌+◌, ◌<◌, false, List, [], ◌∷◌, Some, None, length, drop, sym, ap, subst, ◌∙◌, arith}
 use Rattle.std.proofs.lemmas.Bool.{eqb-false}
 use Rattle.std.proofs.lemmas.List.{at_drop_all}
 use Rattle.dbus_texts.specs.Types.{TypeTrees, AreSome}
@@ -9,7 +9,7 @@ use Rattle.dbus_value_model.specs.ValueViews.{value_tree, value_trees_of}
 use Rattle.dbus_value_model.specs.declared.value.Value.{Value, the_lemmas}
 use Rattle.dbus_value_model.proofs.Items.{items_from}
 use Rattle.dbus_value_model.proofs.ValueRows.{tree-Struct}
-use Rattle.dbus_value_model.proofs.uniformity.+type_left.Goals as goal
+use Rattle.dbus_value_model.proofs.typed.+type_left.Goals as goal
 
 are_some : {A : Type 0} (vs : List (Value A)) → 0 < length vs → AreSome (types_of (value_trees_of vs))
 are_some [] h = absurd (omega arith)

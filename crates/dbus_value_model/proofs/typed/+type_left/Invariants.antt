@@ -2,7 +2,7 @@ use Rattle.std.proofs.Common.{ℕ, Option, drop}
 use Rattle.dbus_types.specs.Rooms.{LeavesOfTypes}
 use Rattle.dbus_value_model.specs.Values.{types_of}
 use Rattle.dbus_value_model.specs.ValueViews.{value_trees_of}
-use Rattle.dbus_value_model.proofs.uniformity.+type_left.Given as goal
+use Rattle.dbus_value_model.proofs.typed.+type_left.Given as goal
 
 abbrev pub invariant-types_left-loop-value : goal.invariant-types_left-loop-value
 invariant-types_left-loop-value g l =
