@@ -3,8 +3,8 @@
 
 The messages are the captures in samples/, whole and cut short, and those of the first messages of each capture of which one
 byte is changed. Both the text and the exit status are compared. What LISTER writes of the captures is compared with what
-`PROGRAM show` writes, whose header fields may be in another order, and of whose values that are no text the first code of the
-type alone; what SWAPPER writes of them in either byte order, with `PROGRAM swap`. The exit status is 1 if they differ.
+`PROGRAM show` writes, whose header fields may be in another order; what SWAPPER writes of them in either byte order, with
+`PROGRAM swap`. The exit status is 1 if they differ.
 """
 
 import collections
@@ -56,14 +56,8 @@ def answer(words, data):
 
 
 def listed(text):
-    """The lines of messages: the first of each as its words in an order of its own, a text as it is, another value as its code."""
-    return [listed_line(line) for line in text.split("\n")]
-
-
-def listed_line(line):
-    if line.startswith("#"):
-        return sorted(line.split(" "))
-    return line if line[3:4] == ":" and line[2] in "sog" else line[:3].replace("<", "v")
+    """The lines of messages: the first of each as its words in an order of its own, and each value as it is."""
+    return [sorted(line.split(" ")) if line.startswith("#") else line for line in text.split("\n")]
 
 
 def compare_lists(program, lister, folder):

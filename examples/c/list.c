@@ -1,10 +1,10 @@
 /* Lists the D-Bus messages on standard input, as `dbus-wire show` does, but with the header fields in the order of their codes: a
  * line with the number, the byte order, the type, the serial, the flags and the known header fields, and then one for each value
- * of the body, which is its text, or the code of its type if it is no text. The texts are written from the bytes that were read:
- * nothing is copied. */
+ * of the body. The texts are written from the bytes that were read: nothing is copied. */
 #include <dbus_wire.h>
 
 #include <stdio.h>
+#include <string.h>
 
 static const char *type_name(uint32_t kind) {
     static const char *const names[] = {"method_call", "method_return", "error", "signal"};
@@ -24,15 +24,76 @@ static void print_byte(uint8_t byte) {
         putchar(byte);
 }
 
-static void print_argument(const uint8_t *bytes, const struct dbus_wire_argument *argument) {
+static void print_quoted(const uint8_t *text, uint64_t length) {
     uint64_t at;
-    printf("  %c", (char)argument->code);
-    if (argument->code == 's' || argument->code == 'o' || argument->code == 'g') {
-        printf(":\"");
-        for (at = 0; at < argument->length; at++) print_byte(bytes[argument->offset + at]);
-        printf("\"");
+    putchar('"');
+    for (at = 0; at < length; at++) print_byte(text[at]);
+    putchar('"');
+}
+
+static void print_number(const struct dbus_wire_item *item) {
+    switch (item->code) {
+    case 'b': printf("%s", item->number ? "true" : "false"); break;
+    case 'n': printf("%d", (int)(int16_t)item->number); break;
+    case 'i': printf("%ld", (long)(int32_t)item->number); break;
+    case 'x': printf("%lld", (long long)item->number); break;
+    case 'd': printf("%016llx", (unsigned long long)item->number); break;
+    default: printf("%llu", (unsigned long long)item->number);
     }
-    printf("\n");
+}
+
+static void print_values(const uint8_t *bytes, size_t count, struct dbus_wire_cursor at, const char *between);
+
+static void print_array(const uint8_t *bytes, size_t count, const struct dbus_wire_item *item) {
+    uint64_t at;
+    printf("%.*s:", (int)item->parts.types_length, (const char *)bytes + item->parts.types);
+    if (bytes[item->parts.types + 1] == 'y') {
+        for (at = 0; at < item->length; at++) printf("%02x", bytes[item->offset + at]);
+        return;
+    }
+    printf("[");
+    print_values(bytes, count, item->parts, ", ");
+    printf("]");
+}
+
+static void print_value(const uint8_t *bytes, size_t count, const struct dbus_wire_item *item) {
+    static const char opening[] = "({v", *const around[] = {"()", "{}", "<>"};
+    const char *container = strchr(opening, (int)item->code);
+    if (container != NULL) {
+        putchar(around[container - opening][0]);
+        print_values(bytes, count, item->parts, ", ");
+        putchar(around[container - opening][1]);
+    } else if (item->code == 'a') {
+        print_array(bytes, count, item);
+    } else {
+        printf("%c:", (char)item->code);
+        if (strchr("sog", (int)item->code) != NULL)
+            print_quoted(bytes + item->offset, item->length);
+        else
+            print_number(item);
+    }
+}
+
+/* The values at a cursor. A cursor is copied, so each level of containers has its own. */
+static void print_values(const uint8_t *bytes, size_t count, struct dbus_wire_cursor at, const char *between) {
+    struct dbus_wire_item item;
+    const char *before = "";
+    while (dbus_wire_next(bytes, count, &at, &item) == DBUS_WIRE_WHOLE) {
+        printf("%s", before);
+        print_value(bytes, count, &item);
+        before = between;
+    }
+}
+
+static void print_body(const uint8_t *bytes, size_t count) {
+    struct dbus_wire_cursor at;
+    struct dbus_wire_item item;
+    if (dbus_wire_body_cursor(bytes, count, NULL, &at) != DBUS_WIRE_WHOLE) return;
+    while (dbus_wire_next(bytes, count, &at, &item) == DBUS_WIRE_WHOLE) {
+        printf("  ");
+        print_value(bytes, count, &item);
+        printf("\n");
+    }
 }
 
 static void print_message(unsigned long number, const uint8_t *bytes, const struct dbus_wire_parts *parts) {
@@ -53,14 +114,12 @@ static void print_message(unsigned long number, const uint8_t *bytes, const stru
 int main(void) {
     static uint8_t bytes[1 << 20];
     struct dbus_wire_parts parts;
-    struct dbus_wire_argument argument;
-    size_t count = fread(bytes, 1, sizeof bytes, stdin), at = 0, value;
+    size_t count = fread(bytes, 1, sizeof bytes, stdin), at = 0;
     unsigned long number = 0;
 
     while (dbus_wire_parts_of(bytes + at, count - at, NULL, &parts) == DBUS_WIRE_WHOLE) {
         print_message(++number, bytes + at, &parts);
-        for (value = 0; dbus_wire_argument_of(bytes + at, count - at, NULL, value, &argument) == DBUS_WIRE_WHOLE; value++)
-            print_argument(bytes + at, &argument);
+        print_body(bytes + at, count - at);
         at += parts.length;
     }
     return at < count;

@@ -3,4 +3,5 @@ pub mod FirstBytes
 pub mod Telling
 pub mod Swapped
 pub mod Fronts
+pub mod Bodies
 pub mod Outcomes

@@ -6,6 +6,7 @@ pub mod Wanting
 pub mod Parting
 pub mod Swapping
 pub mod Arguments
+pub mod BodyCursors
 pub mod Outcomes
 pub mod TextKinds
 pub mod TextChecking

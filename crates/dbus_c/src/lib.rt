@@ -9,6 +9,7 @@
 mod answers;
 mod arguments;
 mod checking;
+mod cursors;
 mod given_limits;
 mod names;
 mod parts;
@@ -21,6 +22,7 @@ mod wanted;
 pub use answers::{NO_KIND, NO_ROOM, NO_VALUE, PARTIAL, REFUSED, WHOLE};
 pub use arguments::{Argument, dbus_wire_argument_of};
 pub use checking::{Checked, dbus_wire_check};
+pub use cursors::{dbus_wire_body_cursor, dbus_wire_next};
 pub use given_limits::{ANY_INDEX, INDEX_BELOW_COUNT, WireLimits, dbus_wire_specification_limits};
 pub use names::{dbus_wire_reason_name, names_are_texts};
 pub use parts::{Parts, TextPlace, dbus_wire_parts_of};

@@ -107,7 +107,7 @@ pub extern "C" fn dbus_wire_parts_of(bytes: &[u8], limits: &WireLimits, out: &mu
 }
 
 // The byte that names an order.
-fn order_byte(order: Order) -> u32
+pub(crate) fn order_byte(order: Order) -> u32
     ensures { result ≡ order_byte order }
 {
     match order {
@@ -117,7 +117,7 @@ fn order_byte(order: Order) -> u32
 }
 
 // Where the text of the field of a known code is.
-fn place_of(seen: &Seen, code: u8) -> TextPlace
+pub(crate) fn place_of(seen: &Seen, code: u8) -> TextPlace
     ensures { (bytes : List ℕ) (fs : List FieldTree) → AreNoted fs bytes seen.now →
         is_known code ≡ true → IsPlaceOf (field_value code fs) bytes result }
 {

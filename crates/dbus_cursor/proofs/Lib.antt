@@ -1,0 +1,5 @@
+pub mod TypeTexts
+pub mod Heads
+pub mod Others
+pub mod PartTypes
+pub mod PartsThere
