@@ -35,6 +35,9 @@ ARCHIVE = out/libdbus_wire.a
 # include/dbus_wire.h says what changes its number.
 SONAME = libdbus_wire.so.0
 SHARED = out/$(SONAME)
+# The kit's calls of malloc, realloc and free, which are C: an object that the archive needs, and where the kit has it.
+HEAP_OBJECT = heap.pic.o
+HEAP = $(dir $(firstword $(shell rt doc)))c/liblibc_c.a
 VERSION = $(shell sed -n 's/.*VERSION: &str = "\(.*\)";/\1/p' crates/dbus_command/src/help.rt)
 # The kit that everything was proved with, as README says.
 KIT = $(shell sed -n 's/.*Proved with\*\* \([^ ,]*\),.*/\1/p' README.md)
@@ -71,6 +74,7 @@ build: kit
 library: kit
 	bench/build.py dbus_c
 	cp crates/dbus_c/out/libdbus_c.a $(ARCHIVE)
+	cd out && ar x $(HEAP) $(HEAP_OBJECT) && ar r $(notdir $(ARCHIVE)) $(HEAP_OBJECT) && rm $(HEAP_OBJECT)
 	$(CC) -shared -o $(SHARED) -Wl,-soname,$(SONAME) -Wl,--whole-archive $(ARCHIVE) -Wl,--no-whole-archive \
 		-Wl,--version-script=include/libdbus_wire.map -Wl,-z,defs -Wl,-z,text
 

@@ -12,8 +12,8 @@ cp "$archive" "$built/libdbus_wire.a"
 : "${CC:=cc}" "${CXX:=c++}"
 flags="-I$here/../include -Wall -Wextra -Wpedantic -Werror"
 sanitized="-std=c99 -g -fsanitize=address,undefined $flags"
-# No call takes memory: the archive asks the C library for none.
-if nm -u "$archive" | grep -Ew 'malloc|calloc|realloc|aligned_alloc|posix_memalign|mmap|sbrk|free'; then
+# One object of the archive, the kit's, takes and frees memory for the other.
+if nm -A -u "$archive" | grep -v ':heap.pic.o:' | grep -Ew 'malloc|calloc|realloc|aligned_alloc|posix_memalign|mmap|sbrk|free'; then
 	echo "the archive takes memory"
 	exit 1
 fi
@@ -27,10 +27,19 @@ echo '#include <dbus_wire.h>' | "$CXX" $flags -x c++ -fsyntax-only -
 "$CC" -std=c99 -O2 $flags -o "$built/check" "$here/c/check.c" -L"$built" -ldbus_wire
 "$CC" -std=c99 -O2 $flags -o "$built/check_shared" "$here/c/check.c" "$shared" -Wl,-rpath,"$(cd "$(dirname "$shared")" && pwd)"
 "$CC" $sanitized -o "$built/check_sanitized" "$here/c/check.c" -L"$built" -ldbus_wire
-for name in list swap room habits texts; do "$CC" $sanitized -o "$built/$name" "$here/c/$name.c" -L"$built" -ldbus_wire; done
-for sample in session big-endian; do "$built/room" < "$here/../samples/$sample.dbus"; done
+for name in list swap room habits texts pieces threads; do "$CC" $sanitized -pthread -o "$built/$name" "$here/c/$name.c" -L"$built" -ldbus_wire; done
+for sample in session big-endian; do
+	for name in room threads; do "$built/$name" < "$here/../samples/$sample.dbus"; done
+	for length in 1 64 4096; do "$built/pieces" $length < "$here/../samples/$sample.dbus"; done
+done
+# A checker for which there is no memory is not made.
+"$CC" -std=c99 -O2 $flags -o "$built/pieces_plain" "$here/c/pieces.c" -L"$built" -ldbus_wire
+"$CC" -shared -fPIC -o "$built/refuse_nth.so" "$here/../bench/refuse_nth.c" -ldl
+status=0
+LD_PRELOAD=$built/refuse_nth.so REFUSE_NTH=1 "$built/pieces_plain" < "$here/../samples/session.dbus" || status=$?
+test $status = 3
 "$here/tables.py" "$built/habits" "$built/texts" "$program"
-set -- "$built/list" "$built/swap" "$built/check" "$built/check_sanitized" "$built/check_shared"
+set -- "$built/list" "$built/swap" "$built/check" "$built/check_sanitized" "$built/check_shared" "$built/pieces_plain"
 
 if command -v cargo > /dev/null; then
 	DBUS_WIRE_LIBRARY=$built cargo build --quiet --offline --release --manifest-path "$here/rust/Cargo.toml" --target-dir "$built/rust"

@@ -26,6 +26,7 @@ static void sizes(void) {
     expect(dbus_wire_version() == DBUS_WIRE_VERSION, "the library has the header's version");
     expect(sizeof(struct dbus_wire_limits) == 16 && sizeof(struct dbus_wire_checked) == 32, "limits 16, checked 32 bytes");
     expect(sizeof(struct dbus_wire_parts) == 208 && sizeof(struct dbus_wire_text) == 24, "parts 208, text 24 bytes");
+    expect(sizeof(struct dbus_wire_checker) == 8 && sizeof(struct dbus_wire_taken) == 24, "checker 8, taken 24 bytes");
     expect(sizeof(struct dbus_wire_argument) == 24 && sizeof(struct dbus_wire_text_checked) == 16, "argument 24, text_checked 16 bytes");
 }
 

@@ -10,3 +10,4 @@ pub mod BodyCursors
 pub mod Outcomes
 pub mod TextKinds
 pub mod TextChecking
+pub mod Checkers

@@ -1,4 +1,4 @@
-//! The answers of the calls: one set for all of them, in which 0 is success. Their numbers are for good, and 3 is kept for out of memory.
+//! The answers of the calls: one set for all of them, in which 0 is success. Their numbers are for good.
 #![tactic(auto)]
 
 /// The bytes begin with a message, or are a text of the kind that is asked for; what was asked for is written.
@@ -10,6 +10,9 @@ pub const PARTIAL: u32 = 1;
 /// The bytes are at fault.
 pub const REFUSED: u32 = 2;
 
+/// Memory ran out.
+pub const NO_MEMORY: u32 = 3;
+
 /// The caller has too few bytes for what is to be written.
 pub const NO_ROOM: u32 = 4;
 
@@ -18,3 +21,6 @@ pub const NO_VALUE: u32 = 5;
 
 /// No kind of text has the number that is asked for.
 pub const NO_KIND: u32 = 6;
+
+/// There is no checker: none was made, or it was freed.
+pub const NO_CHECKER: u32 = 7;

@@ -2,12 +2,14 @@
 //! Protocol".
 //!
 //! [`dbus_wire_check`] checks bytes, [`dbus_wire_wanted`] says how many to read, [`dbus_wire_parts_of`] and
-//! [`dbus_wire_argument_of`] give a message's parts, and [`dbus_wire_swap`] byteswaps. None takes memory.
+//! [`dbus_wire_argument_of`] give a message's parts, and [`dbus_wire_swap`] byteswaps. [`dbus_wire_checker_new`] makes a checker that is
+//! handed one piece after another; no other call takes memory.
 //! `include/dbus_wire.h` declares them and says what a caller owes; `examples/c` has callers.
 #![tactic(auto)]
 
 mod answers;
 mod arguments;
+mod checkers;
 mod checking;
 mod cursors;
 mod given_limits;
@@ -19,8 +21,12 @@ mod texts;
 mod version;
 mod wanted;
 
-pub use answers::{NO_KIND, NO_ROOM, NO_VALUE, PARTIAL, REFUSED, WHOLE};
+pub use answers::{NO_CHECKER, NO_KIND, NO_MEMORY, NO_ROOM, NO_VALUE, PARTIAL, REFUSED, WHOLE};
 pub use arguments::{Argument, dbus_wire_argument_of};
+pub use checkers::{
+    Taken, dbus_wire_checker_free, dbus_wire_checker_new, dbus_wire_checker_restart,
+    dbus_wire_checker_take,
+};
 pub use checking::{Checked, dbus_wire_check};
 pub use cursors::{dbus_wire_body_cursor, dbus_wire_next};
 pub use given_limits::{ANY_INDEX, INDEX_BELOW_COUNT, WireLimits, dbus_wire_specification_limits};
