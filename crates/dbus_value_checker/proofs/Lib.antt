@@ -11,5 +11,5 @@ pub mod TextSteps
 pub mod NumberRuns
 pub mod ArrayRuns
 pub mod Calls
-pub mod WholeValues
 pub mod Chains
+pub mod WholeValues

@@ -74,6 +74,7 @@ next_element_at x answer (Elements (suc turns) depth_left end t ∷ ws) h noted 
       text = is.type;
       type_noted = noted.1.0;
       complete = subst (λ (b : Bool). IsShaped b t) (sym a) is.complete;
+      element = λ e. (refl, refl);
       pos_is = h.0.pos_is;
       stop_is = h.0.stop_is;
       same = λ c.
@@ -112,6 +113,7 @@ next_part_at x answer (Parts depth_left end (MoreTypes t ts) ∷ ws) q is h note
       type_noted = part_noted x.text.items x.lengths.items x.inner.pos x.inner.stop x.inner.pos q noted.1.0 (omega arith) (omega arith);
       text = subst (λ (p : ℕ). slice x.text.items x.inner.pos p ≡ sig t) (sym past) (slice_first x.text.items x.inner.pos x.inner.stop (sig t) (sigs ts) h.0.pos_is f.types);
       complete = subst (λ (b : Bool). IsShaped b t) (sym a) f.complete.0;
+      element = λ e. absurd (false_true x.inner.array a e);
       pos_is = omega arith;
       stop_is = omega arith;
       same = λ c.
@@ -189,4 +191,4 @@ next_last x answer g over none =
 
 -- the type that is wanted is noted
 pub wants_doing : (x : Values) (pos stop p s : ℕ) (answer : Answer) → Wants x pos stop answer → Wants (record x { doing = rust.Wanted p s }) pos stop answer
-wants_doing x pos stop p s answer w = record { ws = w.ws; type = w.type; frames = w.frames; noted = w.noted; text = w.text; type_noted = w.type_noted; complete = w.complete; pos_is = w.pos_is; stop_is = w.stop_is; same = w.same }
+wants_doing x pos stop p s answer w = record { ws = w.ws; type = w.type; frames = w.frames; noted = w.noted; text = w.text; type_noted = w.type_noted; complete = w.complete; element = w.element; pos_is = w.pos_is; stop_is = w.stop_is; same = w.same }

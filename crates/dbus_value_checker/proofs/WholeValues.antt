@@ -1,6 +1,6 @@
 -- A wanted value that stands whole in the bytes is passed at once.
-use Rattle.std.proofs.Common.{◌≡◌, ℕ, suc, ◌+◌, ◌-◌, ◌%◌, ◌<◌, ◌≤◌, List, ◌++◌, length, take, drop, get_or, Bool, true, false, sym, ap, subst, ◌∙◌, arith}
-use Rattle.std.proofs.lemmas.List.{take_at, drop-drop, drop-take, get_or-drop, length-drop, length-take, length-append}
+use Rattle.std.proofs.Common.{◌≡◌, ℕ, zero, suc, ◌+◌, ◌-◌, ◌%◌, ◌<◌, ◌≤◌, List, ◌++◌, length, take, drop, get_or, Bool, true, false, sym, ap, subst, ◌∙◌, arith}
+use Rattle.std.proofs.lemmas.List.{take_at, drop-drop, drop-take, get_or-drop, length-drop, length-take, length-append, take_all}
 use Rattle.dbus_texts.specs.Types.{TypeTree, sig, IsShaped}
 use Rattle.dbus_types.proofs.TypeCodes.{begins}
 use Rattle.dbus_value_model.specs.Reading.{Done, after, value}
@@ -15,7 +15,9 @@ use Rattle.dbus_value_validator.proofs.Spelled.{value_spelled}
 use Rattle.dbus_value_checker.specs.declared.values.Values.{Values}
 use Rattle.dbus_value_checker.specs.Frames.{slice, IsNoted}
 use Rattle.dbus_value_checker.specs.Denotations.{Answer, rest_of, Goes, Wants, after_piece}
+use Rattle.dbus_value_checker.proofs.Chains.{take-both}
 use Rattle.dbus_value_checker.proofs.FrameLaws.{frames_at, inner_of}
+use Rattle.dbus_value_checker.proofs.NextValues.{next_element}
 
 pub shaped_there : (b : Bool) (t : TypeTree) → IsShaped b t → IsShaped true t
 shaped_there true t h = h
@@ -50,26 +52,61 @@ module _ (x : Values) (pos stop : ℕ) (answer : Answer) (w : Wants x pos stop a
         same = λ c. ap (λ o. after o (λ z. rest_of answer x w.ws)) (sym (read c)) ∙ w.same (take m s ++ c);
       }
 
--- the same, of what the validator reads in bytes that begin at a multiple of 8
-module _ (x : Values) (pos stop : ℕ) (answer : Answer) (w : Wants x pos stop answer) (bytes : List ℕ) (n : ℕ) (are : (i : ℕ) → get_or bytes i 0 < 256) where
+-- the type that is wanted, as a slice of the signatures
+pub types_are : (text : List ℕ) (pos stop : ℕ) → pos ≤ stop → slice text pos stop ≡ take (stop - pos) (drop pos text)
+types_are text pos stop le = ap (λ k. drop pos (take k text)) (let e : stop ≡ pos + (stop - pos) = omega arith in e) ∙ drop-take pos (stop - pos) text
+
+-- The same, of what the validator reads in bytes that begin at a multiple of 8: one value, or some of an array, one after another.
+module _ (x : Values) (answer : Answer) (bytes : List ℕ) (n : ℕ) (are : (i : ℕ) → get_or bytes i 0 < 256) where
   abbrev before : ℕ
   before = x.offset % 8
 
   abbrev here : List ℕ
   here = drop (n - before) bytes
 
-  pub read_goes : (end after : ℕ) → before ≤ n → before ≤ after → (after ≡ before → ⊥) → end ≤ before + (x.inner.end - x.offset)
-      → EndsAt here after (value x.bounds x.order x.inner.depth_left end w.type before (drop before here)) → Goes (record x { offset = x.offset + (after - before) }) (after_piece answer (take (after - before) (drop n bytes)))
-  read_goes end after there le other ends read =
-      let m = after - before in
-      let place : before + m ≡ after = omega arith in
-      let is_byte : (i : ℕ) → get_or here i 0 < 256 = λ i. (let e = get_or-drop (n - before) bytes i 0 in let b = are (n - before + i) in omega arith) in
-      let spelled = value_spelled x.bounds x.order x.inner.depth_left end before here is_byte w.type (shaped_there x.inner.array w.type w.complete) read.0 after (drop after here) read.1 in
-      let s_is : drop before here ≡ drop n bytes = drop-drop before (n - before) bytes ∙ ap (λ k. drop k bytes) (let e : n - before + before ≡ n = omega arith in e) in
-      let moved = subst (λ s. Spelled x.bounds x.order x.inner.depth_left end w.type before s read.0 after (drop after here)) s_is spelled in
-      whole_goes x pos stop answer w (drop n bytes) before end m read.0 (drop after here) (omega arith) (omega arith) ends
-      (subst (λ q. Spelled x.bounds x.order x.inner.depth_left end w.type before (drop n bytes) read.0 q (drop after here)) (sym place) moved)
+  -- what is wanted after so many bytes
+  abbrev further : ℕ → Values
+  further m = record x { offset = x.offset + m }
 
--- the type that is wanted, as a slice of the signatures
-pub types_are : (text : List ℕ) (pos stop : ℕ) → pos ≤ stop → slice text pos stop ≡ take (stop - pos) (drop pos text)
-types_are text pos stop le = ap (λ k. drop pos (take k text)) (let e : stop ≡ pos + (stop - pos) = omega arith in e) ∙ drop-take pos (stop - pos) text
+  abbrev onwards : ℕ → Answer
+  onwards m = after_piece answer (take m (drop n bytes))
+
+  abbrev Went : ℕ → Type 0
+  Went m = 0 < m → (x.inner.array ≡ true) × Goes (further m) (onwards m)
+
+  more_wanted : (pos stop m : ℕ) → Wants x pos stop answer → Went m → x.offset + m < x.inner.end → Wants (further m) pos stop (onwards m)
+  more_wanted pos stop zero w went more = subst (λ (o : ℕ). Wants (record x { offset = o }) pos stop (onwards 0)) (let e : x.offset ≡ x.offset + 0 = omega arith in e) w
+  more_wanted pos stop (suc m) w went more =
+      let g = went (omega arith) in
+      let at = w.element g.0 in
+      subst (λ (p : ℕ). Wants (further (suc m)) p stop (onwards (suc m))) (sym at.0)
+      (subst (λ (q : ℕ). Wants (further (suc m)) x.inner.pos q (onwards (suc m))) (sym at.1) (next_element (further (suc m)) (onwards (suc m)) g.1 g.0 more))
+
+  both_go : (m k : ℕ) → m ≤ length (drop n bytes) → Goes (record x { offset = x.offset + m + k }) (after_piece (onwards m) (take k (drop m (drop n bytes)))) → Goes (further (m + k)) (onwards (m + k))
+  both_go m k long g =
+      subst (λ (o : ℕ). Goes (record x { offset = o }) (onwards (m + k))) (let e : x.offset + m + k ≡ x.offset + (m + k) = omega arith in e)
+      (record { ws = g.ws; frames = g.frames; noted = g.noted; same = λ c. g.same c ∙ ap answer.to (sym (take-both m k (drop n bytes) c long)) })
+
+  pub read_goes : (pos stop at end next : ℕ) (text : List ℕ) → text ≡ x.text.items → Wants x pos stop answer → before ≤ n → before ≤ at → Went (at - before) → at < end → at < next → end ≤ before + (x.inner.end - x.offset) → end ≤ length (take (length bytes - (n - before)) here)
+      → ((t : TypeTree) → sig t ≡ take (stop - pos) (drop pos text) → IsShaped true t → EndsAt (take (length bytes - (n - before)) here) next (value x.bounds x.order x.inner.depth_left end t at (drop at (take (length bytes - (n - before)) here))))
+      → Goes (further (next - before)) (onwards (next - before))
+  read_goes pos stop at end next text text_is whole there from went more past ends inside reads =
+      let m = at - before in
+      let k = next - at in
+      let w = more_wanted pos stop m whole went (omega arith) in
+      let low = (inner_of (further m) (suc (x.offset + m)) w.ws w.frames).low in
+      let size = length-drop (n - before) bytes in
+      let all : take (length bytes - (n - before)) here ≡ here = take_all _ here (omega arith) in
+      let fits = ap length all in
+      let types : sig w.type ≡ take (stop - pos) (drop pos text) = sym w.text ∙ types_are x.text.items pos stop w.pos_is ∙ ap (λ (l : List ℕ). take (stop - pos) (drop pos l)) (sym text_is) in
+      let shaped = shaped_there x.inner.array w.type w.complete in
+      let read = subst (λ (l : List ℕ). EndsAt l next (value x.bounds x.order x.inner.depth_left end w.type at (drop at l))) all (reads w.type types shaped) in
+      let is_byte : (i : ℕ) → get_or here i 0 < 256 = λ i. (let e = get_or-drop (n - before) bytes i 0 in let b = are (n - before + i) in omega arith) in
+      let spelled = value_spelled x.bounds x.order x.inner.depth_left end at here is_byte w.type shaped read.0 next (drop next here) read.1 in
+      let place : next ≡ at + k = omega arith in
+      let s_is : drop at here ≡ drop m (drop n bytes) = drop-drop at (n - before) bytes ∙ ap (λ (j : ℕ). drop j bytes) (let e : n - before + at ≡ n + m = omega arith in e) ∙ sym (drop-drop m n bytes) in
+      let moved = subst (λ (s : List ℕ). Spelled x.bounds x.order x.inner.depth_left end w.type at s read.0 (at + k) (drop next here)) s_is
+      (subst (λ (q : ℕ). Spelled x.bounds x.order x.inner.depth_left end w.type at (drop at here) read.0 q (drop next here)) place spelled) in
+      let g = whole_goes (further m) pos stop (onwards m) w (drop m (drop n bytes)) at end k read.0 (drop next here) (omega arith) (omega arith) (omega arith) moved in
+      let both = both_go m k (omega (arith, fits, inside, size, length-drop n bytes)) g in
+      subst (λ (j : ℕ). Goes (further j) (onwards j)) (let e : m + k ≡ next - before = omega arith in e) both

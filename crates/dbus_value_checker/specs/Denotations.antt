@@ -1,5 +1,5 @@
 -- What the fields of `Values` stand for: what they answer to the bytes still to come.
-use Rattle.std.specs.Prelude.{◌≡◌, ℕ, suc, ◌+◌, ◌*◌, ◌<◌, ◌≤◌, List, ◌∷◌, ◌++◌, length, reverse, Option, None}
+use Rattle.std.specs.Prelude.{◌≡◌, ℕ, suc, ◌+◌, ◌*◌, ◌<◌, ◌≤◌, List, ◌∷◌, ◌++◌, length, reverse, Option, None, true}
 use Rattle.dbus_texts.specs.Types.{NumberCode, NumberType, TextCode, TypeTree, text_code, sig, IsShaped}
 use Rattle.dbus_types.specs.Alignments.{width}
 use Rattle.dbus_texts.specs.Scans.{Stands}
@@ -49,6 +49,7 @@ pub record Wants (x : Values) (pos stop : ℕ) (answer : Answer) : Type 0 where
   pub text : slice x.text.items pos stop ≡ sig type
   pub type_noted : IsNoted x.text.items x.lengths.items pos stop
   pub complete : IsShaped (x.inner.array) type
+  pub element : x.inner.array ≡ true → (pos ≡ x.inner.pos) × (stop ≡ x.inner.stop)
   pub pos_is : pos ≤ stop
   pub stop_is : stop ≤ x.inner.top
   pub same : (c : List ℕ) → onward (value x.bounds x.order x.inner.depth_left x.inner.end type) (rest_of answer x ws) x.offset c ≡ answer.to c

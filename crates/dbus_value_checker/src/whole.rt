@@ -19,7 +19,8 @@ impl Values {
     ghost use Rattle.dbus_value_checker.specs.Moves.{Moves, IsLive, wide};
     ghost use Rattle.dbus_value_model.specs.declared.stop.Stop.TheVariants.{Partial};
 
-    /// How many bytes the wanted value has, if all of them are among those after the first n, and they are valid.
+    /// How many bytes the wanted value has, and in an array the elements after it, as far as all of their bytes are among those after
+    /// the first n, and they are valid.
     fn whole(&self, bytes: &[u8], n: usize) -> Option<usize>
         requires valid { (answer : Answer) × Denotes self.now answer }
         requires within { n ≤ length bytes.now }
@@ -44,14 +45,23 @@ impl Values {
             lengths: self.lengths.as_slice(),
         };
         let types = &self.text.as_slice()[pos..stop];
-        let after = one_value(&source, before, end, types, pos, self.inner.depth_left)?;
+        let mut after = before;
+        while after < end {
+            match one_value(&source, after, end, types, pos, self.inner.depth_left) {
+                Some(next) if after < next => after = next,
+                _ => break,
+            }
+            if !self.inner.array {
+                break;
+            }
+        }
         if after == before {
             return None;
         }
         Some(after - before)
     }
 
-    /// Whether the wanted value is worth trying at once: values in arrays and those around all others, so that what is tried in
+    /// Whether what is wanted is worth trying at once: elements of arrays and the values around all others, so that what is tried in
     /// vain because the bytes end is tried once.
     fn is_tried(&self, bytes: &[u8], n: usize) -> bool
         requires within { n ≤ length bytes.now }
@@ -61,7 +71,7 @@ impl Values {
             && (FEW <= left || self.inner.end <= self.offset.saturating_add(left))
     }
 
-    /// Takes what is wanted from the bytes after the first n: a whole value at once, or what the next step takes.
+    /// Takes what is wanted from the bytes after the first n: whole values at once, or what the next step takes.
     pub(crate) fn advance(&mut self, bytes: &[u8], n: usize, misses: &mut u8) -> Result<usize, Stop>
         requires valid { (answer : Answer) × Denotes self.old answer }
         requires live { IsLive self.old.doing }

@@ -1,13 +1,10 @@
-use Rattle.std.proofs.Common.{◌≡◌, ◌-◌, ◌%◌, List, ℕ, length, take, drop, sym, ap, subst, ◌∙◌, arith}
-use Rattle.std.proofs.lemmas.List.{length-drop, take_all}
-use Rattle.dbus_texts.specs.Types.{sig}
-use Rattle.dbus_value_model.specs.Reading.{value}
-use Rattle.dbus_value_validator.specs.Endings.{EndsAt}
+use Rattle.std.proofs.Common.{◌≡◌, ◌+◌, ◌-◌, ◌%◌, List, ℕ, length, take, drop, sym, subst, arith}
 use Rattle.dbus_value_validator.specs.NotedTypes.{AreNoted}
 use Rattle.dbus_value_checker.specs.declared.values.Doing.{Doing}
-use Rattle.dbus_value_checker.specs.Denotations.{Wants, denotes}
+use Rattle.dbus_value_checker.specs.Denotations.{Goes, Wants, after_piece, denotes}
 use Rattle.dbus_value_checker.proofs.FrameLaws.{inner_of, frame_within}
-use Rattle.dbus_value_checker.proofs.WholeValues.{read_goes, shaped_there, type_noted, types_are}
+use Rattle.dbus_value_checker.proofs.WholeValues.{read_goes, type_noted, types_are}
+use Rattle.dbus_value_checker.proofs.values.Values.whole.Goals.{else-loop-after-test, then-loop-after-test+in_default-one_value-2, then-loop-after-test+in_default-one_value, then-loop-after-test+in-Some+then-not-self}
 use Rattle.dbus_value_checker.proofs.values.Values.whole.Goals as goal
 
 pub overflow_add-before : goal.overflow_add-before
@@ -28,18 +25,37 @@ one_value-requires-clause-noted c =
     subst (λ (l : List ℕ). AreNoted (take (stop - pos) (drop pos l)) c.as_slice.result.now pos) (sym c.as_slice-2.ensures.value)
     (subst (λ (l : List ℕ). AreNoted (take (stop - pos) (drop pos x.text.items)) l pos) (sym c.as_slice.ensures.value) noted)
 
+pub loop-after-preserved : goal.loop-after-preserved
+loop-after-preserved c = record {
+  low = omega arith;
+  high = omega (arith, (c.in-Some.ensures.moves).1);
+  goes = λ answer h some.
+      let x = c.args.self.now in
+      let w : Wants x c.in-Wanted.pos c.in-Wanted.stop answer = subst (λ (d : Doing). denotes d x answer) c.in-Wanted.is h in
+      let ends = c.min-end.ensures in (
+        c.if-not-self.false,
+        read_goes x answer c.args.bytes.now c.args.n (λ i. omega (arith, c.type_inv.bytes i)) c.in-Wanted.pos c.in-Wanted.stop c.loop-after.after c.min-end.result c.in-Some.next c.as_slice-2.result.now c.as_slice-2.ensures.value w
+            (omega (arith, c.if-n-before.false)) c.loop-after.invariant.low (c.loop-after.invariant.goes answer h) c.loop-after-test.true c.if-after-next.true (omega (arith, ends)) (omega (arith, ends)) c.in-Some.ensures.gives,
+      );
+}
+
 pub returns-clause-goes : goal.returns-clause-goes
 returns-clause-goes c = λ answer h.
     let x = c.args.self.now in
     let bytes = c.args.bytes.now in
     let n = c.args.n in
-    let before = x.offset % 8 in
-    let pos = c.in-Wanted.pos in
-    let stop = c.in-Wanted.stop in
-    let after = c.in_ok-after.after in
-    let w : Wants x pos stop answer = subst (λ (d : Doing). denotes d x answer) c.in-Wanted.is h in
-    let types : sig w.type ≡ take (stop - pos) (drop pos c.as_slice-2.result.now) = sym w.text ∙ types_are x.text.items pos stop w.pos_is ∙ ap (λ (l : List ℕ). take (stop - pos) (drop pos l)) (sym c.as_slice-2.ensures.value) in
-    let all : take (length bytes - (n - before)) (drop (n - before) bytes) ≡ drop (n - before) bytes = take_all _ (drop (n - before) bytes) (let l = length-drop (n - before) bytes in omega arith) in
-    let read = c.in_ok-after.ensures.gives w.type types (shaped_there x.inner.array w.type w.complete) in
-    read_goes x pos stop answer w bytes n (λ i. omega (arith, c.type_inv.bytes i)) c.min-end.result after (omega (arith, c.if-n-before.false)) c.in_ok-after.ensures.moves.0 c.if-after-before.false (omega (arith, c.min-end.ensures))
-    (subst (λ (l : List ℕ). EndsAt l after (value x.bounds x.order x.inner.depth_left c.min-end.result w.type before (drop before l))) all read)
+    let loop = c.loop-after in
+    let Went : ℕ → Type 0 = λ after. Goes (record x { offset = x.offset + (after - x.offset % 8) }) (after_piece answer (take (after - x.offset % 8) (drop n bytes))) in
+    let kept : c.loop-after-test.after ≡ loop.after → Went c.loop-after-test.after =
+    λ e. subst Went (sym e) (loop.invariant.goes answer h (omega (arith, e, c.if-after-before.false, loop.invariant.low))).1 in
+    elim c.loop-after-test.branch [
+      | else-loop-after-test w ↦ kept w.after-is
+      | then-loop-after-test+in_default-one_value-2 w ↦ kept w.after-is
+      | then-loop-after-test+in_default-one_value w ↦ kept w.after-is
+      | then-loop-after-test+in-Some+then-not-self w ↦
+          let v : Wants x c.in-Wanted.pos c.in-Wanted.stop answer = subst (λ (d : Doing). denotes d x answer) c.in-Wanted.is h in
+          let ends = c.min-end.ensures in
+          subst Went (sym w.after-is)
+          (read_goes x answer bytes n (λ i. omega (arith, c.type_inv.bytes i)) c.in-Wanted.pos c.in-Wanted.stop loop.after c.min-end.result w.in-Some.next c.as_slice-2.result.now c.as_slice-2.ensures.value v
+          (omega (arith, c.if-n-before.false)) loop.invariant.low (loop.invariant.goes answer h) w.loop-after-test.true w.if-after-next.true (omega (arith, ends)) (omega (arith, ends)) w.in-Some.ensures.gives)
+    ]
