@@ -156,7 +156,9 @@ pub(crate) fn own_value(
         Answers source.now.bytes.now result (value_in source.now depth_left end t at) }
     ensures moves { IfSome result (λ q. (at ≤ q) × (q ≤ end)) }
 {
-    if wants_lengths(types) {
+    // Of an array they are noted once it has elements.
+    let is_array = matches!(types.first(), Some(b'a'));
+    if !is_array && wants_lengths(types) {
         return noted_value(source, at, end, types, depth_left);
     }
     one_value(source, at, end, types, source.lengths.len(), depth_left)
@@ -227,7 +229,35 @@ fn array(
             None
         };
     }
+    if 0 < n && source.lengths.len() <= pos && wants_lengths(types) {
+        return noted_elements(source, first, n, types, depth_left - 1);
+    }
     elements(source, first, n, types, pos, depth_left - 1)
+}
+
+/// Elements, up to the end of the next n bytes, with the lengths of the types in theirs noted first.
+#[cycle(values)]
+fn noted_elements(
+    source: &Source<'_>,
+    at: usize,
+    n: usize,
+    types: &[u8],
+    depth_left: u8,
+) -> Option<usize>
+    requires inside { at + n ≤ length source.now.bytes.now }
+    requires few { length types.now ≤ 255 }
+    ensures gives { (t : TypeTree) → sig t ≡ types.now → IsShaped true t →
+        Answers source.now.bytes.now result (elements_in source.now n depth_left t at) }
+    ensures ends { IfSome result (λ q. q ≡ at + n) }
+{
+    let mut table = [0; 255];
+    let noted = Source {
+        bytes: source.bytes,
+        order: source.order,
+        bounds: source.bounds,
+        lengths: lengths_in(types, &mut table),
+    };
+    elements(&noted, at, n, types, 0, depth_left)
 }
 
 /// Elements of the one type that `types` spell, up to the end of the next n bytes.

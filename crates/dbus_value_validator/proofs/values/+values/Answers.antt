@@ -107,6 +107,12 @@ array-returns-else-n-from-eq0-clause-gives t c = λ u e shaped.
     array_answers source.bounds source.order c.args.depth_left c.args.end c.args.at source.bytes.now c.in_ok-start.start c.in_ok-start.ensures.gives (omega arith) u c.in_ok-n.n c.in_ok-n.first (c.in_ok-n.ensures.gives u bounded) None
     (free_elements source.bounds source.order (c.args.depth_left - 1) u c.free_width-width.result c.in_ok-n.n (c.in_ok-start.start + 4) c.in_ok-n.first source.bytes.now false c.if-width-gt0.true free (rw (← c.from.ensures) (ne_eqb _ 0 c.if-n-from-eq0.false)) (rw (← wide) c.in_ok-n.ensures.begins) (omega (arith, c.in_ok-n.ensures.fits)))
 
+pub array-returns-then-wants_lengths-clause-gives : goal.array-returns-then-wants_lengths-clause-gives
+array-returns-then-wants_lengths-clause-gives t c = λ u e shaped.
+    let source = c.args.source.now in
+    let bounded = c.boundary.ensures.value u (code_is u c.args.types.now e) in
+    array_answers source.bounds source.order c.args.depth_left c.args.end c.args.at source.bytes.now c.in_ok-start.start c.in_ok-start.ensures.gives (omega arith) u c.in_ok-n.n c.in_ok-n.first (c.in_ok-n.ensures.gives u bounded) c.noted_elements.result (c.noted_elements.ensures.gives u e shaped)
+
 pub array-returns-clause-gives : goal.array-returns-clause-gives
 array-returns-clause-gives t c = λ u e shaped.
     let source = c.args.source.now in

@@ -24,6 +24,9 @@ decreases-noted_value l = 4 * (256 * l.depth_left + length l.types.now) + 1
 abbrev pub decreases-array : goal.decreases-array
 decreases-array l = 4 * (256 * l.depth_left + length l.types.now) + 3
 
+abbrev pub decreases-noted_elements : goal.decreases-noted_elements
+decreases-noted_elements l = 4 * (256 * l.depth_left + length l.types.now) + 2
+
 abbrev pub decreases-elements : goal.decreases-elements
 decreases-elements l = 4 * (256 * l.depth_left + length l.types.now) + 1
 
