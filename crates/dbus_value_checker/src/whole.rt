@@ -61,13 +61,16 @@ impl Values {
         Some(after - before)
     }
 
-    /// Whether what is wanted is worth trying at once: elements of arrays and the values around all others, so that what is tried in
-    /// vain because the bytes end is tried once.
+    /// Whether what is wanted is worth trying at once: elements of arrays and, of the values around all others, those whose type is
+    /// longer than one code, so that what is tried in vain because the bytes end is tried once.
     fn is_tried(&self, bytes: &[u8], n: usize) -> bool
         requires within { n ≤ length bytes.now }
     {
+        let Doing::Wanted(pos, stop) = self.doing else {
+            return false;
+        };
         let left = bytes.len() - n;
-        (self.inner.array || self.frames.is_empty())
+        (self.inner.array || self.frames.is_empty() && stop.saturating_sub(pos) > 1)
             && (FEW <= left || self.inner.end <= self.offset.saturating_add(left))
     }
 
