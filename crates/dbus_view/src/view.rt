@@ -93,11 +93,7 @@ impl<'a> MessageView<'a> {
                         reason: Reason::Trailing,
                     });
                 }
-                Ok(MessageView {
-                    bytes,
-                    limits,
-                    validated,
-                })
+                Ok(MessageView::of_validated(bytes, limits, validated))
             }
             None => Err(fault_of(bytes, limits)),
         }

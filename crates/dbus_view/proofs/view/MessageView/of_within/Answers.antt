@@ -1,6 +1,5 @@
 use Rattle.std.proofs.Common.{◌≡◌, length, inr, refl, arith}
 use Rattle.dbus_header.proofs.OutcomeLaws.{one_whole, whole_inside}
-use Rattle.dbus_view.proofs.Whole.{all_whole}
 use Rattle.dbus_view.proofs.view.MessageView.of_within.Goals as goal
 
 pub returns-then-validated-bytes-clause-refused : goal.returns-then-validated-bytes-clause-refused
@@ -15,18 +14,11 @@ returns-then-validated-bytes-clause-accepts c = λ order m w.
     let h = c.in-Some.ensures.validated in
     absurd (omega (arith, c.if-validated-bytes.true, (one_whole c.args.limits c.args.bytes.now j.order order h.message m j.length (length c.args.bytes.now) h.whole w).2))
 
-pub invariant_of-result : goal.invariant_of-result
-invariant_of-result c =
+pub of_validated-requires-clause-all : goal.of_validated-requires-clause-all
+of_validated-requires-clause-all c =
     let j = c.in-Some.validated in
     let h = c.in-Some.ensures.validated in
-    record { validated = h; all = omega (arith, (whole_inside c.args.limits c.args.bytes.now j.order h.message j.length h.whole).1, c.if-validated-bytes.false) }
-
-pub returns-else-validated-bytes-clause-viewed : goal.returns-else-validated-bytes-clause-viewed
-returns-else-validated-bytes-clause-viewed c =
-    let j = c.in-Some.validated in
-    let h = c.in-Some.ensures.validated in
-    let all : j.length ≡ length c.args.bytes.now = omega (arith, (whole_inside c.args.limits c.args.bytes.now j.order h.message j.length h.whole).1, c.if-validated-bytes.false) in
-    (refl, refl, (j.order, h.message, all_whole c.args.limits c.args.bytes.now j (record { validated = h; all = all })))
+    omega (arith, (whole_inside c.args.limits c.args.bytes.now j.order h.message j.length h.whole).1, c.if-validated-bytes.false)
 
 pub returns-in-None-clause-accepts : goal.returns-in-None-clause-accepts
 returns-in-None-clause-accepts c = λ order m w. absurd (c.in-None.ensures.none refl order m (length c.args.bytes.now) w)
