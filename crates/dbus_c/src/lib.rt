@@ -2,8 +2,9 @@
 //! Protocol".
 //!
 //! [`dbus_wire_check`] checks bytes, [`dbus_wire_wanted`] says how many to read, [`dbus_wire_parts_of`] and
-//! [`dbus_wire_argument_of`] give a message's parts, and [`dbus_wire_swap`] byteswaps. [`dbus_wire_checker_new`] makes a checker that is
-//! handed one piece after another; no other call takes memory.
+//! [`dbus_wire_argument_of`] give a message's parts, and [`dbus_wire_swap`] byteswaps. [`dbus_wire_body_cursor`] and
+//! [`dbus_wire_next`] give the values of its body. [`dbus_wire_checker_new`] makes a checker that is handed one piece after another; no
+//! other call takes memory.
 //! `include/dbus_wire.h` declares them and says what a caller owes; `examples/c` has callers.
 #![tactic(auto)]
 
