@@ -1,6 +1,6 @@
 //! The methods of the service's object, which is on every path.
 
-use dbus_message::{Message, field, field_code};
+use dbus_message::Message;
 use dbus_value::Value;
 use std::alloc::{AllocError, Global};
 
@@ -29,14 +29,6 @@ pub(crate) enum Outcome {
     Fails(&'static str, String),
 }
 
-// The text of the call's header field of a code, or no text.
-fn text_of(call: &Message, code: u8) -> &str {
-    match field(call, code) {
-        Some(Value::Str(text)) => text.as_str(),
-        _ => "",
-    }
-}
-
 // Greets who is named.
 fn greet(alloc: Global, call: &Message) -> Result<Outcome, AllocError> {
     match call.parts().body.as_slice() {
@@ -51,8 +43,8 @@ fn greet(alloc: Global, call: &Message) -> Result<Outcome, AllocError> {
 /// Does what a call asks for. A call may leave out the interface, and then its member alone says which method is called.
 /// D-Bus Specification, "Standard Interfaces" and "Message Bus Messages".
 pub(crate) fn run(alloc: Global, call: &Message) -> Result<Outcome, AllocError> {
-    let interface = text_of(call, field_code::INTERFACE);
-    let member = text_of(call, field_code::MEMBER);
+    let interface = call.interface().unwrap_or("");
+    let member = call.member().unwrap_or("");
     match (interface, member) {
         ("org.freedesktop.DBus" | "", "Hello") => {
             Ok(Outcome::Gives(String::from_str(alloc, ":1.1")?))

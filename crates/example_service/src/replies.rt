@@ -2,7 +2,7 @@
 
 use crate::methods::{Outcome, run};
 use anyhow::Result;
-use dbus_message::{Compose, Message, field, field_code};
+use dbus_message::{Compose, Message};
 use dbus_value::Value;
 use std::alloc::Global;
 
@@ -15,9 +15,9 @@ pub(crate) fn reply(alloc: Global, call: &Message, serial: u32) -> Result<Messag
             Message::error_to(alloc, call, name).value(Value::Str(text))
         }
     };
-    let reply = match field(call, field_code::DESTINATION) {
-        Some(Value::Str(name)) => reply.sender(name),
-        _ => reply,
+    let reply = match call.destination() {
+        Some(name) => reply.sender(name),
+        None => reply,
     };
     Ok(reply.serial(serial).build()?)
 }
