@@ -4,7 +4,8 @@
 # make api         prints docs/API.md, the calls of the libraries, out of the sources; make quick-test checks that it is current
 # make definitions prints the table of docs/DEFINITIONS.md out of the definitions; make definitions-check, and quick-test, check it
 # make doc-examples builds and runs the examples of doc comments, without proofs: a minute. make quick-test does it too
-# make readme-test runs the commands of README.md, by what make build made or else without proofs, and compares what they write
+# make readme-test runs the commands of README.md, by what make build made or else without proofs, and compares what they write;
+#                  those of docs/RECIPES.md too, if make build made dbus-wire
 # make build       proves dbus-wire and all below it, on all processors, and builds it: half an hour on four
 # make test        the gate: every proof from nothing, the must-fail edits, the tests and the programs' stored runs
 # make gate-times  the gate, and the processor minutes of each of its steps

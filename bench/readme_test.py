@@ -1,22 +1,24 @@
 #!/usr/bin/env python3
-"""readme_test.py: runs the commands that README.md shows with their output, and compares.
+"""readme_test.py: runs the commands that README.md and docs/RECIPES.md show with their output, and compares.
 
 A command is a line `$ ..` of an indented block; what it writes, on standard output and standard error, are the lines after it. `dbus-wire` is the
-program that was built by `make build`, or else `rt try`, which builds it without proofs for each run: some minutes in all. The exit status is
-1 if a command writes something else, or if code of the page that is said to be from a crate does not stand there.
+program that was built by `make build`. Without it README's commands are run by `rt try`, which builds the program without proofs for each run: some
+minutes in all. A command with `jq` is passed over if there is none. The exit status is 1 if a command writes something else, or if code of a page
+that is said to be from a crate does not stand there.
 """
 
 import difflib
 import os
 import pathlib
 import re
+import shutil
 import subprocess
 import sys
 import tempfile
 
 from crate_list import ROOT, folder_of
 
-PAGE = ROOT / "README.md"
+README, RECIPES = ROOT / "README.md", ROOT / "docs" / "RECIPES.md"
 BUILT = folder_of("dbus_wire") / "out" / "dbus_wire"
 
 # `rt try` does not wait for input that comes late, and what it says itself, and empty lines, come on standard error too.
@@ -75,21 +77,26 @@ def make_program(folder):
         program.chmod(0o755)
 
 
+def is_as_shown(command, wanted, folder):
+    if re.search(r"\bjq\b", command) and not shutil.which("jq"):
+        print(f"no jq: {command}")
+        return True
+    got = written(command, folder)
+    print(f"{'as shown' if got == wanted else 'OTHERWISE'}: {command}", flush=True)
+    for line in difflib.unified_diff(wanted, got, "shown", "written", lineterm=""):
+        print(line)
+    return got == wanted
+
+
 def main():
-    text = PAGE.read_text()
-    wrong = 0
-    for crate in misquoted(text):
-        wrong += 1
+    text = "".join(page.read_text() for page in ((README, RECIPES) if BUILT.exists() else (README,)))
+    misquotes = list(misquoted(text))
+    for crate in misquotes:
         print(f"the code from {crate} does not stand there")
     with tempfile.TemporaryDirectory() as folder:
         make_program(folder)
-        for command, wanted in shown(text):
-            got = written(command, folder)
-            print(f"{'as shown' if got == wanted else 'OTHERWISE'}: {command}", flush=True)
-            if got != wanted:
-                wrong += 1
-                print("\n".join(difflib.unified_diff(wanted, got, "shown", "written", lineterm="")))
-    return 1 if wrong else 0
+        right = [is_as_shown(command, wanted, folder) for command, wanted in shown(text)]
+    return 0 if all(right) and not misquotes else 1
 
 
 if __name__ == "__main__":
