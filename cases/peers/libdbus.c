@@ -17,6 +17,7 @@ enum answer judge(const unsigned char *bytes, size_t size, struct said *said) {
     message = dbus_message_demarshal(block, needed, &fault);
     if (!message) {
         snprintf(said->why, sizeof said->why, "%s", fault.message);
+        dbus_error_free(&fault);
         return REFUSED;
     }
     dbus_message_unref(message);
