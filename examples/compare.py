@@ -8,6 +8,7 @@ byte is changed. Both the text and the exit status are compared. What LISTER wri
 """
 
 import collections
+import itertools
 import os
 import subprocess
 import sys
@@ -24,12 +25,11 @@ def length_of(data):
     return (16 + fields + 7) // 8 * 8 + body
 
 
-def first_messages(data):
-    found = []
-    while data and len(found) < CHANGED_MESSAGES:
-        found.append(data[: length_of(data)])
+def messages(data):
+    """Those of a capture, one after another."""
+    while data:
+        yield data[: length_of(data)]
         data = data[length_of(data) :]
-    return found
 
 
 def inputs(folder):
@@ -38,7 +38,7 @@ def inputs(folder):
         data = capture(folder, sample)
         yield sample, data
         yield f"{sample}, cut short", data[:-1]
-        for number, message in enumerate(first_messages(data), 1):
+        for number, message in enumerate(itertools.islice(messages(data), CHANGED_MESSAGES), 1):
             for at, byte in enumerate(message):
                 for change in CHANGES:
                     changed = message[:at] + bytes([byte ^ change]) + message[at + 1 :]

@@ -1,7 +1,8 @@
 #!/bin/sh
 # test.sh PROGRAM ARCHIVE SHARED: builds the examples over the archive, and compares what they write with what `PROGRAM check` does:
 # of the captures in samples/ and of messages of which a byte is changed; the C example once more under AddressSanitizer, and over
-# the shared library. Compares the header's numbers with the crates', and what is said of texts with the cases of texts.
+# the shared library. Compares the header's numbers with the crates', and what is said of texts with the cases of texts. Runs the fuzz
+# target over the captures and changed copies of their messages.
 set -eu
 program=$1 archive=$2 shared=$3
 here=$(cd "$(dirname "$0")" && pwd)
@@ -39,6 +40,21 @@ status=0
 LD_PRELOAD=$built/refuse_nth.so REFUSE_NTH=1 "$built/pieces_plain" < "$here/../samples/session.dbus" || status=$?
 test $status = 3
 "$here/tables.py" "$built/habits" "$built/texts" "$program"
+# The fuzz target finds nothing, and finds a parser that takes everything for a message.
+try_fuzz() {
+	"$CC" $sanitized -I"$here/fuzz" -o "$built/fuzz" "$here/fuzz/fuzz.c" "$here/fuzz/files.c" "$@" -L"$built" -ldbus_wire
+	"$built/fuzz" "$changes" "$here/../samples/session.dbus" "$here/../samples/big-endian.dbus"
+}
+changes=100 try_fuzz
+printf '#include "fuzz.h"\nuint32_t their_check(const uint8_t *bytes, size_t length) { return bytes == NULL && length > 0; }\n' > "$built/all.c"
+if (changes=1 try_fuzz "$built/all.c") 2> /dev/null; then
+	echo "the fuzz target does not find a parser that takes everything"
+	exit 1
+fi
+if pkg-config --exists dbus-1; then
+	changes=0 try_fuzz "$here/fuzz/peer.c" "$here/../cases/peers/libdbus.c" $(pkg-config --cflags --libs dbus-1)
+fi
+
 set -- "$built/list" "$built/swap" "$built/check" "$built/check_sanitized" "$built/check_shared" "$built/pieces_plain"
 
 if command -v cargo > /dev/null; then

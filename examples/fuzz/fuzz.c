@@ -1,0 +1,164 @@
+/* What is tried of bytes: that the other parser says of them what dbus_wire_check says, and that the library's calls agree. */
+#define _DEFAULT_SOURCE
+#include "fuzz.h"
+
+#include <dbus_wire.h>
+
+#include <stdio.h>
+#include <stdlib.h>
+#include <string.h>
+#include <sys/mman.h>
+#include <unistd.h>
+
+/* Longer inputs are not tried. */
+enum { MOST = 1 << 20 };
+/* How many levels of values are open at once, as dbus_wire_next says. */
+enum { LEVELS = 129 };
+
+static void expect(int holds, const char *what) {
+    if (holds) return;
+    fprintf(stderr, "it does not hold: %s\n", what);
+    abort();
+}
+
+/* MOST bytes, and after them some that cannot be read. */
+static uint8_t *fenced(void) {
+    static uint8_t *room = NULL;
+    if (room == NULL) {
+        size_t page = (size_t)sysconf(_SC_PAGESIZE);
+        void *mapped = mmap(NULL, MOST + page, PROT_READ | PROT_WRITE, MAP_PRIVATE | MAP_ANONYMOUS, -1, 0);
+        expect(mapped != MAP_FAILED, "there is memory");
+        room = mapped;
+        expect(mprotect(room + MOST, page, PROT_NONE) == 0, "a page can be closed");
+    }
+    return room;
+}
+
+/* What libFuzzer takes for new, beside code that is compiled for it: the library's is not. */
+__attribute__((section("__libfuzzer_extra_counters"))) static uint8_t counters[1 << 14];
+
+static void count(uint32_t one, uint32_t other) {
+    uint8_t *counter = &counters[(one * 64 + other % 64) % sizeof counters];
+    *counter = (uint8_t)(*counter + (*counter < 255));
+}
+
+/* Whether both say the same, as far as the other parser says it. */
+static int agree(uint32_t ours, uint32_t theirs) {
+    if (theirs == THEIRS_UNCOMPARED) return 1;
+    return theirs == THEIRS_NOT_WHOLE ? ours != DBUS_WIRE_WHOLE : ours == theirs;
+}
+
+static void compare(const uint8_t *bytes, size_t length, uint32_t ours, const struct dbus_wire_checked *told) {
+    uint32_t theirs = their_check(bytes, length);
+    if (agree(ours, theirs)) return;
+    fprintf(stderr, "the answer here is %u, theirs %u\n", (unsigned)ours, (unsigned)theirs);
+    if (ours == DBUS_WIRE_REFUSED)
+        fprintf(stderr, "here, at %llu: %s\n", (unsigned long long)told->offset, dbus_wire_reason_text(told->reason));
+    abort();
+}
+
+/* What a walk has seen: how many values, and a sum of their types, numbers and texts. */
+struct seen {
+    size_t count;
+    uint64_t sum;
+};
+
+static void add(struct seen *seen, uint64_t number) { seen->sum = (seen->sum ^ number) * 1099511628211u + 1; }
+
+static void add_value(struct seen *seen, const uint8_t *bytes, const struct dbus_wire_item *item) {
+    uint64_t at;
+    seen->count++;
+    add(seen, item->code);
+    add(seen, item->number);
+    if (item->code == 's' || item->code == 'o' || item->code == 'g')
+        for (at = 0; at < item->length; at++) add(seen, bytes[item->offset + at]);
+}
+
+/* Goes over all values at a cursor, and what is in them. Each has a place among the bytes, and the cursor moves on. */
+static void walk(const uint8_t *bytes, size_t length, struct dbus_wire_cursor at, int level, struct seen *seen) {
+    struct dbus_wire_item item;
+    uint64_t before = at.at;
+    expect(level <= LEVELS, "no more levels are open");
+    while (dbus_wire_next(bytes, length, &at, &item) == DBUS_WIRE_WHOLE) {
+        count(item.code, (uint32_t)level);
+        expect(before < at.at && at.at <= length, "a cursor moves on, within the bytes");
+        expect(before <= item.offset && item.offset <= at.at && item.length <= at.at - item.offset, "a value is where it was passed");
+        add_value(seen, bytes, &item);
+        walk(bytes, length, item.parts, level + 1, seen);
+        before = at.at;
+    }
+}
+
+/* What the bytes of the input, taken as the numbers of a cursor, let dbus_wire_next see: anything, but it ends. */
+static void walk_wild(const uint8_t *bytes, size_t length) {
+    struct dbus_wire_cursor at;
+    struct seen seen = {0, 0};
+    if (length < sizeof at) return;
+    memcpy(&at, bytes + length - sizeof at, sizeof at);
+    if (at.reserved % 2 == 0) {
+        at.at %= length, at.end = at.at + at.end % (length - at.at + 1);
+        at.types %= length, at.types_length %= 8, at.elements %= 2, at.depth_left %= 66;
+    }
+    walk(bytes, length, at, 1, &seen);
+}
+
+static struct seen walk_body(const uint8_t *bytes, size_t length) {
+    struct dbus_wire_cursor at;
+    struct seen seen = {0, 0};
+    expect(dbus_wire_body_cursor(bytes, length, NULL, &at) == DBUS_WIRE_WHOLE, "a message has a body");
+    walk(bytes, length, at, 1, &seen);
+    return seen;
+}
+
+static void try_pieces(const uint8_t *bytes, size_t length, uint32_t answer, const struct dbus_wire_checked *told) {
+    struct dbus_wire_checker checker = {0};
+    struct dbus_wire_taken taken;
+    size_t first = length == 0 ? 0 : bytes[length / 2] % length;
+    uint32_t given;
+    expect(dbus_wire_checker_new(NULL, &checker) == DBUS_WIRE_OK, "there is memory for a checker");
+    given = dbus_wire_checker_take(&checker, bytes, first, &taken);
+    if (given == DBUS_WIRE_PARTIAL) {
+        given = dbus_wire_checker_take(&checker, bytes + first, length - first, &taken);
+        taken.count += first;
+    }
+    dbus_wire_checker_free(&checker);
+    expect(given == answer, "a checker answers of pieces what dbus_wire_check answers");
+    expect(answer != DBUS_WIRE_WHOLE || taken.count == told->length, "and takes the message");
+    expect(answer != DBUS_WIRE_REFUSED || (taken.offset == told->offset && taken.reason == told->reason && taken.field == told->field),
+           "and returns its fault");
+}
+
+/* The message in the other byte order has the same values, and in its own the same bytes. */
+static void try_message(const uint8_t *bytes, size_t length, const struct dbus_wire_checked *message) {
+    static uint8_t swapped[MOST], again[MOST];
+    struct dbus_wire_checked told;
+    struct dbus_wire_parts parts;
+    struct seen here = walk_body(bytes, length), there;
+    uint32_t other = message->order == 'l' ? 'B' : 'l';
+
+    expect(dbus_wire_parts_of(bytes, length, NULL, &parts) == DBUS_WIRE_WHOLE, "a message has parts");
+    expect(parts.length == message->length && parts.body <= parts.length && parts.order == message->order, "its parts are its own");
+    expect(dbus_wire_wanted(bytes, length, NULL) == message->length, "the first 16 bytes state the length");
+    expect(dbus_wire_swap(bytes, length, NULL, other, swapped, MOST, &told) == DBUS_WIRE_WHOLE, "a message is swapped");
+    there = walk_body(swapped, message->length);
+    expect(here.count == there.count && here.sum == there.sum, "a swapped message has the same values");
+    expect(dbus_wire_swap(swapped, message->length, NULL, message->order, again, MOST, &told) == DBUS_WIRE_WHOLE, "and back");
+    expect(memcmp(again, bytes, message->length) == 0, "which gives the same bytes");
+}
+
+int LLVMFuzzerTestOneInput(const uint8_t *given, size_t length) {
+    struct dbus_wire_checked told;
+    uint8_t *bytes;
+    uint32_t answer;
+    if (length > MOST) return 0;
+    bytes = fenced() + MOST - length;
+    if (length > 0) memcpy(bytes, given, length);
+
+    answer = dbus_wire_check(bytes, length, NULL, &told);
+    count(128 + told.reason, (uint32_t)told.offset);
+    if (their_check != NULL) compare(bytes, length, answer, &told);
+    try_pieces(bytes, length, answer, &told);
+    if (answer == DBUS_WIRE_WHOLE) try_message(bytes, length, &told);
+    walk_wild(bytes, length);
+    return 0;
+}
