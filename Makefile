@@ -11,7 +11,7 @@
 # make gate-times  the gate, and the processor minutes of each of its steps
 # make library     proves and builds the library for C, static and shared
 # make peers       compares the message cases with libdbus, GDBus and sd-bus, and writes docs/PEERS.md
-# make test-c      builds the examples for C and Rust over it, and compares what they write with dbus-wire check
+# make test-c      builds the examples for C over it, tests the Rust crate, and compares what both write with dbus-wire check
 # make test-memory runs dbus-wire failing each of its allocations in turn
 # make install     installs what make build and make library proved and built: the program with its manual page and completions, and the
 #                  library for C. PREFIX, BINDIR, LIBDIR, INCLUDEDIR, DATADIR, MANDIR and DESTDIR say where. install-program and

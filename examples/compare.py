@@ -1,10 +1,10 @@
 #!/usr/bin/env python3
-"""compare.py PROGRAM LISTER SWAPPER CHECKER..: compares what each CHECKER writes of messages with what `PROGRAM check` does.
+"""compare.py PROGRAM LISTERS SWAPPERS CHECKER..: compares what each CHECKER writes of messages with what `PROGRAM check` does.
 
 The messages are the captures in samples/, whole and cut short, and those of the first messages of each capture of which one
-byte is changed. Both the text and the exit status are compared. What LISTER writes of the captures is compared with what
-`PROGRAM show` writes, whose header fields may be in another order; what SWAPPER writes of them in either byte order, with
-`PROGRAM swap`. The exit status is 1 if they differ.
+byte is changed. Both the text and the exit status are compared. What each of LISTERS, which commas separate, writes of the captures is compared with
+what `PROGRAM show` writes, whose header fields may be in another order; what each of SWAPPERS writes of them in either byte order,
+with `PROGRAM swap`. The exit status is 1 if they differ.
 """
 
 import collections
@@ -86,10 +86,10 @@ def compare_swaps(program, swapper, folder):
     return differing
 
 
-def main(program, lister, swapper, *checkers):
+def main(program, listers, swappers, *checkers):
     folder = os.path.join(os.path.dirname(os.path.abspath(__file__)), "..", "samples")
-    kinds, differing = collections.Counter(), compare_lists(program, lister, folder)
-    differing += compare_swaps(program, swapper, folder)
+    kinds, differing = collections.Counter(), sum(compare_lists(program, lister, folder) for lister in listers.split(","))
+    differing += sum(compare_swaps(program, swapper, folder) for swapper in swappers.split(","))
     for name, data in inputs(folder):
         right = answer([program, "check"], data)
         kinds[right[0].split(" ")[-1] if right[1] else "ok"] += 1

@@ -2,7 +2,7 @@
 # test.sh PROGRAM ARCHIVE SHARED: builds the examples over the archive, and compares what they write with what `PROGRAM check` does:
 # of the captures in samples/ and of messages of which a byte is changed; the C example once more under AddressSanitizer, and over
 # the shared library. Compares the header's numbers with the crates', and what is said of texts with the cases of texts. Runs the fuzz
-# target over the captures and changed copies of their messages.
+# target over the captures and changed copies of their messages; tests the Rust crate, and compares what its examples write.
 set -eu
 program=$1 archive=$2 shared=$3
 here=$(cd "$(dirname "$0")" && pwd)
@@ -55,12 +55,16 @@ if pkg-config --exists dbus-1; then
 	changes=0 try_fuzz "$here/fuzz/peer.c" "$here/../cases/peers/libdbus.c" $(pkg-config --cflags --libs dbus-1)
 fi
 
-set -- "$built/list" "$built/swap" "$built/check" "$built/check_sanitized" "$built/check_shared" "$built/pieces_plain"
-
+listers=$built/list swappers=$built/swap
+set -- "$built/check" "$built/check_sanitized" "$built/check_shared" "$built/pieces_plain"
 if command -v cargo > /dev/null; then
-	DBUS_WIRE_LIBRARY=$built cargo build --quiet --offline --release --manifest-path "$here/rust/Cargo.toml" --target-dir "$built/rust"
-	set -- "$@" "$built/rust/release/dbus_wire_example"
+	export DBUS_WIRE_LIBRARY="$built" CARGO_TARGET_DIR="$built/rust"
+	cargo test --quiet --offline --manifest-path "$here/../rust/Cargo.toml"
+	cargo build --quiet --offline --release --examples --manifest-path "$here/../rust/Cargo.toml"
+	rust=$built/rust/release/examples
+	listers=$listers,$rust/list swappers=$swappers,$rust/swap
+	set -- "$@" "$rust/check"
 else
-	echo "no cargo here: the Rust example is not tried"
+	echo "no cargo here: the Rust crate is not tried"
 fi
-exec "$here/compare.py" "$program" "$@"
+exec "$here/compare.py" "$program" "$listers" "$swappers" "$@"

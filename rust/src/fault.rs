@@ -1,0 +1,170 @@
+//! Why bytes are no message.
+
+use std::error::Error;
+use std::fmt;
+
+// The reasons by their numbers, each with its sentence, which is also its documentation.
+macro_rules! reasons {
+    ($($name:ident $(($field:ident))? = $number:literal, $sentence:literal;)*) => {
+        /// Why bytes are refused. Its text is a sentence in English without its full stop; `dbus-wire check` prints it as its
+        /// `Debug` does.
+        #[derive(Clone, Copy, Debug, PartialEq, Eq, Hash)]
+        #[non_exhaustive]
+        pub enum Reason {
+            $(#[doc = concat!($sentence, ".")] $name $(($field))?,)*
+            /// A reason that this crate has no name for, by its number.
+            Other(u32),
+        }
+
+        impl Reason {
+            pub(crate) fn new(number: u32, field: u32) -> Self {
+                match number {
+                    $($number => Reason::$name $((field as $field))?,)*
+                    other => Reason::Other(other),
+                }
+            }
+
+            /// Its number in the C header.
+            pub fn number(self) -> u32 {
+                match self {
+                    $(Reason::$name { .. } => $number,)*
+                    Reason::Other(number) => number,
+                }
+            }
+
+            fn sentence(self) -> &'static str {
+                match self {
+                    $(Reason::$name { .. } => $sentence,)*
+                    Reason::Other(_) => "there is no such reason",
+                }
+            }
+        }
+    };
+}
+
+reasons! {
+    ByteOrder = 1, "the first byte is neither 'l' nor 'B'";
+    Kind = 2, "the message type is 0";
+    Version = 3, "the protocol version is not 1";
+    ZeroSerial = 4, "the serial, or the REPLY_SERIAL, is 0";
+    ArrayTooLong = 5, "an array, or the header fields, have more bytes than the limit on arrays";
+    MessageTooLong = 6, "the message has more bytes than the limit on messages";
+    Padding = 7, "a padding byte is not 0";
+    Overrun = 8, "something ends past the end of what it is in";
+    Bool = 9, "a BOOLEAN is neither 0 nor 1";
+    Text = 10, "a STRING is not UTF-8 without U+0000";
+    Nul = 11, "the byte after a text is not 0";
+    Path = 12, "an OBJECT_PATH is not a valid object path";
+    Signature = 13, "a SIGNATURE is not valid, or that of a variant is not one complete type";
+    Interface = 14, "the INTERFACE field is not a valid interface name";
+    Member = 15, "the MEMBER field is not a valid member name";
+    ErrorName = 16, "the ERROR_NAME field is not a valid error name";
+    BusName = 17, "the DESTINATION or SENDER field is not a valid bus name";
+    NameTooLong = 18, "the name in a header field has more than 255 bytes";
+    FieldCode = 19, "the code of a header field is 0";
+    FieldTwice = 20, "a known header field occurs twice";
+    FieldType = 21, "a known header field has another type than its own";
+    FieldMissing(u8) = 22, "a header field that the message type requires is missing";
+    Trailing = 23, "bytes of the body are left after its last value";
+    TooDeep = 24, "more containers are open at once than the limit on depth";
+    Truncated = 25, "the input ends within a message";
+    FdIndex = 26, "an index of a file descriptor is not below the number of descriptors";
+}
+
+impl fmt::Display for Reason {
+    fn fmt(&self, f: &mut fmt::Formatter<'_>) -> fmt::Result {
+        f.write_str(self.sentence())?;
+        match self {
+            Reason::FieldMissing(code) => write!(f, ": that of code {code}"),
+            Reason::Other(number) => write!(f, ": {number}"),
+            _ => Ok(()),
+        }
+    }
+}
+
+/// Where and why bytes are refused: no message begins with those up to the fault's place, whatever follows.
+///
+/// ```
+/// use dbus_wire::{Message, ParseError};
+///
+/// let Err(ParseError::Refused(fault)) = Message::parse(b"l\x01\0\x02") else { unreachable!() };
+/// assert_eq!(fault.at, 3);
+/// assert_eq!(fault.to_string(), "the protocol version is not 1, at byte 3");
+/// ```
+#[derive(Clone, Copy, Debug, PartialEq, Eq, Hash)]
+pub struct Fault {
+    /// Its offset, in bytes from the first of the message.
+    pub at: usize,
+    /// Why.
+    pub reason: Reason,
+}
+
+impl Fault {
+    pub(crate) fn new(at: u64, reason: u32, field: u32) -> Self {
+        Self { at: at as usize, reason: Reason::new(reason, field) }
+    }
+}
+
+impl fmt::Display for Fault {
+    fn fmt(&self, f: &mut fmt::Formatter<'_>) -> fmt::Result {
+        write!(f, "{}, at byte {}", self.reason, self.at)
+    }
+}
+
+impl Error for Fault {}
+
+/// Why bytes begin with no message.
+#[derive(Clone, Copy, Debug, PartialEq, Eq, Hash)]
+pub enum ParseError {
+    /// A message may begin so: more bytes are needed.
+    Partial,
+    /// No message begins so, whatever follows.
+    Refused(Fault),
+}
+
+impl fmt::Display for ParseError {
+    fn fmt(&self, f: &mut fmt::Formatter<'_>) -> fmt::Result {
+        match self {
+            ParseError::Partial => f.write_str("the bytes end within a message"),
+            ParseError::Refused(fault) => fault.fmt(f),
+        }
+    }
+}
+
+impl Error for ParseError {}
+
+#[cfg(test)]
+mod tests {
+    use super::Reason;
+    use crate::sys;
+
+    const HEADER: &str = include_str!("../../include/dbus_wire.h");
+
+    fn name(number: u32) -> String {
+        let mut text = [0; 32];
+        // SAFETY: a mutable slice, as `sys` says.
+        let length = unsafe { sys::dbus_wire_reason_name(number, text.as_mut_ptr(), text.len()) };
+        String::from_utf8(text[..length].to_vec()).unwrap()
+    }
+
+    // The sentences of `dbus_wire_reason_text`, by their numbers.
+    fn sentences() -> Vec<&'static str> {
+        let (_, texts) = HEADER.split_once("const texts[] = {").unwrap();
+        let (texts, _) = texts.split_once("};").unwrap();
+        texts.lines().filter_map(|line| line.trim().split_once('"')?.1.strip_suffix("\",")).collect()
+    }
+
+    #[test]
+    fn reasons_are_the_librarys_and_the_headers() {
+        let sentences = sentences();
+        for number in 1..sys::DBUS_WIRE_REASON_NOT_YET {
+            let reason = Reason::new(number, 5);
+            assert_eq!(reason.number(), number);
+            assert_eq!(format!("{reason:?}").replace("(5)", ""), name(number));
+            assert_eq!(reason.sentence(), sentences[number as usize]);
+        }
+        assert_eq!(sentences.len(), sys::DBUS_WIRE_REASON_NOT_YET as usize + 1);
+        assert_eq!(Reason::new(99, 0), Reason::Other(99));
+        assert_eq!((name(0), Reason::Other(0).sentence()), (String::new(), sentences[0]));
+    }
+}

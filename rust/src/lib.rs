@@ -1,0 +1,67 @@
+//! Checks, takes apart and byteswaps D-Bus messages and their texts, as the [D-Bus Specification] spells them. The calls are those
+//! of a C library, `libdbus_wire`, whose results are proved for all bytes and all limits; this crate makes them safe. What is in
+//! this crate itself is tested, and not proved.
+//!
+//! ```
+//! use dbus_wire::{Message, Value};
+//!
+//! # let signal = b"l\x04\0\x01\x07\0\0\0\x01\0\0\0\x37\0\0\0\x01\x01o\0\x01\0\0\0/\0\0\0\0\0\0\0\x02\x01s\0\x03\0\0\0a.b\0\0\0\0\0\x03\x01s\0\x01\0\0\0c\0\0\0\0\0\0\0\x08\x01g\0\x01s\0\0\x02\0\0\0hi\0";
+//! let message = Message::parse(signal)?;
+//! assert_eq!(message.member(), Some("c"));
+//! for value in message.body() {
+//!     match value {
+//!         Value::String(text) => assert_eq!(text, "hi"),
+//!         other => println!("{other:?}"),
+//!     }
+//! }
+//! # Ok::<(), dbus_wire::ParseError>(())
+//! ```
+//!
+//! * [`check`] says whether bytes begin with a message; [`Checker`] says it of bytes that come in pieces; [`wanted`] says how long
+//!   a message is by its first 16 bytes.
+//! * [`Message`] has the parts of a message, and [`Values`] goes over the values of its body. Both borrow the bytes, and allocate nothing.
+//! * [`byteswap`] writes a message in the other byte order, and [`check_text`] checks names, signatures and other texts.
+//! * [`Limits`] are those that a message has to keep, and a [`Fault`] says where and why bytes are no message.
+//! * [`sys`] has the C calls themselves.
+//!
+//! # Linking
+//!
+//! The crate links `-ldbus_wire`. If the linker does not find it by itself, the environment variable `DBUS_WIRE_LIBRARY` of
+//! `cargo build` names the folder of `libdbus_wire.a` or `libdbus_wire.so`, for instance what `pkg-config --variable=libdir dbus-wire`
+//! prints. The library runs on Linux, on x86-64 processors of level v2. The crate needs no other, and is tried with rustc 1.95.
+//!
+//! # Stack
+//!
+//! A call needs at most 131,072 bytes of stack, which is less than a thread has unless it is given less.
+//!
+//! [D-Bus Specification]: https://dbus.freedesktop.org/doc/dbus-specification.html
+
+mod check;
+mod checker;
+mod fault;
+mod limits;
+mod message;
+mod swap;
+pub mod sys;
+mod text;
+mod value;
+
+pub use check::{check, wanted, Answer, Order};
+pub use checker::{Checker, OutOfMemory, Taken};
+pub use fault::{Fault, ParseError, Reason};
+pub use limits::{Descriptors, Limits};
+pub use message::{Flags, Kind, Message};
+pub use swap::{byteswap, SwapError};
+pub use text::{check_text, TextFault, TextKind};
+pub use value::{Array, Entry, Value, Values, Variant};
+
+/// The version of the library that is linked or loaded: its three numbers.
+///
+/// ```
+/// assert_eq!(dbus_wire::version().0, 0);
+/// ```
+pub fn version() -> (u32, u32, u32) {
+    // SAFETY: the call takes nothing.
+    let version = unsafe { sys::dbus_wire_version() };
+    (version >> 16, version >> 8 & 0xFF, version & 0xFF)
+}

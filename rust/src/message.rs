@@ -1,0 +1,209 @@
+//! A message that borrows its bytes.
+
+use std::fmt;
+use std::num::NonZeroU32;
+
+use crate::value::text_at;
+use crate::{byteswap, check, sys, Answer, Limits, Order, ParseError, Values};
+
+/// The type of a message.
+#[derive(Clone, Copy, Debug, PartialEq, Eq, Hash)]
+pub enum Kind {
+    /// METHOD_CALL, 1.
+    MethodCall,
+    /// METHOD_RETURN, 2.
+    MethodReturn,
+    /// ERROR, 3.
+    Error,
+    /// SIGNAL, 4.
+    Signal,
+    /// Another, which is not 0. Such a message is to be ignored.
+    Other(u8),
+}
+
+impl Kind {
+    fn of(number: u32) -> Self {
+        match number {
+            sys::DBUS_WIRE_TYPE_METHOD_CALL => Kind::MethodCall,
+            sys::DBUS_WIRE_TYPE_METHOD_RETURN => Kind::MethodReturn,
+            sys::DBUS_WIRE_TYPE_ERROR => Kind::Error,
+            sys::DBUS_WIRE_TYPE_SIGNAL => Kind::Signal,
+            other => Kind::Other(other as u8),
+        }
+    }
+}
+
+/// The flags of a message.
+#[derive(Clone, Copy, Debug, PartialEq, Eq, Hash)]
+pub struct Flags(u8);
+
+impl Flags {
+    /// All bits; those that the specification gives no name have no meaning.
+    pub fn bits(self) -> u8 {
+        self.0
+    }
+
+    /// NO_REPLY_EXPECTED: the sender of a call expects no reply.
+    pub fn no_reply_expected(self) -> bool {
+        self.has(sys::DBUS_WIRE_FLAG_NO_REPLY_EXPECTED)
+    }
+
+    /// NO_AUTO_START: the bus is not to start an owner for the destination.
+    pub fn no_auto_start(self) -> bool {
+        self.has(sys::DBUS_WIRE_FLAG_NO_AUTO_START)
+    }
+
+    /// ALLOW_INTERACTIVE_AUTHORIZATION: the caller can wait for a person to authorize.
+    pub fn allow_interactive_authorization(self) -> bool {
+        self.has(sys::DBUS_WIRE_FLAG_ALLOW_INTERACTIVE_AUTHORIZATION)
+    }
+
+    fn has(self, flag: u32) -> bool {
+        u32::from(self.0) & flag != 0
+    }
+}
+
+/// A message that is known to be valid, and borrows its bytes. Its texts are among them: nothing is copied.
+#[derive(Clone, Copy)]
+pub struct Message<'a> {
+    // Those of the message alone.
+    bytes: &'a [u8],
+    parts: sys::dbus_wire_parts,
+}
+
+impl<'a> Message<'a> {
+    /// The message that the bytes begin with, within the specification's limits. Bytes after it are not looked at.
+    pub fn parse(bytes: &'a [u8]) -> Result<Self, ParseError> {
+        Self::parse_within(bytes, &Limits::default())
+    }
+
+    /// The message within the limits that the bytes begin with. Bytes after it are not looked at.
+    pub fn parse_within(bytes: &'a [u8], limits: &Limits) -> Result<Self, ParseError> {
+        let mut parts = sys::dbus_wire_parts::default();
+        // SAFETY: a slice and references, as `sys` says.
+        let answer = unsafe { sys::dbus_wire_parts_of(bytes.as_ptr(), bytes.len(), &limits.raw(), &mut parts) };
+        match answer {
+            sys::DBUS_WIRE_WHOLE => Ok(Self { bytes: &bytes[..parts.length as usize], parts }),
+            sys::DBUS_WIRE_PARTIAL => Err(ParseError::Partial),
+            _ => match check(bytes, limits) {
+                Answer::Refused(fault) => Err(ParseError::Refused(fault)),
+                // The two calls answer alike.
+                answer => unreachable!("a message is refused and then {answer:?}"),
+            },
+        }
+    }
+
+    /// The bytes of the message, without what follows it.
+    pub fn bytes(&self) -> &'a [u8] {
+        self.bytes
+    }
+
+    /// Its byte order.
+    pub fn order(&self) -> Order {
+        Order::of(self.parts.order)
+    }
+
+    /// Its type.
+    pub fn kind(&self) -> Kind {
+        Kind::of(self.parts.kind)
+    }
+
+    /// Its flags.
+    pub fn flags(&self) -> Flags {
+        Flags(self.parts.flags as u8)
+    }
+
+    /// Its serial, which is not 0.
+    pub fn serial(&self) -> u32 {
+        self.parts.serial
+    }
+
+    /// The PATH field, an object path.
+    pub fn path(&self) -> Option<&'a str> {
+        self.field(&self.parts.path)
+    }
+
+    /// The INTERFACE field, an interface name.
+    pub fn interface(&self) -> Option<&'a str> {
+        self.field(&self.parts.interface)
+    }
+
+    /// The MEMBER field, a member name.
+    pub fn member(&self) -> Option<&'a str> {
+        self.field(&self.parts.member)
+    }
+
+    /// The ERROR_NAME field, an error name.
+    pub fn error_name(&self) -> Option<&'a str> {
+        self.field(&self.parts.error_name)
+    }
+
+    /// The REPLY_SERIAL field, the serial of the call that this replies to.
+    pub fn reply_serial(&self) -> Option<NonZeroU32> {
+        NonZeroU32::new(self.parts.reply_serial)
+    }
+
+    /// The DESTINATION field, a bus name.
+    pub fn destination(&self) -> Option<&'a str> {
+        self.field(&self.parts.destination)
+    }
+
+    /// The SENDER field, a bus name.
+    pub fn sender(&self) -> Option<&'a str> {
+        self.field(&self.parts.sender)
+    }
+
+    /// The SIGNATURE field, the types of the body's values. Without it the body has none.
+    pub fn signature(&self) -> Option<&'a str> {
+        self.field(&self.parts.signature)
+    }
+
+    /// The number in the UNIX_FDS field, or 0 if there is none.
+    pub fn unix_fds(&self) -> u32 {
+        self.parts.unix_fds
+    }
+
+    /// The bytes of the body, which may be none.
+    pub fn body_bytes(&self) -> &'a [u8] {
+        &self.bytes[self.parts.body as usize..]
+    }
+
+    /// The values of the body. The call looks over the message once more, and each value is looked over as it comes.
+    pub fn body(&self) -> Values<'a> {
+        Values::of_message(self.bytes)
+    }
+
+    /// A copy of the message in the byte order.
+    pub fn in_order(&self, order: Order) -> Vec<u8> {
+        let mut copy = vec![0; self.bytes.len()];
+        byteswap(self.bytes, &Limits::default(), order, &mut copy)
+            .expect("a message within limits is one within the specification's");
+        copy
+    }
+
+    fn field(&self, text: &sys::dbus_wire_text) -> Option<&'a str> {
+        // SAFETY: `dbus_wire_parts_of` writes the places of texts of the message, which are UTF-8, and `parts` is as it wrote it.
+        (text.is_there != 0).then(|| unsafe { text_at(self.bytes, text.offset, text.length) })
+    }
+}
+
+impl fmt::Debug for Message<'_> {
+    fn fmt(&self, f: &mut fmt::Formatter<'_>) -> fmt::Result {
+        f.debug_struct("Message")
+            .field("order", &self.order())
+            .field("kind", &self.kind())
+            .field("flags", &self.flags())
+            .field("serial", &self.serial())
+            .field("path", &self.path())
+            .field("interface", &self.interface())
+            .field("member", &self.member())
+            .field("error_name", &self.error_name())
+            .field("reply_serial", &self.reply_serial())
+            .field("destination", &self.destination())
+            .field("sender", &self.sender())
+            .field("signature", &self.signature())
+            .field("unix_fds", &self.unix_fds())
+            .field("body", &self.body())
+            .finish()
+    }
+}

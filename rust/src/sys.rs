@@ -1,0 +1,244 @@
+//! The declarations of `include/dbus_wire.h`, under its names. Its comments say what each is, what a call returns, and what the
+//! caller has to ensure. The other modules make these calls safe.
+//!
+//! # Safety
+//!
+//! What the header asks of a pointer, Rust ensures of a reference. So a call is sound if it is handed these alone:
+//!
+//! * Of a slice its pointer and its length. The pointer is not null, and has so many readable bytes, `isize::MAX` at most, which
+//!   nothing writes as long as the slice is borrowed. Those of a `&mut` slice may be written, and overlap no other argument.
+//! * References to structs of this module: they are not null, aligned and initialized, and a `&mut` one overlaps no other argument.
+//! * Of a [`dbus_wire_checker`] one that only calls have written since it was made with a null pointer.
+//!
+//! That there is stack for a call is the one thing that nothing ensures: see the crate's documentation.
+#![allow(non_camel_case_types, missing_docs)]
+
+use std::ffi::c_void;
+use std::mem::size_of;
+
+pub const DBUS_WIRE_OK: u32 = 0;
+pub const DBUS_WIRE_WHOLE: u32 = 0;
+pub const DBUS_WIRE_PARTIAL: u32 = 1;
+pub const DBUS_WIRE_REFUSED: u32 = 2;
+pub const DBUS_WIRE_NO_MEMORY: u32 = 3;
+pub const DBUS_WIRE_NO_ROOM: u32 = 4;
+pub const DBUS_WIRE_NO_VALUE: u32 = 5;
+pub const DBUS_WIRE_NO_KIND: u32 = 6;
+pub const DBUS_WIRE_NO_CHECKER: u32 = 7;
+
+pub const DBUS_WIRE_TYPE_METHOD_CALL: u32 = 1;
+pub const DBUS_WIRE_TYPE_METHOD_RETURN: u32 = 2;
+pub const DBUS_WIRE_TYPE_ERROR: u32 = 3;
+pub const DBUS_WIRE_TYPE_SIGNAL: u32 = 4;
+
+pub const DBUS_WIRE_FLAG_NO_REPLY_EXPECTED: u32 = 1;
+pub const DBUS_WIRE_FLAG_NO_AUTO_START: u32 = 2;
+pub const DBUS_WIRE_FLAG_ALLOW_INTERACTIVE_AUTHORIZATION: u32 = 4;
+
+pub const DBUS_WIRE_FIELD_PATH: u32 = 1;
+pub const DBUS_WIRE_FIELD_INTERFACE: u32 = 2;
+pub const DBUS_WIRE_FIELD_MEMBER: u32 = 3;
+pub const DBUS_WIRE_FIELD_ERROR_NAME: u32 = 4;
+pub const DBUS_WIRE_FIELD_REPLY_SERIAL: u32 = 5;
+pub const DBUS_WIRE_FIELD_DESTINATION: u32 = 6;
+pub const DBUS_WIRE_FIELD_SENDER: u32 = 7;
+pub const DBUS_WIRE_FIELD_SIGNATURE: u32 = 8;
+pub const DBUS_WIRE_FIELD_UNIX_FDS: u32 = 9;
+
+pub const DBUS_WIRE_TEXT_STRING: u32 = 1;
+pub const DBUS_WIRE_TEXT_OBJECT_PATH: u32 = 2;
+pub const DBUS_WIRE_TEXT_INTERFACE: u32 = 3;
+pub const DBUS_WIRE_TEXT_MEMBER: u32 = 4;
+pub const DBUS_WIRE_TEXT_ERROR_NAME: u32 = 5;
+pub const DBUS_WIRE_TEXT_BUS_NAME: u32 = 6;
+pub const DBUS_WIRE_TEXT_SIGNATURE: u32 = 7;
+pub const DBUS_WIRE_TEXT_SINGLE_TYPE: u32 = 8;
+
+pub const DBUS_WIRE_FDS_ANY: u32 = 0;
+pub const DBUS_WIRE_FDS_BELOW_COUNT: u32 = 1;
+
+pub const DBUS_WIRE_REASON_BYTE_ORDER: u32 = 1;
+pub const DBUS_WIRE_REASON_KIND: u32 = 2;
+pub const DBUS_WIRE_REASON_VERSION: u32 = 3;
+pub const DBUS_WIRE_REASON_ZERO_SERIAL: u32 = 4;
+pub const DBUS_WIRE_REASON_ARRAY_TOO_LONG: u32 = 5;
+pub const DBUS_WIRE_REASON_MESSAGE_TOO_LONG: u32 = 6;
+pub const DBUS_WIRE_REASON_PADDING: u32 = 7;
+pub const DBUS_WIRE_REASON_OVERRUN: u32 = 8;
+pub const DBUS_WIRE_REASON_BOOL: u32 = 9;
+pub const DBUS_WIRE_REASON_TEXT: u32 = 10;
+pub const DBUS_WIRE_REASON_NUL: u32 = 11;
+pub const DBUS_WIRE_REASON_PATH: u32 = 12;
+pub const DBUS_WIRE_REASON_SIGNATURE: u32 = 13;
+pub const DBUS_WIRE_REASON_INTERFACE: u32 = 14;
+pub const DBUS_WIRE_REASON_MEMBER: u32 = 15;
+pub const DBUS_WIRE_REASON_ERROR_NAME: u32 = 16;
+pub const DBUS_WIRE_REASON_BUS_NAME: u32 = 17;
+pub const DBUS_WIRE_REASON_NAME_TOO_LONG: u32 = 18;
+pub const DBUS_WIRE_REASON_FIELD_CODE: u32 = 19;
+pub const DBUS_WIRE_REASON_FIELD_TWICE: u32 = 20;
+pub const DBUS_WIRE_REASON_FIELD_TYPE: u32 = 21;
+pub const DBUS_WIRE_REASON_FIELD_MISSING: u32 = 22;
+pub const DBUS_WIRE_REASON_TRAILING: u32 = 23;
+pub const DBUS_WIRE_REASON_TOO_DEEP: u32 = 24;
+pub const DBUS_WIRE_REASON_TRUNCATED: u32 = 25;
+pub const DBUS_WIRE_REASON_FD_INDEX: u32 = 26;
+pub const DBUS_WIRE_REASON_NOT_YET: u32 = 27;
+
+#[repr(C)]
+#[derive(Clone, Copy, Debug, Default)]
+pub struct dbus_wire_limits {
+    pub message: u32,
+    pub array: u32,
+    pub depth: u32,
+    pub fds: u32,
+}
+
+#[repr(C)]
+#[derive(Clone, Copy, Debug, Default)]
+pub struct dbus_wire_checked {
+    pub length: u64,
+    pub offset: u64,
+    pub order: u32,
+    pub reason: u32,
+    pub field: u32,
+    pub reserved: u32,
+}
+
+#[repr(C)]
+#[derive(Clone, Copy, Debug, Default)]
+pub struct dbus_wire_text {
+    pub offset: u64,
+    pub length: u64,
+    pub is_there: u64,
+}
+
+#[repr(C)]
+#[derive(Clone, Copy, Debug, Default)]
+pub struct dbus_wire_parts {
+    pub length: u64,
+    pub body: u64,
+    pub order: u32,
+    pub kind: u32,
+    pub flags: u32,
+    pub serial: u32,
+    pub reply_serial: u32,
+    pub unix_fds: u32,
+    pub path: dbus_wire_text,
+    pub interface: dbus_wire_text,
+    pub member: dbus_wire_text,
+    pub error_name: dbus_wire_text,
+    pub destination: dbus_wire_text,
+    pub sender: dbus_wire_text,
+    pub signature: dbus_wire_text,
+}
+
+#[repr(C)]
+#[derive(Clone, Copy, Debug, Default)]
+pub struct dbus_wire_argument {
+    pub offset: u64,
+    pub length: u64,
+    pub code: u32,
+    pub reserved: u32,
+}
+
+#[repr(C)]
+#[derive(Clone, Copy, Debug, Default)]
+pub struct dbus_wire_cursor {
+    pub at: u64,
+    pub end: u64,
+    pub types: u64,
+    pub types_length: u64,
+    pub order: u32,
+    pub elements: u32,
+    pub depth_left: u32,
+    pub reserved: u32,
+}
+
+#[repr(C)]
+#[derive(Clone, Copy, Debug, Default)]
+pub struct dbus_wire_item {
+    pub number: u64,
+    pub offset: u64,
+    pub length: u64,
+    pub code: u32,
+    pub reserved: u32,
+    pub parts: dbus_wire_cursor,
+}
+
+#[repr(C)]
+#[derive(Clone, Copy, Debug, Default)]
+pub struct dbus_wire_text_checked {
+    pub offset: u64,
+    pub is_too_long: u32,
+    pub reserved: u32,
+}
+
+#[repr(C)]
+#[derive(Debug)]
+pub struct dbus_wire_checker {
+    pub inner: *mut c_void,
+}
+
+#[repr(C)]
+#[derive(Clone, Copy, Debug, Default)]
+pub struct dbus_wire_taken {
+    pub count: u64,
+    pub offset: u64,
+    pub reason: u32,
+    pub field: u32,
+}
+
+const _: () = assert!(size_of::<dbus_wire_limits>() == 16);
+const _: () = assert!(size_of::<dbus_wire_checked>() == 32);
+const _: () = assert!(size_of::<dbus_wire_text>() == 24);
+const _: () = assert!(size_of::<dbus_wire_parts>() == 208);
+const _: () = assert!(size_of::<dbus_wire_argument>() == 24);
+const _: () = assert!(size_of::<dbus_wire_cursor>() == 48);
+const _: () = assert!(size_of::<dbus_wire_item>() == 80);
+const _: () = assert!(size_of::<dbus_wire_text_checked>() == 16);
+const _: () = assert!(size_of::<dbus_wire_checker>() == 8);
+const _: () = assert!(size_of::<dbus_wire_taken>() == 24);
+
+extern "C" {
+    pub fn dbus_wire_version() -> u32;
+    pub fn dbus_wire_specification_limits(out: *mut dbus_wire_limits);
+    pub fn dbus_wire_check(bytes: *const u8, length: usize, limits: *const dbus_wire_limits, out: *mut dbus_wire_checked) -> u32;
+    pub fn dbus_wire_parts_of(bytes: *const u8, length: usize, limits: *const dbus_wire_limits, out: *mut dbus_wire_parts)
+        -> u32;
+    pub fn dbus_wire_argument_of(
+        bytes: *const u8,
+        length: usize,
+        limits: *const dbus_wire_limits,
+        number: usize,
+        out: *mut dbus_wire_argument,
+    ) -> u32;
+    pub fn dbus_wire_body_cursor(
+        bytes: *const u8,
+        length: usize,
+        limits: *const dbus_wire_limits,
+        out: *mut dbus_wire_cursor,
+    ) -> u32;
+    pub fn dbus_wire_next(bytes: *const u8, length: usize, cursor: *mut dbus_wire_cursor, out: *mut dbus_wire_item) -> u32;
+    pub fn dbus_wire_wanted(bytes: *const u8, length: usize, limits: *const dbus_wire_limits) -> u64;
+    pub fn dbus_wire_swap(
+        bytes: *const u8,
+        length: usize,
+        limits: *const dbus_wire_limits,
+        order: u32,
+        out: *mut u8,
+        room: usize,
+        told: *mut dbus_wire_checked,
+    ) -> u32;
+    pub fn dbus_wire_text_check(kind: u32, bytes: *const u8, length: usize, out: *mut dbus_wire_text_checked) -> u32;
+    pub fn dbus_wire_checker_new(limits: *const dbus_wire_limits, checker: *mut dbus_wire_checker) -> u32;
+    pub fn dbus_wire_checker_take(
+        checker: *mut dbus_wire_checker,
+        piece: *const u8,
+        length: usize,
+        out: *mut dbus_wire_taken,
+    ) -> u32;
+    pub fn dbus_wire_checker_restart(checker: *mut dbus_wire_checker) -> u32;
+    pub fn dbus_wire_checker_free(checker: *mut dbus_wire_checker);
+    pub fn dbus_wire_reason_name(reason: u32, out: *mut u8, room: usize) -> usize;
+}

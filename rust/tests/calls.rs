@@ -1,0 +1,315 @@
+//! What the calls say of messages that are made here, and of the captures in `samples/`.
+
+use std::thread;
+
+use dbus_wire::{
+    byteswap, check, check_text, wanted, Answer, Checker, Descriptors, Fault, Kind, Limits, Message, Order, ParseError, Reason,
+    SwapError, Taken, TextFault, TextKind, Value, Values,
+};
+
+const CAPTURES: [&[u8]; 2] = [include_bytes!("../../samples/session.dbus"), include_bytes!("../../samples/big-endian.dbus")];
+
+fn align(bytes: &mut Vec<u8>, boundary: usize) {
+    bytes.resize(bytes.len().next_multiple_of(boundary), 0);
+}
+
+// A header field of a text; one of type `g` has a byte for its length.
+fn push_field(bytes: &mut Vec<u8>, code: u8, kind: u8, text: &str) {
+    align(bytes, 8);
+    bytes.extend([code, 1, kind, 0]);
+    match kind {
+        b'g' => bytes.push(text.len() as u8),
+        _ => bytes.extend((text.len() as u32).to_le_bytes()),
+    }
+    bytes.extend(text.as_bytes());
+    bytes.push(0);
+}
+
+// A little-endian signal with this body.
+fn signal(signature: &str, body: &[u8]) -> Vec<u8> {
+    let mut bytes = b"l\x04\x05\x01".to_vec();
+    bytes.extend((body.len() as u32).to_le_bytes());
+    bytes.extend([7, 0, 0, 0, 0, 0, 0, 0]);
+    push_field(&mut bytes, 1, b'o', "/a");
+    push_field(&mut bytes, 2, b's', "b.c");
+    push_field(&mut bytes, 3, b's', "D");
+    push_field(&mut bytes, 7, b's', ":1.2");
+    push_field(&mut bytes, 8, b'g', signature);
+    let fields = bytes.len() as u32 - 16;
+    bytes[12..16].copy_from_slice(&fields.to_le_bytes());
+    align(&mut bytes, 8);
+    bytes.extend(body);
+    bytes
+}
+
+// The messages of a capture.
+fn messages(mut bytes: &[u8]) -> Vec<Message<'_>> {
+    let mut all = Vec::new();
+    while !bytes.is_empty() {
+        let message = Message::parse(bytes).expect("a capture has messages alone");
+        bytes = &bytes[message.bytes().len()..];
+        all.push(message);
+    }
+    all
+}
+
+#[test]
+fn numbers_come_as_they_are() {
+    let mut body = vec![200, 0, 0, 0, 1, 0, 0, 0];
+    body.extend((-2i16).to_le_bytes());
+    body.extend(65_535u16.to_le_bytes());
+    body.extend((-3i32).to_le_bytes());
+    body.extend(4_000_000_000u32.to_le_bytes());
+    align(&mut body, 8);
+    body.extend((-5i64).to_le_bytes());
+    body.extend(u64::MAX.to_le_bytes());
+    body.extend((-0.5f64).to_le_bytes());
+    body.extend(6u32.to_le_bytes());
+    let right = [
+        Value::Byte(200),
+        Value::Boolean(true),
+        Value::Int16(-2),
+        Value::Uint16(65_535),
+        Value::Int32(-3),
+        Value::Uint32(4_000_000_000),
+        Value::Int64(-5),
+        Value::Uint64(u64::MAX),
+        Value::Double(-0.5),
+        Value::UnixFd(6),
+    ];
+    let bytes = signal("ybnqiuxtdh", &body);
+    let message = Message::parse(&bytes).unwrap();
+    assert_eq!(message.body().collect::<Vec<_>>(), right);
+    let big = message.in_order(Order::Big);
+    assert_eq!(Message::parse(&big).unwrap().body().collect::<Vec<_>>(), right);
+}
+
+#[test]
+fn containers_are_iterators() {
+    // s "é", o "/", g "ai", ay [1, 2], a{sv} {"k": 9 as y}, (u, as []), v of v of b.
+    let mut body = b"\x02\0\0\0\xc3\xa9\0\0\x01\0\0\0/\0\x02ai\0\0\0\x02\0\0\0\x01\x02\0\0".to_vec();
+    body.extend(b"\x0a\0\0\0\x01\0\0\0k\0\x01y\0\x09");
+    align(&mut body, 8);
+    body.extend(b"\x08\0\0\0\0\0\0\0");
+    body.extend(b"\x01v\0\x01b\0\0\0\x01\0\0\0");
+    let bytes = signal("sogaya{sv}(uas)v", &body);
+    let message = Message::parse(&bytes).unwrap();
+    let mut values = message.body();
+    assert_eq!(values.types(), "sogaya{sv}(uas)v");
+    assert_eq!(values.next(), Some(Value::String("é")));
+    assert_eq!(values.next().and_then(|value| value.as_str()), Some("/"));
+    assert_eq!(values.next(), Some(Value::Signature("ai")));
+
+    let Some(Value::Array(array)) = values.next() else { panic!() };
+    assert_eq!((array.element_type(), array.bytes(), array.is_empty()), ("y", Some(&[1, 2][..]), false));
+    assert_eq!(array.into_iter().collect::<Vec<_>>(), [Value::Byte(1), Value::Byte(2)]);
+
+    assert_eq!(values.types(), "a{sv}(uas)v");
+    let Some(Value::Array(dictionary)) = values.next() else { panic!() };
+    assert_eq!((dictionary.element_type(), dictionary.bytes()), ("{sv}", None));
+    let Some(Value::Entry(entry)) = dictionary.elements().next() else { panic!() };
+    assert_eq!(entry.key(), Value::String("k"));
+    let Value::Variant(variant) = entry.value() else { panic!() };
+    assert_eq!((variant.signature(), variant.value()), ("y", Value::Byte(9)));
+
+    let Some(Value::Struct(mut fields)) = values.next() else { panic!() };
+    assert_eq!((fields.types(), fields.next(), fields.types()), ("uas", Some(Value::Uint32(8)), "as"));
+    let Some(Value::Array(empty)) = fields.next() else { panic!() };
+    assert_eq!((empty.element_type(), empty.is_empty(), empty.elements().next()), ("s", true, None));
+    assert_eq!((fields.types(), fields.next()), ("", None));
+
+    assert_eq!(format!("{values:?}"), "[Variant(Variant(Boolean(true)))]");
+    assert_eq!((values.by_ref().count(), values.types(), values.next()), (1, "", None));
+    assert_eq!(message.body(), Message::parse(&message.in_order(Order::Big)).unwrap().body());
+}
+
+#[test]
+fn the_deepest_message_is_walked() {
+    fn depth(values: Values<'_>) -> usize {
+        let inner = values.map(|value| match value {
+            Value::Variant(variant) => depth(variant.parts()),
+            _ => 0,
+        });
+        inner.max().map_or(0, |inner| inner + 1)
+    }
+    let nested = |levels: usize| signal("v", &[b"\x01v\0".repeat(levels - 1), b"\x01y\0\x07".to_vec()].concat());
+    let deepest = (1..100).take_while(|levels| Message::parse(&nested(*levels)).is_ok()).last().unwrap();
+    assert_eq!(depth(Message::parse(&nested(deepest)).unwrap().body()), deepest + 1);
+    let Err(ParseError::Refused(fault)) = Message::parse(&nested(deepest + 1)) else { panic!() };
+    assert_eq!((deepest, fault.reason), (64, Reason::TooDeep));
+}
+
+#[test]
+fn a_message_has_its_fields() {
+    let mut bytes = signal("y", &[1]);
+    let length = bytes.len();
+    bytes.extend(b"what follows");
+    let message = Message::parse(&bytes).unwrap();
+    assert_eq!(message.bytes(), &bytes[..length]);
+    assert_eq!((message.order(), message.kind(), message.serial()), (Order::Little, Kind::Signal, 7));
+    let flags = message.flags();
+    assert_eq!((flags.bits(), flags.no_reply_expected(), flags.no_auto_start()), (5, true, false));
+    assert!(flags.allow_interactive_authorization());
+    assert_eq!((message.path(), message.interface(), message.member()), (Some("/a"), Some("b.c"), Some("D")));
+    assert_eq!((message.sender(), message.signature()), (Some(":1.2"), Some("y")));
+    assert_eq!((message.error_name(), message.destination(), message.reply_serial()), (None, None, None));
+    assert_eq!((message.unix_fds(), message.body_bytes()), (0, &[1][..]));
+    assert_eq!(wanted(&bytes, &Limits::default()), Some(length));
+}
+
+#[test]
+fn what_is_no_message_says_why() {
+    let bytes = signal("y", &[1]);
+    for length in 0..bytes.len() {
+        assert_eq!(Message::parse(&bytes[..length]).unwrap_err(), ParseError::Partial);
+        assert_eq!(check(&bytes[..length], &Limits::default()), Answer::Partial);
+    }
+    let limits = Limits { message: 16, ..Limits::default() };
+    let fault = check_fault(&bytes, &limits);
+    assert_eq!(fault.reason, Reason::MessageTooLong);
+    assert_eq!(Message::parse_within(&bytes, &limits).unwrap_err(), ParseError::Refused(fault));
+
+    let index = signal("h", &[1, 0, 0, 0]);
+    assert!(Message::parse(&index).is_ok());
+    let limits = Limits { descriptors: Descriptors::BelowCount, ..Limits::default() };
+    assert_eq!(check_fault(&index, &limits).reason, Reason::FdIndex);
+
+    // A call without a PATH.
+    let call = b"l\x01\0\x01\0\0\0\0\x01\0\0\0\0\0\0\0";
+    assert_eq!(check_fault(call, &Limits::default()).reason, Reason::FieldMissing(1));
+}
+
+fn check_fault(bytes: &[u8], limits: &Limits) -> Fault {
+    let Answer::Refused(fault) = check(bytes, limits) else { panic!("the bytes are not refused") };
+    fault
+}
+
+#[test]
+fn captures_are_the_same_in_either_order() {
+    for capture in CAPTURES {
+        for message in messages(capture) {
+            let orders = [Order::Little, Order::Big].map(|order| message.in_order(order));
+            for bytes in &orders {
+                let other = Message::parse(bytes).unwrap();
+                assert_eq!(other.in_order(message.order()), message.bytes());
+                assert_eq!((other.body(), other.member()), (message.body(), message.member()));
+            }
+            assert_ne!(orders[0], orders[1]);
+        }
+    }
+}
+
+// How many values there are, with those that are in others.
+fn count(values: Values<'_>) -> usize {
+    let inner = |value| match value {
+        Value::Array(array) => count(array.elements()),
+        Value::Struct(fields) => count(fields),
+        Value::Entry(entry) => count(entry.parts()),
+        Value::Variant(variant) => count(variant.parts()),
+        _ => 0,
+    };
+    values.map(|value| 1 + inner(value)).sum()
+}
+
+#[test]
+fn changed_messages_are_walked_or_refused() {
+    let mut counted = 0;
+    for message in CAPTURES.iter().flat_map(|capture| messages(capture).into_iter().take(5)) {
+        let mut bytes = message.bytes().to_vec();
+        for at in 0..bytes.len() {
+            for change in [0x01, 0x80, 0xFF] {
+                bytes[at] ^= change;
+                let parsed = Message::parse(&bytes).map(|message| message.bytes().len());
+                let right = match check(&bytes, &Limits::default()) {
+                    Answer::Whole { length, .. } => Ok(length),
+                    Answer::Partial => Err(ParseError::Partial),
+                    Answer::Refused(fault) => Err(ParseError::Refused(fault)),
+                };
+                assert_eq!(parsed, right);
+                counted += Message::parse(&bytes).map_or(0, |message| count(message.body()));
+                bytes[at] ^= change;
+            }
+        }
+    }
+    assert!(counted > 0);
+}
+
+#[test]
+fn a_swap_without_room_writes_nothing() {
+    let bytes = signal("y", &[1]);
+    let mut out = vec![0xAA; bytes.len() + 1];
+    let short = &mut out[..bytes.len() - 1];
+    let length = bytes.len();
+    assert_eq!(byteswap(&bytes, &Limits::default(), Order::Big, short), Err(SwapError::NoRoom { length }));
+    assert_eq!(byteswap(&bytes[..9], &Limits::default(), Order::Big, short), Err(SwapError::Partial));
+    assert_eq!(
+        byteswap(b"x", &Limits::default(), Order::Big, &mut []),
+        Err(SwapError::Refused(Fault { at: 0, reason: Reason::ByteOrder }))
+    );
+    assert!(out.iter().all(|byte| *byte == 0xAA));
+    assert_eq!(byteswap(&bytes, &Limits::default(), Order::Big, &mut out), Ok(length));
+    assert_eq!((out[0], out[length]), (b'B', 0xAA));
+}
+
+// The lengths of the messages of a stream that comes in pieces.
+fn lengths(checker: &mut Checker, stream: &[u8], piece: usize) -> Vec<usize> {
+    let (mut all, mut length) = (Vec::new(), 0);
+    for mut piece in stream.chunks(piece) {
+        while !piece.is_empty() {
+            match checker.take(piece) {
+                Taken::Whole { count } => {
+                    all.push(length + count);
+                    length = 0;
+                    piece = &piece[count..];
+                    checker.restart();
+                }
+                Taken::Partial => {
+                    length += piece.len();
+                    piece = &[];
+                }
+                Taken::Refused(fault) => panic!("{fault}"),
+            }
+        }
+    }
+    all
+}
+
+#[test]
+fn a_checker_takes_pieces() {
+    for capture in CAPTURES {
+        let right: Vec<usize> = messages(capture).iter().map(|message| message.bytes().len()).collect();
+        for piece in [1, 7, 64, 4096] {
+            let mut checker = Checker::new(&Limits::default()).unwrap();
+            assert_eq!(lengths(&mut checker, capture, piece), right);
+            // It may go to another thread.
+            let lengths = thread::spawn(move || lengths(&mut checker, capture, piece)).join().unwrap();
+            assert_eq!(lengths, right);
+        }
+    }
+    let mut checker = Checker::new(&Limits::default()).unwrap();
+    assert_eq!(checker.take(&[]), Taken::Partial);
+    assert_eq!(checker.take(b"l\x01\0"), Taken::Partial);
+    let fault = Taken::Refused(Fault { at: 3, reason: Reason::Version });
+    assert_eq!((checker.take(b"\x02"), checker.take(b"\x01")), (fault, fault));
+}
+
+#[test]
+fn texts_are_of_their_kinds() {
+    let good = [
+        (TextKind::String, "é \n"),
+        (TextKind::ObjectPath, "/a/b_1"),
+        (TextKind::Interface, "a.b"),
+        (TextKind::Member, "Get_1"),
+        (TextKind::ErrorName, "a.b"),
+        (TextKind::BusName, ":1.2"),
+        (TextKind::Signature, "a{sv}u"),
+        (TextKind::SingleType, "a{sv}"),
+    ];
+    for (kind, text) in good {
+        assert_eq!(check_text(kind, text.as_bytes()), Ok(text));
+        assert_eq!(check_text(kind, b"\xff"), Err(TextFault::Bad { at: 0 }));
+    }
+    assert_eq!(check_text(TextKind::SingleType, b"a{sv}u"), Err(TextFault::Bad { at: 5 }));
+    assert_eq!(check_text(TextKind::Member, &[b'a'; 256]), Err(TextFault::TooLong));
+    assert_eq!(check_text(TextKind::String, b""), Ok(""));
+}
