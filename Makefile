@@ -12,6 +12,7 @@
 # make library     proves and builds the library for C, static and shared
 # make peers       compares the message cases with libdbus, GDBus and sd-bus, and writes docs/PEERS.md
 # make test-c      builds the examples for C over it, tests the Rust crate, and compares what both write with dbus-wire check
+# make test-python compares what the module for Python makes of messages by it with what dbus-wire writes
 # make test-memory runs dbus-wire failing each of its allocations in turn
 # make install     installs what make build and make library proved and built: the program with its manual page and completions, and the
 #                  library for C. PREFIX, BINDIR, LIBDIR, INCLUDEDIR, DATADIR, MANDIR and DESTDIR say where. install-program and
@@ -52,8 +53,8 @@ INSTALLED = $(BINDIR)/dbus-wire $(MANDIR)/man1/dbus-wire.1 $(addprefix $(DATADIR
 ARGS = check
 FILE = samples/session.dbus
 
-.PHONY: kit run quick-test build library test test-c test-memory gate-times wrong-bodies api definitions definitions-check doc-examples \
-	readme-test peers instructions bench install install-program install-c install-shared install-dev install-notices uninstall deb tarball
+.PHONY: kit run quick-test build library test test-c test-python test-memory gate-times wrong-bodies api definitions definitions-check \
+	doc-examples readme-test peers instructions bench install install-program install-c install-shared install-dev install-notices uninstall deb tarball
 
 run: kit
 	@echo "dbus-wire without its proofs (make build proves it), which takes at most 64 MiB in and gives 1 MiB out:" >&2
@@ -86,6 +87,9 @@ test: kit
 
 test-c: build library
 	examples/test.sh $(PROGRAM) $(ARCHIVE) $(SHARED)
+
+test-python: build library
+	DBUS_WIRE_LIBRARY=$(SHARED) DBUS_WIRE_PROGRAM=$(PROGRAM) python3 -W error python/test_dbus_wire.py
 
 test-memory: build
 	bench/refused_memory.py $(PROGRAM) samples/big-endian.dbus

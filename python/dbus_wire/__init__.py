@@ -1,0 +1,46 @@
+"""D-Bus messages, read by libdbus_wire: checked, taken apart into Python values, and byteswapped.
+
+The module finds no place and no number in the bytes itself: each is what a call of include/dbus_wire.h returns. The library is the
+file that the environment variable DBUS_WIRE_LIBRARY names, or else libdbus_wire.so.0 as the dynamic linker finds it.
+
+    from dbus_wire import messages
+
+    with open("session.dbus", "rb") as capture:
+        for message in messages(capture):
+            print(message.serial, message.member, message.body)
+
+Bytes that are no message raise Refused or Truncated, which say where and why, as `dbus-wire check` does. All of it may be called from
+any thread; a thread needs 128 KiB of stack for a call. A message of any depth is read within Python's default limit on recursion.
+"""
+
+from ._checker import Checker
+from ._errors import HeaderField, NotAMessage, Refused, Truncated
+from ._library import LIBRARY_VERSION
+from ._limits import Limits
+from ._messages import Message, MessageFlag, MessageType, Order, byteswap, messages, stated_length
+from ._texts import TextFault, TextKind, check_text
+from ._values import ObjectPath, Signature, UnixFd, Variant
+
+__all__ = [
+    "LIBRARY_VERSION",
+    "Checker",
+    "HeaderField",
+    "Limits",
+    "Message",
+    "MessageFlag",
+    "MessageType",
+    "NotAMessage",
+    "ObjectPath",
+    "Order",
+    "Refused",
+    "Signature",
+    "TextFault",
+    "TextKind",
+    "Truncated",
+    "UnixFd",
+    "Variant",
+    "byteswap",
+    "check_text",
+    "messages",
+    "stated_length",
+]

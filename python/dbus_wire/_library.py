@@ -1,0 +1,119 @@
+"""The shared library by ctypes: the calls, the structs and the numbers of include/dbus_wire.h, which says what each means."""
+
+from __future__ import annotations
+
+import ctypes
+import os
+from ctypes import POINTER, c_char_p, c_size_t, c_uint32, c_uint64, c_void_p
+from typing import Union
+
+# The version of the header that this module was written for. A library of another minor version may have other calls.
+WRITTEN_FOR = (0, 1, 0)
+SONAME = "libdbus_wire.so.0"
+
+FIXED_HEADER_LENGTH = 16
+OK = WHOLE = 0
+PARTIAL = 1
+REFUSED = 2
+NO_MEMORY = 3
+NO_CHECKER = 7
+REASON_TRAILING = 23
+REASON_TRUNCATED = 25
+FDS_ANY = 0
+FDS_BELOW_COUNT = 1
+
+
+class Limits(ctypes.Structure):
+    _fields_ = [(name, c_uint32) for name in ("message", "array", "depth", "fds")]
+
+
+class Checked(ctypes.Structure):
+    _fields_ = [(name, c_uint64) for name in ("length", "offset")] + [(name, c_uint32) for name in ("order", "reason", "field", "reserved")]
+
+
+class Text(ctypes.Structure):
+    _fields_ = [(name, c_uint64) for name in ("offset", "length", "is_there")]
+
+
+class Parts(ctypes.Structure):
+    _fields_ = (
+        [(name, c_uint64) for name in ("length", "body")]
+        + [(name, c_uint32) for name in ("order", "kind", "flags", "serial", "reply_serial", "unix_fds")]
+        + [(name, Text) for name in ("path", "interface", "member", "error_name", "destination", "sender", "signature")]
+    )
+
+
+class Cursor(ctypes.Structure):
+    _fields_ = [(name, c_uint64) for name in ("at", "end", "types", "types_length")] + [
+        (name, c_uint32) for name in ("order", "elements", "depth_left", "reserved")
+    ]
+
+
+class Item(ctypes.Structure):
+    _fields_ = [
+        *((name, c_uint64) for name in ("number", "offset", "length")),
+        *((name, c_uint32) for name in ("code", "reserved")),
+        ("parts", Cursor),
+    ]
+
+
+class TextChecked(ctypes.Structure):
+    _fields_ = [("offset", c_uint64), ("is_too_long", c_uint32), ("reserved", c_uint32)]
+
+
+class Checker(ctypes.Structure):
+    _fields_ = [("inner", c_void_p)]
+
+
+class Taken(ctypes.Structure):
+    _fields_ = [("count", c_uint64), ("offset", c_uint64), ("reason", c_uint32), ("field", c_uint32)]
+
+
+# Of each call its result, and then its arguments. Python's bytes do not change and are never null, so they are handed over as they are.
+_MESSAGE = (c_char_p, c_size_t, POINTER(Limits))
+_CALLS = {
+    "version": (c_uint32,),
+    "specification_limits": (None, POINTER(Limits)),
+    "check": (c_uint32, *_MESSAGE, POINTER(Checked)),
+    "parts_of": (c_uint32, *_MESSAGE, POINTER(Parts)),
+    "body_cursor": (c_uint32, *_MESSAGE, POINTER(Cursor)),
+    "next": (c_uint32, c_char_p, c_size_t, POINTER(Cursor), POINTER(Item)),
+    "wanted": (c_uint64, *_MESSAGE),
+    "swap": (c_uint32, *_MESSAGE, c_uint32, c_char_p, c_size_t, POINTER(Checked)),
+    "text_check": (c_uint32, c_uint32, c_char_p, c_size_t, POINTER(TextChecked)),
+    "checker_new": (c_uint32, POINTER(Limits), POINTER(Checker)),
+    "checker_take": (c_uint32, POINTER(Checker), c_char_p, c_size_t, POINTER(Taken)),
+    "checker_restart": (c_uint32, POINTER(Checker)),
+    "checker_free": (None, POINTER(Checker)),
+    "reason_name": (c_size_t, c_uint32, c_char_p, c_size_t),
+}
+
+Bytes = Union[bytes, bytearray, memoryview]
+
+
+def as_bytes(data: Bytes) -> bytes:
+    """The bytes, copied if another thread could write them while the library reads them."""
+    return data if isinstance(data, bytes) else bytes(memoryview(data))
+
+
+def _version_of(number: int) -> tuple[int, int, int]:
+    return number >> 16, number >> 8 & 0xFF, number & 0xFF
+
+
+def _load(path: str) -> ctypes.CDLL:
+    """The library, with the types of its calls. Raises ImportError if there is none, or one of another version."""
+    try:
+        library = ctypes.CDLL(path)
+        version = _version_of(library.dbus_wire_version())
+        if version[:2] != WRITTEN_FOR[:2] or version < WRITTEN_FOR:
+            raise ImportError(f"{path} has the version {version}, and this module is for {WRITTEN_FOR}")
+        for name, (result, *arguments) in _CALLS.items():
+            call = getattr(library, f"dbus_wire_{name}")
+            call.restype, call.argtypes = result, arguments
+    except (OSError, AttributeError) as error:
+        raise ImportError(f"no libdbus_wire at {path}, which DBUS_WIRE_LIBRARY can name: {error}") from error
+    return library
+
+
+library = _load(os.environ.get("DBUS_WIRE_LIBRARY") or SONAME)
+LIBRARY_VERSION = _version_of(library.dbus_wire_version())

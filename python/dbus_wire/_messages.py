@@ -1,0 +1,196 @@
+"""Messages: one, those of a capture, and one in the other byte order."""
+
+from __future__ import annotations
+
+import ctypes
+import enum
+import io
+from ctypes import byref
+from dataclasses import dataclass, field
+from functools import cached_property
+from typing import Any, BinaryIO, Iterator, NoReturn
+
+from . import _library
+from ._errors import refused, truncated
+from ._library import FIXED_HEADER_LENGTH, PARTIAL, REASON_TRAILING, REFUSED, WHOLE, Bytes, as_bytes, library
+from ._limits import Limits, limits_struct
+from ._values import ObjectPath, Signature, text_at, values_at
+
+# The most bytes that one read asks for, so that a length that is only stated takes no memory.
+_PIECE = 1 << 20
+
+
+class Order(str, enum.Enum):
+    """A byte order, as the first byte of a message names it."""
+
+    LITTLE = "l"
+    BIG = "B"
+
+
+class MessageType(enum.IntEnum):
+    """The message types that the D-Bus Specification names ("Message Format")."""
+
+    METHOD_CALL = 1
+    METHOD_RETURN = 2
+    ERROR = 3
+    SIGNAL = 4
+
+
+def _type_of(number: int) -> MessageType | int:
+    try:
+        return MessageType(number)
+    except ValueError:
+        return number
+
+
+class MessageFlag(enum.IntFlag):
+    """The flags of a message. Other bits are kept, and have no meaning."""
+
+    NO_REPLY_EXPECTED = 1
+    NO_AUTO_START = 2
+    ALLOW_INTERACTIVE_AUTHORIZATION = 4
+
+
+@dataclass(frozen=True)
+class Message:
+    """A message, as `Message.parse` or `messages` makes it; `bytes(message)` are its bytes.
+
+    A header field that is absent is None; header fields of codes that the specification does not name are in the bytes alone.
+    """
+
+    data: bytes = field(repr=False)
+    """The message's bytes, which `bytes(message)` returns too."""
+    order: Order
+    type: MessageType | int
+    """An int if the specification names no such type: such a message is to be ignored."""
+    flags: MessageFlag
+    serial: int
+    path: ObjectPath | None
+    interface: str | None
+    member: str | None
+    error_name: str | None
+    reply_serial: int | None
+    destination: str | None
+    sender: str | None
+    signature: Signature | None
+    """The types of the body's values."""
+    unix_fds: int
+    """The number of file descriptors that came with the message, which is 0 without that field."""
+
+    @classmethod
+    def parse(cls, data: Bytes, limits: Limits | None = None) -> Message:
+        """The one message within the limits that all the bytes are. Raises Refused or Truncated."""
+        return cls._of(as_bytes(data), limits_struct(limits), 0)
+
+    @classmethod
+    def _of(cls, data: bytes, limits: _library.Limits, at: int) -> Message:
+        """The one message that the bytes are, which are at this place of the input."""
+        parts = _library.Parts()
+        answer = library.dbus_wire_parts_of(data, len(data), byref(limits), byref(parts))
+        if answer != WHOLE or parts.length != len(data):
+            _raise_fault(data, limits, at)
+
+        def text(place: _library.Text) -> str | None:
+            return text_at(data, place.offset, place.length) if place.is_there else None
+
+        path, signature = text(parts.path), text(parts.signature)
+        return cls(
+            data=data,
+            order=Order(chr(parts.order)),
+            type=_type_of(parts.kind),
+            flags=MessageFlag(parts.flags),
+            serial=parts.serial,
+            path=None if path is None else ObjectPath(path),
+            interface=text(parts.interface),
+            member=text(parts.member),
+            error_name=text(parts.error_name),
+            reply_serial=parts.reply_serial or None,
+            destination=text(parts.destination),
+            sender=text(parts.sender),
+            signature=None if signature is None else Signature(signature),
+            unix_fds=parts.unix_fds,
+        )
+
+    @cached_property
+    def body(self) -> list[Any]:
+        """The values of the body, read when they are first asked for. What each type becomes, by its code in the signature:
+
+        y n q i u x t   int             o   ObjectPath    ay        bytes
+        b               bool            g   Signature     a{..}     dict
+        d               float           h   UnixFd        other a   list of the elements
+        s               str             v   Variant       (..)      tuple of the fields
+
+        No entry of a dictionary is lost: if Python finds two of its keys equal, as it does 0.0 and -0.0, it is the list of its pairs,
+        in their order. (The specification has keys differ, and does not ask readers to look.)
+        """
+        cursor = _library.Cursor()
+        library.dbus_wire_body_cursor(self.data, len(self.data), byref(limits_struct(None)), byref(cursor))
+        return list(values_at(self.data, cursor))
+
+    def swapped(self, order: Order | str) -> Message:
+        """The same message in the byte order, 'l' or 'B'. Raises ValueError of another."""
+        return Message.parse(byteswap(self.data, order))
+
+    def __bytes__(self) -> bytes:
+        return self.data
+
+
+def messages(source: Bytes | BinaryIO, limits: Limits | None = None) -> Iterator[Message]:
+    """The messages of a capture: of bytes, or of a binary file that blocks, such as a pipe, from which it reads no byte past each.
+
+    Raises Refused or Truncated at the first that is none; its place counts from where the file was, or from the first byte.
+    """
+    stream = io.BytesIO(source) if isinstance(source, (bytes, bytearray, memoryview)) else source
+    given, at = limits_struct(limits), 0
+    while data := _read(stream, FIXED_HEADER_LENGTH):
+        length = library.dbus_wire_wanted(data, len(data), byref(given))
+        data += _read(stream, length - len(data))
+        yield Message._of(data, given, at)
+        at += len(data)
+
+
+def stated_length(data: Bytes, limits: Limits | None = None) -> int | None:
+    """The number of bytes of the message that the bytes begin with, as its first 16 bytes state it; None if fewer are there.
+
+    For readers of their own, such as those of asyncio. Raises Refused if these 16 are at fault.
+    """
+    head, given = as_bytes(data)[:FIXED_HEADER_LENGTH], limits_struct(limits)
+    told = _library.Checked()
+    length: int = library.dbus_wire_wanted(head, len(head), byref(given))
+    if length > 0:
+        return length
+    if library.dbus_wire_check(head, len(head), byref(given), byref(told)) == REFUSED:
+        raise refused(told.offset, told.reason, told.field)
+    return None
+
+
+def byteswap(data: Bytes, order: Order | str, limits: Limits | None = None) -> bytes:
+    """The one message within the limits that all the bytes are, in the byte order, 'l' or 'B'. Raises Refused or Truncated."""
+    message, given, asked = as_bytes(data), limits_struct(limits), ord(Order(order).value)
+    out, told = ctypes.create_string_buffer(len(message)), _library.Checked()
+    answer = library.dbus_wire_swap(message, len(message), byref(given), asked, out, len(out), byref(told))
+    if answer != WHOLE or told.length != len(message):
+        _raise_fault(message, given, 0)
+    return out.raw
+
+
+def _read(stream: BinaryIO, count: int) -> bytes:
+    """So many bytes, or none if the number is negative; fewer only if the input ends."""
+    pieces = []
+    while count > 0 and (piece := stream.read(min(count, _PIECE))) != b"":
+        if piece is None:
+            raise BlockingIOError("the file has no bytes yet, and does not block")
+        pieces.append(piece)
+        count -= len(piece)
+    return b"".join(pieces)
+
+
+def _raise_fault(data: bytes, limits: _library.Limits, at: int) -> NoReturn:
+    """Raises why the bytes, which are at this place of the input, are not one message."""
+    told = _library.Checked()
+    answer = library.dbus_wire_check(data, len(data), byref(limits), byref(told))
+    if answer == PARTIAL:
+        raise truncated(at + len(data))
+    if answer == REFUSED:
+        raise refused(at + told.offset, told.reason, told.field)
+    raise refused(at + told.length, REASON_TRAILING)

@@ -1,0 +1,497 @@
+"""Tests of the module dbus_wire, over the library that DBUS_WIRE_LIBRARY names: `make test-python` runs them.
+
+What the module makes of the captures and of the cases of messages is compared with what `dbus-wire` writes of them, if the variable
+DBUS_WIRE_PROGRAM names it, and with the answers in the cases (docs/CASES.md).
+"""
+
+import ctypes
+import io
+import json
+import math
+import os
+import pathlib
+import pickle
+import re
+import subprocess
+import sys
+import unittest
+from concurrent.futures import ThreadPoolExecutor
+from unittest import mock
+
+ROOT = pathlib.Path(__file__).resolve().parent.parent
+sys.path[:0] = [str(ROOT / "cases"), str(ROOT / "python")]
+from read_cases import read_bytes, read_cases  # noqa: E402
+
+import dbus_wire  # noqa: E402
+from dbus_wire import (  # noqa: E402
+    Checker,
+    HeaderField,
+    Limits,
+    Message,
+    MessageFlag,
+    MessageType,
+    NotAMessage,
+    ObjectPath,
+    Refused,
+    Signature,
+    TextFault,
+    TextKind,
+    Truncated,
+    Variant,
+    byteswap,
+    check_text,
+    messages,
+    stated_length,
+)
+from dbus_wire import _library  # noqa: E402
+
+PROGRAM = os.environ.get("DBUS_WIRE_PROGRAM")
+needs_program = unittest.skipUnless(PROGRAM, "DBUS_WIRE_PROGRAM names no dbus-wire: what it writes is not compared")
+
+SAMPLES = {name: (ROOT / "samples" / f"{name}.dbus").read_bytes() for name in ("session", "big-endian")}
+SESSION = SAMPLES["session"]
+CASES = ROOT / "crates/message_cases/data"
+TEXT_CASES = ROOT / "crates/value_cases/data"
+CASE_KINDS = {"text": "STRING", "path": "OBJECT_PATH"}
+FIELDS = ("path", "interface", "member", "error_name", "reply_serial", "destination", "sender", "signature")
+
+
+def limits_of(column):
+    """The limits of a case, or None if it has the specification's."""
+    words = dict(word.split("=") for word in column.split())
+    fds_below_count = words.pop("fds", None) == "below-count"
+    return Limits(**{name: int(number) for name, number in words.items()}, fds_below_count=fds_below_count) if column else None
+
+
+def message_cases():
+    """The name, limits, bytes and answer of each case of messages in each order that it has."""
+    for path in sorted(CASES.glob("*.txt")):
+        for name, limits, *columns, answer in read_cases(path):
+            for column in filter(None, columns):
+                yield f"{path.stem}: {name}", limits_of(limits), read_bytes(column), answer
+
+
+def whole_cases():
+    """Each case that is one message within the specification's limits, under its name and its order."""
+    whole = [(name, data) for name, limits, data, answer in message_cases() if limits is None and answer == f"whole {len(data)}"]
+    return {f"{name} {data[:1].decode()}": data for name, data in whole}
+
+
+def captures():
+    """Each sample, and all whole cases as one capture."""
+    return SAMPLES | {"cases": b"".join(whole_cases().values())}
+
+
+def first_of(data, limits):
+    return next(messages(data, limits))
+
+
+def answer_of(data, limits=None, read=Message.parse):
+    """What is read of the bytes, as a case says it."""
+    try:
+        return f"whole {len(read(data, limits).data)}"
+    except Truncated as fault:
+        assert fault.at == len(data)
+        return "partial"
+    except Refused as fault:
+        return str(fault).replace("refused at ", "refused ").replace(":", "")
+
+
+def answer_in_pieces(data, length, limits=None):
+    """What a checker says of the bytes in pieces of this length, as a case says it."""
+    with Checker(limits) as checker:
+        for at in range(0, len(data), length):
+            try:
+                end = checker.take(data[at : at + length])
+            except Refused as fault:
+                return str(fault).replace("refused at ", "refused ").replace(":", "")
+            if end is not None:
+                return f"whole {at + end}"
+    return "partial"
+
+
+def dictionaries(depth, last):
+    """The bytes of dictionaries in one another, from 4 bytes after a boundary of 8, of which the innermost holds these bytes."""
+    entry = b"\1" + (last if depth == 1 else bytes(3) + dictionaries(depth - 1, last))
+    return len(entry).to_bytes(4, "little") + entry
+
+
+def deep_message():
+    """A message of a BYTE and a value with 63 containers in one another, and as many dict entries."""
+    outer, inner = (b"a{y" * depth + last + b"}" * depth for depth, last in ((32, b"v"), (30, b"y")))
+    body = bytes(4) + dictionaries(32, bytes([len(inner)]) + inner + b"\0" + dictionaries(30, b"\2"))
+    fields = b"\x08\1g\0" + bytes([1 + len(outer)]) + b"y" + outer + b"\0"
+    lengths = (len(body).to_bytes(4, "little"), (1).to_bytes(4, "little"), len(fields).to_bytes(4, "little"))
+    return b"l\5\0\1" + b"".join(lengths) + fields + body
+
+
+def changed_messages():
+    """The first messages of each sample with one byte changed."""
+    for data in SAMPLES.values():
+        for message in list(messages(data))[:2]:
+            for at, byte in enumerate(message.data):
+                for change in (0x01, 0x80, 0xFF):
+                    yield message.data[:at] + bytes([byte ^ change]) + message.data[at + 1 :]
+
+
+def run(*words, given):
+    return subprocess.run([PROGRAM, *words], input=given, capture_output=True).stdout
+
+
+def json_of(value):
+    """The value as `dbus-wire json` writes it."""
+    if isinstance(value, float) and not math.isfinite(value):
+        return f"{ctypes.c_uint64.from_buffer(ctypes.c_double(value)).value:016x}"
+    if isinstance(value, bytes):
+        return value.hex()
+    if isinstance(value, Variant):
+        return {"type": value.signature, "value": json_of(value.value)}
+    if isinstance(value, dict):
+        value = list(value.items())
+    return [json_of(part) for part in value] if isinstance(value, (list, tuple)) else value
+
+
+def line_of(number, offset, message):
+    """The message as a line of `dbus-wire json` has it, without the header fields that have no name."""
+    first = {"number": number, "offset": offset, "length": len(message.data), "order": message.order.value}
+    kind = message.type.name.lower() if isinstance(message.type, MessageType) else message.type
+    fields = {name: value for name in FIELDS if (value := getattr(message, name)) is not None}
+    rest = {"unix_fds": message.unix_fds, "body": json_of(message.body)}
+    return first | {"type": kind, "flags": int(message.flags), "serial": message.serial} | fields | rest
+
+
+def text_of(line):
+    """A line of JSON as a text in which 1, 1.0 and true differ, and 0.0 and -0.0."""
+    return json.dumps(line, sort_keys=True)
+
+
+class WithTheProgram(unittest.TestCase):
+    @needs_program
+    def test_each_value_is_that_of_json(self):
+        for name, data in captures().items():
+            offset, lines = 0, run("json", given=data).decode().split("\n")[:-1]
+            found = list(messages(data))
+            self.assertEqual(len(found), len(lines), name)
+            for number, (message, line) in enumerate(zip(found, lines), 1):
+                right = {"unix_fds": 0} | json.loads(line)
+                del right["fields"]
+                self.assertEqual(text_of(line_of(number, offset, message)), text_of(right), name)
+                offset += len(message.data)
+
+    @needs_program
+    def test_changed_messages_have_the_fault_of_check(self):
+        for data in changed_messages():
+            right = run("check", given=data).decode().strip()
+            try:
+                count = len(list(messages(data)))
+                self.assertEqual(f"ok {count} messages {len(data)} bytes", right)
+            except NotAMessage as fault:
+                self.assertEqual(str(fault), right)
+
+    @needs_program
+    def test_captures_are_swapped_as_by_swap(self):
+        for name, data in captures().items():
+            for order in "lB":
+                swapped = b"".join(bytes(message.swapped(order)) for message in messages(data))
+                self.assertTrue(swapped == run("swap", "--to", order, given=data), name)
+
+
+class Cases(unittest.TestCase):
+    def test_parse_gives_the_answers(self):
+        for name, limits, data, answer in message_cases():
+            self.assertEqual(answer_of(data, limits), answer, name)
+
+    def test_checkers_give_the_answers(self):
+        for name, limits, data, answer in message_cases():
+            for length in (1, 7, 4096):
+                self.assertEqual(answer_in_pieces(data, length, limits), answer, name)
+
+    def test_stated_lengths_are_those_of_the_messages(self):
+        for name, data in whole_cases().items():
+            self.assertEqual(stated_length(data[:16]), len(data), name)
+            self.assertIsNone(stated_length(data[:15]), name)
+        with self.assertRaises(Refused) as caught:
+            stated_length(b"l\1\0\2")
+        self.assertEqual(str(caught.exception), "refused at 3: Version")
+
+    def test_values_of_each_type(self):
+        cases = whole_cases()
+
+        def body(name):
+            return Message.parse(cases[f"messages: {name} l"]).body
+
+        self.assertEqual(body("boolean"), [True])
+        self.assertIs(body("boolean")[0], True)
+        self.assertEqual(body("double_bytes_and_struct"), [1.0, b"\x00\xff", [], (1, 2)])
+        self.assertEqual(body("variant_of_a_byte"), [Variant(Signature("y"), 7)])
+        least = 7 * 2.0**-1074
+        entries, pair, index, text = body("dict_struct_index_and_text")
+        self.assertEqual((entries, pair, text), ({"key": Variant(Signature("ay"), b"\1\2\3")}, (-1, least), ""))
+        self.assertEqual(repr(index), "UnixFd(0)")
+        self.assertEqual(f"{index}", "0")
+        self.assertEqual(body("dict_that_repeats_a_key"), [[(1, 2), (1, 3)]])
+        path, signature = body("error_with_a_body")
+        self.assertEqual((repr(path), repr(signature)), ("ObjectPath('/b')", "Signature('ay')"))
+
+    def test_a_deep_value_is_read(self):
+        value, depth = Message.parse(deep_message()).body[1], 0
+        while value != 2:
+            value, depth = value.value if isinstance(value, Variant) else value[1], depth + 1
+        self.assertEqual(depth, 63)
+
+    def test_swapped_messages_have_the_same_values(self):
+        for name, data in whole_cases().items():
+            message = Message.parse(data)
+            for order in "lB":
+                swapped = message.swapped(order)
+                self.assertEqual(swapped.order, order)
+                self.assertEqual(repr(swapped.body), repr(message.body), name)
+                self.assertEqual(swapped.swapped(message.order), message, name)
+
+    def test_texts_have_the_answers(self):
+        for _, kind, text, answer in read_cases(TEXT_CASES / "names.txt"):
+            self.hold_text(TextKind[CASE_KINDS.get(kind, kind.upper())], text, answer)
+        for _, text, signature, single, *_ in read_cases(TEXT_CASES / "signatures.txt"):
+            self.hold_text(TextKind.SIGNATURE, text, signature)
+            self.hold_text(TextKind.SINGLE_TYPE, text, single)
+
+    def hold_text(self, kind, text, answer):
+        word, _, place = answer.rpartition(" ")
+        faults = {"bad": lambda: TextFault(int(place)), "too long": lambda: TextFault(None)}
+        self.assertEqual(check_text(kind, read_bytes(text)), faults[word]() if word in faults else None, (kind, text))
+
+
+class Messages(unittest.TestCase):
+    def test_header_fields(self):
+        message = next(messages(SESSION))
+        self.assertEqual(message.type, MessageType.SIGNAL)
+        self.assertEqual(message.flags, MessageFlag.NO_REPLY_EXPECTED)
+        self.assertEqual((message.serial, message.unix_fds, message.reply_serial, message.error_name), (2, 0, None, None))
+        self.assertEqual(message.path, ObjectPath("/org/freedesktop/DBus"))
+        self.assertEqual((message.interface, message.member), ("org.freedesktop.DBus", "NameAcquired"))
+        self.assertEqual((message.sender, message.destination, message.signature), ("org.freedesktop.DBus", ":1.2", "s"))
+
+    def test_unknown_types_and_flags_are_kept(self):
+        cases = whole_cases()
+        self.assertEqual(Message.parse(cases["messages: unknown_type_255 l"]).type, 255)
+        self.assertEqual(int(Message.parse(cases["messages: all_flag_bits l"]).flags), 255)
+
+    def test_bytes_that_may_be_written_are_copied(self):
+        data = bytearray(SESSION[:169])
+        message = Message.parse(memoryview(data))
+        data[:] = bytes(169)
+        self.assertEqual(message.body, [":1.2"])
+        self.assertEqual(bytes(message), SESSION[:169])
+
+    def test_messages_can_be_compared_and_pickled(self):
+        message = Message.parse(SESSION[:169])
+        self.assertEqual(len({message, Message.parse(SESSION[:169]), pickle.loads(pickle.dumps(message))}), 1)
+        with self.assertRaises(AttributeError):
+            message.serial = 3
+
+    def test_parse_wants_exactly_one_message(self):
+        for data, right in (
+            (SESSION[:170], "refused at 169: Trailing"),
+            (SESSION[:168], "refused at 168: Truncated"),
+            (b"", "refused at 0: Truncated"),
+        ):
+            for call in (Message.parse, lambda data: byteswap(data, "B")):
+                with self.assertRaises(NotAMessage) as caught:
+                    call(data)
+                self.assertEqual(str(caught.exception), right)
+
+    def test_places_count_from_the_start_of_the_input(self):
+        for rest, right in ((b"x", Refused), (SESSION[:20], Truncated)):
+            found = []
+            with self.assertRaises(right) as caught:
+                found.extend(messages(SESSION + rest))
+            self.assertEqual(caught.exception.at, len(SESSION) + (0 if right is Refused else 20))
+            found = messages(SESSION + rest)
+            self.assertEqual(sum(1 for _ in zip(range(136), found)), 136)
+
+    def test_the_missing_field_is_reported(self):
+        with self.assertRaises(Refused) as caught:
+            Message.parse(b"l\1\0\1" + bytes(4) + b"\1" + bytes(7))
+        self.assertEqual((caught.exception.reason, caught.exception.field), ("FieldMissing", HeaderField.PATH))
+        self.assertEqual(str(pickle.loads(pickle.dumps(caught.exception))), "refused at 16: FieldMissing(1)")
+
+    def test_wrong_arguments(self):
+        self.assertRaises(TypeError, Message.parse, 3)
+        self.assertRaises(TypeError, Message.parse, "l")
+        self.assertRaises(ValueError, byteswap, SESSION[:169], "x")
+        self.assertRaises(ValueError, check_text, 0, "a")
+        self.assertRaises(ValueError, Limits, depth=-1)
+
+    def test_texts_may_be_python_strings(self):
+        self.assertIsNone(check_text(TextKind.STRING, "größer"))
+        self.assertEqual(check_text(TextKind.STRING, "ö\ud800"), TextFault(3))
+        self.assertEqual(check_text(TextKind.MEMBER, "a" * 256), TextFault(None))
+
+
+class Streams(unittest.TestCase):
+    def test_files_bytes_and_short_reads(self):
+        class Short(io.BytesIO):
+            def read(self, count=-1):
+                return super().read(min(count, 5))
+
+        right = list(messages(SESSION))
+        self.assertEqual(b"".join(map(bytes, right)), SESSION)
+        with open(ROOT / "samples/session.dbus", "rb", buffering=0) as raw:
+            self.assertEqual(list(messages(raw)), right)
+        self.assertEqual(list(messages(Short(SESSION))), right)
+        self.assertEqual(list(messages(b"")), [])
+
+    def test_a_message_comes_before_the_next_is_there(self):
+        reader, writer = os.pipe()
+        with open(reader, "rb") as source, open(writer, "wb", buffering=0) as sink:
+            sink.write(SESSION[:169])
+            self.assertEqual(next(messages(source)).body, [":1.2"])
+
+    def test_a_file_that_does_not_block(self):
+        class NotYet(io.RawIOBase):
+            def readinto(self, room):
+                return None
+
+        self.assertRaises(BlockingIOError, next, messages(NotYet()))
+
+    def test_limits(self):
+        longest = max(len(message.data) for message in messages(SESSION))
+        self.assertEqual(len(list(messages(SESSION, Limits(message=longest)))), 136)
+        with self.assertRaises(Refused) as caught:
+            list(messages(SESSION, Limits(message=longest - 1)))
+        self.assertEqual(caught.exception.reason, "MessageTooLong")
+        self.assertEqual(len(list(messages(SESSION, Limits(message=1 << 70, array=1 << 32, depth=1 << 64)))), 136)
+        self.assertEqual(Limits(), Limits(134217728, 67108864, 64, False))
+
+
+class Checkers(unittest.TestCase):
+    def test_the_messages_of_a_stream_in_pieces(self):
+        for data in SAMPLES.values():
+            for length in (1, 64, 4096):
+                found, taken = [], 0
+                with Checker() as checker:
+                    for piece in (data[at : at + length] for at in range(0, len(data), length)):
+                        while piece and (end := checker.take(piece)) is not None:
+                            found.append(taken + end)
+                            piece, taken = piece[end:], 0
+                            checker.restart()
+                        taken += len(piece)
+                self.assertEqual((found, taken), ([len(message.data) for message in messages(data)], 0))
+
+    def test_changed_messages_have_one_answer(self):
+        for data in changed_messages():
+            right = answer_of(data, read=first_of)
+            for length in (1, 50, len(data)):
+                self.assertEqual(answer_in_pieces(data, length), right)
+
+    def test_it_stays_until_it_is_restarted(self):
+        checker = Checker()
+        self.assertEqual([checker.take(SESSION), checker.take(SESSION)], [169, 0])
+        checker.restart()
+        for _ in range(2):
+            self.assertRaises(Refused, checker.take, b"x")
+        checker.restart()
+        self.assertIsNone(checker.take(b""))
+
+    def test_a_closed_checker(self):
+        with Checker() as checker:
+            pass
+        checker.close()
+        self.assertRaises(ValueError, checker.take, b"l")
+        self.assertRaises(ValueError, checker.restart)
+
+    def test_checkers_are_freed(self):
+        with mock.patch.object(dbus_wire._checker.library, "dbus_wire_checker_free", wraps=_library.library.dbus_wire_checker_free) as free:
+            Checker()
+            self.assertEqual(free.call_count, 1)
+            with Checker() as checker:
+                checker.close()
+            del checker
+            self.assertEqual(free.call_count, 2)
+
+    def test_out_of_memory(self):
+        with mock.patch.object(_library.library, "dbus_wire_checker_new", return_value=_library.NO_MEMORY):
+            self.assertRaises(MemoryError, Checker)
+
+
+class Threads(unittest.TestCase):
+    def test_messages_and_checkers_of_their_own(self):
+        def work(_):
+            with Checker() as checker:
+                ends = [checker.take(message.data) == len(message.data) and checker.restart() for message in messages(SESSION)]
+            return ends, [message.body for message in messages(SESSION)]
+
+        with ThreadPoolExecutor(4) as pool:
+            found = list(pool.map(work, range(8)))
+        self.assertTrue(all(one == found[0] for one in found))
+
+    def test_one_checker_and_one_message_that_threads_share(self):
+        message, zeros = Message.parse(SESSION[:169]), 0
+        with Checker() as checker:
+            checker.take(message.data)
+
+            def work(_):
+                return [checker.take(SESSION) for _ in range(500)], message.body
+
+            with ThreadPoolExecutor(4) as pool:
+                for taken, body in pool.map(work, range(4)):
+                    zeros += taken.count(0)
+                    self.assertEqual(body, [":1.2"])
+        self.assertEqual(zeros, 2000)
+
+
+class Header(unittest.TestCase):
+    """The module's numbers, structs and calls are those of include/dbus_wire.h."""
+
+    text = (ROOT / "include/dbus_wire.h").read_text()
+    numbers = {name: int(number) for name, number in re.findall(r"\bDBUS_WIRE_(\w+) (?:= )?(\d+)", text)}
+
+    def type_of(self, spelled):
+        """What ctypes calls a type of C, which may have the name of what is of it after it."""
+        if struct := re.search(r"struct dbus_wire_(\w+)( \*)?", spelled):
+            found = getattr(_library, struct[1].title().replace("_", ""))
+            return ctypes.POINTER(found) if struct[2] else found
+        if "*" in spelled:
+            return ctypes.c_char_p if "uint8_t" in spelled else ctypes.c_void_p
+        return {"uint32_t": ctypes.c_uint32, "uint64_t": ctypes.c_uint64, "size_t": ctypes.c_size_t, "void": None}[spelled.split()[0]]
+
+    def test_numbers(self):
+        for prefix, names in (("TYPE_", MessageType), ("FLAG_", MessageFlag), ("FIELD_", HeaderField), ("TEXT_", TextKind)):
+            right = {name.removeprefix(prefix): number for name, number in self.numbers.items() if name.startswith(prefix)}
+            self.assertEqual({name: int(it) for name, it in names.__members__.items()}, right)
+        mine = {name: number for name, number in vars(_library).items() if type(number) is int}
+        self.assertEqual(mine, {name: self.numbers.get(name) for name in mine})
+        self.assertEqual(_library.WRITTEN_FOR, tuple(self.numbers[f"VERSION_{part}"] for part in ("MAJOR", "MINOR", "PATCH")))
+
+    def test_structs(self):
+        declared = re.findall(r"(\d+) bytes\. \*/\nstruct dbus_wire_(\w+) \{(.*?)\n\};", self.text, re.DOTALL)
+        self.assertEqual(len(declared), 10)
+        for size, name, fields in declared:
+            if name != "argument":
+                lines = re.findall(r"^    (struct \w+|\w+_t|void \*) ?([\w, ]+);", fields, re.MULTILINE)
+                right = [(field, self.type_of(kind)) for kind, names in lines for field in names.split(", ")]
+                struct = self.type_of(f"struct dbus_wire_{name}")
+                self.assertEqual((list(struct._fields_), ctypes.sizeof(struct)), (right, int(size)), name)
+
+    def test_calls(self):
+        declared = re.findall(r"^(?:DBUS_WIRE_\w+ ?(?:\(\(.*\)\) )?)*(void|\w+_t) dbus_wire_(\w+)\(([^;{]*)\);", self.text, re.MULTILINE)
+        calls = {name: (result, [it for it in re.split(r",\s+", text) if it != "void"]) for result, name, text in declared}
+        for name, types in _library._CALLS.items():
+            result, parameters = calls[name]
+            self.assertEqual(types, (self.type_of(result), *map(self.type_of, parameters)), name)
+
+
+class Loading(unittest.TestCase):
+    def test_no_library(self):
+        self.assertRaises(ImportError, _library._load, "/nonexistent")
+        self.assertRaises(ImportError, _library._load, "libc.so.6")
+
+    def test_a_library_of_another_version(self):
+        path = os.environ.get("DBUS_WIRE_LIBRARY") or _library.SONAME
+        for version in ((1, 1, 0), (0, 0, 0), (0, 2, 0), (0, 1, 1)):
+            with mock.patch.object(_library, "WRITTEN_FOR", version):
+                self.assertRaises(ImportError, _library._load, path)
+
+
+if __name__ == "__main__":
+    unittest.main()
