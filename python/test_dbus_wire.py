@@ -223,7 +223,7 @@ class Cases(unittest.TestCase):
         self.assertEqual(body("boolean"), [True])
         self.assertIs(body("boolean")[0], True)
         self.assertEqual(body("double_bytes_and_struct"), [1.0, b"\x00\xff", [], (1, 2)])
-        self.assertEqual(body("variant_of_a_byte"), [Variant(Signature("y"), 7)])
+        self.assertEqual(repr(body("variant_of_a_byte")), "[Variant(signature=Signature('y'), value=7)]")
         least = 7 * 2.0**-1074
         entries, pair, index, text = body("dict_struct_index_and_text")
         self.assertEqual((entries, pair, text), ({"key": Variant(Signature("ay"), b"\1\2\3")}, (-1, least), ""))
@@ -360,6 +360,9 @@ class Streams(unittest.TestCase):
         with self.assertRaises(Refused) as caught:
             list(messages(SESSION, Limits(message=longest - 1)))
         self.assertEqual(caught.exception.reason, "MessageTooLong")
+        stream = io.BytesIO(SESSION)
+        self.assertRaises(Refused, next, messages(stream, Limits(message=168)))
+        self.assertEqual(stream.tell(), 16)
         self.assertEqual(len(list(messages(SESSION, Limits(message=1 << 70, array=1 << 32, depth=1 << 64)))), 136)
         self.assertEqual(Limits(), Limits(134217728, 67108864, 64, False))
 
