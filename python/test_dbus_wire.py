@@ -86,6 +86,10 @@ def first_of(data, limits):
     return next(messages(data, limits))
 
 
+def refusal(fault):
+    return str(fault).replace("refused at ", "refused ").replace(":", "")
+
+
 def answer_of(data, limits=None, read=Message.parse):
     """What is read of the bytes, as a case says it."""
     try:
@@ -94,7 +98,7 @@ def answer_of(data, limits=None, read=Message.parse):
         assert fault.at == len(data)
         return "partial"
     except Refused as fault:
-        return str(fault).replace("refused at ", "refused ").replace(":", "")
+        return refusal(fault)
 
 
 def answer_in_pieces(data, length, limits=None):
@@ -104,7 +108,7 @@ def answer_in_pieces(data, length, limits=None):
             try:
                 end = checker.take(data[at : at + length])
             except Refused as fault:
-                return str(fault).replace("refused at ", "refused ").replace(":", "")
+                return refusal(fault)
             if end is not None:
                 return f"whole {at + end}"
     return "partial"
@@ -117,7 +121,7 @@ def dictionaries(depth, last):
 
 
 def deep_message():
-    """A message of a BYTE and a value with 63 containers in one another, and as many dict entries."""
+    """A message of a BYTE and a value of 63 containers in one another, all of them arrays of dict entries but one variant."""
     outer, inner = (b"a{y" * depth + last + b"}" * depth for depth, last in ((32, b"v"), (30, b"y")))
     body = bytes(4) + dictionaries(32, bytes([len(inner)]) + inner + b"\0" + dictionaries(30, b"\2"))
     fields = b"\x08\1g\0" + bytes([1 + len(outer)]) + b"y" + outer + b"\0"
