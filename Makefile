@@ -17,7 +17,7 @@
 # make install     installs what make build and make library proved and built: the program with its manual page and completions, and the
 #                  library for C. PREFIX, BINDIR, LIBDIR, INCLUDEDIR, DATADIR, MANDIR and DESTDIR say where. install-program and
 #                  install-c install one of the two; of the latter install-shared what programs need to run, install-dev what
-#                  compilers need
+#                  compilers need. install-python installs the module for Python in PYTHONDIR
 # make deb         packages both for Debian, by dpkg-deb, in out/
 # make tarball     packs both, and a checksum, in out/
 # make wrong-bodies prints the wrong bodies that the prover refuses, and what refuses each
@@ -31,6 +31,7 @@ INCLUDEDIR ?= $(PREFIX)/include
 DATADIR ?= $(PREFIX)/share
 MANDIR ?= $(DATADIR)/man
 DOCDIR ?= $(DATADIR)/doc/dbus-wire
+PYTHONDIR ?= $(PREFIX)/lib/python3/dist-packages
 
 PROGRAM = crates/dbus_wire/out/dbus_wire
 ARCHIVE = out/libdbus_wire.a
@@ -54,7 +55,7 @@ ARGS = check
 FILE = samples/session.dbus
 
 .PHONY: kit run quick-test build library test test-c test-python test-memory gate-times wrong-bodies api definitions definitions-check \
-	doc-examples readme-test peers instructions bench install install-program install-c install-shared install-dev install-notices uninstall deb tarball
+	doc-examples readme-test peers instructions bench install install-program install-c install-shared install-dev install-python install-notices uninstall deb tarball
 
 run: kit
 	@echo "dbus-wire without its proofs (make build proves it), which takes at most 64 MiB in and gives 1 MiB out:" >&2
@@ -152,6 +153,11 @@ install-dev: install-notices
 	sed 's|@INCLUDEDIR@|$(INCLUDEDIR)|; s|@LIBDIR@|$(LIBDIR)|; s|@VERSION@|$(VERSION)|' include/dbus-wire.pc.in \
 		> $(DESTDIR)$(LIBDIR)/pkgconfig/dbus-wire.pc
 
+# The module needs the shared library, which install-shared installs.
+install-python:
+	install -D -m 644 LICENSE $(DESTDIR)$(DOCDIR)/LICENSE
+	install -D -m 644 -t $(DESTDIR)$(PYTHONDIR)/dbus_wire $(wildcard python/dbus_wire/*.py) python/dbus_wire/py.typed
+
 # The licences of the kit's crates that are linked in come from the kit, so this needs it.
 install-notices: kit
 	install -D -m 644 LICENSE $(DESTDIR)$(DOCDIR)/LICENSE
@@ -159,6 +165,7 @@ install-notices: kit
 
 uninstall:
 	rm -f $(addprefix $(DESTDIR),$(INSTALLED))
+	rm -rf $(DESTDIR)$(PYTHONDIR)/dbus_wire
 
 deb: kit
 	packaging/deb.sh $(VERSION)

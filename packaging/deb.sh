@@ -1,11 +1,11 @@
 #!/usr/bin/env bash
-# packaging/deb.sh VERSION: the packages dbus-wire, libdbus-wire0 and libdbus-wire-dev in out/, of what was built.
+# packaging/deb.sh VERSION: the packages dbus-wire, libdbus-wire0, libdbus-wire-dev and python3-dbus-wire in out/, of what was built.
 source "$(dirname "$0")/stage.sh" "$@"
-architecture=$(dpkg --print-architecture)
+own_architecture=$(dpkg --print-architecture)
 
-# build NAME DEPENDS SECTION DESCRIPTION: the package of what is staged.
+# build NAME DEPENDS SECTION DESCRIPTION [ARCHITECTURE]: the package of what is staged.
 build() {
-    local name=$1 depends=$2 section=$3 description=$4 folder=out/stage
+    local name=$1 depends=$2 section=$3 description=$4 architecture=${5:-$own_architecture} folder=out/stage
     mkdir -p "$folder/DEBIAN"
     {
         echo "Package: $name"
@@ -32,4 +32,6 @@ echo "activate-noawait ldconfig" > out/stage/DEBIAN/triggers
 build libdbus-wire0 "libc6" libs "the D-Bus wire format as a shared library, proved exact"
 stage install-dev out/stage PREFIX=/usr LIBDIR="$libraries" DOCDIR=/usr/share/doc/libdbus-wire-dev
 build libdbus-wire-dev "libdbus-wire0 (= $version)" libdevel "the D-Bus wire format as a library for C, to compile with"
+stage install-python out/stage PREFIX=/usr DOCDIR=/usr/share/doc/python3-dbus-wire
+build python3-dbus-wire "python3 (>= 3.9), libdbus-wire0 (= $version)" python "the D-Bus wire format for Python, over a library that is proved exact" all
 rm -rf out/stage
