@@ -3,5 +3,6 @@ pub mod ItemSteps
 mod NotedTypes
 pub mod NumberArrays
 pub mod ValueSteps
+mod OpenStructs
 pub mod Spelled
 mod PlainBlocks

@@ -35,17 +35,14 @@ one_byte_end types at lt array struct entry = λ t more e. ap (λ (i : ℕ). at 
 pub first_front : (types : List ℕ) (at n : ℕ) (t : TypeTree) → at < length types → sig t ≡ take n (drop at types) → first_code t ≡ get_or types at 0
 first_front types at n t lt e = first_there types at t (drop n (drop at types)) lt (sym (take-append-drop n (drop at types)) ∙ ap (λ (l : List ℕ). l ++ drop n (drop at types)) (sym e))
 
-basic_long : (t : TypeTree) → IsBasic t → length (sig t) ≡ 1
+-- and has one byte
+pub basic_long : (t : TypeTree) → IsBasic t → length (sig t) ≡ 1
 basic_long (NumberType k) h = refl
 basic_long (TextType k) h = refl
 basic_long VariantType h = absurd h
 basic_long (ArrayType u) h = absurd h
 basic_long (StructType ts) h = absurd h
 basic_long (EntryType k v) h = absurd h
-
--- a basic type ends after its byte
-pub basic_end : (types : List ℕ) (at : ℕ) → at < length types → ((t : TypeTree) → first_code t ≡ get_or types at 0 → IsBasic t) → IsTypeEnd types at (at + 1)
-basic_end types at lt basic = λ t more e. ap (λ (i : ℕ). at + i) (sym (basic_long t (basic t (first_there types at t more lt e))))
 
 -- the code of a basic type is a signature, of one type
 pub one_code : (kind : TextKind) (w : List ℕ) → (kind ≡ Signature) ⊎ (kind ≡ Single) → length w ≡ 1 → is_basic_code (get_or w 0 0) ≡ true → IsKind kind w

@@ -1,7 +1,7 @@
 -- What an answer about a part says of the whole, and what was read whole, taken apart.
-use Rattle.std.proofs.Common.{◌≡◌, ℕ, zero, suc, ◌+◌, ◌<◌, ◌≤◌, List, [], ◌∷◌, length, take, drop, Bool, true, false, cond, ltb, Option, Some, None, refl, sym, ap, subst, ◌∙◌, arith}
+use Rattle.std.proofs.Common.{◌≡◌, ℕ, zero, suc, ◌+◌, ◌≤◌, List, [], ◌∷◌, length, take, drop, Bool, true, false, cond, ltb, Option, Some, None, refl, sym, ap, subst, ◌∙◌, arith}
 use Rattle.std.proofs.lemmas.Bool.{ltb-false}
-use Rattle.std.proofs.lemmas.List.{drop-drop, length-drop, length-take}
+use Rattle.std.proofs.lemmas.List.{drop-drop, length-take}
 use Rattle.dbus_texts.specs.declared.text_kind.TextKind.{TextKind}
 use Rattle.dbus_value_model.specs.declared.fault.Fault.{Fault}
 use Rattle.dbus_value_model.specs.declared.fault.Reason.{Reason}
@@ -13,7 +13,7 @@ use Rattle.dbus_value_model.specs.Reading.{Reader, Outcome, Done, Faulty, Partia
 use Rattle.dbus_value_model.specs.declared.stop.Stop.TheVariants as stops
 use Rattle.dbus_value_laws.proofs.Agreement.{after_done}
 use Rattle.dbus_value_laws.proofs.KindLaws.{wanted_is}
-use Rattle.dbus_value_laws.proofs.ReadSteps.{number_done, number_stops, number_fails}
+use Rattle.dbus_value_laws.proofs.ReadSteps.{number_stops, number_fails}
 use Rattle.dbus_value_laws.proofs.StringSteps.{text_there}
 use Rattle.dbus_value_validator.specs.Endings.{Answers, IsNotRead, EndedText}
 
@@ -50,6 +50,13 @@ module _ {A : Type 0} (bytes : List ℕ) (r : Option ℕ) (read : Outcome A) whe
 pub answers_made : {A B : Type 0} (bytes : List ℕ) (r : Option ℕ) (read : Outcome A) (make : A → B) → Answers bytes r read → Answers bytes r (after read (λ x. pure (make x)))
 answers_made bytes None read make unread = not_first read _ unread
 answers_made bytes (Some q) read make ends = (make ends.0, rw ends.1 refl)
+
+pub answers_unmade : {A B : Type 0} (bytes : List ℕ) (r : Option ℕ) (read : Outcome A) (make : A → B) → Answers bytes r (after read (λ x. pure (make x))) → Answers bytes r read
+answers_unmade bytes None read make unread = λ x q rest e. unread (make x) q rest (rw e refl)
+answers_unmade bytes (Some q) read make ends =
+    let w = after_done read (λ x. pure (make x)) ends.0 q (drop q bytes) ends.1 in
+    let s = same_done (make w.0) ends.0 w.1 q w.2 (drop q bytes) w.4 in
+    (w.0, done_at read w.0 w.1 w.2 q (drop q bytes) w.3 s.1 s.2)
 
 pub made_first : {A B C : Type 0} (read : Outcome A) (make : A → B) (next : B → Reader C) → after (after read (λ x. pure (make x))) next ≡ after read (λ x. next (make x))
 made_first (Done x q rest) make next = refl

@@ -1,77 +1,23 @@
 -- Values of any type: what is said of them where their parts are read, or are not.
-use Rattle.std.proofs.Common.{◌≡◌, ℕ, zero, suc, ◌+◌, ◌-◌, ◌<◌, ◌≤◌, List, [], ◌∷◌, Option, Some, None, length, take, drop, true, refl, sym, ap, subst, ◌∙◌, arith}
+use Rattle.std.proofs.Common.{◌≡◌, ℕ, zero, suc, ◌+◌, ◌-◌, ◌<◌, List, [], ◌∷◌, Option, Some, None, take, drop, true, refl, sym, ap, subst, ◌∙◌, arith}
 use Rattle.std.proofs.lemmas.Bool.{lt-ltb, ne_eqb}
-use Rattle.std.proofs.lemmas.List.{length-append, length-drop, take_at, drop_at, drop-drop}
-use Rattle.dbus_texts.specs.Types.{NumberCode, TextCode, TypeTree, NumberType, TextType, VariantType, ArrayType, StructType, EntryType, TypeTrees, NoTypes, MoreTypes, sig, sigs, IsShaped, AreShaped}
+use Rattle.dbus_texts.specs.Types.{NumberCode, TextCode, TypeTree, NumberType, TextType, VariantType, ArrayType, StructType, EntryType, TypeTrees, NoTypes, MoreTypes, sig, IsShaped}
 use Rattle.dbus_texts.specs.ComputedKinds.{type_spelled}
 use Rattle.dbus_texts.specs.declared.text_kind.TextKind.TheVariants.{Single}
-use Rattle.dbus_texts.proofs.TypeTexts.{sig_positive}
-use Rattle.dbus_types.specs.SignatureCodes.{IsTypeEnd}
 use Rattle.dbus_value_model.specs.declared.fault.Reason.TheVariants as reasons
 use Rattle.dbus_value_model.specs.declared.limits.Bounds.{Bounds}
 use Rattle.dbus_value_model.specs.declared.order.Order.{Order}
 use Rattle.dbus_value_model.specs.Items.{fault}
 use Rattle.dbus_value_model.specs.Values.{ValueTree, ValueTrees, NoValues, MoreValues, VariantValue, ArrayValue, StructValue, EntryValue, value_trees}
 use Rattle.dbus_value_model.specs.ValueItems.{text_row}
-use Rattle.dbus_value_model.specs.Reading.{Reader, Outcome, Done, Faulty, Partial, after, pure, opened, padding, number, text, up_to, contents, fields, value}
+use Rattle.dbus_value_model.specs.Reading.{Reader, Outcome, Done, after, pure, opened, padding, number, text, up_to, contents, fields, value}
 use Rattle.dbus_value_model.specs.WantedTexts.{Of}
-use Rattle.dbus_value_model.specs.ValueReaders.{number_value, text_value, variant_value, held_value, array_frame, open_array, array_value, open_struct, struct_value, entry_value}
+use Rattle.dbus_value_model.specs.ValueReaders.{number_value, text_value, variant_value, held_value, array_frame, open_array, array_value, struct_value, entry_value}
 use Rattle.dbus_value_laws.proofs.KindLaws.{single_text}
 use Rattle.dbus_value_laws.proofs.ReadSteps.{after_after}
-use Rattle.dbus_value_laws.proofs.ValueSteps.{value_number, value_text, value_variant, value_array, value_struct, value_entry, one_turn, no_turn, same_turns, shaped_inside, single_shaped}
+use Rattle.dbus_value_laws.proofs.ValueSteps.{value_number, value_text, value_variant, value_array, value_struct, value_entry, one_turn, no_turn, same_turns, single_shaped}
 use Rattle.dbus_value_validator.specs.Endings.{Answers, EndsAt, IsNotRead, EndedText}
 use Rattle.dbus_value_validator.proofs.ReadParts.{not_faulty, not_partial, not_same, not_first, not_then, answers_same, answers_made, made_first, not_ended, short_unread}
-
--- ---- values of some types, one after another
-
--- the types us are left, and what is said of values of these is said of values of all
-pub record Left (part : TypeTree → Reader ValueTree) (bytes types : List ℕ) (ts : TypeTrees) (at place pos : ℕ) : Type 0 where
-  pub us : TypeTrees
-  pub text : sigs us ≡ drop pos types
-  pub shaped : AreShaped us
-  pub leads : (r : Option ℕ) → Answers bytes r (fields part us place (drop place bytes)) → Answers bytes r (fields part ts at (drop at bytes))
-
-module _ (part : TypeTree → Reader ValueTree) (bytes types : List ℕ) (ts : TypeTrees) (at place pos : ℕ) where
-  module _ (next : ℕ) (lt : pos < length types) (is : IsTypeEnd types pos next) where
-    -- the type at the start of those that are left, and the others
-    begins : (us : TypeTrees) → sigs us ≡ drop pos types → AreShaped us
-        → (t : TypeTree) × (others : TypeTrees) × (us ≡ MoreTypes t others) × (sig t ≡ take (next - pos) (drop pos types)) × IsShaped true t × (sigs others ≡ drop next types) × AreShaped others
-    begins NoTypes text shaped = absurd (omega (arith, ap length text, length-drop pos types))
-    begins (MoreTypes t others) text shaped =
-        let there : next ≡ pos + length (sig t) = is t (sigs others) (sym text) in
-        let long : next - pos ≡ length (sig t) = omega arith in
-        let rest : drop (length (sig t)) (drop pos types) ≡ sigs others = ap (drop (length (sig t))) (sym text) ∙ drop_at (sig t) (sigs others) (length (sig t)) refl in (
-          t,
-          others,
-          refl,
-          rw (long, ← text) (sym (take_at (sig t) (sigs others) (length (sig t)) refl)),
-          shaped_inside t shaped.0,
-          sym rest ∙ drop-drop (length (sig t)) pos types ∙ ap (λ (m : ℕ). drop m types) (sym there),
-          shaped.1,
-        )
-
-    pub less_left : (q : ℕ) → Left part bytes types ts at place pos → ((t : TypeTree) → sig t ≡ take (next - pos) (drop pos types) → IsShaped true t → EndsAt bytes q (part t place (drop place bytes))) → Left part bytes types ts at q next
-    less_left q left gives =
-        let w = begins left.us left.text left.shaped in
-        let one = gives w.0 w.3 w.4 in
-        record {
-          us = w.1;
-          text = w.5;
-          shaped = w.6;
-          leads = λ r answer. left.leads r (rw (w.2, one.1) (answers_made bytes r (fields part w.1 q (drop q bytes)) (MoreValues one.0) answer));
-        }
-
-    pub left_unread : Left part bytes types ts at place pos → ((t : TypeTree) → sig t ≡ take (next - pos) (drop pos types) → IsShaped true t → IsNotRead (part t place (drop place bytes))) → IsNotRead (fields part ts at (drop at bytes))
-    left_unread left none =
-        let w = begins left.us left.text left.shaped in
-        left.leads None (rw w.2 (not_first (part w.0 place (drop place bytes)) _ (none w.0 w.3 w.4)))
-
-  none_left : (us : TypeTrees) → length types ≤ pos → sigs us ≡ drop pos types → us ≡ NoTypes
-  none_left NoTypes le text = refl
-  none_left (MoreTypes t us) le text = absurd (omega (arith, ap length text, length-append (sig t) (sigs us), sig_positive t, length-drop pos types))
-
-  pub left_ends : length types ≤ pos → Left part bytes types ts at place pos → EndsAt bytes place (fields part ts at (drop at bytes))
-  left_ends le left = left.leads (Some place) (NoValues, rw (none_left left.us le left.text) refl)
 
 -- ---- elements of an array
 
@@ -163,12 +109,6 @@ module _ (bounds : Bounds) (order : Order) (depth_left end at : ℕ) (bytes : Li
           (answers_made bytes r _ (λ xs. ArrayValue t (value_trees xs)) answer)
 
     module _ (padded : padding 8 end at (drop at bytes) ≡ Done tt start (drop start bytes)) where
-      pub struct_answers : 0 < depth_left → (ts : TypeTrees) (r : Option ℕ) → Answers bytes r (fields (value bounds order (depth_left - 1) end) ts start (drop start bytes)) → Answers bytes r (struct_value bounds order depth_left end ts at (drop at bytes))
-      unfolding struct_value open_struct
-      struct_answers some ts r answer =
-          answers_same bytes r _ (after (fields (value bounds order (depth_left - 1) end) ts start (drop start bytes)) (λ xs. pure (StructValue xs)))
-          (rw padded (opens depth_left (open_struct bounds order (depth_left - 1) end ts) start (drop start bytes) some)) (answers_made bytes r _ StructValue answer)
-
       pub entry_answers : (k v : TypeTree) (r : Option ℕ) → Answers bytes r (fields (value bounds order depth_left end) (MoreTypes k (MoreTypes v NoTypes)) start (drop start bytes)) → Answers bytes r (entry_value bounds order depth_left end k v at (drop at bytes))
       unfolding entry_value
       entry_answers k v r answer =

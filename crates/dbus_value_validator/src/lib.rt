@@ -7,6 +7,7 @@
 
 mod arrays;
 mod basic;
+mod brackets;
 mod ends;
 mod items;
 mod numbers;

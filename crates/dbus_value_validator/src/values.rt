@@ -10,10 +10,11 @@ ghost use Rattle.std.specs.Prelude.{◌≡◌, ℕ, ◌+◌, ◌<◌, ◌≤◌,
 ghost use Rattle.dbus_texts.specs.Types.{TypeTree, TypeTrees, NoTypes, MoreTypes, sig, sigs, IsShaped, AreShaped};
 ghost use Rattle.dbus_value_validator.specs.Endings.{Answers};
 ghost use Rattle.dbus_value_validator.specs.NotedTypes.{AreNoted};
-ghost use Rattle.dbus_value_validator.specs.Sources.{value_in, values_in, elements_in, variant_in, array_in, struct_in, entry_in};
+ghost use Rattle.dbus_value_validator.specs.Sources.{value_in, values_in, elements_in, variant_in, array_in, entry_in};
 
 use crate::arrays::frame;
 use crate::basic::basic_value;
+use crate::brackets::row_of;
 use crate::ends::{end_of, is_container, wants_lengths};
 use crate::items::padding;
 use crate::source::Source;
@@ -49,9 +50,8 @@ pub fn one_value(
     if code == b'a' {
         return array(source, at, end, &types[1..], pos + 1, depth_left);
     }
-    if code == b'(' && types.len() > 1 {
-        let inner = &types[1..types.len() - 1];
-        return structure(source, at, end, inner, pos + 1, depth_left);
+    if code == b'(' {
+        return all_values(source, at, end, types, pos, depth_left);
     }
     if code == b'{' && types.len() > 1 {
         let inner = &types[1..types.len() - 1];
@@ -80,13 +80,41 @@ pub(crate) fn all_values(
 {
     let mut place = at;
     let mut first = 0;
-    while first < types.len() {
+    // How many structs are open. The last bytes only close them.
+    let mut depth: u8 = 0;
+    while first + usize::from(depth) < types.len() {
         let code = types[first];
-        if is_container(code) {
+        if code == b'(' {
+            if depth == depth_left {
+                return None;
+            }
+            // Structs that begin together are padded together.
+            place = padding(source.bytes, place, end, 8)?;
+            let more = row_of(types, first, code, depth_left - depth);
+            depth += more;
+            first += usize::from(more);
+        } else if code == b')' {
+            if depth == 0 {
+                return None;
+            }
+            depth -= 1;
+            first += 1;
+        } else if code == b'a' {
             let next = end_of(types, first, source.lengths, pos);
-            let one = &types[first..next];
-            place = one_value(source, place, end, one, pos + first, depth_left)?;
+            let whole = &types[first..next];
+            let element = &whole[1..];
+            place = array(
+                source,
+                place,
+                end,
+                element,
+                pos + first + 1,
+                depth_left - depth,
+            )?;
             first = next;
+        } else if code == b'v' {
+            place = variant(source, place, end, depth_left - depth)?;
+            first += 1;
         } else {
             place = basic_value(source, place, end, code)?;
             first += 1;
@@ -287,31 +315,6 @@ fn elements(
         place = one_value(source, place, end, types, pos, depth_left)?;
     }
     if place == end { Some(end) } else { None }
-}
-
-/// A struct, whose fields are of the types that `types` spell.
-#[cycle(values)]
-fn structure(
-    source: &Source<'_>,
-    at: usize,
-    end: usize,
-    types: &[u8],
-    pos: usize,
-    depth_left: u8,
-) -> Option<usize>
-    requires at_most { at ≤ end }
-    requires inside { end ≤ length source.now.bytes.now }
-    requires near { pos + length types.now < 2 ^ 64 }
-    requires noted { AreNoted types.now source.now.lengths.now pos }
-    ensures gives { (ts : TypeTrees) → sigs ts ≡ types.now → AreShaped ts →
-        Answers source.now.bytes.now result (struct_in source.now depth_left end ts at) }
-    ensures moves { IfSome result (λ q. (at ≤ q) × (q ≤ end)) }
-{
-    if depth_left == 0 {
-        return None;
-    }
-    let start = padding(source.bytes, at, end, 8)?;
-    all_values(source, start, end, types, pos, depth_left - 1)
 }
 
 /// A dict entry, whose key and value are of the two types that `types` spell.

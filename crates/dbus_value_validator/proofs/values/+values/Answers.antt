@@ -1,71 +1,188 @@
 use Rattle.std.proofs.Common.{◌≡◌, ℕ, ◌+◌, ◌-◌, ◌<◌, Some, None, length, take, drop, true, false, arith, refl, sym, ap, subst, ◌∙◌}
 use Rattle.std.proofs.lemmas.Bool.{eqb-true, eqb-false, eq-eqb, ne_eqb}
-use Rattle.std.proofs.lemmas.List.{length-take, length-drop}
-use Rattle.dbus_texts.specs.Types.{TypeTree, NoTypes, MoreTypes, IsShaped}
+use Rattle.std.proofs.lemmas.List.{length-take, length-drop, append-nil}
+use Rattle.dbus_texts.specs.Types.{TypeTree, NoTypes, MoreTypes, sig, IsShaped}
 use Rattle.dbus_types.specs.Alignments.{alignment_of}
 use Rattle.dbus_value_model.specs.Reading.{padding, value}
+use Rattle.dbus_value_model.specs.Values.{NoValues, MoreValues}
 use Rattle.dbus_value_model.specs.ValueReaders.{array_value, struct_value, entry_value}
-use Rattle.dbus_types.proofs.TypeCodes.{no_text_of, code_is, variant_is, array_is, struct_is, entry_is, struct_shaped, entry_shaped}
+use Rattle.dbus_types.proofs.TypeCodes.{no_text_of, code_is, variant_is, array_is, struct_is, entry_is, entry_shaped}
 use Rattle.dbus_value_model.proofs.FreeNumbers.{free_is}
 use Rattle.dbus_value_validator.specs.Endings.{Answers}
-use Rattle.dbus_value_validator.proofs.NotedTypes.{part_noted, first_front, basic_end}
+use Rattle.dbus_value_validator.proofs.NotedTypes.{part_noted, first_front}
 use Rattle.dbus_value_validator.proofs.NumberArrays.{free_elements}
-use Rattle.dbus_value_validator.proofs.ReadParts.{not_first}
-use Rattle.dbus_value_validator.proofs.ValueSteps.{less_left, left_unread, left_ends, leads_all, leads_on, leads_end, lacks_element, lacks_end, too_deep, variant_too_deep, variant_unsigned, variant_answers, array_unframed, array_answers, struct_answers, entry_answers, as_variant, as_array, as_struct, as_entry}
+use Rattle.dbus_value_validator.proofs.ReadParts.{not_first, answers_unmade}
+use Rattle.dbus_value_validator.proofs.ValueSteps.{leads_all, leads_on, leads_end, lacks_element, lacks_end, too_deep, variant_too_deep, variant_unsigned, variant_answers, array_unframed, array_answers, entry_answers, as_variant, as_array, as_entry}
+use Rattle.dbus_value_validator.proofs.OpenStructs.{all_left, left_ends, left_unread, less_left, struct_unread, structs_left, closed_left, basic_there, variant_there, array_there, struct_outside}
 use Rattle.dbus_value_validator.proofs.values.+values.Goals.{array-then-depth_left-eq0-via-then-depth_left-eq0, array-then-depth_left-eq0-via-else-depth_left-eq0+then-is_empty}
 use Rattle.dbus_value_validator.proofs.values.+values.Goals as goal
 
 -- ---- values one after another
 
-pub all_values-loop-first-preserved-then-is_container : goal.all_values-loop-first-preserved-then-is_container
-all_values-loop-first-preserved-then-is_container t c =
+pub all_values-loop-first-init : goal.all_values-loop-first-init
+all_values-loop-first-init t c = record {
+  begun = omega arith;
+  at_most = c.requires.at_most;
+  within = omega arith;
+  deep = omega arith;
+  left = λ ts e shaped. all_left c.args.source.now c.args.end c.args.types.now ts c.args.at c.args.depth_left e shaped;
+}
+
+pub all_values-returns-then-depth-depth_left-clause-gives : goal.all_values-returns-then-depth-depth_left-clause-gives
+unfolding struct_value
+all_values-returns-then-depth-depth_left-clause-gives t c = λ ts e shaped.
     let source = c.args.source.now in
+    let l = c.loop-first in
+    struct_unread source c.args.end c.args.types.now ts c.args.at c.args.depth_left l.place l.first l.depth (omega arith) c.if-code-eq40.true (l.invariant.left ts e shaped) (λ inner.
+    too_deep (c.args.depth_left - l.depth) _ (padding 8 c.args.end l.place (drop l.place source.bytes.now)) (omega arith))
+
+pub all_values-returns-in_err-place-clause-gives : goal.all_values-returns-in_err-place-clause-gives
+unfolding struct_value
+all_values-returns-in_err-place-clause-gives t c = λ ts e shaped.
+    let source = c.args.source.now in
+    let l = c.loop-first in
+    rw c.from_residual.ensures (
+    struct_unread source c.args.end c.args.types.now ts c.args.at c.args.depth_left l.place l.first l.depth (omega arith) c.if-code-eq40.true (l.invariant.left ts e shaped) (λ inner.
+    not_first (padding 8 c.args.end l.place (drop l.place source.bytes.now)) _ (c.padding.ensures.none c.in_err-place.was))
+    )
+
+pub all_values-loop-first-preserved-then-code-eq40 : goal.all_values-loop-first-preserved-then-code-eq40
+all_values-loop-first-preserved-then-code-eq40 t c =
+    let source = c.args.source.now in
+    let l = c.loop-first in
     let moves = c.in_ok-place.ensures.moves in
+    let more = c.row_of-more.ensures in
+    record {
+      begun = omega (arith, moves.0);
+      at_most = moves.1;
+      within = omega (arith, more.within);
+      deep = omega (arith, more.at_most);
+      left = λ ts e shaped.
+          rw c.from-first.ensures (
+          structs_left source c.args.end c.args.types.now ts c.args.at c.args.depth_left c.row_of-more.result l.place l.first l.depth c.in_ok-place.place (more.some (omega arith) refl) (λ k lt. more.same k lt ∙ c.if-code-eq40.true) more.within (omega (arith, more.at_most)) (l.invariant.left ts e shaped) c.in_ok-place.ensures.gives moves.0 moves.1
+          );
+    }
+
+pub all_values-returns-then-depth-eq0-clause-gives : goal.all_values-returns-then-depth-eq0-clause-gives
+all_values-returns-then-depth-eq0-clause-gives t c = λ ts e shaped.
+    let l = c.loop-first in
+    let closed = closed_left c.args.source.now c.args.end c.args.types.now ts c.args.at c.args.depth_left l.place l.first l.depth (omega arith) c.if-code-eq41.true l.invariant.deep (l.invariant.left ts e shaped) in
+    absurd (omega (arith, closed.0))
+
+pub all_values-loop-first-preserved-then-code-eq41 : goal.all_values-loop-first-preserved-then-code-eq41
+all_values-loop-first-preserved-then-code-eq41 t c =
+    let l = c.loop-first in
+    record {
+      begun = l.invariant.begun;
+      at_most = l.invariant.at_most;
+      within = omega arith;
+      deep = omega arith;
+      left = λ ts e shaped. (closed_left c.args.source.now c.args.end c.args.types.now ts c.args.at c.args.depth_left l.place l.first l.depth (omega arith) c.if-code-eq41.true l.invariant.deep (l.invariant.left ts e shaped)).1;
+    }
+
+pub all_values-array-requires : goal.all_values-array-requires
+all_values-array-requires t c =
+    let types = c.args.types.now in
+    let first = c.loop-first.first in
+    let k = c.end_of-next.result - first in
+    let whole = take k (drop first types) in
+    let within = c.end_of-next.ensures.within in
+    let some = c.end_of-next.ensures.some in
+    let size : length whole ≡ k = omega (arith, within, some, length-take k (drop first types), length-drop first types) in
+    let long : length (take (length whole - 1) (drop 1 whole)) ≡ k - 1 = omega (arith, size, length-take (length whole - 1) (drop 1 whole), length-drop 1 whole) in
+    let noted = part_noted types c.args.source.now.lengths.now c.args.pos c.requires.noted first k in
+    (omega (arith, long, within, some), (c.loop-first.invariant.at_most, (c.requires.inside, (omega (arith, long, within, some, c.requires.near), part_noted whole c.args.source.now.lengths.now (c.args.pos + first) noted 1 (length whole - 1)))))
+
+pub all_values-returns-in_err-place-2-clause-gives : goal.all_values-returns-in_err-place-2-clause-gives
+all_values-returns-in_err-place-2-clause-gives t c = λ ts e shaped.
+    let source = c.args.source.now in
+    let l = c.loop-first in
+    rw c.from_residual-in_err-place-2.ensures (
+    left_unread source c.args.end c.args.types.now ts c.args.at c.args.depth_left l.place l.first l.depth (omega arith) (λ close. absurd (omega (arith, c.if-code-eq97.true))) (l.invariant.left ts e shaped) (λ u more is whole.
+    let w = array_there c.args.types.now l.first (omega arith) c.if-code-eq97.true c.end_of-next.result u more is whole (c.end_of-next.ensures.value u more is) in
+    as_array source.bounds source.order (c.args.depth_left - l.depth) c.args.end l.place source.bytes.now u None w.0 w.1 (c.in_err-place-2.ensures.gives w.0 w.2 w.3))
+    )
+
+pub all_values-loop-first-preserved-then-code-eq97 : goal.all_values-loop-first-preserved-then-code-eq97
+all_values-loop-first-preserved-then-code-eq97 t c =
+    let source = c.args.source.now in
+    let l = c.loop-first in
+    let moves = c.in_ok-place-2.ensures.moves in
     record {
       begun = omega (arith, moves.0);
       at_most = moves.1;
       within = c.end_of-next.ensures.within;
+      deep = l.invariant.deep;
       left = λ ts e shaped.
-          less_left (value source.bounds source.order c.args.depth_left c.args.end) source.bytes.now c.args.types.now ts c.args.at c.loop-first.place c.loop-first.first c.end_of-next.result c.loop-first-test.true c.end_of-next.ensures.value c.in_ok-place.place
-          (c.loop-first.invariant.left ts e shaped) c.in_ok-place.ensures.gives;
+          less_left source c.args.end c.args.types.now ts c.args.at c.args.depth_left l.place l.first l.depth (omega arith) (λ close. absurd (omega (arith, c.if-code-eq97.true))) (l.invariant.left ts e shaped) c.end_of-next.result c.in_ok-place-2.place (λ u more is whole.
+          let ends = c.end_of-next.ensures.value u more is in
+          let w = array_there c.args.types.now l.first (omega arith) c.if-code-eq97.true c.end_of-next.result u more is whole ends in
+          (ends, as_array source.bounds source.order (c.args.depth_left - l.depth) c.args.end l.place source.bytes.now u (Some c.in_ok-place-2.place) w.0 w.1 (c.in_ok-place-2.ensures.gives w.0 w.2 w.3)));
     }
 
-pub all_values-loop-first-preserved : goal.all_values-loop-first-preserved
-all_values-loop-first-preserved t c =
+pub all_values-returns-in_err-place-3-clause-gives : goal.all_values-returns-in_err-place-3-clause-gives
+all_values-returns-in_err-place-3-clause-gives t c = λ ts e shaped.
     let source = c.args.source.now in
-    let types = c.args.types.now in
-    let moves = c.in_ok-place-2.ensures.moves in
-    let basic = c.is_container.ensures c.if-is_container.false in
+    let l = c.loop-first in
+    rw c.from_residual-in_err-place-3.ensures (
+    left_unread source c.args.end c.args.types.now ts c.args.at c.args.depth_left l.place l.first l.depth (omega arith) (λ close. absurd (omega (arith, c.if-code-eq118.true))) (l.invariant.left ts e shaped) (λ u more is whole.
+    as_variant source.bounds source.order (c.args.depth_left - l.depth) c.args.end l.place source.bytes.now u None (variant_there c.args.types.now l.first (omega arith) c.if-code-eq118.true u more is).0 c.in_err-place-3.ensures.gives)
+    )
+
+pub all_values-loop-first-preserved-then-code-eq118 : goal.all_values-loop-first-preserved-then-code-eq118
+all_values-loop-first-preserved-then-code-eq118 t c =
+    let source = c.args.source.now in
+    let l = c.loop-first in
+    let moves = c.in_ok-place-3.ensures.moves in
     record {
       begun = omega (arith, moves.0);
       at_most = moves.1;
       within = omega arith;
+      deep = l.invariant.deep;
       left = λ ts e shaped.
-          less_left (value source.bounds source.order c.args.depth_left c.args.end) source.bytes.now types ts c.args.at c.loop-first.place c.loop-first.first (c.loop-first.first + 1) c.loop-first-test.true
-          (basic_end types c.loop-first.first c.loop-first-test.true basic) c.in_ok-place-2.place (c.loop-first.invariant.left ts e shaped)
-          (λ u is whole. let code = first_front types c.loop-first.first (c.loop-first.first + 1 - c.loop-first.first) u c.loop-first-test.true is in c.in_ok-place-2.ensures.gives c.args.depth_left u code (basic u code));
+          less_left source c.args.end c.args.types.now ts c.args.at c.args.depth_left l.place l.first l.depth (omega arith) (λ close. absurd (omega (arith, c.if-code-eq118.true))) (l.invariant.left ts e shaped) (l.first + 1) c.in_ok-place-3.place (λ u more is whole.
+          let w = variant_there c.args.types.now l.first (omega arith) c.if-code-eq118.true u more is in
+          (w.1, as_variant source.bounds source.order (c.args.depth_left - l.depth) c.args.end l.place source.bytes.now u (Some c.in_ok-place-3.place) w.0 c.in_ok-place-3.ensures.gives));
+    }
+
+pub all_values-returns-in_err-place-4-clause-gives : goal.all_values-returns-in_err-place-4-clause-gives
+all_values-returns-in_err-place-4-clause-gives t c = λ ts e shaped.
+    let source = c.args.source.now in
+    let l = c.loop-first in
+    rw c.from_residual-in_err-place-4.ensures (
+    left_unread source c.args.end c.args.types.now ts c.args.at c.args.depth_left l.place l.first l.depth (omega arith) c.if-code-eq41.false (l.invariant.left ts e shaped) (λ u more is whole.
+    let w = basic_there c.args.types.now l.first (omega arith) c.if-code-eq97.false c.if-code-eq40.false c.if-code-eq118.false u more is whole in
+    c.in_err-place-4.ensures.gives (c.args.depth_left - l.depth) u w.0 w.1)
+    )
+
+pub all_values-loop-first-preserved : goal.all_values-loop-first-preserved
+all_values-loop-first-preserved t c =
+    let source = c.args.source.now in
+    let l = c.loop-first in
+    let moves = c.in_ok-place-4.ensures.moves in
+    record {
+      begun = omega (arith, moves.0);
+      at_most = moves.1;
+      within = omega arith;
+      deep = l.invariant.deep;
+      left = λ ts e shaped.
+          less_left source c.args.end c.args.types.now ts c.args.at c.args.depth_left l.place l.first l.depth (omega arith) c.if-code-eq41.false (l.invariant.left ts e shaped) (l.first + 1) c.in_ok-place-4.place (λ u more is whole.
+          let w = basic_there c.args.types.now l.first (omega arith) c.if-code-eq97.false c.if-code-eq40.false c.if-code-eq118.false u more is whole in
+          (w.2, c.in_ok-place-4.ensures.gives (c.args.depth_left - l.depth) u w.0 w.1));
     }
 
 pub all_values-returns-clause-gives : goal.all_values-returns-clause-gives
 all_values-returns-clause-gives t c = λ ts e shaped.
-    left_ends (value c.args.source.now.bounds c.args.source.now.order c.args.depth_left c.args.end) c.args.source.now.bytes.now c.args.types.now ts c.args.at c.loop-first.place c.loop-first.first c.loop-first-test.false (c.loop-first.invariant.left ts e shaped)
+    let l = c.loop-first in
+    left_ends c.args.source.now c.args.end c.args.types.now ts c.args.at c.args.depth_left l.place l.first l.depth (omega arith) (l.invariant.left ts e shaped)
 
-pub all_values-returns-in_err-place-clause-gives : goal.all_values-returns-in_err-place-clause-gives
-all_values-returns-in_err-place-clause-gives t c = λ ts e shaped.
-    rw c.from_residual.ensures (
-    left_unread (value c.args.source.now.bounds c.args.source.now.order c.args.depth_left c.args.end) c.args.source.now.bytes.now c.args.types.now ts c.args.at c.loop-first.place c.loop-first.first c.end_of-next.result c.loop-first-test.true c.end_of-next.ensures.value
-    (c.loop-first.invariant.left ts e shaped) c.in_err-place.ensures.gives
-    )
-
-pub all_values-returns-in_err-place-2-clause-gives : goal.all_values-returns-in_err-place-2-clause-gives
-all_values-returns-in_err-place-2-clause-gives t c = λ ts e shaped.
-    let types = c.args.types.now in
-    let basic = c.is_container.ensures c.if-is_container.false in
-    rw c.from_residual-in_err-place-2.ensures (
-    left_unread (value c.args.source.now.bounds c.args.source.now.order c.args.depth_left c.args.end) c.args.source.now.bytes.now types ts c.args.at c.loop-first.place c.loop-first.first (c.loop-first.first + 1) c.loop-first-test.true
-    (basic_end types c.loop-first.first c.loop-first-test.true basic) (c.loop-first.invariant.left ts e shaped)
-    (λ u is whole. let code = first_front types c.loop-first.first (c.loop-first.first + 1 - c.loop-first.first) u c.loop-first-test.true is in c.in_err-place-2.ensures.gives c.args.depth_left u code (basic u code))
-    )
+pub one_value-returns-then-code-eq40-clause-gives : goal.one_value-returns-then-code-eq40-clause-gives
+one_value-returns-then-code-eq40-clause-gives t c = λ u e shaped.
+    let source = c.args.source.now in
+    let w = struct_is u c.args.types.now e c.if-code-eq40.true in
+    let one = subst (λ (v : TypeTree). IsShaped true v → IsShaped false v) (sym w.1) (struct_outside w.0) shaped in
+    answers_unmade source.bytes.now c.all_values.result (value source.bounds source.order c.args.depth_left c.args.end u c.args.at (drop c.args.at source.bytes.now)) (λ x. MoreValues x NoValues)
+    (c.all_values.ensures.gives (MoreTypes u NoTypes) (append-nil (sig u) ∙ e) (one, tt))
 
 -- ---- arrays
 
@@ -155,20 +272,7 @@ elements-loop-turn-preserved t c =
           (c.loop-turn.invariant.leads u e shaped) (c.args.n - (c.loop-turn._turn + 1)) (omega arith) (omega (arith, c.if-place-end.false)) c.in_ok-place.place (c.in_ok-place.ensures.gives u e shaped);
     }
 
--- ---- structs, dict entries and variants
-
-pub structure-returns-then-depth_left-eq0-clause-gives : goal.structure-returns-then-depth_left-eq0-clause-gives
-unfolding struct_value
-structure-returns-then-depth_left-eq0-clause-gives t c = λ ts e shaped. too_deep c.args.depth_left _ (padding 8 c.args.end c.args.at (drop c.args.at c.args.source.now.bytes.now)) c.if-depth_left-eq0.true
-
-pub structure-returns-in_err-start-clause-gives : goal.structure-returns-in_err-start-clause-gives
-unfolding struct_value
-structure-returns-in_err-start-clause-gives t c = λ ts e shaped. rw c.from_residual.ensures (not_first (padding 8 c.args.end c.args.at (drop c.args.at c.args.source.now.bytes.now)) _ (c.padding.ensures.none c.in_err-start.was))
-
-pub structure-returns-clause-gives : goal.structure-returns-clause-gives
-structure-returns-clause-gives t c = λ ts e shaped.
-    let source = c.args.source.now in
-    struct_answers source.bounds source.order c.args.depth_left c.args.end c.args.at source.bytes.now c.in_ok-start.start c.in_ok-start.ensures.gives (omega arith) ts c.all_values.result (c.all_values.ensures.gives ts e shaped)
+-- ---- dict entries and variants
 
 pub entry-returns-in_err-start-clause-gives : goal.entry-returns-in_err-start-clause-gives
 unfolding entry_value
@@ -215,24 +319,10 @@ one_value-returns-then-code-eq97-clause-gives t c = λ u e shaped.
 
 pub one_value-returns-then-types-gt1-clause-gives : goal.one_value-returns-then-types-gt1-clause-gives
 one_value-returns-then-types-gt1-clause-gives t c = λ u e shaped.
-    let w = struct_is u c.args.types.now e c.if-code-eq40.true in
-    as_struct c.args.source.now.bounds c.args.source.now.order c.args.depth_left c.args.end c.args.at c.args.source.now.bytes.now u c.structure.result w.0 w.1 (c.structure.ensures.gives w.0 w.2 (struct_shaped w.0 (subst (λ (v : TypeTree). IsShaped true v) w.1 shaped)))
-
-pub one_value-returns-then-types-gt1-2-clause-gives : goal.one_value-returns-then-types-gt1-2-clause-gives
-one_value-returns-then-types-gt1-2-clause-gives t c = λ u e shaped.
     let w = entry_is u c.args.types.now e c.if-code-eq123.true in
     as_entry c.args.source.now.bounds c.args.source.now.order c.args.depth_left c.args.end c.args.at c.args.source.now.bytes.now u c.entry.result w.0 w.1 w.2 (c.entry.ensures.gives w.0 w.1 w.3 (entry_shaped w.0 w.1 (subst (λ (v : TypeTree). IsShaped true v) w.2 shaped)))
 
 -- ---- what is noted of the types of a part
-
-pub all_values-one_value-requires : goal.all_values-one_value-requires
-all_values-one_value-requires t c =
-    let types = c.args.types.now in
-    let k = c.end_of-next.result - c.loop-first.first in
-    let within = c.end_of-next.ensures.within in
-    let some = c.end_of-next.ensures.some in
-    let size : length (take k (drop c.loop-first.first types)) ≡ k = omega (arith, within, some, length-take k (drop c.loop-first.first types), length-drop c.loop-first.first types) in
-    (omega (arith, size, within, some), (c.loop-first.invariant.at_most, (c.requires.inside, (omega (arith, size, within, some, c.requires.near), part_noted types c.args.source.now.lengths.now c.args.pos c.requires.noted c.loop-first.first k))))
 
 pub one_value-array-requires : goal.one_value-array-requires
 one_value-array-requires t c =
@@ -241,16 +331,9 @@ one_value-array-requires t c =
     let size : length (take (length types - 1) (drop 1 types)) ≡ length types - 1 = omega (arith, length-take (length types - 1) (drop 1 types), length-drop 1 types) in
     (omega (arith, size, some), (c.requires.at_most, (c.requires.inside, (omega (arith, size, some, c.requires.near), part_noted types c.args.source.now.lengths.now c.args.pos c.requires.noted 1 (length types - 1)))))
 
-pub one_value-structure-requires : goal.one_value-structure-requires
-one_value-structure-requires t c =
-    let types = c.args.types.now in
-    let k = length types - 1 - 1 in
-    let size : length (take k (drop 1 types)) ≡ k = omega (arith, length-take k (drop 1 types), length-drop 1 types) in
-    (omega (arith, size, c.if-types-gt1.true), (c.requires.at_most, (c.requires.inside, (omega (arith, size, c.if-types-gt1.true, c.requires.near), part_noted types c.args.source.now.lengths.now c.args.pos c.requires.noted 1 k))))
-
 pub one_value-entry-requires : goal.one_value-entry-requires
 one_value-entry-requires t c =
     let types = c.args.types.now in
     let k = length types - 1 - 1 in
     let size : length (take k (drop 1 types)) ≡ k = omega (arith, length-take k (drop 1 types), length-drop 1 types) in
-    (omega (arith, size, c.if-types-gt1-2.true), (c.requires.at_most, (c.requires.inside, (omega (arith, size, c.if-types-gt1-2.true, c.requires.near), part_noted types c.args.source.now.lengths.now c.args.pos c.requires.noted 1 k))))
+    (omega (arith, size, c.if-types-gt1.true), (c.requires.at_most, (c.requires.inside, (omega (arith, size, c.if-types-gt1.true, c.requires.near), part_noted types c.args.source.now.lengths.now c.args.pos c.requires.noted 1 k))))
