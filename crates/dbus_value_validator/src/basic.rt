@@ -34,7 +34,13 @@ pub(crate) fn basic_value(source: &Source<'_>, at: usize, end: usize, code: u8) 
 {
     let width = free_width(code);
     if width > 0 {
-        return free_number(source.bytes, at, end, width);
+        // Most widths as constants, so that their padding is found by a mask.
+        return match width {
+            1 => free_number(source.bytes, at, end, 1),
+            2 => free_number(source.bytes, at, end, 2),
+            4 => free_number(source.bytes, at, end, 4),
+            _ => free_number(source.bytes, at, end, width),
+        };
     }
     if code == b's' {
         return long_text(source.bytes, at, end, source.order, TextKind::Text);

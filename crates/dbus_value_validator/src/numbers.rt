@@ -13,6 +13,7 @@ use crate::items::{padding, word};
 use dbus_value_model::Order;
 
 /// A number of `size` bytes, of a type of which every number is valid: the offset after it.
+#[inline]
 pub(crate) fn free_number(bytes: &[u8], at: usize, end: usize, size: u8) -> Option<usize>
     requires some { 0 < size }
     requires at_most { at ≤ end }
