@@ -27,6 +27,7 @@ ghost use Rattle.dbus_value_checker.specs.Suspended.{onward, done, ended_text, s
 
 use dbus_types::{TextKind, boundary, text_break};
 use dbus_value_model::{Bounds, Order, Reason, Stop, gap, refuse};
+use dbus_value_validator::is_ended_text;
 
 /// The bytes after the first n.
 pub fn rest_after(bytes: &[u8], n: usize) -> &[u8]
@@ -320,6 +321,10 @@ pub fn ended_front(
     ensures there { IfOk result (λ _. n + 1 ≤ length bytes.now) }
     ensures short { IfErr result (λ e. e ≡ Partial → length bytes.now < n + 1) }
 {
+    // Most are there whole, and valid.
+    if n < bytes.len() && is_ended_text(bytes, 0, n, kind) {
+        return Ok(());
+    }
     match text_front(kind, n, bytes, offset, reason) {
         Ok(()) => {}
         Err(stop) => return Err(stop),

@@ -7,11 +7,17 @@ ghost use Rattle.dbus_types.specs.TypeLengths.{AreLengths};
 use arrayvec::ArrayVec;
 use dbus_types::lengths_in;
 
-/// More bytes, for which there is room.
-fn put(bytes: &mut ArrayVec<u8, 16640>, more: &[u8])
-    requires { length bytes.old.items + length more.now ≤ 16640 }
-    ensures { bytes.new.items ≡ bytes.old.items ++ more.now }
+/// Other bytes follow the first `top`, for which there is room.
+fn put(bytes: &mut ArrayVec<u8, 16640>, top: usize, more: &[u8])
+    requires { top + length more.now ≤ 16640 }
+    ensures { bytes.new.items ≡ take top bytes.old.items ++ more.now }
 {
+    if bytes.len() == top + more.len() {
+        // They take the room of those that were there, which need not be blanked first.
+        bytes.as_mut_slice()[top..].copy_from_slice(more);
+        return;
+    }
+    bytes.truncate(top);
     match bytes.try_extend_from_slice(more) {
         Ok(()) => {}
         // There is room for them.
@@ -19,18 +25,18 @@ fn put(bytes: &mut ArrayVec<u8, 16640>, more: &[u8])
     }
 }
 
-/// The lengths of the types of one more signature.
-fn put_lengths(lengths: &mut ArrayVec<u8, 16640>, types: &[u8])
+/// The lengths of the types of a signature follow the first `top`.
+fn put_lengths(lengths: &mut ArrayVec<u8, 16640>, top: usize, types: &[u8])
     requires few { length types.now ≤ 255 }
-    requires fits { length lengths.old.items + length types.now ≤ 16640 }
-    ensures { (more : List ℕ) × AreLengths types.now more × (lengths.new.items ≡ lengths.old.items ++ more) }
+    requires fits { top + length types.now ≤ 16640 }
+    ensures { (more : List ℕ) × AreLengths types.now more × (lengths.new.items ≡ take top lengths.old.items ++ more) }
 {
     if types.len() == 1 {
-        put(lengths, &[1]);
+        put(lengths, top, &[1]);
         return;
     }
     let mut table = [0; 255];
-    put(lengths, lengths_in(types, &mut table));
+    put(lengths, top, lengths_in(types, &mut table));
 }
 
 /// A signature follows the first `top` bytes of those in use, with the lengths of its types.
@@ -46,8 +52,6 @@ pub(crate) fn sign(
     ensures lengths { (more : List ℕ) × AreLengths types.now more ×
         (lengths.new.items ≡ take top lengths.old.items ++ more) }
 {
-    text.truncate(top);
-    lengths.truncate(top);
-    put(text, types);
-    put_lengths(lengths, types);
+    put(text, top, types);
+    put_lengths(lengths, top, types);
 }
