@@ -4,7 +4,7 @@
 ghost use Rattle.std.specs.Prelude.{◌≡◌, ℕ, ◌+◌, ◌<◌, ◌≤◌, length, get_or};
 
 /// How many bytes from `at` on are this one, in a row, and at most so many.
-pub(crate) fn row_of(types: &[u8], at: usize, code: u8, most: u8) -> u8
+pub(crate) fn repeats(types: &[u8], at: usize, code: u8, most: u8) -> u8
     requires inside { at < length types.now }
     ensures same { (k : ℕ) → k < result → get_or types.now (at + k) 0 ≡ code }
     ensures at_most { result ≤ most }

@@ -14,7 +14,7 @@ ghost use Rattle.dbus_value_validator.specs.Sources.{value_in, values_in, elemen
 
 use crate::arrays::frame;
 use crate::basic::basic_value;
-use crate::brackets::row_of;
+use crate::brackets::repeats;
 use crate::ends::{end_of, is_container, wants_lengths};
 use crate::items::padding;
 use crate::source::Source;
@@ -90,7 +90,7 @@ pub(crate) fn all_values(
             }
             // Structs that begin together are padded together.
             place = padding(source.bytes, place, end, 8)?;
-            let more = row_of(types, first, code, depth_left - depth);
+            let more = repeats(types, first, code, depth_left - depth);
             depth += more;
             first += usize::from(more);
         } else if code == b')' {
@@ -257,7 +257,10 @@ fn array(
             None
         };
     }
-    if 0 < n && source.lengths.len() <= pos && wants_lengths(types) {
+    if n == 0 {
+        return Some(first);
+    }
+    if source.lengths.len() <= pos && wants_lengths(types) {
         return noted_elements(source, first, n, types, depth_left - 1);
     }
     elements(source, first, n, types, pos, depth_left - 1)

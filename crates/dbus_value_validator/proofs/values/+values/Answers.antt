@@ -1,14 +1,14 @@
-use Rattle.std.proofs.Common.{◌≡◌, ℕ, ◌+◌, ◌-◌, ◌<◌, Some, None, length, take, drop, true, false, arith, refl, sym, ap, subst, ◌∙◌}
+use Rattle.std.proofs.Common.{◌≡◌, ℕ, ◌+◌, ◌-◌, ◌<◌, [], Some, None, length, take, drop, true, false, arith, refl, sym, ap, subst, ◌∙◌}
 use Rattle.std.proofs.lemmas.Bool.{eqb-true, eqb-false, eq-eqb, ne_eqb}
 use Rattle.std.proofs.lemmas.List.{length-take, length-drop, append-nil}
 use Rattle.dbus_texts.specs.Types.{TypeTree, NoTypes, MoreTypes, sig, IsShaped}
 use Rattle.dbus_types.specs.Alignments.{alignment_of}
-use Rattle.dbus_value_model.specs.Reading.{padding, value}
+use Rattle.dbus_value_model.specs.Reading.{padding, up_to, value}
 use Rattle.dbus_value_model.specs.Values.{NoValues, MoreValues}
 use Rattle.dbus_value_model.specs.ValueReaders.{array_value, struct_value, entry_value}
 use Rattle.dbus_types.proofs.TypeCodes.{no_text_of, code_is, variant_is, array_is, struct_is, entry_is, entry_shaped}
 use Rattle.dbus_value_model.proofs.FreeNumbers.{free_is}
-use Rattle.dbus_value_validator.specs.Endings.{Answers}
+use Rattle.dbus_value_validator.specs.Endings.{Answers, EndsAt}
 use Rattle.dbus_value_validator.proofs.NotedTypes.{part_noted, first_front}
 use Rattle.dbus_value_validator.proofs.NumberArrays.{free_elements}
 use Rattle.dbus_value_validator.proofs.ReadParts.{not_first, answers_unmade}
@@ -51,7 +51,7 @@ all_values-loop-first-preserved-then-code-eq40 t c =
     let source = c.args.source.now in
     let l = c.loop-first in
     let moves = c.in_ok-place.ensures.moves in
-    let more = c.row_of-more.ensures in
+    let more = c.repeats-more.ensures in
     record {
       begun = omega (arith, moves.0);
       at_most = moves.1;
@@ -59,7 +59,7 @@ all_values-loop-first-preserved-then-code-eq40 t c =
       deep = omega (arith, more.at_most);
       left = λ ts e shaped.
           rw c.from-first.ensures (
-          structs_left source c.args.end c.args.types.now ts c.args.at c.args.depth_left c.row_of-more.result l.place l.first l.depth c.in_ok-place.place (more.some (omega arith) refl) (λ k lt. more.same k lt ∙ c.if-code-eq40.true) more.within (omega (arith, more.at_most)) (l.invariant.left ts e shaped) c.in_ok-place.ensures.gives moves.0 moves.1
+          structs_left source c.args.end c.args.types.now ts c.args.at c.args.depth_left c.repeats-more.result l.place l.first l.depth c.in_ok-place.place (more.some (omega arith) refl) (λ k lt. more.same k lt ∙ c.if-code-eq40.true) more.within (omega (arith, more.at_most)) (l.invariant.left ts e shaped) c.in_ok-place.ensures.gives moves.0 moves.1
           );
     }
 
@@ -223,6 +223,18 @@ array-returns-else-n-from-eq0-clause-gives t c = λ u e shaped.
     let wide : c.boundary.result ≡ c.free_width-width.result = bounded ∙ ap alignment_of free.is ∙ free.wide in
     array_answers source.bounds source.order c.args.depth_left c.args.end c.args.at source.bytes.now c.in_ok-start.start c.in_ok-start.ensures.gives (omega arith) u c.in_ok-n.n c.in_ok-n.first (c.in_ok-n.ensures.gives u bounded) None
     (free_elements source.bounds source.order (c.args.depth_left - 1) u c.free_width-width.result c.in_ok-n.n (c.in_ok-start.start + 4) c.in_ok-n.first source.bytes.now false c.if-width-gt0.true free (rw (← c.from.ensures) (ne_eqb _ 0 c.if-n-from-eq0.false)) (rw (← wide) c.in_ok-n.ensures.begins) (omega (arith, c.in_ok-n.ensures.fits)))
+
+pub array-returns-then-n-eq0-clause-gives : goal.array-returns-then-n-eq0-clause-gives
+array-returns-then-n-eq0-clause-gives t c = λ u e shaped.
+    let source = c.args.source.now in
+    let bytes = source.bytes.now in
+    let n = c.in_ok-n.n in
+    let first = c.in_ok-n.first in
+    let part = value source.bounds source.order (c.args.depth_left - 1) (first + n) u in
+    let bounded = c.boundary.ensures.value u (code_is u c.args.types.now e) in
+    let over : first + n ≡ first = omega (arith, c.if-n-eq0.true) in
+    array_answers source.bounds source.order c.args.depth_left c.args.end c.args.at bytes c.in_ok-start.start c.in_ok-start.ensures.gives (omega arith) u n first (c.in_ok-n.ensures.gives u bounded) (Some first)
+    (subst (λ (q : ℕ). EndsAt bytes q (up_to n (first + n) (λ before. part) [] first (drop first bytes))) over (leads_end part bytes n (first + n) first n first (leads_all part bytes n (first + n) first n refl) (sym over)))
 
 pub array-returns-then-wants_lengths-clause-gives : goal.array-returns-then-wants_lengths-clause-gives
 array-returns-then-wants_lengths-clause-gives t c = λ u e shaped.
