@@ -3,7 +3,7 @@
 use Rattle.std.specs.Prelude.{ℕ, List, drop}
 use Rattle.dbus_texts.specs.Types.{TypeTree, TypeTrees}
 use Rattle.dbus_value_model.specs.Reading.{Outcome, value, fields, contents}
-use Rattle.dbus_value_model.specs.ValueReaders.{variant_value, array_value, struct_value, entry_value}
+use Rattle.dbus_value_model.specs.ValueReaders.{variant_value, array_value, entry_value}
 use Rattle.dbus_value_model.specs.Values.{ValueTree, ValueTrees}
 use Rattle.dbus_value_validator.specs.declared.source.Source.{Source}
 
@@ -25,9 +25,6 @@ variant_in source depth_left end at = variant_value source.bounds source.order d
 
 abbrev pub array_in : Source → (depth_left end : ℕ) → TypeTree → (at : ℕ) → Outcome ValueTree
 array_in source depth_left end t at = array_value source.bounds source.order depth_left end t at (drop at source.bytes.now)
-
-abbrev pub struct_in : Source → (depth_left end : ℕ) → TypeTrees → (at : ℕ) → Outcome ValueTree
-struct_in source depth_left end ts at = struct_value source.bounds source.order depth_left end ts at (drop at source.bytes.now)
 
 abbrev pub entry_in : Source → (depth_left end : ℕ) → (k v : TypeTree) → (at : ℕ) → Outcome ValueTree
 entry_in source depth_left end k v at = entry_value source.bounds source.order depth_left end k v at (drop at source.bytes.now)
