@@ -12,7 +12,7 @@ use Rattle.dbus_show_view.specs.Gaining.{Joins}
 use Rattle.dbus_show_view.specs.Visits.{IsListed}
 use Rattle.dbus_json.specs.declared.json_writer.JsonWriter.{JsonWriter}
 use Rattle.dbus_json.specs.JsonValues.{listed, IsJson, AreJson}
-use Rattle.dbus_json.specs.Visits.{open_text, close_text, part_text, Writes, Opens, WritesValue, WritesValues, Stays}
+use Rattle.dbus_json.specs.Visits.{open_text, close_text, part_text, Writes, Opens, WritesValue, WritesValues}
 use Rattle.dbus_json.specs.Writing.{led, next_lead}
 
 -- ---- lists of texts
@@ -69,18 +69,15 @@ module _ {D : Type 0} (gains : D → List ℕ → D → Type 0) (nothing : (d : 
   then_writes : {s t : List ℕ} (a b c : JsonWriter D) → Writes gains a s b → Writes gains b t c → Writes gains a (s ++ t) c
   then_writes a b c p q = record { same = q.same ∙ p.same; gained = then gains joins p.gained q.gained }
 
-  then_stays : {l : List ℕ} {a : JsonWriter D} (b c : JsonWriter D) → Writes gains a l b → Stays b c → Writes gains a l c
-  then_stays {l = l} {a = a} b c p stays = record { same = stays.same ∙ p.same; gained = subst (λ (d : D). gains a.draft.now l d) (sym stays.kept) p.gained }
-
-  pub more_written : (s before parted taken after : JsonWriter D) (done : List ValueTree) (v : ValueTree) → WritesValues gains s done before → Writes gains before (part_text (is_none done)) parted
-      → WritesValue gains parted v taken → Stays taken after → WritesValues gains s (done ++ v ∷ []) after
-  more_written s before parted taken after done v first between second stays =
+  pub more_written : (s before parted after : JsonWriter D) (done : List ValueTree) (v : ValueTree) → WritesValues gains s done before → Writes gains before (part_text (is_none done)) parted
+      → WritesValue gains parted v after → WritesValues gains s (done ++ v ∷ []) after
+  more_written s before parted after done v first between second =
       let texts = first.0 in
       let text = second.0 in
       let lead = subst (λ (l : List ℕ). Writes gains before l parted) (part_is done texts first.1) between in
       let all : listed texts ++ (next_lead [] texts ++ text) ≡ listed (texts ++ text ∷ []) =
       ap (λ (l : List ℕ). l ++ (next_lead [] texts ++ text)) (listed_led texts) ∙ sym (led_push [] texts text) ∙ sym (listed_led (texts ++ text ∷ [])) in
-      (texts ++ text ∷ [], json_push done v texts text first.1 second.1, subst (λ (l : List ℕ). Writes gains s l after) all (then_stays taken after (then_writes s before taken first.2 (then_writes before parted taken lead second.2)) stays))
+      (texts ++ text ∷ [], json_push done v texts text first.1 second.1, subst (λ (l : List ℕ). Writes gains s l after) all (then_writes s before after first.2 (then_writes before parted after lead second.2)))
 
   pub whole_written : (s opened filled after : JsonWriter D) (what : Container) (v : ValueTree) (xs : List ValueTree) → IsOf what v → Opens gains s v opened → parts v ≡ value_trees xs
       → WritesValues gains opened xs filled → Writes gains filled (close_text v) after → WritesValue gains s v after

@@ -47,8 +47,3 @@ module _ {D : Type 0} (gains : D → List ℕ → D → Type 0) where
   -- the draft gains the texts of values, with commas between them
   abbrev pub WritesValues : JsonWriter D → List ValueTree → JsonWriter D → Type 0
   WritesValues before vs now = (texts : List (List ℕ)) × AreJson (value_trees vs) texts × Writes before (listed texts) now
-
--- it writes nothing
-pub record Stays {D : Type 0} (before now : JsonWriter D) : Type 0 where
-  pub same : now.draft.ghost_name ≡ before.draft.ghost_name
-  pub kept : now.draft.now ≡ before.draft.now

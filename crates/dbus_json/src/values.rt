@@ -20,8 +20,8 @@ pub(crate) fn write_value_at<D: Draft>(draft: &mut D, source: &Source<'_>, spot:
         GainsSome D.gains draft.old (IsJson v) draft.new × (result ≡ end_of source.now spot.now v) }
 {
     let mut writer = JsonWriter { draft };
-    match walk_value(&mut writer, source, spot) {
-        Ok((_, after)) => after,
+    match walk_value(&mut writer, &mut (), source, spot) {
+        Ok(after) => after,
         Err(never) => match never {},
     }
 }
@@ -34,7 +34,7 @@ pub(crate) fn write_values_at<D: Draft>(draft: &mut D, source: &Source<'_>, spot
         GainsValues D.gains draft.old vs draft.new }
 {
     let mut writer = JsonWriter { draft };
-    match walk_values(&mut writer, (), source, spot) {
+    match walk_values(&mut writer, &mut (), source, spot) {
         Ok(_) => {}
         Err(never) => match never {},
     }

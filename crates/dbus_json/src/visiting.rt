@@ -2,7 +2,7 @@
 #![tactic(auto)]
 
 ghost use Rattle.std.specs.Prelude.{◌≡◌, ◌==◌};
-ghost use Rattle.dbus_json.specs.Visits.{close_text, part_text, Writes, WritesValue, WritesValues, Opens, Stays};
+ghost use Rattle.dbus_json.specs.Visits.{close_text, part_text, Writes, WritesValue, WritesValues, Opens};
 ghost use Rattle.dbus_json.specs.VisitLaws.{none_written, more_written, whole_written};
 
 use crate::json_writer::JsonWriter;
@@ -14,8 +14,6 @@ use dbus_walk::{Container, Run, Source, Spot, Visitor, text_in};
 use std::convert::Infallible;
 
 impl<D: Draft> Visitor for JsonWriter<'_, D> {
-    type One = ();
-
     type Many = ();
 
     type Stop = Infallible;
@@ -24,17 +22,15 @@ impl<D: Draft> Visitor for JsonWriter<'_, D> {
 
     ghost strokes = { λ code _. code == 121 };
 
-    ghost one = { λ s _ _ v _ t. WritesValue D.gains s v t };
+    ghost one = { λ s _ _ _ v _ t. WritesValue D.gains s v t };
 
     ghost many = { λ s _ _ _ xs _ t. WritesValues D.gains s xs t };
 
-    ghost opens = { λ s _ _ v _ t. Opens D.gains s v t };
+    ghost opens = { λ s _ _ _ v _ t. Opens D.gains s v t };
 
-    ghost closes = { λ s _ v _ t. Writes D.gains s (close_text v) t };
+    ghost closes = { λ s _ _ v _ t. Writes D.gains s (close_text v) t };
 
     ghost parted = { λ s is_first t. Writes D.gains s (part_text is_first) t };
-
-    ghost pushes = { λ s _ _ _ t. Stays s t };
 
     #[inline]
     fn at_one_stroke(code: u8, _size: u8) -> bool
@@ -46,6 +42,7 @@ impl<D: Draft> Visitor for JsonWriter<'_, D> {
     #[inline]
     fn number(
         &mut self,
+        _gathered: &mut (),
         source: &Source<'_>,
         spot: &Spot<'_>,
         start: usize,
@@ -58,6 +55,7 @@ impl<D: Draft> Visitor for JsonWriter<'_, D> {
     #[inline]
     fn long_text(
         &mut self,
+        _gathered: &mut (),
         source: &Source<'_>,
         _spot: &Spot<'_>,
         start: usize,
@@ -70,6 +68,7 @@ impl<D: Draft> Visitor for JsonWriter<'_, D> {
     #[inline]
     fn short_text(
         &mut self,
+        _gathered: &mut (),
         source: &Source<'_>,
         spot: &Spot<'_>,
         size: usize,
@@ -81,6 +80,7 @@ impl<D: Draft> Visitor for JsonWriter<'_, D> {
     #[inline]
     fn whole_array(
         &mut self,
+        _gathered: &mut (),
         source: &Source<'_>,
         _spot: &Spot<'_>,
         run: Run,
@@ -94,6 +94,7 @@ impl<D: Draft> Visitor for JsonWriter<'_, D> {
     #[inline]
     fn open_array(
         &mut self,
+        _gathered: &(),
         _source: &Source<'_>,
         _spot: &Spot<'_>,
         _start: usize,
@@ -103,7 +104,13 @@ impl<D: Draft> Visitor for JsonWriter<'_, D> {
     }
 
     #[inline]
-    fn open(&mut self, kind: Container, types: &[u8], _length: usize) -> Result<(), Infallible> {
+    fn open(
+        &mut self,
+        _gathered: &(),
+        kind: Container,
+        types: &[u8],
+        _length: usize,
+    ) -> Result<(), Infallible> {
         match kind {
             Container::Variant => {
                 self.draft.push_str("{\"type\":\"");
@@ -117,7 +124,13 @@ impl<D: Draft> Visitor for JsonWriter<'_, D> {
     }
 
     #[inline]
-    fn close(&mut self, kind: Container, _gathered: (), _length: usize) -> Result<(), Infallible> {
+    fn close(
+        &mut self,
+        _gathered: &mut (),
+        kind: Container,
+        _held: (),
+        _length: usize,
+    ) -> Result<(), Infallible> {
         self.draft.push_code(match kind {
             Container::Variant => b'}',
             Container::Array | Container::Struct | Container::Entry => b']',
@@ -130,16 +143,11 @@ impl<D: Draft> Visitor for JsonWriter<'_, D> {
         self.draft.push_str(if is_first { "" } else { "," });
     }
 
-    #[inline]
-    fn push(&mut self, _gathered: (), _made: (), _length: usize) -> Result<(), Infallible> {
-        Ok(())
-    }
-
     ghost none = { λ s _ _ _. none_written D.gains D.nothing D.joins s };
 
-    ghost more = { λ s before parted taken after _ _ _ _ _ _ _ done v first between _ second stays.
-        more_written D.gains D.nothing D.joins s before parted taken after done v first between second stays };
+    ghost more = { λ s before parted after _ _ _ _ _ _ done v first between _ second.
+        more_written D.gains D.nothing D.joins s before parted after done v first between second };
 
-    ghost whole = { λ s opened filled after _ _ _ kind _ _ v xs is_of opens has many closes.
+    ghost whole = { λ s opened filled after _ _ _ _ kind _ _ v xs is_of opens has many closes.
         whole_written D.gains D.nothing D.joins s opened filled after kind v xs is_of opens has many closes };
 }

@@ -11,7 +11,7 @@ use Rattle.dbus_show.proofs.ItemTexts.{separator, joined_push}
 use Rattle.dbus_show.proofs.Gaining.{then}
 use Rattle.dbus_show_view.specs.Gaining.{Joins}
 use Rattle.dbus_show_view.specs.declared.shower.Shower.{Shower}
-use Rattle.dbus_show_view.specs.Visits.{open_text, close_text, part_text, IsListed, Shows, Opens, Stays}
+use Rattle.dbus_show_view.specs.Visits.{open_text, close_text, part_text, IsListed, Shows, Opens}
 
 pub texts_of : (xs : List ValueTree) → value_texts (value_trees xs) ≡ map value_text xs
 texts_of [] = refl
@@ -51,15 +51,12 @@ module _ {D : Type 0} (gains : D → List ℕ → D → Type 0) (nothing : (d : 
   then_shows : {s t : List ℕ} (a b c : Shower D) → Shows gains a s b → Shows gains b t c → Shows gains a (s ++ t) c
   then_shows a b c p q = record { same = q.same ∙ p.same; gained = then gains joins p.gained q.gained }
 
-  then_stays : {l : List ℕ} {a : Shower D} (b c : Shower D) → Shows gains a l b → Stays b c → Shows gains a l c
-  then_stays {l = l} {a = a} b c p stays = record { same = stays.same ∙ p.same; gained = subst (λ (d : D). gains a.draft.now l d) (sym stays.kept) p.gained }
-
-  pub more_shown : (s before parted taken after : Shower D) (done : List ValueTree) (v : ValueTree) → Shows gains s (joined (map value_text done)) before → Shows gains before (part_text (is_none done)) parted
-      → Shows gains parted (value_text v) taken → Stays taken after → Shows gains s (joined (map value_text (done ++ v ∷ []))) after
-  more_shown s before parted taken after done v first between second stays =
+  pub more_shown : (s before parted after : Shower D) (done : List ValueTree) (v : ValueTree) → Shows gains s (joined (map value_text done)) before → Shows gains before (part_text (is_none done)) parted
+      → Shows gains parted (value_text v) after → Shows gains s (joined (map value_text (done ++ v ∷ []))) after
+  more_shown s before parted after done v first between second =
       let texts = map value_text done in
       let here = subst (λ (l : List ℕ). Shows gains before l parted) (part_is done) between in
-      subst (λ (l : List ℕ). Shows gains s l after) (sym (joined_push texts (value_text v)) ∙ ap joined (sym (texts_more done v))) (then_stays taken after (then_shows s before taken first (then_shows before parted taken here second)) stays)
+      subst (λ (l : List ℕ). Shows gains s l after) (sym (joined_push texts (value_text v)) ∙ ap joined (sym (texts_more done v))) (then_shows s before after first (then_shows before parted after here second))
 
   pub whole_shown : (s opened filled after : Shower D) (what : Container) (v : ValueTree) (xs : List ValueTree) → IsOf what v → Opens gains s v opened → parts v ≡ value_trees xs
       → Shows gains opened (joined (map value_text xs)) filled → Shows gains filled (close_text v) after → Shows gains s (value_text v) after

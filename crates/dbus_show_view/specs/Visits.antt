@@ -42,8 +42,3 @@ module _ {D : Type 0} (gains : D → List ℕ → D → Type 0) where
   pub record Opens (before : Shower D) (v : ValueTree) (now : Shower D) : Type 0 where
     pub listed : IsListed v
     pub text : Shows before (open_text v) now
-
--- it writes nothing
-pub record Stays {D : Type 0} (before now : Shower D) : Type 0 where
-  pub same : now.draft.ghost_name ≡ before.draft.ghost_name
-  pub kept : now.draft.now ≡ before.draft.now

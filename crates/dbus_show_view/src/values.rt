@@ -20,8 +20,8 @@ pub(crate) fn write_value_at<D: Draft>(draft: &mut D, source: &Source<'_>, spot:
         IsWritten D.gains source.now.order spot.now.at v (value_text v) draft.old draft.new result }
 {
     let mut shower = Shower { draft };
-    match walk_value(&mut shower, source, spot) {
-        Ok((_, after)) => after,
+    match walk_value(&mut shower, &mut (), source, spot) {
+        Ok(after) => after,
         Err(never) => match never {},
     }
 }

@@ -3,7 +3,7 @@
 
 ghost use Rattle.std.specs.Prelude.{◌≡◌, ◌==◌, map};
 ghost use Rattle.dbus_show.specs.ShownValues.{value_text, joined};
-ghost use Rattle.dbus_show_view.specs.Visits.{close_text, part_text, Shows, Opens, Stays};
+ghost use Rattle.dbus_show_view.specs.Visits.{close_text, part_text, Shows, Opens};
 ghost use Rattle.dbus_show_view.specs.VisitLaws.{none_shown, more_shown, whole_shown};
 
 use crate::numbers::write_number_at;
@@ -14,8 +14,6 @@ use dbus_walk::{Container, Run, Source, Spot, Visitor, text_in};
 use std::convert::Infallible;
 
 impl<D: Draft> Visitor for Shower<'_, D> {
-    type One = ();
-
     type Many = ();
 
     type Stop = Infallible;
@@ -24,17 +22,15 @@ impl<D: Draft> Visitor for Shower<'_, D> {
 
     ghost strokes = { λ code _. code == 121 };
 
-    ghost one = { λ s _ _ v _ t. Shows D.gains s (value_text v) t };
+    ghost one = { λ s _ _ _ v _ t. Shows D.gains s (value_text v) t };
 
     ghost many = { λ s _ _ _ xs _ t. Shows D.gains s (joined (map value_text xs)) t };
 
-    ghost opens = { λ s _ _ v _ t. Opens D.gains s v t };
+    ghost opens = { λ s _ _ _ v _ t. Opens D.gains s v t };
 
-    ghost closes = { λ s _ v _ t. Shows D.gains s (close_text v) t };
+    ghost closes = { λ s _ _ v _ t. Shows D.gains s (close_text v) t };
 
     ghost parted = { λ s is_first t. Shows D.gains s (part_text is_first) t };
-
-    ghost pushes = { λ s _ _ _ t. Stays s t };
 
     #[inline]
     fn at_one_stroke(code: u8, _size: u8) -> bool
@@ -46,6 +42,7 @@ impl<D: Draft> Visitor for Shower<'_, D> {
     #[inline]
     fn number(
         &mut self,
+        _gathered: &mut (),
         source: &Source<'_>,
         spot: &Spot<'_>,
         start: usize,
@@ -61,6 +58,7 @@ impl<D: Draft> Visitor for Shower<'_, D> {
     #[inline]
     fn long_text(
         &mut self,
+        _gathered: &mut (),
         source: &Source<'_>,
         spot: &Spot<'_>,
         start: usize,
@@ -77,6 +75,7 @@ impl<D: Draft> Visitor for Shower<'_, D> {
     #[inline]
     fn short_text(
         &mut self,
+        _gathered: &mut (),
         source: &Source<'_>,
         spot: &Spot<'_>,
         size: usize,
@@ -88,6 +87,7 @@ impl<D: Draft> Visitor for Shower<'_, D> {
     #[inline]
     fn whole_array(
         &mut self,
+        _gathered: &mut (),
         source: &Source<'_>,
         spot: &Spot<'_>,
         run: Run,
@@ -101,6 +101,7 @@ impl<D: Draft> Visitor for Shower<'_, D> {
     #[inline]
     fn open_array(
         &mut self,
+        _gathered: &(),
         _source: &Source<'_>,
         spot: &Spot<'_>,
         _start: usize,
@@ -112,7 +113,13 @@ impl<D: Draft> Visitor for Shower<'_, D> {
     }
 
     #[inline]
-    fn open(&mut self, kind: Container, _types: &[u8], _length: usize) -> Result<(), Infallible> {
+    fn open(
+        &mut self,
+        _gathered: &(),
+        kind: Container,
+        _types: &[u8],
+        _length: usize,
+    ) -> Result<(), Infallible> {
         match kind {
             Container::Variant => self.draft.push_code(b'<'),
             Container::Array => {}
@@ -123,7 +130,13 @@ impl<D: Draft> Visitor for Shower<'_, D> {
     }
 
     #[inline]
-    fn close(&mut self, kind: Container, _gathered: (), _length: usize) -> Result<(), Infallible> {
+    fn close(
+        &mut self,
+        _gathered: &mut (),
+        kind: Container,
+        _held: (),
+        _length: usize,
+    ) -> Result<(), Infallible> {
         self.draft.push_code(match kind {
             Container::Variant => b'>',
             Container::Array => b']',
@@ -138,16 +151,11 @@ impl<D: Draft> Visitor for Shower<'_, D> {
         self.draft.push_str(if is_first { "" } else { ", " });
     }
 
-    #[inline]
-    fn push(&mut self, _gathered: (), _made: (), _length: usize) -> Result<(), Infallible> {
-        Ok(())
-    }
-
     ghost none = { λ s _ _ _. none_shown D.gains D.nothing D.joins s };
 
-    ghost more = { λ s before parted taken after _ _ _ _ _ _ _ done v first between _ second stays.
-        more_shown D.gains D.nothing D.joins s before parted taken after done v first between second stays };
+    ghost more = { λ s before parted after _ _ _ _ _ _ done v first between _ second.
+        more_shown D.gains D.nothing D.joins s before parted after done v first between second };
 
-    ghost whole = { λ s opened filled after _ _ _ kind _ _ v xs is_of opens has many closes.
+    ghost whole = { λ s opened filled after _ _ _ _ kind _ _ v xs is_of opens has many closes.
         whole_shown D.gains D.nothing D.joins s opened filled after kind v xs is_of opens has many closes };
 }

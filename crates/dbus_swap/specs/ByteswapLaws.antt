@@ -72,16 +72,15 @@ pub none_byteswapped : (s : Byteswapper) (order : Order) (at : ℕ) → Byteswap
 unfolding spellings
 none_byteswapped s order at = record { same = refl; replaced = nothing_put at [] [] s.out.now s.out.now refl refl }
 
-pub more_byteswapped : (s before parted taken after : Byteswapper) (order : Order) (at place : ℕ) (done : List ValueTree) (v : ValueTree)
+pub more_byteswapped : (s before parted after : Byteswapper) (order : Order) (at place : ℕ) (done : List ValueTree) (v : ValueTree)
     → Byteswaps at (spellings order at (value_trees done)) (spellings (other order) at (value_trees done)) s before → Stays before parted
     → place ≡ at + length (spellings order at (value_trees done))
-    → Byteswaps place (spelling order place v) (spelling (other order) place v) parted taken → Stays taken after
+    → Byteswaps place (spelling order place v) (spelling (other order) place v) parted after
     → Byteswaps at (spellings order at (value_trees (done ++ v ∷ []))) (spellings (other order) at (value_trees (done ++ v ∷ []))) s after
-more_byteswapped s before parted taken after order at place done v first stays here second pushed = record {
-  same = pushed.same ∙ second.same ∙ stays.same ∙ first.same;
+more_byteswapped s before parted after order at place done v first stays here second = record {
+  same = second.same ∙ stays.same ∙ first.same;
   replaced = (one_more order at place _ done v s.out.now parted.out.now after.out.now
-      (record { here = here; replaced = subst (λ (l : List ℕ). Replaces at (spellings order at (value_trees done)) (spellings (other order) at (value_trees done)) s.out.now l) (sym stays.kept) first.replaced }) refl
-      (subst (λ (l : List ℕ). Replaces place (spelling order place v) (spelling (other order) place v) parted.out.now l) (sym pushed.kept) second.replaced)).replaced;
+      (record { here = here; replaced = subst (λ (l : List ℕ). Replaces at (spellings order at (value_trees done)) (spellings (other order) at (value_trees done)) s.out.now l) (sym stays.kept) first.replaced }) refl second.replaced).replaced;
 }
 
 pub whole_byteswapped : (s opened filled after : Byteswapper) (kind : Container) (order : Order) (at : ℕ) (v : ValueTree) (xs : List ValueTree)

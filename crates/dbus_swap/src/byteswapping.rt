@@ -15,8 +15,6 @@ use dbus_walk::{Container, Run, Source, Spot, Visitor};
 use std::convert::Infallible;
 
 impl Visitor for Byteswapper<'_> {
-    type One = ();
-
     type Many = ();
 
     type Stop = Infallible;
@@ -25,19 +23,17 @@ impl Visitor for Byteswapper<'_> {
 
     ghost strokes = { λ _ size. nat_lt 0 size };
 
-    ghost one = { λ s order at v _ t.
+    ghost one = { λ s _ order at v _ t.
         Byteswaps at (spelling order at v) (spelling (other order) at v) s t };
 
     ghost many = { λ s _ order at xs _ t.
         Byteswaps at (spellings order at (value_trees xs)) (spellings (other order) at (value_trees xs)) s t };
 
-    ghost opens = { λ s order at v _ t. Byteswaps at (front order at v) (front (other order) at v) s t };
+    ghost opens = { λ s _ order at v _ t. Byteswaps at (front order at v) (front (other order) at v) s t };
 
-    ghost closes = { λ s _ _ _ t. Stays s t };
+    ghost closes = { λ s _ _ _ _ t. Stays s t };
 
     ghost parted = { λ s _ t. Stays s t };
-
-    ghost pushes = { λ s _ _ _ t. Stays s t };
 
     #[inline]
     fn at_one_stroke(_code: u8, size: u8) -> bool
@@ -49,6 +45,7 @@ impl Visitor for Byteswapper<'_> {
     #[inline]
     fn number(
         &mut self,
+        _gathered: &mut (),
         _source: &Source<'_>,
         _spot: &Spot<'_>,
         start: usize,
@@ -61,6 +58,7 @@ impl Visitor for Byteswapper<'_> {
     #[inline]
     fn long_text(
         &mut self,
+        _gathered: &mut (),
         _source: &Source<'_>,
         _spot: &Spot<'_>,
         start: usize,
@@ -73,6 +71,7 @@ impl Visitor for Byteswapper<'_> {
     #[inline]
     fn short_text(
         &mut self,
+        _gathered: &mut (),
         _source: &Source<'_>,
         _spot: &Spot<'_>,
         _size: usize,
@@ -83,6 +82,7 @@ impl Visitor for Byteswapper<'_> {
     #[inline]
     fn whole_array(
         &mut self,
+        _gathered: &mut (),
         _source: &Source<'_>,
         _spot: &Spot<'_>,
         run: Run,
@@ -95,6 +95,7 @@ impl Visitor for Byteswapper<'_> {
     #[inline]
     fn open_array(
         &mut self,
+        _gathered: &(),
         _source: &Source<'_>,
         _spot: &Spot<'_>,
         start: usize,
@@ -104,30 +105,35 @@ impl Visitor for Byteswapper<'_> {
     }
 
     #[inline]
-    fn open(&mut self, _kind: Container, _types: &[u8], _length: usize) -> Result<(), Infallible> {
+    fn open(
+        &mut self,
+        _gathered: &(),
+        _kind: Container,
+        _types: &[u8],
+        _length: usize,
+    ) -> Result<(), Infallible> {
         Ok(())
     }
 
     #[inline]
-    fn close(&mut self, _kind: Container, _gathered: (), _length: usize) -> Result<(), Infallible> {
+    fn close(
+        &mut self,
+        _gathered: &mut (),
+        _kind: Container,
+        _held: (),
+        _length: usize,
+    ) -> Result<(), Infallible> {
         Ok(())
     }
 
     #[inline]
     fn part(&mut self, _is_first: bool, _length: usize) {}
 
-    #[inline]
-    fn push(&mut self, _gathered: (), _made: (), _length: usize) -> Result<(), Infallible> {
-        Ok(())
-    }
-
     ghost none = { λ s _ order at. none_byteswapped s order at };
 
-    ghost more = { λ s before parted taken after _ _ _ _ order at place done v first stays here
-        second pushed.
-        more_byteswapped s before parted taken after order at place done v first stays here second
-        pushed };
+    ghost more = { λ s before parted after _ _ _ order at place done v first stays here second.
+        more_byteswapped s before parted after order at place done v first stays here second };
 
-    ghost whole = { λ s opened filled after _ _ _ kind order at v xs is_of opens has many closes.
+    ghost whole = { λ s opened filled after _ _ _ _ kind order at v xs is_of opens has many closes.
         whole_byteswapped s opened filled after kind order at v xs is_of opens has many closes };
 }

@@ -43,8 +43,8 @@ pub(crate) fn byteswap_value(source: &Source<'_>, out: &mut [u8], spot: &Spot<'_
         return byteswap_text(source, out, spot);
     }
     let mut byteswapper = Byteswapper { out };
-    match walk_value(&mut byteswapper, source, spot) {
-        Ok((_, after)) => after,
+    match walk_value(&mut byteswapper, &mut (), source, spot) {
+        Ok(after) => after,
         Err(never) => match never {},
     }
 }
@@ -58,7 +58,7 @@ pub(crate) fn byteswap_values(source: &Source<'_>, out: &mut [u8], spot: &Spot<'
         Replaces spot.now.at (spellings source.now.order spot.now.at vs) (spellings (other source.now.order) spot.now.at vs) out.old out.new }
 {
     let mut byteswapper = Byteswapper { out };
-    match walk_values(&mut byteswapper, (), source, spot) {
+    match walk_values(&mut byteswapper, &mut (), source, spot) {
         Ok(_) => {}
         Err(never) => match never {},
     }

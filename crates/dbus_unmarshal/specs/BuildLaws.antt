@@ -1,12 +1,10 @@
--- What is gathered of values one after another, and a container by its parts.
+-- What is gathered of values one after another, and of a container by its parts.
 -- D-Bus Specification, "Type System".
 use Rattle.std.proofs.Common.{◌≡◌, ℕ, zero, suc, List, [], ◌∷◌, ◌++◌, sym, ap, subst, ◌∙◌, append-nil, append_assoc}
-use Rattle.dbus_texts.specs.Types.{TypeTree}
 use Rattle.dbus_value_model.specs.Values.{ValueTree, NumberValue, TextValue, VariantValue, ArrayValue, StructValue, EntryValue, IsWellFormed, AreWellFormed, value_trees}
-use Rattle.dbus_value_model.specs.declared.value.Value.{Value}
 use Rattle.dbus_walk.specs.Containers.{parts}
 use Rattle.dbus_unmarshal.specs.declared.gathered.Gathered.{Gathered}
-use Rattle.dbus_unmarshal.specs.Builds.{IsFormed, Makes, Holds, IsNext, Opens, Gathers, Pushes, Closes}
+use Rattle.dbus_unmarshal.specs.Builds.{AreFormed, Holds, IsNext, Opens, Gathers, Closes}
 
 -- the parts of a value that is well formed are well formed
 parts_formed : (depth_left : ℕ) (v : ValueTree) → IsWellFormed depth_left v → (inner : ℕ) × AreWellFormed inner (parts v)
@@ -24,27 +22,22 @@ one_formed : (depth_left : ℕ) (done us : List ValueTree) (x : ValueTree) → A
 one_formed depth_left [] us x h = h.0
 one_formed depth_left (y ∷ done) us x h = one_formed depth_left done us x h.1
 
-part_formed : (v : ValueTree) (done us : List ValueTree) (x : ValueTree) → IsFormed v → parts v ≡ value_trees (done ++ x ∷ us) → IsFormed x
-part_formed v done us x formed has = let p = parts_formed formed.0 v formed.1 in (p.0, one_formed p.0 done us x (subst (AreWellFormed p.0) has p.1))
+-- each part is
+pub part_formed : (v : ValueTree) (done us : List ValueTree) (x : ValueTree) → AreFormed v → parts v ≡ value_trees (done ++ x ∷ us) → (depth_left : ℕ) × IsWellFormed depth_left x
+part_formed v done us x formed has = (formed.0, one_formed formed.0 done us x (subst (AreWellFormed formed.0) has formed.1))
 
 module _ {A : Type 0} (m : Gathered A) where
-  pub none_gathered : (wanted : TypeTree) → Gathers wanted m [] m wanted
-  none_gathered wanted v done us formed has h next = (subst (λ (l : List ValueTree). Holds m v l) (sym (append-nil done)) h, subst (λ (l : List ValueTree). IsNext wanted v l) (sym (append-nil done)) next)
+  pub none_gathered : Gathers m [] m
+  none_gathered v done us formed has h = subst (λ (l : List ValueTree). Holds m v l) (sym (append-nil done)) h
 
-  pub more_gathered : (wanted before between after : TypeTree) (gathered later : Gathered A) (r : Value A) (xs : List ValueTree) (x : ValueTree)
-      → Gathers wanted m xs gathered before → between ≡ before → Makes between x r → Pushes gathered r later after → Gathers wanted m (xs ++ x ∷ []) later after
-  more_gathered wanted before between after gathered later r xs x first same made pushed v done us formed has h next =
+  pub more_gathered : (gathered later : Gathered A) (xs : List ValueTree) (x : ValueTree) → Gathers m xs gathered → Gathers gathered (x ∷ []) later → Gathers m (xs ++ x ∷ []) later
+  more_gathered gathered later xs x first second v done us formed has h =
       let split : parts v ≡ value_trees (done ++ (xs ++ x ∷ us)) = has ∙ ap (λ (l : List ValueTree). value_trees (done ++ l)) (append_assoc xs (x ∷ []) us) in
-      let held = first v done (x ∷ us) formed split h next in
       let here : parts v ≡ value_trees ((done ++ xs) ++ x ∷ us) = split ∙ ap value_trees (sym (append_assoc done xs (x ∷ us))) in
-      let built = made (part_formed v (done ++ xs) us x formed here) (same ∙ held.1 x us here) in
-      let one = pushed v x (done ++ xs) us here held.0 built in (
-        subst (λ (l : List ValueTree). Holds later v l) (append_assoc done xs (x ∷ [])) one.0,
-        subst (λ (l : List ValueTree). IsNext after v l) (append_assoc done xs (x ∷ [])) one.1,
-      )
+      subst (λ (l : List ValueTree). Holds later v l) (append_assoc done xs (x ∷ [])) (second v (done ++ xs) us formed here (first v done (x ∷ us) formed split h))
 
-  pub whole_built : (wanted opened filled : TypeTree) (gathered : Gathered A) (r : Value A) (v : ValueTree) (xs : List ValueTree)
-      → Opens wanted v m opened → parts v ≡ value_trees xs → Gathers opened m xs gathered filled → Closes gathered v r → Makes wanted v r
-  whole_built wanted opened filled gathered r v xs opens has many closes = λ formed typed.
-      let open_now = opens formed typed in
-      closes xs (many v [] [] formed (has ∙ ap value_trees (sym (append-nil xs))) open_now.0 open_now.1).0 has
+  pub whole_built : (none held later : Gathered A) (v : ValueTree) (xs : List ValueTree) → Opens m v none → parts v ≡ value_trees xs → Gathers none xs held → Closes m held v later → Gathers m (v ∷ []) later
+  whole_built none held later v xs opens has many closes u done us formed there h =
+      let next : IsNext m u done v us = record { formed = formed; has = there; held = h } in
+      let p = part_formed u done us v formed there in
+      closes u done us xs next (many v [] [] (parts_formed p.0 v p.1) (has ∙ ap value_trees (sym (append-nil xs))) (opens u done us next)) has

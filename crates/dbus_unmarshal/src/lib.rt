@@ -10,6 +10,7 @@ mod gathered;
 mod getting;
 mod numbers;
 mod opening;
+mod placing;
 mod rooms;
 mod type_text;
 mod values;

@@ -12,7 +12,7 @@ ghost use Rattle.dbus_value_model.specs.Values.{ValueTree, ValueTrees};
 ghost use Rattle.dbus_walk.specs.Standing.{Stands, StandsAt, StandsThere, AllStandAt, AllStandThere, end_of};
 
 use crate::gathered::{Builder, Gathered};
-use crate::opening::field_type;
+use crate::placing::{fields_of, held_value};
 use dbus_types::{SigType, spelled_type, spelled_types};
 use dbus_value_model::Value;
 use dbus_walk::{Source, Spot, lengths_of, walk_value, walk_values};
@@ -35,11 +35,10 @@ pub fn build_value<A: Allocator + Copy>(
         IfOk result (λ r. (value_tree r.0 ≡ v) × (r.1 ≡ end_of source.now spot.now v)) }
     ensures packed { IfOk result (λ r. IsTrue (keeps_bytes r.0)) }
 {
-    let mut builder = Builder {
-        alloc,
-        wanted: wanted.clone()?,
-    };
-    walk_value(&mut builder, source, spot)
+    let mut builder = Builder { alloc };
+    let mut gathered = Gathered::Variant(wanted.clone()?);
+    let after = walk_value(&mut builder, &mut gathered, source, spot)?;
+    Ok((held_value(gathered), after))
 }
 
 /// The values that follow one another at a spot, one of each type that the text there spells. They take one block of
@@ -59,14 +58,10 @@ pub fn build_values<A: Allocator + Copy>(
 {
     let types = spelled_types(alloc, spot.types)?;
     let list = Vec::with_capacity(alloc, types.len())?;
-    let wanted = field_type(&types, 0)?;
-    let mut builder = Builder { alloc, wanted };
-    let none = Gathered::Fields(Arc::new(alloc, types)?, list);
-    let (gathered, _) = walk_values(&mut builder, none, source, spot)?;
-    match gathered {
-        Gathered::Fields(_, values) => Ok(values),
-        _ => unreachable!(),
-    }
+    let mut builder = Builder { alloc };
+    let mut gathered = Gathered::Fields(Arc::new(alloc, types)?, list);
+    walk_values(&mut builder, &mut gathered, source, spot)?;
+    Ok(fields_of(gathered))
 }
 
 /// The value at `at`, whose one type these bytes spell, as a tree, and the offset after it. So many containers may be open in it.

@@ -159,6 +159,6 @@ pub starts : (order : Order) (q : ℕ) → q ≡ q + length (spellings order q (
 unfolding spellings
 starts order q = omega arith
 
--- what was made of a value, and where it ends
-pub made_of : {X E : Type 0} (r : Result (X × ℕ) E) (P : ValueTree → X → Type 0) {u v : ValueTree} {q end : ℕ} → u ≡ v → q ≡ end → IfOk r (λ x. P u x.0 × (x.1 ≡ q)) → IfOk r (λ x. P v x.0 × (x.1 ≡ end))
-made_of r P {u} {v} {q} {end} is ends h = subst (λ (k : ℕ). IfOk r (λ x. P v x.0 × (x.1 ≡ k))) ends (subst (λ (w : ValueTree). IfOk r (λ x. P w x.0 × (x.1 ≡ q))) is h)
+-- what was gathered of a value, and where it ends
+pub made_of : {E : Type 0} (r : Result ℕ E) (P : ValueTree → Type 0) {u v : ValueTree} {q end : ℕ} → u ≡ v → q ≡ end → IfOk r (λ after. P u × (after ≡ q)) → IfOk r (λ after. P v × (after ≡ end))
+made_of r P {u} {v} {q} {end} is ends h = subst (λ (k : ℕ). IfOk r (λ after. P v × (after ≡ k))) ends (subst (λ (w : ValueTree). IfOk r (λ after. P w × (after ≡ q))) is h)

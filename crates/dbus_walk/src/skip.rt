@@ -12,13 +12,11 @@ use crate::visitor::Visitor;
 use crate::walk::walk_value;
 use std::convert::Infallible;
 
-/// Makes nothing of the values that it visits. It takes every array at one stroke.
+/// Gathers nothing of the values that it visits. It takes every array at one stroke.
 #[derive(Clone, Copy)]
 pub struct Skip;
 
 impl Visitor for Skip {
-    type One = ();
-
     type Many = ();
 
     type Stop = Infallible;
@@ -27,17 +25,15 @@ impl Visitor for Skip {
 
     ghost strokes = { λ _ _. true };
 
-    ghost one = { λ _ _ _ _ _ _. Unit {0} };
+    ghost one = { λ _ _ _ _ _ _ _. Unit {0} };
 
     ghost many = { λ _ _ _ _ _ _ _. Unit {0} };
 
-    ghost opens = { λ _ _ _ _ _ _. Unit {0} };
+    ghost opens = { λ _ _ _ _ _ _ _. Unit {0} };
 
-    ghost closes = { λ _ _ _ _ _. Unit {0} };
+    ghost closes = { λ _ _ _ _ _ _. Unit {0} };
 
     ghost parted = { λ _ _ _. Unit {0} };
-
-    ghost pushes = { λ _ _ _ _ _. Unit {0} };
 
     #[inline]
     fn at_one_stroke(_code: u8, _size: u8) -> bool {
@@ -47,6 +43,7 @@ impl Visitor for Skip {
     #[inline]
     fn number(
         &mut self,
+        _gathered: &mut (),
         _source: &Source<'_>,
         _spot: &Spot<'_>,
         _start: usize,
@@ -58,6 +55,7 @@ impl Visitor for Skip {
     #[inline]
     fn long_text(
         &mut self,
+        _gathered: &mut (),
         _source: &Source<'_>,
         _spot: &Spot<'_>,
         _start: usize,
@@ -69,6 +67,7 @@ impl Visitor for Skip {
     #[inline]
     fn short_text(
         &mut self,
+        _gathered: &mut (),
         _source: &Source<'_>,
         _spot: &Spot<'_>,
         _size: usize,
@@ -79,6 +78,7 @@ impl Visitor for Skip {
     #[inline]
     fn whole_array(
         &mut self,
+        _gathered: &mut (),
         _source: &Source<'_>,
         _spot: &Spot<'_>,
         _run: Run,
@@ -89,6 +89,7 @@ impl Visitor for Skip {
     #[inline]
     fn open_array(
         &mut self,
+        _gathered: &(),
         _source: &Source<'_>,
         _spot: &Spot<'_>,
         _start: usize,
@@ -97,28 +98,35 @@ impl Visitor for Skip {
     }
 
     #[inline]
-    fn open(&mut self, _kind: Container, _types: &[u8], _length: usize) -> Result<(), Infallible> {
+    fn open(
+        &mut self,
+        _gathered: &(),
+        _kind: Container,
+        _types: &[u8],
+        _length: usize,
+    ) -> Result<(), Infallible> {
         Ok(())
     }
 
     #[inline]
-    fn close(&mut self, _kind: Container, _gathered: (), _length: usize) -> Result<(), Infallible> {
+    fn close(
+        &mut self,
+        _gathered: &mut (),
+        _kind: Container,
+        _held: (),
+        _length: usize,
+    ) -> Result<(), Infallible> {
         Ok(())
     }
 
     #[inline]
     fn part(&mut self, _is_first: bool, _length: usize) {}
 
-    #[inline]
-    fn push(&mut self, _gathered: (), _made: (), _length: usize) -> Result<(), Infallible> {
-        Ok(())
-    }
-
     ghost none = { λ _ _ _ _. tt };
 
-    ghost more = { λ _ _ _ _ _ _ _ _ _ _ _ _ _ _ _ _ _ _ _. tt };
+    ghost more = { λ _ _ _ _ _ _ _ _ _ _ _ _ _ _ _ _. tt };
 
-    ghost whole = { λ _ _ _ _ _ _ _ _ _ _ _ _ _ _ _ _ _. tt };
+    ghost whole = { λ _ _ _ _ _ _ _ _ _ _ _ _ _ _ _ _ _ _. tt };
 }
 
 /// The offset after the value at a spot. The elements of arrays are not gone through.
@@ -129,8 +137,8 @@ pub fn skip_value(source: &Source<'_>, spot: &Spot<'_>) -> usize
         result ≡ end_of source.now spot.now v }
 {
     let mut skip = Skip;
-    match walk_value(&mut skip, source, spot) {
-        Ok((_, after)) => after,
+    match walk_value(&mut skip, &mut (), source, spot) {
+        Ok(after) => after,
         Err(never) => match never {},
     }
 }

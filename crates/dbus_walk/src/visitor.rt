@@ -22,15 +22,13 @@ use crate::container::Container;
 use crate::spot::{Run, Source, Spot};
 use dbus_value_model::Order;
 
-/// What takes the values that a walk comes to, and makes something of each.
+/// What takes the values that a walk comes to, and gathers something of them.
 ///
-/// Each method is handed a value in its bytes, or says what is around values. Its relations say what each of them makes,
-/// and its three laws say that this adds up: to what is made of several values, and of a container.
+/// Each method is handed a value in its bytes, and what was gathered of those before it, or is told what is around values. Its
+/// relations say what each of them gathers, and its three laws say that this adds up: to what is gathered of several values, and of
+/// a container.
 pub trait Visitor {
-    /// What it makes of a value.
-    type One: Drop;
-
-    /// What it gathers of several values.
+    /// What it gathers of values.
     type Many: Drop;
 
     /// Why it stops the walk.
@@ -43,23 +41,20 @@ pub trait Visitor {
     // have this number of bytes each if they are numbers, or else 0.
     ghost strokes: { ℕ → ℕ → Bool };
 
-    // What it makes of a value at an offset.
-    ghost one: { Self → Order → ℕ → ValueTree → Self.One → Self → Type 0 };
+    // What it gathers of a value at an offset: what was gathered before it, and after.
+    ghost one: { Self → Self.Many → Order → ℕ → ValueTree → Self.Many → Self → Type 0 };
 
-    // What it gathers of values that follow one another from an offset on: what was gathered before them, and after.
+    // What it gathers of values that follow one another from an offset on.
     ghost many: { Self → Self.Many → Order → ℕ → List ValueTree → Self.Many → Self → Type 0 };
 
-    // A container opens: what is gathered of its parts at first.
-    ghost opens: { Self → Order → ℕ → ValueTree → Self.Many → Self → Type 0 };
+    // A container opens: what was gathered before it, and what is gathered of its parts at first.
+    ghost opens: { Self → Self.Many → Order → ℕ → ValueTree → Self.Many → Self → Type 0 };
 
-    // A container closes: what it makes of the container by what was gathered of the parts.
-    ghost closes: { Self → Self.Many → ValueTree → Self.One → Self → Type 0 };
+    // A container closes: what was gathered before it, what was gathered of its parts, and what is gathered after it.
+    ghost closes: { Self → Self.Many → Self.Many → ValueTree → Self.Many → Self → Type 0 };
 
     // A part comes next, the first one or a later one.
     ghost parted: { Self → Bool → Self → Type 0 };
-
-    // What it made of a part is gathered.
-    ghost pushes: { Self → Self.Many → Self.One → Self.Many → Self → Type 0 };
 
     /// Whether it takes an array at one stroke, by `whole_array`, and not element by element: by the first code of its elements'
     /// type, and by how many bytes each number has, or 0 if the elements are no numbers.
@@ -69,11 +64,12 @@ pub trait Visitor {
     /// Takes a number of `size` bytes, which begins at `start`.
     fn number(
         &mut self,
+        gathered: &mut Self::Many,
         source: &Source<'_>,
         spot: &Spot<'_>,
         start: usize,
         size: u8,
-    ) -> Result<Self::One, Self::Stop>
+    ) -> Result<(), Self::Stop>
         requires ready { ready self.old (length source.now.bytes.now) }
         requires stands { StandsThere source.now spot.now }
         requires some { 0 < size }
@@ -82,16 +78,17 @@ pub trait Visitor {
         requires begins { start ≡ spot.now.at + gap_to size spot.now.at }
         ensures ready { ready self.new (length source.now.bytes.now) }
         ensures takes { (v : ValueTree) (rest : List ℕ) → StandsAt source.now spot.now v rest →
-            IfOk result (λ r. one self.old source.now.order spot.now.at v r self.new) };
+            IfOk result (λ _. one self.old gathered.old source.now.order spot.now.at v gathered.new self.new) };
 
     /// Takes a STRING or an OBJECT_PATH of `size` bytes. Its length is at `start`.
     fn long_text(
         &mut self,
+        gathered: &mut Self::Many,
         source: &Source<'_>,
         spot: &Spot<'_>,
         start: usize,
         size: usize,
-    ) -> Result<Self::One, Self::Stop>
+    ) -> Result<(), Self::Stop>
         requires ready { ready self.old (length source.now.bytes.now) }
         requires stands { StandsThere source.now spot.now }
         requires code { (slice_index spot.now.types.now 0 ≡ 115) ⊎ (slice_index spot.now.types.now 0 ≡ 111) }
@@ -99,30 +96,32 @@ pub trait Visitor {
         requires counts { size ≡ number_of source.now.order (take 4 (drop start source.now.bytes.now)) }
         ensures ready { ready self.new (length source.now.bytes.now) }
         ensures takes { (v : ValueTree) (rest : List ℕ) → StandsAt source.now spot.now v rest →
-            IfOk result (λ r. one self.old source.now.order spot.now.at v r self.new) };
+            IfOk result (λ _. one self.old gathered.old source.now.order spot.now.at v gathered.new self.new) };
 
     /// Takes a SIGNATURE of `size` bytes. Its length is where it begins.
     fn short_text(
         &mut self,
+        gathered: &mut Self::Many,
         source: &Source<'_>,
         spot: &Spot<'_>,
         size: usize,
-    ) -> Result<Self::One, Self::Stop>
+    ) -> Result<(), Self::Stop>
         requires ready { ready self.old (length source.now.bytes.now) }
         requires stands { StandsThere source.now spot.now }
         requires code { slice_index spot.now.types.now 0 ≡ 103 }
         requires counts { size ≡ slice_index source.now.bytes.now spot.now.at }
         ensures ready { ready self.new (length source.now.bytes.now) }
         ensures takes { (v : ValueTree) (rest : List ℕ) → StandsAt source.now spot.now v rest →
-            IfOk result (λ r. one self.old source.now.order spot.now.at v r self.new) };
+            IfOk result (λ _. one self.old gathered.old source.now.order spot.now.at v gathered.new self.new) };
 
     /// Takes an array at one stroke.
     fn whole_array(
         &mut self,
+        gathered: &mut Self::Many,
         source: &Source<'_>,
         spot: &Spot<'_>,
         run: Run,
-    ) -> Result<Self::One, Self::Stop>
+    ) -> Result<(), Self::Stop>
         requires ready { ready self.old (length source.now.bytes.now) }
         requires stands { StandsThere source.now spot.now }
         requires code { slice_index spot.now.types.now 0 ≡ 97 }
@@ -136,11 +135,12 @@ pub trait Visitor {
             run.first + number_of source.now.order (take 4 (drop run.start source.now.bytes.now)) }
         ensures ready { ready self.new (length source.now.bytes.now) }
         ensures takes { (v : ValueTree) (rest : List ℕ) → StandsAt source.now spot.now v rest →
-            IfOk result (λ r. one self.old source.now.order spot.now.at v r self.new) };
+            IfOk result (λ _. one self.old gathered.old source.now.order spot.now.at v gathered.new self.new) };
 
     /// Opens an array whose elements come one by one. Its length is at `start`.
     fn open_array(
         &mut self,
+        gathered: &Self::Many,
         source: &Source<'_>,
         spot: &Spot<'_>,
         start: usize,
@@ -153,11 +153,12 @@ pub trait Visitor {
         requires begins { start ≡ spot.now.at + gap_to 4 spot.now.at }
         ensures ready { ready self.new (length source.now.bytes.now) }
         ensures takes { (v : ValueTree) (rest : List ℕ) → StandsAt source.now spot.now v rest →
-            IfOk result (λ r. opens self.old source.now.order spot.now.at v r self.new) };
+            IfOk result (λ r. opens self.old gathered.now source.now.order spot.now.at v r self.new) };
 
     /// Opens a variant, a struct or a dict entry of a message of `length` bytes. `types` are those of its parts.
     fn open(
         &mut self,
+        gathered: &Self::Many,
         kind: Container,
         types: &[u8],
         length: usize,
@@ -168,19 +169,20 @@ pub trait Visitor {
         ensures ready { ready self.new length }
         ensures takes { (order : Order) (at : ℕ) (v : ValueTree) → IsOf kind v →
             sigs (types_of (parts v)) ≡ types.now →
-            IfOk result (λ r. opens self.old order at v r self.new) };
+            IfOk result (λ r. opens self.old gathered.now order at v r self.new) };
 
     /// Closes a container, of whose parts this was gathered.
     fn close(
         &mut self,
+        gathered: &mut Self::Many,
         kind: Container,
-        gathered: Self::Many,
+        held: Self::Many,
         length: usize,
-    ) -> Result<Self::One, Self::Stop>
+    ) -> Result<(), Self::Stop>
         requires ready { ready self.old length }
         ensures ready { ready self.new length }
         ensures takes { (v : ValueTree) → IsOf kind v →
-            IfOk result (λ r. closes self.old gathered v r self.new) };
+            IfOk result (λ _. closes self.old gathered.old held v gathered.new self.new) };
 
     /// Says that a part of a container, or one of several values, comes next.
     fn part(&mut self, is_first: bool, length: usize)
@@ -188,32 +190,21 @@ pub trait Visitor {
         ensures ready { ready self.new length }
         ensures takes { parted self.old is_first self.new };
 
-    /// Gathers what was made of a part.
-    fn push(
-        &mut self,
-        gathered: Self::Many,
-        made: Self::One,
-        length: usize,
-    ) -> Result<Self::Many, Self::Stop>
-        requires ready { ready self.old length }
-        ensures ready { ready self.new length }
-        ensures takes { IfOk result (λ r. pushes self.old gathered made r self.new) };
-
     // No values change nothing.
     ghost none: { (s : Self) (m : Self.Many) (order : Order) (at : ℕ) → many s m order at [] m s };
 
     // Values, and one value more.
-    ghost more: { (s before between taken after : Self) (m gathered later : Self.Many)
-        (r : Self.One) (order : Order) (at place : ℕ) (done : List ValueTree) (v : ValueTree) →
+    ghost more: { (s before between after : Self) (m gathered later : Self.Many)
+        (order : Order) (at place : ℕ) (done : List ValueTree) (v : ValueTree) →
         many s m order at done gathered before → parted before (is_none done) between →
         place ≡ at + length (spellings order at (value_trees done)) →
-        one between order place v r taken → pushes taken gathered r later after →
+        one between gathered order place v later after →
         many s m order at (done ++ v ∷ []) later after };
 
     // A container: its parts, between its opening and its closing.
-    ghost whole: { (s opened filled after : Self) (m gathered : Self.Many) (r : Self.One)
+    ghost whole: { (s opened filled after : Self) (m none held later : Self.Many)
         (kind : Container) (order : Order) (at : ℕ) (v : ValueTree) (xs : List ValueTree) →
-        IsOf kind v → opens s order at v m opened → parts v ≡ value_trees xs →
-        many opened m order (inside order at v) xs gathered filled →
-        closes filled gathered v r after → one s order at v r after };
+        IsOf kind v → opens s m order at v none opened → parts v ≡ value_trees xs →
+        many opened none order (inside order at v) xs held filled →
+        closes filled m held v later after → one s m order at v later after };
 }

@@ -19,24 +19,24 @@ pub elements-loop-place-init : goal.elements-loop-place-init
 elements-loop-place-init g t c =
     let order = c.args.source.now.order in
     let at = c.args.spot.now.at in
-    let many : List ValueTree → Type 0 = λ (done : List ValueTree). g.V.Visitor.many c.args.visitor.now c.args.none order at done c.args.none c.args.visitor.now in
+    let many : List ValueTree → Type 0 = λ (done : List ValueTree). g.V.Visitor.many c.args.visitor.now c.args.gathered.now order at done c.args.gathered.now c.args.visitor.now in
     record {
       ready = c.requires.ready;
       left = λ vs rest e. all_left order at vs (λ place us. ElementsStand order c.args.spot.now.depth_left c.args.spot.now.types.now place c.args.end c.args.source.now.bytes.now us rest) (Taken many order at at true) e
-          (none_taken many order at (g.met.V.Visitor.none c.args.visitor.now c.args.none order at));
+          (none_taken many order at (g.met.V.Visitor.none c.args.visitor.now c.args.gathered.now order at));
     }
 
 pub elements-walk_value-requires : goal.elements-walk_value-requires
 elements-walk_value-requires g t c κs within =
     let there = c.requires.stand in
     let n = next_element (c.loop-place.invariant.left there.0 there.1 there.2) c.loop-place-test.true in
-    (omega arith, (within.0, (within.1.0, (within.1.1.0, (within.1.1.1, (c.part.ensures.ready, ((n.v, spellings c.args.source.now.order (c.loop-place.place + length (spelling c.args.source.now.order c.loop-place.place n.v)) n.us ++ there.1, n.stands), c.requires.noted)))))))
+    (omega arith, (within.0, (within.1.0, (within.1.1, (c.part.ensures.ready, ((n.v, spellings c.args.source.now.order (c.loop-place.place + length (spelling c.args.source.now.order c.loop-place.place n.v)) n.us ++ there.1, n.stands), c.requires.noted))))))
 
 pub elements-loop-place-smaller : goal.elements-loop-place-smaller
 elements-loop-place-smaller g t c =
     let there = c.requires.stand in
     let n = next_element (c.loop-place.invariant.left there.0 there.1 there.2) c.loop-place-test.true in
-    let w = c.in_ok-one.ensures.walked n.v (spellings c.args.source.now.order (c.loop-place.place + length (spelling c.args.source.now.order c.loop-place.place n.v)) n.us ++ there.1) n.stands in
+    let w = c.in_ok-place.ensures.walked n.v (spellings c.args.source.now.order (c.loop-place.place + length (spelling c.args.source.now.order c.loop-place.place n.v)) n.us ++ there.1) n.stands in
     omega (arith, w.1, n.some, c.loop-place-test.true)
 
 pub elements-loop-place-preserved : goal.elements-loop-place-preserved
@@ -44,17 +44,17 @@ elements-loop-place-preserved g t c =
     let order = c.args.source.now.order in
     let at = c.args.spot.now.at in
     let place = c.loop-place.place in
-    let later : List ValueTree → Type 0 = λ (done : List ValueTree). g.V.Visitor.many c.args.visitor.now c.args.none order at done c.in_ok-many.many c.push.new.self in
+    let later : List ValueTree → Type 0 = λ (done : List ValueTree). g.V.Visitor.many c.args.visitor.now c.args.gathered.now order at done c.walk_value.new.gathered c.walk_value.new.visitor in
     record {
-      ready = c.in_ok-many.ensures.ready;
+      ready = c.in_ok-place.ensures.ready;
       left = λ vs rest e.
           let l = c.loop-place.invariant.left vs rest e in
           let n = next_element l c.loop-place-test.true in
-          let w = c.in_ok-one.ensures.walked n.v (spellings order (place + length (spelling order place n.v)) n.us ++ rest) n.stands in
-          element_left l (Taken later order at c.in_ok-one.after false) n c.in_ok-one.after w.1
-          (more_taken later l.done n.v c.in_ok-one.after l.walked w.1
-          (g.met.V.Visitor.more c.args.visitor.now c.loop-place.visitor c.part.new.self c.walk_value.new.visitor c.push.new.self c.args.none c.loop-place.many c.in_ok-many.many c.in_ok-one.one order at place l.done n.v l.walked.taken
-          (subst (λ (b : Bool). g.V.Visitor.parted c.loop-place.visitor b c.part.new.self) l.walked.first c.part.ensures.takes) l.walked.ends w.0 c.in_ok-many.ensures.takes));
+          let w = c.in_ok-place.ensures.walked n.v (spellings order (place + length (spelling order place n.v)) n.us ++ rest) n.stands in
+          element_left l (Taken later order at c.in_ok-place.place false) n c.in_ok-place.place w.1
+          (more_taken later l.done n.v c.in_ok-place.place l.walked w.1
+          (g.met.V.Visitor.more c.args.visitor.now c.loop-place.visitor c.part.new.self c.walk_value.new.visitor c.args.gathered.now c.loop-place.gathered c.walk_value.new.gathered order at place l.done n.v l.walked.taken
+          (subst (λ (b : Bool). g.V.Visitor.parted c.loop-place.visitor b c.part.new.self) l.walked.first c.part.ensures.takes) l.walked.ends w.0));
     }
 
 pub elements-returns-clause-walked : goal.elements-returns-clause-walked
@@ -66,12 +66,12 @@ pub walk_values-loop-pos-init : goal.walk_values-loop-pos-init
 walk_values-loop-pos-init g t c =
     let order = c.args.source.now.order in
     let at = c.args.spot.now.at in
-    let many : List ValueTree → Type 0 = λ (done : List ValueTree). g.V.Visitor.many c.args.visitor.now c.args.none order at done c.args.none c.args.visitor.now in
+    let many : List ValueTree → Type 0 = λ (done : List ValueTree). g.V.Visitor.many c.args.visitor.now c.args.gathered.now order at done c.args.gathered.now c.args.visitor.now in
     record {
       within = omega arith;
       ready = c.requires.ready;
       left = λ vs rest e. all_left order at vs (λ place us. AllStand order c.args.spot.now.depth_left (drop 0 c.args.spot.now.types.now) place c.args.source.now.bytes.now us rest) (Taken many order at at true) e
-          (none_taken many order at (g.met.V.Visitor.none c.args.visitor.now c.args.none order at));
+          (none_taken many order at (g.met.V.Visitor.none c.args.visitor.now c.args.gathered.now order at));
     }
 
 pub walk_values-slice_bounds-next-end : goal.walk_values-slice_bounds-next-end
@@ -103,7 +103,7 @@ walk_values-walk_value-requires g t c κs within =
     let end = pos + c.from.result in
     let is : IsTypeEnd types pos end = λ t more e. ap (λ (k : ℕ). pos + k) c.from.ensures ∙ ends_by types lengths c.requires.noted pos t more e in
     let n = next_value types pos (c.loop-pos.invariant.left there.0 there.1 there.2) end c.loop-pos-test.true is in
-    (omega (arith, n.inside, length-take (end - pos) (drop pos types)), (within.0, (within.1.0, (within.1.1.0, (within.1.1.1, (c.part.ensures.ready, ((n.v, spellings c.args.source.now.order (c.loop-pos.place + length (spelling c.args.source.now.order c.loop-pos.place n.v)) n.us ++ there.1, n.stands), lengths_within types lengths c.requires.noted pos (end - pos))))))))
+    (omega (arith, n.inside, length-take (end - pos) (drop pos types)), (within.0, (within.1.0, (within.1.1, (c.part.ensures.ready, ((n.v, spellings c.args.source.now.order (c.loop-pos.place + length (spelling c.args.source.now.order c.loop-pos.place n.v)) n.us ++ there.1, n.stands), lengths_within types lengths c.requires.noted pos (end - pos)))))))
 
 pub walk_values-loop-pos-preserved : goal.walk_values-loop-pos-preserved
 walk_values-loop-pos-preserved g t c =
@@ -116,18 +116,18 @@ walk_values-loop-pos-preserved g t c =
     let is : IsTypeEnd types pos end = λ t more e. ap (λ (k : ℕ). pos + k) c.from.ensures ∙ ends_by types c.args.spot.now.lengths.now c.requires.noted pos t more e in
     let there = c.requires.stand in
     let one = next_value types pos (c.loop-pos.invariant.left there.0 there.1 there.2) end c.loop-pos-test.true is in
-    let later : List ValueTree → Type 0 = λ (done : List ValueTree). g.V.Visitor.many c.args.visitor.now c.args.none order at done c.in_ok-many.many c.push.new.self in
+    let later : List ValueTree → Type 0 = λ (done : List ValueTree). g.V.Visitor.many c.args.visitor.now c.args.gathered.now order at done c.walk_value.new.gathered c.walk_value.new.visitor in
     record {
       within = one.inside;
-      ready = c.in_ok-many.ensures.ready;
+      ready = c.in_ok-place.ensures.ready;
       left = λ vs rest e.
           let l = c.loop-pos.invariant.left vs rest e in
           let n = next_value types pos l end c.loop-pos-test.true is in
-          let w = c.in_ok-one.ensures.walked n.v (spellings order (place + length (spelling order place n.v)) n.us ++ rest) n.stands in
-          value_left types pos l (Taken later order at c.in_ok-one.after false) end n c.in_ok-one.after w.1
-          (more_taken later l.done n.v c.in_ok-one.after l.walked w.1
-          (g.met.V.Visitor.more c.args.visitor.now c.loop-pos.visitor c.part.new.self c.walk_value.new.visitor c.push.new.self c.args.none c.loop-pos.many c.in_ok-many.many c.in_ok-one.one order at place l.done n.v l.walked.taken
-          (subst (λ (b : Bool). g.V.Visitor.parted c.loop-pos.visitor b c.part.new.self) l.walked.first c.part.ensures.takes) l.walked.ends w.0 c.in_ok-many.ensures.takes));
+          let w = c.in_ok-place.ensures.walked n.v (spellings order (place + length (spelling order place n.v)) n.us ++ rest) n.stands in
+          value_left types pos l (Taken later order at c.in_ok-place.place false) end n c.in_ok-place.place w.1
+          (more_taken later l.done n.v c.in_ok-place.place l.walked w.1
+          (g.met.V.Visitor.more c.args.visitor.now c.loop-pos.visitor c.part.new.self c.walk_value.new.visitor c.args.gathered.now c.loop-pos.gathered c.walk_value.new.gathered order at place l.done n.v l.walked.taken
+          (subst (λ (b : Bool). g.V.Visitor.parted c.loop-pos.visitor b c.part.new.self) l.walked.first c.part.ensures.takes) l.walked.ends w.0));
     }
 
 pub walk_values-returns-clause-walked : goal.walk_values-returns-clause-walked
@@ -137,7 +137,7 @@ walk_values-returns-clause-walked g t c = λ vs rest e.
     ((l.done, ended.0, l.walked.taken), ended.1)
 
 pub array-returns-then-at_one_stroke-clause-walked : goal.array-returns-then-at_one_stroke-clause-walked
-array-returns-then-at_one_stroke-clause-walked g t c = λ v rest s. (c.in_ok-one.ensures.takes v rest s, (c.requires.laid v rest s).ends)
+array-returns-then-at_one_stroke-clause-walked g t c = λ v rest s. (c.in_ok-whole_array.ensures.takes v rest s, (c.requires.laid v rest s).ends)
 
 pub array-open_array-requires-clause-listed : goal.array-open_array-requires-clause-listed
 array-open_array-requires-clause-listed g t c = λ u e. ap (g.V.Visitor.strokes _) (sym (c.requires.found.wide u e)) ∙ sym c.at_one_stroke.ensures ∙ c.if-at_one_stroke.false
@@ -150,16 +150,16 @@ array-elements-requires g t c κs within =
     let s = c.requires.stands in
     let p = c.requires.laid s.0 s.1 s.2 in
     let types = c.args.spot.now.types.now in
-    (omega (arith, p.some, c.requires.found.long, length-take (length types - 1) (drop 1 types)), (within.0, (within.1.0, (within.1.1.0, (within.1.1.1, (c.in_ok-none.ensures.ready, ((p.xs, s.1, p.held), lengths_rest types c.args.spot.now.lengths.now c.requires.noted 1)))))))
+    (omega (arith, p.some, c.requires.found.long, length-take (length types - 1) (drop 1 types)), (within.0, (within.1.0, (within.1.1, (c.in_ok-many.ensures.ready, ((p.xs, s.1, p.held), lengths_rest types c.args.spot.now.lengths.now c.requires.noted 1))))))
 
 pub array-returns-clause-walked : goal.array-returns-clause-walked
 array-returns-clause-walked g t c = λ v rest s.
     let p = c.requires.laid v rest s in
     let order = c.args.source.now.order in
-    let held = c.in_ok-many.ensures.walked p.xs rest p.held in
+    let held = c.in_ok-elements.ensures.walked p.xs rest p.held in
     let is_of : IsOf kind.Array v = subst (IsOf kind.Array) (sym p.is) tt in
-    let many = subst (λ (q : ℕ). g.V.Visitor.many c.open_array.new.self c.in_ok-none.none order q held.0 c.in_ok-many.many c.elements.new.visitor) p.begins held.2 in (
-      g.met.V.Visitor.whole c.args.visitor.now c.open_array.new.self c.elements.new.visitor c.close.new.self c.in_ok-none.none c.in_ok-many.many c.in_ok-closed.closed kind.Array order c.args.spot.now.at v held.0 is_of (c.in_ok-none.ensures.takes v rest s) (ap parts p.is ∙ held.1) many (c.in_ok-closed.ensures.takes v is_of),
+    let many = subst (λ (q : ℕ). g.V.Visitor.many c.open_array.new.self c.in_ok-many.many order q held.0 c.elements.new.gathered c.elements.new.visitor) p.begins held.2 in (
+      g.met.V.Visitor.whole c.args.visitor.now c.open_array.new.self c.elements.new.visitor c.close.new.self c.args.gathered.now c.in_ok-many.many c.elements.new.gathered c.close.new.gathered kind.Array order c.args.spot.now.at v held.0 is_of (c.in_ok-many.ensures.takes v rest s) (ap parts p.is ∙ held.1) many (c.in_ok-close.ensures.takes v is_of),
       p.ends,
     )
 
@@ -167,7 +167,7 @@ pub brackets-walk_values-requires : goal.brackets-walk_values-requires
 brackets-walk_values-requires g t c κs within =
     let types = c.args.spot.now.types.now in
     let s = c.requires.stand in
-    (omega (arith, c.requires.long, length-take (length types - 1 - 1) (drop 1 types)), (within.0, (within.1.0, (within.1.1.0, (within.1.1.1, (c.in_ok-none.ensures.ready, (s, lengths_within types c.args.spot.now.lengths.now c.requires.noted 1 (length types - 1 - 1))))))))
+    (omega (arith, c.requires.long, length-take (length types - 1 - 1) (drop 1 types)), (within.0, (within.1.0, (within.1.1, (c.in_ok-many.ensures.ready, (s, lengths_within types c.args.spot.now.lengths.now c.requires.noted 1 (length types - 1 - 1)))))))
 
 pub brackets-open-requires-clause-single : goal.brackets-open-requires-clause-single
 brackets-open-requires-clause-single g t c = λ e. absurd (c.requires.bracketed e)
@@ -175,9 +175,9 @@ brackets-open-requires-clause-single g t c = λ e. absurd (c.requires.bracketed 
 pub brackets-returns-clause-walked : goal.brackets-returns-clause-walked
 brackets-returns-clause-walked g t c = λ v rest is_of begins all.
     let order = c.args.source.now.order in
-    let held = c.in_ok-many.ensures.walked (parts v) rest all in
-    let many = subst (λ (q : ℕ). g.V.Visitor.many c.open.new.self c.in_ok-none.none order q held.0.0 c.in_ok-many.many c.walk_values.new.visitor) begins held.0.2 in (
-      g.met.V.Visitor.whole c.args.visitor.now c.open.new.self c.walk_values.new.visitor c.close.new.self c.in_ok-none.none c.in_ok-many.many c.in_ok-closed.closed c.args.kind order c.args.spot.now.at v held.0.0 is_of (c.in_ok-none.ensures.takes order c.args.spot.now.at v is_of all.text) held.0.1 many (c.in_ok-closed.ensures.takes v is_of),
+    let held = c.in_ok-after.ensures.walked (parts v) rest all in
+    let many = subst (λ (q : ℕ). g.V.Visitor.many c.open.new.self c.in_ok-many.many order q held.0.0 c.walk_values.new.gathered c.walk_values.new.visitor) begins held.0.2 in (
+      g.met.V.Visitor.whole c.args.visitor.now c.open.new.self c.walk_values.new.visitor c.close.new.self c.args.gathered.now c.in_ok-many.many c.walk_values.new.gathered c.close.new.gathered c.args.kind order c.args.spot.now.at v held.0.0 is_of (c.in_ok-many.ensures.takes order c.args.spot.now.at v is_of all.text) held.0.1 many (c.in_ok-close.ensures.takes v is_of),
       held.1,
     )
 
@@ -188,38 +188,40 @@ pub variant-variant_of-requires : goal.variant-variant_of-requires
 variant-variant_of-requires g t c κs within =
     let s = c.requires.stands in
     let p = c.requires.laid s.0 s.1 s.2 in
-    (omega (arith, p.some, p.few), (within.0, (within.1.0, (within.1.1.0, (within.1.1.1, (c.requires.ready, ((p.x, s.1, p.held), (((type_of p.x, p.single.0, sym p.held.text), p.few), one_length c.args.types.now c.if-types-eq1.true))))))))
+    (omega (arith, p.some, p.few), (within.0, (within.1.0, (within.1.1, (c.requires.ready, ((p.x, s.1, p.held), (((type_of p.x, p.single.0, sym p.held.text), p.few), one_length c.args.types.now c.if-types-eq1.true)))))))
 
 pub variant-noted_variant-requires : goal.variant-noted_variant-requires
 variant-noted_variant-requires g t c κs within =
     let s = c.requires.stands in
     let p = c.requires.laid s.0 s.1 s.2 in
-    (omega (arith, p.some, p.few), (within.0, (within.1.0, (within.1.1.0, (within.1.1.1, (c.requires.ready, ((p.x, s.1, p.held), ((type_of p.x, p.single.0, sym p.held.text), p.few))))))))
+    (omega (arith, p.some, p.few), (within.0, (within.1.0, (within.1.1, (c.requires.ready, ((p.x, s.1, p.held), ((type_of p.x, p.single.0, sym p.held.text), p.few)))))))
 
 pub variant-returns-then-types-eq1-clause-walked : goal.variant-returns-then-types-eq1-clause-walked
 variant-returns-then-types-eq1-clause-walked g t c = λ v rest s.
     let p = c.requires.laid v rest s in
     let order = c.args.source.now.order in
     let at = c.args.spot.now.at in
-    made_of c.variant_of.result (λ u x. g.V.Visitor.one c.args.visitor.now order at u x c.variant_of.new.visitor) (sym p.is) p.ends (c.variant_of.ensures.walked at p.x rest p.held (p.begins ∙ ap (inside order at) p.is))
+    made_of c.variant_of.result (λ u. g.V.Visitor.one c.args.visitor.now c.args.gathered.now order at u c.variant_of.new.gathered c.variant_of.new.visitor) (sym p.is) p.ends (c.variant_of.ensures.walked at p.x rest p.held (p.begins ∙ ap (inside order at) p.is))
 
 pub variant-returns-clause-walked : goal.variant-returns-clause-walked
 variant-returns-clause-walked g t c = λ v rest s.
     let p = c.requires.laid v rest s in
     let order = c.args.source.now.order in
     let at = c.args.spot.now.at in
-    made_of c.noted_variant.result (λ u x. g.V.Visitor.one c.args.visitor.now order at u x c.noted_variant.new.visitor) (sym p.is) p.ends (c.noted_variant.ensures.walked at p.x rest p.held (p.begins ∙ ap (inside order at) p.is))
+    made_of c.noted_variant.result (λ u. g.V.Visitor.one c.args.visitor.now c.args.gathered.now order at u c.noted_variant.new.gathered c.noted_variant.new.visitor) (sym p.is) p.ends (c.noted_variant.ensures.walked at p.x rest p.held (p.begins ∙ ap (inside order at) p.is))
 
 pub variant_of-returns-clause-walked : goal.variant_of-returns-clause-walked
 variant_of-returns-clause-walked g t c = λ begin x rest s begins.
     let order = c.args.source.now.order in
     let q = c.args.held.now.at in
-    let w = c.in_ok-one.ensures.walked x rest s in
+    let w = c.in_ok-after.ensures.walked x rest s in
     let opened = c.open.new.self in
-    let filled = c.push.new.self in
-    let held = g.met.V.Visitor.more opened opened c.part.new.self c.walk_value.new.visitor filled c.in_ok-none.none c.in_ok-none.none c.in_ok-many.many c.in_ok-one.one order q q [] x (g.met.V.Visitor.none opened c.in_ok-none.none order q) c.part.ensures.takes (starts order q) w.0 c.in_ok-many.ensures.takes in
-    let many = subst (λ (k : ℕ). g.V.Visitor.many opened c.in_ok-none.none order k (x ∷ []) c.in_ok-many.many filled) begins held in (
-      g.met.V.Visitor.whole c.args.visitor.now opened filled c.close.new.self c.in_ok-none.none c.in_ok-many.many c.in_ok-closed.closed kind.Variant order begin (VariantValue x) (x ∷ []) tt (c.in_ok-none.ensures.takes order begin (VariantValue x) tt (append-nil (sig (type_of x)) ∙ s.text)) refl many (c.in_ok-closed.ensures.takes (VariantValue x) tt),
+    let filled = c.walk_value.new.visitor in
+    let none = c.in_ok-many.many in
+    let many = c.walk_value.new.gathered in
+    let held = g.met.V.Visitor.more opened opened c.part.new.self filled none none many order q q [] x (g.met.V.Visitor.none opened none order q) c.part.ensures.takes (starts order q) w.0 in
+    let all = subst (λ (k : ℕ). g.V.Visitor.many opened none order k (x ∷ []) many filled) begins held in (
+      g.met.V.Visitor.whole c.args.visitor.now opened filled c.close.new.self c.args.gathered.now none many c.close.new.gathered kind.Variant order begin (VariantValue x) (x ∷ []) tt (c.in_ok-many.ensures.takes order begin (VariantValue x) tt (append-nil (sig (type_of x)) ∙ s.text)) refl all (c.in_ok-close.ensures.takes (VariantValue x) tt),
       w.1,
     )
 
@@ -257,42 +259,42 @@ walk_value-overflow_add-result-in-ShortText-3 g t c = let s = c.requires.stands 
 
 pub walk_value-variant-requires : goal.walk_value-variant-requires
 walk_value-variant-requires g t c κs within =
-    (omega (arith, types_some c.requires.stands.2), (within.0, (within.1.0, (within.1.1.0, (within.1.1.1, (c.requires.ready, (c.requires.stands, laid_as c.args.source.now c.args.spot.now c.in-Variant.is c.layout.ensures)))))))
+    (omega (arith, types_some c.requires.stands.2), (within.0, (within.1.0, (within.1.1, (c.requires.ready, (c.requires.stands, laid_as c.args.source.now c.args.spot.now c.in-Variant.is c.layout.ensures))))))
 
 pub walk_value-array-requires : goal.walk_value-array-requires
 walk_value-array-requires g t c κs within = let s = c.requires.stands in let p = laid_as c.args.source.now c.args.spot.now c.in-Array.is c.layout.ensures s.0 s.1 s.2 in
-    (omega (arith, types_some s.2), (within.0, (within.1.0, (within.1.1.0, (within.1.1.1, (c.requires.ready, (s, (c.requires.noted, (p.found, laid_as c.args.source.now c.args.spot.now c.in-Array.is c.layout.ensures)))))))))
+    (omega (arith, types_some s.2), (within.0, (within.1.0, (within.1.1, (c.requires.ready, (s, (c.requires.noted, (p.found, laid_as c.args.source.now c.args.spot.now c.in-Array.is c.layout.ensures))))))))
 
 pub walk_value-overflow_sub-spot : goal.walk_value-overflow_sub-spot
 walk_value-overflow_sub-spot g t c = let s = c.requires.stands in let p = laid_as c.args.source.now c.args.spot.now c.in-Struct.is c.layout.ensures s.0 s.1 s.2 in omega (arith, p.some)
 
 pub walk_value-brackets-requires : goal.walk_value-brackets-requires
 walk_value-brackets-requires g t c κs within = let s = c.requires.stands in let p = laid_as c.args.source.now c.args.spot.now c.in-Struct.is c.layout.ensures s.0 s.1 s.2 in
-    (omega (arith, p.some, p.long), (within.0, (within.1.0, (within.1.1.0, (within.1.1.1, (c.requires.ready, ((p.xs, s.1, p.held), (c.requires.noted, (p.long, ((λ e. absurd cc), (λ e. absurd cc)))))))))))
+    (omega (arith, p.some, p.long), (within.0, (within.1.0, (within.1.1, (c.requires.ready, ((p.xs, s.1, p.held), (c.requires.noted, (p.long, ((λ e. absurd cc), (λ e. absurd cc))))))))))
 
 pub walk_value-brackets-requires-in-Entry : goal.walk_value-brackets-requires-in-Entry
 walk_value-brackets-requires-in-Entry g t c κs within = let s = c.requires.stands in let p = laid_as c.args.source.now c.args.spot.now c.in-Entry.is c.layout.ensures s.0 s.1 s.2 in
-    (omega (arith, p.long), (within.0, (within.1.0, (within.1.1.0, (within.1.1.1, (c.requires.ready, ((MoreValues p.x (MoreValues p.y NoValues), s.1, p.held), (c.requires.noted, (p.long, ((λ e. absurd cc), (λ e. absurd cc)))))))))))
+    (omega (arith, p.long), (within.0, (within.1.0, (within.1.1, (c.requires.ready, ((MoreValues p.x (MoreValues p.y NoValues), s.1, p.held), (c.requires.noted, (p.long, ((λ e. absurd cc), (λ e. absurd cc))))))))))
 
-pub walk_value-returns-in-Number-clause-walked : goal.walk_value-returns-in-Number-clause-walked
-walk_value-returns-in-Number-clause-walked g t c = λ v rest s. let p = laid_as c.args.source.now c.args.spot.now c.in-Number.is c.layout.ensures v rest s in (c.in_ok-one-in-Number.ensures.takes v rest s, omega (arith, p.ends, c.from.ensures))
+pub walk_value-returns-in_ok-number-in-Number-clause-walked : goal.walk_value-returns-in_ok-number-in-Number-clause-walked
+walk_value-returns-in_ok-number-in-Number-clause-walked g t c = λ v rest s. let p = laid_as c.args.source.now c.args.spot.now c.in-Number.is c.layout.ensures v rest s in (c.in_ok-number-in-Number.ensures.takes v rest s, omega (arith, p.ends, c.from.ensures))
 
-pub walk_value-returns-in-LongText-clause-walked : goal.walk_value-returns-in-LongText-clause-walked
-walk_value-returns-in-LongText-clause-walked g t c = λ v rest s. let p = laid_as c.args.source.now c.args.spot.now c.in-LongText.is c.layout.ensures v rest s in (c.in_ok-one-in-LongText.ensures.takes v rest s, p.ends)
+pub walk_value-returns-in_ok-long_text-in-LongText-clause-walked : goal.walk_value-returns-in_ok-long_text-in-LongText-clause-walked
+walk_value-returns-in_ok-long_text-in-LongText-clause-walked g t c = λ v rest s. let p = laid_as c.args.source.now c.args.spot.now c.in-LongText.is c.layout.ensures v rest s in (c.in_ok-long_text-in-LongText.ensures.takes v rest s, p.ends)
 
-pub walk_value-returns-in-ShortText-clause-walked : goal.walk_value-returns-in-ShortText-clause-walked
-walk_value-returns-in-ShortText-clause-walked g t c = λ v rest s. let p = laid_as c.args.source.now c.args.spot.now c.in-ShortText.is c.layout.ensures v rest s in (c.in_ok-one-in-ShortText.ensures.takes v rest s, p.ends)
+pub walk_value-returns-in_ok-short_text-in-ShortText-clause-walked : goal.walk_value-returns-in_ok-short_text-in-ShortText-clause-walked
+walk_value-returns-in_ok-short_text-in-ShortText-clause-walked g t c = λ v rest s. let p = laid_as c.args.source.now c.args.spot.now c.in-ShortText.is c.layout.ensures v rest s in (c.in_ok-short_text-in-ShortText.ensures.takes v rest s, p.ends)
 
 pub walk_value-returns-in-Struct-clause-walked : goal.walk_value-returns-in-Struct-clause-walked
 walk_value-returns-in-Struct-clause-walked g t c = λ v rest s.
     let p = laid_as c.args.source.now c.args.spot.now c.in-Struct.is c.layout.ensures v rest s in
     let order = c.args.source.now.order in
     let at = c.args.spot.now.at in
-    made_of c.brackets.result (λ u x. g.V.Visitor.one c.args.visitor.now order at u x c.brackets.new.visitor) (sym p.is) p.ends (c.brackets.ensures.walked (StructValue p.xs) rest tt (p.begins ∙ ap (inside order at) p.is) p.held)
+    made_of c.brackets.result (λ u. g.V.Visitor.one c.args.visitor.now c.args.gathered.now order at u c.brackets.new.gathered c.brackets.new.visitor) (sym p.is) p.ends (c.brackets.ensures.walked (StructValue p.xs) rest tt (p.begins ∙ ap (inside order at) p.is) p.held)
 
 pub walk_value-returns-in-Entry-clause-walked : goal.walk_value-returns-in-Entry-clause-walked
 walk_value-returns-in-Entry-clause-walked g t c = λ v rest s.
     let p = laid_as c.args.source.now c.args.spot.now c.in-Entry.is c.layout.ensures v rest s in
     let order = c.args.source.now.order in
     let at = c.args.spot.now.at in
-    made_of c.brackets-in-Entry.result (λ u x. g.V.Visitor.one c.args.visitor.now order at u x c.brackets-in-Entry.new.visitor) (sym p.is) p.ends (c.brackets-in-Entry.ensures.walked (EntryValue p.x p.y) rest tt (p.begins ∙ ap (inside order at) p.is) p.held)
+    made_of c.brackets-in-Entry.result (λ u. g.V.Visitor.one c.args.visitor.now c.args.gathered.now order at u c.brackets-in-Entry.new.gathered c.brackets-in-Entry.new.visitor) (sym p.is) p.ends (c.brackets-in-Entry.ensures.walked (EntryValue p.x p.y) rest tt (p.begins ∙ ap (inside order at) p.is) p.held)

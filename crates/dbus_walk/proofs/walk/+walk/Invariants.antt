@@ -36,7 +36,7 @@ invariant-walk_values-loop-pos g l = record {
   ready : g.V.Visitor.ready l.visitor (length l.source.bytes.now);
   left : (vs : ValueTrees) (rest : List ℕ) → AllStandAt l.source l.spot vs rest
       → Left l.source.order l.spot.at vs (λ place us. AllStand l.source.order l.spot.depth_left (drop l.pos l.spot.types.now) place l.source.bytes.now us rest)
-      (Taken (λ (done : List ValueTree). g.V.Visitor.many l.initial.visitor l.fn.none l.source.order l.spot.at done l.many l.visitor) l.source.order l.spot.at l.place l.is_first) l.place;
+      (Taken (λ (done : List ValueTree). g.V.Visitor.many l.initial.visitor l.initial.gathered l.source.order l.spot.at done l.gathered l.visitor) l.source.order l.spot.at l.place l.is_first) l.place;
 }
 
 abbrev pub decreases-walk_values-loop-pos : goal.decreases-walk_values-loop-pos
@@ -47,7 +47,7 @@ invariant-elements-loop-place g l = record {
   ready : g.V.Visitor.ready l.visitor (length l.source.bytes.now);
   left : (vs : ValueTrees) (rest : List ℕ) → ElementsStandAt l.source l.spot l.end vs rest
       → Left l.source.order l.spot.at vs (λ place us. ElementsStand l.source.order l.spot.depth_left l.spot.types.now place l.end l.source.bytes.now us rest)
-      (Taken (λ (done : List ValueTree). g.V.Visitor.many l.initial.visitor l.fn.none l.source.order l.spot.at done l.many l.visitor) l.source.order l.spot.at l.place l.is_first) l.place;
+      (Taken (λ (done : List ValueTree). g.V.Visitor.many l.initial.visitor l.initial.gathered l.source.order l.spot.at done l.gathered l.visitor) l.source.order l.spot.at l.place l.is_first) l.place;
 }
 
 abbrev pub decreases-elements-loop-place : goal.decreases-elements-loop-place

@@ -4,6 +4,7 @@ use Rattle.dbus_value_model.proofs.ValueRows.{tree-Sig}
 use Rattle.dbus_walk.proofs.Parts.{no_gap, short_stands, short_counts}
 use Rattle.dbus_walk.proofs.ReadThere.{text_there, text_utf8}
 use Rattle.dbus_value_model.specs.declared.value.Value.{the_lemmas}
+use Rattle.dbus_unmarshal.proofs.Gathering.{placed}
 use Rattle.dbus_unmarshal.proofs.Leaves.{text_built}
 use Rattle.dbus_unmarshal.proofs.building.BuilderVisitor.short_text.Goals as goal
 
@@ -23,4 +24,4 @@ returns-clause-takes g c = λ v rest s.
     let p = short_stands s c.requires.code in
     let at = c.args.spot.now.at in
     let is = c.in_ok-text.ensures.ok ∙ c.text_in.ensures ∙ text_there s 1 p (at + 1) c.args.size (omega (arith, no_gap at)) (c.requires.counts ∙ (short_counts s p).0) in
-    λ formed typed. record { tree = text_built s p SIGNATURE c.in_ok-text.text _ c.requires.code is (tree-Sig c.in_ok-text.text); packed = search (rules, the_lemmas) }
+    placed c.place.result c.args.gathered.now c.place.new.gathered v _ (λ u done us next. record { tree = text_built s p SIGNATURE c.in_ok-text.text _ c.requires.code is (tree-Sig c.in_ok-text.text); packed = search (rules, the_lemmas) }) c.place.ensures
