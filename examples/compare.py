@@ -1,10 +1,11 @@
 #!/usr/bin/env python3
-"""compare.py PROGRAM LISTERS SWAPPERS CHECKER..: compares what each CHECKER writes of messages with what `PROGRAM check` does.
+"""compare.py PROGRAM LISTERS SWAPPERS FILTERS CHECKER..: compares what each CHECKER writes of messages with what `PROGRAM check` does.
 
 The messages are the captures in samples/, whole and cut short, and those of the first messages of each capture of which one
 byte is changed. Both the text and the exit status are compared. What each of LISTERS, which commas separate, writes of the captures is compared with
 what `PROGRAM show` writes, whose header fields may be in another order; what each of SWAPPERS writes of them in either byte order,
-with `PROGRAM swap`. The exit status is 1 if they differ.
+with `PROGRAM swap`; what each of FILTERS writes of them for a rule and owners of names, with `PROGRAM filter`. The exit status is 1
+if they differ.
 """
 
 import collections
@@ -16,6 +17,23 @@ import sys
 SAMPLES = ("session.dbus", "big-endian.dbus")
 CHANGED_MESSAGES = 3
 CHANGES = (0x01, 0x80, 0xFF)
+# Match rules, each with owners of names.
+RULES = (
+    ("",),
+    ("type='signal'",),
+    ("type='method_call',member='Hello'",),
+    ("sender='org.freedesktop.DBus', interface=org.freedesktop.DBus",),
+    ("sender='org.example.Lab'",),
+    ("sender='org.example.Lab'", "org.example.Go=:1.5", "org.example.Lab=:1.2", "org.example.Lab=:1.4"),
+    ("path_namespace='/org/freedesktop'",),
+    ("arg0namespace='org'",),
+    ("arg0='it'\\''s',eavesdrop='true'",),
+    ("type='signal',typ='error'",),
+    ("member='A',member='B'",),
+    ("path='/a',path_namespace='/'",),
+    ("member='Hello",),
+    ("type",),
+)
 
 
 def length_of(data):
@@ -86,10 +104,29 @@ def compare_swaps(program, swapper, folder):
     return differing
 
 
-def main(program, listers, swappers, *checkers):
+def compare_filters(program, filter_program, folder):
+    """How many answers to rules differ: in what is written, in what is said of a refusal, and in the exit status."""
+    differing, written = 0, 0
+    for sample, (rule, *owners) in itertools.product(SAMPLES, RULES):
+        data = capture(folder, sample)
+        options = [word for owner in owners for word in ("--owner", owner)]
+        right, other = (
+            subprocess.run(words, input=data, capture_output=True)
+            for words in ([program, "filter", *options, rule], [filter_program, rule, *owners])
+        )
+        written += len(right.stdout) > 0
+        if (right.stdout, right.stderr, right.returncode) != (other.stdout, other.stderr, other.returncode):
+            differing += 1
+            print(f"{sample}, {rule} with {owners}: {filter_program} says {other.stderr}, {other.returncode} and not {right.stderr}, {right.returncode}")
+    print(f"{len(SAMPLES) * len(RULES)} times filtered, {written} times with an output, {differing} otherwise")
+    return differing
+
+
+def main(program, listers, swappers, filters, *checkers):
     folder = os.path.join(os.path.dirname(os.path.abspath(__file__)), "..", "samples")
     kinds, differing = collections.Counter(), sum(compare_lists(program, lister, folder) for lister in listers.split(","))
     differing += sum(compare_swaps(program, swapper, folder) for swapper in swappers.split(","))
+    differing += sum(compare_filters(program, filter_program, folder) for filter_program in filters.split(","))
     for name, data in inputs(folder):
         right = answer([program, "check"], data)
         kinds[right[0].split(" ")[-1] if right[1] else "ok"] += 1

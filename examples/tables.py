@@ -1,8 +1,8 @@
 #!/usr/bin/env python3
 """tables.py HABITS TEXTS PROGRAM: compares the header's numbers with the crates' and the program's.
 
-The numbers of message types, flags, header fields, answers and rules are those of the crates' constants, and those of kinds of text are
-those of `kind_of` in dbus_c. The names of reasons, as HABITS prints them, are those of the header's constants. The version is the
+The numbers of message types, flags, header fields, answers and rules on indexes are those of the crates' constants, and those of kinds
+of text are those of `kind_of` in dbus_c. The names of reasons, as HABITS prints them, are those of the header's constants. The version is the
 program's. What TEXTS says of the cases of names and signatures (docs/CASES.md) is what these say. The exit status is 1 if not.
 """
 
@@ -92,8 +92,9 @@ def main(habits, texts, program):
     hold("rules", of_prefix(numbers, "FDS_"), {"ANY": rules["ANY_INDEX"], "BELOW_COUNT": rules["INDEX_BELOW_COUNT"]})
     text_kinds = of_prefix(numbers, "TEXT_")
     hold("kinds of text", text_kinds, kinds())
-    names = (line.split() for line in run(habits))
-    hold("reasons", of_prefix(numbers, "REASON_"), {upper(name): int(number) for number, name in names})
+    names = [line.split() for line in run(habits)]
+    for prefix in ("REASON_", "RULE_REASON_"):
+        hold(prefix, of_prefix(numbers, prefix), {upper(name): int(number) for which, number, name in names if which == prefix})
     header = (ROOT / "include" / "dbus_wire.h").read_text()
     version = ".".join(re.findall(r"#define DBUS_WIRE_VERSION_[A-Z]+ (\d+)", header))
     if run(program, "--version")[0].split()[-1] != version:

@@ -28,7 +28,7 @@ echo '#include <dbus_wire.h>' | "$CXX" $flags -x c++ -fsyntax-only -
 "$CC" -std=c99 -O2 $flags -o "$built/check" "$here/c/check.c" -L"$built" -ldbus_wire
 "$CC" -std=c99 -O2 $flags -o "$built/check_shared" "$here/c/check.c" "$shared" -Wl,-rpath,"$(cd "$(dirname "$shared")" && pwd)"
 "$CC" $sanitized -o "$built/check_sanitized" "$here/c/check.c" -L"$built" -ldbus_wire
-for name in list swap room habits texts pieces threads; do "$CC" $sanitized -pthread -o "$built/$name" "$here/c/$name.c" -L"$built" -ldbus_wire; done
+for name in list swap rules room habits texts pieces threads; do "$CC" $sanitized -pthread -o "$built/$name" "$here/c/$name.c" -L"$built" -ldbus_wire; done
 for sample in session big-endian; do
 	for name in room threads; do "$built/$name" < "$here/../samples/$sample.dbus"; done
 	for length in 1 64 4096; do "$built/pieces" $length < "$here/../samples/$sample.dbus"; done
@@ -36,9 +36,11 @@ done
 # A checker for which there is no memory is not made.
 "$CC" -std=c99 -O2 $flags -o "$built/pieces_plain" "$here/c/pieces.c" -L"$built" -ldbus_wire
 "$CC" -shared -fPIC -o "$built/refuse_nth.so" "$here/../bench/refuse_nth.c" -ldl
-status=0
-LD_PRELOAD=$built/refuse_nth.so REFUSE_NTH=1 "$built/pieces_plain" < "$here/../samples/session.dbus" || status=$?
-test $status = 3
+for nth in 1 2; do
+	status=0
+	LD_PRELOAD=$built/refuse_nth.so REFUSE_NTH=$nth "$built/pieces_plain" < "$here/../samples/session.dbus" || status=$?
+	test $status = 3
+done
 "$here/tables.py" "$built/habits" "$built/texts" "$program"
 # The fuzz target finds nothing, and finds a parser that takes everything for a message.
 try_fuzz() {
@@ -55,16 +57,16 @@ if pkg-config --exists dbus-1; then
 	changes=0 try_fuzz "$here/fuzz/peer.c" "$here/../cases/peers/libdbus.c" $(pkg-config --cflags --libs dbus-1)
 fi
 
-listers=$built/list swappers=$built/swap
+listers=$built/list swappers=$built/swap filters=$built/rules
 set -- "$built/check" "$built/check_sanitized" "$built/check_shared" "$built/pieces_plain"
 if command -v cargo > /dev/null; then
 	export DBUS_WIRE_LIBRARY="$built" CARGO_TARGET_DIR="$built/rust"
 	cargo test --quiet --offline --manifest-path "$here/../rust/Cargo.toml"
 	cargo build --quiet --offline --release --examples --manifest-path "$here/../rust/Cargo.toml"
 	rust=$built/rust/release/examples
-	listers=$listers,$rust/list swappers=$swappers,$rust/swap
+	listers=$listers,$rust/list swappers=$swappers,$rust/swap filters=$filters,$rust/filter
 	set -- "$@" "$rust/check"
 else
 	echo "no cargo here: the Rust crate is not tried"
 fi
-exec "$here/compare.py" "$program" "$listers" "$swappers" "$@"
+exec "$here/compare.py" "$program" "$listers" "$swappers" "$filters" "$@"

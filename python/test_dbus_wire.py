@@ -24,6 +24,7 @@ from read_cases import read_bytes, read_cases  # noqa: E402
 
 import dbus_wire  # noqa: E402
 from dbus_wire import (  # noqa: E402
+    BadRule,
     Checker,
     HeaderField,
     Limits,
@@ -33,6 +34,7 @@ from dbus_wire import (  # noqa: E402
     NotAMessage,
     ObjectPath,
     Refused,
+    Rule,
     Signature,
     TextFault,
     TextKind,
@@ -52,6 +54,7 @@ SAMPLES = {name: (ROOT / "samples" / f"{name}.dbus").read_bytes() for name in ("
 SESSION = SAMPLES["session"]
 CASES = ROOT / "crates/message_cases/data"
 TEXT_CASES = ROOT / "crates/value_cases/data"
+RULE_CASES = ROOT / "crates/stream_cases/data"
 CASE_KINDS = {"text": "STRING", "path": "OBJECT_PATH"}
 FIELDS = ("path", "interface", "member", "error_name", "reply_serial", "destination", "sender", "signature")
 
@@ -419,6 +422,48 @@ class Checkers(unittest.TestCase):
     def test_out_of_memory(self):
         with mock.patch.object(_library.library, "dbus_wire_checker_new", return_value=_library.NO_MEMORY):
             self.assertRaises(MemoryError, Checker)
+
+
+class Rules(unittest.TestCase):
+    def test_each_case_of_a_rule(self):
+        for name, text, said in read_cases(RULE_CASES / "rules.txt"):
+            with self.subTest(name):
+                answer, *right = said.split(" ", 1)
+                if answer == "accepted":
+                    canonical = read_bytes(*right).decode("utf-8")
+                    rule = Rule(read_bytes(text))
+                    self.assertEqual((str(rule), str(Rule(canonical))), (canonical, canonical))
+                else:
+                    with self.assertRaises(BadRule) as caught:
+                        Rule(read_bytes(text))
+                    self.assertEqual(f"{caught.exception.at} {caught.exception.reason}", *right)
+
+    def test_each_case_of_a_message(self):
+        for name, text, owners, *columns, said in read_cases(RULE_CASES / "matches.txt"):
+            with self.subTest(name), Rule(read_bytes(text)) as rule:
+                owners = dict(word.split("=") for word in owners.split())
+                for message in (Message.parse(read_bytes(column)) for column in columns if column):
+                    self.assertEqual(rule.matches(message, owners), said == "yes")
+
+    def test_texts_that_are_no_rules(self):
+        for text, fault in (("type", "rule refused at 4: NoEquals"), (b"arg0=\xff", "rule refused at 5: NotUtf8")):
+            self.assertRaisesRegex(BadRule, fault, Rule, text)
+        self.assertEqual(str(Rule("arg0=" + "x" * 1000)), f"arg0='{'x' * 1000}'")
+
+    def test_owners_that_are_no_names(self):
+        message = Message.parse(SESSION[:169])
+        self.assertRaises(ValueError, Rule("").matches, message, {"org.a.B\norg.a.C": ":1.1"})
+
+    def test_a_closed_rule(self):
+        with Rule("") as rule:
+            pass
+        rule.close()
+        self.assertRaises(ValueError, rule.matches, Message.parse(SESSION[:169]))
+        self.assertRaises(ValueError, str, rule)
+
+    def test_out_of_memory(self):
+        with mock.patch.object(_library.library, "dbus_wire_rule_new", return_value=_library.NO_MEMORY):
+            self.assertRaises(MemoryError, Rule, "")
 
 
 class Threads(unittest.TestCase):

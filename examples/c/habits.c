@@ -1,5 +1,6 @@
 /* Holds the library against its header: the version, the sizes of structs, each null pointer that is allowed, each answer of the
- * calls that take a message apart, and a sentence for each reason that has a name. Prints the number and the name of each reason. */
+ * calls that take a message apart, and a sentence for each reason that has a name. Prints the number and the name of each reason, of
+ * messages and of rules. */
 #include <dbus_wire.h>
 
 #include <stdio.h>
@@ -27,6 +28,7 @@ static void sizes(void) {
     expect(sizeof(struct dbus_wire_limits) == 16 && sizeof(struct dbus_wire_checked) == 32, "limits 16, checked 32 bytes");
     expect(sizeof(struct dbus_wire_parts) == 208 && sizeof(struct dbus_wire_text) == 24, "parts 208, text 24 bytes");
     expect(sizeof(struct dbus_wire_checker) == 8 && sizeof(struct dbus_wire_taken) == 24, "checker 8, taken 24 bytes");
+    expect(sizeof(struct dbus_wire_rule) == 8 && sizeof(struct dbus_wire_rule_refused) == 16, "rule 8, rule_refused 16 bytes");
     expect(sizeof(struct dbus_wire_argument) == 24 && sizeof(struct dbus_wire_text_checked) == 16, "argument 24, text_checked 16 bytes");
 }
 
@@ -90,26 +92,52 @@ static void answers(void) {
     expect(argument.code == 's' && memcmp(SIGNAL + argument.offset, "hi", argument.length) == 0, "which is hi");
 }
 
-static void reasons(void) {
-    uint8_t name[16];
+/* The reasons whose constants begin so, by the calls of their names and of their sentences. */
+static void reasons(const char *prefix, size_t (*name_of)(uint32_t, uint8_t *, size_t), const char *(*text_of)(uint32_t)) {
+    uint8_t name[32];
     uint32_t reason, other;
 
     for (reason = 0; reason < NUMBERS; reason++) {
-        size_t length = dbus_wire_reason_name(reason, name, sizeof name);
-        const char *text = dbus_wire_reason_text(reason);
-        expect((length > 0) == (strcmp(text, dbus_wire_reason_text(0)) != 0), "a reason has a name if and only if it has a text");
+        size_t length = name_of(reason, name, sizeof name);
+        const char *text = text_of(reason);
+        expect((length > 0) == (strcmp(text, text_of(0)) != 0), "a reason has a name if and only if it has a text");
         expect(length < sizeof name && strlen(text) > 0, "both fit");
         for (other = 0; length > 0 && other < reason; other++)
-            expect(strcmp(text, dbus_wire_reason_text(other)) != 0, "each text is of one reason");
-        if (length > 0) printf("%u %s\n", (unsigned)reason, (const char *)name);
+            expect(strcmp(text, text_of(other)) != 0, "each text is of one reason");
+        if (length > 0) printf("%s %u %s\n", prefix, (unsigned)reason, (const char *)name);
     }
-    expect(dbus_wire_reason_text(UINT32_MAX) == dbus_wire_reason_text(0), "the greatest number is no reason");
+    expect(text_of(UINT32_MAX) == text_of(0), "the greatest number is no reason");
+}
+
+static void rules(void) {
+    static const uint8_t text[] = "type='signal',arg0='hi'", not_utf8[] = "arg0=\xFF";
+    struct dbus_wire_rule rule = {0};
+    struct dbus_wire_rule_refused told;
+    uint32_t matches = 7;
+    uint64_t length = 7;
+
+    expect(dbus_wire_rule_matches(&rule, SIGNAL, SIGNAL_LENGTH, NULL, NULL, 0, &matches) == DBUS_WIRE_NO_RULE, "there is no rule");
+    expect(dbus_wire_rule_text(&rule, NULL, 0, &length) == DBUS_WIRE_NO_RULE && matches == 7 && length == 7, "and nothing is written");
+    expect(dbus_wire_rule_new(not_utf8, sizeof not_utf8 - 1, &rule, &told) == DBUS_WIRE_REFUSED, "a rule is UTF-8");
+    expect(told.reason == DBUS_WIRE_RULE_REASON_NOT_UTF8 && told.offset == 5 && rule.inner == NULL, "the last byte is not");
+    expect(dbus_wire_rule_new(text, sizeof text - 1, &rule, &told) == DBUS_WIRE_OK, "this is a rule");
+    expect(dbus_wire_rule_matches(&rule, SIGNAL, SIGNAL_LENGTH - 1, NULL, NULL, 0, &matches) == DBUS_WIRE_PARTIAL && matches == 7,
+           "a front is partial, by a rule");
+    expect(dbus_wire_rule_matches(&rule, SIGNAL, SIGNAL_LENGTH, NULL, NULL, 0, &matches) == DBUS_WIRE_WHOLE && matches == 1,
+           "it matches the signal");
+    dbus_wire_rule_free(&rule);
+    dbus_wire_rule_free(&rule);
+    expect(dbus_wire_rule_new(NULL, 0, &rule, &told) == DBUS_WIRE_OK, "no text is the rule without keys");
+    expect(dbus_wire_rule_text(&rule, NULL, 0, &length) == DBUS_WIRE_NO_ROOM && length == 0, "whose text is empty");
+    dbus_wire_rule_free(&rule);
 }
 
 int main(void) {
     sizes();
     nulls();
     answers();
-    reasons();
+    rules();
+    reasons("REASON_", dbus_wire_inline_reason_name, dbus_wire_reason_text);
+    reasons("RULE_REASON_", dbus_wire_inline_rule_reason_name, dbus_wire_rule_reason_text);
     return failures > 0;
 }

@@ -1,4 +1,4 @@
-"""D-Bus messages, read by libdbus_wire: checked, taken apart into Python values, and byteswapped.
+"""D-Bus messages, read by libdbus_wire: checked, taken apart into Python values, byteswapped, and matched by rules.
 
 The module finds no place and no number in the bytes itself: each is what a call of include/dbus_wire.h returns. The library is the
 file that the environment variable DBUS_WIRE_LIBRARY names, or else libdbus_wire.so.0 as the dynamic linker finds it.
@@ -18,11 +18,13 @@ from ._errors import HeaderField, NotAMessage, Refused, Truncated
 from ._library import LIBRARY_VERSION
 from ._limits import Limits
 from ._messages import Message, MessageFlag, MessageType, Order, byteswap, messages, stated_length
+from ._rules import BadRule, Rule
 from ._texts import TextFault, TextKind, check_text
 from ._values import ObjectPath, Signature, UnixFd, Variant
 
 __all__ = [
     "LIBRARY_VERSION",
+    "BadRule",
     "Checker",
     "HeaderField",
     "Limits",
@@ -33,6 +35,7 @@ __all__ = [
     "ObjectPath",
     "Order",
     "Refused",
+    "Rule",
     "Signature",
     "TextFault",
     "TextKind",

@@ -16,7 +16,9 @@ OK = WHOLE = 0
 PARTIAL = 1
 REFUSED = 2
 NO_MEMORY = 3
+NO_ROOM = 4
 NO_CHECKER = 7
+NO_RULE = 8
 REASON_TRAILING = 23
 REASON_TRUNCATED = 25
 FDS_ANY = 0
@@ -69,6 +71,14 @@ class Taken(ctypes.Structure):
     _fields_ = [("count", c_uint64), ("offset", c_uint64), ("reason", c_uint32), ("field", c_uint32)]
 
 
+class Rule(ctypes.Structure):
+    _fields_ = [("inner", c_void_p)]
+
+
+class RuleRefused(ctypes.Structure):
+    _fields_ = [("offset", c_uint64), ("reason", c_uint32), ("reserved", c_uint32)]
+
+
 # Of each call its result, and then its arguments. Python's bytes do not change and are never null, so they are handed over as they are.
 _MESSAGE = (c_char_p, c_size_t, POINTER(Limits))
 _CALLS = {
@@ -85,6 +95,11 @@ _CALLS = {
     "checker_take": (c_uint32, POINTER(Checker), c_char_p, c_size_t, POINTER(Taken)),
     "checker_restart": (c_uint32, POINTER(Checker)),
     "checker_free": (None, POINTER(Checker)),
+    "rule_new": (c_uint32, c_char_p, c_size_t, POINTER(Rule), POINTER(RuleRefused)),
+    "rule_matches": (c_uint32, POINTER(Rule), *_MESSAGE, c_char_p, c_size_t, POINTER(c_uint32)),
+    "rule_text": (c_uint32, POINTER(Rule), c_char_p, c_size_t, POINTER(c_uint64)),
+    "rule_free": (None, POINTER(Rule)),
+    "rule_reason_name": (c_size_t, c_uint32, c_char_p, c_size_t),
     "reason_name": (c_size_t, c_uint32, c_char_p, c_size_t),
 }
 

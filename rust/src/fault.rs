@@ -1,41 +1,41 @@
-//! Why bytes are no message.
+//! Why bytes are no message, and why a text is no match rule.
 
 use std::error::Error;
 use std::fmt;
 
 // The reasons by their numbers, each with its sentence, which is also its documentation.
 macro_rules! reasons {
-    ($($name:ident $(($field:ident))? = $number:literal, $sentence:literal;)*) => {
-        /// Why bytes are refused. Its text is a sentence in English without its full stop; `dbus-wire check` prints it as its
-        /// `Debug` does.
+    ($(#[$doc:meta])* $reasons:ident: $($name:ident $(($field:ident))? = $number:literal, $sentence:literal;)*) => {
+        $(#[$doc])*
         #[derive(Clone, Copy, Debug, PartialEq, Eq, Hash)]
         #[non_exhaustive]
-        pub enum Reason {
+        pub enum $reasons {
             $(#[doc = concat!($sentence, ".")] $name $(($field))?,)*
             /// A reason that this crate has no name for, by its number.
             Other(u32),
         }
 
-        impl Reason {
-            pub(crate) fn new(number: u32, field: u32) -> Self {
+        impl $reasons {
+            // By its number, and a code if the reason has one.
+            pub(crate) fn new(number: u32, _code: u32) -> Self {
                 match number {
-                    $($number => Reason::$name $((field as $field))?,)*
-                    other => Reason::Other(other),
+                    $($number => $reasons::$name $((_code as $field))?,)*
+                    other => $reasons::Other(other),
                 }
             }
 
             /// Its number in the C header.
             pub fn number(self) -> u32 {
                 match self {
-                    $(Reason::$name { .. } => $number,)*
-                    Reason::Other(number) => number,
+                    $($reasons::$name { .. } => $number,)*
+                    $reasons::Other(number) => number,
                 }
             }
 
             fn sentence(self) -> &'static str {
                 match self {
-                    $(Reason::$name { .. } => $sentence,)*
-                    Reason::Other(_) => "there is no such reason",
+                    $($reasons::$name { .. } => $sentence,)*
+                    $reasons::Other(_) => "there is no such reason",
                 }
             }
         }
@@ -43,6 +43,9 @@ macro_rules! reasons {
 }
 
 reasons! {
+    /// Why bytes are refused. Its text is a sentence in English without its full stop; `dbus-wire check` prints it as its
+    /// `Debug` does.
+    Reason:
     ByteOrder = 1, "the first byte is neither 'l' nor 'B'";
     Kind = 2, "the message type is 0";
     Version = 3, "the protocol version is not 1";
@@ -71,12 +74,36 @@ reasons! {
     FdIndex = 26, "an index of a file descriptor is not below the number of descriptors";
 }
 
+reasons! {
+    /// Why a text spells no match rule. Its text is a sentence in English without its full stop; `dbus-wire filter` prints it as its
+    /// `Debug` does.
+    RuleReason:
+    Nul = 1, "the text has U+0000";
+    NoEquals = 2, "a comma, or the end, comes before the '=' of a key";
+    KeyName = 3, "there is no such key";
+    KeyTwice = 4, "a key occurs twice";
+    PathAndNamespace = 5, "path and path_namespace are in one rule";
+    OpenQuote = 6, "an apostrophe is not closed";
+    BadValue = 7, "the key does not take the value";
+    NotUtf8 = 8, "the text is not UTF-8";
+}
+
 impl fmt::Display for Reason {
     fn fmt(&self, f: &mut fmt::Formatter<'_>) -> fmt::Result {
         f.write_str(self.sentence())?;
         match self {
             Reason::FieldMissing(code) => write!(f, ": that of code {code}"),
             Reason::Other(number) => write!(f, ": {number}"),
+            _ => Ok(()),
+        }
+    }
+}
+
+impl fmt::Display for RuleReason {
+    fn fmt(&self, f: &mut fmt::Formatter<'_>) -> fmt::Result {
+        f.write_str(self.sentence())?;
+        match self {
+            RuleReason::Other(number) => write!(f, ": {number}"),
             _ => Ok(()),
         }
     }
@@ -135,28 +162,30 @@ impl Error for ParseError {}
 
 #[cfg(test)]
 mod tests {
-    use super::Reason;
+    use super::{Reason, RuleReason};
     use crate::sys;
 
     const HEADER: &str = include_str!("../../include/dbus_wire.h");
 
-    fn name(number: u32) -> String {
+    // What one of the two calls writes of a number.
+    fn name(call: unsafe extern "C" fn(u32, *mut u8, usize) -> usize, number: u32) -> String {
         let mut text = [0; 32];
         // SAFETY: a mutable slice, as `sys` says.
-        let length = unsafe { sys::dbus_wire_reason_name(number, text.as_mut_ptr(), text.len()) };
+        let length = unsafe { call(number, text.as_mut_ptr(), text.len()) };
         String::from_utf8(text[..length].to_vec()).unwrap()
     }
 
-    // The sentences of `dbus_wire_reason_text`, by their numbers.
-    fn sentences() -> Vec<&'static str> {
-        let (_, texts) = HEADER.split_once("const texts[] = {").unwrap();
+    // The sentences of the header's function of this name, by their numbers.
+    fn sentences(function: &str) -> Vec<&'static str> {
+        let (_, code) = HEADER.split_once(&format!("static inline const char *{function}(uint32_t reason) {{")).unwrap();
+        let (_, texts) = code.split_once("const texts[] = {").unwrap();
         let (texts, _) = texts.split_once("};").unwrap();
         texts.lines().filter_map(|line| line.trim().split_once('"')?.1.strip_suffix("\",")).collect()
     }
 
     #[test]
     fn reasons_are_the_librarys_and_the_headers() {
-        let sentences = sentences();
+        let (sentences, name) = (sentences("dbus_wire_reason_text"), |number| name(sys::dbus_wire_reason_name, number));
         for number in 1..sys::DBUS_WIRE_REASON_NOT_YET {
             let reason = Reason::new(number, 5);
             assert_eq!(reason.number(), number);
@@ -166,5 +195,17 @@ mod tests {
         assert_eq!(sentences.len(), sys::DBUS_WIRE_REASON_NOT_YET as usize + 1);
         assert_eq!(Reason::new(99, 0), Reason::Other(99));
         assert_eq!((name(0), Reason::Other(0).sentence()), (String::new(), sentences[0]));
+    }
+
+    #[test]
+    fn reasons_of_rules_are_the_librarys_and_the_headers() {
+        let (sentences, name) = (sentences("dbus_wire_rule_reason_text"), |number| name(sys::dbus_wire_rule_reason_name, number));
+        for number in 1..=sys::DBUS_WIRE_RULE_REASON_NOT_UTF8 {
+            let reason = RuleReason::new(number, 0);
+            assert_eq!((reason.number(), format!("{reason:?}")), (number, name(number)));
+            assert_eq!(reason.sentence(), sentences[number as usize]);
+        }
+        assert_eq!(sentences.len(), sys::DBUS_WIRE_RULE_REASON_NOT_UTF8 as usize + 1);
+        assert_eq!((name(0), RuleReason::Other(0).sentence()), (String::new(), sentences[0]));
     }
 }

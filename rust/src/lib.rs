@@ -1,4 +1,4 @@
-//! Checks, takes apart and byteswaps D-Bus messages and their texts, as the [D-Bus Specification] spells them. The calls are those
+//! Checks, takes apart, byteswaps and matches D-Bus messages, and checks texts, as the [D-Bus Specification] spells them. The calls are those
 //! of a C library, `libdbus_wire`, whose results are proved for all bytes and all limits; this crate makes them safe. What is in
 //! this crate itself is tested, and not proved.
 //!
@@ -21,6 +21,7 @@
 //!   a message is by its first 16 bytes.
 //! * [`Message`] has the parts of a message, and [`Values`] goes over the values of its body. Both borrow the bytes, and allocate nothing.
 //! * [`byteswap`] writes a message in the other byte order, and [`check_text`] checks names, signatures and other texts.
+//! * A match [`Rule`] says which messages a program wants; [`Owners`] says who owns the names that it asks for.
 //! * [`Limits`] are those that a message has to keep, and a [`Fault`] says where and why bytes are no message.
 //! * [`sys`] has the C calls themselves.
 //!
@@ -41,6 +42,7 @@ mod checker;
 mod fault;
 mod limits;
 mod message;
+mod rule;
 mod swap;
 pub mod sys;
 mod text;
@@ -48,9 +50,10 @@ mod value;
 
 pub use check::{check, wanted, Answer, Order};
 pub use checker::{Checker, OutOfMemory, Taken};
-pub use fault::{Fault, ParseError, Reason};
+pub use fault::{Fault, ParseError, Reason, RuleReason};
 pub use limits::{Descriptors, Limits};
 pub use message::{Flags, Kind, Message};
+pub use rule::{Owners, Rule, RuleError, RuleFault};
 pub use swap::{byteswap, SwapError};
 pub use text::{check_text, TextFault, TextKind};
 pub use value::{Array, Entry, Value, Values, Variant};

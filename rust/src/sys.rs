@@ -8,7 +8,7 @@
 //! * Of a slice its pointer and its length. The pointer is not null, and has so many readable bytes, `isize::MAX` at most, which
 //!   nothing writes as long as the slice is borrowed. Those of a `&mut` slice may be written, and overlap no other argument.
 //! * References to structs of this module: they are not null, aligned and initialized, and a `&mut` one overlaps no other argument.
-//! * Of a [`dbus_wire_checker`] one that only calls have written since it was made with a null pointer.
+//! * Of a [`dbus_wire_checker`] or a [`dbus_wire_rule`] one that only calls have written since it was made with a null pointer.
 //!
 //! That there is stack for a call is the one thing that nothing ensures: see the crate's documentation.
 #![allow(non_camel_case_types, missing_docs)]
@@ -25,6 +25,7 @@ pub const DBUS_WIRE_NO_ROOM: u32 = 4;
 pub const DBUS_WIRE_NO_VALUE: u32 = 5;
 pub const DBUS_WIRE_NO_KIND: u32 = 6;
 pub const DBUS_WIRE_NO_CHECKER: u32 = 7;
+pub const DBUS_WIRE_NO_RULE: u32 = 8;
 
 pub const DBUS_WIRE_TYPE_METHOD_CALL: u32 = 1;
 pub const DBUS_WIRE_TYPE_METHOD_RETURN: u32 = 2;
@@ -84,6 +85,15 @@ pub const DBUS_WIRE_REASON_TOO_DEEP: u32 = 24;
 pub const DBUS_WIRE_REASON_TRUNCATED: u32 = 25;
 pub const DBUS_WIRE_REASON_FD_INDEX: u32 = 26;
 pub const DBUS_WIRE_REASON_NOT_YET: u32 = 27;
+
+pub const DBUS_WIRE_RULE_REASON_NUL: u32 = 1;
+pub const DBUS_WIRE_RULE_REASON_NO_EQUALS: u32 = 2;
+pub const DBUS_WIRE_RULE_REASON_KEY_NAME: u32 = 3;
+pub const DBUS_WIRE_RULE_REASON_KEY_TWICE: u32 = 4;
+pub const DBUS_WIRE_RULE_REASON_PATH_AND_NAMESPACE: u32 = 5;
+pub const DBUS_WIRE_RULE_REASON_OPEN_QUOTE: u32 = 6;
+pub const DBUS_WIRE_RULE_REASON_BAD_VALUE: u32 = 7;
+pub const DBUS_WIRE_RULE_REASON_NOT_UTF8: u32 = 8;
 
 #[repr(C)]
 #[derive(Clone, Copy, Debug, Default)]
@@ -189,6 +199,20 @@ pub struct dbus_wire_taken {
     pub field: u32,
 }
 
+#[repr(C)]
+#[derive(Debug)]
+pub struct dbus_wire_rule {
+    pub inner: *mut c_void,
+}
+
+#[repr(C)]
+#[derive(Clone, Copy, Debug, Default)]
+pub struct dbus_wire_rule_refused {
+    pub offset: u64,
+    pub reason: u32,
+    pub reserved: u32,
+}
+
 const _: () = assert!(size_of::<dbus_wire_limits>() == 16);
 const _: () = assert!(size_of::<dbus_wire_checked>() == 32);
 const _: () = assert!(size_of::<dbus_wire_text>() == 24);
@@ -199,6 +223,8 @@ const _: () = assert!(size_of::<dbus_wire_item>() == 80);
 const _: () = assert!(size_of::<dbus_wire_text_checked>() == 16);
 const _: () = assert!(size_of::<dbus_wire_checker>() == 8);
 const _: () = assert!(size_of::<dbus_wire_taken>() == 24);
+const _: () = assert!(size_of::<dbus_wire_rule>() == 8);
+const _: () = assert!(size_of::<dbus_wire_rule_refused>() == 16);
 
 extern "C" {
     pub fn dbus_wire_version() -> u32;
@@ -240,5 +266,19 @@ extern "C" {
     ) -> u32;
     pub fn dbus_wire_checker_restart(checker: *mut dbus_wire_checker) -> u32;
     pub fn dbus_wire_checker_free(checker: *mut dbus_wire_checker);
+    pub fn dbus_wire_rule_new(text: *const u8, length: usize, rule: *mut dbus_wire_rule, out: *mut dbus_wire_rule_refused)
+        -> u32;
+    pub fn dbus_wire_rule_matches(
+        rule: *mut dbus_wire_rule,
+        bytes: *const u8,
+        length: usize,
+        limits: *const dbus_wire_limits,
+        owners: *const u8,
+        owners_length: usize,
+        matches: *mut u32,
+    ) -> u32;
+    pub fn dbus_wire_rule_text(rule: *mut dbus_wire_rule, out: *mut u8, room: usize, length: *mut u64) -> u32;
+    pub fn dbus_wire_rule_free(rule: *mut dbus_wire_rule);
+    pub fn dbus_wire_rule_reason_name(reason: u32, out: *mut u8, room: usize) -> usize;
     pub fn dbus_wire_reason_name(reason: u32, out: *mut u8, room: usize) -> usize;
 }

@@ -3,8 +3,8 @@
 use std::thread;
 
 use dbus_wire::{
-    byteswap, check, check_text, wanted, Answer, Checker, Descriptors, Fault, Kind, Limits, Message, Order, ParseError, Reason,
-    SwapError, Taken, TextFault, TextKind, Value, Values,
+    byteswap, check, check_text, wanted, Answer, Checker, Descriptors, Fault, Kind, Limits, Message, Order, Owners, ParseError,
+    Reason, Rule, RuleError, RuleReason, SwapError, Taken, TextFault, TextKind, Value, Values,
 };
 
 const CAPTURES: [&[u8]; 2] = [include_bytes!("../../samples/session.dbus"), include_bytes!("../../samples/big-endian.dbus")];
@@ -312,4 +312,33 @@ fn texts_are_of_their_kinds() {
     assert_eq!(check_text(TextKind::SingleType, b"a{sv}u"), Err(TextFault::Bad { at: 5 }));
     assert_eq!(check_text(TextKind::Member, &[b'a'; 256]), Err(TextFault::TooLong));
     assert_eq!(check_text(TextKind::String, b""), Ok(""));
+}
+
+#[test]
+fn rules_match_messages_by_their_keys_and_owners() {
+    let bytes = signal("s", b"\x02\0\0\0hi\0");
+    let message = Message::parse(&bytes).unwrap();
+    let mut owners = Owners::default();
+    let holds = |text: &str, owners: &Owners| Rule::parse(text).unwrap().matches(&message, owners).unwrap();
+    for (text, right) in [("", true), ("type='signal',arg0='hi'", true), ("member='E'", false), ("sender='org.a.B'", false)] {
+        assert_eq!(holds(text, &owners), right, "{text}");
+    }
+    owners.add("org.a.B", ":1.2").unwrap();
+    assert!(holds("sender='org.a.B'", &owners));
+    assert_eq!(owners.add("org.a.B\nx", ":1.2"), Err(TextFault::Bad { at: 7 }));
+    assert!(!holds("sender='org.a.C'", &owners));
+}
+
+#[test]
+fn rules_have_a_canonical_text_or_a_fault() {
+    let long = format!("arg0='{}',type=error", "x".repeat(1000));
+    let text = Rule::parse(&long).unwrap().to_text().unwrap();
+    assert_eq!(text, format!("type='error',arg0='{}'", "x".repeat(1000)));
+    let mut rule = thread::spawn(move || Rule::parse(&text).unwrap()).join().unwrap();
+    assert!(!rule.matches(&Message::parse(&signal("", b"")).unwrap(), &Owners::default()).unwrap());
+    for (text, at, reason) in [("a", 1, RuleReason::NoEquals), ("arg0='a", 5, RuleReason::OpenQuote), ("a\0", 1, RuleReason::Nul)]
+    {
+        let Err(RuleError::Refused(fault)) = Rule::parse(text) else { panic!("{text}") };
+        assert_eq!((fault.at, fault.reason), (at, reason));
+    }
 }

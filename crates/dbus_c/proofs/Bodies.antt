@@ -1,5 +1,5 @@
 -- The body of a message that is validated, at a cursor.
-use Rattle.std.proofs.Common.{◌≡◌, ℕ, ◌+◌, ◌<◌, ◌≤◌, ◌^◌, Bool, true, false, if◌then◌else◌, List, [], ◌∷◌, ◌++◌, length, take, drop, Some, nat_eq, refl, sym, ap, subst, ◌∙◌, arith, inl, append_assoc, append-nil}
+use Rattle.std.proofs.Common.{◌≡◌, ℕ, ◌+◌, ◌≤◌, Bool, true, false, if◌then◌else◌, List, [], ◌∷◌, ◌++◌, length, take, drop, Some, nat_eq, refl, sym, ap, subst, ◌∙◌, arith, inl, append_assoc}
 use Rattle.std.proofs.lemmas.List.{length-drop, length-take-le, take-append-drop, take-append-le, drop-append-le}
 use Rattle.dbus_texts.specs.Kinds.{IsKind}
 use Rattle.dbus_texts.specs.declared.text_kind.TextKind.TheVariants.{Signature}
@@ -18,7 +18,7 @@ use Rattle.dbus_validate.specs.Validating.{IsValidatedFirst}
 use Rattle.dbus_walk.specs.Standing.{AllStand}
 use Rattle.dbus_walk.proofs.MessageParts.{body_stands}
 use Rattle.dbus_walk.proofs.Signed.{array_signed}
-use Rattle.dbus_cursor.specs.Cursors.{AreAt, types_at}
+use Rattle.dbus_cursor.specs.Cursors.{types_at}
 use Rattle.dbus_cursor.specs.declared.cursor.Cursor.{Cursor}
 use Rattle.dbus_c.specs.BodyCursors.{IsAtBody}
 use Rattle.dbus_c.specs.Parting.{IsPlaceOf}

@@ -5,3 +5,5 @@ pub mod Swapped
 pub mod Fronts
 pub mod Bodies
 pub mod Outcomes
+pub mod OwnerLines
+pub mod RuleTelling

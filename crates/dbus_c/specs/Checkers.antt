@@ -1,19 +1,18 @@
 -- What is told by numbers of a checker that is handed one piece after another.
 -- D-Bus Specification, "Message Protocol".
-use Rattle.std.specs.Prelude.{◌≡◌, ℕ, List, length, Option, Some, None}
+use Rattle.std.specs.Prelude.{◌≡◌, ℕ, List, length, Option, Some, None, Bool, if◌then◌else◌}
 use Rattle.dbus_value_model.specs.declared.limits.Limits.{Limits}
-use Rattle.dbus_value_model.specs.declared.fault.Fault.{Fault}
-use Rattle.dbus_check.specs.Checks.{CheckerState, limits_of}
 use Rattle.dbus_check.specs.declared.check.Check.{Check}
 use Rattle.dbus_check.specs.declared.check.Check.TheVariants as check
-use Rattle.dbus_c_checker.specs.Handling.{Handed, IsFresh}
+use Rattle.dbus_c_handle.specs.Checkers.{Handed, IsFresh, Restarted, checker_of}
+use Rattle.dbus_c_handle.specs.declared.kept.Kept.{Kept}
 use Rattle.dbus_c.specs.ReasonNumbers.{reason_number, field_named}
 use Rattle.dbus_c.specs.declared.answers.TheConstants.{WHOLE, PARTIAL, REFUSED, NO_MEMORY, NO_CHECKER}
 use Rattle.dbus_c.specs.declared.checkers.Taken.{Taken}
 
--- a checker is made, under the limits; or memory ran out, and there is none
-pub data IsMade (limits : Limits) (answer : ℕ) (new : Option CheckerState) : Type 0 where
-  made : answer ≡ WHOLE → IsFresh limits new → IsMade limits answer new
+-- a checker is made, under the limits; or memory ran out, and nothing is kept
+pub data IsMade (limits : Limits) (answer : ℕ) (new : Option Kept) : Type 0 where
+  made : answer ≡ WHOLE → IsFresh limits (checker_of new) → IsMade limits answer new
   no_memory : answer ≡ NO_MEMORY → new ≡ None → IsMade limits answer new
 
 -- the number of a checker's answer
@@ -34,12 +33,13 @@ IsTold None m answer old new = (answer ≡ NO_CHECKER) × (new ≡ old)
 IsTold (Some check) m answer old new = (answer ≡ answer_of check) × (new ≡ taken_told check m)
 
 -- a piece is handed to the checker, and what it answers is told
-pub record TellsPiece (before after : Option CheckerState) (piece : List ℕ) (answer : ℕ) (old new : Taken) : Type 0 where
+pub record TellsPiece (before after : Option Kept) (piece : List ℕ) (answer : ℕ) (old new : Taken) : Type 0 where
   pub check : Option Check
   pub handed : Handed before after piece check
   pub is_told : IsTold check (length piece) answer old new
 
 -- the checker begins again, under its limits; or there is none
-abbrev pub IsRestarted : Option CheckerState → Option CheckerState → ℕ → Type 0
-IsRestarted None new answer = (answer ≡ NO_CHECKER) × (new ≡ None)
-IsRestarted (Some x) new answer = (answer ≡ WHOLE) × IsFresh (limits_of x) new
+pub record TellsRestart (before after : Option Kept) (answer : ℕ) : Type 0 where
+  pub is_checker : Bool
+  pub restarted : Restarted before after is_checker
+  pub is_told : answer ≡ (if is_checker then WHOLE else NO_CHECKER)

@@ -11,3 +11,6 @@ pub mod Outcomes
 pub mod TextKinds
 pub mod TextChecking
 pub mod Checkers
+pub mod Owners
+pub mod RuleReasons
+pub mod Rules

@@ -24,3 +24,6 @@ pub const NO_KIND: u32 = 6;
 
 /// There is no checker: none was made, or it was freed.
 pub const NO_CHECKER: u32 = 7;
+
+/// There is no rule: none was made, or it was freed.
+pub const NO_RULE: u32 = 8;

@@ -67,7 +67,7 @@ pub extern "C" fn dbus_wire_argument_of(
 }
 
 // A view of the message within the limits that the bytes begin with, which is validated by itself.
-fn first_view(bytes: &[u8], limits: Limits) -> Option<MessageView<'_>>
+pub(crate) fn first_view(bytes: &[u8], limits: Limits) -> Option<MessageView<'_>>
     ensures viewed { IfSome result (λ v. IsFirstView limits bytes.now v) }
     ensures none { result ≡ None → BeginsWithNone limits bytes.now }
 {

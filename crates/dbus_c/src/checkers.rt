@@ -2,13 +2,13 @@
 #![tactic(auto)]
 
 ghost use Rattle.std.specs.Prelude.{◌≡◌, None};
-ghost use Rattle.dbus_c.specs.Checkers.{IsMade, IsRestarted, TellsPiece, answer_of, taken_told};
+ghost use Rattle.dbus_c.specs.Checkers.{IsMade, TellsRestart, TellsPiece, answer_of, taken_told};
 ghost use Rattle.dbus_c.specs.GivenLimits.{limits_of};
 
 use crate::answers::{NO_CHECKER, NO_MEMORY, PARTIAL, REFUSED, WHOLE};
 use crate::checking::{fault_told, nothing_told};
 use crate::given_limits::{WireLimits, given_limits};
-use dbus_c_checker::WireChecker;
+use dbus_c_handle::WireHandle;
 use dbus_check::Check;
 use std::alloc::Global;
 
@@ -27,16 +27,16 @@ pub struct Taken {
 }
 
 /// Makes a checker that was handed nothing, and takes messages within the limits: [`WHOLE`], or [`NO_MEMORY`] if memory runs
-/// out; then there is none. It takes one block of memory, of some 40,000 bytes. A checker that the handle has is not freed.
+/// out; then there is none. It takes two blocks of memory, of some 40,000 bytes and a few. What the handle kept is not freed.
 #[unsafe(no_mangle)]
 pub extern "C" fn dbus_wire_checker_new(
     alloc: Global,
     limits: &WireLimits,
-    checker: &mut WireChecker,
+    checker: &mut WireHandle,
 ) -> u32
     ensures { IsMade (limits_of limits.now) result checker.new.state }
 {
-    match checker.make(alloc, given_limits(limits)) {
+    match checker.make_checker(alloc, given_limits(limits)) {
         Ok(()) => WHOLE,
         Err(_) => NO_MEMORY,
     }
@@ -51,7 +51,7 @@ pub extern "C" fn dbus_wire_checker_new(
 #[unsafe(no_mangle)]
 pub extern "C" fn dbus_wire_checker_take(
     alloc: Global,
-    checker: &mut WireChecker,
+    checker: &mut WireHandle,
     piece: &[u8],
     out: &mut Taken,
 ) -> u32
@@ -68,8 +68,8 @@ pub extern "C" fn dbus_wire_checker_take(
 
 /// Begins again, under the same limits: nothing was handed. [`WHOLE`]; [`NO_CHECKER`] if there is none.
 #[unsafe(no_mangle)]
-pub extern "C" fn dbus_wire_checker_restart(alloc: Global, checker: &mut WireChecker) -> u32
-    ensures { IsRestarted checker.old.state checker.new.state result }
+pub extern "C" fn dbus_wire_checker_restart(alloc: Global, checker: &mut WireHandle) -> u32
+    ensures { TellsRestart checker.old.state checker.new.state result }
 {
     if checker.restart(alloc) {
         WHOLE
@@ -80,7 +80,7 @@ pub extern "C" fn dbus_wire_checker_restart(alloc: Global, checker: &mut WireChe
 
 /// Frees the checker, if there is one: from then on there is none.
 #[unsafe(no_mangle)]
-pub extern "C" fn dbus_wire_checker_free(alloc: Global, checker: &mut WireChecker)
+pub extern "C" fn dbus_wire_checker_free(alloc: Global, checker: &mut WireHandle)
     ensures { checker.new.state ≡ None }
 {
     checker.free(alloc);

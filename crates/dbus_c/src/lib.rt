@@ -1,10 +1,10 @@
 //! The wire format for C: calls that a static library exports, over numbers and the caller's bytes. D-Bus Specification, "Message
-//! Protocol".
+//! Protocol" and "Match Rules".
 //!
 //! [`dbus_wire_check`] checks bytes, [`dbus_wire_wanted`] says how many to read, [`dbus_wire_parts_of`] and
 //! [`dbus_wire_argument_of`] give a message's parts, and [`dbus_wire_swap`] byteswaps. [`dbus_wire_body_cursor`] and
-//! [`dbus_wire_next`] give the values of its body. [`dbus_wire_checker_new`] makes a checker that is handed one piece after another; no
-//! other call takes memory.
+//! [`dbus_wire_next`] give the values of its body. [`dbus_wire_checker_new`] makes a checker that is handed one piece after another, and
+//! [`dbus_wire_rule_new`] a match rule; of the other calls those on a rule take memory too.
 //! `include/dbus_wire.h` declares them and says what a caller owes; `examples/c` has callers.
 #![tactic(auto)]
 
@@ -15,14 +15,19 @@ mod checking;
 mod cursors;
 mod given_limits;
 mod names;
+mod owners;
 mod parts;
 mod reasons;
+mod rule_reasons;
+mod rules;
 mod swapping;
 mod texts;
 mod version;
 mod wanted;
 
-pub use answers::{NO_CHECKER, NO_KIND, NO_MEMORY, NO_ROOM, NO_VALUE, PARTIAL, REFUSED, WHOLE};
+pub use answers::{
+    NO_CHECKER, NO_KIND, NO_MEMORY, NO_ROOM, NO_RULE, NO_VALUE, PARTIAL, REFUSED, WHOLE,
+};
 pub use arguments::{Argument, dbus_wire_argument_of};
 pub use checkers::{
     Taken, dbus_wire_checker_free, dbus_wire_checker_new, dbus_wire_checker_restart,
@@ -34,6 +39,13 @@ pub use given_limits::{ANY_INDEX, INDEX_BELOW_COUNT, WireLimits, dbus_wire_speci
 pub use names::{dbus_wire_reason_name, names_are_texts};
 pub use parts::{Parts, TextPlace, dbus_wire_parts_of};
 pub use reasons::{field_named, reason_number, reasons_have_one_number};
+pub use rule_reasons::{
+    NOT_UTF8, dbus_wire_rule_reason_name, rule_names_are_texts, rule_reason_number,
+};
+pub use rules::{
+    RuleRefused, dbus_wire_rule_free, dbus_wire_rule_matches, dbus_wire_rule_new,
+    dbus_wire_rule_text,
+};
 pub use swapping::dbus_wire_swap;
 pub use texts::{TextChecked, dbus_wire_text_check};
 pub use version::{VERSION, dbus_wire_version};

@@ -17,7 +17,7 @@ pub extern "C" fn dbus_wire_reason_name(reason: u32, out: &mut [u8]) -> usize
 }
 
 // Writes a text and a 0 after it at the start of the bytes, where these have room for both.
-fn put_text(text: &[u8], out: &mut [u8]) -> usize
+pub(crate) fn put_text(text: &[u8], out: &mut [u8]) -> usize
     ensures counted { result ≡ length text.now }
     ensures written { length text.now < length out.old →
         out.new ≡ text.now ++ 0 ∷ drop (length text.now + 1) out.old }

@@ -1,0 +1,24 @@
+use Rattle.std.proofs.Common.{rules, ◌≡◌, List, ℕ, refl, ap, subst, ◌∙◌}
+use Rattle.dbus_match.specs.Faults.{IsFault}
+use Rattle.dbus_match.specs.RuleReadings.{IsRuleFault}
+use Rattle.dbus_match.specs.declared.fault.RuleFault.{RuleFault}
+use Rattle.dbus_match.specs.declared.fault.RuleFault.TheVariants.{Bad}
+use Rattle.dbus_c.specs.Rules.{faulty, rule_fault_told}
+use Rattle.dbus_c.proofs.RuleTelling.{rule_made}
+use Rattle.dbus_c_handle.specs.Rules.{IsRead, rule_of}
+use Rattle.dbus_c.proofs.rules.dbus_wire_rule_new.Goals as goal
+
+pub returns-in-Ok-read : goal.returns-in-Ok-read
+returns-in-Ok-read c =
+    let state = c.make_rule-read.new.self.state in
+    let text = c.in-Ok.ensures.cases in
+    rule_made c.args.text.now state c.args.out.now (rule_of state) refl text.1 (subst (λ (w : List ℕ). IsRead w (rule_of state)) text.0 c.in-Ok-read.ensures)
+
+pub returns-in-Err-Bad : goal.returns-in-Err-Bad
+returns-in-Err-Bad c =
+    let bad = c.in-Err-Bad in
+    let text = c.in-Ok.ensures.cases in
+    let read = rw bad.is at c.make_rule-read.ensures in
+    let is : bad.field-0 ≡ Bad bad.at bad.reason = search rules in
+    let fault = subst (λ (f : RuleFault). IsRuleFault c.in-Ok.text.now f) is read.0 in
+    faulty bad.reason bad.at (subst (λ (w : List ℕ). IsFault w bad.reason bad.at) text.0 fault) text.1 read.1 refl (c.fault_at-in-Err-Bad.ensures ∙ ap (rule_fault_told bad.at) c.rule_reason_number.ensures)

@@ -1,0 +1,44 @@
+-- What the calls of a handle do to its checker, if it keeps one.
+-- D-Bus Specification, "Message Protocol".
+use Rattle.std.specs.Prelude.{◌≡◌, ℕ, List, [], ◌++◌, Option, Some, None, Bool, true, false}
+use Rattle.dbus_value_model.specs.declared.limits.Limits.{Limits}
+use Rattle.dbus_check.specs.Checks.{CheckerState, Stands, Takes, IsExact, taken, limits_of}
+use Rattle.dbus_check.specs.declared.check.Check.{Check}
+use Rattle.dbus_c_handle.specs.declared.kept.Kept.{Kept}
+use Rattle.dbus_c_handle.specs.declared.kept.Kept.TheVariants as kept
+
+-- the checker that is kept
+abbrev pub checker_of : Option Kept → Option CheckerState
+checker_of None = None
+checker_of (Some (kept.Checker b)) = Some b.value
+checker_of (Some (kept.Rule r)) = None
+
+-- there is a checker under the limits, and it was handed nothing
+abbrev pub IsFresh : Limits → Option CheckerState → Type 0
+IsFresh limits None = ⊥
+IsFresh limits (Some x) = Stands x [] × (limits_of x ≡ limits)
+
+-- a checker takes a piece, and answers it as its own contract says: of all bytes w that it took since it was made or began again
+pub record Answers (old new : CheckerState) (piece : List ℕ) (check : Check) : Type 0 where
+  pub answers : (w : List ℕ) → Stands old w → Takes (limits_of old) w piece check
+  pub exact : (w : List ℕ) → Stands old w → IsExact (limits_of old) w piece check
+  pub stands : (w : List ℕ) → Stands old w → Stands new (w ++ taken piece check)
+  pub limits : limits_of new ≡ limits_of old
+
+-- a checker x is kept, and after the call a checker that answered so
+abbrev pub AnswersIn : CheckerState → Option CheckerState → List ℕ → Option Check → Type 0
+AnswersIn x None piece answer = ⊥
+AnswersIn x (Some y) piece None = ⊥
+AnswersIn x (Some y) piece (Some check) = Answers x y piece check
+
+-- a handle is handed a piece: its checker takes it; or it keeps none, stays as it is and answers nothing
+abbrev pub Handed : Option Kept → Option Kept → List ℕ → Option Check → Type 0
+Handed (Some (kept.Checker b)) new piece answer = AnswersIn b.value (checker_of new) piece answer
+Handed None new piece answer = (new ≡ None) × (answer ≡ None)
+Handed (Some (kept.Rule r)) new piece answer = (new ≡ Some (kept.Rule r)) × (answer ≡ None)
+
+-- a handle's checker begins again, under its limits; or it keeps none, and stays as it is
+abbrev pub Restarted : Option Kept → Option Kept → Bool → Type 0
+Restarted (Some (kept.Checker b)) new answer = IsFresh (limits_of b.value) (checker_of new) × (answer ≡ true)
+Restarted None new answer = (new ≡ None) × (answer ≡ false)
+Restarted (Some (kept.Rule r)) new answer = (new ≡ Some (kept.Rule r)) × (answer ≡ false)

@@ -1,0 +1,56 @@
+//! A checker that a handle keeps.
+#![tactic(auto)]
+
+use crate::handle::WireHandle;
+use crate::kept::Kept;
+use dbus_check::{Check, Checker};
+use dbus_value_model::Limits;
+use std::alloc::{AllocError, Global};
+
+impl WireHandle {
+    ghost use Rattle.std.specs.Prelude.{◌≡◌, None, MatchResult};
+    ghost use Rattle.dbus_c_handle.specs.Checkers.{Handed, IsFresh, Restarted, checker_of};
+
+    /// Keeps a new checker, which was handed nothing and takes messages that keep these limits. An error if memory runs out:
+    /// then the handle keeps nothing. What it kept before is not freed.
+    pub fn make_checker(&mut self, alloc: Global, limits: Limits) -> Result<(), AllocError>
+        ensures { MatchResult result (λ _. IsFresh limits (checker_of self.new.state)) (λ _. self.new.state ≡ None) }
+    {
+        *self = WireHandle::none();
+        let checker = Box::new(alloc, Checker::within(limits))?;
+        *self = WireHandle::of(Box::new(alloc, Kept::Checker(checker))?);
+        Ok(())
+    }
+
+    /// Hands the checker a piece, and returns what [`Checker::take`] answers; `None` if the handle keeps no checker, and then it
+    /// stays as it is.
+    pub fn take(&mut self, alloc: Global, piece: &[u8]) -> Option<Check>
+        ensures { Handed self.old.state self.new.state piece.now result }
+    {
+        let mut kept = self.take_box(alloc)?;
+        let check = match &mut *kept {
+            Kept::Checker(checker) => Some(checker.take(piece)),
+            Kept::Rule(_) => None,
+        };
+        *self = WireHandle::of(kept);
+        check
+    }
+
+    /// Begins again, as [`Checker::restart`] does. Whether the handle keeps a checker; if not, it stays as it is.
+    pub fn restart(&mut self, alloc: Global) -> bool
+        ensures { Restarted self.old.state self.new.state result }
+    {
+        let Some(mut kept) = self.take_box(alloc) else {
+            return false;
+        };
+        let is_checker = match &mut *kept {
+            Kept::Checker(checker) => {
+                checker.restart();
+                true
+            }
+            Kept::Rule(_) => false,
+        };
+        *self = WireHandle::of(kept);
+        is_checker
+    }
+}

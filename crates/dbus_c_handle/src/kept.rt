@@ -1,0 +1,14 @@
+//! What a handle keeps.
+#![tactic(auto)]
+
+use dbus_check::Checker;
+use dbus_match::Rule;
+
+/// What a handle keeps in its block.
+#[derive(Drop)]
+pub enum Kept {
+    /// A checker of messages, in a block of its own: it is large.
+    Checker(Box<Checker>),
+    /// A match rule.
+    Rule(Rule),
+}

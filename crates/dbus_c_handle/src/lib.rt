@@ -1,0 +1,13 @@
+//! What C keeps from call to call: a handle of a checker of messages or of a match rule in a block of the heap.
+//!
+//! A further thing to keep is a further variant of [`Kept`]: the handle itself stays as it is. D-Bus Specification, "Message
+//! Protocol" and "Match Rules".
+#![tactic(auto)]
+
+mod checkers;
+mod handle;
+mod kept;
+mod rules;
+
+pub use handle::WireHandle;
+pub use kept::Kept;

@@ -1,0 +1,63 @@
+/* Writes those D-Bus messages on standard input that a match rule matches, as `dbus-wire filter RULE` does: the first word is the
+ * rule, and each further one an owner of a name, as org.a.B=:1.7. The exit status is 2 if the rule is refused, and 1 if the input is.
+ * The rule's canonical text has to make the rule that it is of. */
+#include <dbus_wire.h>
+
+#include <stdio.h>
+#include <string.h>
+
+static uint32_t make(const char *text, size_t length, struct dbus_wire_rule *rule) {
+    struct dbus_wire_rule_refused told;
+    uint8_t name[32];
+    uint32_t answer = dbus_wire_rule_new((const uint8_t *)text, length, rule, &told);
+    if (answer == DBUS_WIRE_REFUSED) {
+        dbus_wire_rule_reason_name(told.reason, name, sizeof name);
+        fprintf(stderr, "rule refused at %llu: %s\n", (unsigned long long)told.offset, (const char *)name);
+    }
+    return answer;
+}
+
+/* Whether the rule has a canonical text of which the same rule is made, which is in use from here on. */
+static int make_again(struct dbus_wire_rule *rule) {
+    static char text[1 << 16], again[1 << 16];
+    uint64_t length = 0, other = 0;
+    if (dbus_wire_rule_text(rule, NULL, 0, &length) != DBUS_WIRE_NO_ROOM ||
+        dbus_wire_rule_text(rule, (uint8_t *)text, (size_t)length, &other) != DBUS_WIRE_NO_ROOM || other != length ||
+        dbus_wire_rule_text(rule, (uint8_t *)text, (size_t)length + 1, &length) != DBUS_WIRE_OK || strlen(text) != length)
+        return 0;
+    dbus_wire_rule_free(rule);
+    return make(text, (size_t)length, rule) == DBUS_WIRE_OK &&
+           dbus_wire_rule_text(rule, (uint8_t *)again, sizeof again, &other) == DBUS_WIRE_OK && strcmp(text, again) == 0;
+}
+
+/* The owners as one text, each a line. Returns its length. */
+static size_t owner_lines(int count, char **owners, char *text, size_t room) {
+    size_t length = 0;
+    int i;
+    for (i = 0; i < count && length < room; i++) length += (size_t)snprintf(text + length, room - length, "%s\n", owners[i]);
+    return length < room ? length : 0;
+}
+
+int main(int count_of_words, char **words) {
+    static uint8_t bytes[1 << 20];
+    static char owners[1 << 16];
+    struct dbus_wire_rule rule = {0};
+    struct dbus_wire_checked told;
+    uint32_t matches = 0;
+    size_t count, at = 0, owners_length;
+
+    if (count_of_words < 2 || make(words[1], strlen(words[1]), &rule) != DBUS_WIRE_OK) return 2;
+    if (!make_again(&rule)) return 4;
+    owners_length = owner_lines(count_of_words - 2, words + 2, owners, sizeof owners);
+    count = fread(bytes, 1, sizeof bytes, stdin);
+    while (at < count && dbus_wire_check(bytes + at, count - at, NULL, &told) == DBUS_WIRE_WHOLE) {
+        if (dbus_wire_rule_matches(&rule, bytes + at, count - at, NULL, (const uint8_t *)owners, owners_length, &matches) !=
+            DBUS_WIRE_WHOLE)
+            return 3;
+        if (matches) fwrite(bytes + at, 1, (size_t)told.length, stdout);
+        at += (size_t)told.length;
+    }
+    dbus_wire_rule_free(&rule);
+    if (dbus_wire_rule_matches(&rule, bytes, at, NULL, NULL, 0, &matches) != (at > 0 ? DBUS_WIRE_NO_RULE : DBUS_WIRE_PARTIAL)) return 4;
+    return at < count;
+}

@@ -1,0 +1,110 @@
+"""Match rules."""
+
+from __future__ import annotations
+
+import ctypes
+import threading
+import weakref
+from collections.abc import Mapping
+from ctypes import byref
+from types import TracebackType
+
+from . import _library
+from ._library import NO_MEMORY, NO_ROOM, NO_RULE, REFUSED, Bytes, as_bytes, library
+from ._limits import limits_struct
+from ._messages import Message
+from ._texts import TextKind, check_text
+
+
+class BadRule(ValueError):
+    """A text spells no match rule; as a text, what `dbus-wire filter` prints of it.
+
+    `at` is the place, in bytes of the text's UTF-8. `reason` is the reason's name, as docs/MATCH-RULES.md lists them.
+    """
+
+    def __init__(self, at: int, reason: str) -> None:
+        super().__init__(at, reason)
+        self.at = at
+        self.reason = reason
+
+    def __str__(self) -> str:
+        return f"rule refused at {self.at}: {self.reason}"
+
+
+class Rule:
+    """A match rule: which messages a program wants, as type='signal',path='/a'.
+
+    As a text it is its canonical text. It may be shared by threads, whose calls wait for each other. `close`, or the end of a `with`,
+    frees it; ValueError is raised by its other calls from then on. Each call may raise MemoryError.
+
+        rule = Rule("type='signal',sender='org.a.B'")
+        wanted = [message for message in messages(capture) if rule.matches(message, {"org.a.B": ":1.7"})]
+    """
+
+    __slots__ = ("_handle", "_lock", "_free", "__weakref__")
+
+    def __init__(self, text: str | Bytes) -> None:
+        """Makes the rule that the text spells. Raises BadRule if it spells none."""
+        data = text.encode("utf-8", "surrogatepass") if isinstance(text, str) else as_bytes(text)
+        told = _library.RuleRefused()
+        self._handle = _library.Rule()
+        self._lock = threading.Lock()
+        answer = library.dbus_wire_rule_new(data, len(data), byref(self._handle), byref(told))
+        _raise_if_failed(answer)
+        if answer == REFUSED:
+            raise BadRule(told.offset, _name_of(told.reason))
+        self._free = weakref.finalize(self, library.dbus_wire_rule_free, byref(self._handle))
+
+    def matches(self, message: Message, owners: Mapping[str, str] | None = None) -> bool:
+        """Whether each key of the rule holds of the message. A `sender` that is a well-known name matches a message whose sender is
+        that name itself, or its owner's unique name by the owners. Raises ValueError if the owners have texts that are no bus names."""
+        lines, matches = _owner_lines(owners or {}), ctypes.c_uint32()
+        data = message.data
+        with self._lock:
+            answer = library.dbus_wire_rule_matches(
+                byref(self._handle), data, len(data), byref(limits_struct(None)), lines, len(lines), byref(matches)
+            )
+        _raise_if_failed(answer)
+        return bool(matches.value)
+
+    def __str__(self) -> str:
+        room, length = 256, ctypes.c_uint64()
+        while True:
+            text = ctypes.create_string_buffer(room)
+            with self._lock:
+                answer = library.dbus_wire_rule_text(byref(self._handle), text, room, byref(length))
+            _raise_if_failed(answer)
+            if answer != NO_ROOM:
+                return text.value.decode("utf-8")
+            room = length.value + 1
+
+    def close(self) -> None:
+        """Frees the rule. Once more does nothing."""
+        with self._lock:
+            self._free()
+
+    def __enter__(self) -> Rule:
+        return self
+
+    def __exit__(self, kind: type[BaseException] | None, error: BaseException | None, traceback: TracebackType | None) -> None:
+        self.close()
+
+
+def _owner_lines(owners: Mapping[str, str]) -> bytes:
+    for text in (*owners, *owners.values()):
+        if check_text(TextKind.BUS_NAME, text) is not None:
+            raise ValueError(f"{text!r} is no bus name")
+    return "".join(f"{name}={owner}\n" for name, owner in owners.items()).encode("utf-8")
+
+
+def _name_of(reason: int) -> str:
+    name = ctypes.create_string_buffer(64)
+    library.dbus_wire_rule_reason_name(reason, name, len(name))
+    return name.value.decode("ascii") or str(reason)
+
+
+def _raise_if_failed(answer: int) -> None:
+    if answer == NO_MEMORY:
+        raise MemoryError
+    if answer == NO_RULE:
+        raise ValueError("the rule is closed")
