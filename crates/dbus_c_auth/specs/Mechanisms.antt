@@ -1,0 +1,23 @@
+-- Which mechanisms are asked for and offered, by numbers.
+-- D-Bus Specification, "Authentication Protocol", "Authentication mechanisms".
+use Rattle.std.specs.Prelude.{ℕ, Bool, ◌==◌, List, [], ◌∷◌, ◌++◌, Option, Some, None, if◌then◌else◌}
+use Rattle.dbus_auth.specs.Machines.{ClientMechanism, External, Anonymous}
+use Rattle.dbus_c_auth.specs.declared.mechanisms.Mechanisms.{Mechanisms}
+use Rattle.dbus_c_auth.specs.declared.mechanisms.TheConstants.{AS_USER, AS_REPORTED}
+
+-- of a server: the user whom it lets in by EXTERNAL, and whether it offers ANONYMOUS
+abbrev pub user_reported : Mechanisms → Option ℕ
+user_reported m = if m.external == AS_USER then Some m.user else None
+
+abbrev pub is_anonymous : Mechanisms → Bool
+is_anonymous m = m.anonymous == 1
+
+-- of a client: EXTERNAL first, then ANONYMOUS with this trace
+abbrev pub external_of : Mechanisms → List ClientMechanism
+external_of m =
+    if m.external == AS_USER then External (Some m.user) ∷ []
+    else if m.external == AS_REPORTED then External None ∷ []
+    else []
+
+abbrev pub asked_for : Mechanisms → List ℕ → List ClientMechanism
+asked_for m trace = external_of m ++ (if is_anonymous m then Anonymous trace ∷ [] else [])

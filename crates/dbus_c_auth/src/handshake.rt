@@ -1,0 +1,48 @@
+//! An end of a handshake, a server's or a client's.
+#![tactic(auto)]
+
+ghost use Rattle.std.specs.Prelude.{◌≡◌, IfOk, IfErr, OnErr, length, option_map};
+ghost use Rattle.dbus_c_auth.specs.Handshakes.{guid_in, stands_as, takes};
+ghost use Rattle.dbus_c_auth.specs.Taking.{Did, IsFault};
+
+use crate::client_side::ClientSide;
+use crate::server_side::ServerSide;
+use crate::step::{Step, TakeFault};
+use dbus_auth::Guid;
+
+/// An end of a handshake.
+#[derive(Drop)]
+pub enum Handshake {
+    /// A server's.
+    Server(ServerSide),
+    /// A client's.
+    Client(ClientSide),
+}
+
+impl Handshake {
+    /// Hands the end a piece, as [`ServerSide::take`] and [`ClientSide::take`] do, and writes what it sends to the start of the room.
+    ///
+    /// Returns `Room` if there is less room than [`crate::REPLY_ROOM`], and `Memory` if an allocation failed. Nothing is changed
+    /// then.
+    pub fn take(&mut self, piece: &[u8], reply: &mut [u8]) -> Result<Step, TakeFault>
+        ensures did { IfOk result (λ s.
+            Did s self.new reply.old reply.new (takes self.old piece.now) stands_as) }
+        ensures fault { IfErr result (λ f. IsFault f (length reply.old)) }
+        ensures same { OnErr result ((self.new ≡ self.old) × (reply.new ≡ reply.old)) }
+    {
+        match self {
+            Handshake::Server(server) => server.take(piece, reply),
+            Handshake::Client(client) => client.take(piece, reply),
+        }
+    }
+
+    /// The server's GUID, of a client that has begun.
+    pub fn guid(&self) -> Option<Guid>
+        ensures { option_map (λ g. g.0) result ≡ guid_in self.now }
+    {
+        match self {
+            Handshake::Server(_) => None,
+            Handshake::Client(client) => client.guid(),
+        }
+    }
+}
