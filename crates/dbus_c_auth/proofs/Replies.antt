@@ -1,5 +1,5 @@
 -- What an end sends is short, and it stays an end of the same server or of a client of some mechanisms.
-use Rattle.std.proofs.Common.{◌≡◌, ℕ, ◌+◌, ◌*◌, ◌^◌, ◌<◌, ◌≤◌, ◌&&◌, ◌||◌, Bool, true, false, List, [], ◌∷◌, ◌++◌, length, Option, Some, None, if◌then◌else◌, ◌==◌, refl, sym, ap, ◌∙◌, subst, arith, lit≤, length-append}
+use Rattle.std.proofs.Common.{◌≡◌, ℕ, ◌^◌, ◌<◌, ◌≤◌, ◌&&◌, ◌||◌, Bool, true, false, List, [], ◌∷◌, ◌++◌, length, Option, Some, None, if◌then◌else◌, ◌==◌, refl, sym, ap, ◌∙◌, subst, arith, lit≤, length-append}
 use Rattle.std.specs.Prelude.{codes, bytes_eq, decimal, take, ◌-◌, Result, Ok, Err, IfOk, OnErr}
 use Rattle.std.specs.List.{AllByRecursion}
 use Rattle.std.proofs.lemmas.Fmt.{length-decimal-le}
@@ -7,10 +7,10 @@ use Rattle.dbus_auth_lines.specs.ClientCommands.{ClientCommand}
 use Rattle.dbus_auth_lines.specs.ClientCommands as client
 use Rattle.dbus_auth_lines.specs.ServerCommands.{ServerCommand}
 use Rattle.dbus_auth_lines.specs.ServerCommands as server
-use Rattle.dbus_auth_lines.specs.Lines.{hex_word, server_line, client_line, ended, crlf, client_meaning, server_meaning}
+use Rattle.dbus_auth_lines.specs.Lines.{hex_word, server_line, client_line, ended, crlf, server_meaning}
 use Rattle.dbus_auth_lines.specs.Cut.{Cut, Ends, Bad, More, cut}
 use Rattle.dbus_auth_lines.proofs.PrintedWords.{length-hex_word}
-use Rattle.dbus_auth.specs.Machines.{ServerMachine, ServerStep, IsServer, server_step, server_step_at, by_mechanism, rejects, accepts, replies, mechanisms, is_user, is_empty, offers_external, external_words, ClientMachine, ClientMechanism, External, Anonymous, ClientStep, client_step, client_step_at, auth_line, next_of}
+use Rattle.dbus_auth.specs.Machines.{ServerMachine, ServerStep, IsServer, server_step, server_step_at, by_mechanism, rejects, accepts, replies, is_user, is_empty, offers_external, external_words, ClientMachine, ClientMechanism, External, Anonymous, ClientStep, client_step, client_step_at, auth_line, next_of}
 use Rattle.dbus_auth.specs.Mechanisms.{IsMechanism}
 use Rattle.dbus_auth.specs.Ends.{ServerEndState, EndOutcome, server_takes, server_cuts, server_sends, server_first, server_talks, server_takes_at, ClientEndState, client_sends, client_greets, client_status, client_cuts, client_takes, client_takes_at, client_starts}
 use Rattle.dbus_c_auth.specs.Taking.{client_goes_on, client_goes_on_at}

@@ -1,11 +1,33 @@
 -- What an end of a handshake does, a server's or a client's.
 -- D-Bus Specification, "Authentication Protocol".
-use Rattle.std.specs.Prelude.{ℕ, List, Option, None}
+use Rattle.std.specs.Prelude.{◌≡◌, ℕ, List, Option, Some, None, Result, Ok, Err, nat_le, length, if◌then◌else◌, option_map}
 use Rattle.dbus_auth.specs.Ends.{ServerEndState, ClientEndState, EndOutcome, server_takes}
 use Rattle.dbus_auth.specs.declared.end_step.Status.{Status}
-use Rattle.dbus_c_auth.specs.Taking.{client_goes_on}
+use Rattle.dbus_auth.specs.World.{server_at_first, client_at_first}
+use Rattle.dbus_auth.specs.declared.states.ServerState.TheVariants as at
+use Rattle.dbus_c_auth.specs.GuidTexts.{guid_spelled}
+use Rattle.dbus_c_auth.specs.Mechanisms.{user_reported, is_anonymous, asked_for}
+use Rattle.dbus_c_auth.specs.Taking.{Did, IsFault, client_goes_on}
+use Rattle.dbus_c_auth.specs.declared.mechanisms.Mechanisms.{Mechanisms}
+use Rattle.dbus_c_auth.specs.declared.step.Step.{Step}
+use Rattle.dbus_c_auth.specs.declared.step.TakeFault.{TakeFault}
 use Rattle.dbus_c_auth.specs.declared.handshake.Handshake.{Handshake}
 use Rattle.dbus_c_auth.specs.declared.handshake.Handshake.TheVariants as end
+
+-- the end of a server of this GUID that was handed nothing, and offers these mechanisms
+abbrev pub server_of : List ℕ → Mechanisms → ServerEndState
+server_of guid m = server_at_first (record { guid = guid; user = user_reported m; anonymous = is_anonymous m; state = at.WaitingForAuth })
+
+-- the end of a client that has not started, and asks for these mechanisms; there is none if the trace of ANONYMOUS is too long
+abbrev pub client_of : Mechanisms → List ℕ → Option ClientEndState
+client_of m trace = if nat_le (length trace) 255 then Some (client_at_first (asked_for m trace)) else None
+
+-- the same, as ends of handshakes: the server's GUID is given by its text
+abbrev pub server_made : List ℕ → Mechanisms → Option Handshake
+server_made text m = option_map (λ guid. end.Server (server_of guid m)) (guid_spelled text)
+
+abbrev pub client_made : Mechanisms → List ℕ → Option Handshake
+client_made m trace = option_map end.Client (client_of m trace)
 
 abbrev pub served : EndOutcome ServerEndState → EndOutcome Handshake
 served o = record { after = end.Server o.after; taken = o.taken; send = o.send }
@@ -26,3 +48,8 @@ stands_as (end.Client e) = e.status
 abbrev pub guid_in : Handshake → Option (List ℕ)
 guid_in (end.Server e) = None
 guid_in (end.Client e) = e.client.guid
+
+-- an end takes a piece, and what it sends is written to the room; or nothing is changed
+abbrev pub TakesIn : Handshake → Handshake → List ℕ → List ℕ → List ℕ → Result Step TakeFault → Type 0
+TakesIn old new piece old_room new_room (Ok s) = Did s new old_room new_room (takes old piece) stands_as
+TakesIn old new piece old_room new_room (Err f) = IsFault f (length old_room) × (new ≡ old) × (new_room ≡ old_room)

@@ -14,6 +14,7 @@ IsStep s taken send status = (s.count ≡ taken) × (s.written ≡ length send) 
 
 -- an end did this with its piece, and what it sends stands at the start of the room, whose other bytes stay
 pub record Did {E : Type 0} (s : Step) (new : E) (old_room new_room : List ℕ) (outcome : EndOutcome E) (status_of : E → Status) : Type 0 where
+  pub room : REPLY_ROOM ≤ length old_room
   pub step : IsStep s outcome.taken outcome.send (status_of outcome.after)
   pub after : new ≡ outcome.after
   pub written : new_room ≡ outcome.send ++ drop (length outcome.send) old_room

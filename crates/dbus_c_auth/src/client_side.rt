@@ -1,13 +1,12 @@
 //! A client's end that writes what it sends to room of its caller's.
 #![tactic(auto)]
 
-ghost use Rattle.std.specs.Prelude.{◌≡◌, ◌<◌, ◌≤◌, ℕ, IfOk, IfErr, OnErr, MatchOption, length, option_map, if◌then◌else◌};
+ghost use Rattle.std.specs.Prelude.{◌≡◌, ◌<◌, ◌≤◌, ℕ, IfOk, IfErr, OnErr, length, option_map, if◌then◌else◌};
 ghost use Rattle.dbus_auth.specs.ClientEndViews.{DidClientStep};
 ghost use Rattle.dbus_auth.specs.Machines.{is_empty};
 ghost use Rattle.dbus_auth.specs.declared.end_step.Status.TheVariants as status;
-ghost use Rattle.dbus_auth.specs.World.{client_at_first};
 ghost use Rattle.dbus_c_auth.specs.declared.step.TheConstants.{REPLY_ROOM};
-ghost use Rattle.dbus_c_auth.specs.Mechanisms.{asked_for};
+ghost use Rattle.dbus_c_auth.specs.Handshakes.{client_of};
 ghost use Rattle.dbus_c_auth.specs.Taking.{Did, IsFault, client_goes_on};
 
 use crate::mechanisms::Mechanisms;
@@ -47,17 +46,13 @@ impl Model for ClientSide {
 impl ClientSide {
     /// The end of a client that has not started, and asks for these mechanisms, with this trace of ANONYMOUS.
     ///
-    /// Returns `None` if the trace has over 255 bytes and is asked with, and `AllocError` if an allocation failed.
+    /// Returns `None` if the trace has over 255 bytes, and `AllocError` if an allocation failed.
     pub fn new(
         alloc: Global,
         mechanisms: &Mechanisms,
         trace: &[u8],
     ) -> Result<Option<Self>, AllocError>
-        ensures { IfOk result (λ made. MatchOption made
-            (255 < length trace.now)
-            (λ c.
-            (length trace.now ≤ 255) ×
-            (c ≡ client_at_first (asked_for mechanisms.now trace.now)))) }
+        ensures { IfOk result (λ made. made ≡ client_of mechanisms.now trace.now) }
     {
         if trace.len() > 255 {
             return Ok(None);

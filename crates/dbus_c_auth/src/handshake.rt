@@ -1,9 +1,8 @@
 //! An end of a handshake, a server's or a client's.
 #![tactic(auto)]
 
-ghost use Rattle.std.specs.Prelude.{◌≡◌, IfOk, IfErr, OnErr, length, option_map};
-ghost use Rattle.dbus_c_auth.specs.Handshakes.{guid_in, stands_as, takes};
-ghost use Rattle.dbus_c_auth.specs.Taking.{Did, IsFault};
+ghost use Rattle.std.specs.Prelude.{◌≡◌, option_map};
+ghost use Rattle.dbus_c_auth.specs.Handshakes.{TakesIn, guid_in};
 
 use crate::client_side::ClientSide;
 use crate::server_side::ServerSide;
@@ -25,10 +24,7 @@ impl Handshake {
     /// Returns `Room` if there is less room than [`crate::REPLY_ROOM`], and `Memory` if an allocation failed. Nothing is changed
     /// then.
     pub fn take(&mut self, piece: &[u8], reply: &mut [u8]) -> Result<Step, TakeFault>
-        ensures did { IfOk result (λ s.
-            Did s self.new reply.old reply.new (takes self.old piece.now) stands_as) }
-        ensures fault { IfErr result (λ f. IsFault f (length reply.old)) }
-        ensures same { OnErr result ((self.new ≡ self.old) × (reply.new ≡ reply.old)) }
+        ensures { TakesIn self.old self.new piece.now reply.old reply.new result }
     {
         match self {
             Handshake::Server(server) => server.take(piece, reply),

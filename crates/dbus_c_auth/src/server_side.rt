@@ -3,9 +3,7 @@
 
 ghost use Rattle.std.specs.Prelude.{◌≡◌, ◌<◌, ◌≤◌, ℕ, IfOk, IfErr, OnErr, length};
 ghost use Rattle.dbus_auth.specs.Ends.{server_takes};
-ghost use Rattle.dbus_auth.specs.World.{server_at_first};
-ghost use Rattle.dbus_auth.specs.declared.states.ServerState.TheVariants as at;
-ghost use Rattle.dbus_c_auth.specs.Mechanisms.{is_anonymous, user_reported};
+ghost use Rattle.dbus_c_auth.specs.Handshakes.{server_of};
 ghost use Rattle.dbus_c_auth.specs.Taking.{Did, IsFault};
 
 use crate::mechanisms::Mechanisms;
@@ -40,14 +38,7 @@ impl Model for ServerSide {
 impl ServerSide {
     /// The end of a server of this GUID that offers these mechanisms. It allocates nothing yet.
     pub fn new(alloc: Global, guid: Guid, mechanisms: &Mechanisms) -> Self
-        ensures { result ≡
-            server_at_first
-            (record {
-              guid = guid.0;
-              user = user_reported mechanisms.now;
-              anonymous = is_anonymous mechanisms.now;
-              state = at.WaitingForAuth;
-            }) }
+        ensures { result ≡ server_of guid.0 mechanisms.now }
     {
         let server = Server::new(
             guid,

@@ -1,6 +1,4 @@
-use Rattle.std.proofs.Common.{rules, ◌≡◌, ◌<◌, ◌≤◌, ◌++◌, ◌*◌, ℕ, drop, length, true, false, List, arith, length-take, ap, ◌∙◌, sym, true≢false}
-use Rattle.std.specs.Prelude.{IsOk}
-use Rattle.dbus_c_auth.specs.declared.guid_text.TheConstants.{GUID_ROOM}
+use Rattle.std.proofs.Common.{rules, ◌≡◌, ℕ, length, arith, length-take}
 use Rattle.dbus_c_auth.proofs.guid_text.write_guid.Goals as goal
 
 pub returns-clause-no_room : goal.returns-clause-no_room

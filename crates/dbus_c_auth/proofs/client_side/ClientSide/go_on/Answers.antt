@@ -1,12 +1,11 @@
-use Rattle.std.proofs.Common.{◌≡◌, ◌∙◌, ◌≤◌, List, ℕ, length, true, false, subst, sym, ap, refl, if◌then◌else◌}
+use Rattle.std.proofs.Common.{◌≡◌, ◌∙◌, ◌≤◌, List, ℕ, length, true, false, subst, sym, ap, if◌then◌else◌}
 use Rattle.std.specs.List.{AllByRecursion}
 use Rattle.std.proofs.Common.{Global}
 use Rattle.dbus_auth.specs.Mechanisms.{IsMechanism}
 use Rattle.dbus_auth.specs.Machines.{is_empty}
 use Rattle.dbus_auth.specs.ClientEndViews.{client_end_state, DidClientStep}
-use Rattle.dbus_auth.specs.Ends.{ClientEndState, EndOutcome, client_takes, client_starts}
+use Rattle.dbus_auth.specs.Ends.{ClientEndState, EndOutcome, client_takes}
 use Rattle.dbus_auth.specs.declared.end_step.EndStep.{EndStep}
-use Rattle.dbus_auth.specs.declared.end_step.Status.{Status}
 use Rattle.dbus_auth.specs.declared.end_step.Status.TheVariants as status
 use Rattle.dbus_c_auth.specs.declared.step.TheConstants.{REPLY_ROOM}
 use Rattle.dbus_c_auth.proofs.Replies.{client_reply, left_after, short_after, starts_as, first_call}
