@@ -12,6 +12,7 @@ abbrev pub checker_of : Option Kept → Option CheckerState
 checker_of None = None
 checker_of (Some (kept.Checker b)) = Some b.value
 checker_of (Some (kept.Rule r)) = None
+checker_of (Some (kept.Handshake h)) = None
 
 -- there is a checker under the limits, and it was handed nothing
 abbrev pub IsFresh : Limits → Option CheckerState → Type 0
@@ -36,9 +37,11 @@ abbrev pub Handed : Option Kept → Option Kept → List ℕ → Option Check �
 Handed (Some (kept.Checker b)) new piece answer = AnswersIn b.value (checker_of new) piece answer
 Handed None new piece answer = (new ≡ None) × (answer ≡ None)
 Handed (Some (kept.Rule r)) new piece answer = (new ≡ Some (kept.Rule r)) × (answer ≡ None)
+Handed (Some (kept.Handshake h)) new piece answer = (new ≡ Some (kept.Handshake h)) × (answer ≡ None)
 
 -- a handle's checker begins again, under its limits; or it keeps none, and stays as it is
 abbrev pub Restarted : Option Kept → Option Kept → Bool → Type 0
 Restarted (Some (kept.Checker b)) new answer = IsFresh (limits_of b.value) (checker_of new) × (answer ≡ true)
 Restarted None new answer = (new ≡ None) × (answer ≡ false)
 Restarted (Some (kept.Rule r)) new answer = (new ≡ Some (kept.Rule r)) × (answer ≡ false)
+Restarted (Some (kept.Handshake h)) new answer = (new ≡ Some (kept.Handshake h)) × (answer ≡ false)

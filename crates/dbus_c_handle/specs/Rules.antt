@@ -16,6 +16,7 @@ use Rattle.dbus_c_handle.specs.declared.kept.Kept.TheVariants as kept
 abbrev pub rule_of : Option Kept → Option (List Pair)
 rule_of None = None
 rule_of (Some (kept.Checker b)) = None
+rule_of (Some (kept.Handshake h)) = None
 rule_of (Some (kept.Rule r)) = Some (rule_pairs r)
 
 -- there is a rule, and the text spells it

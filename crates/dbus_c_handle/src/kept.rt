@@ -1,6 +1,7 @@
 //! What a handle keeps.
 #![tactic(auto)]
 
+use dbus_c_auth::Handshake;
 use dbus_check::Checker;
 use dbus_match::Rule;
 
@@ -11,4 +12,6 @@ pub enum Kept {
     Checker(Box<Checker>),
     /// A match rule.
     Rule(Rule),
+    /// An end of a handshake.
+    Handshake(Handshake),
 }

@@ -6,6 +6,7 @@
 
 mod checkers;
 mod handle;
+mod handshakes;
 mod kept;
 mod rules;
 

@@ -33,7 +33,7 @@ impl WireHandle {
         let kept = self.take_box(alloc)?;
         let answer = match &*kept {
             Kept::Rule(rule) => Some(matches_view(rule, view, owners)),
-            Kept::Checker(_) => None,
+            Kept::Checker(_) | Kept::Handshake(_) => None,
         };
         *self = WireHandle::of(kept);
         answer
@@ -47,7 +47,7 @@ impl WireHandle {
         let kept = self.take_box(alloc)?;
         let text = match &*kept {
             Kept::Rule(rule) => Some(rule_text(alloc, rule)),
-            Kept::Checker(_) => None,
+            Kept::Checker(_) | Kept::Handshake(_) => None,
         };
         *self = WireHandle::of(kept);
         text

@@ -1,0 +1,98 @@
+//! An end of a handshake that a handle keeps.
+#![tactic(auto)]
+
+use crate::handle::WireHandle;
+use crate::kept::Kept;
+use dbus_auth::Guid;
+use dbus_c_auth::{ClientSide, Handshake, Mechanisms, ServerSide, Step, TakeFault, guid_of};
+use std::alloc::{AllocError, Global};
+
+impl WireHandle {
+    ghost use Rattle.std.specs.Prelude.{◌≡◌, None, MatchResult, is_some};
+    ghost use Rattle.dbus_c_auth.specs.Handshakes.{client_made, server_made};
+    ghost use Rattle.dbus_c_handle.specs.Handshakes.{Goes, TellsGuid, kept_as};
+
+    /// Keeps the end of a new server, of the GUID that the text spells, which offers these mechanisms. Whether the text spells one;
+    /// if not, the handle keeps nothing. An error if memory runs out: then it keeps nothing either. What it kept before is not freed.
+    pub fn make_server(
+        &mut self,
+        alloc: Global,
+        guid: &[u8],
+        mechanisms: &Mechanisms,
+    ) -> Result<bool, AllocError>
+        ensures { MatchResult result
+            (λ made.
+            (made ≡ is_some (server_made guid.now mechanisms.now)) ×
+            (self.new.state ≡ kept_as (server_made guid.now mechanisms.now)))
+            (λ _. self.new.state ≡ None) }
+    {
+        *self = WireHandle::none();
+        match guid_of(guid) {
+            None => Ok(false),
+            Some(guid) => {
+                let server = Handshake::Server(ServerSide::new(alloc, guid, mechanisms));
+                *self = WireHandle::of(Box::new(alloc, Kept::Handshake(server))?);
+                Ok(true)
+            }
+        }
+    }
+
+    /// Keeps the end of a new client that asks for these mechanisms, with this trace of ANONYMOUS. Whether the trace has at most 255
+    /// bytes; if not, the handle keeps nothing. An error if memory runs out: then it keeps nothing either. What it kept before is not
+    /// freed.
+    pub fn make_client(
+        &mut self,
+        alloc: Global,
+        mechanisms: &Mechanisms,
+        trace: &[u8],
+    ) -> Result<bool, AllocError>
+        ensures { MatchResult result
+            (λ made.
+            (made ≡ is_some (client_made mechanisms.now trace.now)) ×
+            (self.new.state ≡ kept_as (client_made mechanisms.now trace.now)))
+            (λ _. self.new.state ≡ None) }
+    {
+        *self = WireHandle::none();
+        match ClientSide::new(alloc, mechanisms, trace)? {
+            None => Ok(false),
+            Some(client) => {
+                let client = Handshake::Client(client);
+                *self = WireHandle::of(Box::new(alloc, Kept::Handshake(client))?);
+                Ok(true)
+            }
+        }
+    }
+
+    /// Hands the end a piece, and writes what it sends to the room, as [`Handshake::take`] does; `None` if the handle keeps no end, and
+    /// then it stays as it is.
+    pub fn go_on(
+        &mut self,
+        alloc: Global,
+        piece: &[u8],
+        reply: &mut [u8],
+    ) -> Option<Result<Step, TakeFault>>
+        ensures { Goes self.old.state self.new.state piece.now reply.old reply.new result }
+    {
+        let mut kept = self.take_box(alloc)?;
+        let answer = match &mut *kept {
+            Kept::Handshake(handshake) => Some(handshake.take(piece, reply)),
+            _ => None,
+        };
+        *self = WireHandle::of(kept);
+        answer
+    }
+
+    /// The server's GUID, of a client that has begun; `None` if the handle keeps no end.
+    pub fn guid(&mut self, alloc: Global) -> Option<Option<Guid>>
+        ensures same { self.new.state ≡ self.old.state }
+        ensures guid { TellsGuid self.old.state result }
+    {
+        let kept = self.take_box(alloc)?;
+        let answer = match &*kept {
+            Kept::Handshake(handshake) => Some(handshake.guid()),
+            _ => None,
+        };
+        *self = WireHandle::of(kept);
+        answer
+    }
+}
