@@ -1,7 +1,7 @@
 #!/usr/bin/env python3
 """tables.py HABITS TEXTS PROGRAM: compares the header's numbers with the crates' and the program's.
 
-The numbers of message types, flags, header fields, answers and rules on indexes are those of the crates' constants, and those of kinds
+The numbers of message types, flags, header fields, answers, mechanisms, rooms and rules on indexes are those of the crates' constants, and those of kinds
 of text are those of `kind_of` in dbus_c. The names of reasons, as HABITS prints them, are those of the header's constants. The version is the
 program's. What TEXTS says of the cases of names and signatures (docs/CASES.md) is what these say. The exit status is 1 if not.
 """
@@ -19,8 +19,11 @@ CONSTANTS = (
     ("TYPE_", "dbus_message_model/src/message_type.rt"),
     ("FLAG_", "dbus_message_model/src/flag.rt"),
     ("FIELD_", "dbus_message_model/src/field_code.rt"),
+    ("EXTERNAL_", "dbus_c_auth/src/mechanisms.rt"),
 )
 ANSWERS = "dbus_c/src/answers.rt"
+# What a caller has to have room for, and the crate's constant.
+ROOMS = (("REPLY_ROOM", "dbus_c_auth/src/step.rt"), ("GUID_LENGTH", "dbus_c_auth/src/guid_text.rt"))
 # The header's name of an answer that means the same as another.
 ALIASES = {"OK": 0}
 # How the header and the cases call the kinds that the crates call otherwise.
@@ -45,6 +48,10 @@ def of_prefix(numbers, prefix):
 def constants(path):
     text = (ROOT / "crates" / path).read_text()
     return {name: int(number) for name, number in re.findall(r"pub const (\w+): u\d+ = (\d+);", text)}
+
+
+def room(path):
+    return int(re.search(r"pub const \w+_ROOM: usize = (\d+);", (ROOT / "crates" / path).read_text())[1])
 
 
 def kinds():
@@ -99,6 +106,8 @@ def main(habits, texts, program):
     version = ".".join(re.findall(r"#define DBUS_WIRE_VERSION_[A-Z]+ (\d+)", header))
     if run(program, "--version")[0].split()[-1] != version:
         wrong.append(f"the header has the version {version}, not that of {program}")
+    for name, path in ROOMS:
+        hold(name, {name: int(re.search(rf"#define DBUS_WIRE_{name} (\d+)", header)[1])}, {name: room(path)})
     wrong += differing_texts(texts, text_kinds)
     print("\n".join(wrong) or "the header's numbers are the crates'")
     return 1 if wrong else 0

@@ -2,7 +2,7 @@
 # test.sh PROGRAM ARCHIVE SHARED: builds the examples over the archive, and compares what they write with what `PROGRAM check` does:
 # of the captures in samples/ and of messages of which a byte is changed; the C example once more under AddressSanitizer, and over
 # the shared library. Compares the header's numbers with the crates', and what is said of texts with the cases of texts. Runs the fuzz
-# target over the captures and changed copies of their messages; tests the Rust crate, and compares what its examples write.
+# target over the captures and changed copies of their messages; shakes hands with a bus and with a client, if they are there; tests the Rust crate, and compares what its examples write.
 set -eu
 program=$1 archive=$2 shared=$3
 here=$(cd "$(dirname "$0")" && pwd)
@@ -33,6 +33,22 @@ for sample in session big-endian; do
 	for name in room threads; do "$built/$name" < "$here/../samples/$sample.dbus"; done
 	for length in 1 64 4096; do "$built/pieces" $length < "$here/../samples/$sample.dbus"; done
 done
+# Both ends of a handshake: one with the other, a client with a bus, and a server with a client of libdbus.
+"$CC" $sanitized -D_GNU_SOURCE -o "$built/handshake" "$here/c/handshake.c" -L"$built" -ldbus_wire
+for length in 1 7 4096; do "$built/handshake" pieces $length; done
+sockets=$(mktemp -d)
+if command -v dbus-daemon > /dev/null; then
+	bus=$(dbus-daemon --session --fork --print-pid --address="unix:path=$sockets/bus")
+	"$built/handshake" client "$sockets/bus" || { kill "$bus"; exit 1; }
+	kill "$bus"
+fi
+if command -v dbus-send > /dev/null; then
+	timeout 20 "$built/handshake" server "$sockets/peer" & server=$!
+	while test ! -S "$sockets/peer"; do sleep 0.1; done
+	dbus-send --peer="unix:path=$sockets/peer" --type=signal /a b.c.Greeting
+	wait "$server"
+fi
+rm -rf "$sockets"
 # A checker for which there is no memory is not made.
 "$CC" -std=c99 -O2 $flags -o "$built/pieces_plain" "$here/c/pieces.c" -L"$built" -ldbus_wire
 "$CC" -shared -fPIC -o "$built/refuse_nth.so" "$here/../bench/refuse_nth.c" -ldl

@@ -26,6 +26,7 @@ import dbus_wire  # noqa: E402
 from dbus_wire import (  # noqa: E402
     BadRule,
     Checker,
+    Client,
     HeaderField,
     Limits,
     Message,
@@ -35,7 +36,9 @@ from dbus_wire import (  # noqa: E402
     ObjectPath,
     Refused,
     Rule,
+    Server,
     Signature,
+    Status,
     TextFault,
     TextKind,
     Truncated,
@@ -466,6 +469,63 @@ class Rules(unittest.TestCase):
             self.assertRaises(MemoryError, Rule, "")
 
 
+class Handshakes(unittest.TestCase):
+    GUID = "0123456789ABCDEF0123456789abcdef"
+
+    def shake(self, client, server, size):
+        """Both ends, whose bytes come in pieces; and how many lines each sent."""
+        to_server, to_client, lines = b"", b"", [0, 0]
+        for _ in range(1000):
+            at_client = client.take(to_client[:size])
+            to_client, to_server = to_client[at_client.count :], to_server + at_client.reply
+            at_server = server.take(to_server[:size])
+            to_server, to_client = to_server[at_server.count :], to_client + at_server.reply
+            lines = [lines[0] + at_client.reply.count(b"\n"), lines[1] + at_server.reply.count(b"\n")]
+            if Status.TALKING not in (at_client.status, at_server.status):
+                return at_client.status, at_server.status, lines
+        self.fail("the ends do not come to an end")
+
+    def test_both_ends(self):
+        begun, closed = (Status.BEGUN, Status.BEGUN), (Status.CLOSED, Status.CLOSED)
+        for asked, offered, ends, lines in (
+            ({"user": 1000}, {"user": 1000}, begun, [2, 1]),
+            ({"reported": True}, {"user": 7}, begun, [3, 2]),
+            ({"user": 1000, "trace": b"t" * 255}, {"user": 7, "anonymous": True}, begun, [3, 2]),
+            ({"trace": b""}, {"anonymous": True}, begun, [2, 1]),
+        ):
+            for size in (1, 5, 4096):
+                with self.subTest(asked, size=size), Client(**asked) as client, Server(self.GUID, **offered) as server:
+                    self.assertIsNone(client.guid)
+                    self.assertEqual(self.shake(client, server, size), (*ends, lines))
+                    self.assertEqual(client.guid, self.GUID.lower())
+                    self.assertEqual((client.take(b"l\1").count, server.take(b"l\1").count), (0, 0))
+
+    def test_ends_that_fail(self):
+        with Client(user=1) as client:
+            self.assertEqual(client.take().reply, b"\0AUTH EXTERNAL 31\r\n")
+            self.assertEqual(client.take(b"REJECTED\r\n"), (10, b"", Status.CLOSED))
+        with Server(self.GUID) as server:
+            self.assertEqual(server.take(b"AUTH\r\n"), (0, b"", Status.CLOSED))
+        with Client() as client:
+            self.assertEqual(client.take(), (0, b"", Status.CLOSED))
+
+    def test_ends_that_are_not_made(self):
+        for guid in ("", "0" * 31, "0" * 33, "g" * 32, "\ud800" * 32):
+            self.assertRaises(ValueError, Server, guid)
+        self.assertRaises(ValueError, Client, trace=b"t" * 256)
+        self.assertRaises(ValueError, Client, user=1, reported=True)
+        self.assertRaises(ValueError, Server, self.GUID, 1 << 32)
+        with mock.patch.object(_library.library, "dbus_wire_client_new", return_value=_library.NO_MEMORY):
+            self.assertRaises(MemoryError, Client)
+
+    def test_a_closed_end(self):
+        with Client() as client:
+            pass
+        client.close()
+        self.assertRaises(ValueError, client.take)
+        self.assertRaises(ValueError, lambda: client.guid)
+
+
 class Threads(unittest.TestCase):
     def test_messages_and_checkers_of_their_own(self):
         def work(_):
@@ -517,7 +577,7 @@ class Header(unittest.TestCase):
 
     def test_structs(self):
         declared = re.findall(r"(\d+) bytes\. \*/\nstruct dbus_wire_(\w+) \{(.*?)\n\};", self.text, re.DOTALL)
-        self.assertEqual(len(declared), 10)
+        self.assertEqual(len(declared), 15)
         for size, name, fields in declared:
             if name != "argument":
                 lines = re.findall(r"^    (struct \w+|\w+_t|void \*) ?([\w, ]+);", fields, re.MULTILINE)

@@ -1,4 +1,5 @@
-"""D-Bus messages, read by libdbus_wire: checked, taken apart into Python values, byteswapped, and matched by rules.
+"""D-Bus messages, read by libdbus_wire: checked, taken apart into Python values, byteswapped, and matched by rules; and both ends of the handshake
+before them.
 
 The module finds no place and no number in the bytes itself: each is what a call of include/dbus_wire.h returns. The library is the
 file that the environment variable DBUS_WIRE_LIBRARY names, or else libdbus_wire.so.0 as the dynamic linker finds it.
@@ -15,6 +16,7 @@ any thread; a thread needs 128 KiB of stack for a call. A message of any depth i
 
 from ._checker import Checker
 from ._errors import HeaderField, NotAMessage, Refused, Truncated
+from ._handshake import Client, Server, Status, Step
 from ._library import LIBRARY_VERSION
 from ._limits import Limits
 from ._messages import Message, MessageFlag, MessageType, Order, byteswap, messages, stated_length
@@ -26,6 +28,7 @@ __all__ = [
     "LIBRARY_VERSION",
     "BadRule",
     "Checker",
+    "Client",
     "HeaderField",
     "Limits",
     "Message",
@@ -36,7 +39,10 @@ __all__ = [
     "Order",
     "Refused",
     "Rule",
+    "Server",
     "Signature",
+    "Status",
+    "Step",
     "TextFault",
     "TextKind",
     "Truncated",

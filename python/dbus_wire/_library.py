@@ -19,6 +19,11 @@ NO_MEMORY = 3
 NO_ROOM = 4
 NO_CHECKER = 7
 NO_RULE = 8
+NO_HANDSHAKE = 9
+EXTERNAL_AS_USER = 1
+EXTERNAL_AS_REPORTED = 2
+REPLY_ROOM = 528
+GUID_LENGTH = 32
 REASON_TRAILING = 23
 REASON_TRUNCATED = 25
 FDS_ANY = 0
@@ -79,6 +84,18 @@ class RuleRefused(ctypes.Structure):
     _fields_ = [("offset", c_uint64), ("reason", c_uint32), ("reserved", c_uint32)]
 
 
+class Mechanisms(ctypes.Structure):
+    _fields_ = [(name, c_uint32) for name in ("external", "user", "anonymous", "reserved")]
+
+
+class Handshake(ctypes.Structure):
+    _fields_ = [("inner", c_void_p)]
+
+
+class HandshakeStep(ctypes.Structure):
+    _fields_ = [("count", c_uint64), ("reply", c_uint64)]
+
+
 # Of each call its result, and then its arguments. Python's bytes do not change and are never null, so they are handed over as they are.
 _MESSAGE = (c_char_p, c_size_t, POINTER(Limits))
 _CALLS = {
@@ -100,6 +117,11 @@ _CALLS = {
     "rule_text": (c_uint32, POINTER(Rule), c_char_p, c_size_t, POINTER(c_uint64)),
     "rule_free": (None, POINTER(Rule)),
     "rule_reason_name": (c_size_t, c_uint32, c_char_p, c_size_t),
+    "server_new": (c_uint32, c_char_p, c_size_t, POINTER(Mechanisms), POINTER(Handshake)),
+    "client_new": (c_uint32, POINTER(Mechanisms), c_char_p, c_size_t, POINTER(Handshake)),
+    "handshake_take": (c_uint32, POINTER(Handshake), c_char_p, c_size_t, c_char_p, c_size_t, POINTER(HandshakeStep)),
+    "handshake_guid": (c_uint32, POINTER(Handshake), c_char_p, c_size_t),
+    "handshake_free": (None, POINTER(Handshake)),
     "reason_name": (c_size_t, c_uint32, c_char_p, c_size_t),
 }
 

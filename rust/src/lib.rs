@@ -22,6 +22,7 @@
 //! * [`Message`] has the parts of a message, and [`Values`] goes over the values of its body. Both borrow the bytes, and allocate nothing.
 //! * [`byteswap`] writes a message in the other byte order, and [`check_text`] checks names, signatures and other texts.
 //! * A match [`Rule`] says which messages a program wants; [`Owners`] says who owns the names that it asks for.
+//! * [`Server`] and [`Client`] are the ends of the authentication handshake.
 //! * [`Limits`] are those that a message has to keep, and a [`Fault`] says where and why bytes are no message.
 //! * [`sys`] has the C calls themselves.
 //!
@@ -40,6 +41,7 @@
 mod check;
 mod checker;
 mod fault;
+mod handshake;
 mod limits;
 mod message;
 mod rule;
@@ -51,6 +53,7 @@ mod value;
 pub use check::{check, wanted, Answer, Order};
 pub use checker::{Checker, OutOfMemory, Taken};
 pub use fault::{Fault, ParseError, Reason, RuleReason};
+pub use handshake::{Client, External, HandshakeError, Server, Status, Step};
 pub use limits::{Descriptors, Limits};
 pub use message::{Flags, Kind, Message};
 pub use rule::{Owners, Rule, RuleError, RuleFault};

@@ -8,7 +8,8 @@
 //! * Of a slice its pointer and its length. The pointer is not null, and has so many readable bytes, `isize::MAX` at most, which
 //!   nothing writes as long as the slice is borrowed. Those of a `&mut` slice may be written, and overlap no other argument.
 //! * References to structs of this module: they are not null, aligned and initialized, and a `&mut` one overlaps no other argument.
-//! * Of a [`dbus_wire_checker`] or a [`dbus_wire_rule`] one that only calls have written since it was made with a null pointer.
+//! * Of a [`dbus_wire_checker`], a [`dbus_wire_rule`] or a [`dbus_wire_handshake`] one that only calls have written since it was made with a
+//!   null pointer.
 //!
 //! That there is stack for a call is the one thing that nothing ensures: see the crate's documentation.
 #![allow(non_camel_case_types, missing_docs)]
@@ -26,6 +27,7 @@ pub const DBUS_WIRE_NO_VALUE: u32 = 5;
 pub const DBUS_WIRE_NO_KIND: u32 = 6;
 pub const DBUS_WIRE_NO_CHECKER: u32 = 7;
 pub const DBUS_WIRE_NO_RULE: u32 = 8;
+pub const DBUS_WIRE_NO_HANDSHAKE: u32 = 9;
 
 pub const DBUS_WIRE_TYPE_METHOD_CALL: u32 = 1;
 pub const DBUS_WIRE_TYPE_METHOD_RETURN: u32 = 2;
@@ -94,6 +96,9 @@ pub const DBUS_WIRE_RULE_REASON_PATH_AND_NAMESPACE: u32 = 5;
 pub const DBUS_WIRE_RULE_REASON_OPEN_QUOTE: u32 = 6;
 pub const DBUS_WIRE_RULE_REASON_BAD_VALUE: u32 = 7;
 pub const DBUS_WIRE_RULE_REASON_NOT_UTF8: u32 = 8;
+
+pub const DBUS_WIRE_EXTERNAL_AS_USER: u32 = 1;
+pub const DBUS_WIRE_EXTERNAL_AS_REPORTED: u32 = 2;
 
 #[repr(C)]
 #[derive(Clone, Copy, Debug, Default)]
@@ -213,6 +218,28 @@ pub struct dbus_wire_rule_refused {
     pub reserved: u32,
 }
 
+#[repr(C)]
+#[derive(Clone, Copy, Debug, Default)]
+pub struct dbus_wire_mechanisms {
+    pub external: u32,
+    pub user: u32,
+    pub anonymous: u32,
+    pub reserved: u32,
+}
+
+#[repr(C)]
+#[derive(Debug)]
+pub struct dbus_wire_handshake {
+    pub inner: *mut c_void,
+}
+
+#[repr(C)]
+#[derive(Clone, Copy, Debug, Default)]
+pub struct dbus_wire_handshake_step {
+    pub count: u64,
+    pub reply: u64,
+}
+
 const _: () = assert!(size_of::<dbus_wire_limits>() == 16);
 const _: () = assert!(size_of::<dbus_wire_checked>() == 32);
 const _: () = assert!(size_of::<dbus_wire_text>() == 24);
@@ -225,6 +252,9 @@ const _: () = assert!(size_of::<dbus_wire_checker>() == 8);
 const _: () = assert!(size_of::<dbus_wire_taken>() == 24);
 const _: () = assert!(size_of::<dbus_wire_rule>() == 8);
 const _: () = assert!(size_of::<dbus_wire_rule_refused>() == 16);
+const _: () = assert!(size_of::<dbus_wire_mechanisms>() == 16);
+const _: () = assert!(size_of::<dbus_wire_handshake>() == 8);
+const _: () = assert!(size_of::<dbus_wire_handshake_step>() == 16);
 
 extern "C" {
     pub fn dbus_wire_version() -> u32;
@@ -280,5 +310,27 @@ extern "C" {
     pub fn dbus_wire_rule_text(rule: *mut dbus_wire_rule, out: *mut u8, room: usize, length: *mut u64) -> u32;
     pub fn dbus_wire_rule_free(rule: *mut dbus_wire_rule);
     pub fn dbus_wire_rule_reason_name(reason: u32, out: *mut u8, room: usize) -> usize;
+    pub fn dbus_wire_server_new(
+        guid: *const u8,
+        length: usize,
+        mechanisms: *const dbus_wire_mechanisms,
+        handshake: *mut dbus_wire_handshake,
+    ) -> u32;
+    pub fn dbus_wire_client_new(
+        mechanisms: *const dbus_wire_mechanisms,
+        trace: *const u8,
+        length: usize,
+        handshake: *mut dbus_wire_handshake,
+    ) -> u32;
+    pub fn dbus_wire_handshake_take(
+        handshake: *mut dbus_wire_handshake,
+        piece: *const u8,
+        length: usize,
+        reply: *mut u8,
+        room: usize,
+        out: *mut dbus_wire_handshake_step,
+    ) -> u32;
+    pub fn dbus_wire_handshake_guid(handshake: *mut dbus_wire_handshake, out: *mut u8, room: usize) -> u32;
+    pub fn dbus_wire_handshake_free(handshake: *mut dbus_wire_handshake);
     pub fn dbus_wire_reason_name(reason: u32, out: *mut u8, room: usize) -> usize;
 }

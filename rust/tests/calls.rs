@@ -3,8 +3,9 @@
 use std::thread;
 
 use dbus_wire::{
-    byteswap, check, check_text, wanted, Answer, Checker, Descriptors, Fault, Kind, Limits, Message, Order, Owners, ParseError,
-    Reason, Rule, RuleError, RuleReason, SwapError, Taken, TextFault, TextKind, Value, Values,
+    byteswap, check, check_text, wanted, Answer, Checker, Client, Descriptors, External, Fault, HandshakeError, Kind, Limits,
+    Message, Order, Owners, ParseError, Reason, Rule, RuleError, RuleReason, Server, Status, SwapError, Taken, TextFault,
+    TextKind, Value, Values,
 };
 
 const CAPTURES: [&[u8]; 2] = [include_bytes!("../../samples/session.dbus"), include_bytes!("../../samples/big-endian.dbus")];
@@ -341,4 +342,57 @@ fn rules_have_a_canonical_text_or_a_fault() {
         let Err(RuleError::Refused(fault)) = Rule::parse(text) else { panic!("{text}") };
         assert_eq!((fault.at, fault.reason), (at, reason));
     }
+}
+
+// Both ends, whose bytes come in pieces, and each caller's bytes after its handshake: the bytes that are left.
+fn shake(client: &mut Client, server: &mut Server, size: usize) -> (Status, Status, Vec<u8>) {
+    let (mut to_client, mut to_server) = (Vec::new(), Vec::new());
+    let mut ends = (Status::Talking, Status::Talking);
+    for _ in 0..10_000 {
+        if ends.0 == Status::Talking {
+            let step = client.take(&to_client[..size.min(to_client.len())]).unwrap();
+            ends.0 = step.status;
+            to_server.extend(step.reply);
+            if step.status == Status::Begun {
+                to_server.extend(b"l\x01");
+            }
+            to_client.drain(..step.count);
+        }
+        let step = server.take(&to_server[..size.min(to_server.len())]).unwrap();
+        ends.1 = step.status;
+        to_client.extend(step.reply);
+        to_server.drain(..step.count);
+        if ends.0 != Status::Talking && ends.1 != Status::Talking {
+            break;
+        }
+    }
+    (ends.0, ends.1, to_server)
+}
+
+#[test]
+fn both_ends_shake_hands() {
+    let guid = "0123456789ABCDEF0123456789abcdef";
+    for size in [1, 5, 4096] {
+        for (external, user) in [(Some(External::AsUser(7)), Some(7)), (Some(External::AsReported), Some(7)), (None, None)] {
+            let mut client = Client::new(external, Some(&[b't'; 255])).unwrap();
+            let mut server = thread::spawn(move || Server::new(guid, user, true).unwrap()).join().unwrap();
+            assert_eq!(client.guid(), None);
+            let left = shake(&mut client, &mut server, size);
+            assert_eq!(left, (Status::Begun, Status::Begun, b"l\x01".to_vec()));
+            assert_eq!(client.guid(), Some(guid.to_lowercase()));
+        }
+    }
+}
+
+#[test]
+fn ends_fail_or_are_not_made() {
+    let mut client = Client::new(None, None).unwrap();
+    assert_eq!(client.take(b"").unwrap().status, Status::Closed);
+    let mut server = Server::new(&"0".repeat(32), None, false).unwrap();
+    let step = server.take(b"AUTH\r\n").unwrap();
+    assert_eq!((step.count, step.reply, step.status), (0, b"".as_slice(), Status::Closed));
+    for guid in ["0".repeat(31), "0".repeat(33), "g".repeat(32)] {
+        assert_eq!(Server::new(&guid, None, false).err(), Some(HandshakeError::BadGuid));
+    }
+    assert_eq!(Client::new(None, Some(&[0; 256])).err(), Some(HandshakeError::LongTrace));
 }

@@ -7,3 +7,4 @@ pub mod Bodies
 pub mod Outcomes
 pub mod OwnerLines
 pub mod RuleTelling
+pub mod EndsMade

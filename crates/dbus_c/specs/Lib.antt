@@ -14,3 +14,4 @@ pub mod Checkers
 pub mod Owners
 pub mod RuleReasons
 pub mod Rules
+pub mod Handshakes

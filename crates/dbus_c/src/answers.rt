@@ -27,3 +27,6 @@ pub const NO_CHECKER: u32 = 7;
 
 /// There is no rule: none was made, or it was freed.
 pub const NO_RULE: u32 = 8;
+
+/// There is no end of a handshake: none was made, or it was freed.
+pub const NO_HANDSHAKE: u32 = 9;

@@ -1,10 +1,11 @@
 //! The wire format for C: calls that a static library exports, over numbers and the caller's bytes. D-Bus Specification, "Message
-//! Protocol" and "Match Rules".
+//! Protocol", "Match Rules" and "Authentication Protocol".
 //!
 //! [`dbus_wire_check`] checks bytes, [`dbus_wire_wanted`] says how many to read, [`dbus_wire_parts_of`] and
 //! [`dbus_wire_argument_of`] give a message's parts, and [`dbus_wire_swap`] byteswaps. [`dbus_wire_body_cursor`] and
 //! [`dbus_wire_next`] give the values of its body. [`dbus_wire_checker_new`] makes a checker that is handed one piece after another, and
-//! [`dbus_wire_rule_new`] a match rule; of the other calls those on a rule take memory too.
+//! [`dbus_wire_rule_new`] a match rule; [`dbus_wire_server_new`] and [`dbus_wire_client_new`] make an end of a handshake. Of the other
+//! calls those on a rule and [`dbus_wire_handshake_take`] take memory too.
 //! `include/dbus_wire.h` declares them and says what a caller owes; `examples/c` has callers.
 #![tactic(auto)]
 
@@ -14,6 +15,7 @@ mod checkers;
 mod checking;
 mod cursors;
 mod given_limits;
+mod handshakes;
 mod names;
 mod owners;
 mod parts;
@@ -26,7 +28,8 @@ mod version;
 mod wanted;
 
 pub use answers::{
-    NO_CHECKER, NO_KIND, NO_MEMORY, NO_ROOM, NO_RULE, NO_VALUE, PARTIAL, REFUSED, WHOLE,
+    NO_CHECKER, NO_HANDSHAKE, NO_KIND, NO_MEMORY, NO_ROOM, NO_RULE, NO_VALUE, PARTIAL, REFUSED,
+    WHOLE,
 };
 pub use arguments::{Argument, dbus_wire_argument_of};
 pub use checkers::{
@@ -36,6 +39,10 @@ pub use checkers::{
 pub use checking::{Checked, dbus_wire_check};
 pub use cursors::{dbus_wire_body_cursor, dbus_wire_next};
 pub use given_limits::{ANY_INDEX, INDEX_BELOW_COUNT, WireLimits, dbus_wire_specification_limits};
+pub use handshakes::{
+    HandshakeStep, dbus_wire_client_new, dbus_wire_handshake_free, dbus_wire_handshake_guid,
+    dbus_wire_handshake_take, dbus_wire_server_new,
+};
 pub use names::{dbus_wire_reason_name, names_are_texts};
 pub use parts::{Parts, TextPlace, dbus_wire_parts_of};
 pub use reasons::{field_named, reason_number, reasons_have_one_number};

@@ -1,0 +1,173 @@
+/* Shakes hands as both ends do: `handshake pieces LENGTH` one end with the other in memory, whose bytes come in pieces of LENGTH bytes;
+ * `handshake client PATH` with the bus at a Unix socket, to which it then says Hello; `handshake server PATH` with a client that
+ * connects to a Unix socket there, whose first message it then checks. */
+#include <dbus_wire.h>
+
+#include <stdio.h>
+#include <stdlib.h>
+#include <string.h>
+#include <sys/socket.h>
+#include <sys/un.h>
+#include <unistd.h>
+
+static const char guid[] = "0123456789abcdef0123456789ABCDEF";
+
+/* Hello, of the bus: the first call that a client makes. */
+static const uint8_t hello[] =
+    "l\1\0\1\0\0\0\0\1\0\0\0\155\0\0\0\1\1o\0\25\0\0\0/org/freedesktop/DBus\0\0\0\2\1s\0\24\0\0\0org.freedesktop.DBus\0\0\0\0"
+    "\3\1s\0\5\0\0\0Hello\0\0\0\6\1s\0\24\0\0\0org.freedesktop.DBus\0\0\0";
+
+/* The bytes that one end sent and the other has not taken. */
+struct pipe {
+    uint8_t bytes[4096];
+    size_t length;
+};
+
+static void fail(const char *what) {
+    fprintf(stderr, "%s\n", what);
+    exit(1);
+}
+
+static void drop(struct pipe *pipe, size_t count) {
+    memmove(pipe->bytes, pipe->bytes + count, pipe->length - count);
+    pipe->length -= count;
+}
+
+static void append(struct pipe *pipe, const uint8_t *bytes, size_t length) {
+    if (length > sizeof pipe->bytes - pipe->length) fail("too many bytes");
+    memcpy(pipe->bytes + pipe->length, bytes, length);
+    pipe->length += length;
+}
+
+/* Hands the end at most so many of the bytes that came, and appends what it sends. */
+static uint32_t take(struct dbus_wire_handshake *end, struct pipe *in, size_t most, struct pipe *out) {
+    uint8_t reply[DBUS_WIRE_REPLY_ROOM];
+    struct dbus_wire_handshake_step step;
+    uint32_t answer = dbus_wire_handshake_take(end, in->bytes, in->length < most ? in->length : most, reply, sizeof reply, &step);
+    if (answer != DBUS_WIRE_OK && answer != DBUS_WIRE_PARTIAL && answer != DBUS_WIRE_REFUSED) fail("out of memory");
+    drop(in, (size_t)step.count);
+    append(out, reply, (size_t)step.reply);
+    return answer;
+}
+
+static void make_server(struct dbus_wire_handshake *server, uint32_t user) {
+    struct dbus_wire_mechanisms mechanisms = {DBUS_WIRE_EXTERNAL_AS_USER, user, 0, 0};
+    if (dbus_wire_server_new((const uint8_t *)guid, strlen(guid), &mechanisms, server) != DBUS_WIRE_OK) fail("no server");
+}
+
+static void make_client(struct dbus_wire_handshake *client, uint32_t external) {
+    struct dbus_wire_mechanisms mechanisms = {external, (uint32_t)getuid(), 1, 0};
+    if (dbus_wire_client_new(&mechanisms, NULL, 0, client) != DBUS_WIRE_OK) fail("no client");
+}
+
+static void print_guid(struct dbus_wire_handshake *client) {
+    uint8_t text[DBUS_WIRE_GUID_LENGTH];
+    if (dbus_wire_handshake_guid(client, text, sizeof text) != DBUS_WIRE_OK) fail("no GUID");
+    printf("begun with %.*s\n", (int)sizeof text, (const char *)text);
+}
+
+/* Both ends; each caller sends bytes of its own after its handshake, which the other end leaves. */
+static void shake_in_pieces(size_t most, uint32_t external) {
+    struct dbus_wire_handshake client = {0}, server = {0};
+    struct pipe to_client = {{0}, 0}, to_server = {{0}, 0};
+    uint32_t at_client = DBUS_WIRE_PARTIAL, at_server = DBUS_WIRE_PARTIAL;
+    int round;
+    make_client(&client, external);
+    make_server(&server, (uint32_t)getuid());
+    for (round = 0; at_server == DBUS_WIRE_PARTIAL && round < 10000; round++) {
+        if (at_client == DBUS_WIRE_PARTIAL && (at_client = take(&client, &to_client, most, &to_server)) == DBUS_WIRE_OK)
+            append(&to_server, hello, 5);
+        at_server = take(&server, &to_server, most, &to_client);
+    }
+    if (at_client != DBUS_WIRE_OK || at_server != DBUS_WIRE_OK) fail("they do not agree");
+    if (to_server.length != 5 || memcmp(to_server.bytes, hello, 5) != 0 || to_client.length != 0) fail("a byte of the messages was taken");
+    print_guid(&client);
+    dbus_wire_handshake_free(&client);
+    dbus_wire_handshake_free(&server);
+    if (take(&server, &to_server, 0, &to_client) == DBUS_WIRE_OK) fail("a freed end");
+}
+
+/* The end's handshake over a socket. What is left of the bytes that came is in `in`. */
+static void shake(struct dbus_wire_handshake *end, int socket, struct pipe *in) {
+    uint32_t answer;
+    do {
+        struct pipe out = {{0}, 0};
+        size_t before = in->length;
+        answer = take(end, in, sizeof in->bytes, &out);
+        if (write(socket, out.bytes, out.length) != (ssize_t)out.length) fail("write");
+        if (answer == DBUS_WIRE_PARTIAL && in->length == before && out.length == 0) {
+            ssize_t count = read(socket, in->bytes + in->length, sizeof in->bytes - in->length);
+            if (count <= 0) fail("the peer closed");
+            in->length += (size_t)count;
+        }
+    } while (answer == DBUS_WIRE_PARTIAL);
+    if (answer != DBUS_WIRE_OK) fail("the handshake failed");
+}
+
+/* The message that comes first: its member, or the number of the call that it answers. */
+static void print_message(int socket, struct pipe *in) {
+    struct dbus_wire_parts parts;
+    uint32_t answer;
+    while ((answer = dbus_wire_parts_of(in->bytes, in->length, NULL, &parts)) == DBUS_WIRE_PARTIAL) {
+        ssize_t count = read(socket, in->bytes + in->length, sizeof in->bytes - in->length);
+        if (count <= 0) fail("the peer closed");
+        in->length += (size_t)count;
+    }
+    if (answer != DBUS_WIRE_WHOLE) fail("no message");
+    printf("message of type %u: member '%.*s', reply to %u\n", (unsigned)parts.kind, (int)parts.member.length,
+           (const char *)in->bytes + parts.member.offset, (unsigned)parts.reply_serial);
+}
+
+static struct sockaddr_un address_of(const char *path) {
+    struct sockaddr_un address = {0};
+    address.sun_family = AF_UNIX;
+    if (strlen(path) >= sizeof address.sun_path) fail("the path is too long");
+    strcpy(address.sun_path, path);
+    return address;
+}
+
+static void be_client(const char *path) {
+    struct dbus_wire_handshake client = {0};
+    struct pipe in = {{0}, 0};
+    struct sockaddr_un address = address_of(path);
+    int peer = socket(AF_UNIX, SOCK_STREAM, 0);
+    if (peer < 0 || connect(peer, (struct sockaddr *)&address, sizeof address) != 0) fail("connect");
+    make_client(&client, DBUS_WIRE_EXTERNAL_AS_USER);
+    shake(&client, peer, &in);
+    print_guid(&client);
+    dbus_wire_handshake_free(&client);
+    if (write(peer, hello, sizeof hello) != (ssize_t)sizeof hello) fail("write");
+    print_message(peer, &in);
+    close(peer);
+}
+
+static void be_server(const char *path) {
+    struct dbus_wire_handshake server = {0};
+    struct pipe in = {{0}, 0};
+    struct sockaddr_un address = address_of(path);
+    struct ucred caller;
+    socklen_t size = sizeof caller;
+    int door = socket(AF_UNIX, SOCK_STREAM, 0), peer;
+    if (door < 0 || bind(door, (struct sockaddr *)&address, sizeof address) != 0 || listen(door, 1) != 0) fail("listen");
+    if ((peer = accept(door, NULL, NULL)) < 0 || getsockopt(peer, SOL_SOCKET, SO_PEERCRED, &caller, &size) != 0) fail("accept");
+    make_server(&server, (uint32_t)caller.uid);
+    shake(&server, peer, &in);
+    dbus_wire_handshake_free(&server);
+    print_message(peer, &in);
+    close(peer);
+    close(door);
+}
+
+int main(int argc, char **argv) {
+    if (argc == 3 && strcmp(argv[1], "pieces") == 0) {
+        shake_in_pieces((size_t)atol(argv[2]), DBUS_WIRE_EXTERNAL_AS_USER);
+        shake_in_pieces((size_t)atol(argv[2]), DBUS_WIRE_EXTERNAL_AS_REPORTED);
+    } else if (argc == 3 && strcmp(argv[1], "client") == 0) {
+        be_client(argv[2]);
+    } else if (argc == 3 && strcmp(argv[1], "server") == 0) {
+        be_server(argv[2]);
+    } else {
+        fail("handshake pieces LENGTH, client PATH or server PATH");
+    }
+    return 0;
+}

@@ -1,0 +1,136 @@
+"""Both ends of the authentication handshake."""
+
+from __future__ import annotations
+
+import ctypes
+import enum
+import threading
+import weakref
+from ctypes import byref
+from types import TracebackType
+from typing import NamedTuple
+
+from . import _library
+from ._library import EXTERNAL_AS_REPORTED, EXTERNAL_AS_USER, GUID_LENGTH, NO_HANDSHAKE, NO_MEMORY, OK, REFUSED
+from ._library import REPLY_ROOM, Bytes, as_bytes, library
+
+
+class Status(enum.IntEnum):
+    """Where a handshake stands."""
+
+    BEGUN = 0
+    """It succeeded: the bytes that are not taken are messages."""
+    TALKING = 1
+    """It goes on."""
+    CLOSED = 2
+    """It failed: the connection is to be closed."""
+
+
+class Step(NamedTuple):
+    """What an end did with a piece: `count` bytes were taken, the others are to be handed in again, and `reply` is to be sent."""
+
+    count: int
+    reply: bytes
+    status: Status
+
+
+class _Handshake:
+    __slots__ = ("_handle", "_lock", "_free", "__weakref__")
+
+    def _keep(self, handle: _library.Handshake) -> None:
+        self._handle = handle
+        self._lock = threading.Lock()
+        self._free = weakref.finalize(self, library.dbus_wire_handshake_free, byref(handle))
+
+    def take(self, piece: Bytes = b"") -> Step:
+        """Takes at most one line of the piece, which follows what was taken, and answers it. A client's first call starts it: it
+        takes nothing, and its reply is the byte 0 and the first line. Once the handshake succeeded or failed nothing is taken.
+
+        Raises MemoryError, and changes nothing then: the same piece may be handed in again.
+        """
+        data, room, told = as_bytes(piece), ctypes.create_string_buffer(REPLY_ROOM), _library.HandshakeStep()
+        with self._lock:
+            answer = library.dbus_wire_handshake_take(byref(self._handle), data, len(data), room, REPLY_ROOM, byref(told))
+        _raise_if_failed(answer)
+        return Step(told.count, room.raw[: told.reply], Status(answer))
+
+    def close(self) -> None:
+        """Frees the end. Once more does nothing; ValueError is raised by its other calls from then on."""
+        with self._lock:
+            self._free()
+
+    def __enter__(self) -> _Handshake:
+        return self
+
+    def __exit__(self, kind: type[BaseException] | None, error: BaseException | None, traceback: TracebackType | None) -> None:
+        self.close()
+
+
+class Server(_Handshake):
+    """A server's end of the handshake. It may be shared by threads, whose calls wait for each other.
+
+    Its user has to be the one that the transport reports, as SO_PEERCRED of a Unix socket does, and not the one that is expected: a
+    client that names no user is let in as that one.
+    """
+
+    __slots__ = ()
+
+    def __init__(self, guid: str, user: int | None = None, *, anonymous: bool = False) -> None:
+        """Makes the end of a server of this GUID, which offers EXTERNAL if it has a user, and ANONYMOUS, which lets everybody in, if
+        that is said. Raises ValueError if the GUID is not 32 hexadecimal digits, and MemoryError."""
+        handle, text = _library.Handshake(), guid.encode("utf-8", "surrogatepass")
+        mechanisms = _mechanisms(0 if user is None else EXTERNAL_AS_USER, user or 0, anonymous)
+        answer = library.dbus_wire_server_new(text, len(text), byref(mechanisms), byref(handle))
+        _raise_if_failed(answer)
+        if answer == REFUSED:
+            raise ValueError(f"{guid!r} is not 32 hexadecimal digits")
+        self._keep(handle)
+
+
+class Client(_Handshake):
+    """A client's end of the handshake. It may be shared by threads, whose calls wait for each other.
+
+        client, rest = Client(user=os.getuid()), b""
+        while (step := client.take(rest)).status == Status.TALKING:
+            socket.sendall(step.reply)
+            rest = rest[step.count :] or socket.recv(4096)
+    """
+
+    __slots__ = ()
+
+    def __init__(self, *, user: int | None = None, reported: bool = False, trace: Bytes | None = None) -> None:
+        """Makes the end of a client that asks for EXTERNAL, as the user of this number or as the one that the transport reports to
+        the server, and then for ANONYMOUS if there is a trace, which may be empty. Raises ValueError if the trace has over 255 bytes
+        or both kinds of EXTERNAL are asked for, and MemoryError."""
+        if user is not None and reported:
+            raise ValueError("EXTERNAL is asked for either as a user or as the one that is reported")
+        external = EXTERNAL_AS_REPORTED if reported else 0 if user is None else EXTERNAL_AS_USER
+        handle, text = _library.Handshake(), as_bytes(trace or b"")
+        mechanisms = _mechanisms(external, user or 0, trace is not None)
+        answer = library.dbus_wire_client_new(byref(mechanisms), text, len(text), byref(handle))
+        _raise_if_failed(answer)
+        if answer == REFUSED:
+            raise ValueError("the trace has more than 255 bytes")
+        self._keep(handle)
+
+    @property
+    def guid(self) -> str | None:
+        """The server's GUID, as 32 hexadecimal digits in lower case, once the handshake succeeded; else None."""
+        text = ctypes.create_string_buffer(GUID_LENGTH)
+        with self._lock:
+            answer = library.dbus_wire_handshake_guid(byref(self._handle), text, GUID_LENGTH)
+        _raise_if_failed(answer)
+        return text.raw.decode("ascii") if answer == OK else None
+
+
+def _mechanisms(external: int, user: int, anonymous: bool) -> _library.Mechanisms:
+    if not 0 <= user < 1 << 32:
+        raise ValueError(f"{user} is no number of a user")
+    return _library.Mechanisms(external, user, int(anonymous), 0)
+
+
+def _raise_if_failed(answer: int) -> None:
+    if answer == NO_MEMORY:
+        raise MemoryError
+    if answer == NO_HANDSHAKE:
+        raise ValueError("the end is closed")

@@ -1,0 +1,202 @@
+//! Both ends of the authentication handshake.
+
+use std::error::Error;
+use std::fmt;
+use std::ptr;
+
+use crate::{sys, OutOfMemory};
+
+// As the header's DBUS_WIRE_REPLY_ROOM and DBUS_WIRE_GUID_LENGTH.
+const REPLY_ROOM: usize = 528;
+const GUID_LENGTH: usize = 32;
+
+/// Where a handshake stands.
+#[derive(Clone, Copy, Debug, PartialEq, Eq, Hash)]
+pub enum Status {
+    /// It goes on.
+    Talking,
+    /// It succeeded: the bytes that are not taken are messages.
+    Begun,
+    /// It failed: the connection is to be closed.
+    Closed,
+}
+
+/// What an end did with a piece.
+#[derive(Clone, Copy, Debug, PartialEq, Eq)]
+pub struct Step<'a> {
+    /// How many bytes of the piece were taken, at most those of one line. The others are to be handed in again.
+    pub count: usize,
+    /// The bytes that are to be sent to the peer, which may be none.
+    pub reply: &'a [u8],
+    /// Where the handshake stands now.
+    pub status: Status,
+}
+
+/// Why an end is not made.
+#[derive(Clone, Copy, Debug, PartialEq, Eq, Hash)]
+pub enum HandshakeError {
+    /// The GUID of a server is not 32 hexadecimal digits.
+    BadGuid,
+    /// The trace of a client has over 255 bytes.
+    LongTrace,
+    /// There is no memory for it.
+    OutOfMemory,
+}
+
+impl fmt::Display for HandshakeError {
+    fn fmt(&self, f: &mut fmt::Formatter<'_>) -> fmt::Result {
+        match self {
+            HandshakeError::BadGuid => f.write_str("the GUID is not 32 hexadecimal digits"),
+            HandshakeError::LongTrace => f.write_str("the trace has more than 255 bytes"),
+            HandshakeError::OutOfMemory => OutOfMemory.fmt(f),
+        }
+    }
+}
+
+impl Error for HandshakeError {}
+
+#[derive(Debug)]
+struct Handshake {
+    // An end of the library's, until `drop`; or none.
+    raw: sys::dbus_wire_handshake,
+    room: [u8; REPLY_ROOM],
+}
+
+// SAFETY: the header allows calls on an end from any thread, if one returns before the next begins. Each takes the end by a mutable
+// reference, which sees to that.
+unsafe impl Send for Handshake {}
+
+impl Handshake {
+    fn none() -> Self {
+        Self { raw: sys::dbus_wire_handshake { inner: ptr::null_mut() }, room: [0; REPLY_ROOM] }
+    }
+
+    fn take(&mut self, piece: &[u8]) -> Result<Step<'_>, OutOfMemory> {
+        let mut told = sys::dbus_wire_handshake_step::default();
+        let (raw, room) = (&mut self.raw, &mut self.room);
+        // SAFETY: slices and references, as `sys` says; only calls write `raw`.
+        let answer =
+            unsafe { sys::dbus_wire_handshake_take(raw, piece.as_ptr(), piece.len(), room.as_mut_ptr(), room.len(), &mut told) };
+        let status = match answer {
+            sys::DBUS_WIRE_PARTIAL => Status::Talking,
+            sys::DBUS_WIRE_OK => Status::Begun,
+            sys::DBUS_WIRE_REFUSED => Status::Closed,
+            sys::DBUS_WIRE_NO_MEMORY => return Err(OutOfMemory),
+            answer => unreachable!("an end answers {answer}"),
+        };
+        Ok(Step { count: told.count as usize, reply: &self.room[..told.reply as usize], status })
+    }
+}
+
+impl Drop for Handshake {
+    fn drop(&mut self) {
+        // SAFETY: a reference, as `sys` says; only calls write `raw`, and nothing uses it after its drop.
+        unsafe { sys::dbus_wire_handshake_free(&mut self.raw) };
+    }
+}
+
+fn mechanisms(external: u32, user: u32, anonymous: bool) -> sys::dbus_wire_mechanisms {
+    sys::dbus_wire_mechanisms { external, user, anonymous: anonymous.into(), reserved: 0 }
+}
+
+/// A server's end of the handshake.
+///
+/// ```
+/// use dbus_wire::{Server, Status};
+///
+/// let mut server = Server::new("0123456789abcdef0123456789abcdef", Some(1000), false)?;
+/// let mut rest = b"\0AUTH EXTERNAL 31303030\r\nBEGIN\r\nl\x01".as_slice();
+/// let step = server.take(rest)?;
+/// assert_eq!(step.reply, b"OK 0123456789abcdef0123456789abcdef\r\n");
+/// rest = &rest[step.count..];
+/// let step = server.take(rest)?;
+/// assert_eq!((step.status, &rest[step.count..]), (Status::Begun, b"l\x01".as_slice()));
+/// # Ok::<(), Box<dyn std::error::Error>>(())
+/// ```
+#[derive(Debug)]
+pub struct Server(Handshake);
+
+impl Server {
+    /// The end of a server of the GUID whose 32 hexadecimal digits are given. It offers EXTERNAL if it is given the client's user, and
+    /// ANONYMOUS, which lets everybody in, if that is said.
+    ///
+    /// **The user has to be the one that the transport reports**, as `SO_PEERCRED` of a Unix socket does, and not the one that is
+    /// expected: a client that names no user is let in as that one.
+    pub fn new(guid: &str, user: Option<u32>, anonymous: bool) -> Result<Self, HandshakeError> {
+        let external = if user.is_some() { sys::DBUS_WIRE_EXTERNAL_AS_USER } else { 0 };
+        let mechanisms = mechanisms(external, user.unwrap_or(0), anonymous);
+        let mut made = Handshake::none();
+        // SAFETY: a slice and references, as `sys` says, to what is no end yet.
+        match unsafe { sys::dbus_wire_server_new(guid.as_ptr(), guid.len(), &mechanisms, &mut made.raw) } {
+            sys::DBUS_WIRE_OK => Ok(Self(made)),
+            sys::DBUS_WIRE_REFUSED => Err(HandshakeError::BadGuid),
+            _ => Err(HandshakeError::OutOfMemory),
+        }
+    }
+
+    /// Takes at most one line of the piece, with the byte 0 before the first, and answers it. Once the handshake succeeded or failed it
+    /// takes nothing. Out of memory, nothing is changed: the same piece may be handed in again.
+    pub fn take(&mut self, piece: &[u8]) -> Result<Step<'_>, OutOfMemory> {
+        self.0.take(piece)
+    }
+}
+
+/// As whom a client asks to be let in by EXTERNAL.
+#[derive(Clone, Copy, Debug, PartialEq, Eq, Hash)]
+pub enum External {
+    /// As the user of this number.
+    AsUser(u32),
+    /// As the user that the transport reports to the server.
+    AsReported,
+}
+
+/// A client's end of the handshake.
+///
+/// ```
+/// use dbus_wire::{Client, External, Status};
+///
+/// let mut client = Client::new(Some(External::AsUser(1000)), None)?;
+/// assert_eq!(client.take(b"")?.reply, b"\0AUTH EXTERNAL 31303030\r\n");
+/// let step = client.take(b"OK 0123456789ABCDEF0123456789abcdef\r\n")?;
+/// assert_eq!((step.status, step.reply), (Status::Begun, b"BEGIN\r\n".as_slice()));
+/// assert_eq!(client.guid().as_deref(), Some("0123456789abcdef0123456789abcdef"));
+/// # Ok::<(), Box<dyn std::error::Error>>(())
+/// ```
+#[derive(Debug)]
+pub struct Client(Handshake);
+
+impl Client {
+    /// The end of a client that asks for EXTERNAL, if that is given, and then for ANONYMOUS, if its trace is given, which may be empty
+    /// and has at most 255 bytes.
+    pub fn new(external: Option<External>, trace: Option<&[u8]>) -> Result<Self, HandshakeError> {
+        let (external, user) = match external {
+            None => (0, 0),
+            Some(External::AsUser(user)) => (sys::DBUS_WIRE_EXTERNAL_AS_USER, user),
+            Some(External::AsReported) => (sys::DBUS_WIRE_EXTERNAL_AS_REPORTED, 0),
+        };
+        let mechanisms = mechanisms(external, user, trace.is_some());
+        let trace = trace.unwrap_or(&[]);
+        let mut made = Handshake::none();
+        // SAFETY: a slice and references, as `sys` says, to what is no end yet.
+        match unsafe { sys::dbus_wire_client_new(&mechanisms, trace.as_ptr(), trace.len(), &mut made.raw) } {
+            sys::DBUS_WIRE_OK => Ok(Self(made)),
+            sys::DBUS_WIRE_REFUSED => Err(HandshakeError::LongTrace),
+            _ => Err(HandshakeError::OutOfMemory),
+        }
+    }
+
+    /// The first call starts the handshake: it takes nothing, and its reply is the byte 0 and the first line. Each further one takes at
+    /// most one line of the piece, and answers it. Once the handshake succeeded or failed it takes nothing. Out of memory, nothing is
+    /// changed: the same piece may be handed in again.
+    pub fn take(&mut self, piece: &[u8]) -> Result<Step<'_>, OutOfMemory> {
+        self.0.take(piece)
+    }
+
+    /// The server's GUID, as 32 hexadecimal digits in lower case, once the handshake succeeded.
+    pub fn guid(&mut self) -> Option<String> {
+        let mut text = [0; GUID_LENGTH];
+        // SAFETY: a slice and a reference, as `sys` says; only calls write `raw`.
+        let answer = unsafe { sys::dbus_wire_handshake_guid(&mut self.0.raw, text.as_mut_ptr(), text.len()) };
+        (answer == sys::DBUS_WIRE_OK).then(|| text.iter().copied().map(char::from).collect())
+    }
+}
