@@ -6,9 +6,7 @@ ghost use Rattle.dbus_c.specs.Handshakes.{IsEndMade, TellsGuidText, TellsStep, f
 ghost use Rattle.dbus_c_auth.specs.Handshakes.{client_made, server_made};
 ghost use Rattle.dbus_c_handle.specs.Handshakes.{handshake_of};
 
-use crate::answers::{
-    NO_HANDSHAKE, NO_MEMORY, NO_ROOM, NO_VALUE, PARTIAL, REFUSED, WHOLE,
-};
+use crate::answers::{NO_HANDSHAKE, NO_MEMORY, NO_ROOM, NO_VALUE, PARTIAL, REFUSED, WHOLE};
 use dbus_auth::Status;
 use dbus_c_auth::{Mechanisms, Step, TakeFault, write_guid};
 use dbus_c_handle::WireHandle;

@@ -1,7 +1,7 @@
 //! The text of a server's GUID.
 #![tactic(auto)]
-ghost use Rattle.dbus_c_auth.specs.declared.guid_text.TheConstants.{GUID_ROOM};
 
+ghost use Rattle.dbus_c_auth.specs.declared.guid_text.TheConstants.{GUID_ROOM};
 ghost use Rattle.std.specs.Prelude.{◌≡◌, ◌<◌, ◌≤◌, ◌++◌, ℕ, drop, length, option_map, true, false};
 ghost use Rattle.hex.specs.Hex.{encode_lower};
 ghost use Rattle.dbus_c_auth.specs.GuidTexts.{guid_spelled};

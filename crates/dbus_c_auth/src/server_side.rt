@@ -40,11 +40,7 @@ impl ServerSide {
     pub fn new(alloc: Global, guid: Guid, mechanisms: &Mechanisms) -> Self
         ensures { result ≡ server_of guid.0 mechanisms.now }
     {
-        let server = Server::new(
-            guid,
-            mechanisms.user_reported(),
-            mechanisms.is_anonymous(),
-        );
+        let server = Server::new(guid, mechanisms.user_reported(), mechanisms.is_anonymous());
         ServerSide {
             end: ServerEnd::new(alloc, server),
         }

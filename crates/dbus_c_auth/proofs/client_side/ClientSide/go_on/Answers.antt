@@ -15,10 +15,11 @@ pub invariant_of-self : goal.invariant_of-self
 invariant_of-self c =
     let old = client_end_state c.self.inside.end in
     let new = client_end_state c.take.new.self in
-    let outcome = client_takes old c.args.piece.now in
-    (left_after c.take.result (λ (s : EndStep Global). DidClientStep s new outcome) old new outcome (client_reply old c.self.invariant.0 c.args.piece.now true) c.self.invariant.0
-        (λ s did. did.3) c.take.ensures.step c.take.ensures.err,
-      c.if-self.true ∙ sym c.take.ensures.started)
+    let outcome = client_takes old c.args.piece.now in (
+      left_after c.take.result (λ (s : EndStep Global). DidClientStep s new outcome) old new outcome (client_reply old c.self.invariant.0 c.args.piece.now true) c.self.invariant.0
+          (λ s did. did.3) c.take.ensures.step c.take.ensures.err,
+      c.if-self.true ∙ sym c.take.ensures.started,
+    )
 
 pub invariant_of-self-2 : goal.invariant_of-self-2
 invariant_of-self-2 c =
@@ -31,8 +32,8 @@ returns-clause-step c =
     let e = client_end_state c.self.inside.end in
     let told = c.in_ok-send.ensures in
     let stands =
-        c.started_as-status.ensures ∙ ap (λ (send : List ℕ). if is_empty send then status.Closed else status.Talking) (c.deref.ensures.value ∙ told.send)
-        ∙ (starts_as e).1 in
+    c.started_as-status.ensures ∙ ap (λ (send : List ℕ). if is_empty send then status.Closed else status.Talking) (c.deref.ensures.value ∙ told.send)
+    ∙ (starts_as e).1 in
     let goes = first_call e c.args.self.now c.args.piece.now c.self.view_is (sym c.self.invariant.1 ∙ c.if-self.false) in
     subst (λ (o : EndOutcome ClientEndState). (0 ≡ o.taken) × (c.in_ok-send.send.items ≡ o.send) × (c.started_as-status.result ≡ o.after.status) × (client_end_state c.start.new.self ≡ o.after))
     goes ((starts_as e).0, told.send, stands, told.after)
@@ -47,4 +48,4 @@ returns-then-self-clause-short c =
     let old = client_end_state c.self.inside.end in
     let outcome = client_takes old c.args.piece.now in
     short_after c.take.result (λ (s : EndStep Global). DidClientStep s (client_end_state c.take.new.self) outcome) (λ (s : EndStep Global). s.send.items) outcome
-        (client_reply old c.self.invariant.0 c.args.piece.now true) (λ s did. did.1) c.take.ensures.step
+    (client_reply old c.self.invariant.0 c.args.piece.now true) (λ s did. did.1) c.take.ensures.step
