@@ -2,7 +2,8 @@
 # test.sh PROGRAM ARCHIVE SHARED: builds the examples over the archive, and compares what they write with what `PROGRAM check` does:
 # of the captures in samples/ and of messages of which a byte is changed; the C example once more under AddressSanitizer, and over
 # the shared library. Compares the header's numbers with the crates', and what is said of texts with the cases of texts. Runs the fuzz
-# target over the captures and changed copies of their messages; shakes hands with a bus and with a client, if they are there; tests the Rust crate, and compares what its examples write.
+# target over the captures and changed copies of their messages; shakes hands with a bus and with a client, if they are there; tests the
+# Rust crate, and compares what its examples write.
 set -eu
 program=$1 archive=$2 shared=$3
 here=$(cd "$(dirname "$0")" && pwd)
@@ -56,6 +57,13 @@ for nth in 1 2; do
 	status=0
 	LD_PRELOAD=$built/refuse_nth.so REFUSE_NTH=$nth "$built/pieces_plain" < "$here/../samples/session.dbus" || status=$?
 	test $status = 3
+done
+# An end for which there is no memory is not made; one that has too little for a call goes on by the same call.
+"$CC" -std=c99 -O2 -D_GNU_SOURCE $flags -o "$built/handshake_plain" "$here/c/handshake.c" -L"$built" -l:libdbus_wire.a
+for nth in $(seq 1 60); do
+	status=0
+	LD_PRELOAD=$built/refuse_nth.so REFUSE_NTH=$nth "$built/handshake_plain" pieces 7 > "$built/said" 2>&1 || status=$?
+	test $status = 0 || grep -qx 'no client\|no server' "$built/said"
 done
 "$here/tables.py" "$built/habits" "$built/texts" "$program"
 # The fuzz target finds nothing, and finds a parser that takes everything for a message.

@@ -39,11 +39,13 @@ static void append(struct pipe *pipe, const uint8_t *bytes, size_t length) {
     pipe->length += length;
 }
 
-/* Hands the end at most so many of the bytes that came, and appends what it sends. */
+/* Hands the end at most so many of the bytes that came, and appends what it sends. Out of memory it tries once more: nothing was lost. */
 static uint32_t take(struct dbus_wire_handshake *end, struct pipe *in, size_t most, struct pipe *out) {
     uint8_t reply[DBUS_WIRE_REPLY_ROOM];
     struct dbus_wire_handshake_step step;
-    uint32_t answer = dbus_wire_handshake_take(end, in->bytes, in->length < most ? in->length : most, reply, sizeof reply, &step);
+    size_t length = in->length < most ? in->length : most;
+    uint32_t answer = dbus_wire_handshake_take(end, in->bytes, length, reply, sizeof reply, &step);
+    if (answer == DBUS_WIRE_NO_MEMORY) answer = dbus_wire_handshake_take(end, in->bytes, length, reply, sizeof reply, &step);
     if (answer != DBUS_WIRE_OK && answer != DBUS_WIRE_PARTIAL && answer != DBUS_WIRE_REFUSED) fail("out of memory");
     drop(in, (size_t)step.count);
     append(out, reply, (size_t)step.reply);
