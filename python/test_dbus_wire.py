@@ -39,6 +39,7 @@ from dbus_wire import (  # noqa: E402
     Server,
     Signature,
     Status,
+    Step,
     TextFault,
     TextKind,
     Truncated,
@@ -58,6 +59,7 @@ SESSION = SAMPLES["session"]
 CASES = ROOT / "crates/message_cases/data"
 TEXT_CASES = ROOT / "crates/value_cases/data"
 RULE_CASES = ROOT / "crates/stream_cases/data"
+HANDSHAKE_CASES = ROOT / "crates/handshake_cases/data"
 CASE_KINDS = {"text": "STRING", "path": "OBJECT_PATH"}
 FIELDS = ("path", "interface", "member", "error_name", "reply_serial", "destination", "sender", "signature")
 
@@ -471,6 +473,36 @@ class Rules(unittest.TestCase):
 
 class Handshakes(unittest.TestCase):
     GUID = "0123456789ABCDEF0123456789abcdef"
+
+    def end_of(self, setup):
+        """The end of a case; None of a client whose mechanisms no call asks for, as EXTERNAL twice."""
+        kind, *words = re.findall(r'\w+(?:=(?:\d+\*)?"[^"]*"|=\S+)?', setup)
+        given = dict(word.split("=", 1) if "=" in word else (word, "") for word in words)
+        user = int(given.get("user") or given.get("external") or 0)
+        if kind == "server":
+            return Server(given.get("guid", self.GUID), user if "user" in given else None, anonymous="anonymous" in given)
+        if [word.split("=")[0] for word in words] not in ([], ["external"], ["anonymous"], ["external", "anonymous"]):
+            return None
+        trace = read_bytes(given["anonymous"]) if "anonymous" in given else None
+        return Client(user=user if given.get("external") else None, reported=given.get("external") == "", trace=trace)
+
+    def test_each_case_of_an_end(self):
+        tried = 0
+        for name, setup, received, sent, taken, status, _ in read_cases(HANDSHAKE_CASES / "dialogues.txt"):
+            with self.subTest(name):
+                end, rest = self.end_of(setup), read_bytes(received)
+                if end is None:
+                    continue
+                tried += 1
+                step = end.take() if isinstance(end, Client) else Step(0, b"", Status.TALKING)
+                reply, counts = step.reply, []
+                while step.status == Status.TALKING and rest:
+                    step = end.take(rest)
+                    reply, rest = reply + step.reply, rest[step.count :]
+                    counts += [step.count] if step.count else []
+                said = (reply, " + ".join(map(str, counts)) or "0", step.status.name.lower())
+                self.assertEqual(said, (read_bytes(sent), taken, status))
+        self.assertGreater(tried, 100)
 
     def shake(self, client, server, size):
         """Both ends, whose bytes come in pieces; and how many lines each sent."""
