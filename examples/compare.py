@@ -24,7 +24,7 @@ RULES = (
     ("type='method_call',member='Hello'",),
     ("sender='org.freedesktop.DBus', interface=org.freedesktop.DBus",),
     ("sender='org.example.Lab'",),
-    ("sender='org.example.Lab'", "org.example.Go=:1.5", "org.example.Lab=:1.2", "org.example.Lab=:1.4"),
+    ("sender='org.example.Lab'", "org.example.Go=:1.5", "org.example.Lab=:1.3", "org.example.Lab=:1.4"),
     ("path_namespace='/org/freedesktop'",),
     ("arg0namespace='org'",),
     ("arg0='it'\\''s',eavesdrop='true'",),
@@ -117,7 +117,7 @@ def compare_filters(program, filter_program, folder):
         written += len(right.stdout) > 0
         if (right.stdout, right.stderr, right.returncode) != (other.stdout, other.stderr, other.returncode):
             differing += 1
-            print(f"{sample}, {rule} with {owners}: {filter_program} says {other.stderr}, {other.returncode} and not {right.stderr}, {right.returncode}")
+            print(f"{sample}, {rule} with {owners}: {filter_program} says {other.stderr}, {other.returncode}, {program} {right.stderr}, {right.returncode}")
     print(f"{len(SAMPLES) * len(RULES)} times filtered, {written} times with an output, {differing} otherwise")
     return differing
 

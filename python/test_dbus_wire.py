@@ -595,9 +595,10 @@ class Header(unittest.TestCase):
         if struct := re.search(r"struct dbus_wire_(\w+)( \*)?", spelled):
             found = getattr(_library, struct[1].title().replace("_", ""))
             return ctypes.POINTER(found) if struct[2] else found
-        if "*" in spelled:
+        if "*" in spelled and ("uint8_t" in spelled or "void" in spelled):
             return ctypes.c_char_p if "uint8_t" in spelled else ctypes.c_void_p
-        return {"uint32_t": ctypes.c_uint32, "uint64_t": ctypes.c_uint64, "size_t": ctypes.c_size_t, "void": None}[spelled.split()[0]]
+        found = {"uint32_t": ctypes.c_uint32, "uint64_t": ctypes.c_uint64, "size_t": ctypes.c_size_t, "void": None}[spelled.split()[0]]
+        return ctypes.POINTER(found) if "*" in spelled else found
 
     def test_numbers(self):
         for prefix, names in (("TYPE_", MessageType), ("FLAG_", MessageFlag), ("FIELD_", HeaderField), ("TEXT_", TextKind)):
