@@ -1,15 +1,16 @@
 #!/usr/bin/env python3
-"""compare.py PROGRAM LISTERS SWAPPERS FILTERS CHECKER..: compares what each CHECKER writes of messages with what `PROGRAM check` does.
+"""compare.py PROGRAM LISTERS SWAPPERS FILTERS BUILDER CHECKER..: compares what each CHECKER writes of messages with what `PROGRAM check` does.
 
 The messages are the captures in samples/, whole and cut short, and those of the first messages of each capture of which one
 byte is changed. Both the text and the exit status are compared. What each of LISTERS, which commas separate, writes of the captures is compared with
 what `PROGRAM show` writes, whose header fields may be in another order; what each of SWAPPERS writes of them in either byte order,
-with `PROGRAM swap`; what each of FILTERS writes of them for a rule and owners of names, with `PROGRAM filter`. The exit status is 1
-if they differ.
+with `PROGRAM swap`; what each of FILTERS writes of them for a rule and owners of names, with `PROGRAM filter`. What BUILDER builds of the
+parts of their messages has these parts, as `PROGRAM json` writes them. The exit status is 1 if they differ.
 """
 
 import collections
 import itertools
+import json
 import os
 import subprocess
 import sys
@@ -122,11 +123,45 @@ def compare_filters(program, filter_program, folder):
     return differing
 
 
-def main(program, listers, swappers, filters, *checkers):
+def error_to(call):
+    """The line of the error that answers a call."""
+    error = {name: call[name] for name in ("order", "sender") if name in call}
+    error |= {"type": "error", "flags": 0, "serial": 1, "error_name": "a.b", "reply_serial": call["serial"], "fields": [], "body": []}
+    return {"destination" if name == "sender" else name: value for name, value in error.items()}
+
+
+# What the builder is told, and what it makes of a line of a message.
+BUILT = (
+    (["again"], lambda line: line),
+    (["serial", "77"], lambda line: line | {"serial": 77}),
+    (["destination", "a.b"], lambda line: line | {"destination": "a.b"}),
+    (["error", "a.b"], lambda line: error_to(line) if line["type"] == "method_call" else None),
+)
+
+
+def compare_builds(program, builder, folder):
+    """How many built messages have other parts."""
+    differing = built = 0
+    for sample, (words, changed) in itertools.product(SAMPLES, BUILT):
+        data = capture(folder, sample)
+        made = subprocess.run([builder, *words], input=data, capture_output=True).stdout
+        before, after = ([json.loads(line) for line in answer([program, "json"], it)[0].split("\n")] for it in (data, made))
+        right = list(filter(None, map(changed, before)))
+        for line in right + after:
+            for name in ("number", "offset", "length"):
+                line.pop(name, None)
+        differing += abs(len(right) - len(after)) + sum(a != b for a, b in zip(right, after))
+        built += len(right)
+    print(f"{built} messages built, {differing} otherwise")
+    return differing
+
+
+def main(program, listers, swappers, filters, builder, *checkers):
     folder = os.path.join(os.path.dirname(os.path.abspath(__file__)), "..", "samples")
     kinds, differing = collections.Counter(), sum(compare_lists(program, lister, folder) for lister in listers.split(","))
     differing += sum(compare_swaps(program, swapper, folder) for swapper in swappers.split(","))
     differing += sum(compare_filters(program, filter_program, folder) for filter_program in filters.split(","))
+    differing += compare_builds(program, builder, folder)
     for name, data in inputs(folder):
         right = answer([program, "check"], data)
         kinds[right[0].split(" ")[-1] if right[1] else "ok"] += 1

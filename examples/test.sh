@@ -29,7 +29,7 @@ echo '#include <dbus_wire.h>' | "$CXX" $flags -x c++ -fsyntax-only -
 "$CC" -std=c99 -O2 $flags -o "$built/check" "$here/c/check.c" -L"$built" -ldbus_wire
 "$CC" -std=c99 -O2 $flags -o "$built/check_shared" "$here/c/check.c" "$shared" -Wl,-rpath,"$(cd "$(dirname "$shared")" && pwd)"
 "$CC" $sanitized -o "$built/check_sanitized" "$here/c/check.c" -L"$built" -ldbus_wire
-for name in list swap rules room habits texts pieces threads; do "$CC" $sanitized -pthread -o "$built/$name" "$here/c/$name.c" -L"$built" -ldbus_wire; done
+for name in list swap rules build room habits texts pieces threads; do "$CC" $sanitized -pthread -o "$built/$name" "$here/c/$name.c" -L"$built" -ldbus_wire; done
 for sample in session big-endian; do
 	for name in room threads; do "$built/$name" < "$here/../samples/$sample.dbus"; done
 	for length in 1 64 4096; do "$built/pieces" $length < "$here/../samples/$sample.dbus"; done
@@ -65,6 +65,12 @@ for nth in $(seq 1 60); do
 	LD_PRELOAD=$built/refuse_nth.so REFUSE_NTH=$nth "$built/handshake_plain" pieces 7 > "$built/said" 2>&1 || status=$?
 	test $status = 0 || grep -qx 'no client\|no server' "$built/said"
 done
+# No message is built if there is no memory (stdio takes the first block), or of parts that no message has.
+"$CC" -std=c99 -O2 $flags -o "$built/build_plain" "$here/c/build.c" -L"$built" -ldbus_wire
+! LD_PRELOAD=$built/refuse_nth.so REFUSE_NTH=2 "$built/build_plain" < "$here/../samples/session.dbus" 2> "$built/told" > /dev/null
+grep -q 'out of memory' "$built/told"
+! "$built/build" serial 0 < "$here/../samples/session.dbus" 2> "$built/told"
+grep -q 'is 0$' "$built/told"
 "$here/tables.py" "$built/habits" "$built/texts" "$program"
 # The fuzz target finds nothing, and finds a parser that takes everything for a message.
 try_fuzz() {
@@ -93,4 +99,4 @@ if command -v cargo > /dev/null; then
 else
 	echo "no cargo here: the Rust crate is not tried"
 fi
-exec "$here/compare.py" "$program" "$listers" "$swappers" "$filters" "$@"
+exec "$here/compare.py" "$program" "$listers" "$swappers" "$filters" "$built/build" "$@"

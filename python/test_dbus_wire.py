@@ -44,6 +44,7 @@ from dbus_wire import (  # noqa: E402
     TextKind,
     Truncated,
     Variant,
+    build,
     byteswap,
     check_text,
     messages,
@@ -259,6 +260,36 @@ class Cases(unittest.TestCase):
                 self.assertEqual(swapped.order, order)
                 self.assertEqual(repr(swapped.body), repr(message.body), name)
                 self.assertEqual(swapped.swapped(message.order), message, name)
+
+    def test_what_is_built_of_parts_has_them(self):
+        names = [name for name in (*FIELDS, "order", "type", "flags", "unix_fds")]
+        for name, data in whole_cases().items():
+            message = Message.parse(data)
+            parts = {part: getattr(message, part) for part in names}
+            built = build(serial=77, body=message.body_bytes, **parts)
+            self.assertEqual(({part: getattr(built, part) for part in names}, built.serial), (parts, 77), name)
+            self.assertEqual(repr(built.body), repr(message.body), name)
+
+    def test_parts_of_no_message_are_refused(self):
+        signal = {"type": MessageType.SIGNAL, "serial": 1, "path": "/", "interface": "a.b", "member": "C"}
+        self.assertEqual(build(**signal).member, "C")
+        for changed, reason in (
+            ({"type": 0}, "Kind"),
+            ({"type": 256}, "Overrun"),
+            ({"serial": 0}, "ZeroSerial"),
+            ({"path": "a"}, "Path"),
+            ({"path": "/\udc80"}, "Path"),
+            ({"sender": "a"}, "BusName"),
+            ({"member": None}, "FieldMissing"),
+            ({"signature": "y" * 256}, "Signature"),
+            ({"signature": "u", "body": bytes(3)}, "Overrun"),
+            ({"body": b"\0"}, "Trailing"),
+        ):
+            with self.assertRaises(Refused) as caught:
+                build(**signal | changed)
+            self.assertEqual(caught.exception.reason, reason, changed)
+        self.assertRaises(ValueError, build, **signal | {"serial": 1 << 32})
+        self.assertRaises(Refused, build, **signal, limits=Limits(message=16))
 
     def test_texts_have_the_answers(self):
         for _, kind, text, answer in read_cases(TEXT_CASES / "names.txt"):

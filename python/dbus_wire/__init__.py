@@ -1,5 +1,5 @@
-"""D-Bus messages, read by libdbus_wire: checked, taken apart into Python values, byteswapped, and matched by rules; and both ends of the handshake
-before them.
+"""D-Bus messages, by libdbus_wire: checked, taken apart into Python values, built of their parts, byteswapped, and matched by rules; and both
+ends of the handshake before them.
 
 The module finds no place and no number in the bytes itself: each is what a call of include/dbus_wire.h returns. The library is the
 file that the environment variable DBUS_WIRE_LIBRARY names, or else libdbus_wire.so.0 as the dynamic linker finds it.
@@ -19,7 +19,7 @@ from ._errors import HeaderField, NotAMessage, Refused, Truncated
 from ._handshake import Client, Server, Status, Step
 from ._library import LIBRARY_VERSION
 from ._limits import Limits
-from ._messages import Message, MessageFlag, MessageType, Order, byteswap, messages, stated_length
+from ._messages import Message, MessageFlag, MessageType, Order, build, byteswap, messages, stated_length
 from ._rules import BadRule, Rule
 from ._texts import TextFault, TextKind, check_text
 from ._values import ObjectPath, Signature, UnixFd, Variant
@@ -48,6 +48,7 @@ __all__ = [
     "Truncated",
     "UnixFd",
     "Variant",
+    "build",
     "byteswap",
     "check_text",
     "messages",

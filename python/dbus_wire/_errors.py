@@ -26,7 +26,8 @@ class NotAMessage(ValueError):
     """Bytes are no message; as a text, the line that `dbus-wire check` prints of them.
 
     `at` is the place, in bytes from the start of the input. `reason` is the reason's name, as docs/WIRE-FORMAT.md lists them
-    ("Faults"). `field` is the header field that is missing if the reason is "FieldMissing", and else None.
+    ("Faults"). `field` is the header field that is missing if the reason is "FieldMissing", or one whose text is too long for `build`,
+    and else None.
     """
 
     def __init__(self, at: int, reason: str, field: HeaderField | None = None) -> None:

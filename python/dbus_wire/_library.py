@@ -107,6 +107,7 @@ _CALLS = {
     "next": (c_uint32, c_char_p, c_size_t, POINTER(Cursor), POINTER(Item)),
     "wanted": (c_uint64, *_MESSAGE),
     "swap": (c_uint32, *_MESSAGE, c_uint32, c_char_p, c_size_t, POINTER(Checked)),
+    "build": (c_uint32, POINTER(Parts), *_MESSAGE, c_char_p, c_size_t, POINTER(Checked)),
     "text_check": (c_uint32, c_uint32, c_char_p, c_size_t, POINTER(TextChecked)),
     "checker_new": (c_uint32, POINTER(Limits), POINTER(Checker)),
     "checker_take": (c_uint32, POINTER(Checker), c_char_p, c_size_t, POINTER(Taken)),

@@ -1,4 +1,4 @@
-"""Messages: one, those of a capture, and one in the other byte order."""
+"""Messages: one, those of a capture, one of its parts, and one in the other byte order."""
 
 from __future__ import annotations
 
@@ -12,7 +12,7 @@ from typing import Any, BinaryIO, Iterator, NoReturn
 
 from . import _library
 from ._errors import refused, truncated
-from ._library import FIXED_HEADER_LENGTH, PARTIAL, REASON_TRAILING, REFUSED, WHOLE, Bytes, as_bytes, library
+from ._library import FIXED_HEADER_LENGTH, NO_MEMORY, OK, PARTIAL, REASON_TRAILING, REFUSED, WHOLE, Bytes, as_bytes, library
 from ._limits import Limits, limits_struct
 from ._values import ObjectPath, Signature, text_at, values_at
 
@@ -127,6 +127,13 @@ class Message:
         library.dbus_wire_body_cursor(self.data, len(self.data), byref(limits_struct(None)), byref(cursor))
         return list(values_at(self.data, cursor))
 
+    @property
+    def body_bytes(self) -> bytes:
+        """The bytes of the body, as `build` takes them."""
+        parts = _library.Parts()
+        library.dbus_wire_parts_of(self.data, len(self.data), byref(limits_struct(None)), byref(parts))
+        return self.data[parts.body :]
+
     def swapped(self, order: Order | str) -> Message:
         """The same message in the byte order, 'l' or 'B'. Raises ValueError of another."""
         return Message.parse(byteswap(self.data, order))
@@ -162,6 +169,55 @@ def stated_length(data: Bytes, limits: Limits | None = None) -> int | None:
     if library.dbus_wire_check(head, len(head), byref(given), byref(told)) == REFUSED:
         raise refused(told.offset, told.reason, told.field)
     return None
+
+
+def build(
+    type: MessageType | int,
+    serial: int,
+    *,
+    order: Order | str = Order.LITTLE,
+    flags: int = 0,
+    path: str | None = None,
+    interface: str | None = None,
+    member: str | None = None,
+    error_name: str | None = None,
+    reply_serial: int | None = None,
+    destination: str | None = None,
+    sender: str | None = None,
+    signature: str | None = None,
+    unix_fds: int = 0,
+    body: Bytes = b"",
+    limits: Limits | None = None,
+) -> Message:
+    """The message within the limits that has exactly these parts. What is None or 0 is no header field.
+
+    The body's bytes are spelled in the byte order, 'l' or 'B', as those of `body_bytes` are. Raises Refused if no message has these
+    parts; its place counts from the first byte that they spell. Raises ValueError of a number that no field has room for.
+    """
+    given, data = _library.Parts(order=ord(Order(order).value)), bytearray()
+    numbers = {"kind": type, "flags": flags, "serial": serial, "reply_serial": reply_serial or 0, "unix_fds": unix_fds}
+    for name, number in numbers.items():
+        if not 0 <= number < 1 << 32:
+            raise ValueError(f"{number} is out of range")
+        setattr(given, name, number)
+    texts = {"path": path, "interface": interface, "member": member, "error_name": error_name}
+    texts |= {"destination": destination, "sender": sender, "signature": signature}
+    for name, text in texts.items():
+        if text is not None:
+            spelled = text.encode("utf-8", "surrogatepass")
+            setattr(given, name, _library.Text(len(data), len(spelled), 1))
+            data += spelled
+    given.body = len(data)
+    data += as_bytes(body)
+    given.length = len(data)
+    # Each of seven texts has 16 bytes beside its own at most, and so has each number, the fixed header and the body.
+    out, told = ctypes.create_string_buffer(len(data) + 11 * 16), _library.Checked()
+    answer = library.dbus_wire_build(byref(given), bytes(data), len(data), byref(limits_struct(limits)), out, len(out), byref(told))
+    if answer == NO_MEMORY:
+        raise MemoryError
+    if answer != OK:
+        raise refused(told.offset, told.reason, told.field)
+    return Message.parse(out.raw[: told.length])
 
 
 def byteswap(data: Bytes, order: Order | str, limits: Limits | None = None) -> bytes:

@@ -1,4 +1,4 @@
-//! Checks, takes apart, byteswaps and matches D-Bus messages, and checks texts, as the [D-Bus Specification] spells them. The calls are those
+//! Checks, takes apart, builds, byteswaps and matches D-Bus messages, and checks texts, as the [D-Bus Specification] spells them. The calls are those
 //! of a C library, `libdbus_wire`, whose results are proved for all bytes and all limits; this crate makes them safe. What is in
 //! this crate itself is tested, and not proved.
 //!
@@ -20,6 +20,7 @@
 //! * [`check`] says whether bytes begin with a message; [`Checker`] says it of bytes that come in pieces; [`wanted`] says how long
 //!   a message is by its first 16 bytes.
 //! * [`Message`] has the parts of a message, and [`Values`] goes over the values of its body. Both borrow the bytes, and allocate nothing.
+//! * [`build`] makes a message of its [`Parts`].
 //! * [`byteswap`] writes a message in the other byte order, and [`check_text`] checks names, signatures and other texts.
 //! * A match [`Rule`] says which messages a program wants; [`Owners`] says who owns the names that it asks for.
 //! * [`Server`] and [`Client`] are the ends of the authentication handshake.
@@ -38,6 +39,7 @@
 //!
 //! [D-Bus Specification]: https://dbus.freedesktop.org/doc/dbus-specification.html
 
+mod build;
 mod check;
 mod checker;
 mod fault;
@@ -50,6 +52,7 @@ pub mod sys;
 mod text;
 mod value;
 
+pub use build::{build, BuildError, Parts};
 pub use check::{check, wanted, Answer, Order};
 pub use checker::{Checker, OutOfMemory, Taken};
 pub use fault::{Fault, ParseError, Reason, RuleReason};

@@ -4,7 +4,7 @@ use std::fmt;
 use std::num::NonZeroU32;
 
 use crate::value::text_at;
-use crate::{byteswap, check, sys, Answer, Limits, Order, ParseError, Values};
+use crate::{byteswap, check, sys, Answer, Limits, Order, ParseError, Parts, Values};
 
 /// The type of a message.
 #[derive(Clone, Copy, Debug, PartialEq, Eq, Hash)]
@@ -29,6 +29,16 @@ impl Kind {
             sys::DBUS_WIRE_TYPE_ERROR => Kind::Error,
             sys::DBUS_WIRE_TYPE_SIGNAL => Kind::Signal,
             other => Kind::Other(other as u8),
+        }
+    }
+
+    pub(crate) fn number(self) -> u8 {
+        match self {
+            Kind::MethodCall => 1,
+            Kind::MethodReturn => 2,
+            Kind::Error => 3,
+            Kind::Signal => 4,
+            Kind::Other(number) => number,
         }
     }
 }
@@ -171,6 +181,26 @@ impl<'a> Message<'a> {
     /// The values of the body. The call looks over the message once more, and each value is looked over as it comes.
     pub fn body(&self) -> Values<'a> {
         Values::of_message(self.bytes)
+    }
+
+    /// Its parts, of which [`build`](crate::build) makes a message. They hold all but header fields of unknown codes.
+    pub fn parts(&self) -> Parts<'a> {
+        Parts {
+            order: self.order(),
+            kind: self.kind(),
+            flags: self.flags().bits(),
+            serial: self.serial(),
+            path: self.path(),
+            interface: self.interface(),
+            member: self.member(),
+            error_name: self.error_name(),
+            reply_serial: self.reply_serial(),
+            destination: self.destination(),
+            sender: self.sender(),
+            signature: self.signature(),
+            unix_fds: self.unix_fds(),
+            body: self.body_bytes(),
+        }
     }
 
     /// A copy of the message in the byte order.

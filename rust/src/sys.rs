@@ -286,6 +286,15 @@ extern "C" {
         room: usize,
         told: *mut dbus_wire_checked,
     ) -> u32;
+    pub fn dbus_wire_build(
+        parts: *const dbus_wire_parts,
+        bytes: *const u8,
+        length: usize,
+        limits: *const dbus_wire_limits,
+        out: *mut u8,
+        room: usize,
+        told: *mut dbus_wire_checked,
+    ) -> u32;
     pub fn dbus_wire_text_check(kind: u32, bytes: *const u8, length: usize, out: *mut dbus_wire_text_checked) -> u32;
     pub fn dbus_wire_checker_new(limits: *const dbus_wire_limits, checker: *mut dbus_wire_checker) -> u32;
     pub fn dbus_wire_checker_take(

@@ -3,9 +3,9 @@
 use std::thread;
 
 use dbus_wire::{
-    byteswap, check, check_text, wanted, Answer, Checker, Client, Descriptors, External, Fault, HandshakeError, Kind, Limits,
-    Message, Order, Owners, ParseError, Reason, Rule, RuleError, RuleReason, Server, Status, SwapError, Taken, TextFault,
-    TextKind, Value, Values,
+    build, byteswap, check, check_text, wanted, Answer, BuildError, Checker, Client, Descriptors, External, Fault,
+    HandshakeError, Kind, Limits, Message, Order, Owners, ParseError, Parts, Reason, Rule, RuleError, RuleReason, Server, Status,
+    SwapError, Taken, TextFault, TextKind, Value, Values,
 };
 
 const CAPTURES: [&[u8]; 2] = [include_bytes!("../../samples/session.dbus"), include_bytes!("../../samples/big-endian.dbus")];
@@ -250,6 +250,39 @@ fn a_swap_without_room_writes_nothing() {
     assert!(out.iter().all(|byte| *byte == 0xAA));
     assert_eq!(byteswap(&bytes, &Limits::default(), Order::Big, &mut out), Ok(length));
     assert_eq!((out[0], out[length]), (b'B', 0xAA));
+}
+
+#[test]
+fn what_is_built_of_parts_has_them() {
+    for capture in CAPTURES {
+        for message in messages(capture) {
+            let parts = Parts { serial: 77, destination: Some(":1.99"), ..message.parts() };
+            let bytes = build(&parts, &Limits::default()).unwrap();
+            let built = Message::parse(&bytes).unwrap();
+            assert_eq!((built.parts(), built.bytes().len()), (parts, bytes.len()));
+            assert_eq!(format!("{:?}", built.body()), format!("{:?}", message.body()));
+        }
+    }
+}
+
+#[test]
+fn parts_of_no_message_are_refused() {
+    let signal = Parts { path: Some("/"), interface: Some("a.b"), member: Some("C"), ..Parts::new(Kind::Signal, 1) };
+    let refused = |parts: Parts<'_>| match build(&parts, &Limits::default()) {
+        Err(BuildError::Refused(fault)) => fault.reason,
+        other => panic!("{other:?}"),
+    };
+    let long = "y".repeat(256);
+    assert!(build(&signal, &Limits::default()).is_ok());
+    assert_eq!(refused(Parts { kind: Kind::Other(0), ..signal }), Reason::Kind);
+    assert_eq!(refused(Parts { serial: 0, ..signal }), Reason::ZeroSerial);
+    assert_eq!(refused(Parts { path: Some("a"), ..signal }), Reason::Path);
+    assert_eq!(refused(Parts { sender: Some("a"), ..signal }), Reason::BusName);
+    assert_eq!(refused(Parts { member: None, ..signal }), Reason::FieldMissing(3));
+    assert_eq!(refused(Parts { signature: Some(&long), ..signal }), Reason::Signature);
+    assert_eq!(refused(Parts { signature: Some("u"), body: &[0; 3], ..signal }), Reason::Overrun);
+    assert_eq!(refused(Parts { signature: Some("u"), body: &[0; 5], ..signal }), Reason::Trailing);
+    assert_eq!(refused(Parts { body: &[0], ..signal }), Reason::Trailing);
 }
 
 // The lengths of the messages of a stream that comes in pieces.

@@ -8,3 +8,4 @@ pub mod Outcomes
 pub mod OwnerLines
 pub mod RuleTelling
 pub mod EndsMade
+mod Built

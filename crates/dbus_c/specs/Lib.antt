@@ -15,3 +15,4 @@ pub mod Owners
 pub mod RuleReasons
 pub mod Rules
 pub mod Handshakes
+pub mod Building

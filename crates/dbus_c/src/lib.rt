@@ -4,13 +4,14 @@
 //! [`dbus_wire_check`] checks bytes, [`dbus_wire_wanted`] says how many to read, [`dbus_wire_parts_of`] and
 //! [`dbus_wire_argument_of`] give a message's parts, and [`dbus_wire_swap`] byteswaps. [`dbus_wire_body_cursor`] and
 //! [`dbus_wire_next`] give the values of its body. [`dbus_wire_checker_new`] makes a checker that is handed one piece after another, and
-//! [`dbus_wire_rule_new`] a match rule; [`dbus_wire_server_new`] and [`dbus_wire_client_new`] make an end of a handshake. Of the other
-//! calls those on a rule and [`dbus_wire_handshake_take`] take memory too.
+//! [`dbus_wire_rule_new`] a match rule; [`dbus_wire_server_new`] and [`dbus_wire_client_new`] make an end of a handshake, and
+//! [`dbus_wire_build`] builds a message of its parts. Of the other calls those on a rule and [`dbus_wire_handshake_take`] take memory too.
 //! `include/dbus_wire.h` declares them and says what a caller owes; `examples/c` has callers.
 #![tactic(auto)]
 
 mod answers;
 mod arguments;
+mod building;
 mod checkers;
 mod checking;
 mod cursors;
@@ -32,6 +33,7 @@ pub use answers::{
     WHOLE,
 };
 pub use arguments::{Argument, dbus_wire_argument_of};
+pub use building::dbus_wire_build;
 pub use checkers::{
     Taken, dbus_wire_checker_free, dbus_wire_checker_new, dbus_wire_checker_restart,
     dbus_wire_checker_take,

@@ -1,0 +1,178 @@
+//! A message built of parts in numbers, which are those that are told of one that is taken apart.
+#![tactic(auto)]
+
+ghost use Rattle.std.specs.Prelude.{◌≡◌, ◌<◌, ◌≤◌, ◌++◌, length, drop, nat_eq, if◌then◌else◌, MatchOption, MatchResult};
+ghost use Rattle.dbus_message_model.specs.Messages.{order_byte};
+ghost use Rattle.dbus_value_model.specs.declared.fault.Reason.TheVariants.{MessageTooLong, Signature};
+ghost use Rattle.dbus_value_model.specs.declared.order.Order.{Order};
+ghost use Rattle.dbus_c.specs.Building.{AreNoParts, Builds, StandFor, field_told, place_given, refusal_told};
+ghost use Rattle.dbus_c.specs.Checking.{whole_told};
+ghost use Rattle.dbus_c.specs.GivenLimits.{limits_of};
+
+use crate::answers::{NO_MEMORY, NO_ROOM, REFUSED, WHOLE};
+use crate::checking::{Checked, fault_told, nothing_told};
+use crate::given_limits::{WireLimits, given_limits};
+use crate::parts::{Parts, TextPlace, order_byte};
+use crate::reasons::reason_number;
+use dbus_c_build::{Place, PlacedParts, Refusal, build};
+use dbus_message_model::field_code::SIGNATURE;
+use dbus_value_model::{Order, Reason};
+use std::alloc::Global;
+
+/// Writes the message that has exactly these parts to the start of `out`, in the byte order that they name: the header fields that
+/// are there, in the order of their codes, and the body from `parts.body` up to `parts.length`, which is spelled as in a message.
+/// The places are among `bytes`. It is the inverse of [`crate::dbus_wire_parts_of`] for messages that have no header fields beside
+/// the known ones.
+///
+/// [`WHOLE`] if it is written; `told` has its length and order. [`NO_ROOM`] if `out` has fewer bytes than the message, with the same
+/// told. [`REFUSED`] if no message within the limits has these parts. Then `told` has the reason and the field: what
+/// [`crate::dbus_wire_check`] finds in the bytes that the parts spell; or `Overrun` if a place is outside `bytes`, or a number over
+/// 255 stands for a byte; `MessageTooLong` or `Signature` if a text is too long for any message; `ByteOrder` if no order is named.
+/// [`NO_MEMORY`] if memory runs out, of which it takes one block for a header of up to 512 bytes. In these three cases `out` stays as
+/// it was. D-Bus Specification, "Message Format" and "Header Fields".
+#[unsafe(no_mangle)]
+pub extern "C" fn dbus_wire_build(
+    alloc: Global,
+    parts: &Parts,
+    bytes: &[u8],
+    limits: &WireLimits,
+    out: &mut [u8],
+    told: &mut Checked,
+) -> u32
+    ensures { Builds (limits_of limits.now) bytes.now parts.now result told.new out.old out.new }
+{
+    let placed = match placed_parts(parts) {
+        Ok(placed) => placed,
+        Err(reason) => {
+            *told = field_told(reason, 0);
+            return REFUSED;
+        }
+    };
+    match build(alloc, bytes, &placed, given_limits(limits)) {
+        Ok(message) => write_built(message.as_slice(), placed.order, out, told),
+        Err(why) => {
+            *told = refusal_told(why);
+            match why {
+                Refusal::Memory => NO_MEMORY,
+                _ => REFUSED,
+            }
+        }
+    }
+}
+
+// Writes a message in this order to the start of `out`, if it has room.
+fn write_built(message: &[u8], order: Order, out: &mut [u8], told: &mut Checked) -> u32
+    ensures told { told.new ≡ whole_told order (length message.now) }
+    ensures written { length message.now ≤ length out.old →
+        (result ≡ WHOLE) × (out.new ≡ message.now ++ drop (length message.now) out.old) }
+    ensures no_room { length out.old < length message.now → (result ≡ NO_ROOM) × (out.new ≡ out.old) }
+{
+    *told = Checked {
+        length: message.len() as u64,
+        offset: 0,
+        order: order_byte(order),
+        reason: 0,
+        field: 0,
+        reserved: 0,
+    };
+    if out.len() < message.len() {
+        return NO_ROOM;
+    }
+    out[..message.len()].copy_from_slice(message);
+    WHOLE
+}
+
+// What is told of a field, or under 0 of no field.
+fn field_told(reason: Reason, code: u8) -> Checked
+    ensures { result ≡ field_told reason code }
+{
+    Checked {
+        length: 0,
+        offset: 0,
+        order: 0,
+        reason: reason_number(reason),
+        field: u32::from(code),
+        reserved: 0,
+    }
+}
+
+// What is told of parts of which nothing is built.
+fn refusal_told(why: Refusal) -> Checked
+    ensures { result ≡ refusal_told why }
+{
+    match why {
+        Refusal::Memory => nothing_told(),
+        Refusal::Outside(code) => field_told(Reason::Overrun, code),
+        Refusal::TooLong(code) => field_told(too_long(code), code),
+        Refusal::Format(fault) => fault_told(fault),
+    }
+}
+
+// The reason why the text of a field is too long.
+fn too_long(code: u8) -> Reason
+    ensures { result ≡ (if nat_eq code 8 then Signature else MessageTooLong) }
+{
+    if code == SIGNATURE {
+        Reason::Signature
+    } else {
+        Reason::MessageTooLong
+    }
+}
+
+// The parts that the numbers stand for, or why they stand for none.
+fn placed_parts(parts: &Parts) -> Result<PlacedParts, Reason>
+    ensures { MatchResult result (λ p. StandFor parts.now p) (λ reason. AreNoParts parts.now reason) }
+{
+    let order = match order_named(parts.order) {
+        Some(order) => order,
+        None => return Err(Reason::ByteOrder),
+    };
+    if parts.kind > 255 || parts.flags > 255 || parts.length < parts.body {
+        return Err(Reason::Overrun);
+    }
+    Ok(PlacedParts {
+        order,
+        kind: parts.kind as u8,
+        flags: parts.flags as u8,
+        serial: parts.serial,
+        reply_serial: parts.reply_serial,
+        unix_fds: parts.unix_fds,
+        path: place_given(&parts.path),
+        interface: place_given(&parts.interface),
+        member: place_given(&parts.member),
+        error_name: place_given(&parts.error_name),
+        destination: place_given(&parts.destination),
+        sender: place_given(&parts.sender),
+        signature: place_given(&parts.signature),
+        body: Place {
+            start: parts.body as usize,
+            length: (parts.length - parts.body) as usize,
+        },
+    })
+}
+
+// The place that numbers stand for, or none.
+fn place_given(text: &TextPlace) -> Option<Place>
+    ensures { result ≡ place_given text.now }
+{
+    if text.is_there == 0 {
+        return None;
+    }
+    Some(Place {
+        start: text.offset as usize,
+        length: text.length as usize,
+    })
+}
+
+// The order whose byte is named.
+fn order_named(byte: u32) -> Option<Order>
+    ensures { MatchOption result ((order : Order) → byte ≡ order_byte order → ⊥) (λ order. byte ≡ order_byte order) }
+{
+    if byte == u32::from(b'l') {
+        return Some(Order::Little);
+    }
+    if byte == u32::from(b'B') {
+        return Some(Order::Big);
+    }
+    None
+}

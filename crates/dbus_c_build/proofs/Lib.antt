@@ -1,0 +1,6 @@
+mod Cancelling
+mod SameFields
+mod PlainFields
+mod OnlyMessage
+mod Spelling
+mod Refusing

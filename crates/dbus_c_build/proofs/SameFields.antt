@@ -1,0 +1,153 @@
+-- Fields of well-formed values that spell what fields of plain values do are the same.
+use Rattle.std.proofs.Common.{◌≡◌, ℕ, zero, suc, ◌^◌, ◌<◌, List, [], ◌∷◌, ◌++◌, length, map, refl, sym, ap, subst, ◌∙◌, arith, append_assoc}
+use Rattle.dbus_texts.specs.Types.{NumberCode, UINT32, TextCode, TypeTree, NumberType, TextType, sig}
+use Rattle.dbus_types.specs.Alignments.{length_width}
+use Rattle.dbus_value_laws.proofs.KindLaws.{spelled_sig}
+use Rattle.dbus_texts.specs.ComputedKinds.{type_spelled}
+use Rattle.dbus_value_model.specs.declared.order.Order.{Order}
+use Rattle.dbus_value_model.specs.Appending.{with_padding, with_value, with_values}
+use Rattle.dbus_value_model.specs.Bytes.{num}
+use Rattle.dbus_value_model.specs.Spelling.{spelling, spellings}
+use Rattle.dbus_value_model.specs.Values.{ValueTree, ValueTrees, NumberValue, TextValue, VariantValue, ArrayValue, StructValue, EntryValue, type_of, value_trees, IsNumber, IsWellFormed, AreWellFormed}
+use Rattle.dbus_marshal.proofs.Written.{length_values, length_padding, value_is, written_number, written_text, written_none, written_more}
+use Rattle.dbus_message_model.specs.Messages.{FieldTree, field_struct}
+use Rattle.dbus_encode.proofs.FieldWriting.{before_value, field_written, field_length}
+use Rattle.dbus_c_build.proofs.Cancelling.{fronts, heads, numbers}
+
+-- a text or a UINT32 whose length or number fits
+abbrev pub IsPlain : ValueTree → Type 0
+IsPlain (NumberValue k n) = (k ≡ UINT32) × (n < 256 ^ 4)
+IsPlain (TextValue k t) = length t < 256 ^ length_width k
+IsPlain (VariantValue x) = ⊥
+IsPlain (ArrayValue t xs) = ⊥
+IsPlain (StructValue xs) = ⊥
+IsPlain (EntryValue k v) = ⊥
+
+abbrev pub ArePlain : List FieldTree → Type 0
+ArePlain [] = Unit {0}
+ArePlain (f ∷ fs) = ((f.code < 256) × (length (sig (type_of f.value)) < 256) × IsPlain f.value) × ArePlain fs
+
+abbrev structs : List FieldTree → ValueTrees
+structs fs = value_trees (map field_struct fs)
+
+sig_injective : (t u : TypeTree) → sig t ≡ sig u → t ≡ u
+sig_injective t u e = sym (spelled_sig t) ∙ ap type_spelled e ∙ spelled_sig u
+
+-- what a well-formed field is
+pub record IsSoundField (g : FieldTree) : Type 0 where
+  pub code : g.code < 256
+  pub short : length (sig (type_of g.value)) < 256
+  pub depth : ℕ
+  pub formed : IsWellFormed depth g.value
+
+pub sound_field : (depth : ℕ) (g : FieldTree) → IsWellFormed depth (field_struct g) → IsSoundField g
+sound_field zero g h = absurd h
+sound_field (suc zero) g h = absurd h.1.0
+sound_field (suc (suc d)) g h = record { code = h.0; short = h.1.0.0.1; depth = d; formed = h.1.0.1 }
+
+module _ (order : Order) (front x y : List ℕ) where
+  same_number : (n m : ℕ) → n < 256 ^ 4 → m < 256 ^ 4 → with_value order (NumberValue UINT32 n) front ++ x ≡ with_value order (NumberValue UINT32 m) front ++ y → n ≡ m
+  same_number n m small few same =
+      let p = with_padding 4 front in
+      let left = ap (λ (l : List ℕ). l ++ x) (written_number order UINT32 n front) ∙ append_assoc p (num order 4 n) x in
+      let right = ap (λ (l : List ℕ). l ++ y) (written_number order UINT32 m front) ∙ append_assoc p (num order 4 m) y in
+      (numbers order 4 n m x y small few (fronts p p _ _ refl (sym left ∙ same ∙ right)).1).0
+
+  same_text : (k : TextCode) (s t : List ℕ) → length s < 256 ^ length_width k → length t < 256 ^ length_width k → with_value order (TextValue k s) front ++ x ≡ with_value order (TextValue k t) front ++ y → s ≡ t
+  same_text k s t short few same =
+      let w = length_width k in
+      let p = with_padding w front in
+      let left : with_value order (TextValue k s) front ++ x ≡ p ++ (num order w (length s) ++ (s ++ (0 ∷ x))) = ap (λ (l : List ℕ). l ++ x) (written_text order k s front) ∙ simp append_assoc in
+      let right : with_value order (TextValue k t) front ++ y ≡ p ++ (num order w (length t) ++ (t ++ (0 ∷ y))) = ap (λ (l : List ℕ). l ++ y) (written_text order k t front) ∙ simp append_assoc in
+      let rest = (fronts p p _ _ refl (sym left ∙ same ∙ right)).1 in
+      let long = numbers order w (length s) (length t) (s ++ (0 ∷ x)) (t ++ (0 ∷ y)) short few rest in
+      (fronts s t (0 ∷ x) (0 ∷ y) long.0 long.1).0
+
+  is_number : (v : ValueTree) (depth m : ℕ) → IsWellFormed depth v → m < 256 ^ 4 → type_of v ≡ NumberType UINT32 → with_value order v front ++ x ≡ with_value order (NumberValue UINT32 m) front ++ y → v ≡ NumberValue UINT32 m
+  is_number (NumberValue k n) depth m formed few type same =
+      let code : k ≡ UINT32 = cc in
+      let small : n < 256 ^ 4 = subst (λ (c : NumberCode). IsNumber c n) code formed in
+      let number : n ≡ m = same_number n m small few (subst (λ (c : NumberCode). with_value order (NumberValue c n) front ++ x ≡ with_value order (NumberValue UINT32 m) front ++ y) code same) in
+      ap (λ (c : NumberCode). NumberValue c n) code ∙ ap (NumberValue UINT32) number
+  is_number (TextValue k t) depth m formed few type same = absurd cc
+  is_number (VariantValue z) depth m formed few type same = absurd cc
+  is_number (ArrayValue t zs) depth m formed few type same = absurd cc
+  is_number (StructValue zs) depth m formed few type same = absurd cc
+  is_number (EntryValue k z) depth m formed few type same = absurd cc
+
+  is_text : (v : ValueTree) (depth : ℕ) (k : TextCode) (t : List ℕ) → IsWellFormed depth v → length t < 256 ^ length_width k → type_of v ≡ TextType k → with_value order v front ++ x ≡ with_value order (TextValue k t) front ++ y → v ≡ TextValue k t
+  is_text (TextValue j s) depth k t formed few type same =
+      let code : j ≡ k = cc in
+      let short : length s < 256 ^ length_width k = subst (λ (c : TextCode). length s < 256 ^ length_width c) code formed.1 in
+      let text : s ≡ t = same_text k s t short few (subst (λ (c : TextCode). with_value order (TextValue c s) front ++ x ≡ with_value order (TextValue k t) front ++ y) code same) in
+      ap (λ (c : TextCode). TextValue c s) code ∙ ap (TextValue k) text
+  is_text (NumberValue j n) depth k t formed few type same = absurd cc
+  is_text (VariantValue z) depth k t formed few type same = absurd cc
+  is_text (ArrayValue u zs) depth k t formed few type same = absurd cc
+  is_text (StructValue zs) depth k t formed few type same = absurd cc
+  is_text (EntryValue j z) depth k t formed few type same = absurd cc
+
+  same_value : (v w : ValueTree) (depth : ℕ) → IsWellFormed depth v → IsPlain w → type_of v ≡ type_of w → with_value order v front ++ x ≡ with_value order w front ++ y → v ≡ w
+  same_value v (NumberValue k m) depth formed plain type same =
+      let P : NumberCode → Type 0 = λ c. type_of v ≡ NumberType c → with_value order v front ++ x ≡ with_value order (NumberValue c m) front ++ y → v ≡ NumberValue c m in
+      subst P (sym plain.0) (is_number v depth m formed plain.1) type same
+  same_value v (TextValue k t) depth formed plain type same = is_text v depth k t formed plain type same
+  same_value v (VariantValue z) depth formed plain type same = absurd plain
+  same_value v (ArrayValue t zs) depth formed plain type same = absurd plain
+  same_value v (StructValue zs) depth formed plain type same = absurd plain
+  same_value v (EntryValue k z) depth formed plain type same = absurd plain
+
+module _ (order : Order) where
+  -- a field's bytes and those after it, part by part
+  in_parts : (f : FieldTree) (front x : List ℕ) → f.code < 256 →
+      with_value order (field_struct f) front ++ x
+      ≡ with_padding 8 front ++ (f.code ∷ (num order 1 (length (sig (type_of f.value))) ++ (sig (type_of f.value) ++ (0 ∷ (spelling order (length (before_value order f front)) f.value ++ x)))))
+  in_parts f front x small =
+      ap (λ (l : List ℕ). l ++ x) (field_written order f front small ∙ value_is order f.value (before_value order f front)) ∙ simp append_assoc
+
+  one_byte : (n : ℕ) → n < 256 → n < 256 ^ 1
+  one_byte n h = omega (arith, h)
+
+  same_field : (g f : FieldTree) (front x y : List ℕ) → IsSoundField g → (f.code < 256) × (length (sig (type_of f.value)) < 256) × IsPlain f.value →
+      with_value order (field_struct g) front ++ x ≡ with_value order (field_struct f) front ++ y → g ≡ f
+  same_field g f front x y sound plain same =
+      let parts = sym (in_parts g front x sound.code) ∙ same ∙ in_parts f front y plain.0 in
+      let after = (fronts (with_padding 8 front) (with_padding 8 front) _ _ refl parts).1 in
+      let coding = heads _ _ _ _ after in
+      let long = numbers order 1 _ _ _ _ (one_byte _ sound.short) (one_byte _ plain.1) coding.1 in
+      let signed = fronts (sig (type_of g.value)) (sig (type_of f.value)) _ _ long.0 long.1 in
+      let type : type_of g.value ≡ type_of f.value = sig_injective _ _ signed.0 in
+      let ended = (heads _ _ _ _ signed.1).1 in
+      let front_of : ℕ → TypeTree → List ℕ = λ c t. (((with_padding 8 front ++ c ∷ []) ++ num order 1 (length (sig t))) ++ sig t) ++ 0 ∷ [] in
+      let before : before_value order g front ≡ before_value order f front = ap (λ (c : ℕ). front_of c (type_of g.value)) coding.0 ∙ ap (front_of f.code) type in
+      let b = before_value order f front in
+      let here : spelling order (length b) g.value ++ x ≡ spelling order (length b) f.value ++ y = ap (λ (l : List ℕ). spelling order (length l) g.value ++ x) (sym before) ∙ ended in
+      let whole : (v : ValueTree) (z : List ℕ) → with_value order v b ++ z ≡ b ++ (spelling order (length b) v ++ z) = λ v z. ap (λ (l : List ℕ). l ++ z) (value_is order v b) ∙ append_assoc b (spelling order (length b) v) z in
+      let values = whole g.value x ∙ ap (λ (l : List ℕ). b ++ l) here ∙ sym (whole f.value y) in
+      let value : g.value ≡ f.value = same_value order b x y g.value f.value sound.depth sound.formed plain.2 type values in
+      ap (λ (c : ℕ). let h : FieldTree = record { code = c; value = g.value } in h) coding.0 ∙ ap (λ (v : ValueTree). let h : FieldTree = record { code = f.code; value = v } in h) value
+
+  values_are : (vs : ValueTrees) (front : List ℕ) → with_values order vs front ≡ front ++ spellings order (length front) vs
+  unfolding with_values
+  values_are vs front = refl
+
+  -- fields after others make them longer
+  longer : (f : FieldTree) (fs : List FieldTree) (front : List ℕ) → f.code < 256 → length front < length (with_values order (structs (f ∷ fs)) front)
+  longer f fs front small =
+      let all = ap length (written_more order (field_struct f) (structs fs) front) ∙ length_values order (structs fs) (with_value order (field_struct f) front) in
+      omega (arith, all, field_length order f.code f.value front small, length_padding 8 front)
+
+  pub same_fields : (gs fs : List FieldTree) (depth : ℕ) (front : List ℕ) → AreWellFormed depth (structs gs) → ArePlain fs
+      → with_values order (structs gs) front ≡ with_values order (structs fs) front → gs ≡ fs
+  same_fields [] [] depth front formed plain same = refl
+  same_fields [] (f ∷ fs) depth front formed plain same = absurd (omega (arith, longer f fs front plain.0.0, ap length (sym (written_none order front) ∙ same)))
+  same_fields (g ∷ gs) [] depth front formed plain same =
+      absurd (omega (arith, longer g gs front (sound_field depth g formed.0).code, ap length (same ∙ written_none order front)))
+  same_fields (g ∷ gs) (f ∷ fs) depth front formed plain same =
+      let sound = sound_field depth g formed.0 in
+      let more = sym (written_more order (field_struct g) (structs gs) front) ∙ same ∙ written_more order (field_struct f) (structs fs) front in
+      let flat = sym (values_are (structs gs) (with_value order (field_struct g) front)) ∙ more ∙ values_are (structs fs) (with_value order (field_struct f) front) in
+      let first : g ≡ f = same_field g f front _ _ sound plain.0 flat in
+      let next = ap (λ (h : FieldTree). with_values order (structs gs) (with_value order (field_struct h) front)) (sym first) ∙ more in
+      let rest : gs ≡ fs = same_fields gs fs depth (with_value order (field_struct f) front) formed.1 plain.1 next in
+      ap (λ (h : FieldTree). h ∷ gs) first ∙ ap (λ (hs : List FieldTree). f ∷ hs) rest

@@ -1,0 +1,4 @@
+pub mod Placed
+pub mod Spelled
+pub mod Building
+pub mod BuildLaws

@@ -1,0 +1,119 @@
+//! A message built of its parts.
+#![tactic(auto)]
+
+ghost use Rattle.std.specs.Prelude.{◌≡◌, ◌≤◌, [], ◌++◌, length, take, drop, OnOk, IfOk, IfErr};
+ghost use Rattle.dbus_value_model.specs.Bytes.{num};
+ghost use Rattle.dbus_validate.specs.Validating.{BeginsWithNone};
+ghost use Rattle.dbus_c_build.specs.Building.{HaveBytes, HaveNoBytes, IsBuilt, IsFaultOf, IsRefusal};
+ghost use Rattle.dbus_c_build.specs.Spelled.{fixed_items, spelled};
+
+use crate::appending::{put_32, put_padding};
+use crate::fields::{put_fields, text_at};
+use crate::placed::PlacedParts;
+use crate::refusal::Refusal;
+use dbus_check::{Check, Checker};
+use dbus_marshal::writing::overwrite_32;
+use dbus_validate::validate;
+use dbus_value_model::{ARRAY_LIMIT, Fault, Limits, Order, Reason};
+use std::alloc::{AllocError, Allocator};
+
+/// The protocol version.
+const VERSION: u8 = 1;
+
+/// Where the header fields begin.
+const FIELDS_START: usize = 16;
+
+/// How many bytes most headers have at most: room that is made at the start.
+const HEADER_ROOM: usize = 512;
+
+/// Appends the items up to the fields' length, for which 0 stands.
+fn put_fixed<A: Allocator>(
+    out: &mut Vec<u8, A>,
+    parts: &PlacedParts,
+    body_length: u32,
+) -> Result<(), AllocError>
+    requires { out.old.items ≡ [] }
+    ensures { OnOk result (out.new.items ≡ fixed_items parts.now.order parts.now.kind
+        parts.now.flags parts.now.serial body_length) }
+{
+    let order = parts.order;
+    let first = if order == Order::Little { b'l' } else { b'B' };
+    out.extend_from_slice(&[first, parts.kind, parts.flags, VERSION])?;
+    put_32(out, order, body_length)?;
+    put_32(out, order, parts.serial)?;
+    put_32(out, order, 0)
+}
+
+/// Writes the fields' length in its place, which is there.
+fn set_length<A: Allocator>(out: &mut Vec<u8, A>, order: Order, fields_length: u32)
+    requires { 16 ≤ length out.old.items }
+    ensures { out.new.items ≡
+        take 12 out.old.items ++ (num order 4 fields_length ++ drop 16 out.old.items) }
+{
+    overwrite_32(out.as_mut_slice(), 12, order, fields_length);
+}
+
+/// The bytes that the parts spell, whether or not they are a message.
+fn spell<A: Allocator + Copy>(
+    alloc: A,
+    bytes: &[u8],
+    parts: &PlacedParts,
+) -> Result<Vec<u8, A>, Refusal>
+    ensures spelled { IfOk result (λ v. v.items ≡ spelled bytes.now parts.now) }
+    ensures bounded { IfOk result (λ v. HaveBytes bytes.now parts.now) }
+    ensures refused { IfErr result (λ why. HaveNoBytes bytes.now parts.now why) }
+{
+    let (_kind, _flags, _serial) = (parts.kind, parts.flags, parts.serial);
+    let (_reply_serial, _unix_fds) = (parts.reply_serial, parts.unix_fds);
+    let body = text_at(bytes, parts.body, 0)?;
+    let mut out = Vec::with_capacity(alloc, body.len() + HEADER_ROOM)?;
+    put_fixed(&mut out, parts, body.len() as u32)?;
+    put_fields(&mut out, bytes, parts)?;
+    let length = out.len() - FIELDS_START;
+    if length > ARRAY_LIMIT as usize {
+        return Err(Refusal::TooLong(0));
+    }
+    set_length(&mut out, parts.order, length as u32);
+    put_padding(&mut out, 8)?;
+    out.extend_from_slice(body)?;
+    Ok(out)
+}
+
+/// The fault of bytes that begin with no message, and are all that there is: `Truncated` at their end if more are wanted.
+// A checker is large: a call that builds a message has no room for one.
+#[inline(never)]
+fn fault_of(bytes: &[u8], limits: Limits) -> Fault
+    requires { BeginsWithNone limits bytes.now }
+    ensures { IsFaultOf limits bytes.now result }
+{
+    match Checker::within(limits).take(bytes) {
+        Check::Refused(fault) => fault,
+        // No message is done, since the bytes begin with none.
+        Check::Partial | Check::Done(_) => Fault {
+            at: bytes.len() as u64,
+            reason: Reason::Truncated,
+        },
+    }
+}
+
+/// The message that has exactly these parts: the header fields that are there, in the order of their codes, and the body, in the
+/// byte order that is named. `bytes` are those that the places are in.
+///
+/// Some message within the limits has these parts exactly if it returns one. Else it returns the [`Refusal`], which says why; that of
+/// `Format` is the fault of the bytes that the parts spell. It takes one block of memory for a header of up to 512 bytes, and a few
+/// for a longer one. D-Bus Specification, "Message Format".
+pub fn build<A: Allocator + Copy>(
+    alloc: A,
+    bytes: &[u8],
+    parts: &PlacedParts,
+    limits: Limits,
+) -> Result<Vec<u8, A>, Refusal>
+    ensures built { IfOk result (λ v. IsBuilt limits bytes.now parts.now v.items) }
+    ensures refused { IfErr result (λ why. IsRefusal limits bytes.now parts.now why) }
+{
+    let out = spell(alloc, bytes, parts)?;
+    match validate(out.as_slice(), limits) {
+        Some(_) => Ok(out),
+        None => Err(Refusal::Format(fault_of(out.as_slice(), limits))),
+    }
+}

@@ -1,0 +1,11 @@
+//! The law of what is built. The function's contract is the law; it does nothing when it runs.
+#![tactic(auto)]
+
+ghost use Rattle.dbus_c_build.specs.BuildLaws.{OneBuilt};
+
+/// What is built of parts that a message has is that message, byte for byte: so a message that has no header fields beside the known
+/// ones, in the order of their codes, comes back from its parts.
+#[tactic(auto, using(crate::proofs::OnlyMessage::one_built))]
+pub fn one_built()
+    ensures { OneBuilt }
+{}

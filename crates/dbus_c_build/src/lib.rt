@@ -1,0 +1,16 @@
+//! Messages built in bytes, for C: of a header in numbers and places, and of a body that is spelled already. D-Bus Specification,
+//! "Message Format".
+//!
+//! [`build`] is the inverse of taking a message apart by places. What it spells it validates, so that it builds exactly the messages.
+#![tactic(auto)]
+
+mod appending;
+mod building;
+mod fields;
+pub mod laws;
+mod placed;
+mod refusal;
+
+pub use building::build;
+pub use placed::{Place, PlacedParts};
+pub use refusal::Refusal;

@@ -1,0 +1,68 @@
+/* Builds messages of those on standard input, and writes them. The words say what is built of each:
+ *   again                the same message, of its parts
+ *   serial NUMBER        the same with this serial
+ *   destination NAME     the same with this destination
+ *   error NAME           of each call, the error of this name that answers it, with serial 1
+ * Header fields that the D-Bus Specification does not name are left out. */
+#include <dbus_wire.h>
+
+#include <stdio.h>
+#include <stdlib.h>
+#include <string.h>
+
+/* The message at hand, with a text after it to which parts may point. */
+static uint8_t bytes[1 << 20];
+
+/* Puts a text at the end of `length` bytes, and returns its place. */
+static struct dbus_wire_text put(size_t *length, const char *text) {
+    struct dbus_wire_text place = {*length, strlen(text), 1};
+    memcpy(bytes + *length, text, place.length);
+    *length += place.length;
+    return place;
+}
+
+/* The error that answers a call: its parts are new, but for what they take from the call. */
+static struct dbus_wire_parts error_to(const struct dbus_wire_parts *call, struct dbus_wire_text name) {
+    struct dbus_wire_parts error = {0};
+    error.order = call->order;
+    error.kind = DBUS_WIRE_TYPE_ERROR;
+    error.serial = 1;
+    error.reply_serial = call->serial;
+    error.error_name = name;
+    error.destination = call->sender;
+    return error;
+}
+
+/* Builds what the words say of the message at the start of `bytes`, and writes it. Returns whether it was built. */
+static int build(struct dbus_wire_parts parts, const char *what, const char *word) {
+    static uint8_t out[1 << 20];
+    struct dbus_wire_checked told;
+    size_t length = parts.length;
+
+    if (strcmp(what, "serial") == 0) parts.serial = (uint32_t)strtoul(word, NULL, 10);
+    if (strcmp(what, "destination") == 0) parts.destination = put(&length, word);
+    if (strcmp(what, "error") == 0) {
+        if (parts.kind != DBUS_WIRE_TYPE_METHOD_CALL) return 1;
+        parts = error_to(&parts, put(&length, word));
+    }
+    switch (dbus_wire_build(&parts, bytes, length, NULL, out, sizeof out, &told)) {
+    case DBUS_WIRE_OK: return fwrite(out, 1, told.length, stdout) == told.length;
+    case DBUS_WIRE_REFUSED: fprintf(stderr, "not built: %s\n", dbus_wire_reason_text(told.reason)); return 0;
+    case DBUS_WIRE_NO_ROOM: fprintf(stderr, "not built: it has %llu bytes\n", (unsigned long long)told.length); return 0;
+    default: fputs("not built: out of memory\n", stderr); return 0;
+    }
+}
+
+int main(int count_of_words, char **words) {
+    static uint8_t all[1 << 19];
+    struct dbus_wire_parts parts;
+    size_t count = fread(all, 1, sizeof all, stdin), at = 0;
+    const char *what = count_of_words > 1 ? words[1] : "again", *word = count_of_words > 2 ? words[2] : "";
+
+    while (at < count && dbus_wire_parts_of(all + at, count - at, NULL, &parts) == DBUS_WIRE_WHOLE) {
+        memcpy(bytes, all + at, parts.length);
+        if (strlen(word) > 1000 || !build(parts, what, word)) return 1;
+        at += parts.length;
+    }
+    return at < count;
+}

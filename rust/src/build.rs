@@ -1,0 +1,144 @@
+//! A message built of its parts.
+
+use std::error::Error;
+use std::fmt;
+use std::num::NonZeroU32;
+
+use crate::{sys, Fault, Kind, Limits, Order};
+
+/// The parts of a message, of which [`build`] makes it. Those of one at hand are [`Message::parts`](crate::Message::parts).
+#[derive(Clone, Copy, Debug, PartialEq, Eq)]
+pub struct Parts<'a> {
+    /// The byte order, which is also that of the body.
+    pub order: Order,
+    /// The type.
+    pub kind: Kind,
+    /// All bits of the flags.
+    pub flags: u8,
+    /// The serial, which is not 0 in a message.
+    pub serial: u32,
+    /// The PATH field, an object path.
+    pub path: Option<&'a str>,
+    /// The INTERFACE field, an interface name.
+    pub interface: Option<&'a str>,
+    /// The MEMBER field, a member name.
+    pub member: Option<&'a str>,
+    /// The ERROR_NAME field, an error name.
+    pub error_name: Option<&'a str>,
+    /// The REPLY_SERIAL field, the serial of the call that this replies to.
+    pub reply_serial: Option<NonZeroU32>,
+    /// The DESTINATION field, a bus name.
+    pub destination: Option<&'a str>,
+    /// The SENDER field, a bus name.
+    pub sender: Option<&'a str>,
+    /// The SIGNATURE field, the types of the body's values. Without it the body has none.
+    pub signature: Option<&'a str>,
+    /// The number in the UNIX_FDS field, or 0 for no such field.
+    pub unix_fds: u32,
+    /// The bytes of the body, as they are in a message of the same order.
+    pub body: &'a [u8],
+}
+
+impl<'a> Parts<'a> {
+    /// The parts of a little-endian message of this type and serial, with no flags, no fields and no body.
+    pub fn new(kind: Kind, serial: u32) -> Self {
+        Self {
+            order: Order::Little,
+            kind,
+            flags: 0,
+            serial,
+            path: None,
+            interface: None,
+            member: None,
+            error_name: None,
+            reply_serial: None,
+            destination: None,
+            sender: None,
+            signature: None,
+            unix_fds: 0,
+            body: &[],
+        }
+    }
+}
+
+/// Why [`build`] built nothing.
+#[derive(Clone, Copy, Debug, PartialEq, Eq)]
+pub enum BuildError {
+    /// No message within the limits has these parts. The fault is at an offset from the first byte that the parts spell, or at 0.
+    Refused(Fault),
+    /// There is no memory for it in the library.
+    OutOfMemory,
+}
+
+impl fmt::Display for BuildError {
+    fn fmt(&self, f: &mut fmt::Formatter<'_>) -> fmt::Result {
+        match self {
+            BuildError::Refused(fault) => fault.fmt(f),
+            BuildError::OutOfMemory => f.write_str("out of memory"),
+        }
+    }
+}
+
+impl Error for BuildError {}
+
+/// The bytes of the message within the limits that has exactly these parts, its header fields in the order of their codes.
+///
+/// ```
+/// use dbus_wire::{build, BuildError, Kind, Limits, Message, Parts};
+///
+/// let signal = Parts { path: Some("/"), interface: Some("a.b"), member: Some("C"), ..Parts::new(Kind::Signal, 1) };
+/// let bytes = build(&signal, &Limits::default())?;
+/// let sent = Parts { sender: Some(":1.2"), ..Message::parse(&bytes).unwrap().parts() };
+/// assert_eq!(Message::parse(&build(&sent, &Limits::default())?).unwrap().sender(), Some(":1.2"));
+/// # Ok::<(), BuildError>(())
+/// ```
+pub fn build(parts: &Parts<'_>, limits: &Limits) -> Result<Vec<u8>, BuildError> {
+    let mut bytes = Vec::new();
+    let given = placed(parts, &mut bytes);
+    // Each of seven texts has 16 bytes beside its own at most, and so has each number, the fixed header and the body.
+    let mut out = vec![0; bytes.len() + 11 * 16];
+    let mut told = sys::dbus_wire_checked::default();
+    // SAFETY: two slices, of which `out` is mutable, and references, as `sys` says.
+    let answer = unsafe {
+        sys::dbus_wire_build(&given, bytes.as_ptr(), bytes.len(), &limits.raw(), out.as_mut_ptr(), out.len(), &mut told)
+    };
+    match answer {
+        sys::DBUS_WIRE_OK => {
+            out.truncate(told.length as usize);
+            Ok(out)
+        }
+        sys::DBUS_WIRE_NO_MEMORY => Err(BuildError::OutOfMemory),
+        sys::DBUS_WIRE_NO_ROOM => unreachable!("a header of {} bytes", told.length),
+        _ => Err(BuildError::Refused(Fault::new(told.offset, told.reason, told.field))),
+    }
+}
+
+// The parts as the call takes them, whose texts and body are appended to the bytes.
+fn placed(parts: &Parts<'_>, bytes: &mut Vec<u8>) -> sys::dbus_wire_parts {
+    let mut put = |text: Option<&str>| {
+        let Some(text) = text else { return sys::dbus_wire_text::default() };
+        let offset = bytes.len() as u64;
+        bytes.extend(text.as_bytes());
+        sys::dbus_wire_text { offset, length: text.len() as u64, is_there: 1 }
+    };
+    let mut given = sys::dbus_wire_parts {
+        order: parts.order.code().into(),
+        kind: parts.kind.number().into(),
+        flags: parts.flags.into(),
+        serial: parts.serial,
+        reply_serial: parts.reply_serial.map_or(0, NonZeroU32::get),
+        unix_fds: parts.unix_fds,
+        path: put(parts.path),
+        interface: put(parts.interface),
+        member: put(parts.member),
+        error_name: put(parts.error_name),
+        destination: put(parts.destination),
+        sender: put(parts.sender),
+        signature: put(parts.signature),
+        ..Default::default()
+    };
+    given.body = bytes.len() as u64;
+    bytes.extend(parts.body);
+    given.length = bytes.len() as u64;
+    given
+}
