@@ -1,6 +1,6 @@
-/* Shakes hands as both ends do: `handshake pieces LENGTH` one end with the other in memory, whose bytes come in pieces of LENGTH bytes;
- * `handshake client PATH` with the bus at a Unix socket, to which it then says Hello; `handshake server PATH` with a client that
- * connects to a Unix socket there, whose first message it then checks. */
+/* Shakes hands as both ends do: `handshake pieces LENGTH` one end with the other in memory, whose bytes come in pieces of LENGTH
+ * bytes; `handshake client PATH` with the bus at a Unix socket, to which it then says Hello; `handshake server PATH` with a client
+ * that connects to a Unix socket there, whose first message it then checks. */
 #include <dbus_wire.h>
 
 #include <stdio.h>
@@ -39,7 +39,8 @@ static void append(struct pipe *pipe, const uint8_t *bytes, size_t length) {
     pipe->length += length;
 }
 
-/* Hands the end at most so many of the bytes that came, and appends what it sends. Out of memory it tries once more: nothing was lost. */
+/* Hands the end at most so many of the bytes that came, and appends what it sends. Out of memory it tries once more: nothing was
+ * lost. */
 static uint32_t take(struct dbus_wire_handshake *end, struct pipe *in, size_t most, struct pipe *out) {
     uint8_t reply[DBUS_WIRE_REPLY_ROOM];
     struct dbus_wire_handshake_step step;
@@ -83,7 +84,7 @@ static void shake_in_pieces(size_t most, uint32_t external) {
         at_server = take(&server, &to_server, most, &to_client);
     }
     if (at_client != DBUS_WIRE_OK || at_server != DBUS_WIRE_OK) fail("they do not agree");
-    if (to_server.length != 5 || memcmp(to_server.bytes, hello, 5) != 0 || to_client.length != 0) fail("a byte of the messages was taken");
+    if (to_server.length != 5 || memcmp(to_server.bytes, hello, 5) != 0 || to_client.length != 0) fail("a message's byte was taken");
     print_guid(&client);
     dbus_wire_handshake_free(&client);
     dbus_wire_handshake_free(&server);

@@ -1,5 +1,6 @@
-//! Checks, takes apart, builds, byteswaps and matches D-Bus messages, and checks texts, as the [D-Bus Specification] spells them. The calls are those
-//! of a C library, `libdbus_wire`, whose results are proved for all bytes and all limits; this crate makes them safe. What is in
+//! Checks, takes apart, builds, byteswaps and matches D-Bus messages, checks texts, and is both ends of the authentication handshake, as the
+//! [D-Bus Specification] has them. The calls are those of a C library, `libdbus_wire`, whose results are proved for all bytes and all
+//! limits; this crate makes them safe. What is in
 //! this crate itself is tested, and not proved.
 //!
 //! ```
