@@ -3,6 +3,7 @@ pub mod NextSteps
 pub mod Gathered
 pub mod GathererSteps
 pub mod RawSteps
+pub mod PassSteps
 pub mod MessageSteps
 pub mod CutLaws
 pub mod WholeLaws

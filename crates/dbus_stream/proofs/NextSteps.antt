@@ -14,7 +14,7 @@ use Rattle.dbus_stream.specs.declared.reader.Reader.{Reader}
 use Rattle.dbus_stream.specs.declared.read_fault.ReadFault.{ReadFault}
 use Rattle.dbus_stream.specs.declared.read_fault.ReadFault.TheVariants.{Memory, Format, Device, TooManyReads}
 use Rattle.dbus_stream.specs.Lasting.{is_lasting}
-use Rattle.dbus_stream.specs.Next.{NextAnswers, KeptAnswers, DeviceCounts, Reads, KeepsAll, GivesOf, Refuses, IsCutShort, ReadsNothing}
+use Rattle.dbus_stream.specs.Next.{NextAnswers, KeptAnswers, DeviceCounts, Reads, ReadsWhile, KeepsAll, GivesOf, Refuses, IsCutShort, ReadsNothing}
 use Rattle.dbus_stream.specs.Reading.{limits_of, source_of, done_of, reads_of, most_reads_of, is_ended, stopped_of, Keeps}
 use Rattle.dbus_stream.specs.Steps.{IsDrained, Buffers, Stops, Finishes, GivesUp, FillsBy, FillsNone}
 use Rattle.dbus_stream.specs.Taking.{Taking}
@@ -37,7 +37,7 @@ pub both_ways : (b : Bool) → b ≡ true → b ≡ false → ⊥
 both_ways b t f = let same : true ≡ false = sym t ∙ f in cc
 
 -- a read that is not the end gave a byte
-gave : (bytes : List ℕ) (ended : Bool) → ended ≡ nat_eq (length bytes) 0 → ended ≡ false → 0 < length bytes
+pub gave : (bytes : List ℕ) (ended : Bool) → ended ≡ nat_eq (length bytes) 0 → ended ≡ false → 0 < length bytes
 gave [] ended e open_ = absurd (both_ways ended e open_)
 gave (x ∷ xs) ended e open_ = omega arith
 
@@ -46,6 +46,109 @@ pub few_done : (N done reads most : ℕ) → done ≤ N * reads → reads ≤ mo
 few_done N done reads most counted few low =
     let all = mul-le-mul_left N (let r : reads ≤ 2 ^ 32 = omega (arith, few, low) in r) in
     omega (arith, counted, all)
+
+-- one more call of the device
+pub record Calls {R T B : Type 0} {b : Ghosts B} (calls : R → ℕ) (mid new : Reader R T B b) : Type 0 where
+  pub reads : reads_of new ≡ reads_of mid + 1
+  pub called : calls (source_of new) ≡ one_more (calls (source_of mid))
+  pub most_reads : most_reads_of new ≡ most_reads_of mid
+  pub done : done_of new ≡ done_of mid
+
+module _ {R T B G : Type 0} {b : Ghosts B} (k : Taking T G) (Needed : List ℕ → Type 0) (left : R → Option (List ℕ)) (calls : R → ℕ) where
+  -- nothing was read yet
+  abbrev pub reads_none : (old : Reader R T B b) → ReadsWhile k Needed left calls old old
+  reads_none old = record {
+    bytes = [];
+    count = 0;
+    consumed = Consumes-nil (left (source_of old));
+    few = omega arith;
+    last = [];
+    before = [];
+    joined = refl;
+    last_fits = omega arith;
+    between = source_of old;
+    came = Consumes-nil (left (source_of old));
+    one_call = λ some. absurd (omega (arith, some));
+    needed = λ some. absurd (omega (arith, some));
+    reads = omega arith;
+    called = ap (λ k. k % 2 ^ 64) (omega arith);
+    most_reads = refl;
+    limits = refl;
+    settled = λ e. (refl, refl, e, refl);
+    at_end = λ f t. absurd (both_ways (is_ended old) t f);
+  }
+
+  -- a step that reads nothing
+  abbrev pub reads_still : (old mid new : Reader R T B b) → ReadsWhile k Needed left calls old mid → ReadsNothing k mid new → ReadsWhile k Needed left calls old new
+  reads_still old mid new r n = record {
+    bytes = r.bytes;
+    count = r.count;
+    consumed = subst (λ s. Consumes (left (source_of old)) (left s) r.bytes) (sym n.source) r.consumed;
+    few = r.few;
+    last = r.last;
+    before = r.before;
+    joined = r.joined;
+    last_fits = r.last_fits;
+    between = r.between;
+    came = r.came;
+    one_call = λ some. ap calls n.source ∙ r.one_call some;
+    needed = r.needed;
+    reads = n.reads ∙ r.reads;
+    called = subst (λ s. RisesBy r.count (calls (source_of old)) (calls s)) (sym n.source) r.called;
+    most_reads = n.most_reads ∙ r.most_reads;
+    limits = n.limits ∙ r.limits;
+    settled = λ e. ((r.settled e).0, (r.settled e).1, n.ended ∙ (r.settled e).2, n.source ∙ (r.settled e).3);
+    at_end = λ f t. subst (λ s. IsAtEnd (left s)) (sym n.source) (r.at_end f (sym n.ended ∙ t));
+  }
+
+  -- what is read after a step that reads nothing
+  abbrev pub reads_from : (Wanted : List ℕ → Type 0) (old mid new : Reader R T B b) → ReadsNothing k old mid → ((before : List ℕ) → Wanted before → Needed before)
+      → ReadsWhile k Wanted left calls mid new → ReadsWhile k Needed left calls old new
+  reads_from Wanted old mid new n wanted r = record {
+    bytes = r.bytes;
+    count = r.count;
+    consumed = subst (λ (s : R). Consumes (left s) (left (source_of new)) r.bytes) n.source r.consumed;
+    few = r.few;
+    last = r.last;
+    before = r.before;
+    joined = r.joined;
+    last_fits = r.last_fits;
+    between = r.between;
+    came = subst (λ (s : R). Consumes (left s) (left r.between) r.before) n.source r.came;
+    one_call = r.one_call;
+    needed = λ some. wanted r.before (r.needed some);
+    reads = r.reads ∙ ap (λ x. x + r.count) n.reads;
+    called = subst (λ (s : R). RisesBy r.count (calls s) (calls (source_of new))) n.source r.called;
+    most_reads = r.most_reads ∙ n.most_reads;
+    limits = r.limits ∙ n.limits;
+    settled = λ e. let s = r.settled (n.ended ∙ e) in (s.0, s.1, s.2, s.3 ∙ n.source);
+    at_end = λ e f. r.at_end (n.ended ∙ e) f;
+  }
+
+  -- one more read, where each gave a byte before
+  abbrev pub reads_one : (old mid new : Reader R T B b) (r : ReadsWhile k Needed left calls old mid) → is_ended mid ≡ false → r.count ≤ length r.bytes → Needed r.bytes
+      → Calls calls mid new → (bytes : List ℕ) → Consumes (left (source_of mid)) (left (source_of new)) bytes → length bytes ≤ b.room.size
+      → limits_of k new ≡ limits_of k mid → (is_ended new ≡ true → IsAtEnd (left (source_of new))) → ReadsWhile k Needed left calls old new
+  reads_one old mid new r open_ paid wanted c bytes came fits limits at_end = record {
+    bytes = r.bytes ++ bytes;
+    count = r.count + 1;
+    consumed = Consumes-trans _ _ _ _ _ r.consumed came;
+    few = (let all = length-append r.bytes bytes in omega (arith, paid, all));
+    last = bytes;
+    before = r.bytes;
+    joined = refl;
+    last_fits = fits;
+    between = source_of mid;
+    came = r.consumed;
+    one_call = λ _. c.called;
+    needed = λ _. wanted;
+    reads = omega (arith, c.reads, r.reads);
+    called = RisesBy-more r.count _ _ _ r.called c.called;
+    most_reads = c.most_reads ∙ r.most_reads;
+    limits = limits ∙ r.limits;
+    settled = λ e. absurd (both_ways (is_ended mid) (r.settled e).2 open_);
+    at_end = λ _ t. at_end t;
+  }
 
 module _ {R T B G : Type 0} {b : Ghosts B} (k : Taking T G) where
   -- where nothing is left of the buffer, the taker holds all
@@ -93,26 +196,7 @@ module _ {R T B G : Type 0} {b : Ghosts B} (k : Taking T G) where
 
     -- nothing was read yet
     abbrev pub starts : (old : Reader R T B b) → Reads k left calls w old old
-    starts old = record {
-      bytes = [];
-      count = 0;
-      consumed = Consumes-nil (left (source_of old));
-      few = omega arith;
-      last = [];
-      before = [];
-      joined = refl;
-      last_fits = omega arith;
-      between = source_of old;
-      came = Consumes-nil (left (source_of old));
-      one_call = λ some. absurd (omega (arith, some));
-      needed = λ some. absurd (omega (arith, some));
-      reads = omega arith;
-      called = ap (λ k. k % 2 ^ 64) (omega arith);
-      most_reads = refl;
-      limits = refl;
-      settled = λ e. (refl, refl, e, refl);
-      at_end = λ f t. absurd (both_ways (is_ended old) t f);
-    }
+    starts old = reads_none k (λ before. IsPartial (limits_of k old) (w ++ before)) left calls old
 
     pub begins : (old : Reader R T B b) → Keeps k old w → HasRead old old
     begins old kept = record {
@@ -124,26 +208,7 @@ module _ {R T B G : Type 0} {b : Ghosts B} (k : Taking T G) where
 
     -- a step that reads nothing
     abbrev pub unread : (old mid new : Reader R T B b) → Reads k left calls w old mid → ReadsNothing k mid new → Reads k left calls w old new
-    unread old mid new r n = record {
-      bytes = r.bytes;
-      count = r.count;
-      consumed = subst (λ s. Consumes (left (source_of old)) (left s) r.bytes) (sym n.source) r.consumed;
-      few = r.few;
-      last = r.last;
-      before = r.before;
-      joined = r.joined;
-      last_fits = r.last_fits;
-      between = r.between;
-      came = r.came;
-      one_call = λ some. ap calls n.source ∙ r.one_call some;
-      needed = r.needed;
-      reads = n.reads ∙ r.reads;
-      called = subst (λ s. RisesBy r.count (calls (source_of old)) (calls s)) (sym n.source) r.called;
-      most_reads = n.most_reads ∙ r.most_reads;
-      limits = n.limits ∙ r.limits;
-      settled = λ e. ((r.settled e).0, (r.settled e).1, n.ended ∙ (r.settled e).2, n.source ∙ (r.settled e).3);
-      at_end = λ f t. subst (λ s. IsAtEnd (left s)) (sym n.source) (r.at_end f (sym n.ended ∙ t));
-    }
+    unread old mid new r n = reads_still k (λ before. IsPartial (limits_of k old) (w ++ before)) left calls old mid new r n
 
     -- the taker was handed all of what is kept
     pub wants : (old mid new : Reader R T B b) (h : HasRead old mid) → KeptAnswers k (w ++ h.reads.bytes) mid new (Ok None) → ReadsNothing k mid new → Wants old new
@@ -249,43 +314,15 @@ module _ {R T B G : Type 0} {b : Ghosts B} (k : Taking T G) where
         → GivesUp mid new res → ReadsNothing k mid new → Answers old new res
     gave_up old mid new res h e open_ f n = (unread old mid new h.so_far.reads n, λ _. answers_given_up old mid new res h e open_ f n)
 
-    -- one more call of the device
-    pub record Calls (mid new : Reader R T B b) : Type 0 where
-      pub reads : reads_of new ≡ reads_of mid + 1
-      pub called : calls (source_of new) ≡ one_more (calls (source_of mid))
-      pub most_reads : most_reads_of new ≡ most_reads_of mid
-      pub done : done_of new ≡ done_of mid
-
-    module _ (old mid new : Reader R T B b) (h : Wants old mid) (open_ : is_ended mid ≡ false) (c : Calls mid new) where
-      -- what was read with it
-      abbrev reads_more : (bytes : List ℕ) → Consumes (left (source_of mid)) (left (source_of new)) bytes → length bytes ≤ b.room.size → limits_of k new ≡ limits_of k mid
-          → (is_ended new ≡ true → IsAtEnd (left (source_of new))) → Reads k left calls w old new
-      reads_more bytes came fits limits at_end =
-          let r = h.so_far.reads in
-          let paid = h.so_far.paid open_ in
-          record {
-            bytes = r.bytes ++ bytes;
-            count = r.count + 1;
-            consumed = Consumes-trans _ _ _ _ _ r.consumed came;
-            few = (let all = length-append r.bytes bytes in omega (arith, paid, all));
-            last = bytes;
-            before = r.bytes;
-            joined = refl;
-            last_fits = fits;
-            between = source_of mid;
-            came = r.consumed;
-            one_call = λ _. c.called;
-            needed = λ _. h.partial;
-            reads = omega (arith, c.reads, r.reads);
-            called = RisesBy-more r.count _ _ _ r.called c.called;
-            most_reads = c.most_reads ∙ r.most_reads;
-            limits = limits ∙ r.limits;
-            settled = λ e. absurd (both_ways (is_ended mid) (r.settled e).2 open_);
-            at_end = λ _ t. at_end t;
-          }
+    -- what was read with one more call of the device
+    abbrev reads_more : (old mid new : Reader R T B b) (h : Wants old mid) → is_ended mid ≡ false → Calls calls mid new → (bytes : List ℕ)
+        → Consumes (left (source_of mid)) (left (source_of new)) bytes → length bytes ≤ b.room.size → limits_of k new ≡ limits_of k mid
+        → (is_ended new ≡ true → IsAtEnd (left (source_of new))) → Reads k left calls w old new
+    reads_more old mid new h open_ c bytes came fits limits at_end =
+        reads_one k (λ before. IsPartial (limits_of k old) (w ++ before)) left calls old mid new h.so_far.reads open_ (h.so_far.paid open_) h.partial c bytes came fits limits at_end
 
     -- a read that failed
-    pub failed_read : (old mid new : Reader R T B b) → Wants old mid → IsDrained mid → is_ended mid ≡ false → FillsNone left mid new → Calls mid new
+    pub failed_read : (old mid new : Reader R T B b) → Wants old mid → IsDrained mid → is_ended mid ≡ false → FillsNone left mid new → Calls calls mid new
         → stopped_of new ≡ None → Answers old new (Err Device)
     failed_read old mid new h drained open_ f c unstopped =
         let r = h.so_far.reads in
@@ -308,7 +345,7 @@ module _ {R T B G : Type 0} {b : Ghosts B} (k : Taking T G) where
 
     -- a read that gave bytes, or the end
     pub filled : (old mid new : Reader R T B b) (bytes : List ℕ) → Wants old mid → IsDrained mid → is_ended mid ≡ false → FillsBy left bytes mid new
-        → Calls mid new → HasRead old new
+        → Calls calls mid new → HasRead old new
     filled old mid new bytes h drained open_ f c =
         let r = h.so_far.reads in
         record {

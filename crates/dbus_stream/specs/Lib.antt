@@ -11,6 +11,7 @@ pub mod CheckReading
 pub mod Gathering
 pub mod RawReading
 pub mod RawNext
+pub mod Passing
 pub mod StreamLaws
 pub mod CutterState
 pub mod Checked

@@ -29,8 +29,8 @@ DeviceCounts old new (Err (Format fault)) = new ≡ old
 DeviceCounts old new (Err TooManyReads) = new ≡ old
 
 module _ {R T B G : Type 0} {b : Ghosts B} (k : Taking T G) where
-  -- what a call read where w was kept, and that it counted it
-  pub record Reads (left : R → Option (List ℕ)) (calls : R → ℕ) (w : List ℕ) (old new : Reader R T B b) : Type 0 where
+  -- what a call read, and that it counted it. This holds of what it had read before its last read
+  pub record ReadsWhile (Needed : List ℕ → Type 0) (left : R → Option (List ℕ)) (calls : R → ℕ) (old new : Reader R T B b) : Type 0 where
     pub bytes : List ℕ
     pub count : ℕ
     pub consumed : Consumes (left (source_of old)) (left (source_of new)) bytes
@@ -44,8 +44,7 @@ module _ {R T B G : Type 0} {b : Ghosts B} (k : Taking T G) where
     pub between : R
     pub came : Consumes (left (source_of old)) (left between) before
     pub one_call : 0 < count → calls (source_of new) ≡ one_more (calls between)
-    -- and it was made where neither a whole message nor a fault was kept
-    pub needed : 0 < count → IsPartial (limits_of k old) (w ++ before)
+    pub needed : 0 < count → Needed before
     pub reads : reads_of new ≡ reads_of old + count
     pub called : RisesBy count (calls (source_of old)) (calls (source_of new))
     pub most_reads : most_reads_of new ≡ most_reads_of old
@@ -54,6 +53,10 @@ module _ {R T B G : Type 0} {b : Ghosts B} (k : Taking T G) where
     pub settled : is_ended old ≡ true → (bytes ≡ []) × (count ≡ 0) × (is_ended new ≡ true) × (source_of new ≡ source_of old)
     -- where it ended, the device has nothing left
     pub at_end : is_ended old ≡ false → is_ended new ≡ true → IsAtEnd (left (source_of new))
+
+  -- what a call read where w was kept, a read only where neither a whole message nor a fault was
+  abbrev pub Reads : (R → Option (List ℕ)) → (R → ℕ) → List ℕ → Reader R T B b → Reader R T B b → Type 0
+  Reads left calls w old new = ReadsWhile (λ before. IsPartial (limits_of k old) (w ++ before)) left calls old new
 
   -- nothing was read
   pub record ReadsNothing (old new : Reader R T B b) : Type 0 where

@@ -66,6 +66,16 @@ impl<A: Allocator + Copy> Gatherer<A> {
         }
     }
 
+    /// Lends and holds nothing, and begins a message.
+    pub(crate) fn let_go(&mut self)
+        ensures { self.new ≡ fresh self.old.limits }
+    {
+        self.lent = 0;
+        self.held.clear();
+        self.whole = false;
+        self.checker.restart();
+    }
+
     /// Takes the bytes of the piece up to the end of the message under way, and says how many these are; or the whole piece,
     /// if its end is not there yet.
     ///
@@ -144,6 +154,18 @@ impl<A: Allocator + Copy> Gatherer<A> {
         ensures { result.now ≡ self.now.held }
     {
         self.held.as_slice()
+    }
+
+    /// The bytes that it holds of the message under way.
+    pub(crate) fn under_way(&self) -> &[u8]
+        ensures bytes { result.now ≡ under_way self.now.whole self.now.held }
+        ensures partial { IsPartial self.now.limits result.now }
+    {
+        if self.whole {
+            &[]
+        } else {
+            self.held.as_slice()
+        }
     }
 
     // What is validated of the whole message that it holds, which the checker took: its body is not gone over again.

@@ -1,6 +1,7 @@
 //! Raw messages from a source.
-ghost use Rattle.std.specs.Prelude.{◌≡◌, ◌≤◌, ◌<◌, ◌+◌, ◌-◌, ◌^◌, ◌++◌, [], length};
+ghost use Rattle.std.specs.Prelude.{◌≡◌, ◌≤◌, ◌<◌, ◌+◌, ◌-◌, ◌^◌, ◌++◌, [], length, take, ℕ};
 ghost use Rattle.dbus_stream.specs.Gathering.{under_way};
+ghost use Rattle.dbus_stream.specs.Lasting.{is_refusal, is_truncated};
 
 use crate::buffer::{Buffer, Large};
 use crate::gatherer::Gatherer;
@@ -8,8 +9,9 @@ use crate::read_fault::ReadFault;
 use crate::reader::Reader;
 use crate::reads::MOST_READS;
 use dbus_device::Source;
+use dbus_message::stated_length_within;
 use dbus_validate::Validated;
-use dbus_value::Limits;
+use dbus_value::{Fault, Limits, Reason};
 use std::alloc::{Allocator, Global};
 
 /// Reads messages from a source, one after another, by a buffer of 262,144 bytes inside it, and lends or copies their bytes.
@@ -30,7 +32,9 @@ pub struct RawReader<R, A: Allocator = Global> {
 }
 
 impl<R: Source, A: Allocator + Copy> RawReader<R, A> {
-    ghost use Rattle.std.specs.Prelude.{None, Some};
+    ghost use Rattle.std.specs.Prelude.{None, Some, IfSome};
+    ghost use Rattle.dbus_header.specs.StatedLengths.{StatesLength};
+    ghost use Rattle.dbus_stream.specs.Passing.{Passing, StatesAll};
     ghost use Rattle.dbus_value_model.specs.Specification.{specification};
     ghost use Rattle.dbus_stream.specs.declared.read_fault.ReadFault.{ReadFault};
     ghost use Rattle.dbus_stream.specs.Next.{DeviceCounts};
@@ -191,6 +195,78 @@ impl<R: Source, A: Allocator + Copy> RawReader<R, A> {
         }
     }
 
+    /// Passes over the message that was refused, by the length that its first 16 bytes state, and returns whether it did. Then the
+    /// fault is gone, and the next call goes on with what follows those bytes. They are dropped as they are read, and a
+    /// read is made only if more of them are wanted; [`RawReader::done`] counts them. D-Bus Specification, "Message Format".
+    ///
+    /// False, and nothing is changed, if none was refused (`Truncated` is no such fault), or if its first 16 bytes state no length
+    /// within the limits. False also if the input ends before so many bytes.
+    ///
+    /// `TooManyReads`: as many reads were made as it may make. `Device`: a read failed. Then, and if the input ended,
+    /// the fault stays, and all that was kept and read is dropped.
+    ///
+    /// ```rust
+    /// use dbus_stream::{FromRead, RawReader, ReadFault};
+    ///
+    /// let mut reader = RawReader::new(alloc, FromRead::new(rt.stdin()));
+    /// for _ in 0..u64::MAX {
+    ///     match reader.advance() {
+    ///         Ok(Some(validated)) => println!(rt; "serial {}", validated.serial)?,
+    ///         Ok(None) => break,
+    ///         Err(ReadFault::Format(fault)) => {
+    ///             println!(rt; "refused at {}: {}", reader.done() + fault.at, fault.reason)?;
+    ///             if !reader.pass_over()? {
+    ///                 break;
+    ///             }
+    ///         }
+    ///         Err(fault) => return Err(fault.into()),
+    ///     }
+    /// }
+    /// ```
+    pub fn pass_over(&mut self) -> Result<bool, ReadFault>
+        // Of what was kept and then read it drops so many bytes as the refused message states.
+        ensures passes { Passing R.left R.calls self.old self.new result }
+        ensures failed { DeviceCounts (R.failures (source_of self.old))
+            (R.failures (source_of self.new)) result }
+        ensures same_reference { R.reference (source_of self.new) ≡
+            R.reference (source_of self.old) }
+        ensures few { done_of self.new ≤ 2 ^ 50 }
+    {
+        if is_refusal(self.reader.stopped) {
+            match self.stated() {
+                Some(length) => {
+                    self.reader.taker.let_go();
+                    self.reader.pass_over(length)
+                }
+                None => Ok(false),
+            }
+        } else {
+            Ok(false)
+        }
+    }
+
+    // The length that the first 16 of the bytes that are kept state, if they do. The bytes of a message under way are fewer.
+    fn stated(&self) -> Option<u64>
+        ensures some { IfSome result (λ n. StatesLength (limits_of self.now) (kept self.now) n ×
+            (self.now.reader.held < n)) }
+        ensures none { result ≡ None → (n : ℕ) → StatesAll (limits_of self.now) (kept self.now) n → ⊥ }
+    {
+        let mut front = [0u8; 16];
+        let held = self.reader.taker.under_way();
+        let count = copy_front(held, self.reader.part(), &mut front);
+        match stated_length_within(&front[..count], self.reader.taker.limits()) {
+            Ok(Some(length)) => {
+                if length > held.len() as u64 {
+                    Some(length)
+                } else {
+                    None
+                }
+            }
+            Ok(None) => None,
+            Err(_) => None,
+        }
+    }
+
     // The bytes of the message that is lent. If the memory is not there, the message is kept again.
     fn give(&mut self) -> Result<Option<Vec<u8, A>>, ReadFault>
         ensures gives { GivesLent self.old self.new result }
@@ -213,4 +289,36 @@ impl<R: Source, A: Allocator + Copy> RawReader<R, A> {
         self.reader.start -= lent;
         Err(ReadFault::Memory)
     }
+}
+
+// Whether bytes were met that are no message, and not the end of the input within one.
+fn is_refusal(stopped: Option<ReadFault>) -> bool
+    ensures { result ≡ is_refusal stopped }
+{
+    match stopped {
+        Some(ReadFault::Format(fault)) => !is_truncated(fault),
+        Some(ReadFault::Memory) => false,
+        Some(ReadFault::Device) => false,
+        Some(ReadFault::TooManyReads) => false,
+        None => false,
+    }
+}
+
+// Whether the input ended within a message.
+fn is_truncated(fault: Fault) -> bool
+    ensures { result ≡ is_truncated fault.reason }
+{
+    matches!(fault.reason, Reason::Truncated)
+}
+
+// Copies the first 16 bytes of two slices, one after the other, and returns how many there are.
+fn copy_front(first: &[u8], second: &[u8], front: &mut [u8; 16]) -> usize
+    ensures within { result ≤ 16 }
+    ensures copied { take result front.new ≡ take 16 (first.now ++ second.now) }
+{
+    let held = first.len().min(16);
+    let more = second.len().min(16 - held);
+    front[..held].copy_from_slice(&first[..held]);
+    front[held..held + more].copy_from_slice(&second[..more]);
+    held + more
 }

@@ -21,7 +21,7 @@ pub struct Reader<R, T, B: Buffer> {
     // It holds the bytes of the message under way that came by earlier reads.
     pub(crate) taker: T,
     // How many bytes these are.
-    held: u64,
+    pub(crate) held: u64,
     // What the last read gave, and which of it is left.
     pub(crate) buffer: B,
     pub(crate) start: usize,
@@ -45,6 +45,7 @@ impl<R: Source, T: Taker, B: Buffer> Reader<R, T, B> {
     ghost use Rattle.dbus_device.specs.Device.{ReadCounts, one_more};
     ghost use Rattle.dbus_stream.specs.Reading.{limits_of, source_of, taker_of, done_of, reads_of, most_reads_of, stopped_of, Keeps, IsNewReader};
     ghost use Rattle.dbus_stream.specs.Next.{NextAnswers, KeptAnswers, DeviceCounts, Reads, ReadsNothing};
+    ghost use Rattle.dbus_stream.specs.Passing.{part_of, ReadsToSkip, SkipAnswers};
     ghost use Rattle.dbus_stream.specs.Steps.{IsDrained, TakesAll, Fills, Finishes, GivesUp};
 
     /// A reader of what the source gives to a taker that holds nothing. It has read nothing yet, and makes at most `reads` reads
@@ -151,6 +152,56 @@ impl<R: Source, T: Taker, B: Buffer> Reader<R, T, B> {
             return Err(fault);
         }
         self.take_kept()
+    }
+
+    /// Passes over so many bytes: those that its taker held before it let go of them, then what is left of the buffer and what is
+    /// read. It stands before what follows then, without a fault, and the answer is true. It is false if the input ends before;
+    /// then, and after an error, all that was there is passed over, and a fault stays. A read is made only if more are wanted.
+    ///
+    /// `TooManyReads`: as many reads were made as it may make. `Device`: a read failed.
+    pub(crate) fn pass_over(&mut self, count: u64) -> Result<bool, ReadFault>
+        requires { self.old.held ≤ count }
+        ensures passes { (r : ReadsToSkip T.known (count - self.old.held) R.left R.calls self.old self.new) ×
+            SkipAnswers (count - self.old.held) (part_of self.old ++ r.bytes) self.old self.new result }
+        ensures nothing { (taker_of self.new ≡ taker_of self.old) × (self.new.held ≡ 0) }
+        ensures failed { DeviceCounts (R.failures (source_of self.old))
+            (R.failures (source_of self.new)) result }
+        ensures same_reference { R.reference (source_of self.new) ≡
+            R.reference (source_of self.old) }
+        ensures few { done_of self.new ≤ B.room.size * 2 ^ 32 }
+    {
+        let mut left = count - self.held;
+        self.done += self.held;
+        self.held = 0;
+        'reading: loop {
+            let kept = self.part().len() as u64;
+            if left <= kept {
+                self.start += left as usize;
+                self.done += left;
+                self.stopped = None;
+                return Ok(true);
+            }
+            self.start = self.end;
+            self.done += kept;
+            left -= kept;
+            if self.ended {
+                return Ok(false);
+            }
+            if self.reads >= self.most_reads {
+                return Err(ReadFault::TooManyReads);
+            }
+            match self.fill() {
+                Ok(()) => {}
+                Err(DeviceFault) => return Err(ReadFault::Device),
+            }
+        }
+    }
+
+    /// What is left of the buffer.
+    pub(crate) fn part(&self) -> &[u8]
+        ensures { result.now ≡ part_of self.now }
+    {
+        self.buffer.part(self.start, self.end)
     }
 
     // The input has ended: `None`, or `Truncated` within a message.

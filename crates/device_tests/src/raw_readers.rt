@@ -17,18 +17,20 @@ enum Call {
     Next,
     Advance,
     AdvanceKept,
+    PassOver,
 }
 
-use Call::{Advance, AdvanceKept, Next};
+use Call::{Advance, AdvanceKept, Next, PassOver};
 
-// What a call gives: the bytes of a message, none where it gives none; or a fault.
+// What a call gives: the bytes of a message, none where it gives none; whether it passed over one; or a fault.
 #[derive(Clone, Copy)]
 enum Given<'a> {
     Gives(&'a [u8]),
+    Passes(bool),
     Fails(ReadFault),
 }
 
-use Given::{Fails, Gives};
+use Given::{Fails, Gives, Passes};
 
 const NOTHING: Given = Gives(b"");
 
@@ -76,6 +78,10 @@ fn call_gives<A: Allocator + Copy>(
             let answer = reader.advance_kept();
             lends(reader, answer, given)
         }
+        PassOver => match reader.pass_over() {
+            Ok(passed) => matches!(given, Passes(wanted) if wanted == passed),
+            Err(fault) => matches!(given, Fails(wanted) if wanted == fault),
+        },
     }
 }
 
@@ -187,6 +193,88 @@ fn messages_and_faults(rt: HostRuntime) {
         let source = reader.into_source();
         assert_eq!(rt; [done, source.calls, source.failures], *counts, "at {n}");
     }
+}
+
+const GOES_ON: &[(Call, Given<'static>)] = &[
+    (PassOver, Passes(false)),
+    (Advance, NO_REPLY_SERIAL),
+    (PassOver, Passes(true)),
+    (PassOver, Passes(false)),
+    (Advance, Gives(RETURN)),
+    (AdvanceKept, NOTHING),
+    (Advance, NOTHING),
+];
+
+const ENDS: &[(Call, Given<'static>)] = &[
+    (Advance, NO_REPLY_SERIAL),
+    (PassOver, Passes(false)),
+    (Advance, NO_REPLY_SERIAL),
+    (PassOver, Passes(false)),
+];
+
+const FAILS: &[(Call, Given<'static>)] = &[
+    (Advance, NO_REPLY_SERIAL),
+    (PassOver, FAILED),
+    (PassOver, Passes(false)),
+    (Next, NO_REPLY_SERIAL),
+];
+
+const FAILS_LATE: &[(Call, Given<'static>)] = &[
+    (Next, NO_REPLY_SERIAL),
+    (PassOver, TOO_MANY),
+    (Advance, NO_REPLY_SERIAL),
+];
+
+const STATES_NONE: &[(Call, Given<'static>)] = &[
+    (
+        Advance,
+        Fails(ReadFault::Format(Fault {
+            at: 3,
+            reason: Reason::Version,
+        })),
+    ),
+    (PassOver, Passes(false)),
+];
+
+const CUT: &[(Call, Given<'static>)] = &[
+    (Advance, Gives(RETURN)),
+    (PassOver, Passes(false)),
+    (
+        Advance,
+        Fails(ReadFault::Format(Fault {
+            at: 5,
+            reason: Reason::Truncated,
+        })),
+    ),
+    (PassOver, Passes(false)),
+];
+
+// Rows as those above, of two parts of the bytes, in which messages are passed over.
+const PASSED: &[(&[&[u8]], usize, u64, u32, &[(Call, Given<'static>)], [u64; 3])] = &[
+    (&[BARE_WITH_BODY, RETURN], 1000, 0, 100, GOES_ON, [48, 2, 0]),
+    (&[BARE_WITH_BODY, RETURN], 1, 0, 100, GOES_ON, [48, 49, 0]),
+    (&[BARE_WITH_BODY, RETURN], 17, 0, 100, GOES_ON, [48, 4, 0]),
+    // The input ends within it, a read fails there, and no more may be made.
+    (&[BARE_WITH_BODY_FRONT], 4, 0, 100, ENDS, [20, 6, 0]),
+    (&[BARE_WITH_BODY, RETURN], 4, 5, 100, FAILS, [16, 5, 1]),
+    (&[BARE_WITH_BODY, RETURN], 4, 0, 5, FAILS_LATE, [20, 5, 0]),
+    // The first 16 bytes are at fault, or are not there.
+    (&[WRONG_VERSION], 1, 0, 100, STATES_NONE, [0, 4, 0]),
+    (&[RETURN, FRONT], 100, 0, 100, CUT, [24, 2, 0]),
+];
+
+#[test]
+fn messages_passed_over(rt: HostRuntime) -> Result<(), Fail> {
+    for (n, (parts, size, fails_at, most, script, counts)) in PASSED.iter().enumerate() {
+        let bytes = joined(rt.alloc(), *parts)?;
+        let source = Pieces::new(bytes.as_slice(), *size, *fails_at);
+        let mut reader = RawReader::with_reads(rt.alloc(), source, u64::from(*most));
+        calls_give(&rt, n as u64, &mut reader, *script);
+        let done = reader.done();
+        let source = reader.into_source();
+        assert_eq!(rt; [done, source.calls, source.failures], *counts, "at {n}");
+    }
+    Ok(())
 }
 
 // The one message of these bytes, of one byte a read, where the read of this number fails, the last of which finds their end.

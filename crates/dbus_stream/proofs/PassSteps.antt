@@ -1,0 +1,348 @@
+-- The steps of passing over bytes.
+use Rattle.std.proofs.Common.{◌≡◌, ℕ, ◌+◌, ◌-◌, ◌<◌, ◌≤◌, List, [], ◌++◌, Bool, true, false, not, None, Some, Option, Result, Ok, Err, length, take, drop, refl, sym, ap, ◌∙◌, subst, arith, append_assoc, append-nil, length-append, take-append-drop, inl, inr}
+use Rattle.std.specs.Io.KnownBytes.{Consumes, IsAtEnd}
+use Rattle.std.proofs.KnownBytes.{Consumes-nil, Consumes-kept}
+use Rattle.std.specs.List.{slice_range}
+use Rattle.std.proofs.Math.Seq.{take-append_seam, take-append-add}
+use Rattle.std.proofs.lemmas.Bool.{cases_lt, false≢true}
+use Rattle.std.proofs.lemmas.List.{drop_at, drop-drop, length-take, length-take-le, take_all, take-append-le}
+use Rattle.dbus_value_model.specs.declared.fault.Fault.{Fault}
+use Rattle.dbus_value_model.specs.declared.limits.Limits.{Limits}
+use Rattle.dbus_header.specs.MessageOutcomes.{IsPartial}
+use Rattle.dbus_header.specs.StatedLengths.{StatesLength}
+use Rattle.dbus_header.proofs.StatedLengths.{one_stated}
+use Rattle.dbus_stream.specs.declared.buffer.Buffer.{Ghosts}
+use Rattle.dbus_stream.specs.declared.reader.Reader.{Reader}
+use Rattle.dbus_stream.specs.declared.buffer.Large.{Large}
+use Rattle.dbus_stream.specs.contracts.buffer.LargeBuffer.TheImpl.{ghosts}
+use Rattle.dbus_stream.specs.declared.raw_reader.RawReader.{RawReader}
+use Rattle.dbus_stream.specs.declared.read_fault.ReadFault.{ReadFault}
+use Rattle.dbus_stream.specs.declared.read_fault.ReadFault.TheVariants.{Memory, Format, Device, TooManyReads}
+use Rattle.dbus_stream.specs.Gathering.{GathererState, gathering, fresh, under_way}
+use Rattle.dbus_stream.specs.Lasting.{is_truncated, is_refusal}
+use Rattle.dbus_stream.specs.Next.{ReadsNothing}
+use Rattle.dbus_stream.specs.Passing.{part_of, ReadsToSkip, Skips, SkipsAll, SkipAnswers, ReadsUpTo, FallsShort, IsRefusal, PassAnswers, Passing, StatesAll}
+use Rattle.dbus_stream.specs.RawReading.{limits_of, kept, lent_of, whole_or}
+use Rattle.dbus_stream.specs.Reading.{source_of, done_of, reads_of, most_reads_of, is_ended, stopped_of}
+use Rattle.dbus_stream.specs.Steps.{Buffers, FillsBy, FillsNone}
+use Rattle.dbus_stream.specs.Taking.{Taking}
+use Rattle.dbus_stream.proofs.Lists.{no_part, part_fits, left_of}
+use Rattle.dbus_stream.proofs.NextSteps.{Calls, both_ways, gave, reads_none, reads_still, reads_from, reads_one}
+
+-- what follows the first bytes of two lists
+drop_past : (gone rest : List ℕ) (more : ℕ) → drop more rest ≡ drop (length gone + more) (gone ++ rest)
+drop_past gone rest more = ap (drop more) (sym (drop_at gone rest (length gone) refl)) ∙ drop-drop more (length gone) (gone ++ rest)
+
+-- where a part is read from its start, what is left follows what was read
+pub front_goes : (buffer : List ℕ) (start end n : ℕ) → start ≤ end → n ≤ length (slice_range buffer start end)
+    → slice_range buffer start end ≡ take n (slice_range buffer start end) ++ slice_range buffer (start + n) end
+front_goes buffer start end n ordered there =
+    let fits = part_fits buffer start end in
+    sym (take-append-drop n (slice_range buffer start end)) ∙ ap (λ l. take n (slice_range buffer start end) ++ l) (left_of buffer start end n (omega (arith, ordered, there, fits)))
+
+-- what a reader keeps in two parts
+pub part_after : (n : ℕ) (front part bytes : List ℕ) (held : ℕ) → held ≡ length front → held < n → (length (part ++ bytes) < n - held → length ((front ++ part) ++ bytes) < n)
+    × (n - held ≤ length (part ++ bytes) → n ≤ length ((front ++ part) ++ bytes)) × (drop (n - held) (part ++ bytes) ≡ drop n ((front ++ part) ++ bytes))
+part_after n front part bytes held size fits =
+    let all = append_assoc front part bytes in
+    let long = ap length all in
+    let both = length-append front (part ++ bytes) in
+    let count : length front + (n - held) ≡ n = omega (arith, size, fits) in (
+      λ short. omega (arith, short, long, both, size, fits),
+      λ there. omega (arith, there, long, both, size, fits),
+      drop_past front (part ++ bytes) (n - held) ∙ (ap (λ k. drop k (front ++ (part ++ bytes))) count ∙ ap (drop n) (sym all)),
+    )
+
+module _ {R T B G : Type 0} {b : Ghosts B} (k : Taking T G) (count : ℕ) (left : R → Option (List ℕ)) (calls : R → ℕ) where
+  -- what stood before what is left of the buffer is passed over, and so many bytes more are to be
+  pub record HasSkipped (more : ℕ) (old mid : Reader R T B b) : Type 0 where
+    pub reads : ReadsToSkip k count left calls old mid
+    pub gone : List ℕ
+    pub joined : part_of old ++ reads.bytes ≡ gone ++ part_of mid
+    pub counted : count ≡ length gone + more
+    pub done : done_of mid ≡ done_of old + old.held + length gone
+    pub taker : mid.taker ≡ old.taker
+    pub held : mid.held ≡ 0
+    pub stopped : stopped_of mid ≡ stopped_of old
+    -- each read gave a byte
+    pub paid : is_ended mid ≡ false → reads.count ≤ length reads.bytes
+
+  -- a step that passes over bytes of the buffer, or over none
+  pub record Goes (bytes : List ℕ) (old mid new : Reader R T B b) : Type 0 where
+    pub nothing : ReadsNothing k mid new
+    pub part : part_of mid ≡ bytes ++ part_of new
+    pub done : done_of new ≡ done_of mid + mid.held + length bytes
+    pub taker : new.taker ≡ old.taker
+    pub held : new.held ≡ 0
+
+  pub skip_none : (old mid : Reader R T B b) → Goes [] old old mid → stopped_of mid ≡ stopped_of old → HasSkipped count old mid
+  skip_none old mid g stopped = record {
+    reads = reads_still k (λ before. length (part_of old ++ before) < count) left calls old old mid (reads_none k (λ before. length (part_of old ++ before) < count) left calls old) g.nothing;
+    gone = [];
+    joined = append-nil (part_of old) ∙ g.part;
+    counted = omega arith;
+    done = g.done;
+    taker = g.taker;
+    held = g.held;
+    stopped = stopped;
+    paid = λ open_. omega arith;
+  }
+
+  pub skip_more : (more left_over : ℕ) (bytes : List ℕ) (old mid new : Reader R T B b) (h : HasSkipped more old mid) → Goes bytes old mid new → stopped_of new ≡ stopped_of mid
+      → more ≡ length bytes + left_over → HasSkipped left_over old new
+  skip_more more left_over bytes old mid new h g stopped size = record {
+    reads = reads_still k (λ before. length (part_of old ++ before) < count) left calls old mid new h.reads g.nothing;
+    gone = h.gone ++ bytes;
+    joined = h.joined ∙ (ap (λ l. h.gone ++ l) g.part ∙ sym (append_assoc h.gone bytes (part_of new)));
+    counted = omega (arith, h.counted, size, length-append h.gone bytes);
+    done = omega (arith, h.done, h.held, g.done, length-append h.gone bytes);
+    taker = g.taker;
+    held = g.held;
+    stopped = stopped ∙ h.stopped;
+    paid = λ open_. h.paid (sym g.nothing.ended ∙ open_);
+  }
+
+  -- all of it was passed over
+  pub skips : (more : ℕ) (bytes : List ℕ) (old mid new : Reader R T B b) (h : HasSkipped more old mid) → Goes bytes old mid new → stopped_of new ≡ None → more ≡ length bytes
+      → (r : ReadsToSkip k count left calls old new) × Skips count (part_of old ++ r.bytes) old new
+  skips more bytes old mid new h g stopped size =
+      let all : part_of old ++ h.reads.bytes ≡ (h.gone ++ bytes) ++ part_of new = h.joined ∙ (ap (λ l. h.gone ++ l) g.part ∙ sym (append_assoc h.gone bytes (part_of new))) in
+      let long = ap length all in
+      let counted : count ≡ length (h.gone ++ bytes) = omega (arith, h.counted, size, length-append h.gone bytes) in (
+        reads_still k (λ before. length (part_of old ++ before) < count) left calls old mid new h.reads g.nothing,
+        record {
+          there = omega (arith, long, counted, length-append (h.gone ++ bytes) (part_of new));
+          left = sym (drop_at (h.gone ++ bytes) (part_of new) count (sym counted)) ∙ ap (drop count) (sym all);
+          done = omega (arith, h.done, h.held, g.done, counted, length-append h.gone bytes);
+          stopped = stopped;
+        },
+      )
+
+  -- nothing is left of the buffer, and there is more to pass over
+  pub still_more : (more : ℕ) (old new : Reader R T B b) (h : HasSkipped more old new) → part_of new ≡ [] → 0 < more → length (part_of old ++ h.reads.bytes) < count
+  still_more more old new h none some =
+      let long = ap length (h.joined ∙ (ap (λ l. h.gone ++ l) none ∙ append-nil h.gone)) in
+      omega (arith, long, h.counted, some)
+
+  pub skips_all : (more : ℕ) (old new : Reader R T B b) (h : HasSkipped more old new) → part_of new ≡ [] → 0 < more → SkipsAll count (part_of old ++ h.reads.bytes) old new
+  skips_all more old new h none some = record {
+    short = still_more more old new h none some;
+    left = none;
+    done = h.done ∙ ap (λ (l : List ℕ). done_of old + old.held + length l) (sym (h.joined ∙ (ap (λ l. h.gone ++ l) none ∙ append-nil h.gone)));
+    stopped = h.stopped;
+  }
+
+  -- one more read, which gave bytes, or the end, or failed
+  pub skip_read : (more : ℕ) (bytes : List ℕ) (old mid new : Reader R T B b) (h : HasSkipped more old mid) → part_of mid ≡ [] → 0 < more → is_ended mid ≡ false
+      → Consumes (left (source_of mid)) (left (source_of new)) bytes → length bytes ≤ b.room.size → Buffers bytes mid new → (is_ended new ≡ true → IsAtEnd (left (source_of new)))
+      → (is_ended new ≡ false → 0 < length bytes) → Calls calls mid new → stopped_of new ≡ stopped_of mid → HasSkipped more old new
+  skip_read more bytes old mid new h none some open_ came fits buffers at_end gave c stopped =
+      let paid = h.paid open_ in
+      record {
+        reads = reads_one k (λ before. length (part_of old ++ before) < count) left calls old mid new h.reads open_ paid (still_more more old mid h none some) c bytes came fits (ap k.limits buffers.taker) at_end;
+        gone = h.gone;
+        joined = sym (append_assoc (part_of old) h.reads.bytes bytes) ∙ (ap (λ l. l ++ bytes) (h.joined ∙ (ap (λ l. h.gone ++ l) none ∙ append-nil h.gone)) ∙ ap (λ l. h.gone ++ l) (sym buffers.left));
+        counted = h.counted;
+        done = c.done ∙ h.done;
+        taker = buffers.taker ∙ h.taker;
+        held = buffers.held ∙ h.held;
+        stopped = stopped ∙ h.stopped;
+        paid = λ still. omega (arith, paid, gave still, length-append h.reads.bytes bytes);
+      }
+
+  -- all that is left of the buffer is passed over
+  pub record Drains (kept : ℕ) (old mid new : Reader R T B b) : Type 0 where
+    pub size : kept ≡ length (part_of mid)
+    pub goes : Goes (part_of mid) old mid new
+    pub none : part_of new ≡ []
+    pub stopped : stopped_of new ≡ stopped_of mid
+
+  drained : (more kept : ℕ) (old mid new : Reader R T B b) → HasSkipped more old mid → Drains kept old mid new → kept < more → HasSkipped (more - kept) old new
+  drained more kept old mid new h d some = skip_more more (more - kept) (part_of mid) old mid new h d.goes d.stopped (let size = d.size in omega (arith, some, size))
+
+  -- and the input ended
+  pub skips_to_end : (more kept : ℕ) (old mid new : Reader R T B b) → HasSkipped more old mid → Drains kept old mid new → kept < more → is_ended new ≡ true
+      → (r : ReadsToSkip k count left calls old new) × (SkipsAll count (part_of old ++ r.bytes) old new × (is_ended new ≡ true))
+  skips_to_end more kept old mid new h d some ended =
+      let all = drained more kept old mid new h d some in
+      (all.reads, (skips_all (more - kept) old new all d.none (omega (arith, some)), ended))
+
+  -- and no more reads may be made
+  pub skips_no_more : (more kept : ℕ) (old mid new : Reader R T B b) → HasSkipped more old mid → Drains kept old mid new → kept < more → reads_of new ≡ most_reads_of new → is_ended new ≡ false
+      → (r : ReadsToSkip k count left calls old new) × (SkipsAll count (part_of old ++ r.bytes) old new × (reads_of new ≡ most_reads_of new) × (is_ended new ≡ false))
+  skips_no_more more kept old mid new h d some all_read open_ =
+      let all = drained more kept old mid new h d some in
+      (all.reads, (skips_all (more - kept) old new all d.none (omega (arith, some)), all_read, open_))
+
+  -- and one more read gave bytes, or the end
+  pub skips_filled : (more kept : ℕ) (old mid next new : Reader R T B b) (bytes : List ℕ) → HasSkipped more old mid → Drains kept old mid next → kept < more → is_ended next ≡ false
+      → FillsBy left bytes next new → Calls calls next new → stopped_of new ≡ stopped_of next → HasSkipped (more - kept) old new
+  skips_filled more kept old mid next new bytes h d some open_ f c stopped =
+      skip_read (more - kept) bytes old next new (drained more kept old mid next h d some) d.none (omega (arith, some)) open_ f.consumed f.few f.buffers f.at_end
+      (λ still. gave bytes (is_ended new) f.ended still) c stopped
+
+  -- or it failed
+  pub skips_failed : (more kept : ℕ) (old mid next new : Reader R T B b) → HasSkipped more old mid → Drains kept old mid next → kept < more → is_ended next ≡ false
+      → FillsNone left next new → Calls calls next new → stopped_of new ≡ stopped_of next → (r : ReadsToSkip k count left calls old new) × SkipsAll count (part_of old ++ r.bytes) old new
+  skips_failed more kept old mid next new h d some open_ f c stopped =
+      let so_far = drained more kept old mid next h d some in
+      let came = Consumes-kept _ _ _ _ (Consumes-nil (left (source_of next))) f.source in
+      let lost : is_ended new ≡ true → ⊥ = λ t. both_ways (is_ended next) (sym f.ended ∙ t) open_ in
+      let reads = reads_one k (λ before. length (part_of old ++ before) < count) left calls old next new so_far.reads open_ (so_far.paid open_) (still_more (more - kept) old next so_far d.none (omega (arith, some))) c [] came (omega arith)
+      (ap k.limits f.buffers.taker) (λ t. absurd (lost t)) in
+      let s = skips_all (more - kept) old next so_far d.none (omega (arith, some)) in
+      let same : part_of old ++ (so_far.reads.bytes ++ []) ≡ part_of old ++ so_far.reads.bytes = ap (λ l. part_of old ++ l) (append-nil so_far.reads.bytes) in (
+        reads,
+        record {
+          short = subst (λ (l : List ℕ). length l < count) (sym same) s.short;
+          left = f.buffers.left;
+          done = c.done ∙ (s.done ∙ ap (λ (l : List ℕ). done_of old + old.held + length l) (sym same));
+          stopped = stopped ∙ s.stopped;
+        },
+      )
+
+-- the fault of what was refused
+refusal_of : (stopped : Option ReadFault) → is_refusal stopped ≡ true → (fault : Fault) × IsRefusal stopped fault
+refusal_of None e = absurd (false≢true e)
+refusal_of (Some Memory) e = absurd (false≢true e)
+refusal_of (Some (Format fault)) e = (fault, (refl, not_true (is_truncated fault.reason) e))
+  where
+    not_true : (b : Bool) → not b ≡ true → b ≡ false
+    not_true false e = refl
+    not_true true e = absurd (false≢true e)
+refusal_of (Some Device) e = absurd (false≢true e)
+refusal_of (Some TooManyReads) e = absurd (false≢true e)
+
+no_refusal : (stopped : Option ReadFault) (fault : Fault) → IsRefusal stopped fault → is_refusal stopped ≡ false → ⊥
+no_refusal stopped fault refusal none =
+    let met : not (is_truncated fault.reason) ≡ false = sym (ap is_refusal refusal.0) ∙ none in
+    let other : not (is_truncated fault.reason) ≡ true = ap not refusal.1 in
+    false≢true (sym met ∙ other)
+
+-- a reader of raw messages, whose reader below let go of what its taker held
+module _ {R A : Type 0} where
+  -- it lends nothing, and keeps what is left of its buffer
+  stands : (limits : Limits) (r : RawReader R A) → r.reader.taker ≡ fresh limits → (kept r ≡ part_of r.reader) × (lent_of r ≡ [])
+  stands limits r e = (
+    ap (λ (g : GathererState). under_way g.whole g.held ++ part_of r.reader) e,
+    ap (λ (g : GathererState). whole_or g.whole g.held (slice_range r.reader.buffer.bytes (r.reader.start - g.lent) r.reader.start)) e
+        ∙ no_part r.reader.buffer.bytes (r.reader.start - 0) r.reader.start (omega arith),
+  )
+
+  -- the reader below let go of what its taker held, and is the same else
+  pub record LetsGo (old : RawReader R A) (mid : Reader R GathererState Large ghosts) : Type 0 where
+    pub nothing : ReadsNothing gathering old.reader mid
+    pub part : part_of mid ≡ part_of old.reader
+    pub held : mid.held ≡ old.reader.held
+    pub done : done_of mid ≡ done_of old.reader
+    pub stopped : stopped_of mid ≡ stopped_of old.reader
+    pub taker : mid.taker ≡ fresh (limits_of old)
+
+  module _ (n : ℕ) (old : RawReader R A) (mid : Reader R GathererState Large ghosts) (g : LetsGo old mid) (fits : old.reader.held < n) where
+    abbrev reads_up_to : (new : RawReader R A) (left : R → Option (List ℕ)) (calls : R → ℕ) → ReadsToSkip gathering (n - mid.held) left calls mid new.reader → ReadsUpTo n left calls old new
+    reads_up_to new left calls r = reads_from gathering (λ before. length (kept old ++ before) < n) left calls (λ before. length (part_of mid ++ before) < n - mid.held) old.reader mid new.reader g.nothing
+        (λ before short. (part_after n (under_way old.reader.taker.whole old.reader.taker.held) (part_of old.reader) before old.reader.held old.held_counted fits).0
+        (subst (λ (l : List ℕ). length (l ++ before) < n - old.reader.held) g.part (subst (λ (k : ℕ). length (part_of mid ++ before) < n - k) g.held short))) r
+
+    falls_short : (bytes : List ℕ) (new : RawReader R A) → new.reader.taker ≡ mid.taker → SkipsAll (n - old.reader.held) (part_of old.reader ++ bytes) mid new.reader
+        → FallsShort n (kept old ++ bytes) old new
+    falls_short bytes new taker s =
+        let there = part_after n (under_way old.reader.taker.whole old.reader.taker.held) (part_of old.reader) bytes old.reader.held old.held_counted fits in
+        let all = append_assoc (under_way old.reader.taker.whole old.reader.taker.held) (part_of old.reader) bytes in
+        let long = ap length all in
+        let both = length-append (under_way old.reader.taker.whole old.reader.taker.held) (part_of old.reader ++ bytes) in
+        record {
+          short = there.0 s.short;
+          kept = (stands (limits_of old) new (taker ∙ g.taker)).0 ∙ s.left;
+          done = (let done = s.done in let size = old.held_counted in let own = g.done in let held = g.held in omega (arith, done, size, long, both, own, held));
+          lent = (stands (limits_of old) new (taker ∙ g.taker)).1;
+          stopped = s.stopped ∙ g.stopped;
+        }
+
+    passed : (bytes : List ℕ) (new : RawReader R A) (res : Result Bool ReadFault) → new.reader.taker ≡ mid.taker
+        → SkipAnswers (n - old.reader.held) (part_of old.reader ++ bytes) mid new.reader res → PassAnswers n (kept old ++ bytes) old new res
+    passed bytes new (Ok true) taker s =
+        let there = part_after n (under_way old.reader.taker.whole old.reader.taker.held) (part_of old.reader) bytes old.reader.held old.held_counted fits in
+        record {
+          there = there.1 s.there;
+          kept = (stands (limits_of old) new (taker ∙ g.taker)).0 ∙ (s.left ∙ there.2);
+          done = (let done = s.done in let own = g.done in let held = g.held in omega (arith, done, fits, own, held));
+          lent = (stands (limits_of old) new (taker ∙ g.taker)).1;
+          stopped = s.stopped;
+        }
+    passed bytes new (Ok false) taker s = (falls_short bytes new taker s.0, s.1)
+    passed bytes new (Err Memory) taker s = absurd s
+    passed bytes new (Err (Format fault)) taker s = absurd s
+    passed bytes new (Err Device) taker s = falls_short bytes new taker s
+    passed bytes new (Err TooManyReads) taker s = (falls_short bytes new taker s.0, s.1, s.2)
+
+    -- what the reader below answers
+    abbrev pub Skipping : (R → Option (List ℕ)) → (R → ℕ) → Reader R GathererState Large ghosts → Result Bool ReadFault → Type 0
+    Skipping left calls new res = (r : ReadsToSkip gathering (n - mid.held) left calls mid new) × SkipAnswers (n - mid.held) (part_of mid ++ r.bytes) mid new res
+
+    pub passing : (left : R → Option (List ℕ)) (calls : R → ℕ) → is_refusal (stopped_of old.reader) ≡ true → StatesLength (limits_of old) (kept old) n → (new : RawReader R A)
+        → new.reader.taker ≡ mid.taker → (res : Result Bool ReadFault) → Skipping left calls new.reader res → Passing left calls old new res
+    passing left calls met states new taker res r =
+        let refusal = refusal_of (stopped_of old.reader) met in
+        let bytes = r.0.bytes in
+        let answers = subst (λ (k : ℕ). SkipAnswers (n - k) (part_of old.reader ++ bytes) mid new.reader res) g.held
+        (subst (λ (l : List ℕ). SkipAnswers (n - mid.held) (l ++ bytes) mid new.reader res) g.part r.1) in
+        inl (refusal.0, n, refusal.1, states, reads_up_to new left calls r.0, passed bytes new res taker answers)
+
+  -- no message was refused
+  pub passes_none : (left : R → Option (List ℕ)) (calls : R → ℕ) (old : RawReader R A) → is_refusal (stopped_of old.reader) ≡ false → Passing left calls old old (Ok false)
+  passes_none left calls old none = inr (λ fault n refusal all. no_refusal (stopped_of old.reader) fault refusal none, refl, refl)
+
+-- ---- what the first sixteen bytes state
+
+pub states_front : (limits : Limits) (w : List ℕ) (n : ℕ) → StatesLength limits (take 16 w) n → StatesLength limits w n
+states_front limits w n s = subst (λ (l : List ℕ). StatesLength limits l n) (take-append-drop 16 w) (one_stated limits (take 16 w) (drop 16 w) n n s).0
+
+states_some : (limits : Limits) (w : List ℕ) (n : ℕ) → StatesLength limits w n → 16 ≤ n
+unfolding StatesLength
+states_some limits w n s = omega (arith, s.3)
+
+-- the bytes of a message under way are as many as are stated, or more
+pub states_less : (limits : Limits) (front part : List ℕ) (n k : ℕ) → IsPartial limits front → StatesLength limits (take 16 (front ++ part)) k → k ≤ length front → StatesAll limits (front ++ part) n → ⊥
+states_less limits front part n k partial states less all =
+    let one : n ≡ k = (one_stated limits (take 16 (front ++ part)) [] k n states).1 (subst (λ (l : List ℕ). StatesLength limits l n) (sym (append-nil (take 16 (front ++ part)))) all.0) in
+    all.1 (length front) (omega (arith, one, less)) (subst (λ (l : List ℕ). IsPartial limits l) (sym (take-append_seam front part)) partial)
+
+-- too few bytes are there
+pub states_none : (limits : Limits) (w : List ℕ) (n : ℕ) → length (take 16 w) < 16 → IsPartial limits (take 16 w) → StatesAll limits w n → ⊥
+states_none limits w n few partial all =
+    let some = states_some limits (take 16 w) n all.0 in
+    let size = length-take 16 w in
+    let short : length w < 16 = omega (arith, few, size) in
+    all.1 n (omega arith) (subst (λ (l : List ℕ). IsPartial limits l) (take_all 16 w (omega (arith, short)) ∙ sym (take_all n w (omega (arith, short, some)))) partial)
+
+-- ---- the first sixteen bytes of two lists
+
+module _ (first second : List ℕ) (h m : ℕ) (h_there : h ≤ length first) (m_there : m ≤ length second) (h_all : h < 16 → h ≡ length first) (m_all : h + m < 16 → m ≡ length second) (few : h + m ≤ 16) where
+  both_front : take h first ++ take m second ≡ take 16 (first ++ second)
+  both_front = elim (cases_lt h 16) [
+    | inl short ↦ (
+        let all = h_all short in
+        let left : length first + (16 - h) ≡ 16 = omega (arith, all, short) in
+        let tail : take m second ≡ take (16 - h) second = elim (cases_lt (h + m) 16) [
+          | inl less ↦ (let size = m_all less in take_all m second (omega (arith, size)) ∙ sym (take_all (16 - h) second (omega (arith, size, less))))
+          | inr full ↦ ap (λ k. take k second) (omega (arith, full, few))
+        ] in
+        ap (λ l. l ++ take m second) (take_all h first (omega (arith, all))) ∙ (ap (λ l. first ++ l) tail ∙ (sym (take-append-add first second (16 - h)) ∙ ap (λ k. take k (first ++ second)) left))
+        )
+    | inr long ↦ (
+        let full : h ≡ 16 = omega (arith, long, few) in
+        let none : m ≡ 0 = omega (arith, full, few) in
+        ap (λ k. take h first ++ take k second) none ∙ (append-nil (take h first) ∙ (ap (λ k. take k first) full ∙ sym (take-append-le 16 first second (omega (arith, full, h_there)))))
+        )
+  ]
+
+  pub copied : (x y : List ℕ) → take (h + m) (take h (take h first ++ x) ++ (take m second ++ y)) ≡ take 16 (first ++ second)
+  copied x y =
+      let size = length-take-le h first h_there in
+      let rest = length-take-le m second m_there in
+      let front : take h (take h first ++ x) ≡ take h first = ap (λ k. take k (take h first ++ x)) (sym size) ∙ take-append_seam (take h first) x in
+      let back : take m (take m second ++ y) ≡ take m second = ap (λ k. take k (take m second ++ y)) (sym rest) ∙ take-append_seam (take m second) y in
+      ap (λ l. take (h + m) (l ++ (take m second ++ y))) front
+      ∙ (ap (λ k. take (k + m) (take h first ++ (take m second ++ y))) (sym size)
+      ∙ (take-append-add (take h first) (take m second ++ y) m ∙ (ap (λ l. take h first ++ l) back ∙ both_front)))
