@@ -1,10 +1,12 @@
-//! Tests of the handshake's lines and ends; of rules and printed texts with allocations that fail; of copies, and of the texts of faults.
+//! Tests of the handshake's lines and ends; of rules and printed texts with allocations that fail; of copies, of the texts of faults, and of explanations.
 #![tactic(auto)]
 
 #[cfg(test)]
 mod copies;
 #[cfg(test)]
 mod end_growths;
+#[cfg(test)]
+mod explanations;
 #[cfg(test)]
 mod faults;
 #[cfg(test)]

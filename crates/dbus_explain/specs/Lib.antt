@@ -1,0 +1,3 @@
+pub mod Windows
+pub mod Explained
+pub mod ExplainedRules

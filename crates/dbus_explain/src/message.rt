@@ -1,0 +1,80 @@
+//! Why a message is refused.
+#![tactic(auto)]
+
+ghost use Rattle.std.specs.Prelude.{◌≡◌, ℕ, List};
+ghost use Rattle.dbus_explain.specs.Explained.{IsExplained, place_in, place_line, rule_line};
+
+use crate::places::place_of;
+use crate::reasons::rule_of;
+use crate::window::write_window;
+use dbus_show::{Draft, write_integer};
+use dbus_value_model::Fault;
+
+/// A message that is refused.
+#[derive(Clone, Copy)]
+pub struct Refused<'a> {
+    /// Its bytes, as far as they were read.
+    pub bytes: &'a [u8],
+    /// Its fault, whose place counts from its first byte.
+    pub fault: Fault,
+    /// Its number among the messages of its input, from 1.
+    pub number: u64,
+    /// Where it begins in its input, in bytes.
+    pub offset: u64,
+}
+
+/// Appends three lines that explain why a message is refused.
+///
+/// The first has the message's number and where it begins, the place of the fault from there, and its name: a part of the header, a
+/// header field, or the path to a value, such as `body[1][3].key`, in which arrays and structs count from 0. The second has the
+/// bytes around the place in hexadecimal, and the one there between brackets, which are empty at the end of what was read. The third
+/// says what has to be there, and where the D-Bus Specification says so.
+///
+/// ```text
+///   message 2 at 96, byte 72: body[1][3].key
+///   00 00 00 00 07 00 00 00 [02] 00 00 00
+///   a BOOLEAN is 0 or 1 (D-Bus Specification, "Marshaling (Wire Format)")
+/// ```
+///
+/// Of a place past the bytes, their end is named and shown. Any bytes and any fault are safe, and only the draft allocates. The name of the
+/// place and the last line are not proved. D-Bus Specification, "Message Protocol".
+pub fn explain_message<D: Draft>(draft: &mut D, refused: &Refused)
+    ensures { (text : List ℕ) × IsExplained refused.now text × D.gains draft.old text draft.new }
+{
+    let at = place_in(refused.bytes, refused.fault);
+    let place = place_of(refused.bytes, refused.fault.reason, at);
+    write_place(draft, refused, at, place.text.as_str());
+    write_window(draft, refused.bytes, at);
+    write_rule(draft, rule_of(refused.fault.reason));
+}
+
+// The place of the fault, or the end of the bytes if it is past them.
+fn place_in(bytes: &[u8], fault: Fault) -> usize
+    ensures { result ≡ place_in bytes.now fault }
+{
+    fault.at.min(bytes.len() as u64) as usize
+}
+
+// Appends the line of the place, and what comes before the bytes.
+fn write_place<D: Draft>(draft: &mut D, refused: &Refused, at: usize, place: &str)
+    ensures { D.gains draft.old (place_line refused.now at place.now) draft.new }
+{
+    draft.push_str("  message ");
+    write_integer(draft, refused.number);
+    draft.push_str(" at ");
+    write_integer(draft, refused.offset);
+    draft.push_str(", byte ");
+    write_integer(draft, at);
+    draft.push_str(": ");
+    draft.push_str(place);
+    draft.push_str("\n ");
+}
+
+/// Appends the end of a line, and a line of this rule.
+pub(crate) fn write_rule<D: Draft>(draft: &mut D, rule: &str)
+    ensures { D.gains draft.old (rule_line rule.now) draft.new }
+{
+    draft.push_str("\n  ");
+    draft.push_str(rule);
+    draft.push_str("\n");
+}
