@@ -250,7 +250,14 @@ const CUT: &[(Call, Given<'static>)] = &[
 ];
 
 // Rows as those above, of two parts of the bytes, in which messages are passed over.
-const PASSED: &[(&[&[u8]], usize, u64, u32, &[(Call, Given<'static>)], [u64; 3])] = &[
+const PASSED: &[(
+    &[&[u8]],
+    usize,
+    u64,
+    u32,
+    &[(Call, Given<'static>)],
+    [u64; 3],
+)] = &[
     (&[BARE_WITH_BODY, RETURN], 1000, 0, 100, GOES_ON, [48, 2, 0]),
     (&[BARE_WITH_BODY, RETURN], 1, 0, 100, GOES_ON, [48, 49, 0]),
     (&[BARE_WITH_BODY, RETURN], 17, 0, 100, GOES_ON, [48, 4, 0]),
