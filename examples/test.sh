@@ -37,11 +37,23 @@ done
 # Both ends of a handshake: one with the other, a client with a bus, and a server with a client of libdbus.
 "$CC" $sanitized -D_GNU_SOURCE -o "$built/handshake" "$here/c/handshake.c" -L"$built" -ldbus_wire
 for length in 1 7 4096; do "$built/handshake" pieces $length; done
-sockets=$(mktemp -d)
+sockets=$(mktemp -d) proxy=
 if command -v dbus-daemon > /dev/null; then
 	bus=$(dbus-daemon --session --fork --print-pid --address="unix:path=$sockets/bus")
-	"$built/handshake" client "$sockets/bus" || { kill "$bus"; exit 1; }
-	kill "$bus"
+	trap 'kill "$bus" $proxy' EXIT
+	"$built/handshake" client "$sockets/bus"
+	# A client behind a proxy asks the bus, but not for what a rule of the proxy's denies.
+	"$CC" $sanitized -D_GNU_SOURCE -o "$built/proxy" "$here/c/proxy.c" -L"$built" -ldbus_wire
+	"$built/proxy" "$sockets/door" "$sockets/bus" "type='method_call',member='GetId'" & proxy=$!
+	while test ! -S "$sockets/door"; do sleep 0.1; done
+	if command -v dbus-send > /dev/null; then
+		ask="dbus-send --bus=unix:path=$sockets/door --print-reply --dest=org.freedesktop.DBus / org.freedesktop.DBus"
+		$ask.ListNames | grep -q '"org.freedesktop.DBus"'
+		! $ask.GetId 2> "$built/said"
+		grep -q '^Error org.freedesktop.DBus.Error.AccessDenied' "$built/said"
+	fi
+	kill "$bus" $proxy
+	trap - EXIT
 fi
 if command -v dbus-send > /dev/null; then
 	timeout 20 "$built/handshake" server "$sockets/peer" & server=$!

@@ -1,0 +1,190 @@
+/* Stands between clients and a bus: `proxy DOOR BUS RULE..` lets in clients of its own user at the Unix socket DOOR, a process for
+ * each, and connects each to the bus at the Unix socket BUS. It is a server to the client and a client to the bus in the handshake,
+ * and then passes messages on, in both directions, each validated. What a client sends that one of the match rules matches does not
+ * get through: a call is answered by the error org.freedesktop.DBus.Error.AccessDenied. Bytes that are no message end the connection.
+ * Messages have at most 1 MiB, and no file descriptors, which the handshake refuses. Writes block, so a peer that does not read
+ * stops the other one. */
+#include <dbus_wire.h>
+
+#include <poll.h>
+#include <signal.h>
+#include <stdio.h>
+#include <stdlib.h>
+#include <string.h>
+#include <sys/socket.h>
+#include <sys/un.h>
+#include <unistd.h>
+
+static const struct dbus_wire_limits limits = {1 << 20, UINT32_MAX, UINT32_MAX, DBUS_WIRE_FDS_ANY};
+static const char guid[] = "0123456789abcdef0123456789abcdef";
+
+/* The one at the other end of a socket, with the bytes that came from it and are not passed on. */
+struct peer {
+    int socket;
+    size_t length;
+    uint8_t bytes[1 << 20];
+};
+
+/* The rules that no message of a client may match. */
+static struct dbus_wire_rule rules[64];
+static int count_of_rules;
+
+static void fail(const char *what) {
+    fprintf(stderr, "%s\n", what);
+    exit(1);
+}
+
+static void write_all(const struct peer *to, const uint8_t *bytes, size_t length) {
+    while (length > 0) {
+        ssize_t count = write(to->socket, bytes, length);
+        if (count <= 0) exit(0);
+        bytes += count;
+        length -= (size_t)count;
+    }
+}
+
+/* Reads more of what the peer sends, or ends if it sends no more. A message that fits is longer than what was read of it. */
+static void read_more(struct peer *from) {
+    ssize_t count = read(from->socket, from->bytes + from->length, sizeof from->bytes - from->length);
+    if (count <= 0) exit(0);
+    from->length += (size_t)count;
+}
+
+static void drop(struct peer *from, size_t count) {
+    memmove(from->bytes, from->bytes + count, from->length - count);
+    from->length -= count;
+}
+
+/* The handshake with a peer. Bytes of messages that came behind it stay. */
+static void shake(struct dbus_wire_handshake *end, struct peer *peer) {
+    uint8_t reply[DBUS_WIRE_REPLY_ROOM];
+    struct dbus_wire_handshake_step step;
+    uint32_t answer;
+    while ((answer = dbus_wire_handshake_take(end, peer->bytes, peer->length, reply, sizeof reply, &step)) == DBUS_WIRE_PARTIAL) {
+        drop(peer, (size_t)step.count);
+        write_all(peer, reply, (size_t)step.reply);
+        if (step.count == 0 && step.reply == 0) read_more(peer);
+    }
+    if (answer != DBUS_WIRE_OK) fail("the handshake failed");
+    drop(peer, (size_t)step.count);
+    write_all(peer, reply, (size_t)step.reply);
+    dbus_wire_handshake_free(end);
+}
+
+/* Answers a call by an error, which has a serial that the bus does not reach soon. */
+static void deny(const struct peer *client, const struct dbus_wire_parts *call) {
+    static const char name[] = "org.freedesktop.DBus.Error.AccessDenied";
+    static uint32_t serial = UINT32_C(1) << 31;
+    struct dbus_wire_parts error = {0};
+    struct dbus_wire_checked told;
+    uint8_t out[256];
+    error.order = call->order;
+    error.kind = DBUS_WIRE_TYPE_ERROR;
+    error.flags = DBUS_WIRE_FLAG_NO_REPLY_EXPECTED;
+    error.serial = serial++;
+    error.reply_serial = call->serial;
+    error.error_name.length = strlen(name);
+    error.error_name.is_there = 1;
+    if (dbus_wire_build(&error, (const uint8_t *)name, strlen(name), &limits, out, sizeof out, &told) != DBUS_WIRE_OK)
+        fail("no error is built");
+    write_all(client, out, (size_t)told.length);
+}
+
+static int is_denied(const struct peer *client, const struct dbus_wire_parts *parts) {
+    int i;
+    for (i = 0; i < count_of_rules; i++) {
+        uint32_t matches;
+        if (dbus_wire_rule_matches(&rules[i], client->bytes, (size_t)parts->length, &limits, NULL, 0, &matches) != DBUS_WIRE_WHOLE)
+            fail("out of memory");
+        if (matches) return 1;
+    }
+    return 0;
+}
+
+static void explain(const struct peer *from) {
+    struct dbus_wire_checked told;
+    if (dbus_wire_check(from->bytes, from->length, &limits, &told) == DBUS_WIRE_REFUSED)
+        fprintf(stderr, "no message, at %llu: %s\n", (unsigned long long)told.offset, dbus_wire_reason_text(told.reason));
+    exit(1);
+}
+
+/* Passes the messages on that are whole: of a client those that no rule matches. */
+static void pass(struct peer *from, const struct peer *to, int is_client) {
+    struct dbus_wire_parts parts;
+    uint32_t answer = DBUS_WIRE_PARTIAL;
+    /* A message is looked at once it is whole, and not after each read. */
+    while (from->length >= dbus_wire_wanted(from->bytes, from->length, &limits) &&
+           (answer = dbus_wire_parts_of(from->bytes, from->length, &limits, &parts)) == DBUS_WIRE_WHOLE) {
+        if (!is_client || !is_denied(from, &parts))
+            write_all(to, from->bytes, (size_t)parts.length);
+        else if (parts.kind == DBUS_WIRE_TYPE_METHOD_CALL && (parts.flags & DBUS_WIRE_FLAG_NO_REPLY_EXPECTED) == 0)
+            deny(from, &parts);
+        drop(from, (size_t)parts.length);
+    }
+    if (answer == DBUS_WIRE_REFUSED) explain(from);
+}
+
+static struct sockaddr_un address_of(const char *path) {
+    struct sockaddr_un address = {0};
+    address.sun_family = AF_UNIX;
+    if (strlen(path) >= sizeof address.sun_path) fail("the path is too long");
+    strcpy(address.sun_path, path);
+    return address;
+}
+
+/* Serves a client until it or the bus closes. */
+static void serve(int socket_of_client, const char *path) {
+    static struct peer client, bus;
+    struct dbus_wire_handshake server = {0}, asking = {0};
+    struct dbus_wire_mechanisms own_user = {DBUS_WIRE_EXTERNAL_AS_USER, (uint32_t)getuid(), 0, 0};
+    struct sockaddr_un address = address_of(path);
+    struct ucred caller;
+    socklen_t size = sizeof caller;
+    client.socket = socket_of_client;
+    bus.socket = socket(AF_UNIX, SOCK_STREAM, 0);
+    if (getsockopt(client.socket, SOL_SOCKET, SO_PEERCRED, &caller, &size) != 0 || caller.uid != getuid()) fail("another user");
+    if (bus.socket < 0 || connect(bus.socket, (struct sockaddr *)&address, sizeof address) != 0) fail("no bus");
+    if (dbus_wire_server_new((const uint8_t *)guid, strlen(guid), &own_user, &server) != DBUS_WIRE_OK) fail("no server");
+    if (dbus_wire_client_new(&own_user, NULL, 0, &asking) != DBUS_WIRE_OK) fail("no client");
+    shake(&asking, &bus);
+    shake(&server, &client);
+    for (;;) {
+        struct pollfd both[2] = {{client.socket, POLLIN, 0}, {bus.socket, POLLIN, 0}};
+        pass(&client, &bus, 1);
+        pass(&bus, &client, 0);
+        if (poll(both, 2, -1) < 0) fail("poll");
+        if (both[0].revents) read_more(&client);
+        if (both[1].revents) read_more(&bus);
+    }
+}
+
+static void add_rule(const char *text) {
+    struct dbus_wire_rule_refused told;
+    uint32_t answer;
+    if (count_of_rules == (int)(sizeof rules / sizeof *rules)) fail("too many rules");
+    answer = dbus_wire_rule_new((const uint8_t *)text, strlen(text), &rules[count_of_rules++], &told);
+    if (answer == DBUS_WIRE_REFUSED) {
+        fprintf(stderr, "%s, at %llu: %s\n", text, (unsigned long long)told.offset, dbus_wire_rule_reason_text(told.reason));
+        exit(2);
+    }
+    if (answer != DBUS_WIRE_OK) fail("out of memory");
+}
+
+int main(int count_of_words, char **words) {
+    struct sockaddr_un address;
+    int i, client, door = socket(AF_UNIX, SOCK_STREAM, 0);
+    if (count_of_words < 3) fail("proxy DOOR BUS RULE..");
+    for (i = 3; i < count_of_words; i++) add_rule(words[i]);
+    address = address_of(words[1]);
+    if (door < 0 || bind(door, (struct sockaddr *)&address, sizeof address) != 0 || listen(door, 16) != 0) fail("listen");
+    signal(SIGCHLD, SIG_IGN);
+    signal(SIGPIPE, SIG_IGN);
+    while ((client = accept(door, NULL, NULL)) >= 0) {
+        if (fork() == 0) {
+            close(door);
+            serve(client, words[2]);
+        }
+        close(client);
+    }
+    return 1;
+}
