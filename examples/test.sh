@@ -14,6 +14,14 @@ cp "$archive" "$built/libdbus_wire.a"
 : "${CC:=cc}" "${CXX:=c++}"
 flags="-I$here/../include -Wall -Wextra -Wpedantic -Werror"
 sanitized="-std=c99 -g -fsanitize=address,undefined $flags"
+# Ends if the command does not fail: after `!`, set -e looks at no status.
+must_fail() {
+	if "$@"; then
+		echo "did not fail: $*"
+		exit 1
+	fi
+}
+
 # One object of the archive, the kit's, takes and frees memory for the other.
 if nm -A -u "$archive" | grep -v ':heap.pic.o:' | grep -Ew 'malloc|calloc|realloc|aligned_alloc|posix_memalign|mmap|sbrk|free'; then
 	echo "the archive takes memory"
@@ -49,7 +57,7 @@ if command -v dbus-daemon > /dev/null; then
 	if command -v dbus-send > /dev/null; then
 		ask="dbus-send --bus=unix:path=$sockets/door --print-reply --dest=org.freedesktop.DBus / org.freedesktop.DBus"
 		$ask.ListNames | grep -q '"org.freedesktop.DBus"'
-		! $ask.GetId 2> "$built/said"
+		must_fail $ask.GetId 2> "$built/said"
 		grep -q '^Error org.freedesktop.DBus.Error.AccessDenied' "$built/said"
 	fi
 	kill "$bus" $proxy
@@ -79,9 +87,9 @@ for nth in $(seq 1 60); do
 done
 # No message is built if there is no memory (stdio takes the first block), or of parts that no message has.
 "$CC" -std=c99 -O2 $flags -o "$built/build_plain" "$here/c/build.c" -L"$built" -ldbus_wire
-! LD_PRELOAD=$built/refuse_nth.so REFUSE_NTH=2 "$built/build_plain" < "$here/../samples/session.dbus" 2> "$built/told" > /dev/null
+must_fail env LD_PRELOAD="$built/refuse_nth.so" REFUSE_NTH=2 "$built/build_plain" < "$here/../samples/session.dbus" 2> "$built/told" > /dev/null
 grep -q 'out of memory' "$built/told"
-! "$built/build" serial 0 < "$here/../samples/session.dbus" 2> "$built/told"
+must_fail "$built/build" serial 0 < "$here/../samples/session.dbus" 2> "$built/told"
 grep -q 'is 0$' "$built/told"
 "$here/tables.py" "$built/habits" "$built/texts" "$program"
 # The fuzz target finds nothing, and finds a parser that takes everything for a message.
