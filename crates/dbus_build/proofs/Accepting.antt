@@ -16,13 +16,12 @@ use Rattle.dbus_value_model.specs.declared.value.Value.{Value}
 use Rattle.dbus_value_model.proofs.Formed.{parts_of, all_parts_of}
 use Rattle.dbus_build.specs.BuildFaults.{IsFirstWithout, IsNonzero, HasOwnType, HasOwnKind, IsOfType, IsOf, type_wanted, text_wanted, twice, IsFirstUnsoundField, IsFirstUnsound, SerialsPass, TypesPass, NamesPass, SignaturePasses, NoFault}
 use Rattle.dbus_message_model.specs.KeptLimits.{IsShallow}
-use Rattle.dbus_message_model.specs.Messages.{FieldTree, Want, Anything, OfType, Name, Serial, want, Suits, AreFields, field_struct, field_array, has_code, is_known, text_in, body_signature}
+use Rattle.dbus_message_model.specs.Messages.{FieldTree, Want, Anything, OfType, Name, Serial, want, Suits, AreFields, field_struct, field_array, has_code, is_known, text_in, body_signature, IsValidMessage}
 use Rattle.dbus_build.specs.PartLaws.{KeptParts}
 use Rattle.dbus_build.proofs.ValidatedFields.{one_more}
 use Rattle.dbus_message_model.specs.PackedParts.{field_values, PartsKeepBytes}
 use Rattle.dbus_message_model.specs.PartsViews.{field_tree, field_trees, parts_tree}
 use Rattle.dbus_message_model.specs.SingleTypes.{AreSingleTypes}
-use Rattle.dbus_message_model.specs.ValidMessages.{IsValidMessage}
 use Rattle.dbus_message_model.specs.declared.header_field.HeaderField.{HeaderField}
 use Rattle.dbus_message_model.specs.declared.parts.Parts.{Parts}
 use Rattle.dbus_message_model.proofs.SingleTypes.{each_single}

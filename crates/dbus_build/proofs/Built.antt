@@ -7,7 +7,8 @@ use Rattle.dbus_value_model.specs.Specification.{specification}
 use Rattle.dbus_value_model.specs.declared.limits.TheConstants.{ARRAY_LIMIT, MESSAGE_LIMIT}
 use Rattle.dbus_value_model.specs.declared.order.Order.TheVariants.{Little}
 use Rattle.dbus_value_model.specs.Bytes.{gap_to, num}
-use Rattle.dbus_value_model.specs.FdIndexes.{AreAllBelow, IsFirstPast}
+use Rattle.dbus_value_model.specs.FdIndexes.{AreAllBelow}
+use Rattle.dbus_value_model.specs.FirstPast.{IsFirstPast}
 use Rattle.dbus_value_model.proofs.Indexes.{any_all_below, all_below}
 use Rattle.dbus_value_model.specs.Forming.{AreUniform, AreNamed}
 use Rattle.dbus_value_model.specs.Measures.{AreMeasured}
@@ -24,10 +25,9 @@ use Rattle.dbus_build.specs.declared.build_fault.BuildFault.{BuildFault}
 use Rattle.dbus_build.specs.declared.build_fault.BuildFault.TheVariants as faults
 use Rattle.dbus_message_model.specs.declared.header_field.HeaderField.{HeaderField}
 use Rattle.dbus_message_model.specs.declared.parts.Parts.{Parts}
-use Rattle.dbus_message_model.specs.Messages.{FieldTree, MessageTree, field_struct, field_array, fields_end, body_start, message_bytes}
+use Rattle.dbus_message_model.specs.Messages.{FieldTree, MessageTree, field_struct, field_array, fields_end, body_start, message_bytes, IsValidMessage}
 use Rattle.dbus_build.specs.MessageSizes.{HoldTheirNumbers, AreFieldEnds}
 use Rattle.dbus_message_model.specs.PartsViews.{parts_tree}
-use Rattle.dbus_message_model.specs.ValidMessages.{IsValidMessage}
 use Rattle.dbus_message_model.proofs.BothOrders.{valid_from}
 use Rattle.dbus_build.proofs.FaultyBody.{none_unsound}
 use Rattle.dbus_build.proofs.FaultyFields.{not_both}

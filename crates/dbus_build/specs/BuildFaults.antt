@@ -5,18 +5,17 @@ use Rattle.dbus_texts.specs.Types.{UINT32, STRING, TypeTree, NumberType, TextTyp
 use Rattle.dbus_value_model.specs.declared.fault.Reason.TheVariants as reasons
 use Rattle.dbus_value_model.specs.declared.limits.Limits.{Limits}
 use Rattle.dbus_value_model.specs.Checks.{IsTyped}
-use Rattle.dbus_value_model.specs.FdIndexes.{IsFirstPast}
+use Rattle.dbus_value_model.specs.FirstPast.{IsFirstPast}
 use Rattle.dbus_value_model.specs.Forming.{IsNamed}
 use Rattle.dbus_value_model.specs.Ranges.{HoldsNumbers}
 use Rattle.dbus_value_model.specs.Values.{ValueTree, NumberValue, type_of, types_of}
 use Rattle.dbus_value_model.specs.ValueViews.{value_tree}
 use Rattle.dbus_value_model.specs.declared.value.Value.{Value}
 use Rattle.dbus_value_model.specs.WantedTexts.{WantedText, IsWanted, kind_of}
-use Rattle.dbus_message_model.specs.Messages.{FieldTree, MessageTree, Want, Anything, OfType, Name, Serial, want, is_known, has_code, lacks, required, text_in, body_signature, body_fds, KeepsIndexes}
+use Rattle.dbus_message_model.specs.Messages.{FieldTree, MessageTree, Want, Anything, OfType, Name, Serial, want, is_known, has_code, lacks, required, text_in, body_signature, body_fds, KeepsIndexes, IsValidMessage}
 use Rattle.dbus_message_model.specs.KeptLimits.{IsShallow, KeepsArrays, IsLong}
 use Rattle.dbus_message_model.specs.PackedParts.{PartsKeepBytes}
 use Rattle.dbus_message_model.specs.PartsViews.{field_tree, parts_tree}
-use Rattle.dbus_message_model.specs.ValidMessages.{IsValidMessage}
 use Rattle.dbus_message_model.specs.MessageViews.{message_tree}
 use Rattle.dbus_message_model.specs.declared.header_field.HeaderField.{HeaderField}
 use Rattle.dbus_message_model.specs.declared.parts.Parts.{Parts}

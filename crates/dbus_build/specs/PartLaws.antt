@@ -6,7 +6,7 @@ use Rattle.dbus_value_model.specs.Specification.{specification}
 use Rattle.dbus_message_model.specs.KeptLimits.{KeepsLimits}
 use Rattle.dbus_message_model.specs.PackedParts.{PartsKeepBytes}
 use Rattle.dbus_message_model.specs.PartsViews.{parts_tree}
-use Rattle.dbus_message_model.specs.ValidMessages.{IsValidMessage}
+use Rattle.dbus_message_model.specs.Messages.{IsValidMessage}
 use Rattle.dbus_message_model.specs.declared.parts.Parts.{Parts}
 use Rattle.dbus_build.specs.BuildFaults.{NoFault}
 

@@ -7,9 +7,8 @@ ghost use Rattle.dbus_value_model.specs.Specification.{specification};
 ghost use Rattle.dbus_value_model.specs.declared.limits.Limits.{Limits};
 ghost use Rattle.dbus_build.specs.BuildFaults.{IsAccepted, IsBuilt, IsTaken, IsFirstFault, NoFault, NoneIsMissing, SignaturePasses, SizePasses};
 ghost use Rattle.dbus_build.specs.MessageSizes.{HoldTheirNumbers};
-ghost use Rattle.dbus_message_model.specs.Messages.{message_bytes};
+ghost use Rattle.dbus_message_model.specs.Messages.{message_bytes, IsValidMessage};
 ghost use Rattle.dbus_message_model.specs.PartsViews.{parts_tree};
-ghost use Rattle.dbus_message_model.specs.ValidMessages.{IsValidMessage};
 
 use crate::build_fault::BuildFault;
 use crate::faulty_body::{first_unsound, has_types};

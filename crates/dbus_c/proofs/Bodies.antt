@@ -36,7 +36,7 @@ signature_placed (f ∷ fs) s p is = go (nat_eq f.code 8) (λ h. signature_place
 
 whole_message : (limits : Limits) (b : List ℕ) (order : Order) (m : MessageTree) (n : ℕ) → IsWhole limits b order m n → IsMessage limits order m
 unfolding IsWhole
-whole_message limits b order m n w = w.message
+whole_message limits b order m n w = w.0
 
 -- what stands in a front stands in the whole
 module _ (n : ℕ) (b : List ℕ) (fits : n ≤ length b) where

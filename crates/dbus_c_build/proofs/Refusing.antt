@@ -142,7 +142,7 @@ module _ (limits : Limits) (b : List ℕ) (p : PlacedParts) where
   pub none_so : (out : List ℕ) → out ≡ spelled b p → BeginsWithNone limits out → MakeNone limits b p
   unfolding IsWhole
   none_so out is none = λ m has valid.
-      none p.order m (length (message_bytes p.order m)) (record { message = valid; rest = []; bytes = is ∙ sym (parts_spelled b p m has) ∙ sym (append-nil (message_bytes p.order m)); size = refl })
+      none p.order m (length (message_bytes p.order m)) (valid, ([], is ∙ sym (parts_spelled b p m has) ∙ sym (append-nil (message_bytes p.order m))), refl)
 
   pub built_so : (out : List ℕ) (v : Validated) → out ≡ spelled b p → HaveBytes b p → IsValidated limits out v → IsBuilt limits b p out
   unfolding IsWhole
@@ -150,10 +150,10 @@ module _ (limits : Limits) (b : List ℕ) (p : PlacedParts) where
       let m = validated.message in
       let w = validated.whole in
       let few : length (text_at b p.body) < 256 ^ 4 = omega (arith, length_at b p.body have.body_inside, have.body_short) in
-      let only = only_message limits b p have v.order m w.rest few w.message (sym w.bytes ∙ is) in
+      let only = only_message limits b p have v.order m w.1.0 few w.0 (sym w.1.1 ∙ is) in
       record {
         message = m;
         parts = record { inside = all_inside b p have.body_inside have.texts_inside; numbers = only.numbers; fields = only.fields; body = only.body };
-        valid = subst (λ (o : Order). IsMessage limits o m) only.order_is w.message;
-        bytes = w.bytes ∙ ap (λ (l : List ℕ). message_bytes v.order m ++ l) only.nothing ∙ append-nil (message_bytes v.order m) ∙ ap (λ (o : Order). message_bytes o m) only.order_is;
+        valid = subst (λ (o : Order). IsMessage limits o m) only.order_is w.0;
+        bytes = w.1.1 ∙ ap (λ (l : List ℕ). message_bytes v.order m ++ l) only.nothing ∙ append-nil (message_bytes v.order m) ∙ ap (λ (o : Order). message_bytes o m) only.order_is;
       }

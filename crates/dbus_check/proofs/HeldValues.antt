@@ -6,7 +6,7 @@ use Rattle.dbus_texts.specs.Kinds.{IsKind}
 use Rattle.dbus_value_model.specs.WantedTexts.{Of, Only}
 use Rattle.dbus_value_laws.proofs.KindLaws.{single_text, spelled_sig}
 use Rattle.dbus_texts.specs.ComputedKinds.{type_spelled}
-use Rattle.dbus_value_model.specs.Specification.{bounds_of}
+use Rattle.dbus_value_model.specs.Bounds.{bounds_of}
 use Rattle.dbus_value_model.specs.declared.stop.Stop.{Stop}
 use Rattle.dbus_value_model.specs.declared.stop.Stop.TheVariants as stops
 use Rattle.dbus_value_model.specs.Values.{ValueTree}

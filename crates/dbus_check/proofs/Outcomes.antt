@@ -4,12 +4,12 @@ use Rattle.std.proofs.lemmas.List.{append-nil, take-append-drop, length-append, 
 use Rattle.dbus_value_model.specs.declared.limits.Limits.{Limits}
 use Rattle.dbus_value_model.specs.declared.order.Order.{Order}
 use Rattle.dbus_value_model.specs.declared.fault.Fault.{Fault}
-use Rattle.dbus_value_model.specs.Bytes.{IsBytes}
+use Rattle.dbus_value_model.specs.ByteNumbers.{IsBytes}
 use Rattle.dbus_value_model.specs.Reading.{Outcome, Done, Faulty, Partial, after}
 use Rattle.dbus_header.specs.HeaderReading.{message_read}
 use Rattle.dbus_header.specs.MessageOutcomes.{IsWhole, IsRefused, IsPartial}
 use Rattle.dbus_message_model.specs.Messages.{MessageTree, message_bytes}
-use Rattle.dbus_header.proofs.MessageOutcomes.{reads_messages}
+use Rattle.dbus_header.proofs.OutcomeLaws.{reads_messages}
 use Rattle.dbus_header.proofs.Decoded.{refused_read, partial_read}
 use Rattle.dbus_value_checker.specs.Suspended.{done}
 use Rattle.dbus_check.specs.Heading.{message_on}
@@ -47,7 +47,7 @@ module _ (limits : Limits) (w piece : List ℕ) (bytes : IsBytes (w ++ piece)) w
       let d = length-drop n piece in
       let e = length-append (message_bytes order m) rest in
       let size = told.2 in
-      (order, m, record { message = told.0; rest = rest; bytes = told.1; size = omega arith })
+      (order, m, (told.0, (rest, told.1), omega arith))
 
   pub refused_is : (f : Fault) → ((c : List ℕ) → message_on limits 0 ((w ++ piece) ++ c) ≡ Faulty f) → IsRefused limits (w ++ piece) f
   refused_is f h =

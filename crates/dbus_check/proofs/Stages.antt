@@ -8,10 +8,10 @@ use Rattle.dbus_texts.proofs.KindFacts.{shaped_of}
 use Rattle.dbus_texts.specs.Types.{TypeTree, TypeTrees, NoTypes, MoreTypes, IsSingleType, sig, sigs, AreShaped}
 use Rattle.dbus_texts.specs.declared.text_kind.TextKind.TheVariants as kinds
 use Rattle.dbus_value_laws.proofs.KindLaws.{signature_text}
-use Rattle.dbus_value_model.specs.Bytes.{IsBytes}
+use Rattle.dbus_value_model.specs.ByteNumbers.{IsBytes}
 use Rattle.dbus_value_model.specs.FdIndexes.{index_limit}
 use Rattle.dbus_value_model.proofs.Numbers.{IsBytes-front}
-use Rattle.dbus_value_model.specs.Specification.{bounds_with}
+use Rattle.dbus_value_model.specs.Bounds.{bounds_with}
 use Rattle.dbus_value_model.specs.declared.limits.Bounds.{Bounds}
 use Rattle.dbus_value_model.specs.declared.limits.Limits.{Limits}
 use Rattle.dbus_value_model.specs.declared.order.Order.{Order}

@@ -1,7 +1,7 @@
 -- What a checker answers of all bytes that it was handed.
 -- D-Bus Specification, "Message Protocol".
 use Rattle.std.specs.Prelude.{◌≡◌, ℕ, ◌+◌, ◌≤◌, List, ◌++◌, length, take, Option, Some, None}
-use Rattle.dbus_value_model.specs.Bytes.{IsBytes}
+use Rattle.dbus_value_model.specs.ByteNumbers.{IsBytes}
 use Rattle.dbus_value_model.specs.Reading.{Faulty}
 use Rattle.dbus_value_model.specs.declared.fault.Fault.{Fault}
 use Rattle.dbus_value_model.specs.declared.limits.Limits.{Limits}

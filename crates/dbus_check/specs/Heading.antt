@@ -3,7 +3,7 @@
 use Rattle.std.specs.Prelude.{ℕ, zero, suc, ◌+◌, ◌-◌, List, [], ◌∷◌, Bool, false, ◌||◌, ◌&&◌, if◌then◌else◌, nat_lt, nat_eq, Option, Some, None}
 use Rattle.dbus_texts.specs.ComputedKinds.{types_spelled}
 use Rattle.dbus_value_model.specs.FdIndexes.{index_limit}
-use Rattle.dbus_value_model.specs.Specification.{bounds_with}
+use Rattle.dbus_value_model.specs.Bounds.{bounds_with}
 use Rattle.dbus_value_model.specs.declared.limits.Limits.{Limits}
 use Rattle.dbus_value_model.specs.declared.order.Order.{Order}
 use Rattle.dbus_value_model.specs.declared.fault.Reason.{Reason}

@@ -4,8 +4,8 @@ use Rattle.std.specs.Prelude.{◌≡◌, ℕ, ◌+◌, ◌-◌, ◌<◌, ◌≤�
 use Rattle.dbus_texts.specs.Kinds.{IsKind}
 use Rattle.dbus_texts.specs.Types.{TypeTree, TypeTrees, AreShaped}
 use Rattle.dbus_texts.specs.declared.text_kind.TextKind.TheVariants as kinds
-use Rattle.dbus_value_model.specs.Bytes.{IsBytes}
-use Rattle.dbus_value_model.specs.Specification.{bounds_of}
+use Rattle.dbus_value_model.specs.ByteNumbers.{IsBytes}
+use Rattle.dbus_value_model.specs.Bounds.{bounds_of}
 use Rattle.dbus_value_model.specs.declared.limits.Bounds.{Bounds}
 use Rattle.dbus_value_model.specs.declared.fault.Fault.{Fault}
 use Rattle.dbus_value_model.specs.declared.order.Order.{Order}

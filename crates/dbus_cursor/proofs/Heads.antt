@@ -8,7 +8,8 @@ use Rattle.dbus_value_model.specs.declared.limits.Bounds.{Bounds}
 use Rattle.dbus_value_model.specs.declared.limits.TheConstants.{ARRAY_LIMIT, DEPTH_LIMIT}
 use Rattle.dbus_value_model.specs.declared.order.Order.{Order}
 use Rattle.dbus_value_model.specs.declared.order.Order.TheVariants.{Little, Big}
-use Rattle.dbus_value_model.specs.Specification.{specification, bounds_of}
+use Rattle.dbus_value_model.specs.Specification.{specification}
+use Rattle.dbus_value_model.specs.Bounds.{bounds_of}
 use Rattle.dbus_value_model.specs.Spelling.{spelling, spellings, Spelled, IsWithinLimits}
 use Rattle.dbus_value_model.specs.Values.{ValueTree, ValueTrees, NoValues, MoreValues, type_of, IsWellFormed, AreWellFormed}
 use Rattle.dbus_value_model.proofs.Indexes.{any_below}

@@ -6,8 +6,7 @@ use Rattle.dbus_value_model.specs.Values.{ValueTrees}
 use Rattle.dbus_value_model.specs.Specification.{specification}
 use Rattle.dbus_value_model.specs.declared.limits.Limits.{Limits}
 use Rattle.dbus_value_model.specs.declared.order.Order.TheVariants.{Little}
-use Rattle.dbus_message_model.specs.Messages.{FieldTree, MessageTree, field_array, fields_end, body_start, body_signature, message_bytes}
-use Rattle.dbus_message_model.specs.ValidMessages.{IsValidMessage}
+use Rattle.dbus_message_model.specs.Messages.{FieldTree, MessageTree, field_array, fields_end, body_start, body_signature, message_bytes, IsValidMessage}
 use Rattle.dbus_message_model.proofs.BothOrders.{any_message_length}
 use Rattle.dbus_message_model.proofs.Widening.{widest_valid}
 use Rattle.dbus_header.specs.MessageOutcomes.{IsWhole}

@@ -1,3 +1,4 @@
+-- Trusted by the headline.
 -- What decoding answers under limits.
 -- D-Bus Specification, "Message Protocol".
 use Rattle.std.specs.Prelude.{ℕ, List, Result, Ok, Err}

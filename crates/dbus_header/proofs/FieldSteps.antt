@@ -4,7 +4,7 @@ use Rattle.std.proofs.lemmas.Bool.{lt-ltb, le-ltb}
 use Rattle.dbus_texts.specs.ComputedKinds.{type_spelled}
 use Rattle.dbus_texts.specs.Types.{TypeTree, sig}
 use Rattle.dbus_texts.specs.declared.text_kind.TextKind.TheVariants as kinds
-use Rattle.dbus_value_model.specs.Specification.{bounds_of}
+use Rattle.dbus_value_model.specs.Bounds.{bounds_of}
 use Rattle.dbus_value_model.specs.declared.limits.Limits.{Limits}
 use Rattle.dbus_value_model.specs.declared.order.Order.{Order}
 use Rattle.dbus_value_model.specs.declared.fault.Reason.TheVariants as reasons

@@ -1,7 +1,6 @@
 pub mod Fields
 pub mod MessageParts
 pub mod Whole
-pub mod MessageOutcomes
 pub mod OutcomeLaws
 pub mod FixedItems
 pub mod FieldSteps

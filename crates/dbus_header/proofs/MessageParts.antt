@@ -4,7 +4,7 @@ use Rattle.std.proofs.lemmas.Bool.{ltb-false, le-ltb, eqb-true}
 use Rattle.dbus_texts.specs.Types.{SIGNATURE, TextType, TypeTrees, NoTypes, sigs, AreShaped}
 use Rattle.dbus_value_model.specs.declared.limits.Limits.{Limits}
 use Rattle.dbus_value_model.specs.declared.limits.Bounds.{Bounds}
-use Rattle.dbus_value_model.specs.Specification.{bounds_of, bounds_with}
+use Rattle.dbus_value_model.specs.Bounds.{bounds_of, bounds_with}
 use Rattle.dbus_value_model.specs.WantedTexts.{IsWanted}
 use Rattle.dbus_texts.specs.ComputedKinds.{types_spelled}
 use Rattle.dbus_texts.specs.Kinds.{IsKind}

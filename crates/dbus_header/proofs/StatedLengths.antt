@@ -7,7 +7,7 @@ use Rattle.dbus_value_model.specs.declared.order.Order.{Order}
 use Rattle.dbus_value_model.specs.declared.fault.Fault.{Fault}
 use Rattle.dbus_value_model.specs.declared.fault.Reason.{Reason}
 use Rattle.dbus_value_model.specs.declared.fault.Reason.TheVariants as reasons
-use Rattle.dbus_value_model.specs.Bytes.{IsBytes}
+use Rattle.dbus_value_model.specs.ByteNumbers.{IsBytes}
 use Rattle.dbus_value_model.specs.Items.{fault, no_row}
 use Rattle.dbus_value_model.specs.declared.order.Order.TheVariants.{Little, Big}
 use Rattle.dbus_value_model.specs.Reading.{Reader, Outcome, Done, Faulty, Partial, after, validated, pure, number, number_of, ◌>>=◌}
@@ -124,9 +124,9 @@ pub whole_states : WholeStates
 unfolding IsWhole StatesLength
 whole_states limits b order m n w =
     let long = header_length order m in
-    let passed = fixed_passed limits order m w.rest w.message in
-    let tail = after_fixed order m w.rest in
-    ((header_of order m, tail, subst (λ (s : List ℕ). (fixed_items limits).Passed 0 s (header_of order m) 16 tail) (sym w.bytes) passed, omega (arith, w.size)), omega (arith, w.size))
+    let passed = fixed_passed limits order m w.1.0 w.0 in
+    let tail = after_fixed order m w.1.0 in
+    ((header_of order m, tail, subst (λ (s : List ℕ). (fixed_items limits).Passed 0 s (header_of order m) 16 tail) (sym w.1.1) passed, omega (arith, w.2)), omega (arith, w.2))
 
 stated_more : (limits : Limits) (b c : List ℕ) (n : ℕ) → StatesLength limits b n → StatesLength limits (b ++ c) n
 unfolding StatesLength

@@ -4,10 +4,11 @@ use Rattle.dbus_texts.specs.Types.{TypeTrees, sigs, AreShaped}
 use Rattle.dbus_texts.specs.ComputedKinds.{types_spelled}
 use Rattle.dbus_value_model.specs.declared.limits.Limits.{Limits}
 use Rattle.dbus_value_model.specs.declared.limits.Bounds.{Bounds}
-use Rattle.dbus_value_model.specs.Specification.{bounds_of, bounds_with}
+use Rattle.dbus_value_model.specs.Bounds.{bounds_of, bounds_with}
 use Rattle.dbus_value_model.specs.declared.order.Order.{Order}
 use Rattle.dbus_value_model.specs.Bytes.{num, gap_to, pad}
-use Rattle.dbus_value_model.specs.Spelling.{spelling, SpelledAll, IsWithinLimits, AreWithinLimits}
+use Rattle.dbus_value_model.specs.Spelling.{spelling, IsWithinLimits, AreWithinLimits}
+use Rattle.dbus_value_model.specs.SpelledAll.{SpelledAll}
 use Rattle.dbus_value_model.specs.Values.{AllOf, value_trees, ValueTrees, types_of, IsWellFormed}
 use Rattle.dbus_value_model.specs.Items.{Sequence}
 use Rattle.dbus_value_model.specs.ValueItems.{value}

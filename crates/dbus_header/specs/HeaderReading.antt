@@ -4,7 +4,7 @@
 use Rattle.std.specs.Prelude.{ℕ, ◌-◌, List, Option}
 use Rattle.dbus_texts.specs.Types.{TypeTree, TypeTrees}
 use Rattle.dbus_texts.specs.ComputedKinds.{types_spelled}
-use Rattle.dbus_value_model.specs.Specification.{bounds_of, bounds_with}
+use Rattle.dbus_value_model.specs.Bounds.{bounds_of, bounds_with}
 use Rattle.dbus_value_model.specs.declared.limits.Limits.{Limits}
 use Rattle.dbus_value_model.specs.declared.order.Order.{Order}
 use Rattle.dbus_value_model.specs.declared.fault.Reason.TheVariants as reasons

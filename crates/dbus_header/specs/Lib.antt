@@ -1,7 +1,5 @@
 pub mod MessageItems
 pub mod MessageReading
-pub mod MessageRelations
-pub mod MessageLaws
 pub mod MessageOutcomes
 pub mod OutcomeLaws
 pub mod HeaderReading

@@ -1,14 +1,15 @@
 -- The laws of messages and of the three outcomes.
 -- D-Bus Specification, "Message Protocol".
-use Rattle.std.specs.Prelude.{◌≡◌, ℕ, ◌⊎◌, List, ◌++◌, length}
+use Rattle.std.specs.Prelude.{◌≡◌, ℕ, ◌↔◌, ◌⊎◌, List, ◌++◌, length}
 use Rattle.dbus_value_model.specs.declared.order.Order.{Order}
 use Rattle.dbus_value_model.specs.declared.order.Order.TheVariants.{Little, Big}
 use Rattle.dbus_value_model.specs.declared.fault.Fault.{Fault}
-use Rattle.dbus_value_model.specs.Bytes.{IsBytes}
+use Rattle.dbus_value_model.specs.ByteNumbers.{IsBytes}
+use Rattle.dbus_value_model.specs.Reading.{Done, Faulty}
 use Rattle.dbus_value_model.specs.declared.limits.Limits.{Limits}
-use Rattle.dbus_message_model.specs.Messages.{MessageTree, message_bytes}
+use Rattle.dbus_message_model.specs.Messages.{MessageTree, message_bytes, IsMessage, IsValidMessage}
 use Rattle.dbus_message_model.specs.LimitLaws.{AreWider}
-use Rattle.dbus_message_model.specs.ValidMessages.{IsValidMessage}
+use Rattle.dbus_header.specs.HeaderReading.{message_read}
 use Rattle.dbus_header.specs.MessageOutcomes.{IsWhole, IsRefused, IsPartial}
 
 -- No message's bytes begin another's, and bytes spell at most one message in at most one order.
@@ -50,3 +51,11 @@ RefusedForGood = (limits : Limits) (b c : List ℕ) (f : Fault) → IsRefused li
 -- What is whole under limits is whole under wider ones, in the same order, as the same message and of the same length.
 abbrev pub WiderWhole : Type 0
 WiderWhole = (limits wider : Limits) (b : List ℕ) (order : Order) (m : MessageTree) (n : ℕ) → AreWider wider limits → IsWhole limits b order m n → IsWhole wider b order m n
+
+-- Reading answers what the relations say, both ways.
+abbrev pub ReadsMessages : Type 0
+ReadsMessages = (limits : Limits) (b : List ℕ) (order : Order) (m : MessageTree) (n : ℕ) (rest : List ℕ) → IsBytes b
+    → (message_read limits 0 b ≡ Done (order, m) n rest) ↔ (IsMessage limits order m × (b ≡ message_bytes order m ++ rest) × (n ≡ length (message_bytes order m)))
+
+abbrev pub ReadsMessageFaults : Type 0
+ReadsMessageFaults = (limits : Limits) (b : List ℕ) (f : Fault) → IsBytes b → (message_read limits 0 b ≡ Faulty f) ↔ IsRefused limits b f

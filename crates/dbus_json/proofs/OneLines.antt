@@ -8,7 +8,8 @@ use Rattle.std.specs.List.{flat_map}
 use Rattle.std.specs.Str.Parse.{AllDigits}
 use Rattle.hex.specs.Hex.{encode_lower}
 use Rattle.ryu.specs.Plain.{IsPlainNumber}
-use Rattle.dbus_texts.specs.Types.{NumberCode, DOUBLE, sig, is_byte}
+use Rattle.dbus_texts.specs.Types.{NumberCode, DOUBLE, sig}
+use Rattle.dbus_texts.specs.PlainTypes.{is_byte}
 use Rattle.dbus_value_model.specs.declared.order.Order.TheVariants.{Big}
 use Rattle.dbus_value_model.specs.Bytes.{num}
 use Rattle.dbus_value_model.specs.Values.{ValueTree, ValueTrees, NumberValue, TextValue, VariantValue, ArrayValue, StructValue, EntryValue, NoValues, MoreValues, type_of}

@@ -1,7 +1,8 @@
 -- Values that stand in the bytes, written: numbers, texts, and arrays of BYTE.
 use Rattle.std.proofs.Common.{◌≡◌, ℕ, ◌+◌, ◌-◌, List, ◌++◌, get_or, take, drop, true, false, codes, sym, ap, subst, ◌∙◌, append-nil}
 use Rattle.hex.specs.Hex.{encode_lower}
-use Rattle.dbus_texts.specs.Types.{NumberCode, number_code, sig, sigs, is_byte}
+use Rattle.dbus_texts.specs.Types.{NumberCode, number_code, sig, sigs}
+use Rattle.dbus_texts.specs.PlainTypes.{is_byte}
 use Rattle.dbus_types.specs.Alignments.{width}
 use Rattle.dbus_value_model.specs.Bytes.{gap_to}
 use Rattle.dbus_value_model.specs.Reading.{number_of}

@@ -6,7 +6,8 @@ use Rattle.std.specs.List.{join_by}
 use Rattle.hex.specs.Hex.{encode_lower}
 use Rattle.ryu.specs.Parse.{parse_float}
 use Rattle.ryu.specs.Plain.{IsPlainNumber}
-use Rattle.dbus_texts.specs.Types.{NumberCode, DOUBLE, sig, is_byte}
+use Rattle.dbus_texts.specs.Types.{NumberCode, DOUBLE, sig}
+use Rattle.dbus_texts.specs.PlainTypes.{is_byte}
 use Rattle.dbus_value_model.specs.declared.order.Order.TheVariants.{Big}
 use Rattle.dbus_value_model.specs.Values.{ValueTree, ValueTrees, NumberValue, TextValue, VariantValue, ArrayValue, StructValue, EntryValue, NoValues, MoreValues, type_of}
 use Rattle.dbus_value_model.specs.Bytes.{num}

@@ -1,6 +1,5 @@
 pub use Rattle.dbus_message_model.specs.Messages
 pub use Rattle.dbus_message_model.specs.PartsViews
-pub use Rattle.dbus_message_model.specs.ValidMessages
 pub use Rattle.dbus_message_model.specs.MessageViews
 pub use Rattle.dbus_message_model.specs.Lookups
 pub use Rattle.dbus_message_model.specs.WantViews
@@ -17,7 +16,6 @@ pub use Rattle.dbus_compose.specs.Drafts
 pub use Rattle.dbus_compose.specs.Composing
 pub use Rattle.dbus_header.specs.MessageItems
 pub use Rattle.dbus_header.specs.MessageReading
-pub use Rattle.dbus_header.specs.MessageLaws
 pub use Rattle.dbus_header.specs.MessageOutcomes
 pub use Rattle.dbus_decode.specs.Decodes
 pub use Rattle.dbus_header.specs.OutcomeLaws

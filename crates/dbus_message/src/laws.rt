@@ -2,8 +2,7 @@
 //! function's contract is a law; it does nothing when it runs.
 #![tactic(auto)]
 
-ghost use Rattle.dbus_header.specs.MessageLaws.{ReadsMessages, ReadsMessageFaults};
-ghost use Rattle.dbus_header.specs.OutcomeLaws.{OneMessage, OneLength, SomeOutcome, OneOutcome, OneWhole, OneFault, WholeForGood, RefusedForGood, WiderWhole};
+ghost use Rattle.dbus_header.specs.OutcomeLaws.{OneMessage, OneLength, SomeOutcome, OneOutcome, OneWhole, OneFault, WholeForGood, RefusedForGood, WiderWhole, ReadsMessages, ReadsMessageFaults};
 ghost use Rattle.dbus_message_model.specs.LimitLaws.{WiderLimits, ValidWithin};
 ghost use Rattle.dbus_header.specs.StatedLaws.{StatedHolds, WholeStates, OneStated, SomeStated};
 

@@ -7,8 +7,7 @@ use Rattle.dbus_value_model.specs.declared.order.Order.{Order}
 use Rattle.dbus_value_model.specs.Bytes.{gap_to}
 use Rattle.dbus_value_model.specs.Spelling.{spelling, spellings, contents_start, ended_text, IsWithinLimits, AreWithinLimits}
 use Rattle.dbus_value_model.specs.Values.{ValueTree, ValueTrees, NoValues, MoreValues, NumberValue, TextValue, VariantValue, ArrayValue, StructValue, EntryValue, type_of, IsWellFormed, AreWellFormed}
-use Rattle.dbus_message_model.specs.Messages.{FieldTree, MessageTree, message_bytes, field_array, fields_end, body_start, body_bytes, IsMessage, KeepsIndexes}
-use Rattle.dbus_message_model.specs.ValidMessages.{IsValidMessage}
+use Rattle.dbus_message_model.specs.Messages.{FieldTree, MessageTree, message_bytes, field_array, fields_end, body_start, body_bytes, IsMessage, KeepsIndexes, IsValidMessage}
 use Rattle.dbus_value_model.proofs.Numbers.{length-num}
 use Rattle.dbus_message_model.proofs.MessageLengths.{message_length}
 

@@ -1,7 +1,8 @@
 -- What is wanted of the known fields: basic types, and names of at most 255 bytes.
 use Rattle.std.proofs.Common.{ℕ, ◌<◌, List, length, Bool, true, false, cond, eqb, arith}
 use Rattle.dbus_texts.specs.Types.{IsBasic, IsSingleType}
-use Rattle.dbus_value_model.specs.WantedTexts.{IsWanted, IsName}
+use Rattle.dbus_value_model.specs.WantedTexts.{IsWanted}
+use Rattle.dbus_value_model.specs.NameTexts.{IsName}
 use Rattle.dbus_message_model.specs.Messages.{Want, Anything, OfType, Name, Serial, want}
 
 abbrev pub WantOk : Want → Type 0

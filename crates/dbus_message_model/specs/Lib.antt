@@ -1,6 +1,5 @@
 pub mod Messages
 pub mod PartsViews
-pub mod ValidMessages
 pub mod MessageViews
 pub mod Lookups
 pub mod WantViews

@@ -5,8 +5,7 @@ use Rattle.dbus_value_model.specs.declared.fd_rule.FdRule.TheVariants.{Any}
 use Rattle.dbus_value_model.specs.declared.limits.Limits.{Limits}
 use Rattle.dbus_value_model.specs.Specification.{specification}
 use Rattle.dbus_message_model.specs.KeptLimits.{KeepsLimits}
-use Rattle.dbus_message_model.specs.Messages.{MessageTree}
-use Rattle.dbus_message_model.specs.ValidMessages.{IsValidMessage}
+use Rattle.dbus_message_model.specs.Messages.{MessageTree, IsValidMessage}
 
 -- None of the wider limits is smaller. A rule on indexes of descriptors is not where it is the same, or where any may stand.
 abbrev pub AreWider : Limits → Limits → Type 0

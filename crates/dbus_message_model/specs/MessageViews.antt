@@ -1,3 +1,4 @@
+-- Trusted by the headline.
 -- The tree that a `Message` stands for.
 -- D-Bus Specification, "Message Format".
 use Rattle.dbus_message_model.specs.Messages.{MessageTree}

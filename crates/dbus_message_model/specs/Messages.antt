@@ -1,19 +1,21 @@
+-- Trusted by the headline.
 -- Messages as trees, their one spelling in either byte order, and which are valid: the message relation.
 -- D-Bus Specification, "Message Format" and "Header Fields".
 use Rattle.std.specs.Prelude.{◌≡◌, ℕ, ◌+◌, ◌^◌, ◌<◌, ◌≤◌, List, [], ◌∷◌, ◌++◌, length, map, Bool, true, false, ◌||◌, ◌&&◌, nat_eq, if◌then◌else◌, Option, Some, None}
 use Rattle.dbus_texts.specs.Types.{BYTE, UINT32, STRING, OBJECT_PATH, SIGNATURE, TypeTree, NumberType, TextType, VariantType, StructType, NoTypes, MoreTypes, sigs}
 use Rattle.dbus_value_model.specs.FdIndexes.{index_limit, AreAllBelow}
 use Rattle.dbus_value_model.specs.declared.limits.Limits.{Limits}
-use Rattle.dbus_value_model.specs.Measures.{coded}
 use Rattle.dbus_value_model.specs.WantedTexts.{WantedText, IsWanted, Of}
 use Rattle.dbus_value_model.specs.declared.order.Order.{Order}
 use Rattle.dbus_value_model.specs.declared.order.Order.TheVariants.{Little, Big}
 use Rattle.dbus_value_model.specs.Bytes.{num, gap_to, pad}
-use Rattle.dbus_value_model.specs.Values.{value_trees, ValueTrees, ValueTree, NumberValue, TextValue, VariantValue, ArrayValue, StructValue, EntryValue, types_of, type_of, IsWellFormed, AreWellFormed}
+use Rattle.dbus_value_model.specs.Values.{value_trees, ValueTrees, NoValues, MoreValues, ValueTree, NumberValue, TextValue, VariantValue, ArrayValue, StructValue, types_of, type_of, IsWellFormed, AreWellFormed}
 use Rattle.dbus_value_model.specs.Spelling.{spelling, spellings, IsWithinLimits, AreWithinLimits}
 use Rattle.dbus_value_model.specs.declared.fault.Reason.{Reason}
 use Rattle.dbus_value_model.specs.declared.fault.Reason.TheVariants as reasons
 use Rattle.dbus_texts.specs.declared.text_kind.TextKind.TheVariants as kinds
+use Rattle.dbus_message_model.specs.declared.field_code.TheConstants as field
+use Rattle.dbus_message_model.specs.declared.message_type.TheConstants as message
 
 pub record FieldTree : Type 0 where
   pub code : ℕ
@@ -36,7 +38,7 @@ abbrev pub field_type : TypeTree
 field_type = StructType (MoreTypes (NumberType BYTE) (MoreTypes VariantType NoTypes))
 
 abbrev pub field_struct : FieldTree → ValueTree
-field_struct f = coded f.code f.value
+field_struct f = StructValue (MoreValues (NumberValue BYTE f.code) (MoreValues (VariantValue f.value) NoValues))
 
 -- the fields as a value
 abbrev pub field_array : List FieldTree → ValueTree
@@ -67,21 +69,24 @@ pub data Want : Type 0 where
   Name : WantedText → Want
   Serial : Want
 
--- The table of the known fields: what is wanted of the value of each. Any other field holds anything.
+-- The table of the known header fields: what is wanted of the value of each. Any other field holds anything.
 abbrev pub want : ℕ → Want
 want code =
-    if nat_eq code 1 then OfType (TextType OBJECT_PATH) else if nat_eq code 2 then Name (Of kinds.Interface)
-    else if nat_eq code 3 then Name (Of kinds.Member) else if nat_eq code 4 then Name (Of kinds.ErrorName)
-    else if nat_eq code 5 then Serial else if nat_eq code 6 then Name (Of kinds.BusName)
-    else if nat_eq code 7 then Name (Of kinds.BusName) else if nat_eq code 8 then OfType (TextType SIGNATURE)
-    else if nat_eq code 9 then OfType (NumberType UINT32) else Anything
+    if nat_eq code field.PATH then OfType (TextType OBJECT_PATH)
+    else if nat_eq code field.INTERFACE then Name (Of kinds.Interface)
+    else if nat_eq code field.MEMBER then Name (Of kinds.Member)
+    else if nat_eq code field.ERROR_NAME then Name (Of kinds.ErrorName)
+    else if nat_eq code field.REPLY_SERIAL then Serial
+    else if nat_eq code field.DESTINATION then Name (Of kinds.BusName)
+    else if nat_eq code field.SENDER then Name (Of kinds.BusName)
+    else if nat_eq code field.SIGNATURE then OfType (TextType SIGNATURE)
+    else if nat_eq code field.UNIX_FDS then OfType (NumberType UINT32)
+    else Anything
 
 -- whether more is wanted than any value
 abbrev pub is_particular : Want → Bool
 is_particular Anything = false
-is_particular (OfType t) = true
-is_particular (Name k) = true
-is_particular Serial = true
+is_particular _ = true
 
 abbrev pub is_known : ℕ → Bool
 is_known code = is_particular (want code)
@@ -108,28 +113,28 @@ abbrev pub AreFields : List FieldTree → List FieldTree → Type 0
 AreFields before [] = Unit {0}
 AreFields before (f ∷ fs) = IsField before f × AreFields (f ∷ before) fs
 
--- the lowest of these codes that is missing
+-- the first of these codes that is missing
 abbrev pub lacks : List ℕ → List FieldTree → Option Reason
 lacks [] fs = None
 lacks (c ∷ cs) fs = if has_code c fs then lacks cs fs else Some (reasons.FieldMissing c)
 
+-- the header fields that a message of a type has to have, the lowest code first
 abbrev pub required : ℕ → List ℕ
 required kind =
-    if nat_eq kind 1 then 1 ∷ 3 ∷ [] else if nat_eq kind 2 then 5 ∷ []
-    else if nat_eq kind 3 then 4 ∷ 5 ∷ [] else if nat_eq kind 4 then 1 ∷ 2 ∷ 3 ∷ [] else []
+    if nat_eq kind message.METHOD_CALL then field.PATH ∷ field.MEMBER ∷ []
+    else if nat_eq kind message.METHOD_RETURN then field.REPLY_SERIAL ∷ []
+    else if nat_eq kind message.ERROR then field.ERROR_NAME ∷ field.REPLY_SERIAL ∷ []
+    else if nat_eq kind message.SIGNAL then field.PATH ∷ field.INTERFACE ∷ field.MEMBER ∷ []
+    else []
 
 -- the text of the first SIGNATURE field, or nothing
 abbrev pub text_in : ValueTree → List ℕ
 text_in (TextValue k t) = t
-text_in (NumberValue k n) = []
-text_in (VariantValue x) = []
-text_in (ArrayValue t xs) = []
-text_in (StructValue xs) = []
-text_in (EntryValue k v) = []
+text_in _ = []
 
 abbrev pub body_signature : List FieldTree → List ℕ
 body_signature [] = []
-body_signature (f ∷ fs) = if nat_eq f.code 8 then text_in f.value else body_signature fs
+body_signature (f ∷ fs) = if nat_eq f.code field.SIGNATURE then text_in f.value else body_signature fs
 
 -- ---- descriptors
 
@@ -140,7 +145,7 @@ number_in _ = 0
 -- how many descriptors come with a message: the number of the first UNIX_FDS field, or 0
 abbrev pub fd_count : List FieldTree → ℕ
 fd_count [] = 0
-fd_count (f ∷ fs) = if nat_eq f.code 9 then number_in f.value else fd_count fs
+fd_count (f ∷ fs) = if nat_eq f.code field.UNIX_FDS then number_in f.value else fd_count fs
 
 -- the number that the indexes of descriptors in the body are below, where the limits' rule asks for one
 abbrev pub body_fds : Limits → List FieldTree → Option ℕ
@@ -167,3 +172,7 @@ pub record IsMessage (limits : Limits) (order : Order) (m : MessageTree) : Type 
   pub within_body : AreWithinLimits limits.array order (body_start order m.fields) m.body
   pub limit : length (message_bytes order m) ≤ limits.message
   pub indexes : KeepsIndexes limits m
+
+-- valid, and within the limits in both byte orders
+abbrev pub IsValidMessage : Limits → MessageTree → Type 0
+IsValidMessage limits m = (order : Order) → IsMessage limits order m

@@ -1,3 +1,4 @@
+-- Trusted by the headline.
 -- The trees that a header field and a message's parts stand for.
 -- D-Bus Specification, "Message Format", "Header Fields".
 use Rattle.std.specs.Prelude.{List, map}

@@ -4,10 +4,9 @@
 ghost use Rattle.std.specs.Prelude.{◌≡◌, length};
 ghost use Rattle.dbus_value_model.specs.declared.order.Order.TheVariants.{Little};
 ghost use Rattle.dbus_value_model.specs.Specification.{specification};
-ghost use Rattle.dbus_message_model.specs.Messages.{message_bytes};
+ghost use Rattle.dbus_message_model.specs.Messages.{message_bytes, IsValidMessage};
 ghost use Rattle.dbus_message_model.specs.PackedParts.{PartsKeepBytes};
 ghost use Rattle.dbus_message_model.specs.PartsViews.{parts_tree};
-ghost use Rattle.dbus_message_model.specs.ValidMessages.{IsValidMessage};
 
 use crate::parts::Parts;
 use std::alloc::{Allocator, Global};

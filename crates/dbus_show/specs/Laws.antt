@@ -4,8 +4,7 @@ use Rattle.std.specs.List.{count_by}
 use Rattle.dbus_value_model.specs.declared.limits.Limits.{Limits}
 use Rattle.dbus_value_model.specs.declared.order.Order.{Order}
 use Rattle.dbus_value_model.specs.Values.{ValueTree}
-use Rattle.dbus_message_model.specs.Messages.{MessageTree}
-use Rattle.dbus_message_model.specs.ValidMessages.{IsValidMessage}
+use Rattle.dbus_message_model.specs.Messages.{MessageTree, IsValidMessage}
 use Rattle.dbus_show.specs.ShownValues.{value_text, value_texts}
 use Rattle.dbus_show.specs.ShownMessages.{message_text}
 

@@ -3,7 +3,8 @@
 
 ghost use Rattle.std.specs.Prelude.{◌≡◌, ◌++◌, codes, true};
 ghost use Rattle.hex.specs.Hex.{encode_lower};
-ghost use Rattle.dbus_texts.specs.Types.{BYTE, NumberType, is_plain, sig};
+ghost use Rattle.dbus_texts.specs.Types.{BYTE, NumberType, sig};
+ghost use Rattle.dbus_texts.specs.PlainTypes.{is_plain};
 ghost use Rattle.dbus_types.specs.SigTypes.{type_tree};
 ghost use Rattle.dbus_value_model.specs.Values.{ArrayValue, StructValue, type_of};
 ghost use Rattle.dbus_value_model.specs.ValueViews.{value_tree, value_trees_of, byte_values};

@@ -5,7 +5,8 @@ use Rattle.std.proofs.lemmas.Bool.{eqb-true}
 use Rattle.std.specs.Str.{IsAscii}
 use Rattle.std.proofs.lemmas.List.{take_at}
 use Rattle.hex.specs.Hex.{encode_lower}
-use Rattle.dbus_texts.specs.Types.{NumberCode, BYTE, TypeTree, NumberType, ArrayType, number_code, text_code, sig, is_byte}
+use Rattle.dbus_texts.specs.Types.{NumberCode, BYTE, TypeTree, NumberType, ArrayType, number_code, text_code, sig}
+use Rattle.dbus_texts.specs.PlainTypes.{is_byte}
 use Rattle.dbus_types.specs.Alignments.{width}
 use Rattle.dbus_types.specs.SignatureCodes.{first_code}
 use Rattle.dbus_types.proofs.TypeCodes.{code_is}

@@ -1,7 +1,8 @@
 -- What is written of a container before its parts, between them and after them.
 -- D-Bus Specification, "Marshaling (Wire Format)".
 use Rattle.std.specs.Prelude.{◌≡◌, ℕ, List, [], ◌∷◌, ◌++◌, Bool, true, false}
-use Rattle.dbus_texts.specs.Types.{ArrayType, sig, is_byte}
+use Rattle.dbus_texts.specs.Types.{ArrayType, sig}
+use Rattle.dbus_texts.specs.PlainTypes.{is_byte}
 use Rattle.dbus_value_model.specs.Values.{ValueTree, NumberValue, TextValue, VariantValue, ArrayValue, StructValue, EntryValue}
 use Rattle.dbus_show_view.specs.declared.shower.Shower.{Shower}
 

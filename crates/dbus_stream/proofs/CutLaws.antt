@@ -2,7 +2,7 @@
 use Rattle.std.proofs.Common.{◌≡◌, ℕ, zero, suc, ◌<◌, ◌≤◌, List, [], ◌∷◌, ◌++◌, length, drop, refl, sym, ap, ◌∙◌, subst, arith, append-nil, length-drop, inl, inr}
 use Rattle.std.proofs.lemmas.List.{drop-append-le}
 use Rattle.dbus_value_model.specs.declared.fault.Fault.{Fault}
-use Rattle.dbus_value_model.specs.Bytes.{IsBytes}
+use Rattle.dbus_value_model.specs.ByteNumbers.{IsBytes}
 use Rattle.dbus_value_model.specs.declared.limits.Limits.{Limits}
 use Rattle.dbus_header.specs.MessageOutcomes.{IsWhole, IsRefused, IsPartial}
 use Rattle.dbus_header.proofs.OutcomeLaws.{whole_for_good, one_whole, whole_inside, not_both, one_outcome, one_fault, nothing_partial, some_outcome}

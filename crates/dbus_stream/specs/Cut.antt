@@ -1,10 +1,10 @@
+-- Trusted by the headline.
 -- How a stream of bytes is cut into messages, which follow one another with nothing between (D-Bus Specification,
 -- "Message Protocol").
-use Rattle.std.specs.Prelude.{◌≡◌, ◌≢◌, ℕ, ◌+◌, List, [], ◌∷◌, length, drop, Option, None, Some}
+use Rattle.std.specs.Prelude.{◌≡◌, ◌≢◌, ℕ, List, [], ◌∷◌, drop}
 use Rattle.dbus_value_model.specs.declared.order.Order.{Order}
 use Rattle.dbus_value_model.specs.declared.fault.Fault.{Fault}
 use Rattle.dbus_value_model.specs.declared.limits.Limits.{Limits}
-use Rattle.dbus_value_model.specs.declared.fault.Reason.TheVariants.{Truncated}
 use Rattle.dbus_message_model.specs.Messages.{MessageTree}
 use Rattle.dbus_header.specs.MessageOutcomes.{IsWhole, IsRefused, IsPartial}
 
@@ -34,18 +34,3 @@ IsOutcome limits rest (Refused fault) = IsRefused limits rest fault
 pub record IsCut (limits : Limits) (bytes : List ℕ) (items : List CutMessage) (rest : List ℕ) (outcome : CutOutcome) : Type 0 where
   pub messages : BeginWith limits bytes items rest
   pub outcome_is : IsOutcome limits rest outcome
-
--- the fault of an input that ends within a message, after these bytes of it
-abbrev pub truncated : List ℕ → Fault
-truncated rest = record { at = length rest; reason = Truncated }
-
--- the fault of an input that ends after these bytes
-abbrev pub fault_at_end : List ℕ → CutOutcome → Option Fault
-fault_at_end rest Ended = None
-fault_at_end rest Unfinished = Some (truncated rest)
-fault_at_end rest (Refused fault) = Some fault
-
--- how many bytes the messages have
-abbrev pub sizes : List CutMessage → ℕ
-sizes [] = 0
-sizes (item ∷ items) = item.size + sizes items

@@ -1,3 +1,4 @@
+-- Trusted by the headline.
 -- What a cutter keeps to and holds.
 use Rattle.std.specs.Prelude.{ℕ, List, [], Option, None}
 use Rattle.dbus_value_model.specs.declared.fault.Fault.{Fault}

@@ -1,3 +1,4 @@
+-- Trusted by the headline.
 -- What a cutter makes of a piece.
 use Rattle.std.specs.Prelude.{◌≡◌, ℕ, ◌+◌, List, ◌++◌, length, Option, None, Some, Result, Ok, Err}
 use Rattle.dbus_value_model.specs.declared.order.Order.{Order}

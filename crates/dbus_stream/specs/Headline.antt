@@ -1,3 +1,4 @@
+-- Trusted by the headline.
 -- What reading and writing promise under limits, as one law over `decode_within`, `encode` and the cutter.
 -- D-Bus Specification, "Message Protocol".
 use Rattle.std.specs.Prelude.{◌≡◌, ◌≢◌, ◌↔◌, ℕ, List, [], ◌∷◌, ◌++◌, length, take, Some, Vec, Result, Ok, Err, IfOk}
@@ -11,10 +12,9 @@ use Rattle.dbus_value_model.specs.declared.fault.Refusal.TheVariants.{Memory, Fo
 use Rattle.dbus_decode.specs.declared.answer.Answer.{Answer}
 use Rattle.dbus_decode.specs.declared.answer.Answer.TheVariants.{Whole, Partial}
 use Rattle.dbus_message_model.specs.declared.message.Message.{Message}
-use Rattle.dbus_message_model.specs.Messages.{MessageTree, message_bytes}
+use Rattle.dbus_message_model.specs.Messages.{MessageTree, message_bytes, IsValidMessage}
 use Rattle.dbus_message_model.specs.MessageViews.{message_tree}
 use Rattle.dbus_header.specs.MessageOutcomes.{IsRefused}
-use Rattle.dbus_message_model.specs.ValidMessages.{IsValidMessage}
 use Rattle.dbus_decode.specs.Decodes.{Decodes}
 use Rattle.dbus_stream.specs.Cut.{CutMessage, BeginWith}
 use Rattle.dbus_stream.specs.CutterState.{CutterState, fresh}

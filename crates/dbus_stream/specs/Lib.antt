@@ -1,6 +1,7 @@
 pub mod Lasting
 pub mod Write
 pub mod Cut
+pub mod CutEnds
 pub mod Taking
 pub mod Rooms
 pub mod Reading

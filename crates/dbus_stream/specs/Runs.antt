@@ -1,3 +1,4 @@
+-- Trusted by the headline.
 -- Runs of a cutter: pieces that it is handed one after another, and what its calls answer.
 use Rattle.std.specs.Prelude.{◌≡◌, ◌⊎◌, ℕ, ◌+◌, List, [], ◌∷◌, ◌++◌, drop, Option, None, Some, Ok, Err}
 use Rattle.dbus_value_model.specs.declared.fault.Fault.{Fault}

@@ -1,7 +1,7 @@
 -- The laws of cuts of streams, under all limits.
 use Rattle.std.specs.Prelude.{◌≡◌, ℕ, List, ◌++◌}
 use Rattle.dbus_value_model.specs.declared.limits.Limits.{Limits}
-use Rattle.dbus_value_model.specs.Bytes.{IsBytes}
+use Rattle.dbus_value_model.specs.ByteNumbers.{IsBytes}
 use Rattle.dbus_stream.specs.Cut.{CutMessage, CutOutcome, IsCut}
 
 -- bytes have at most one cut

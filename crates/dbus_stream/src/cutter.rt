@@ -4,7 +4,7 @@ ghost use Rattle.dbus_value_model.specs.Specification.{specification};
 ghost use Rattle.dbus_value_model.specs.declared.fault.Fault.{Fault};
 ghost use Rattle.dbus_message_model.specs.MessageViews.{message_tree};
 ghost use Rattle.dbus_header.specs.MessageOutcomes.{IsWhole, IsPartial};
-ghost use Rattle.dbus_stream.specs.Cut.{truncated};
+ghost use Rattle.dbus_stream.specs.CutEnds.{truncated};
 ghost use Rattle.dbus_stream.specs.CutterState.{fresh};
 ghost use Rattle.dbus_stream.specs.Cutting.{Takes, TakeAnswers};
 ghost use Rattle.dbus_stream.specs.CutterTaking.{cutting};

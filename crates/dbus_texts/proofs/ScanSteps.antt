@@ -9,7 +9,7 @@ use Rattle.dbus_texts.specs.declared.scan.ScanState.{ScanState}
 use Rattle.dbus_texts.proofs.Quotients.{quotient_start, quotient_from}
 use Rattle.dbus_texts.proofs.NameSteps.{name_ended_at, name_ends_at, member_elements, elements_member, interface_elements, elements_interface, path_some, bus_some, member_some, interface_some}
 use Rattle.dbus_texts.proofs.SignatureSteps.{sig_moves, sig_ended_at, sig_ends_at, single_start, signature_some, single_some}
-use Rattle.dbus_texts.specs.Prefixes.{IsStepFrom, Moves, IsQuotient, Steps}
+use Rattle.dbus_texts.specs.Quotients.{IsStepFrom, Moves, IsQuotient, Steps}
 use Rattle.dbus_texts.specs.NameScans.{name_rest, name_end, name_state, Elements}
 use Rattle.dbus_texts.specs.Names.{IsPath, IsMember, IsInterface, IsBusName}
 use Rattle.dbus_texts.specs.Signatures.{IsSignature, IsSingle}

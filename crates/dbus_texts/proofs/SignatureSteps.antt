@@ -7,7 +7,7 @@ use Rattle.std.proofs.lemmas.List.{get_or_push, length_push}
 use Rattle.dbus_texts.specs.declared.signature.Frame.{Frame}
 use Rattle.dbus_texts.specs.declared.signature.SigPlace.{SigPlace}
 use Rattle.dbus_texts.specs.declared.signature.SigPlace.TheVariants.{After, One, Element, Key}
-use Rattle.dbus_texts.specs.Prefixes.{IsStepFrom, IsStep, Moves}
+use Rattle.dbus_texts.specs.Quotients.{IsStepFrom, IsStep, Moves}
 use Rattle.dbus_texts.proofs.TypeTexts.{sig_positive}
 use Rattle.dbus_texts.proofs.Codes.{number_is_basic, text_is_basic, number_is_code, text_is_code, basic_type, code_type}
 use Rattle.dbus_texts.specs.Types.{TypeTree, NumberType, TextType, VariantType, BYTE, number_code, text_code, TypeTrees, ArrayType, StructType, EntryType, NoTypes, MoreTypes, sig, sigs, IsComplete, AreComplete}

@@ -1,9 +1,10 @@
+-- Trusted by the headline.
 -- The kinds of text, as sets of byte strings, and where a text breaks.
 -- D-Bus Specification, "Basic types", "Valid Object Paths", "Valid Names" and "Valid Signatures".
-use Rattle.std.specs.Prelude.{ℕ, ◌≤◌, Bool, true, false, List, length}
+use Rattle.std.specs.Prelude.{ℕ, ◌≤◌, List, length}
 use Rattle.dbus_texts.specs.declared.text_kind.TextKind.{TextKind}
 use Rattle.dbus_texts.specs.declared.text_kind.TextKind.TheVariants.{Text, Path, Interface, Member, ErrorName, BusName, Signature, Single}
-use Rattle.dbus_texts.specs.Prefixes.{IsPrefixIn, IsBreakIn}
+use Rattle.dbus_texts.specs.Prefixes.{IsBreakIn}
 use Rattle.dbus_texts.specs.Names.{IsPath, IsInterface, IsMember, IsBusName}
 use Rattle.dbus_texts.specs.Utf8.{IsText}
 use Rattle.dbus_texts.specs.Signatures.{IsSignature, IsSingle}
@@ -19,35 +20,15 @@ IsOfKind BusName w = IsBusName w
 IsOfKind Signature w = IsSignature w
 IsOfKind Single w = IsSingle w
 
--- whether the kind has a limit on length
-abbrev pub is_limited : TextKind → Bool
-is_limited Text = false
-is_limited Path = false
-is_limited Interface = true
-is_limited Member = true
-is_limited ErrorName = true
-is_limited BusName = true
-is_limited Signature = true
-is_limited Single = true
-
 -- the text is no longer than the kind allows: 255 bytes, and any length for texts and object paths
 abbrev pub IsWithinLimit : TextKind → List ℕ → Type 0
 IsWithinLimit Text w = Unit {0}
 IsWithinLimit Path w = Unit {0}
-IsWithinLimit Interface w = length w ≤ 255
-IsWithinLimit Member w = length w ≤ 255
-IsWithinLimit ErrorName w = length w ≤ 255
-IsWithinLimit BusName w = length w ≤ 255
-IsWithinLimit Signature w = length w ≤ 255
-IsWithinLimit Single w = length w ≤ 255
+IsWithinLimit _ w = length w ≤ 255
 
 -- the text is of the kind
 abbrev pub IsKind : TextKind → List ℕ → Type 0
 IsKind kind w = IsOfKind kind w × IsWithinLimit kind w
-
--- some text of the kind begins with w, limits on length lifted
-abbrev pub IsPrefixOf : TextKind → List ℕ → Type 0
-IsPrefixOf kind w = IsPrefixIn (IsOfKind kind) w
 
 -- the length of the longest prefix of w with which some text of the kind begins, limits on length lifted
 abbrev pub IsBreak : TextKind → List ℕ → ℕ → Type 0

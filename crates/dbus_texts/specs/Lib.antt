@@ -1,5 +1,7 @@
 pub mod Types
+pub mod PlainTypes
 pub mod Prefixes
+pub mod Quotients
 pub mod Names
 pub mod NameScans
 pub mod Neighbours
@@ -10,6 +12,7 @@ pub mod SignatureScans
 pub mod Frames
 pub mod SigViews
 pub mod Kinds
+pub mod LimitedKinds
 pub mod Scans
 pub mod Verdicts
 pub mod ComputedKinds

@@ -1,3 +1,4 @@
+-- Trusted by the headline.
 -- Object paths, member names, interface names, error names and bus names, their limits on length aside.
 -- D-Bus Specification, "Valid Object Paths" and "Valid Names".
 use Rattle.std.specs.Prelude.{◌≡◌, ℕ, Bool, ◌||◌, ◌⊎◌, List, [], ◌∷◌, ◌++◌, IsTrue, ◌==◌}

@@ -4,7 +4,7 @@ use Rattle.std.specs.Prelude.{◌≡◌, ℕ, List, length, min}
 use Rattle.dbus_texts.specs.declared.scan.TextScan.{TextScan}
 use Rattle.dbus_texts.specs.declared.scan.ScanState.{ScanState}
 use Rattle.dbus_texts.specs.declared.scan.ScanState.TheVariants.{InText, InName, InSignature}
-use Rattle.dbus_texts.specs.Prefixes.{IsQuotient}
+use Rattle.dbus_texts.specs.Quotients.{IsQuotient}
 use Rattle.dbus_texts.specs.NameScans.{name_rest}
 use Rattle.dbus_texts.specs.Utf8Scans.{text_rest}
 use Rattle.dbus_texts.specs.SignatureScans.{sig_rest}

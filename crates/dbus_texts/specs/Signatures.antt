@@ -1,3 +1,4 @@
+-- Trusted by the headline.
 -- The texts that are signatures.
 -- D-Bus Specification, "Type System" ("Valid Signatures", "Summary of types").
 use Rattle.std.specs.Prelude.{◌≡◌, ℕ, List, false}

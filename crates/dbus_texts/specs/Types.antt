@@ -1,3 +1,4 @@
+-- Trusted by the headline.
 -- Types as trees, the text of each, and which of them are complete.
 -- D-Bus Specification, "Type System" ("Basic types", "Container types", "Summary of types").
 use Rattle.std.specs.Prelude.{ℕ, ◌+◌, ◌<◌, List, [], ◌∷◌, ◌++◌, length, Bool, true, false, IsTrue}
@@ -60,27 +61,11 @@ abbrev mutual
   sigs NoTypes = []
   sigs (MoreTypes t ts) = sig t ++ sigs ts
 
-abbrev pub is_byte : TypeTree → Bool
-is_byte (NumberType BYTE) = true
-is_byte _ = false
-
--- types without parts: the basic types and VARIANT
-abbrev pub is_plain : TypeTree → Bool
-is_plain (NumberType n) = true
-is_plain (TextType t) = true
-is_plain VariantType = true
-is_plain (ArrayType t) = false
-is_plain (StructType ts) = false
-is_plain (EntryType k v) = false
-
 -- basic types: a number or a text
 abbrev pub IsBasic : TypeTree → Type 0
 IsBasic (NumberType n) = Unit {0}
 IsBasic (TextType t) = Unit {0}
-IsBasic VariantType = ⊥
-IsBasic (ArrayType t) = ⊥
-IsBasic (StructType ts) = ⊥
-IsBasic (EntryType k v) = ⊥
+IsBasic _ = ⊥
 
 -- some type is there
 abbrev pub AreSome : TypeTrees → Type 0
@@ -121,7 +106,3 @@ abbrev mutual
 -- a type that a signature of exactly one complete type spells
 abbrev pub IsSingleType : TypeTree → Type 0
 IsSingleType t = IsComplete t false 0 0 × (length (sig t) < 256)
-
--- types that a signature spells
-abbrev pub AreSignatureTypes : TypeTrees → Type 0
-AreSignatureTypes ts = AreComplete ts 0 0 × (length (sigs ts) < 256)

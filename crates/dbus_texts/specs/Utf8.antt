@@ -1,3 +1,4 @@
+-- Trusted by the headline.
 -- Texts: UTF-8 without U+0000.
 -- D-Bus Specification, "Basic types" ("String-like types", "STRING").
 use Rattle.std.specs.Prelude.{◌≡◌, ◌≢◌, ℕ, List, encode_utf8_all}

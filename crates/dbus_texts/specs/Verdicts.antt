@@ -7,7 +7,7 @@ use Rattle.dbus_texts.specs.declared.check.NameFault.TheVariants as names
 use Rattle.dbus_texts.specs.declared.check.SigFault.{SigFault}
 use Rattle.dbus_texts.specs.declared.check.SigFault.TheVariants as signatures
 use Rattle.dbus_texts.specs.Kinds.{IsOfKind, IsKind, IsBreak}
-use Rattle.dbus_texts.specs.Prefixes.{IsBreakFrom}
+use Rattle.dbus_texts.specs.Quotients.{IsBreakFrom}
 
 -- the text is of the kind, its length aside; or it is not, and breaks there
 abbrev pub IsBreakOf : TextKind → List ℕ → Option ℕ → Type 0

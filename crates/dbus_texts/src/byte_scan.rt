@@ -2,7 +2,7 @@
 #![tactic(auto)]
 
 ghost use Rattle.std.specs.Prelude.{◌↔◌, ℕ, List, [], IsTrue};
-ghost use Rattle.dbus_texts.specs.Prefixes.{Steps, IsBreakFrom};
+ghost use Rattle.dbus_texts.specs.Quotients.{Steps, IsBreakFrom};
 
 /// What is wanted of a text from here on.
 pub trait ByteScan {

@@ -22,7 +22,7 @@ pub enum ScanState {
 
 impl ScanState {
     ghost use Rattle.dbus_texts.specs.Kinds.{IsOfKind};
-    ghost use Rattle.dbus_texts.specs.Prefixes.{IsQuotient, IsBreakFrom, Steps};
+    ghost use Rattle.dbus_texts.specs.Quotients.{IsQuotient, IsBreakFrom, Steps};
     ghost use Rattle.dbus_texts.specs.Scans.{state_rest};
 
     /// The state before any byte of a text of the kind.
@@ -104,7 +104,8 @@ pub struct TextScan {
 
 impl TextScan {
     ghost use Rattle.dbus_texts.specs.Scans.{Stands, kind_of};
-    ghost use Rattle.dbus_texts.specs.Kinds.{IsOfKind, IsKind, IsPrefixOf};
+    ghost use Rattle.dbus_texts.specs.Kinds.{IsOfKind, IsKind};
+    ghost use Rattle.dbus_texts.specs.LimitedKinds.{IsPrefixOf};
 
     /// A scan that has read nothing.
     pub fn new(kind: TextKind) -> Self

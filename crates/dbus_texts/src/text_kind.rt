@@ -27,7 +27,7 @@ pub enum TextKind {
 }
 
 impl TextKind {
-    ghost use Rattle.dbus_texts.specs.Kinds.{is_limited};
+    ghost use Rattle.dbus_texts.specs.LimitedKinds.{is_limited};
 
     /// Whether a text of the kind may have at most 255 bytes.
     pub const fn is_limited(self) -> bool

@@ -4,7 +4,8 @@ use Rattle.dbus_value_model.specs.declared.fault.Fault.{Fault}
 use Rattle.dbus_value_model.specs.declared.limits.Limits.{Limits}
 use Rattle.dbus_header.specs.MessageOutcomes.{IsWhole, IsRefused, IsPartial}
 use Rattle.dbus_device.specs.Device.{one_more}
-use Rattle.dbus_stream.specs.Cut.{CutMessage, CutOutcome, Unfinished, Refused, IsOutcome, fault_at_end, sizes}
+use Rattle.dbus_stream.specs.Cut.{CutMessage, CutOutcome, Unfinished, Refused, IsOutcome}
+use Rattle.dbus_stream.specs.CutEnds.{fault_at_end, sizes}
 use Rattle.dbus_stream.specs.Gathering.{gathering}
 use Rattle.dbus_stream.specs.Next.{DeviceCounts, IsCutShort, Reads}
 use Rattle.dbus_stream.specs.RawNext.{Advances}

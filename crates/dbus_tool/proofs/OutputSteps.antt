@@ -1,7 +1,8 @@
 -- What a command writes of several messages, and after them.
 use Rattle.std.proofs.Common.{◌≡◌, ℕ, suc, ◌+◌, List, [], ◌∷◌, ◌++◌, Option, length, refl, sym, ap, ◌∙◌, subst, arith, append_assoc, append-nil}
 use Rattle.dbus_value_model.specs.declared.fault.Fault.{Fault}
-use Rattle.dbus_stream.specs.Cut.{CutMessage, sizes}
+use Rattle.dbus_stream.specs.Cut.{CutMessage}
+use Rattle.dbus_stream.specs.CutEnds.{sizes}
 use Rattle.dbus_command.specs.declared.command.Command.{Command}
 use Rattle.dbus_tool.specs.Commands.{command_of}
 use Rattle.dbus_tool.specs.Output.{IsOutputOf, IsOutputOfAll, fault_line, last_line, second_output}

@@ -3,7 +3,8 @@ use Rattle.std.proofs.Common.{◌≡◌, ℕ, ◌+◌, inl, inr, List, [], ◌�
 use Rattle.dbus_value_model.specs.declared.fault.Fault.{Fault}
 use Rattle.dbus_value_model.specs.declared.order.Order.{Order}
 use Rattle.dbus_message_model.specs.Messages.{MessageTree, message_bytes}
-use Rattle.dbus_stream.specs.Cut.{CutMessage, sizes}
+use Rattle.dbus_stream.specs.Cut.{CutMessage}
+use Rattle.dbus_stream.specs.CutEnds.{sizes}
 use Rattle.dbus_show.specs.ShownMessages.{message_text}
 use Rattle.dbus_json.proofs.SomeLines.{some_line_each}
 use Rattle.dbus_command.proofs.Selections.{selected}

@@ -7,7 +7,8 @@ use Rattle.dbus_value_model.specs.declared.limits.Limits.{Limits}
 use Rattle.dbus_header.specs.MessageOutcomes.{IsWhole}
 use Rattle.dbus_header.proofs.OutcomeLaws.{whole_inside}
 use Rattle.dbus_device.specs.Device.{RisesBy}
-use Rattle.dbus_stream.specs.Cut.{CutMessage, BeginWith, CutOutcome, Refused, IsOutcome, fault_at_end, sizes}
+use Rattle.dbus_stream.specs.Cut.{CutMessage, BeginWith, CutOutcome, Refused, IsOutcome}
+use Rattle.dbus_stream.specs.CutEnds.{fault_at_end, sizes}
 use Rattle.dbus_stream.specs.Next.{Reads}
 use Rattle.dbus_stream.specs.Reading.{limits_of, source_of, reads_of, most_reads_of, is_ended}
 use Rattle.dbus_stream.specs.Taking.{Taking}

@@ -3,7 +3,8 @@ use Rattle.std.proofs.Common.{◌≡◌, ℕ, List, [], ◌++◌, Err, Option, l
 use Rattle.std.specs.Io.KnownBytes.{Appends}
 use Rattle.std.proofs.KnownBytes.{Appends-nil, Appends-trans}
 use Rattle.dbus_device.specs.Device.{one_more}
-use Rattle.dbus_stream.specs.Cut.{CutMessage, IsCut, CutOutcome, fault_at_end, sizes}
+use Rattle.dbus_stream.specs.Cut.{CutMessage, IsCut, CutOutcome}
+use Rattle.dbus_stream.specs.CutEnds.{fault_at_end, sizes}
 use Rattle.dbus_device.specs.Write.{Wrote}
 use Rattle.dbus_stream.proofs.CutLaws.{BeginWith-first, IsCut-one}
 use Rattle.dbus_value_model.specs.declared.fault.Fault.{Fault}

@@ -3,7 +3,8 @@ use Rattle.std.specs.Prelude.{◌≡◌, ℕ, List, length, Option, Some, Result
 use Rattle.std.specs.Io.KnownBytes.{Consumes, IsAtEnd}
 use Rattle.dbus_value_model.specs.declared.fault.Fault.{Fault}
 use Rattle.dbus_value_model.specs.declared.limits.Limits.{Limits}
-use Rattle.dbus_stream.specs.Cut.{CutMessage, IsCut, CutOutcome, Refused, fault_at_end, sizes}
+use Rattle.dbus_stream.specs.Cut.{CutMessage, IsCut, CutOutcome, Refused}
+use Rattle.dbus_stream.specs.CutEnds.{fault_at_end, sizes}
 use Rattle.dbus_stream.specs.declared.read_fault.ReadFault.{ReadFault}
 use Rattle.dbus_stream.specs.declared.read_fault.ReadFault.TheVariants as read
 use Rattle.dbus_tool.specs.Devices.{RisesAtMost}

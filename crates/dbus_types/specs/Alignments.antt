@@ -1,3 +1,4 @@
+-- Trusted by the headline.
 -- Where values of a type begin, and how many bytes a number and a text's length have.
 -- D-Bus Specification, "Marshaling (Wire Format)", "Summary of D-Bus marshaling".
 use Rattle.std.specs.Prelude.{ℕ}

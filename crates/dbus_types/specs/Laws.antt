@@ -2,7 +2,8 @@
 -- D-Bus Specification, "Type System" and "Valid Signatures".
 use Rattle.std.specs.Prelude.{◌≡◌, ℕ, List, ◌++◌}
 use Rattle.dbus_texts.specs.declared.text_kind.TextKind.TheVariants.{Signature, Single}
-use Rattle.dbus_texts.specs.Types.{TypeTree, TypeTrees, sig, sigs, IsSingleType, AreSignatureTypes}
+use Rattle.dbus_texts.specs.Types.{TypeTree, TypeTrees, sig, sigs, IsSingleType}
+use Rattle.dbus_texts.specs.PlainTypes.{AreSignatureTypes}
 use Rattle.dbus_texts.specs.Kinds.{IsKind}
 use Rattle.dbus_texts.specs.ComputedKinds.{type_spelled, types_spelled}
 

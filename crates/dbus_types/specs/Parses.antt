@@ -6,7 +6,8 @@ use Rattle.dbus_texts.specs.declared.check.SigFault.{SigFault}
 use Rattle.dbus_texts.specs.declared.check.SigFault.TheVariants as faults
 use Rattle.dbus_texts.specs.declared.text_kind.TextKind.{TextKind}
 use Rattle.dbus_texts.specs.declared.text_kind.TextKind.TheVariants.{Signature, Single}
-use Rattle.dbus_texts.specs.Types.{TypeTrees, sig, sigs, IsSingleType, AreSignatureTypes}
+use Rattle.dbus_texts.specs.Types.{TypeTrees, sig, sigs, IsSingleType}
+use Rattle.dbus_texts.specs.PlainTypes.{AreSignatureTypes}
 use Rattle.dbus_types.specs.SigTypes.{type_tree, type_trees_of}
 use Rattle.dbus_texts.specs.Kinds.{IsOfKind, IsBreak}
 

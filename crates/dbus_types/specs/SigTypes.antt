@@ -1,3 +1,4 @@
+-- Trusted by the headline.
 -- The tree that a `SigType` stands for.
 use Rattle.std.specs.Prelude.{List, map}
 use Rattle.dbus_texts.specs.Types.{TypeTree, TypeTrees, NumberType, TextType, VariantType, ArrayType, StructType, EntryType, BYTE, BOOLEAN, INT16, UINT16, INT32, UINT32, INT64, UINT64, DOUBLE, UNIX_FD, STRING, OBJECT_PATH, SIGNATURE, type_trees}

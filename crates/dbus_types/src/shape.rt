@@ -3,7 +3,8 @@
 
 ghost use Rattle.std.specs.Prelude.{◌≡◌, ◌↔◌, IsTrue};
 ghost use Rattle.dbus_types.specs.SigTypes.{type_tree, type_trees_of};
-ghost use Rattle.dbus_texts.specs.Types.{is_byte, IsBasic, IsSingleType};
+ghost use Rattle.dbus_texts.specs.PlainTypes.{is_byte};
+ghost use Rattle.dbus_texts.specs.Types.{IsBasic, IsSingleType};
 ghost use Rattle.dbus_types.specs.Alignments.{alignment_of};
 ghost use Rattle.dbus_types.specs.Rooms.{LeavesOfType, LeavesOfTypes};
 

@@ -9,7 +9,8 @@ use Rattle.std.specs.Prelude.{Option, Some, None, MatchOption}
 use Rattle.std.specs.Borrow.{Bor}
 use Rattle.std.specs.Slice.{IsItemAt}
 use Rattle.dbus_texts.specs.ComputedKinds.{type_spelled, types_spelled}
-use Rattle.dbus_texts.specs.Types.{TypeTree, TypeTrees, ArrayType, StructType, EntryType, is_byte, sig, sigs}
+use Rattle.dbus_texts.specs.Types.{TypeTree, TypeTrees, ArrayType, StructType, EntryType, sig, sigs}
+use Rattle.dbus_texts.specs.PlainTypes.{is_byte}
 use Rattle.dbus_texts.proofs.TypeTexts.{spelled_sig, spelled_sigs}
 use Rattle.dbus_types.specs.SigTypes.{type_tree, type_trees_of}
 use Rattle.dbus_types.specs.declared.sig_type.SigType as ty

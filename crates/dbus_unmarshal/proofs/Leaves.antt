@@ -2,7 +2,8 @@
 use Rattle.std.proofs.Common.{◌≡◌, ℕ, ◌+◌, ◌-◌, ◌<◌, List, get_or, take, drop, Vec, String, not, false, refl, sym, ap, subst, ◌∙◌, rules}
 use Rattle.std.specs.Prelude.{string_bytes}
 use Rattle.std.proofs.lemmas.Bool.{and_from}
-use Rattle.dbus_texts.specs.Types.{NumberCode, BYTE, TextCode, TypeTree, NumberType, TextType, number_code, text_code, sig, is_byte}
+use Rattle.dbus_texts.specs.Types.{NumberCode, BYTE, TextCode, TypeTree, NumberType, TextType, number_code, text_code, sig}
+use Rattle.dbus_texts.specs.PlainTypes.{is_byte}
 use Rattle.dbus_types.specs.Alignments.{width, alignment_of}
 use Rattle.dbus_types.specs.SigTypes.{type_tree}
 use Rattle.dbus_types.specs.SignatureCodes.{first_code}

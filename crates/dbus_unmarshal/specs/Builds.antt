@@ -1,7 +1,8 @@
 -- Which trees values stand for that are built, and what is gathered of a container's parts.
 -- D-Bus Specification, "Type System".
 use Rattle.std.specs.Prelude.{◌≡◌, ℕ, List, [], ◌∷◌, ◌++◌, map, false, IsTrue}
-use Rattle.dbus_texts.specs.Types.{TypeTree, TypeTrees, is_byte}
+use Rattle.dbus_texts.specs.Types.{TypeTree, TypeTrees}
+use Rattle.dbus_texts.specs.PlainTypes.{is_byte}
 use Rattle.dbus_types.specs.SigTypes.{type_tree, type_trees_of}
 use Rattle.dbus_value_model.specs.PackedBytes.{keeps_bytes, keep_bytes}
 use Rattle.dbus_value_model.specs.ValueViews.{value_tree}

@@ -3,7 +3,8 @@
 
 ghost use Rattle.std.specs.Prelude.{◌≡◌, false, List, [], IfOk, MatchOption};
 ghost use Rattle.dbus_texts.specs.Kinds.{IsKind};
-ghost use Rattle.dbus_texts.specs.Types.{TypeTree, ArrayType, is_byte, sigs};
+ghost use Rattle.dbus_texts.specs.Types.{TypeTree, ArrayType, sigs};
+ghost use Rattle.dbus_texts.specs.PlainTypes.{is_byte};
 ghost use Rattle.dbus_texts.specs.declared.text_kind.TextKind.TheVariants.{Single};
 ghost use Rattle.dbus_types.specs.SigTypes.{type_tree};
 ghost use Rattle.dbus_value_model.specs.Values.{ValueTree, ValueTrees, ArrayValue, type_of, types_of};

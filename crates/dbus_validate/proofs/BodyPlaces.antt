@@ -53,8 +53,8 @@ module _ (order : Order) (m : MessageTree) where
   body_there limits b n start w is =
       let body = body_bytes order m in
       let header = header_bytes order m in
-      let there : b ≡ header ++ (body ++ w.rest) = w.bytes ∙ ap (λ (u : List ℕ). u ++ w.rest) (sym header_first) ∙ append_assoc header body w.rest in
+      let there : b ≡ header ++ (body ++ w.1.0) = w.1.1 ∙ ap (λ (u : List ℕ). u ++ w.1.0) (sym header_first) ∙ append_assoc header body w.1.0 in
       let long : length header ≡ start = header_length ∙ is in
-      let suffix : drop start b ≡ body ++ w.rest = ap (drop start) there ∙ drop_at header (body ++ w.rest) start long in
-      let size : length body ≡ n - start = omega (arith, w.size, message_length order m, is) in
-      sym (ap (take (n - start)) suffix ∙ take_at body w.rest (n - start) size)
+      let suffix : drop start b ≡ body ++ w.1.0 = ap (drop start) there ∙ drop_at header (body ++ w.1.0) start long in
+      let size : length body ≡ n - start = omega (arith, w.2, message_length order m, is) in
+      sym (ap (take (n - start)) suffix ∙ take_at body w.1.0 (n - start) size)

@@ -15,7 +15,7 @@ use Rattle.dbus_header.specs.declared.fixed_header.FixedHeader.{FixedHeader}
 use Rattle.dbus_header.specs.HeaderReading.{body_read, message_read}
 use Rattle.dbus_header.specs.MessageOutcomes.{IsWhole}
 use Rattle.dbus_header.proofs.Decoded.{whole_read}
-use Rattle.dbus_header.proofs.MessageOutcomes.{reads_messages}
+use Rattle.dbus_header.proofs.OutcomeLaws.{whole_reads}
 use Rattle.dbus_header.proofs.StatedLengths.{header_states}
 use Rattle.dbus_value_validator.specs.Endings.{EndsAt, IsNotRead}
 use Rattle.dbus_validate.specs.declared.validating.Head.{Head}
@@ -60,14 +60,10 @@ module _ (limits : Limits) (bytes : List ℕ) (are : (i : ℕ) → get_or bytes 
   unfolding message_read
   read_on = rw (p.headed, p.fielded, p.lacks_none, p.padded) refl
 
-  reading : (order : Order) (m : MessageTree) (n : ℕ) → IsWhole limits bytes order m n → (rest : List ℕ) × (message_read limits 0 bytes ≡ Done (order, m) n rest)
-  unfolding IsWhole
-  reading order m n w = (w.rest, (reads_messages limits bytes order m n w.rest (bytes_from bytes are)).1 (w.message, w.bytes, w.size))
-
   pub known : (order : Order) (m : MessageTree) (n : ℕ) → IsWhole limits bytes order m n → IsValidated limits bytes (validated_of x seen) × (x.end ≡ n)
   known order m n w =
       let long : n ≡ x.start + h.body = (has_stated limits bytes order m (16 + h.fields + gap_to 8 (16 + h.fields) + h.body) n (header_states limits bytes (bytes_from bytes are) h 16 (drop 16 bytes) p.headed) w).0 ∙ omega (arith, p.begins) in
-      let r = reading order m n w in
+      let r = whole_reads limits bytes order m n w in
       let found = after_done (body (x.start + h.body)) (λ vs o s. Done (h.order, with_body vs) o s) (order, m) n r.0 (sym read_on ∙ r.1) in
       let pair : (h.order, with_body found.0) ≡ (order, m) = let e = found.4 in cc in
       let is = whole_read limits bytes (bytes_from bytes are) h.order (with_body found.0) n r.0 (r.1 ∙ ap (λ (y : Order × MessageTree). Done y n r.0) (sym pair)) in

@@ -8,7 +8,7 @@ use Rattle.dbus_texts.specs.declared.text_kind.TextKind.TheVariants.{Path, Singl
 use Rattle.dbus_value_model.specs.declared.fault.Reason.TheVariants as reasons
 use Rattle.dbus_value_model.specs.declared.limits.Limits.{Limits}
 use Rattle.dbus_value_model.specs.declared.order.Order.{Order}
-use Rattle.dbus_value_model.specs.Specification.{bounds_of}
+use Rattle.dbus_value_model.specs.Bounds.{bounds_of}
 use Rattle.dbus_value_model.specs.ValueItems.{text_row, number_row}
 use Rattle.dbus_value_model.specs.WantedTexts.{Of, Only}
 use Rattle.dbus_value_model.specs.Reading.{Done, pure, number, text, nul, value}

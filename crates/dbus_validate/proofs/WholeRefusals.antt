@@ -7,7 +7,8 @@ use Rattle.dbus_value_model.specs.declared.fault.Reason.{Reason}
 use Rattle.dbus_value_model.specs.declared.limits.Limits.{Limits}
 use Rattle.dbus_value_model.specs.declared.stop.Stop.{Stop}
 use Rattle.dbus_value_model.specs.declared.stop.Stop.TheVariants as stops
-use Rattle.dbus_value_model.specs.Bytes.{IsBytes, gap_to}
+use Rattle.dbus_value_model.specs.ByteNumbers.{IsBytes}
+use Rattle.dbus_value_model.specs.Bytes.{gap_to}
 use Rattle.dbus_value_model.specs.Gives.{Stops}
 use Rattle.dbus_value_model.specs.Items.{fault}
 use Rattle.dbus_value_model.specs.Reading.{Outcome, Done, padding, validate}
@@ -16,7 +17,7 @@ use Rattle.dbus_message_model.specs.Messages.{FieldTree, lacks, required, body_s
 use Rattle.dbus_header.specs.declared.fixed_header.FixedHeader.{FixedHeader}
 use Rattle.dbus_header.specs.HeaderReading.{fixed_header, fields_read, body_read, message_read}
 use Rattle.dbus_header.specs.MessageOutcomes.{IsWhole}
-use Rattle.dbus_header.proofs.MessageOutcomes.{reads_messages}
+use Rattle.dbus_header.proofs.OutcomeLaws.{whole_reads}
 use Rattle.dbus_header.proofs.OutcomeLaws.{whole_for_good}
 use Rattle.dbus_header.proofs.StatedLengths.{header_states, stated_holds}
 use Rattle.dbus_value_validator.specs.Endings.{IsNotRead}
@@ -39,8 +40,7 @@ gap_near o = omega arith
 module _ (limits : Limits) (bytes : List ℕ) (are : IsBytes bytes) where
   -- a message that they begin with is read
   pub not_read : IsNotRead (message_read limits 0 bytes) → BeginsWithNone limits bytes
-  unfolding IsWhole
-  not_read unread = λ order m n w. unread (order, m) n w.rest ((reads_messages limits bytes order m n w.rest are).1 (w.message, w.bytes, w.size))
+  not_read unread = λ order m n w. let r = whole_reads limits bytes order m n w in unread (order, m) n r.0 r.1
 
   pub no_header : IsNotRead (fixed_header limits 0 bytes) → BeginsWithNone limits bytes
   unfolding message_read

@@ -5,9 +5,10 @@ use Rattle.dbus_texts.specs.ComputedKinds.{types_spelled}
 use Rattle.dbus_texts.specs.declared.text_kind.TextKind.TheVariants.{Signature}
 use Rattle.dbus_value_model.specs.declared.limits.Limits.{Limits}
 use Rattle.dbus_value_model.specs.declared.order.Order.{Order}
-use Rattle.dbus_value_model.specs.Bytes.{IsBytes, gap_to}
+use Rattle.dbus_value_model.specs.ByteNumbers.{IsBytes}
+use Rattle.dbus_value_model.specs.Bytes.{gap_to}
 use Rattle.dbus_value_model.specs.Items.{Sequence, contents}
-use Rattle.dbus_value_model.specs.Specification.{bounds_of}
+use Rattle.dbus_value_model.specs.Bounds.{bounds_of}
 use Rattle.dbus_value_model.specs.Values.{ValueTrees}
 use Rattle.dbus_value_model.specs.Reading.{Done, padding}
 use Rattle.dbus_value_laws.proofs.Agreement.{read_passes}

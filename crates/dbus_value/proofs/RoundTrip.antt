@@ -12,7 +12,7 @@ use Rattle.dbus_value_model.specs.declared.got.Got.TheVariants.{Done, Partial}
 use Rattle.dbus_value_model.specs.Gets.{Gets}
 use Rattle.dbus_value_model.specs.RoundTrip.{PassesCheck, GivesBack, WrittenIsRead}
 use Rattle.dbus_value_model.specs.Sizes.{sized}
-use Rattle.dbus_value_model.specs.Specification.{bounds_with}
+use Rattle.dbus_value_model.specs.Bounds.{bounds_with}
 use Rattle.dbus_value_model.specs.Spelling.{spelling, Spelled}
 use Rattle.dbus_value_model.specs.Values.{ValueTree, type_of}
 use Rattle.dbus_value_model.specs.ValueItems as faults

@@ -1,9 +1,13 @@
 pub use Rattle.dbus_value_model.specs.WantedTexts
+pub use Rattle.dbus_value_model.specs.NameTexts
 pub use Rattle.dbus_value_model.specs.ComputedTexts
 pub use Rattle.dbus_value_model.specs.Bytes
+pub use Rattle.dbus_value_model.specs.ByteNumbers
 pub use Rattle.dbus_value_model.specs.Values
 pub use Rattle.dbus_value_model.specs.FdIndexes
+pub use Rattle.dbus_value_model.specs.FirstPast
 pub use Rattle.dbus_value_model.specs.Spelling
+pub use Rattle.dbus_value_model.specs.SpelledAll
 pub use Rattle.dbus_value_model.specs.Items
 pub use Rattle.dbus_value_model.specs.ValueItems
 pub use Rattle.dbus_value_model.specs.Outcomes
@@ -23,4 +27,5 @@ pub use Rattle.dbus_value_model.specs.PackedBytes
 pub use Rattle.dbus_value_model.specs.Checks
 pub use Rattle.dbus_value_model.specs.Ranges
 pub use Rattle.dbus_value_model.specs.Specification
+pub use Rattle.dbus_value_model.specs.Bounds
 pub use Rattle.dbus_value_model.specs.RoundTrip

@@ -6,7 +6,8 @@ use Rattle.dbus_texts.specs.Types.{sig}
 use Rattle.dbus_value_model.specs.WantedTexts.{WantedText, IsWanted, Of}
 use Rattle.dbus_value_model.specs.ComputedTexts.{is_kind, break_at}
 use Rattle.dbus_texts.specs.ComputedKinds.{type_spelled}
-use Rattle.dbus_value_model.specs.Bytes.{IsBytes, num, gap_to, pad}
+use Rattle.dbus_value_model.specs.ByteNumbers.{IsBytes}
+use Rattle.dbus_value_model.specs.Bytes.{num, gap_to, pad}
 use Rattle.dbus_value_model.specs.declared.order.Order.{Order}
 use Rattle.dbus_value_model.specs.Items.{Item, fault, PaddingFault, padding_overruns, not_zero, NumberFault, number_overruns, number_refused, TextFault, text_reason}
 use Rattle.dbus_value_model.specs.declared.fault.Fault.{Fault}

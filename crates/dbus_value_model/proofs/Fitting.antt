@@ -1,7 +1,7 @@
 -- Which values keep their arrays of bytes as `Bytes`, level by level and along a list.
 use Rattle.std.proofs.Common.{◌≡◌, ℕ, true, ◌&&◌, not, List, [], ◌∷◌, ◌++◌, Vec, Box, refl, sym, subst, rules, IsTrue}
 use Rattle.std.proofs.lemmas.Bool.{and_parts, and_from}
-use Rattle.dbus_texts.specs.Types.{is_byte}
+use Rattle.dbus_texts.specs.PlainTypes.{is_byte}
 use Rattle.dbus_types.specs.SigTypes.{type_tree}
 use Rattle.dbus_types.specs.declared.sig_type.SigType.{SigType}
 use Rattle.dbus_value_model.specs.PackedBytes.{keeps_bytes, keep_bytes}

@@ -1,6 +1,7 @@
+-- Trusted by the headline.
 -- Indexes of file descriptors, and the values whose indexes are all below a number.
 -- D-Bus Specification, "Basic types" for UNIX_FD, "Header Fields" for UNIX_FDS.
-use Rattle.std.specs.Prelude.{◌≡◌, ◌⊎◌, ℕ, ◌+◌, ◌<◌, Option, Some, None, IfSome}
+use Rattle.std.specs.Prelude.{ℕ, ◌<◌, Option, Some, None, IfSome}
 use Rattle.dbus_texts.specs.Types.{NumberCode, UNIX_FD}
 use Rattle.dbus_value_model.specs.Values.{ValueTree, ValueTrees, NumberValue, TextValue, VariantValue, ArrayValue, StructValue, EntryValue, NoValues, MoreValues}
 use Rattle.dbus_value_model.specs.declared.fd_rule.FdRule.{FdRule}
@@ -29,8 +30,3 @@ abbrev mutual
   pub AreAllBelow : Option ℕ → ValueTrees → Type 0
   AreAllBelow fds NoValues = Unit {0}
   AreAllBelow fds (MoreValues x xs) = AreIndexesBelow fds x × AreAllBelow fds xs
-
--- r is the number of the first value that has an index not below fds, or nothing where none has; n is the number of the first value
-abbrev pub IsFirstPast : Option ℕ → ℕ → ValueTrees → Option ℕ → Type 0
-IsFirstPast fds n NoValues r = r ≡ None
-IsFirstPast fds n (MoreValues x xs) r = ((AreIndexesBelow fds x → ⊥) × (r ≡ Some n)) ⊎ (AreIndexesBelow fds x × IsFirstPast fds (n + 1) xs r)

@@ -1,3 +1,4 @@
+-- Trusted by the headline.
 -- The items that a message is read as: how each is passed, and which faults it shows. Every row of the fault table that speaks of
 -- one item alone stands here; a row says which bytes are there, as the prefix of all that are.
 -- D-Bus Specification, "Marshaling (Wire Format)"; docs/WIRE-FORMAT.md, "Faults".

@@ -4,7 +4,8 @@ use Rattle.std.specs.Prelude.{◌≡◌, ℕ, ◌+◌, ◌%◌, ◌^◌, ◌<◌
 use Rattle.dbus_texts.specs.Types.{TypeTree, TypeTrees, IsShaped, AreShaped}
 use Rattle.dbus_value_model.specs.declared.limits.Bounds.{Bounds}
 use Rattle.dbus_value_model.specs.declared.order.Order.{Order}
-use Rattle.dbus_value_model.specs.Bytes.{gap_to, num, IsBytes}
+use Rattle.dbus_value_model.specs.Bytes.{gap_to, num}
+use Rattle.dbus_value_model.specs.ByteNumbers.{IsBytes}
 use Rattle.dbus_value_model.specs.Values.{ValueTree, ValueTrees, type_of, IsWellFormed}
 use Rattle.dbus_value_model.specs.Spelling.{spelling, IsWithinLimits, Spelled}
 use Rattle.dbus_value_model.specs.declared.fault.Fault.{Fault}

@@ -1,9 +1,13 @@
 pub mod WantedTexts
+pub mod NameTexts
 pub mod ComputedTexts
 pub mod Bytes
+pub mod ByteNumbers
 pub mod Values
 pub mod FdIndexes
+pub mod FirstPast
 pub mod Spelling
+pub mod SpelledAll
 pub mod Items
 pub mod ValueItems
 pub mod FreeNumbers
@@ -25,6 +29,7 @@ pub mod Checks
 pub mod Ranges
 pub mod Verdicts
 pub mod Specification
+pub mod Bounds
 pub mod RoundTrip
 pub mod FaultTexts
 pub mod TextValues

@@ -5,7 +5,7 @@ use Rattle.dbus_texts.specs.Types.{TypeTrees}
 use Rattle.dbus_value_model.specs.declared.limits.Bounds.{Bounds}
 use Rattle.dbus_value_model.specs.declared.order.Order.{Order}
 use Rattle.dbus_value_model.specs.Values.{ValueTrees, types_of}
-use Rattle.dbus_value_model.specs.Spelling.{SpelledAll}
+use Rattle.dbus_value_model.specs.SpelledAll.{SpelledAll}
 use Rattle.dbus_value_model.specs.declared.fault.Fault.{Fault}
 use Rattle.dbus_value_model.specs.ValueItems.{value, fields}
 

@@ -2,7 +2,7 @@
 -- D-Bus Specification, "Marshaling (Wire Format)".
 use Rattle.std.specs.Prelude.{Bool, true, false, ◌&&◌, not, List, [], ◌∷◌, ◌++◌, map, IsTrue}
 use Rattle.std.specs.List.{list_all}
-use Rattle.dbus_texts.specs.Types.{is_byte}
+use Rattle.dbus_texts.specs.PlainTypes.{is_byte}
 use Rattle.dbus_types.specs.SigTypes.{type_tree}
 use Rattle.dbus_value_model.specs.declared.got.Got.{Got}
 use Rattle.dbus_value_model.specs.declared.got.Got.TheVariants.{Done, Partial}

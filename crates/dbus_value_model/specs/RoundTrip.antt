@@ -13,7 +13,7 @@ use Rattle.dbus_value_model.specs.Forming.{NestsWithin, IsUniform, IsNamed}
 use Rattle.dbus_value_model.specs.Gets.{Gets}
 use Rattle.dbus_value_model.specs.Ranges.{HoldsNumbers}
 use Rattle.dbus_value_model.specs.Sizes.{sized}
-use Rattle.dbus_value_model.specs.Specification.{bounds_with}
+use Rattle.dbus_value_model.specs.Bounds.{bounds_with}
 use Rattle.dbus_value_model.specs.Spelling.{spelling}
 use Rattle.dbus_value_model.specs.Values.{ValueTree, type_of}
 use Rattle.dbus_value_model.specs.ValueViews.{value_tree}

@@ -5,7 +5,6 @@ use Rattle.std.proofs.Math.Nat.{le_refl}
 use Rattle.dbus_value_model.specs.declared.fd_rule.FdRule.{FdRule}
 use Rattle.dbus_value_model.specs.declared.fd_rule.FdRule.TheVariants.{Any}
 use Rattle.dbus_value_model.specs.declared.limits.Limits.{Limits}
-use Rattle.dbus_value_model.specs.declared.limits.Bounds.{Bounds}
 use Rattle.dbus_value_model.specs.declared.limits.TheConstants.{MESSAGE_LIMIT, ARRAY_LIMIT, DEPTH_LIMIT}
 
 -- the limits that are asked for, under which any index of a descriptor stands, or nothing where one of them is over that of the specification
@@ -20,11 +19,3 @@ specification = record { message = MESSAGE_LIMIT; array = ARRAY_LIMIT; depth = D
 -- limits that have another rule on the indexes of descriptors
 abbrev pub with_fds : Limits → FdRule → Limits
 with_fds limits rule = record { message = limits.message; array = limits.array; depth = limits.depth; fds = rule; message_in = limits.message_in; array_in = limits.array_in; depth_in = limits.depth_in }
-
--- what values keep under limits where the indexes of descriptors are to be below the number fds, if there is one
-abbrev pub bounds_with : Limits → Option ℕ → Bounds
-bounds_with limits fds = record { array = limits.array; fds = fds; array_in = limits.array_in }
-
--- what they keep where any index stands
-abbrev pub bounds_of : Limits → Bounds
-bounds_of limits = bounds_with limits None

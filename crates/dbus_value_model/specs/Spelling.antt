@@ -1,3 +1,4 @@
+-- Trusted by the headline.
 -- The one spelling of each value at an offset: the marshalling relation of one value.
 -- D-Bus Specification, "Marshaling (Wire Format)".
 use Rattle.std.specs.Prelude.{◌≡◌, ℕ, ◌+◌, ◌≤◌, List, [], ◌∷◌, ◌++◌, length}
@@ -6,8 +7,8 @@ use Rattle.dbus_types.specs.Alignments.{width, length_width, alignment_of}
 use Rattle.dbus_value_model.specs.declared.order.Order.{Order}
 use Rattle.dbus_value_model.specs.declared.limits.Bounds.{Bounds}
 use Rattle.dbus_value_model.specs.Bytes.{gap_to, pad, num}
-use Rattle.dbus_value_model.specs.FdIndexes.{AreIndexesBelow, AreAllBelow}
-use Rattle.dbus_value_model.specs.Values.{ValueTree, ValueTrees, NumberValue, TextValue, VariantValue, ArrayValue, StructValue, EntryValue, NoValues, MoreValues, type_of, IsWellFormed, AreWellFormed}
+use Rattle.dbus_value_model.specs.FdIndexes.{AreIndexesBelow}
+use Rattle.dbus_value_model.specs.Values.{ValueTree, ValueTrees, NumberValue, TextValue, VariantValue, ArrayValue, StructValue, EntryValue, NoValues, MoreValues, type_of, IsWellFormed}
 
 -- where the contents of an array at o begin
 abbrev pub contents_start : TypeTree → ℕ → ℕ
@@ -58,11 +59,3 @@ pub record Spelled (bounds : Bounds) (order : Order) (depth_left end : ℕ) (t :
   pub bytes : s ≡ spelling order o v ++ r
   pub place : q ≡ o + length (spelling order o v)
   pub bound : q ≤ end
-
--- Values one after another, each where the one before ended.
-pub record SpelledAll (bounds : Bounds) (order : Order) (depth_left : ℕ) (o : ℕ) (s : List ℕ) (vs : ValueTrees) (q : ℕ) (r : List ℕ) : Type 0 where
-  pub formed : AreWellFormed depth_left vs
-  pub within : AreWithinLimits bounds.array order o vs
-  pub indexes : AreAllBelow bounds.fds vs
-  pub bytes : s ≡ spellings order o vs ++ r
-  pub place : q ≡ o + length (spellings order o vs)

@@ -1,7 +1,10 @@
+-- Trusted by the headline.
 -- The items of a value of each type, in their order, and so its faults: the table of types read aloud.
+-- Spelling.antt says which bytes a value has, and so which bytes are accepted. Of bytes that no value has it says nothing: which fault comes
+-- first, and at which place, depends on the order of reading, and that stands here. That an item is passed is said by the spelling alone.
 -- D-Bus Specification, "Marshaling (Wire Format)"; docs/WIRE-FORMAT.md, "Types" and "Faults".
 use Rattle.std.specs.Prelude.{ℕ, zero, suc, ◌+◌, if◌then◌else◌, nat_lt, Option, Some, None}
-use Rattle.dbus_texts.specs.Types.{NumberCode, BYTE, BOOLEAN, INT16, UINT16, INT32, UINT32, INT64, UINT64, DOUBLE, UNIX_FD, TypeTree, NumberType, TextType, VariantType, ArrayType, StructType, EntryType, TypeTrees, NoTypes, MoreTypes}
+use Rattle.dbus_texts.specs.Types.{NumberCode, BOOLEAN, UNIX_FD, TypeTree, NumberType, TextType, VariantType, ArrayType, StructType, EntryType, TypeTrees, NoTypes, MoreTypes}
 use Rattle.dbus_types.specs.Alignments.{width, length_width, alignment_of}
 use Rattle.dbus_value_model.specs.WantedTexts.{kind_of, Of}
 use Rattle.dbus_value_model.specs.declared.limits.Bounds.{Bounds}
@@ -22,15 +25,8 @@ index_row (Some limit) n = if nat_lt n limit then None else Some reasons.FdIndex
 -- a number's own rows
 abbrev pub number_row : (fds : Option ℕ) → NumberCode → ℕ → ℕ → Option Reason
 number_row fds BOOLEAN p n = if nat_lt n 2 then None else Some reasons.Bool
-number_row fds BYTE p n = None
-number_row fds INT16 p n = None
-number_row fds UINT16 p n = None
-number_row fds INT32 p n = None
-number_row fds UINT32 p n = None
-number_row fds INT64 p n = None
-number_row fds UINT64 p n = None
-number_row fds DOUBLE p n = None
 number_row fds UNIX_FD p n = index_row fds n
+number_row fds _ p n = None
 
 -- a text's length: the text and its nul fit before the end
 abbrev pub text_row : ℕ → ℕ → ℕ → Option Reason

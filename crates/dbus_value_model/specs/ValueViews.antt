@@ -1,3 +1,4 @@
+-- Trusted by the headline.
 -- The tree that a `Value` stands for. A signed number is seen as its two's complement, a DOUBLE as its 64 bits.
 -- D-Bus Specification, "Marshaling (Wire Format)".
 use Rattle.std.specs.Prelude.{ℕ, List, map, string_bytes, if◌then◌else◌}

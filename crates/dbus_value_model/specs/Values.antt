@@ -1,3 +1,4 @@
+-- Trusted by the headline.
 -- Values as trees, the type of each, and which of them are well formed.
 -- D-Bus Specification, "Type System".
 use Rattle.std.specs.Prelude.{◌≡◌, ℕ, zero, suc, ◌^◌, ◌<◌, List, [], ◌∷◌, length}

@@ -1,3 +1,4 @@
+-- Trusted by the headline.
 -- The texts that may stand at a place: those of a kind, or one alone.
 -- D-Bus Specification, "Valid Signatures", "Valid Object Paths", "Valid Names"; "Header Fields" for the one signature of a field.
 use Rattle.std.specs.Prelude.{◌≡◌, ℕ, List}
@@ -25,18 +26,3 @@ IsWanted (Only u) t = t ≡ u
 abbrev pub IsBreakOf : WantedText → List ℕ → ℕ → Type 0
 IsBreakOf (Of k) t n = IsBreak k t n
 IsBreakOf (Only u) t n = IsBreakIn (λ v. v ≡ u) t n
-
--- names are texts
-abbrev pub IsNameKind : TextKind → Type 0
-IsNameKind kinds.Text = Unit {0}
-IsNameKind kinds.Path = ⊥
-IsNameKind kinds.Interface = Unit {0}
-IsNameKind kinds.Member = Unit {0}
-IsNameKind kinds.ErrorName = Unit {0}
-IsNameKind kinds.BusName = Unit {0}
-IsNameKind kinds.Signature = ⊥
-IsNameKind kinds.Single = ⊥
-
-abbrev pub IsName : WantedText → Type 0
-IsName (Of k) = IsNameKind k
-IsName (Only u) = ⊥

@@ -3,7 +3,8 @@
 
 ghost use Rattle.std.specs.Prelude.{◌≡◌, ◌≤◌, IsTrue, IfOk, not};
 ghost use Rattle.dbus_texts.specs.Kinds.{IsKind};
-ghost use Rattle.dbus_texts.specs.Types.{is_byte, IsSingleType};
+ghost use Rattle.dbus_texts.specs.PlainTypes.{is_byte};
+ghost use Rattle.dbus_texts.specs.Types.{IsSingleType};
 ghost use Rattle.dbus_types.specs.SigTypes.{type_tree};
 ghost use Rattle.dbus_value_model.specs.Checks.{Checks, IsTyped};
 ghost use Rattle.dbus_value_model.specs.declared.limits.TheConstants.{DEPTH_LIMIT};

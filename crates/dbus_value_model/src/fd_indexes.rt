@@ -2,7 +2,8 @@
 #![tactic(auto)]
 
 ghost use Rattle.std.specs.Prelude.{◌↔◌, Some, IsTrue};
-ghost use Rattle.dbus_value_model.specs.FdIndexes.{AreIndexesBelow, AreAllBelow, IsFirstPast};
+ghost use Rattle.dbus_value_model.specs.FdIndexes.{AreIndexesBelow, AreAllBelow};
+ghost use Rattle.dbus_value_model.specs.FirstPast.{IsFirstPast};
 ghost use Rattle.dbus_value_model.specs.ValueViews.{value_tree, value_trees_of};
 
 use crate::value::Value;

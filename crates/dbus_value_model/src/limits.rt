@@ -46,7 +46,8 @@ pub struct Bounds {
 }
 
 impl Limits {
-    ghost use Rattle.dbus_value_model.specs.Specification.{IsLimits, specification, with_fds, bounds_of, bounds_with};
+    ghost use Rattle.dbus_value_model.specs.Specification.{IsLimits, specification, with_fds};
+    ghost use Rattle.dbus_value_model.specs.Bounds.{bounds_of, bounds_with};
 
     /// These limits, which allow any index of a file descriptor, or nothing if one of them is over that of the
     /// specification.

@@ -2,7 +2,7 @@
 #![tactic(auto)]
 
 ghost use Rattle.std.specs.Prelude.{◌≡◌, ◌+◌, ◌≤◌, length, take, drop};
-ghost use Rattle.dbus_value_model.specs.Bytes.{sum_of_places};
+ghost use Rattle.dbus_value_model.specs.ByteNumbers.{sum_of_places};
 ghost use Rattle.dbus_value_model.specs.Reading.{number_of};
 
 /// The order of a number's bytes. D-Bus Specification, "Marshaling (Wire Format)".

@@ -2,7 +2,7 @@
 #![tactic(auto)]
 
 ghost use Rattle.std.specs.Prelude.{◌≡◌, map, IfOk, MatchOption, true, false};
-ghost use Rattle.dbus_texts.specs.Types.{is_plain};
+ghost use Rattle.dbus_texts.specs.PlainTypes.{is_plain};
 ghost use Rattle.dbus_types.specs.SigTypes.{type_tree};
 ghost use Rattle.dbus_value_model.specs.Values.{type_of as tree_type};
 ghost use Rattle.dbus_value_model.specs.ValueViews.{value_tree};

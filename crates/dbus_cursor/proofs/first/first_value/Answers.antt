@@ -1,6 +1,7 @@
 use Rattle.std.proofs.Common.{◌≡◌, ◌<◌, ◌≤◌, ◌+◌, length, ℕ, drop, refl, sym, ap, subst, ◌∙◌, arith}
 use Rattle.dbus_value_model.specs.declared.limits.Bounds.{Bounds}
-use Rattle.dbus_value_model.specs.Specification.{specification, bounds_of}
+use Rattle.dbus_value_model.specs.Specification.{specification}
+use Rattle.dbus_value_model.specs.Bounds.{bounds_of}
 use Rattle.dbus_value_model.specs.Spelling.{spelling, Spelled}
 use Rattle.dbus_value_model.specs.Values.{type_of}
 use Rattle.dbus_value_validator.specs.Endings.{IsSpelledTo}

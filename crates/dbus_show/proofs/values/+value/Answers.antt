@@ -1,7 +1,8 @@
 use Rattle.std.proofs.Common.{arith, rules, ◌≡◌, ◌++◌, ◌∷◌, [], ap, sym, ◌∙◌, subst, true, false, refl, take, ◌+◌, codes, string_bytes}
 use Rattle.std.proofs.lemmas.List.{take_more}
 use Rattle.hex.specs.Hex.{encode_lower}
-use Rattle.dbus_texts.specs.Types.{sig, is_byte}
+use Rattle.dbus_texts.specs.Types.{sig}
+use Rattle.dbus_texts.specs.PlainTypes.{is_byte}
 use Rattle.dbus_types.specs.SigTypes.{type_tree}
 use Rattle.dbus_value_model.specs.Values.{ArrayValue, type_of}
 use Rattle.dbus_value_model.specs.ValueViews.{value_tree, value_trees_of}

@@ -1,5 +1,5 @@
 use Rattle.std.proofs.Common.{take}
-use Rattle.dbus_texts.specs.Prefixes.{IsQuotient}
+use Rattle.dbus_texts.specs.Quotients.{IsQuotient}
 use Rattle.dbus_texts.proofs.byte_scan.break_of.Given as goal
 
 abbrev pub invariant-loop-i : goal.invariant-loop-i

@@ -1,7 +1,7 @@
 use Rattle.std.proofs.Common.{◌≡◌, ◌-◌, ◌++◌, ℕ, List, sym, ap, ◌∙◌}
 use Rattle.dbus_texts.specs.Types.{sig}
 use Rattle.dbus_types.specs.SigTypes.{type_tree}
-use Rattle.dbus_value_model.specs.Specification.{bounds_with}
+use Rattle.dbus_value_model.specs.Bounds.{bounds_with}
 use Rattle.dbus_value_model.specs.ValueViews.{value_tree}
 use Rattle.dbus_unmarshal.proofs.Validating.{whole_there, stand_there, got}
 use Rattle.dbus_unmarshal.proofs.getting.get_within.Goals as goal

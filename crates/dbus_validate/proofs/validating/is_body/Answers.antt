@@ -1,7 +1,7 @@
 use Rattle.std.proofs.Common.{◌≡◌, ℕ, Option, refl, ap, ◌∙◌, arith}
 use Rattle.std.proofs.lemmas.Bool.{eqb-true, eqb-false}
 use Rattle.dbus_value_model.specs.FdIndexes.{index_limit}
-use Rattle.dbus_value_model.specs.Specification.{bounds_with}
+use Rattle.dbus_value_model.specs.Bounds.{bounds_with}
 use Rattle.dbus_message_model.specs.Messages.{body_fds}
 use Rattle.dbus_validate.proofs.BodySteps.{body_ends, body_unspelled, body_longer}
 use Rattle.dbus_validate.proofs.validating.is_body.Goals as goal

@@ -1,5 +1,5 @@
 use Rattle.std.proofs.Common.{ℕ, Option, Some, drop}
-use Rattle.dbus_value_model.specs.FdIndexes.{IsFirstPast}
+use Rattle.dbus_value_model.specs.FirstPast.{IsFirstPast}
 use Rattle.dbus_value_model.specs.ValueViews.{value_trees_of}
 use Rattle.dbus_value_model.proofs.fd_indexes.first_past.Given as goal
 

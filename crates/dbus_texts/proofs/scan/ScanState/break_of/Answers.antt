@@ -1,5 +1,5 @@
 use Rattle.std.proofs.Common.{sym, subst}
-use Rattle.dbus_texts.specs.Prefixes.{IsBreakFrom}
+use Rattle.dbus_texts.specs.Quotients.{IsBreakFrom}
 use Rattle.dbus_texts.specs.Scans.{state_rest}
 use Rattle.dbus_texts.proofs.scan.ScanState.break_of.Goals as goal
 

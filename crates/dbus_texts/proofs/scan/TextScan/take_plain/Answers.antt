@@ -1,6 +1,6 @@
 use Rattle.std.proofs.Common.{◌++◌, take, sym, subst, arith, length-append, length-take}
 use Rattle.dbus_texts.specs.declared.scan.ScanState.{ScanState}
-use Rattle.dbus_texts.specs.Prefixes.{IsQuotient}
+use Rattle.dbus_texts.specs.Quotients.{IsQuotient}
 use Rattle.dbus_texts.specs.Kinds.{IsOfKind}
 use Rattle.dbus_texts.specs.Scans.{state_rest}
 use Rattle.dbus_texts.proofs.PlainRuns.{plain_run}
