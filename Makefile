@@ -2,7 +2,8 @@
 #                  another command and capture
 # make quick-test  the tests, the programs that compare every case and the examples of doc comments, without proofs: some minutes
 # make api         prints docs/API.md, the calls of the libraries, out of the sources; make quick-test checks that it is current
-# make definitions prints the table of docs/DEFINITIONS.md out of the definitions; make definitions-check, and quick-test, check it
+# make definitions writes the tables of docs/DEFINITIONS.md and docs/WORKED-EXAMPLES.md out of the definitions and their examples; make definitions-check, and quick-test,
+# check them
 # make doc-examples builds and runs the examples of doc comments, without proofs: a minute. make quick-test does it too
 # make readme-test runs the commands of README.md, by what make build made or else without proofs, and compares what they write;
 #                  those of docs/RECIPES.md too, if make build made dbus-wire
@@ -65,9 +66,8 @@ kit:
 	@command -v rt > /dev/null || { echo "rt is missing: the bin folder of the Rattle kit has to be on the PATH" >&2; exit 1; }
 	@rt version | grep -q "^$(KIT) " || echo "this was proved with $(KIT); the rt on the PATH is of $$(rt version)" >&2
 
-quick-test: kit
+quick-test: kit definitions-check
 	bench/api.py --check
-	bench/definitions.py --check
 	bench/doc_examples.py
 	bench/quick_test.py
 
@@ -110,9 +110,11 @@ doc-examples: kit
 
 definitions:
 	bench/definitions.py
+	bench/worked_examples.py
 
 definitions-check:
 	bench/definitions.py --check
+	bench/worked_examples.py --check
 
 readme-test: kit
 	bench/readme_test.py

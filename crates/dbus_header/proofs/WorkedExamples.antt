@@ -33,89 +33,89 @@ answer bytes = answer_of (message_read specification 0 bytes)
 -- bytes, and what they are answered
 abbrev examples : List (List ℕ × Answer)
 examples =
-    -- reply
+    -- A reply to the call with serial 1, without a body ("Message Format")
     (108 ∷ 2 ∷ 1 ∷ 1 ∷ 0 ∷ 0 ∷ 0 ∷ 0 ∷ 1 ∷ 0 ∷ 0 ∷ 0 ∷ 8 ∷ 0 ∷ 0 ∷ 0 ∷ 5 ∷ 1 ∷ 117 ∷ 0 ∷ 1 ∷ 0 ∷ 0 ∷ 0 ∷ [], Whole Little 24) ∷
-    -- reply big endian
+    -- The same in big endian ("Message Format")
     (66 ∷ 2 ∷ 1 ∷ 1 ∷ 0 ∷ 0 ∷ 0 ∷ 0 ∷ 0 ∷ 0 ∷ 0 ∷ 1 ∷ 0 ∷ 0 ∷ 0 ∷ 8 ∷ 5 ∷ 1 ∷ 117 ∷ 0 ∷ 0 ∷ 0 ∷ 0 ∷ 1 ∷ [], Whole Big 24) ∷
-    -- unknown kind without fields
+    -- A message of type 5, which the specification does not name ("Message Format")
     (108 ∷ 5 ∷ 0 ∷ 1 ∷ 0 ∷ 0 ∷ 0 ∷ 0 ∷ 1 ∷ 0 ∷ 0 ∷ 0 ∷ 0 ∷ 0 ∷ 0 ∷ 0 ∷ [], Whole Little 16) ∷
-    -- numbers then empty array
+    -- A body of UINT32 7 and an empty array of INT64: padding up to the first element that is not there ("Marshalling containers")
     (108 ∷ 2 ∷ 0 ∷ 1 ∷ 8 ∷ 0 ∷ 0 ∷ 0 ∷ 1 ∷ 0 ∷ 0 ∷ 0 ∷ 17 ∷ 0 ∷ 0 ∷ 0 ∷ 5 ∷ 1 ∷ 117 ∷ 0 ∷ 1 ∷ 0 ∷ 0 ∷ 0 ∷ 8 ∷ 1 ∷ 103 ∷ 0 ∷ 3 ∷ 117 ∷ 97 ∷ 120 ∷ 0 ∷ 0 ∷ 0 ∷ 0 ∷ 0 ∷ 0 ∷ 0 ∷ 0 ∷ 7 ∷ 0 ∷ 0 ∷ 0 ∷ 0 ∷ 0 ∷ 0 ∷ 0 ∷ [], Whole Little 48) ∷
-    -- empty array keeps its first padding
+    -- A body of an empty array of INT64 alone ("Marshalling containers")
     (108 ∷ 2 ∷ 0 ∷ 1 ∷ 8 ∷ 0 ∷ 0 ∷ 0 ∷ 1 ∷ 0 ∷ 0 ∷ 0 ∷ 16 ∷ 0 ∷ 0 ∷ 0 ∷ 5 ∷ 1 ∷ 117 ∷ 0 ∷ 1 ∷ 0 ∷ 0 ∷ 0 ∷ 8 ∷ 1 ∷ 103 ∷ 0 ∷ 2 ∷ 97 ∷ 120 ∷ 0 ∷ 0 ∷ 0 ∷ 0 ∷ 0 ∷ 0 ∷ 0 ∷ 0 ∷ 0 ∷ [], Whole Little 40) ∷
-    -- array length leaves out first padding
+    -- The same without that padding: the body ends too early ("Marshalling containers")
     (108 ∷ 2 ∷ 0 ∷ 1 ∷ 4 ∷ 0 ∷ 0 ∷ 0 ∷ 1 ∷ 0 ∷ 0 ∷ 0 ∷ 16 ∷ 0 ∷ 0 ∷ 0 ∷ 5 ∷ 1 ∷ 117 ∷ 0 ∷ 1 ∷ 0 ∷ 0 ∷ 0 ∷ 8 ∷ 1 ∷ 103 ∷ 0 ∷ 2 ∷ 97 ∷ 120 ∷ 0 ∷ 0 ∷ 0 ∷ 0 ∷ 0 ∷ [], Refused (fault 32 reasons.Overrun)) ∷
-    -- nonzero first padding
+    -- The same with a byte of padding that is not 0 ("Marshalling containers")
     (108 ∷ 2 ∷ 0 ∷ 1 ∷ 8 ∷ 0 ∷ 0 ∷ 0 ∷ 1 ∷ 0 ∷ 0 ∷ 0 ∷ 16 ∷ 0 ∷ 0 ∷ 0 ∷ 5 ∷ 1 ∷ 117 ∷ 0 ∷ 1 ∷ 0 ∷ 0 ∷ 0 ∷ 8 ∷ 1 ∷ 103 ∷ 0 ∷ 2 ∷ 97 ∷ 120 ∷ 0 ∷ 0 ∷ 0 ∷ 0 ∷ 0 ∷ 0 ∷ 0 ∷ 1 ∷ 0 ∷ [], Refused (fault 38 reasons.Padding)) ∷
-    -- required field missing
+    -- A reply without REPLY_SERIAL ("Header Fields")
     (108 ∷ 2 ∷ 1 ∷ 1 ∷ 0 ∷ 0 ∷ 0 ∷ 0 ∷ 1 ∷ 0 ∷ 0 ∷ 0 ∷ 0 ∷ 0 ∷ 0 ∷ 0 ∷ [], Refused (fault 16 (reasons.FieldMissing 5))) ∷
-    -- body length over the limit
+    -- A body of 4,294,967,295 bytes ("Message Format")
     (108 ∷ 2 ∷ 1 ∷ 1 ∷ 255 ∷ 255 ∷ 255 ∷ 255 ∷ 1 ∷ 0 ∷ 0 ∷ 0 ∷ 8 ∷ 0 ∷ 0 ∷ 0 ∷ [], Refused (fault 12 reasons.MessageTooLong)) ∷
-    -- serial zero comes first
+    -- The same with serial 0, which comes first ("Message Format")
     (108 ∷ 2 ∷ 1 ∷ 1 ∷ 255 ∷ 255 ∷ 255 ∷ 255 ∷ 0 ∷ 0 ∷ 0 ∷ 0 ∷ 8 ∷ 0 ∷ 0 ∷ 0 ∷ [], Refused (fault 8 reasons.ZeroSerial)) ∷
-    -- message just within its limit
+    -- The header of a message of 134,217,728 bytes ("Message Format")
     (108 ∷ 2 ∷ 1 ∷ 1 ∷ 232 ∷ 255 ∷ 255 ∷ 7 ∷ 1 ∷ 0 ∷ 0 ∷ 0 ∷ 8 ∷ 0 ∷ 0 ∷ 0 ∷ [], Wanting) ∷
-    -- message just over its limit
+    -- The header of one of 134,217,729 ("Message Format")
     (108 ∷ 2 ∷ 1 ∷ 1 ∷ 233 ∷ 255 ∷ 255 ∷ 7 ∷ 1 ∷ 0 ∷ 0 ∷ 0 ∷ 8 ∷ 0 ∷ 0 ∷ 0 ∷ [], Refused (fault 12 reasons.MessageTooLong)) ∷
-    -- array just within its limit
+    -- An array of 67,108,864 bytes, which have not come yet ("Marshalling containers")
     (108 ∷ 2 ∷ 0 ∷ 1 ∷ 4 ∷ 0 ∷ 0 ∷ 4 ∷ 1 ∷ 0 ∷ 0 ∷ 0 ∷ 16 ∷ 0 ∷ 0 ∷ 0 ∷ 5 ∷ 1 ∷ 117 ∷ 0 ∷ 1 ∷ 0 ∷ 0 ∷ 0 ∷ 8 ∷ 1 ∷ 103 ∷ 0 ∷ 2 ∷ 97 ∷ 121 ∷ 0 ∷ 0 ∷ 0 ∷ 0 ∷ 4 ∷ [], Wanting) ∷
-    -- array just over its limit
+    -- An array of 67,108,865 bytes ("Marshalling containers")
     (108 ∷ 2 ∷ 0 ∷ 1 ∷ 5 ∷ 0 ∷ 0 ∷ 4 ∷ 1 ∷ 0 ∷ 0 ∷ 0 ∷ 16 ∷ 0 ∷ 0 ∷ 0 ∷ 5 ∷ 1 ∷ 117 ∷ 0 ∷ 1 ∷ 0 ∷ 0 ∷ 0 ∷ 8 ∷ 1 ∷ 103 ∷ 0 ∷ 2 ∷ 97 ∷ 121 ∷ 0 ∷ 1 ∷ 0 ∷ 0 ∷ 4 ∷ [], Refused (fault 32 reasons.ArrayTooLong)) ∷
-    -- boolean of two
+    -- A BOOLEAN that is 2 ("Marshalling basic types")
     (108 ∷ 2 ∷ 0 ∷ 1 ∷ 4 ∷ 0 ∷ 0 ∷ 0 ∷ 1 ∷ 0 ∷ 0 ∷ 0 ∷ 15 ∷ 0 ∷ 0 ∷ 0 ∷ 5 ∷ 1 ∷ 117 ∷ 0 ∷ 1 ∷ 0 ∷ 0 ∷ 0 ∷ 8 ∷ 1 ∷ 103 ∷ 0 ∷ 1 ∷ 98 ∷ 0 ∷ 0 ∷ 2 ∷ 0 ∷ 0 ∷ 0 ∷ [], Refused (fault 32 reasons.Bool)) ∷
-    -- boolean of two not yet whole
+    -- The same while its last byte is missing ("Marshalling basic types")
     (108 ∷ 2 ∷ 0 ∷ 1 ∷ 4 ∷ 0 ∷ 0 ∷ 0 ∷ 1 ∷ 0 ∷ 0 ∷ 0 ∷ 15 ∷ 0 ∷ 0 ∷ 0 ∷ 5 ∷ 1 ∷ 117 ∷ 0 ∷ 1 ∷ 0 ∷ 0 ∷ 0 ∷ 8 ∷ 1 ∷ 103 ∷ 0 ∷ 1 ∷ 98 ∷ 0 ∷ 0 ∷ 2 ∷ 0 ∷ 0 ∷ [], Wanting) ∷
-    -- overrun before the first byte
+    -- An array of UINT32 whose length is 6: its second element passes its end ("Marshalling containers")
     (108 ∷ 2 ∷ 0 ∷ 1 ∷ 10 ∷ 0 ∷ 0 ∷ 0 ∷ 1 ∷ 0 ∷ 0 ∷ 0 ∷ 16 ∷ 0 ∷ 0 ∷ 0 ∷ 5 ∷ 1 ∷ 117 ∷ 0 ∷ 1 ∷ 0 ∷ 0 ∷ 0 ∷ 8 ∷ 1 ∷ 103 ∷ 0 ∷ 2 ∷ 97 ∷ 117 ∷ 0 ∷ 6 ∷ 0 ∷ 0 ∷ 0 ∷ 1 ∷ 0 ∷ 0 ∷ 0 ∷ [], Refused (fault 40 reasons.Overrun)) ∷
-    -- sixty four variants
+    -- 64 variants within one another ("Valid Signatures")
     (108 ∷ 2 ∷ 0 ∷ 1 ∷ 193 ∷ 0 ∷ 0 ∷ 0 ∷ 1 ∷ 0 ∷ 0 ∷ 0 ∷ 15 ∷ 0 ∷ 0 ∷ 0 ∷ 5 ∷ 1 ∷ 117 ∷ 0 ∷ 1 ∷ 0 ∷ 0 ∷ 0 ∷ 8 ∷ 1 ∷ 103 ∷ 0 ∷ 1 ∷ 118 ∷ 0 ∷ 0 ∷ 1 ∷ 118 ∷ 0 ∷ 1 ∷ 118 ∷ 0 ∷ 1 ∷ 118 ∷ 0 ∷ 1 ∷ 118 ∷ 0 ∷ 1 ∷ 118 ∷ 0 ∷ 1 ∷ 118 ∷ 0 ∷ 1 ∷ 118 ∷ 0 ∷ 1 ∷ 118 ∷ 0 ∷ 1 ∷ 118 ∷ 0 ∷ 1 ∷ 118 ∷ 0 ∷ 1 ∷ 118 ∷ 0 ∷ 1 ∷ 118 ∷ 0 ∷ 1 ∷ 118 ∷ 0 ∷ 1 ∷ 118 ∷ 0 ∷ 1 ∷ 118 ∷ 0 ∷ 1 ∷ 118 ∷ 0 ∷ 1 ∷ 118 ∷ 0 ∷ 1 ∷ 118 ∷ 0 ∷ 1 ∷ 118 ∷ 0 ∷ 1 ∷ 118 ∷ 0 ∷ 1 ∷ 118 ∷ 0 ∷ 1 ∷ 118 ∷ 0 ∷ 1 ∷ 118 ∷ 0 ∷ 1 ∷ 118 ∷ 0 ∷ 1 ∷ 118 ∷ 0 ∷ 1 ∷ 118 ∷ 0 ∷ 1 ∷ 118 ∷ 0 ∷ 1 ∷ 118 ∷ 0 ∷ 1 ∷ 118 ∷ 0 ∷ 1 ∷ 118 ∷ 0 ∷ 1 ∷ 118 ∷ 0 ∷ 1 ∷ 118 ∷ 0 ∷ 1 ∷ 118 ∷ 0 ∷ 1 ∷ 118 ∷ 0 ∷ 1 ∷ 118 ∷ 0 ∷ 1 ∷ 118 ∷ 0 ∷ 1 ∷ 118 ∷ 0 ∷ 1 ∷ 118 ∷ 0 ∷ 1 ∷ 118 ∷ 0 ∷ 1 ∷ 118 ∷ 0 ∷ 1 ∷ 118 ∷ 0 ∷ 1 ∷ 118 ∷ 0 ∷ 1 ∷ 118 ∷ 0 ∷ 1 ∷ 118 ∷ 0 ∷ 1 ∷ 118 ∷ 0 ∷ 1 ∷ 118 ∷ 0 ∷ 1 ∷ 118 ∷ 0 ∷ 1 ∷ 118 ∷ 0 ∷ 1 ∷ 118 ∷ 0 ∷ 1 ∷ 118 ∷ 0 ∷ 1 ∷ 118 ∷ 0 ∷ 1 ∷ 118 ∷ 0 ∷ 1 ∷ 118 ∷ 0 ∷ 1 ∷ 118 ∷ 0 ∷ 1 ∷ 118 ∷ 0 ∷ 1 ∷ 118 ∷ 0 ∷ 1 ∷ 118 ∷ 0 ∷ 1 ∷ 118 ∷ 0 ∷ 1 ∷ 118 ∷ 0 ∷ 1 ∷ 118 ∷ 0 ∷ 1 ∷ 118 ∷ 0 ∷ 1 ∷ 118 ∷ 0 ∷ 1 ∷ 118 ∷ 0 ∷ 1 ∷ 121 ∷ 0 ∷ 7 ∷ [], Whole Little 225) ∷
-    -- sixty five variants
+    -- 65 variants within one another ("Valid Signatures")
     (108 ∷ 2 ∷ 0 ∷ 1 ∷ 196 ∷ 0 ∷ 0 ∷ 0 ∷ 1 ∷ 0 ∷ 0 ∷ 0 ∷ 15 ∷ 0 ∷ 0 ∷ 0 ∷ 5 ∷ 1 ∷ 117 ∷ 0 ∷ 1 ∷ 0 ∷ 0 ∷ 0 ∷ 8 ∷ 1 ∷ 103 ∷ 0 ∷ 1 ∷ 118 ∷ 0 ∷ 0 ∷ 1 ∷ 118 ∷ 0 ∷ 1 ∷ 118 ∷ 0 ∷ 1 ∷ 118 ∷ 0 ∷ 1 ∷ 118 ∷ 0 ∷ 1 ∷ 118 ∷ 0 ∷ 1 ∷ 118 ∷ 0 ∷ 1 ∷ 118 ∷ 0 ∷ 1 ∷ 118 ∷ 0 ∷ 1 ∷ 118 ∷ 0 ∷ 1 ∷ 118 ∷ 0 ∷ 1 ∷ 118 ∷ 0 ∷ 1 ∷ 118 ∷ 0 ∷ 1 ∷ 118 ∷ 0 ∷ 1 ∷ 118 ∷ 0 ∷ 1 ∷ 118 ∷ 0 ∷ 1 ∷ 118 ∷ 0 ∷ 1 ∷ 118 ∷ 0 ∷ 1 ∷ 118 ∷ 0 ∷ 1 ∷ 118 ∷ 0 ∷ 1 ∷ 118 ∷ 0 ∷ 1 ∷ 118 ∷ 0 ∷ 1 ∷ 118 ∷ 0 ∷ 1 ∷ 118 ∷ 0 ∷ 1 ∷ 118 ∷ 0 ∷ 1 ∷ 118 ∷ 0 ∷ 1 ∷ 118 ∷ 0 ∷ 1 ∷ 118 ∷ 0 ∷ 1 ∷ 118 ∷ 0 ∷ 1 ∷ 118 ∷ 0 ∷ 1 ∷ 118 ∷ 0 ∷ 1 ∷ 118 ∷ 0 ∷ 1 ∷ 118 ∷ 0 ∷ 1 ∷ 118 ∷ 0 ∷ 1 ∷ 118 ∷ 0 ∷ 1 ∷ 118 ∷ 0 ∷ 1 ∷ 118 ∷ 0 ∷ 1 ∷ 118 ∷ 0 ∷ 1 ∷ 118 ∷ 0 ∷ 1 ∷ 118 ∷ 0 ∷ 1 ∷ 118 ∷ 0 ∷ 1 ∷ 118 ∷ 0 ∷ 1 ∷ 118 ∷ 0 ∷ 1 ∷ 118 ∷ 0 ∷ 1 ∷ 118 ∷ 0 ∷ 1 ∷ 118 ∷ 0 ∷ 1 ∷ 118 ∷ 0 ∷ 1 ∷ 118 ∷ 0 ∷ 1 ∷ 118 ∷ 0 ∷ 1 ∷ 118 ∷ 0 ∷ 1 ∷ 118 ∷ 0 ∷ 1 ∷ 118 ∷ 0 ∷ 1 ∷ 118 ∷ 0 ∷ 1 ∷ 118 ∷ 0 ∷ 1 ∷ 118 ∷ 0 ∷ 1 ∷ 118 ∷ 0 ∷ 1 ∷ 118 ∷ 0 ∷ 1 ∷ 118 ∷ 0 ∷ 1 ∷ 118 ∷ 0 ∷ 1 ∷ 118 ∷ 0 ∷ 1 ∷ 118 ∷ 0 ∷ 1 ∷ 118 ∷ 0 ∷ 1 ∷ 118 ∷ 0 ∷ 1 ∷ 118 ∷ 0 ∷ 1 ∷ 118 ∷ 0 ∷ 1 ∷ 121 ∷ 0 ∷ 7 ∷ [], Refused (fault 224 reasons.TooDeep)) ∷
-    -- text cut in a character one byte
+    -- A text of two bytes, of which the first begins a character ("Marshalling basic types")
     (108 ∷ 2 ∷ 0 ∷ 1 ∷ 7 ∷ 0 ∷ 0 ∷ 0 ∷ 1 ∷ 0 ∷ 0 ∷ 0 ∷ 15 ∷ 0 ∷ 0 ∷ 0 ∷ 5 ∷ 1 ∷ 117 ∷ 0 ∷ 1 ∷ 0 ∷ 0 ∷ 0 ∷ 8 ∷ 1 ∷ 103 ∷ 0 ∷ 1 ∷ 115 ∷ 0 ∷ 0 ∷ 2 ∷ 0 ∷ 0 ∷ 0 ∷ 226 ∷ [], Wanting) ∷
-    -- text cut in a character
+    -- The same with a second byte that goes on with that character, for which the text has no room ("Marshalling basic types")
     (108 ∷ 2 ∷ 0 ∷ 1 ∷ 7 ∷ 0 ∷ 0 ∷ 0 ∷ 1 ∷ 0 ∷ 0 ∷ 0 ∷ 15 ∷ 0 ∷ 0 ∷ 0 ∷ 5 ∷ 1 ∷ 117 ∷ 0 ∷ 1 ∷ 0 ∷ 0 ∷ 0 ∷ 8 ∷ 1 ∷ 103 ∷ 0 ∷ 1 ∷ 115 ∷ 0 ∷ 0 ∷ 2 ∷ 0 ∷ 0 ∷ 0 ∷ 226 ∷ 130 ∷ [], Refused (fault 38 reasons.Text)) ∷
-    -- text broken in a character
+    -- The same with a second byte that cannot follow the first ("Marshalling basic types")
     (108 ∷ 2 ∷ 0 ∷ 1 ∷ 7 ∷ 0 ∷ 0 ∷ 0 ∷ 1 ∷ 0 ∷ 0 ∷ 0 ∷ 15 ∷ 0 ∷ 0 ∷ 0 ∷ 5 ∷ 1 ∷ 117 ∷ 0 ∷ 1 ∷ 0 ∷ 0 ∷ 0 ∷ 8 ∷ 1 ∷ 103 ∷ 0 ∷ 1 ∷ 115 ∷ 0 ∷ 0 ∷ 2 ∷ 0 ∷ 0 ∷ 0 ∷ 226 ∷ 40 ∷ [], Refused (fault 37 reasons.Text)) ∷
-    -- signal
+    -- A signal with PATH, INTERFACE, MEMBER, SIGNATURE and a body ("Header Fields")
     (108 ∷ 4 ∷ 0 ∷ 1 ∷ 24 ∷ 0 ∷ 0 ∷ 0 ∷ 2 ∷ 0 ∷ 0 ∷ 0 ∷ 56 ∷ 0 ∷ 0 ∷ 0 ∷ 1 ∷ 1 ∷ 111 ∷ 0 ∷ 2 ∷ 0 ∷ 0 ∷ 0 ∷ 47 ∷ 97 ∷ 0 ∷ 0 ∷ 0 ∷ 0 ∷ 0 ∷ 0 ∷ 2 ∷ 1 ∷ 115 ∷ 0 ∷ 3 ∷ 0 ∷ 0 ∷ 0 ∷ 97 ∷ 46 ∷ 98 ∷ 0 ∷ 0 ∷ 0 ∷ 0 ∷ 0 ∷ 3 ∷ 1 ∷ 115 ∷ 0 ∷ 1 ∷ 0 ∷ 0 ∷ 0 ∷ 67 ∷ 0 ∷ 0 ∷ 0 ∷ 0 ∷ 0 ∷ 0 ∷ 0 ∷ 8 ∷ 1 ∷ 103 ∷ 0 ∷ 2 ∷ 115 ∷ 118 ∷ 0 ∷ 2 ∷ 0 ∷ 0 ∷ 0 ∷ 104 ∷ 105 ∷ 0 ∷ 2 ∷ 97 ∷ 117 ∷ 0 ∷ 0 ∷ 8 ∷ 0 ∷ 0 ∷ 0 ∷ 1 ∷ 0 ∷ 0 ∷ 0 ∷ 2 ∷ 0 ∷ 0 ∷ 0 ∷ [], Whole Little 96) ∷
-    -- reply with number and text
+    -- A reply of UINT32 7 and STRING `hi` ("Message Format")
     (108 ∷ 2 ∷ 0 ∷ 1 ∷ 11 ∷ 0 ∷ 0 ∷ 0 ∷ 1 ∷ 0 ∷ 0 ∷ 0 ∷ 16 ∷ 0 ∷ 0 ∷ 0 ∷ 5 ∷ 1 ∷ 117 ∷ 0 ∷ 1 ∷ 0 ∷ 0 ∷ 0 ∷ 8 ∷ 1 ∷ 103 ∷ 0 ∷ 2 ∷ 117 ∷ 115 ∷ 0 ∷ 7 ∷ 0 ∷ 0 ∷ 0 ∷ 2 ∷ 0 ∷ 0 ∷ 0 ∷ 104 ∷ 105 ∷ 0 ∷ [], Whole Little 43) ∷
-    -- reply with number and text big endian
+    -- The same in big endian ("Message Format")
     (66 ∷ 2 ∷ 0 ∷ 1 ∷ 0 ∷ 0 ∷ 0 ∷ 11 ∷ 0 ∷ 0 ∷ 0 ∷ 1 ∷ 0 ∷ 0 ∷ 0 ∷ 16 ∷ 5 ∷ 1 ∷ 117 ∷ 0 ∷ 0 ∷ 0 ∷ 0 ∷ 1 ∷ 8 ∷ 1 ∷ 103 ∷ 0 ∷ 2 ∷ 117 ∷ 115 ∷ 0 ∷ 0 ∷ 0 ∷ 0 ∷ 7 ∷ 0 ∷ 0 ∷ 0 ∷ 2 ∷ 104 ∷ 105 ∷ 0 ∷ [], Whole Big 43) ∷
-    -- unknown field repeats
+    -- An unknown header field twice: both are kept ("Header Fields")
     (108 ∷ 5 ∷ 0 ∷ 1 ∷ 0 ∷ 0 ∷ 0 ∷ 0 ∷ 1 ∷ 0 ∷ 0 ∷ 0 ∷ 13 ∷ 0 ∷ 0 ∷ 0 ∷ 10 ∷ 1 ∷ 121 ∷ 0 ∷ 5 ∷ 0 ∷ 0 ∷ 0 ∷ 10 ∷ 1 ∷ 121 ∷ 0 ∷ 6 ∷ 0 ∷ 0 ∷ 0 ∷ [], Whole Little 32) ∷
-    -- known field twice
+    -- REPLY_SERIAL twice ("Header Fields")
     (108 ∷ 2 ∷ 1 ∷ 1 ∷ 0 ∷ 0 ∷ 0 ∷ 0 ∷ 1 ∷ 0 ∷ 0 ∷ 0 ∷ 16 ∷ 0 ∷ 0 ∷ 0 ∷ 5 ∷ 1 ∷ 117 ∷ 0 ∷ 1 ∷ 0 ∷ 0 ∷ 0 ∷ 5 ∷ 1 ∷ 117 ∷ 0 ∷ 2 ∷ 0 ∷ 0 ∷ 0 ∷ [], Refused (fault 24 reasons.FieldTwice)) ∷
-    -- field code zero
+    -- A header field of code 0 ("Header Fields")
     (108 ∷ 2 ∷ 1 ∷ 1 ∷ 0 ∷ 0 ∷ 0 ∷ 0 ∷ 1 ∷ 0 ∷ 0 ∷ 0 ∷ 8 ∷ 0 ∷ 0 ∷ 0 ∷ 0 ∷ 1 ∷ 117 ∷ 0 ∷ 1 ∷ 0 ∷ 0 ∷ 0 ∷ [], Refused (fault 16 reasons.FieldCode)) ∷
-    -- field of another type
+    -- REPLY_SERIAL of type INT64 ("Header Fields")
     (108 ∷ 2 ∷ 1 ∷ 1 ∷ 0 ∷ 0 ∷ 0 ∷ 0 ∷ 1 ∷ 0 ∷ 0 ∷ 0 ∷ 8 ∷ 0 ∷ 0 ∷ 0 ∷ 5 ∷ 1 ∷ 120 ∷ 0 ∷ 1 ∷ 0 ∷ 0 ∷ 0 ∷ [], Refused (fault 18 reasons.FieldType)) ∷
-    -- reply serial zero
+    -- REPLY_SERIAL 0 ("Header Fields")
     (108 ∷ 2 ∷ 1 ∷ 1 ∷ 0 ∷ 0 ∷ 0 ∷ 0 ∷ 1 ∷ 0 ∷ 0 ∷ 0 ∷ 8 ∷ 0 ∷ 0 ∷ 0 ∷ 5 ∷ 1 ∷ 117 ∷ 0 ∷ 0 ∷ 0 ∷ 0 ∷ 0 ∷ [], Refused (fault 20 reasons.ZeroSerial)) ∷
-    -- field of two types
+    -- REPLY_SERIAL of two types ("Header Fields")
     (108 ∷ 2 ∷ 1 ∷ 1 ∷ 0 ∷ 0 ∷ 0 ∷ 0 ∷ 1 ∷ 0 ∷ 0 ∷ 0 ∷ 8 ∷ 0 ∷ 0 ∷ 0 ∷ 5 ∷ 2 ∷ 117 ∷ 117 ∷ 0 ∷ 0 ∷ 0 ∷ 0 ∷ [], Refused (fault 19 reasons.FieldType)) ∷
-    -- name too long
+    -- A MEMBER of 256 bytes ("Valid Names")
     (108 ∷ 4 ∷ 0 ∷ 1 ∷ 0 ∷ 0 ∷ 0 ∷ 0 ∷ 1 ∷ 0 ∷ 0 ∷ 0 ∷ 8 ∷ 0 ∷ 0 ∷ 0 ∷ 3 ∷ 1 ∷ 115 ∷ 0 ∷ 0 ∷ 1 ∷ 0 ∷ 0 ∷ [], Refused (fault 20 reasons.NameTooLong)) ∷
-    -- name overruns
+    -- A MEMBER of 255 bytes in header fields of 8 ("Header Fields")
     (108 ∷ 4 ∷ 0 ∷ 1 ∷ 0 ∷ 0 ∷ 0 ∷ 0 ∷ 1 ∷ 0 ∷ 0 ∷ 0 ∷ 8 ∷ 0 ∷ 0 ∷ 0 ∷ 3 ∷ 1 ∷ 115 ∷ 0 ∷ 255 ∷ 0 ∷ 0 ∷ 0 ∷ [], Refused (fault 20 reasons.Overrun)) ∷
-    -- member with a dot
+    -- The MEMBER `a.b` ("Member names")
     (108 ∷ 4 ∷ 0 ∷ 1 ∷ 0 ∷ 0 ∷ 0 ∷ 0 ∷ 1 ∷ 0 ∷ 0 ∷ 0 ∷ 12 ∷ 0 ∷ 0 ∷ 0 ∷ 3 ∷ 1 ∷ 115 ∷ 0 ∷ 3 ∷ 0 ∷ 0 ∷ 0 ∷ 97 ∷ 46 ∷ 98 ∷ 0 ∷ [], Refused (fault 25 reasons.Member)) ∷
-    -- member that is no text
+    -- A MEMBER with a byte that is no UTF-8: the fault of a name ("Member names")
     (108 ∷ 4 ∷ 0 ∷ 1 ∷ 0 ∷ 0 ∷ 0 ∷ 0 ∷ 1 ∷ 0 ∷ 0 ∷ 0 ∷ 12 ∷ 0 ∷ 0 ∷ 0 ∷ 3 ∷ 1 ∷ 115 ∷ 0 ∷ 3 ∷ 0 ∷ 0 ∷ 0 ∷ 97 ∷ 255 ∷ 98 ∷ 0 ∷ [], Refused (fault 25 reasons.Member)) ∷
-    -- signal without path
+    -- A signal without header fields: PATH is the first that it needs ("Header Fields")
     (108 ∷ 4 ∷ 0 ∷ 1 ∷ 0 ∷ 0 ∷ 0 ∷ 0 ∷ 1 ∷ 0 ∷ 0 ∷ 0 ∷ 0 ∷ 0 ∷ 0 ∷ 0 ∷ [], Refused (fault 16 (reasons.FieldMissing 1))) ∷
-    -- body without signature
+    -- A body of one byte without SIGNATURE ("Header Fields")
     (108 ∷ 5 ∷ 0 ∷ 1 ∷ 1 ∷ 0 ∷ 0 ∷ 0 ∷ 1 ∷ 0 ∷ 0 ∷ 0 ∷ 0 ∷ 0 ∷ 0 ∷ 0 ∷ [], Refused (fault 16 reasons.Trailing)) ∷
-    -- signature that breaks
+    -- The SIGNATURE `a` ("Valid Signatures")
     (108 ∷ 2 ∷ 0 ∷ 1 ∷ 4 ∷ 0 ∷ 0 ∷ 0 ∷ 1 ∷ 0 ∷ 0 ∷ 0 ∷ 15 ∷ 0 ∷ 0 ∷ 0 ∷ 5 ∷ 1 ∷ 117 ∷ 0 ∷ 1 ∷ 0 ∷ 0 ∷ 0 ∷ 8 ∷ 1 ∷ 103 ∷ 0 ∷ 1 ∷ 97 ∷ 0 ∷ 0 ∷ 2 ∷ 0 ∷ 0 ∷ 0 ∷ [], Refused (fault 30 reasons.Signature)) ∷
-    -- wrong byte order
+    -- A first byte that names no byte order ("Message Format")
     (109 ∷ [], Refused (fault 0 reasons.ByteOrder)) ∷
-    -- kind zero
+    -- A message of type 0 ("Message Format")
     (108 ∷ 0 ∷ [], Refused (fault 1 reasons.Kind)) ∷
-    -- wrong version
+    -- Version 2 of the protocol ("Message Format")
     (108 ∷ 2 ∷ 0 ∷ 2 ∷ [], Refused (fault 3 reasons.Version)) ∷
-    -- nothing
+    -- No bytes ("Message Protocol")
     ([], Wanting) ∷
     []
 

@@ -25,17 +25,17 @@ minus_two = VariantValue (NumberValue INT64 18_446_744_073_709_551_614)
 -- values as they are spelled, and the bytes
 abbrev spelled : List (List ℕ × List ℕ)
 spelled =
-    -- array from the start
+    -- An array of UINT64 5, from offset 0 ("Marshalling containers")
     (spelling Little 0 five, 8 ∷ 0 ∷ 0 ∷ 0 ∷ 0 ∷ 0 ∷ 0 ∷ 0 ∷ 5 ∷ 0 ∷ 0 ∷ 0 ∷ 0 ∷ 0 ∷ 0 ∷ 0 ∷ []) ∷
-    -- array from four
+    -- The same from offset 4: the padding before its first element is none ("Marshalling containers")
     (spelling Little 4 five, 8 ∷ 0 ∷ 0 ∷ 0 ∷ 5 ∷ 0 ∷ 0 ∷ 0 ∷ 0 ∷ 0 ∷ 0 ∷ 0 ∷ []) ∷
-    -- dict that repeats a key
+    -- A dictionary of BYTE 1 to 2 and 1 to 3, from offset 0 ("Marshalling containers")
     (spelling Little 0 (ArrayValue (EntryType (NumberType BYTE) (NumberType BYTE)) (MoreValues (pair 1 2) (MoreValues (pair 1 3) NoValues))), 10 ∷ 0 ∷ 0 ∷ 0 ∷ 0 ∷ 0 ∷ 0 ∷ 0 ∷ 1 ∷ 2 ∷ 0 ∷ 0 ∷ 0 ∷ 0 ∷ 0 ∷ 0 ∷ 1 ∷ 3 ∷ []) ∷
-    -- variant in little
+    -- A variant of INT64 -2, from offset 0 ("Marshalling containers")
     (spelling Little 0 minus_two, 1 ∷ 120 ∷ 0 ∷ 0 ∷ 0 ∷ 0 ∷ 0 ∷ 0 ∷ 254 ∷ 255 ∷ 255 ∷ 255 ∷ 255 ∷ 255 ∷ 255 ∷ 255 ∷ []) ∷
-    -- variant in big
+    -- The same in big endian ("Marshalling containers")
     (spelling Big 0 minus_two, 1 ∷ 120 ∷ 0 ∷ 0 ∷ 0 ∷ 0 ∷ 0 ∷ 0 ∷ 255 ∷ 255 ∷ 255 ∷ 255 ∷ 255 ∷ 255 ∷ 255 ∷ 254 ∷ []) ∷
-    -- struct from one
+    -- A struct of BYTE 1 and UINT16 2, from offset 1 ("Marshalling containers")
     (spelling Little 1 (StructValue (MoreValues (NumberValue BYTE 1) (MoreValues (NumberValue UINT16 2) NoValues))), 0 ∷ 0 ∷ 0 ∷ 0 ∷ 0 ∷ 0 ∷ 0 ∷ 1 ∷ 0 ∷ 2 ∷ 0 ∷ []) ∷
     []
 
