@@ -7,7 +7,7 @@ use Rattle.dbus_message_model.specs.Lookups.{body_value}
 use Rattle.dbus_message_model.specs.Messages.{MessageTree}
 use Rattle.dbus_header.specs.MessageOutcomes.{IsWhole}
 use Rattle.dbus_header.proofs.OutcomeLaws.{one_outcome, one_whole}
-use Rattle.dbus_validate.specs.Validating.{BeginsWithNone}
+use Rattle.dbus_header.specs.NoMessage.{BeginsWithNone}
 use Rattle.dbus_c.specs.Checking.{Tells, whole, partial, refused}
 use Rattle.dbus_c.specs.Outcomes.{BeginsWithValue, BeginsWithoutValue, TellsApart}
 use Rattle.dbus_c.specs.declared.checking.Checked.{Checked}

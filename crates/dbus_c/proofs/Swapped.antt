@@ -7,7 +7,7 @@ use Rattle.dbus_value_model.specs.declared.order.Order.{Order}
 use Rattle.dbus_value_model.specs.declared.order.Order.TheVariants.{Little, Big}
 use Rattle.dbus_message_model.specs.Messages.{MessageTree, message_bytes}
 use Rattle.dbus_header.proofs.OutcomeLaws.{one_fault, one_outcome, one_whole}
-use Rattle.dbus_validate.specs.Validating.{BeginsWithNone}
+use Rattle.dbus_header.specs.NoMessage.{BeginsWithNone}
 use Rattle.dbus_swap.specs.Byteswapping.{other}
 use Rattle.dbus_c.specs.Checking.{Tells, whole, partial, refused, whole_told, fault_told}
 use Rattle.dbus_c.specs.Swapping as swaps

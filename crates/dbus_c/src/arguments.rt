@@ -5,7 +5,7 @@ ghost use Rattle.std.specs.Prelude.{◌≡◌, ◌≢◌, ◌↔◌, None, IfSom
 ghost use Rattle.dbus_c.specs.Arguments.{HasArgument, IsFirstView};
 ghost use Rattle.dbus_c.specs.GivenLimits.{limits_of};
 ghost use Rattle.dbus_c.specs.Outcomes.{BeginsWithValue, BeginsWithoutValue, TellsApart};
-ghost use Rattle.dbus_validate.specs.Validating.{BeginsWithNone};
+ghost use Rattle.dbus_header.specs.NoMessage.{BeginsWithNone};
 
 use crate::answers::{NO_VALUE, WHOLE};
 use crate::checking::answer_to_none;

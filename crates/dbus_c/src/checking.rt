@@ -9,7 +9,7 @@ ghost use Rattle.dbus_value_model.specs.declared.order.Order.{Order};
 ghost use Rattle.dbus_c.specs.Checking.{IsExact, Tells, fault_told, nothing_told, whole_told};
 ghost use Rattle.dbus_c.specs.GivenLimits.{limits_of};
 ghost use Rattle.dbus_c.specs.Outcomes.{TellsApart};
-ghost use Rattle.dbus_validate.specs.Validating.{BeginsWithNone};
+ghost use Rattle.dbus_header.specs.NoMessage.{BeginsWithNone};
 
 use crate::answers::{PARTIAL, REFUSED, WHOLE};
 use crate::given_limits::{WireLimits, given_limits};

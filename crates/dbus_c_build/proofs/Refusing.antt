@@ -15,7 +15,8 @@ use Rattle.dbus_message_model.specs.Messages.{FieldTree, MessageTree, IsMessage,
 use Rattle.dbus_encode.proofs.FieldWriting.{field_length}
 use Rattle.dbus_message_model.proofs.MessageLengths.{message_length}
 use Rattle.dbus_header.specs.MessageOutcomes.{IsWhole}
-use Rattle.dbus_validate.specs.Validating.{IsValidated, BeginsWithNone}
+use Rattle.dbus_validate.specs.Validating.{IsValidated}
+use Rattle.dbus_header.specs.NoMessage.{BeginsWithNone}
 use Rattle.dbus_validate.specs.declared.validating.Validated.{Validated}
 use Rattle.dbus_c_build.specs.Placed.{HasParts, IsInside, place_of, text_at, text_code, text_field, number_value}
 use Rattle.dbus_c_build.specs.Spelled.{spelled}

@@ -1,14 +1,12 @@
 -- What is built of parts, and why nothing is.
 -- D-Bus Specification, "Message Format" and "Message Protocol".
 use Rattle.std.specs.Prelude.{◌≡◌, ◌⊎◌, ℕ, ◌<◌, ◌≤◌, ◌^◌, List, length, map, Option, Some, None, nat_eq, if◌then◌else◌}
-use Rattle.dbus_value_model.specs.declared.fault.Fault.{Fault}
-use Rattle.dbus_value_model.specs.declared.fault.Reason.TheVariants.{Truncated}
 use Rattle.dbus_value_model.specs.declared.limits.Limits.{Limits}
 use Rattle.dbus_value_model.specs.declared.limits.TheConstants.{MESSAGE_LIMIT, ARRAY_LIMIT}
 use Rattle.dbus_value_model.specs.Spelling.{spellings}
 use Rattle.dbus_value_model.specs.Values.{value_trees}
 use Rattle.dbus_message_model.specs.Messages.{MessageTree, IsMessage, message_bytes, field_struct}
-use Rattle.dbus_header.specs.MessageOutcomes.{IsRefused, IsPartial}
+use Rattle.dbus_header.specs.NoMessage.{IsFaultAtEnd}
 use Rattle.dbus_c_build.specs.Placed.{HasParts, IsInside, place_of, fields_of}
 use Rattle.dbus_c_build.specs.Spelled.{spelled}
 use Rattle.dbus_c_build.specs.declared.placed.Place.{Place}
@@ -56,14 +54,10 @@ HaveNoBytes b p (refusals.Outside code) = IsInside b (place_of code p) → ⊥
 HaveNoBytes b p (refusals.TooLong code) = (IsShort code (place_of code p) → ⊥) ⊎ ((code ≡ 0) × (ARRAY_LIMIT < fields_length b p))
 HaveNoBytes b p (refusals.Format f) = ⊥
 
--- the fault of bytes that are all that there is
-abbrev pub IsFaultOf : Limits → List ℕ → Fault → Type 0
-IsFaultOf limits s f = IsRefused limits s f ⊎ (IsPartial limits s × (f ≡ record { at = length s; reason = Truncated }))
-
 -- why nothing is built: memory ran out; else no message has these parts, and this shows it
 abbrev pub IsRefusal : Limits → List ℕ → PlacedParts → Refusal → Type 0
 IsRefusal limits b p refusals.Memory = Unit {0}
-IsRefusal limits b p (refusals.Format f) = MakeNone limits b p × IsFaultOf limits (spelled b p) f
+IsRefusal limits b p (refusals.Format f) = MakeNone limits b p × IsFaultAtEnd limits (spelled b p) f
 IsRefusal limits b p why = MakeNone limits b p × HaveNoBytes b p why
 
 -- the parts have bytes: each place is inside, and each length and number fits where it stands

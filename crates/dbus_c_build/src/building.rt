@@ -3,18 +3,17 @@
 
 ghost use Rattle.std.specs.Prelude.{◌≡◌, ◌≤◌, [], ◌++◌, length, take, drop, OnOk, IfOk, IfErr};
 ghost use Rattle.dbus_value_model.specs.Bytes.{num};
-ghost use Rattle.dbus_validate.specs.Validating.{BeginsWithNone};
-ghost use Rattle.dbus_c_build.specs.Building.{HaveBytes, HaveNoBytes, IsBuilt, IsFaultOf, IsRefusal};
+ghost use Rattle.dbus_c_build.specs.Building.{HaveBytes, HaveNoBytes, IsBuilt, IsRefusal};
 ghost use Rattle.dbus_c_build.specs.Spelled.{fixed_items, spelled};
 
 use crate::appending::{put_32, put_padding};
 use crate::fields::{put_fields, text_at};
 use crate::placed::PlacedParts;
 use crate::refusal::Refusal;
-use dbus_check::{Check, Checker};
+use dbus_check::fault_at_end;
 use dbus_marshal::writing::overwrite_32;
 use dbus_validate::validate;
-use dbus_value_model::{ARRAY_LIMIT, Fault, Limits, Order, Reason};
+use dbus_value_model::{ARRAY_LIMIT, Limits, Order};
 use std::alloc::{AllocError, Allocator};
 
 /// The protocol version.
@@ -79,23 +78,6 @@ fn spell<A: Allocator + Copy>(
     Ok(out)
 }
 
-/// The fault of bytes that begin with no message, and are all that there is: `Truncated` at their end if more are wanted.
-// A checker is large: a call that builds a message has no room for one.
-#[inline(never)]
-fn fault_of(bytes: &[u8], limits: Limits) -> Fault
-    requires { BeginsWithNone limits bytes.now }
-    ensures { IsFaultOf limits bytes.now result }
-{
-    match Checker::within(limits).take(bytes) {
-        Check::Refused(fault) => fault,
-        // No message is done, since the bytes begin with none.
-        Check::Partial | Check::Done(_) => Fault {
-            at: bytes.len() as u64,
-            reason: Reason::Truncated,
-        },
-    }
-}
-
 /// The message that has exactly these parts: the header fields that are there, in the order of their codes, and the body, in the
 /// byte order that is named. `bytes` are those that the places are in.
 ///
@@ -114,6 +96,6 @@ pub fn build<A: Allocator + Copy>(
     let out = spell(alloc, bytes, parts)?;
     match validate(out.as_slice(), limits) {
         Some(_) => Ok(out),
-        None => Err(Refusal::Format(fault_of(out.as_slice(), limits))),
+        None => Err(Refusal::Format(fault_at_end(out.as_slice(), limits))),
     }
 }

@@ -7,6 +7,7 @@
 
 mod check;
 mod checker;
+mod fault;
 mod field_fronts;
 mod field_stage;
 mod field_values;
@@ -18,3 +19,4 @@ mod value_stages;
 
 pub use check::Check;
 pub use checker::Checker;
+pub use fault::{fault_at_end, fault_of};

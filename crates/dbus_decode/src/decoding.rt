@@ -16,7 +16,7 @@ ghost use Rattle.dbus_decode.specs.Beginnings.{BeginsWithOne};
 
 use crate::answer::Answer;
 use crate::building::build_message;
-use crate::fault::fault_of;
+use dbus_check::fault_of;
 use dbus_message_model::Message;
 use dbus_validate::{Validated, validate, validate_known};
 use dbus_value_model::{Limits, Order, Refusal};

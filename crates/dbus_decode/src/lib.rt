@@ -8,7 +8,6 @@
 mod answer;
 mod building;
 mod decoding;
-mod fault;
 
 pub use answer::Answer;
 pub use building::build_message;

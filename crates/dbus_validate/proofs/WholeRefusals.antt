@@ -22,7 +22,7 @@ use Rattle.dbus_header.proofs.OutcomeLaws.{whole_for_good}
 use Rattle.dbus_header.proofs.StatedLengths.{header_states, stated_holds}
 use Rattle.dbus_value_validator.specs.Endings.{IsNotRead}
 use Rattle.dbus_value_validator.proofs.ReadParts.{not_same, not_first, not_faulty, not_partial}
-use Rattle.dbus_validate.specs.Validating.{BeginsWithNone}
+use Rattle.dbus_header.specs.NoMessage.{BeginsWithNone}
 
 -- where reading stops nothing is read
 pub stops_unread : {A : Type 0} (e : Stop) (read : Outcome A) → Stops e read → IsNotRead read

@@ -2,7 +2,6 @@
 -- D-Bus Specification, "Message Format".
 use Rattle.std.specs.Prelude.{◌≡◌, ◌≤◌, ℕ, ◌-◌, List, length, take, drop}
 use Rattle.dbus_value_model.specs.declared.limits.Limits.{Limits}
-use Rattle.dbus_value_model.specs.declared.order.Order.{Order}
 use Rattle.dbus_message_model.specs.Messages.{MessageTree, body_start, body_bytes}
 use Rattle.dbus_header.specs.MessageOutcomes.{IsWhole}
 use Rattle.dbus_validate.specs.declared.validating.Validated.{Validated}
@@ -25,7 +24,3 @@ pub record IsValidatedWhole (limits : Limits) (bytes : List ℕ) (j : Validated)
 pub record IsValidatedFirst (limits : Limits) (bytes : List ℕ) (j : Validated) : Type 0 where
   pub fits : j.length ≤ length bytes
   pub validated : IsValidatedWhole limits (take j.length bytes) j
-
--- they begin with no message
-abbrev pub BeginsWithNone : Limits → List ℕ → Type 0
-BeginsWithNone limits bytes = (order : Order) (m : MessageTree) (n : ℕ) → IsWhole limits bytes order m n → ⊥

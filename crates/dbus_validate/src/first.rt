@@ -1,6 +1,7 @@
 //! The message that bytes begin with, validated by itself. D-Bus Specification, "Message Format".
 ghost use Rattle.std.specs.Prelude.{◌≡◌, None, IfSome};
-ghost use Rattle.dbus_validate.specs.Validating.{IsValidatedFirst, BeginsWithNone};
+ghost use Rattle.dbus_validate.specs.Validating.{IsValidatedFirst};
+ghost use Rattle.dbus_header.specs.NoMessage.{BeginsWithNone};
 
 use crate::validating::{Validated, validate};
 use dbus_header::stated_length_within;

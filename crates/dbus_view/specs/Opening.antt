@@ -2,17 +2,17 @@
 -- D-Bus Specification, "Message Protocol".
 use Rattle.std.specs.Prelude.{◌≡◌, ◌⊎◌, ℕ, ◌<◌, List, length}
 use Rattle.dbus_value_model.specs.declared.fault.Fault.{Fault}
-use Rattle.dbus_value_model.specs.declared.fault.Reason.TheVariants.{Trailing, Truncated}
+use Rattle.dbus_value_model.specs.declared.fault.Reason.TheVariants.{Trailing}
 use Rattle.dbus_value_model.specs.declared.limits.Limits.{Limits}
 use Rattle.dbus_value_model.specs.declared.order.Order.{Order}
 use Rattle.dbus_value_model.specs.Items.{fault}
 use Rattle.dbus_message_model.specs.Messages.{MessageTree}
-use Rattle.dbus_header.specs.MessageOutcomes.{IsWhole, IsRefused, IsPartial}
+use Rattle.dbus_header.specs.MessageOutcomes.{IsWhole}
+use Rattle.dbus_header.specs.NoMessage.{IsFaultAtEnd}
 
--- they are refused with the fault; or they are partial, and end too soon at their end; or they begin with a message after which
--- others stand, the first of them at the message's end
+-- they are refused with the fault, or end too soon; or they begin with a message after which others stand, the first of them at the
+-- message's end
 abbrev pub IsViewFault : Limits → List ℕ → Fault → Type 0
 IsViewFault limits bytes f =
-    IsRefused limits bytes f
-    ⊎ ((IsPartial limits bytes × (f ≡ fault (length bytes) Truncated))
-    ⊎ ((order : Order) × (m : MessageTree) × (n : ℕ) × IsWhole limits bytes order m n × (n < length bytes) × (f ≡ fault n Trailing)))
+    IsFaultAtEnd limits bytes f
+    ⊎ ((order : Order) × (m : MessageTree) × (n : ℕ) × IsWhole limits bytes order m n × (n < length bytes) × (f ≡ fault n Trailing))

@@ -8,7 +8,6 @@
 mod arg;
 mod arg_place;
 mod arg_view;
-mod fault;
 mod fields;
 mod view;
 

@@ -14,8 +14,8 @@ ghost use Rattle.dbus_validate.specs.Validating.{IsValidated};
 use crate::arg::{arg_at, place_of, view_of};
 use crate::arg_place::ArgPlace;
 use crate::arg_view::ArgView;
-use crate::fault::fault_of;
 use crate::fields::Fields;
+use dbus_check::fault_at_end;
 use dbus_message_model::field_code::{
     DESTINATION, ERROR_NAME, INTERFACE, MEMBER, PATH, REPLY_SERIAL, SENDER,
 };
@@ -95,7 +95,7 @@ impl<'a> MessageView<'a> {
                 }
                 Ok(MessageView::of_validated(bytes, limits, validated))
             }
-            None => Err(fault_of(bytes, limits)),
+            None => Err(fault_at_end(bytes, limits)),
         }
     }
 

@@ -2,7 +2,7 @@ use Rattle.std.proofs.Common.{ℕ, take, refl, sym, subst, arith}
 use Rattle.dbus_value_model.specs.declared.limits.Limits.{Limits}
 use Rattle.dbus_message_model.specs.Messages.{order_byte}
 use Rattle.dbus_header.specs.MessageOutcomes.{IsWhole}
-use Rattle.dbus_validate.specs.Validating.{BeginsWithNone}
+use Rattle.dbus_header.specs.NoMessage.{BeginsWithNone}
 use Rattle.dbus_c.specs.BodyCursors.{IsAtBody}
 use Rattle.dbus_c.specs.GivenLimits.{limits_of}
 use Rattle.dbus_c.specs.Outcomes.{TellsApart}

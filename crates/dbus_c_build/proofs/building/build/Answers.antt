@@ -1,7 +1,7 @@
 use Rattle.std.proofs.Common.{refl, subst, ◌∙◌, List, ℕ}
 use Rattle.std.proofs.lemmas.Result.{err_from_is_err_and}
-use Rattle.dbus_validate.specs.Validating.{IsValidated, BeginsWithNone}
-use Rattle.dbus_c_build.specs.Building.{IsFaultOf}
+use Rattle.dbus_validate.specs.Validating.{IsValidated}
+use Rattle.dbus_header.specs.NoMessage.{BeginsWithNone, IsFaultAtEnd}
 use Rattle.dbus_c_build.proofs.Refusing.{built_so, none_so, refused_so}
 use Rattle.dbus_c_build.proofs.building.build.Goals as goal
 
@@ -22,5 +22,5 @@ returns-in-None-clause-refused g c =
     let p = c.args.parts.now in
     let out = c.in_ok-out.out.items in
     let none = subst (λ (l : List ℕ). BeginsWithNone c.args.limits l) c.as_slice.ensures.value (c.in-None.ensures.none refl) in
-    let fault = subst (λ (l : List ℕ). IsFaultOf c.args.limits l c.fault_of.result) (c.as_slice-in-None.ensures.value ∙ c.in_ok-out.ensures.spelled) c.fault_of.ensures in
+    let fault = subst (λ (l : List ℕ). IsFaultAtEnd c.args.limits l c.fault_at_end.result) (c.as_slice-in-None.ensures.value ∙ c.in_ok-out.ensures.spelled) c.fault_at_end.ensures in
     (none_so c.args.limits b p out c.in_ok-out.ensures.spelled none, fault)
