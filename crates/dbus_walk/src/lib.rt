@@ -9,6 +9,7 @@ mod fields;
 mod layouts;
 mod lengths;
 mod numbers;
+mod rows;
 mod skip;
 mod spot;
 mod texts;

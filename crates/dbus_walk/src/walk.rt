@@ -9,15 +9,16 @@ ghost use Rattle.std.specs.Prelude.{◌≡◌, ℕ, ◌+◌, ◌≤◌, List, le
 ghost use Rattle.dbus_texts.specs.Kinds.{IsKind};
 ghost use Rattle.dbus_texts.specs.declared.text_kind.TextKind.TheVariants.{Single};
 ghost use Rattle.dbus_types.specs.TypeLengths.{AreLengths};
-ghost use Rattle.dbus_value_model.specs.Spelling.{spellings};
-ghost use Rattle.dbus_value_model.specs.Values.{ValueTree, ValueTrees, VariantValue, value_trees};
-ghost use Rattle.dbus_walk.specs.Containers.{IsOf, inside, parts};
-ghost use Rattle.dbus_walk.specs.Layouts.{IsVariantAt, IsArrayAt, IsRunAt, of_parts};
-ghost use Rattle.dbus_walk.specs.Standing.{AllStand, StandsAt, StandsThere, AllStandAt, AllStandThere, ElementsStandAt, ElementsStandThere, end_of, end_of_all};
-ghost use Rattle.dbus_walk.specs.declared.container.Container.TheVariants.{Array, Variant};
+ghost use Rattle.dbus_value_model.specs.Bytes.{gap_to};
+ghost use Rattle.dbus_value_model.specs.Values.{ValueTree, ValueTrees, StructValue, VariantValue, value_trees};
+ghost use Rattle.dbus_walk.specs.Containers.{inside};
+ghost use Rattle.dbus_walk.specs.Rows.{IsRow, FieldsStandAt};
+ghost use Rattle.dbus_walk.specs.Layouts.{IsVariantAt, IsArrayAt, IsEntryAt, IsRunAt};
+ghost use Rattle.dbus_walk.specs.Standing.{StandsAt, StandsThere, AllStandAt, AllStandThere, ElementsStandAt, ElementsStandThere, end_of, end_of_all};
 
 use crate::container::Container;
 use crate::layouts::layout;
+use crate::rows::row_of;
 use crate::spot::{Layout, Run, Source, Spot};
 use crate::visitor::Visitor;
 use dbus_types::lengths_in;
@@ -26,6 +27,7 @@ use dbus_types::lengths_in;
 ///
 /// `Err` if the visitor stops, with the reason that it gives. D-Bus Specification, "Marshaling (Wire Format)".
 #[cycle(walk)]
+#[inline(always)]
 pub fn walk_value<V: Visitor>(
     visitor: &mut V,
     gathered: &mut V::Many,
@@ -35,6 +37,28 @@ pub fn walk_value<V: Visitor>(
     requires ready { V.ready visitor.old (length source.now.bytes.now) }
     requires stands { StandsThere source.now spot.now }
     requires noted { AreLengths spot.now.types.now spot.now.lengths.now }
+    ensures ready { V.ready visitor.new (length source.now.bytes.now) }
+    ensures walked { (v : ValueTree) (rest : List ℕ) → StandsAt source.now spot.now v rest →
+        IfOk result (λ after. V.one visitor.old gathered.old source.now.order spot.now.at v gathered.new visitor.new ×
+        (after ≡ end_of source.now spot.now v)) }
+{
+    value(visitor, gathered, source, spot, 0)
+}
+
+/// The value at a spot, in whose type so many structs open together as [`row_of`] finds, or 0 if that was not looked for.
+#[cycle(walk)]
+#[inline(always)]
+fn value<V: Visitor>(
+    visitor: &mut V,
+    gathered: &mut V::Many,
+    source: &Source<'_>,
+    spot: &Spot<'_>,
+    row: usize,
+) -> Result<usize, V::Stop>
+    requires ready { V.ready visitor.old (length source.now.bytes.now) }
+    requires stands { StandsThere source.now spot.now }
+    requires noted { AreLengths spot.now.types.now spot.now.lengths.now }
+    requires together { IsRow spot.now.types.now spot.now.lengths.now row }
     ensures ready { V.ready visitor.new (length source.now.bytes.now) }
     ensures walked { (v : ValueTree) (rest : List ℕ) → StandsAt source.now spot.now v rest →
         IfOk result (λ after. V.one visitor.old gathered.old source.now.order spot.now.at v gathered.new visitor.new ×
@@ -56,32 +80,22 @@ pub fn walk_value<V: Visitor>(
         Layout::Variant { types, at } => variant(visitor, gathered, source, spot, types, at),
         Layout::Array(run) => array(visitor, gathered, source, spot, run),
         Layout::Struct { start } => {
-            brackets(
-                visitor,
-                gathered,
-                source,
-                spot,
-                Container::Struct,
-                start,
-                spot.depth_left - 1,
-            )
+            let mut held = Spot {
+                at: start,
+                types: spot.types,
+                lengths: spot.lengths,
+                depth_left: spot.depth_left - 1,
+            };
+            nested(visitor, gathered, source, &mut held, 0, row)?;
+            Ok(held.at)
         }
-        Layout::Entry { start } => {
-            brackets(
-                visitor,
-                gathered,
-                source,
-                spot,
-                Container::Entry,
-                start,
-                spot.depth_left,
-            )
-        }
+        Layout::Entry { start } => entry(visitor, gathered, source, spot, start),
     }
 }
 
 /// A variant, by the type of what it holds, and where that begins.
 #[cycle(walk)]
+#[inline(always)]
 fn variant<V: Visitor>(
     visitor: &mut V,
     gathered: &mut V::Many,
@@ -165,6 +179,7 @@ fn variant_of<V: Visitor>(
 
 /// An array.
 #[cycle(walk)]
+#[inline(always)]
 fn array<V: Visitor>(
     visitor: &mut V,
     gathered: &mut V::Many,
@@ -216,56 +231,158 @@ fn elements<V: Visitor>(
         IfOk result (λ _. (xs : List ValueTree) × (vs ≡ value_trees xs) ×
         V.many visitor.old gathered.old source.now.order spot.now.at xs gathered.new visitor.new) }
 {
+    // An empty array's type is not looked at.
+    if spot.at >= end {
+        return Ok(());
+    }
+    let row = row_of(spot.types, spot.lengths);
     let mut place = spot.at;
     let mut is_first = true;
     while place < end {
-        visitor.part(is_first, source.bytes.len());
+        next_part(visitor, is_first, source.bytes.len());
         let next = Spot {
             at: place,
             types: spot.types,
             lengths: spot.lengths,
             depth_left: spot.depth_left,
         };
-        place = walk_value(visitor, gathered, source, &next)?;
+        place = value(visitor, gathered, source, &next, row)?;
         is_first = false;
     }
     Ok(())
 }
 
-/// A struct or a dict entry, by where its parts begin, and how many containers may be open in them.
+/// A dict entry, by where its key begins.
 #[cycle(walk)]
-fn brackets<V: Visitor>(
+#[inline(always)]
+fn entry<V: Visitor>(
     visitor: &mut V,
     gathered: &mut V::Many,
     source: &Source<'_>,
     spot: &Spot<'_>,
-    kind: Container,
     start: usize,
-    depth_left: u8,
 ) -> Result<usize, V::Stop>
     requires ready { V.ready visitor.old (length source.now.bytes.now) }
-    requires stand { (vs : ValueTrees) × (rest : List ℕ) ×
-        AllStand source.now.order depth_left (of_parts spot.now.types.now) start source.now.bytes.now vs rest }
+    requires stands { StandsThere source.now spot.now }
     requires noted { AreLengths spot.now.types.now spot.now.lengths.now }
-    requires long { 2 ≤ length spot.now.types.now }
-    requires kind { kind ≡ Array → ⊥ }
-    requires bracketed { kind ≡ Variant → ⊥ }
+    requires laid { (v : ValueTree) (rest : List ℕ) → StandsAt source.now spot.now v rest →
+        IsEntryAt source.now spot.now v rest start }
     ensures ready { V.ready visitor.new (length source.now.bytes.now) }
-    ensures walked { (v : ValueTree) (rest : List ℕ) → IsOf kind v → start ≡ inside source.now.order spot.now.at v →
-        AllStand source.now.order depth_left (of_parts spot.now.types.now) start source.now.bytes.now (parts v) rest →
+    ensures walked { (v : ValueTree) (rest : List ℕ) → StandsAt source.now spot.now v rest →
         IfOk result (λ after. V.one visitor.old gathered.old source.now.order spot.now.at v gathered.new visitor.new ×
-        (after ≡ start + length (spellings source.now.order start (parts v)))) }
+        (after ≡ end_of source.now spot.now v)) }
 {
-    let held = Spot {
+    let mut held = Spot {
         at: start,
-        types: &spot.types[1..spot.types.len() - 1],
-        lengths: &spot.lengths[1..spot.types.len() - 1],
-        depth_left,
+        types: spot.types,
+        lengths: spot.lengths,
+        depth_left: spot.depth_left,
     };
-    let mut many = visitor.open(gathered, kind, held.types, source.bytes.len())?;
-    let after = walk_values(visitor, &mut many, source, &held)?;
-    visitor.close(gathered, kind, many, source.bytes.len())?;
-    Ok(after)
+    let types = &spot.types[1..spot.types.len() - 1];
+    let length = source.bytes.len();
+    let mut many = visitor.open(gathered, Container::Entry, types, length)?;
+    fields(visitor, &mut many, source, &mut held, 0)?;
+    visitor.close(gathered, Container::Entry, many, length)?;
+    Ok(held.at)
+}
+
+/// A struct around which `outer` others are open that [`row_of`] counts. The spot, at which the first field of each begins, moves to
+/// their end.
+#[cycle(walk)]
+fn nested<V: Visitor>(
+    visitor: &mut V,
+    gathered: &mut V::Many,
+    source: &Source<'_>,
+    spot: &mut Spot<'_>,
+    outer: usize,
+    row: usize,
+) -> Result<(), V::Stop>
+    requires ready { V.ready visitor.old (length source.now.bytes.now) }
+    requires stand { (vs : ValueTrees) × (rest : List ℕ) × FieldsStandAt source.now spot.old outer vs rest }
+    requires noted { AreLengths spot.old.types.now spot.old.lengths.now }
+    requires together { IsRow spot.old.types.now spot.old.lengths.now row }
+    requires long { 2 + outer + outer ≤ length spot.old.types.now }
+    requires deep { outer ≤ spot.old.depth_left }
+    requires padded { gap_to 8 spot.old.at ≡ 0 }
+    ensures ready { V.ready visitor.new (length source.now.bytes.now) }
+    ensures walked { (at : ℕ) (vs : ValueTrees) (rest : List ℕ) → spot.old.at ≡ at + gap_to 8 at →
+        FieldsStandAt source.now spot.old outer vs rest →
+        IfOk result (λ _. V.one visitor.old gathered.old source.now.order at (StructValue vs) gathered.new visitor.new ×
+        (spot.new.at ≡ end_of_all source.now spot.old vs)) }
+{
+    let first = outer + 1;
+    let types = &spot.types[first..spot.types.len() - first];
+    let length = source.bytes.len();
+    let mut many = visitor.open(gathered, Container::Struct, types, length)?;
+    nested_fields(visitor, &mut many, source, spot, outer, row)?;
+    visitor.close(gathered, Container::Struct, many, length)?;
+    Ok(())
+}
+
+/// The fields of such a struct. The spot moves to their end.
+#[cycle(walk)]
+#[inline(always)]
+fn nested_fields<V: Visitor>(
+    visitor: &mut V,
+    gathered: &mut V::Many,
+    source: &Source<'_>,
+    spot: &mut Spot<'_>,
+    outer: usize,
+    row: usize,
+) -> Result<(), V::Stop>
+    requires ready { V.ready visitor.old (length source.now.bytes.now) }
+    requires stand { (vs : ValueTrees) × (rest : List ℕ) × FieldsStandAt source.now spot.old outer vs rest }
+    requires noted { AreLengths spot.old.types.now spot.old.lengths.now }
+    requires together { IsRow spot.old.types.now spot.old.lengths.now row }
+    requires long { 2 + outer + outer ≤ length spot.old.types.now }
+    requires deep { outer ≤ spot.old.depth_left }
+    requires padded { gap_to 8 spot.old.at ≡ 0 }
+    ensures ready { V.ready visitor.new (length source.now.bytes.now) }
+    ensures walked { (vs : ValueTrees) (rest : List ℕ) → FieldsStandAt source.now spot.old outer vs rest →
+        IfOk result (λ _. ((xs : List ValueTree) × (vs ≡ value_trees xs) ×
+        V.many visitor.old gathered.old source.now.order spot.old.at xs gathered.new visitor.new) ×
+        (spot.new.at ≡ end_of_all source.now spot.old vs)) }
+{
+    let first = outer + 1;
+    if first < row {
+        visitor.part(true, source.bytes.len());
+        nested(visitor, gathered, source, spot, first, row)?;
+        return Ok(());
+    }
+    fields(visitor, gathered, source, spot, outer)
+}
+
+/// The parts of a struct or a dict entry around which `outer` others are open. The spot moves to their end.
+#[cycle(walk)]
+#[inline(never)]
+fn fields<V: Visitor>(
+    visitor: &mut V,
+    gathered: &mut V::Many,
+    source: &Source<'_>,
+    spot: &mut Spot<'_>,
+    outer: usize,
+) -> Result<(), V::Stop>
+    requires ready { V.ready visitor.old (length source.now.bytes.now) }
+    requires stand { (vs : ValueTrees) × (rest : List ℕ) × FieldsStandAt source.now spot.old outer vs rest }
+    requires noted { AreLengths spot.old.types.now spot.old.lengths.now }
+    requires long { 2 + outer + outer ≤ length spot.old.types.now }
+    requires deep { outer ≤ spot.old.depth_left }
+    ensures ready { V.ready visitor.new (length source.now.bytes.now) }
+    ensures walked { (vs : ValueTrees) (rest : List ℕ) → FieldsStandAt source.now spot.old outer vs rest →
+        IfOk result (λ _. ((xs : List ValueTree) × (vs ≡ value_trees xs) ×
+        V.many visitor.old gathered.old source.now.order spot.old.at xs gathered.new visitor.new) ×
+        (spot.new.at ≡ end_of_all source.now spot.old vs)) }
+{
+    let first = outer + 1;
+    let end = spot.types.len() - first;
+    let held = Spot {
+        at: spot.at,
+        types: &spot.types[first..end],
+        lengths: &spot.lengths[first..end],
+        depth_left: spot.depth_left - outer as u8,
+    };
+    spot.at = walk_values(visitor, gathered, source, &held)?;
+    Ok(())
 }
 
 /// Walks over values one after another, one of each type that the signature at the spot has, of which the visitor gathers something:
@@ -273,6 +390,7 @@ fn brackets<V: Visitor>(
 ///
 /// `Err` if the visitor stops, with the reason that it gives. D-Bus Specification, "Marshaling (Wire Format)".
 #[cycle(walk)]
+#[inline(always)]
 pub fn walk_values<V: Visitor>(
     visitor: &mut V,
     gathered: &mut V::Many,
@@ -293,7 +411,7 @@ pub fn walk_values<V: Visitor>(
     let mut is_first = true;
     while pos < spot.types.len() {
         let end = pos + usize::from(spot.lengths[pos]);
-        visitor.part(is_first, source.bytes.len());
+        next_part(visitor, is_first, source.bytes.len());
         let next = Spot {
             at: place,
             types: &spot.types[pos..end],
@@ -305,4 +423,18 @@ pub fn walk_values<V: Visitor>(
         pos = end;
     }
     Ok(place)
+}
+
+/// Says that a part comes next. The two calls apart let the compiler write each by itself.
+#[inline(always)]
+fn next_part<V: Visitor>(visitor: &mut V, is_first: bool, length: usize)
+    requires ready { V.ready visitor.old length }
+    ensures ready { V.ready visitor.new length }
+    ensures takes { V.parted visitor.old is_first visitor.new }
+{
+    if is_first {
+        visitor.part(true, length);
+    } else {
+        visitor.part(false, length);
+    }
 }

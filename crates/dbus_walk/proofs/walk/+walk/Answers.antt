@@ -1,16 +1,19 @@
-use Rattle.std.proofs.Common.{ℕ, ◌+◌, ◌-◌, List, [], ◌∷◌, ◌++◌, length, drop, Bool, true, false, refl, sym, ap, subst, ◌∙◌, arith, append-nil}
-use Rattle.dbus_texts.specs.Types.{sig}
+use Rattle.std.proofs.Common.{◌≡◌, ℕ, ◌+◌, ◌-◌, ◌≤◌, List, [], ◌∷◌, ◌++◌, length, drop, Bool, true, false, refl, sym, ap, subst, ◌∙◌, arith, append-nil}
+use Rattle.dbus_texts.specs.Types.{sig, sigs}
+use Rattle.dbus_value_model.specs.Bytes.{gap_to}
 use Rattle.std.proofs.lemmas.List.{length-take}
 use Rattle.dbus_types.specs.SignatureCodes.{IsTypeEnd, first_code}
 use Rattle.dbus_types.proofs.TypeCodes.{code_is}
 use Rattle.dbus_types.proofs.TypeLengths.{ends_by, lengths_within, lengths_rest, one_length}
 use Rattle.dbus_value_model.specs.Spelling.{spelling, spellings}
-use Rattle.dbus_value_model.specs.Values.{ValueTree, NoValues, MoreValues, VariantValue, StructValue, EntryValue, type_of}
+use Rattle.dbus_value_model.specs.Values.{ValueTree, ValueTrees, NoValues, MoreValues, VariantValue, StructValue, type_of, types_of}
 use Rattle.dbus_value_laws.proofs.ReadSteps.{one_byte}
 use Rattle.dbus_walk.specs.declared.container.Container.TheVariants as kind
 use Rattle.dbus_walk.specs.Standing.{AllStand, ElementsStand}
 use Rattle.dbus_walk.specs.Containers.{IsOf, inside, parts}
 use Rattle.dbus_walk.proofs.Laid.{long_coded, short_coded, laid_as}
+use Rattle.dbus_walk.proofs.Together.{no_row, aligned, between_long, one_struct, one_ends, fields_inside, outermost}
+use Rattle.dbus_walk.proofs.Lists.{no_elements}
 use Rattle.dbus_walk.proofs.Parts.{types_some}
 use Rattle.dbus_walk.proofs.Walks.{made_of, Taken, none_taken, more_taken, starts, all_left, next_element, element_left, no_element, next_value, value_left, no_value}
 use Rattle.dbus_walk.proofs.walk.+walk.Goals as goal
@@ -26,11 +29,11 @@ elements-loop-place-init g t c =
           (none_taken many order at (g.met.V.Visitor.none c.args.visitor.now c.args.gathered.now order at));
     }
 
-pub elements-walk_value-requires : goal.elements-walk_value-requires
-elements-walk_value-requires g t c κs within =
+pub elements-value-requires : goal.elements-value-requires
+elements-value-requires g t c κs within =
     let there = c.requires.stand in
     let n = next_element (c.loop-place.invariant.left there.0 there.1 there.2) c.loop-place-test.true in
-    (omega arith, (within.0, (within.1.0, (within.1.1, (c.part.ensures.ready, ((n.v, spellings c.args.source.now.order (c.loop-place.place + length (spelling c.args.source.now.order c.loop-place.place n.v)) n.us ++ there.1, n.stands), c.requires.noted))))))
+    (omega arith, (within.0, (within.1.0, (within.1.1, (c.next_part.ensures.ready, ((n.v, spellings c.args.source.now.order (c.loop-place.place + length (spelling c.args.source.now.order c.loop-place.place n.v)) n.us ++ there.1, n.stands), (c.requires.noted, c.row_of-row.ensures)))))))
 
 pub elements-loop-place-smaller : goal.elements-loop-place-smaller
 elements-loop-place-smaller g t c =
@@ -44,7 +47,7 @@ elements-loop-place-preserved g t c =
     let order = c.args.source.now.order in
     let at = c.args.spot.now.at in
     let place = c.loop-place.place in
-    let later : List ValueTree → Type 0 = λ (done : List ValueTree). g.V.Visitor.many c.args.visitor.now c.args.gathered.now order at done c.walk_value.new.gathered c.walk_value.new.visitor in
+    let later : List ValueTree → Type 0 = λ (done : List ValueTree). g.V.Visitor.many c.args.visitor.now c.args.gathered.now order at done c.value.new.gathered c.value.new.visitor in
     record {
       ready = c.in_ok-place.ensures.ready;
       left = λ vs rest e.
@@ -53,9 +56,13 @@ elements-loop-place-preserved g t c =
           let w = c.in_ok-place.ensures.walked n.v (spellings order (place + length (spelling order place n.v)) n.us ++ rest) n.stands in
           element_left l (Taken later order at c.in_ok-place.place false) n c.in_ok-place.place w.1
           (more_taken later l.done n.v c.in_ok-place.place l.walked w.1
-          (g.met.V.Visitor.more c.args.visitor.now c.loop-place.visitor c.part.new.self c.walk_value.new.visitor c.args.gathered.now c.loop-place.gathered c.walk_value.new.gathered order at place l.done n.v l.walked.taken
-          (subst (λ (b : Bool). g.V.Visitor.parted c.loop-place.visitor b c.part.new.self) l.walked.first c.part.ensures.takes) l.walked.ends w.0));
+          (g.met.V.Visitor.more c.args.visitor.now c.loop-place.visitor c.next_part.new.visitor c.value.new.visitor c.args.gathered.now c.loop-place.gathered c.value.new.gathered order at place l.done n.v l.walked.taken
+          (subst (λ (b : Bool). g.V.Visitor.parted c.loop-place.visitor b c.next_part.new.visitor) l.walked.first c.next_part.ensures.takes) l.walked.ends w.0));
     }
+
+pub elements-returns-then-spot-end-clause-walked : goal.elements-returns-then-spot-end-clause-walked
+elements-returns-then-spot-end-clause-walked g t c = λ vs rest e.
+    ([], no_elements vs e c.if-spot-end.true, g.met.V.Visitor.none c.args.visitor.now c.args.gathered.now c.args.source.now.order c.args.spot.now.at)
 
 pub elements-returns-clause-walked : goal.elements-returns-clause-walked
 elements-returns-clause-walked g t c = λ vs rest e.
@@ -103,7 +110,7 @@ walk_values-walk_value-requires g t c κs within =
     let end = pos + c.from.result in
     let is : IsTypeEnd types pos end = λ t more e. ap (λ (k : ℕ). pos + k) c.from.ensures ∙ ends_by types lengths c.requires.noted pos t more e in
     let n = next_value types pos (c.loop-pos.invariant.left there.0 there.1 there.2) end c.loop-pos-test.true is in
-    (omega (arith, n.inside, length-take (end - pos) (drop pos types)), (within.0, (within.1.0, (within.1.1, (c.part.ensures.ready, ((n.v, spellings c.args.source.now.order (c.loop-pos.place + length (spelling c.args.source.now.order c.loop-pos.place n.v)) n.us ++ there.1, n.stands), lengths_within types lengths c.requires.noted pos (end - pos)))))))
+    (omega (arith, n.inside, length-take (end - pos) (drop pos types)), (within.0, (within.1.0, (within.1.1, (c.next_part.ensures.ready, ((n.v, spellings c.args.source.now.order (c.loop-pos.place + length (spelling c.args.source.now.order c.loop-pos.place n.v)) n.us ++ there.1, n.stands), lengths_within types lengths c.requires.noted pos (end - pos)))))))
 
 pub walk_values-loop-pos-preserved : goal.walk_values-loop-pos-preserved
 walk_values-loop-pos-preserved g t c =
@@ -126,8 +133,8 @@ walk_values-loop-pos-preserved g t c =
           let w = c.in_ok-place.ensures.walked n.v (spellings order (place + length (spelling order place n.v)) n.us ++ rest) n.stands in
           value_left types pos l (Taken later order at c.in_ok-place.place false) end n c.in_ok-place.place w.1
           (more_taken later l.done n.v c.in_ok-place.place l.walked w.1
-          (g.met.V.Visitor.more c.args.visitor.now c.loop-pos.visitor c.part.new.self c.walk_value.new.visitor c.args.gathered.now c.loop-pos.gathered c.walk_value.new.gathered order at place l.done n.v l.walked.taken
-          (subst (λ (b : Bool). g.V.Visitor.parted c.loop-pos.visitor b c.part.new.self) l.walked.first c.part.ensures.takes) l.walked.ends w.0));
+          (g.met.V.Visitor.more c.args.visitor.now c.loop-pos.visitor c.next_part.new.visitor c.walk_value.new.visitor c.args.gathered.now c.loop-pos.gathered c.walk_value.new.gathered order at place l.done n.v l.walked.taken
+          (subst (λ (b : Bool). g.V.Visitor.parted c.loop-pos.visitor b c.next_part.new.visitor) l.walked.first c.next_part.ensures.takes) l.walked.ends w.0));
     }
 
 pub walk_values-returns-clause-walked : goal.walk_values-returns-clause-walked
@@ -163,24 +170,6 @@ array-returns-clause-walked g t c = λ v rest s.
       p.ends,
     )
 
-pub brackets-walk_values-requires : goal.brackets-walk_values-requires
-brackets-walk_values-requires g t c κs within =
-    let types = c.args.spot.now.types.now in
-    let s = c.requires.stand in
-    (omega (arith, c.requires.long, length-take (length types - 1 - 1) (drop 1 types)), (within.0, (within.1.0, (within.1.1, (c.in_ok-many.ensures.ready, (s, lengths_within types c.args.spot.now.lengths.now c.requires.noted 1 (length types - 1 - 1)))))))
-
-pub brackets-open-requires-clause-single : goal.brackets-open-requires-clause-single
-brackets-open-requires-clause-single g t c = λ e. absurd (c.requires.bracketed e)
-
-pub brackets-returns-clause-walked : goal.brackets-returns-clause-walked
-brackets-returns-clause-walked g t c = λ v rest is_of begins all.
-    let order = c.args.source.now.order in
-    let held = c.in_ok-after.ensures.walked (parts v) rest all in
-    let many = subst (λ (q : ℕ). g.V.Visitor.many c.open.new.self c.in_ok-many.many order q held.0.0 c.walk_values.new.gathered c.walk_values.new.visitor) begins held.0.2 in (
-      g.met.V.Visitor.whole c.args.visitor.now c.open.new.self c.walk_values.new.visitor c.close.new.self c.args.gathered.now c.in_ok-many.many c.walk_values.new.gathered c.close.new.gathered c.args.kind order c.args.spot.now.at v held.0.0 is_of (c.in_ok-many.ensures.takes order c.args.spot.now.at v is_of all.text) held.0.1 many (c.in_ok-close.ensures.takes v is_of),
-      held.1,
-    )
-
 pub variant-overflow_sub-held : goal.variant-overflow_sub-held
 variant-overflow_sub-held g t c = let s = c.requires.stands in omega (arith, (c.requires.laid s.0 s.1 s.2).some)
 
@@ -188,13 +177,13 @@ pub variant-variant_of-requires : goal.variant-variant_of-requires
 variant-variant_of-requires g t c κs within =
     let s = c.requires.stands in
     let p = c.requires.laid s.0 s.1 s.2 in
-    (omega (arith, p.some, p.few), (within.0, (within.1.0, (within.1.1, (c.requires.ready, ((p.x, s.1, p.held), (((type_of p.x, p.single.0, sym p.held.text), p.few), one_length c.args.types.now c.if-types-eq1.true)))))))
+    (omega (arith, p.some, p.few, types_some s.2), (within.0, (within.1.0, (within.1.1, (c.requires.ready, ((p.x, s.1, p.held), (((type_of p.x, p.single.0, sym p.held.text), p.few), one_length c.args.types.now c.if-types-eq1.true)))))))
 
 pub variant-noted_variant-requires : goal.variant-noted_variant-requires
 variant-noted_variant-requires g t c κs within =
     let s = c.requires.stands in
     let p = c.requires.laid s.0 s.1 s.2 in
-    (omega (arith, p.some, p.few), (within.0, (within.1.0, (within.1.1, (c.requires.ready, ((p.x, s.1, p.held), ((type_of p.x, p.single.0, sym p.held.text), p.few)))))))
+    (omega (arith, p.some, p.few, types_some s.2), (within.0, (within.1.0, (within.1.1, (c.requires.ready, ((p.x, s.1, p.held), ((type_of p.x, p.single.0, sym p.held.text), p.few)))))))
 
 pub variant-returns-then-types-eq1-clause-walked : goal.variant-returns-then-types-eq1-clause-walked
 variant-returns-then-types-eq1-clause-walked g t c = λ v rest s.
@@ -225,76 +214,145 @@ variant_of-returns-clause-walked g t c = λ begin x rest s begins.
       w.1,
     )
 
-pub walk_value-number-requires : goal.walk_value-number-requires
-walk_value-number-requires g t c = let s = c.requires.stands in let p = laid_as c.args.source.now c.args.spot.now c.in-Number.is c.layout.ensures s.0 s.1 s.2 in record { ready = c.requires.ready; stands = s; some = p.some; wide = p.widths; begins = p.begins }
+pub value-number-requires : goal.value-number-requires
+value-number-requires g t c = let s = c.requires.stands in let p = laid_as c.args.source.now c.args.spot.now c.in-Number.is c.layout.ensures s.0 s.1 s.2 in record { ready = c.requires.ready; stands = s; some = p.some; wide = p.widths; begins = p.begins }
 
-pub walk_value-overflow_add-result : goal.walk_value-overflow_add-result
-walk_value-overflow_add-result g t c = let s = c.requires.stands in let p = laid_as c.args.source.now c.args.spot.now c.in-Number.is c.layout.ensures s.0 s.1 s.2 in omega (arith, p.inside, c.from.ensures)
+pub value-overflow_add-result : goal.value-overflow_add-result
+value-overflow_add-result g t c = let s = c.requires.stands in let p = laid_as c.args.source.now c.args.spot.now c.in-Number.is c.layout.ensures s.0 s.1 s.2 in omega (arith, p.inside, c.from.ensures)
 
-pub walk_value-long_text-requires : goal.walk_value-long_text-requires
-walk_value-long_text-requires g t c = let s = c.requires.stands in let p = laid_as c.args.source.now c.args.spot.now c.in-LongText.is c.layout.ensures s.0 s.1 s.2 in
+pub value-long_text-requires : goal.value-long_text-requires
+value-long_text-requires g t c = let s = c.requires.stands in let p = laid_as c.args.source.now c.args.spot.now c.in-LongText.is c.layout.ensures s.0 s.1 s.2 in
     record { ready = c.requires.ready; stands = s; code = long_coded p.code p.wide (sym (code_is (type_of s.0) c.args.spot.now.types.now s.2.text) ∙ ap (λ (u : ValueTree). first_code (type_of u)) p.is); begins = p.begins; counts = p.counts }
 
-pub walk_value-overflow_add-result-in-LongText : goal.walk_value-overflow_add-result-in-LongText
-walk_value-overflow_add-result-in-LongText g t c = let s = c.requires.stands in let p = laid_as c.args.source.now c.args.spot.now c.in-LongText.is c.layout.ensures s.0 s.1 s.2 in omega (arith, p.inside)
+pub value-overflow_add-result-in-LongText : goal.value-overflow_add-result-in-LongText
+value-overflow_add-result-in-LongText g t c = let s = c.requires.stands in let p = laid_as c.args.source.now c.args.spot.now c.in-LongText.is c.layout.ensures s.0 s.1 s.2 in omega (arith, p.inside)
 
-pub walk_value-overflow_add-result-in-LongText-2 : goal.walk_value-overflow_add-result-in-LongText-2
-walk_value-overflow_add-result-in-LongText-2 g t c = let s = c.requires.stands in let p = laid_as c.args.source.now c.args.spot.now c.in-LongText.is c.layout.ensures s.0 s.1 s.2 in omega (arith, p.inside)
+pub value-overflow_add-result-in-LongText-2 : goal.value-overflow_add-result-in-LongText-2
+value-overflow_add-result-in-LongText-2 g t c = let s = c.requires.stands in let p = laid_as c.args.source.now c.args.spot.now c.in-LongText.is c.layout.ensures s.0 s.1 s.2 in omega (arith, p.inside)
 
-pub walk_value-overflow_add-result-in-LongText-3 : goal.walk_value-overflow_add-result-in-LongText-3
-walk_value-overflow_add-result-in-LongText-3 g t c = let s = c.requires.stands in let p = laid_as c.args.source.now c.args.spot.now c.in-LongText.is c.layout.ensures s.0 s.1 s.2 in omega (arith, p.inside)
+pub value-overflow_add-result-in-LongText-3 : goal.value-overflow_add-result-in-LongText-3
+value-overflow_add-result-in-LongText-3 g t c = let s = c.requires.stands in let p = laid_as c.args.source.now c.args.spot.now c.in-LongText.is c.layout.ensures s.0 s.1 s.2 in omega (arith, p.inside)
 
-pub walk_value-short_text-requires : goal.walk_value-short_text-requires
-walk_value-short_text-requires g t c = let s = c.requires.stands in let p = laid_as c.args.source.now c.args.spot.now c.in-ShortText.is c.layout.ensures s.0 s.1 s.2 in
+pub value-short_text-requires : goal.value-short_text-requires
+value-short_text-requires g t c = let s = c.requires.stands in let p = laid_as c.args.source.now c.args.spot.now c.in-ShortText.is c.layout.ensures s.0 s.1 s.2 in
     record { ready = c.requires.ready; stands = s; code = short_coded p.code p.wide (sym (code_is (type_of s.0) c.args.spot.now.types.now s.2.text) ∙ ap (λ (u : ValueTree). first_code (type_of u)) p.is); counts = p.counts ∙ sym (one_byte c.args.source.now.order c.args.source.now.bytes.now c.args.spot.now.at (omega (arith, p.inside))) }
 
-pub walk_value-overflow_add-result-in-ShortText : goal.walk_value-overflow_add-result-in-ShortText
-walk_value-overflow_add-result-in-ShortText g t c = let s = c.requires.stands in let p = laid_as c.args.source.now c.args.spot.now c.in-ShortText.is c.layout.ensures s.0 s.1 s.2 in omega (arith, p.inside)
+pub value-overflow_add-result-in-ShortText : goal.value-overflow_add-result-in-ShortText
+value-overflow_add-result-in-ShortText g t c = let s = c.requires.stands in let p = laid_as c.args.source.now c.args.spot.now c.in-ShortText.is c.layout.ensures s.0 s.1 s.2 in omega (arith, p.inside)
 
-pub walk_value-overflow_add-result-in-ShortText-2 : goal.walk_value-overflow_add-result-in-ShortText-2
-walk_value-overflow_add-result-in-ShortText-2 g t c = let s = c.requires.stands in let p = laid_as c.args.source.now c.args.spot.now c.in-ShortText.is c.layout.ensures s.0 s.1 s.2 in omega (arith, p.inside)
+pub value-overflow_add-result-in-ShortText-2 : goal.value-overflow_add-result-in-ShortText-2
+value-overflow_add-result-in-ShortText-2 g t c = let s = c.requires.stands in let p = laid_as c.args.source.now c.args.spot.now c.in-ShortText.is c.layout.ensures s.0 s.1 s.2 in omega (arith, p.inside)
 
-pub walk_value-overflow_add-result-in-ShortText-3 : goal.walk_value-overflow_add-result-in-ShortText-3
-walk_value-overflow_add-result-in-ShortText-3 g t c = let s = c.requires.stands in let p = laid_as c.args.source.now c.args.spot.now c.in-ShortText.is c.layout.ensures s.0 s.1 s.2 in omega (arith, p.inside)
+pub value-overflow_add-result-in-ShortText-3 : goal.value-overflow_add-result-in-ShortText-3
+value-overflow_add-result-in-ShortText-3 g t c = let s = c.requires.stands in let p = laid_as c.args.source.now c.args.spot.now c.in-ShortText.is c.layout.ensures s.0 s.1 s.2 in omega (arith, p.inside)
 
-pub walk_value-variant-requires : goal.walk_value-variant-requires
-walk_value-variant-requires g t c κs within =
+pub value-variant-requires : goal.value-variant-requires
+value-variant-requires g t c κs within =
     (omega (arith, types_some c.requires.stands.2), (within.0, (within.1.0, (within.1.1, (c.requires.ready, (c.requires.stands, laid_as c.args.source.now c.args.spot.now c.in-Variant.is c.layout.ensures))))))
 
-pub walk_value-array-requires : goal.walk_value-array-requires
-walk_value-array-requires g t c κs within = let s = c.requires.stands in let p = laid_as c.args.source.now c.args.spot.now c.in-Array.is c.layout.ensures s.0 s.1 s.2 in
+pub value-array-requires : goal.value-array-requires
+value-array-requires g t c κs within = let s = c.requires.stands in let p = laid_as c.args.source.now c.args.spot.now c.in-Array.is c.layout.ensures s.0 s.1 s.2 in
     (omega (arith, types_some s.2), (within.0, (within.1.0, (within.1.1, (c.requires.ready, (s, (c.requires.noted, (p.found, laid_as c.args.source.now c.args.spot.now c.in-Array.is c.layout.ensures))))))))
 
-pub walk_value-overflow_sub-spot : goal.walk_value-overflow_sub-spot
-walk_value-overflow_sub-spot g t c = let s = c.requires.stands in let p = laid_as c.args.source.now c.args.spot.now c.in-Struct.is c.layout.ensures s.0 s.1 s.2 in omega (arith, p.some)
+pub value-returns-in_ok-number-in-Number-clause-walked : goal.value-returns-in_ok-number-in-Number-clause-walked
+value-returns-in_ok-number-in-Number-clause-walked g t c = λ v rest s. let p = laid_as c.args.source.now c.args.spot.now c.in-Number.is c.layout.ensures v rest s in (c.in_ok-number-in-Number.ensures.takes v rest s, omega (arith, p.ends, c.from.ensures))
 
-pub walk_value-brackets-requires : goal.walk_value-brackets-requires
-walk_value-brackets-requires g t c κs within = let s = c.requires.stands in let p = laid_as c.args.source.now c.args.spot.now c.in-Struct.is c.layout.ensures s.0 s.1 s.2 in
-    (omega (arith, p.some, p.long), (within.0, (within.1.0, (within.1.1, (c.requires.ready, ((p.xs, s.1, p.held), (c.requires.noted, (p.long, ((λ e. absurd cc), (λ e. absurd cc))))))))))
+pub value-returns-in_ok-long_text-in-LongText-clause-walked : goal.value-returns-in_ok-long_text-in-LongText-clause-walked
+value-returns-in_ok-long_text-in-LongText-clause-walked g t c = λ v rest s. let p = laid_as c.args.source.now c.args.spot.now c.in-LongText.is c.layout.ensures v rest s in (c.in_ok-long_text-in-LongText.ensures.takes v rest s, p.ends)
 
-pub walk_value-brackets-requires-in-Entry : goal.walk_value-brackets-requires-in-Entry
-walk_value-brackets-requires-in-Entry g t c κs within = let s = c.requires.stands in let p = laid_as c.args.source.now c.args.spot.now c.in-Entry.is c.layout.ensures s.0 s.1 s.2 in
-    (omega (arith, p.long), (within.0, (within.1.0, (within.1.1, (c.requires.ready, ((MoreValues p.x (MoreValues p.y NoValues), s.1, p.held), (c.requires.noted, (p.long, ((λ e. absurd cc), (λ e. absurd cc))))))))))
+pub value-returns-in_ok-short_text-in-ShortText-clause-walked : goal.value-returns-in_ok-short_text-in-ShortText-clause-walked
+value-returns-in_ok-short_text-in-ShortText-clause-walked g t c = λ v rest s. let p = laid_as c.args.source.now c.args.spot.now c.in-ShortText.is c.layout.ensures v rest s in (c.in_ok-short_text-in-ShortText.ensures.takes v rest s, p.ends)
 
-pub walk_value-returns-in_ok-number-in-Number-clause-walked : goal.walk_value-returns-in_ok-number-in-Number-clause-walked
-walk_value-returns-in_ok-number-in-Number-clause-walked g t c = λ v rest s. let p = laid_as c.args.source.now c.args.spot.now c.in-Number.is c.layout.ensures v rest s in (c.in_ok-number-in-Number.ensures.takes v rest s, omega (arith, p.ends, c.from.ensures))
+pub value-entry-requires : goal.value-entry-requires
+value-entry-requires g t c κs within = (omega (arith, types_some c.requires.stands.2), (within.0, (within.1.0, (within.1.1, (c.requires.ready, (c.requires.stands, (c.requires.noted, laid_as c.args.source.now c.args.spot.now c.in-Entry.is c.layout.ensures)))))))
 
-pub walk_value-returns-in_ok-long_text-in-LongText-clause-walked : goal.walk_value-returns-in_ok-long_text-in-LongText-clause-walked
-walk_value-returns-in_ok-long_text-in-LongText-clause-walked g t c = λ v rest s. let p = laid_as c.args.source.now c.args.spot.now c.in-LongText.is c.layout.ensures v rest s in (c.in_ok-long_text-in-LongText.ensures.takes v rest s, p.ends)
+pub entry-fields-requires : goal.entry-fields-requires
+entry-fields-requires g t c κs within =
+    let s = c.requires.stands in
+    let p = c.requires.laid s.0 s.1 s.2 in
+    let types = c.args.spot.now.types.now in
+    (omega (arith, p.long, between_long types 1), (within.0, (within.1.0, (within.1.1, (c.in_ok-many.ensures.ready, ((MoreValues p.x (MoreValues p.y NoValues), s.1, outermost c.args.spot.now.depth_left p.held), (c.requires.noted, (p.long, omega arith))))))))
 
-pub walk_value-returns-in_ok-short_text-in-ShortText-clause-walked : goal.walk_value-returns-in_ok-short_text-in-ShortText-clause-walked
-walk_value-returns-in_ok-short_text-in-ShortText-clause-walked g t c = λ v rest s. let p = laid_as c.args.source.now c.args.spot.now c.in-ShortText.is c.layout.ensures v rest s in (c.in_ok-short_text-in-ShortText.ensures.takes v rest s, p.ends)
+pub entry-returns-clause-walked : goal.entry-returns-clause-walked
+entry-returns-clause-walked g t c = λ v rest s.
+    let p = c.requires.laid v rest s in
+    let order = c.args.source.now.order in
+    let at = c.args.spot.now.at in
+    let held = c.in_ok-fields.ensures.walked (MoreValues p.x (MoreValues p.y NoValues)) rest (outermost c.args.spot.now.depth_left p.held) in
+    let is_of : IsOf kind.Entry v = subst (IsOf kind.Entry) (sym p.is) tt in
+    let text = ap (λ (u : ValueTree). sigs (types_of (parts u))) p.is ∙ p.held.text in
+    let many = subst (λ (q : ℕ). g.V.Visitor.many c.open.new.self c.in_ok-many.many order q held.0.0 c.fields.new.gathered c.fields.new.visitor) p.begins held.0.2 in (
+      g.met.V.Visitor.whole c.args.visitor.now c.open.new.self c.fields.new.visitor c.close.new.self c.args.gathered.now c.in_ok-many.many c.fields.new.gathered c.close.new.gathered kind.Entry order at v held.0.0 is_of (c.in_ok-many.ensures.takes order at v is_of text) (ap parts p.is ∙ held.0.1) many (c.in_ok-close.ensures.takes v is_of),
+      held.1 ∙ p.ends,
+    )
 
-pub walk_value-returns-in-Struct-clause-walked : goal.walk_value-returns-in-Struct-clause-walked
-walk_value-returns-in-Struct-clause-walked g t c = λ v rest s.
+pub nested-nested_fields-requires : goal.nested-nested_fields-requires
+nested-nested_fields-requires g t c κs within = (omega arith, (within.0, (within.1.0, (within.1.1, (c.in_ok-many.ensures.ready, (c.requires.stand, (c.requires.noted, (c.requires.together, (c.requires.long, (c.requires.deep, c.requires.padded))))))))))
+
+pub nested-returns-clause-walked : goal.nested-returns-clause-walked
+nested-returns-clause-walked g t c = λ at vs rest begins a.
+    let order = c.args.source.now.order in
+    let held = c.in_ok-nested_fields.ensures.walked vs rest a in
+    let many = subst (λ (q : ℕ). g.V.Visitor.many c.open.new.self c.in_ok-many.many order q held.0.0 c.nested_fields.new.gathered c.nested_fields.new.visitor) begins held.0.2 in (
+      g.met.V.Visitor.whole c.args.visitor.now c.open.new.self c.nested_fields.new.visitor c.close.new.self c.args.gathered.now c.in_ok-many.many c.nested_fields.new.gathered c.close.new.gathered kind.Struct order at (StructValue vs) held.0.0 tt (c.in_ok-many.ensures.takes order at (StructValue vs) tt a.text) held.0.1 many (c.in_ok-close.ensures.takes (StructValue vs) tt),
+      held.1,
+    )
+
+pub nested_fields-nested-requires : goal.nested_fields-nested-requires
+nested_fields-nested-requires g t c κs within =
+    let s = c.requires.stand in
+    let types = c.args.spot.now.types.now in
+    let outer = c.args.outer in
+    let o = one_struct c.requires.noted c.requires.together (outer + 1) c.if-first-row.true s.0 s.2 in
+    let long : 2 + (outer + 1) + (outer + 1) ≤ length types = omega (arith, c.requires.together.long, c.if-first-row.true) in
+    (omega (arith, o.some, between_long types (outer + 1), between_long types (outer + 1 + 1)), (within.0, (within.1.0, (within.1.1, (c.part.ensures.ready, ((o.xs, s.1, fields_inside c.args.source.now c.args.spot.now outer c.requires.padded o), (c.requires.noted, (c.requires.together, (long, (omega (arith, o.some), c.requires.padded))))))))))
+
+pub nested_fields-fields-requires : goal.nested_fields-fields-requires
+nested_fields-fields-requires g t c κs within = (omega arith, (within.0, (within.1.0, (within.1.1, (c.requires.ready, (c.requires.stand, (c.requires.noted, (c.requires.long, c.requires.deep))))))))
+
+pub fields-walk_values-requires : goal.fields-walk_values-requires
+fields-walk_values-requires g t c κs within =
+    let types = c.args.spot.now.types.now in
+    let first = c.args.outer + 1 in
+    (omega arith, (within.0, (within.1.0, (within.1.1, (c.requires.ready, (c.requires.stand, lengths_within types c.args.spot.now.lengths.now c.requires.noted first (length types - first - first)))))))
+
+pub entry-slice_bounds-types-count : goal.entry-slice_bounds-types-count
+entry-slice_bounds-types-count g t c = let s = c.requires.stands in omega (arith, (c.requires.laid s.0 s.1 s.2).long)
+
+pub entry-slice_bounds-types-start : goal.entry-slice_bounds-types-start
+entry-slice_bounds-types-start g t c = let s = c.requires.stands in omega (arith, (c.requires.laid s.0 s.1 s.2).long)
+
+pub nested_fields-returns-then-first-row-clause-walked : goal.nested_fields-returns-then-first-row-clause-walked
+nested_fields-returns-then-first-row-clause-walked g t c = λ vs rest a.
+    let order = c.args.source.now.order in
+    let at = c.args.spot.now.at in
+    let before = c.args.visitor.now in
+    let gathered = c.args.gathered.now in
+    let o = one_struct c.requires.noted c.requires.together (c.args.outer + 1) c.if-first-row.true vs a in
+    let place : at ≡ at + gap_to 8 at = omega (arith, c.requires.padded) in
+    let w = c.in_ok-nested.ensures.walked at o.xs rest place (fields_inside c.args.source.now c.args.spot.now c.args.outer c.requires.padded o) in
+    let held = g.met.V.Visitor.more before before c.part.new.self c.nested.new.visitor gathered gathered c.nested.new.gathered order at at [] (StructValue o.xs) (g.met.V.Visitor.none before gathered order at) c.part.ensures.takes (starts order at) w.0 in
+    ((StructValue o.xs ∷ [], o.is, held), w.1 ∙ one_ends order at o.xs c.requires.padded ∙ ap (λ (us : ValueTrees). at + length (spellings order at us)) (sym o.is))
+
+pub walk_value-value-requires : goal.walk_value-value-requires
+walk_value-value-requires g t c κs within = (omega arith, (within.0, (within.1.0, (within.1.1, (c.requires.ready, (c.requires.stands, (c.requires.noted, no_row)))))))
+
+pub value-overflow_sub-held : goal.value-overflow_sub-held
+value-overflow_sub-held g t c = let s = c.requires.stands in let p = laid_as c.args.source.now c.args.spot.now c.in-Struct.is c.layout.ensures s.0 s.1 s.2 in omega (arith, p.some)
+
+pub value-nested-requires : goal.value-nested-requires
+value-nested-requires g t c κs within =
+    let s = c.requires.stands in
+    let p = laid_as c.args.source.now c.args.spot.now c.in-Struct.is c.layout.ensures s.0 s.1 s.2 in
+    let order = c.args.source.now.order in
+    let at = c.args.spot.now.at in
+    let padded = ap (gap_to 8) (p.begins ∙ ap (inside order at) p.is) ∙ aligned at in
+    (omega (arith, p.some, p.long, between_long c.args.spot.now.types.now 1), (within.0, (within.1.0, (within.1.1, (c.requires.ready, ((p.xs, s.1, outermost (c.args.spot.now.depth_left - 1) p.held), (c.requires.noted, (c.requires.together, (p.long, (omega arith, padded))))))))))
+
+pub value-returns-in_ok-nested-in-Struct-clause-walked : goal.value-returns-in_ok-nested-in-Struct-clause-walked
+value-returns-in_ok-nested-in-Struct-clause-walked g t c = λ v rest s.
     let p = laid_as c.args.source.now c.args.spot.now c.in-Struct.is c.layout.ensures v rest s in
     let order = c.args.source.now.order in
     let at = c.args.spot.now.at in
-    made_of c.brackets.result (λ u. g.V.Visitor.one c.args.visitor.now c.args.gathered.now order at u c.brackets.new.gathered c.brackets.new.visitor) (sym p.is) p.ends (c.brackets.ensures.walked (StructValue p.xs) rest tt (p.begins ∙ ap (inside order at) p.is) p.held)
-
-pub walk_value-returns-in-Entry-clause-walked : goal.walk_value-returns-in-Entry-clause-walked
-walk_value-returns-in-Entry-clause-walked g t c = λ v rest s.
-    let p = laid_as c.args.source.now c.args.spot.now c.in-Entry.is c.layout.ensures v rest s in
-    let order = c.args.source.now.order in
-    let at = c.args.spot.now.at in
-    made_of c.brackets-in-Entry.result (λ u. g.V.Visitor.one c.args.visitor.now c.args.gathered.now order at u c.brackets-in-Entry.new.gathered c.brackets-in-Entry.new.visitor) (sym p.is) p.ends (c.brackets-in-Entry.ensures.walked (EntryValue p.x p.y) rest tt (p.begins ∙ ap (inside order at) p.is) p.held)
+    let w = c.in_ok-nested-in-Struct.ensures.walked at p.xs rest (p.begins ∙ ap (inside order at) p.is) (outermost (c.args.spot.now.depth_left - 1) p.held) in
+    (subst (λ (u : ValueTree). g.V.Visitor.one c.args.visitor.now c.args.gathered.now order at u c.nested.new.gathered c.nested.new.visitor) (sym p.is) w.0, w.1 ∙ p.ends)

@@ -1,25 +1,29 @@
 use Rattle.std.proofs.Common.{◌+◌, ◌*◌, ◌-◌, ◌≤◌, ℕ, List, length, drop}
 use Rattle.dbus_value_model.specs.Values.{ValueTree, ValueTrees}
 use Rattle.dbus_walk.specs.Standing.{AllStand, AllStandAt, ElementsStand, ElementsStandAt}
+use Rattle.dbus_walk.specs.Rows.{between}
 use Rattle.dbus_walk.proofs.Walks.{Left, Taken}
 use Rattle.dbus_walk.proofs.walk.+walk.Given as goal
 
 -- a container takes one of the room, or bytes of its type, and a variant's own type has at most 255 bytes
 
+abbrev pub decreases-value : goal.decreases-value
+decreases-value g l = 4 * (256 * l.spot.now.depth_left + length l.spot.now.types.now)
+
 abbrev pub decreases-walk_value : goal.decreases-walk_value
-decreases-walk_value g l = 4 * (256 * l.spot.now.depth_left + length l.spot.now.types.now)
+decreases-walk_value g l = 4 * (256 * l.spot.now.depth_left + length l.spot.now.types.now) + 1
 
 abbrev pub decreases-walk_values : goal.decreases-walk_values
-decreases-walk_values g l = 4 * (256 * l.spot.now.depth_left + length l.spot.now.types.now) + 1
+decreases-walk_values g l = 4 * (256 * l.spot.now.depth_left + length l.spot.now.types.now) + 2
 
 abbrev pub decreases-variant : goal.decreases-variant
 decreases-variant g l = 4 * (256 * l.spot.now.depth_left + length l.spot.now.types.now) - 1
 
 abbrev pub decreases-variant_of : goal.decreases-variant_of
-decreases-variant_of g l = 4 * (256 * l.held.now.depth_left + length l.held.now.types.now) + 1
+decreases-variant_of g l = 4 * (256 * l.held.now.depth_left + length l.held.now.types.now) + 2
 
 abbrev pub decreases-noted_variant : goal.decreases-noted_variant
-decreases-noted_variant g l = 4 * (256 * l.held.now.depth_left + length l.held.now.types.now) + 2
+decreases-noted_variant g l = 4 * (256 * l.held.now.depth_left + length l.held.now.types.now) + 3
 
 abbrev pub decreases-array : goal.decreases-array
 decreases-array g l = 4 * (256 * l.spot.now.depth_left + length l.spot.now.types.now) - 1
@@ -27,8 +31,17 @@ decreases-array g l = 4 * (256 * l.spot.now.depth_left + length l.spot.now.types
 abbrev pub decreases-elements : goal.decreases-elements
 decreases-elements g l = 4 * (256 * l.spot.now.depth_left + length l.spot.now.types.now) + 1
 
-abbrev pub decreases-brackets : goal.decreases-brackets
-decreases-brackets g l = 4 * (256 * l.depth_left + length l.spot.now.types.now) - 1
+abbrev pub decreases-entry : goal.decreases-entry
+decreases-entry g l = 4 * (256 * l.spot.now.depth_left + length l.spot.now.types.now) - 1
+
+abbrev pub decreases-nested : goal.decreases-nested
+decreases-nested g l = 4 * (256 * (l.spot.now.depth_left - l.outer) + length (between (l.outer + 1) l.spot.now.types.now)) + 5
+
+abbrev pub decreases-nested_fields : goal.decreases-nested_fields
+decreases-nested_fields g l = 4 * (256 * (l.spot.now.depth_left - l.outer) + length (between (l.outer + 1) l.spot.now.types.now)) + 4
+
+abbrev pub decreases-fields : goal.decreases-fields
+decreases-fields g l = 4 * (256 * (l.spot.now.depth_left - l.outer) + length (between (l.outer + 1) l.spot.now.types.now)) + 3
 
 abbrev pub invariant-walk_values-loop-pos : goal.invariant-walk_values-loop-pos
 invariant-walk_values-loop-pos g l = record {
