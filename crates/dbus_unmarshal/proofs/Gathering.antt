@@ -27,7 +27,7 @@ use Rattle.dbus_walk.specs.declared.container.Container.{Container}
 use Rattle.dbus_walk.specs.declared.container.Container.TheVariants as kind
 use Rattle.dbus_unmarshal.specs.declared.gathered.Gathered.{Gathered}
 use Rattle.dbus_unmarshal.specs.declared.gathered.Gathered.TheVariants as gathered
-use Rattle.dbus_unmarshal.specs.Builds.{IsBuilt, AreBuilt, IsVariantOf, IsEntryOf, IsStructOf, IsArrayOf, IsFew, IsNext, Holds, Gathers, Pushes, Builds, Closes}
+use Rattle.dbus_unmarshal.specs.Builds.{IsBuilt, AreBuilt, IsVariantOf, IsEntryOf, IsStructOf, IsArrayOf, IsNext, Holds, Gathers, Pushes, Builds, Closes}
 
 -- ---- the types of parts
 
@@ -169,14 +169,9 @@ module _ {A : Type 0} where
     pub push_elements : (t : SigType A) (rs us : Vec (Value A) A) → m ≡ gathered.Elements t rs → us.items ≡ rs.items ++ r ∷ [] → Pushes m r (gathered.Elements t us)
     push_elements t rs us e is v x done more next b = let held = held_as m v x done more next e in (held.0, built_more rs.items us.items is held.1 b)
 
-  pub few_left : (m : Gathered A) → ((ts : Arc (Vec (SigType A) A) A) (rs : Vec (Value A) A) → m ≡ gathered.Fields ts rs → ⊥) → ((t : SigType A) (rs : Vec (Value A) A) → m ≡ gathered.Elements t rs → ⊥) → IsFew m
-  few_left (gathered.Fields ts rs) d f = d ts rs refl
-  few_left (gathered.Elements t rs) d f = f t rs refl
-  few_left m d f = tt
-
-  pub push_full : (m k : Gathered A) (r : Value A) → IsFew m → ((t : SigType A) → m ≡ gathered.Variant t → ⊥) → ((t u : SigType A) → m ≡ gathered.Entry t u → ⊥) → ((u : SigType A) (x : Value A) → m ≡ gathered.Key u x → ⊥) → Pushes m r k
-  push_full m k r few a b c v x done us next built =
-      absurd (next_none m v x done us next a b c (λ ts rs e. subst IsFew e few) (λ t rs e. subst IsFew e few))
+  pub push_full : (m : Gathered A) (r : Value A) → ((t : SigType A) → m ≡ gathered.Variant t → ⊥) → ((t u : SigType A) → m ≡ gathered.Entry t u → ⊥) → ((u : SigType A) (x : Value A) → m ≡ gathered.Key u x → ⊥)
+      → ((ts : Arc (Vec (SigType A) A) A) (rs : Vec (Value A) A) → m ≡ gathered.Fields ts rs → ⊥) → ((t : SigType A) (rs : Vec (Value A) A) → m ≡ gathered.Elements t rs → ⊥) → Pushes m r m
+  push_full m r a b c d f v x done us next built = absurd (next_none m v x done us next a b c d f)
 
   -- ---- what is gathered of a value that is built
 

@@ -67,12 +67,6 @@ Holds (gathered.Both e) v done = IsEntry v × AreBuilt done (e.value.key ∷ e.v
 Holds (gathered.Fields ts rs) v done = IsStructOf (type_trees_of ts.value.items) v × AreBuilt done rs.items
 Holds (gathered.Elements t rs) v done = IsArrayOf (type_tree t) v × AreBuilt done rs.items
 
--- it is gathered of a container that has one part or two
-abbrev pub IsFew : {A : Type 0} → Gathered A → Type 0
-IsFew (gathered.Fields ts rs) = ⊥
-IsFew (gathered.Elements t rs) = ⊥
-IsFew _ = Unit {0}
-
 -- a value is the next part of a container, of whose parts before it this is gathered
 pub record IsNext {A : Type 0} (m : Gathered A) (v : ValueTree) (done : List ValueTree) (x : ValueTree) (us : List ValueTree) : Type 0 where
   pub formed : AreFormed v

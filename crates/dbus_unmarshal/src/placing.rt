@@ -2,7 +2,7 @@
 #![tactic(auto)]
 
 ghost use Rattle.std.specs.Prelude.{◌≡◌, List, ◌∷◌, [], ◌++◌, IfOk};
-ghost use Rattle.dbus_unmarshal.specs.Builds.{IsBuilt, AreBuilt, IsFew, Holds, Builds, Pushes};
+ghost use Rattle.dbus_unmarshal.specs.Builds.{IsBuilt, AreBuilt, Holds, Builds, Pushes};
 ghost use Rattle.dbus_value_model.specs.Values.{ValueTree, ValueTrees, VariantValue, StructValue};
 
 use crate::gathered::Gathered;
@@ -35,28 +35,6 @@ fn push_part<A: Allocator>(values: &mut Vec<Value<A>, A>, made: Value<A>) -> Res
     push_growing(values, made)
 }
 
-/// The parts of a variant or of a dict entry, with one more.
-#[inline(never)]
-fn with_part<A: Allocator + Copy>(
-    alloc: A,
-    gathered: Gathered<A>,
-    made: Value<A>,
-) -> Result<Gathered<A>, AllocError>
-    requires few { IsFew gathered }
-    ensures { IfOk result (λ later. Pushes gathered made later) }
-{
-    match gathered {
-        Gathered::Variant(_) => Ok(Gathered::Held(made)),
-        Gathered::Entry(_, value) => Ok(Gathered::Key(value, made)),
-        Gathered::Key(_, key) => {
-            let entry = DictEntry { key, value: made };
-            Ok(Gathered::Both(Box::new(alloc, entry)?))
-        }
-        // A variant has no second part, and a dict entry no third.
-        full => Ok(full),
-    }
-}
-
 /// Places a value among the parts of a container, after those that are gathered.
 #[inline(always)]
 pub(crate) fn place<A: Allocator + Copy>(
@@ -69,11 +47,22 @@ pub(crate) fn place<A: Allocator + Copy>(
     match gathered {
         Gathered::Fields(_, values) => push_part(values, made),
         Gathered::Elements(_, values) => push_part(values, made),
-        _ => {
-            let few = mem::replace(gathered, Gathered::Variant(SigType::Byte));
-            *gathered = with_part(alloc, few, made)?;
+        Gathered::Variant(_) => {
+            *gathered = Gathered::Held(made);
             Ok(())
         }
+        Gathered::Entry(_, value) => {
+            let value = mem::replace(value, SigType::Byte);
+            *gathered = Gathered::Key(value, made);
+            Ok(())
+        }
+        Gathered::Key(_, key) => {
+            let key = mem::replace(key, Value::Byte(0));
+            *gathered = Gathered::Both(Box::new(alloc, DictEntry { key, value: made })?);
+            Ok(())
+        }
+        // A variant has no second part, and a dict entry no third.
+        _ => Ok(()),
     }
 }
 

@@ -1,7 +1,5 @@
-use Rattle.std.proofs.Common.{sym, subst}
-use Rattle.dbus_unmarshal.specs.Builds.{IsFew}
-use Rattle.dbus_unmarshal.proofs.Gathering.{few_left}
+use Rattle.dbus_unmarshal.proofs.Gathering.{push_full}
 use Rattle.dbus_unmarshal.proofs.placing.place.Goals as goal
 
-pub with_part-requires : goal.with_part-requires
-with_part-requires g c = record { few = subst IsFew (sym c.replace-few.ensures.value) (few_left c.args.gathered.now c.in_default.not-Fields c.in_default.not-Elements) }
+pub returns-in_default : goal.returns-in_default
+returns-in_default g c = push_full c.args.gathered.now c.args.made c.in_default.not-Variant c.in_default.not-Entry c.in_default.not-Key c.in_default.not-Fields c.in_default.not-Elements
