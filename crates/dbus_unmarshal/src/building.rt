@@ -9,8 +9,9 @@ use crate::gathered::{Builder, Gathered};
 use crate::numbers::{number_at, numbers_up_to};
 use crate::opening::{element_type, open_elements, open_entry, open_struct, open_variant};
 use crate::placing::{built, place};
+use crate::texts::{long_text_at, short_text_at};
 use dbus_value_model::Value;
-use dbus_walk::{Container, Run, Source, Spot, Visitor, text_in};
+use dbus_walk::{Container, Run, Source, Spot, Visitor};
 use std::alloc::{AllocError, Allocator};
 
 impl<A: Allocator + Copy> Visitor for Builder<A> {
@@ -63,11 +64,8 @@ impl<A: Allocator + Copy> Visitor for Builder<A> {
         start: usize,
         size: usize,
     ) -> Result<(), AllocError> {
-        let text = String::from_str(self.alloc, text_in(source.bytes, start + 4, size))?;
-        if spot.types[0] == b's' {
-            return place(self.alloc, gathered, Value::Str(text));
-        }
-        place(self.alloc, gathered, Value::Path(text))
+        let made = long_text_at(self.alloc, source, spot, start, size)?;
+        place(self.alloc, gathered, made)
     }
 
     fn short_text(
@@ -77,8 +75,8 @@ impl<A: Allocator + Copy> Visitor for Builder<A> {
         spot: &Spot<'_>,
         size: usize,
     ) -> Result<(), AllocError> {
-        let text = String::from_str(self.alloc, text_in(source.bytes, spot.at + 1, size))?;
-        place(self.alloc, gathered, Value::Sig(text))
+        let made = short_text_at(self.alloc, source, spot, size)?;
+        place(self.alloc, gathered, made)
     }
 
     fn whole_array(

@@ -12,6 +12,7 @@ mod numbers;
 mod opening;
 mod placing;
 mod rooms;
+mod texts;
 mod type_text;
 mod values;
 

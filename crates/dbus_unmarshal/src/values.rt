@@ -12,10 +12,12 @@ ghost use Rattle.dbus_value_model.specs.Values.{ValueTree, ValueTrees};
 ghost use Rattle.dbus_walk.specs.Standing.{Stands, StandsAt, StandsThere, AllStandAt, AllStandThere, end_of};
 
 use crate::gathered::{Builder, Gathered};
+use crate::numbers::number_at;
 use crate::placing::{fields_of, held_value};
+use crate::texts::{long_text_at, short_text_at};
 use dbus_types::{SigType, spelled_type, spelled_types};
 use dbus_value_model::Value;
-use dbus_walk::{Source, Spot, lengths_of, walk_value, walk_values};
+use dbus_walk::{Layout, Source, Spot, layout, lengths_of, walk_value, walk_values};
 use std::alloc::{AllocError, Allocator};
 use std::sync::Arc;
 
@@ -84,7 +86,6 @@ pub fn build_typed<A: Allocator + Copy>(
         (value_tree r.0 ≡ v) × (r.1 ≡ at + length (spelling source.now.order at v))) }
     ensures packed { IfOk result (λ r. IsTrue (keeps_bytes r.0)) }
 {
-    let wanted = spelled_type(alloc, types)?;
     let mut table = [0; 255];
     let spot = Spot {
         at,
@@ -92,5 +93,37 @@ pub fn build_typed<A: Allocator + Copy>(
         lengths: lengths_of(types, &mut table),
         depth_left,
     };
-    build_value(alloc, source, &spot, &wanted)
+    build_at(alloc, source, &spot)
+}
+
+/// The value at a spot as a tree, and the offset after it. A number or a text is built at once, without its type and without a walk.
+fn build_at<A: Allocator + Copy>(
+    alloc: A,
+    source: &Source<'_>,
+    spot: &Spot<'_>,
+) -> Result<(Value<A>, usize), AllocError>
+    requires stands { StandsThere source.now spot.now }
+    requires noted { AreLengths spot.now.types.now spot.now.lengths.now }
+    ensures built { (v : ValueTree) (rest : List ℕ) → StandsAt source.now spot.now v rest →
+        IfOk result (λ r. (value_tree r.0 ≡ v) × (r.1 ≡ end_of source.now spot.now v)) }
+    ensures packed { IfOk result (λ r. IsTrue (keeps_bytes r.0)) }
+{
+    match layout(source, spot) {
+        Layout::Number { start, size } => {
+            let value = number_at(source, start, spot.types[0]);
+            Ok((value, start + usize::from(size)))
+        }
+        Layout::LongText { start, size } => {
+            let value = long_text_at(alloc, source, spot, start, size)?;
+            Ok((value, start + 4 + size + 1))
+        }
+        Layout::ShortText { size } => {
+            let value = short_text_at(alloc, source, spot, size)?;
+            Ok((value, spot.at + 1 + size + 1))
+        }
+        _ => {
+            let wanted = spelled_type(alloc, spot.types)?;
+            build_value(alloc, source, spot, &wanted)
+        }
+    }
 }

@@ -1,4 +1,4 @@
-use Rattle.std.proofs.Common.{arith, ap, ◌∙◌, rules}
+use Rattle.std.proofs.Common.{arith, ap, rules}
 use Rattle.std.proofs.lemmas.Bool.{ltb-true}
 use Rattle.dbus_value_model.specs.Values.{type_of}
 use Rattle.dbus_walk.proofs.Containers.{array_stands}
