@@ -14,6 +14,7 @@ ghost use Rattle.dbus_walk.specs.Standing.{ElementsStandAt, ElementsStandThere};
 ghost use Rattle.dbus_walk.specs.Widths.{number_width};
 ghost use Rattle.dbus_unmarshal.specs.Builds.{AreBuilt};
 
+use crate::placing::push_part;
 use dbus_value_model::Value;
 use dbus_walk::{Source, Spot};
 use std::alloc::{AllocError, Allocator};
@@ -64,7 +65,7 @@ pub(crate) fn numbers_up_to<A: Allocator + Copy>(
     let mut values = Vec::with_capacity(alloc, (end - spot.at) / width)?;
     let mut place = spot.at;
     while place < end {
-        values.push(number_at(source, place, code))?;
+        push_part(&mut values, number_at(source, place, code))?;
         place += width;
     }
     Ok(values)

@@ -25,7 +25,10 @@ fn push_growing<A: Allocator>(
 
 /// Appends a value. If there is room, nothing is copied but the value.
 #[inline(always)]
-fn push_part<A: Allocator>(values: &mut Vec<Value<A>, A>, made: Value<A>) -> Result<(), AllocError>
+pub(crate) fn push_part<A: Allocator>(
+    values: &mut Vec<Value<A>, A>,
+    made: Value<A>,
+) -> Result<(), AllocError>
     ensures { IfOk result (λ _. values.new.items ≡ values.old.items ++ made ∷ []) }
 {
     if values.len() < values.capacity() {

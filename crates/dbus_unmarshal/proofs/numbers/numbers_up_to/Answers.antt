@@ -61,8 +61,8 @@ loop-place-preserved g c =
           let l = c.loop-place.invariant.left vs rest e in
           let n = next_element l c.loop-place-test.true in
           let p = number_stands n.stands size c.requires.some c.requires.wide in
-          element_left l (λ done. AreBuilt done c.push.new.self.items) n (place + c.from-width.result) (next ∙ number_ends n.stands size place p begins)
-          (built_more c.loop-place.values.items c.push.new.self.items c.in_ok-push.ensures.items l.walked
+          element_left l (λ done. AreBuilt done c.push_part.new.values.items) n (place + c.from-width.result) (next ∙ number_ends n.stands size place p begins)
+          (built_more c.loop-place.values.items c.push_part.new.values.items c.in_ok-push_part.ensures l.walked
           (record { tree = number_built n.stands size p place c.number_at.result begins c.number_at.ensures.built; packed = c.number_at.ensures.packed }));
     }
 
