@@ -104,6 +104,14 @@ impl<R: Source, A: Allocator + Copy> RawReader<R, A> {
             .part(start - self.reader.taker.lent(), start)
     }
 
+    /// The bytes that were read and not given yet, one slice after the other: those of the message under way that came by earlier
+    /// reads, and the others. After `Format` they begin with the bytes that are no message.
+    pub fn kept(&self) -> (&[u8], &[u8])
+        ensures { result.0.now ++ result.1.now ≡ kept self.now }
+    {
+        (self.reader.taker.under_way(), self.reader.part())
+    }
+
     /// Goes on to the next message, and returns what is validated of its bytes, which [`RawReader::message`] lends then; None at the
     /// end of the input. Bytes after the message are kept. After the end each call returns the same, without reading. A read is
     /// made only if no whole message is kept, so a message is given at the read that ends it. It allocates only for a
