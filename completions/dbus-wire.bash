@@ -3,7 +3,7 @@
 _dbus_wire() {
     local word=${COMP_WORDS[COMP_CWORD]} option=${COMP_WORDS[COMP_CWORD-1]}
     local commands='show json check swap filter help'
-    local options='--max-message --max-array --max-depth --fds -h --help'
+    local options='--explain --max-message --max-array --max-depth --fds -h --help'
     COMPREPLY=()
     # A redirection names a file, which bash completes.
     [[ $option == [\<\>]* ]] && return
@@ -37,14 +37,14 @@ _dbus_wire() {
             ;;
         filter)
             if [[ $word == -* ]]; then
-                COMPREPLY=($(compgen -W "--invert --owner $options" -- "$word"))
+                COMPREPLY=($(compgen -W "--invert --owner --keep-going $options" -- "$word"))
             else
                 compopt -o nospace
                 COMPREPLY=($(compgen -W 'type= sender= interface= member= path= path_namespace= destination=' -- "$word"))
             fi
             ;;
         show | json | check)
-            COMPREPLY=($(compgen -W "$options" -- "$word"))
+            COMPREPLY=($(compgen -W "--keep-going $options" -- "$word"))
             ;;
         help)
             ((COMP_CWORD == 2)) && COMPREPLY=($(compgen -W "$commands" -- "$word"))

@@ -4,10 +4,9 @@ use Rattle.std.specs.List.{AllByRecursion}
 use Rattle.clap.specs.Words.{Row, Text, all_of, first_of}
 use Rattle.dbus_value_model.specs.declared.limits.Limits.{Limits}
 use Rattle.dbus_value_model.specs.declared.order.Order.{Order}
-use Rattle.dbus_match.specs.declared.fault.RuleFault.{RuleFault}
 use Rattle.dbus_match.specs.Matching.{Ownership, ownership}
 use Rattle.dbus_command.specs.Limiting.{HasLimits}
-use Rattle.dbus_command.specs.Named.{NamesCommand, HasFault, IsSelectionGiven, order_word, words_of}
+use Rattle.dbus_command.specs.Named.{NamesCommand, IsSelectionGiven, order_word, words_of}
 use Rattle.dbus_command.specs.Owners.{IsOwnerWord}
 use Rattle.dbus_command.proofs.WordLists.{each_can}
 use Rattle.dbus_command.specs.Told.{IsNoCommand, NamesNothing}
@@ -19,15 +18,15 @@ module _ (sub : Text × List Row) where
   -- options that name no limits
   pub unlimited_names_nothing : ((limits : Limits) → HasLimits sub.1 limits → ⊥) → NamesNothing (Some sub)
   unlimited_names_nothing none = record {
-    no_command = λ command limits named. none limits named.1;
-    no_rule = λ fault found. none found.1.0 found.1.1;
+    no_command = λ command settings named. none settings.limits named.1.limits;
+    no_rule = λ refused found. none found.1.0 found.1.1;
   }
 
   -- a name of a command, with words that name none
   pub no_command_names_nothing : IsNoCommand sub.0 sub.1 → NamesNothing (Some sub)
   no_command_names_nothing none = record {
-    no_command = λ command limits named. none.no_command command named.0;
-    no_rule = λ fault found. none.no_fault fault found.0;
+    no_command = λ command settings named. none.no_command command named.0;
+    no_rule = λ refused found. none.no_fault refused found.0;
   }
 
 module _ (rows : List Row) (no_order : (order : Order) → first_of (codes "to") rows ≡ Some (order_word order) → ⊥) where
@@ -42,7 +41,7 @@ module _ (rows : List Row) (no_order : (order : Order) → first_of (codes "to")
   pub unordered_is_no_command : IsNoCommand (codes "swap") rows
   unordered_is_no_command = record {
     no_command = unordered_command;
-    no_fault = λ fault found. let bad : ◌≡◌ {A = ℕ} 115 102 = ap (λ t. slice_index t 0) found.named in absurd (omega arith);
+    no_fault = λ refused found. let bad : ◌≡◌ {A = ℕ} 115 102 = ap (λ t. slice_index t 0) found.named in absurd (omega arith);
   }
 
 -- `filter`, of whose words there are no selection and no fault
@@ -61,7 +60,7 @@ none_given rows texts no_text given = let bad : None ≡ Some texts = sym no_tex
 pub bare_is_no_command : (rows : List Row) → all_of (codes "rule") rows ≡ None → IsNoCommand (codes "filter") rows
 bare_is_no_command rows no_text = record {
   no_command = unselected_command rows (λ selection given. none_given rows given.texts no_text given.given);
-  no_fault = λ fault found. none_given rows found.texts no_text found.given;
+  no_fault = λ refused found. none_given rows found.texts no_text found.given;
 }
 
 -- with a word that gives no owner
@@ -69,5 +68,5 @@ pub unowned_is_no_command : (rows : List Row) → (AllByRecursion (λ word. (o :
 unowned_is_no_command rows no_owners = record {
   no_command = unselected_command rows (λ selection given. no_owners
       (each_can _ _ (λ word owner is. (ownership owner, is)) (words_of (codes "owner") rows) selection.owners.items given.owners));
-  no_fault = λ fault found. no_owners found.owners;
+  no_fault = λ refused found. no_owners found.owners;
 }

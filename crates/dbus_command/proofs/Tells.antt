@@ -1,5 +1,5 @@
 -- What clap's answer says of what is told.
-use Rattle.std.proofs.Common.{◌≡◌, List, [], true, refl, subst, sym, ap, ◌∙◌, inl, inr, IfOk, Ok, Err, Option, Some, Result, codes}
+use Rattle.std.proofs.Common.{◌≡◌, ◌↔◌, Bool, List, [], true, refl, subst, sym, ap, ◌∙◌, inl, inr, IfOk, Ok, Err, Option, Some, Result, codes}
 use Rattle.std.specs.List.{AllByRecursion}
 use Rattle.clap.specs.Words.{App, HasMatchesOf, Row, Text, all_of, is_simple, subcommand_of, subcommand_rows_of}
 use Rattle.clap.specs.declared.parser.matches.ArgMatches.{ArgMatches}
@@ -14,10 +14,11 @@ use Rattle.dbus_value_model.specs.declared.limits.Limits.{Limits}
 use Rattle.dbus_match.specs.Matching.{Ownership}
 use Rattle.dbus_command.specs.Limiting.{HasLimits, TellsLimits}
 use Rattle.dbus_command.specs.Told.{TellsFault, TellsKind, Tells, TellsCommand, TellsOwner, TellsOwners, TellsRules, IsUsageOrMemory, IsNoCommand, NamesNothing}
-use Rattle.dbus_command.specs.Named.{HasRuleFault, IsNamedBy, Names, words_of}
+use Rattle.dbus_command.specs.Named.{HasRuleFault, IsGiven, IsNamedBy, Names, words_of}
 use Rattle.dbus_command.specs.Owners.{IsOwnerWord}
 use Rattle.dbus_command.proofs.Nothing.{no_command_names_nothing, unlimited_names_nothing, unowned_is_no_command}
 use Rattle.dbus_command.specs.declared.command.Command.{Command}
+use Rattle.dbus_command.specs.declared.settings.Settings.{Settings}
 use Rattle.dbus_command.specs.declared.usage_fault.UsageFault.{UsageFault}
 use Rattle.dbus_command.specs.declared.usage_fault.UsageFault.TheVariants.{Memory, Help, Version, Usage, Rule}
 
@@ -40,7 +41,7 @@ nothing_told sub Memory is none = tt
 nothing_told sub (Help text) is none = absurd is
 nothing_told sub (Version text) is none = absurd is
 nothing_told sub (Usage text) is none = none
-nothing_told sub (Rule fault) is none = absurd is
+nothing_told sub (Rule refused) is none = absurd is
 
 -- and of words after a name that are no command
 pub no_command_told : (name : Text) (rows : List Row) (told : UsageFault) → IsUsageOrMemory told → IsNoCommand name rows → TellsCommand name rows (Err told)
@@ -48,7 +49,7 @@ no_command_told name rows Memory is none = tt
 no_command_told name rows (Help text) is none = absurd is
 no_command_told name rows (Version text) is none = absurd is
 no_command_told name rows (Usage text) is none = none
-no_command_told name rows (Rule fault) is none = absurd is
+no_command_told name rows (Rule refused) is none = absurd is
 
 -- of a word that gives no owner
 pub no_owner_told : (word : Text) (told : UsageFault) → IsUsageOrMemory told → ((o : Ownership) → IsOwnerWord word o → ⊥) → TellsOwner word (Err told)
@@ -56,7 +57,7 @@ no_owner_told word Memory is none = tt
 no_owner_told word (Help text) is none = absurd is
 no_owner_told word (Version text) is none = absurd is
 no_owner_told word (Usage text) is none = none
-no_owner_told word (Rule fault) is none = absurd is
+no_owner_told word (Rule refused) is none = absurd is
 
 -- of words, of which one gives no owner
 pub no_owners_told : (words : List Text) (word : Text) (told : UsageFault) → TellsOwner word (Err told)
@@ -65,7 +66,7 @@ no_owners_told words word Memory h at = tt
 no_owners_told words word (Help text) h at = absurd h
 no_owners_told words word (Version text) h at = absurd h
 no_owners_told words word (Usage text) h at = λ all. let one = at all in h one.0 one.1
-no_owners_told words word (Rule fault) h at = absurd h
+no_owners_told words word (Rule refused) h at = absurd h
 
 -- and of the words after `filter` that have it
 pub unowned_told : (rows : List Row) (told : UsageFault) → TellsOwners (words_of (codes "owner") rows) (Err told) → TellsCommand (codes "filter") rows (Err told)
@@ -73,16 +74,24 @@ unowned_told rows Memory h = tt
 unowned_told rows (Help text) h = absurd h
 unowned_told rows (Version text) h = absurd h
 unowned_told rows (Usage text) h = unowned_is_no_command rows h
-unowned_told rows (Rule fault) h = absurd h
+unowned_told rows (Rule refused) h = absurd h
 
 -- of the words after `filter`, of whose texts one spells no rule
-pub unruled_told : (rows : List Row) (texts : List Text) (told : UsageFault) → all_of (codes "rule") rows ≡ Some texts
-    → AllByRecursion (λ w. (o : Ownership) × IsOwnerWord w o) (words_of (codes "owner") rows) → TellsRules texts (Err told) → TellsCommand (codes "filter") rows (Err told)
-unruled_told rows texts Memory given owners h = tt
-unruled_told rows texts (Help text) given owners h = absurd h
-unruled_told rows texts (Version text) given owners h = absurd h
-unruled_told rows texts (Usage text) given owners h = absurd h
-unruled_told rows texts (Rule fault) given owners h = record { named = refl; texts = texts; given = given; first = h; owners = owners }
+pub unruled_told : (rows : List Row) (texts : List Text) (explains : Bool) (told : UsageFault) → all_of (codes "rule") rows ≡ Some texts
+    → AllByRecursion (λ w. (o : Ownership) × IsOwnerWord w o) (words_of (codes "owner") rows) → ((explains ≡ true) ↔ IsGiven (codes "explain") rows)
+    → TellsRules texts explains (Err told) → TellsCommand (codes "filter") rows (Err told)
+unruled_told rows texts explains Memory given owners asked h = tt
+unruled_told rows texts explains (Help text) given owners asked h = absurd h
+unruled_told rows texts explains (Version text) given owners asked h = absurd h
+unruled_told rows texts explains (Usage text) given owners asked h = absurd h
+unruled_told rows texts explains (Rule refused) given owners asked h = record {
+  named = refl;
+  texts = texts;
+  given = given;
+  first = h.0;
+  explains = subst (λ e. (e ≡ true) ↔ IsGiven (codes "explain") rows) (sym h.1) asked;
+  owners = owners;
+}
 
 -- what is told of options that name no limits
 pub no_limits_told : (rows : List Row) (told : UsageFault) → IsUsageOrMemory told → ((limits : Limits) → HasLimits rows limits → ⊥) → TellsLimits rows (Err told)
@@ -90,7 +99,7 @@ no_limits_told rows Memory is none = tt
 no_limits_told rows (Help text) is none = absurd is
 no_limits_told rows (Version text) is none = absurd is
 no_limits_told rows (Usage text) is none = none
-no_limits_told rows (Rule fault) is none = absurd is
+no_limits_told rows (Rule refused) is none = absurd is
 
 -- and of a command after such options
 pub told_without_limits : (sub : Text × List Row) (told : UsageFault) → TellsLimits sub.1 (Err told) → Tells (Some sub) (Err told)
@@ -98,7 +107,7 @@ told_without_limits sub Memory h = tt
 told_without_limits sub (Help text) h = h
 told_without_limits sub (Version text) h = h
 told_without_limits sub (Usage text) h = unlimited_names_nothing sub h
-told_without_limits sub (Rule fault) h = absurd h
+told_without_limits sub (Rule refused) h = absurd h
 
 -- what is told of the words after a name, where they name limits
 pub told_under_limits : (sub : Text × List Row) (limits : Limits) (told : UsageFault) → HasLimits sub.1 limits → TellsCommand sub.0 sub.1 (Err told)
@@ -107,21 +116,21 @@ told_under_limits sub limits Memory given h = tt
 told_under_limits sub limits (Help text) given h = h
 told_under_limits sub limits (Version text) given h = h
 told_under_limits sub limits (Usage text) given h = no_command_names_nothing sub h
-told_under_limits sub limits (Rule fault) given h = (h, (limits, given))
+told_under_limits sub limits (Rule refused) given h = (h, (limits, given))
 
-pub named_of_matches : (words : List Text) (sub : Option (Text × List Row)) (answer : Result (Command × Limits) UsageFault) → subcommand_of wire_app words ≡ sub
+pub named_of_matches : (words : List Text) (sub : Option (Text × List Row)) (answer : Result (Command × Settings) UsageFault) → subcommand_of wire_app words ≡ sub
     → Tells sub answer → IfOk answer (IsNamedBy words)
 named_of_matches words sub (Ok named) same h = subst (λ s. Names s named.0 named.1) (sym same) h
 named_of_matches words sub (Err fault) same h = tt
 
-pub told_of_matches : (words : List Text) (sub : Option (Text × List Row)) (answer : Result (Command × Limits) UsageFault) → fault_of wire_app words ≡ []
+pub told_of_matches : (words : List Text) (sub : Option (Text × List Row)) (answer : Result (Command × Settings) UsageFault) → fault_of wire_app words ≡ []
     → subcommand_of wire_app words ≡ sub → Tells sub answer → TellsFault words answer
 told_of_matches words sub (Ok named) none same h = none
 told_of_matches words sub (Err Memory) none same h = tt
 told_of_matches words sub (Err (Help text)) none same h = absurd h
 told_of_matches words sub (Err (Version text)) none same h = absurd h
 told_of_matches words sub (Err (Usage text)) none same h = inr (none, subst NamesNothing (sym same) h)
-told_of_matches words sub (Err (Rule fault)) none same h = (none, subst (λ s. HasRuleFault s fault) (sym same) h)
+told_of_matches words sub (Err (Rule refused)) none same h = (none, subst (λ s. HasRuleFault s refused) (sym same) h)
 
 pub told_of_error : (words : List Text) (e : Error) (told : UsageFault) → HasKind (fault_of wire_app words) e → TellsKind (kind_of e) told → TellsFault words (Err told)
 told_of_error words e Memory k t = tt
@@ -137,4 +146,4 @@ told_of_error words e (Usage text) k t = elim k [
   | inl memory ↦ absurd (t.2 memory)
   | inr found ↦ inl (record { kind = kind_of e; found = found; no_help = t.0; no_version = t.1 })
 ]
-told_of_error words e (Rule fault) k t = absurd t
+told_of_error words e (Rule refused) k t = absurd t

@@ -16,9 +16,9 @@ to_rule = record (new_rule (codes "to")) { long = Some (codes "to"); value_names
 abbrev pub text_rule : Rule
 text_rule = record (new_rule (codes "rule")) { value_names = 1; required = true; action = Some Append }
 
--- the flag `--invert`
-abbrev pub invert_rule : Rule
-invert_rule = record (new_rule (codes "invert")) { long = Some (codes "invert"); action = Some SetTrue }
+-- a flag, which takes no value
+abbrev pub flag_rule : Text → Rule
+flag_rule name = record (new_rule name) { long = Some name; action = Some SetTrue }
 
 -- the option `--owner`, with one value each time
 abbrev pub owner_rule : Rule
@@ -32,27 +32,33 @@ limit_rule name most = record (new_rule name) { long = Some name; value_names = 
 abbrev pub fds_rule : Rule
 fds_rule = record (new_rule (codes "fds")) { long = Some (codes "fds"); value_names = 1 }
 
--- the command with the four options for limits
-abbrev pub with_limits : App → App
-with_limits app = with_rule
+-- the command with the options that each has: `--explain`, and four for limits
+abbrev pub with_options : App → App
+with_options app = with_rule
     (with_rule
-    (with_rule (with_rule app (limit_rule (codes "max-message") MESSAGE_LIMIT)) (limit_rule (codes "max-array") ARRAY_LIMIT))
+    (with_rule
+    (with_rule (with_rule app (flag_rule (codes "explain"))) (limit_rule (codes "max-message") MESSAGE_LIMIT))
+    (limit_rule (codes "max-array") ARRAY_LIMIT))
     (limit_rule (codes "max-depth") DEPTH_LIMIT)) fds_rule
 
+-- and with `--keep-going`, which all but `swap` have
+abbrev pub with_keep_going : App → App
+with_keep_going app = with_options (with_rule app (flag_rule (codes "keep-going")))
+
 abbrev pub show_app : App
-show_app = with_limits (new_app (codes "show"))
+show_app = with_keep_going (new_app (codes "show"))
 
 abbrev pub json_app : App
-json_app = with_limits (new_app (codes "json"))
+json_app = with_keep_going (new_app (codes "json"))
 
 abbrev pub check_app : App
-check_app = with_limits (new_app (codes "check"))
+check_app = with_keep_going (new_app (codes "check"))
 
 abbrev pub swap_app : App
-swap_app = with_limits (with_rule (new_app (codes "swap")) to_rule)
+swap_app = with_options (with_rule (new_app (codes "swap")) to_rule)
 
 abbrev pub filter_app : App
-filter_app = with_limits (with_rule (with_rule (with_rule (new_app (codes "filter")) text_rule) invert_rule) owner_rule)
+filter_app = with_keep_going (with_rule (with_rule (with_rule (new_app (codes "filter")) text_rule) (flag_rule (codes "invert"))) owner_rule)
 
 -- the program has a version, and one of the subcommands must be named
 abbrev pub bare_app : App
@@ -69,7 +75,7 @@ pub record IsLocal (app : App) (command : Command) : Type 0 where
   pub app_is : app_of command ≡ app
   pub local : (out-Command command).has_globals ≡ false
 
--- the command has the options for limits after its own, and nothing else is new
-pub record TakesLimits (old new : Command) : Type 0 where
-  pub app_is : app_of new ≡ with_limits (app_of old)
+-- the command has more options after its own, and nothing else is new
+pub record Adds (more : App → App) (old new : Command) : Type 0 where
+  pub app_is : app_of new ≡ more (app_of old)
   pub as_local : (out-Command new).has_globals ≡ (out-Command old).has_globals

@@ -57,4 +57,4 @@ TellsLimits rows (Err Memory) = Unit {0}
 TellsLimits rows (Err (Help text)) = ⊥
 TellsLimits rows (Err (Version text)) = ⊥
 TellsLimits rows (Err (Usage text)) = (limits : Limits) → HasLimits rows limits → ⊥
-TellsLimits rows (Err (Rule fault)) = ⊥
+TellsLimits rows (Err (Rule refused)) = ⊥

@@ -1,14 +1,11 @@
--- The command and the limits that words name, and the fault of a rule's text among them.
-use Rattle.std.specs.Prelude.{◌≡◌, ◌↔◌, ℕ, true, List, [], ◌∷◌, ◌++◌, Option, Some, None, unwrap_or, codes}
+-- The command and the settings that words name, and the rule among them that is refused.
+use Rattle.std.specs.Prelude.{◌≡◌, ◌↔◌, true, List, [], ◌∷◌, ◌++◌, Option, Some, None, unwrap_or, codes, string_bytes}
 use Rattle.std.specs.List.{AllByRecursion, AllZip}
 use Rattle.std.specs.declared.alloc.Global.{Global}
 use Rattle.clap.specs.Words.{Row, Text, all_of, first_of, subcommand_of}
 use Rattle.dbus_value_model.specs.declared.limits.Limits.{Limits}
 use Rattle.dbus_value_model.specs.declared.order.Order.{Order}
 use Rattle.dbus_value_model.specs.declared.order.Order.TheVariants.{Little, Big}
-use Rattle.dbus_match.specs.declared.fault.RuleFault.{RuleFault}
-use Rattle.dbus_match.specs.declared.fault.RuleFault.TheVariants.{Memory, Bad}
-use Rattle.dbus_match.specs.declared.fault.RuleReason.{RuleReason}
 use Rattle.dbus_match.specs.declared.rule.Rule.{Rule}
 use Rattle.dbus_match.specs.Faults.{IsFault}
 use Rattle.dbus_match.specs.Matching.{Ownership}
@@ -20,6 +17,8 @@ use Rattle.dbus_command.specs.Owners.{AreOwnersOf, IsOwnerWord}
 use Rattle.dbus_command.specs.declared.command.Command.{Command}
 use Rattle.dbus_command.specs.declared.command.Command.TheVariants.{Show, Json, Check, Swap, Filter}
 use Rattle.dbus_command.specs.declared.selection.Selection.{Selection}
+use Rattle.dbus_command.specs.declared.settings.Settings.{Settings}
+use Rattle.dbus_command.specs.declared.usage_fault.RefusedRule.{RefusedRule}
 
 -- the word that stands for a byte order
 abbrev pub order_word : Order → Text
@@ -39,16 +38,16 @@ words_of id rows = unwrap_or (all_of id rows) []
 abbrev pub AreRulesOf : List Text → List (Rule Global) → Type 0
 AreRulesOf texts rules = AllZip (λ text rule. SpellsRule text (rule_pairs rule)) texts rules
 
--- `--invert` is one of the words
-abbrev pub IsInverted : List Row → Type 0
-IsInverted rows = first_of (codes "invert") rows ≡ Some (codes "true")
+-- the flag of this name is one of the words
+abbrev pub IsGiven : Text → List Row → Type 0
+IsGiven name rows = first_of name rows ≡ Some (codes "true")
 
 -- the words after `filter` are texts that spell the rules, in their order; and so are the owners given
 pub record IsSelectionGiven (rows : List Row) (selection : Selection) : Type 0 where
   pub texts : List Text
   pub given : all_of (codes "rule") rows ≡ Some texts
   pub rules : AreRulesOf texts selection.rules.items
-  pub inverted : (selection.is_inverted ≡ true) ↔ IsInverted rows
+  pub inverted : (selection.is_inverted ≡ true) ↔ IsGiven (codes "invert") rows
   pub owners : AreOwnersOf (words_of (codes "owner") rows) selection.owners.items
 
 -- the name of a subcommand and the words after it name the command
@@ -59,38 +58,40 @@ NamesCommand name rows Check = name ≡ codes "check"
 NamesCommand name rows (Swap order) = (name ≡ codes "swap") × (first_of (codes "to") rows ≡ Some (order_word order))
 NamesCommand name rows (Filter selection) = (name ≡ codes "filter") × IsSelectionGiven rows selection
 
--- the subcommand and the words after it name the command and its limits
-abbrev pub Names : Option (Text × List Row) → Command → Limits → Type 0
-Names None command limits = ⊥
-Names (Some sub) command limits = NamesCommand sub.0 sub.1 command × HasLimits sub.1 limits
+-- the words after a subcommand name the limits, and have each flag that is set and no other
+pub record HasSettings (rows : List Row) (settings : Settings) : Type 0 where
+  pub limits : HasLimits rows settings.limits
+  pub explains : (settings.explains ≡ true) ↔ IsGiven (codes "explain") rows
+  pub keeps_going : (settings.keeps_going ≡ true) ↔ IsGiven (codes "keep-going") rows
 
--- the command and the limits are those that the words name
-abbrev pub IsNamedBy : List Text → Command × Limits → Type 0
+-- the subcommand and the words after it name the command and its settings
+abbrev pub Names : Option (Text × List Row) → Command → Settings → Type 0
+Names None command settings = ⊥
+Names (Some sub) command settings = NamesCommand sub.0 sub.1 command × HasSettings sub.1 settings
+
+-- the command and the settings are those that the words name
+abbrev pub IsNamedBy : List Text → Command × Settings → Type 0
 IsNamedBy words named = Names (subcommand_of wire_app words) named.0 named.1
 
--- the first of the texts that spells no rule has this fault at this place
-pub record HasFirstFault (texts : List Text) (reason : RuleReason) (at : ℕ) : Type 0 where
+-- the first of the texts that spells no rule is this one, with its fault
+pub record HasFirstFault (texts : List Text) (refused : RefusedRule) : Type 0 where
   pub before : List Text
-  pub text : Text
   pub after : List Text
-  pub texts_are : texts ≡ before ++ text ∷ after
+  pub texts_are : texts ≡ before ++ string_bytes refused.text ∷ after
   pub rules : AllByRecursion (λ t. (pairs : List Pair) × SpellsRule t pairs) before
-  pub fault : IsFault text reason at
+  pub fault : IsFault (string_bytes refused.text) refused.reason refused.at
 
--- the same, of a fault; want of memory is none of a text
-abbrev pub HaveFault : List Text → RuleFault → Type 0
-HaveFault texts Memory = ⊥
-HaveFault texts (Bad at reason) = HasFirstFault texts reason at
-
--- the words after `filter` are texts with this fault, and options that give owners
-pub record HasFault (name : Text) (rows : List Row) (fault : RuleFault) : Type 0 where
+-- the words after `filter` are texts, of which this one is refused, and options that give owners; it is to be explained
+-- exactly if `--explain` is one of them
+pub record HasFault (name : Text) (rows : List Row) (refused : RefusedRule) : Type 0 where
   pub named : name ≡ codes "filter"
   pub texts : List Text
   pub given : all_of (codes "rule") rows ≡ Some texts
-  pub first : HaveFault texts fault
+  pub first : HasFirstFault texts refused
+  pub explains : (refused.explains ≡ true) ↔ IsGiven (codes "explain") rows
   pub owners : AllByRecursion (λ word. (o : Ownership) × IsOwnerWord word o) (words_of (codes "owner") rows)
 
 -- the same, after options that name limits
-abbrev pub HasRuleFault : Option (Text × List Row) → RuleFault → Type 0
-HasRuleFault None fault = ⊥
-HasRuleFault (Some sub) fault = HasFault sub.0 sub.1 fault × ((limits : Limits) × HasLimits sub.1 limits)
+abbrev pub HasRuleFault : Option (Text × List Row) → RefusedRule → Type 0
+HasRuleFault None refused = ⊥
+HasRuleFault (Some sub) refused = HasFault sub.0 sub.1 refused × ((limits : Limits) × HasLimits sub.1 limits)

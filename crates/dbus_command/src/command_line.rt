@@ -1,7 +1,7 @@
 //! The command that the words of a command line name.
 ghost use Rattle.std.specs.Prelude.{◌≡◌, ◌↔◌, true, List, IfOk, MatchOption, map, string_bytes, codes};
 ghost use Rattle.clap.specs.Words.{found_of, kind_of, rows_of, subcommand_rows_of};
-ghost use Rattle.dbus_command.specs.Named.{IsInverted, IsNamedBy, IsOrderOf, words_of};
+ghost use Rattle.dbus_command.specs.Named.{IsGiven, IsNamedBy, IsOrderOf, words_of};
 ghost use Rattle.dbus_command.specs.Told.{TellsKind, Tells, TellsCommand, TellsFault, TellsOwners};
 
 use crate::command::Command;
@@ -9,26 +9,27 @@ use crate::limits_named::limits_named;
 use crate::owners::owners_given;
 use crate::rules::rules_spelled;
 use crate::selection::Selection;
+use crate::settings::Settings;
 use crate::usage_fault::{UsageFault, bad_value, usage};
 use crate::wire::wire;
 use clap::ArgMatches;
 use clap::error::ErrorKind;
 use dbus_match::Owner;
-use dbus_value::{Limits, Order};
+use dbus_value::Order;
 use std::alloc::Global;
 
-/// The command that the words name, and the limits that its messages are read under. The first of the words is the
-/// program's name. `--max-message` and `--max-array`, in bytes, `--max-depth`, in open containers, and `--fds`, a rule on
-/// indexes of descriptors, name the limits; one that they do not name is that of the specification.
+/// The command that the words name, and its settings. The first of the words is the program's name. `--max-message` and
+/// `--max-array`, in bytes, `--max-depth`, in open containers, and `--fds`, a rule on indexes of descriptors, name the limits;
+/// one that they do not name is that of the specification. The flags `--explain`, and `--keep-going` of all commands but `swap`,
+/// are set if they are among the words.
 ///
 /// `Usage`: the words name no command of the program, or have what it does not take, a limit over that of the specification
 /// and an owner that is no NAME=UNIQUE of two bus names among it. `Rule`: they name `filter`, with a text that spells no rule;
-/// it is the fault of the first such text. `Help`, `Version`: they ask for help, or for the version. `Memory`: an allocation
-/// failed.
-pub fn command_of(alloc: Global, words: &[String]) -> Result<(Command, Limits), UsageFault>
-    // A command that is returned is the one that the words name, and so are its limits.
+/// it is the first such text. `Help`, `Version`: they ask for help, or for the version. `Memory`: an allocation failed.
+pub fn command_of(alloc: Global, words: &[String]) -> Result<(Command, Settings), UsageFault>
+    // A command that is returned is the one that the words name, and so are its settings.
     ensures named { IfOk result (IsNamedBy (map string_bytes words.now)) }
-    // Help or the version is returned if the words ask for it, a fault of usage if they have one, and a rule's fault if its text has it.
+    // Help or the version is returned if the words ask for it, a fault of usage if they have one, and a rule if it is refused.
     ensures faults { TellsFault (map string_bytes words.now) result }
 {
     let Ok(command) = wire(alloc) else {
@@ -40,8 +41,8 @@ pub fn command_of(alloc: Global, words: &[String]) -> Result<(Command, Limits), 
     }
 }
 
-// The command that matches name, and its limits.
-fn command_named(alloc: Global, matches: &ArgMatches) -> Result<(Command, Limits), UsageFault>
+// The command that matches name, and its settings.
+fn command_named(alloc: Global, matches: &ArgMatches) -> Result<(Command, Settings), UsageFault>
     ensures { Tells (subcommand_rows_of matches.now) result }
 {
     let Some((name, inner)) = matches.subcommand() else {
@@ -49,7 +50,12 @@ fn command_named(alloc: Global, matches: &ArgMatches) -> Result<(Command, Limits
     };
     let limits = limits_named(alloc, inner)?;
     let command = command_with(alloc, name, inner)?;
-    Ok((command, limits))
+    let settings = Settings {
+        limits,
+        explains: is_given(inner, "explain"),
+        keeps_going: is_given(inner, "keep-going"),
+    };
+    Ok((command, settings))
 }
 
 // The command of this name, with what comes after it.
@@ -108,10 +114,10 @@ fn selection_named(alloc: Global, inner: &ArgMatches) -> Result<Command, UsageFa
         return Err(usage(alloc, "error: no rule\n"));
     };
     let owners = owners_named(alloc, inner)?;
-    let rules = rules_spelled(alloc, texts)?;
+    let rules = rules_spelled(alloc, texts, is_given(inner, "explain"))?;
     Ok(Command::Filter(Selection {
         rules,
-        is_inverted: is_inverted(inner),
+        is_inverted: is_given(inner, "invert"),
         owners,
     }))
 }
@@ -126,11 +132,11 @@ fn owners_named(alloc: Global, inner: &ArgMatches) -> Result<Vec<Owner>, UsageFa
     }
 }
 
-// Whether `--invert` is given.
-fn is_inverted(inner: &ArgMatches) -> bool
-    ensures { (result ≡ true) ↔ IsInverted (rows_of (found_of inner.now)) }
+// Whether the flag of this name is given.
+fn is_given(inner: &ArgMatches, name: &str) -> bool
+    ensures { (result ≡ true) ↔ IsGiven name.now (rows_of (found_of inner.now)) }
 {
-    is_true(inner.get_str("invert"))
+    is_true(inner.get_str(name))
 }
 
 // Whether the word is there and is `true`.

@@ -1,8 +1,21 @@
 //! The texts of help.
 
-// What stands after the help of a command: what it reads, what it writes, how it ends, and an example.
+// What stands after the help of a command: what it reads, what it writes, how it ends, and an example. With `going` it is of
+// one that takes `--keep-going`.
 macro_rules! more {
-    ($output:literal, $example:literal) => {
+    (going $output:literal, $example:literal) => {
+        more!(
+            $output,
+            "
+
+  With --keep-going a message that is refused gives a line of its own,
+  `refused at P: NAME in message N at O`, and the next one is read, if its first
+  16 bytes state a length. If any was passed over, the last such line is
+  `N messages B bytes, K passed over C bytes`.",
+            $example
+        )
+    };
+    ($output:literal, $going:literal, $example:literal) => {
         concat!(
             "Input:
   Raw messages on standard input, one after the other, as
@@ -11,7 +24,11 @@ macro_rules! more {
 
 Output:",
             $output,
+            $going,
             "
+
+  With --explain three lines after a refusal say where the fault is, and what
+  has to be there.
 
 Exit status:
   0  the whole input is messages, or help was asked for
@@ -39,6 +56,7 @@ pub(crate) const PROGRAM_MORE: &str = more!(
   refused, `refused at P: NAME` gives the place, in bytes from its start, and the
   reason. check writes that line to standard output; the others write it to
   standard error, and what they wrote of the messages before that place stays.",
+    "",
     "
   dbus-monitor --session --binary > capture
   dbus-wire check < capture"
@@ -49,7 +67,7 @@ pub(crate) const SHOW: &str = "Writes each message as text";
 
 /// What stands after the help of `show`.
 pub(crate) const SHOW_MORE: &str = more!(
-    "
+    going "
   For each message a line on standard output with its number from 1, byte order,
   type, serial, flags and header fields, and below it a line for each value of
   its body. If the input is refused, `refused at P: NAME` on standard error.",
@@ -62,7 +80,7 @@ pub(crate) const JSON: &str = "Writes each message as a line of JSON";
 
 /// What stands after the help of `json`.
 pub(crate) const JSON_MORE: &str = more!(
-    "
+    going "
   For each message one line on standard output, an object: its number from 1,
   its offset, in bytes from the start of the input, its length, order, type,
   flags and serial, each header field by its name, fields of other codes in
@@ -81,7 +99,7 @@ pub(crate) const CHECK: &str = "Checks that the input is messages, and counts th
 
 /// What stands after the help of `check`.
 pub(crate) const CHECK_MORE: &str = more!(
-    "
+    going "
   One line on standard output: `ok N messages B bytes`, or `refused at P: NAME`
   with the place, in bytes from the start of the input, and the reason.",
     "
@@ -96,6 +114,7 @@ pub(crate) const SWAP_MORE: &str = more!(
     "
   The raw messages on standard output, each in the byte order that is named.
   If the input is refused, `refused at P: NAME` on standard error.",
+    "",
     "
   dbus-wire swap --to B < capture > big-endian"
 );
@@ -108,7 +127,7 @@ pub(crate) const FILTER: &str = "Writes the messages that match a rule, as they 
 
 /// What stands after the help of `filter`.
 pub(crate) const FILTER_MORE: &str = more!(
-    "
+    going "
   The raw messages that match one of the rules, or with --invert none of them,
   on standard output, each as it came. If the input is refused,
   `refused at P: NAME` on standard error. If a rule is refused, the first such
@@ -130,6 +149,12 @@ pub(crate) const INVERT: &str = "Writes the messages that match none of the rule
 
 /// What `--owner` of `filter` is.
 pub(crate) const OWNER: &str = "The owner of a name, as org.a.B=:1.7; any number";
+
+/// What `--explain` does.
+pub(crate) const EXPLAIN: &str = "Explains what is refused, in three more lines";
+
+/// What `--keep-going` of `show`, `json`, `check` and `filter` does.
+pub(crate) const KEEP_GOING: &str = "Goes on after a refused message";
 
 /// What the limit on messages is.
 pub(crate) const MAX_MESSAGE: &str = "Most bytes of a message: 0 to 134217728, the default";

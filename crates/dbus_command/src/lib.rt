@@ -1,4 +1,4 @@
-//! The command line of the program `dbus-wire`: which command its words name, under which limits.
+//! The command line of the program `dbus-wire`: which command its words name, with which settings.
 //!
 //! [`command_of`] returns the [`Command`] or the [`UsageFault`] of some words. The texts of help are here too. `dbus_tool` runs the
 //! command. `man/dbus-wire.1` describes the words.
@@ -13,10 +13,12 @@ mod limits_named;
 mod owners;
 mod rules;
 mod selection;
+mod settings;
 mod usage_fault;
 mod wire;
 
 pub use command::Command;
 pub use command_line::command_of;
 pub use selection::Selection;
-pub use usage_fault::UsageFault;
+pub use settings::Settings;
+pub use usage_fault::{RefusedRule, UsageFault};

@@ -1,7 +1,7 @@
 //! Why words name no command.
 ghost use Rattle.dbus_command.specs.Told.{IsUsageOrMemory};
 
-use dbus_match::RuleFault;
+use dbus_match::RuleReason;
 use std::alloc::Global;
 
 /// Why the words of a command line name no command.
@@ -15,8 +15,21 @@ pub enum UsageFault {
     Version(String),
     /// The words are wrong: the text that says how, which ends in LF.
     Usage(String),
-    /// The words name `filter` with a text that spells no rule: the one fault of the first of these, which is never `Memory`.
-    Rule(RuleFault),
+    /// The words name `filter` with a text that spells no rule: the first of these.
+    Rule(RefusedRule),
+}
+
+/// A text that spells no rule.
+#[derive(Debug, Drop)]
+pub struct RefusedRule {
+    /// The text.
+    pub text: String,
+    /// The place of its one fault, in bytes from its start.
+    pub at: usize,
+    /// The reason.
+    pub reason: RuleReason,
+    /// Whether the words ask for an explanation of it.
+    pub explains: bool,
 }
 
 /// A fault of usage with this text.

@@ -1,7 +1,7 @@
 //! The command line, as `clap` is told it.
 ghost use Rattle.std.specs.Prelude.{◌≡◌, IfOk, false};
 ghost use Rattle.clap.specs.Words.{app_of, rule_of};
-ghost use Rattle.dbus_command.specs.CommandLine.{IsLocal, TakesLimits, fds_rule, invert_rule, limit_rule, owner_rule, text_rule, wire_app, bare_app, show_app, json_app, check_app, swap_app, filter_app};
+ghost use Rattle.dbus_command.specs.CommandLine.{Adds, IsLocal, fds_rule, flag_rule, limit_rule, owner_rule, text_rule, with_keep_going, with_options, wire_app, bare_app, show_app, json_app, check_app, swap_app, filter_app};
 
 use crate::help;
 use clap::builder::ValueParser;
@@ -32,18 +32,38 @@ fn fds_option<'a>(alloc: Global) -> Arg<'a>
         .help(help::FDS)
 }
 
-// The command with the options for limits, which each command of the program takes.
-fn with_limits<'a>(alloc: Global, command: Command<'a>) -> Result<Command<'a>, AllocError>
-    ensures { IfOk result (TakesLimits command.entry) }
+// A flag.
+fn flag<'a>(alloc: Global, name: &'a str, help: &'a str) -> Arg<'a>
+    ensures rule { rule_of result ≡ flag_rule name.entry.now }
+    ensures local { result.global ≡ false }
+{
+    Arg::new(alloc, name)
+        .long(name)
+        .help(help)
+        .action(ArgAction::SetTrue)
+}
+
+// The command with the options that each command of the program takes.
+fn with_options<'a>(alloc: Global, command: Command<'a>) -> Result<Command<'a>, AllocError>
+    ensures { IfOk result (Adds with_options command.entry) }
 {
     let message = limit_option(alloc, "max-message", MESSAGE_LIMIT, help::MAX_MESSAGE);
     let array = limit_option(alloc, "max-array", ARRAY_LIMIT, help::MAX_ARRAY);
     let depth = limit_option(alloc, "max-depth", u32::from(DEPTH_LIMIT), help::MAX_DEPTH);
     command
+        .arg(flag(alloc, "explain", help::EXPLAIN))?
         .arg(message)?
         .arg(array)?
         .arg(depth)?
         .arg(fds_option(alloc))
+}
+
+// The command with `--keep-going` and the options that each command takes.
+fn with_keep_going<'a>(alloc: Global, command: Command<'a>) -> Result<Command<'a>, AllocError>
+    ensures { IfOk result (Adds with_keep_going command.entry) }
+{
+    let going = command.arg(flag(alloc, "keep-going", help::KEEP_GOING))?;
+    with_options(alloc, going)
 }
 
 // `show`, which takes no words but its options.
@@ -53,7 +73,7 @@ fn show_command<'a>(alloc: Global) -> Result<Command<'a>, AllocError>
     let show = Command::new(alloc, "show")
         .about(help::SHOW)
         .after_help(help::SHOW_MORE);
-    with_limits(alloc, show)
+    with_keep_going(alloc, show)
 }
 
 // `json`, which takes no words but its options.
@@ -63,7 +83,7 @@ fn json_command<'a>(alloc: Global) -> Result<Command<'a>, AllocError>
     let json = Command::new(alloc, "json")
         .about(help::JSON)
         .after_help(help::JSON_MORE);
-    with_limits(alloc, json)
+    with_keep_going(alloc, json)
 }
 
 // `check`, which takes no words but its options.
@@ -73,7 +93,7 @@ fn check_command<'a>(alloc: Global) -> Result<Command<'a>, AllocError>
     let check = Command::new(alloc, "check")
         .about(help::CHECK)
         .after_help(help::CHECK_MORE);
-    with_limits(alloc, check)
+    with_keep_going(alloc, check)
 }
 
 // `swap`, with its order.
@@ -89,7 +109,7 @@ fn swap_command<'a>(alloc: Global) -> Result<Command<'a>, AllocError>
         .about(help::SWAP)
         .after_help(help::SWAP_MORE)
         .arg(to)?;
-    with_limits(alloc, swap)
+    with_options(alloc, swap)
 }
 
 // The rules of `filter`, of which there is one at least.
@@ -102,17 +122,6 @@ fn rule_argument<'a>(alloc: Global) -> Arg<'a>
         .help(help::RULE)
         .required(true)
         .action(ArgAction::Append)
-}
-
-// The flag that inverts `filter`.
-fn invert_flag<'a>(alloc: Global) -> Arg<'a>
-    ensures rule { rule_of result ≡ invert_rule }
-    ensures local { result.global ≡ false }
-{
-    Arg::new(alloc, "invert")
-        .long("invert")
-        .help(help::INVERT)
-        .action(ArgAction::SetTrue)
 }
 
 // The option of an owner, which may occur again and again.
@@ -135,9 +144,9 @@ fn filter_command<'a>(alloc: Global) -> Result<Command<'a>, AllocError>
         .about(help::FILTER)
         .after_help(help::FILTER_MORE);
     let ruled = filter.arg(rule_argument(alloc))?;
-    let inverting = ruled.arg(invert_flag(alloc))?;
+    let inverting = ruled.arg(flag(alloc, "invert", help::INVERT))?;
     let owning = inverting.arg(owner_option(alloc))?;
-    with_limits(alloc, owning)
+    with_keep_going(alloc, owning)
 }
 
 // The program before it has subcommands, with its version. Its texts call it `dbus-wire`, whatever the first word is.

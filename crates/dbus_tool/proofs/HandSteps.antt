@@ -1,15 +1,17 @@
--- The turns in which something is written of the messages of a reader. k is what is known of its taker.
-use Rattle.std.proofs.Common.{◌≡◌, ◌⊎◌, ℕ, ◌+◌, List, [], ◌∷◌, ◌++◌, true, None, Some, Err, Option, length, drop, refl, sym, ap, ◌∙◌, subst, arith, inl, inr}
+-- The turns in which something is written of the messages of a reader, from where it stands. k is what is known of its taker, kept is what it kept
+-- there, and before is how many messages came before.
+use Rattle.std.proofs.Common.{◌≡◌, ◌⊎◌, ℕ, ◌+◌, List, [], ◌∷◌, ◌++◌, true, false, None, Some, Ok, Err, Option, Result, length, drop, refl, sym, ap, ◌∙◌, subst, arith, inl, inr}
 use Rattle.dbus_value_model.specs.declared.fault.Fault.{Fault}
 use Rattle.dbus_value_model.specs.declared.limits.Limits.{Limits}
 use Rattle.dbus_header.specs.MessageOutcomes.{IsWhole, IsRefused, IsPartial}
-use Rattle.dbus_device.specs.Device.{one_more}
-use Rattle.dbus_stream.specs.Cut.{CutMessage, CutOutcome, Unfinished, Refused, IsOutcome}
+use Rattle.dbus_device.specs.Device.{one_more, RisesBy}
+use Rattle.dbus_stream.specs.Cut.{CutMessage, BeginWith, CutOutcome, Unfinished, Refused, IsOutcome}
 use Rattle.dbus_stream.specs.CutEnds.{fault_at_end, sizes}
 use Rattle.dbus_stream.specs.Gathering.{gathering}
 use Rattle.dbus_stream.specs.Next.{DeviceCounts, IsCutShort, Reads}
 use Rattle.dbus_stream.specs.RawNext.{Advances}
-use Rattle.dbus_stream.specs.RawReading.{kept}
+use Rattle.dbus_stream.specs.RawReading as raw
+use Rattle.dbus_stream.specs.RawReading.{kept, IsNewReader}
 use Rattle.dbus_stream.specs.declared.raw_reader.RawReader.{RawReader}
 use Rattle.dbus_stream.specs.Reading.{limits_of, source_of, done_of, reads_of, most_reads_of, is_ended, stopped_of}
 use Rattle.dbus_stream.specs.Taking.{Taking}
@@ -18,11 +20,13 @@ use Rattle.dbus_stream.specs.declared.reader.Reader.{Reader}
 use Rattle.dbus_stream.specs.declared.read_fault.ReadFault.{ReadFault}
 use Rattle.dbus_stream.specs.declared.read_fault.ReadFault.TheVariants as read
 use Rattle.dbus_command.specs.declared.command.Command.{Command}
-use Rattle.dbus_tool.specs.Devices.{reading, writing}
+use Rattle.dbus_stream.proofs.NextSteps.{both_ways}
+use Rattle.dbus_tool.specs.Devices.{reading, writing, RisesAtMost}
 use Rattle.dbus_tool.specs.Counting.{ended_by, stopped_by}
 use Rattle.dbus_tool.specs.Output.{IsOutputOf, IsOutputOfAll}
 use Rattle.dbus_tool.specs.Gathering.{Passes, Leaves, GathersOrNot}
-use Rattle.dbus_tool.specs.Handing.{HandsAll, HandsSome, Hands, GivesNext, IsReadCause, AreAll, IsWrittenOut}
+use Rattle.dbus_tool.specs.Handing.{HandsSome, Hands, GivesNext, IsReadCause, AreAll, IsWrittenOut}
+use Rattle.dbus_tool.specs.Onward.{HasRead, HandsAllOn, HandsSomeOn, HandsOn, RawHandsOn, StopsFor, IsTrueEnd}
 use Rattle.dbus_tool.specs.declared.ending.Cause.{Cause}
 use Rattle.dbus_tool.specs.declared.ending.Cause.TheVariants.{Memory, ReadFailed, WriteFailed, TooManyReads}
 use Rattle.dbus_tool.specs.declared.ending.Counted.{Counted}
@@ -31,43 +35,42 @@ use Rattle.dbus_tool.specs.declared.ending.NoMessage.TheVariants.{Reader as From
 use Rattle.dbus_tool.specs.PageLaws.{passes_none, passes_both, breaks_after}
 use Rattle.dbus_tool.proofs.GatherSteps.{passes_nothing, breaks_nothing}
 use Rattle.dbus_tool.proofs.OutputSteps.{output_last}
-use Rattle.dbus_tool.proofs.ReadSteps.{HasRead, read_more, read_message, few_called, called_all, counts_all, sizes-last, length-last}
+use Rattle.dbus_tool.proofs.ReadSteps.{read_none, read_more, read_message, sizes-last, length-last}
 
 module _ {R T B G W : Type 0} {b : Ghosts B} (k : Taking T G) (left : R → Option (List ℕ)) (calls failures : R → ℕ) (held : W → Option (List ℕ)) (write_failures : W → ℕ)
-    (limits : Limits) (most : ℕ) (command : Command) where
+    (limits : Limits) (command : Command) (kept : List ℕ) (before : ℕ) where
   -- what is wanted of the messages that were read so far was written or gathered, and the rest is kept
   pub record HasHanded (count : ℕ) (old new : Reader R T B b) (rest g0 g1 : List ℕ) (w0 w1 : W) : Type 0 where
     pub items : List CutMessage
-    pub read : HasRead k left calls limits most old new items rest
-    pub done : done_of new ≡ sizes items
+    pub read : HasRead k left calls limits kept old new items rest
+    pub done : done_of new ≡ done_of old + sizes items
     pub unstopped : stopped_of new ≡ None
     pub failed : failures (source_of new) ≡ failures (source_of old)
-    pub count_is : count ≡ length items
+    pub count_is : count ≡ before + length items
     pub out : List ℕ
-    pub output : IsOutputOfAll command 1 0 items out
+    pub output : IsOutputOfAll command (before + 1) (done_of old) items out
     pub passes : Passes held write_failures out g0 g1 w0 w1
 
-  pub hands_none : (reader : Reader R T B b) (g : List ℕ) (w : W) → HasRead k left calls limits most reader reader [] [] → done_of reader ≡ 0 → stopped_of reader ≡ None
-      → HasHanded 0 reader reader [] g g w w
-  hands_none reader g w read done unstopped = record {
+  pub hands_none : (reader : Reader R T B b) (g : List ℕ) (w : W) → limits_of k reader ≡ limits → stopped_of reader ≡ None
+      → HasHanded before reader reader kept g g w w
+  hands_none reader g w within unstopped = record {
     items = [];
-    read = read;
-    done = done;
+    read = read_none k left calls limits kept reader within;
+    done = omega arith;
     unstopped = unstopped;
     failed = refl;
-    count_is = refl;
+    count_is = omega arith;
     out = [];
     output = refl;
     passes = passes_none held write_failures g w;
   }
 
   next_output : (count : ℕ) (old mid : Reader R T B b) (rest g0 g1 : List ℕ) (w0 w1 : W) (item : CutMessage) (one : List ℕ) (h : HasHanded count old mid rest g0 g1 w0 w1)
-      → IsOutputOf command item.order item.message (count + 1) (done_of mid) one → IsOutputOfAll command 1 0 (h.items ++ item ∷ []) (h.out ++ one)
+      → IsOutputOf command item.order item.message (count + 1) (done_of mid) one → IsOutputOfAll command (before + 1) (done_of old) (h.items ++ item ∷ []) (h.out ++ one)
   next_output count old mid rest g0 g1 w0 w1 item one h output =
-      let number : count + 1 ≡ 1 + length h.items = omega (arith, h.count_is) in
-      let place : done_of mid ≡ 0 + sizes h.items = omega (arith, h.done) in
-      output_last command 1 0 h.items item h.out one h.output
-      (subst (λ n. IsOutputOf command item.order item.message n (0 + sizes h.items) one) number (subst (λ k. IsOutputOf command item.order item.message (count + 1) k one) place output))
+      let number : count + 1 ≡ before + 1 + length h.items = omega (arith, h.count_is) in
+      output_last command (before + 1) (done_of old) h.items item h.out one h.output
+      (subst (λ n. IsOutputOf command item.order item.message n (done_of old + sizes h.items) one) number (subst (λ k. IsOutputOf command item.order item.message (count + 1) k one) h.done output))
 
   -- one more message
   pub hands_more : (count : ℕ) (old mid new : Reader R T B b) (rest g0 g1 g2 : List ℕ) (w0 w1 w2 : W) (item : CutMessage) (one : List ℕ) → HasHanded count old mid rest g0 g1 w0 w1
@@ -77,26 +80,34 @@ module _ {R T B G W : Type 0} {b : Ghosts B} (k : Taking T G) (left : R → Opti
   hands_more count old mid new rest g0 g1 g2 w0 w1 w2 item one h r whole done unstopped same output p =
       record {
         items = h.items ++ item ∷ [];
-        read = read_message k left calls limits most old new h.items item (rest ++ r.bytes) (read_more k left calls limits most old mid new h.items rest h.read r)
+        read = read_message k left calls limits kept old new h.items item (rest ++ r.bytes) (read_more k left calls limits kept old mid new h.items rest h.read r)
             (subst (λ l. IsWhole l (rest ++ r.bytes) item.order item.message item.size) h.read.limits_are whole);
-        done = done ∙ (ap (λ n. n + item.size) h.done ∙ sym (sizes-last h.items item));
+        done = omega (arith, done, h.done, sizes-last h.items item);
         unstopped = unstopped;
         failed = same ∙ h.failed;
-        count_is = ap (λ n. n + 1) h.count_is ∙ sym (length-last h.items item);
+        count_is = omega (arith, h.count_is, length-last h.items item);
         out = h.out ++ one;
         output = next_output count old mid rest g0 g1 w0 w1 item one h output;
         passes = passes_both held write_failures h.out one g0 g1 g2 w0 w1 w2 h.passes p;
       }
 
   -- no further message comes
-  pub hands_all : (count : ℕ) (old mid new : Reader R T B b) (rest g0 g1 g2 : List ℕ) (w0 w1 w2 : W) (outcome : CutOutcome) (counted : Counted) (h : HasHanded count old mid rest g0 g1 w0 w1)
-      (r : Reads k left calls rest mid new) → counted.count ≡ count → counted.size ≡ done_of mid → counted.fault ≡ fault_at_end (rest ++ r.bytes) outcome
+  abbrev pub hands_all : (count : ℕ) (old mid new : Reader R T B b) (rest g0 g1 g2 : List ℕ) (w0 w1 w2 : W) (outcome : CutOutcome) (counted : Counted) (h : HasHanded count old mid rest g0 g1 w0 w1)
+      (r : Reads k left calls rest mid new) → counted.count ≡ count → counted.size ≡ done_of new → done_of new ≡ done_of mid → counted.fault ≡ fault_at_end (rest ++ r.bytes) outcome
       → IsOutcome limits (rest ++ r.bytes) outcome → (((f : Fault) → outcome ≡ Refused f → ⊥) → is_ended new ≡ true)
       → failures (source_of new) ≡ failures (source_of mid) → Passes held write_failures [] g1 g2 w1 w2
-      → HandsAll left calls failures held write_failures limits most command counted (source_of old) (source_of new) g0 g2 w0 w2
-  hands_all count old mid new rest g0 g1 g2 w0 w1 w2 outcome counted h r count_is size fault is ended same p = record {
-    counts = counts_all k left calls limits most old new h.items (rest ++ r.bytes) outcome counted (read_more k left calls limits most old mid new h.items rest h.read r)
-        (count_is ∙ h.count_is) (size ∙ h.done) fault is ended;
+      → HandsAllOn k left calls limits kept failures held write_failures command before counted old new g0 g2 w0 w2
+  hands_all count old mid new rest g0 g1 g2 w0 w1 w2 outcome counted h r count_is size done fault is ended same p = record {
+    items = h.items;
+    rest = rest ++ r.bytes;
+    outcome = outcome;
+    read = read_more k left calls limits kept old mid new h.items rest h.read r;
+    outcome_is = is;
+    ended = ended;
+    count_is = count_is ∙ h.count_is;
+    size_is = size ∙ (done ∙ h.done);
+    fault_is = fault;
+    done = sym size;
     out = h.out;
     output = h.output;
     passes = passes_nothing held write_failures h.out g0 g1 g2 w0 w1 w2 h.passes p;
@@ -106,23 +117,18 @@ module _ {R T B G W : Type 0} {b : Ghosts B} (k : Taking T G) (left : R → Opti
   -- reading or writing is given up
   pub hands_some : (cause : Cause) (count : ℕ) (old mid new : Reader R T B b) (rest g0 g1 g2 : List ℕ) (w0 w1 w2 : W) (h : HasHanded count old mid rest g0 g1 w0 w1)
       (r : Reads k left calls rest mid new) → AreAll limits cause (rest ++ r.bytes) → Leaves held write_failures cause h.out g0 g2 w0 w2
-      → IsReadCause left calls failures held write_failures limits most (source_of old) (source_of new) cause
-      → HandsSome left calls failures held write_failures limits most command cause (source_of old) (source_of new) g0 g2 w0 w2
-  hands_some cause count old mid new rest g0 g1 g2 w0 w1 w2 h r all leaves caused =
-      let m = read_more k left calls limits most old mid new h.items rest h.read r in
-      record {
-        bytes = m.bytes;
-        items = h.items;
-        rest = rest ++ r.bytes;
-        out = h.out;
-        consumed = m.consumed;
-        messages = m.messages;
-        all = all;
-        output = h.output;
-        leaves = leaves;
-        called = few_called k left calls limits most old new h.items (rest ++ r.bytes) m;
-        caused = caused;
-      }
+      → StopsFor k left calls limits kept failures held write_failures command before cause old new
+      → HandsSomeOn k left calls limits kept failures held write_failures command before cause old new g0 g2 w0 w2
+  hands_some cause count old mid new rest g0 g1 g2 w0 w1 w2 h r all leaves caused = record {
+    items = h.items;
+    rest = rest ++ r.bytes;
+    read = read_more k left calls limits kept old mid new h.items rest h.read r;
+    all = all;
+    out = h.out;
+    output = h.output;
+    leaves = leaves;
+    caused = caused;
+  }
 
   -- what a fault of the reader says of the bytes w that it keeps
   abbrev pub Faults : List ℕ → Reader R T B b → Reader R T B b → ReadFault → Type 0
@@ -131,23 +137,31 @@ module _ {R T B G W : Type 0} {b : Ghosts B} (k : Taking T G) (left : R → Opti
   Faults w mid new read.Device = IsPartial (limits_of k mid) w
   Faults w mid new read.TooManyReads = IsPartial (limits_of k mid) w × (reads_of new ≡ most_reads_of new)
 
-  hands_refused : (count : ℕ) (old mid new : Reader R T B b) (rest g0 g1 g2 : List ℕ) (w0 w1 w2 : W) (fault : Fault) (h : HasHanded count old mid rest g0 g1 w0 w1)
+  -- the bytes are no message, or end within one
+  pub hands_refused : (count : ℕ) (old mid new : Reader R T B b) (rest g0 g1 g2 : List ℕ) (w0 w1 w2 : W) (fault : Fault) (h : HasHanded count old mid rest g0 g1 w0 w1)
       (r : Reads k left calls rest mid new) → Faults (rest ++ r.bytes) mid new (read.Format fault) → failures (source_of new) ≡ failures (source_of mid)
       → Passes held write_failures [] g1 g2 w1 w2
-      → HandsAll left calls failures held write_failures limits most command (record { count = count; size = done_of new; fault = Some fault }) (source_of old) (source_of new) g0 g2 w0 w2
+      → (a : HandsAllOn k left calls limits kept failures held write_failures command before (record { count = count; size = done_of new; fault = Some fault }) old new g0 g2 w0 w2)
+      × (a.rest ≡ rest ++ r.bytes)
   hands_refused count old mid new rest g0 g1 g2 w0 w1 w2 fault h r answer same p = elim answer.1 [
-    | inl refused ↦ hands_all count old mid new rest g0 g1 g2 w0 w1 w2 (Refused fault) _ h r refl answer.0 refl
-        (subst (λ l. IsRefused l (rest ++ r.bytes) fault) h.read.limits_are refused) (λ none. absurd (none fault refl)) same p
-    | inr short ↦ hands_all count old mid new rest g0 g1 g2 w0 w1 w2 Unfinished _ h r refl answer.0 (ap Some short.0.2)
-        (short.0.0, subst (λ l. IsPartial l (rest ++ r.bytes)) h.read.limits_are short.0.1) (λ _. short.1) same p
+    | inl refused ↦ (
+      hands_all count old mid new rest g0 g1 g2 w0 w1 w2 (Refused fault) _ h r refl refl answer.0 refl
+          (subst (λ l. IsRefused l (rest ++ r.bytes) fault) h.read.limits_are refused) (λ none. absurd (none fault refl)) same p,
+      refl,
+    )
+    | inr short ↦ (
+      hands_all count old mid new rest g0 g1 g2 w0 w1 w2 Unfinished _ h r refl refl answer.0 (ap Some short.0.2)
+          (short.0.0, subst (λ l. IsPartial l (rest ++ r.bytes)) h.read.limits_are short.0.1) (λ _. short.1) same p,
+      refl,
+    )
   ]
 
   -- the reader has a fault
   pub hands_faulted : (fault : ReadFault) (count : ℕ) (old mid new : Reader R T B b) (rest g0 g1 g2 : List ℕ) (w0 w1 w2 : W) (h : HasHanded count old mid rest g0 g1 w0 w1)
       (r : Reads k left calls rest mid new) → Faults (rest ++ r.bytes) mid new fault → DeviceCounts {T = Option G} (failures (source_of mid)) (failures (source_of new)) (Err fault)
       → Passes held write_failures [] g1 g2 w1 w2 → IsWrittenOut fault g2
-      → Hands (reading left calls failures (source_of old) (source_of new)) (writing held write_failures w0 w2) limits most command g0 g2 (ended_by count (done_of new) fault)
-  hands_faulted (read.Format fault) count old mid new rest g0 g1 g2 w0 w1 w2 h r answer same p o = hands_refused count old mid new rest g0 g1 g2 w0 w1 w2 fault h r answer same p
+      → HandsOn k left calls limits kept failures held write_failures command before old new g0 g2 w0 w2 (ended_by count (done_of new) fault)
+  hands_faulted (read.Format fault) count old mid new rest g0 g1 g2 w0 w1 w2 h r answer same p o = (hands_refused count old mid new rest g0 g1 g2 w0 w1 w2 fault h r answer same p).0
   hands_faulted read.Memory count old mid new rest g0 g1 g2 w0 w1 w2 h r answer same p o =
       hands_some Memory count old mid new rest g0 g1 g2 w0 w1 w2 h r tt (passes_nothing held write_failures h.out g0 g1 g2 w0 w1 w2 h.passes p) (same ∙ h.failed)
   hands_faulted read.Device count old mid new rest g0 g1 g2 w0 w1 w2 h r partial counts p o =
@@ -155,54 +169,159 @@ module _ {R T B G W : Type 0} {b : Ghosts B} (k : Taking T G) (left : R → Opti
       (subst (λ g. Passes held write_failures h.out g0 g w0 w2) o (passes_nothing held write_failures h.out g0 g1 g2 w0 w1 w2 h.passes p)) (counts.0 ∙ ap one_more h.failed)
   hands_faulted read.TooManyReads count old mid new rest g0 g1 g2 w0 w1 w2 h r answer same p o =
       hands_some TooManyReads count old mid new rest g0 g1 g2 w0 w1 w2 h r (subst (λ l. IsPartial l (rest ++ r.bytes)) h.read.limits_are answer.0)
-      (subst (λ g. Passes held write_failures h.out g0 g w0 w2) o (passes_nothing held write_failures h.out g0 g1 g2 w0 w1 w2 h.passes p))
-      (same ∙ h.failed, called_all k left calls limits most old new h.items (rest ++ r.bytes) (read_more k left calls limits most old mid new h.items rest h.read r) answer.1)
+      (subst (λ g. Passes held write_failures h.out g0 g w0 w2) o (passes_nothing held write_failures h.out g0 g1 g2 w0 w1 w2 h.passes p)) (same ∙ h.failed, answer.1)
 
   -- nothing is written of the last message that was given
   pub hands_not : (cause : Cause) (count : ℕ) (old mid new : Reader R T B b) (rest g0 g1 g2 : List ℕ) (w0 w1 w2 : W) (item : CutMessage) (one : List ℕ) (h : HasHanded count old mid rest g0 g1 w0 w1)
       (r : Reads k left calls rest mid new) → IsWhole (limits_of k mid) (rest ++ r.bytes) item.order item.message item.size
       → failures (source_of new) ≡ failures (source_of mid) → IsOutputOf command item.order item.message (count + 1) (done_of mid) one
       → GathersOrNot held write_failures one g1 g2 w1 w2 (Err cause)
-      → HandsSome left calls failures held write_failures limits most command cause (source_of old) (source_of new) g0 g2 w0 w2
+      → HandsSomeOn k left calls limits kept failures held write_failures command before cause old new g0 g2 w0 w2
   hands_not Memory count old mid new rest g0 g1 g2 w0 w1 w2 item one h r whole same output p =
       hands_some Memory count old mid new rest g0 g1 g2 w0 w1 w2 h r tt (passes_nothing held write_failures h.out g0 g1 g2 w0 w1 w2 h.passes p) (same ∙ h.failed)
   hands_not ReadFailed count old mid new rest g0 g1 g2 w0 w1 w2 item one h r whole same output p = absurd p
   hands_not TooManyReads count old mid new rest g0 g1 g2 w0 w1 w2 item one h r whole same output p = absurd p
   hands_not WriteFailed count old mid new rest g0 g1 g2 w0 w1 w2 item one h r whole same output p =
-      let more = read_more k left calls limits most old mid new h.items rest h.read r in
-      let m = read_message k left calls limits most old new h.items item (rest ++ r.bytes) more (subst (λ l. IsWhole l (rest ++ r.bytes) item.order item.message item.size) h.read.limits_are whole) in
+      let more = read_more k left calls limits kept old mid new h.items rest h.read r in
       record {
-        bytes = m.bytes;
         items = h.items ++ item ∷ [];
         rest = drop item.size (rest ++ r.bytes);
-        out = h.out ++ one;
-        consumed = m.consumed;
-        messages = m.messages;
+        read = read_message k left calls limits kept old new h.items item (rest ++ r.bytes) more (subst (λ l. IsWhole l (rest ++ r.bytes) item.order item.message item.size) h.read.limits_are whole);
         all = tt;
+        out = h.out ++ one;
         output = next_output count old mid rest g0 g1 w0 w1 item one h output;
         leaves = breaks_after held write_failures h.out one g0 g1 w0 w1 w2 h.passes p;
-        called = few_called k left calls limits most old new (h.items ++ item ∷ []) (drop item.size (rest ++ r.bytes)) m;
         caused = same ∙ h.failed;
       }
 
+  -- of a new reader, before which no message came
+  module _ (most : ℕ) (old : Reader R T B b) (new_reads : reads_of old ≡ 0) (new_most : most_reads_of old ≡ most) (new_ended : is_ended old ≡ false) (new_done : done_of old ≡ 0)
+      (none_kept : kept ≡ []) (none_before : before ≡ 0) where
+    true_end : IsTrueEnd left old
+    true_end e = absurd (both_ways (is_ended old) e new_ended)
+
+    few_called : (new : Reader R T B b) (items : List CutMessage) (rest : List ℕ) → HasRead k left calls limits kept old new items rest → RisesAtMost most (calls (source_of old)) (calls (source_of new))
+    few_called new items rest h = (h.count, omega (arith, h.reads, h.most_reads, new_reads, new_most, new.few_reads), h.called)
+
+    messages_are : (items : List CutMessage) (rest bytes : List ℕ) → BeginWith limits (kept ++ bytes) items rest → BeginWith limits bytes items rest
+    messages_are items rest bytes m = subst (λ (l : List ℕ). BeginWith limits (l ++ bytes) items rest) none_kept m
+
+    output_is : (items : List CutMessage) (out : List ℕ) → IsOutputOfAll command (before + 1) (done_of old) items out → IsOutputOfAll command 1 0 items out
+    output_is items out o = subst (λ n. IsOutputOfAll command (n + 1) 0 items out) none_before (subst (λ n. IsOutputOfAll command (before + 1) n items out) new_done o)
+
+    some_new : (cause : Cause) (new : Reader R T B b) (g0 g1 : List ℕ) (w0 w1 : W) (s : HandsSomeOn k left calls limits kept failures held write_failures command before cause old new g0 g1 w0 w1)
+        → IsReadCause left calls failures held write_failures limits most (source_of old) (source_of new) cause
+        → HandsSome left calls failures held write_failures limits most command cause (source_of old) (source_of new) g0 g1 w0 w1
+    some_new cause new g0 g1 w0 w1 s caused = record {
+      bytes = s.read.bytes;
+      items = s.items;
+      rest = s.rest;
+      out = s.out;
+      consumed = s.read.consumed;
+      messages = messages_are s.items s.rest s.read.bytes s.read.messages;
+      all = s.all;
+      output = output_is s.items s.out s.output;
+      leaves = s.leaves;
+      called = few_called new s.items s.rest s.read;
+      caused = caused;
+    }
+
+    pub hands_new : (new : Reader R T B b) (g0 g1 : List ℕ) (w0 w1 : W) (res : Result Counted Cause)
+        → HandsOn k left calls limits kept failures held write_failures command before old new g0 g1 w0 w1 res
+        → Hands (reading left calls failures (source_of old) (source_of new)) (writing held write_failures w0 w1) limits most command g0 g1 res
+    hands_new new g0 g1 w0 w1 (Ok counted) a = record {
+      counts = record {
+        bytes = a.read.bytes;
+        items = a.items;
+        rest = a.rest;
+        outcome = a.outcome;
+        consumed = a.read.consumed;
+        cut = record { messages = messages_are a.items a.rest a.read.bytes a.read.messages; outcome_is = a.outcome_is };
+        count_is = omega (arith, a.count_is, none_before);
+        size_is = omega (arith, a.size_is, new_done);
+        fault_is = a.fault_is;
+        at_end = λ none. a.read.at_end true_end (a.ended none);
+        called = few_called new a.items a.rest a.read;
+      };
+      out = a.out;
+      output = output_is a.items a.out a.output;
+      passes = a.passes;
+      failed = a.failed;
+    }
+    hands_new new g0 g1 w0 w1 (Err Memory) s = some_new Memory new g0 g1 w0 w1 s s.caused
+    hands_new new g0 g1 w0 w1 (Err ReadFailed) s = some_new ReadFailed new g0 g1 w0 w1 s s.caused
+    hands_new new g0 g1 w0 w1 (Err WriteFailed) s = some_new WriteFailed new g0 g1 w0 w1 s s.caused
+    hands_new new g0 g1 w0 w1 (Err TooManyReads) s = some_new TooManyReads new g0 g1 w0 w1 s (
+      s.caused.0,
+      (let all : s.read.count ≡ most = omega (arith, s.caused.1, s.read.reads, s.read.most_reads, new_reads, new_most) in
+          subst (λ n. RisesBy n (calls (source_of old)) (calls (source_of new))) all s.read.called),
+    )
+
 -- a reader of raw messages
-module _ {R A W : Type 0} (left : R → Option (List ℕ)) (calls failures : R → ℕ) (held : W → Option (List ℕ)) (write_failures : W → ℕ) (limits : Limits) (most : ℕ)
-    (command : Command) where
-  faults : (w : List ℕ) (mid new : RawReader R A) (fault : ReadFault) → Advances w mid new (Err fault)
-      → Faults gathering left calls failures held write_failures limits most command w mid.reader new.reader fault
-  faults w mid new read.Memory a = tt
-  faults w mid new (read.Format fault) a = (a.0.done, a.2)
-  faults w mid new read.Device a = a.2
-  faults w mid new read.TooManyReads a = (a.2, a.3)
+module _ {R A W : Type 0} (left : R → Option (List ℕ)) (calls failures : R → ℕ) (held : W → Option (List ℕ)) (write_failures : W → ℕ) (limits : Limits)
+    (command : Command) (before : ℕ) where
+  pub raw_new : (source : R) (most : ℕ) (old new : RawReader R A) → IsNewReader source most limits old → before ≡ 0 → (g0 g1 : List ℕ) (w0 w1 : W) (res : Result Counted Cause)
+      → RawHandsOn left calls failures held write_failures limits command before old new g0 g1 w0 w1 res
+      → Hands (reading left calls failures source (raw.source_of new)) (writing held write_failures w0 w1) limits most command g0 g1 res
+  raw_new source most old new is none g0 g1 w0 w1 (Ok counted) a =
+      subst (λ s. Hands (reading left calls failures s (raw.source_of new)) (writing held write_failures w0 w1) limits most command g0 g1 (Ok counted)) is.source
+      (hands_new gathering left calls failures held write_failures limits command (kept old) before most old.reader is.reads is.most_reads is.ended is.done is.kept none new.reader g0 g1 w0 w1 (Ok counted) a.all)
+  raw_new source most old new is none g0 g1 w0 w1 (Err cause) s =
+      subst (λ r. Hands (reading left calls failures r (raw.source_of new)) (writing held write_failures w0 w1) limits most command g0 g1 (Err cause)) is.source
+      (hands_new gathering left calls failures held write_failures limits command (kept old) before most old.reader is.reads is.most_reads is.ended is.done is.kept none new.reader g0 g1 w0 w1 (Err cause) s)
+
+  -- for want of memory no more are handed on, and what is gathered is written
+  pub hands_flushed : (cause : Cause) (old new : RawReader R A) (g1 : List ℕ) (w0 w1 w2 : W)
+      → HandsSomeOn gathering left calls limits (kept old) failures held write_failures command before Memory old.reader new.reader [] g1 w0 w1 → GathersOrNot held write_failures [] g1 [] w1 w2 (Err cause)
+      → HandsSomeOn gathering left calls limits (kept old) failures held write_failures command before cause old.reader new.reader [] [] w0 w2
+  hands_flushed Memory old new g1 w0 w1 w2 s p = record {
+    items = s.items;
+    rest = s.rest;
+    read = s.read;
+    all = tt;
+    out = s.out;
+    output = s.output;
+    leaves = passes_nothing held write_failures s.out [] g1 [] w0 w1 w2 s.leaves p;
+    caused = s.caused;
+  }
+  hands_flushed ReadFailed old new g1 w0 w1 w2 s p = absurd p
+  hands_flushed WriteFailed old new g1 w0 w1 w2 s p = record {
+    items = s.items;
+    rest = s.rest;
+    read = s.read;
+    all = tt;
+    out = s.out;
+    output = s.output;
+    leaves = breaks_nothing held write_failures s.out [] g1 w0 w1 w2 s.leaves p;
+    caused = s.caused;
+  }
+  hands_flushed TooManyReads old new g1 w0 w1 w2 s p = absurd p
+
+  faults : (from w : List ℕ) (mid new : RawReader R A) (fault : ReadFault) → Advances w mid new (Err fault)
+      → Faults gathering left calls failures held write_failures limits command from before w mid.reader new.reader fault
+  faults from w mid new read.Memory a = tt
+  faults from w mid new (read.Format fault) a = (a.0.done, a.2)
+  faults from w mid new read.Device a = a.2
+  faults from w mid new read.TooManyReads a = (a.2, a.3)
 
   -- there is no next message
-  pub hands_stopped : (stop : NoMessage) (count : ℕ) (old mid new : RawReader R A) (g0 g1 g2 : List ℕ) (w0 w1 w2 : W)
-      → HasHanded gathering left calls failures held write_failures limits most command count old.reader mid.reader (kept mid) g0 g1 w0 w1
-      → GivesNext left calls failures mid new (writing held write_failures w1 w2) g1 g2 (Err stop)
-      → Hands (reading left calls failures (source_of old.reader) (source_of new.reader)) (writing held write_failures w0 w2) limits most command g0 g2 (stopped_by count (done_of new.reader) stop)
-  hands_stopped (FromReader fault) count old mid new g0 g1 g2 w0 w1 w2 h given =
-      hands_faulted gathering left calls failures held write_failures limits most command fault count old.reader mid.reader new.reader (kept mid) g0 g1 g2 w0 w1 w2 h given.0
-      (faults (kept mid ++ given.0.bytes) mid new fault given.1) given.2 given.3 given.4
-  hands_stopped Writer count old mid new g0 g1 g2 w0 w1 w2 h given =
-      hands_some gathering left calls failures held write_failures limits most command WriteFailed count old.reader mid.reader new.reader (kept mid) g0 g1 g2 w0 w1 w2 h given.0 tt
-      (breaks_nothing held write_failures h.out g0 g1 w0 w1 w2 h.passes given.1) (given.2 ∙ h.failed)
+  module _ (count : ℕ) (old mid new : RawReader R A) (g0 g1 g2 : List ℕ) (w0 w1 w2 : W)
+      (h : HasHanded gathering left calls failures held write_failures limits command (kept old) before count old.reader mid.reader (kept mid) g0 g1 w0 w1) where
+    faulted : (fault : ReadFault) (given : GivesNext left calls failures mid new (writing held write_failures w1 w2) g1 g2 (Err (FromReader fault)))
+        → HandsOn gathering left calls limits (kept old) failures held write_failures command before old.reader new.reader g0 g2 w0 w2 (ended_by count (raw.done_of new) fault)
+    faulted fault given =
+        hands_faulted gathering left calls failures held write_failures limits command (kept old) before fault count old.reader mid.reader new.reader (kept mid) g0 g1 g2 w0 w1 w2 h given.0
+        (faults (kept old) (kept mid ++ given.0.bytes) mid new fault given.1) given.2 given.3 given.4
+
+    pub hands_stopped : (stop : NoMessage) → GivesNext left calls failures mid new (writing held write_failures w1 w2) g1 g2 (Err stop)
+        → RawHandsOn left calls failures held write_failures limits command before old new g0 g2 w0 w2 (stopped_by count (raw.done_of new) stop)
+    hands_stopped (FromReader (read.Format fault)) given =
+        let a = hands_refused gathering left calls failures held write_failures limits command (kept old) before count old.reader mid.reader new.reader (kept mid) g0 g1 g2 w0 w1 w2 fault h given.0
+        (faults (kept old) (kept mid ++ given.0.bytes) mid new (read.Format fault) given.1) given.2 given.3 in
+        record { all = a.0; kept = given.1.0.kept ∙ sym a.1; stopped = given.1.1 }
+    hands_stopped (FromReader read.Memory) given = faulted read.Memory given
+    hands_stopped (FromReader read.Device) given = faulted read.Device given
+    hands_stopped (FromReader read.TooManyReads) given = faulted read.TooManyReads given
+    hands_stopped Writer given =
+        hands_some gathering left calls failures held write_failures limits command (kept old) before WriteFailed count old.reader mid.reader new.reader (kept mid) g0 g1 g2 w0 w1 w2 h given.0 tt
+        (breaks_nothing held write_failures h.out g0 g1 w0 w1 w2 h.passes given.1) (given.2 ∙ h.failed)

@@ -8,3 +8,7 @@ pub mod HandSteps
 pub mod TalliedHands
 pub mod ThroughSteps
 pub mod RunSteps
+pub mod PartLaws
+pub mod WriteSteps
+pub mod GoSteps
+pub mod GoClosing

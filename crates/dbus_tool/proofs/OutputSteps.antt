@@ -1,13 +1,14 @@
 -- What a command writes of several messages, and after them.
-use Rattle.std.proofs.Common.{◌≡◌, ℕ, suc, ◌+◌, List, [], ◌∷◌, ◌++◌, Option, length, refl, sym, ap, ◌∙◌, subst, arith, append_assoc, append-nil}
+use Rattle.std.proofs.Common.{◌≡◌, ℕ, suc, ◌+◌, List, [], ◌∷◌, ◌++◌, true, false, Option, length, refl, sym, ap, ◌∙◌, subst, arith, append_assoc, append-nil}
 use Rattle.dbus_value_model.specs.declared.fault.Fault.{Fault}
 use Rattle.dbus_stream.specs.Cut.{CutMessage}
 use Rattle.dbus_stream.specs.CutEnds.{sizes}
 use Rattle.dbus_command.specs.declared.command.Command.{Command}
 use Rattle.dbus_tool.specs.Commands.{command_of}
+use Rattle.dbus_tool.specs.Going.{is_check}
 use Rattle.dbus_tool.specs.Output.{IsOutputOf, IsOutputOfAll, fault_line, last_line, second_output}
 use Rattle.dbus_tool.specs.declared.output.Output.{Output}
-use Rattle.dbus_tool.specs.declared.output.Output.TheVariants.{Text, JsonLine, InOrder, Matching}
+use Rattle.dbus_tool.specs.declared.output.Output.TheVariants.{Nothing, Text, JsonLine, InOrder, Matching}
 
 -- messages after others
 pub output_both : (command : Command) (n offset : ℕ) (items more : List CutMessage) (a b : List ℕ) → IsOutputOfAll command n offset items a
@@ -31,14 +32,16 @@ pub output_last : (command : Command) (n offset : ℕ) (items : List CutMessage)
 output_last command n offset items item out one a o = output_both command n offset items (item ∷ []) out one a (one, [], sym (append-nil one), o, refl)
 
 -- only `check` writes a last line, and it alone does not tell the second writer the fault
-pub nothing_last : (output : Output) (count size : ℕ) (fault : Option Fault) → last_line (command_of output) count size fault ≡ []
-nothing_last Text count size fault = refl
-nothing_last JsonLine count size fault = refl
-nothing_last (InOrder order) count size fault = refl
-nothing_last (Matching selection) count size fault = refl
+pub nothing_last : (output : Output) (count size : ℕ) (fault : Option Fault) → is_check (command_of output) ≡ false → last_line (command_of output) count size fault ≡ []
+nothing_last Nothing count size fault e = absurd cc
+nothing_last Text count size fault e = refl
+nothing_last JsonLine count size fault e = refl
+nothing_last (InOrder order) count size fault e = refl
+nothing_last (Matching selection) count size fault e = refl
 
-pub told_second : (output : Output) (size : ℕ) (fault : Option Fault) → second_output (command_of output) size fault ≡ fault_line size fault
-told_second Text size fault = refl
-told_second JsonLine size fault = refl
-told_second (InOrder order) size fault = refl
-told_second (Matching selection) size fault = refl
+pub told_second : (output : Output) (size : ℕ) (fault : Option Fault) → is_check (command_of output) ≡ false → second_output (command_of output) size fault ≡ fault_line size fault
+told_second Nothing size fault e = absurd cc
+told_second Text size fault e = refl
+told_second JsonLine size fault e = refl
+told_second (InOrder order) size fault e = refl
+told_second (Matching selection) size fault e = refl

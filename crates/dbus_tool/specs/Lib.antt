@@ -9,8 +9,12 @@ pub mod Pages
 pub mod PageLaws
 pub mod Counting
 pub mod Handing
+pub mod Onward
 pub mod Tallying
 pub mod Checking
 pub mod Running
 pub mod Closing
+pub mod Telling
+pub mod Parts
+pub mod Going
 pub mod Words

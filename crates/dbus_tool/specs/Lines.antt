@@ -8,6 +8,11 @@ use Rattle.dbus_tool.specs.declared.ending.Cause.TheVariants.{Memory, ReadFailed
 abbrev pub ok_line : ℕ → ℕ → List ℕ
 ok_line count size = codes "ok " ++ (decimal count ++ (codes " messages " ++ (decimal size ++ codes " bytes\n")))
 
+-- how many messages of how many bytes, and how many were passed over
+abbrev pub counts_line : (count size passed passed_size : ℕ) → List ℕ
+counts_line count size passed passed_size = decimal count ++ (codes " messages " ++ (decimal size ++ (codes " bytes, "
+    ++ (decimal passed ++ (codes " passed over " ++ (decimal passed_size ++ codes " bytes\n"))))))
+
 -- the offset of a fault and its reason
 abbrev pub refused_line : ℕ → Reason → List ℕ
 refused_line place why = codes "refused at " ++ (decimal place ++ (codes ": " ++ (reason_text why ++ codes "\n")))

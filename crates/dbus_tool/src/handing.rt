@@ -1,10 +1,11 @@
 //! Something is written of each message of a reader.
 ghost use Rattle.std.specs.Prelude.{◌≡◌, ◌≤◌, ◌^◌, ℕ, List, [], None, Err, IfOk};
-ghost use Rattle.dbus_stream.specs.RawReading.{IsNewReader, source_of, done_of, most_reads_of, stopped_of};
+ghost use Rattle.dbus_stream.specs.RawReading.{source_of, done_of, limits_of, stopped_of};
 ghost use Rattle.dbus_tool.specs.Counting.{ended_by, stopped_by};
 ghost use Rattle.dbus_tool.specs.Devices.{reading, writing};
 ghost use Rattle.dbus_tool.specs.Gathering.{GathersOrNot, gathered_bytes};
 ghost use Rattle.dbus_tool.specs.Handing.{GivesNext, Hands};
+ghost use Rattle.dbus_tool.specs.Onward.{RawHandsOn};
 ghost use Rattle.dbus_tool.specs.Commands.{command_of};
 
 use crate::ending::{Cause, Counted, NoMessage};
@@ -63,25 +64,25 @@ fn read_message<R: Source, A: Allocator + Copy, W: Sink>(
     }
 }
 
-// Writes what is wanted of each message of the reader, up to the end of the input or a fault.
+// Writes what is wanted of each message of the reader, before which so many came, up to the end of the input or a fault.
 fn hand_all<R: Source, A: Allocator + Copy, W: Sink>(
     alloc: A,
     output: Output,
     limits: Limits,
+    before: u64,
     messages: &mut RawReader<R, A>,
     gathered: &mut Gathered,
     first: &mut W,
 ) -> Result<Counted, Cause>
-    requires { IsNewReader (source_of messages.old) (most_reads_of messages.old) limits
-        messages.old }
-    ensures hands { Hands
-        (reading R.left R.calls R.failures (source_of messages.old) (source_of messages.new))
-        (writing W.held W.failures first.old first.new) limits (most_reads_of messages.old)
-        (command_of output.entry) (gathered_bytes gathered.old) (gathered_bytes gathered.new) result }
+    requires unstopped { stopped_of messages.old ≡ None }
+    requires within { limits_of messages.old ≡ limits }
+    requires few { before ≤ done_of messages.old }
+    ensures hands { RawHandsOn R.left R.calls R.failures W.held W.failures limits (command_of output.entry) before
+        messages.old messages.new (gathered_bytes gathered.old) (gathered_bytes gathered.new) first.old first.new result }
     ensures same_reference { R.reference (source_of messages.new) ≡
         R.reference (source_of messages.old) }
 {
-    let mut count = 0u64;
+    let mut count = before;
     let mut spare = Vec::new(alloc);
     'messages: loop {
         let offset = messages.done();
@@ -138,30 +139,33 @@ pub(crate) fn ended_by(count: u64, size: u64, fault: ReadFault) -> Result<Counte
     }
 }
 
-// Writes or gathers what is wanted of each message of the reader, and then writes what is gathered.
-fn hand_and_write<R: Source, A: Allocator + Copy, W: Sink>(
+/// Writes what is wanted of each message of the reader, before which so many came, up to the end of the input or a fault, and then
+/// what is gathered.
+pub(crate) fn hand_and_write<R: Source, A: Allocator + Copy, W: Sink>(
     alloc: A,
     output: Output,
     limits: Limits,
+    before: u64,
     messages: &mut RawReader<R, A>,
+    gathered: &mut Gathered,
     first: &mut W,
 ) -> Result<Counted, Cause>
-    requires { IsNewReader (source_of messages.old) (most_reads_of messages.old) limits
-        messages.old }
-    ensures hands { Hands
-        (reading R.left R.calls R.failures (source_of messages.old) (source_of messages.new))
-        (writing W.held W.failures first.old first.new) limits (most_reads_of messages.old)
-        (command_of output.entry) [] [] result }
+    requires unstopped { stopped_of messages.old ≡ None }
+    requires within { limits_of messages.old ≡ limits }
+    requires few { before ≤ done_of messages.old }
+    requires empty { gathered_bytes gathered.old ≡ [] }
+    ensures hands { RawHandsOn R.left R.calls R.failures W.held W.failures limits (command_of output.entry) before
+        messages.old messages.new [] [] first.old first.new result }
+    ensures emptied { IfOk result (λ _. gathered_bytes gathered.new ≡ []) }
     ensures same_reference { R.reference (source_of messages.new) ≡
         R.reference (source_of messages.old) }
 {
-    let mut gathered = Gathered::new();
-    match hand_all(alloc, output, limits, messages, &mut gathered, first) {
-        Ok(counted) => match write_out(&mut gathered, first) {
+    match hand_all(alloc, output, limits, before, messages, gathered, first) {
+        Ok(counted) => match write_out(gathered, first) {
             Ok(()) => Ok(counted),
             Err(Unwritten) => Err(Cause::WriteFailed),
         },
-        Err(Cause::Memory) => Err(out_of_memory(&mut gathered, first)),
+        Err(Cause::Memory) => Err(out_of_memory(gathered, first)),
         Err(cause) => Err(cause),
     }
 }
@@ -193,7 +197,16 @@ fn hand_through<R: Source + Drop, A: Allocator + Copy, W: Sink>(
     ensures same_reference { R.reference result.1 ≡ R.reference source }
 {
     let mut messages = RawReader::within(alloc, source, reads, limits);
-    let counted = hand_and_write(alloc, output, limits, &mut messages, first);
+    let mut gathered = Gathered::new();
+    let counted = hand_and_write(
+        alloc,
+        output,
+        limits,
+        0,
+        &mut messages,
+        &mut gathered,
+        first,
+    );
     (counted, messages.into_source())
 }
 

@@ -1,6 +1,6 @@
 //! The lines that are written.
 ghost use Rattle.std.specs.Prelude.{◌≡◌, ◌+◌, IfOk, string_bytes};
-ghost use Rattle.dbus_tool.specs.Lines.{ok_line, refused_line, cause_line};
+ghost use Rattle.dbus_tool.specs.Lines.{ok_line, counts_line, refused_line, cause_line};
 
 use crate::ending::Cause;
 use dbus_value::Fault;
@@ -15,6 +15,19 @@ pub(crate) fn ok_line<A: Allocator + Copy>(
     ensures { IfOk result (λ line. string_bytes line ≡ ok_line count size) }
 {
     format!(in alloc; "ok {count} messages {size} bytes\n")
+}
+
+// What is written at last if messages were passed over.
+pub(crate) fn counts_line<A: Allocator + Copy>(
+    alloc: A,
+    count: u64,
+    size: u64,
+    passed: u64,
+    passed_size: u64,
+) -> Result<String<A>, AllocError>
+    ensures { IfOk result (λ line. string_bytes line ≡ counts_line count size passed passed_size) }
+{
+    format!(in alloc; "{count} messages {size} bytes, {passed} passed over {passed_size} bytes\n")
 }
 
 // What is written of a fault after messages of this size. Its place counts from the start of the input.

@@ -16,15 +16,17 @@ use crate::json_lines::write_json_line;
 use crate::place::Place;
 use crate::showing::show;
 use crate::swapping::swap;
-use dbus_command::Selection;
+use dbus_command::{Command, Selection};
 use dbus_stream::Sink;
 use dbus_validate::Validated;
 use dbus_value::{Limits, Order};
 use std::alloc::Allocator;
 
-/// What a command writes of each message; `check` writes nothing of one.
+/// What a command writes of each message.
 #[derive(Clone, Copy)]
 pub(crate) enum Output<'a> {
+    /// Nothing.
+    Nothing,
     /// Its text.
     Text,
     /// Its line of JSON.
@@ -33,6 +35,19 @@ pub(crate) enum Output<'a> {
     InOrder(Order),
     /// Its bytes as they are, if it is selected.
     Matching(&'a Selection),
+}
+
+/// What the command writes of each message.
+pub(crate) fn output_of(command: &Command) -> Output<'_>
+    ensures { command_of result ≡ command.now }
+{
+    match command {
+        Command::Check => Output::Nothing,
+        Command::Show => Output::Text,
+        Command::Json => Output::JsonLine,
+        Command::Swap(order) => Output::InOrder(*order),
+        Command::Filter(selection) => Output::Matching(selection),
+    }
 }
 
 /// Writes or gathers what is wanted of a message, which has these bytes, as they were validated, and this place in the input. A message is byteswapped in `spare`, so that only a longer one than those before takes memory.
@@ -53,6 +68,7 @@ pub(crate) fn write_one<A: Allocator + Copy, W: Sink>(
         (gathered_bytes gathered.old) (gathered_bytes gathered.new) result }
 {
     match output {
+        Output::Nothing => Ok(()),
         Output::Text => show(bytes, validated, limits, place.number, gathered, first),
         Output::JsonLine => write_json_line(bytes, validated, limits, place, gathered, first),
         Output::InOrder(wanted) => swap(wanted, bytes, validated, limits, spare, gathered, first),

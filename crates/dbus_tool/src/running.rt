@@ -1,8 +1,9 @@
 //! A command, over any reader and two writers.
-ghost use Rattle.std.specs.Prelude.{◌≤◌, ◌^◌};
+ghost use Rattle.std.specs.Prelude.{◌≡◌, ◌≤◌, ◌^◌, false};
 ghost use Rattle.dbus_value_model.specs.Specification.{specification};
 ghost use Rattle.dbus_tool.specs.Devices.{reading, writing};
 ghost use Rattle.dbus_tool.specs.Commands.{command_of};
+ghost use Rattle.dbus_tool.specs.Going.{is_check};
 ghost use Rattle.dbus_tool.specs.Running.{Runs};
 
 use crate::closing::{status_of, tell_fault, write_count};
@@ -146,7 +147,8 @@ fn write<A: Allocator + Copy, R: Source, W: Sink, E: Sink>(
     first: &mut W,
     second: &mut E,
 ) -> ExitStatus
-    requires { reads ≤ 2 ^ 32 }
+    requires few { reads ≤ 2 ^ 32 }
+    requires told_second { is_check (command_of output) ≡ false }
     ensures { Runs (reading R.left R.calls R.failures reader.old reader.new)
         (writing W.held W.failures first.old first.new)
         (writing E.held E.failures second.old second.new)

@@ -1,21 +1,22 @@
 //! The program over the words of its command line.
-ghost use Rattle.std.specs.Prelude.{map, string_bytes};
+ghost use Rattle.std.specs.Prelude.{◌≤◌, ◌||◌, ◌^◌, map, string_bytes};
 ghost use Rattle.dbus_tool.specs.Devices.{reading, writing};
-ghost use Rattle.dbus_tool.specs.Words.{RefusesRule, RunsWords, ShowsText, ShowsUsage};
+ghost use Rattle.dbus_tool.specs.Words.{RefusesRule, RunsBy, RunsWords, ShowsText, ShowsUsage};
 
 use crate::ending::{Cause, ExitStatus};
 use crate::failing::give_up;
-use crate::rule_lines::rule_line;
+use crate::going::run_with;
+use crate::rule_lines::rule_text;
 use crate::running::run_within;
-use dbus_command::{UsageFault, command_of};
-use dbus_match::RuleFault;
+use dbus_command::{Command, RefusedRule, Settings, UsageFault, command_of};
 use dbus_stream::{MOST_READS, Sink, Source, WrittenOnly, write_all};
 use std::alloc::Global;
 
-/// Does what [`run_within`] does for the command that the words name, of which the first is the program's name, under the
-/// limits that they name and with at most 2^32 reads. If the words ask for help, its text goes to the first writer.
-/// If they name no command, a text that says how goes to the second; and if they name `filter` with a text that
-/// spells no rule, `rule refused at P: NAME` and LF, the place in that text and the name of the reason.
+/// Does what [`run_with`] does for the command that the words name, of which the first is the program's name, by the settings
+/// that they name and with at most 2^32 reads; or, if they ask neither for explanations nor to keep going, what [`run_within`] does.
+/// If the words ask for help, its text goes to the first writer. If they name no command, a text that says how goes to the second;
+/// and if they name `filter` with a text that spells no rule, `rule refused at P: NAME` and LF, the place in that text and the name
+/// of the reason, and then the lines that explain it, if they ask for explanations.
 ///
 /// `Done`, `Refused`, `Failed`: as [`run_within`] says. `Done` also where help was written. `Usage`: the words name no
 /// command, and that was reported. `Failed` also if such a text was not written, of help with `write failed` on the second
@@ -33,15 +34,35 @@ pub fn run_words<R: Source, W: Sink, E: Sink>(
         (map string_bytes words.now) result }
 {
     match command_of(alloc, words) {
-        Ok((command, limits)) => {
-            run_within(alloc, command, limits, MOST_READS, reader, first, second)
-        }
+        Ok((command, settings)) => run_by(alloc, command, settings, reader, first, second),
         Err(UsageFault::Memory) => give_up(Cause::Memory, second),
         Err(UsageFault::Help(text) | UsageFault::Version(text)) => {
             show_text(text.as_str(), first, second)
         }
         Err(UsageFault::Usage(text)) => show_usage(text.as_str(), second),
-        Err(UsageFault::Rule(fault)) => refuse_rule(alloc, fault, second),
+        Err(UsageFault::Rule(refused)) => refuse_rule(alloc, &refused, second),
+    }
+}
+
+// Runs a command by its settings.
+fn run_by<R: Source, W: Sink, E: Sink>(
+    alloc: Global,
+    command: Command,
+    settings: Settings,
+    reader: &mut R,
+    first: &mut W,
+    second: &mut E,
+) -> ExitStatus
+    ensures { RunsBy (reading R.left R.calls R.failures reader.old reader.new)
+        (writing W.held W.failures first.old first.new)
+        (writing E.held E.failures second.old second.new)
+        (settings.explains || settings.keeps_going) settings command result }
+{
+    if settings.explains || settings.keeps_going {
+        run_with(alloc, command, settings, MOST_READS, reader, first, second)
+    } else {
+        let limits = settings.limits;
+        run_within(alloc, command, limits, MOST_READS, reader, first, second)
     }
 }
 
@@ -66,15 +87,12 @@ fn show_usage<E: Sink>(text: &str, second: &mut E) -> ExitStatus
     }
 }
 
-// Writes the line of a rule's fault.
-fn refuse_rule<E: Sink>(alloc: Global, fault: RuleFault, second: &mut E) -> ExitStatus
-    ensures { RefusesRule E.held E.failures fault second.old second.new result }
+// Writes the line of a rule that is refused, and what explains it.
+fn refuse_rule<E: Sink>(alloc: Global, refused: &RefusedRule, second: &mut E) -> ExitStatus
+    ensures { RefusesRule E.held E.failures refused.now second.old second.new result }
 {
-    match fault {
-        RuleFault::Memory => give_up(Cause::Memory, second),
-        RuleFault::Bad { at, reason } => match rule_line(alloc, at, reason) {
-            Ok(line) => show_usage(line.as_str(), second),
-            Err(_) => give_up(Cause::Memory, second),
-        },
+    match rule_text(alloc, refused) {
+        Ok(text) => show_usage(text.as_str(), second),
+        Err(_) => give_up(Cause::Memory, second),
     }
 }

@@ -3,8 +3,8 @@
 use crate::help_texts::*;
 use crate::running::words_of;
 use crate::usage_texts::*;
-use dbus_match::{RuleFault, RuleReason, rule_text};
-use dbus_tool::{Command, Selection, UsageFault, command_of};
+use dbus_match::{RuleReason, rule_text};
+use dbus_tool::{Command, Selection, Settings, UsageFault, command_of};
 use dbus_value::{FdRule, Limits, Order};
 use std::alloc::Global;
 use std::process::Abort;
@@ -17,18 +17,21 @@ type Selected = (
     &'static [(&'static str, &'static str)],
 );
 
-// What words name: a command; or a rule with a fault.
+// What words name: a command; or a rule that is refused: its text, the place and the reason, and whether it is to be explained.
 enum Named {
     Show,
     Json,
     Check,
     Swap(Order),
     Filter(Selected),
-    Refused(RuleFault),
+    Refused(&'static str, usize, RuleReason, bool),
 }
 
 // What the command line answers to these words after the program's path.
-fn answer_to(alloc: Global, words: &[&str]) -> Result<Result<(Command, Limits), UsageFault>, Fail> {
+fn answer_to(
+    alloc: Global,
+    words: &[&str],
+) -> Result<Result<(Command, Settings), UsageFault>, Fail> {
     let words = words_of(alloc, "/usr/bin/dbus-wire", words)?;
     Ok(command_of(alloc, words.as_slice()))
 }
@@ -62,7 +65,14 @@ fn is_named(alloc: Global, words: &[&str], named: &Named) -> Result<bool, Fail> 
         (Ok((Command::Filter(given), _)), Named::Filter(selected)) => {
             is_selection(alloc, &given, selected)
         }
-        (Err(UsageFault::Rule(given)), Named::Refused(fault)) => Ok(given == *fault),
+        (Err(UsageFault::Rule(given)), Named::Refused(text, at, reason, explains)) => {
+            Ok(
+                given.text.as_str() == *text
+                    && given.at == *at
+                    && given.reason == *reason
+                    && given.explains == *explains,
+            )
+        }
         (_, _) => Ok(false),
     }
 }
@@ -102,18 +112,12 @@ const NAMED: &[(&[&str], Named)] = &[
     ),
     // The first of two rules that are refused.
     (
-        &["filter", "", "type", "arg64='x'"],
-        Named::Refused(RuleFault::Bad {
-            at: 4,
-            reason: RuleReason::NoEquals,
-        }),
+        &["filter", "--keep-going", "", "type", "arg64='x'"],
+        Named::Refused("type", 4, RuleReason::NoEquals, false),
     ),
     (
-        &["filter", "arg64='x'"],
-        Named::Refused(RuleFault::Bad {
-            at: 0,
-            reason: RuleReason::KeyName,
-        }),
+        &["filter", " arg64='x'", "--explain"],
+        Named::Refused(" arg64='x'", 1, RuleReason::KeyName, true),
     ),
 ];
 
@@ -206,7 +210,31 @@ fn limits(rt: HostRuntime) -> Result<(), Fail> {
         let Some(limits) = Limits::new(*message, *array, *depth) else {
             return Err(Fail::new("no limits"));
         };
-        assert_eq!(rt; named, limits.with_fds(*fds), "at {n}");
+        assert_eq!(rt; named.limits, limits.with_fds(*fds), "at {n}");
+    }
+    Ok(())
+}
+
+// Words, and whether they ask for explanations, and for what follows a refused message.
+const FLAGGED: &[(&[&str], bool, bool)] = &[
+    (&["check"], false, false),
+    (&["check", "--explain"], true, false),
+    (&["show", "--keep-going"], false, true),
+    (&["json", "--keep-going", "--explain"], true, true),
+    (&["swap", "--explain", "--to", "l"], true, false),
+    (&["filter", "--invert", ""], false, false),
+    (&["filter", "", "--explain", "--keep-going"], true, true),
+    (&["filter", "--keep-going", "--", ""], false, true),
+];
+
+#[test]
+fn flags(rt: HostRuntime) -> Result<(), Fail> {
+    for (n, (words, explains, keeps_going)) in FLAGGED.iter().enumerate() {
+        let Ok((_, named)) = answer_to(rt.alloc(), words)? else {
+            return Err(Fail::new("no command"));
+        };
+        assert_eq!(rt; named.explains, *explains, "at {n}");
+        assert_eq!(rt; named.keeps_going, *keeps_going, "at {n}");
     }
     Ok(())
 }
@@ -295,6 +323,9 @@ const USAGES: &[(&[&str], &str)] = &[
     (&["check", "--max-depth"], NO_WORD_OF_DEPTH),
     (&["check", "--max-depth", "1", "--max-depth=1"], TWO_DEPTHS),
     (&["--max-depth", "1", "check"], DEPTH_BEFORE_COMMAND),
+    (&["swap", "--to", "l", "--keep-going"], SWAP_GOING_ON),
+    (&["show", "--explain", "--explain"], TWO_EXPLAINS),
+    (&["check", "--keep-going=1"], WORD_OF_FLAG),
     (&["show", "--fds", "none"], NO_FDS_RULE),
     (&["filter", "arg64='x'", "--fds=none"], NO_FDS_RULE),
     (&["filter", "--invert", "", "--invert"], TWO_INVERTS),

@@ -29,6 +29,9 @@ Output:
   reason. check writes that line to standard output; the others write it to
   standard error, and what they wrote of the messages before that place stays.
 
+  With --explain three lines after a refusal say where the fault is, and what
+  has to be there.
+
 Exit status:
   0  the whole input is messages, or help was asked for
   1  the input is refused: it has bytes that are no message, or ends within one
@@ -47,6 +50,8 @@ Writes each message as text
 Usage: dbus-wire show [OPTIONS]
 
 Options:
+      --keep-going       Goes on after a refused message
+      --explain          Explains what is refused, in three more lines
       --max-message <N>  Most bytes of a message: 0 to 134217728, the default
       --max-array <N>    Most bytes of an array: 0 to 67108864, the default
       --max-depth <N>    Most containers open at once: 0 to 64, the default
@@ -62,6 +67,14 @@ Output:
   For each message a line on standard output with its number from 1, byte order,
   type, serial, flags and header fields, and below it a line for each value of
   its body. If the input is refused, `refused at P: NAME` on standard error.
+
+  With --keep-going a message that is refused gives a line of its own,
+  `refused at P: NAME in message N at O`, and the next one is read, if its first
+  16 bytes state a length. If any was passed over, the last such line is
+  `N messages B bytes, K passed over C bytes`.
+
+  With --explain three lines after a refusal say where the fault is, and what
+  has to be there.
 
 Exit status:
   0  the whole input is messages, or help was asked for
@@ -80,6 +93,8 @@ Writes each message as a line of JSON
 Usage: dbus-wire json [OPTIONS]
 
 Options:
+      --keep-going       Goes on after a refused message
+      --explain          Explains what is refused, in three more lines
       --max-message <N>  Most bytes of a message: 0 to 134217728, the default
       --max-array <N>    Most bytes of an array: 0 to 67108864, the default
       --max-depth <N>    Most containers open at once: 0 to 64, the default
@@ -102,6 +117,14 @@ Output:
   parsers refuse that. Integers of 64 bits are written exactly; JavaScript
   rounds them.
 
+  With --keep-going a message that is refused gives a line of its own,
+  `refused at P: NAME in message N at O`, and the next one is read, if its first
+  16 bytes state a length. If any was passed over, the last such line is
+  `N messages B bytes, K passed over C bytes`.
+
+  With --explain three lines after a refusal say where the fault is, and what
+  has to be there.
+
 Exit status:
   0  the whole input is messages, or help was asked for
   1  the input is refused: it has bytes that are no message, or ends within one
@@ -119,6 +142,8 @@ Checks that the input is messages, and counts them
 Usage: dbus-wire check [OPTIONS]
 
 Options:
+      --keep-going       Goes on after a refused message
+      --explain          Explains what is refused, in three more lines
       --max-message <N>  Most bytes of a message: 0 to 134217728, the default
       --max-array <N>    Most bytes of an array: 0 to 67108864, the default
       --max-depth <N>    Most containers open at once: 0 to 64, the default
@@ -133,6 +158,14 @@ Input:
 Output:
   One line on standard output: `ok N messages B bytes`, or `refused at P: NAME`
   with the place, in bytes from the start of the input, and the reason.
+
+  With --keep-going a message that is refused gives a line of its own,
+  `refused at P: NAME in message N at O`, and the next one is read, if its first
+  16 bytes state a length. If any was passed over, the last such line is
+  `N messages B bytes, K passed over C bytes`.
+
+  With --explain three lines after a refusal say where the fault is, and what
+  has to be there.
 
 Exit status:
   0  the whole input is messages, or help was asked for
@@ -152,6 +185,7 @@ Usage: dbus-wire swap [OPTIONS] --to <ORDER>
 
 Options:
       --to <ORDER>       The byte order: l is little-endian, B is big-endian
+      --explain          Explains what is refused, in three more lines
       --max-message <N>  Most bytes of a message: 0 to 134217728, the default
       --max-array <N>    Most bytes of an array: 0 to 67108864, the default
       --max-depth <N>    Most containers open at once: 0 to 64, the default
@@ -166,6 +200,9 @@ Input:
 Output:
   The raw messages on standard output, each in the byte order that is named.
   If the input is refused, `refused at P: NAME` on standard error.
+
+  With --explain three lines after a refusal say where the fault is, and what
+  has to be there.
 
 Exit status:
   0  the whole input is messages, or help was asked for
@@ -189,6 +226,8 @@ Arguments:
 Options:
       --invert               Writes the messages that match none of the rules
       --owner <NAME=UNIQUE>  The owner of a name, as org.a.B=:1.7; any number
+      --keep-going           Goes on after a refused message
+      --explain              Explains what is refused, in three more lines
       --max-message <N>      Most bytes of a message: 0 to 134217728, the default
       --max-array <N>        Most bytes of an array: 0 to 67108864, the default
       --max-depth <N>        Most containers open at once: 0 to 64, the default
@@ -210,6 +249,14 @@ Output:
   message that has that name itself. With --owner org.a.B=:1.7 it also matches
   what :1.7 sent: `busctl --user list` prints unique names, and GetNameOwner of
   the bus returns them.
+
+  With --keep-going a message that is refused gives a line of its own,
+  `refused at P: NAME in message N at O`, and the next one is read, if its first
+  16 bytes state a length. If any was passed over, the last such line is
+  `N messages B bytes, K passed over C bytes`.
+
+  With --explain three lines after a refusal say where the fault is, and what
+  has to be there.
 
 Exit status:
   0  the whole input is messages, or help was asked for

@@ -14,6 +14,8 @@ mod failures;
 #[cfg(test)]
 mod fault_texts;
 #[cfg(test)]
+mod flagged_runs;
+#[cfg(test)]
 mod growths;
 #[cfg(test)]
 mod help_texts;

@@ -4,8 +4,7 @@ use crate::captures::joined;
 use crate::narrow::Narrow;
 use crate::pieces::Pieces;
 use dbus_stream::{FromWrite, MOST_READS, Source};
-use dbus_tool::{Command, ExitStatus, command_of, run_reads, run_within, run_words};
-use dbus_value::Limits;
+use dbus_tool::{Command, ExitStatus, Settings, command_of, run_reads, run_within, run_words};
 use std::alloc::{Allocator, Global};
 use std::process::Abort;
 use std::test::Fail;
@@ -39,8 +38,8 @@ pub(crate) fn words_of(alloc: Global, name: &str, words: &[&str]) -> Result<Vec<
     Ok(all)
 }
 
-// The command that the words name, and its limits.
-fn named(alloc: Global, words: &[&str]) -> Result<(Command, Limits), Fail> {
+// The command that the words name, and its settings.
+fn named(alloc: Global, words: &[&str]) -> Result<(Command, Settings), Fail> {
     let words = words_of(alloc, "dbus-wire", words)?;
     command_of(alloc, words.as_slice()).map_err(|_| Fail::new("no command"))
 }
@@ -53,14 +52,14 @@ pub(crate) fn ran<A: Allocator + Copy, R: Source + Drop>(
     words: &[&str],
     reader: R,
 ) -> Result<End, Fail> {
-    let (command, limits) = named(alloc, words)?;
+    let (command, settings) = named(alloc, words)?;
     let mut reader = reader;
     let mut first = FromWrite::new(Vec::new(alloc));
     let mut second = FromWrite::new(Vec::new(alloc));
     let status = run_within(
         heap,
         command,
-        limits,
+        settings.limits,
         MOST_READS,
         &mut reader,
         &mut first,

@@ -172,6 +172,30 @@ Usage: dbus-wire <COMMAND>
 For more information, try '--help'.
 ";
 
+pub(crate) const SWAP_GOING_ON: &str = "\
+error: unexpected argument '--keep-going' found
+
+Usage: dbus-wire swap --to <ORDER>
+
+For more information, try '--help'.
+";
+
+pub(crate) const TWO_EXPLAINS: &str = "\
+error: the argument '--explain' cannot be used multiple times
+
+Usage: dbus-wire show [OPTIONS]
+
+For more information, try '--help'.
+";
+
+pub(crate) const WORD_OF_FLAG: &str = "\
+error: unexpected value '1' for '--keep-going' found; no more were expected
+
+Usage: dbus-wire check --keep-going
+
+For more information, try '--help'.
+";
+
 pub(crate) const NO_FDS_RULE: &str = "\
 error: invalid value 'none' for '--fds <RULE>'
   [possible values: any, below-count]

@@ -15,3 +15,8 @@ returns-in_err-command c =
     let sub : subcommand_rows_of c.args.matches.now ≡ Some (c.in-Some.name.now, rows_of (found_of c.in-Some.inner.now)) = search rules in
     let p = err_from_is_err_and c.from_residual-in_err-command.result c.from_residual-in_err-command.ensures.1 in
     rw (sub, p.1, p.2) (told_under_limits (c.in-Some.name.now, _) c.in_ok-limits.limits c.in_err-command.field-0.0 c.in_ok-limits.ensures c.in_err-command.ensures)
+
+pub returns : goal.returns
+returns c =
+    let sub : subcommand_rows_of c.args.matches.now ≡ Some (c.in-Some.name.now, rows_of (found_of c.in-Some.inner.now)) = search rules in
+    rw sub (c.in_ok-command.ensures, record { limits = c.in_ok-limits.ensures; explains = c.is_given.ensures; keeps_going = c.is_given-2.ensures })

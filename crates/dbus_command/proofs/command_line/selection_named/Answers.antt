@@ -28,7 +28,7 @@ returns-in_err-rules c =
     = sym (raw_values-rows (found_of c.args.inner.now) (codes "rule")) ∙ (sym c.get_strs.ensures ∙ ap (option_map (λ s. map (λ v. v.now) s.now)) c.in-Some.is) in
     let owners = each_can _ _ (λ word owner is. (ownership owner, is)) (words_of (codes "owner") rows) c.in_ok-owners.owners.items c.in_ok-owners.ensures in
     let p = err_from_is_err_and c.from_residual-in_err-rules.result c.from_residual-in_err-rules.ensures.1 in
-    rw (p.1, p.2) (unruled_told rows texts c.in_err-rules.field-0.0 given owners c.in_err-rules.ensures)
+    rw (p.1, p.2) (unruled_told rows texts c.is_given.result c.in_err-rules.field-0.0 given owners c.is_given.ensures c.in_err-rules.ensures)
 
 pub returns : goal.returns
 returns c =
@@ -36,4 +36,4 @@ returns c =
     let texts : List Text = map (λ v. v.now) c.in-Some.texts.now in
     let given : all_of (codes "rule") rows ≡ Some texts
     = sym (raw_values-rows (found_of c.args.inner.now) (codes "rule")) ∙ (sym c.get_strs.ensures ∙ ap (option_map (λ s. map (λ v. v.now) s.now)) c.in-Some.is) in
-    (refl, record { texts = texts; given = given; rules = c.in_ok-rules.ensures; inverted = c.is_inverted.ensures; owners = c.in_ok-owners.ensures })
+    (refl, record { texts = texts; given = given; rules = c.in_ok-rules.ensures; inverted = c.is_given-2.ensures; owners = c.in_ok-owners.ensures })

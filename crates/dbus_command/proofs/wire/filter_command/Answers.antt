@@ -2,7 +2,7 @@ use Rattle.std.proofs.Common.{◌≡◌, ap, ap₂, ◌∙◌, rules, false, cod
 use Rattle.std.proofs.lemmas.Result.{IfOk-weaker}
 use Rattle.clap.specs.Words.{app_of, new_app, with_rule}
 use Rattle.clap.specs.declared.builder.command.Command.TheViews.{out-Command}
-use Rattle.dbus_command.specs.CommandLine.{with_limits}
+use Rattle.dbus_command.specs.CommandLine.{with_keep_going}
 use Rattle.dbus_command.proofs.Options.{same_locals}
 use Rattle.dbus_command.proofs.wire.filter_command.Goals as goal
 
@@ -11,12 +11,12 @@ returns c =
     let start : app_of c.after_help-filter.result ≡ new_app (codes "filter") = search rules in
     let none : (out-Command c.after_help-filter.result).has_globals ≡ false = search rules in
     let ruled = c.in_ok-ruled.ensures.shape c.rule_argument.ensures.local ∙ ap₂ with_rule start c.rule_argument.ensures.rule in
-    let inverting = c.in_ok-inverting.ensures.shape c.invert_flag.ensures.local ∙ ap₂ with_rule ruled c.invert_flag.ensures.rule in
+    let inverting = c.in_ok-inverting.ensures.shape c.flag.ensures.local ∙ ap₂ with_rule ruled c.flag.ensures.rule in
     let owning = c.in_ok-owning.ensures.shape c.owner_option.ensures.local ∙ ap₂ with_rule inverting c.owner_option.ensures.rule in
     let first = same_locals _ _ _ c.in_ok-ruled.ensures c.rule_argument.ensures.local in
-    let second = same_locals _ _ _ c.in_ok-inverting.ensures c.invert_flag.ensures.local in
+    let second = same_locals _ _ _ c.in_ok-inverting.ensures c.flag.ensures.local in
     let third = same_locals _ _ _ c.in_ok-owning.ensures c.owner_option.ensures.local in
-    IfOk-weaker c.with_limits.result _ _ (λ m h. record {
-      app_is = h.app_is ∙ ap with_limits owning;
+    IfOk-weaker c.with_keep_going.result _ _ (λ m h. record {
+      app_is = h.app_is ∙ ap with_keep_going owning;
       local = h.as_local ∙ (third ∙ (second ∙ (first ∙ none)));
-    }) c.with_limits.ensures
+    }) c.with_keep_going.ensures

@@ -1,4 +1,4 @@
-use Rattle.std.proofs.Common.{◌≡◌, ◌≤◌, ◌<◌, ◌^◌, ◌++◌, [], drop, arith, refl, sym, ap, ◌∙◌, subst}
+use Rattle.std.proofs.Common.{◌≡◌, ◌≤◌, ◌<◌, ◌^◌, ◌++◌, [], drop, Ok, arith, refl, sym, ap, ◌∙◌, subst}
 use Rattle.dbus_header.proofs.OutcomeLaws.{whole_inside}
 use Rattle.dbus_stream.specs.CheckReading.{GivesLength, limits_of, Reads}
 use Rattle.dbus_stream.specs.Cut.{CutMessage, Ended}
@@ -10,9 +10,9 @@ use Rattle.dbus_tool.specs.Devices.{reading}
 use Rattle.dbus_tool.specs.Tallying.{Tallies, unwritten}
 use Rattle.dbus_tool.specs.PageLaws.{passes_none}
 use Rattle.dbus_tool.proofs.GivenSteps.{written_out}
-use Rattle.dbus_tool.proofs.ReadSteps.{length-sizes, read_none}
+use Rattle.dbus_tool.proofs.ReadSteps.{length-sizes}
 use Rattle.dbus_tool.proofs.HandSteps.{hands_none, hands_more, hands_all, hands_faulted}
-use Rattle.dbus_tool.proofs.TalliedHands.{check_faults}
+use Rattle.dbus_tool.proofs.TalliedHands.{check_faults, hands_read}
 use Rattle.dbus_tool.proofs.counting.count_all.Goals as goal
 use Rattle.dbus_tool.proofs.counting.count_all.Goals.{In-Ok-Some}
 
@@ -21,8 +21,7 @@ messages-init g c =
     let new = c.requires in (
       [],
       new.kept,
-      hands_none lengths g.R.Source.left g.R.Source.calls g.R.Source.failures unwritten.held unwritten.failures (limits_of c.args.messages.now) (most_reads_of c.args.messages.now) Check c.args.messages.now [] tt
-          (read_none lengths g.R.Source.left g.R.Source.calls (limits_of c.args.messages.now) (most_reads_of c.args.messages.now) c.args.messages.now new.reads refl refl new.ended) new.done new.stopped,
+      hands_none lengths g.R.Source.left g.R.Source.calls g.R.Source.failures unwritten.held unwritten.failures (limits_of c.args.messages.now) Check [] 0 c.args.messages.now [] tt refl new.stopped,
       refl,
     )
 
@@ -49,7 +48,7 @@ messages-preserved g c =
     let item : CutMessage = record { order = gives.order; message = gives.message; size = c.in-Ok-Some.field-0-0 } in (
       drop item.size (c.messages.invariant.0 ++ given.0.bytes),
       gives.kept,
-      hands_more lengths g.R.Source.left g.R.Source.calls g.R.Source.failures unwritten.held unwritten.failures (limits_of c.args.messages.now) (most_reads_of c.args.messages.now) Check c.messages.count c.args.messages.now c.messages.messages c.next.new.self c.messages.invariant.0 [] [] [] tt tt tt item []
+      hands_more lengths g.R.Source.left g.R.Source.calls g.R.Source.failures unwritten.held unwritten.failures (limits_of c.args.messages.now) Check [] 0 c.messages.count c.args.messages.now c.messages.messages c.next.new.self c.messages.invariant.0 [] [] [] tt tt tt item []
           c.messages.invariant.2 given.0 gives.whole gives.done gives.unstopped c.in-Ok-Some.ensures.failed refl (passes_none unwritten.held unwritten.failures [] tt),
       c.next.ensures.same_reference ∙ c.messages.invariant.3,
     )
@@ -68,8 +67,9 @@ returns-in-Ok-None-clause-counts g c =
     let h = c.messages.invariant.2 in
     let read = rw c.in-Ok-None.field-0-is at (c.in-Ok-None.ensures.read rest c.messages.invariant.1) in
     let answer = read.1 h.unstopped in
-    hands_all lengths g.R.Source.left g.R.Source.calls g.R.Source.failures unwritten.held unwritten.failures (limits_of c.args.messages.now) (most_reads_of c.args.messages.now) Check c.messages.count c.args.messages.now c.messages.messages c.next.new.self rest [] [] [] tt tt tt Ended _
-    h read.0 refl (c.done.ensures ∙ answer.2.done) refl answer.0 (λ _. answer.1) c.in-Ok-None.ensures.failed (passes_none unwritten.held unwritten.failures [] tt)
+    hands_read g.R.Source.left g.R.Source.calls g.R.Source.failures (limits_of c.args.messages.now) (most_reads_of c.args.messages.now) c.args.messages.now c.requires c.next.new.self (Ok _)
+    (hands_all lengths g.R.Source.left g.R.Source.calls g.R.Source.failures unwritten.held unwritten.failures (limits_of c.args.messages.now) Check [] 0 c.messages.count c.args.messages.now c.messages.messages c.next.new.self rest [] [] [] tt tt tt Ended _
+    h read.0 refl c.done.ensures answer.2.done refl answer.0 (λ _. answer.1) c.in-Ok-None.ensures.failed (passes_none unwritten.held unwritten.failures [] tt))
 
 pub returns-in-Err-clause-counts : goal.returns-in-Err-clause-counts
 returns-in-Err-clause-counts g c =
@@ -79,6 +79,7 @@ returns-in-Err-clause-counts g c =
     let read = c.in-Err.ensures.read rest c.messages.invariant.1 in
     let answer : c.ended_by.result ≡ ended_by c.messages.count (done_of c.next.new.self) fault = c.ended_by.ensures ∙ ap (λ n. ended_by c.messages.count n fault) c.done-in-Err.ensures in
     subst (λ x. Tallies (reading g.R.Source.left g.R.Source.calls g.R.Source.failures (source_of c.args.messages.now) (source_of c.next.new.self)) (limits_of c.args.messages.now) (most_reads_of c.args.messages.now) x) (sym answer)
-    (hands_faulted lengths g.R.Source.left g.R.Source.calls g.R.Source.failures unwritten.held unwritten.failures (limits_of c.args.messages.now) (most_reads_of c.args.messages.now) Check fault c.messages.count c.args.messages.now c.messages.messages c.next.new.self rest [] [] [] tt tt tt
-    h read.0 (check_faults g.R.Source.left g.R.Source.calls g.R.Source.failures (limits_of c.args.messages.now) (most_reads_of c.args.messages.now) (rest ++ read.0.bytes) c.messages.messages c.next.new.self fault (read.1 h.unstopped)) c.in-Err.ensures.failed
-    (passes_none unwritten.held unwritten.failures [] tt) (written_out fault [] refl))
+    (hands_read g.R.Source.left g.R.Source.calls g.R.Source.failures (limits_of c.args.messages.now) (most_reads_of c.args.messages.now) c.args.messages.now c.requires c.next.new.self (ended_by c.messages.count (done_of c.next.new.self) fault)
+    (hands_faulted lengths g.R.Source.left g.R.Source.calls g.R.Source.failures unwritten.held unwritten.failures (limits_of c.args.messages.now) Check [] 0 fault c.messages.count c.args.messages.now c.messages.messages c.next.new.self rest [] [] [] tt tt tt
+    h read.0 (check_faults g.R.Source.left g.R.Source.calls g.R.Source.failures (limits_of c.args.messages.now) (rest ++ read.0.bytes) c.messages.messages c.next.new.self fault (read.1 h.unstopped)) c.in-Err.ensures.failed
+    (passes_none unwritten.held unwritten.failures [] tt) (written_out fault [] refl)))

@@ -1,7 +1,7 @@
 use Rattle.std.proofs.Common.{◌≡◌, ◌-◌, ◌^◌, ℕ, List, []}
 use Rattle.dbus_stream.specs.CheckReading.{Keeps, limits_of}
 use Rattle.dbus_stream.specs.Lengths.{lengths}
-use Rattle.dbus_stream.specs.Reading.{done_of, most_reads_of, source_of}
+use Rattle.dbus_stream.specs.Reading.{done_of, source_of}
 use Rattle.dbus_command.specs.declared.command.Command.TheVariants.{Check}
 use Rattle.dbus_tool.specs.Tallying.{unwritten}
 use Rattle.dbus_tool.proofs.HandSteps.{HasHanded}
@@ -9,7 +9,7 @@ use Rattle.dbus_tool.proofs.counting.count_all.Given as goal
 
 abbrev pub invariant-messages : goal.invariant-messages
 invariant-messages g l = (rest : List ℕ) × Keeps l.messages rest
-    × HasHanded lengths g.R.Source.left g.R.Source.calls g.R.Source.failures unwritten.held unwritten.failures (limits_of l.fn.messages) (most_reads_of l.fn.messages) Check
+    × HasHanded lengths g.R.Source.left g.R.Source.calls g.R.Source.failures unwritten.held unwritten.failures (limits_of l.fn.messages) Check [] 0
     l.count l.fn.messages l.messages rest [] [] tt tt
     × (g.R.Source.reference (source_of l.messages) ≡ g.R.Source.reference (source_of l.fn.messages))
 

@@ -3,27 +3,24 @@ use Rattle.dbus_header.proofs.OutcomeLaws.{whole_inside}
 use Rattle.dbus_stream.specs.Cut.{CutMessage, Ended}
 use Rattle.dbus_stream.specs.Gathering.{gathering}
 use Rattle.dbus_stream.specs.RawNext.{Lends, Reads}
-use Rattle.dbus_stream.specs.RawReading.{limits_of, done_of, most_reads_of, source_of, kept}
+use Rattle.dbus_stream.specs.RawReading.{limits_of, done_of, kept}
 use Rattle.dbus_tool.specs.Commands.{command_of}
 use Rattle.dbus_tool.specs.Counting.{stopped_by}
-use Rattle.dbus_tool.specs.Devices.{reading, writing}
-use Rattle.dbus_tool.specs.Handing.{Hands}
+use Rattle.dbus_tool.specs.Onward.{RawHandsOn}
 use Rattle.dbus_tool.specs.Gathering.{gathered_bytes}
 use Rattle.dbus_tool.specs.Output.{IsOutputOf}
 use Rattle.dbus_tool.proofs.GatherSteps.{gathers_after}
-use Rattle.dbus_tool.proofs.ReadSteps.{length-sizes, read_none}
+use Rattle.dbus_tool.proofs.ReadSteps.{length-sizes}
 use Rattle.dbus_tool.proofs.HandSteps.{HasHanded, hands_none, hands_more, hands_all, hands_stopped, hands_not}
 use Rattle.dbus_tool.proofs.LentSteps.{lent_validated, lent_whole}
 use Rattle.dbus_tool.proofs.handing.hand_all.Goals as goal
 use Rattle.dbus_tool.proofs.handing.hand_all.Goals.{In-Ok-Some}
 
 pub messages-init : goal.messages-init
-messages-init g c =
-    let new = c.requires in
-    let m = c.args.messages.now in
-    let none = hands_none gathering g.R.Source.left g.R.Source.calls g.R.Source.failures g.W.Sink.held g.W.Sink.failures c.args.limits (most_reads_of c.args.messages.now) (command_of c.args.output) m.reader (gathered_bytes c.args.gathered.now) c.args.first.now
-    (read_none gathering g.R.Source.left g.R.Source.calls c.args.limits (most_reads_of m) m.reader new.reads refl new.limits new.ended) new.done new.stopped in
-    (subst (λ w. HasHanded gathering g.R.Source.left g.R.Source.calls g.R.Source.failures g.W.Sink.held g.W.Sink.failures c.args.limits (most_reads_of c.args.messages.now) (command_of c.args.output) 0 m.reader m.reader w (gathered_bytes c.args.gathered.now) (gathered_bytes c.args.gathered.now) c.args.first.now c.args.first.now) (sym new.kept) none, refl)
+messages-init g c = (
+  hands_none gathering g.R.Source.left g.R.Source.calls g.R.Source.failures g.W.Sink.held g.W.Sink.failures c.args.limits (command_of c.args.output) (kept c.args.messages.now) c.args.before c.args.messages.now.reader (gathered_bytes c.args.gathered.now) c.args.first.now c.requires.within c.requires.unstopped,
+  refl,
+)
 
 -- what the reader lends
 lent : (g : _) (c : In-Ok-Some g) → (r : Reads g.R.Source.left g.R.Source.calls c.messages.messages c.next_message.new.messages)
@@ -37,7 +34,7 @@ overflow_add-count g c =
     let h = c.messages.invariant.0 in
     let l = (lent g (goal.at.overflow_add-count g c).In-Ok-Some).1 in
     let few : done_of c.next_message.new.messages ≤ 2 ^ 50 = c.in-Ok-Some.ensures.few in
-    omega (arith, h.count_is, length-sizes c.args.limits h.read.bytes h.items (kept c.messages.messages) h.read.messages, h.done, l.gives.done, few)
+    omega (arith, h.count_is, length-sizes c.args.limits (kept c.args.messages.now ++ h.read.bytes) h.items (kept c.messages.messages) h.read.messages, h.done, l.gives.done, few, c.requires.few)
 
 pub write_one-requires : goal.write_one-requires
 write_one-requires g c =
@@ -58,9 +55,9 @@ messages-preserved g c =
     let output = subst (λ k. IsOutputOf (command_of c.args.output) l.gives.order l.gives.message (c.messages.count + 1) k one.0) c.done-offset.ensures one.1 in
     let gathers = gathers_after g.W.Sink.held g.W.Sink.failures one.0 (gathered_bytes c.messages.gathered) (gathered_bytes c.next_message.new.gathered) (gathered_bytes c.write_one.new.gathered)
     c.messages.first c.next_message.new.first c.write_one.new.first (Ok tt) given.3 one.2 in
-    let more = hands_more gathering g.R.Source.left g.R.Source.calls g.R.Source.failures g.W.Sink.held g.W.Sink.failures c.args.limits (most_reads_of c.args.messages.now) (command_of c.args.output) c.messages.count c.args.messages.now.reader mid.reader new.reader (kept mid) (gathered_bytes c.args.gathered.now) (gathered_bytes c.messages.gathered) (gathered_bytes c.write_one.new.gathered)
+    let more = hands_more gathering g.R.Source.left g.R.Source.calls g.R.Source.failures g.W.Sink.held g.W.Sink.failures c.args.limits (command_of c.args.output) (kept c.args.messages.now) c.args.before c.messages.count c.args.messages.now.reader mid.reader new.reader (kept mid) (gathered_bytes c.args.gathered.now) (gathered_bytes c.messages.gathered) (gathered_bytes c.write_one.new.gathered)
     c.args.first.now c.messages.first c.write_one.new.first item one.0 c.messages.invariant.0 lent.0 l.gives.whole l.gives.done l.gives.unstopped given.2 output gathers in (
-      subst (λ v. HasHanded gathering g.R.Source.left g.R.Source.calls g.R.Source.failures g.W.Sink.held g.W.Sink.failures c.args.limits (most_reads_of c.args.messages.now) (command_of c.args.output) (c.messages.count + 1) c.args.messages.now.reader new.reader v (gathered_bytes c.args.gathered.now) (gathered_bytes c.write_one.new.gathered) c.args.first.now c.write_one.new.first) (sym l.gives.kept) more,
+      subst (λ v. HasHanded gathering g.R.Source.left g.R.Source.calls g.R.Source.failures g.W.Sink.held g.W.Sink.failures c.args.limits (command_of c.args.output) (kept c.args.messages.now) c.args.before (c.messages.count + 1) c.args.messages.now.reader new.reader v (gathered_bytes c.args.gathered.now) (gathered_bytes c.write_one.new.gathered) c.args.first.now c.write_one.new.first) (sym l.gives.kept) more,
       c.next_message.ensures.same_reference ∙ c.messages.invariant.1,
     )
 
@@ -86,24 +83,28 @@ returns-in-Err-write_one-clause-hands g c =
     let output = subst (λ k. IsOutputOf (command_of c.args.output) l.gives.order l.gives.message (c.messages.count + 1) k one.0) c.done-offset.ensures one.1 in
     let gathers = gathers_after g.W.Sink.held g.W.Sink.failures one.0 (gathered_bytes c.messages.gathered) (gathered_bytes c.next_message.new.gathered) (gathered_bytes c.write_one.new.gathered)
     c.messages.first c.next_message.new.first c.write_one.new.first (Err c.in-Err-write_one.cause) given.3 one.2 in
-    hands_not gathering g.R.Source.left g.R.Source.calls g.R.Source.failures g.W.Sink.held g.W.Sink.failures c.args.limits (most_reads_of c.args.messages.now) (command_of c.args.output) c.in-Err-write_one.cause c.messages.count c.args.messages.now.reader mid.reader new.reader (kept mid) (gathered_bytes c.args.gathered.now) (gathered_bytes c.messages.gathered) (gathered_bytes c.write_one.new.gathered)
+    hands_not gathering g.R.Source.left g.R.Source.calls g.R.Source.failures g.W.Sink.held g.W.Sink.failures c.args.limits (command_of c.args.output) (kept c.args.messages.now) c.args.before c.in-Err-write_one.cause c.messages.count c.args.messages.now.reader mid.reader new.reader (kept mid) (gathered_bytes c.args.gathered.now) (gathered_bytes c.messages.gathered) (gathered_bytes c.write_one.new.gathered)
     c.args.first.now c.messages.first c.write_one.new.first item one.0 c.messages.invariant.0 lent.0 l.gives.whole given.2 output gathers
 
 pub returns-in-Ok-None-clause-hands : goal.returns-in-Ok-None-clause-hands
 returns-in-Ok-None-clause-hands g c =
     let given = rw c.in-Ok-None.field-0-is at c.in-Ok-None.ensures.gives in
-    hands_all gathering g.R.Source.left g.R.Source.calls g.R.Source.failures g.W.Sink.held g.W.Sink.failures c.args.limits (most_reads_of c.args.messages.now) (command_of c.args.output) c.messages.count c.args.messages.now.reader c.messages.messages.reader c.next_message.new.messages.reader (kept c.messages.messages)
-    (gathered_bytes c.args.gathered.now) (gathered_bytes c.messages.gathered) (gathered_bytes c.next_message.new.gathered) c.args.first.now c.messages.first c.next_message.new.first Ended _
-    c.messages.invariant.0 given.0 refl (c.done.ensures ∙ given.1.2.done) refl given.1.0 (λ _. given.1.1) given.2 given.3
+    let ends = given.1 in
+    record {
+      all = hands_all gathering g.R.Source.left g.R.Source.calls g.R.Source.failures g.W.Sink.held g.W.Sink.failures c.args.limits (command_of c.args.output) (kept c.args.messages.now) c.args.before c.messages.count c.args.messages.now.reader c.messages.messages.reader c.next_message.new.messages.reader (kept c.messages.messages)
+          (gathered_bytes c.args.gathered.now) (gathered_bytes c.messages.gathered) (gathered_bytes c.next_message.new.gathered) c.args.first.now c.messages.first c.next_message.new.first Ended _
+          c.messages.invariant.0 given.0 refl c.done.ensures ends.2.done refl ends.0 (λ _. ends.1) given.2 given.3;
+      kept = ends.2.kept;
+      stopped = ends.3;
+    }
 
 pub returns-in-Err-clause-hands : goal.returns-in-Err-clause-hands
 returns-in-Err-clause-hands g c =
     let stop = c.in-Err.stop in
     let answer : c.stopped_by.result ≡ stopped_by c.messages.count (done_of c.next_message.new.messages) stop
     = c.stopped_by.ensures ∙ ap (λ n. stopped_by c.messages.count n stop) c.done-in-Err.ensures in
-    subst (λ x. Hands (reading g.R.Source.left g.R.Source.calls g.R.Source.failures (source_of c.args.messages.now) (source_of c.next_message.new.messages))
-    (writing g.W.Sink.held g.W.Sink.failures c.args.first.now c.next_message.new.first) c.args.limits (most_reads_of c.args.messages.now) (command_of c.args.output)
-    (gathered_bytes c.args.gathered.now) (gathered_bytes c.next_message.new.gathered) x) (sym answer)
-    (hands_stopped g.R.Source.left g.R.Source.calls g.R.Source.failures g.W.Sink.held g.W.Sink.failures c.args.limits (most_reads_of c.args.messages.now) (command_of c.args.output) stop c.messages.count
+    subst (λ x. RawHandsOn g.R.Source.left g.R.Source.calls g.R.Source.failures g.W.Sink.held g.W.Sink.failures c.args.limits (command_of c.args.output) c.args.before c.args.messages.now c.next_message.new.messages
+    (gathered_bytes c.args.gathered.now) (gathered_bytes c.next_message.new.gathered) c.args.first.now c.next_message.new.first x) (sym answer)
+    (hands_stopped g.R.Source.left g.R.Source.calls g.R.Source.failures g.W.Sink.held g.W.Sink.failures c.args.limits (command_of c.args.output) c.args.before c.messages.count
     c.args.messages.now c.messages.messages c.next_message.new.messages (gathered_bytes c.args.gathered.now) (gathered_bytes c.messages.gathered) (gathered_bytes c.next_message.new.gathered)
-    c.args.first.now c.messages.first c.next_message.new.first c.messages.invariant.0 c.in-Err.ensures.gives)
+    c.args.first.now c.messages.first c.next_message.new.first c.messages.invariant.0 stop c.in-Err.ensures.gives)

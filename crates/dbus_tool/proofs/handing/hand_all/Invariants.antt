@@ -1,6 +1,6 @@
 use Rattle.std.proofs.Common.{◌≡◌, ◌-◌, ◌^◌}
 use Rattle.dbus_stream.specs.Gathering.{gathering}
-use Rattle.dbus_stream.specs.RawReading.{done_of, kept, most_reads_of, source_of}
+use Rattle.dbus_stream.specs.RawReading.{done_of, kept, source_of}
 use Rattle.dbus_tool.specs.Commands.{command_of}
 use Rattle.dbus_tool.specs.Gathering.{gathered_bytes}
 use Rattle.dbus_tool.proofs.HandSteps.{HasHanded}
@@ -8,7 +8,7 @@ use Rattle.dbus_tool.proofs.handing.hand_all.Given as goal
 
 abbrev pub invariant-messages : goal.invariant-messages
 invariant-messages g l =
-    HasHanded gathering g.R.Source.left g.R.Source.calls g.R.Source.failures g.W.Sink.held g.W.Sink.failures l.limits (most_reads_of l.fn.messages) (command_of l.output)
+    HasHanded gathering g.R.Source.left g.R.Source.calls g.R.Source.failures g.W.Sink.held g.W.Sink.failures l.limits (command_of l.output) (kept l.fn.messages) l.before
     l.count l.fn.messages.reader l.messages.reader (kept l.messages) (gathered_bytes l.fn.gathered) (gathered_bytes l.gathered) l.fn.first l.first
     × (g.R.Source.reference (source_of l.messages) ≡ g.R.Source.reference (source_of l.fn.messages))
 

@@ -1,46 +1,70 @@
-use Rattle.std.proofs.Common.{List, ℕ, [], subst}
-use Rattle.dbus_stream.specs.RawReading.{most_reads_of, source_of}
-use Rattle.dbus_tool.specs.Gathering.{Passes, gathered_bytes}
+use Rattle.std.proofs.Common.{List, ℕ, [], Err, subst}
+use Rattle.dbus_stream.specs.Gathering.{gathering}
+use Rattle.dbus_stream.specs.RawReading.{kept}
+use Rattle.dbus_tool.specs.Gathering.{Passes, GathersOrNot, gathered_bytes}
 use Rattle.dbus_tool.specs.Commands.{command_of}
-use Rattle.dbus_tool.specs.Handing.{HandsAll}
+use Rattle.dbus_tool.specs.Onward.{HandsRawOn, HandsSomeOn}
+use Rattle.dbus_tool.specs.declared.ending.Cause.TheVariants.{Memory}
 use Rattle.dbus_tool.proofs.GatherSteps.{passes_nothing, breaks_nothing}
+use Rattle.dbus_tool.proofs.HandSteps.{hands_flushed}
 use Rattle.dbus_tool.proofs.handing.hand_and_write.Goals as goal
 use Rattle.dbus_tool.proofs.handing.hand_and_write.Goals.{In-Ok}
 
 -- all messages were handed on, where nothing was gathered before
-handed : (g : _) (c : In-Ok g) → HandsAll g.R.Source.left g.R.Source.calls g.R.Source.failures g.W.Sink.held g.W.Sink.failures c.args.limits (most_reads_of c.args.messages.now) (command_of c.args.output)
-    c.in-Ok.counted (source_of c.args.messages.now) (source_of c.hand_all.new.messages) [] (gathered_bytes c.hand_all.new.gathered) c.args.first.now c.hand_all.new.first
+handed : (g : _) (c : In-Ok g) → HandsRawOn g.R.Source.left g.R.Source.calls g.R.Source.failures g.W.Sink.held g.W.Sink.failures c.args.limits (command_of c.args.output) c.args.before
+    c.in-Ok.counted c.args.messages.now c.hand_all.new.messages [] (gathered_bytes c.hand_all.new.gathered) c.args.first.now c.hand_all.new.first
 handed g c =
-    subst (λ (l : List ℕ). HandsAll g.R.Source.left g.R.Source.calls g.R.Source.failures g.W.Sink.held g.W.Sink.failures c.args.limits (most_reads_of c.args.messages.now) (command_of c.args.output)
-    c.in-Ok.counted (source_of c.args.messages.now) (source_of c.hand_all.new.messages) l (gathered_bytes c.hand_all.new.gathered) c.args.first.now c.hand_all.new.first) c.new-gathered.ensures c.in-Ok.ensures.hands
+    subst (λ (l : List ℕ). HandsRawOn g.R.Source.left g.R.Source.calls g.R.Source.failures g.W.Sink.held g.W.Sink.failures c.args.limits (command_of c.args.output) c.args.before
+    c.in-Ok.counted c.args.messages.now c.hand_all.new.messages l (gathered_bytes c.hand_all.new.gathered) c.args.first.now c.hand_all.new.first) c.requires.empty c.in-Ok.ensures.hands
 
 pub returns-in-Ok-write_out-clause-hands : goal.returns-in-Ok-write_out-clause-hands
 returns-in-Ok-write_out-clause-hands g c =
-    let a = handed g (goal.at.returns-in-Ok-write_out-clause-hands g c).In-Ok in
+    let h = handed g (goal.at.returns-in-Ok-write_out-clause-hands g c).In-Ok in
+    let a = h.all in
     record {
-      counts = a.counts;
-      out = a.out;
-      output = a.output;
-      passes = subst (λ (l : List ℕ). Passes g.W.Sink.held g.W.Sink.failures a.out [] l c.args.first.now c.write_out.new.first) c.in-Ok-write_out.ensures.emptied
-          (passes_nothing g.W.Sink.held g.W.Sink.failures a.out [] (gathered_bytes c.hand_all.new.gathered) (gathered_bytes c.write_out.new.gathered) c.args.first.now c.hand_all.new.first c.write_out.new.first
-          a.passes c.in-Ok-write_out.ensures.gathers);
-      failed = a.failed;
+      all = record {
+        items = a.items;
+        rest = a.rest;
+        outcome = a.outcome;
+        read = a.read;
+        outcome_is = a.outcome_is;
+        ended = a.ended;
+        count_is = a.count_is;
+        size_is = a.size_is;
+        fault_is = a.fault_is;
+        done = a.done;
+        out = a.out;
+        output = a.output;
+        passes = subst (λ (l : List ℕ). Passes g.W.Sink.held g.W.Sink.failures a.out [] l c.args.first.now c.write_out.new.first) c.in-Ok-write_out.ensures.emptied
+            (passes_nothing g.W.Sink.held g.W.Sink.failures a.out [] (gathered_bytes c.hand_all.new.gathered) (gathered_bytes c.write_out.new.gathered) c.args.first.now c.hand_all.new.first c.write_out.new.first
+            a.passes c.in-Ok-write_out.ensures.gathers);
+        failed = a.failed;
+      };
+      kept = h.kept;
+      stopped = h.stopped;
     }
 
 pub returns-in-Err-write_out-clause-hands : goal.returns-in-Err-write_out-clause-hands
 returns-in-Err-write_out-clause-hands g c =
-    let a = handed g (goal.at.returns-in-Err-write_out-clause-hands g c).In-Ok in
+    let a = (handed g (goal.at.returns-in-Err-write_out-clause-hands g c).In-Ok).all in
     record {
-      bytes = a.counts.bytes;
-      items = a.counts.items;
-      rest = a.counts.rest;
-      out = a.out;
-      consumed = a.counts.consumed;
-      messages = a.counts.cut.messages;
+      items = a.items;
+      rest = a.rest;
+      read = a.read;
       all = tt;
+      out = a.out;
       output = a.output;
       leaves = breaks_nothing g.W.Sink.held g.W.Sink.failures a.out [] (gathered_bytes c.hand_all.new.gathered) c.args.first.now c.hand_all.new.first c.write_out.new.first
           a.passes c.in-Err-write_out.ensures.gathers;
-      called = a.counts.called;
       caused = a.failed;
     }
+
+pub returns-in-Err-Memory-clause-hands : goal.returns-in-Err-Memory-clause-hands
+returns-in-Err-Memory-clause-hands g c =
+    let some = rw c.in-Err-Memory.field-0-is at c.in-Err-Memory.ensures.hands in
+    hands_flushed g.R.Source.left g.R.Source.calls g.R.Source.failures g.W.Sink.held g.W.Sink.failures c.args.limits (command_of c.args.output) c.args.before c.out_of_memory.result c.args.messages.now c.hand_all.new.messages
+    (gathered_bytes c.hand_all.new.gathered) c.args.first.now c.hand_all.new.first c.out_of_memory.new.first
+    (subst (λ (l : List ℕ). HandsSomeOn gathering g.R.Source.left g.R.Source.calls c.args.limits (kept c.args.messages.now) g.R.Source.failures g.W.Sink.held g.W.Sink.failures (command_of c.args.output) c.args.before Memory
+    c.args.messages.now.reader c.hand_all.new.messages.reader l (gathered_bytes c.hand_all.new.gathered) c.args.first.now c.hand_all.new.first) c.requires.empty some)
+    (subst (λ (l : List ℕ). GathersOrNot g.W.Sink.held g.W.Sink.failures [] (gathered_bytes c.hand_all.new.gathered) l c.hand_all.new.first c.out_of_memory.new.first (Err c.out_of_memory.result)) c.out_of_memory.ensures.emptied
+    c.out_of_memory.ensures.gathers)

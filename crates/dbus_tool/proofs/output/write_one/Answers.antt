@@ -1,7 +1,12 @@
-use Rattle.std.proofs.Common.{refl}
+use Rattle.std.proofs.Common.{[], refl}
 use Rattle.dbus_message_model.specs.Messages.{message_bytes}
 use Rattle.dbus_show.specs.ShownMessages.{message_text}
+use Rattle.dbus_tool.specs.Gathering.{gathered_bytes}
+use Rattle.dbus_tool.specs.PageLaws.{passes_none}
 use Rattle.dbus_tool.proofs.output.write_one.Goals as goal
+
+pub returns-in-Nothing : goal.returns-in-Nothing
+returns-in-Nothing g c = λ order m whole. rw c.in-Nothing.is ([], refl, passes_none g.W.Sink.held g.W.Sink.failures (gathered_bytes c.args.gathered.now) c.args.first.now)
 
 pub returns-in-Text : goal.returns-in-Text
 returns-in-Text g c = λ order m whole. rw c.in-Text.is (message_text order m c.args.place.number, refl, c.show.ensures order m whole)

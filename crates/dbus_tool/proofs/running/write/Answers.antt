@@ -13,8 +13,8 @@ returns-in-Ok g c =
     let w = c.hand_over.new.first in
     ran_to_end g.R.Source.left g.R.Source.calls g.R.Source.failures g.W.Sink.held g.W.Sink.failures c.args.limits c.args.reads (command_of c.args.output) g.E.Sink.held g.E.Sink.failures counted c.args.reader.now c.hand_over.new.source c.args.first.now w w c.args.second.now c.tell_fault.new.second c.tell_fault.result
     c.in-Ok.ensures
-    (subst (λ (l : List ℕ). Wrote g.W.Sink.held g.W.Sink.failures w l w) (sym (nothing_last c.args.output counted.count counted.size counted.fault)) (record { appended = Appends-nil (g.W.Sink.held w); failed = refl }))
-    (subst (λ (l : List ℕ). TellsSecond g.E.Sink.held g.E.Sink.failures l counted.fault c.args.second.now c.tell_fault.new.second c.tell_fault.result) (sym (told_second c.args.output counted.size counted.fault))
+    (subst (λ (l : List ℕ). Wrote g.W.Sink.held g.W.Sink.failures w l w) (sym (nothing_last c.args.output counted.count counted.size counted.fault c.requires.told_second)) (record { appended = Appends-nil (g.W.Sink.held w); failed = refl }))
+    (subst (λ (l : List ℕ). TellsSecond g.E.Sink.held g.E.Sink.failures l counted.fault c.args.second.now c.tell_fault.new.second c.tell_fault.result) (sym (told_second c.args.output counted.size counted.fault c.requires.told_second))
     c.tell_fault.ensures)
 
 pub returns-in-Err : goal.returns-in-Err

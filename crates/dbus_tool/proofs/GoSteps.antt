@@ -1,0 +1,601 @@
+-- The turns of a run that passes over refused messages. Each hands on the messages up to the next fault, tells it, and passes over that message.
+use Rattle.std.proofs.Common.{◌≡◌, ◌⊎◌, ℕ, ◌+◌, ◌-◌, ◌^◌, ◌<◌, ◌≤◌, List, [], ◌∷◌, ◌++◌, Bool, true, false, None, Some, Ok, Err, Option, Result, length, drop, refl, sym, ap, ◌∙◌, subst, arith, inl, inr, append_assoc, append-nil, length-append}
+use Rattle.std.specs.Io.KnownBytes.{Consumes, IsAtEnd}
+use Rattle.std.proofs.KnownBytes.{Consumes-nil, Consumes-trans}
+use Rattle.std.proofs.lemmas.Bool.{false≢true}
+use Rattle.dbus_value_model.specs.declared.fault.Fault.{Fault}
+use Rattle.dbus_value_model.specs.declared.limits.Limits.{Limits}
+use Rattle.dbus_header.specs.MessageOutcomes.{IsRefused, IsPartial}
+use Rattle.dbus_header.specs.StatedLengths.{StatesLength}
+use Rattle.dbus_device.specs.Device.{one_more, RisesBy}
+use Rattle.dbus_device.specs.Write.{Wrote}
+use Rattle.dbus_stream.specs.Cut.{CutMessage, BeginWith, CutOutcome, Ended, Unfinished, Refused, IsOutcome}
+use Rattle.dbus_stream.specs.CutEnds.{fault_at_end, truncated, sizes}
+use Rattle.dbus_stream.specs.Gathering.{gathering}
+use Rattle.dbus_stream.specs.Lasting.{is_truncated}
+use Rattle.dbus_stream.specs.Next.{DeviceCounts}
+use Rattle.dbus_stream.specs.Passing.{Passing, PassAnswers, ReadsUpTo, IsRefusal, StatesAll, FallsShort, PassesOver}
+use Rattle.dbus_stream.specs.RawReading.{IsNewReader, done_of, is_ended, kept, limits_of, most_reads_of, reads_of, source_of, stopped_of}
+use Rattle.dbus_stream.specs.declared.raw_reader.RawReader.{RawReader}
+use Rattle.dbus_stream.specs.declared.read_fault.ReadFault.{ReadFault}
+use Rattle.dbus_stream.specs.declared.read_fault.ReadFault.TheVariants as read
+use Rattle.dbus_command.specs.declared.settings.Settings.{Settings}
+use Rattle.dbus_command.specs.declared.command.Command.{Command}
+use Rattle.dbus_tool.specs.Devices.{reading, writing, RisesAtMost}
+use Rattle.dbus_tool.specs.Gathering.{Passes, Breaks}
+use Rattle.dbus_tool.specs.Going.{first_of, second_of, is_check, taken, Taken, Covers, TellsRest, IsThrough, HandsParts, StopsWithin, IsMore, IsAllOf, IsStopOf, cause_of, IsAllRead, GotFirst, GotSecond, TellsBy, TellsText}
+use Rattle.dbus_tool.specs.Onward.{HasRead, HandsRawOn, HandsSomeOn, IsTrueEnd, stop_of}
+use Rattle.dbus_tool.specs.Output.{IsOutputOfAll, IsPrefixTo}
+use Rattle.dbus_tool.specs.Parts.{Part, PassedOver, sizes_of, BeginWithParts, IsCutOff, IsLast, AreTexts, IsMade, IsToldOf, IsToldLast, passed_count, passed_sizes, tally_of, closing_line}
+use Rattle.dbus_tool.specs.Telling.{IsTold}
+use Rattle.dbus_tool.specs.declared.ending.Cause.{Cause}
+use Rattle.dbus_tool.specs.declared.ending.Cause.TheVariants.{Memory, ReadFailed, WriteFailed, TooManyReads}
+use Rattle.dbus_tool.specs.declared.ending.Counted.{Counted}
+use Rattle.dbus_tool.specs.declared.going.Stop.{Stop}
+use Rattle.dbus_tool.specs.declared.going.Stop.TheVariants.{Cause as ByCause, Second}
+use Rattle.dbus_tool.specs.declared.tally.Tally.{Tally}
+use Rattle.dbus_tool.specs.declared.telling.Refusal.{Refusal}
+use Rattle.dbus_tool.proofs.GatherSteps.{passes_whole}
+use Rattle.dbus_tool.proofs.PartLaws.{wholes, parts_more, parts_both, parts_of, few_parts, few_passed, few_passed_sizes, stated_bytes, sizes-both, passed-both, passed_sizes-both, length-wholes, sizes-wholes, passed-wholes, passed_sizes-wholes, texts_both, made_of, told_of, first_nothing, second_nothing, first_more}
+use Rattle.dbus_tool.proofs.ReadSteps.{read_none, read_on}
+use Rattle.dbus_tool.proofs.WriteSteps.{HasTold, TellsMore, tells_more, wrote_nothing, wrote_both, wrote_breaks}
+
+-- a new reader of a source is one of its own
+pub is_new : {R A : Type 0} (source : R) (most : ℕ) (limits : Limits) (r : RawReader R A) → IsNewReader source most limits r → IsNewReader (source_of r) (most_reads_of r) limits r
+is_new source most limits r is = record {
+  source = refl;
+  most_reads = refl;
+  limits = is.limits;
+  kept = is.kept;
+  lent = is.lent;
+  done = is.done;
+  reads = is.reads;
+  ended = is.ended;
+  stopped = is.stopped;
+}
+
+-- a refusal is no end of the input
+refused_is : (limits : Limits) (w : List ℕ) (fault : Fault) (outcome : CutOutcome) → IsOutcome limits w outcome → Some fault ≡ fault_at_end w outcome → is_truncated fault.reason ≡ false
+    → IsRefused limits w fault
+refused_is limits w fault Ended o e not = absurd cc
+refused_is limits w fault Unfinished o e not =
+    let same : fault ≡ truncated w = cc in
+    absurd (false≢true (sym not ∙ ap (λ (f : Fault). is_truncated f.reason) same))
+refused_is limits w fault (Refused other) o e not = let same : other ≡ fault = cc in subst (λ f. IsRefused limits w f) same o
+
+module _ {R A W E : Type 0} (left : R → Option (List ℕ)) (calls failures : R → ℕ) (held : W → Option (List ℕ)) (write_failures : W → ℕ) (second_held : E → Option (List ℕ)) (second_failures : E → ℕ)
+    (settings : Settings) (limits : Limits) (most : ℕ) (command : Command) (old : RawReader R A) (w0 : W) (e0 : E) where
+  -- what was read is these parts and then the rest
+  pub record HasCovered (new : RawReader R A) (parts : List Part) (rest out told : List ℕ) : Type 0 where
+    pub bytes : List ℕ
+    pub consumed : Consumes (left (source_of old)) (left (source_of new)) bytes
+    pub called : RisesBy (reads_of new) (calls (source_of old)) (calls (source_of new))
+    pub most_reads : most_reads_of new ≡ most
+    pub limits_are : limits_of new ≡ limits
+    pub at_end : IsTrueEnd left new.reader
+    pub begin : BeginWithParts limits bytes parts rest
+    pub made : AreTexts (IsMade command) 1 0 parts out
+    pub tells : AreTexts (IsToldOf settings) 1 0 parts told
+
+  -- more was read, and begins with more parts
+  covers_read : (mid new : RawReader R A) (parts more : List Part) (from rest out told o t w : List ℕ) (items : List CutMessage) → HasCovered mid parts from out told
+      → (r : HasRead gathering left calls limits from mid.reader new.reader items w) → BeginWithParts limits (from ++ r.bytes) more rest
+      → AreTexts (IsMade command) (1 + length parts) (0 + sizes_of parts) more o → AreTexts (IsToldOf settings) (1 + length parts) (0 + sizes_of parts) more t
+      → HasCovered new (parts ++ more) rest (out ++ o) (told ++ t)
+  covers_read mid new parts more from rest out told o t w items h r begin made tells = record {
+    bytes = h.bytes ++ r.bytes;
+    consumed = Consumes-trans _ _ _ _ _ h.consumed r.consumed;
+    called = omega (arith, h.called, r.called, r.reads);
+    most_reads = r.most_reads ∙ h.most_reads;
+    limits_are = r.limits_are;
+    at_end = r.at_end h.at_end;
+    begin = parts_both limits (h.bytes ++ r.bytes) parts more (from ++ r.bytes) rest (parts_more limits h.bytes parts from r.bytes h.begin) begin;
+    made = texts_both (IsMade command) 1 0 parts more out o h.made made;
+    tells = texts_both (IsToldOf settings) 1 0 parts more told t h.tells tells;
+  }
+
+  covers_items : (mid new : RawReader R A) (parts : List Part) (from rest out told o : List ℕ) (items : List CutMessage) (before offset : ℕ) → before ≡ length parts → offset ≡ sizes_of parts
+      → HasCovered mid parts from out told → HasRead gathering left calls limits from mid.reader new.reader items rest → IsOutputOfAll command (before + 1) offset items o
+      → HasCovered new (parts ++ wholes items) rest (out ++ o) told
+  covers_items mid new parts from rest out told o items before offset number place h r output =
+      let n : before + 1 ≡ 1 + length parts = omega (arith, number) in
+      let at : offset ≡ 0 + sizes_of parts = omega (arith, place) in
+      let made = made_of command (1 + length parts) (0 + sizes_of parts) items o
+      (subst (λ k. IsOutputOfAll command k (0 + sizes_of parts) items o) n (subst (λ k. IsOutputOfAll command (before + 1) k items o) at output)) in
+      subst (λ (l : List ℕ). HasCovered new (parts ++ wholes items) rest (out ++ o) l) (append-nil told)
+      (covers_read mid new parts (wholes items) from rest out told o [] rest items h r (parts_of limits (from ++ r.bytes) items rest r.messages) made
+      (told_of settings (1 + length parts) (0 + sizes_of parts) items))
+
+  -- as a clause says it
+  covers : (new : RawReader R A) (parts : List Part) (rest out told : List ℕ) → HasCovered new parts rest out told
+      → Covers (taken (reading left calls failures (source_of old) (source_of new))) held write_failures second_held second_failures settings limits most command parts rest out told
+  covers new parts rest out told h = record {
+    bytes = h.bytes;
+    consumed = h.consumed;
+    called = (reads_of new, subst (λ (n : ℕ). reads_of new ≤ n) h.most_reads new.reader.few_reads, h.called);
+    begin = h.begin;
+    made = h.made;
+    tells = h.tells;
+  }
+
+  -- where a turn stands
+  pub record HasGone (new : RawReader R A) (tally : Tally) (w : W) (e : E) : Type 0 where
+    pub parts : List Part
+    pub out : List ℕ
+    pub told : List ℕ
+    pub covered : HasCovered new parts (kept new) out told
+    pub tally_is : tally ≡ tally_of parts
+    pub done : done_of new ≡ sizes_of parts
+    pub failed : failures (source_of new) ≡ failures (source_of old)
+    pub wrote : HasTold held write_failures second_held second_failures command out told w0 w e0 e
+
+  pub gone_none : IsNewReader (source_of old) most limits old → HasGone old (record { count = 0; size = 0; passed = 0; passed_size = 0 }) w0 e0
+  gone_none new_reader = record {
+    parts = [];
+    out = [];
+    told = [];
+    covered = record {
+      bytes = [];
+      consumed = Consumes-nil (left (source_of old));
+      called = omega (arith, new_reader.reads);
+      most_reads = new_reader.most_reads;
+      limits_are = new_reader.limits;
+      at_end = λ e. absurd (false≢true (sym new_reader.ended ∙ e));
+      begin = sym new_reader.kept;
+      made = refl;
+      tells = refl;
+    };
+    tally_is = refl;
+    done = new_reader.done;
+    failed = refl;
+    wrote = record {
+      first = subst (λ l. Wrote held write_failures w0 l w0) (sym (first_nothing command)) (wrote_nothing held write_failures w0);
+      second = subst (λ l. Wrote second_held second_failures e0 l e0) (sym (second_nothing command)) (wrote_nothing second_held second_failures e0);
+    };
+  }
+
+  pub done_small : (r : RawReader R A) → done_of r ≤ 2 ^ 50
+  done_small r = omega (arith, r.reader.counted, r.reader.few_reads, r.reader.low_most)
+
+  -- how far it is
+  pub record IsWithin (new : RawReader R A) (tally : Tally) : Type 0 where
+    pub count : tally.count ≤ done_of new
+    pub size : tally.size ≡ done_of new
+    pub passed : tally.passed ≤ tally.count
+    pub passed_size : tally.passed_size ≤ tally.size
+    pub small : done_of new ≤ 2 ^ 50
+
+  pub within : (new : RawReader R A) (tally : Tally) (w : W) (e : E) → HasGone new tally w e → IsWithin new tally
+  within new tally w e h =
+      let is = h.tally_is in
+      let count_is : tally.count ≡ length h.parts = ap (λ (t : Tally). t.count) is in
+      let size_is : tally.size ≡ sizes_of h.parts = ap (λ (t : Tally). t.size) is in
+      record {
+        count = omega (arith, count_is, few_parts limits h.covered.bytes h.parts (kept new) h.covered.begin, h.done);
+        size = size_is ∙ sym h.done;
+        passed = omega (arith, count_is, ap (λ (t : Tally). t.passed) is, few_passed h.parts);
+        passed_size = omega (arith, size_is, ap (λ (t : Tally). t.passed_size) is, few_passed_sizes h.parts);
+        small = done_small new;
+      }
+
+  -- the messages up to a fault, or up to the end, were handed on
+  pub record HasReached (new : RawReader R A) (counted : Counted) (tally : Tally) (w : W) (e : E) : Type 0 where
+    pub gone : HasGone new tally w e
+    pub count_is : tally.count ≡ counted.count
+    pub size_is : tally.size ≡ counted.size
+    pub outcome : CutOutcome
+    pub outcome_is : IsOutcome limits (kept new) outcome
+    pub fault_is : counted.fault ≡ fault_at_end (kept new) outcome
+    pub stopped : stopped_of new ≡ stop_of counted.fault
+    pub ended : ((f : Fault) → outcome ≡ Refused f → ⊥) → is_ended new ≡ true
+
+  -- messages that were handed on are all of a stretch
+  wholes_tally : (parts : List Part) (items : List CutMessage) (count size : ℕ) (tally : Tally) → tally ≡ tally_of parts → count ≡ tally.count + length items → size ≡ sizes_of parts + sizes items
+      → record tally { count = count; size = size } ≡ tally_of (parts ++ wholes items)
+  wholes_tally parts items count size tally is number bytes =
+      let count_is : count ≡ length (parts ++ wholes items)
+      = omega (arith, number, ap (λ (t : Tally). t.count) is, length-append parts (wholes items), length-wholes items) in
+      let size_is : size ≡ sizes_of (parts ++ wholes items) = omega (arith, bytes, sizes-both parts (wholes items), sizes-wholes items) in
+      let passed_is : tally.passed ≡ passed_count (parts ++ wholes items)
+      = omega (arith, ap (λ (t : Tally). t.passed) is, passed-both parts (wholes items), passed-wholes items) in
+      let passed_size_is : tally.passed_size ≡ passed_sizes (parts ++ wholes items)
+      = omega (arith, ap (λ (t : Tally). t.passed_size) is, passed_sizes-both parts (wholes items), passed_sizes-wholes items) in
+      λ i. record { count = count_is i; size = size_is i; passed = passed_is i; passed_size = passed_size_is i }
+
+  module _ (mid new : RawReader R A) (tally : Tally) (w1 w2 : W) (e1 : E) (h : HasGone mid tally w1 e1) where
+    number_is : tally.count ≡ length h.parts
+    number_is = ap (λ (t : Tally). t.count) h.tally_is
+
+    pub reach : (counted : Counted) → HandsRawOn left calls failures held write_failures limits command tally.count counted mid new [] [] w1 w2
+        → HasReached new counted (record tally { count = counted.count; size = counted.size }) w2 e1
+    reach counted a =
+        let parts = h.parts ++ wholes a.all.items in
+        let covered = covers_items mid new h.parts (kept mid) a.all.rest h.out h.told a.all.out a.all.items tally.count (done_of mid) number_is h.done h.covered a.all.read a.all.output in
+        let size : counted.size ≡ sizes_of h.parts + sizes a.all.items = omega (arith, a.all.size_is, h.done) in
+        record {
+          gone = record {
+            parts = parts;
+            out = h.out ++ a.all.out;
+            told = h.told;
+            covered = subst (λ (l : List ℕ). HasCovered new parts l (h.out ++ a.all.out) h.told) (sym a.kept) covered;
+            tally_is = wholes_tally h.parts a.all.items counted.count counted.size tally h.tally_is a.all.count_is size;
+            done = omega (arith, a.all.done, size, sizes-both h.parts (wholes a.all.items), sizes-wholes a.all.items);
+            failed = a.all.failed ∙ h.failed;
+            wrote = record {
+              first = subst (λ l. Wrote held write_failures w0 l w2)
+                  (first_more command (1 + length h.parts) (0 + sizes_of h.parts) (wholes a.all.items) h.out h.told a.all.out (made_items a.all.items a.all.out a.all.output))
+                  (wrote_both held write_failures (first_of command h.out h.told) a.all.out w0 w1 w2 h.wrote.first (passes_whole held write_failures a.all.out [] [] w1 w2 refl refl a.all.passes));
+              second = h.wrote.second;
+            };
+          };
+          count_is = refl;
+          size_is = refl;
+          outcome = a.all.outcome;
+          outcome_is = subst (λ (l : List ℕ). IsOutcome limits l a.all.outcome) (sym a.kept) a.all.outcome_is;
+          fault_is = a.all.fault_is ∙ ap (λ (l : List ℕ). fault_at_end l a.all.outcome) (sym a.kept);
+          stopped = a.stopped;
+          ended = a.all.ended;
+        }
+      where
+        made_items : (items : List CutMessage) (o : List ℕ) → IsOutputOfAll command (tally.count + 1) (done_of mid) items o → AreTexts (IsMade command) (1 + length h.parts) (0 + sizes_of h.parts) (wholes items) o
+        made_items items o output =
+            let n : tally.count + 1 ≡ 1 + length h.parts = omega (arith, number_is) in
+            let at : done_of mid ≡ 0 + sizes_of h.parts = omega (arith, h.done) in
+            made_of command (1 + length h.parts) (0 + sizes_of h.parts) items o
+            (subst (λ k. IsOutputOfAll command k (0 + sizes_of h.parts) items o) n (subst (λ k. IsOutputOfAll command (tally.count + 1) k items o) at output))
+
+  -- ---- what a clause says
+
+  -- the source before and after
+  abbrev pub Took : RawReader R A → Taken
+  Took new = taken (reading left calls failures (source_of old) (source_of new))
+
+  abbrev pub Within : RawReader R A → Stop → W → E → Type 0
+  Within new stop w e = StopsWithin (Took new) held write_failures second_held second_failures settings limits most command stop w0 w e0 e
+
+  abbrev pub Handed : RawReader R A → Tally → Option Fault → W → E → Type 0
+  Handed new tally fault w e = HandsParts (Took new) held write_failures second_held second_failures settings limits most command tally fault w0 w e0 e
+
+  abbrev pub Stopped : RawReader R A → Stop → Type 0
+  Stopped new stop = IsStopOf (Took new) held write_failures second_held second_failures settings limits most command stop
+
+  abbrev pub AllRead : RawReader R A → Stop → List Part → List ℕ → List ℕ → Type 0
+  AllRead new stop parts rest more = IsAllRead (Took new) held write_failures second_held second_failures settings limits most command stop parts rest more
+
+  -- ---- the messages are not all handed on
+
+  stops_plain : (stop : Stop) (new : RawReader R A) (parts : List Part) (rest out told : List ℕ) (w : W) (e : E) → HasCovered new parts rest out told → AllRead new stop parts rest []
+      → Stopped new stop → GotFirst held write_failures stop (first_of command out told) w0 w → GotSecond second_held second_failures stop (second_of command told) e0 e → Within new stop w e
+  stops_plain stop new parts rest out told w e h all caused first second = record {
+    parts = parts;
+    rest = rest;
+    out = out;
+    told = told;
+    covers = covers new parts rest out told h;
+    more = [];
+    all = all;
+    caused = caused;
+    first = subst (λ (l : List ℕ). GotFirst held write_failures stop (first_of command out l) w0 w) (sym (append-nil told)) first;
+    second = subst (λ (l : List ℕ). GotSecond second_held second_failures stop (second_of command l) e0 e) (sym (append-nil told)) second;
+  }
+
+  all_called : (new : RawReader R A) (parts : List Part) (rest out told : List ℕ) → HasCovered new parts rest out told → reads_of new ≡ most_reads_of new → RisesBy most (calls (source_of old)) (calls (source_of new))
+  all_called new parts rest out told h e = subst (λ n. RisesBy n (calls (source_of old)) (calls (source_of new))) (e ∙ h.most_reads) h.called
+
+  module _ (mid new : RawReader R A) (tally : Tally) (w1 w2 : W) (e1 : E) (h : HasGone mid tally w1 e1) where
+    abbrev Handing : Cause → Type 0
+    Handing cause = HandsSomeOn gathering left calls limits (kept mid) failures held write_failures command tally.count cause mid.reader new.reader [] [] w1 w2
+
+    some_covered : (cause : Cause) (s : Handing cause) → HasCovered new (h.parts ++ wholes s.items) s.rest (h.out ++ s.out) h.told
+    some_covered cause s = covers_items mid new h.parts (kept mid) s.rest h.out h.told s.out s.items tally.count (done_of mid) (ap (λ (t : Tally). t.count) h.tally_is) h.done h.covered s.read s.output
+
+    some_out : (cause : Cause) (s : Handing cause) → first_of command h.out h.told ++ s.out ≡ first_of command (h.out ++ s.out) h.told
+    some_out cause s =
+        let number_is : tally.count ≡ length h.parts = ap (λ (t : Tally). t.count) h.tally_is in
+        let n : tally.count + 1 ≡ 1 + length h.parts = omega (arith, number_is) in
+        let at : done_of mid ≡ 0 + sizes_of h.parts = omega (arith, h.done) in
+        first_more command (1 + length h.parts) (0 + sizes_of h.parts) (wholes s.items) h.out h.told s.out
+        (made_of command (1 + length h.parts) (0 + sizes_of h.parts) s.items s.out
+        (subst (λ k. IsOutputOfAll command k (0 + sizes_of h.parts) s.items s.out) n (subst (λ k. IsOutputOfAll command (tally.count + 1) k s.items s.out) at s.output)))
+
+    some_wrote : (cause : Cause) (s : Handing cause) → Passes held write_failures s.out [] [] w1 w2 → Wrote held write_failures w0 (first_of command (h.out ++ s.out) h.told) w2
+    some_wrote cause s p =
+        subst (λ l. Wrote held write_failures w0 l w2) (some_out cause s)
+        (wrote_both held write_failures (first_of command h.out h.told) s.out w0 w1 w2 h.wrote.first (passes_whole held write_failures s.out [] [] w1 w2 refl refl p))
+
+    pub stop_hand : (cause : Cause) → Handing cause → Within new (ByCause cause) w2 e1
+    stop_hand Memory s =
+        stops_plain (ByCause Memory) new (h.parts ++ wholes s.items) s.rest (h.out ++ s.out) h.told w2 e1 (some_covered Memory s) (inl refl) (s.caused ∙ h.failed)
+        (some_wrote Memory s s.leaves) h.wrote.second
+    stop_hand ReadFailed s =
+        stops_plain (ByCause ReadFailed) new (h.parts ++ wholes s.items) s.rest (h.out ++ s.out) h.told w2 e1 (some_covered ReadFailed s) (inl (s.all, refl)) (s.caused ∙ ap one_more h.failed)
+        (some_wrote ReadFailed s s.leaves) h.wrote.second
+    stop_hand WriteFailed s =
+        stops_plain (ByCause WriteFailed) new (h.parts ++ wholes s.items) s.rest (h.out ++ s.out) h.told w2 e1 (some_covered WriteFailed s) (inl refl) (s.caused ∙ h.failed)
+        (subst (λ l. Breaks held write_failures l [] w0 w2) (some_out WriteFailed s) (wrote_breaks held write_failures (first_of command h.out h.told) s.out w0 w1 w2 h.wrote.first s.leaves)) h.wrote.second
+    stop_hand TooManyReads s =
+        stops_plain (ByCause TooManyReads) new (h.parts ++ wholes s.items) s.rest (h.out ++ s.out) h.told w2 e1 (some_covered TooManyReads s) (inl (s.all, refl))
+        (s.caused.0 ∙ h.failed, all_called new (h.parts ++ wholes s.items) s.rest (h.out ++ s.out) h.told (some_covered TooManyReads s) s.caused.1)
+        (some_wrote TooManyReads s s.leaves) h.wrote.second
+
+  -- ---- the input ends after a message
+
+  none_is : (w : List ℕ) (outcome : CutOutcome) → None ≡ fault_at_end w outcome → outcome ≡ Ended
+  none_is w Ended e = refl
+  none_is w Unfinished e = absurd cc
+  none_is w (Refused fault) e = absurd cc
+
+  pub finished : (new : RawReader R A) (counted : Counted) (tally : Tally) (w : W) (e : E) → HasReached new counted tally w e → counted.fault ≡ None → Handed new tally None w e
+  finished new counted tally w e h none =
+      let g = h.gone in
+      let no_fault : None ≡ fault_at_end (kept new) h.outcome = sym none ∙ h.fault_is in
+      let ended : h.outcome ≡ Ended = none_is (kept new) h.outcome no_fault in
+      let at_end : IsAtEnd (left (source_of new)) = g.covered.at_end (h.ended (λ f is. absurd (let both = sym ended ∙ is in cc))) in
+      record {
+        out = g.out;
+        told = g.told;
+        text = [];
+        through = record {
+          parts = g.parts;
+          rest = kept new;
+          covers = covers new g.parts (kept new) g.out g.told g.covered;
+          tally_is = g.tally_is;
+          kept = kept new;
+          tells = record { outcome = h.outcome; outcome_is = h.outcome_is; fault_is = no_fault; told = refl };
+          last = subst (λ o. IsLast settings.keeps_going limits (kept new) (kept new) o (IsAtEnd (left (source_of new)))) (sym ended) (refl, at_end);
+          read_failed = g.failed;
+        };
+        first = subst (λ (l : List ℕ). Wrote held write_failures w0 (first_of command g.out l) w) (sym (append-nil g.told)) g.wrote.first;
+        second = subst (λ (l : List ℕ). Wrote second_held second_failures e0 (second_of command l) e) (sym (append-nil g.told)) g.wrote.second;
+      }
+
+  -- ---- the fault is told
+
+  module _ (mid : RawReader R A) (counted : Counted) (tally : Tally) (fault : Fault) (w1 : W) (e1 : E) (h : HasReached mid counted tally w1 e1) (faulty : counted.fault ≡ Some fault) where
+    -- this is told of it
+    abbrev Tells : List ℕ → Type 0
+    Tells text = IsTold settings (record { number = counted.count + 1; offset = counted.size; fault = fault }) (kept mid) text
+
+    -- by its place among the parts
+    told_last : (text : List ℕ) → Tells text → IsToldLast settings (length h.gone.parts + 1) (sizes_of h.gone.parts) (kept mid) (Some fault) text
+    told_last text told =
+        let is = h.gone.tally_is in
+        let number : counted.count ≡ length h.gone.parts = sym h.count_is ∙ ap (λ (t : Tally). t.count) is in
+        let offset : counted.size ≡ sizes_of h.gone.parts = sym h.size_is ∙ ap (λ (t : Tally). t.size) is in
+        subst (λ (n : ℕ). IsTold settings (record { number = n + 1; offset = sizes_of h.gone.parts; fault = fault }) (kept mid) text) number
+        (subst (λ (o : ℕ). IsTold settings (record { number = counted.count + 1; offset = o; fault = fault }) (kept mid) text) offset told)
+
+    fault_last : Some fault ≡ fault_at_end (kept mid) h.outcome
+    fault_last = sym faulty ∙ h.fault_is
+
+    stopped_last : stopped_of mid ≡ Some (read.Format fault)
+    stopped_last = h.stopped ∙ ap stop_of faulty
+
+    -- it was told, or a prefix of it
+    pub more_told : (w2 : W) (e2 : E) (res : Result (Unit {0}) Stop)
+        → (told : TellsText (writing held write_failures w1 w2) (writing second_held second_failures e1 e2) command settings (record { number = counted.count + 1; offset = counted.size; fault = fault }) (kept mid) res)
+        → TellsMore held write_failures second_held second_failures command h.gone.out h.gone.told told.0 w0 w1 w2 e0 e1 e2 h.gone.wrote res
+    more_told w2 e2 res told = tells_more held write_failures second_held second_failures command h.gone.out h.gone.told told.0 w0 w1 w2 e0 e1 e2 h.gone.wrote (is_check command) res refl told.2
+
+    stops_told : (stop : Stop) (text more : List ℕ) (w2 : W) (e2 : E) → Tells text → IsPrefixTo more text
+        → (IsMore (Took mid) held write_failures second_held second_failures settings limits most command h.gone.parts (kept mid) more → AllRead mid stop h.gone.parts (kept mid) more) → Stopped mid stop
+        → GotFirst held write_failures stop (first_of command h.gone.out (h.gone.told ++ more)) w0 w2 → GotSecond second_held second_failures stop (second_of command (h.gone.told ++ more)) e0 e2 → Within mid stop w2 e2
+    stops_told stop text more w2 e2 told prefix all caused first second =
+        let closing = closing_line command (tally_of h.gone.parts) (passed_count h.gone.parts) (Some fault) in
+        record {
+          parts = h.gone.parts;
+          rest = kept mid;
+          out = h.gone.out;
+          told = h.gone.told;
+          covers = covers mid h.gone.parts (kept mid) h.gone.out h.gone.told h.gone.covered;
+          more = more;
+          all = all (inr (
+            kept mid,
+            Some fault,
+            text,
+            ([], sym (append-nil (kept mid))),
+            record { outcome = h.outcome; outcome_is = h.outcome_is; fault_is = fault_last; told = told_last text told },
+            (prefix.0 ++ closing, ap (λ l. l ++ closing) prefix.1 ∙ append_assoc more prefix.0 closing),
+          ));
+          caused = caused;
+          first = first;
+          second = second;
+        }
+
+    pub not_told : (w2 : W) (e2 : E) (stop : Stop)
+        → TellsBy (writing held write_failures w1 w2) (writing second_held second_failures e1 e2) command settings (record { number = counted.count + 1; offset = counted.size; fault = fault }) (kept mid) (Err stop)
+        → Within mid stop w2 e2
+    not_told w2 e2 (ByCause Memory) told = record {
+      parts = h.gone.parts;
+      rest = kept mid;
+      out = h.gone.out;
+      told = h.gone.told;
+      covers = covers mid h.gone.parts (kept mid) h.gone.out h.gone.told h.gone.covered;
+      more = [];
+      all = inl refl;
+      caused = h.gone.failed;
+      first = subst (λ (l : List ℕ). Wrote held write_failures w0 (first_of command h.gone.out l) w2) (sym (append-nil h.gone.told))
+          (subst (λ (x : W). Wrote held write_failures w0 (first_of command h.gone.out h.gone.told) x) (sym told.0) h.gone.wrote.first);
+      second = subst (λ (l : List ℕ). Wrote second_held second_failures e0 (second_of command l) e2) (sym (append-nil h.gone.told))
+          (subst (λ (x : E). Wrote second_held second_failures e0 (second_of command h.gone.told) x) (sym told.1) h.gone.wrote.second);
+    }
+    not_told w2 e2 (ByCause ReadFailed) told = absurd told
+    not_told w2 e2 (ByCause WriteFailed) told =
+        let more = more_told w2 e2 (Err (ByCause WriteFailed)) told in
+        stops_told (ByCause WriteFailed) told.0 more.0 w2 e2 told.1 more.1 (λ m. m) h.gone.failed more.2 more.3
+    not_told w2 e2 (ByCause TooManyReads) told = absurd told
+    not_told w2 e2 Second told =
+        let more = more_told w2 e2 (Err Second) told in
+        stops_told Second told.0 more.0 w2 e2 told.1 more.1 (λ m. m) h.gone.failed more.2 more.3
+
+    -- ---- and the message is passed over, or not
+
+    module _ (new : RawReader R A) (text : List ℕ) (w2 : W) (e2 : E) (told : Tells text)
+        (wrote : HasTold held write_failures second_held second_failures command h.gone.out (h.gone.told ++ text) w0 w2 e0 e2) where
+      met : (other : Fault) → IsRefusal (stopped_of mid) other → IsRefused limits (kept mid) fault
+      met other refusal =
+          let same : other ≡ fault = (let both = sym refusal.0 ∙ stopped_last in cc) in
+          refused_is limits (kept mid) fault h.outcome h.outcome_is fault_last (subst (λ (f : Fault). is_truncated f.reason ≡ false) same refusal.1)
+
+      states : (n : ℕ) → StatesLength (limits_of mid) (kept mid) n → StatesLength limits (kept mid) n
+      states n s = subst (λ (l : Limits). StatesLength l (kept mid) n) h.gone.covered.limits_are s
+
+      -- what was read to pass over it
+      abbrev passing : (n : ℕ) (r : ReadsUpTo n left calls mid new) → HasRead gathering left calls limits (kept mid) mid.reader new.reader [] (kept mid ++ r.bytes)
+      passing n r =
+          read_on gathering left calls limits (kept mid) (λ before. length (kept mid ++ before) < n) mid.reader mid.reader new.reader [] (kept mid)
+          (read_none gathering left calls limits (kept mid) mid.reader h.gone.covered.limits_are) r
+
+      short_covered : (n : ℕ) (r : ReadsUpTo n left calls mid new) → HasCovered new h.gone.parts (kept mid ++ r.bytes) h.gone.out h.gone.told
+      short_covered n r =
+          let c = h.gone.covered in
+          let p = passing n r in
+          record {
+            bytes = c.bytes ++ r.bytes;
+            consumed = Consumes-trans _ _ _ _ _ c.consumed r.consumed;
+            called = omega (arith, c.called, r.called, r.reads);
+            most_reads = r.most_reads ∙ c.most_reads;
+            limits_are = r.limits ∙ c.limits_are;
+            at_end = p.at_end c.at_end;
+            begin = parts_more limits c.bytes h.gone.parts (kept mid) r.bytes c.begin;
+            made = c.made;
+            tells = c.tells;
+          }
+
+      cut_off : (n : ℕ) (bytes : List ℕ) → StatesLength (limits_of mid) (kept mid) n → FallsShort n (kept mid ++ bytes) mid new → IsCutOff limits (kept mid) (kept mid ++ bytes)
+      cut_off n bytes s f = record { size = n; front = (bytes, refl); states = states n s; short = f.short }
+
+      handed : (outcome : CutOutcome) (rest : List ℕ) → IsOutcome limits (kept mid) outcome → Some fault ≡ fault_at_end (kept mid) outcome → HasCovered new h.gone.parts rest h.gone.out h.gone.told
+          → IsLast settings.keeps_going limits (kept mid) rest outcome (IsAtEnd (left (source_of new))) → failures (source_of new) ≡ failures (source_of mid) → Handed new tally (Some fault) w2 e2
+      handed outcome rest outcome_is fault_is covered last same = record {
+        out = h.gone.out;
+        told = h.gone.told;
+        text = text;
+        through = record {
+          parts = h.gone.parts;
+          rest = rest;
+          covers = covers new h.gone.parts rest h.gone.out h.gone.told covered;
+          tally_is = h.gone.tally_is;
+          kept = kept mid;
+          tells = record { outcome = outcome; outcome_is = outcome_is; fault_is = fault_is; told = told_last text told };
+          last = last;
+          read_failed = same ∙ h.gone.failed;
+        };
+        first = wrote.first;
+        second = wrote.second;
+      }
+
+      -- the input ends within it
+      ends_short : (goes : settings.keeps_going ≡ true) (n : ℕ) (r : ReadsUpTo n left calls mid new) (other : Fault) → IsRefusal (stopped_of mid) other → StatesLength (limits_of mid) (kept mid) n → FallsShort n (kept mid ++ r.bytes) mid new
+          → is_ended new ≡ true → failures (source_of new) ≡ failures (source_of mid) → Handed new tally (Some fault) w2 e2
+      ends_short goes n r other refusal s short ended same =
+          let covered = short_covered n r in
+          handed (Refused fault) (kept mid ++ r.bytes) (met other refusal) refl covered (inr (cut_off n r.bytes s short, covered.at_end ended, goes)) same
+
+      -- why nothing follows if nothing was passed over
+      last_is : (outcome : CutOutcome) → Some fault ≡ fault_at_end (kept mid) outcome → (((f : Fault) → outcome ≡ Refused f → ⊥) → IsAtEnd (left (source_of mid)))
+          → (settings.keeps_going ≡ true → (other : Fault) (n : ℕ) → IsRefusal (stopped_of mid) other → StatesAll (limits_of mid) (kept mid) n → ⊥)
+          → IsLast settings.keeps_going limits (kept mid) (kept mid) outcome (IsAtEnd (left (source_of mid)))
+      last_is Ended e at_end none = (refl, at_end (λ f is. absurd cc))
+      last_is Unfinished e at_end none = (refl, at_end (λ f is. absurd cc))
+      last_is (Refused other) e at_end none =
+          let same : fault ≡ other = cc in
+          inl (
+            refl,
+            λ goes whole n all. none goes other n (stopped_last ∙ ap (λ (f : Fault). Some (read.Format f)) same, whole)
+                (subst (λ (l : Limits). StatesAll l (kept mid) n) (sym h.gone.covered.limits_are) all),
+          )
+
+      -- nothing was passed over, if the run is not to go on, or could not
+      unpassed : new ≡ mid → (settings.keeps_going ≡ true → (other : Fault) (n : ℕ) → IsRefusal (stopped_of mid) other → StatesAll (limits_of mid) (kept mid) n → ⊥)
+          → failures (source_of new) ≡ failures (source_of mid) → Handed new tally (Some fault) w2 e2
+      unpassed is none same =
+          let covered : HasCovered new h.gone.parts (kept mid) h.gone.out h.gone.told = subst (λ (x : RawReader R A). HasCovered x h.gone.parts (kept mid) h.gone.out h.gone.told) (sym is) h.gone.covered in
+          let last = last_is h.outcome fault_last (λ not. h.gone.covered.at_end (h.ended not)) none in
+          handed h.outcome (kept mid) h.outcome_is fault_last covered
+          (subst (λ (x : RawReader R A). IsLast settings.keeps_going limits (kept mid) (kept mid) h.outcome (IsAtEnd (left (source_of x)))) (sym is) last) same
+
+      pub halts : settings.keeps_going ≡ false → new ≡ mid → Handed new tally (Some fault) w2 e2
+      halts halt is = unpassed is (λ goes. absurd (false≢true (sym halt ∙ goes))) (ap (λ (x : RawReader R A). failures (source_of x)) is)
+
+      pub stays : settings.keeps_going ≡ true → Passing left calls mid new (Ok false) → failures (source_of new) ≡ failures (source_of mid) → Handed new tally (Some fault) w2 e2
+      stays goes passing same = elim passing [
+        | inl p ↦ ends_short goes p.1 p.4 p.0 p.2 p.3 p.5.0 p.5.1 same
+        | inr none ↦ unpassed none.2 (λ goes. none.0) same
+      ]
+
+      -- it was not passed over, since reading was given up
+      torn : (goes : settings.keeps_going ≡ true) (stop : Stop) (n : ℕ) (r : ReadsUpTo n left calls mid new) (other : Fault) → IsRefusal (stopped_of mid) other → StatesLength (limits_of mid) (kept mid) n → FallsShort n (kept mid ++ r.bytes) mid new
+          → (IsAllOf (Took new) held write_failures second_held second_failures settings limits most command h.gone.parts (kept mid ++ r.bytes) text → AllRead new stop h.gone.parts (kept mid ++ r.bytes) text)
+          → Stopped new stop → GotFirst held write_failures stop (first_of command h.gone.out (h.gone.told ++ text)) w0 w2
+          → GotSecond second_held second_failures stop (second_of command (h.gone.told ++ text)) e0 e2 → Within new stop w2 e2
+      torn goes stop n r other refusal s short all caused first second = record {
+        parts = h.gone.parts;
+        rest = kept mid ++ r.bytes;
+        out = h.gone.out;
+        told = h.gone.told;
+        covers = covers new h.gone.parts (kept mid ++ r.bytes) h.gone.out h.gone.told (short_covered n r);
+        more = text;
+        all = all (inr (kept mid, fault, met other refusal, cut_off n r.bytes s short, goes, told_last text told));
+        caused = caused;
+        first = first;
+        second = second;
+      }
+
+      pub breaks : (goes : settings.keeps_going ≡ true) (broken : ReadFault) → Passing left calls mid new (Err broken) → DeviceCounts {T = Bool} (failures (source_of mid)) (failures (source_of new)) (Err broken)
+          → Within new (ByCause (cause_of broken)) w2 e2
+      breaks goes read.Memory passing counts = elim passing [ inl p ↦ absurd p.5 | inr none ↦ absurd (let e = none.1 in cc) ]
+      breaks goes (read.Format f) passing counts = elim passing [ inl p ↦ absurd p.5 | inr none ↦ absurd (let e = none.1 in cc) ]
+      breaks goes read.Device passing counts = elim passing [
+        | inl p ↦ torn goes (ByCause ReadFailed) p.1 p.4 p.0 p.2 p.3 p.5 (λ all. all) (counts.0 ∙ ap one_more h.gone.failed) wrote.first wrote.second
+        | inr none ↦ absurd (let e = none.1 in cc)
+      ]
+      breaks goes read.TooManyReads passing counts = elim passing [
+        | inl p ↦ torn goes (ByCause TooManyReads) p.1 p.4 p.0 p.2 p.3 p.5.0 (λ all. all)
+            (counts ∙ h.gone.failed, all_called new h.gone.parts (kept mid ++ p.4.bytes) h.gone.out h.gone.told (short_covered p.1 p.4) p.5.1) wrote.first wrote.second
+        | inr none ↦ absurd (let e = none.1 in cc)
+      ]
+
+      -- the message was passed over
+      over : (goes : settings.keeps_going ≡ true) (n : ℕ) (r : ReadsUpTo n left calls mid new) (other : Fault) → IsRefusal (stopped_of mid) other → StatesLength (limits_of mid) (kept mid) n → PassesOver n (kept mid ++ r.bytes) mid new
+          → failures (source_of new) ≡ failures (source_of mid)
+          → HasGone new (record { count = counted.count + 1; size = done_of new; passed = tally.passed + 1; passed_size = tally.passed_size + (done_of new - counted.size) }) w2 e2
+      over goes n r other refusal s p same =
+          let parts = h.gone.parts in
+          let is = h.gone.tally_is in
+          let part = PassedOver (kept mid) fault n in
+          let read = passing n r in
+          let begin : BeginWithParts limits (kept mid ++ read.bytes) (part ∷ []) (kept new) = (((r.bytes, refl), met other refusal, states n s, p.there), sym p.kept) in
+          let told_is : AreTexts (IsToldOf settings) (1 + length parts) (0 + sizes_of parts) (part ∷ []) text = (text, [], sym (append-nil text), (goes, told_next text told), refl) in
+          let covered = covers_read mid new parts (part ∷ []) (kept mid) (kept new) h.gone.out h.gone.told [] text (kept mid ++ r.bytes) [] h.gone.covered read begin ([], [], refl, refl, refl) told_is in
+          let count_is : counted.count + 1 ≡ length (parts ++ part ∷ [])
+          = omega (arith, h.count_is, ap (λ (t : Tally). t.count) is, length-append parts (part ∷ [])) in
+          let size_is : done_of new ≡ sizes_of (parts ++ part ∷ []) = omega (arith, p.done, h.gone.done, sizes-both parts (part ∷ [])) in
+          let passed_is : tally.passed + 1 ≡ passed_count (parts ++ part ∷ []) = omega (arith, ap (λ (t : Tally). t.passed) is, passed-both parts (part ∷ [])) in
+          let passed_size_is : tally.passed_size + (done_of new - counted.size) ≡ passed_sizes (parts ++ part ∷ [])
+          = omega (arith, ap (λ (t : Tally). t.passed_size) is, ap (λ (t : Tally). t.size) is, h.size_is, p.done, h.gone.done, passed_sizes-both parts (part ∷ [])) in
+          record {
+            parts = parts ++ part ∷ [];
+            out = h.gone.out;
+            told = h.gone.told ++ text;
+            covered = subst (λ (l : List ℕ). HasCovered new (parts ++ part ∷ []) (kept new) l (h.gone.told ++ text)) (append-nil h.gone.out) covered;
+            tally_is = λ i. record { count = count_is i; size = size_is i; passed = passed_is i; passed_size = passed_size_is i };
+            done = size_is;
+            failed = same ∙ h.gone.failed;
+            wrote = wrote;
+          }
+        where
+          told_next : (text : List ℕ) → Tells text → IsTold settings (record { number = 1 + length h.gone.parts; offset = 0 + sizes_of h.gone.parts; fault = fault }) (kept mid) text
+          told_next text told =
+              let number : length h.gone.parts + 1 ≡ 1 + length h.gone.parts = omega arith in
+              let offset : sizes_of h.gone.parts ≡ 0 + sizes_of h.gone.parts = omega arith in
+              subst (λ (n : ℕ). IsTold settings (record { number = n; offset = 0 + sizes_of h.gone.parts; fault = fault }) (kept mid) text) number
+              (subst (λ (o : ℕ). IsTold settings (record { number = length h.gone.parts + 1; offset = o; fault = fault }) (kept mid) text) offset (told_last text told))
+
+      pub goes_on : settings.keeps_going ≡ true → Passing left calls mid new (Ok true) → failures (source_of new) ≡ failures (source_of mid)
+          → HasGone new (record { count = counted.count + 1; size = done_of new; passed = tally.passed + 1; passed_size = tally.passed_size + (done_of new - counted.size) }) w2 e2
+          × (stopped_of new ≡ None) × (done_of mid < done_of new)
+      goes_on goes passing same = elim passing [
+        | inl p ↦ (over goes p.1 p.4 p.0 p.2 p.3 p.5 same, p.5.stopped, omega (arith, p.5.done, stated_bytes limits (kept mid) p.1 (states p.1 p.3)))
+        | inr none ↦ absurd (let e = none.1 in cc)
+      ]

@@ -1,0 +1,221 @@
+-- Parts of an input that follow one another, and what is made and told of them.
+use Rattle.std.proofs.Common.{◌≡◌, ℕ, zero, suc, ◌+◌, ◌-◌, ◌<◌, ◌≤◌, Bool, true, false, List, [], ◌∷◌, ◌++◌, length, drop, Option, None, Some, refl, sym, ap, ◌∙◌, subst, arith, append_assoc, append-nil, length-append}
+use Rattle.std.proofs.lemmas.List.{drop-append-le}
+use Rattle.dbus_value_model.specs.declared.fault.Fault.{Fault}
+use Rattle.dbus_value_model.specs.declared.limits.Limits.{Limits}
+use Rattle.dbus_header.specs.StatedLengths.{StatesLength}
+use Rattle.dbus_header.proofs.OutcomeLaws.{whole_for_good, whole_inside}
+use Rattle.dbus_stream.specs.Cut.{CutMessage, BeginWith}
+use Rattle.dbus_stream.specs.CutEnds.{sizes}
+use Rattle.dbus_command.specs.declared.settings.Settings.{Settings}
+use Rattle.dbus_command.specs.declared.command.Command.{Command}
+use Rattle.dbus_command.specs.declared.command.Command.TheVariants.{Show, Json, Check, Swap, Filter}
+use Rattle.dbus_tool.specs.Going.{first_of, second_of, is_check}
+use Rattle.dbus_tool.specs.Lines.{counts_line}
+use Rattle.dbus_tool.specs.Output.{IsOutputOfAll, last_line}
+use Rattle.dbus_tool.specs.Parts.{Part, Whole, PassedOver, size_of, sizes_of, IsPart, BeginWithParts, AreTexts, IsMade, IsToldOf, passed_count, passed_sizes, closing_line, status_at}
+use Rattle.dbus_tool.specs.declared.tally.Tally.{Tally}
+
+-- ---- the input
+
+-- messages as parts
+abbrev pub wholes : List CutMessage → List Part
+wholes [] = []
+wholes (item ∷ items) = Whole item ∷ wholes items
+
+module _ (limits : Limits) where
+  part_more : (bytes more : List ℕ) (part : Part) → IsPart limits bytes part → IsPart limits (bytes ++ more) part × (size_of part ≤ length bytes)
+  part_more bytes more (Whole item) p = (whole_for_good limits bytes more item.order item.message item.size p, (whole_inside limits bytes item.order item.message item.size p).1)
+  part_more bytes more (PassedOver kept fault size) p = (
+    (
+      (p.0.0 ++ more, ap (λ l. l ++ more) p.0.1 ∙ append_assoc kept p.0.0 more),
+      p.1,
+      p.2,
+      omega (arith, p.3, length-append bytes more),
+    ),
+    p.3,
+  )
+
+  -- more bytes after
+  pub parts_more : (bytes : List ℕ) (parts : List Part) (rest more : List ℕ) → BeginWithParts limits bytes parts rest → BeginWithParts limits (bytes ++ more) parts (rest ++ more)
+  parts_more bytes [] rest more b = ap (λ l. l ++ more) b
+  parts_more bytes (part ∷ parts) rest more b =
+      let p = part_more bytes more part b.0 in
+      let joined : drop (size_of part) (bytes ++ more) ≡ drop (size_of part) bytes ++ more = drop-append-le (size_of part) bytes more p.1 in
+      (p.0, subst (λ l. BeginWithParts limits l parts (rest ++ more)) (sym joined) (parts_more (drop (size_of part) bytes) parts rest more b.1))
+
+  -- parts after others
+  pub parts_both : (bytes : List ℕ) (parts more : List Part) (mid rest : List ℕ) → BeginWithParts limits bytes parts mid → BeginWithParts limits mid more rest → BeginWithParts limits bytes (parts ++ more) rest
+  parts_both bytes [] more mid rest b c = subst (λ l. BeginWithParts limits l more rest) (sym b) c
+  parts_both bytes (part ∷ parts) more mid rest b c = (b.0, parts_both (drop (size_of part) bytes) parts more mid rest b.1 c)
+
+  pub parts_of : (bytes : List ℕ) (items : List CutMessage) (rest : List ℕ) → BeginWith limits bytes items rest → BeginWithParts limits bytes (wholes items) rest
+  parts_of bytes [] rest b = b
+  parts_of bytes (item ∷ items) rest b = (b.0, parts_of (drop item.size bytes) items rest b.1)
+
+  stated_some : (kept : List ℕ) (n : ℕ) → StatesLength limits kept n → 0 < n
+  unfolding StatesLength
+  stated_some kept n s = omega (arith, s.3)
+
+  some_bytes : (bytes : List ℕ) (part : Part) → IsPart limits bytes part → 0 < size_of part
+  some_bytes bytes (Whole item) p = (whole_inside limits bytes item.order item.message item.size p).0
+  some_bytes bytes (PassedOver kept fault size) p = stated_some kept size p.2
+
+  -- no more parts than bytes
+  pub few_parts : (bytes : List ℕ) (parts : List Part) (rest : List ℕ) → BeginWithParts limits bytes parts rest → length parts ≤ sizes_of parts
+  few_parts bytes [] rest b = omega arith
+  few_parts bytes (part ∷ parts) rest b = omega (arith, some_bytes bytes part b.0, few_parts (drop (size_of part) bytes) parts rest b.1)
+
+  pub stated_bytes : (kept : List ℕ) (n : ℕ) → StatesLength limits kept n → 0 < n
+  stated_bytes kept n s = stated_some kept n s
+
+-- ---- counts
+
+pub sizes-both : (parts more : List Part) → sizes_of (parts ++ more) ≡ sizes_of parts + sizes_of more
+sizes-both [] more = omega arith
+sizes-both (part ∷ parts) more = omega (arith, sizes-both parts more)
+
+pub passed-both : (parts more : List Part) → passed_count (parts ++ more) ≡ passed_count parts + passed_count more
+passed-both [] more = omega arith
+passed-both (Whole item ∷ parts) more = passed-both parts more
+passed-both (PassedOver kept fault size ∷ parts) more = omega (arith, passed-both parts more)
+
+pub passed_sizes-both : (parts more : List Part) → passed_sizes (parts ++ more) ≡ passed_sizes parts + passed_sizes more
+passed_sizes-both [] more = omega arith
+passed_sizes-both (Whole item ∷ parts) more = passed_sizes-both parts more
+passed_sizes-both (PassedOver kept fault size ∷ parts) more = omega (arith, passed_sizes-both parts more)
+
+pub length-wholes : (items : List CutMessage) → length (wholes items) ≡ length items
+length-wholes [] = refl
+length-wholes (item ∷ items) = ap (λ n. suc n) (length-wholes items)
+
+pub sizes-wholes : (items : List CutMessage) → sizes_of (wholes items) ≡ sizes items
+sizes-wholes [] = refl
+sizes-wholes (item ∷ items) = ap (λ n. item.size + n) (sizes-wholes items)
+
+pub passed-wholes : (items : List CutMessage) → passed_count (wholes items) ≡ 0
+passed-wholes [] = refl
+passed-wholes (item ∷ items) = passed-wholes items
+
+pub passed_sizes-wholes : (items : List CutMessage) → passed_sizes (wholes items) ≡ 0
+passed_sizes-wholes [] = refl
+passed_sizes-wholes (item ∷ items) = passed_sizes-wholes items
+
+-- no more are passed over than there are
+pub few_passed : (parts : List Part) → passed_count parts ≤ length parts
+few_passed [] = omega arith
+few_passed (Whole item ∷ parts) = omega (arith, few_passed parts)
+few_passed (PassedOver kept fault size ∷ parts) = omega (arith, few_passed parts)
+
+pub few_passed_sizes : (parts : List Part) → passed_sizes parts ≤ sizes_of parts
+few_passed_sizes [] = omega arith
+few_passed_sizes (Whole item ∷ parts) = omega (arith, few_passed_sizes parts)
+few_passed_sizes (PassedOver kept fault size ∷ parts) = omega (arith, few_passed_sizes parts)
+
+-- ---- texts
+
+-- those of parts after others
+pub texts_both : (Is : ℕ → ℕ → Part → List ℕ → Type 0) (n offset : ℕ) (parts more : List Part) (a b : List ℕ) → AreTexts Is n offset parts a
+    → AreTexts Is (n + length parts) (offset + sizes_of parts) more b → AreTexts Is n offset (parts ++ more) (a ++ b)
+texts_both Is n offset [] more a b p q =
+    let number : n + 0 ≡ n = omega arith in
+    let place : offset + 0 ≡ offset = omega arith in
+    let first : [] ≡ a = sym p in
+    subst (λ l. AreTexts Is n offset more (l ++ b)) first
+    (subst (λ k. AreTexts Is k offset more b) number (subst (λ k. AreTexts Is (n + 0) k more b) place q))
+texts_both Is n offset (part ∷ parts) more a b p q =
+    let number : n + suc (length parts) ≡ n + 1 + length parts = omega arith in
+    let place : offset + (size_of part + sizes_of parts) ≡ offset + size_of part + sizes_of parts = omega arith in
+    let rest : AreTexts Is (n + 1 + length parts) (offset + size_of part + sizes_of parts) more b
+    = subst (λ k. AreTexts Is k (offset + size_of part + sizes_of parts) more b) number (subst (λ k. AreTexts Is (n + suc (length parts)) k more b) place q) in
+    (p.0, p.1 ++ b, ap (λ l. l ++ b) p.2 ∙ append_assoc p.0 p.1 b, p.3, texts_both Is (n + 1) (offset + size_of part) parts more p.1 b p.4 rest)
+
+pub made_of : (command : Command) (n offset : ℕ) (items : List CutMessage) (out : List ℕ) → IsOutputOfAll command n offset items out → AreTexts (IsMade command) n offset (wholes items) out
+made_of command n offset [] out o = o
+made_of command n offset (item ∷ items) out o = (o.0, o.1, o.2, o.3, made_of command (n + 1) (offset + item.size) items o.1 o.4)
+
+pub told_of : (settings : Settings) (n offset : ℕ) (items : List CutMessage) → AreTexts (IsToldOf settings) n offset (wholes items) []
+told_of settings n offset [] = refl
+told_of settings n offset (item ∷ items) = ([], [], refl, refl, told_of settings (n + 1) (offset + item.size) items)
+
+-- ---- what the writers get
+
+-- `check` makes nothing
+checked_nothing : (n offset : ℕ) (parts : List Part) (out : List ℕ) → AreTexts (IsMade Check) n offset parts out → out ≡ []
+checked_nothing n offset [] out o = o
+checked_nothing n offset (Whole item ∷ parts) out o = o.2 ∙ (λ i. o.3 i ++ checked_nothing (n + 1) (offset + item.size) parts o.1 o.4 i)
+checked_nothing n offset (PassedOver kept fault size ∷ parts) out o = o.2 ∙ (λ i. o.3 i ++ checked_nothing (n + 1) (offset + size) parts o.1 o.4 i)
+
+pub first_nothing : (command : Command) → first_of command [] [] ≡ []
+first_nothing Show = refl
+first_nothing Json = refl
+first_nothing Check = refl
+first_nothing (Swap order) = refl
+first_nothing (Filter selection) = refl
+
+pub second_nothing : (command : Command) → second_of command [] ≡ []
+second_nothing Show = refl
+second_nothing Json = refl
+second_nothing Check = refl
+second_nothing (Swap order) = refl
+second_nothing (Filter selection) = refl
+
+-- more is made
+pub first_more : (command : Command) (n offset : ℕ) (parts : List Part) (out told more : List ℕ) → AreTexts (IsMade command) n offset parts more
+    → first_of command out told ++ more ≡ first_of command (out ++ more) told
+first_more Show n offset parts out told more o = refl
+first_more Json n offset parts out told more o = refl
+first_more Check n offset parts out told more o = ap (λ l. told ++ l) (checked_nothing n offset parts more o) ∙ append-nil told
+first_more (Swap order) n offset parts out told more o = refl
+first_more (Filter selection) n offset parts out told more o = refl
+
+-- more is told
+pub first_told : (command : Command) (out told text : List ℕ) → first_of command out told ++ first_of command [] text ≡ first_of command out (told ++ text)
+first_told Show out told text = append-nil out
+first_told Json out told text = append-nil out
+first_told Check out told text = refl
+first_told (Swap order) out told text = append-nil out
+first_told (Filter selection) out told text = append-nil out
+
+pub second_told : (command : Command) (told text : List ℕ) → second_of command told ++ second_of command text ≡ second_of command (told ++ text)
+second_told Show told text = refl
+second_told Json told text = refl
+second_told Check told text = refl
+second_told (Swap order) told text = refl
+second_told (Filter selection) told text = refl
+
+-- a line is for one of them
+pub for_first : (command : Command) (line : List ℕ) → is_check command ≡ true → (first_of command [] line ≡ line) × (second_of command line ≡ [])
+for_first Show line e = absurd cc
+for_first Json line e = absurd cc
+for_first Check line e = (refl, refl)
+for_first (Swap order) line e = absurd cc
+for_first (Filter selection) line e = absurd cc
+
+pub for_second : (command : Command) (line : List ℕ) → is_check command ≡ false → (first_of command [] line ≡ []) × (second_of command line ≡ line)
+for_second Show line e = (refl, refl)
+for_second Json line e = (refl, refl)
+for_second Check line e = absurd cc
+for_second (Swap order) line e = (refl, refl)
+for_second (Filter selection) line e = (refl, refl)
+
+-- ---- the last line
+
+pub closing_passed : (command : Command) (t : Tally) (n : ℕ) (fault : Option Fault) → 0 < n
+    → closing_line command t n fault ≡ counts_line (t.count - t.passed) (t.size - t.passed_size) t.passed t.passed_size
+closing_passed command t zero fault some = absurd (omega (arith, some))
+closing_passed command t (suc n) fault some = refl
+
+pub closing_whole : (command : Command) (t : Tally) (n : ℕ) (fault : Option Fault) → n ≡ 0 → fault ≡ None → closing_line command t n fault ≡ last_line command t.count t.size None
+closing_whole command t n fault e f = (λ i. closing_line command t (e i) (f i))
+
+pub closing_refused : (command : Command) (t : Tally) (n : ℕ) (fault : Fault) (of : Option Fault) → n ≡ 0 → of ≡ Some fault → closing_line command t n of ≡ []
+closing_refused command t n fault of e f = (λ i. closing_line command t (e i) (f i))
+
+-- only `check` writes one of an input without fault
+pub no_last : (command : Command) (count size : ℕ) → is_check command ≡ false → last_line command count size None ≡ []
+no_last Show count size e = refl
+no_last Json count size e = refl
+no_last Check count size e = absurd cc
+no_last (Swap order) count size e = refl
+no_last (Filter selection) count size e = refl

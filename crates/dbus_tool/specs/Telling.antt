@@ -1,0 +1,43 @@
+-- What is told of a message that is refused. kept are the bytes that were kept from its first one on.
+use Rattle.std.specs.Prelude.{◌≡◌, ℕ, ◌+◌, List, ◌++◌, Option, Bool, true, false, Result, Ok, Err, codes, decimal}
+use Rattle.dbus_value_model.specs.FaultTexts.{reason_text}
+use Rattle.dbus_command.specs.declared.settings.Settings.{Settings}
+use Rattle.dbus_device.specs.Write.{Wrote, Stopped}
+use Rattle.dbus_explain.specs.Explained.{IsExplained}
+use Rattle.dbus_explain.specs.declared.message.Refused.{Refused}
+use Rattle.dbus_tool.specs.Lines.{refused_line}
+use Rattle.dbus_tool.specs.declared.ending.Cause.{Cause}
+use Rattle.dbus_tool.specs.declared.ending.Cause.TheVariants.{Memory, ReadFailed, WriteFailed, TooManyReads}
+use Rattle.dbus_tool.specs.declared.telling.Refusal.{Refusal}
+
+-- the fault's place in the input and its reason; and if the run goes on after it, the message's number there, and where the message begins
+abbrev pub line_of : (goes_on : Bool) → Refusal → List ℕ
+line_of false refusal = refused_line (refusal.offset + refusal.fault.at) refusal.fault.reason
+line_of true refusal = codes "refused at " ++ (decimal (refusal.offset + refusal.fault.at) ++ (codes ": " ++ (reason_text refusal.fault.reason
+    ++ (codes " in message " ++ (decimal refusal.number ++ (codes " at " ++ (decimal refusal.offset ++ codes "\n")))))))
+
+-- the lines that explain it
+pub record Explains (refusal : Refusal) (kept text : List ℕ) : Type 0 where
+  pub refused : Refused
+  pub bytes_are : refused.bytes.now ≡ kept
+  pub fault_is : refused.fault ≡ refusal.fault
+  pub number_is : refused.number ≡ refusal.number
+  pub offset_is : refused.offset ≡ refusal.offset
+  pub explained : IsExplained refused text
+
+-- its line, and then those that explain it, if that is wanted
+abbrev pub IsToldBy : (goes_on explains : Bool) → Refusal → (kept text : List ℕ) → Type 0
+IsToldBy goes_on false refusal kept text = text ≡ line_of goes_on refusal
+IsToldBy goes_on true refusal kept text = (explained : List ℕ) × Explains refusal kept explained × (text ≡ line_of goes_on refusal ++ explained)
+
+abbrev pub IsTold : Settings → Refusal → (kept text : List ℕ) → Type 0
+IsTold settings refusal kept text = IsToldBy settings.keeps_going settings.explains refusal kept text
+
+-- that was written, or a write failed after its first bytes, or for want of memory nothing was written
+abbrev pub TellsRefusal : {W : Type 0} → (W → Option (List ℕ)) → (W → ℕ) → Settings → Refusal → List ℕ → W → W → Result (Unit {0}) Cause → Type 0
+TellsRefusal held failures settings refusal kept old new (Ok x) = (text : List ℕ) × IsTold settings refusal kept text × Wrote held failures old text new
+TellsRefusal held failures settings refusal kept old new (Err Memory) = new ≡ old
+TellsRefusal held failures settings refusal kept old new (Err ReadFailed) = ⊥
+TellsRefusal held failures settings refusal kept old new (Err WriteFailed) =
+    (text : List ℕ) × IsTold settings refusal kept text × (n : ℕ) × Stopped held failures old text n new
+TellsRefusal held failures settings refusal kept old new (Err TooManyReads) = ⊥
