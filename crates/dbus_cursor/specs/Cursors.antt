@@ -1,6 +1,7 @@
 -- Which values stand at a cursor, and what is told of a value.
 -- D-Bus Specification, "Type System" and "Marshaling (Wire Format)".
 use Rattle.std.specs.Prelude.{◌≡◌, ◌⊎◌, ℕ, ◌+◌, ◌≤◌, List, ◌∷◌, length, take, drop}
+use Rattle.dbus_texts.specs.Types.{array_code}
 use Rattle.dbus_texts.specs.Kinds.{IsKind}
 use Rattle.dbus_texts.specs.declared.text_kind.TextKind.TheVariants.{Signature, Single}
 use Rattle.dbus_types.specs.Alignments.{width}
@@ -27,12 +28,12 @@ pub record AreOfSignature (bytes : List ℕ) (c : Cursor) (order : Order) (xs : 
   pub rest : List ℕ
   pub stand : AllStand order c.depth_left (types_at bytes c) c.at bytes xs rest
 
--- the elements of an array stand there, whose type has this text; 97 is `a`
+-- the elements of an array stand there, whose type has this text
 pub record AreOfArray (bytes : List ℕ) (c : Cursor) (order : Order) (xs : ValueTrees) : Type 0 where
   pub elements : c.elements ≡ 1
   pub single : IsKind Single (types_at bytes c)
   pub element : List ℕ
-  pub array : types_at bytes c ≡ 97 ∷ element
+  pub array : types_at bytes c ≡ array_code ∷ element
   pub rest : List ℕ
   pub stand : ElementsStand order c.depth_left element c.at c.end bytes xs rest
 

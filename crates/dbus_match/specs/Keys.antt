@@ -1,7 +1,7 @@
 -- The keys of a rule: their names, their canonical order, and the values that they take.
 -- D-Bus Specification, "Match Rules". By this project's own choice `destination` takes any bus name (there: a
 -- unique name), and `arg0namespace` any text (there: like a bus name, with or without a period).
-use Rattle.std.specs.Prelude.{◌≡◌, ℕ, ◌+◌, ◌<◌, ◌/◌, ◌%◌, ◌⊎◌, List, [], ◌∷◌, ◌++◌, ltb, if◌then◌else◌}
+use Rattle.std.specs.Prelude.{◌≡◌, ℕ, ◌+◌, ◌<◌, ◌/◌, ◌%◌, ◌⊎◌, List, [], ◌∷◌, ◌++◌, ltb, if◌then◌else◌, codes}
 use Rattle.dbus_match.specs.declared.key.Key.{Key}
 use Rattle.dbus_match.specs.declared.key.Key.TheVariants.{MessageType, Sender, Interface, Member, Path, PathNamespace, Destination, Arg, ArgPath, Arg0Namespace, Eavesdrop}
 use Rattle.dbus_texts.specs.declared.text_kind.TextKind.TheVariants as kinds
@@ -12,28 +12,17 @@ abbrev pub digits : ℕ → List ℕ
 digits n = if ltb n 10 then (48 + n) ∷ [] else (48 + n / 10) ∷ (48 + n % 10) ∷ []
 
 abbrev pub key_text : Key → List ℕ
--- `type`
-key_text MessageType = 116 ∷ 121 ∷ 112 ∷ 101 ∷ []
--- `sender`
-key_text Sender = 115 ∷ 101 ∷ 110 ∷ 100 ∷ 101 ∷ 114 ∷ []
--- `interface`
-key_text Interface = 105 ∷ 110 ∷ 116 ∷ 101 ∷ 114 ∷ 102 ∷ 97 ∷ 99 ∷ 101 ∷ []
--- `member`
-key_text Member = 109 ∷ 101 ∷ 109 ∷ 98 ∷ 101 ∷ 114 ∷ []
--- `path`
-key_text Path = 112 ∷ 97 ∷ 116 ∷ 104 ∷ []
--- `path_namespace`
-key_text PathNamespace = 112 ∷ 97 ∷ 116 ∷ 104 ∷ 95 ∷ 110 ∷ 97 ∷ 109 ∷ 101 ∷ 115 ∷ 112 ∷ 97 ∷ 99 ∷ 101 ∷ []
--- `destination`
-key_text Destination = 100 ∷ 101 ∷ 115 ∷ 116 ∷ 105 ∷ 110 ∷ 97 ∷ 116 ∷ 105 ∷ 111 ∷ 110 ∷ []
--- `arg` and the number
-key_text (Arg n) = 97 ∷ 114 ∷ 103 ∷ digits n
--- the same, and `path`
-key_text (ArgPath n) = 97 ∷ 114 ∷ 103 ∷ (digits n ++ 112 ∷ 97 ∷ 116 ∷ 104 ∷ [])
--- `arg0namespace`
-key_text Arg0Namespace = 97 ∷ 114 ∷ 103 ∷ 48 ∷ 110 ∷ 97 ∷ 109 ∷ 101 ∷ 115 ∷ 112 ∷ 97 ∷ 99 ∷ 101 ∷ []
--- `eavesdrop`
-key_text Eavesdrop = 101 ∷ 97 ∷ 118 ∷ 101 ∷ 115 ∷ 100 ∷ 114 ∷ 111 ∷ 112 ∷ []
+key_text MessageType = codes "type"
+key_text Sender = codes "sender"
+key_text Interface = codes "interface"
+key_text Member = codes "member"
+key_text Path = codes "path"
+key_text PathNamespace = codes "path_namespace"
+key_text Destination = codes "destination"
+key_text (Arg n) = codes "arg" ++ digits n
+key_text (ArgPath n) = codes "arg" ++ (digits n ++ codes "path")
+key_text Arg0Namespace = codes "arg0namespace"
+key_text Eavesdrop = codes "eavesdrop"
 
 -- there are arguments 0 to 63
 abbrev pub IsKey : Key → Type 0
@@ -63,13 +52,12 @@ rank (ArgPath n) = 71 + n
 rank Arg0Namespace = 135
 rank Eavesdrop = 136
 
--- `signal`, `method_call`, `method_return`, `error`
+-- the names of the message types
 abbrev pub IsTypeName : List ℕ → Type 0
-IsTypeName v = (v ≡ 115 ∷ 105 ∷ 103 ∷ 110 ∷ 97 ∷ 108 ∷ []) ⊎ ((v ≡ 109 ∷ 101 ∷ 116 ∷ 104 ∷ 111 ∷ 100 ∷ 95 ∷ 99 ∷ 97 ∷ 108 ∷ 108 ∷ []) ⊎ ((v ≡ 109 ∷ 101 ∷ 116 ∷ 104 ∷ 111 ∷ 100 ∷ 95 ∷ 114 ∷ 101 ∷ 116 ∷ 117 ∷ 114 ∷ 110 ∷ []) ⊎ (v ≡ 101 ∷ 114 ∷ 114 ∷ 111 ∷ 114 ∷ [])))
+IsTypeName v = (v ≡ codes "signal") ⊎ ((v ≡ codes "method_call") ⊎ ((v ≡ codes "method_return") ⊎ (v ≡ codes "error")))
 
--- `true`, `false`
 abbrev pub IsBoolName : List ℕ → Type 0
-IsBoolName v = (v ≡ 116 ∷ 114 ∷ 117 ∷ 101 ∷ []) ⊎ (v ≡ 102 ∷ 97 ∷ 108 ∷ 115 ∷ 101 ∷ [])
+IsBoolName v = (v ≡ codes "true") ⊎ (v ≡ codes "false")
 
 -- the values that a key takes
 abbrev pub IsValueOf : Key → List ℕ → Type 0

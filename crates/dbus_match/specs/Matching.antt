@@ -1,11 +1,14 @@
 -- When a rule matches a message: each of its keys holds.
 -- D-Bus Specification, "Match Rules"; the owners of well-known names are a list that the caller hands in.
-use Rattle.std.specs.Prelude.{◌≡◌, ℕ, ◌⊎◌, Option, Some, None, List, [], ◌∷◌, ◌++◌, map, string_bytes, ◌==◌, if◌then◌else◌}
+use Rattle.std.specs.Prelude.{◌≡◌, ℕ, ◌⊎◌, Option, Some, None, List, [], ◌∷◌, ◌++◌, map, string_bytes, ◌==◌, if◌then◌else◌, codes}
 use Rattle.std.specs.List.{AllByRecursion}
+use Rattle.dbus_texts.specs.Characters.{slash, dot}
 use Rattle.dbus_texts.specs.Types.{STRING, OBJECT_PATH}
 use Rattle.dbus_value_model.specs.Values.{ValueTree, TextValue}
 use Rattle.dbus_message_model.specs.Messages.{MessageTree}
 use Rattle.dbus_message_model.specs.Lookups.{field_value, body_value}
+use Rattle.dbus_message_model.specs.declared.field_code.TheConstants as field
+use Rattle.dbus_message_model.specs.declared.message_type.TheConstants as message
 use Rattle.dbus_match.specs.declared.key.Key.{Key}
 use Rattle.dbus_match.specs.declared.key.Key.TheVariants.{MessageType, Sender, Interface, Member, Path, PathNamespace, Destination, Arg, ArgPath, Arg0Namespace, Eavesdrop}
 use Rattle.dbus_match.specs.declared.owner.Owner.{Owner}
@@ -22,13 +25,13 @@ ownership o = record { name = string_bytes o.name; unique = string_bytes o.uniqu
 abbrev pub ownerships : {A : Type 0} → List (Owner A) → List Ownership
 ownerships os = map ownership os
 
--- ---- comparisons of texts: 47 is `/` and 46 is `.`
+-- ---- comparisons of texts
 
 abbrev pub BeginsWith : List ℕ → List ℕ → Type 0
 BeginsWith w v = (more : List ℕ) × (w ≡ v ++ more)
 
 abbrev pub EndsInSlash : List ℕ → Type 0
-EndsInSlash v = (front : List ℕ) × (v ≡ front ++ 47 ∷ [])
+EndsInSlash v = (front : List ℕ) × (v ≡ front ++ slash ∷ [])
 
 -- equal, or one of the two ends in `/` and begins the other
 abbrev pub PathsMeet : List ℕ → List ℕ → Type 0
@@ -40,7 +43,7 @@ IsWithin separator v w = (v ≡ w) ⊎ BeginsWith w (v ++ separator ∷ [])
 
 -- as an object path's namespace: `/` has all paths in it
 abbrev pub IsInNamespace : List ℕ → List ℕ → Type 0
-IsInNamespace v w = (v ≡ 47 ∷ []) ⊎ IsWithin 47 v w
+IsInNamespace v w = (v ≡ slash ∷ []) ⊎ IsWithin slash v w
 
 -- ---- the texts of a message
 
@@ -65,19 +68,16 @@ abbrev pub IsThere : Option (List ℕ) → (List ℕ → Type 0) → Type 0
 IsThere None P = ⊥
 IsThere (Some w) P = P w
 
--- of a header field: 1 PATH, 2 INTERFACE, 3 MEMBER, 6 DESTINATION, 7 SENDER
+-- of a header field
 abbrev pub HasField : ℕ → MessageTree → (List ℕ → Type 0) → Type 0
 HasField code m P = IsThere (text_of (field_value code m.fields)) P
 
 -- the names of the message types
 abbrev pub type_name : ℕ → Option (List ℕ)
 type_name n =
-    -- `method_call`
-    if n == 1 then Some (109 ∷ 101 ∷ 116 ∷ 104 ∷ 111 ∷ 100 ∷ 95 ∷ 99 ∷ 97 ∷ 108 ∷ 108 ∷ [])
-    -- `method_return`
-    else (if n == 2 then Some (109 ∷ 101 ∷ 116 ∷ 104 ∷ 111 ∷ 100 ∷ 95 ∷ 114 ∷ 101 ∷ 116 ∷ 117 ∷ 114 ∷ 110 ∷ [])
-    -- `error` and `signal`
-    else (if n == 3 then Some (101 ∷ 114 ∷ 114 ∷ 111 ∷ 114 ∷ []) else (if n == 4 then Some (115 ∷ 105 ∷ 103 ∷ 110 ∷ 97 ∷ 108 ∷ []) else None)))
+    if n == message.METHOD_CALL then Some (codes "method_call")
+    else (if n == message.METHOD_RETURN then Some (codes "method_return")
+    else (if n == message.ERROR then Some (codes "error") else (if n == message.SIGNAL then Some (codes "signal") else None)))
 
 -- some owner has the name v and the unique name w
 abbrev pub IsOwned : List Ownership → List ℕ → List ℕ → Type 0
@@ -88,15 +88,15 @@ IsOwned (o ∷ os) v w = ((o.name ≡ v) × (o.unique ≡ w)) ⊎ IsOwned os v w
 
 abbrev pub HoldsAt : Key → List ℕ → MessageTree → List Ownership → Type 0
 HoldsAt MessageType v m os = type_name m.kind ≡ Some v
-HoldsAt Sender v m os = HasField 7 m (λ w. (v ≡ w) ⊎ IsOwned os v w)
-HoldsAt Interface v m os = HasField 2 m (λ w. v ≡ w)
-HoldsAt Member v m os = HasField 3 m (λ w. v ≡ w)
-HoldsAt Path v m os = HasField 1 m (λ w. v ≡ w)
-HoldsAt PathNamespace v m os = HasField 1 m (λ w. IsInNamespace v w)
-HoldsAt Destination v m os = HasField 6 m (λ w. v ≡ w)
+HoldsAt Sender v m os = HasField field.SENDER m (λ w. (v ≡ w) ⊎ IsOwned os v w)
+HoldsAt Interface v m os = HasField field.INTERFACE m (λ w. v ≡ w)
+HoldsAt Member v m os = HasField field.MEMBER m (λ w. v ≡ w)
+HoldsAt Path v m os = HasField field.PATH m (λ w. v ≡ w)
+HoldsAt PathNamespace v m os = HasField field.PATH m (λ w. IsInNamespace v w)
+HoldsAt Destination v m os = HasField field.DESTINATION m (λ w. v ≡ w)
 HoldsAt (Arg n) v m os = IsThere (string_of (body_value n m.body)) (λ w. v ≡ w)
 HoldsAt (ArgPath n) v m os = IsThere (string_or_path_of (body_value n m.body)) (λ w. PathsMeet v w)
-HoldsAt Arg0Namespace v m os = IsThere (string_of (body_value 0 m.body)) (λ w. IsWithin 46 v w)
+HoldsAt Arg0Namespace v m os = IsThere (string_of (body_value 0 m.body)) (λ w. IsWithin dot v w)
 HoldsAt Eavesdrop v m os = Unit {0}
 
 abbrev pub Matches : List Pair → MessageTree → List Ownership → Type 0

@@ -30,6 +30,7 @@ pub record MessageTree : Type 0 where
 
 -- ---- the spelling
 
+-- `l` and `B`
 abbrev pub order_byte : Order → ℕ
 order_byte Little = 108
 order_byte Big = 66

@@ -1,3 +1,4 @@
+pub mod Characters
 pub mod Types
 pub mod PlainTypes
 pub mod Prefixes

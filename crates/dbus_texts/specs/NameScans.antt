@@ -2,6 +2,7 @@
 -- D-Bus Specification, "Valid Object Paths" and "Valid Names".
 use Rattle.std.specs.Prelude.{◌≡◌, ℕ, Bool, true, false, ◌⊎◌, Option, Some, None, List, [], ◌∷◌, ◌++◌, IsTrue, ◌==◌, if◌then◌else◌}
 use Rattle.std.specs.List.{AllByRecursion}
+use Rattle.dbus_texts.specs.Characters.{slash, dot, colon}
 use Rattle.dbus_texts.specs.declared.names.Letters.{Letters}
 use Rattle.dbus_texts.specs.declared.names.Letters.TheVariants.{Word, Name, Unique, WellKnown}
 use Rattle.dbus_texts.specs.declared.names.Tail.{Tail}
@@ -25,10 +26,10 @@ goes_on Unique b = is_dashed b
 goes_on WellKnown b = is_dashed b
 
 abbrev pub separator : Letters → ℕ
-separator Word = 47
-separator Name = 46
-separator Unique = 46
-separator WellKnown = 46
+separator Word = slash
+separator Name = dot
+separator Unique = dot
+separator WellKnown = dot
 
 -- how many elements may follow the one under way: none, one or more, any number
 abbrev pub MayFollow : Tail → List (List ℕ) → Type 0
@@ -76,9 +77,9 @@ past_separator Needed l = Some (name_state First l Free)
 past_separator Free l = Some (name_state First l Free)
 
 abbrev pub name_next_at : Place → Letters → Tail → ℕ → Option NameScan
-name_next_at PathStart l t b = if b == 47 then Some (name_state Root Word Free) else None
+name_next_at PathStart l t b = if b == slash then Some (name_state Root Word Free) else None
 name_next_at Root l t b = if is_word b then Some (name_state More Word Free) else None
-name_next_at BusStart l t b = if b == 58 then Some (name_state First Unique Needed) else (if is_dashed_start b then Some (name_state More WellKnown Needed) else None)
+name_next_at BusStart l t b = if b == colon then Some (name_state First Unique Needed) else (if is_dashed_start b then Some (name_state More WellKnown Needed) else None)
 name_next_at First l t b = if begins l b then Some (name_state More l t) else None
 name_next_at More l t b = if goes_on l b then Some (name_state More l t) else (if b == separator l then past_separator t l else None)
 

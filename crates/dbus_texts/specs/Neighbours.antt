@@ -1,6 +1,7 @@
 -- Which bytes may stand side by side in a name.
 -- D-Bus Specification, "Valid Object Paths" and "Valid Names".
 use Rattle.std.specs.Prelude.{ℕ, ◌+◌, ◌<◌, Bool, not, ◌&&◌, ◌||◌, ◌==◌, List, length, get_or, IsTrue}
+use Rattle.dbus_texts.specs.Characters.{hyphen, underscore}
 use Rattle.dbus_texts.specs.declared.names.Letters.{Letters}
 use Rattle.dbus_texts.specs.declared.names.Letters.TheVariants.{Word, Name, Unique, WellKnown}
 use Rattle.dbus_texts.specs.Names.{is_word}
@@ -18,12 +19,12 @@ AreLinked l w = (i : ℕ) → i + 1 < length w → IsTrue (may_follow l (get_or 
 abbrev pub AreWords : List ℕ → Type 0
 AreWords w = (i : ℕ) → i < length w → IsTrue (is_word (get_or w i 0))
 
--- `-`, 45, where an element may have it, else `_`, 95, which each may have
+-- `-` if an element may have it, else `_`, which each may have
 abbrev pub extra : Letters → ℕ
-extra Word = 95
-extra Name = 95
-extra Unique = 45
-extra WellKnown = 45
+extra Word = underscore
+extra Name = underscore
+extra Unique = hyphen
+extra WellKnown = hyphen
 
 -- how many digits may begin an element
 abbrev pub first_digits : Letters → ℕ

@@ -2,6 +2,7 @@
 -- Types as trees, the text of each, and which of them are complete.
 -- D-Bus Specification, "Type System" ("Basic types", "Container types", "Summary of types").
 use Rattle.std.specs.Prelude.{ℕ, ◌+◌, ◌<◌, List, [], ◌∷◌, ◌++◌, length, Bool, true, false, IsTrue}
+use Rattle.dbus_texts.specs.Characters.{open_parenthesis, close_parenthesis, open_brace, close_brace}
 
 -- the types whose values are one number
 pub data NumberCode : Type 0 where
@@ -28,7 +29,7 @@ abbrev pub type_trees : List TypeTree → TypeTrees
 type_trees [] = NoTypes
 type_trees (t ∷ ts) = MoreTypes t (type_trees ts)
 
--- y b n q i u x t d h
+-- `y`, `b`, `n`, `q`, `i`, `u`, `x`, `t`, `d`, `h` in ASCII
 abbrev pub number_code : NumberCode → ℕ
 number_code BYTE = 121
 number_code BOOLEAN = 98
@@ -41,21 +42,29 @@ number_code UINT64 = 116
 number_code DOUBLE = 100
 number_code UNIX_FD = 104
 
--- s o g
+-- `s`, `o`, `g`
 abbrev pub text_code : TextCode → ℕ
 text_code STRING = 115
 text_code OBJECT_PATH = 111
 text_code SIGNATURE = 103
 
--- The text of a type: 118 is `v`, 97 `a`, 40 and 41 are `(` and `)`, 123 and 125 are `{` and `}`.
+-- `v`
+abbrev pub variant_code : ℕ
+variant_code = 118
+
+-- `a`
+abbrev pub array_code : ℕ
+array_code = 97
+
+-- the text of a type
 abbrev mutual
   pub sig : TypeTree → List ℕ
   sig (NumberType n) = number_code n ∷ []
   sig (TextType t) = text_code t ∷ []
-  sig VariantType = 118 ∷ []
-  sig (ArrayType t) = 97 ∷ sig t
-  sig (StructType ts) = 40 ∷ (sigs ts ++ 41 ∷ [])
-  sig (EntryType k v) = 123 ∷ (sig k ++ (sig v ++ 125 ∷ []))
+  sig VariantType = variant_code ∷ []
+  sig (ArrayType t) = array_code ∷ sig t
+  sig (StructType ts) = open_parenthesis ∷ (sigs ts ++ close_parenthesis ∷ [])
+  sig (EntryType k v) = open_brace ∷ (sig k ++ (sig v ++ close_brace ∷ []))
 
   pub sigs : TypeTrees → List ℕ
   sigs NoTypes = []

@@ -1,7 +1,7 @@
 -- Header fields as they stand among a message's bytes.
 -- D-Bus Specification, "Message Format" and "Header Fields".
-use Rattle.std.specs.Prelude.{◌≡◌, ℕ, ◌+◌, ◌-◌, ◌<◌, ◌≤◌, List, [], ◌∷◌, length, map}
-use Rattle.dbus_texts.specs.Types.{IsSingleType}
+use Rattle.std.specs.Prelude.{◌≡◌, ℕ, ◌+◌, ◌-◌, ◌<◌, ◌≤◌, List, [], ◌∷◌, length, map, codes}
+use Rattle.dbus_texts.specs.Types.{IsSingleType, array_code}
 use Rattle.dbus_value_model.specs.Bytes.{gap_to}
 use Rattle.dbus_value_model.specs.Spelling.{spelling}
 use Rattle.dbus_value_model.specs.Values.{VariantValue, value_trees, type_of}
@@ -11,13 +11,13 @@ use Rattle.dbus_walk.specs.Standing.{Stands, ElementsStand}
 use Rattle.dbus_walk.specs.declared.fields.FieldSpot.{FieldSpot}
 use Rattle.dbus_walk.specs.declared.spot.Source.{Source}
 
--- the type (yv), as text
+-- the type of a field
 abbrev pub field_types : List ℕ
-field_types = 40 ∷ 121 ∷ 118 ∷ 41 ∷ []
+field_types = codes "(yv)"
 
 -- A message's header fields stand in it: an array of the type a(yv), at offset 12. So many containers may be open in the message.
 abbrev pub FieldsStand : Source → (depth_left : ℕ) → List FieldTree → (rest : List ℕ) → Type 0
-FieldsStand source depth_left fs rest = Stands source.order depth_left (97 ∷ field_types) 12 source.bytes.now (field_array fs) rest
+FieldsStand source depth_left fs rest = Stands source.order depth_left (array_code ∷ field_types) 12 source.bytes.now (field_array fs) rest
 
 -- fields of that array stand from an offset up to its end, and rest are the bytes after it
 pub record FieldsLeft (source : Source) (depth_left at end : ℕ) (fs : List FieldTree) (rest : List ℕ) : Type 0 where
