@@ -110,33 +110,37 @@ def row(name, version, results):
     return f"| {name} {version} | " + " | ".join(map(str, counts)) + " |"
 
 
-def section(name, results):
-    yield f"\n## {name}\n"
-    taken = list(groups(results, "takes"))
-    if taken:
-        yield "Takes what the cases refuse:\n\n| reason | inputs | for instance |\n| --- | --- | --- |"
-        yield from (f"| {why} | {count} | {', '.join(dict.fromkeys((names[0], names[-1])))} |" for why, count, names in taken)
-    else:
-        yield "It takes nothing that the cases refuse."
-    yield "\nRefuses what the cases have as whole or partial, in its words:\n\n| why | inputs | cases |\n| --- | --- | --- |"
-    yield from (f"| {why.partition(' ')[2]} | {count} | {', '.join(names)} |" for why, count, names in groups(results, "differs"))
+def taken(peers):
+    """A line for each reason for which the cases refuse what a peer takes: how many inputs of each peer, and one of them."""
+    found = {name: {why: (count, names) for why, count, names in groups(results, "takes")} for name, results in peers.items()}
+    for why in sorted({it for reasons in found.values() for it in reasons}):
+        counts = [str(found[name][why][0]) if why in found[name] else "" for name in peers]
+        names = next(found[name][why][1] for name in peers if why in found[name])
+        yield f"| {why} | {' | '.join(counts)} | {names[0]} |"
+
+
+def refused(peers):
+    """A line for each way in which a peer refuses what the cases have as whole or partial."""
+    for name, results in peers.items():
+        yield from (f"| {name} | {why.partition(' ')[2]} | {count} | {', '.join(names)} |" for why, count, names in groups(results, "differs"))
 
 
 def main():
     cases = list(read_inputs())
     wholes = [it for it in cases if it.answer.startswith("whole")]
     inputs = [(it, filled(it.bytes, it.order, wholes) if it.answer.startswith("refused") else [it.bytes]) for it in cases]
-    rows, sections = [], []
+    rows, peers = [], {}
     for name, program, package in PEERS:
         version = subprocess.run(["pkg-config", "--modversion", package], check=True, capture_output=True, text=True).stdout.strip()
         answers = ask(build(program, package), inputs)
         results = [(case, *verdict(case, said)) for case, said in zip(cases, answers)]
         rows.append(row(name, version, results))
-        sections += section(name, results)
+        peers[name] = results
         print(rows[-1], flush=True)
     kinds = collections.Counter(it.answer.split(" ")[0] for it in cases)
-    head = (HERE / "head.md").read_text().format(rows="\n".join(rows), all=len(cases), **kinds)
-    (ROOT / "docs" / "PEERS.md").write_text("\n".join([head.rstrip("\n"), *sections]) + "\n")
+    tables = {"rows": rows, "taken_rows": taken(peers), "refused_rows": refused(peers)}
+    page = (HERE / "page.md").read_text().format(all=len(cases), **kinds, **{name: "\n".join(lines) for name, lines in tables.items()})
+    (ROOT / "docs" / "PEERS.md").write_text(page)
 
 
 if __name__ == "__main__":
