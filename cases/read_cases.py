@@ -1,5 +1,5 @@
 #!/usr/bin/env python3
-"""read_cases.py FILE..: says how many cases each file has. Other scripts import it to read the cases; docs/CASES.md has the format."""
+"""read_cases.py FILE..: says how many cases each file has. Other scripts import it to read the cases; cases/README.md has the format."""
 
 import re
 import sys

@@ -3,7 +3,7 @@
 
 The numbers of message types, flags, header fields, answers, mechanisms, rooms and rules on indexes are those of the crates' constants,
 and those of kinds of text are those of `kind_of` in dbus_c. The names of reasons, as HABITS prints them, are those of the header's constants. The version is the
-program's. What TEXTS says of the cases of names and signatures (docs/CASES.md) is what these say. The exit status is 1 if not.
+program's. What TEXTS says of the cases of names and signatures (cases/README.md) is what these say. The exit status is 1 if not.
 """
 
 import pathlib

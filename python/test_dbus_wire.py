@@ -1,7 +1,7 @@
 """Tests of the module dbus_wire, over the library that DBUS_WIRE_LIBRARY names: `make test-python` runs them.
 
 What the module makes of the captures and of the cases of messages is compared with what `dbus-wire` writes of them, if the variable
-DBUS_WIRE_PROGRAM names it, and with the answers in the cases (docs/CASES.md).
+DBUS_WIRE_PROGRAM names it, and with the answers in the cases (cases/README.md).
 """
 
 import ctypes
