@@ -1,7 +1,8 @@
 //! How values are laid out: where the number, the text or the parts of each are.
 #![tactic(auto)]
 
-ghost use Rattle.std.specs.Prelude.{◌≡◌, ℕ, ◌⊎◌, List, slice_index};
+ghost use Rattle.std.specs.Prelude.{◌≡◌, ◌<◌, ℕ, ◌⊎◌, List, slice_index};
+ghost use Rattle.dbus_value_model.specs.Bytes.{gap_to};
 ghost use Rattle.dbus_value_model.specs.Values.{ValueTree};
 ghost use Rattle.dbus_walk.specs.Standing.{StandsAt, StandsThere};
 ghost use Rattle.dbus_walk.specs.Layouts.{IsArrayAt, IsLaidOut};
@@ -22,7 +23,7 @@ pub fn layout<'a>(source: &Source<'a>, spot: &Spot<'_>) -> Layout<'a>
     let size = number_width(code);
     if size > 0 {
         return Layout::Number {
-            start: spot.at + gap(size, spot.at),
+            start: spot.at + number_gap(size, spot.at),
             size,
         };
     }
@@ -42,6 +43,22 @@ pub fn layout<'a>(source: &Source<'a>, spot: &Spot<'_>) -> Layout<'a>
             Layout::Entry { start }
         }
     }
+}
+
+/// How far it is to where a number of so many bytes begins: [`gap`], asked so that the compiler leaves out what the code that says
+/// the width rules out.
+#[inline(always)]
+fn number_gap(size: u8, at: usize) -> usize
+    requires some { 0 < size }
+    ensures { result ≡ gap_to size at }
+{
+    if size == 4 {
+        return gap(4, at);
+    }
+    if size == 8 {
+        return gap(8, at);
+    }
+    gap(size, at)
 }
 
 /// A STRING or an OBJECT_PATH.
@@ -76,7 +93,7 @@ fn variant<'a>(source: &Source<'a>, spot: &Spot<'_>) -> Layout<'a>
 }
 
 /// Where the elements of an array are.
-#[inline]
+#[inline(always)]
 fn array(source: &Source<'_>, spot: &Spot<'_>) -> Run
     requires stands { StandsThere source.now spot.now }
     requires code { slice_index spot.now.types.now 0 ≡ 97 }

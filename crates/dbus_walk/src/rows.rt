@@ -1,6 +1,7 @@
 //! Structs that open together.
 #![tactic(auto)]
 
+ghost use Rattle.std.specs.Prelude.{◌≤◌, length};
 ghost use Rattle.dbus_types.specs.TypeLengths.{AreLengths};
 ghost use Rattle.dbus_walk.specs.Rows.{IsRow};
 
@@ -18,4 +19,19 @@ pub(crate) fn row_of(types: &[u8], lengths: &[u8]) -> usize
         n += 1;
     }
     n
+}
+
+/// The same of a struct's type, of which so many are known already, or 0 if they were not looked for.
+#[inline(always)]
+pub(crate) fn known_row(types: &[u8], lengths: &[u8], known: usize) -> usize
+    requires noted { AreLengths types.now lengths.now }
+    requires long { 2 ≤ length types.now }
+    requires together { IsRow types.now lengths.now known }
+    ensures { IsRow types.now lengths.now result }
+{
+    // A struct that opens alone is walked the same with no row.
+    if known > 0 || types[1] != b'(' {
+        return known;
+    }
+    row_of(types, lengths)
 }

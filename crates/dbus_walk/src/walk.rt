@@ -18,7 +18,7 @@ ghost use Rattle.dbus_walk.specs.Standing.{StandsAt, StandsThere, AllStandAt, Al
 
 use crate::container::Container;
 use crate::layouts::layout;
-use crate::rows::row_of;
+use crate::rows::{known_row, row_of};
 use crate::spot::{Layout, Run, Source, Spot};
 use crate::visitor::Visitor;
 use dbus_types::lengths_in;
@@ -86,6 +86,7 @@ fn value<V: Visitor>(
                 lengths: spot.lengths,
                 depth_left: spot.depth_left - 1,
             };
+            let row = known_row(spot.types, spot.lengths, row);
             nested(visitor, gathered, source, &mut held, 0, row)?;
             Ok(held.at)
         }

@@ -10,11 +10,11 @@ use Rattle.dbus_walk.proofs.layouts.layout.Goals as goal
 pub overflow_add-result : goal.overflow_add-result
 overflow_add-result c =
     let p = number_stands c.requires.stands.2 c.number_width-size.result c.if-size-gt0.true c.number_width-size.ensures.value in
-    omega (arith, p.inside, c.gap.ensures)
+    omega (arith, p.inside, c.number_gap.ensures)
 
 pub returns-then-size-gt0 : goal.returns-then-size-gt0
 returns-then-size-gt0 c = λ v rest s.
-    number_laid c.args.source.now c.args.spot.now v rest s c.number_width-size.result (c.args.spot.now.at + c.gap.result) c.if-size-gt0.true c.number_width-size.ensures.value (omega (arith, c.gap.ensures))
+    number_laid c.args.source.now c.args.spot.now v rest s c.number_width-size.result (c.args.spot.now.at + c.number_gap.result) c.if-size-gt0.true c.number_width-size.ensures.value (omega (arith, c.number_gap.ensures))
 
 pub bounds-source-spot : goal.bounds-source-spot
 bounds-source-spot c = let is = short_counts c.requires.stands.2 (short_stands c.requires.stands.2 c.in-103.is) in omega (arith, is.1)
@@ -35,11 +35,11 @@ overflow_add-start c =
     let none : 0 < number_width type → ⊥ = λ some. omega (arith, some, c.if-size-gt0.false, c.number_width-size.ensures.value type code) in
     let not = c.in_default in
     let enclosed = enclosed_is type code none (λ e. omega (arith, not, e)) (λ e. omega (arith, not, e)) (λ e. omega (arith, not, e)) (λ e. omega (arith, not, e)) (λ e. omega (arith, not, e)) in
-    omega (arith, enclosed_within s enclosed, c.gap-in_default.ensures)
+    omega (arith, enclosed_within s enclosed, c.gap.ensures)
 
 pub returns-then-brackets-eq40 : goal.returns-then-brackets-eq40
 returns-then-brackets-eq40 c = λ v rest s.
-    struct_laid c.args.source.now c.args.spot.now v rest s (c.args.spot.now.at + c.gap-in_default.result) c.if-brackets-eq40.true (omega (arith, c.gap-in_default.ensures))
+    struct_laid c.args.source.now c.args.spot.now v rest s (c.args.spot.now.at + c.gap.result) c.if-brackets-eq40.true (omega (arith, c.gap.ensures))
 
 pub returns-else-brackets-eq40 : goal.returns-else-brackets-eq40
 returns-else-brackets-eq40 c = λ v rest s.
@@ -48,4 +48,4 @@ returns-else-brackets-eq40 c = λ v rest s.
     let none : 0 < number_width type → ⊥ = λ some. omega (arith, some, c.if-size-gt0.false, c.number_width-size.ensures.value type code) in
     let not = c.in_default in
     let enclosed = enclosed_is type code none (λ e. omega (arith, not, e)) (λ e. omega (arith, not, e)) (λ e. omega (arith, not, e)) (λ e. omega (arith, not, e)) (λ e. omega (arith, not, e)) in
-    entry_laid c.args.source.now c.args.spot.now v rest s (c.args.spot.now.at + c.gap-in_default.result) (entry_left enclosed c.if-brackets-eq40.false) (omega (arith, c.gap-in_default.ensures))
+    entry_laid c.args.source.now c.args.spot.now v rest s (c.args.spot.now.at + c.gap.result) (entry_left enclosed c.if-brackets-eq40.false) (omega (arith, c.gap.ensures))

@@ -340,6 +340,9 @@ walk_value-value-requires g t c κs within = (omega arith, (within.0, (within.1.
 pub value-overflow_sub-held : goal.value-overflow_sub-held
 value-overflow_sub-held g t c = let s = c.requires.stands in let p = laid_as c.args.source.now c.args.spot.now c.in-Struct.is c.layout.ensures s.0 s.1 s.2 in omega (arith, p.some)
 
+pub value-known_row-row-requires-clause-long : goal.value-known_row-row-requires-clause-long
+value-known_row-row-requires-clause-long g t c = let s = c.requires.stands in let p = laid_as c.args.source.now c.args.spot.now c.in-Struct.is c.layout.ensures s.0 s.1 s.2 in p.long
+
 pub value-nested-requires : goal.value-nested-requires
 value-nested-requires g t c κs within =
     let s = c.requires.stands in
@@ -347,7 +350,7 @@ value-nested-requires g t c κs within =
     let order = c.args.source.now.order in
     let at = c.args.spot.now.at in
     let padded = ap (gap_to 8) (p.begins ∙ ap (inside order at) p.is) ∙ aligned at in
-    (omega (arith, p.some, p.long, between_long c.args.spot.now.types.now 1), (within.0, (within.1.0, (within.1.1, (c.requires.ready, ((p.xs, s.1, outermost (c.args.spot.now.depth_left - 1) p.held), (c.requires.noted, (c.requires.together, (p.long, (omega arith, padded))))))))))
+    (omega (arith, p.some, p.long, between_long c.args.spot.now.types.now 1), (within.0, (within.1.0, (within.1.1, (c.requires.ready, ((p.xs, s.1, outermost (c.args.spot.now.depth_left - 1) p.held), (c.requires.noted, (c.known_row-row.ensures, (p.long, (omega arith, padded))))))))))
 
 pub value-returns-in_ok-nested-in-Struct-clause-walked : goal.value-returns-in_ok-nested-in-Struct-clause-walked
 value-returns-in_ok-nested-in-Struct-clause-walked g t c = λ v rest s.
