@@ -1,8 +1,9 @@
--- Arrays of numbers of which every one may stand: passed over by their length.
+-- Arrays of numbers that may all stand: they end where their bytes are those of whole numbers.
 use Rattle.std.proofs.Common.{◌≡◌, ℕ, zero, suc, ◌+◌, ◌-◌, ◌*◌, ◌/◌, ◌%◌, ◌<◌, ◌≤◌, List, [], ◌∷◌, length, take, drop, refl, Some, None, Bool, true, false, cond, eqb, inl, inr, sym, ap, ◌∙◌, arith}
 use Rattle.std.proofs.Math.Nat.{add-mod_right, add-mod-mod, mul-add-mod_self_left, mod_self, mod-eq_of_lt}
 use Rattle.std.proofs.lemmas.Bool.{lt-ltb, eq-eqb, ne_eqb, cases_lt}
-use Rattle.dbus_texts.specs.Types.{TypeTree, NumberType}
+use Rattle.dbus_texts.specs.Types.{TypeTree, NumberCode, NumberType, BOOLEAN}
+use Rattle.dbus_types.specs.Alignments.{width}
 use Rattle.dbus_value_model.specs.declared.limits.Bounds.{Bounds}
 use Rattle.dbus_value_model.specs.declared.order.Order.{Order}
 use Rattle.dbus_value_model.specs.Bytes.{gap_to}
@@ -14,7 +15,7 @@ use Rattle.dbus_value_laws.proofs.ReadSteps.{padding_is}
 use Rattle.dbus_value_laws.proofs.ValueSteps.{value_number, no_turn}
 use Rattle.dbus_value_validator.specs.Endings.{Answers, EndsAt, IsNotRead}
 use Rattle.dbus_value_validator.proofs.ReadParts.{not_first, answers_made}
-use Rattle.dbus_value_validator.proofs.ItemSteps.{is_number, free_ends, number_short}
+use Rattle.dbus_value_validator.proofs.ItemSteps.{is_number, free_ends, number_short, is_boolean}
 
 -- a number of w bytes ends at a boundary of its own
 pub stays_aligned : (w o : ℕ) → gap_to w o ≡ 0 → gap_to w (o + w) ≡ 0
@@ -30,8 +31,8 @@ comes_aligned w o some =
     let all : w - 0 ≡ w = omega arith in
     rw (ends, all) (mod_self w)
 
-module _ (part : Reader ValueTree) (bytes : List ℕ) (end w : ℕ) (some : 0 < w)
-    (here : (p : ℕ) → gap_to w p ≡ 0 → p + w ≤ end → EndsAt bytes (p + w) (part p (drop p bytes)))
+module _ (part : Reader ValueTree) (bytes : List ℕ) (first end w : ℕ) (some : 0 < w)
+    (here : (p : ℕ) → first ≤ p → gap_to w p ≡ 0 → p + w ≤ end → EndsAt bytes (p + w) (part p (drop p bytes)))
     (past : (p : ℕ) → gap_to w p ≡ 0 → p ≤ end → end < p + w → IsNotRead (part p (drop p bytes))) where
   -- they end where their bytes are those of whole numbers
   abbrev Wholly : (turns p : ℕ) (before : List ValueTree) (even : Bool) → Type 0
@@ -43,9 +44,9 @@ module _ (part : Reader ValueTree) (bytes : List ℕ) (end w : ℕ) (some : 0 < 
       let yes : even ≡ true = sym is ∙ eq-eqb _ 0 none in
       rw yes ([], no_turn (λ before. part) end before turns p (drop p bytes) e ∙ ap (λ (q : ℕ). Done [] q (drop q bytes)) e)
 
-  run : (turns p : ℕ) (before : List ValueTree) (even : Bool) → p ≤ end → end ≤ p + turns → gap_to w p ≡ 0 → Wholly turns p before even
-  run zero p before even le few aligned is = ends_here zero p before even (omega arith) is
-  run (suc turns) p before even le few aligned is =
+  run : (turns p : ℕ) (before : List ValueTree) (even : Bool) → first ≤ p → p ≤ end → end ≤ p + turns → gap_to w p ≡ 0 → Wholly turns p before even
+  run zero p before even from le few aligned is = ends_here zero p before even (omega arith) is
+  run (suc turns) p before even from le few aligned is =
       elim (cases_lt p end) [
         | inr none ↦ ends_here (suc turns) p before even (omega arith) is
         | inl more ↦
@@ -54,9 +55,9 @@ module _ (part : Reader ValueTree) (bytes : List ℕ) (end w : ℕ) (some : 0 < 
                   let odd : even ≡ false = sym is ∙ ne_eqb _ 0 (λ e. absurd (omega (arith, e, mod-eq_of_lt {n = end - p} {m = w} (omega arith)))) in
                   rw (odd, lt-ltb p end more) (not_first (part p (drop p bytes)) _ (past p aligned le short))
               | inr fits ↦
-                  let one = here p aligned fits in
+                  let one = here p from aligned fits in
                   let same : (end - p) % w ≡ (end - (p + w)) % w = ap (λ (n : ℕ). n % w) (sooner p fits) ∙ add-mod_right (end - (p + w)) w in
-                  let rest = run turns (p + w) (one.0 ∷ before) even fits (omega arith) (stays_aligned w p aligned) (rw (← same) is) in
+                  let rest = run turns (p + w) (one.0 ∷ before) even (omega (arith, from)) fits (omega arith) (stays_aligned w p aligned) (rw (← same) is) in
                   rw (lt-ltb p end more, one.1) (answers_made bytes (cond even (Some end) None) (up_to turns end (λ before. part) (one.0 ∷ before) (p + w) (drop (p + w) bytes)) (λ vs. one.0 ∷ vs) rest)
             ]
       ]
@@ -64,18 +65,51 @@ module _ (part : Reader ValueTree) (bytes : List ℕ) (end w : ℕ) (some : 0 < 
       sooner : (p : ℕ) → p + w ≤ end → end - p ≡ end - (p + w) + w
       sooner p h = omega arith
 
--- the elements of an array of n bytes end with them where these are those of whole numbers, and else are not read
+-- the elements of an array of n bytes, which are numbers that may all stand, end with them where these are those of whole numbers, and else are not read
+pub number_elements : (bounds : Bounds) (order : Order) (depth_left : ℕ) (k : NumberCode) (w n first : ℕ) (bytes : List ℕ) (even : Bool) → 0 < w → width k ≡ w
+    → ((p : ℕ) → first ≤ p → gap_to w p ≡ 0 → p + w ≤ first + n → number_row bounds.fds k (p + w) (number_of order (take w (drop p bytes))) ≡ None)
+    → eqb (n % w) 0 ≡ even → gap_to w first ≡ 0 → first + n ≤ length bytes
+    → Answers bytes (cond even (Some (first + n)) None) (contents n (λ end before. value bounds order depth_left end (NumberType k)) first (drop first bytes))
+number_elements bounds order depth_left k w n first bytes even some wide free is aligned inside =
+    let end = first + n in
+    let padded = λ (p : ℕ) (h : gap_to w p ≡ 0) (le : p ≤ end). padding_is w end p 0 (drop p bytes) h (omega arith) in
+    let size : end - first ≡ n = omega arith in
+    let at_once = λ (p : ℕ). value_number bounds order depth_left end k p (drop p bytes) ∙ is_number bounds.fds order end k w p (drop p bytes) wide in
+    let number = λ (p : ℕ). number_of order (take w (drop p bytes)) in
+    run (value bounds order depth_left end (NumberType k)) bytes first end w some
+    (λ p from h fits. (NumberValue k (number p), free_ends order end w (number_row bounds.fds k) k p bytes _ (at_once p) p (padded p h (omega arith)) (number p) fits inside refl (free p from h fits)))
+    (λ p h le short. number_short order end w (number_row bounds.fds k) k p bytes _ (at_once p) p (padded p h le) short)
+    n first [] even (omega arith) (omega arith) (omega arith) aligned (rw size is)
+
+-- of a type of which every number may stand
 pub free_elements : (bounds : Bounds) (order : Order) (depth_left : ℕ) (t : TypeTree) (w n at first : ℕ) (bytes : List ℕ) (even : Bool) → 0 < w → FreeType t w → eqb (n % w) 0 ≡ even → first ≡ at + gap_to w at → first + n ≤ length bytes
     → Answers bytes (cond even (Some (first + n)) None) (contents n (λ end before. value bounds order depth_left end t) first (drop first bytes))
 free_elements bounds order depth_left t w n at first bytes even some free is begins inside =
-    let end = first + n in
-    let k = free.code in
-    let aligned : gap_to w first ≡ 0 = ap (gap_to w) begins ∙ comes_aligned w at some in
-    let padded = λ (p : ℕ) (h : gap_to w p ≡ 0) (le : p ≤ end). padding_is w end p 0 (drop p bytes) h (omega arith) in
-    let size : end - first ≡ n = omega arith in
-    let at_once = λ (p : ℕ). value_number bounds order depth_left end k p (drop p bytes) ∙ is_number bounds.fds order end k w p (drop p bytes) free.wide in
-    let number = λ (p : ℕ). number_of order (take w (drop p bytes)) in
-    rw free.is (run (value bounds order depth_left end (NumberType k)) bytes end w some
-    (λ p h fits. (NumberValue k (number p), free_ends order end w (number_row bounds.fds k) k p bytes _ (at_once p) p (padded p h (omega arith)) (number p) fits inside refl (free.free bounds.fds (p + w) (number p))))
-    (λ p h le short. number_short order end w (number_row bounds.fds k) k p bytes _ (at_once p) p (padded p h le) short)
-    n first [] even (omega arith) (omega arith) aligned (rw size is))
+    rw free.is (number_elements bounds order depth_left free.code w n first bytes even some free.wide (λ p from h fits. free.free bounds.fds (p + w) (number_of order (take w (drop p bytes)))) is (ap (gap_to w) begins ∙ comes_aligned w at some) inside)
+
+-- ---- booleans
+
+pub words_begin : (at first w : ℕ) → w ≡ 4 → first ≡ at + gap_to w at → gap_to 4 first ≡ 0
+words_begin at first w wide begins = ap (gap_to 4) (begins ∙ ap (λ (b : ℕ). at + gap_to b at) wide) ∙ comes_aligned 4 at (omega arith)
+
+-- one word more that is 0 or 1
+pub words_more : (order : Order) (bytes : List ℕ) (at place : ℕ) → gap_to 4 place ≡ 0 → ((p : ℕ) → at ≤ p → gap_to 4 p ≡ 0 → p + 4 ≤ place → number_of order (take 4 (drop p bytes)) ≤ 1)
+    → number_of order (take 4 (drop place bytes)) ≤ 1 → (p : ℕ) → at ≤ p → gap_to 4 p ≡ 0 → p + 4 ≤ place + 4 → number_of order (take 4 (drop p bytes)) ≤ 1
+unfolding gap_to
+words_more order bytes at place aligned few last p from h le =
+    elim (cases_lt p place) [
+      | inl less ↦ few p from h (omega (arith, aligned, h, less))
+      | inr most ↦ let same : p ≡ place = omega (arith, most, le) in rw same last
+    ]
+
+-- from a boundary up to another
+wholly : (first n : ℕ) → gap_to 4 first ≡ 0 → gap_to 4 (first + n) ≡ 0 → n % 4 ≡ 0
+unfolding gap_to
+wholly first n begins ends = omega (arith, begins, ends)
+
+pub boolean_elements : (bounds : Bounds) (order : Order) (depth_left : ℕ) (n first : ℕ) (bytes : List ℕ) → gap_to 4 first ≡ 0 → gap_to 4 (first + n) ≡ 0 → first + n ≤ length bytes
+    → ((p : ℕ) → first ≤ p → gap_to 4 p ≡ 0 → p + 4 ≤ first + n → number_of order (take 4 (drop p bytes)) ≤ 1)
+    → EndsAt bytes (first + n) (contents n (λ end before. value bounds order depth_left end (NumberType BOOLEAN)) first (drop first bytes))
+boolean_elements bounds order depth_left n first bytes begins ends inside few =
+    number_elements bounds order depth_left BOOLEAN 4 n first bytes true (omega arith) refl (λ p from h fits. is_boolean bounds.fds (p + 4) (number_of order (take 4 (drop p bytes))) (few p from h fits))
+    (eq-eqb _ 0 (wholly first n begins ends)) begins inside

@@ -1,9 +1,11 @@
 //! Values that are one number. D-Bus Specification, "Basic types", "Marshaling (Wire Format)".
 #![tactic(auto)]
 
-ghost use Rattle.std.specs.Prelude.{◌≡◌, ℕ, ◌+◌, ◌<◌, ◌≤◌, length, drop, Option, IfSome};
+ghost use Rattle.std.specs.Prelude.{◌≡◌, ℕ, ◌+◌, ◌<◌, ◌≤◌, length, take, drop, Option, IfSome, IsTrue};
 ghost use Rattle.dbus_texts.specs.Types.{NumberCode, BOOLEAN, UNIX_FD};
 ghost use Rattle.dbus_types.specs.Alignments.{width};
+ghost use Rattle.dbus_value_model.specs.Bytes.{gap_to};
+ghost use Rattle.dbus_value_model.specs.Reading.{number_of};
 ghost use Rattle.dbus_value_model.specs.declared.order.Order.{Order};
 ghost use Rattle.dbus_value_model.specs.ValueReaders.{number_value};
 ghost use Rattle.dbus_value_validator.specs.Endings.{Answers};
@@ -46,6 +48,25 @@ pub(crate) fn boolean(bytes: &[u8], at: usize, end: usize, order: Order) -> Opti
         return None;
     }
     Some(start + 4)
+}
+
+/// Whether an array's elements, which begin at a boundary, are BOOLEANs up to `end`: words that are each 0 or 1.
+pub(crate) fn are_booleans(bytes: &[u8], at: usize, end: usize, order: Order) -> bool
+    requires at_most { at ≤ end }
+    requires inside { end ≤ length bytes.now }
+    requires begins { gap_to 4 at ≡ 0 }
+    ensures whole { IsTrue result → gap_to 4 end ≡ 0 }
+    ensures few { IsTrue result → (p : ℕ) → at ≤ p → gap_to 4 p ≡ 0 → p + 4 ≤ end →
+        number_of order (take 4 (drop p bytes.now)) ≤ 1 }
+{
+    let mut place = at;
+    while end - place >= 4 {
+        if order.u32_at(bytes, place) > 1 {
+            return false;
+        }
+        place += 4;
+    }
+    place == end
 }
 
 /// A UNIX_FD, which is below `index_limit`, if that is something: the offset after it.

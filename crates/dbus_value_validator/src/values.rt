@@ -17,6 +17,7 @@ use crate::basic::basic_value;
 use crate::brackets::repeats;
 use crate::ends::{end_of, is_container, wants_lengths};
 use crate::items::padding;
+use crate::numbers::are_booleans;
 use crate::source::Source;
 use crate::texts::short_text;
 use dbus_types::{TextKind, boundary, free_width, lengths_in};
@@ -256,6 +257,10 @@ fn array(
         } else {
             None
         };
+    }
+    // Most arrays of BOOLEANs are known by their words; a no says nothing.
+    if code == b'b' && are_booleans(source.bytes, first, first + n, source.order) {
+        return Some(first + n);
     }
     if n == 0 {
         return Some(first);

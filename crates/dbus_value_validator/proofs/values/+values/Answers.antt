@@ -1,16 +1,16 @@
 use Rattle.std.proofs.Common.{◌≡◌, ℕ, ◌+◌, ◌-◌, ◌<◌, [], Some, None, length, take, drop, true, false, arith, refl, sym, ap, subst, ◌∙◌}
 use Rattle.std.proofs.lemmas.Bool.{eqb-true, eqb-false, eq-eqb, ne_eqb}
 use Rattle.std.proofs.lemmas.List.{length-take, length-drop, append-nil}
-use Rattle.dbus_texts.specs.Types.{TypeTree, NoTypes, MoreTypes, sig, IsShaped}
+use Rattle.dbus_texts.specs.Types.{TypeTree, NumberType, BOOLEAN, NoTypes, MoreTypes, sig, IsShaped}
 use Rattle.dbus_types.specs.Alignments.{alignment_of}
 use Rattle.dbus_value_model.specs.Reading.{padding, up_to, value}
 use Rattle.dbus_value_model.specs.Values.{NoValues, MoreValues}
 use Rattle.dbus_value_model.specs.ValueReaders.{array_value, struct_value, entry_value}
-use Rattle.dbus_types.proofs.TypeCodes.{no_text_of, code_is, variant_is, array_is, struct_is, entry_is, entry_shaped}
+use Rattle.dbus_types.proofs.TypeCodes.{no_text_of, code_is, boolean_is, variant_is, array_is, struct_is, entry_is, entry_shaped}
 use Rattle.dbus_value_model.proofs.FreeNumbers.{free_is}
 use Rattle.dbus_value_validator.specs.Endings.{Answers, EndsAt}
 use Rattle.dbus_value_validator.proofs.NotedTypes.{part_noted, first_front}
-use Rattle.dbus_value_validator.proofs.NumberArrays.{free_elements}
+use Rattle.dbus_value_validator.proofs.NumberArrays.{free_elements, boolean_elements, words_begin}
 use Rattle.dbus_value_validator.proofs.ReadParts.{not_first, answers_unmade}
 use Rattle.dbus_value_validator.proofs.ValueSteps.{leads_all, leads_on, leads_end, lacks_element, lacks_end, too_deep, variant_too_deep, variant_unsigned, variant_answers, array_unframed, array_answers, entry_answers, as_variant, as_array, as_entry}
 use Rattle.dbus_value_validator.proofs.OpenStructs.{all_left, left_ends, left_unread, less_left, struct_unread, structs_left, closed_left, basic_there, variant_there, array_there, struct_outside}
@@ -223,6 +223,21 @@ array-returns-else-n-from-eq0-clause-gives t c = λ u e shaped.
     let wide : c.boundary.result ≡ c.free_width-width.result = bounded ∙ ap alignment_of free.is ∙ free.wide in
     array_answers source.bounds source.order c.args.depth_left c.args.end c.args.at source.bytes.now c.in_ok-start.start c.in_ok-start.ensures.gives (omega arith) u c.in_ok-n.n c.in_ok-n.first (c.in_ok-n.ensures.gives u bounded) None
     (free_elements source.bounds source.order (c.args.depth_left - 1) u c.free_width-width.result c.in_ok-n.n (c.in_ok-start.start + 4) c.in_ok-n.first source.bytes.now false c.if-width-gt0.true free (rw (← c.from.ensures) (ne_eqb _ 0 c.if-n-from-eq0.false)) (rw (← wide) c.in_ok-n.ensures.begins) (omega (arith, c.in_ok-n.ensures.fits)))
+
+pub array-are_booleans-requires-clause-begins : goal.array-are_booleans-requires-clause-begins
+array-are_booleans-requires-clause-begins t c = words_begin (c.in_ok-start.start + 4) c.in_ok-n.first c.boundary.result (c.boundary.ensures.value (NumberType BOOLEAN) (sym c.if-code-eq98.true)) c.in_ok-n.ensures.begins
+
+pub array-returns-then-are_booleans-clause-gives : goal.array-returns-then-are_booleans-clause-gives
+array-returns-then-are_booleans-clause-gives t c = λ u e shaped.
+    let source = c.args.source.now in
+    let n = c.in_ok-n.n in
+    let first = c.in_ok-n.first in
+    let code = code_is u c.args.types.now e in
+    let bounded = c.boundary.ensures.value u code in
+    let is = boolean_is u (code ∙ c.if-code-eq98.true) in
+    let begins = words_begin (c.in_ok-start.start + 4) first c.boundary.result (bounded ∙ ap alignment_of is) c.in_ok-n.ensures.begins in
+    array_answers source.bounds source.order c.args.depth_left c.args.end c.args.at source.bytes.now c.in_ok-start.start c.in_ok-start.ensures.gives (omega arith) u n first (c.in_ok-n.ensures.gives u bounded) (Some (first + n))
+    (rw is (boolean_elements source.bounds source.order (c.args.depth_left - 1) n first source.bytes.now begins (c.are_booleans.ensures.whole c.if-are_booleans.true) (omega (arith, c.in_ok-n.ensures.fits)) (c.are_booleans.ensures.few c.if-are_booleans.true)))
 
 pub array-returns-then-n-eq0-clause-gives : goal.array-returns-then-n-eq0-clause-gives
 array-returns-then-n-eq0-clause-gives t c = λ u e shaped.
