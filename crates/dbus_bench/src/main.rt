@@ -7,12 +7,14 @@
 mod messages;
 mod parts;
 mod samples;
+mod spelled;
 mod timing;
 mod validated;
 mod values;
 
 use messages::bench_messages;
 use parts::bench_parts;
+use spelled::bench_spelled;
 use std::process::ExitCode;
 use std::{env, io};
 use timing::Extent;
@@ -31,7 +33,8 @@ fn bench(rt: &HostRuntime) -> io::Result<()> {
     let extent = extent_of(rt)?;
     bench_values(rt, extent)?;
     bench_messages(rt, extent)?;
-    bench_parts(rt, extent)
+    bench_parts(rt, extent)?;
+    bench_spelled(rt, extent)
 }
 
 fn main(rt: HostRuntime) -> ExitCode {

@@ -9,7 +9,7 @@ use std::sync::Arc;
 
 // What a property is now.
 #[derive(Clone, Copy)]
-enum Now {
+pub(crate) enum Now {
     Text(&'static str),
     Number(u32),
     Count(u64),
@@ -17,7 +17,7 @@ enum Now {
 }
 
 // The properties that changed, as a service manager tells them of a service that has started.
-const CHANGED: [(&str, Now); 17] = [
+pub(crate) const CHANGED: [(&str, Now); 17] = [
     ("ActiveState", Now::Text("active")),
     ("SubState", Now::Text("running")),
     ("StateChangeTimestamp", Now::Count(1_764_126_000_000_000)),
@@ -38,7 +38,7 @@ const CHANGED: [(&str, Now); 17] = [
 ];
 
 // The properties that changed to something that is not told.
-const INVALIDATED: [&str; 4] = ["ExecStart", "ExecStop", "ExecMainStatus", "ExecMainCode"];
+pub(crate) const INVALIDATED: [&str; 4] = ["ExecStart", "ExecStop", "ExecMainStatus", "ExecMainCode"];
 
 // The properties and what they are now, `a{sv}`.
 fn changed(alloc: Global) -> Result<Value, AllocError> {

@@ -75,7 +75,7 @@ pub fn write_32(out: &mut [u8], at: usize, order: Order, n: u32) -> usize
 /// Writes a number of `width` bytes, with the padding before it. The width is its alignment too.
 #[inline(always)]
 #[tactic(auto, using(crate::proofs::Written::lengths, crate::proofs::Written::low_bytes, crate::proofs::Written::high_bytes))]
-pub(crate) fn write_number(out: &mut [u8], at: usize, order: Order, width: u8, n: u64) -> usize
+pub fn write_number(out: &mut [u8], at: usize, order: Order, width: u8, n: u64) -> usize
     requires some { 0 < width }
     requires few { width ≤ 8 }
     requires start { at ≤ length out.old }
@@ -94,7 +94,7 @@ pub(crate) fn write_number(out: &mut [u8], at: usize, order: Order, width: u8, n
 
 /// Writes the text of a STRING or an OBJECT_PATH: padding, its length in four bytes, itself and a zero byte.
 #[tactic(auto, using(crate::proofs::Written::texts))]
-pub(crate) fn write_text(out: &mut [u8], at: usize, order: Order, text: &[u8]) -> usize
+pub fn write_text(out: &mut [u8], at: usize, order: Order, text: &[u8]) -> usize
     requires start { at ≤ length out.old }
     requires space { length (with_value order (TextValue STRING text.now) (take at out.old)) ≤
         length out.old }
@@ -109,7 +109,7 @@ pub(crate) fn write_text(out: &mut [u8], at: usize, order: Order, text: &[u8]) -
 
 /// Writes the text of a SIGNATURE: its length in one byte, itself and a zero byte. It is the same in either byte order.
 #[tactic(auto, using(crate::proofs::Written::texts))]
-pub(crate) fn write_signature(out: &mut [u8], at: usize, text: &[u8]) -> usize
+pub fn write_signature(out: &mut [u8], at: usize, text: &[u8]) -> usize
     requires space { at + length text.now + 2 ≤ length out.old }
     requires fits { length text.now < 256 }
     ensures written { (order : Order) →

@@ -1,0 +1,66 @@
+//! Arrays, whose length is written once their elements are.
+#![tactic(auto, using(dbus_marshal::proofs::Written::lengths, dbus_value_model::proofs::Gaps::gap_below))]
+
+ghost use Rattle.std.specs.Prelude.{◌≡◌, ◌<◌, length, vec_capacity, OnOk, OnErr, IfOk, IfErr};
+ghost use Rattle.dbus_body.specs.Arrays.{IsOpen, closed, opened, place_of};
+ghost use Rattle.dbus_body.specs.Faults.{IsArrayRefused, IsLengthWritten};
+
+use crate::put_fault::PutFault;
+use dbus_marshal::writing::overwrite_32;
+use dbus_value_model::{Order, gap};
+use std::alloc::{AllocError, Allocator};
+
+/// The place of an array whose elements are still to come.
+#[derive(Clone, Copy, PartialEq, Eq, Debug, Drop)]
+pub struct OpenArray {
+    /// Where the four bytes of its length are, in bytes from the first.
+    pub length_at: usize,
+    /// Where its elements begin.
+    pub start: usize,
+}
+
+/// Appends what stands before the elements of an array: padding, four zero bytes for the length, and the padding before an element
+/// of this alignment, also if there is none. The alignment is 1, 2, 4 or 8, that of the elements' type.
+///
+/// The error is that an allocation failed, only if the capacity was too small; then the bytes are as they were. D-Bus Specification,
+/// "Marshaling (Wire Format)".
+pub fn open_array<A: Allocator>(
+    out: &mut Vec<u8, A>,
+    alignment: u8,
+) -> Result<OpenArray, AllocError>
+    requires { 0 < alignment }
+    ensures opened { OnOk result (out.new.items ≡ opened alignment out.old.items) }
+    ensures place { IfOk result (λ a. a ≡ place_of alignment out.old.items) }
+    ensures unchanged { OnErr result (out.new.items ≡ out.old.items) }
+    ensures small { OnErr result (vec_capacity out.old < length (opened alignment out.old.items)) }
+{
+    let length_at = out.len() + gap(4, out.len());
+    let start = length_at + 4 + gap(alignment, length_at + 4);
+    out.resize(start, 0)?;
+    Ok(OpenArray { length_at, start })
+}
+
+/// Writes the length of the array that was opened at this place: the number of bytes from where its elements begin up to the end.
+///
+/// `TooLong` if these are 4,294,967,296 bytes or more. `NotOpen` if the place does not lie within the bytes. After an error the bytes
+/// are as they were. It takes no memory. D-Bus Specification, "Marshaling (Wire Format)".
+pub fn close_array<A: Allocator>(
+    out: &mut Vec<u8, A>,
+    order: Order,
+    array: OpenArray,
+) -> Result<(), PutFault>
+    ensures closed { OnOk result (out.new.items ≡ closed order array out.old.items) }
+    ensures written { OnOk result (IsLengthWritten array out.old.items) }
+    ensures unchanged { OnErr result (out.new.items ≡ out.old.items) }
+    ensures refused { IfErr result (IsArrayRefused array out.old.items) }
+{
+    if array.start > out.len() || array.start < 4 || array.start - 4 < array.length_at {
+        return Err(PutFault::NotOpen);
+    }
+    let length = out.len() - array.start;
+    if length > u32::MAX as usize {
+        return Err(PutFault::TooLong);
+    }
+    overwrite_32(out.as_mut_slice(), array.length_at, order, length as u32);
+    Ok(())
+}
