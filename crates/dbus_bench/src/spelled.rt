@@ -47,12 +47,12 @@ fn put_body(out: &mut Vec<u8>) -> Result<(), PutFault> {
         put_text(out, ORDER, name.as_bytes())?;
         put_now(out, *now)?;
     }
-    close_array(out, ORDER, properties)?;
+    close_array(out.as_mut_slice(), ORDER, properties)?;
     let names = open_array(out, 4)?;
     for name in &INVALIDATED {
         put_text(out, ORDER, name.as_bytes())?;
     }
-    close_array(out, ORDER, names)
+    close_array(out.as_mut_slice(), ORDER, names)
 }
 
 // Appends the text of a header field, and gives its place.

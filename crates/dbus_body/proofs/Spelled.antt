@@ -13,7 +13,7 @@ use Rattle.dbus_marshal.proofs.Written.{written_whole, written_number, written_p
 use Rattle.dbus_body.specs.Arrays.{opened, place_of, closed}
 use Rattle.dbus_body.specs.BodyLaws.{CallsSpell}
 
-zeros : (order : Order) → replicate 4 0 ≡ num order 4 0
+pub zeros : (order : Order) → replicate 4 0 ≡ num order 4 0
 unfolding num low_first
 zeros Little = refl
 zeros Big = refl

@@ -1,3 +1,4 @@
 pub mod Arrays
 pub mod Faults
+pub mod Room
 pub mod BodyLaws

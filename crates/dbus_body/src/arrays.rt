@@ -44,15 +44,11 @@ pub fn open_array<A: Allocator>(
 ///
 /// `TooLong` if these are 4,294,967,296 bytes or more. `NotOpen` if the place does not lie within the bytes. After an error the bytes
 /// are as they were. It takes no memory. D-Bus Specification, "Marshaling (Wire Format)".
-pub fn close_array<A: Allocator>(
-    out: &mut Vec<u8, A>,
-    order: Order,
-    array: OpenArray,
-) -> Result<(), PutFault>
-    ensures closed { OnOk result (out.new.items ≡ closed order array out.old.items) }
-    ensures written { OnOk result (IsLengthWritten array out.old.items) }
-    ensures unchanged { OnErr result (out.new.items ≡ out.old.items) }
-    ensures refused { IfErr result (IsArrayRefused array out.old.items) }
+pub fn close_array(out: &mut [u8], order: Order, array: OpenArray) -> Result<(), PutFault>
+    ensures closed { OnOk result (out.new ≡ closed order array out.old) }
+    ensures written { OnOk result (IsLengthWritten array out.old) }
+    ensures unchanged { OnErr result (out.new ≡ out.old) }
+    ensures refused { IfErr result (IsArrayRefused array out.old) }
 {
     if array.start > out.len() || array.start < 4 || array.start - 4 < array.length_at {
         return Err(PutFault::NotOpen);
@@ -61,6 +57,6 @@ pub fn close_array<A: Allocator>(
     if length > u32::MAX as usize {
         return Err(PutFault::TooLong);
     }
-    overwrite_32(out.as_mut_slice(), array.length_at, order, length as u32);
+    overwrite_32(out, array.length_at, order, length as u32);
     Ok(())
 }

@@ -12,6 +12,7 @@ mod arrays;
 pub mod laws;
 mod put_fault;
 mod putting;
+pub mod room;
 
 pub use arrays::{OpenArray, close_array, open_array};
 pub use put_fault::PutFault;

@@ -1,5 +1,4 @@
 use Rattle.std.proofs.Common.{◌≡◌, ◌+◌, ◌-◌, ◌++◌, length, take, replicate, ◌∙◌, arith, rules}
-use Rattle.dbus_value_model.proofs.Gaps.{gap_below}
 use Rattle.dbus_marshal.proofs.Written.{lengths}
 use Rattle.dbus_body.specs.Arrays.{opened}
 use Rattle.dbus_body.proofs.Spelled.{opened_by_zeros}

@@ -1,4 +1,4 @@
-use Rattle.std.proofs.Common.{◌≡◌, ◌+◌, ◌++◌, ℕ, List, length, ap, ◌∙◌, arith}
+use Rattle.std.proofs.Common.{◌≡◌, length, ap, ◌∙◌, arith}
 use Rattle.dbus_texts.specs.Types.{STRING}
 use Rattle.dbus_value_model.specs.Appending.{with_value}
 use Rattle.dbus_value_model.specs.Values.{TextValue}
