@@ -258,12 +258,12 @@ fn array(
             None
         };
     }
-    // Most arrays of BOOLEANs are known by their words; a no says nothing.
-    if code == b'b' && are_booleans(source.bytes, first, first + n, source.order) {
-        return Some(first + n);
-    }
     if n == 0 {
         return Some(first);
+    }
+    // BOOLEANs are known by their words. A no says nothing.
+    if code == b'b' && are_booleans(source.bytes, first, first + n, source.order) {
+        return Some(first + n);
     }
     if source.lengths.len() <= pos && wants_lengths(types) {
         return noted_elements(source, first, n, types, depth_left - 1);
