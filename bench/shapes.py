@@ -138,11 +138,15 @@ def field_message():
 
 NESTED = "(" * 31 + "a(" + "y" * 188 + ")" + ")" * 31
 INNER = "(y" + "(" * 30 + "ay" + ")" * 30 + ")"
+CHAINS = "(" + ("(" * 30 + "y" + ")" * 30) * 4 + ")"
+AFTER = "(" * 31 + "y" + ")y" * 30 + ")"
 PATH = struct.pack("<I", 1) + b"/\0"
 WORST_SIZE = 1_000_000
 WORST = {
     "nested": lambda: array_message("a" + NESTED, 8, bytes(8)),
     "inner": lambda: array_message("a" + INNER, 8, bytes(16), bytes(12)),
+    "chains": lambda: array_message("a" + CHAINS, 8, bytes(32), bytes(25)),
+    "after": lambda: array_message("a" + AFTER, 8, bytes(32), bytes(31)),
     "wide": lambda: array_message("a(" + "y" * 248 + ")", 8, bytes(248)),
     "empty": lambda: array_message("aay", 4, bytes(4)),
     "deep": lambda: array_message("a" + "(a" * 31 + "y" + ")" * 31, 8, bytes(8)),
