@@ -37,7 +37,7 @@ echo '#include <dbus_wire.h>' | "$CXX" $flags -x c++ -fsyntax-only -
 "$CC" -std=c99 -O2 $flags -o "$built/check" "$here/c/check.c" -L"$built" -ldbus_wire
 "$CC" -std=c99 -O2 $flags -o "$built/check_shared" "$here/c/check.c" "$shared" -Wl,-rpath,"$(cd "$(dirname "$shared")" && pwd)"
 "$CC" $sanitized -o "$built/check_sanitized" "$here/c/check.c" -L"$built" -ldbus_wire
-for name in list swap rules build room habits texts pieces threads; do "$CC" $sanitized -pthread -o "$built/$name" "$here/c/$name.c" -L"$built" -ldbus_wire; done
+for name in list swap rules build signal room habits texts pieces threads; do "$CC" $sanitized -pthread -o "$built/$name" "$here/c/$name.c" -L"$built" -ldbus_wire; done
 for sample in session big-endian; do
 	for name in room threads; do "$built/$name" < "$here/../samples/$sample.dbus"; done
 	for length in 1 64 4096; do "$built/pieces" $length < "$here/../samples/$sample.dbus"; done
@@ -91,6 +91,9 @@ must_fail env LD_PRELOAD="$built/refuse_nth.so" REFUSE_NTH=2 "$built/build_plain
 grep -q 'out of memory' "$built/told"
 must_fail "$built/build" serial 0 < "$here/../samples/session.dbus" 2> "$built/told"
 grep -q 'is 0$' "$built/told"
+# A body that is spelled value by value is read as these values.
+"$built/signal" Name "a b" Number 7 | "$program" show > "$built/said"
+grep -q "a b" "$built/said"
 "$here/tables.py" "$built/habits" "$built/texts" "$program"
 # The fuzz target finds nothing, and finds a parser that takes everything for a message.
 try_fuzz() {

@@ -21,7 +21,7 @@
 //! * [`check`] says whether bytes begin with a message; [`Checker`] says it of bytes that come in pieces; [`wanted`] says how long
 //!   a message is by its first 16 bytes.
 //! * [`Message`] has the parts of a message, and [`Values`] goes over the values of its body. Both borrow the bytes, and allocate nothing.
-//! * [`build`] makes a message of its [`Parts`].
+//! * [`build`] makes a message of its [`Parts`], whose [`Body`] is spelled value by value.
 //! * [`byteswap`] writes a message in the other byte order, and [`check_text`] checks names, signatures and other texts.
 //! * A match [`Rule`] says which messages a program wants; [`Owners`] says who owns the names that it asks for.
 //! * [`Server`] and [`Client`] are the ends of the authentication handshake.
@@ -40,6 +40,7 @@
 //!
 //! [D-Bus Specification]: https://dbus.freedesktop.org/doc/dbus-specification.html
 
+mod body;
 mod build;
 mod check;
 mod checker;
@@ -53,6 +54,7 @@ pub mod sys;
 mod text;
 mod value;
 
+pub use body::{Body, TooLong};
 pub use build::{build, BuildError, Parts};
 pub use check::{check, wanted, Answer, Order};
 pub use checker::{Checker, OutOfMemory, Taken};

@@ -183,6 +183,21 @@ pub struct dbus_wire_item {
 
 #[repr(C)]
 #[derive(Clone, Copy, Debug, Default)]
+pub struct dbus_wire_writer {
+    pub length: u64,
+    pub order: u32,
+    pub reserved: u32,
+}
+
+#[repr(C)]
+#[derive(Clone, Copy, Debug, Default)]
+pub struct dbus_wire_array {
+    pub length_at: u64,
+    pub start: u64,
+}
+
+#[repr(C)]
+#[derive(Clone, Copy, Debug, Default)]
 pub struct dbus_wire_text_checked {
     pub offset: u64,
     pub is_too_long: u32,
@@ -247,6 +262,8 @@ const _: () = assert!(size_of::<dbus_wire_parts>() == 208);
 const _: () = assert!(size_of::<dbus_wire_argument>() == 24);
 const _: () = assert!(size_of::<dbus_wire_cursor>() == 48);
 const _: () = assert!(size_of::<dbus_wire_item>() == 80);
+const _: () = assert!(size_of::<dbus_wire_writer>() == 16);
+const _: () = assert!(size_of::<dbus_wire_array>() == 16);
 const _: () = assert!(size_of::<dbus_wire_text_checked>() == 16);
 const _: () = assert!(size_of::<dbus_wire_checker>() == 8);
 const _: () = assert!(size_of::<dbus_wire_taken>() == 24);
@@ -294,6 +311,29 @@ extern "C" {
         out: *mut u8,
         room: usize,
         told: *mut dbus_wire_checked,
+    ) -> u32;
+    pub fn dbus_wire_put_number(out: *mut u8, room: usize, writer: *mut dbus_wire_writer, width: u32, bits: u64) -> u32;
+    pub fn dbus_wire_put_text(out: *mut u8, room: usize, writer: *mut dbus_wire_writer, text: *const u8, length: usize) -> u32;
+    pub fn dbus_wire_put_signature(
+        out: *mut u8,
+        room: usize,
+        writer: *mut dbus_wire_writer,
+        text: *const u8,
+        length: usize,
+    ) -> u32;
+    pub fn dbus_wire_begin_struct(out: *mut u8, room: usize, writer: *mut dbus_wire_writer) -> u32;
+    pub fn dbus_wire_open_array(
+        out: *mut u8,
+        room: usize,
+        writer: *mut dbus_wire_writer,
+        alignment: u32,
+        array: *mut dbus_wire_array,
+    ) -> u32;
+    pub fn dbus_wire_close_array(
+        out: *mut u8,
+        room: usize,
+        writer: *const dbus_wire_writer,
+        array: *const dbus_wire_array,
     ) -> u32;
     pub fn dbus_wire_text_check(kind: u32, bytes: *const u8, length: usize, out: *mut dbus_wire_text_checked) -> u32;
     pub fn dbus_wire_checker_new(limits: *const dbus_wire_limits, checker: *mut dbus_wire_checker) -> u32;

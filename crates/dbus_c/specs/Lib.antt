@@ -16,3 +16,4 @@ pub mod RuleReasons
 pub mod Rules
 pub mod Handshakes
 pub mod Building
+pub mod Writers

@@ -5,7 +5,7 @@
 //! [`dbus_wire_argument_of`] give a message's parts, and [`dbus_wire_swap`] byteswaps. [`dbus_wire_body_cursor`] and
 //! [`dbus_wire_next`] give the values of its body. [`dbus_wire_checker_new`] makes a checker that is handed one piece after another, and
 //! [`dbus_wire_rule_new`] a match rule; [`dbus_wire_server_new`] and [`dbus_wire_client_new`] make an end of a handshake, and
-//! [`dbus_wire_build`] builds a message of its parts. Of the other calls those on a rule and [`dbus_wire_handshake_take`] take memory too.
+//! [`dbus_wire_build`] builds a message of its parts, whose body [`dbus_wire_put_number`] and its like spell. Of the other calls those on a rule and [`dbus_wire_handshake_take`] take memory too.
 //! `include/dbus_wire.h` declares them and says what a caller owes; `examples/c` has callers.
 #![tactic(auto)]
 
@@ -27,6 +27,7 @@ mod swapping;
 mod texts;
 mod version;
 mod wanted;
+mod writers;
 
 pub use answers::{
     NO_CHECKER, NO_HANDSHAKE, NO_KIND, NO_MEMORY, NO_ROOM, NO_RULE, NO_VALUE, PARTIAL, REFUSED,
@@ -59,3 +60,7 @@ pub use swapping::dbus_wire_swap;
 pub use texts::{TextChecked, dbus_wire_text_check};
 pub use version::{VERSION, dbus_wire_version};
 pub use wanted::dbus_wire_wanted;
+pub use writers::{
+    WireArray, Writer, dbus_wire_begin_struct, dbus_wire_close_array, dbus_wire_open_array,
+    dbus_wire_put_number, dbus_wire_put_signature, dbus_wire_put_text,
+};

@@ -63,7 +63,7 @@ fn write_in(bytes: &[u8], validated: &Validated, limits: Limits, order: Order, o
 }
 
 // The order that a number names.
-fn order_of(number: u32) -> Order
+pub(crate) fn order_of(number: u32) -> Order
     ensures { result ≡ order_named number }
 {
     if number == u32::from(b'B') {
