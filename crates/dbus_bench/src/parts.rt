@@ -38,7 +38,12 @@ pub(crate) const CHANGED: [(&str, Now); 17] = [
 ];
 
 // The properties that changed to something that is not told.
-pub(crate) const INVALIDATED: [&str; 4] = ["ExecStart", "ExecStop", "ExecMainStatus", "ExecMainCode"];
+pub(crate) const INVALIDATED: [&str; 4] = [
+    "ExecStart",
+    "ExecStop",
+    "ExecMainStatus",
+    "ExecMainCode",
+];
 
 // The properties and what they are now, `a{sv}`.
 fn changed(alloc: Global) -> Result<Value, AllocError> {
