@@ -1,0 +1,225 @@
+-- The lines of a side that were read so far, and what is answered after them.
+use Rattle.std.proofs.Common.{◌≡◌, ◌≢◌, ◌⊎◌, inl, inr, ◌<◌, ◌≤◌, ◌+◌, ◌*◌, ℕ, Bool, true, false, List, [], ◌∷◌, ◌++◌, length, get_or, Option, Ok, Err, refl, sym, ap, ◌∙◌, subst, arith, lit≤, append_assoc, append-nil, length-append}
+use Rattle.std.specs.Prelude.{◌↔◌, ◌||◌}
+use Rattle.std.specs.List.{AllByRecursion}
+use Rattle.std.specs.Io.KnownBytes.{IsAtEnd}
+use Rattle.std.proofs.lemmas.List.{flat_map_more}
+use Rattle.dbus_auth_lines.specs.Cut.{IsLine}
+use Rattle.dbus_auth_lines.specs.FirstLine.{IsBadByte, stray, no_lf}
+use Rattle.dbus_auth_lines.specs.Lines.{ended}
+use Rattle.dbus_handshake_input.specs.Ahead.{source_of, kept_of, Took}
+use Rattle.dbus_handshake_input.specs.Handshakes.{greeting, sent, GoesOn, IsCommand, IsBegin, IsOk, HasOk, IsNoLine, MessagesFollow, begun, accepted, IsNoHandshake, first_byte, no_line, too_many}
+use Rattle.dbus_handshake_input.specs.Lines.{ReadsLine}
+use Rattle.dbus_handshake_input.specs.Passing.{Greets, IsShort, Passes, SeesMessages, placed}
+use Rattle.dbus_handshake_input.specs.declared.fault.HandshakeFault.{HandshakeFault}
+use Rattle.dbus_handshake_input.specs.declared.fault.HandshakeFault.TheVariants.{Memory, Device, Refused}
+use Rattle.dbus_handshake_input.specs.declared.fault.HandshakeReason.{HandshakeReason}
+use Rattle.dbus_handshake_input.specs.declared.fault.HandshakeReason.TheVariants as reason
+use Rattle.dbus_handshake_input.specs.declared.side.Side.{Side}
+use Rattle.dbus_handshake_input.specs.declared.side.Side.TheVariants.{Client, Server}
+use Rattle.dbus_handshake_input.specs.declared.read_ahead.ReadAhead.{ReadAhead}
+use Rattle.dbus_handshake_input.proofs.AheadSteps.{took_more}
+use Rattle.dbus_handshake_input.proofs.LineSteps.{took_same, unfinished_short}
+
+-- ---- one more line
+
+all_end : (side : Side) (lines : List (List ℕ)) (line : List ℕ) → AllByRecursion (GoesOn side) lines → GoesOn side line → AllByRecursion (GoesOn side) (lines ++ line ∷ [])
+all_end side [] line h g = (g, tt)
+all_end side (l ∷ ls) line h g = (h.0, all_end side ls line h.1 g)
+
+ok_before : (side : Side) (lines more : List (List ℕ)) → HasOk side lines → HasOk side (lines ++ more)
+ok_before side [] more h = absurd h
+ok_before side (l ∷ ls) more (inl h) = inl h
+ok_before side (l ∷ ls) more (inr h) = inr (ok_before side ls more h)
+
+ok_last : (side : Side) (lines : List (List ℕ)) (line : List ℕ) → IsOk side line → HasOk side (lines ++ line ∷ [])
+ok_last side [] line h = inl h
+ok_last side (l ∷ ls) line h = inr (ok_last side ls line h)
+
+not_in : (side : Side) (lines : List (List ℕ)) (line : List ℕ) → (HasOk side lines → ⊥) → (IsOk side line → ⊥) → HasOk side (lines ++ line ∷ []) → ⊥
+not_in side [] line none not (inl h) = not h
+not_in side [] line none not (inr h) = h
+not_in side (l ∷ ls) line none not (inl h) = none (inl h)
+not_in side (l ∷ ls) line none not (inr h) = not_in side ls line (λ i. none (inr i)) not h
+
+sent_more : (side : Side) (lines : List (List ℕ)) (line : List ℕ) → sent side lines ++ ended line ≡ sent side (lines ++ line ∷ [])
+sent_more side lines line = flat_map_more ended (greeting side) lines line
+
+sent_size : (side : Side) (lines : List (List ℕ)) (line : List ℕ) → length (sent side lines) + (length line + 2) ≡ length (sent side (lines ++ line ∷ []))
+sent_size side lines line =
+    let all = sym (ap length (sent_more side lines line)) ∙ length-append (sent side lines) (ended line) in
+    let one = length-append line (13 ∷ 10 ∷ []) in
+    omega (arith, all, one)
+
+-- these lines were taken, after what comes before the lines of the side
+pub record HasLines {R : Type 0} (left : R → Option (List ℕ)) (side : Side) (old new : ReadAhead R) (count start : ℕ) (is_accepted : Bool) : Type 0 where
+  pub lines : List (List ℕ)
+  pub each : AllByRecursion (GoesOn side) lines
+  pub count_is : length lines ≡ count
+  pub start_is : start ≡ length (sent side lines)
+  pub low : start ≤ 1 + 16384 * count
+  pub took : Took left old new (sent side lines)
+  pub with_ok : is_accepted ≡ true → HasOk side lines
+  pub without_ok : is_accepted ≡ false → HasOk side lines → ⊥
+
+-- whether the server accepted, after a line
+pub data AcceptedBy (side : Side) (line : List ℕ) (before after : Bool) : Type 0 where
+  by_line : after ≡ true → IsOk side line → AcceptedBy side line before after
+  as_before : after ≡ before → (IsOk side line → ⊥) → AcceptedBy side line before after
+
+pub accepted_by : (side : Side) (line : List ℕ) (before ok : Bool) → (ok ≡ true) ↔ IsOk side line → AcceptedBy side line before (before || ok)
+accepted_by side line true true h = by_line refl (h.0 refl)
+accepted_by side line false true h = by_line refl (h.0 refl)
+accepted_by side line true false h = as_before refl (λ o. absurd (let e = h.1 o in cc))
+accepted_by side line false false h = as_before refl (λ o. absurd (let e = h.1 o in cc))
+
+module _ {R : Type 0} (left : R → Option (List ℕ)) (side : Side) where
+  pub lines_begin : (old new : ReadAhead R) (start : ℕ) → Took left old new (greeting side) → start ≡ length (greeting side) → HasLines left side old new 0 start false
+  lines_begin old new start took is = record {
+    lines = [];
+    each = tt;
+    count_is = refl;
+    start_is = is ∙ ap length (sym (append-nil (greeting side)));
+    low = (let few = at_most_one side in omega (arith, is, few));
+    took = subst (Took left old new) (sym (append-nil (greeting side))) took;
+    with_ok = λ e. absurd (cc);
+    without_ok = λ e h. h;
+  }
+    where
+      at_most_one : (s : Side) → length (greeting s) ≤ 1
+      at_most_one Client = lit≤ tt
+      at_most_one Server = lit≤ tt
+
+  pub lines_same : (old mid new : ReadAhead R) (count start : ℕ) (is_accepted : Bool) → HasLines left side old mid count start is_accepted → Took left mid new []
+      → HasLines left side old new count start is_accepted
+  lines_same old mid new count start is_accepted h t = record {
+    lines = h.lines;
+    each = h.each;
+    count_is = h.count_is;
+    start_is = h.start_is;
+    low = h.low;
+    took = took_same left old mid new (sent side h.lines) h.took t;
+    with_ok = h.with_ok;
+    without_ok = h.without_ok;
+  }
+
+  took_line : (old mid new : ReadAhead R) (count start : ℕ) (is_accepted : Bool) (line : List ℕ) (h : HasLines left side old mid count start is_accepted)
+      → Took left mid new (ended line) → Took left old new (sent side (h.lines ++ line ∷ []))
+  took_line old mid new count start is_accepted line h t =
+      subst (Took left old new) (sent_more side h.lines line) (took_more left old mid new (sent side h.lines) (ended line) h.took t)
+
+  pub lines_more : (old mid new : ReadAhead R) (count start : ℕ) (before after : Bool) (line : List ℕ) → HasLines left side old mid count start before
+      → Took left mid new (ended line) → IsLine line → IsCommand side line → (IsBegin side line → ⊥) → AcceptedBy side line before after
+      → HasLines left side old new (count + 1) (start + (length line + 2)) after
+  lines_more old mid new count start before after line h t is_line command not_begin by = record {
+    lines = h.lines ++ line ∷ [];
+    each = all_end side h.lines line h.each (record { is_line = is_line; command = command; not_begin = not_begin });
+    count_is = length-append h.lines (line ∷ []) ∙ ap (λ n. n + 1) h.count_is;
+    start_is = ap (λ n. n + (length line + 2)) h.start_is ∙ sent_size side h.lines line;
+    low = (let low = h.low in let short = is_line.short in omega (arith, low, short));
+    took = took_line old mid new count start before line h t;
+    with_ok = has by;
+    without_ok = has_not by;
+  }
+    where
+      has : AcceptedBy side line before after → after ≡ true → HasOk side (h.lines ++ line ∷ [])
+      has (by_line e ok) f = ok_last side h.lines line ok
+      has (as_before e not) f = ok_before side h.lines (line ∷ []) (h.with_ok (sym e ∙ f))
+
+      has_not : AcceptedBy side line before after → after ≡ false → HasOk side (h.lines ++ line ∷ []) → ⊥
+      has_not (by_line e ok) f = absurd (cc)
+      has_not (as_before e not) f = not_in side h.lines line (h.without_ok (sym e ∙ f)) not
+
+  -- ---- what is answered
+
+  pub passes_begun : (old mid new : ReadAhead R) (count start : ℕ) (is_accepted : Bool) (line : List ℕ) (x : Unit {0}) → HasLines left side old mid count start is_accepted
+      → count < 1024 → Took left mid new (ended line) → IsLine line → IsBegin side line → Passes left side old new (Ok x)
+  passes_begun old mid new count start is_accepted line x h few t is_line last = (
+    sent side (h.lines ++ line ∷ []),
+    took_line old mid new count start is_accepted line h t,
+    begun h.lines line h.each (let n = h.count_is in omega (arith, n, few)) is_line last refl,
+  )
+
+  pub passes_accepted : (old mid new : ReadAhead R) (count start : ℕ) (is_accepted : Bool) (x : Unit {0}) → HasLines left side old mid count start is_accepted
+      → count < 1024 → Took left mid new [] → SeesMessages left is_accepted new (Ok true) → Passes left side old new (Ok x)
+  passes_accepted old mid new count start is_accepted x h few t sees = (
+    sent side h.lines,
+    took_same left old mid new (sent side h.lines) h.took t,
+    accepted h.lines h.each (let n = h.count_is in omega (arith, n, few)) (h.with_ok sees.0) sees.1 refl,
+  )
+
+  -- a line came after these
+  no_messages : (old mid new : ReadAhead R) (count start : ℕ) (is_accepted : Bool) (bytes : List ℕ) (AtEnd : Type 0) (h : HasLines left side old mid count start is_accepted)
+      → SeesMessages left is_accepted mid (Ok false) → Took left mid new bytes → HasOk side h.lines → MessagesFollow (bytes ++ kept_of new) AtEnd → ⊥
+  no_messages old mid new count start is_accepted bytes AtEnd h (inl e) t ok follow = h.without_ok e ok
+  no_messages old mid new count start is_accepted bytes AtEnd h (inr next) t ok follow =
+      let shown : bytes ++ kept_of new ≡ next.next ∷ (next.more ++ t.read) = sym t.joined ∙ ap (λ l. l ++ t.read) next.kept_is in
+      neither (subst (λ (l : List ℕ). MessagesFollow l AtEnd) shown follow)
+    where
+      neither : (next.next ≡ 108) ⊎ (next.next ≡ 66) → ⊥
+      neither (inl e) = next.not_little e
+      neither (inr e) = next.not_big e
+
+  pub refuses_line : (old mid new : ReadAhead R) (count start : ℕ) (is_accepted : Bool) (bytes : List ℕ) (at place : ℕ) (why : HandshakeReason)
+      → HasLines left side old mid count start is_accepted → count < 1024 → SeesMessages left is_accepted mid (Ok false) → Took left mid new bytes
+      → IsNoLine side (bytes ++ kept_of new) (IsAtEnd (left (source_of new))) at why → place ≡ start + at → Passes left side old new (Err (Refused place why))
+  refuses_line old mid new count start is_accepted bytes at place why h few sees t none is = (
+    sent side h.lines ++ bytes,
+    took_more left old mid new (sent side h.lines) bytes h.took t,
+    no_line h.lines (bytes ++ kept_of new) at h.each (let n = h.count_is in omega (arith, n, few))
+        (no_messages old mid new count start is_accepted bytes (IsAtEnd (left (source_of new))) h sees t)
+        (append_assoc (sent side h.lines) bytes (kept_of new)) none (is ∙ ap (λ n. n + at) h.start_is),
+  )
+
+  pub refuses_read : (Z : Type 0) (old mid new : ReadAhead R) (count start : ℕ) (is_accepted : Bool) (fault : HandshakeFault)
+      → HasLines left side old mid count start is_accepted → count < 1024 → SeesMessages left is_accepted mid (Ok false)
+      → ReadsLine {Z = Z} left side mid new (Err fault) → Passes left side old new (Err (placed start fault))
+  refuses_read Z old mid new count start is_accepted Memory h few sees r = (sent side h.lines ++ r.0, took_more left old mid new (sent side h.lines) r.0 h.took r.1)
+  refuses_read Z old mid new count start is_accepted Device h few sees r = (sent side h.lines ++ r.0, took_more left old mid new (sent side h.lines) r.0 h.took r.1)
+  refuses_read Z old mid new count start is_accepted (Refused at why) h few sees r =
+      refuses_line old mid new count start is_accepted r.0 at (start + at) why h few sees r.1 r.2 refl
+
+  pub refuses_command : (old mid new : ReadAhead R) (count start : ℕ) (is_accepted : Bool) (line : List ℕ)
+      → HasLines left side old mid count start is_accepted → count < 1024 → SeesMessages left is_accepted mid (Ok false) → Took left mid new (ended line)
+      → IsLine line → (IsCommand side line → ⊥) → Passes left side old new (Err (Refused start reason.NoCommand))
+  refuses_command old mid new count start is_accepted line h few sees t is_line none =
+      refuses_line old mid new count start is_accepted (ended line) 0 start reason.NoCommand h few sees t (line, kept_of new, refl, is_line, none, refl) (omega arith)
+
+  pub refuses_many : (old new : ReadAhead R) (start : ℕ) (is_accepted : Bool) → HasLines left side old new 1024 start is_accepted
+      → Passes left side old new (Err (Refused start reason.TooManyLines))
+  refuses_many old new start is_accepted h = (sent side h.lines, h.took, too_many h.lines (kept_of new) h.each h.count_is refl h.start_is refl)
+
+  pub stops : (old mid new : ReadAhead R) (count start : ℕ) (is_accepted : Bool) (bytes : List ℕ) → HasLines left side old mid count start is_accepted → Took left mid new bytes
+      → (all : List ℕ) × Took left old new all
+  stops old mid new count start is_accepted bytes h t = (sent side h.lines ++ bytes, took_more left old mid new (sent side h.lines) bytes h.took t)
+
+-- a place in a line is within the line's limit
+pub line_short : {R : Type 0} (Z : Type 0) (left : R → Option (List ℕ)) (side : Side) (old new : ReadAhead R) (fault : HandshakeFault)
+    → ReadsLine {Z = Z} left side old new (Err fault) → IsShort fault
+line_short Z left side old new Memory r = tt
+line_short Z left side old new Device r = tt
+line_short Z left side old new (Refused at reason.FirstByte) r = absurd r.2
+line_short Z left side old new (Refused at reason.LineTooLong) r = let e = r.2.1 in omega (arith, e)
+line_short Z left side old new (Refused at reason.LineByte) r = by_place (r.0 ++ kept_of new) r.2
+  where
+    by_place : (k : List ℕ) → IsBadByte k at → at ≤ 16384
+    by_place k (stray line b more h n lt s e) = omega (arith, lt)
+    by_place k (no_lf line b more h n ne w e) = let short = h.short in omega (arith, n, short)
+line_short Z left side old new (Refused at reason.NoCommand) r = let e = r.2.5 in omega (arith, e)
+line_short Z left side old new (Refused at reason.Truncated) r = let short = unfinished_short (r.0 ++ kept_of new) r.2.0 in let e = r.2.2 in omega (arith, short, e)
+line_short Z left side old new (Refused at reason.TooManyLines) r = absurd r.2
+
+-- the first byte of a client is another one than 0
+pub refuses_first : {R : Type 0} (left : R → Option (List ℕ)) (side : Side) (old new : ReadAhead R) (kept : List ℕ) (fault : HandshakeFault) → side ≡ Client
+    → fault ≡ Refused 0 reason.FirstByte → Took left old new [] → kept ≡ kept_of new → get_or kept 0 0 ≢ 0 → Greets left side old new (Err fault)
+refuses_first {R = R} left side old new kept fault is e took same other = subst (λ (f : HandshakeFault). Greets left side old new (Err f)) (sym e) (took, by_kept kept same other)
+  where
+    by_kept : (k : List ℕ) → k ≡ kept_of new → get_or k 0 0 ≢ 0 → IsNoHandshake side (kept_of new) (IsAtEnd (left (source_of new))) 0 reason.FirstByte
+    by_kept [] s o = absurd (o refl)
+    by_kept (b ∷ more) s o = first_byte b more is (sym s) o refl refl
+
+pub greets_no : {R : Type 0} (left : R → Option (List ℕ)) (side : Side) (old new : ReadAhead R) (fault : HandshakeFault) → Greets left side old new (Err fault)
+    → Passes left side old new (Err fault)
+greets_no left side old new Memory h = absurd h
+greets_no left side old new Device h = ([], h)
+greets_no left side old new (Refused at why) h = ([], h.0, h.1)

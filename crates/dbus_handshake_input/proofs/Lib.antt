@@ -1,0 +1,3 @@
+mod AheadSteps
+mod HandshakeSteps
+mod LineSteps

@@ -1,0 +1,127 @@
+//! The handshake of a side.
+ghost use Rattle.std.specs.Prelude.{◌≡◌, ◌≤◌, []};
+ghost use Rattle.dbus_handshake_input.specs.Ahead.{Took, source_of};
+ghost use Rattle.dbus_device.specs.Device.{ReadCounts};
+ghost use Rattle.dbus_handshake_input.specs.Passing.{Counts, Greets, IsShort, Passes, SeesMessages, placed};
+
+use crate::fault::{HandshakeFault, HandshakeReason};
+use crate::lines::{Said, next_line, read_said};
+use crate::read_ahead::ReadAhead;
+use crate::side::Side;
+use dbus_device::{DeviceFault, Source};
+use std::alloc::Allocator;
+
+// How many lines a handshake has at most.
+const MOST_LINES: usize = 1024;
+
+/// Takes the handshake of a side from the source, and no byte after it. It reads ahead at most 512 bytes, and keeps the bytes of one
+/// line beside these. D-Bus Specification, "Authentication Protocol".
+///
+/// A client's handshake is the byte 0 and then its lines up to `BEGIN`. A server's is its lines, of which one is `OK`, up to the first
+/// byte after such a line that is `l` or `B`, or up to the end of the input. Each line is a command of its side, of at most 16,384
+/// bytes with its CR LF. There are at most 1,024 of a client, and 1,023 of a server.
+///
+/// `Refused`: the bytes begin with no handshake of the side; the place counts from the first byte that was taken. `Device`: a read
+/// failed. `Memory`: an allocation failed. After each of them the bytes before the place that was reached are taken, and the call is
+/// not to be made again.
+pub fn pass_handshake<A: Allocator + Copy, R: Source>(
+    alloc: A,
+    side: Side,
+    input: &mut ReadAhead<R>,
+) -> Result<(), HandshakeFault>
+    ensures passes { Passes R.left side input.old input.new result }
+    ensures failed { Counts (R.failures (source_of input.old)) (R.failures (source_of input.new))
+        result }
+    ensures same_reference { R.reference (source_of input.new) ≡
+        R.reference (source_of input.old) }
+{
+    let mut start = match greeted(side, input) {
+        Ok(count) => count,
+        Err(fault) => return Err(fault),
+    };
+    let mut accepted = false;
+    'lines: for _ in 0..MOST_LINES {
+        match sees_messages(accepted, input) {
+            Ok(true) => return Ok(()),
+            Ok(false) => {}
+            Err(DeviceFault) => return Err(HandshakeFault::Device),
+        }
+        let line = match next_line(alloc, side, input) {
+            Ok(line) => line,
+            Err(fault) => return Err(placed(start, fault)),
+        };
+        let is_ok = match read_said(alloc, side, line.as_slice()) {
+            Ok(Said::GoesOn { is_ok }) => is_ok,
+            Ok(Said::Begin) => return Ok(()),
+            Ok(Said::Nothing) => return Err(refused(start, HandshakeReason::NoCommand)),
+            Err(_) => return Err(HandshakeFault::Memory),
+        };
+        accepted |= is_ok;
+        start += line.len() + 2;
+    }
+    Err(refused(start, HandshakeReason::TooManyLines))
+}
+
+// Takes what comes before the lines of a side, and returns how many bytes that is.
+fn greeted<R: Source>(side: Side, input: &mut ReadAhead<R>) -> Result<usize, HandshakeFault>
+    ensures greets { Greets R.left side input.old input.new result }
+    ensures failed { Counts (R.failures (source_of input.old)) (R.failures (source_of input.new))
+        result }
+    ensures same_reference { R.reference (source_of input.new) ≡
+        R.reference (source_of input.old) }
+{
+    match side {
+        Side::Server => Ok(0),
+        Side::Client => {
+            match input.has_more() {
+                Ok(true) => {}
+                Ok(false) => return Err(refused(0, HandshakeReason::Truncated)),
+                Err(DeviceFault) => return Err(HandshakeFault::Device),
+            }
+            if input.kept()[0] != 0 {
+                return Err(refused(0, HandshakeReason::FirstByte));
+            }
+            input.pass(1);
+            Ok(1)
+        }
+    }
+}
+
+// Whether a server's messages follow a line that was accepted: the input ends, or the next byte is one that begins a message and no
+// line.
+fn sees_messages<R: Source>(accepted: bool, input: &mut ReadAhead<R>) -> Result<bool, DeviceFault>
+    ensures sees { SeesMessages R.left accepted input.new result }
+    ensures took { Took R.left input.old input.new [] }
+    ensures failed { ReadCounts (R.failures (source_of input.old))
+        (R.failures (source_of input.new)) result }
+    ensures same_reference { R.reference (source_of input.new) ≡
+        R.reference (source_of input.old) }
+{
+    if !accepted {
+        return Ok(false);
+    }
+    if !input.has_more()? {
+        return Ok(true);
+    }
+    let next = input.kept()[0];
+    Ok(next == b'l' || next == b'B')
+}
+
+// A refusal at this place.
+fn refused(at: usize, reason: HandshakeReason) -> HandshakeFault
+    ensures { result ≡ HandshakeFault.Refused at reason }
+{
+    HandshakeFault::Refused { at, reason }
+}
+
+// The fault of a line that begins at this place.
+fn placed(start: usize, fault: HandshakeFault) -> HandshakeFault
+    requires low { start ≤ 16777217 }
+    requires short { IsShort fault }
+    ensures { result ≡ placed start fault }
+{
+    match fault {
+        HandshakeFault::Refused { at, reason } => refused(start + at, reason),
+        HandshakeFault::Memory | HandshakeFault::Device => fault,
+    }
+}
