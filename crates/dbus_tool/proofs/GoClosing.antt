@@ -6,8 +6,8 @@ use Rattle.dbus_device.specs.Write.{Wrote}
 use Rattle.dbus_stream.specs.Cut.{CutOutcome, Ended, Unfinished, Refused}
 use Rattle.dbus_command.specs.declared.settings.Settings.{Settings}
 use Rattle.dbus_command.specs.declared.command.Command.{Command}
-use Rattle.dbus_tool.specs.Devices.{writing}
-use Rattle.dbus_tool.specs.Going.{first_of, second_of, is_check, Taken, HandsParts, GoesThrough, StopsWithin, IsMore, IsStopOf, IsAllRead, GotFirst, GotSecond, WritesBy}
+use Rattle.dbus_tool.specs.Devices.{writing, Taken}
+use Rattle.dbus_tool.specs.Going.{first_of, second_of, is_check, HandsParts, GoesThrough, StopsWithin, IsMore, IsStopOf, IsAllRead, GotFirst, GotSecond, WritesBy}
 use Rattle.dbus_tool.specs.Output.{IsPrefixTo}
 use Rattle.dbus_tool.specs.Parts.{IsLast, tally_of, passed_count, closing_line, status_at}
 use Rattle.dbus_tool.specs.declared.ending.Cause.TheVariants.{Memory, ReadFailed, WriteFailed, TooManyReads}
@@ -36,6 +36,9 @@ module _ {W E : Type 0} (t : Taken) (held : W → Option (List ℕ)) (write_fail
         omega (arith, ap (λ (x : Tally). x.passed_size) is, ap (λ (x : Tally). x.size) is, few_passed_sizes h.through.parts),
       )
 
+  whole : IsPrefixTo (closing_line command tally tally.passed fault) (closing_line command tally tally.passed fault)
+  whole = ([], sym (append-nil (closing_line command tally tally.passed fault)))
+
   module _ (w2 : W) (e2 : E) where
     more_told : (res : Result (Unit {0}) Stop) → WritesBy (is_check command) (writing held write_failures w1 w2) (writing second_held second_failures e1 e2) (closing_line command tally tally.passed fault) res
         → TellsMore held write_failures second_held second_failures command h.out (h.told ++ h.text) (closing_line command tally tally.passed fault) w0 w1 w2 e0 e1 e2 (record { first = h.first; second = h.second }) res
@@ -63,7 +66,7 @@ module _ {W E : Type 0} (t : Taken) (held : W → Option (List ℕ)) (write_fail
         → (IsMore t held write_failures second_held second_failures settings limits most command h.through.parts h.through.rest (h.text ++ more)
         → IsAllRead t held write_failures second_held second_failures settings limits most command stop h.through.parts h.through.rest (h.text ++ more))
         → IsStopOf t held write_failures second_held second_failures settings limits most command stop
-        → GotFirst held write_failures stop (first_of command h.out (h.told ++ h.text ++ more)) w0 w2 → GotSecond second_held second_failures stop (second_of command (h.told ++ h.text ++ more)) e0 e2
+        → GotFirst held write_failures stop (first_of command h.out ((h.told ++ h.text) ++ more)) w0 w2 → GotSecond second_held second_failures stop (second_of command ((h.told ++ h.text) ++ more)) e0 e2
         → StopsWithin t held write_failures second_held second_failures settings limits most command stop w0 w2 e0 e2
     stops stop more prefix all caused first second =
         let line_is = ap (λ (x : Tally). closing_line command x x.passed fault) h.through.tally_is in
@@ -90,8 +93,8 @@ module _ {W E : Type 0} (t : Taken) (held : W → Option (List ℕ)) (write_fail
 
     pub not_closed : (stop : Stop) → WritesBy (is_check command) (writing held write_failures w1 w2) (writing second_held second_failures e1 e2) (closing_line command tally tally.passed fault) (Err stop)
         → StopsWithin t held write_failures second_held second_failures settings limits most command stop w0 w2 e0 e2
-    not_closed (ByCause Memory) w = let more = more_told (Err (ByCause Memory)) w in stops (ByCause Memory) more.0 more.1 (λ m. m) h.through.read_failed more.2 more.3
+    not_closed (ByCause Memory) w = let more = more_told (Err (ByCause Memory)) w in stops (ByCause Memory) [] (closing_line command tally tally.passed fault, refl) (λ m. m) h.through.read_failed more.0 more.1
     not_closed (ByCause ReadFailed) w = absurd (more_told (Err (ByCause ReadFailed)) w)
-    not_closed (ByCause WriteFailed) w = let more = more_told (Err (ByCause WriteFailed)) w in stops (ByCause WriteFailed) more.0 more.1 (λ m. m) h.through.read_failed more.2 more.3
+    not_closed (ByCause WriteFailed) w = let more = more_told (Err (ByCause WriteFailed)) w in stops (ByCause WriteFailed) (closing_line command tally tally.passed fault) whole (λ m. m) h.through.read_failed more.0.0 more.0.1
     not_closed (ByCause TooManyReads) w = absurd (more_told (Err (ByCause TooManyReads)) w)
-    not_closed Second w = let more = more_told (Err Second) w in stops Second more.0 more.1 (λ m. m) h.through.read_failed more.2 more.3
+    not_closed Second w = let more = more_told (Err Second) w in stops Second (closing_line command tally tally.passed fault) whole (λ m. m) h.through.read_failed more.0 more.1

@@ -21,9 +21,9 @@ use Rattle.dbus_stream.specs.declared.read_fault.ReadFault.{ReadFault}
 use Rattle.dbus_stream.specs.declared.read_fault.ReadFault.TheVariants as read
 use Rattle.dbus_command.specs.declared.settings.Settings.{Settings}
 use Rattle.dbus_command.specs.declared.command.Command.{Command}
-use Rattle.dbus_tool.specs.Devices.{reading, writing, RisesAtMost}
+use Rattle.dbus_tool.specs.Devices.{reading, writing, taken, Taken}
 use Rattle.dbus_tool.specs.Gathering.{Passes, Breaks}
-use Rattle.dbus_tool.specs.Going.{first_of, second_of, is_check, taken, Taken, Covers, TellsRest, IsThrough, HandsParts, StopsWithin, IsMore, IsAllOf, IsStopOf, cause_of, IsAllRead, GotFirst, GotSecond, TellsBy, TellsText}
+use Rattle.dbus_tool.specs.Going.{first_of, second_of, is_check, Covers, TellsRest, IsThrough, HandsParts, StopsWithin, IsMore, IsAllOf, IsStopOf, cause_of, IsAllRead, PartsOf, GotFirst, GotSecond, TellsBy, TellsText}
 use Rattle.dbus_tool.specs.Onward.{HasRead, HandsRawOn, HandsSomeOn, IsTrueEnd, stop_of}
 use Rattle.dbus_tool.specs.Output.{IsOutputOfAll, IsPrefixTo}
 use Rattle.dbus_tool.specs.Parts.{Part, PassedOver, sizes_of, BeginWithParts, IsCutOff, IsLast, AreTexts, IsMade, IsToldOf, IsToldLast, passed_count, passed_sizes, tally_of, closing_line}
@@ -253,6 +253,12 @@ module _ {R A W E : Type 0} (left : R → Option (List ℕ)) (calls failures : R
   abbrev pub Within : RawReader R A → Stop → W → E → Type 0
   Within new stop w e = StopsWithin (Took new) held write_failures second_held second_failures settings limits most command stop w0 w e0 e
 
+  abbrev pub Torn : RawReader R A → Stop → W → E → Type 0
+  Torn new stop w e = PartsOf (Took new) held write_failures second_held second_failures settings limits most command (Err stop) w0 w e0 e
+
+  abbrev Through : RawReader R A → Tally → Option Fault → (out told text : List ℕ) → Type 0
+  Through new tally fault out told text = IsThrough (Took new) held write_failures second_held second_failures settings limits most command tally fault out told text
+
   abbrev pub Handed : RawReader R A → Tally → Option Fault → W → E → Type 0
   Handed new tally fault w e = HandsParts (Took new) held write_failures second_held second_failures settings limits most command tally fault w0 w e0 e
 
@@ -264,20 +270,24 @@ module _ {R A W E : Type 0} (left : R → Option (List ℕ)) (calls failures : R
 
   -- ---- the messages are not all handed on
 
-  stops_plain : (stop : Stop) (new : RawReader R A) (parts : List Part) (rest out told : List ℕ) (w : W) (e : E) → HasCovered new parts rest out told → AllRead new stop parts rest []
-      → Stopped new stop → GotFirst held write_failures stop (first_of command out told) w0 w → GotSecond second_held second_failures stop (second_of command told) e0 e → Within new stop w e
-  stops_plain stop new parts rest out told w e h all caused first second = record {
-    parts = parts;
-    rest = rest;
-    out = out;
-    told = told;
-    covers = covers new parts rest out told h;
-    more = [];
-    all = all;
-    caused = caused;
-    first = subst (λ (l : List ℕ). GotFirst held write_failures stop (first_of command out l) w0 w) (sym (append-nil told)) first;
-    second = subst (λ (l : List ℕ). GotSecond second_held second_failures stop (second_of command l) e0 e) (sym (append-nil told)) second;
-  }
+  -- nothing is told of the rest
+  stops_plain : (cause : Cause) (new : RawReader R A) (parts : List Part) (rest out told : List ℕ) (w : W) (e : E) → HasCovered new parts rest out told → AllRead new (ByCause cause) parts rest []
+      → Stopped new (ByCause cause) → GotFirst held write_failures (ByCause cause) (first_of command out told) w0 w → Wrote second_held second_failures e0 (second_of command told) e → Torn new (ByCause cause) w e
+  stops_plain cause new parts rest out told w e h all caused first second = (
+    record {
+      parts = parts;
+      rest = rest;
+      out = out;
+      told = told;
+      covers = covers new parts rest out told h;
+      more = [];
+      all = all;
+      caused = caused;
+      first = subst (λ (l : List ℕ). GotFirst held write_failures (ByCause cause) (first_of command out l) w0 w) (sym (append-nil told)) first;
+      second = subst (λ (l : List ℕ). Wrote second_held second_failures e0 (second_of command l) e) (sym (append-nil told)) second;
+    },
+    λ _ _. refl,
+  )
 
   all_called : (new : RawReader R A) (parts : List Part) (rest out told : List ℕ) → HasCovered new parts rest out told → reads_of new ≡ most_reads_of new → RisesBy most (calls (source_of old)) (calls (source_of new))
   all_called new parts rest out told h e = subst (λ n. RisesBy n (calls (source_of old)) (calls (source_of new))) (e ∙ h.most_reads) h.called
@@ -303,18 +313,18 @@ module _ {R A W E : Type 0} (left : R → Option (List ℕ)) (calls failures : R
         subst (λ l. Wrote held write_failures w0 l w2) (some_out cause s)
         (wrote_both held write_failures (first_of command h.out h.told) s.out w0 w1 w2 h.wrote.first (passes_whole held write_failures s.out [] [] w1 w2 refl refl p))
 
-    pub stop_hand : (cause : Cause) → Handing cause → Within new (ByCause cause) w2 e1
+    pub stop_hand : (cause : Cause) → Handing cause → Torn new (ByCause cause) w2 e1
     stop_hand Memory s =
-        stops_plain (ByCause Memory) new (h.parts ++ wholes s.items) s.rest (h.out ++ s.out) h.told w2 e1 (some_covered Memory s) (inl refl) (s.caused ∙ h.failed)
+        stops_plain Memory new (h.parts ++ wholes s.items) s.rest (h.out ++ s.out) h.told w2 e1 (some_covered Memory s) (inl refl) (s.caused ∙ h.failed)
         (some_wrote Memory s s.leaves) h.wrote.second
     stop_hand ReadFailed s =
-        stops_plain (ByCause ReadFailed) new (h.parts ++ wholes s.items) s.rest (h.out ++ s.out) h.told w2 e1 (some_covered ReadFailed s) (inl (s.all, refl)) (s.caused ∙ ap one_more h.failed)
+        stops_plain ReadFailed new (h.parts ++ wholes s.items) s.rest (h.out ++ s.out) h.told w2 e1 (some_covered ReadFailed s) (inl (s.all, refl)) (s.caused ∙ ap one_more h.failed)
         (some_wrote ReadFailed s s.leaves) h.wrote.second
     stop_hand WriteFailed s =
-        stops_plain (ByCause WriteFailed) new (h.parts ++ wholes s.items) s.rest (h.out ++ s.out) h.told w2 e1 (some_covered WriteFailed s) (inl refl) (s.caused ∙ h.failed)
+        stops_plain WriteFailed new (h.parts ++ wholes s.items) s.rest (h.out ++ s.out) h.told w2 e1 (some_covered WriteFailed s) (inl refl) (s.caused ∙ h.failed)
         (subst (λ l. Breaks held write_failures l [] w0 w2) (some_out WriteFailed s) (wrote_breaks held write_failures (first_of command h.out h.told) s.out w0 w1 w2 h.wrote.first s.leaves)) h.wrote.second
     stop_hand TooManyReads s =
-        stops_plain (ByCause TooManyReads) new (h.parts ++ wholes s.items) s.rest (h.out ++ s.out) h.told w2 e1 (some_covered TooManyReads s) (inl (s.all, refl))
+        stops_plain TooManyReads new (h.parts ++ wholes s.items) s.rest (h.out ++ s.out) h.told w2 e1 (some_covered TooManyReads s) (inl (s.all, refl))
         (s.caused.0 ∙ h.failed, all_called new (h.parts ++ wholes s.items) s.rest (h.out ++ s.out) h.told (some_covered TooManyReads s) s.caused.1)
         (some_wrote TooManyReads s s.leaves) h.wrote.second
 
@@ -377,61 +387,104 @@ module _ {R A W E : Type 0} (left : R → Option (List ℕ)) (calls failures : R
         → TellsMore held write_failures second_held second_failures command h.gone.out h.gone.told told.0 w0 w1 w2 e0 e1 e2 h.gone.wrote res
     more_told w2 e2 res told = tells_more held write_failures second_held second_failures command h.gone.out h.gone.told told.0 w0 w1 w2 e0 e1 e2 h.gone.wrote (is_check command) res refl told.2
 
-    stops_told : (stop : Stop) (text more : List ℕ) (w2 : W) (e2 : E) → Tells text → IsPrefixTo more text
-        → (IsMore (Took mid) held write_failures second_held second_failures settings limits most command h.gone.parts (kept mid) more → AllRead mid stop h.gone.parts (kept mid) more) → Stopped mid stop
-        → GotFirst held write_failures stop (first_of command h.gone.out (h.gone.told ++ more)) w0 w2 → GotSecond second_held second_failures stop (second_of command (h.gone.told ++ more)) e0 e2 → Within mid stop w2 e2
-    stops_told stop text more w2 e2 told prefix all caused first second =
-        let closing = closing_line command (tally_of h.gone.parts) (passed_count h.gone.parts) (Some fault) in
-        record {
-          parts = h.gone.parts;
-          rest = kept mid;
-          out = h.gone.out;
-          told = h.gone.told;
-          covers = covers mid h.gone.parts (kept mid) h.gone.out h.gone.told h.gone.covered;
-          more = more;
-          all = all (inr (
-            kept mid,
-            Some fault,
-            text,
-            ([], sym (append-nil (kept mid))),
-            record { outcome = h.outcome; outcome_is = h.outcome_is; fault_is = fault_last; told = told_last text told },
-            (prefix.0 ++ closing, ap (λ l. l ++ closing) prefix.1 ∙ append_assoc more prefix.0 closing),
-          ));
-          caused = caused;
-          first = first;
-          second = second;
-        }
+    -- all was read up to the rest
+    through : (new : RawReader R A) (text rest : List ℕ) (outcome : CutOutcome) → Tells text → IsOutcome limits (kept mid) outcome → Some fault ≡ fault_at_end (kept mid) outcome
+        → HasCovered new h.gone.parts rest h.gone.out h.gone.told → IsLast settings.keeps_going limits (kept mid) rest outcome (IsAtEnd (left (source_of new)))
+        → failures (source_of new) ≡ failures (source_of mid) → Through new tally (Some fault) h.gone.out h.gone.told text
+    through new text rest outcome told outcome_is fault_is covered last same = record {
+      parts = h.gone.parts;
+      rest = rest;
+      covers = covers new h.gone.parts rest h.gone.out h.gone.told covered;
+      tally_is = h.gone.tally_is;
+      kept = kept mid;
+      tells = record { outcome = outcome; outcome_is = outcome_is; fault_is = fault_is; told = told_last text told };
+      last = last;
+      read_failed = same ∙ h.gone.failed;
+    }
 
-    pub not_told : (w2 : W) (e2 : E) (stop : Stop)
-        → TellsBy (writing held write_failures w1 w2) (writing second_held second_failures e1 e2) command settings (record { number = counted.count + 1; offset = counted.size; fault = fault }) (kept mid) (Err stop)
-        → Within mid stop w2 e2
-    not_told w2 e2 (ByCause Memory) told = record {
+    -- why nothing follows if nothing was passed over
+    last_is : (outcome : CutOutcome) → Some fault ≡ fault_at_end (kept mid) outcome → (((f : Fault) → outcome ≡ Refused f → ⊥) → IsAtEnd (left (source_of mid)))
+        → (settings.keeps_going ≡ true → (other : Fault) (n : ℕ) → IsRefusal (stopped_of mid) other → StatesAll (limits_of mid) (kept mid) n → ⊥)
+        → IsLast settings.keeps_going limits (kept mid) (kept mid) outcome (IsAtEnd (left (source_of mid)))
+    last_is Ended e at_end none = (refl, at_end (λ f is. absurd cc))
+    last_is Unfinished e at_end none = (refl, at_end (λ f is. absurd cc))
+    last_is (Refused other) e at_end none =
+        let same : fault ≡ other = cc in
+        inl (
+          refl,
+          λ goes whole n all. none goes other n (stopped_last ∙ ap (λ (f : Fault). Some (read.Format f)) same, whole)
+              (subst (λ (l : Limits). StatesAll l (kept mid) n) (sym h.gone.covered.limits_are) all),
+        )
+
+    -- nothing was passed over, if the run is not to go on, or could not
+    through_there : (text : List ℕ) → Tells text → (settings.keeps_going ≡ true → (other : Fault) (n : ℕ) → IsRefusal (stopped_of mid) other → StatesAll (limits_of mid) (kept mid) n → ⊥)
+        → Through mid tally (Some fault) h.gone.out h.gone.told text
+    through_there text told none =
+        through mid text (kept mid) h.outcome told h.outcome_is fault_last h.gone.covered (last_is h.outcome fault_last (λ not. h.gone.covered.at_end (h.ended not)) none) refl
+
+    stops_told : (stop : Stop) (text : List ℕ) (w2 : W) (e2 : E) → Tells text
+        → (IsMore (Took mid) held write_failures second_held second_failures settings limits most command h.gone.parts (kept mid) text → AllRead mid stop h.gone.parts (kept mid) text) → Stopped mid stop
+        → GotFirst held write_failures stop (first_of command h.gone.out (h.gone.told ++ text)) w0 w2 → GotSecond second_held second_failures stop (second_of command (h.gone.told ++ text)) e0 e2 → Within mid stop w2 e2
+    stops_told stop text w2 e2 told all caused first second = record {
       parts = h.gone.parts;
       rest = kept mid;
       out = h.gone.out;
       told = h.gone.told;
       covers = covers mid h.gone.parts (kept mid) h.gone.out h.gone.told h.gone.covered;
-      more = [];
-      all = inl refl;
-      caused = h.gone.failed;
-      first = subst (λ (l : List ℕ). Wrote held write_failures w0 (first_of command h.gone.out l) w2) (sym (append-nil h.gone.told))
-          (subst (λ (x : W). Wrote held write_failures w0 (first_of command h.gone.out h.gone.told) x) (sym told.0) h.gone.wrote.first);
-      second = subst (λ (l : List ℕ). Wrote second_held second_failures e0 (second_of command l) e2) (sym (append-nil h.gone.told))
-          (subst (λ (x : E). Wrote second_held second_failures e0 (second_of command h.gone.told) x) (sym told.1) h.gone.wrote.second);
+      more = text;
+      all = all (inr (
+        kept mid,
+        Some fault,
+        text,
+        ([], sym (append-nil (kept mid))),
+        record { outcome = h.outcome; outcome_is = h.outcome_is; fault_is = fault_last; told = told_last text told },
+        (closing_line command (tally_of h.gone.parts) (passed_count h.gone.parts) (Some fault), refl),
+      ));
+      caused = caused;
+      first = first;
+      second = second;
     }
+
+    pub not_told : (w2 : W) (e2 : E) (stop : Stop)
+        → TellsBy (writing held write_failures w1 w2) (writing second_held second_failures e1 e2) command settings (record { number = counted.count + 1; offset = counted.size; fault = fault }) (kept mid) (Err stop)
+        → Torn mid stop w2 e2
+    not_told w2 e2 (ByCause Memory) told =
+        stops_plain Memory mid h.gone.parts (kept mid) h.gone.out h.gone.told w2 e2 h.gone.covered (inl refl) h.gone.failed
+        (subst (λ (x : W). Wrote held write_failures w0 (first_of command h.gone.out h.gone.told) x) (sym told.0) h.gone.wrote.first)
+        (subst (λ (x : E). Wrote second_held second_failures e0 (second_of command h.gone.told) x) (sym told.1) h.gone.wrote.second)
     not_told w2 e2 (ByCause ReadFailed) told = absurd told
     not_told w2 e2 (ByCause WriteFailed) told =
         let more = more_told w2 e2 (Err (ByCause WriteFailed)) told in
-        stops_told (ByCause WriteFailed) told.0 more.0 w2 e2 told.1 more.1 (λ m. m) h.gone.failed more.2 more.3
+        (stops_told (ByCause WriteFailed) told.0 w2 e2 told.1 (λ m. m) h.gone.failed more.0.0 more.0.1, λ _ other. absurd (false≢true (sym other ∙ more.1)))
     not_told w2 e2 (ByCause TooManyReads) told = absurd told
     not_told w2 e2 Second told =
-        let more = more_told w2 e2 (Err Second) told in
-        stops_told Second told.0 more.0 w2 e2 told.1 more.1 (λ m. m) h.gone.failed more.2 more.3
+        let more = more_told w2 e2 (Err Second) told in (
+          stops_told Second told.0 w2 e2 told.1 (λ m. m) h.gone.failed more.0 more.1,
+          λ halt _. record {
+            tally = tally;
+            fault = Some fault;
+            out = h.gone.out;
+            told = h.gone.told;
+            text = told.0;
+            through = through_there told.0 told.1 (λ goes. absurd (false≢true (sym halt ∙ goes)));
+            first = more.0;
+            n = more.1.0;
+            second = more.1.1;
+          },
+        )
 
     -- ---- and the message is passed over, or not
 
-    module _ (new : RawReader R A) (text : List ℕ) (w2 : W) (e2 : E) (told : Tells text)
-        (wrote : HasTold held write_failures second_held second_failures command h.gone.out (h.gone.told ++ text) w0 w2 e0 e2) where
+    abbrev HasToldIt : List ℕ → W → E → Type 0
+    HasToldIt text w2 e2 = HasTold held write_failures second_held second_failures command h.gone.out (h.gone.told ++ text) w0 w2 e0 e2
+
+    handed : (new : RawReader R A) (text : List ℕ) (w2 : W) (e2 : E) → HasToldIt text w2 e2 → Through new tally (Some fault) h.gone.out h.gone.told text → Handed new tally (Some fault) w2 e2
+    handed new text w2 e2 wrote all = record { out = h.gone.out; told = h.gone.told; text = text; through = all; first = wrote.first; second = wrote.second }
+
+    pub halts : (text : List ℕ) (w2 : W) (e2 : E) → Tells text → HasToldIt text w2 e2 → settings.keeps_going ≡ false → Handed mid tally (Some fault) w2 e2
+    halts text w2 e2 told wrote halt = handed mid text w2 e2 wrote (through_there text told (λ goes. absurd (false≢true (sym halt ∙ goes))))
+
+    module _ (new : RawReader R A) (text : List ℕ) (w2 : W) (e2 : E) (told : Tells text) (wrote : HasToldIt text w2 e2) where
       met : (other : Fault) → IsRefusal (stopped_of mid) other → IsRefused limits (kept mid) fault
       met other refusal =
           let same : other ≡ fault = (let both = sym refusal.0 ∙ stopped_last in cc) in
@@ -465,85 +518,42 @@ module _ {R A W E : Type 0} (left : R → Option (List ℕ)) (calls failures : R
       cut_off : (n : ℕ) (bytes : List ℕ) → StatesLength (limits_of mid) (kept mid) n → FallsShort n (kept mid ++ bytes) mid new → IsCutOff limits (kept mid) (kept mid ++ bytes)
       cut_off n bytes s f = record { size = n; front = (bytes, refl); states = states n s; short = f.short }
 
-      handed : (outcome : CutOutcome) (rest : List ℕ) → IsOutcome limits (kept mid) outcome → Some fault ≡ fault_at_end (kept mid) outcome → HasCovered new h.gone.parts rest h.gone.out h.gone.told
-          → IsLast settings.keeps_going limits (kept mid) rest outcome (IsAtEnd (left (source_of new))) → failures (source_of new) ≡ failures (source_of mid) → Handed new tally (Some fault) w2 e2
-      handed outcome rest outcome_is fault_is covered last same = record {
-        out = h.gone.out;
-        told = h.gone.told;
-        text = text;
-        through = record {
-          parts = h.gone.parts;
-          rest = rest;
-          covers = covers new h.gone.parts rest h.gone.out h.gone.told covered;
-          tally_is = h.gone.tally_is;
-          kept = kept mid;
-          tells = record { outcome = outcome; outcome_is = outcome_is; fault_is = fault_is; told = told_last text told };
-          last = last;
-          read_failed = same ∙ h.gone.failed;
-        };
-        first = wrote.first;
-        second = wrote.second;
-      }
-
       -- the input ends within it
       ends_short : (goes : settings.keeps_going ≡ true) (n : ℕ) (r : ReadsUpTo n left calls mid new) (other : Fault) → IsRefusal (stopped_of mid) other → StatesLength (limits_of mid) (kept mid) n → FallsShort n (kept mid ++ r.bytes) mid new
           → is_ended new ≡ true → failures (source_of new) ≡ failures (source_of mid) → Handed new tally (Some fault) w2 e2
       ends_short goes n r other refusal s short ended same =
           let covered = short_covered n r in
-          handed (Refused fault) (kept mid ++ r.bytes) (met other refusal) refl covered (inr (cut_off n r.bytes s short, covered.at_end ended, goes)) same
-
-      -- why nothing follows if nothing was passed over
-      last_is : (outcome : CutOutcome) → Some fault ≡ fault_at_end (kept mid) outcome → (((f : Fault) → outcome ≡ Refused f → ⊥) → IsAtEnd (left (source_of mid)))
-          → (settings.keeps_going ≡ true → (other : Fault) (n : ℕ) → IsRefusal (stopped_of mid) other → StatesAll (limits_of mid) (kept mid) n → ⊥)
-          → IsLast settings.keeps_going limits (kept mid) (kept mid) outcome (IsAtEnd (left (source_of mid)))
-      last_is Ended e at_end none = (refl, at_end (λ f is. absurd cc))
-      last_is Unfinished e at_end none = (refl, at_end (λ f is. absurd cc))
-      last_is (Refused other) e at_end none =
-          let same : fault ≡ other = cc in
-          inl (
-            refl,
-            λ goes whole n all. none goes other n (stopped_last ∙ ap (λ (f : Fault). Some (read.Format f)) same, whole)
-                (subst (λ (l : Limits). StatesAll l (kept mid) n) (sym h.gone.covered.limits_are) all),
-          )
-
-      -- nothing was passed over, if the run is not to go on, or could not
-      unpassed : new ≡ mid → (settings.keeps_going ≡ true → (other : Fault) (n : ℕ) → IsRefusal (stopped_of mid) other → StatesAll (limits_of mid) (kept mid) n → ⊥)
-          → failures (source_of new) ≡ failures (source_of mid) → Handed new tally (Some fault) w2 e2
-      unpassed is none same =
-          let covered : HasCovered new h.gone.parts (kept mid) h.gone.out h.gone.told = subst (λ (x : RawReader R A). HasCovered x h.gone.parts (kept mid) h.gone.out h.gone.told) (sym is) h.gone.covered in
-          let last = last_is h.outcome fault_last (λ not. h.gone.covered.at_end (h.ended not)) none in
-          handed h.outcome (kept mid) h.outcome_is fault_last covered
-          (subst (λ (x : RawReader R A). IsLast settings.keeps_going limits (kept mid) (kept mid) h.outcome (IsAtEnd (left (source_of x)))) (sym is) last) same
-
-      pub halts : settings.keeps_going ≡ false → new ≡ mid → Handed new tally (Some fault) w2 e2
-      halts halt is = unpassed is (λ goes. absurd (false≢true (sym halt ∙ goes))) (ap (λ (x : RawReader R A). failures (source_of x)) is)
+          handed new text w2 e2 wrote (through new text (kept mid ++ r.bytes) (Refused fault) told (met other refusal) refl covered (inr (cut_off n r.bytes s short, covered.at_end ended, goes)) same)
 
       pub stays : settings.keeps_going ≡ true → Passing left calls mid new (Ok false) → failures (source_of new) ≡ failures (source_of mid) → Handed new tally (Some fault) w2 e2
       stays goes passing same = elim passing [
         | inl p ↦ ends_short goes p.1 p.4 p.0 p.2 p.3 p.5.0 p.5.1 same
-        | inr none ↦ unpassed none.2 (λ goes. none.0) same
+        | inr none ↦ subst (λ (x : RawReader R A). Handed x tally (Some fault) w2 e2) (sym none.2) (handed mid text w2 e2 wrote (through_there text told (λ goes. none.0)))
       ]
 
       -- it was not passed over, since reading was given up
       torn : (goes : settings.keeps_going ≡ true) (stop : Stop) (n : ℕ) (r : ReadsUpTo n left calls mid new) (other : Fault) → IsRefusal (stopped_of mid) other → StatesLength (limits_of mid) (kept mid) n → FallsShort n (kept mid ++ r.bytes) mid new
           → (IsAllOf (Took new) held write_failures second_held second_failures settings limits most command h.gone.parts (kept mid ++ r.bytes) text → AllRead new stop h.gone.parts (kept mid ++ r.bytes) text)
           → Stopped new stop → GotFirst held write_failures stop (first_of command h.gone.out (h.gone.told ++ text)) w0 w2
-          → GotSecond second_held second_failures stop (second_of command (h.gone.told ++ text)) e0 e2 → Within new stop w2 e2
-      torn goes stop n r other refusal s short all caused first second = record {
-        parts = h.gone.parts;
-        rest = kept mid ++ r.bytes;
-        out = h.gone.out;
-        told = h.gone.told;
-        covers = covers new h.gone.parts (kept mid ++ r.bytes) h.gone.out h.gone.told (short_covered n r);
-        more = text;
-        all = all (inr (kept mid, fault, met other refusal, cut_off n r.bytes s short, goes, told_last text told));
-        caused = caused;
-        first = first;
-        second = second;
-      }
+          → GotSecond second_held second_failures stop (second_of command (h.gone.told ++ text)) e0 e2 → Torn new stop w2 e2
+      torn goes stop n r other refusal s short all caused first second = (
+        record {
+          parts = h.gone.parts;
+          rest = kept mid ++ r.bytes;
+          out = h.gone.out;
+          told = h.gone.told;
+          covers = covers new h.gone.parts (kept mid ++ r.bytes) h.gone.out h.gone.told (short_covered n r);
+          more = text;
+          all = all (inr (kept mid, fault, met other refusal, cut_off n r.bytes s short, goes, told_last text told));
+          caused = caused;
+          first = first;
+          second = second;
+        },
+        λ halt _. absurd (false≢true (sym halt ∙ goes)),
+      )
 
       pub breaks : (goes : settings.keeps_going ≡ true) (broken : ReadFault) → Passing left calls mid new (Err broken) → DeviceCounts {T = Bool} (failures (source_of mid)) (failures (source_of new)) (Err broken)
-          → Within new (ByCause (cause_of broken)) w2 e2
+          → Torn new (ByCause (cause_of broken)) w2 e2
       breaks goes read.Memory passing counts = elim passing [ inl p ↦ absurd p.5 | inr none ↦ absurd (let e = none.1 in cc) ]
       breaks goes (read.Format f) passing counts = elim passing [ inl p ↦ absurd p.5 | inr none ↦ absurd (let e = none.1 in cc) ]
       breaks goes read.Device passing counts = elim passing [

@@ -5,10 +5,10 @@ pub mod LentSteps
 pub mod ReadSteps
 pub mod GivenSteps
 pub mod HandSteps
-pub mod TalliedHands
-pub mod ThroughSteps
-pub mod RunSteps
+pub mod CountSteps
+pub mod CheckSteps
 pub mod PartLaws
 pub mod WriteSteps
 pub mod GoSteps
 pub mod GoClosing
+pub mod RunSteps

@@ -30,18 +30,3 @@ output_both command n offset (x ∷ items) more a b p q =
 pub output_last : (command : Command) (n offset : ℕ) (items : List CutMessage) (item : CutMessage) (out one : List ℕ) → IsOutputOfAll command n offset items out
     → IsOutputOf command item.order item.message (n + length items) (offset + sizes items) one → IsOutputOfAll command n offset (items ++ item ∷ []) (out ++ one)
 output_last command n offset items item out one a o = output_both command n offset items (item ∷ []) out one a (one, [], sym (append-nil one), o, refl)
-
--- only `check` writes a last line, and it alone does not tell the second writer the fault
-pub nothing_last : (output : Output) (count size : ℕ) (fault : Option Fault) → is_check (command_of output) ≡ false → last_line (command_of output) count size fault ≡ []
-nothing_last Nothing count size fault e = absurd cc
-nothing_last Text count size fault e = refl
-nothing_last JsonLine count size fault e = refl
-nothing_last (InOrder order) count size fault e = refl
-nothing_last (Matching selection) count size fault e = refl
-
-pub told_second : (output : Output) (size : ℕ) (fault : Option Fault) → is_check (command_of output) ≡ false → second_output (command_of output) size fault ≡ fault_line size fault
-told_second Nothing size fault e = absurd cc
-told_second Text size fault e = refl
-told_second JsonLine size fault e = refl
-told_second (InOrder order) size fault e = refl
-told_second (Matching selection) size fault e = refl

@@ -1,172 +1,206 @@
--- How a run ends.
-use Rattle.std.proofs.Common.{◌≡◌, ℕ, List, [], ◌++◌, Err, Option, length, take, drop, refl, sym, ap, ◌∙◌, subst, append_assoc, append-nil, take-append-drop, inl, inr}
-use Rattle.std.specs.Io.KnownBytes.{Appends}
-use Rattle.std.proofs.KnownBytes.{Appends-nil, Appends-trans}
-use Rattle.dbus_device.specs.Device.{one_more}
-use Rattle.dbus_stream.specs.Cut.{CutMessage, IsCut, CutOutcome}
-use Rattle.dbus_stream.specs.CutEnds.{fault_at_end, sizes}
-use Rattle.dbus_device.specs.Write.{Wrote}
-use Rattle.dbus_stream.proofs.CutLaws.{BeginWith-first, IsCut-one}
+-- How a run ends that neither explains refused messages nor passes over them, of a command that tells the second writer. What it promises by parts
+-- is said of messages here.
+use Rattle.std.proofs.Common.{◌≡◌, ◌≢◌, ℕ, ◌+◌, List, [], ◌∷◌, ◌++◌, false, true, None, Some, Ok, Err, Option, Result, length, drop, refl, sym, ap, ◌∙◌, subst, append-nil, inl, inr}
+use Rattle.std.proofs.lemmas.Bool.{false≢true}
 use Rattle.dbus_value_model.specs.declared.fault.Fault.{Fault}
 use Rattle.dbus_value_model.specs.declared.limits.Limits.{Limits}
+use Rattle.dbus_header.specs.MessageOutcomes.{IsPartial}
+use Rattle.dbus_device.specs.Write.{Wrote, Stopped}
+use Rattle.dbus_stream.specs.Cut.{CutMessage, BeginWith, CutOutcome, Ended, Unfinished, Refused, IsOutcome, IsCut}
+use Rattle.dbus_stream.specs.CutEnds.{fault_at_end, sizes}
+use Rattle.dbus_stream.proofs.CutLaws.{BeginWith-first}
+use Rattle.dbus_command.specs.declared.settings.Settings.{Settings}
 use Rattle.dbus_command.specs.declared.command.Command.{Command}
-use Rattle.dbus_tool.specs.Devices.{reading, writing}
-use Rattle.dbus_tool.specs.Output.{IsFront, IsPrefixTo, last_line, second_output}
-use Rattle.dbus_tool.specs.Handing.{HandsAll, HandsSome}
-use Rattle.dbus_tool.specs.Checking.{TellsLine, WritesBefore, Answers, Fails, IsCause}
-use Rattle.dbus_tool.specs.Running.{Runs}
-use Rattle.dbus_tool.specs.Closing.{TellsSecond, WritesLine}
+use Rattle.dbus_command.specs.declared.command.Command.TheVariants.{Show, Json, Check, Swap, Filter}
+use Rattle.dbus_tool.specs.Checking.{TellsLine, WritesMessages, WritesBefore, Answers, Fails, IsCause}
+use Rattle.dbus_tool.specs.Devices.{Taken, reading, taken, writing}
+use Rattle.dbus_tool.specs.Going.{first_of, second_of, is_check, IsThrough, StopsWithin, IsAllOf, PartsOf, TellsStop}
+use Rattle.dbus_tool.specs.Gathering.{Breaks}
+use Rattle.dbus_tool.specs.Lines.{cause_line}
+use Rattle.dbus_tool.specs.Output.{IsFront, IsOutputOfAll, IsPrefixTo, fault_line, last_line, second_output, status_of}
+use Rattle.dbus_tool.specs.Parts.{Part, Whole, PassedOver, sizes_of, BeginWithParts, IsLast, AreTexts, IsMade, IsToldOf, IsToldLast}
+use Rattle.dbus_tool.specs.Running.{Runs, Told}
 use Rattle.dbus_tool.specs.declared.ending.ExitStatus.{ExitStatus}
+use Rattle.dbus_tool.specs.declared.ending.ExitStatus.TheVariants as status
 use Rattle.dbus_tool.specs.declared.ending.Cause.{Cause}
 use Rattle.dbus_tool.specs.declared.ending.Cause.TheVariants.{Memory, ReadFailed, WriteFailed, TooManyReads}
-use Rattle.dbus_tool.specs.declared.ending.Counted.{Counted}
-use Rattle.dbus_tool.proofs.GatherSteps.{passes_whole}
-use Rattle.dbus_tool.proofs.Outputs.{front_of_first, front_of_whole}
+use Rattle.dbus_tool.specs.declared.tally.Tally.{Tally}
+use Rattle.dbus_tool.specs.declared.going.Handed.{Handed}
+use Rattle.dbus_tool.specs.declared.going.Stop.{Stop}
+use Rattle.dbus_tool.specs.declared.going.Stop.TheVariants.{Cause as ByCause, Second}
+use Rattle.dbus_tool.proofs.Outputs.{front_of_first}
+use Rattle.dbus_tool.proofs.WriteSteps.{wrote_both, wrote_stopped}
 
-module _ {R W : Type 0} (left : R → Option (List ℕ)) (calls read_failures : R → ℕ) (held : W → Option (List ℕ)) (write_failures : W → ℕ)
-    (limits : Limits) (most : ℕ) (command : Command) where
-  last_is : (counted : Counted) (r0 r1 : R) (w0 w1 : W) (a : HandsAll left calls read_failures held write_failures limits most command counted r0 r1 [] [] w0 w1)
-      → last_line command counted.count counted.size counted.fault
-      ≡ last_line command (length a.counts.items) (sizes a.counts.items) (fault_at_end a.counts.rest a.counts.outcome)
-  last_is counted r0 r1 w0 w1 a = λ i. last_line command (a.counts.count_is i) (a.counts.size_is i) (a.counts.fault_is i)
+abbrev pub plain : Limits → Settings
+plain limits = record { limits = limits; explains = false; keeps_going = false }
 
-  -- what the messages come to was written
-  all_written : (counted : Counted) (r0 r1 : R) (w0 w1 : W) (a : HandsAll left calls read_failures held write_failures limits most command counted r0 r1 [] [] w0 w1)
-      → Wrote held write_failures w0 a.out w1
-  all_written counted r0 r1 w0 w1 a = passes_whole held write_failures a.out [] [] w0 w1 refl refl a.passes
+pub no_check : (command : Command) → command ≢ Check → is_check command ≡ false
+no_check Show n = refl
+no_check Json n = refl
+no_check Check n = absurd (n refl)
+no_check (Swap order) n = refl
+no_check (Filter selection) n = refl
 
-  -- what was written of the last line says how much was written of all
-  prefix_of_all : (counted : Counted) (written : List ℕ) (r0 r1 : R) (w0 w1 : W) (a : HandsAll left calls read_failures held write_failures limits most command counted r0 r1 [] [] w0 w1)
-      → IsPrefixTo written (last_line command counted.count counted.size counted.fault)
-      → (items : List CutMessage) (rest : List ℕ) (outcome : CutOutcome) → IsCut limits a.counts.bytes items rest outcome
-      → IsFront command items (fault_at_end rest outcome) (a.out ++ written)
-  prefix_of_all counted written r0 r1 w0 w1 a front items rest outcome cut =
-      let one = IsCut-one limits a.counts.bytes a.counts.items items a.counts.rest rest a.counts.outcome outcome a.counts.cut cut in
-      let fault_is : fault_at_end a.counts.rest a.counts.outcome ≡ fault_at_end rest outcome = λ i. fault_at_end (one.1 i) (one.2 i) in
-      let here = front_of_whole command a.counts.items (fault_at_end a.counts.rest a.counts.outcome) a.out (a.out ++ written) a.output
-      (front.0, ap (λ l. a.out ++ l) (sym (last_is counted r0 r1 w0 w1 a) ∙ front.1) ∙ sym (append_assoc a.out written front.0)) in
-      subst (λ l. IsFront command l (fault_at_end rest outcome) (a.out ++ written)) one.0 (subst (λ f. IsFront command a.counts.items f (a.out ++ written)) fault_is here)
+-- who gets what
+record Divides (command : Command) : Type 0 where
+  first : (out told : List ℕ) → first_of command out told ≡ out
+  second : (told : List ℕ) → second_of command told ≡ told
+  last : (count size : ℕ) (fault : Option Fault) → last_line command count size fault ≡ []
+  line : (size : ℕ) (fault : Option Fault) → second_output command size fault ≡ fault_line size fault
 
-  -- all messages were handed on, and then not all was told
-  not_closed : (counted : Counted) (cause : Cause) (written : List ℕ) (r0 r1 : R) (w0 w1 w2 : W)
-      → (a : HandsAll left calls read_failures held write_failures limits most command counted r0 r1 [] [] w0 w1) → Appends (held w1) (held w2) written
-      → IsPrefixTo written (last_line command counted.count counted.size counted.fault) → WritesBefore limits command cause a.counts.bytes (a.out ++ written)
-      → IsCause left calls read_failures held write_failures limits most command r0 r1 w0 w2 cause
-      → Fails left calls read_failures held write_failures limits most command cause r0 r1 w0 w2
-  not_closed counted cause written r0 r1 w0 w1 w2 a appended front before caused = record {
-    bytes = a.counts.bytes;
-    written = a.out ++ written;
-    consumed = a.counts.consumed;
-    called = a.counts.called;
-    appended = Appends-trans _ _ _ _ _ (all_written counted r0 r1 w0 w1 a).appended appended;
-    front = prefix_of_all counted written r0 r1 w0 w1 a front;
-    before = before;
-    caused = caused;
-  }
+divides : (command : Command) → is_check command ≡ false → Divides command
+divides Show e = record { first = λ _ _. refl; second = λ _. refl; last = λ _ _ _. refl; line = λ _ _. refl }
+divides Json e = record { first = λ _ _. refl; second = λ _. refl; last = λ _ _ _. refl; line = λ _ _. refl }
+divides Check e = absurd cc
+divides (Swap order) e = record { first = λ _ _. refl; second = λ _. refl; last = λ _ _ _. refl; line = λ _ _. refl }
+divides (Filter selection) e = record { first = λ _ _. refl; second = λ _. refl; last = λ _ _ _. refl; line = λ _ _. refl }
 
-  -- the last line was not written
-  pub first_not : (counted : Counted) (cause : Cause) (r0 r1 : R) (w0 w1 w2 : W) → HandsAll left calls read_failures held write_failures limits most command counted r0 r1 [] [] w0 w1
-      → WritesLine held write_failures (last_line command counted.count counted.size counted.fault) w1 w2 (Err cause)
-      → Fails left calls read_failures held write_failures limits most command cause r0 r1 w0 w2
-  first_not counted Memory r0 r1 w0 w1 w2 a same =
-      not_closed counted Memory [] r0 r1 w0 w1 w2 a (subst (λ (w : W). Appends (held w1) (held w) []) (sym same) (Appends-nil (held w1)))
-      (last_line command counted.count counted.size counted.fault, refl) tt (a.failed, ap write_failures same ∙ (all_written counted r0 r1 w0 w1 a).failed)
-  first_not counted ReadFailed r0 r1 w0 w1 w2 a c = absurd c
-  first_not counted WriteFailed r0 r1 w0 w1 w2 a (n, s) =
-      let line = last_line command counted.count counted.size counted.fault in
-      not_closed counted WriteFailed (take n line) r0 r1 w0 w1 w2 a s.appended (drop n line, sym (take-append-drop n line)) tt
-      (a.failed, s.failed ∙ ap one_more (all_written counted r0 r1 w0 w1 a).failed)
-  first_not counted TooManyReads r0 r1 w0 w1 w2 a c = absurd c
+-- nothing was passed over, so the parts are messages
+record AreMessages (limits : Limits) (command : Command) (n offset : ℕ) (bytes : List ℕ) (parts : List Part) (rest out told : List ℕ) : Type 0 where
+  items : List CutMessage
+  messages : BeginWith limits bytes items rest
+  output : IsOutputOfAll command n offset items out
+  none_told : told ≡ []
+  size : sizes_of parts ≡ sizes items
 
-  -- it was, and memory was wanted for what the second writer gets
-  second_not : (counted : Counted) (r0 r1 : R) (w0 w1 w2 : W) → HandsAll left calls read_failures held write_failures limits most command counted r0 r1 [] [] w0 w1
-      → Wrote held write_failures w1 (last_line command counted.count counted.size counted.fault) w2
-      → Fails left calls read_failures held write_failures limits most command Memory r0 r1 w0 w2
-  second_not counted r0 r1 w0 w1 w2 a wrote =
-      let line = last_line command counted.count counted.size counted.fault in
-      not_closed counted Memory line r0 r1 w0 w1 w2 a wrote.appended ([], sym (append-nil line)) tt
-      (a.failed, wrote.failed ∙ (all_written counted r0 r1 w0 w1 a).failed)
+are_messages : (limits : Limits) (command : Command) (n offset : ℕ) (bytes : List ℕ) (parts : List Part) (rest out told : List ℕ) → BeginWithParts limits bytes parts rest
+    → AreTexts (IsMade command) n offset parts out → AreTexts (IsToldOf (plain limits)) n offset parts told → AreMessages limits command n offset bytes parts rest out told
+are_messages limits command n offset bytes [] rest out told b m t = record { items = []; messages = b; output = m; none_told = t; size = refl }
+are_messages limits command n offset bytes (Whole item ∷ parts) rest out told b m t =
+    let more = are_messages limits command (n + 1) (offset + item.size) (drop item.size bytes) parts rest m.1 t.1 b.1 m.4 t.4 in
+    record {
+      items = item ∷ more.items;
+      messages = (b.0, more.messages);
+      output = (m.0, m.1, m.2, m.3, more.output);
+      none_told = t.2 ∙ (λ i. t.3 i ++ more.none_told i);
+      size = ap (λ s. item.size + s) more.size;
+    }
+are_messages limits command n offset bytes (PassedOver kept fault size ∷ parts) rest out told b m t = absurd (false≢true t.3.0)
 
-  -- of the messages that were handed on a prefix was written
-  some_front : (cause : Cause) (written : List ℕ) (r0 r1 : R) (w0 w1 : W) (s : HandsSome left calls read_failures held write_failures limits most command cause r0 r1 [] [] w0 w1)
-      → IsPrefixTo written s.out → (items : List CutMessage) (rest : List ℕ) (outcome : CutOutcome) → IsCut limits s.bytes items rest outcome
-      → IsFront command items (fault_at_end rest outcome) written
-  some_front cause written r0 r1 w0 w1 s front items rest outcome cut =
-      let more = BeginWith-first limits s.bytes s.items items s.rest rest outcome s.messages cut.messages cut.outcome_is in
-      front_of_first command s.items more.0 items (fault_at_end rest outcome) s.out written more.1 s.output front
+-- all that was kept is the rest
+rest_is : (limits : Limits) (kept rest : List ℕ) (outcome : CutOutcome) (at_end : Type 0) → IsLast false limits kept rest outcome at_end
+    → (rest ≡ kept) × (((f : Fault) → outcome ≡ Refused f → ⊥) → at_end)
+rest_is limits kept rest Ended at_end last = (last.0, λ _. last.1)
+rest_is limits kept rest Unfinished at_end last = (last.0, λ _. last.1)
+rest_is limits kept rest (Refused fault) at_end last = elim last [
+  | inl all ↦ (all.0, λ none. absurd (none fault refl))
+  | inr short ↦ absurd (false≢true short.2)
+]
 
-  some_written : (cause : Cause) (r0 r1 : R) (w0 w1 : W) → (s : HandsSome left calls read_failures held write_failures limits most command cause r0 r1 [] [] w0 w1)
-      → Wrote held write_failures w0 s.out w1 → WritesBefore limits command cause s.bytes s.out
-      → IsCause left calls read_failures held write_failures limits most command r0 r1 w0 w1 cause
-      → Fails left calls read_failures held write_failures limits most command cause r0 r1 w0 w1
-  some_written cause r0 r1 w0 w1 s wrote before caused = record {
-    bytes = s.bytes;
-    written = s.out;
-    consumed = s.consumed;
-    called = s.called;
-    appended = wrote.appended;
-    front = some_front cause s.out r0 r1 w0 w1 s ([], sym (append-nil s.out));
-    before = before;
-    caused = caused;
-  }
+told_line : (limits : Limits) (n offset : ℕ) (kept text : List ℕ) (fault : Option Fault) → IsToldLast (plain limits) n offset kept fault text → text ≡ fault_line offset fault
+told_line limits n offset kept text None told = told
+told_line limits n offset kept text (Some fault) told = told
 
-  -- reading was given up
-  pub gave_up : (cause : Cause) (r0 r1 : R) (w0 w1 : W) → HandsSome left calls read_failures held write_failures limits most command cause r0 r1 [] [] w0 w1
-      → Fails left calls read_failures held write_failures limits most command cause r0 r1 w0 w1
-  gave_up Memory r0 r1 w0 w1 s =
-      let wrote = passes_whole held write_failures s.out [] [] w0 w1 refl refl s.leaves in
-      some_written Memory r0 r1 w0 w1 s wrote tt (s.caused, wrote.failed)
-  gave_up ReadFailed r0 r1 w0 w1 s =
-      let wrote = passes_whole held write_failures s.out [] [] w0 w1 refl refl s.leaves in
-      some_written ReadFailed r0 r1 w0 w1 s wrote (record { items = s.items; rest = s.rest; messages = s.messages; partial = s.all; output = s.output }) (s.caused, wrote.failed)
-  gave_up WriteFailed r0 r1 w0 w1 s = record {
-    bytes = s.bytes;
-    written = s.leaves.written;
-    consumed = s.consumed;
-    called = s.called;
-    appended = s.leaves.appended;
-    front = some_front WriteFailed s.leaves.written r0 r1 w0 w1 s s.leaves.front;
-    before = tt;
-    caused = (s.caused, s.leaves.failed);
-  }
-  gave_up TooManyReads r0 r1 w0 w1 s =
-      let wrote = passes_whole held write_failures s.out [] [] w0 w1 refl refl s.leaves in
-      some_written TooManyReads r0 r1 w0 w1 s wrote (record { items = s.items; rest = s.rest; messages = s.messages; partial = s.all; output = s.output })
-      (s.caused.0, wrote.failed, s.caused.1)
+module _ {R W E : Type 0} (left : R → Option (List ℕ)) (calls read_failures : R → ℕ) (held : W → Option (List ℕ)) (write_failures : W → ℕ) (second_held : E → Option (List ℕ))
+    (second_failures : E → ℕ) (limits : Limits) (most : ℕ) (command : Command) (other : is_check command ≡ false) (r0 r1 : R) (w0 w1 : W) (e0 : E) where
+  abbrev Took : Taken
+  Took = taken (reading left calls read_failures r0 r1)
 
-  module _ {E : Type 0} (second_held : E → Option (List ℕ)) (second_failures : E → ℕ) where
-    -- the first writer got all, and the second its line as far as it took it
-    closed : (counted : Counted) (r0 r1 : R) (w0 w1 w2 : W) (e0 e1 : E) (end : ExitStatus)
-        → HandsAll left calls read_failures held write_failures limits most command counted r0 r1 [] [] w0 w1
-        → Wrote held write_failures w1 (last_line command counted.count counted.size counted.fault) w2
-        → TellsLine second_held second_failures (second_output command counted.size counted.fault) counted.fault e0 e1 end
-        → Answers left calls read_failures held write_failures limits most command second_held second_failures r0 r1 w0 w2 e0 e1 end
-    closed counted r0 r1 w0 w1 w2 e0 e1 end a wrote told =
-        let all = all_written counted r0 r1 w0 w1 a in
+  -- all messages were handed on, and the second writer got the line of the fault as far as it took it
+  answers : (tally : Tally) (fault : Option Fault) (out told text : List ℕ) (e1 : E) (end : ExitStatus)
+      → IsThrough Took held write_failures second_held second_failures (plain limits) limits most command tally fault out told text → Wrote held write_failures w0 (first_of command out (told ++ text)) w1
+      → TellsLine second_held second_failures (second_of command (told ++ text)) fault e0 e1 end
+      → Answers left calls read_failures held write_failures limits most command second_held second_failures r0 r1 w0 w1 e0 e1 end
+  answers tally fault out told text e1 end h first second =
+      let outcome = h.tells.outcome in
+      let d = divides command other in
+      let m = are_messages limits command 1 0 h.covers.bytes h.parts h.rest out told h.covers.begin h.covers.made h.covers.tells in
+      let all = rest_is limits h.kept h.rest outcome _ h.last in
+      let fault_is : fault ≡ fault_at_end h.rest outcome = h.tells.fault_is ∙ ap (λ (l : List ℕ). fault_at_end l outcome) (sym all.0) in
+      let line : second_of command (told ++ text) ≡ second_output command (sizes m.items) (fault_at_end h.rest outcome)
+      = d.second (told ++ text) ∙ (ap (λ l. l ++ text) m.none_told ∙ (told_line limits (length h.parts + 1) (sizes_of h.parts) h.kept text fault h.tells.told
+      ∙ ((λ i. fault_line (m.size i) (fault_is i)) ∙ sym (d.line (sizes m.items) (fault_at_end h.rest outcome))))) in
+      record {
+        bytes = h.covers.bytes;
+        items = m.items;
+        rest = h.rest;
+        outcome = outcome;
+        out = out;
+        consumed = h.covers.consumed;
+        called = h.covers.called;
+        read_failed = h.read_failed;
+        cut = record { messages = m.messages; outcome_is = subst (λ (l : List ℕ). IsOutcome limits l outcome) (sym all.0) h.tells.outcome_is };
+        at_end = all.1;
+        output = record { written = out; each = m.output; joined = sym (append-nil out) ∙ ap (λ l. out ++ l) (sym (d.last (length m.items) (sizes m.items) (fault_at_end h.rest outcome))) };
+        first = subst (λ l. Wrote held write_failures w0 l w1) (d.first out (told ++ text)) first;
+        second = subst (λ l. TellsLine second_held second_failures l (fault_at_end h.rest outcome) e0 e1 end) line
+            (subst (λ (f : Option Fault). TellsLine second_held second_failures (second_of command (told ++ text)) f e0 e1 end) fault_is second);
+      }
+
+  module _ (e1 : E) where
+    abbrev Within : Cause → Type 0
+    Within cause = StopsWithin Took held write_failures second_held second_failures (plain limits) limits most command (ByCause cause) w0 w1 e0 e1
+
+    messages_of : (cause : Cause) (s : Within cause) → AreMessages limits command 1 0 s.covers.bytes s.parts s.rest s.out s.told
+    messages_of cause s = are_messages limits command 1 0 s.covers.bytes s.parts s.rest s.out s.told s.covers.begin s.covers.made s.covers.tells
+
+    -- the first writer got a prefix of what is made of the messages
+    front_of_some : (cause : Cause) (s : Within cause) (written : List ℕ) → IsPrefixTo written s.out → (items : List CutMessage) (rest : List ℕ) (outcome : CutOutcome)
+        → IsCut limits s.covers.bytes items rest outcome → IsFront command items (fault_at_end rest outcome) written
+    front_of_some cause s written front items rest outcome cut =
+        let m = messages_of cause s in
+        let more = BeginWith-first limits s.covers.bytes m.items items s.rest rest outcome m.messages cut.messages cut.outcome_is in
+        front_of_first command m.items more.0 items (fault_at_end rest outcome) s.out written more.1 m.output front
+
+    all_written : (cause : Cause) (s : Within cause) → Wrote held write_failures w0 (first_of command s.out (s.told ++ s.more)) w1 → WritesBefore limits command cause s.covers.bytes s.out
+        → IsCause left calls read_failures held write_failures limits most command r0 r1 w0 w1 cause → Fails left calls read_failures held write_failures limits most command cause r0 r1 w0 w1
+    all_written cause s wrote before caused = record {
+      bytes = s.covers.bytes;
+      written = s.out;
+      consumed = s.covers.consumed;
+      called = s.covers.called;
+      appended = (subst (λ l. Wrote held write_failures w0 l w1) ((divides command other).first s.out (s.told ++ s.more)) wrote).appended;
+      front = front_of_some cause s s.out ([], sym (append-nil s.out));
+      before = before;
+      caused = caused;
+    }
+
+    all_messages : (cause : Cause) (s : Within cause) → IsAllOf Took held write_failures second_held second_failures (plain limits) limits most command s.parts s.rest s.more
+        → WritesMessages limits command s.covers.bytes s.out
+    all_messages cause s all =
+        let m = messages_of cause s in
+        let partial : IsPartial limits s.rest = elim all [ inl none ↦ none.0 | inr cut ↦ absurd (false≢true cut.4) ] in
+        record { items = m.items; rest = s.rest; messages = m.messages; partial = partial; output = m.output }
+
+    fails : (cause : Cause) → Within cause → Fails left calls read_failures held write_failures limits most command cause r0 r1 w0 w1
+    fails Memory s = all_written Memory s s.first tt (s.caused, s.first.failed)
+    fails ReadFailed s = all_written ReadFailed s s.first (all_messages ReadFailed s s.all) (s.caused, s.first.failed)
+    fails WriteFailed s =
+        let first = subst (λ l. Breaks held write_failures l [] w0 w1) ((divides command other).first s.out (s.told ++ s.more)) s.first in
         record {
-          bytes = a.counts.bytes;
-          items = a.counts.items;
-          rest = a.counts.rest;
-          outcome = a.counts.outcome;
-          out = a.out ++ last_line command counted.count counted.size counted.fault;
-          consumed = a.counts.consumed;
-          called = a.counts.called;
-          read_failed = a.failed;
-          cut = a.counts.cut;
-          at_end = a.counts.at_end;
-          output = record { written = a.out; each = a.output; joined = ap (λ l. a.out ++ l) (last_is counted r0 r1 w0 w1 a) };
-          first = record { appended = Appends-trans _ _ _ _ _ all.appended wrote.appended; failed = wrote.failed ∙ all.failed };
-          second = subst (λ (f : Option Fault). TellsLine second_held second_failures (second_output command (sizes a.counts.items) f) f e0 e1 end) a.counts.fault_is
-              (subst (λ (n : ℕ). TellsLine second_held second_failures (second_output command n counted.fault) counted.fault e0 e1 end) a.counts.size_is told);
+          bytes = s.covers.bytes;
+          written = first.written;
+          consumed = s.covers.consumed;
+          called = s.covers.called;
+          appended = first.appended;
+          front = front_of_some WriteFailed s first.written first.front;
+          before = tt;
+          caused = (s.caused, first.failed);
         }
+    fails TooManyReads s = all_written TooManyReads s s.first (all_messages TooManyReads s s.all) (s.caused.0, s.first.failed, s.caused.1)
 
-    -- the first writer got its last line, and the second what is told there
-    pub ran_to_end : (counted : Counted) (r0 r1 : R) (w0 w1 w2 : W) (e0 e1 : E) (end : ExitStatus)
-        → HandsAll left calls read_failures held write_failures limits most command counted r0 r1 [] [] w0 w1
-        → Wrote held write_failures w1 (last_line command counted.count counted.size counted.fault) w2
-        → TellsSecond second_held second_failures (second_output command counted.size counted.fault) counted.fault e0 e1 end
-        → Runs (reading left calls read_failures r0 r1) (writing held write_failures w0 w2) (writing second_held second_failures e0 e1) limits most command end
-    ran_to_end counted r0 r1 w0 w1 w2 e0 e1 end a wrote told = elim told [
-      | inl line ↦ inl (closed counted r0 r1 w0 w1 w2 e0 e1 end a wrote line)
-      | inr f ↦ inr (record { failed = f.0; cause = Memory; fails = second_not counted r0 r1 w0 w1 w2 a wrote; told = f.1 })
-    ]
+    -- and the second writer the cause alone
+    told_alone : (cause : Cause) (s : Within cause) (e2 : E) → s.more ≡ [] → Told second_held second_failures e1 e2 cause → Told second_held second_failures e0 e2 cause
+    told_alone cause s e2 none told =
+        let nothing : second_of command (s.told ++ s.more) ≡ [] = (divides command other).second (s.told ++ s.more) ∙ (λ i. (messages_of cause s).none_told i ++ none i) in
+        let before = subst (λ l. Wrote second_held second_failures e0 l e1) nothing s.second in
+        elim told [
+          | inl all ↦ inl (wrote_both second_held second_failures [] (cause_line cause) e0 e1 e2 before all)
+          | inr some ↦ inr (length {A = ℕ} [] + some.0, wrote_stopped second_held second_failures [] (cause_line cause) some.0 e0 e1 e2 before some.1)
+        ]
+
+    abbrev Ends : E → ExitStatus → Type 0
+    Ends e2 end = Runs (reading left calls read_failures r0 r1) (writing held write_failures w0 w1) (writing second_held second_failures e0 e2) limits most command end
+
+    abbrev Parts : Result Handed Stop → Type 0
+    Parts res = PartsOf Took held write_failures second_held second_failures (plain limits) limits most command res w0 w1 e0 e1
+
+    pub ran : (handed : Handed) (end : ExitStatus) → Parts (Ok handed) → end ≡ status_of handed.fault → Ends e1 end
+    ran handed end h is = inl (answers handed.tally handed.fault h.out h.told h.text e1 end h.through h.first (inl (h.second, is)))
+
+    pub stopped : (stop : Stop) (e2 : E) (end : ExitStatus) → Parts (Err stop) → end ≡ status.Failed → TellsStop second_held second_failures stop e1 e2 → Ends e2 end
+    stopped (ByCause cause) e2 end s failed tells = inr (record { failed = failed; cause = cause; fails = fails cause s.0; told = told_alone cause s.0 e2 (s.1 refl other) tells })
+    stopped Second e2 end s failed same =
+        let h = s.1 refl other in
+        inl (answers h.tally h.fault h.out h.told h.text e2 end h.through h.first
+        (inr (h.n, subst (λ (e : E). Stopped second_held second_failures e0 (second_of command (h.told ++ h.text)) h.n e) (sym same) h.second, failed)))

@@ -35,7 +35,7 @@ module _ {W : Type 0} (held : W → Option (List ℕ)) (failures : W → ℕ) wh
   stopped_breaks : (line : List ℕ) (n : ℕ) (w0 w1 : W) → Stopped held failures w0 line n w1 → Breaks held failures line [] w0 w1
   stopped_breaks line n w0 w1 s = record { written = take n line; appended = s.appended; front = (drop n line, sym (take-append-drop n line)); failed = s.failed }
 
-  wrote_stopped : (a b : List ℕ) (n : ℕ) (w0 w1 w2 : W) → Wrote held failures w0 a w1 → Stopped held failures w1 b n w2 → Stopped held failures w0 (a ++ b) (length a + n) w2
+  pub wrote_stopped : (a b : List ℕ) (n : ℕ) (w0 w1 w2 : W) → Wrote held failures w0 a w1 → Stopped held failures w1 b n w2 → Stopped held failures w0 (a ++ b) (length a + n) w2
   wrote_stopped a b n w0 w1 w2 p q = record {
     within = omega (arith, q.within, length-append a b);
     appended = subst (λ l. Appends (held w0) (held w2) l) (sym (take-append-add a b n)) (Appends-trans _ _ _ _ _ p.appended q.appended);
@@ -68,24 +68,21 @@ module _ {W E : Type 0} (held : W → Option (List ℕ)) (failures : W → ℕ) 
 
 module _ {W E : Type 0} (held : W → Option (List ℕ)) (failures : W → ℕ) (second_held : E → Option (List ℕ)) (second_failures : E → ℕ) (command : Command)
     (out told line : List ℕ) (w0 w1 w2 : W) (e0 e1 e2 : E) (h : HasTold held failures second_held second_failures command out told w0 w1 e0 e1) where
-  -- a line was told after it, or a prefix of it
-  abbrev pub TellsPart : Stop → Type 0
-  TellsPart stop = (more : List ℕ) × IsPrefixTo more line × GotFirst held failures stop (first_of command out (told ++ more)) w0 w2
-      × GotSecond second_held second_failures stop (second_of command (told ++ more)) e0 e2
+  -- so much was told after it
+  abbrev pub TellsPart : Stop → List ℕ → Type 0
+  TellsPart stop more = GotFirst held failures stop (first_of command out (told ++ more)) w0 w2 × GotSecond second_held second_failures stop (second_of command (told ++ more)) e0 e2
 
+  -- a line was told after it, or for want of memory nothing
   abbrev pub TellsMore : Result (Unit {0}) Stop → Type 0
   TellsMore (Ok x) = HasTold held failures second_held second_failures command out (told ++ line) w0 w2 e0 e2
-  TellsMore (Err (ByCause Memory)) = TellsPart (ByCause Memory)
+  TellsMore (Err (ByCause Memory)) = TellsPart (ByCause Memory) []
   TellsMore (Err (ByCause ReadFailed)) = ⊥
-  TellsMore (Err (ByCause WriteFailed)) = TellsPart (ByCause WriteFailed)
+  TellsMore (Err (ByCause WriteFailed)) = TellsPart (ByCause WriteFailed) line × (is_check command ≡ true)
   TellsMore (Err (ByCause TooManyReads)) = ⊥
-  TellsMore (Err Second) = TellsPart Second
+  TellsMore (Err Second) = TellsPart Second line
 
-  -- for want of memory nothing was
-  no_more : w2 ≡ w1 → e2 ≡ e1 → TellsMore (Err (ByCause Memory))
+  pub no_more : w2 ≡ w1 → e2 ≡ e1 → TellsPart (ByCause Memory) []
   no_more p q = (
-    [],
-    (line, refl),
     subst (λ (l : List ℕ). Wrote held failures w0 (first_of command out l) w2) (sym (append-nil told)) (subst (λ x. Wrote held failures w0 (first_of command out told) x) (sym p) h.first),
     subst (λ (l : List ℕ). Wrote second_held second_failures e0 (second_of command l) e2) (sym (append-nil told)) (subst (λ x. Wrote second_held second_failures e0 (second_of command told) x) (sym q) h.second),
   )
@@ -101,10 +98,11 @@ module _ {W E : Type 0} (held : W → Option (List ℕ)) (failures : W → ℕ) 
   by_first (Err ReadFailed) is w e = w
   by_first (Err WriteFailed) is w e =
       let both = told_first command out told line is in (
-        line,
-        ([], sym (append-nil line)),
-        subst (λ l. Breaks held failures l [] w0 w2) both.0 (wrote_breaks held failures (first_of command out told) line w0 w1 w2 h.first (stopped_breaks held failures line w.0 w1 w2 w.1)),
-        subst (λ l. Wrote second_held second_failures e0 l e2) both.1 (subst (λ x. Wrote second_held second_failures e0 (second_of command told) x) (sym e) h.second),
+        (
+          subst (λ l. Breaks held failures l [] w0 w2) both.0 (wrote_breaks held failures (first_of command out told) line w0 w1 w2 h.first (stopped_breaks held failures line w.0 w1 w2 w.1)),
+          subst (λ l. Wrote second_held second_failures e0 l e2) both.1 (subst (λ x. Wrote second_held second_failures e0 (second_of command told) x) (sym e) h.second),
+        ),
+        is,
       )
   by_first (Err TooManyReads) is w e = w
 
@@ -119,8 +117,6 @@ module _ {W E : Type 0} (held : W → Option (List ℕ)) (failures : W → ℕ) 
   by_second (Err ReadFailed) is w e = w
   by_second (Err WriteFailed) is w e =
       let both = told_second command out told line is in (
-        line,
-        ([], sym (append-nil line)),
         subst (λ l. Wrote held failures w0 l w2) both.0 (subst (λ x. Wrote held failures w0 (first_of command out told) x) (sym e) h.first),
         (
           length (second_of command told) + w.0,

@@ -17,7 +17,3 @@ module _ {W : Type 0} (held : W → Option (List ℕ)) (failures : W → ℕ) wh
   WritesLine line old new (Err ReadFailed) = ⊥
   WritesLine line old new (Err WriteFailed) = (n : ℕ) × Stopped held failures old line n new
   WritesLine line old new (Err TooManyReads) = ⊥
-
-  -- the second writer got this line as far as it took it, or memory was wanted for it, and that was told
-  abbrev pub TellsSecond : List ℕ → Option Fault → W → W → ExitStatus → Type 0
-  TellsSecond line fault old new end = TellsLine held failures line fault old new end ⊎ ((end ≡ status.Failed) × Told held failures old new Memory)

@@ -26,3 +26,22 @@ pub record Writing (W : Type 0) : Type 0 where
 
 abbrev pub writing : {W : Type 0} → (W → Option (List ℕ)) → (W → ℕ) → W → W → Writing W
 writing held failures old new = record { held = held; failures = failures; old = old; new = new }
+
+-- a source before and after: the bytes that are left, the calls that it had, and those that failed
+pub record Taken : Type 0 where
+  pub left0 : Option (List ℕ)
+  pub left1 : Option (List ℕ)
+  pub calls0 : ℕ
+  pub calls1 : ℕ
+  pub failures0 : ℕ
+  pub failures1 : ℕ
+
+abbrev pub taken : {R : Type 0} → Reading R → Taken
+taken r = record {
+  left0 = r.left r.old;
+  left1 = r.left r.new;
+  calls0 = r.calls r.old;
+  calls1 = r.calls r.new;
+  failures0 = r.failures r.old;
+  failures1 = r.failures r.new;
+}

@@ -15,7 +15,7 @@ use Rattle.dbus_command.specs.declared.command.Command.{Command}
 use Rattle.dbus_command.specs.declared.settings.Settings.{Settings}
 use Rattle.dbus_command.specs.declared.command.Command.TheVariants.{Show, Json, Check, Swap, Filter}
 use Rattle.dbus_tool.specs.Closing.{WritesLine}
-use Rattle.dbus_tool.specs.Devices.{Reading, Writing, RisesAtMost}
+use Rattle.dbus_tool.specs.Devices.{Reading, Writing, RisesAtMost, Taken, taken}
 use Rattle.dbus_tool.specs.Gathering.{Breaks}
 use Rattle.dbus_tool.specs.Output.{IsPrefixTo}
 use Rattle.dbus_tool.specs.Parts.{Part, sizes_of, BeginWithParts, IsCutOff, IsLast, AreTexts, IsMade, IsToldOf, IsToldLast, passed_count, tally_of, closing_line, status_at}
@@ -88,25 +88,6 @@ GotSecond held failures Second all e0 e1 = (n : ℕ) × Stopped held failures e0
 abbrev pub TellsStop : {E : Type 0} → (E → Option (List ℕ)) → (E → ℕ) → Stop → E → E → Type 0
 TellsStop held failures (ByCause cause) e0 e1 = Told held failures e0 e1 cause
 TellsStop held failures Second e0 e1 = e1 ≡ e0
-
--- a source before and after: the bytes that are left, the calls that it had, and those that failed
-pub record Taken : Type 0 where
-  pub left0 : Option (List ℕ)
-  pub left1 : Option (List ℕ)
-  pub calls0 : ℕ
-  pub calls1 : ℕ
-  pub failures0 : ℕ
-  pub failures1 : ℕ
-
-abbrev pub taken : {R : Type 0} → Reading R → Taken
-taken r = record {
-  left0 = r.left r.old;
-  left1 = r.left r.new;
-  calls0 = r.calls r.old;
-  calls1 = r.calls r.new;
-  failures0 = r.failures r.old;
-  failures1 = r.failures r.new;
-}
 
 module _ {W E : Type 0} (t : Taken) (held : W → Option (List ℕ)) (write_failures : W → ℕ) (second_held : E → Option (List ℕ)) (second_failures : E → ℕ)
     (settings : Settings) (limits : Limits) (most : ℕ) (command : Command) where
@@ -184,9 +165,27 @@ module _ {W E : Type 0} (t : Taken) (held : W → Option (List ℕ)) (write_fail
     pub first : GotFirst held write_failures stop (first_of command out (told ++ more)) w0 w1
     pub second : GotSecond second_held second_failures stop (second_of command (told ++ more)) e0 e1
 
+  -- all was made and told, but a write to the second writer failed
+  pub record HandsUntold (w0 w1 : W) (e0 e1 : E) : Type 0 where
+    pub tally : Tally
+    pub fault : Option Fault
+    pub out : List ℕ
+    pub told : List ℕ
+    pub text : List ℕ
+    pub through : IsThrough tally fault out told text
+    pub first : Wrote held write_failures w0 (first_of command out (told ++ text)) w1
+    pub n : ℕ
+    pub second : Stopped second_held second_failures e0 (second_of command (told ++ text)) n e1
+
+  -- a run that tells a fault only as its last line, and to the second writer, is given up before that line or within it
+  abbrev pub StopsAtFault : Stop → (more : List ℕ) → W → W → E → E → Type 0
+  StopsAtFault (ByCause cause) more w0 w1 e0 e1 = more ≡ []
+  StopsAtFault Second more w0 w1 e0 e1 = HandsUntold w0 w1 e0 e1
+
   abbrev pub PartsOf : Result Handed Stop → W → W → E → E → Type 0
   PartsOf (Ok handed) w0 w1 e0 e1 = HandsParts handed.tally handed.fault w0 w1 e0 e1
-  PartsOf (Err stop) w0 w1 e0 e1 = StopsWithin stop w0 w1 e0 e1
+  PartsOf (Err stop) w0 w1 e0 e1 = (s : StopsWithin stop w0 w1 e0 e1)
+      × (settings.keeps_going ≡ false → is_check command ≡ false → StopsAtFault stop s.more w0 w1 e0 e1)
 
   -- that was made and told, and then the last line
   pub record GoesThrough (w0 w1 : W) (e0 e1 : E) (end : ExitStatus) : Type 0 where

@@ -1,5 +1,4 @@
--- What was read and written where messages are handed to a command. g0 and g1 are what is gathered before and after,
--- limits are those that each message keeps, and most is how many reads may be made.
+-- What was read and written where messages are handed to a command. g0 and g1 are what is gathered before and after.
 use Rattle.std.specs.Prelude.{◌≡◌, ℕ, List, [], ◌++◌, Option, Result, Ok, Err}
 use Rattle.std.specs.Io.KnownBytes.{Consumes}
 use Rattle.dbus_value_model.specs.declared.limits.Limits.{Limits}
@@ -66,41 +65,3 @@ module _ {R W : Type 0} (left : R → Option (List ℕ)) (calls read_failures : 
   GivesNext old new w g0 g1 (Err (Reader fault)) = (r : Reads left calls old new) × Advances (kept old ++ r.bytes) old new (Err fault)
       × DeviceCounts {T = Option Validated} (read_failures (source_of old)) (read_failures (source_of new)) (Err fault) × Passes w.held w.failures [] g0 g1 w.old w.new × IsWrittenOut fault g1
   GivesNext old new w g0 g1 (Err Writer) = Reads left calls old new × Breaks w.held w.failures [] g0 w.old w.new × (read_failures (source_of new) ≡ read_failures (source_of old))
-
-module _ {R W : Type 0} (left : R → Option (List ℕ)) (calls read_failures : R → ℕ) (held : W → Option (List ℕ)) (write_failures : W → ℕ)
-    (limits : Limits) (most : ℕ) where
-  -- why no more messages are handed to a command, as far as the reader shows it
-  abbrev pub IsReadCause : R → R → Cause → Type 0
-  IsReadCause old new Memory = read_failures new ≡ read_failures old
-  IsReadCause old new ReadFailed = read_failures new ≡ one_more (read_failures old)
-  IsReadCause old new WriteFailed = read_failures new ≡ read_failures old
-  IsReadCause old new TooManyReads = (read_failures new ≡ read_failures old) × RisesBy most (calls old) (calls new)
-
-  -- all messages of what was read were handed to the command, up to the end of the input or a fault
-  pub record HandsAll (command : Command) (counted : Counted) (old new : R) (g0 g1 : List ℕ) (w0 w1 : W) : Type 0 where
-    pub counts : CountsAll left calls limits most counted old new
-    pub out : List ℕ
-    pub output : IsOutputOfAll command 1 0 counts.items out
-    pub passes : Passes held write_failures out g0 g1 w0 w1
-    pub failed : read_failures new ≡ read_failures old
-
-  -- some of the first messages of what was read were handed to the command
-  pub record HandsSome (command : Command) (cause : Cause) (old new : R) (g0 g1 : List ℕ) (w0 w1 : W) : Type 0 where
-    pub bytes : List ℕ
-    pub items : List CutMessage
-    pub rest : List ℕ
-    pub out : List ℕ
-    pub consumed : Consumes (left old) (left new) bytes
-    pub messages : BeginWith limits bytes items rest
-    pub all : AreAll limits cause rest
-    pub output : IsOutputOfAll command 1 0 items out
-    pub leaves : Leaves held write_failures cause out g0 g1 w0 w1
-    pub called : RisesAtMost most (calls old) (calls new)
-    pub caused : IsReadCause old new cause
-
--- what is read of r was handed to the command, which writes by w
-abbrev pub Hands : {R W : Type 0} → Reading R → Writing W → Limits → ℕ → Command → List ℕ → List ℕ → Result Counted Cause → Type 0
-Hands r w limits most command g0 g1 (Ok counted) =
-    HandsAll r.left r.calls r.failures w.held w.failures limits most command counted r.old r.new g0 g1 w.old w.new
-Hands r w limits most command g0 g1 (Err cause) =
-    HandsSome r.left r.calls r.failures w.held w.failures limits most command cause r.old r.new g0 g1 w.old w.new

@@ -10,7 +10,6 @@ pub mod PageLaws
 pub mod Counting
 pub mod Handing
 pub mod Onward
-pub mod Tallying
 pub mod Checking
 pub mod Running
 pub mod Closing

@@ -1,10 +1,9 @@
 //! What is written after the messages of an input.
 ghost use Rattle.std.specs.Prelude.{◌≡◌, IfOk, string_bytes};
-ghost use Rattle.dbus_tool.specs.Closing.{TellsSecond, WritesLine};
-ghost use Rattle.dbus_tool.specs.Output.{check_line, fault_line, status_of};
+ghost use Rattle.dbus_tool.specs.Closing.{WritesLine};
+ghost use Rattle.dbus_tool.specs.Output.{check_line, status_of};
 
 use crate::ending::{Cause, Counted, ExitStatus};
-use crate::failing::give_up;
 use crate::lines::{ok_line, refused_line};
 use dbus_stream::{Sink, WrittenOnly, write_all};
 use dbus_value::Fault;
@@ -36,27 +35,6 @@ fn check_line<A: Allocator + Copy>(alloc: A, counted: Counted) -> Result<String<
     match counted.fault {
         None => ok_line(alloc, counted.count, counted.size),
         Some(fault) => refused_line(alloc, counted.size, fault),
-    }
-}
-
-/// Writes the line of the fault, if there is one.
-pub(crate) fn tell_fault<A: Allocator + Copy, E: Sink>(
-    alloc: A,
-    counted: Counted,
-    second: &mut E,
-) -> ExitStatus
-    ensures { TellsSecond E.held E.failures (fault_line counted.size counted.fault) counted.fault
-        second.old second.new result }
-{
-    let Some(fault) = counted.fault else {
-        return ExitStatus::Done;
-    };
-    let Ok(line) = refused_line(alloc, counted.size, fault) else {
-        return give_up(Cause::Memory, second);
-    };
-    match write_all(second, line.as_bytes()) {
-        Ok(()) => ExitStatus::Refused,
-        Err(WrittenOnly(_)) => ExitStatus::Failed,
     }
 }
 

@@ -3,8 +3,8 @@ ghost use Rattle.std.specs.Prelude.{◌≡◌, ◌≤◌, ◌^◌};
 ghost use Rattle.dbus_stream.specs.CheckReading.{limits_of};
 ghost use Rattle.dbus_stream.specs.Lengths.{lengths};
 ghost use Rattle.dbus_stream.specs.Reading.{IsNewReader, most_reads_of, source_of};
-ghost use Rattle.dbus_tool.specs.Devices.{reading};
-ghost use Rattle.dbus_tool.specs.Tallying.{Tallies};
+ghost use Rattle.dbus_tool.specs.Counting.{Tallies};
+ghost use Rattle.dbus_tool.specs.Devices.{reading, taken};
 
 use crate::ending::{Cause, Counted};
 use crate::handing::ended_by;
@@ -16,7 +16,7 @@ fn count_all<R: Source>(messages: &mut CheckReader<R>) -> Result<Counted, Cause>
     requires { IsNewReader lengths (source_of messages.old) (most_reads_of messages.old)
         (limits_of messages.old) messages.old }
     ensures counts { Tallies
-        (reading R.left R.calls R.failures (source_of messages.old) (source_of messages.new))
+        (taken (reading R.left R.calls R.failures (source_of messages.old) (source_of messages.new)))
         (limits_of messages.old) (most_reads_of messages.old) result }
     ensures same_reference { R.reference (source_of messages.new) ≡
         R.reference (source_of messages.old) }
@@ -44,7 +44,7 @@ fn count_through<R: Source + Drop>(
     source: R,
 ) -> (Result<Counted, Cause>, R)
     requires { reads ≤ 2 ^ 32 }
-    ensures counts { Tallies (reading R.left R.calls R.failures source result.1) limits reads
+    ensures counts { Tallies (taken (reading R.left R.calls R.failures source result.1)) limits reads
         result.0 }
     ensures same_reference { R.reference result.1 ≡ R.reference source }
 {
@@ -60,7 +60,7 @@ pub(crate) fn count_over<R: Source>(
     source: &mut R,
 ) -> Result<Counted, Cause>
     requires { reads ≤ 2 ^ 32 }
-    ensures { Tallies (reading R.left R.calls R.failures source.old source.new) limits reads
+    ensures { Tallies (taken (reading R.left R.calls R.failures source.old source.new)) limits reads
         result }
 {
     let (counted, _source) = count_through(limits, reads, source);

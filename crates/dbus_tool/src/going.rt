@@ -2,9 +2,9 @@
 ghost use Rattle.std.specs.Prelude.{◌≡◌, ◌≤◌, ◌^◌, []};
 ghost use Rattle.dbus_stream.specs.RawReading.{IsNewReader, kept, most_reads_of, source_of};
 ghost use Rattle.dbus_tool.specs.Commands.{command_of};
-ghost use Rattle.dbus_tool.specs.Devices.{reading, writing};
+ghost use Rattle.dbus_tool.specs.Devices.{reading, taken, writing};
 ghost use Rattle.dbus_tool.specs.Gathering.{gathered_bytes};
-ghost use Rattle.dbus_tool.specs.Going.{PartsOf, RunsWith, TellsBy, TellsStop, WritesBy, cause_of, is_check, stops_first, stops_second, taken};
+ghost use Rattle.dbus_tool.specs.Going.{PartsOf, RunsWith, TellsBy, TellsStop, WritesBy, cause_of, is_check, stops_first, stops_second};
 ghost use Rattle.dbus_tool.specs.Parts.{closing_line};
 
 use crate::ending::{Cause, ExitStatus};
@@ -88,8 +88,8 @@ fn go_on<A: Allocator + Copy, R: Source, W: Sink, E: Sink>(
     }
 }
 
-// Writes the cause on the second writer, unless a write to it failed.
-fn tell_stop<E: Sink>(stop: Stop, second: &mut E) -> ExitStatus
+/// Writes the cause on the second writer, unless a write to it failed.
+pub(crate) fn tell_stop<E: Sink>(stop: Stop, second: &mut E) -> ExitStatus
     ensures failed { result ≡ ExitStatus.Failed }
     ensures tells { TellsStop E.held E.failures stop second.old second.new }
 {
@@ -281,8 +281,9 @@ fn hand_through<R: Source + Drop, A: Allocator + Copy, W: Sink, E: Sink>(
     (handed, messages.into_source())
 }
 
-// Hands on the messages of a source that it borrows.
-fn hand_over<R: Source, A: Allocator + Copy, W: Sink, E: Sink>(
+/// Hands on the messages of a source that it borrows, as [`run_with`] does, up to its end, a message that is not passed over, or this
+/// number of reads.
+pub(crate) fn hand_over<R: Source, A: Allocator + Copy, W: Sink, E: Sink>(
     alloc: A,
     output: Output,
     settings: Settings,

@@ -2,9 +2,9 @@
 ghost use Rattle.std.specs.Prelude.{◌≡◌, ◌≤◌, ◌^◌, ℕ, List, [], None, Err, IfOk};
 ghost use Rattle.dbus_stream.specs.RawReading.{source_of, done_of, limits_of, stopped_of};
 ghost use Rattle.dbus_tool.specs.Counting.{ended_by, stopped_by};
-ghost use Rattle.dbus_tool.specs.Devices.{reading, writing};
+ghost use Rattle.dbus_tool.specs.Devices.{writing};
 ghost use Rattle.dbus_tool.specs.Gathering.{GathersOrNot, gathered_bytes};
-ghost use Rattle.dbus_tool.specs.Handing.{GivesNext, Hands};
+ghost use Rattle.dbus_tool.specs.Handing.{GivesNext};
 ghost use Rattle.dbus_tool.specs.Onward.{RawHandsOn};
 ghost use Rattle.dbus_tool.specs.Commands.{command_of};
 
@@ -180,49 +180,4 @@ fn out_of_memory<W: Sink>(gathered: &mut Gathered, first: &mut W) -> Cause
         Ok(()) => Cause::Memory,
         Err(Unwritten) => Cause::WriteFailed,
     }
-}
-
-// Writes what is wanted of each message of a source, and gives the source back.
-fn hand_through<R: Source + Drop, A: Allocator + Copy, W: Sink>(
-    alloc: A,
-    output: Output,
-    limits: Limits,
-    reads: u64,
-    source: R,
-    first: &mut W,
-) -> (Result<Counted, Cause>, R)
-    requires { reads ≤ 2 ^ 32 }
-    ensures hands { Hands (reading R.left R.calls R.failures source result.1)
-        (writing W.held W.failures first.old first.new) limits reads (command_of output.entry) [] [] result.0 }
-    ensures same_reference { R.reference result.1 ≡ R.reference source }
-{
-    let mut messages = RawReader::within(alloc, source, reads, limits);
-    let mut gathered = Gathered::new();
-    let counted = hand_and_write(
-        alloc,
-        output,
-        limits,
-        0,
-        &mut messages,
-        &mut gathered,
-        first,
-    );
-    (counted, messages.into_source())
-}
-
-/// Writes what is wanted of each message of a source within these limits, up to its end, a fault or this number of reads.
-pub(crate) fn hand_over<R: Source, A: Allocator + Copy, W: Sink>(
-    alloc: A,
-    output: Output,
-    limits: Limits,
-    reads: u64,
-    source: &mut R,
-    first: &mut W,
-) -> Result<Counted, Cause>
-    requires { reads ≤ 2 ^ 32 }
-    ensures { Hands (reading R.left R.calls R.failures source.old source.new)
-        (writing W.held W.failures first.old first.new) limits reads (command_of output.entry) [] [] result }
-{
-    let (counted, _source) = hand_through(alloc, output, limits, reads, source, first);
-    counted
 }

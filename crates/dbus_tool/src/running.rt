@@ -6,13 +6,13 @@ ghost use Rattle.dbus_tool.specs.Commands.{command_of};
 ghost use Rattle.dbus_tool.specs.Going.{is_check};
 ghost use Rattle.dbus_tool.specs.Running.{Runs};
 
-use crate::closing::{status_of, tell_fault, write_count};
+use crate::closing::{status_of, write_count};
 use crate::counting::count_over;
 use crate::ending::ExitStatus;
 use crate::failing::give_up;
-use crate::handing::hand_over;
-use crate::output::Output;
-use dbus_command::Command;
+use crate::going::{hand_over, tell_stop};
+use crate::output::{Output, output_of};
+use dbus_command::{Command, Settings};
 use dbus_stream::{MOST_READS, Sink, Source};
 use dbus_value::Limits;
 use std::alloc::Allocator;
@@ -97,19 +97,7 @@ pub fn run_within<A: Allocator + Copy, R: Source, W: Sink, E: Sink>(
 {
     match command {
         Command::Check => check(alloc, limits, reads, reader, first, second),
-        Command::Show => write(alloc, Output::Text, limits, reads, reader, first, second),
-        Command::Json => {
-            let output = Output::JsonLine;
-            write(alloc, output, limits, reads, reader, first, second)
-        }
-        Command::Swap(order) => {
-            let output = Output::InOrder(order);
-            write(alloc, output, limits, reads, reader, first, second)
-        }
-        Command::Filter(selection) => {
-            let output = Output::Matching(&selection);
-            write(alloc, output, limits, reads, reader, first, second)
-        }
+        _ => write(alloc, output_of(&command), limits, reads, reader, first, second),
     }
 }
 
@@ -154,8 +142,13 @@ fn write<A: Allocator + Copy, R: Source, W: Sink, E: Sink>(
         (writing E.held E.failures second.old second.new)
         limits reads (command_of output.entry) result }
 {
-    match hand_over(alloc, output, limits, reads, reader, first) {
-        Ok(counted) => tell_fault(alloc, counted, second),
-        Err(cause) => give_up(cause, second),
+    let settings = Settings {
+        limits,
+        explains: false,
+        keeps_going: false,
+    };
+    match hand_over(alloc, output, settings, reads, reader, first, second) {
+        Ok(handed) => status_of(handed.fault),
+        Err(stop) => tell_stop(stop, second),
     }
 }

@@ -5,14 +5,13 @@ use Rattle.dbus_stream.specs.Cut.{CutMessage, Ended}
 use Rattle.dbus_stream.specs.Lengths.{lengths}
 use Rattle.dbus_stream.specs.Reading.{done_of, most_reads_of, source_of}
 use Rattle.dbus_command.specs.declared.command.Command.TheVariants.{Check}
-use Rattle.dbus_tool.specs.Counting.{ended_by}
-use Rattle.dbus_tool.specs.Devices.{reading}
-use Rattle.dbus_tool.specs.Tallying.{Tallies, unwritten}
+use Rattle.dbus_tool.specs.Counting.{Tallies, ended_by}
+use Rattle.dbus_tool.specs.Devices.{reading, taken}
 use Rattle.dbus_tool.specs.PageLaws.{passes_none}
 use Rattle.dbus_tool.proofs.GivenSteps.{written_out}
 use Rattle.dbus_tool.proofs.ReadSteps.{length-sizes}
 use Rattle.dbus_tool.proofs.HandSteps.{hands_none, hands_more, hands_all, hands_faulted}
-use Rattle.dbus_tool.proofs.TalliedHands.{check_faults, hands_read}
+use Rattle.dbus_tool.proofs.CountSteps.{check_faults, tallied, unwritten}
 use Rattle.dbus_tool.proofs.counting.count_all.Goals as goal
 use Rattle.dbus_tool.proofs.counting.count_all.Goals.{In-Ok-Some}
 
@@ -67,7 +66,7 @@ returns-in-Ok-None-clause-counts g c =
     let h = c.messages.invariant.2 in
     let read = rw c.in-Ok-None.field-0-is at (c.in-Ok-None.ensures.read rest c.messages.invariant.1) in
     let answer = read.1 h.unstopped in
-    hands_read g.R.Source.left g.R.Source.calls g.R.Source.failures (limits_of c.args.messages.now) (most_reads_of c.args.messages.now) c.args.messages.now c.requires c.next.new.self (Ok _)
+    tallied g.R.Source.left g.R.Source.calls g.R.Source.failures (limits_of c.args.messages.now) (most_reads_of c.args.messages.now) c.args.messages.now c.requires c.next.new.self (Ok _)
     (hands_all lengths g.R.Source.left g.R.Source.calls g.R.Source.failures unwritten.held unwritten.failures (limits_of c.args.messages.now) Check [] 0 c.messages.count c.args.messages.now c.messages.messages c.next.new.self rest [] [] [] tt tt tt Ended _
     h read.0 refl c.done.ensures answer.2.done refl answer.0 (λ _. answer.1) c.in-Ok-None.ensures.failed (passes_none unwritten.held unwritten.failures [] tt))
 
@@ -78,8 +77,8 @@ returns-in-Err-clause-counts g c =
     let fault = c.in-Err.fault in
     let read = c.in-Err.ensures.read rest c.messages.invariant.1 in
     let answer : c.ended_by.result ≡ ended_by c.messages.count (done_of c.next.new.self) fault = c.ended_by.ensures ∙ ap (λ n. ended_by c.messages.count n fault) c.done-in-Err.ensures in
-    subst (λ x. Tallies (reading g.R.Source.left g.R.Source.calls g.R.Source.failures (source_of c.args.messages.now) (source_of c.next.new.self)) (limits_of c.args.messages.now) (most_reads_of c.args.messages.now) x) (sym answer)
-    (hands_read g.R.Source.left g.R.Source.calls g.R.Source.failures (limits_of c.args.messages.now) (most_reads_of c.args.messages.now) c.args.messages.now c.requires c.next.new.self (ended_by c.messages.count (done_of c.next.new.self) fault)
+    subst (λ x. Tallies (taken (reading g.R.Source.left g.R.Source.calls g.R.Source.failures (source_of c.args.messages.now) (source_of c.next.new.self))) (limits_of c.args.messages.now) (most_reads_of c.args.messages.now) x) (sym answer)
+    (tallied g.R.Source.left g.R.Source.calls g.R.Source.failures (limits_of c.args.messages.now) (most_reads_of c.args.messages.now) c.args.messages.now c.requires c.next.new.self (ended_by c.messages.count (done_of c.next.new.self) fault)
     (hands_faulted lengths g.R.Source.left g.R.Source.calls g.R.Source.failures unwritten.held unwritten.failures (limits_of c.args.messages.now) Check [] 0 fault c.messages.count c.args.messages.now c.messages.messages c.next.new.self rest [] [] [] tt tt tt
     h read.0 (check_faults g.R.Source.left g.R.Source.calls g.R.Source.failures (limits_of c.args.messages.now) (rest ++ read.0.bytes) c.messages.messages c.next.new.self fault (read.1 h.unstopped)) c.in-Err.ensures.failed
     (passes_none unwritten.held unwritten.failures [] tt) (written_out fault [] refl)))

@@ -3,7 +3,7 @@ use Rattle.dbus_stream.specs.CheckReading.{Keeps, limits_of}
 use Rattle.dbus_stream.specs.Lengths.{lengths}
 use Rattle.dbus_stream.specs.Reading.{done_of, source_of}
 use Rattle.dbus_command.specs.declared.command.Command.TheVariants.{Check}
-use Rattle.dbus_tool.specs.Tallying.{unwritten}
+use Rattle.dbus_tool.proofs.CountSteps.{unwritten}
 use Rattle.dbus_tool.proofs.HandSteps.{HasHanded}
 use Rattle.dbus_tool.proofs.counting.count_all.Given as goal
 

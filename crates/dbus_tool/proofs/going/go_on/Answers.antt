@@ -1,7 +1,7 @@
 use Rattle.std.proofs.Common.{◌≡◌, inl, inr, sym, subst}
 use Rattle.dbus_tool.specs.Commands.{command_of}
-use Rattle.dbus_tool.specs.Devices.{reading}
-use Rattle.dbus_tool.specs.Going.{GoesThrough, taken}
+use Rattle.dbus_tool.specs.Devices.{reading, taken}
+use Rattle.dbus_tool.specs.Going.{GoesThrough}
 use Rattle.dbus_tool.specs.declared.ending.ExitStatus.{ExitStatus}
 use Rattle.dbus_tool.proofs.GoClosing.{few, closes, not_closed}
 use Rattle.dbus_tool.proofs.going.go_on.Goals as goal
@@ -35,6 +35,6 @@ returns-in-Err g c = inr (record {
   failed = c.tell_stop-in-Err.ensures.failed;
   stop = c.in-Err.stop;
   e = c.hand_over.new.second;
-  within = c.in-Err.ensures;
+  within = c.in-Err.ensures.0;
   tells = c.tell_stop-in-Err.ensures.tells;
 })

@@ -1,7 +1,7 @@
 use Rattle.std.proofs.Common.{rules, subst}
 use Rattle.dbus_tool.specs.Commands.{command_of}
-use Rattle.dbus_tool.specs.Devices.{reading}
-use Rattle.dbus_tool.specs.Going.{PartsOf, taken}
+use Rattle.dbus_tool.specs.Devices.{reading, taken}
+use Rattle.dbus_tool.specs.Going.{PartsOf}
 use Rattle.dbus_tool.proofs.going.hand_over.Goals as goal
 
 pub returns : goal.returns

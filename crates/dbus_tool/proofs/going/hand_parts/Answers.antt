@@ -2,7 +2,7 @@ use Rattle.std.proofs.Common.{◌≡◌, ◌≤◌, ◌<◌, ◌^◌, ◌+◌, �
 use Rattle.dbus_stream.specs.RawReading.{done_of, kept, most_reads_of, source_of}
 use Rattle.dbus_tool.specs.Commands.{command_of}
 use Rattle.dbus_tool.specs.declared.tally.Tally.{Tally}
-use Rattle.dbus_tool.proofs.GoSteps.{HasGone, HasReached, gone_none, within, done_small, reach, stop_hand, finished, more_told, not_told, halts, stays, breaks, goes_on, Within}
+use Rattle.dbus_tool.proofs.GoSteps.{HasGone, HasReached, gone_none, within, done_small, reach, stop_hand, finished, more_told, not_told, halts, stays, breaks, goes_on, Torn}
 use Rattle.dbus_tool.proofs.WriteSteps.{HasTold}
 use Rattle.dbus_tool.specs.declared.going.Stop.TheVariants.{Cause as ByCause}
 use Rattle.dbus_tool.proofs.going.hand_parts.Goals as goal
@@ -85,8 +85,8 @@ pub returns-then-not-settings-clause-parts : goal.returns-then-not-settings-clau
 returns-then-not-settings-clause-parts g c =
     let r = reached_up g (goal.at.returns-then-not-settings-clause-parts g c).In-Some in
     halts g.R.Source.left g.R.Source.calls g.R.Source.failures g.W.Sink.held g.W.Sink.failures g.E.Sink.held g.E.Sink.failures c.args.settings c.args.settings.limits (most_reads_of c.args.messages.now) (command_of c.args.output)
-    c.args.messages.now c.args.first.now c.args.second.now c.hand_and_write.new.messages c.in-Ok.counted c.up_to-tally.result c.in-Some.fault c.hand_and_write.new.first c.parts.second r c.in-Some.is c.hand_and_write.new.messages c.in-Ok-tell.ensures.0 c.tell.new.first c.tell.new.second c.in-Ok-tell.ensures.1
-    (told g (goal.at.returns-then-not-settings-clause-parts g c).In-Ok-tell r) (halts_if c.args.settings.keeps_going c.if-not-settings.true) refl
+    c.args.messages.now c.args.first.now c.args.second.now c.hand_and_write.new.messages c.in-Ok.counted c.up_to-tally.result c.in-Some.fault c.hand_and_write.new.first c.parts.second r c.in-Some.is c.in-Ok-tell.ensures.0 c.tell.new.first c.tell.new.second c.in-Ok-tell.ensures.1
+    (told g (goal.at.returns-then-not-settings-clause-parts g c).In-Ok-tell r) (halts_if c.args.settings.keeps_going c.if-not-settings.true)
 
 pub returns-in-Ok-false-clause-parts : goal.returns-in-Ok-false-clause-parts
 returns-in-Ok-false-clause-parts g c =
@@ -99,7 +99,7 @@ returns-in-Ok-false-clause-parts g c =
 pub returns-in-Err-pass_over-clause-parts : goal.returns-in-Err-pass_over-clause-parts
 returns-in-Err-pass_over-clause-parts g c =
     let r = reached_up g (goal.at.returns-in-Err-pass_over-clause-parts g c).In-Some in
-    subst (λ cause. Within g.R.Source.left g.R.Source.calls g.R.Source.failures g.W.Sink.held g.W.Sink.failures g.E.Sink.held g.E.Sink.failures c.args.settings c.args.settings.limits (most_reads_of c.args.messages.now) (command_of c.args.output)
+    subst (λ cause. Torn g.R.Source.left g.R.Source.calls g.R.Source.failures g.W.Sink.held g.W.Sink.failures g.E.Sink.held g.E.Sink.failures c.args.settings c.args.settings.limits (most_reads_of c.args.messages.now) (command_of c.args.output)
     c.args.messages.now c.args.first.now c.args.second.now c.pass_over.new.self (ByCause cause) c.tell.new.first c.tell.new.second) (sym c.cause_of.ensures)
     (breaks g.R.Source.left g.R.Source.calls g.R.Source.failures g.W.Sink.held g.W.Sink.failures g.E.Sink.held g.E.Sink.failures c.args.settings c.args.settings.limits (most_reads_of c.args.messages.now) (command_of c.args.output)
     c.args.messages.now c.args.first.now c.args.second.now c.hand_and_write.new.messages c.in-Ok.counted c.up_to-tally.result c.in-Some.fault c.hand_and_write.new.first c.parts.second r c.in-Some.is c.pass_over.new.self c.in-Ok-tell.ensures.0 c.tell.new.first c.tell.new.second c.in-Ok-tell.ensures.1

@@ -1,8 +1,8 @@
 use Rattle.std.proofs.Common.{subst, sym}
 use Rattle.dbus_stream.specs.RawReading.{source_of}
 use Rattle.dbus_tool.specs.Commands.{command_of}
-use Rattle.dbus_tool.specs.Devices.{reading}
-use Rattle.dbus_tool.specs.Going.{PartsOf, taken}
+use Rattle.dbus_tool.specs.Devices.{reading, taken}
+use Rattle.dbus_tool.specs.Going.{PartsOf}
 use Rattle.dbus_tool.proofs.GoSteps.{is_new}
 use Rattle.dbus_tool.proofs.going.hand_through.Goals as goal
 

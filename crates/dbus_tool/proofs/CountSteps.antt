@@ -1,0 +1,74 @@
+-- The messages of a source are counted as if they were handed to `check`, which writes nothing of them.
+use Rattle.std.proofs.Common.{◌≡◌, ℕ, ◌+◌, ◌≤◌, List, [], Option, None, Result, Ok, Err, inl, inr, refl, arith, ◌∙◌, sym, subst}
+use Rattle.dbus_device.specs.Device.{RisesBy}
+use Rattle.dbus_stream.specs.CheckReading.{CheckAnswers, CheckReader}
+use Rattle.dbus_stream.specs.Cut.{CutMessage}
+use Rattle.dbus_stream.specs.Lengths.{lengths}
+use Rattle.dbus_stream.specs.Reading.{IsNewReader, source_of}
+use Rattle.dbus_stream.specs.declared.read_fault.ReadFault.{ReadFault}
+use Rattle.dbus_stream.specs.declared.read_fault.ReadFault.TheVariants as read
+use Rattle.dbus_stream.proofs.NextSteps.{both_ways}
+use Rattle.dbus_value_model.specs.declared.limits.Limits.{Limits}
+use Rattle.dbus_command.specs.declared.command.Command.TheVariants.{Check}
+use Rattle.dbus_tool.specs.Counting.{CountsSome, StopsCounting, Tallies}
+use Rattle.dbus_tool.specs.Devices.{RisesAtMost, Taken, Writing, reading, taken}
+use Rattle.dbus_tool.specs.Onward.{HasRead, HandsOn, HandsSomeOn, IsTrueEnd}
+use Rattle.dbus_tool.specs.declared.ending.Cause.{Cause}
+use Rattle.dbus_tool.specs.declared.ending.Cause.TheVariants.{Memory, ReadFailed, WriteFailed, TooManyReads}
+use Rattle.dbus_tool.specs.declared.ending.Counted.{Counted}
+use Rattle.dbus_tool.proofs.HandSteps.{Faults}
+
+-- a writer that nothing is written by
+abbrev pub unwritten : Writing (Unit {0})
+unwritten = record { held = λ u. None; failures = λ u. 0; old = tt; new = tt }
+
+module _ {R : Type 0} (left : R → Option (List ℕ)) (calls failures : R → ℕ) (limits : Limits) where
+  -- what a fault of the reader says of the bytes that it keeps
+  pub check_faults : (w : List ℕ) (mid new : CheckReader R) (fault : ReadFault) → CheckAnswers w mid new (Err fault)
+      → Faults lengths left calls failures unwritten.held unwritten.failures limits Check [] 0 w mid new fault
+  check_faults w mid new read.Memory a = tt
+  check_faults w mid new (read.Format fault) a = (a.0, elim a.2 [ inl refused ↦ inl refused.refused | inr short ↦ inr (short.0, short.1) ])
+  check_faults w mid new read.Device a = a.2
+  check_faults w mid new read.TooManyReads a = (a.2, a.3)
+
+  -- of a new reader
+  module _ (most : ℕ) (old : CheckReader R) (is : IsNewReader lengths (source_of old) most limits old) (new : CheckReader R) where
+    abbrev Took : Taken
+    Took = taken (reading left calls failures (source_of old) (source_of new))
+
+    few_called : (items : List CutMessage) (rest : List ℕ) → HasRead lengths left calls limits [] old new items rest → RisesAtMost most Took.calls0 Took.calls1
+    few_called items rest h = (h.count, omega (arith, h.reads, h.most_reads, is.reads, is.most_reads, new.few_reads), h.called)
+
+    some_tallied : (cause : Cause) (s : HandsSomeOn lengths left calls limits [] failures unwritten.held unwritten.failures Check 0 cause old new [] [] tt tt)
+        → StopsCounting Took limits most cause s.rest → CountsSome Took limits most cause
+    some_tallied cause s caused = record {
+      bytes = s.read.bytes;
+      items = s.items;
+      rest = s.rest;
+      consumed = s.read.consumed;
+      messages = s.read.messages;
+      called = few_called s.items s.rest s.read;
+      caused = caused;
+    }
+
+    pub tallied : (res : Result Counted Cause) → HandsOn lengths left calls limits [] failures unwritten.held unwritten.failures Check 0 old new [] [] tt tt res → Tallies Took limits most res
+    tallied (Ok counted) a = record {
+      bytes = a.read.bytes;
+      items = a.items;
+      rest = a.rest;
+      outcome = a.outcome;
+      consumed = a.read.consumed;
+      cut = record { messages = a.read.messages; outcome_is = a.outcome_is };
+      count_is = omega (arith, a.count_is);
+      size_is = omega (arith, a.size_is, is.done);
+      fault_is = a.fault_is;
+      at_end = λ none. a.read.at_end (λ e. absurd (both_ways _ e is.ended)) (a.ended none);
+      called = few_called a.items a.rest a.read;
+      failed = a.failed;
+    }
+    tallied (Err Memory) s = some_tallied Memory s s.caused
+    tallied (Err ReadFailed) s = some_tallied ReadFailed s (s.all, s.caused)
+    tallied (Err WriteFailed) s = absurd (omega (arith, s.leaves.failed))
+    tallied (Err TooManyReads) s =
+        let all : s.read.count ≡ most = omega (arith, s.caused.1, s.read.reads, s.read.most_reads, is.reads, is.most_reads) in
+        some_tallied TooManyReads s (s.all, s.caused.0, subst (λ n. RisesBy n Took.calls0 Took.calls1) all s.read.called)
