@@ -11,7 +11,7 @@ use crate::ending::{Cause, ExitStatus};
 use crate::failing::give_up;
 use crate::gathered::Gathered;
 use crate::handing::hand_and_write;
-use crate::output::{Output, output_of};
+use crate::output::{Output, Plan, output_of};
 use crate::tally::{Tally, tells_first, write_closing};
 use crate::telling::{Refusal, tell_refusal};
 use dbus_command::{Command, Settings};
@@ -60,14 +60,13 @@ pub fn run_with<A: Allocator + Copy, R: Source, W: Sink, E: Sink>(
         settings reads command result }
 {
     let output = output_of(&command);
-    go_on(alloc, output, settings, reads, reader, first, second)
+    go_on(alloc, Plan { output, settings }, reads, reader, first, second)
 }
 
 // Hands on all that the reader gives, tells what is refused, and writes the last line, or the cause.
 fn go_on<A: Allocator + Copy, R: Source, W: Sink, E: Sink>(
     alloc: A,
-    output: Output,
-    settings: Settings,
+    plan: Plan,
     reads: u64,
     reader: &mut R,
     first: &mut W,
@@ -77,10 +76,10 @@ fn go_on<A: Allocator + Copy, R: Source, W: Sink, E: Sink>(
     ensures { RunsWith (reading R.left R.calls R.failures reader.old reader.new)
         (writing W.held W.failures first.old first.new)
         (writing E.held E.failures second.old second.new)
-        settings reads (command_of output.entry) result }
+        plan.entry.settings reads (command_of plan.entry.output) result }
 {
-    match hand_over(alloc, output, settings, reads, reader, first, second) {
-        Ok(handed) => match close(alloc, output, handed, first, second) {
+    match hand_over(alloc, plan, reads, reader, first, second) {
+        Ok(handed) => match close(alloc, plan.output, handed, first, second) {
             Ok(()) => handed.tally.status(handed.fault),
             Err(stop) => tell_stop(stop, second),
         },
@@ -131,16 +130,16 @@ pub(crate) struct Handed {
 // Tells a refusal on the writer that it is for.
 fn tell<R: Source, A: Allocator + Copy, W: Sink, E: Sink>(
     alloc: A,
-    output: Output,
-    settings: Settings,
+    plan: Plan,
     refusal: Refusal,
     messages: &RawReader<R, A>,
     first: &mut W,
     second: &mut E,
 ) -> Result<(), Stop>
     ensures { TellsBy (writing W.held W.failures first.old first.new) (writing E.held E.failures second.old second.new)
-        (command_of output.entry) settings refusal (kept messages.now) result }
+        (command_of plan.entry.output) plan.entry.settings refusal (kept messages.now) result }
 {
+    let Plan { output, settings } = plan;
     if tells_first(output) {
         stops_first(tell_refusal(alloc, settings, refusal, messages, first))
     } else {
@@ -187,18 +186,17 @@ fn cause_of(fault: ReadFault) -> Cause
 // passed over.
 fn hand_parts<R: Source, A: Allocator + Copy, W: Sink, E: Sink>(
     alloc: A,
-    output: Output,
-    settings: Settings,
+    plan: Plan,
     messages: &mut RawReader<R, A>,
     gathered: &mut Gathered,
     first: &mut W,
     second: &mut E,
 ) -> Result<Handed, Stop>
-    requires new { IsNewReader (source_of messages.old) (most_reads_of messages.old) settings.limits
+    requires new { IsNewReader (source_of messages.old) (most_reads_of messages.old) plan.settings.limits
         messages.old }
     requires empty { gathered_bytes gathered.old ≡ [] }
     ensures parts { PartsOf (taken (reading R.left R.calls R.failures (source_of messages.old) (source_of messages.new)))
-        W.held W.failures E.held E.failures settings settings.limits (most_reads_of messages.old) (command_of output.entry) result
+        W.held W.failures E.held E.failures plan.entry.settings plan.entry.settings.limits (most_reads_of messages.old) (command_of plan.entry.output) result
         first.old first.new second.old second.new }
     ensures same_reference { R.reference (source_of messages.new) ≡
         R.reference (source_of messages.old) }
@@ -210,15 +208,7 @@ fn hand_parts<R: Source, A: Allocator + Copy, W: Sink, E: Sink>(
         passed_size: 0,
     };
     'parts: loop {
-        let counted = match hand_and_write(
-            alloc,
-            output,
-            settings.limits,
-            tally.count,
-            messages,
-            gathered,
-            first,
-        ) {
+        let counted = match hand_and_write(alloc, plan, tally.count, messages, gathered, first) {
             Ok(counted) => counted,
             Err(cause) => return Err(Stop::Cause(cause)),
         };
@@ -232,11 +222,11 @@ fn hand_parts<R: Source, A: Allocator + Copy, W: Sink, E: Sink>(
             offset: counted.size,
             fault,
         };
-        match tell(alloc, output, settings, refusal, messages, first, second) {
+        match tell(alloc, plan, refusal, messages, first, second) {
             Ok(()) => {}
             Err(stop) => return Err(stop),
         }
-        if !settings.keeps_going {
+        if !plan.settings.keeps_going {
             let fault = Some(fault);
             return Ok(Handed { tally, fault });
         }
@@ -254,8 +244,7 @@ fn hand_parts<R: Source, A: Allocator + Copy, W: Sink, E: Sink>(
 // Hands on the messages of a source, and gives the source back.
 fn hand_through<R: Source + Drop, A: Allocator + Copy, W: Sink, E: Sink>(
     alloc: A,
-    output: Output,
-    settings: Settings,
+    plan: Plan,
     reads: u64,
     source: R,
     first: &mut W,
@@ -263,21 +252,13 @@ fn hand_through<R: Source + Drop, A: Allocator + Copy, W: Sink, E: Sink>(
 ) -> (Result<Handed, Stop>, R)
     requires { reads ≤ 2 ^ 32 }
     ensures parts { PartsOf (taken (reading R.left R.calls R.failures source result.1))
-        W.held W.failures E.held E.failures settings settings.limits reads (command_of output.entry) result.0
+        W.held W.failures E.held E.failures plan.entry.settings plan.entry.settings.limits reads (command_of plan.entry.output) result.0
         first.old first.new second.old second.new }
     ensures same_reference { R.reference result.1 ≡ R.reference source }
 {
-    let mut messages = RawReader::within(alloc, source, reads, settings.limits);
+    let mut messages = RawReader::within(alloc, source, reads, plan.settings.limits);
     let mut gathered = Gathered::new();
-    let handed = hand_parts(
-        alloc,
-        output,
-        settings,
-        &mut messages,
-        &mut gathered,
-        first,
-        second,
-    );
+    let handed = hand_parts(alloc, plan, &mut messages, &mut gathered, first, second);
     (handed, messages.into_source())
 }
 
@@ -285,8 +266,7 @@ fn hand_through<R: Source + Drop, A: Allocator + Copy, W: Sink, E: Sink>(
 /// number of reads.
 pub(crate) fn hand_over<R: Source, A: Allocator + Copy, W: Sink, E: Sink>(
     alloc: A,
-    output: Output,
-    settings: Settings,
+    plan: Plan,
     reads: u64,
     source: &mut R,
     first: &mut W,
@@ -294,9 +274,9 @@ pub(crate) fn hand_over<R: Source, A: Allocator + Copy, W: Sink, E: Sink>(
 ) -> Result<Handed, Stop>
     requires { reads ≤ 2 ^ 32 }
     ensures { PartsOf (taken (reading R.left R.calls R.failures source.old source.new))
-        W.held W.failures E.held E.failures settings settings.limits reads (command_of output.entry) result
+        W.held W.failures E.held E.failures plan.entry.settings plan.entry.settings.limits reads (command_of plan.entry.output) result
         first.old first.new second.old second.new }
 {
-    let (handed, _source) = hand_through(alloc, output, settings, reads, source, first, second);
+    let (handed, _source) = hand_through(alloc, plan, reads, source, first, second);
     handed
 }

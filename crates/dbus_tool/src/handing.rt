@@ -11,11 +11,10 @@ ghost use Rattle.dbus_tool.specs.Commands.{command_of};
 use crate::ending::{Cause, Counted, NoMessage};
 use crate::gathered::Gathered;
 use crate::gathering::{Unwritten, write_out};
-use crate::output::{Output, write_one};
+use crate::output::{Plan, write_one};
 use crate::place::Place;
 use dbus_stream::{RawReader, ReadFault, Sink, Source};
 use dbus_validate::Validated;
-use dbus_value::Limits;
 use std::alloc::Allocator;
 
 // What is validated of the next message, which the reader lends then, if there is one. If it keeps none, what is gathered is
@@ -67,21 +66,21 @@ fn read_message<R: Source, A: Allocator + Copy, W: Sink>(
 // Writes what is wanted of each message of the reader, before which so many came, up to the end of the input or a fault.
 fn hand_all<R: Source, A: Allocator + Copy, W: Sink>(
     alloc: A,
-    output: Output,
-    limits: Limits,
+    plan: Plan,
     before: u64,
     messages: &mut RawReader<R, A>,
     gathered: &mut Gathered,
     first: &mut W,
 ) -> Result<Counted, Cause>
     requires unstopped { stopped_of messages.old ≡ None }
-    requires within { limits_of messages.old ≡ limits }
+    requires within { limits_of messages.old ≡ plan.settings.limits }
     requires few { before ≤ done_of messages.old }
-    ensures hands { RawHandsOn R.left R.calls R.failures W.held W.failures limits (command_of output.entry) before
+    ensures hands { RawHandsOn R.left R.calls R.failures W.held W.failures plan.entry.settings.limits (command_of plan.entry.output) before
         messages.old messages.new (gathered_bytes gathered.old) (gathered_bytes gathered.new) first.old first.new result }
     ensures same_reference { R.reference (source_of messages.new) ≡
         R.reference (source_of messages.old) }
 {
+    let Plan { output, settings } = plan;
     let mut count = before;
     let mut spare = Vec::new(alloc);
     'messages: loop {
@@ -95,7 +94,7 @@ fn hand_all<R: Source, A: Allocator + Copy, W: Sink>(
                     offset,
                 };
                 match write_one(
-                    output, message, &validated, limits, place, &mut spare, gathered, first,
+                    output, message, &validated, settings.limits, place, &mut spare, gathered, first,
                 ) {
                     Ok(()) => {}
                     Err(cause) => return Err(cause),
@@ -143,24 +142,23 @@ pub(crate) fn ended_by(count: u64, size: u64, fault: ReadFault) -> Result<Counte
 /// what is gathered.
 pub(crate) fn hand_and_write<R: Source, A: Allocator + Copy, W: Sink>(
     alloc: A,
-    output: Output,
-    limits: Limits,
+    plan: Plan,
     before: u64,
     messages: &mut RawReader<R, A>,
     gathered: &mut Gathered,
     first: &mut W,
 ) -> Result<Counted, Cause>
     requires unstopped { stopped_of messages.old ≡ None }
-    requires within { limits_of messages.old ≡ limits }
+    requires within { limits_of messages.old ≡ plan.settings.limits }
     requires few { before ≤ done_of messages.old }
     requires empty { gathered_bytes gathered.old ≡ [] }
-    ensures hands { RawHandsOn R.left R.calls R.failures W.held W.failures limits (command_of output.entry) before
+    ensures hands { RawHandsOn R.left R.calls R.failures W.held W.failures plan.entry.settings.limits (command_of plan.entry.output) before
         messages.old messages.new [] [] first.old first.new result }
     ensures emptied { IfOk result (λ _. gathered_bytes gathered.new ≡ []) }
     ensures same_reference { R.reference (source_of messages.new) ≡
         R.reference (source_of messages.old) }
 {
-    match hand_all(alloc, output, limits, before, messages, gathered, first) {
+    match hand_all(alloc, plan, before, messages, gathered, first) {
         Ok(counted) => match write_out(gathered, first) {
             Ok(()) => Ok(counted),
             Err(Unwritten) => Err(Cause::WriteFailed),

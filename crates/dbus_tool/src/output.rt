@@ -16,7 +16,7 @@ use crate::json_lines::write_json_line;
 use crate::place::Place;
 use crate::showing::show;
 use crate::swapping::swap;
-use dbus_command::{Command, Selection};
+use dbus_command::{Command, Selection, Settings};
 use dbus_stream::Sink;
 use dbus_validate::Validated;
 use dbus_value::{Limits, Order};
@@ -37,6 +37,13 @@ pub(crate) enum Output<'a> {
     Matching(&'a Selection),
 }
 
+/// What a command does with an input: what it writes of each message, and by which settings.
+#[derive(Clone, Copy)]
+pub(crate) struct Plan<'a> {
+    pub(crate) output: Output<'a>,
+    pub(crate) settings: Settings,
+}
+
 /// What the command writes of each message.
 pub(crate) fn output_of(command: &Command) -> Output<'_>
     ensures { command_of result ≡ command.now }
@@ -50,7 +57,8 @@ pub(crate) fn output_of(command: &Command) -> Output<'_>
     }
 }
 
-/// Writes or gathers what is wanted of a message, which has these bytes, as they were validated, and this place in the input. A message is byteswapped in `spare`, so that only a longer one than those before takes memory.
+/// Writes or gathers what is wanted of a message, which has these bytes, as they were validated, and this place in the input. A message is
+/// byteswapped in `spare`, so that only a longer one than those before takes memory.
 pub(crate) fn write_one<A: Allocator + Copy, W: Sink>(
     output: Output,
     bytes: &[u8],

@@ -11,7 +11,7 @@ use crate::counting::count_over;
 use crate::ending::ExitStatus;
 use crate::failing::give_up;
 use crate::going::{hand_over, tell_stop};
-use crate::output::{Output, output_of};
+use crate::output::{Plan, output_of};
 use dbus_command::{Command, Settings};
 use dbus_stream::{MOST_READS, Sink, Source};
 use dbus_value::Limits;
@@ -97,7 +97,18 @@ pub fn run_within<A: Allocator + Copy, R: Source, W: Sink, E: Sink>(
 {
     match command {
         Command::Check => check(alloc, limits, reads, reader, first, second),
-        _ => write(alloc, output_of(&command), limits, reads, reader, first, second),
+        _ => {
+            let output = output_of(&command);
+            let settings = Settings {
+                limits,
+                explains: false,
+                keeps_going: false,
+            };
+            match hand_over(alloc, Plan { output, settings }, reads, reader, first, second) {
+                Ok(handed) => status_of(handed.fault),
+                Err(stop) => tell_stop(stop, second),
+            }
+        }
     }
 }
 
@@ -122,33 +133,5 @@ fn check<A: Allocator + Copy, R: Source, W: Sink, E: Sink>(
             Err(cause) => give_up(cause, second),
         },
         Err(cause) => give_up(cause, second),
-    }
-}
-
-// Writes what is wanted of each message on the first writer, and the fault on the second.
-fn write<A: Allocator + Copy, R: Source, W: Sink, E: Sink>(
-    alloc: A,
-    output: Output,
-    limits: Limits,
-    reads: u64,
-    reader: &mut R,
-    first: &mut W,
-    second: &mut E,
-) -> ExitStatus
-    requires few { reads ≤ 2 ^ 32 }
-    requires told_second { is_check (command_of output) ≡ false }
-    ensures { Runs (reading R.left R.calls R.failures reader.old reader.new)
-        (writing W.held W.failures first.old first.new)
-        (writing E.held E.failures second.old second.new)
-        limits reads (command_of output.entry) result }
-{
-    let settings = Settings {
-        limits,
-        explains: false,
-        keeps_going: false,
-    };
-    match hand_over(alloc, output, settings, reads, reader, first, second) {
-        Ok(handed) => status_of(handed.fault),
-        Err(stop) => tell_stop(stop, second),
     }
 }

@@ -49,14 +49,14 @@ module _ {W E : Type 0} (held : W → Option (List ℕ)) (failures : W → ℕ) 
 
 pub returns-then-tells_first : goal.returns-then-tells_first
 returns-then-tells_first g c =
-    let is : is_check (command_of c.args.output) ≡ true = sym c.tells_first.ensures ∙ c.if-tells_first.true in
-    subst (λ (r : Result (Unit {0}) Stop). TellsBy (writing g.W.Sink.held g.W.Sink.failures c.args.first.now c.tell_refusal.new.writer) (writing g.E.Sink.held g.E.Sink.failures c.args.second.now c.args.second.now) (command_of c.args.output) c.args.settings c.args.refusal (kept c.args.messages.now) r)
+    let is : is_check (command_of c.args.plan.output) ≡ true = sym c.tells_first.ensures ∙ c.if-tells_first.true in
+    subst (λ (r : Result (Unit {0}) Stop). TellsBy (writing g.W.Sink.held g.W.Sink.failures c.args.first.now c.tell_refusal.new.writer) (writing g.E.Sink.held g.E.Sink.failures c.args.second.now c.args.second.now) (command_of c.args.plan.output) c.args.plan.settings c.args.refusal (kept c.args.messages.now) r)
     (sym c.stops_first.ensures)
-    (told_first g.W.Sink.held g.W.Sink.failures g.E.Sink.held g.E.Sink.failures (command_of c.args.output) c.args.settings c.args.refusal (kept c.args.messages.now) c.args.first.now c.tell_refusal.new.writer c.args.second.now is c.tell_refusal.result c.tell_refusal.ensures)
+    (told_first g.W.Sink.held g.W.Sink.failures g.E.Sink.held g.E.Sink.failures (command_of c.args.plan.output) c.args.plan.settings c.args.refusal (kept c.args.messages.now) c.args.first.now c.tell_refusal.new.writer c.args.second.now is c.tell_refusal.result c.tell_refusal.ensures)
 
 pub returns-else-tells_first : goal.returns-else-tells_first
 returns-else-tells_first g c =
-    let is : is_check (command_of c.args.output) ≡ false = sym c.tells_first.ensures ∙ c.if-tells_first.false in
-    subst (λ (r : Result (Unit {0}) Stop). TellsBy (writing g.W.Sink.held g.W.Sink.failures c.args.first.now c.args.first.now) (writing g.E.Sink.held g.E.Sink.failures c.args.second.now c.tell_refusal-else-tells_first.new.writer) (command_of c.args.output) c.args.settings c.args.refusal (kept c.args.messages.now) r)
+    let is : is_check (command_of c.args.plan.output) ≡ false = sym c.tells_first.ensures ∙ c.if-tells_first.false in
+    subst (λ (r : Result (Unit {0}) Stop). TellsBy (writing g.W.Sink.held g.W.Sink.failures c.args.first.now c.args.first.now) (writing g.E.Sink.held g.E.Sink.failures c.args.second.now c.tell_refusal-else-tells_first.new.writer) (command_of c.args.plan.output) c.args.plan.settings c.args.refusal (kept c.args.messages.now) r)
     (sym c.stops_second.ensures)
-    (told_second g.W.Sink.held g.W.Sink.failures g.E.Sink.held g.E.Sink.failures (command_of c.args.output) c.args.settings c.args.refusal (kept c.args.messages.now) c.args.first.now c.args.second.now c.tell_refusal-else-tells_first.new.writer is c.tell_refusal-else-tells_first.result c.tell_refusal-else-tells_first.ensures)
+    (told_second g.W.Sink.held g.W.Sink.failures g.E.Sink.held g.E.Sink.failures (command_of c.args.plan.output) c.args.plan.settings c.args.refusal (kept c.args.messages.now) c.args.first.now c.args.second.now c.tell_refusal-else-tells_first.new.writer is c.tell_refusal-else-tells_first.result c.tell_refusal-else-tells_first.ensures)

@@ -18,7 +18,7 @@ use Rattle.dbus_tool.proofs.handing.hand_all.Goals.{In-Ok-Some}
 
 pub messages-init : goal.messages-init
 messages-init g c = (
-  hands_none gathering g.R.Source.left g.R.Source.calls g.R.Source.failures g.W.Sink.held g.W.Sink.failures c.args.limits (command_of c.args.output) (kept c.args.messages.now) c.args.before c.args.messages.now.reader (gathered_bytes c.args.gathered.now) c.args.first.now c.requires.within c.requires.unstopped,
+  hands_none gathering g.R.Source.left g.R.Source.calls g.R.Source.failures g.W.Sink.held g.W.Sink.failures c.args.plan.settings.limits (command_of c.args.plan.output) (kept c.args.messages.now) c.args.before c.args.messages.now.reader (gathered_bytes c.args.gathered.now) c.args.first.now c.requires.within c.requires.unstopped,
   refl,
 )
 
@@ -34,12 +34,12 @@ overflow_add-count g c =
     let h = c.messages.invariant.0 in
     let l = (lent g (goal.at.overflow_add-count g c).In-Ok-Some).1 in
     let few : done_of c.next_message.new.messages ≤ 2 ^ 50 = c.in-Ok-Some.ensures.few in
-    omega (arith, h.count_is, length-sizes c.args.limits (kept c.args.messages.now ++ h.read.bytes) h.items (kept c.messages.messages) h.read.messages, h.done, l.gives.done, few, c.requires.few)
+    omega (arith, h.count_is, length-sizes c.args.plan.settings.limits (kept c.args.messages.now ++ h.read.bytes) h.items (kept c.messages.messages) h.read.messages, h.done, l.gives.done, few, c.requires.few)
 
 pub write_one-requires : goal.write_one-requires
 write_one-requires g c =
     let lent = lent g (goal.at.write_one-requires g c).In-Ok-Some in
-    lent_validated c.args.limits (kept c.messages.messages ++ lent.0.bytes) c.message-message.result.now c.in-Ok-Some.validated c.messages.messages c.next_message.new.messages c.message-message.ensures
+    lent_validated c.args.plan.settings.limits (kept c.messages.messages ++ lent.0.bytes) c.message-message.result.now c.in-Ok-Some.validated c.messages.messages c.next_message.new.messages c.message-message.ensures
     c.messages.invariant.0.read.limits_are lent.1
 
 pub messages-preserved : goal.messages-preserved
@@ -49,15 +49,15 @@ messages-preserved g c =
     let given = rw c.in-Ok-Some.field-0-is at c.in-Ok-Some.ensures.gives in
     let lent = lent g (goal.at.messages-preserved g c).In-Ok-Some in
     let l = lent.1 in
-    let whole = lent_whole c.args.limits (kept mid ++ lent.0.bytes) c.message-message.result.now c.in-Ok-Some.validated mid new c.message-message.ensures c.messages.invariant.0.read.limits_are l in
+    let whole = lent_whole c.args.plan.settings.limits (kept mid ++ lent.0.bytes) c.message-message.result.now c.in-Ok-Some.validated mid new c.message-message.ensures c.messages.invariant.0.read.limits_are l in
     let item : CutMessage = record { order = l.gives.order; message = l.gives.message; size = l.size } in
     let one = c.in-Ok.ensures l.gives.order l.gives.message whole in
-    let output = subst (λ k. IsOutputOf (command_of c.args.output) l.gives.order l.gives.message (c.messages.count + 1) k one.0) c.done-offset.ensures one.1 in
+    let output = subst (λ k. IsOutputOf (command_of c.args.plan.output) l.gives.order l.gives.message (c.messages.count + 1) k one.0) c.done-offset.ensures one.1 in
     let gathers = gathers_after g.W.Sink.held g.W.Sink.failures one.0 (gathered_bytes c.messages.gathered) (gathered_bytes c.next_message.new.gathered) (gathered_bytes c.write_one.new.gathered)
     c.messages.first c.next_message.new.first c.write_one.new.first (Ok tt) given.3 one.2 in
-    let more = hands_more gathering g.R.Source.left g.R.Source.calls g.R.Source.failures g.W.Sink.held g.W.Sink.failures c.args.limits (command_of c.args.output) (kept c.args.messages.now) c.args.before c.messages.count c.args.messages.now.reader mid.reader new.reader (kept mid) (gathered_bytes c.args.gathered.now) (gathered_bytes c.messages.gathered) (gathered_bytes c.write_one.new.gathered)
+    let more = hands_more gathering g.R.Source.left g.R.Source.calls g.R.Source.failures g.W.Sink.held g.W.Sink.failures c.args.plan.settings.limits (command_of c.args.plan.output) (kept c.args.messages.now) c.args.before c.messages.count c.args.messages.now.reader mid.reader new.reader (kept mid) (gathered_bytes c.args.gathered.now) (gathered_bytes c.messages.gathered) (gathered_bytes c.write_one.new.gathered)
     c.args.first.now c.messages.first c.write_one.new.first item one.0 c.messages.invariant.0 lent.0 l.gives.whole l.gives.done l.gives.unstopped given.2 output gathers in (
-      subst (λ v. HasHanded gathering g.R.Source.left g.R.Source.calls g.R.Source.failures g.W.Sink.held g.W.Sink.failures c.args.limits (command_of c.args.output) (kept c.args.messages.now) c.args.before (c.messages.count + 1) c.args.messages.now.reader new.reader v (gathered_bytes c.args.gathered.now) (gathered_bytes c.write_one.new.gathered) c.args.first.now c.write_one.new.first) (sym l.gives.kept) more,
+      subst (λ v. HasHanded gathering g.R.Source.left g.R.Source.calls g.R.Source.failures g.W.Sink.held g.W.Sink.failures c.args.plan.settings.limits (command_of c.args.plan.output) (kept c.args.messages.now) c.args.before (c.messages.count + 1) c.args.messages.now.reader new.reader v (gathered_bytes c.args.gathered.now) (gathered_bytes c.write_one.new.gathered) c.args.first.now c.write_one.new.first) (sym l.gives.kept) more,
       c.next_message.ensures.same_reference ∙ c.messages.invariant.1,
     )
 
@@ -77,13 +77,13 @@ returns-in-Err-write_one-clause-hands g c =
     let given = rw c.in-Ok-Some.field-0-is at c.in-Ok-Some.ensures.gives in
     let lent = lent g (goal.at.returns-in-Err-write_one-clause-hands g c).In-Ok-Some in
     let l = lent.1 in
-    let whole = lent_whole c.args.limits (kept mid ++ lent.0.bytes) c.message-message.result.now c.in-Ok-Some.validated mid new c.message-message.ensures c.messages.invariant.0.read.limits_are l in
+    let whole = lent_whole c.args.plan.settings.limits (kept mid ++ lent.0.bytes) c.message-message.result.now c.in-Ok-Some.validated mid new c.message-message.ensures c.messages.invariant.0.read.limits_are l in
     let item : CutMessage = record { order = l.gives.order; message = l.gives.message; size = l.size } in
     let one = c.in-Err-write_one.ensures l.gives.order l.gives.message whole in
-    let output = subst (λ k. IsOutputOf (command_of c.args.output) l.gives.order l.gives.message (c.messages.count + 1) k one.0) c.done-offset.ensures one.1 in
+    let output = subst (λ k. IsOutputOf (command_of c.args.plan.output) l.gives.order l.gives.message (c.messages.count + 1) k one.0) c.done-offset.ensures one.1 in
     let gathers = gathers_after g.W.Sink.held g.W.Sink.failures one.0 (gathered_bytes c.messages.gathered) (gathered_bytes c.next_message.new.gathered) (gathered_bytes c.write_one.new.gathered)
     c.messages.first c.next_message.new.first c.write_one.new.first (Err c.in-Err-write_one.cause) given.3 one.2 in
-    hands_not gathering g.R.Source.left g.R.Source.calls g.R.Source.failures g.W.Sink.held g.W.Sink.failures c.args.limits (command_of c.args.output) (kept c.args.messages.now) c.args.before c.in-Err-write_one.cause c.messages.count c.args.messages.now.reader mid.reader new.reader (kept mid) (gathered_bytes c.args.gathered.now) (gathered_bytes c.messages.gathered) (gathered_bytes c.write_one.new.gathered)
+    hands_not gathering g.R.Source.left g.R.Source.calls g.R.Source.failures g.W.Sink.held g.W.Sink.failures c.args.plan.settings.limits (command_of c.args.plan.output) (kept c.args.messages.now) c.args.before c.in-Err-write_one.cause c.messages.count c.args.messages.now.reader mid.reader new.reader (kept mid) (gathered_bytes c.args.gathered.now) (gathered_bytes c.messages.gathered) (gathered_bytes c.write_one.new.gathered)
     c.args.first.now c.messages.first c.write_one.new.first item one.0 c.messages.invariant.0 lent.0 l.gives.whole given.2 output gathers
 
 pub returns-in-Ok-None-clause-hands : goal.returns-in-Ok-None-clause-hands
@@ -91,7 +91,7 @@ returns-in-Ok-None-clause-hands g c =
     let given = rw c.in-Ok-None.field-0-is at c.in-Ok-None.ensures.gives in
     let ends = given.1 in
     record {
-      all = hands_all gathering g.R.Source.left g.R.Source.calls g.R.Source.failures g.W.Sink.held g.W.Sink.failures c.args.limits (command_of c.args.output) (kept c.args.messages.now) c.args.before c.messages.count c.args.messages.now.reader c.messages.messages.reader c.next_message.new.messages.reader (kept c.messages.messages)
+      all = hands_all gathering g.R.Source.left g.R.Source.calls g.R.Source.failures g.W.Sink.held g.W.Sink.failures c.args.plan.settings.limits (command_of c.args.plan.output) (kept c.args.messages.now) c.args.before c.messages.count c.args.messages.now.reader c.messages.messages.reader c.next_message.new.messages.reader (kept c.messages.messages)
           (gathered_bytes c.args.gathered.now) (gathered_bytes c.messages.gathered) (gathered_bytes c.next_message.new.gathered) c.args.first.now c.messages.first c.next_message.new.first Ended _
           c.messages.invariant.0 given.0 refl c.done.ensures ends.2.done refl ends.0 (λ _. ends.1) given.2 given.3;
       kept = ends.2.kept;
@@ -103,8 +103,8 @@ returns-in-Err-clause-hands g c =
     let stop = c.in-Err.stop in
     let answer : c.stopped_by.result ≡ stopped_by c.messages.count (done_of c.next_message.new.messages) stop
     = c.stopped_by.ensures ∙ ap (λ n. stopped_by c.messages.count n stop) c.done-in-Err.ensures in
-    subst (λ x. RawHandsOn g.R.Source.left g.R.Source.calls g.R.Source.failures g.W.Sink.held g.W.Sink.failures c.args.limits (command_of c.args.output) c.args.before c.args.messages.now c.next_message.new.messages
+    subst (λ x. RawHandsOn g.R.Source.left g.R.Source.calls g.R.Source.failures g.W.Sink.held g.W.Sink.failures c.args.plan.settings.limits (command_of c.args.plan.output) c.args.before c.args.messages.now c.next_message.new.messages
     (gathered_bytes c.args.gathered.now) (gathered_bytes c.next_message.new.gathered) c.args.first.now c.next_message.new.first x) (sym answer)
-    (hands_stopped g.R.Source.left g.R.Source.calls g.R.Source.failures g.W.Sink.held g.W.Sink.failures c.args.limits (command_of c.args.output) c.args.before c.messages.count
+    (hands_stopped g.R.Source.left g.R.Source.calls g.R.Source.failures g.W.Sink.held g.W.Sink.failures c.args.plan.settings.limits (command_of c.args.plan.output) c.args.before c.messages.count
     c.args.messages.now c.messages.messages c.next_message.new.messages (gathered_bytes c.args.gathered.now) (gathered_bytes c.messages.gathered) (gathered_bytes c.next_message.new.gathered)
     c.args.first.now c.messages.first c.next_message.new.first c.messages.invariant.0 stop c.in-Err.ensures.gives)
