@@ -59,8 +59,11 @@ pub fn run_with<A: Allocator + Copy, R: Source, W: Sink, E: Sink>(
         (writing E.held E.failures second.old second.new)
         settings reads command result }
 {
-    let output = output_of(&command);
-    go_on(alloc, Plan { output, settings }, reads, reader, first, second)
+    let plan = Plan {
+        output: output_of(&command),
+        settings,
+    };
+    go_on(alloc, plan, reads, reader, first, second)
 }
 
 // Hands on all that the reader gives, tells what is refused, and writes the last line, or the cause.

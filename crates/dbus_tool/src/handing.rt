@@ -80,7 +80,8 @@ fn hand_all<R: Source, A: Allocator + Copy, W: Sink>(
     ensures same_reference { R.reference (source_of messages.new) ≡
         R.reference (source_of messages.old) }
 {
-    let Plan { output, settings } = plan;
+    let output = plan.output;
+    let limits = plan.settings.limits;
     let mut count = before;
     let mut spare = Vec::new(alloc);
     'messages: loop {
@@ -94,7 +95,7 @@ fn hand_all<R: Source, A: Allocator + Copy, W: Sink>(
                     offset,
                 };
                 match write_one(
-                    output, message, &validated, settings.limits, place, &mut spare, gathered, first,
+                    output, message, &validated, limits, place, &mut spare, gathered, first,
                 ) {
                     Ok(()) => {}
                     Err(cause) => return Err(cause),

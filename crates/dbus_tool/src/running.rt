@@ -98,13 +98,15 @@ pub fn run_within<A: Allocator + Copy, R: Source, W: Sink, E: Sink>(
     match command {
         Command::Check => check(alloc, limits, reads, reader, first, second),
         _ => {
-            let output = output_of(&command);
-            let settings = Settings {
-                limits,
-                explains: false,
-                keeps_going: false,
+            let plan = Plan {
+                output: output_of(&command),
+                settings: Settings {
+                    limits,
+                    explains: false,
+                    keeps_going: false,
+                },
             };
-            match hand_over(alloc, Plan { output, settings }, reads, reader, first, second) {
+            match hand_over(alloc, plan, reads, reader, first, second) {
                 Ok(handed) => status_of(handed.fault),
                 Err(stop) => tell_stop(stop, second),
             }
